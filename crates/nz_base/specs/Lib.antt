@@ -1,0 +1,3 @@
+pub mod Actor
+pub mod Cluster
+pub mod Key

@@ -1,0 +1,72 @@
+ghost use Rattle.std.specs.Prelude.{◌≡◌, ◌<◌, ◌≤◌, ◌↔◌, IsSome, IfSome};
+ghost use Rattle.nz_base.specs.Cluster.{replica_count, fast_size, slow_size, leader_of};
+
+use std::marker::Model;
+
+/// A cluster that withstands f replicas out of order at a time, f from 1 to 4. A clause sees f.
+#[derive(Clone, Copy, Debug, PartialEq, Eq)]
+pub struct Cluster {
+    f: u8,
+}
+
+impl Model for Cluster {
+    ghost use Rattle.std.specs.Prelude.{ℕ, ◌≤◌};
+
+    ghost Value = { ℕ };
+
+    ghost view = { λ c. c.f };
+
+    ghost invariant = { λ c. (1 ≤ c.f) × (c.f ≤ 4) };
+
+    ghost inverse = { λ f. record { f = f } };
+}
+
+impl Cluster {
+    pub fn new(f: u8) -> Option<Cluster>
+        ensures range { IsSome result ↔ ((1 ≤ f) × (f ≤ 4)) }
+        ensures value { IfSome result (λ cluster. cluster ≡ f) }
+    {
+        if 1 <= f && f <= 4 {
+            Some(Cluster { f })
+        } else {
+            None
+        }
+    }
+
+    pub fn f(&self) -> u8
+        ensures value { result ≡ self.now }
+        ensures least { 1 ≤ result }
+        ensures most { result ≤ 4 }
+    {
+        self.f
+    }
+
+    /// How many replicas there are.
+    pub fn n(&self) -> u8
+        ensures { result ≡ replica_count self.now }
+    {
+        2 * self.f + 1
+    }
+
+    /// How many replicas a fast quorum has, the leader among them.
+    pub fn fast(&self) -> u8
+        ensures { result ≡ fast_size self.now }
+    {
+        self.f + self.f.div_ceil(2) + 1
+    }
+
+    /// How many replicas a slow quorum has, the leader among them.
+    pub fn slow(&self) -> u8
+        ensures { result ≡ slow_size self.now }
+    {
+        self.f + 1
+    }
+
+    /// The number of the replica that leads in this view.
+    pub fn leader(&self, view: u64) -> u8
+        ensures leader { result ≡ leader_of self.now view }
+        ensures replica { result < replica_count self.now }
+    {
+        (view % u64::from(self.n())) as u8
+    }
+}

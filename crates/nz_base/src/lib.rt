@@ -1,0 +1,24 @@
+//! The words that all layers share: who takes part, what a request is called, lists that take
+//! memory only where they say so, and the data of a scenario.
+#![tactic(auto)]
+
+mod actor;
+mod blob;
+mod cluster;
+mod key;
+mod laws;
+mod list;
+mod memory;
+mod scenario;
+
+pub use actor::Actor;
+pub use blob::Blob;
+pub use cluster::Cluster;
+pub use key::{Entry, EntryList, Id, IdList, Key, KeyList};
+pub use laws::{actors_are_in_line, addresses_are_exact, keys_are_in_line};
+pub use list::List;
+pub use memory::{NoMemory, TryCopy};
+pub use scenario::{Fault, FaultList, Request, RequestList, Scenario, ScriptList, Skew, SkewList};
+
+#[cfg(test)]
+mod tests;
