@@ -1,0 +1,72 @@
+ghost use Rattle.std.specs.Prelude.{◌≡◌, IsTrue, ◌↔◌};
+ghost use Rattle.nz_store.specs.Reading.{is_choice_text, has_spelling};
+
+use crate::blob::Blob;
+use crate::reading::{is_key, is_value};
+
+/// What a client may ask of the store.
+#[derive(Debug, Drop)]
+pub enum Command {
+    /// Sets the key.
+    Put {
+        key: Blob,
+        value: Blob,
+    },
+    /// Reads the key.
+    Get {
+        key: Blob,
+    },
+    /// Removes the key.
+    Del {
+        key: Blob,
+    },
+    /// Where the key has `old`, gives it `new`. `None` is no value: the key is absent.
+    Cas {
+        key: Blob,
+        old: Option<Blob>,
+        new: Option<Blob>,
+    },
+}
+
+/// What the store answers to a command.
+#[derive(Debug, Drop)]
+pub enum Answer {
+    Done,
+    Value(Blob),
+    Absent,
+    Differs,
+}
+
+impl Command {
+    ghost use Rattle.nz_store.specs.Grammar.{IsValid};
+
+    /// Whether the command has a spelling: a key of 1 to 32 bytes and values of 1 to 256 bytes,
+    /// each byte from `0x21` to `0x7e`, and no value `-`.
+    pub fn is_valid(&self) -> bool
+        ensures { IsTrue result ↔ IsValid self.now }
+    {
+        is_spelled(self)
+    }
+}
+
+fn is_spelled(command: &Command) -> bool
+    ensures { result ≡ has_spelling command.now }
+{
+    match command {
+        Command::Put { key, value } => is_key(key.as_slice()) && is_value(value.as_slice()),
+        Command::Get { key } => is_key(key.as_slice()),
+        Command::Del { key } => is_key(key.as_slice()),
+        Command::Cas { key, old, new } => {
+            is_key(key.as_slice()) && is_choice(old) && is_choice(new)
+        }
+    }
+}
+
+fn is_choice(value: &Option<Blob>) -> bool
+    ensures { result ≡ is_choice_text value.now }
+{
+    match value {
+        None => true,
+        Some(value) => is_value(value.as_slice()),
+    }
+}

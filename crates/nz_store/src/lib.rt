@@ -1,0 +1,14 @@
+//! The commands of the key-value store, their bytes, and the store that applies them.
+#![tactic(auto)]
+
+mod blob;
+mod command;
+mod error;
+mod reading;
+mod writing;
+
+pub use blob::Blob;
+pub use command::{Answer, Command};
+pub use error::NoMemory;
+pub use reading::read_command;
+pub use writing::write_command;
