@@ -1,3 +1,7 @@
 pub mod Texts
 pub mod Fields
 pub mod Spellings
+pub mod Tables
+pub mod Maps
+pub mod Turns
+pub mod Session

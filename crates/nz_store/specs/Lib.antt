@@ -1,2 +1,5 @@
 pub mod Grammar
 pub mod Reading
+pub mod Entries
+pub mod Sequence
+pub mod Table

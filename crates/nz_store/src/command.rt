@@ -1,8 +1,10 @@
-ghost use Rattle.std.specs.Prelude.{◌≡◌, IsTrue, ◌↔◌};
+ghost use Rattle.std.specs.Prelude.{◌≡◌, IsTrue, ◌↔◌, IfOk};
 ghost use Rattle.nz_store.specs.Reading.{is_choice_text, has_spelling};
 
 use crate::blob::Blob;
+use crate::error::NoMemory;
 use crate::reading::{is_key, is_value};
+use std::alloc::Global;
 
 /// What a client may ask of the store.
 #[derive(Debug, Drop)]
@@ -35,6 +37,19 @@ pub enum Answer {
     Value(Blob),
     Absent,
     Differs,
+}
+
+impl Answer {
+    pub fn copy(&self, alloc: Global) -> Result<Answer, NoMemory>
+        ensures { IfOk result (λ answer. answer ≡ self.now) }
+    {
+        match self {
+            Answer::Done => Ok(Answer::Done),
+            Answer::Value(value) => Ok(Answer::Value(value.copy(alloc)?)),
+            Answer::Absent => Ok(Answer::Absent),
+            Answer::Differs => Ok(Answer::Differs),
+        }
+    }
 }
 
 impl Command {

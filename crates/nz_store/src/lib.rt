@@ -4,11 +4,17 @@
 mod blob;
 mod command;
 mod error;
+pub mod laws;
 mod reading;
+mod store;
 mod writing;
 
 pub use blob::Blob;
 pub use command::{Answer, Command};
 pub use error::NoMemory;
 pub use reading::read_command;
+pub use store::Store;
 pub use writing::write_command;
+
+#[cfg(test)]
+mod tests;

@@ -1,0 +1,187 @@
+ghost use Rattle.std.specs.Prelude.{◌≡◌, OnOk, IfOk, OnErr, Option, ℕ, List};
+ghost use Rattle.std.specs.Option.{option_copied, option_eq};
+ghost use Rattle.std.specs.Str.{bytes_eq};
+ghost use Rattle.nz_store.specs.Entries.{empty, value_of, with_value, without, with_choice};
+ghost use Rattle.nz_store.specs.Sequence.{apply as apply_of, apply_bytes as apply_bytes_of, value_answer, removal_answer, refusal_answer, swap as swap_of};
+ghost use Rattle.nz_store.specs.Table.{entries_of, IsInOrder};
+
+use crate::blob::Blob;
+use crate::command::{Answer, Command};
+use crate::error::NoMemory;
+use crate::reading::read_command;
+use std::alloc::Global;
+use std::collections::BTreeMap;
+use std::marker::Model;
+
+type Table = BTreeMap<Vec<u8>, Blob>;
+
+fn value_in<'a>(table: &'a Table, key: &Blob) -> Option<&'a Blob>
+    ensures { option_copied result ≡ value_of (entries_of table.now.entries) key.now }
+{
+    table.get(key.as_slice())
+}
+
+fn set(alloc: Global, table: &mut Table, key: &Blob, value: &Blob) -> Result<(), NoMemory>
+    requires { IsInOrder table.old }
+    ensures ok { OnOk result (entries_of table.new.entries ≡ with_value (entries_of table.old.entries) key.now value.now) }
+    ensures err { OnErr result (table.new.entries ≡ table.old.entries) }
+    ensures order { IsInOrder table.new }
+{
+    let key = Vec::from_slice(alloc, key.as_slice())?;
+    let value = value.copy(alloc)?;
+    table.insert(key, value)?;
+    Ok(())
+}
+
+fn remove(table: &mut Table, key: &Blob) -> Option<Blob>
+    requires { IsInOrder table.old }
+    ensures table { entries_of table.new.entries ≡ without (entries_of table.old.entries) key.now }
+    ensures value { result ≡ value_of (entries_of table.old.entries) key.now }
+    ensures order { IsInOrder table.new }
+{
+    table.remove(key.as_slice())
+}
+
+fn set_choice(
+    alloc: Global,
+    table: &mut Table,
+    key: &Blob,
+    value: &Option<Blob>,
+) -> Result<(), NoMemory>
+    requires { IsInOrder table.old }
+    ensures ok { OnOk result (entries_of table.new.entries ≡ with_choice (entries_of table.old.entries) key.now value.now) }
+    ensures err { OnErr result (table.new.entries ≡ table.old.entries) }
+    ensures order { IsInOrder table.new }
+{
+    match value {
+        Some(value) => set(alloc, table, key, value),
+        None => {
+            let _ = remove(table, key);
+            Ok(())
+        }
+    }
+}
+
+/// The answer to a read.
+fn read(alloc: Global, value: Option<&Blob>) -> Result<Answer, NoMemory>
+    ensures { IfOk result (λ answer. answer ≡ value_answer (option_copied value.entry)) }
+{
+    match value {
+        Some(value) => Ok(Answer::Value(value.copy(alloc)?)),
+        None => Ok(Answer::Absent),
+    }
+}
+
+/// The answer to a removal.
+fn removal(value: Option<Blob>) -> Answer
+    ensures { result ≡ removal_answer value }
+{
+    match value {
+        Some(_) => Answer::Done,
+        None => Answer::Absent,
+    }
+}
+
+/// The answer to a comparison that failed.
+fn refusal(value: Option<&Blob>) -> Answer
+    ensures { result ≡ refusal_answer (option_copied value.entry) }
+{
+    match value {
+        Some(_) => Answer::Differs,
+        None => Answer::Absent,
+    }
+}
+
+fn is_same(value: Option<&Blob>, old: &Option<Blob>) -> bool
+    ensures { result ≡ option_eq bytes_eq (option_copied value.entry) old.now }
+{
+    match (value, old) {
+        (Some(value), Some(old)) => value.as_slice() == old.as_slice(),
+        (None, None) => true,
+        _ => false,
+    }
+}
+
+fn compare_and_set(
+    alloc: Global,
+    table: &mut Table,
+    key: &Blob,
+    old: &Option<Blob>,
+    new: &Option<Blob>,
+) -> Result<Answer, NoMemory>
+    requires { IsInOrder table.old }
+    ensures ok { IfOk result (λ answer. (entries_of table.new.entries, answer) ≡ swap_of (entries_of table.old.entries) key.now old.now new.now) }
+    ensures err { OnErr result (table.new.entries ≡ table.old.entries) }
+    ensures order { IsInOrder table.new }
+{
+    let value = value_in(table, key);
+    if !is_same(value, old) {
+        return Ok(refusal(value));
+    }
+    set_choice(alloc, table, key, new)?;
+    Ok(Answer::Done)
+}
+
+/// A map from keys to values, which commands read and change one after the other.
+#[derive(Drop)]
+pub struct Store {
+    alloc: Global,
+    table: Table,
+}
+
+impl Model for Store {
+    ghost use Rattle.nz_store.specs.Entries.{Entries};
+    ghost use Rattle.nz_store.specs.Table.{entries_of, IsInOrder};
+
+    ghost Value = { Entries };
+
+    ghost view = { λ s. entries_of s.table.entries };
+
+    ghost invariant = { λ s. IsInOrder s.table };
+}
+
+impl Store {
+    /// The empty map.
+    pub fn new(alloc: Global) -> Store
+        ensures { result ≡ empty }
+    {
+        Store {
+            alloc,
+            table: BTreeMap::new(alloc),
+        }
+    }
+
+    /// Applies the command, and answers it.
+    #[tactic(auto, unfolding(crate::specs::Sequence::apply))]
+    pub fn apply(&mut self, command: &Command) -> Result<Answer, NoMemory>
+        ensures store { OnOk result (self.new ≡ (apply_of self.old command.now).0) }
+        ensures answer { IfOk result (λ answer. answer ≡ (apply_of self.old command.now).1) }
+        ensures err { OnErr result (self.new ≡ self.old) }
+    {
+        match command {
+            Command::Put { key, value } => {
+                set(self.alloc, &mut self.table, key, value)?;
+                Ok(Answer::Done)
+            }
+            Command::Get { key } => read(self.alloc, value_in(&self.table, key)),
+            Command::Del { key } => Ok(removal(remove(&mut self.table, key))),
+            Command::Cas { key, old, new } => {
+                compare_and_set(self.alloc, &mut self.table, key, old, new)
+            }
+        }
+    }
+
+    /// Applies the command that the bytes spell. Bytes that are no command change nothing, and
+    /// are answered Absent.
+    #[tactic(auto, unfolding(crate::specs::Sequence::apply_bytes))]
+    pub fn apply_bytes(&mut self, bytes: &[u8]) -> Result<Answer, NoMemory>
+        ensures store { OnOk result (self.new ≡ (apply_bytes_of self.old bytes.now).0) }
+        ensures answer { IfOk result (λ answer. answer ≡ (apply_bytes_of self.old bytes.now).1) }
+        ensures err { OnErr result (self.new ≡ self.old) }
+    {
+        match read_command(self.alloc, bytes)? {
+            Some(command) => self.apply(&command),
+            None => Ok(Answer::Absent),
+        }
+    }
+}
