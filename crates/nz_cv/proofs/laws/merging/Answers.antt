@@ -1,0 +1,6 @@
+use Rattle.nz_cv.proofs.Merging.{merged-own}
+use Rattle.nz_cv.proofs.Collecting.{never_falls, takes_in, adds_nothing, idempotent}
+use Rattle.nz_cv.proofs.laws.merging.Goals as goal
+
+pub returns : goal.returns
+returns c = record { own_stays = merged-own; never_falls = never_falls; takes_in = takes_in; adds_nothing = adds_nothing; idempotent = idempotent }

@@ -1,0 +1,6 @@
+use Rattle.std.proofs.Common.{arith}
+use Rattle.nz_cv.proofs.Merging.{greater_counters-raised}
+use Rattle.nz_cv.proofs.raise.Goals as goal
+
+pub returns : goal.returns
+returns c = greater_counters-raised _ _ _ _ (omega arith) (omega arith) c.loop-place.invariant
