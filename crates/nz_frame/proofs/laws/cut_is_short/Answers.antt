@@ -1,0 +1,5 @@
+use Rattle.nz_frame.proofs.Readings as readings
+use Rattle.nz_frame.proofs.laws.cut_is_short.Goals as goal
+
+pub returns : goal.returns
+returns c = readings.cut_is_short

@@ -1,0 +1,3 @@
+pub mod Address
+pub mod Grammar
+pub mod Refusal

@@ -1,0 +1,16 @@
+ghost use Rattle.std.specs.Prelude.{◌↔◌, IsTrue};
+ghost use Rattle.nz_frame.specs.Address.{IsKind, IsAddress};
+
+/// Whether a kind of message has this number.
+pub fn is_kind(kind: u8) -> bool
+    ensures { IsTrue result ↔ IsKind kind }
+{
+    matches!(kind, 1..=18)
+}
+
+/// Whether the address belongs to somebody.
+pub fn is_address(address: u16) -> bool
+    ensures { IsTrue result ↔ IsAddress address }
+{
+    matches!(address, 0..=8 | 16..=23 | 64..=127)
+}

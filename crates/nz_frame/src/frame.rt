@@ -1,0 +1,159 @@
+ghost use Rattle.std.specs.Prelude.{◌≡◌, ◌+◌, ◌≤◌, ◌<◌, ◌^◌, ◌∷◌, ◌++◌, ◌↔◌, ℕ, List, length, drop, IsOkAnd, IfOk, IfErr, OnOk, OnErr, IsFalse, IfSome, IsSome, Some, None};
+ghost use Rattle.byteorder.specs.Endian.{big_bytes, big_number};
+ghost use Rattle.nz_frame.specs.Address.{is_address as is_address_test, IsKind, IsAddress};
+ghost use Rattle.nz_frame.specs.Grammar.{frame, IsFrame, SameParts};
+ghost use Rattle.nz_frame.specs.declared.refusal.FrameRefusal.TheVariants.{BadActor};
+ghost use Rattle.nz_frame.specs.Refusal.{stated, end_of, refusal};
+
+use super::address::{is_address, is_kind};
+use super::error::NoMemory;
+use super::refusal::FrameRefusal;
+use byteorder::{BigEndian, ByteOrder};
+use bytes::{Bytes, BytesMut};
+use std::alloc::Global;
+
+/// The version that every frame states.
+const VERSION: u8 = 1;
+
+/// The bytes between the length and the body: version, kind, sender and receiver.
+const HEAD: u32 = 6;
+
+/// The greatest length that a frame may state.
+const MAX_LEN: u32 = 16_777_216;
+
+/// Frames as bytes.
+#[derive(Clone, Copy, Debug)]
+pub struct Frame;
+
+/// A frame that was read, over the bytes that were given.
+#[derive(Clone, Copy, Debug)]
+pub struct FrameView<'a> {
+    /// 1 to 18.
+    pub kind: u8,
+    /// The sender's address.
+    pub from: u16,
+    /// The receiver's address.
+    pub to: u16,
+    pub body: &'a [u8],
+}
+
+/// The length that the first four bytes state: how many bytes of the frame follow them.
+pub fn frame_len(bytes: &[u8]) -> Option<u32>
+    ensures some { IsSome result ↔ (4 ≤ length bytes.now) }
+    ensures len { IfSome result (λ len. len ≡ big_number 4 bytes.now) }
+{
+    if bytes.len() < 4 {
+        return None;
+    }
+    Some(BigEndian::read_u32(bytes))
+}
+
+// The tests on how many bytes there are.
+#[tactic(auto, unfolding(crate::specs::Refusal::refusal))]
+fn check_length(bytes: &[u8]) -> Result<(), FrameRefusal>
+    ensures ok { OnOk result ((6 ≤ stated bytes.now) × (stated bytes.now ≤ 16777216)
+        × (length bytes.now ≡ end_of bytes.now)) }
+    ensures err { IfErr result (λ r. refusal bytes.now ≡ Some r) }
+{
+    let Some(len) = frame_len(bytes) else {
+        return Err(FrameRefusal::Short {
+            place: bytes.len() as u32,
+        });
+    };
+    if len > MAX_LEN {
+        return Err(FrameRefusal::TooLong { place: 0 });
+    }
+    if len < HEAD {
+        return Err(FrameRefusal::Short {
+            place: bytes.len().min(u32::MAX as usize) as u32,
+        });
+    }
+    let end = 4 + len;
+    if bytes.len() < end as usize {
+        return Err(FrameRefusal::Short {
+            place: bytes.len() as u32,
+        });
+    }
+    if bytes.len() > end as usize {
+        return Err(FrameRefusal::Trailing { place: end });
+    }
+    Ok(())
+}
+
+// The address at a place, which must belong to somebody.
+fn actor_at(bytes: &[u8], place: u32) -> Result<u16, FrameRefusal>
+    requires { place + 2 ≤ length bytes.now }
+    ensures address { IfOk result (λ a. a ≡ big_number 2 (drop place bytes.now)) }
+    ensures known { IfOk result (λ a. IsAddress a) }
+    ensures refusal { IfErr result (λ r. r ≡ BadActor place) }
+    ensures unknown { OnErr result (IsFalse (is_address_test (big_number 2 (drop place bytes.now)))) }
+{
+    let address = BigEndian::read_u16(&bytes[place as usize..]);
+    if !is_address(address) {
+        return Err(FrameRefusal::BadActor { place });
+    }
+    Ok(address)
+}
+
+fn header(kind: u8, from: u16, to: u16, len: u32) -> [u8; 10]
+    ensures { result ≡ big_bytes 4 len ++ 1 ∷ kind ∷ (big_bytes 2 from ++ big_bytes 2 to) }
+{
+    let mut header = [0; 10];
+    BigEndian::write_u32(&mut header, len);
+    header[4] = VERSION;
+    header[5] = kind;
+    BigEndian::write_u16(&mut header[6..], from);
+    BigEndian::write_u16(&mut header[8..], to);
+    header
+}
+
+impl Frame {
+    /// The frame of these parts.
+    #[tactic(auto, unfolding(crate::specs::Grammar::frame))]
+    pub fn write(
+        alloc: Global,
+        kind: u8,
+        from: u16,
+        to: u16,
+        body: &[u8],
+    ) -> Result<Bytes, NoMemory>
+        requires kind { IsKind kind }
+        requires from { IsAddress from }
+        requires to { IsAddress to }
+        requires body { length body.now ≤ 16777210 }
+        ensures { IfOk result (λ b. b ≡ frame kind from to body.now) }
+    {
+        let header = header(kind, from, to, HEAD + body.len() as u32);
+        let mut bytes = BytesMut::with_capacity(alloc, header.len() + body.len())?;
+        bytes.extend_from_slice(&header)?;
+        bytes.extend_from_slice(body)?;
+        Ok(bytes.freeze()?)
+    }
+
+    /// The parts of the frame that the bytes are. What is read borrows the bytes.
+    #[tactic(auto, unfolding(crate::specs::Refusal::refusal))]
+    pub fn read(bytes: &[u8]) -> Result<FrameView<'_>, FrameRefusal>
+        ensures frame { IfOk result (λ v. IsFrame bytes.now v.kind v.from v.to v.body.now) }
+        ensures every_frame { (kind from to : ℕ) (body : List ℕ) → IsFrame bytes.now kind from to body
+            → IsOkAnd result (λ v. SameParts v.kind v.from v.to v.body.now kind from to body) }
+        ensures accepted { OnOk result (refusal bytes.now ≡ None) }
+        ensures refused { IfErr result (λ r. refusal bytes.now ≡ Some r) }
+    {
+        check_length(bytes)?;
+        if bytes[4] != VERSION {
+            return Err(FrameRefusal::BadVersion { place: 4 });
+        }
+        let kind = bytes[5];
+        if !is_kind(kind) {
+            return Err(FrameRefusal::BadKind { place: 5 });
+        }
+        let from = actor_at(bytes, 6)?;
+        let to = actor_at(bytes, 8)?;
+        Ok(FrameView {
+            kind,
+            from,
+            to,
+            body: &bytes[10..],
+        })
+    }
+}
