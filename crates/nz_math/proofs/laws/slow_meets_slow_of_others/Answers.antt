@@ -1,0 +1,5 @@
+use Rattle.nz_math.proofs.Sharing as proved
+use Rattle.nz_math.proofs.laws.slow_meets_slow_of_others.Goals as goal
+
+pub returns : goal.returns
+returns c = proved.two_slow_of_others
