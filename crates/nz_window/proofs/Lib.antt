@@ -1,0 +1,5 @@
+pub mod Bounds
+pub mod Examples
+pub mod Order
+pub mod Pushing
+pub mod Medians

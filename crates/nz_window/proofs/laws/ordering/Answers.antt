@@ -1,0 +1,5 @@
+use Rattle.nz_window.proofs.Order.{orders_all}
+use Rattle.nz_window.proofs.laws.ordering.Goals as goal
+
+pub returns : goal.returns
+returns c = orders_all
