@@ -5,22 +5,23 @@ use super::list::List;
 use super::memory::{NoMemory, TryCopy};
 use std::alloc::Global;
 
-/// By how many clock units the clock of an actor is off, ahead where the number is above 0.
+/// How many clock units the clock of an actor is ahead, or behind where the number is below 0.
 #[derive(Clone, Copy, Debug, PartialEq, Eq)]
 pub struct Skew {
     pub actor: Actor,
     pub units: i64,
 }
 
-/// A request of a client's script, sent `wait` ticks later than it could be.
+/// A request of a client's script. It is not sent before the client has counted `wait` ticks.
 #[derive(Debug, Drop, PartialEq, Eq)]
 pub struct Request {
     pub wait: u32,
     pub command: Blob,
 }
 
-/// What goes wrong in a run. Kinds are those of the messages, 1 to 18, and `count` says which of
-/// the parcels of that kind, from 1, between the two actors.
+/// What goes wrong in a run. `kind` is that of a message, 1 to 18, and `count` says which of the
+/// parcels of that kind it is, from 1, that the one actor sends to the other. A parcel usually comes
+/// in the tick after the one it was sent in.
 #[derive(Clone, Copy, Debug, PartialEq, Eq)]
 pub enum Fault {
     /// The parcel is lost.
@@ -46,7 +47,7 @@ pub enum Fault {
         count: u32,
         by: u32,
     },
-    /// Only the first `keep` bytes of the parcel come.
+    /// Of the parcel the first `keep` bytes come, and never all of them.
     Cut {
         from: Actor,
         to: Actor,
@@ -54,21 +55,24 @@ pub enum Fault {
         count: u32,
         keep: u32,
     },
-    /// Parcels between the two are lost in the ticks from `first` to `last`. None stands for every actor.
+    /// What the one sends to the other in the ticks from `first` to `last` is lost. `None` is every actor.
     Block {
         from: Option<Actor>,
         to: Option<Actor>,
         first: u32,
         last: u32,
     },
+    /// The actor is down from then on, and has forgotten all.
     Crash {
         actor: Actor,
         tick: u32,
     },
+    /// The actor, if it is down, takes part again.
     Restart {
         actor: Actor,
         tick: u32,
     },
+    /// The replica asks for the next view.
     Alarm {
         actor: Actor,
         tick: u32,

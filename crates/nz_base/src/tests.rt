@@ -1,7 +1,7 @@
 //! Values from outside the crate, and each call that takes memory once where there is enough.
 use super::{
-    Actor, Blob, Cluster, Entry, EntryList, Fault, FaultList, Id, IdList, Key, KeyList, NoMemory,
-    Request, RequestList, Scenario, ScriptList, Skew, SkewList, TryCopy,
+    Actor, Blob, Cluster, Entry, EntryList, Fault, FaultList, Id, IdList, Key, KeyList, List,
+    NoMemory, Request, RequestList, Scenario, ScriptList, Skew, SkewList, TryCopy,
 };
 use std::alloc::Global;
 use std::cmp::Ordering;
@@ -148,6 +148,11 @@ fn lists_with_ample_memory(rt: HostRuntime) -> Result<(), Fail> {
     let keys = KeyList::from_slice(alloc, &[key, key])?;
     assert_eq!(rt; keys.len(), 2);
     assert_eq!(rt; *keys.get(1), key);
+    let actors = [Actor::Replica(3), Actor::Client(0)];
+    assert_eq!(rt;
+        List::from_slice(alloc, &actors)?.as_slice(),
+        actors.as_slice()
+    );
     let ids = IdList::from_slice(alloc, &[key.id()])?;
     assert_eq!(rt; ids.into_vec().as_slice(), [key.id()].as_slice());
     Ok(())
