@@ -1,0 +1,9 @@
+use Rattle.std.proofs.Common.{rules}
+use Rattle.std.proofs.lemmas.Grind.{common_steps}
+use Rattle.nz_edge.proofs.Told.{loses_front}
+use Rattle.nz_edge.proofs.mem_source.MemSourceSource.read.Goals as goal
+
+pub returns-clause-given : goal.returns-clause-given
+returns-clause-given c =
+    rw (c.copy_from_slice.ensures.after, ← c.self.view_is, c.split_at.ensures.back, c.as_slice.ensures)
+    (loses_front c.self.inside.bytes _ c.self.inside.given c.min-count.result (search (rules, common_steps)))
