@@ -1,0 +1,151 @@
+-- Which keys the merged log has, and where its entries come from.
+use Rattle.std.proofs.Common.{◌≡◌, ℕ, zero, suc, ◌<◌, ◌≤◌, Bool, true, false, ◌&&◌, not, eqb, List, [], ◌∷◌, ◌++◌, length, leb, Option, Some, None, refl, sym, subst, inl, inr, append_assoc, arith}
+use Rattle.std.specs.Prelude.{map, take}
+use Rattle.std.specs.List.{filter, flat_map, AllByRecursion}
+use Rattle.std.proofs.lemmas.Bool.{le-leb, leb-true}
+use Rattle.nz_base.specs.declared.key.Key.{Key}
+use Rattle.nz_base.specs.declared.key.Id.{Id}
+use Rattle.nz_base.specs.declared.key.Entry.{Entry}
+use Rattle.nz_base.specs.Key.{key_below, key_eq, id_eq, id_of}
+use Rattle.nz_base.proofs.Names.{same_key}
+use Rattle.nz_merge.specs.Log.{keys_of, has_key, has_id, AreRising}
+use Rattle.nz_merge.specs.Merged.{IsFit, greatest, lowest, synced_entries, synced_part, holders, all_keys, is_above_last, is_taken, later, command_at, command_in, entry_in, merged_from}
+use Rattle.nz_merge.specs.declared.change.Change.{Change}
+use Rattle.nz_merge.proofs.Lines.{cases_bool, or_cases, or_left, or_right, and_both, and_left, clash, has_first, has_append, has_front, has_back, above_each, above_last, never_self}
+use Rattle.nz_merge.proofs.Ordering.{in_order_rising, has_in_order}
+use Rattle.nz_merge.proofs.Fronts.{among_all, merged_keys}
+use Rattle.nz_merge.proofs.Logs.{base_log, lowest_has, all_filter}
+
+-- ---- a key that enough logs hold
+
+-- a key with the id, in a list that has the id
+with_id : (keys : List Key) (i : Id) → has_id keys i ≡ true → (k : Key) × (has_key keys k ≡ true) × (id_eq i (id_of k) ≡ true)
+with_id [] i h = absurd cc
+with_id (k ∷ keys) i h =
+    elim (cases_bool (id_eq i (id_of k))) [
+      | inl here ↦ (k, has_first k keys, here)
+      | inr away ↦ let found = with_id keys i (rw away at h) in (found.0, or_right (key_eq found.0 k) (has_key keys found.0) found.1, found.2)
+    ]
+
+-- it is taken, where no other key with its id is
+pub takes_held : (limit : ℕ) (changes : List Change) (taken candidates : List Key) (k : Key) → AreRising candidates → has_key candidates k ≡ true
+    → leb limit (length (holders changes k)) ≡ true
+    → ((x : Key) → has_key taken x ≡ true → key_below x k ≡ true)
+    → ((x : Key) → has_key (taken ++ later limit changes taken candidates) x ≡ true → id_eq (id_of k) (id_of x) ≡ true → x ≡ k)
+    → has_key (later limit changes taken candidates) k ≡ true
+unfolding later
+takes_held limit changes taken [] k r there enough below only = absurd cc
+takes_held limit changes taken (c ∷ candidates) k r there enough below only =
+    elim (cases_bool (key_eq k c)) [
+      | inl equal ↦
+          let same : k ≡ c = same_key k c equal in
+          let above : is_above_last taken k ≡ true = above_last taken k below in
+          let fresh : has_id taken (id_of k) ≡ false = elim (cases_bool (has_id taken (id_of k))) [
+            | inr away ↦ away
+            | inl known ↦
+                let found = with_id taken (id_of k) known in
+                let itself : found.0 ≡ k = only found.0 (has_front taken (later limit changes taken (c ∷ candidates)) found.0 found.1) found.2 in
+                never_self k (subst (λ (x : Key). key_below x k ≡ true) itself (below found.0 found.1))
+          ] in
+          let joins : is_taken limit changes taken k ≡ true = and_both (leb limit (length (holders changes k))) (is_above_last taken k && not (has_id taken (id_of k))) enough (and_both (is_above_last taken k) (not (has_id taken (id_of k))) above (rw fresh refl)) in
+          let joins_c : is_taken limit changes taken c ≡ true = subst (λ (x : Key). is_taken limit changes taken x ≡ true) same joins in
+          rw joins_c (or_left (key_eq k c) (has_key (later limit changes (taken ++ c ∷ []) candidates) k) equal)
+      | inr other ↦
+          let behind : has_key candidates k ≡ true = elim (or_cases (key_eq k c) (has_key candidates k) there) [
+            | inl equal ↦ clash (key_eq k c) equal other
+            | inr rest ↦ rest
+          ] in
+          let before : key_below c k ≡ true = r.0 k behind in
+          elim (cases_bool (is_taken limit changes taken c)) [
+            | inr skipped ↦ rw skipped (takes_held limit changes taken candidates k r.1 behind enough below (rw skipped at only))
+            | inl joins ↦
+                let more : (x : Key) → has_key (taken ++ c ∷ []) x ≡ true → key_below x k ≡ true = λ x h. elim (has_append taken (c ∷ []) x h) [
+                  | inl early ↦ below x early
+                  | inr late ↦ elim (or_cases (key_eq x c) false late) [
+                    | inl same ↦ subst (λ (y : Key). key_below y k ≡ true) (sym (same_key x c same)) before
+                    | inr none ↦ absurd cc
+                  ]
+                ] in
+                let rest = later limit changes (taken ++ c ∷ []) candidates in
+                let only_then : (x : Key) → has_key (taken ++ c ∷ rest) x ≡ true → id_eq (id_of k) (id_of x) ≡ true → x ≡ k = rw joins at only in
+                let found = takes_held limit changes (taken ++ c ∷ []) candidates k r.1 behind enough more (λ x h i. only_then x (subst (λ (xs : List Key). has_key xs x ≡ true) (append_assoc taken (c ∷ []) rest) h) i) in
+                rw joins (or_right (key_eq k c) (has_key rest k) found)
+          ]
+    ]
+
+pub merged_has : (limit : ℕ) (changes : List Change) (k : Key) → AllByRecursion IsFit changes → 0 < limit → limit ≤ length (holders changes k) → is_above_last (keys_of (synced_part changes)) k ≡ true
+    → ((x : Key) → has_key (keys_of (merged_from limit changes)) x ≡ true → id_eq (id_of k) (id_of x) ≡ true → x ≡ k) → has_key (keys_of (merged_from limit changes)) k ≡ true
+merged_has limit changes k fit positive enough above only =
+    let base = keys_of (synced_part changes) in
+    let candidates = all_keys changes in
+    let same = merged_keys limit changes in
+    let rising = base_log changes fit in
+    let there : has_key candidates k ≡ true = has_in_order (flat_map (λ c. keys_of c.log) changes) k (among_all (λ c. has_key (keys_of c.log) k) changes k (λ c h. h) (omega (arith, enough))) in
+    let found = takes_held limit changes base candidates k (in_order_rising (flat_map (λ c. keys_of c.log) changes)) there (le-leb limit (length (holders changes k)) enough) (λ x h. above_each base k x rising.0 above h)
+    (λ x h i. only x (subst (λ (xs : List Key). has_key xs x ≡ true) (sym same) h) i) in
+    subst (λ (xs : List Key). has_key xs k ≡ true) (sym same) (has_back base (later limit changes base candidates) k found)
+
+-- ---- where the entries come from
+
+-- what each entry of each log has, each entry of the merged log has
+abbrev pub EachEntry : (Entry → Type 0) → List Change → Type 0
+EachEntry Q changes = AllByRecursion (λ c. AllByRecursion Q c.log) changes
+
+all_append : (Q : Entry → Type 0) (xs ys : List Entry) → AllByRecursion Q xs → AllByRecursion Q ys → AllByRecursion Q (xs ++ ys)
+all_append Q [] ys hx hy = hy
+all_append Q (x ∷ xs) ys hx hy = (hx.0, all_append Q xs ys hx.1 hy)
+
+all_take : (Q : Entry → Type 0) (n : ℕ) (xs : List Entry) → AllByRecursion Q xs → AllByRecursion Q (take n xs)
+all_take Q zero xs h = tt
+all_take Q (suc n) [] h = tt
+all_take Q (suc n) (x ∷ xs) h = (h.0, all_take Q n xs h.1)
+
+base_entries : (Q : Entry → Type 0) (o : Option Change) → ((c : Change) → o ≡ Some c → AllByRecursion Q c.log) → AllByRecursion Q (synced_entries o)
+base_entries Q None h = tt
+base_entries Q (Some c) h = all_take Q c.synced c.log (h c refl)
+
+-- the entry of a key that a log has
+entry_at : (Q : Entry → Type 0) (key : Key) (log : List Entry) → AllByRecursion Q log → has_key (keys_of log) key ≡ true → Q (record { key = key; command = command_at key log })
+entry_at Q key [] each h = absurd cc
+entry_at Q key (e ∷ log) each h =
+    elim (cases_bool (key_eq key e.key)) [
+      | inl same ↦ rw same (subst (λ (k : Key). Q (record { key = k; command = e.command })) (sym (same_key key e.key same)) each.0)
+      | inr other ↦ rw other (entry_at Q key log each.1 (rw other at h))
+    ]
+
+-- a holder is one of the changes, and holds the key
+pub record IsHolder (Q : Entry → Type 0) (key : Key) (c : Change) : Type 0 where
+  pub each : AllByRecursion Q c.log
+  pub holds : has_key (keys_of c.log) key ≡ true
+
+are_holders : (Q : Entry → Type 0) (key : Key) (changes : List Change) → EachEntry Q changes → AllByRecursion (IsHolder Q key) (holders changes key)
+are_holders Q key [] each = tt
+are_holders Q key (c ∷ changes) each =
+    elim (cases_bool (has_key (keys_of c.log) key)) [
+      | inl here ↦ rw here (record { each = each.0; holds = here }, are_holders Q key changes each.1)
+      | inr away ↦ rw away (are_holders Q key changes each.1)
+    ]
+
+by_holder : (Q : Entry → Type 0) (key : Key) (found : List Change) → AllByRecursion (IsHolder Q key) found → 0 < length found → Q (record { key = key; command = command_in key (lowest found) })
+by_holder Q key [] each some = absurd (omega arith)
+by_holder Q key (c ∷ found) each some =
+    let first = lowest_has (IsHolder Q key) (c ∷ found) _ each refl in
+    entry_at Q key _ first.each first.holds
+
+later_entries : (Q : Entry → Type 0) (limit : ℕ) (changes : List Change) (taken candidates : List Key) → EachEntry Q changes → 0 < limit → AllByRecursion Q (map (entry_in changes) (later limit changes taken candidates))
+unfolding later
+later_entries Q limit changes taken [] each positive = tt
+later_entries Q limit changes taken (k ∷ candidates) each positive =
+    elim (cases_bool (is_taken limit changes taken k)) [
+      | inr skipped ↦ rw skipped (later_entries Q limit changes taken candidates each positive)
+      | inl joins ↦
+          let enough = leb-true limit (length (holders changes k)) (and_left (leb limit (length (holders changes k))) (is_above_last taken k && not (has_id taken (id_of k))) joins) in
+          rw joins (by_holder Q k (holders changes k) (are_holders Q k changes each) (omega (arith, enough)), later_entries Q limit changes (taken ++ k ∷ []) candidates each positive)
+    ]
+
+pub merged_entries : (Q : Entry → Type 0) (limit : ℕ) (changes : List Change) → EachEntry Q changes → 0 < limit → AllByRecursion Q (merged_from limit changes)
+merged_entries Q limit changes each positive =
+    let best : Change → Bool = λ c. eqb c.synced (greatest (map (λ d. d.synced) changes)) in
+    all_append Q (synced_part changes) (map (entry_in changes) (later limit changes (keys_of (synced_part changes)) (all_keys changes)))
+    (base_entries Q (lowest (filter best changes)) (λ c h. lowest_has (λ d. AllByRecursion Q d.log) (filter best changes) c (all_filter (λ d. AllByRecursion Q d.log) best changes each) h))
+    (later_entries Q limit changes (keys_of (synced_part changes)) (all_keys changes) each positive)

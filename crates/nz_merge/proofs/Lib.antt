@@ -1,0 +1,12 @@
+pub mod Lines
+pub mod Ordering
+pub mod Walk
+pub mod Fronts
+pub mod Logs
+pub mod Entries
+pub mod Merging
+pub mod Search
+pub mod Loops
+pub mod Sets
+pub mod Turns
+pub mod Fitting

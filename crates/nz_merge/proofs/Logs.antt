@@ -1,0 +1,116 @@
+-- The merged log is a log, and what stands in it.
+use Rattle.std.proofs.Common.{◌≡◌, ℕ, Bool, true, false, ◌&&◌, not, cond, eqb, List, [], ◌∷◌, ◌++◌, length, leb, ltb, Option, Some, None, refl, sym, ap, subst, ◌∙◌, inl, inr, append_assoc}
+use Rattle.std.specs.Prelude.{map, take, drop}
+use Rattle.std.specs.List.{filter, AllByRecursion}
+use Rattle.std.proofs.lemmas.List.{map-append, append-nil, take-append-drop}
+use Rattle.nz_base.specs.declared.key.Key.{Key}
+use Rattle.nz_base.specs.declared.key.Id.{Id}
+use Rattle.nz_base.specs.declared.key.Entry.{Entry}
+use Rattle.nz_base.specs.Key.{key_below, key_eq, id_eq, id_of}
+use Rattle.nz_base.proofs.Names.{same_key, id_eq_self, same_id}
+use Rattle.nz_merge.specs.Log.{keys_of, has_key, has_id, AreRising, HaveOwnIds, IsLog}
+use Rattle.nz_merge.specs.Merged.{IsFit, greatest, lower, lowest, synced_entries, synced_part, holders, all_keys, is_above_last, is_taken, later, merged_from}
+use Rattle.nz_merge.specs.declared.change.Change.{Change}
+use Rattle.nz_merge.proofs.Lines.{cases_bool, or_cases, or_left, or_right, and_left, and_right, clash, any_append, has_first, has_later, has_append, rising_front, above_each}
+use Rattle.nz_merge.proofs.Fronts.{own_front, merged_keys}
+
+-- ---- a key behind a log
+
+rising_more : (keys : List Key) (key : Key) → AreRising keys → ((x : Key) → has_key keys x ≡ true → key_below x key ≡ true) → AreRising (keys ++ key ∷ [])
+rising_more [] key r h = (λ x none. absurd cc, tt)
+rising_more (k ∷ keys) key r h = (
+  λ x there. elim (has_append keys (key ∷ []) x there) [
+    | inl early ↦ r.0 x early
+    | inr late ↦ elim (or_cases (key_eq x key) false late) [
+      | inl same ↦ subst (λ (y : Key). key_below k y ≡ true) (sym (same_key x key same)) (h k (has_first k keys))
+      | inr none ↦ absurd cc
+    ]
+  ],
+  rising_more keys key r.1 (λ x there. h x (has_later k keys x there)),
+)
+
+-- an id is found either way round
+id_turn : (a b : Id) → id_eq a b ≡ true → id_eq b a ≡ true
+id_turn a b h = subst (λ (i : Id). id_eq i a ≡ true) (same_id a b h) (id_eq_self a)
+
+own_more : (keys : List Key) (key : Key) → HaveOwnIds keys → has_id keys (id_of key) ≡ false → HaveOwnIds (keys ++ key ∷ [])
+own_more [] key own h = (refl, tt)
+own_more (k ∷ keys) key own h =
+    let apart : id_eq (id_of k) (id_of key) ≡ false = elim (cases_bool (id_eq (id_of k) (id_of key))) [
+      | inr away ↦ away
+      | inl same ↦ clash (has_id (k ∷ keys) (id_of key)) (or_left (id_eq (id_of key) (id_of k)) (has_id keys (id_of key)) (id_turn (id_of k) (id_of key) same)) h
+    ] in
+    let rest : has_id keys (id_of key) ≡ false = elim (cases_bool (has_id keys (id_of key))) [
+      | inr away ↦ away
+      | inl there ↦ clash (has_id (k ∷ keys) (id_of key)) (or_right (id_eq (id_of key) (id_of k)) (has_id keys (id_of key)) there) h
+    ] in
+    let new : has_id (keys ++ key ∷ []) (id_of k) ≡ false = any_append (λ x. id_eq (id_of k) (id_of x)) keys (key ∷ []) ∙ (rw (own.0, apart) refl) in
+    (new, own_more keys key own.1 rest)
+
+-- what is taken keeps the keys rising and the ids apart
+pub taken_log : (limit : ℕ) (changes : List Change) (taken candidates : List Key) → AreRising taken → HaveOwnIds taken
+    → AreRising (taken ++ later limit changes taken candidates) × HaveOwnIds (taken ++ later limit changes taken candidates)
+unfolding later
+taken_log limit changes taken [] r own = (subst AreRising (sym (append-nil taken)) r, subst HaveOwnIds (sym (append-nil taken)) own)
+taken_log limit changes taken (k ∷ keys) r own =
+    elim (cases_bool (is_taken limit changes taken k)) [
+      | inr skipped ↦ rw skipped (taken_log limit changes taken keys r own)
+      | inl joins ↦
+          let tests = and_right (leb limit (length (holders changes k))) (is_above_last taken k && not (has_id taken (id_of k))) joins in
+          let above = and_left (is_above_last taken k) (not (has_id taken (id_of k))) tests in
+          let fresh = not_true (has_id taken (id_of k)) (and_right (is_above_last taken k) (not (has_id taken (id_of k))) tests) in
+          let both = taken_log limit changes (taken ++ k ∷ []) keys (rising_more taken k r (λ x h. above_each taken k x r above h)) (own_more taken k own fresh) in
+          let regroup : (taken ++ k ∷ []) ++ later limit changes (taken ++ k ∷ []) keys ≡ taken ++ k ∷ later limit changes (taken ++ k ∷ []) keys = append_assoc taken (k ∷ []) (later limit changes (taken ++ k ∷ []) keys) in
+          rw joins (subst AreRising regroup both.0, subst HaveOwnIds regroup both.1)
+    ]
+  where
+    not_true : (a : Bool) → not a ≡ true → a ≡ false
+    not_true true h = absurd cc
+    not_true false h = refl
+
+-- ---- the lowest sender
+
+-- one of the changes, where there is any
+pub lowest_has : (Q : Change → Type 0) (changes : List Change) (c : Change) → AllByRecursion Q changes → lowest changes ≡ Some c → Q c
+lowest_has Q [] c each h = absurd cc
+lowest_has Q (d ∷ changes) c each h = pick d (lowest changes) each.0 (λ e same. lowest_has Q changes e each.1 same) (some_same (lower d (lowest changes)) c h)
+  where
+    some_same : (a b : Change) → Some a ≡ Some b → a ≡ b
+    some_same a b e = cc
+
+    choose : (b : Bool) (d e : Change) → Q d → Q e → Q (cond b d e)
+    choose true d e hd he = hd
+    choose false d e hd he = he
+
+    pick : (d : Change) (o : Option Change) → Q d → ((e : Change) → o ≡ Some e → Q e) → lower d o ≡ c → Q c
+    pick d None hd he same = subst Q same hd
+    pick d (Some e) hd he same = subst Q same (choose (ltb e.sender d.sender) e d (he e refl) hd)
+
+pub all_filter : (Q : Change → Type 0) (p : Change → Bool) (changes : List Change) → AllByRecursion Q changes → AllByRecursion Q (filter p changes)
+all_filter Q p [] each = tt
+all_filter Q p (c ∷ changes) each = by_test (p c) c (filter p changes) each.0 (all_filter Q p changes each.1)
+  where
+    by_test : (b : Bool) (c : Change) (few : List Change) → Q c → AllByRecursion Q few → AllByRecursion Q (cond b (c ∷ few) few)
+    by_test true c few h each = (h, each)
+    by_test false c few h each = each
+
+front_log : (s : ℕ) (log : List Entry) → IsLog log → AreRising (keys_of (take s log)) × HaveOwnIds (keys_of (take s log))
+front_log s log h =
+    let parts : keys_of log ≡ keys_of (take s log) ++ keys_of (drop s log) = sym (ap keys_of (take-append-drop s log)) ∙ map-append (λ (e : Entry). e.key) (take s log) (drop s log) in
+    (rising_front (keys_of (take s log)) (keys_of (drop s log)) (subst AreRising parts h.rising), own_front (keys_of (take s log)) (keys_of (drop s log)) (subst HaveOwnIds parts h.own_ids))
+
+base_of : (o : Option Change) → ((c : Change) → o ≡ Some c → IsFit c) → AreRising (keys_of (synced_entries o)) × HaveOwnIds (keys_of (synced_entries o))
+base_of None h = (tt, tt)
+base_of (Some c) h = let fit = h c refl in front_log c.synced c.log fit.log
+
+pub base_log : (changes : List Change) → AllByRecursion IsFit changes → AreRising (keys_of (synced_part changes)) × HaveOwnIds (keys_of (synced_part changes))
+base_log changes fit =
+    let best = filter (λ c. eqb c.synced (greatest (map (λ d. d.synced) changes))) changes in
+    base_of (lowest best) (λ c h. lowest_has IsFit best c (all_filter IsFit (λ d. eqb d.synced (greatest (map (λ e. e.synced) changes))) changes fit) h)
+
+pub merged_log : (limit : ℕ) (changes : List Change) → AllByRecursion IsFit changes → IsLog (merged_from limit changes)
+merged_log limit changes fit =
+    let base = base_log changes fit in
+    let whole = taken_log limit changes (keys_of (synced_part changes)) (all_keys changes) base.0 base.1 in
+    let same = merged_keys limit changes in
+    record { rising = subst AreRising (sym same) whole.0; own_ids = subst HaveOwnIds (sym same) whole.1 }

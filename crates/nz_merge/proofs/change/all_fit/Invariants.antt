@@ -1,0 +1,6 @@
+use Rattle.std.proofs.Common.{◌≡◌, drop}
+use Rattle.nz_merge.specs.Fit.{are_fit}
+use Rattle.nz_merge.proofs.change.all_fit.Given as goal
+
+abbrev pub invariant-loop-change : goal.invariant-loop-change
+invariant-loop-change l = are_fit (drop l.change-index l.changes) ≡ are_fit l.changes

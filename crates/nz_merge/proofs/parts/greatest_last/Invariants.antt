@@ -1,0 +1,6 @@
+use Rattle.std.proofs.Common.{◌≡◌, max, map, drop}
+use Rattle.nz_merge.specs.Merged.{greatest}
+use Rattle.nz_merge.proofs.parts.greatest_last.Given as goal
+
+abbrev pub invariant-loop-change : goal.invariant-loop-change
+invariant-loop-change l = max l.most (greatest (map (λ c. c.last) (drop l.change-index l.changes))) ≡ greatest (map (λ c. c.last) l.changes)

@@ -1,0 +1,22 @@
+-- The test of what a replica may report.
+use Rattle.std.specs.Prelude.{Bool, true, not, ◌&&◌, nat_le, List, [], ◌∷◌, length}
+use Rattle.nz_base.specs.declared.key.Key.{Key}
+use Rattle.nz_base.specs.Key.{key_below, id_eq, id_of}
+use Rattle.nz_merge.specs.Log.{keys_of}
+use Rattle.nz_merge.specs.declared.change.Change.{Change}
+
+-- Whether a key may stand before these.
+abbrev pub comes_first : Key → List Key → Bool
+comes_first key [] = true
+comes_first key (k ∷ keys) = (key_below key k && not (id_eq (id_of key) (id_of k))) && comes_first key keys
+
+abbrev pub are_log : List Key → Bool
+are_log [] = true
+are_log (k ∷ keys) = comes_first k keys && are_log keys
+
+abbrev pub is_fit : Change → Bool
+is_fit c = nat_le c.synced (length c.log) && are_log (keys_of c.log)
+
+abbrev pub are_fit : List Change → Bool
+are_fit [] = true
+are_fit (c ∷ changes) = is_fit c && are_fit changes

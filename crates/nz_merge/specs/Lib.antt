@@ -1,0 +1,5 @@
+pub mod Log
+pub mod Merged
+pub mod Sender
+pub mod Lower
+pub mod Fit

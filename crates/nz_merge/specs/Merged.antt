@@ -1,0 +1,124 @@
+-- The log that a new leader makes of the logs that replicas reported.
+use Rattle.std.specs.Prelude.{ℕ, ◌+◌, ◌/◌, ◌≤◌, max, Bool, true, not, ◌&&◌, ◌==◌, nat_le, nat_lt, if◌then◌else◌, List, [], ◌∷◌, ◌++◌, length, map, take, Option, Some, None}
+use Rattle.std.specs.List.{filter, flat_map, AllByRecursion}
+use Rattle.nz_base.specs.declared.key.Key.{Key}
+use Rattle.nz_base.specs.declared.key.Entry.{Entry}
+use Rattle.nz_base.specs.Key.{key_below, key_eq, id_of}
+use Rattle.nz_merge.specs.Log.{keys_of, has_key, has_id, IsLog, begins_with}
+use Rattle.nz_merge.specs.declared.change.Change.{Change}
+
+-- What a replica may report: its log is a log, and it has the entries that it calls synced.
+pub record IsFit (c : Change) : Type 0 where
+  pub log : IsLog c.log
+  pub synced : c.synced ≤ length c.log
+
+abbrev pub AreFit : List Change → Type 0
+AreFit changes = AllByRecursion IsFit changes
+
+-- ---- which logs count
+
+abbrev pub greatest : List ℕ → ℕ
+greatest [] = 0
+greatest (n ∷ ns) = max n (greatest ns)
+
+-- The changes of a last view, and of the greatest.
+abbrev pub of_view : ℕ → List Change → List Change
+of_view view changes = filter (λ c. c.last == view) changes
+
+abbrev pub kept : List Change → List Change
+kept changes = of_view (greatest (map (λ c. c.last) changes)) changes
+
+-- The change of the lowest sender.
+abbrev pub lower : Change → Option Change → Change
+lower c None = c
+lower c (Some d) = if nat_lt d.sender c.sender then d else c
+
+abbrev pub lowest : List Change → Option Change
+lowest [] = None
+lowest (c ∷ changes) = Some (lower c (lowest changes))
+
+-- ---- the synced part
+
+abbrev pub synced_entries : Option Change → List Entry
+synced_entries None = []
+synced_entries (Some c) = take c.synced c.log
+
+-- The changes with a synced count, and the synced entries of the one with the greatest, of the lowest
+-- sender among those.
+abbrev pub with_synced : ℕ → List Change → List Change
+with_synced count changes = filter (λ c. c.synced == count) changes
+
+abbrev pub synced_part : List Change → List Entry
+synced_part changes = synced_entries (lowest (with_synced (greatest (map (λ c. c.synced) changes)) changes))
+
+-- ---- the later keys
+
+-- The changes whose logs hold the key.
+abbrev pub holders : List Change → Key → List Change
+holders changes key = filter (λ c. has_key (keys_of c.log) key) changes
+
+-- Keys put among others in their order, each once.
+abbrev pub put_in_order : Key → List Key → List Key
+put_in_order key [] = key ∷ []
+put_in_order key (k ∷ keys) = if key_below key k then key ∷ k ∷ keys else (if key_eq key k then k ∷ keys else k ∷ put_in_order key keys)
+
+abbrev pub put_all_in_order : List Key → List Key → List Key
+put_all_in_order others [] = others
+put_all_in_order others (k ∷ keys) = put_all_in_order (put_in_order k others) keys
+
+abbrev pub in_order : List Key → List Key
+in_order keys = put_all_in_order [] keys
+
+-- All keys of the logs, in their order.
+abbrev pub all_keys : List Change → List Key
+all_keys changes = in_order (flat_map (λ c. keys_of c.log) changes)
+
+-- Whether a key is above the last of a list.
+abbrev pub is_above_last : List Key → Key → Bool
+is_above_last [] key = true
+is_above_last (k ∷ []) key = key_below k key
+is_above_last (k ∷ l ∷ keys) key = is_above_last (l ∷ keys) key
+
+-- Whether a key is taken behind those that were taken: enough logs hold it, it is above the last of
+-- them, and its id is not among theirs.
+abbrev pub is_taken : ℕ → List Change → List Key → Key → Bool
+is_taken limit changes taken key =
+    nat_le limit (length (holders changes key)) && (is_above_last taken key && not (has_id taken (id_of key)))
+
+-- The keys that are taken behind others, when these are gone through in turn.
+unfoldable pub later : ℕ → List Change → List Key → List Key → List Key
+later limit changes taken [] = []
+later limit changes taken (key ∷ keys) =
+    if is_taken limit changes taken key then key ∷ later limit changes (taken ++ key ∷ []) keys else later limit changes taken keys
+
+-- The command that a log has for a key.
+abbrev pub command_at : Key → List Entry → List ℕ
+command_at key [] = []
+command_at key (e ∷ log) = if key_eq key e.key then e.command else command_at key log
+
+abbrev pub command_in : Key → Option Change → List ℕ
+command_in key None = []
+command_in key (Some c) = command_at key c.log
+
+-- A key with its command in the log of the lowest sender that holds it.
+abbrev pub entry_in : List Change → Key → Entry
+entry_in changes key = record { key = key; command = command_in key (lowest (holders changes key)) }
+
+-- ---- the merged log
+
+-- The synced part, and each later key that at least limit of the logs hold.
+abbrev pub merged_from : ℕ → List Change → List Entry
+merged_from limit changes =
+    let base = synced_part changes in
+    base ++ map (entry_in changes) (later limit changes (keys_of base) (all_keys changes))
+
+-- A key is taken where one more than half of f, rounded up, hold it.
+abbrev pub threshold : ℕ → ℕ
+threshold f = (f + 1) / 2 + 1
+
+unfoldable pub merged : ℕ → List Change → List Entry
+merged f changes = merged_from (threshold f) (kept changes)
+
+-- How many of the logs begin with these keys.
+abbrev pub count_beginning : List Key → List Change → ℕ
+count_beginning front changes = length (filter (λ c. begins_with (keys_of c.log) front) changes)

@@ -1,0 +1,111 @@
+ghost use Rattle.std.specs.Prelude.{◌≡◌, [], ◌∷◌, ◌++◌, ◌↔◌, IsTrue, IsFalse, OnOk, OnErr};
+ghost use Rattle.nz_merge.specs.Fit.{comes_first as first_of, are_log, are_fit};
+ghost use Rattle.nz_merge.specs.Log.{keys_of};
+ghost use Rattle.nz_merge.specs.Merged.{AreFit};
+ghost use Rattle.nz_merge.specs.Sender.{has_sender};
+
+use nz_base::{Entry, EntryList, Key, NoMemory};
+use std::alloc::Global;
+use std::marker::Model;
+
+/// What a replica reports to the leader of a new view.
+#[derive(Debug, Drop)]
+pub struct Change {
+    /// The replica's number.
+    pub sender: u8,
+    /// The last view in which it was Normal.
+    pub last: u64,
+    /// How many entries of its log agree with that view's leader.
+    pub synced: u32,
+    /// How many entries it knows to be committed.
+    pub commit: u32,
+    pub log: EntryList,
+}
+
+/// Reports of different replicas.
+#[derive(Debug, Drop)]
+pub struct ViewChanges {
+    changes: Vec<Change>,
+}
+
+impl Model for ViewChanges {
+    ghost use Rattle.std.specs.Prelude.{List};
+    ghost use Rattle.nz_merge.specs.declared.change.Change.{Change as AChange};
+
+    ghost Value = { List AChange };
+
+    ghost view = { λ s. s.changes.items };
+}
+
+impl ViewChanges {
+    pub fn new(alloc: Global) -> ViewChanges
+        ensures { result ≡ [] }
+    {
+        ViewChanges {
+            changes: Vec::new(alloc),
+        }
+    }
+
+    /// Whether a report of this replica is there.
+    pub fn has_sender(&self, sender: u8) -> bool
+        ensures { result ≡ has_sender self.now sender }
+    {
+        self.changes.iter().any(|change| change.sender == sender)
+    }
+
+    /// Puts a report last.
+    pub fn push(&mut self, change: Change) -> Result<(), NoMemory>
+        requires { IsFalse (has_sender self.old change.sender) }
+        ensures ok { OnOk result (self.new ≡ self.old ++ change ∷ []) }
+        ensures err { OnErr result (self.new ≡ self.old) }
+    {
+        self.changes.push(change)?;
+        Ok(())
+    }
+
+    /// Whether each log is a log, and each synced count at most its length.
+    pub fn are_fit(&self) -> bool
+        ensures { IsTrue result ↔ AreFit self.now }
+    {
+        all_fit(&self.changes)
+    }
+
+    pub fn as_slice(&self) -> &[Change]
+        ensures { result.now ≡ self.now }
+    {
+        &self.changes
+    }
+}
+
+fn all_fit(changes: &[Change]) -> bool
+    ensures { result ≡ are_fit changes.now }
+{
+    for change in changes {
+        if change.synced > change.log.len() || !is_log(change.log.as_slice()) {
+            return false;
+        }
+    }
+    true
+}
+
+fn is_log(log: &[Entry]) -> bool
+    ensures { result ≡ are_log (keys_of log.now) }
+{
+    for (place, entry) in log.iter().enumerate() {
+        if !comes_first(entry.key, &log[place + 1..]) {
+            return false;
+        }
+    }
+    true
+}
+
+fn comes_first(key: Key, others: &[Entry]) -> bool
+    ensures { result ≡ first_of key (keys_of others.now) }
+{
+    for entry in others {
+        if !key.is_below(&entry.key) || key.id() == entry.key.id() {
+            return false;
+        }
+    }
+    true
+}

@@ -1,0 +1,15 @@
+//! The log that a new leader makes of the logs that replicas report.
+#![tactic(auto)]
+
+mod change;
+mod laws;
+mod new_log;
+mod parts;
+#[cfg(test)]
+mod tests;
+
+pub use change::{Change, ViewChanges};
+pub use laws::{
+    begins_with_synced_part, entries_come_from_logs, front_stays, held_key_stays, merged_is_log,
+};
+pub use new_log::merge;

@@ -1,0 +1,28 @@
+ghost use Rattle.std.specs.Prelude.{◌≡◌, IfOk};
+ghost use Rattle.nz_merge.specs.Merged.{AreFit, merged};
+
+use super::change::ViewChanges;
+use super::parts::{
+    copy_entry, copy_synced_part, count_holders, greatest_last, keys_in_order, may_follow,
+};
+use nz_base::{Cluster, EntryList, NoMemory};
+use std::alloc::Global;
+
+/// The log of a new leader, of the logs that f + 1 replicas report.
+#[tactic(auto, unfolding(crate::specs::Merged::merged))]
+pub fn merge(alloc: Global, cluster: Cluster, changes: &ViewChanges) -> Result<EntryList, NoMemory>
+    requires { AreFit changes.now }
+    ensures { IfOk result (λ log. log ≡ merged cluster changes.now) }
+{
+    let changes = changes.as_slice();
+    let view = greatest_last(changes);
+    let least = usize::from(cluster.f().div_ceil(2)) + 1;
+    let mut log = copy_synced_part(alloc, changes, view)?;
+    let keys = keys_in_order(alloc, changes, view)?;
+    for key in &keys {
+        if count_holders(changes, view, *key) >= least && may_follow(log.as_slice(), *key) {
+            log.push(copy_entry(alloc, changes, view, *key)?)?;
+        }
+    }
+    Ok(log)
+}
