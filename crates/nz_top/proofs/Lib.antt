@@ -1,0 +1,10 @@
+pub mod Numerals
+pub mod LineLemmas
+pub mod ScriptLemmas
+pub mod HeadLemmas
+pub mod Places
+pub mod DigestLemmas
+pub mod Stores
+pub mod Releasing
+pub mod Tables
+pub mod Inputs

@@ -1,0 +1,13 @@
+use Rattle.std.proofs.Common.{◌≤◌, ◌-◌, length, take}
+use Rattle.nz_edge.specs.Told.{Gains}
+use Rattle.nz_top.proofs.output.write_all.Given as goal
+
+-- the sink took the bytes so far
+abbrev pub invariant-loop-at : goal.invariant-loop-at
+invariant-loop-at g l =
+    (l.at ≤ length l.bytes)
+    × Gains (g.O.Sink.taken l.initial.out) (g.O.Sink.taken l.out) (take l.at l.bytes)
+    × (g.O.Sink.faults l.initial.out ≤ g.O.Sink.faults l.out)
+
+abbrev pub decreases-loop-at : goal.decreases-loop-at
+decreases-loop-at g l = length l.bytes - l.at

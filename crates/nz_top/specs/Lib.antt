@@ -1,0 +1,13 @@
+pub mod Cuts
+pub mod Words
+pub mod Lines
+pub mod Plain
+pub mod State
+pub mod Logs
+pub mod Replicas
+pub mod Proxies
+pub mod Clients
+pub mod Step
+pub mod Seats
+pub mod Moves
+pub mod Calls
