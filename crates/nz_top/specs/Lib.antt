@@ -11,3 +11,5 @@ pub mod Step
 pub mod Seats
 pub mod Moves
 pub mod Calls
+pub mod World
+pub mod History

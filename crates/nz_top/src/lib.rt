@@ -2,6 +2,7 @@
 #![tactic(auto)]
 
 mod input;
+mod laws;
 mod machine;
 mod output;
 mod plain;
@@ -10,6 +11,7 @@ mod text;
 mod top;
 mod words;
 
+pub use laws::one_history;
 pub use machine::{
     AnswerBody, Event, FastReplyBody, Journal, Message, Parcel, Record, RecordList, RequestBody,
     Sends, TimedBody,
