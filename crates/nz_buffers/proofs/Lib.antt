@@ -1,0 +1,4 @@
+pub mod Booleans
+pub mod Inserting
+pub mod Releasing
+pub mod Removing

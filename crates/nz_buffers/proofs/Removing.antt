@@ -1,0 +1,114 @@
+-- What a removal leaves.
+use Rattle.std.proofs.Common.{◌≡◌, ℕ, suc, ◌<◌, Bool, true, false, List, [], ◌∷◌, ◌++◌, length, take, drop, get_or, Option, Some, None, is_some, Bor, IsSome, IsTrue, ◌↔◌, drop-cons, refl, sym, ap, subst, ◌∙◌, inl, inr}
+use Rattle.std.specs.Option.{option_copied}
+use Rattle.std.specs.List.{filter, remove}
+use Rattle.std.proofs.lemmas.List.{map-append, take-append-drop}
+use Rattle.nz_base.specs.declared.key.Id.{Id}
+use Rattle.nz_base.specs.declared.key.Key.{Key}
+use Rattle.nz_base.specs.declared.key.Entry.{Entry}
+use Rattle.nz_base.specs.Key.{key_eq, id_eq, id_of}
+use Rattle.nz_base.proofs.Names.{same_id}
+use Rattle.nz_buffers.specs.Log.{keys_of, has_key, has_id, AreRising, HaveOwnIds, IsLog}
+use Rattle.nz_buffers.specs.Buffers.{find_id, without}
+use Rattle.nz_buffers.specs.Places.{IsPlace}
+use Rattle.nz_buffers.proofs.Booleans.{cases_bool, or_cases, or_left, or_right, neither_left, neither_right}
+
+-- ---- what a filter keeps
+
+pub has_key_filter : (p : Entry → Bool) (es : List Entry) (x : Key) → has_key (keys_of (filter p es)) x ≡ true → has_key (keys_of es) x ≡ true
+has_key_filter p [] x h = h
+has_key_filter p (e ∷ es) x h =
+    elim (cases_bool (p e)) [
+      | inl kept ↦ elim (or_cases (key_eq x e.key) (has_key (keys_of (filter p es)) x) (rw kept at h)) [
+        | inl first ↦ or_left (key_eq x e.key) (has_key (keys_of es) x) first
+        | inr there ↦ or_right (key_eq x e.key) (has_key (keys_of es) x) (has_key_filter p es x there)
+      ]
+      | inr gone ↦ or_right (key_eq x e.key) (has_key (keys_of es) x) (has_key_filter p es x (rw gone at h))
+    ]
+
+pub has_id_filter : (p : Entry → Bool) (es : List Entry) (i : Id) → has_id (keys_of es) i ≡ false → has_id (keys_of (filter p es)) i ≡ false
+has_id_filter p [] i h = h
+has_id_filter p (e ∷ es) i h =
+    let rest = has_id_filter p es i (neither_right (id_eq i (id_of e.key)) (has_id (keys_of es) i) h) in
+    elim (cases_bool (p e)) [
+      | inl kept ↦ rw (kept, neither_left (id_eq i (id_of e.key)) (has_id (keys_of es) i) h) rest
+      | inr gone ↦ rw gone rest
+    ]
+
+pub rising_filter : (p : Entry → Bool) (es : List Entry) → AreRising (keys_of es) → AreRising (keys_of (filter p es))
+rising_filter p [] r = tt
+rising_filter p (e ∷ es) r =
+    elim (cases_bool (p e)) [
+      | inl kept ↦ rw kept (λ x h. r.0 x (has_key_filter p es x h), rising_filter p es r.1)
+      | inr gone ↦ rw gone (rising_filter p es r.1)
+    ]
+
+pub own_filter : (p : Entry → Bool) (es : List Entry) → HaveOwnIds (keys_of es) → HaveOwnIds (keys_of (filter p es))
+own_filter p [] own = tt
+own_filter p (e ∷ es) own =
+    elim (cases_bool (p e)) [
+      | inl kept ↦ rw kept (has_id_filter p es (id_of e.key) own.0, own_filter p es own.1)
+      | inr gone ↦ rw gone (own_filter p es own.1)
+    ]
+
+pub log_filter : (p : Entry → Bool) (es : List Entry) → IsLog es → IsLog (filter p es)
+log_filter p es log = record { rising = rising_filter p es log.rising; own_ids = own_filter p es log.own_ids }
+
+-- ---- the entry with an id
+
+-- none has the id, and nothing is taken out
+pub without_none : (es : List Entry) (i : Id) → has_id (keys_of es) i ≡ false → without es i ≡ es
+without_none [] i h = refl
+without_none (e ∷ es) i h = rw (neither_left (id_eq i (id_of e.key)) (has_id (keys_of es) i) h) (ap (λ (xs : List Entry). e ∷ xs) (without_none es i (neither_right (id_eq i (id_of e.key)) (has_id (keys_of es) i) h)))
+
+pub find_none : (es : List Entry) (i : Id) → has_id (keys_of es) i ≡ false → find_id es i ≡ None
+find_none [] i h = refl
+find_none (e ∷ es) i h = rw (neither_left (id_eq i (id_of e.key)) (has_id (keys_of es) i) h) (find_none es i (neither_right (id_eq i (id_of e.key)) (has_id (keys_of es) i) h))
+
+-- in front of the entry none has its id, and behind it none has either
+taken_split : (front : List Entry) (e : Entry) (back : List Entry) (i : Id) → has_id (keys_of front) i ≡ false → id_eq i (id_of e.key) ≡ true → has_id (keys_of back) i ≡ false
+    → (find_id (front ++ e ∷ back) i ≡ Some e) × (without (front ++ e ∷ back) i ≡ front ++ back)
+taken_split [] e back i away here behind = (rw here refl, rw here (without_none back i behind))
+taken_split (f ∷ front) e back i away here behind =
+    let rest = taken_split front e back i (neither_right (id_eq i (id_of f.key)) (has_id (keys_of front) i) away) here behind in
+    let apart = neither_left (id_eq i (id_of f.key)) (has_id (keys_of front) i) away in
+    (rw apart rest.0, rw apart (ap (λ (xs : List Entry). f ∷ xs) rest.1))
+
+-- the ids behind an entry differ from its own
+behind_own : (front : List Key) (k : Key) (back : List Key) → HaveOwnIds (front ++ k ∷ back) → has_id back (id_of k) ≡ false
+behind_own [] k back own = own.0
+behind_own (f ∷ front) k back own = behind_own front k back own.1
+
+split_at : (es : List Entry) (place : ℕ) (d : Entry) → place < length es → take place es ++ get_or es place d ∷ drop (suc place) es ≡ es
+split_at es place d h = ap (λ (xs : List Entry). take place es ++ xs) (sym (drop-cons es place d h)) ∙ take-append-drop place es
+
+-- the entry that stands at the place is the one with the id, and the rest are the others
+pub taken_at : (es : List Entry) (i : Id) (place : ℕ) (d : Entry) → HaveOwnIds (keys_of es) → IsPlace es i place
+    → (find_id es i ≡ Some (get_or es place d)) × (without es i ≡ remove es place)
+taken_at es i place d own at =
+    let front = take place es in
+    let e = get_or es place d in
+    let back = drop (suc place) es in
+    let split : front ++ e ∷ back ≡ es = split_at es place d at.within in
+    let parts : keys_of es ≡ keys_of front ++ e.key ∷ keys_of back = sym (ap keys_of split) ∙ map-append (λ (x : Entry). x.key) front (e ∷ back) in
+    let behind : has_id (keys_of back) i ≡ false =
+    subst (λ (j : Id). has_id (keys_of back) j ≡ false) (sym (same_id i (id_of e.key) (at.here d))) (behind_own (keys_of front) e.key (keys_of back) (subst HaveOwnIds parts own)) in
+    let both = taken_split front e back i at.front (at.here d) behind in
+    (subst (λ (xs : List Entry). find_id xs i ≡ Some e) split both.0, subst (λ (xs : List Entry). without xs i ≡ front ++ back) split both.1)
+
+-- it is found where the id is held
+pub find_held : (es : List Entry) (i : Id) → is_some (find_id es i) ≡ has_id (keys_of es) i
+find_held [] i = refl
+find_held (e ∷ es) i =
+    elim (cases_bool (id_eq i (id_of e.key))) [
+      | inl here ↦ rw here refl
+      | inr away ↦ rw away (find_held es i)
+    ]
+
+-- the same of an entry behind a reference
+pub found_held : (found : Option (Bor Entry)) (es : List Entry) (i : Id) → option_copied found ≡ find_id es i → IsSome found ↔ IsTrue (has_id (keys_of es) i)
+found_held found es i same = (λ some. sym (find_held es i) ∙ ap is_some (sym same) ∙ copied found ∙ some, λ held. sym (copied found) ∙ ap is_some same ∙ find_held es i ∙ held)
+  where
+    copied : (o : Option (Bor Entry)) → is_some (option_copied o) ≡ is_some o
+    copied None = refl
+    copied (Some x) = refl

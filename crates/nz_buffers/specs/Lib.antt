@@ -1,0 +1,4 @@
+pub mod Buffers
+pub mod Log
+pub mod Offers
+pub mod Places

@@ -1,0 +1,84 @@
+ghost use Rattle.std.specs.Prelude.{◌≡◌, [], ◌∷◌, ◌++◌, ◌↔◌, length, IsTrue, IsFalse, IsSome, OnOk, OnErr};
+ghost use Rattle.std.specs.Option.{option_copied};
+ghost use Rattle.nz_base.specs.Key.{id_of};
+ghost use Rattle.nz_buffers.specs.Log.{keys_of, has_id, HaveOwnIds};
+ghost use Rattle.nz_buffers.specs.Buffers.{find_id, without};
+
+use super::places::{find, take_out};
+use nz_base::{Entry, Id, NoMemory};
+use std::alloc::Global;
+use std::marker::Model;
+
+/// The entries that came too late for their places in the log. A clause sees the list of them as
+/// they came.
+#[derive(Debug, Drop)]
+pub struct Late {
+    entries: Vec<Entry>,
+}
+
+impl Model for Late {
+    ghost use Rattle.std.specs.Prelude.{List};
+    ghost use Rattle.nz_base.specs.declared.key.Entry.{Entry as AnEntry};
+    ghost use Rattle.nz_buffers.specs.Log.{keys_of, HaveOwnIds};
+
+    ghost Value = { List AnEntry };
+
+    ghost view = { λ b. b.entries.items };
+
+    ghost invariant = { λ b. HaveOwnIds (keys_of b.entries.items) };
+}
+
+impl Late {
+    pub fn new(alloc: Global) -> Late
+        ensures { result ≡ [] }
+    {
+        Late {
+            entries: Vec::new(alloc),
+        }
+    }
+
+    pub fn len(&self) -> usize
+        ensures { result ≡ length self.now }
+    {
+        self.entries.len()
+    }
+
+    pub fn is_empty(&self) -> bool
+        ensures { IsTrue result ↔ (self.now ≡ []) }
+    {
+        self.entries.is_empty()
+    }
+
+    /// The entries. Their ids differ.
+    pub fn as_slice(&self) -> &[Entry]
+        ensures value { result.now ≡ self.now }
+        ensures own_ids { HaveOwnIds (keys_of self.now) }
+    {
+        &self.entries
+    }
+
+    /// Puts the entry last.
+    pub fn keep(&mut self, entry: Entry) -> Result<(), NoMemory>
+        requires fresh { IsFalse (has_id (keys_of self.old) (id_of entry.key)) }
+        ensures ok { OnOk result (self.new ≡ self.old ++ entry ∷ []) }
+        ensures err { OnErr result (self.new ≡ self.old) }
+    {
+        self.entries.push(entry)?;
+        Ok(())
+    }
+
+    pub fn remove(&mut self, id: Id) -> Option<Entry>
+        ensures value { result ≡ find_id self.old id }
+        ensures held { IsSome result ↔ IsTrue (has_id (keys_of self.old) id) }
+        ensures rest { self.new ≡ without self.old id }
+    {
+        take_out(&mut self.entries, id)
+    }
+
+    pub fn find(&self, id: Id) -> Option<&Entry>
+        ensures value { option_copied result ≡ find_id self.now id }
+        ensures held { IsSome result ↔ IsTrue (has_id (keys_of self.now) id) }
+    {
+        find(&self.entries, id)
+    }
+}
