@@ -1,0 +1,5 @@
+use Rattle.nz_log.proofs.Lists.{log_push}
+use Rattle.nz_log.proofs.laws.appended_is_log.Goals as goal
+
+pub returns : goal.returns
+returns c = log_push

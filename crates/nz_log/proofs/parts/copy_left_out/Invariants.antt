@@ -1,0 +1,6 @@
+use Rattle.std.proofs.Common.{◌≡◌, take}
+use Rattle.nz_log.specs.Synced.{left_out}
+use Rattle.nz_log.proofs.parts.copy_left_out.Given as goal
+
+abbrev pub invariant-loop-entry : goal.invariant-loop-entry
+invariant-loop-entry l = l.list ≡ left_out (take l.entry-index l.entries) l.kept

@@ -1,0 +1,18 @@
+//! A replica's log, which knows its digest at each place and how much of it is synced.
+#![tactic(auto)]
+
+mod laws;
+mod log;
+mod parts;
+
+pub use laws::{
+    appended_is_log, digest_folds_one_more, last_entry_is_the_greatest, modified_is_log,
+    no_entry_is_lost, place_is_the_only_one, synced_part_stays,
+};
+pub use log::HashedLog;
+
+/// The most entries that a log may have.
+pub const MAX_ENTRIES: u32 = 4096;
+
+#[cfg(test)]
+mod tests;

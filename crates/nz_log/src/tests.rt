@@ -1,0 +1,153 @@
+use super::*;
+use nz_base::{Blob, Entry, EntryList, Id, Key, List, NoMemory};
+use nz_digest::Digest;
+use std::alloc::Global;
+use std::test::*;
+
+// Deadline, client and number.
+type Row = (u64, u32, u32);
+
+fn entry(alloc: Global, row: Row) -> Result<Entry, NoMemory> {
+    let key = Key {
+        deadline: row.0,
+        client: row.1,
+        num: row.2,
+    };
+    let command = Blob::from_slice(alloc, b"get a")?;
+    Ok(Entry { key, command })
+}
+
+fn list_of(alloc: Global, rows: &[Row]) -> Result<EntryList, NoMemory> {
+    let mut list = List::new(alloc);
+    for row in rows {
+        list.push(entry(alloc, *row)?)?;
+    }
+    Ok(list)
+}
+
+// Appends an entry where it may stand.
+fn append(log: &mut HashedLog, entry: Entry) -> Result<(), NoMemory> {
+    if log.len() < MAX_ENTRIES
+        && log.is_above(&entry.key)
+        && log.place_of(entry.key.id()).is_none()
+    {
+        log.append(entry)?;
+    }
+    Ok(())
+}
+
+fn log_of(alloc: Global, synced: &[Row], others: &[Row]) -> Result<HashedLog, NoMemory> {
+    let mut log = HashedLog::new(alloc);
+    for row in synced {
+        append(&mut log, entry(alloc, *row)?)?;
+    }
+    log.sync_all();
+    for row in others {
+        append(&mut log, entry(alloc, *row)?)?;
+    }
+    Ok(log)
+}
+
+// Modifies the log where it may be.
+fn modify(log: &mut HashedLog, entry: Entry) -> Result<Option<EntryList>, NoMemory> {
+    if log.len() < MAX_ENTRIES
+        && log.is_above_synced(&entry.key)
+        && !log.has_synced(entry.key.id())
+    {
+        return Ok(Some(log.modify(entry)?));
+    }
+    Ok(None)
+}
+
+#[test]
+fn modifies(rt: HostRuntime) -> Result<(), Fail> {
+    let alloc = rt.alloc();
+    // The synced entries, the others, the new one, what then stands behind the synced ones, and
+    // what lost its place.
+    let table: [(&[Row], &[Row], Row, &[Row], &[Row]); 7] = [
+        (
+            &[(10, 0, 1)],
+            &[(20, 1, 1), (30, 0, 2)],
+            (25, 2, 1),
+            &[(25, 2, 1), (30, 0, 2)],
+            &[(20, 1, 1)],
+        ),
+        (
+            &[(10, 0, 1)],
+            &[(20, 1, 1), (30, 0, 2)],
+            (15, 0, 2),
+            &[(15, 0, 2), (20, 1, 1)],
+            &[],
+        ),
+        (
+            &[(10, 0, 1)],
+            &[(20, 1, 1), (30, 0, 2)],
+            (40, 0, 2),
+            &[(40, 0, 2)],
+            &[(20, 1, 1)],
+        ),
+        (
+            &[(10, 0, 1)],
+            &[(20, 1, 1), (30, 0, 2)],
+            (20, 1, 1),
+            &[(20, 1, 1), (30, 0, 2)],
+            &[],
+        ),
+        (&[(10, 0, 1)], &[], (20, 1, 1), &[(20, 1, 1)], &[]),
+        (
+            &[(10, 0, 1)],
+            &[(20, 1, 1)],
+            (20, 0, 5),
+            &[(20, 0, 5), (20, 1, 1)],
+            &[],
+        ),
+        (&[], &[(10, 0, 1)], (10, 0, 2), &[(10, 0, 2)], &[(10, 0, 1)]),
+    ];
+    for (synced, others, row, behind, displaced) in table {
+        let mut log = log_of(alloc, synced, others)?;
+        let answer = modify(&mut log, entry(alloc, row)?)?;
+        assert_eq!(rt; answer, Some(list_of(alloc, displaced)?));
+        let expected = log_of(alloc, synced, behind)?;
+        assert_eq!(rt; log.as_slice(), expected.as_slice());
+        assert_eq!(rt; u64::from(log.synced()), u64::from(expected.synced()) + 1);
+    }
+    Ok(())
+}
+
+// The digests are those of the tool sha1sum on the 16 bytes of each key.
+#[test]
+fn knows_its_digest_at_each_place(rt: HostRuntime) -> Result<(), Fail> {
+    let rows = [(12500, 0, 1), (12500, 1, 0)];
+    let log = log_of(rt.alloc(), &[], &rows)?;
+    let digests = [
+        [
+            0x67, 0xa7, 0x8b, 0xbe, 0xe5, 0xeb, 0x7b, 0xbd, 0x61, 0x32, 0x20, 0xa9, 0x2e, 0x03,
+            0x21, 0x89, 0x55, 0x33, 0x2d, 0xee,
+        ],
+        [
+            0x45, 0x71, 0xce, 0xcf, 0xe8, 0x51, 0x2d, 0xa7, 0xfe, 0x41, 0xfc, 0x2e, 0x92, 0x6b,
+            0xce, 0xfe, 0x13, 0x5d, 0x3d, 0x37,
+        ],
+    ];
+    for (place, digest) in digests.into_iter().enumerate() {
+        if place as u32 >= log.len() {
+            return Err("an entry is missing".into());
+        }
+        assert_eq!(rt; log.digest_at(place as u32), Digest::from_bytes(digest));
+    }
+    assert_eq!(rt; log.place_of(Id { client: 1, num: 0 }), Some(1));
+    Ok(())
+}
+
+#[test]
+fn takes_a_list_in_place_of_its_entries(rt: HostRuntime) -> Result<(), Fail> {
+    let alloc = rt.alloc();
+    let mut log = log_of(alloc, &[(10, 0, 1)], &[(20, 1, 1)])?;
+    let other = log_of(alloc, &[(10, 0, 1), (30, 2, 2)], &[])?;
+    let list = other.entries()?;
+    let left_out = log.replace_all(list)?;
+    assert_eq!(rt; left_out, list_of(alloc, &[(20, 1, 1)])?);
+    assert_eq!(rt; log.as_slice(), other.as_slice());
+    assert_eq!(rt; log.synced(), 2);
+    Ok(())
+}
