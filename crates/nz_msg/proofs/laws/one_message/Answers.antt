@@ -1,0 +1,5 @@
+use Rattle.nz_msg.proofs.Envelopes as proofs
+use Rattle.nz_msg.proofs.laws.one_message.Goals as goal
+
+pub returns : goal.returns
+returns c = proofs.same_envelope

@@ -1,0 +1,8 @@
+use Rattle.std.proofs.Common.{[], take}
+use Rattle.nz_msg.specs.Codec.{ItemsFit}
+use Rattle.nz_msg.specs.Fields.{id}
+use Rattle.nz_msg.proofs.validity.are_all_ids.Given as goal
+
+-- the items so far fit
+abbrev pub invariant-loop-place : goal.invariant-loop-place
+invariant-loop-place l = ItemsFit (λ _. id) [] (take l.place l.list)

@@ -1,0 +1,9 @@
+use Rattle.std.proofs.Common.{[], take}
+use Rattle.nz_msg.specs.Codec.{items_put}
+use Rattle.nz_msg.specs.Fields.{next_entry}
+use Rattle.nz_msg.specs.Writing.{Adds}
+use Rattle.nz_msg.proofs.writing.put_each_entry.Given as goal
+
+-- the items so far are written
+abbrev pub invariant-loop-entry : goal.invariant-loop-entry
+invariant-loop-entry l = Adds l.fn.out.items l.out.items (items_put next_entry [] (take l.entry-index l.list))

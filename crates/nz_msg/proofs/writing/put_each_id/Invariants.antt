@@ -1,0 +1,9 @@
+use Rattle.std.proofs.Common.{[], take}
+use Rattle.nz_msg.specs.Codec.{items_put}
+use Rattle.nz_msg.specs.Fields.{id}
+use Rattle.nz_msg.specs.Writing.{Adds}
+use Rattle.nz_msg.proofs.writing.put_each_id.Given as goal
+
+-- the items so far are written
+abbrev pub invariant-loop-i : goal.invariant-loop-i
+invariant-loop-i l = Adds l.fn.out.items l.out.items (items_put (λ _. id) [] (take l.i-index l.list))

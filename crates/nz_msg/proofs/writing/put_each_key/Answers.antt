@@ -1,0 +1,9 @@
+use Rattle.nz_msg.specs.Fields.{next_key}
+use Rattle.nz_msg.proofs.Writes.{adds_none, adds_next}
+use Rattle.nz_msg.proofs.writing.put_each_key.Goals as goal
+
+pub loop-k-init : goal.loop-k-init
+loop-k-init c = adds_none next_key c.args.out.now.items
+
+pub loop-k-preserved : goal.loop-k-preserved
+loop-k-preserved c = adds_next next_key c.args.out.now.items c.loop-k.out.items c.put_key.new.out.items c.args.list.now c.loop-k.k-index _ c.loop-k-test.true c.loop-k.invariant c.in_ok-put_key.ensures

@@ -1,0 +1,9 @@
+use Rattle.std.proofs.Common.{[], take}
+use Rattle.nz_msg.specs.Codec.{items_put}
+use Rattle.nz_msg.specs.Fields.{next_key}
+use Rattle.nz_msg.specs.Writing.{Adds}
+use Rattle.nz_msg.proofs.writing.put_each_key.Given as goal
+
+-- the items so far are written
+abbrev pub invariant-loop-k : goal.invariant-loop-k
+invariant-loop-k l = Adds l.fn.out.items l.out.items (items_put next_key [] (take l.k-index l.list))

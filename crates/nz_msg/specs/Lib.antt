@@ -1,0 +1,6 @@
+pub mod Codec
+pub mod Fields
+pub mod Messages
+pub mod Envelope
+pub mod Reading
+pub mod Writing

@@ -1,0 +1,91 @@
+ghost use Rattle.std.specs.Prelude.{◌≡◌, ◌<◌, ◌^◌, ◌⊎◌, Ok, Err, Some, IfOk, IfErr};
+ghost use Rattle.nz_base.specs.Actor.{HasAddress, actor_at};
+ghost use Rattle.nz_frame.specs.Address.{IsAddress};
+ghost use Rattle.nz_msg.specs.declared.envelope.Envelope.{Envelope as AnEnvelope};
+ghost use Rattle.nz_msg.specs.declared.refusal.DecodeRefusal.TheVariants as refusals;
+ghost use Rattle.nz_msg.specs.Messages.{Fits};
+ghost use Rattle.nz_msg.specs.Envelope.{encode_of, Spells, decode_of, IsRefusedAs};
+ghost use Rattle.nz_msg.specs.Reading.{IsPlaced, placed as placed_refusal};
+
+use super::bodies::message_of;
+use super::envelope::Envelope;
+use super::fault::Fault;
+use super::message::Message;
+use super::refusal::DecodeRefusal;
+use super::spelling::{kind, put_body};
+use bytes::Bytes;
+use nz_base::{Actor, NoMemory};
+use nz_frame::Frame;
+use std::alloc::Global;
+
+/// The one frame of the message from one actor to another.
+#[tactic(auto, unfolding(crate::specs::Envelope::encode_of))]
+pub fn encode(alloc: Global, from: Actor, to: Actor, message: &Message) -> Result<Bytes, NoMemory>
+    requires valid { Fits message.now }
+    requires from { HasAddress from }
+    requires to { HasAddress to }
+    ensures { IfOk result (λ bytes. bytes ≡ encode_of from to message.now) }
+{
+    let mut body = Vec::new(alloc);
+    put_body(&mut body, message)?;
+    match Frame::write(alloc, kind(message), from.address(), to.address(), &body) {
+        Ok(bytes) => Ok(bytes),
+        Err(_) => Err(NoMemory),
+    }
+}
+
+// The actor at an address that belongs to somebody.
+fn actor_of(address: u16) -> Actor
+    requires { IsAddress address }
+    ensures { actor_at address ≡ Some result }
+{
+    match Actor::from_address(address) {
+        Some(actor) => actor,
+        None => unreachable!(),
+    }
+}
+
+// The refusal of so many bytes for a fault in them.
+fn placed(fault: Fault, size: usize) -> DecodeRefusal
+    requires fault { IsPlaced size fault }
+    requires size { size < 2 ^ 32 }
+    ensures { result ≡ placed_refusal size fault }
+{
+    match fault {
+        Fault::NoMemory => DecodeRefusal::NoMemory,
+        Fault::Bad(left) => DecodeRefusal::BadBody {
+            place: (size - left) as u32,
+        },
+    }
+}
+
+fn read(alloc: Global, bytes: &[u8]) -> Result<Envelope, DecodeRefusal>
+    ensures decoded { IfOk result (λ envelope. decode_of bytes.now ≡ Ok envelope) }
+    ensures refused { IfErr result (λ refusal. IsRefusedAs bytes.now refusal) }
+{
+    let view = match Frame::read(bytes) {
+        Ok(view) => view,
+        Err(refusal) => return Err(DecodeRefusal::Frame(refusal)),
+    };
+    let from = actor_of(view.from);
+    let to = actor_of(view.to);
+    match message_of(alloc, view.kind, view.body) {
+        Ok(message) => Ok(Envelope { from, to, message }),
+        Err(fault) => Err(placed(fault, bytes.len())),
+    }
+}
+
+/// The message of a frame, with who sends it and who gets it. The frame's own tests come before those of
+/// its body.
+pub fn decode(alloc: Global, bytes: &[u8]) -> Result<Envelope, DecodeRefusal>
+    // The bytes are the frame of what is decoded.
+    ensures spelled { IfOk result (λ envelope. Spells envelope bytes.now) }
+    // Whatever the bytes are the frame of is decoded, where there is memory.
+    ensures every_frame { (envelope : AnEnvelope) → Spells envelope bytes.now
+        → (result ≡ Ok envelope) ⊎ (result ≡ Err refusals.NoMemory) }
+    // The same by the reading of the bytes, which also has the place of each refusal.
+    ensures decoded { IfOk result (λ envelope. decode_of bytes.now ≡ Ok envelope) }
+    ensures refused { IfErr result (λ refusal. IsRefusedAs bytes.now refusal) }
+{
+    read(alloc, bytes)
+}

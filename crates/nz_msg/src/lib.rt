@@ -1,0 +1,31 @@
+//! The eighteen messages, and how each is a frame.
+#![tactic(auto)]
+
+mod bodies;
+mod coding;
+mod envelope;
+mod fault;
+mod laws;
+mod lists;
+mod message;
+mod reading;
+mod refusal;
+mod spelling;
+mod validity;
+mod writing;
+
+pub use coding::{decode, encode};
+pub use envelope::Envelope;
+pub use laws::{
+    bodies_are_the_grammar, cut_message_is_short, frames_are_the_grammar, frames_come_first,
+    no_message_begins_another, one_message, places_of_bodies, reads_back,
+};
+pub use message::{
+    AnswerBody, FastReplyBody, FetchBody, FetchReplyBody, LogModBody, Message, Path, RejoinAskBody,
+    RejoinTellBody, RequestBody, SlowReplyBody, StartViewBody, StateAskBody, StateTellBody,
+    SyncReportBody, TimedBody, VectorAskBody, VectorTellBody, ViewAskBody, ViewChangeBody,
+};
+pub use refusal::DecodeRefusal;
+
+#[cfg(test)]
+mod tests;

@@ -1,0 +1,177 @@
+//! Reading of lists, whose count stands before them.
+
+ghost use Rattle.std.specs.Prelude.{◌≡◌, ◌<◌, ◌≤◌, [], ◌&&◌, not, take, IfOk};
+ghost use Rattle.std.specs.List.{list_all};
+ghost use Rattle.nz_base.specs.Key.{key_below, id_of, id_eq};
+ghost use Rattle.nz_cv.specs.Vectors.{IsClusterSize};
+ghost use Rattle.nz_msg.specs.Codec.{items_at, limited, number};
+ghost use Rattle.nz_msg.specs.Fields.{u32, id, is_cluster_size, vector, may_follow as may_follow_by, next_key_by, next_key, next_entry, ids, keys, entries};
+ghost use Rattle.nz_msg.specs.Reading.{Gives};
+
+use super::fault::Fault;
+use super::reading::{command_at, id_at, key_at, u8_at, u8_within, u32_at, u32_within};
+use nz_base::{Entry, EntryList, IdList, Key, KeyList};
+use nz_cv::CrashVector;
+use std::alloc::Global;
+
+/// The most replicas that a cluster has.
+const MOST: usize = 9;
+
+/// The most ids or keys that a message has, and the most entries that answer a fetch.
+pub const MAX_KEYS: u8 = 64;
+
+#[tactic(auto, unfolding(crate::specs::Codec::limited_at))]
+fn size_at(bytes: &[u8]) -> Result<(u8, &[u8]), Fault>
+    ensures size { Gives (λ x. (x.0, x.1.now)) result ((limited is_cluster_size (number 1)).get bytes.now) }
+    ensures cluster { IfOk result (λ x. IsClusterSize x.0) }
+{
+    let (size, rest) = u8_at(bytes)?;
+    if !matches!(size, 3 | 5 | 7 | 9) {
+        return Err(Fault::at(bytes));
+    }
+    Ok((size, rest))
+}
+
+fn counters_at(size: u8, bytes: &[u8]) -> Result<([u32; MOST], &[u8]), Fault>
+    requires { size ≤ 9 }
+    ensures { Gives (λ x. (take size x.0, x.1.now)) result (items_at (λ _. u32) [] size bytes.now) }
+{
+    let mut counters = [0; MOST];
+    let mut rest = bytes;
+    for place in 0..size {
+        let (counter, after) = u32_at(rest)?;
+        counters[place as usize] = counter;
+        rest = after;
+    }
+    Ok((counters, rest))
+}
+
+pub fn vector_at(bytes: &[u8]) -> Result<(CrashVector, &[u8]), Fault>
+    ensures { Gives (λ x. (x.0, x.1.now)) result (vector.get bytes.now) }
+{
+    let (size, rest) = size_at(bytes)?;
+    let (counters, rest) = counters_at(size, rest)?;
+    match CrashVector::from_slice(&counters[..size as usize]) {
+        Some(vector) => Ok((vector, rest)),
+        None => unreachable!(),
+    }
+}
+
+fn list_of_ids(alloc: Global, count: u32, bytes: &[u8]) -> Result<(IdList, &[u8]), Fault>
+    ensures { Gives (λ x. (x.0, x.1.now)) result (items_at (λ _. id) [] count bytes.now) }
+{
+    let mut ids = IdList::new(alloc);
+    let mut rest = bytes;
+    for _ in 0..count {
+        let (id, after) = id_at(rest)?;
+        ids.push(id)?;
+        rest = after;
+    }
+    Ok((ids, rest))
+}
+
+pub fn ids_at(alloc: Global, bytes: &[u8]) -> Result<(IdList, &[u8]), Fault>
+    ensures { Gives (λ x. (x.0, x.1.now)) result (ids.get bytes.now) }
+{
+    let (count, rest) = u8_within(bytes, 1, MAX_KEYS)?;
+    list_of_ids(alloc, u32::from(count), rest)
+}
+
+// Whether a key may stand behind an earlier one.
+fn follows(earlier: &Key, key: &Key) -> bool
+    ensures { result ≡ (key_below earlier.now key.now && not (id_eq (id_of earlier.now) (id_of key.now))) }
+{
+    earlier.is_below(key) && earlier.id() != key.id()
+}
+
+pub fn may_follow(before: &[Key], key: &Key) -> bool
+    ensures { result ≡ may_follow_by (λ k. k) before.now key.now }
+{
+    before.iter().all(|earlier| follows(earlier, key))
+}
+
+pub fn may_follow_entries(before: &[Entry], key: &Key) -> bool
+    ensures { result ≡ may_follow_by (λ e. e.key) before.now key.now }
+{
+    before.iter().all(|earlier| follows(&earlier.key, key))
+}
+
+#[tactic(auto, unfolding(crate::specs::Codec::limited_at))]
+fn next_key_at<'a>(before: &[Key], bytes: &'a [u8]) -> Result<(Key, &'a [u8]), Fault>
+    ensures { Gives (λ x. (x.0, x.1.now)) result ((next_key before.now).get bytes.now) }
+{
+    let (key, rest) = key_at(bytes)?;
+    if !may_follow(before, &key) {
+        return Err(Fault::at(bytes));
+    }
+    Ok((key, rest))
+}
+
+#[tactic(auto, unfolding(crate::specs::Codec::limited_at))]
+fn next_entry_key_at<'a>(before: &[Entry], bytes: &'a [u8]) -> Result<(Key, &'a [u8]), Fault>
+    ensures { Gives (λ x. (x.0, x.1.now)) result ((next_key_by (λ e. e.key) before.now).get bytes.now) }
+{
+    let (key, rest) = key_at(bytes)?;
+    if !may_follow_entries(before, &key) {
+        return Err(Fault::at(bytes));
+    }
+    Ok((key, rest))
+}
+
+fn next_entry_at<'a>(
+    alloc: Global,
+    before: &[Entry],
+    bytes: &'a [u8],
+) -> Result<(Entry, &'a [u8]), Fault>
+    ensures { Gives (λ x. (x.0, x.1.now)) result ((next_entry before.now).get bytes.now) }
+{
+    let (key, rest) = next_entry_key_at(before, bytes)?;
+    let (command, rest) = command_at(alloc, rest)?;
+    Ok((Entry { key, command }, rest))
+}
+
+fn list_of_keys(alloc: Global, count: u32, bytes: &[u8]) -> Result<(KeyList, &[u8]), Fault>
+    ensures { Gives (λ x. (x.0, x.1.now)) result (items_at next_key [] count bytes.now) }
+{
+    let mut keys = KeyList::new(alloc);
+    let mut rest = bytes;
+    for _ in 0..count {
+        let (key, after) = next_key_at(keys.as_slice(), rest)?;
+        keys.push(key)?;
+        rest = after;
+    }
+    Ok((keys, rest))
+}
+
+pub fn keys_at(alloc: Global, bytes: &[u8]) -> Result<(KeyList, &[u8]), Fault>
+    ensures { Gives (λ x. (x.0, x.1.now)) result (keys.get bytes.now) }
+{
+    let (count, rest) = u8_within(bytes, 0, MAX_KEYS)?;
+    list_of_keys(alloc, u32::from(count), rest)
+}
+
+fn list_of_entries(alloc: Global, count: u32, bytes: &[u8]) -> Result<(EntryList, &[u8]), Fault>
+    ensures { Gives (λ x. (x.0, x.1.now)) result (items_at next_entry [] count bytes.now) }
+{
+    let mut entries = EntryList::new(alloc);
+    let mut rest = bytes;
+    for _ in 0..count {
+        let (entry, after) = next_entry_at(alloc, entries.as_slice(), rest)?;
+        entries.push(entry)?;
+        rest = after;
+    }
+    Ok((entries, rest))
+}
+
+/// From `least` to `most` entries.
+pub fn entries_at(
+    alloc: Global,
+    bytes: &[u8],
+    least: u32,
+    most: u32,
+) -> Result<(EntryList, &[u8]), Fault>
+    ensures { Gives (λ x. (x.0, x.1.now)) result ((entries least most).get bytes.now) }
+{
+    let (count, rest) = u32_within(bytes, least, most)?;
+    list_of_entries(alloc, count, rest)
+}

@@ -1,0 +1,208 @@
+//! Writing of bodies, one function a kind.
+
+ghost use Rattle.std.specs.Prelude.{◌≡◌, ◌++◌, [], OnOk};
+ghost use Rattle.nz_msg.specs.Messages.{request, timed, fast_reply, slow_reply, client_answer, log_mod, fetch, fetch_reply, sync_report, view_ask, view_change, start_view, vector_ask, vector_tell, rejoin_ask, rejoin_tell, state_ask, state_tell, Fits, kind_of, body_of};
+ghost use Rattle.nz_msg.specs.Writing.{Adds};
+
+use super::message::{
+    AnswerBody, FastReplyBody, FetchBody, FetchReplyBody, LogModBody, Message, RejoinTellBody,
+    RequestBody, SlowReplyBody, StartViewBody, StateAskBody, StateTellBody, TimedBody,
+    ViewChangeBody,
+};
+use super::writing::{
+    put_answer, put_answer_if_any, put_command, put_digest, put_entries, put_id, put_ids, put_keys,
+    put_path, put_u32, put_u64, put_vector,
+};
+use nz_base::NoMemory;
+use nz_cv::CrashVector;
+
+fn put_request(out: &mut Vec<u8>, b: &RequestBody) -> Result<(), NoMemory>
+    requires { request.fits b.now }
+    ensures { OnOk result (Adds out.old.items out.new.items (request.put b.now)) }
+{
+    put_u32(out, b.num)?;
+    put_command(out, &b.command)
+}
+
+fn put_timed(out: &mut Vec<u8>, b: &TimedBody) -> Result<(), NoMemory>
+    requires { timed.fits b.now }
+    ensures { OnOk result (Adds out.old.items out.new.items (timed.put b.now)) }
+{
+    put_u64(out, b.sent)?;
+    put_u64(out, b.deadline)?;
+    put_id(out, b.id)?;
+    put_command(out, &b.command)
+}
+
+fn put_fast_reply(out: &mut Vec<u8>, b: &FastReplyBody) -> Result<(), NoMemory>
+    requires { fast_reply.fits b.now }
+    ensures { OnOk result (Adds out.old.items out.new.items (fast_reply.put b.now)) }
+{
+    put_u64(out, b.view)?;
+    put_id(out, b.id)?;
+    put_digest(out, &b.digest)?;
+    put_vector(out, &b.vector)?;
+    put_u32(out, b.delay)?;
+    put_answer_if_any(out, &b.answer)
+}
+
+fn put_slow_reply(out: &mut Vec<u8>, b: &SlowReplyBody) -> Result<(), NoMemory>
+    ensures { OnOk result (Adds out.old.items out.new.items (slow_reply.put b.now)) }
+{
+    put_u64(out, b.view)?;
+    put_id(out, b.id)?;
+    put_u32(out, b.delay)
+}
+
+fn put_client_answer(out: &mut Vec<u8>, b: &AnswerBody) -> Result<(), NoMemory>
+    requires { client_answer.fits b.now }
+    ensures { OnOk result (Adds out.old.items out.new.items (client_answer.put b.now)) }
+{
+    put_u32(out, b.num)?;
+    put_answer(out, &b.answer)?;
+    put_path(out, b.path)
+}
+
+fn put_log_mod(out: &mut Vec<u8>, b: &LogModBody) -> Result<(), NoMemory>
+    requires { log_mod.fits b.now }
+    ensures { OnOk result (Adds out.old.items out.new.items (log_mod.put b.now)) }
+{
+    put_u64(out, b.view)?;
+    put_vector(out, &b.vector)?;
+    put_u32(out, b.commit)?;
+    put_u32(out, b.start)?;
+    put_keys(out, &b.keys)
+}
+
+fn put_fetch(out: &mut Vec<u8>, b: &FetchBody) -> Result<(), NoMemory>
+    requires { fetch.fits b.now }
+    ensures { OnOk result (Adds out.old.items out.new.items (fetch.put b.now)) }
+{
+    put_u64(out, b.view)?;
+    put_ids(out, &b.ids)
+}
+
+#[tactic(auto, using(crate::proofs::Writes::commands_fit))]
+fn put_fetch_reply(out: &mut Vec<u8>, b: &FetchReplyBody) -> Result<(), NoMemory>
+    requires { fetch_reply.fits b.now }
+    ensures { OnOk result (Adds out.old.items out.new.items (fetch_reply.put b.now)) }
+{
+    put_u64(out, b.view)?;
+    put_entries(out, &b.entries)
+}
+
+#[tactic(auto, using(crate::proofs::Writes::commands_fit))]
+fn put_view_change(out: &mut Vec<u8>, b: &ViewChangeBody) -> Result<(), NoMemory>
+    requires { view_change.fits b.now }
+    ensures { OnOk result (Adds out.old.items out.new.items (view_change.put b.now)) }
+{
+    put_u64(out, b.view)?;
+    put_u64(out, b.last)?;
+    put_vector(out, &b.vector)?;
+    put_u32(out, b.synced)?;
+    put_u32(out, b.commit)?;
+    put_entries(out, &b.entries)
+}
+
+#[tactic(auto, using(crate::proofs::Writes::commands_fit))]
+fn put_start_view(out: &mut Vec<u8>, b: &StartViewBody) -> Result<(), NoMemory>
+    requires { start_view.fits b.now }
+    ensures { OnOk result (Adds out.old.items out.new.items (start_view.put b.now)) }
+{
+    put_u64(out, b.view)?;
+    put_vector(out, &b.vector)?;
+    put_u32(out, b.commit)?;
+    put_entries(out, &b.entries)
+}
+
+// A nonce and a vector.
+fn put_nonce(out: &mut Vec<u8>, nonce: u64, vector: &CrashVector) -> Result<(), NoMemory>
+    ensures { OnOk result (Adds out.old.items out.new.items (vector_tell.put (record { nonce = nonce; vector = vector.now }))) }
+{
+    put_u64(out, nonce)?;
+    put_vector(out, vector)
+}
+
+fn put_rejoin_tell(out: &mut Vec<u8>, b: &RejoinTellBody) -> Result<(), NoMemory>
+    ensures { OnOk result (Adds out.old.items out.new.items (rejoin_tell.put b.now)) }
+{
+    put_u64(out, b.nonce)?;
+    put_u64(out, b.view)?;
+    put_vector(out, &b.vector)
+}
+
+fn put_state_ask(out: &mut Vec<u8>, b: &StateAskBody) -> Result<(), NoMemory>
+    ensures { OnOk result (Adds out.old.items out.new.items (state_ask.put b.now)) }
+{
+    put_u64(out, b.nonce)?;
+    put_u64(out, b.view)?;
+    put_vector(out, &b.vector)
+}
+
+#[tactic(auto, using(crate::proofs::Writes::commands_fit))]
+fn put_state_tell(out: &mut Vec<u8>, b: &StateTellBody) -> Result<(), NoMemory>
+    requires { state_tell.fits b.now }
+    ensures { OnOk result (Adds out.old.items out.new.items (state_tell.put b.now)) }
+{
+    put_u64(out, b.nonce)?;
+    put_u64(out, b.view)?;
+    put_vector(out, &b.vector)?;
+    put_u32(out, b.commit)?;
+    put_entries(out, &b.entries)
+}
+
+/// Writes the message's body.
+pub fn put_body(out: &mut Vec<u8>, message: &Message) -> Result<(), NoMemory>
+    requires { Fits message.now }
+    ensures { OnOk result (out.new.items ++ [] ≡ out.old.items ++ body_of message.now) }
+{
+    match message {
+        Message::Request(b) => put_request(out, b),
+        Message::Timed(b) => put_timed(out, b),
+        Message::FastReply(b) => put_fast_reply(out, b),
+        Message::SlowReply(b) => put_slow_reply(out, b),
+        Message::Answer(b) => put_client_answer(out, b),
+        Message::LogMod(b) => put_log_mod(out, b),
+        Message::Fetch(b) => put_fetch(out, b),
+        Message::FetchReply(b) => put_fetch_reply(out, b),
+        Message::SyncReport(b) => {
+            put_u64(out, b.view)?;
+            put_u32(out, b.synced)
+        }
+        Message::ViewAsk(b) => put_u64(out, b.view),
+        Message::ViewChange(b) => put_view_change(out, b),
+        Message::StartView(b) => put_start_view(out, b),
+        Message::VectorAsk(b) => put_u64(out, b.nonce),
+        Message::VectorTell(b) => put_nonce(out, b.nonce, &b.vector),
+        Message::RejoinAsk(b) => put_nonce(out, b.nonce, &b.vector),
+        Message::RejoinTell(b) => put_rejoin_tell(out, b),
+        Message::StateAsk(b) => put_state_ask(out, b),
+        Message::StateTell(b) => put_state_tell(out, b),
+    }
+}
+
+/// The number that frames have for the message's kind.
+pub fn kind(message: &Message) -> u8
+    ensures { result ≡ kind_of message.now }
+{
+    match message {
+        Message::Request(_) => 1,
+        Message::Timed(_) => 2,
+        Message::FastReply(_) => 3,
+        Message::SlowReply(_) => 4,
+        Message::Answer(_) => 5,
+        Message::LogMod(_) => 6,
+        Message::Fetch(_) => 7,
+        Message::FetchReply(_) => 8,
+        Message::SyncReport(_) => 9,
+        Message::ViewAsk(_) => 10,
+        Message::ViewChange(_) => 11,
+        Message::StartView(_) => 12,
+        Message::VectorAsk(_) => 13,
+        Message::VectorTell(_) => 14,
+        Message::RejoinAsk(_) => 15,
+        Message::RejoinTell(_) => 16,
+        Message::StateAsk(_) => 17,
+        Message::StateTell(_) => 18,
+    }
+}

@@ -1,0 +1,263 @@
+//! Bytes that another program worked out, and each call that takes memory where there is enough.
+ghost use Rattle.std.specs.Prelude.{◌<◌};
+
+use super::*;
+use bytes::Bytes;
+use nz_base::{Actor, Blob, NoMemory};
+use nz_frame::FrameRefusal;
+use std::alloc::Global;
+use std::test::Fail;
+
+// A request from client 0 to proxy 0: number 1, get a.
+const REQUEST: &str = "0000000f010100400010000000010003020161";
+
+// A view-ask from replica 1 to replica 0 for view 1.
+const VIEW_ASK: &str = "0000000e010a000100000000000000000001";
+
+// Of each kind: the kind, the addresses, two of the numbers, and the frame.
+const MESSAGES: &str = "\
+1 127 23 4294967295 7 000000130101007f0017ffffffff000701016200026869
+2 17 4 18446744073709551615 9223372036854775807 00000023010200110004ffffffffffffffff7fffffffffffffff00000005000000090003020161
+3 8 16 4611686018427387903 77 0000004a0103000800103fffffffffffffff00000005000000090102030405060708090a0b0c0d0e0f10111213140500000000000000010000000200000003ffffffff0000004d0102000300ff21
+4 2 19 3 4 0000001a0104000200130000000000000003000000010000000200000004
+5 19 65 6 2 0000000c010500130041000000060302
+6 0 1 5 2 00000044010600000001000000000000000503000000010000000000000007000000020000000302000000000000000a0000000100000001000000000000000a0000000100000002
+7 1 0 5 2 0000001f01070001000000000000000000050200000001000000020000000100000002
+8 0 1 5 2 00000040010800000001000000000000000500000002000000000000000a00000001000000020003020161000000000000000b0000000000000002000701016200026869
+9 1 0 5 9 00000012010900010000000000000000000500000009
+10 1 0 1 0 0000000e010a000100000000000000000001
+11 3 2 7 6 0000005c010b000300020000000000000007000000000000000609000000000000000000000000000000000000000000000000000000000000000000000001000000010000000100000001000000000000000900000002000000010003020161
+12 2 0 7 2 00000061010c0002000000000000000000070700000000000000000000000000000000000000000000000000000001000000020000000200000000000000090000000200000001000302016100000000000000090000000200000002000701016200026869
+13 2 0 18446744073709551615 0 0000000e010d00020000ffffffffffffffff
+14 0 2 4 3 0000001b010e00000002000000000000000403000000000000000300000000
+15 2 0 4 3 0000001b010f00020000000000000000000403000000000000000000000005
+16 0 2 4 8 000000230110000000020000000000000004000000000000000803000000000000000000000005
+17 2 1 4 8 000000230111000200010000000000000004000000000000000803000000000000000000000005
+18 1 2 4 10 0000002b0112000100020000000000000004000000000000000a030000000000000000000000050000000000000000
+";
+
+// The place of the first fault, the frame, and what the fault is.
+const FAULTS: &str = "\
+14 0000000f010100400010000000010000020161 a command of no bytes
+14 0000000f010100400010000000010229020161 a command that is too long
+16 0000000f010100400010000000010004020161 a command that is cut
+10 00000009010100400010000000 a number that is cut
+14 0000000b0101004000100000000100 a length that is cut
+19 0000001001010040001000000001000302016100 a byte behind the command
+18 000000230102001000000000000000000000800000000000000000000001000000010003020161 a deadline out of range
+30 0000001c01020010000000000000000000000000000000000000000000010000 an id that is cut in its number
+10 0000001601030000001040000000000000000000000100000001 a view out of range
+26 00000029010300000010000000000000000000000001000000010102030405060708090a0b0c0d0e0f10111213 a digest that is cut
+46 0000003b010300000010000000000000000000000001000000010102030405060708090a0b0c0d0e0f10111213140400000000000000000000000000000000 a vector of four
+55 00000036010300000010000000000000000000000001000000010102030405060708090a0b0c0d0e0f1011121314030000000000000000000000 a counter that is cut
+63 0000003d010300000010000000000000000000000001000000010102030405060708090a0b0c0d0e0f101112131403000000000000000000000000000000000201 a flag out of range
+63 0000003b010300000010000000000000000000000001000000010102030405060708090a0b0c0d0e0f10111213140300000000000000000000000000000000 no flag
+64 0000003d010300000010000000000000000000000001000000010102030405060708090a0b0c0d0e0f101112131403000000000000000000000000000000000105 an answer that is none of the four
+65 0000003f010300000010000000000000000000000001000000010102030405060708090a0b0c0d0e0f1011121314030000000000000000000000000000000001020000 a value of no bytes
+65 00000040010300000010000000000000000000000001000000010102030405060708090a0b0c0d0e0f101112131403000000000000000000000000000000000102010178 a value that is too long
+67 00000040010300000010000000000000000000000001000000010102030405060708090a0b0c0d0e0f101112131403000000000000000000000000000000000102000278 a value that is cut
+64 0000003d010300000010000000000000000000000001000000010102030405060708090a0b0c0d0e0f101112131403000000000000000000000000000000000001 a byte behind no answer
+14 0000000c010500100040000000010001 an answer by the number 0
+15 0000000c010500100040000000010103 a path by the number 3
+15 0000000c010500100040000000010100 a path by the number 0
+15 0000000b0105001000400000000101 no path
+39 00000024010600000001000000000000000003000000000000000000000000000000000000000041 too many keys
+56 000000440106000000010000000000000000030000000000000000000000000000000000000000020000000000000005000000010000000100000000000000050000000100000001 a key twice
+56 000000440106000000010000000000000000030000000000000000000000000000000000000000020000000000000005000000010000000200000000000000050000000100000001 a key that falls
+72 00000054010600000001000000000000000003000000000000000000000000000000000000000003000000000000000500000001000000010000000000000006000000010000000200000000000000070000000100000001 an id that is repeated
+68 000000410106000000010000000000000000030000000000000000000000000000000000000000020000000000000005000000010000000100000000000000050000000100 a key that falls and is cut: the cut comes first
+56 000000440106000000010000000000000000030000000000000000000000000000000000000000020000000000000005000000010000000180000000000000000000000100000002 a deadline of a key out of range
+18 0000000f010700000001000000000000000000 no ids
+18 0000000f010700000001000000000000000041 too many ids
+27 0000001a0107000000010000000000000000020000000100000001000000 an id that is cut in its client
+18 00000012010800000001000000000000000000000041 too many entries for a fetch-reply
+43 00000039010800000001000000000000000000000002000000000000000500000001000000010003020161000000000000000500000001000000010000 a key twice, before a bad command
+59 0000003a01080000000100000000000000000000000200000000000000050000000100000001000302016100000000000000050000000100000002000078 a bad command behind a good key
+47 00000044010b000000010000000000000000000000000000000003000000000000000000000000000000020000000000000001000000000000000500000001000000010003020161 more synced than entries
+47 00000044010b000000010000000000000000000000000000000003000000000000000000000000000000000000000200000001000000000000000500000001000000010003020161 more committed than entries
+18 00000023010b000000010000000000000000400000000000000003000000000000000000000000 a last view out of range
+35 00000023010c000000010000000000000000030000000000000000000000000000000100000000 more committed than entries at a start
+35 00000023010c000000010000000000000000030000000000000000000000000000000000001001 too many entries for a log
+43 0000002b01120000000100000000000000000000000000000000030000000000000000000000000000000100000000 more committed than entries in a state
+10 00000006010d00000001 no nonce
+18 0000000e010e000000010000000000000000 no vector
+";
+
+fn messages() -> &'static str {
+    MESSAGES
+}
+
+fn faults() -> &'static str {
+    FAULTS
+}
+
+fn digit(character: u8) -> u8
+    ensures { result < 16 }
+{
+    match character {
+        b'0'..=b'9' => character - b'0',
+        b'a'..=b'f' => character - b'a' + 10,
+        _ => 0,
+    }
+}
+
+// The bytes of a text of two hexadecimal digits each.
+fn bytes_of(alloc: Global, text: &str) -> Result<Vec<u8>, NoMemory> {
+    let text = text.as_bytes();
+    let mut bytes = Vec::new(alloc);
+    for place in 0..text.len() / 2 {
+        bytes.push(digit(text[2 * place]) * 16 + digit(text[2 * place + 1]))?;
+    }
+    Ok(bytes)
+}
+
+// The frame of what the bytes are decoded as.
+fn again(alloc: Global, bytes: &[u8]) -> Option<Bytes> {
+    match decode(alloc, bytes) {
+        Ok(envelope) => encode(alloc, envelope.from, envelope.to, &envelope.message).ok(),
+        Err(_) => None,
+    }
+}
+
+// The kind, and two of the numbers of a message.
+fn gist(message: &Message) -> (u64, u64, u64) {
+    match message {
+        Message::Request(b) => (1, b.num.into(), b.command.as_slice().len() as u64),
+        Message::Timed(b) => (2, b.sent, b.deadline),
+        Message::FastReply(b) => (3, b.view, b.delay.into()),
+        Message::SlowReply(b) => (4, b.view, b.delay.into()),
+        Message::Answer(b) => (5, b.num.into(), if b.path == Path::Fast { 1 } else { 2 }),
+        Message::LogMod(b) => (6, b.view, b.keys.len().into()),
+        Message::Fetch(b) => (7, b.view, b.ids.len().into()),
+        Message::FetchReply(b) => (8, b.view, b.entries.len().into()),
+        Message::SyncReport(b) => (9, b.view, b.synced.into()),
+        Message::ViewAsk(b) => (10, b.view, 0),
+        Message::ViewChange(b) => (11, b.view, b.last),
+        Message::StartView(b) => (12, b.view, b.entries.len().into()),
+        Message::VectorAsk(b) => (13, b.nonce, 0),
+        Message::VectorTell(b) => (14, b.nonce, b.vector.size().into()),
+        Message::RejoinAsk(b) => (15, b.nonce, b.vector.size().into()),
+        Message::RejoinTell(b) => (16, b.nonce, b.view),
+        Message::StateAsk(b) => (17, b.nonce, b.view),
+        Message::StateTell(b) => (18, b.nonce, b.view),
+    }
+}
+
+fn number(word: Option<&str>) -> Result<u64, Fail> {
+    Ok(
+        word.ok_or("a number stands here")?
+            .parse()
+            .ok()
+            .ok_or("it is a number")?,
+    )
+}
+
+#[test]
+fn messages_made_here(rt: HostRuntime) -> Result<(), Fail> {
+    let alloc = rt.alloc();
+    let request = Message::Request(RequestBody {
+        num: 1,
+        command: Blob::from_slice(alloc, &[2, 1, 97])?,
+    });
+    assert!(rt; request.is_valid());
+    let bytes = encode(alloc, Actor::Client(0), Actor::Proxy(0), &request)?;
+    assert_eq!(rt; bytes.as_slice(), bytes_of(alloc, REQUEST)?.as_slice());
+    let view_ask = Message::ViewAsk(ViewAskBody { view: 1 });
+    assert!(rt; view_ask.is_valid());
+    let bytes = encode(alloc, Actor::Replica(1), Actor::Replica(0), &view_ask)?;
+    assert_eq!(rt; bytes.as_slice(), bytes_of(alloc, VIEW_ASK)?.as_slice());
+    Ok(())
+}
+
+// Whether the frame of a line is decoded as the line says, and encoded to the same bytes again.
+fn is_as_told(alloc: Global, line: &str) -> Result<bool, Fail> {
+    let mut words = line.split_whitespace();
+    let kind = number(words.next())?;
+    let from = number(words.next())?;
+    let to = number(words.next())?;
+    let numbers = (kind, number(words.next())?, number(words.next())?);
+    let bytes = bytes_of(alloc, words.next().ok_or("a frame stands here")?)?;
+    let Ok(envelope) = decode(alloc, &bytes) else {
+        return Ok(false);
+    };
+    let Some(same) = again(alloc, &bytes) else {
+        return Ok(false);
+    };
+    Ok(
+        gist(&envelope.message) == numbers
+            && envelope.message.is_valid()
+            && Actor::from_address((from % 256) as u16) == Some(envelope.from)
+            && Actor::from_address((to % 256) as u16) == Some(envelope.to)
+            && same.as_slice() == bytes.as_slice(),
+    )
+}
+
+#[test]
+fn one_message_of_each_kind(rt: HostRuntime) -> Result<(), Fail> {
+    for line in messages().lines() {
+        assert!(rt; is_as_told(rt.alloc(), line)?, "{line}");
+    }
+    Ok(())
+}
+
+fn is_refused(alloc: Global, bytes: &[u8], want: DecodeRefusal) -> bool {
+    decode(alloc, bytes).err() == Some(want)
+}
+
+// Whether all that is left of a frame that is cut is refused as too short, at its end.
+fn cuts_are_short(alloc: Global, bytes: &[u8]) -> bool {
+    for end in 0..bytes.len() {
+        let want = FrameRefusal::Short {
+            place: end.min(1000) as u32,
+        };
+        if !is_refused(alloc, &bytes[..end], DecodeRefusal::Frame(want)) {
+            return false;
+        }
+    }
+    true
+}
+
+#[test]
+fn frames_that_are_none(rt: HostRuntime) -> Result<(), Fail> {
+    let alloc = rt.alloc();
+    let request = bytes_of(alloc, REQUEST)?;
+    assert!(rt; cuts_are_short(alloc, &request));
+    let view_ask = bytes_of(alloc, VIEW_ASK)?;
+    assert!(rt; cuts_are_short(alloc, &view_ask));
+    let table = [
+        (
+            "0000000f01010040001000000001000302016100",
+            FrameRefusal::Trailing { place: 19 },
+        ),
+        (
+            "0000000f020100400010000000010003020161",
+            FrameRefusal::BadVersion { place: 4 },
+        ),
+        (
+            "0000000f011300400010000000010003020161",
+            FrameRefusal::BadKind { place: 5 },
+        ),
+        ("01000001", FrameRefusal::TooLong { place: 0 }),
+    ];
+    for (text, want) in table {
+        let bytes = bytes_of(alloc, text)?;
+        assert!(rt; is_refused(alloc, &bytes, DecodeRefusal::Frame(want)));
+    }
+    Ok(())
+}
+
+// Whether the frame of a line is refused at the line's place.
+fn is_fault_as_told(alloc: Global, line: &str) -> Result<bool, Fail> {
+    let mut words = line.split_whitespace();
+    let place = (number(words.next())? % 1000) as u32;
+    let bytes = bytes_of(alloc, words.next().ok_or("a frame stands here")?)?;
+    Ok(is_refused(alloc, &bytes, DecodeRefusal::BadBody { place }))
+}
+
+#[test]
+fn bodies_and_their_first_fault(rt: HostRuntime) -> Result<(), Fail> {
+    for line in faults().lines() {
+        assert!(rt; is_fault_as_told(rt.alloc(), line)?, "{line}");
+    }
+    Ok(())
+}
