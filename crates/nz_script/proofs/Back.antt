@@ -1,0 +1,90 @@
+-- The text of a valid scenario is read as that scenario.
+use Rattle.std.proofs.Common.{◌≡◌, ℕ, ◌+◌, ◌<◌, ◌≤◌, Bool, true, false, cond, List, [], ◌∷◌, ◌++◌, Ok, refl, sym, ap, subst, ◌∙◌, arith, length, map, take_all}
+use Rattle.std.specs.Prelude.{◌&&◌, nat_le, nat_lt}
+use Rattle.std.specs.List.{list_all}
+use Rattle.std.proofs.lemmas.Bool.{eqb-true}
+use Rattle.nz_base.specs.declared.scenario.Scenario.{Scenario}
+use Rattle.nz_script.specs.declared.shape.Place.TheVariants as place
+use Rattle.nz_script.specs.declared.shape.Verb.TheVariants as verb
+use Rattle.nz_script.specs.declared.draft.Draft.{Draft}
+use Rattle.nz_script.specs.Bytes.{lines_in, tail_in}
+use Rattle.nz_script.specs.Shapes.{rank_of}
+use Rattle.nz_script.specs.Lines.{a_line}
+use Rattle.nz_script.specs.Drafts.{start, scenario_of, has_room_for_requests, has_room_for_faults}
+use Rattle.nz_script.specs.Reading.{reading, scenario}
+use Rattle.nz_script.specs.Texts.{head_lines, skew_line, scripts_lines, fault_line, lines_of, text_of_lines, text_of}
+use Rattle.nz_script.specs.Valid.{group_of, is_sound, has_group, has_skews, are_apart, are_requests, request_count, has_few, has_faults, is_short, is_valid, IsValid}
+use Rattle.nz_script.proofs.Passing.{both_of}
+use Rattle.nz_script.proofs.Again.{lines_again, tail_again, reading_again}
+use Rattle.nz_script.proofs.Sections.{a_draft, no_fault, below_most, group_parts, group_small, head_taken, head_after, skews_taken, IsTakenTo}
+use Rattle.nz_script.proofs.Blocks.{then_taken, closed, other_count, same_count, scripts_taken}
+use Rattle.nz_script.proofs.Mishaps.{mishaps, faults_taken}
+
+-- the parts of the test
+record IsValidIn (s : Scenario) : Type 0 where
+  group : has_group s ≡ true
+  skews : has_skews s ≡ true
+  requests : list_all are_requests s.scripts ≡ true
+  few : has_few s ≡ true
+  faults : has_faults s ≡ true
+  short : is_short s ≡ true
+
+valid_parts : (s : Scenario) → is_valid s ≡ true → IsValidIn s
+valid_parts s e =
+    let p = both_of ((has_group s && has_skews s) && (list_all are_requests s.scripts && has_few s)) (has_faults s && is_short s) e in
+    let q = both_of (has_group s && has_skews s) (list_all are_requests s.scripts && has_few s) p.0 in
+    let x = both_of (has_group s) (has_skews s) q.0 in
+    let y = both_of (list_all are_requests s.scripts) (has_few s) q.1 in
+    let z = both_of (has_faults s) (is_short s) p.1 in
+    record { group = x.0; skews = x.1; requests = y.0; few = y.1; faults = z.0; short = z.1 }
+
+-- all that was read of a scenario
+abbrev whole : Scenario → Draft
+whole s = a_draft place.Behind (group_of s) s.ticks s.skews s.scripts [] 0 (request_count s.scripts) s.faults
+
+lines_taken : (s : Scenario) → IsValidIn s → IsTakenTo start (lines_of s) (whole s)
+lines_taken s v =
+    let g = group_of s in
+    let h = group_parts s v.group in
+    let small = group_small s h in
+    let r = request_count s.scripts in
+    let k = both_of (list_all (λ k. is_sound (group_of s) (skew_line k)) s.skews) (are_apart s.skews) v.skews in
+    let f = both_of (has_room_for_requests r s.ticks) (has_room_for_faults r (length s.faults)) v.few in
+    let some : 0 < s.clients = omega (arith, below_most 1 s.clients (both_of (nat_le 1 s.clients) (nat_le s.clients 64) h.clients).0) in
+    let scripts : length s.scripts ≡ s.clients = eqb-true (length s.scripts) s.clients h.scripts in
+    let first : a_draft place.Between g s.ticks s.skews [] [] 0 0 [] ≡ closed g s.ticks s.skews 0 [] 0
+    = sym (ap (λ (b : Bool). a_draft (cond b place.Mishaps place.Between) g s.ticks s.skews [] [] 0 0 []) (other_count 0 s.clients some)) in
+    let none : 0 + r ≡ r = omega arith in
+    let last : closed g s.ticks s.skews s.clients s.scripts (0 + r) ≡ mishaps g s.ticks s.skews s.scripts r []
+    = ap (λ (n : ℕ). closed g s.ticks s.skews s.clients s.scripts n) none ∙ ap (λ (b : Bool). a_draft (cond b place.Mishaps place.Between) g s.ticks s.skews s.scripts [] 0 r []) (same_count s.clients) in
+    let blocks = scripts_taken g s.ticks s.skews [] s.scripts 0 small (omega (arith, scripts)) v.requests (ap (λ (n : ℕ). has_room_for_requests n s.ticks) none ∙ f.0) in
+    let heads : IsTakenTo start (head_lines s) (a_draft place.Between g s.ticks [] [] [] 0 0 []) = record { taken = head_taken s h; after = head_after s h } in
+    let skews = skews_taken g s.ticks [] s.skews small k.0 k.1 in
+    let bodies : IsTakenTo (a_draft place.Between g s.ticks s.skews [] [] 0 0 []) (scripts_lines 0 s.scripts) (mishaps g s.ticks s.skews s.scripts r [])
+    = subst (λ (d : Draft). IsTakenTo d (scripts_lines 0 s.scripts) (mishaps g s.ticks s.skews s.scripts r [])) (sym first)
+    (subst (λ (d : Draft). IsTakenTo (closed g s.ticks s.skews 0 [] 0) (scripts_lines 0 s.scripts) d) last blocks) in
+    let all : 0 + length s.faults ≡ length s.faults = omega arith in
+    let faults = faults_taken g s.ticks s.skews s.scripts r [] s.faults small v.faults (ap (has_room_for_faults r) all ∙ f.1) in
+    let done : IsTakenTo (mishaps g s.ticks s.skews s.scripts r s.faults) (a_line verb.Done [] ∷ []) (whole s)
+    = record { taken = (tt, no_fault (mishaps g s.ticks s.skews s.scripts r s.faults) (a_line verb.Done []) refl refl refl, tt); after = refl } in
+    then_taken start (a_draft place.Between g s.ticks [] [] [] 0 0 []) (whole s) (head_lines s) (map skew_line s.skews ++ (scripts_lines 0 s.scripts ++ (map fault_line s.faults ++ a_line verb.Done [] ∷ []))) heads
+    (then_taken (a_draft place.Between g s.ticks [] [] [] 0 0 []) (a_draft place.Between g s.ticks s.skews [] [] 0 0 []) (whole s) (map skew_line s.skews) (scripts_lines 0 s.scripts ++ (map fault_line s.faults ++ a_line verb.Done [] ∷ [])) skews
+    (then_taken (a_draft place.Between g s.ticks s.skews [] [] 0 0 []) (mishaps g s.ticks s.skews s.scripts r []) (whole s) (scripts_lines 0 s.scripts) (map fault_line s.faults ++ a_line verb.Done [] ∷ []) bodies
+    (then_taken (mishaps g s.ticks s.skews s.scripts r []) (mishaps g s.ticks s.skews s.scripts r s.faults) (whole s) (map fault_line s.faults) (a_line verb.Done [] ∷ []) faults done)))
+
+not_longer : (n m : ℕ) → n ≤ m → nat_lt m n ≡ false
+not_longer n m h = grind (arith, h)
+
+pub read_back : (s : Scenario) → IsValid s → scenario (text_of s) ≡ Ok s
+unfolding scenario text_of
+read_back s e =
+    let v = valid_parts s e in
+    let t = lines_taken s v in
+    let text = text_of_lines (lines_of s) in
+    let short : length text ≤ 1048576 = below_most (length text) 1048576 v.short in
+    ap (λ (x : List ℕ). reading (nat_lt 1048576 (length text)) (tail_in x) 1 start (lines_in x)) (take_all 1048576 text short)
+    ∙ ap (λ (b : Bool). reading b (tail_in text) 1 start (lines_in text)) (not_longer (length text) 1048576 short)
+    ∙ ap (λ (x : List ℕ). reading false x 1 start (lines_in text)) (tail_again (lines_of s))
+    ∙ ap (λ (ls : List (List ℕ)). reading false [] 1 start ls) (lines_again start (lines_of s) t.taken)
+    ∙ reading_again 1 start (lines_of s) t.taken (ap (λ (d : Draft). rank_of d.place) t.after)
+    ∙ ap (λ (d : Draft). Ok (scenario_of d)) t.after

@@ -1,0 +1,226 @@
+-- The head and the skews of a valid scenario are taken in, line by line.
+use Rattle.std.proofs.Common.{◌≡◌, ℕ, suc, ◌<◌, ◌≤◌, Bool, true, false, cond, not, List, [], ◌∷◌, ◌++◌, Some, None, refl, sym, ap, subst, ◌∙◌, arith, length, map, append_assoc}
+use Rattle.std.specs.Prelude.{◌&&◌, ◌||◌, ◌==◌, nat_le, nat_lt, ℤ, pos, negsuc}
+use Rattle.std.specs.List.{list_all}
+use Rattle.std.proofs.lemmas.Bool.{false≢true}
+use Rattle.std.proofs.lemmas.List.{append-nil}
+use Rattle.nz_base.specs.declared.actor.Actor.{Actor}
+use Rattle.nz_base.specs.declared.actor.Actor.TheVariants as actor
+use Rattle.nz_base.specs.declared.scenario.Skew.{Skew}
+use Rattle.nz_base.specs.declared.scenario.Request.{Request}
+use Rattle.nz_base.specs.declared.scenario.Fault.{Fault}
+use Rattle.nz_base.specs.declared.scenario.Scenario.{Scenario}
+use Rattle.nz_base.specs.Actor.{actor_eq, number_of as actor_number, is_within as is_between}
+use Rattle.nz_base.specs.Cluster.{replica_count}
+use Rattle.nz_script.specs.declared.faults.Kind.TheVariants as kind
+use Rattle.nz_script.specs.declared.shape.Place.{Place}
+use Rattle.nz_script.specs.declared.shape.Place.TheVariants as place
+use Rattle.nz_script.specs.declared.shape.Head.TheVariants as head
+use Rattle.nz_script.specs.declared.shape.Verb.TheVariants as verb
+use Rattle.nz_script.specs.declared.shape.Form.TheVariants as form
+use Rattle.nz_script.specs.declared.word.Word.TheVariants as word
+use Rattle.nz_script.specs.declared.line.Line.{Line}
+use Rattle.nz_script.specs.declared.group.Group.{Group}
+use Rattle.nz_script.specs.declared.draft.Draft.{Draft}
+use Rattle.nz_script.specs.Shapes.{forms_of}
+use Rattle.nz_script.specs.Forms.{units_as}
+use Rattle.nz_script.specs.Drafts.{in_order, names_known, within_limits, knows, is_server, is_known, all_known, all_within, has_units, has_skew, skew_in, with_words, start}
+use Rattle.nz_script.specs.Reading.{fault_of}
+use Rattle.nz_script.specs.Texts.{number_line, head_lines, units_of, skew_line}
+use Rattle.nz_script.specs.Valid.{group_of, has_group, is_sound, are_apart}
+use Rattle.nz_script.proofs.Passing.{both, both_of}
+use Rattle.nz_script.proofs.Readable.{IsReadAs, number_read, server_read, units_read}
+use Rattle.nz_script.proofs.Again.{AreTaken, after_lines}
+
+-- a draft, part by part
+abbrev pub a_draft : Place → Group → ℕ → List Skew → List (List Request) → List Request → ℕ → ℕ → List Fault → Draft
+a_draft p g t ks ss b w r fs = record { place = p; group = g; ticks = t; skews = ks; scripts = ss; block = b; wait = w; requests = r; faults = fs }
+
+all_passed : (a b c : Bool) → a ≡ true → b ≡ true → c ≡ true → cond (not a) (Some kind.Order) (cond (not b) (Some kind.Name) (cond (not c) (Some kind.Limit) None)) ≡ None
+all_passed true true true x y z = refl
+all_passed true true false x y z = absurd (false≢true z)
+all_passed true false c x y z = absurd (false≢true y)
+all_passed false b c x y z = absurd (false≢true x)
+
+pub no_fault : (d : Draft) (l : Line) → in_order d l ≡ true → names_known d l ≡ true → within_limits d l ≡ true → fault_of d l ≡ None
+no_fault d l x y z = all_passed (in_order d l) (names_known d l) (within_limits d l) x y z
+
+pub below_most : (n m : ℕ) → nat_le n m ≡ true → n ≤ m
+below_most n m e = grind (arith, e)
+
+pub is_most : (n m : ℕ) → n ≤ m → nat_le n m ≡ true
+is_most n m h = grind (arith, h)
+
+-- f, the proxies, the clients and the ticks are in range
+pub record IsGroup (s : Scenario) : Type 0 where
+  pub cluster : is_between 1 4 s.cluster ≡ true
+  pub proxies : is_between 1 8 s.proxies ≡ true
+  pub clients : is_between 1 64 s.clients ≡ true
+  pub ticks : is_between 1 20000 s.ticks ≡ true
+  pub scripts : (length s.scripts == s.clients) ≡ true
+
+pub group_parts : (s : Scenario) → has_group s ≡ true → IsGroup s
+group_parts s e =
+    let p = both_of ((is_between 1 4 s.cluster && is_between 1 8 s.proxies) && (is_between 1 64 s.clients && is_between 1 20000 s.ticks)) (length s.scripts == s.clients) e in
+    let q = both_of (is_between 1 4 s.cluster && is_between 1 8 s.proxies) (is_between 1 64 s.clients && is_between 1 20000 s.ticks) p.0 in
+    let x = both_of (is_between 1 4 s.cluster) (is_between 1 8 s.proxies) q.0 in
+    let y = both_of (is_between 1 64 s.clients) (is_between 1 20000 s.ticks) q.1 in
+    record { cluster = x.0; proxies = x.1; clients = y.0; ticks = y.1; scripts = p.1 }
+
+pub between_most : (l m n : ℕ) → is_between l m n ≡ true → n ≤ m
+between_most l m n e = below_most n m (both_of (nat_le l n) (nat_le n m) e).1
+
+limits : (a : Bool) → a ≡ true → (((a && true) && true) && true) ≡ true
+limits a e = both _ _ (both _ _ (both _ _ e refl) refl) refl
+
+-- what has been read before each line of the head
+abbrev draft_1 : Draft
+draft_1 = with_words start (verb.Head head.Version) (word.Number 1 ∷ [])
+
+abbrev draft_2 : Scenario → Draft
+draft_2 s = with_words draft_1 (verb.Head head.Faulty) (word.Number s.cluster ∷ [])
+
+abbrev draft_3 : Scenario → Draft
+draft_3 s = with_words (draft_2 s) (verb.Head head.Proxies) (word.Number s.proxies ∷ [])
+
+abbrev draft_4 : Scenario → Draft
+draft_4 s = with_words (draft_3 s) (verb.Head head.Clients) (word.Number s.clients ∷ [])
+
+pub head_taken : (s : Scenario) → IsGroup s → AreTaken start (head_lines s)
+head_taken s h = (
+  (number_read 1 1 1 (omega arith), tt),
+  no_fault start (number_line (verb.Head head.Version) 1) refl refl refl,
+  (
+    (number_read 1 4 s.cluster (omega (arith, between_most 1 4 s.cluster h.cluster)), tt),
+    no_fault draft_1 (number_line (verb.Head head.Faulty) s.cluster) refl refl (limits (is_between 1 4 s.cluster) h.cluster),
+    (
+      (number_read 1 8 s.proxies (omega (arith, between_most 1 8 s.proxies h.proxies)), tt),
+      no_fault (draft_2 s) (number_line (verb.Head head.Proxies) s.proxies) refl refl (limits (is_between 1 8 s.proxies) h.proxies),
+      (
+        (number_read 1 64 s.clients (omega (arith, between_most 1 64 s.clients h.clients)), tt),
+        no_fault (draft_3 s) (number_line (verb.Head head.Clients) s.clients) refl refl (limits (is_between 1 64 s.clients) h.clients),
+        ((number_read 1 20000 s.ticks (omega (arith, between_most 1 20000 s.ticks h.ticks)), tt), no_fault (draft_4 s) (number_line (verb.Head head.Ticks) s.ticks) refl refl (limits (is_between 1 20000 s.ticks) h.ticks), tt),
+      ),
+    ),
+  ),
+)
+
+pub kept : (n most : ℕ) → n ≤ most → cond (nat_le n most) n most ≡ n
+kept n most h = ap (λ (b : Bool). cond b n most) (is_most n most h)
+
+pub head_after : (s : Scenario) → IsGroup s → after_lines start (head_lines s) ≡ a_draft place.Between (group_of s) s.ticks [] [] [] 0 0 []
+head_after s h =
+    ap (λ (n : ℕ). a_draft place.Between (record { cluster = n; proxies = cond (nat_le s.proxies 255) s.proxies 255; clients = cond (nat_le s.clients 255) s.clients 255 }) (cond (nat_le s.ticks 4294967295) s.ticks 4294967295) [] [] [] 0 0 []) (kept s.cluster 255 (omega (arith, between_most 1 4 s.cluster h.cluster)))
+    ∙ ap (λ (n : ℕ). a_draft place.Between (record { cluster = s.cluster; proxies = n; clients = cond (nat_le s.clients 255) s.clients 255 }) (cond (nat_le s.ticks 4294967295) s.ticks 4294967295) [] [] [] 0 0 []) (kept s.proxies 255 (omega (arith, between_most 1 8 s.proxies h.proxies)))
+    ∙ ap (λ (n : ℕ). a_draft place.Between (record { cluster = s.cluster; proxies = s.proxies; clients = n }) (cond (nat_le s.ticks 4294967295) s.ticks 4294967295) [] [] [] 0 0 []) (kept s.clients 255 (omega (arith, between_most 1 64 s.clients h.clients)))
+    ∙ ap (λ (n : ℕ). a_draft place.Between (group_of s) n [] [] [] 0 0 []) (kept s.ticks 4294967295 (omega (arith, between_most 1 20000 s.ticks h.ticks)))
+
+-- the actors of a group have numbers of at most two digits
+pub record IsSmall (g : Group) : Type 0 where
+  pub cluster : g.cluster ≤ 4
+  pub proxies : g.proxies ≤ 8
+  pub clients : g.clients ≤ 64
+
+pub group_small : (s : Scenario) → IsGroup s → IsSmall (group_of s)
+group_small s h = record { cluster = between_most 1 4 s.cluster h.cluster; proxies = between_most 1 8 s.proxies h.proxies; clients = between_most 1 64 s.clients h.clients }
+
+below : (n m : ℕ) → nat_lt n m ≡ true → n < m
+below n m e = grind (arith, e)
+
+pub known_small : (g : Group) (a : Actor) → IsSmall g → knows g a ≡ true → actor_number a ≤ 99
+known_small g (actor.Replica r) h e = omega (arith, below r (replica_count g.cluster) e, h.cluster)
+known_small g (actor.Proxy p) h e = omega (arith, below p g.proxies e, h.proxies)
+known_small g (actor.Client c) h e = omega (arith, below c g.clients e, h.clients)
+
+-- ---- skews
+
+units_again : (z : ℤ) → has_units (units_of z) ≡ true → units_as (Some (units_of z)) ≡ z
+units_again (pos n) e = rw e refl
+units_again (negsuc n) e = rw e refl
+
+units_are_read : (z : ℤ) → has_units (units_of z) ≡ true → IsReadAs form.Units (units_of z)
+units_are_read (pos n) e = units_read false n (omega (arith, below_most n 4611686018427387904 e))
+units_are_read (negsuc n) e = units_read true (suc n) (omega (arith, below_most (suc n) 4611686018427387904 e))
+
+skew_again : (k : Skew) → has_units (units_of k.units) ≡ true → skew_in (skew_line k).words ≡ k
+skew_again k e = ap (λ (z : ℤ). record { actor = k.actor; units = z }) (units_again k.units e)
+
+eq-swapped : (n m : ℕ) → (n == m) ≡ false → (m == n) ≡ false
+eq-swapped n m e = grind (arith, e)
+
+apart_swapped : (a b : Actor) → actor_eq a b ≡ false → actor_eq b a ≡ false
+apart_swapped (actor.Replica a) (actor.Replica b) e = eq-swapped a b e
+apart_swapped (actor.Replica a) (actor.Proxy b) e = refl
+apart_swapped (actor.Replica a) (actor.Client b) e = refl
+apart_swapped (actor.Proxy a) (actor.Replica b) e = refl
+apart_swapped (actor.Proxy a) (actor.Proxy b) e = eq-swapped a b e
+apart_swapped (actor.Proxy a) (actor.Client b) e = refl
+apart_swapped (actor.Client a) (actor.Replica b) e = refl
+apart_swapped (actor.Client a) (actor.Proxy b) e = refl
+apart_swapped (actor.Client a) (actor.Client b) e = eq-swapped a b e
+
+neither : (a b : Bool) → (a || b) ≡ false → (a ≡ false) × (b ≡ false)
+neither true b e = absurd (false≢true (sym e))
+neither false b e = (refl, e)
+
+not_of : (b : Bool) → not b ≡ true → b ≡ false
+not_of true e = absurd (false≢true e)
+not_of false e = refl
+
+-- who has no skew among many has none among the last, and is not the one in the middle
+skew_not_there : (xs : List Skew) (k : Skew) (ks : List Skew) (a : Actor) → has_skew (xs ++ k ∷ ks) a ≡ false → actor_eq k.actor a ≡ false
+skew_not_there [] k ks a e = (neither (actor_eq k.actor a) (has_skew ks a) e).0
+skew_not_there (x ∷ xs) k ks a e = skew_not_there xs k ks a (neither (actor_eq x.actor a) (has_skew (xs ++ k ∷ ks) a) e).1
+
+-- each is new to those before it
+apart_new : (done : List Skew) (k : Skew) (ks : List Skew) → are_apart (done ++ k ∷ ks) ≡ true → has_skew done k.actor ≡ false
+apart_new [] k ks e = refl
+apart_new (x ∷ done) k ks e =
+    let p = both_of (not (has_skew (done ++ k ∷ ks) x.actor)) (are_apart (done ++ k ∷ ks)) e in
+    let here : actor_eq x.actor k.actor ≡ false = apart_swapped k.actor x.actor (skew_not_there done k ks x.actor (not_of (has_skew (done ++ k ∷ ks) x.actor) p.0)) in
+    rw here (apart_new done k ks p.1)
+
+is_not : (b : Bool) → b ≡ false → not b ≡ true
+is_not true e = absurd (false≢true (sym e))
+is_not false e = refl
+
+known_units : (g : Group) (z : ℤ) → is_known g form.Units (units_of z) ≡ true
+known_units g (pos n) = refl
+known_units g (negsuc n) = refl
+
+-- the parts of a sound skew
+record IsSoundSkew (g : Group) (k : Skew) : Type 0 where
+  known : all_known g (forms_of verb.Skew) (skew_line k).words ≡ true
+  there : knows g k.actor ≡ true
+  units : has_units (units_of k.units) ≡ true
+
+sound_skew : (g : Group) (k : Skew) → is_sound g (skew_line k) ≡ true → IsSoundSkew g k
+sound_skew g k e =
+    let p = both_of (all_known g (forms_of verb.Skew) (skew_line k).words) (all_within (forms_of verb.Skew) (skew_line k).words && true) e in
+    let q = both_of (is_server k.actor && knows g k.actor) (is_known g form.Units (units_of k.units) && true) p.0 in
+    let r = both_of (all_within (forms_of verb.Skew) (skew_line k).words) true p.1 in
+    record { known = p.0; there = (both_of (is_server k.actor) (knows g k.actor) q.0).1; units = (both_of (has_units (units_of k.units)) true r.0).0 }
+
+pub record IsTakenTo (d : Draft) (lines : List Line) (e : Draft) : Type 0 where
+  pub taken : AreTaken d lines
+  pub after : after_lines d lines ≡ e
+
+abbrev skewed : Group → ℕ → List Skew → Draft
+skewed g t ks = a_draft place.Between g t ks [] [] 0 0 []
+
+pub skews_taken : (g : Group) (t : ℕ) (done ks : List Skew) → IsSmall g → list_all (λ k. is_sound g (skew_line k)) ks ≡ true → are_apart (done ++ ks) ≡ true
+    → IsTakenTo (a_draft place.Between g t done [] [] 0 0 []) (map skew_line ks) (a_draft place.Between g t (done ++ ks) [] [] 0 0 [])
+skews_taken g t done [] small sound apart = record { taken = tt; after = ap (skewed g t) (sym (append-nil done)) }
+skews_taken g t done (k ∷ ks) small sound apart =
+    let p = both_of (is_sound g (skew_line k)) (list_all (λ k. is_sound g (skew_line k)) ks) sound in
+    let s = sound_skew g k p.0 in
+    let again = skew_again k s.units in
+    let more = skews_taken g t (done ++ k ∷ []) ks small p.1 (ap are_apart (append_assoc done (k ∷ []) ks) ∙ apart) in
+    record {
+      taken = (
+        (server_read k.actor (known_small g k.actor small s.there), (units_are_read k.units s.units, tt)),
+        no_fault (skewed g t done) (skew_line k) refl (both _ _ s.known (is_not (has_skew done k.actor) (apart_new done k ks apart))) (limits (has_units (units_of k.units)) s.units),
+        subst (λ (x : Skew). AreTaken (skewed g t (done ++ x ∷ [])) (map skew_line ks)) (sym again) more.taken,
+      );
+      after = ap (λ (x : Skew). after_lines (skewed g t (done ++ x ∷ [])) (map skew_line ks)) again ∙ more.after ∙ ap (skewed g t) (append_assoc done (k ∷ []) ks);
+    }

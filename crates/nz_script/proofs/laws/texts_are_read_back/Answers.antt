@@ -1,0 +1,5 @@
+use Rattle.nz_script.proofs.Back.{read_back}
+use Rattle.nz_script.proofs.laws.texts_are_read_back.Goals as goal
+
+pub returns : goal.returns
+returns c = read_back

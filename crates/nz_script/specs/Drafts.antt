@@ -1,0 +1,239 @@
+-- What has been read of a scenario, the three tests of a line against it, and what a line adds.
+use Rattle.std.specs.Prelude.{ℕ, ◌+◌, ◌*◌, Bool, true, false, not, ◌&&◌, ◌||◌, nat_le, nat_lt, ◌==◌, if◌then◌else◌, List, [], ◌∷◌, ◌++◌, length, Some, None}
+use Rattle.std.specs.List.{list_any}
+use Rattle.nz_base.specs.declared.actor.Actor.{Actor}
+use Rattle.nz_base.specs.declared.actor.Actor.TheVariants.{Replica, Proxy, Client}
+use Rattle.nz_base.specs.declared.scenario.Skew.{Skew}
+use Rattle.nz_base.specs.declared.scenario.Fault.{Fault}
+use Rattle.nz_base.specs.declared.scenario.Fault.TheVariants as fault
+use Rattle.nz_base.specs.declared.scenario.Scenario.{Scenario}
+use Rattle.nz_base.specs.Actor.{actor_eq, is_within as is_between}
+use Rattle.nz_base.specs.Cluster.{replica_count}
+use Rattle.nz_store.specs.declared.command.Command.{Command}
+use Rattle.nz_store.specs.declared.command.Command.TheVariants as command
+use Rattle.nz_store.specs.Grammar.{spelling}
+use Rattle.nz_store.specs.Reading.{is_key_text, is_value_text}
+use Rattle.nz_script.specs.declared.shape.Place.TheVariants as place
+use Rattle.nz_script.specs.declared.shape.Head.{Head}
+use Rattle.nz_script.specs.declared.shape.Head.TheVariants as head
+use Rattle.nz_script.specs.declared.shape.Ask.{Ask}
+use Rattle.nz_script.specs.declared.shape.Ask.TheVariants.{Put, Get, Del, Cas}
+use Rattle.nz_script.specs.declared.shape.Mishap.{Mishap}
+use Rattle.nz_script.specs.declared.shape.Mishap.TheVariants as mishap
+use Rattle.nz_script.specs.declared.shape.Verb.{Verb}
+use Rattle.nz_script.specs.declared.shape.Verb.TheVariants as verb
+use Rattle.nz_script.specs.declared.shape.Form.{Form}
+use Rattle.nz_script.specs.declared.shape.Form.TheVariants as form
+use Rattle.nz_script.specs.declared.word.Word.{Word}
+use Rattle.nz_script.specs.declared.word.Word.TheVariants as word
+use Rattle.nz_script.specs.declared.line.Line.{Line}
+use Rattle.nz_script.specs.declared.group.Group.{Group}
+use Rattle.nz_script.specs.declared.draft.Draft.{Draft}
+use Rattle.nz_script.specs.Shapes.{rank_of, place_of, forms_of}
+use Rattle.nz_script.specs.Forms.{number_in, byte_in, units_in, actor_in, actors_in, kind_in, text_in, choice_in}
+
+-- ---- order
+
+-- a client's line stands in its turn, or names nobody whose turn could come
+abbrev pub is_turn : Draft → List Word → Bool
+is_turn d [] = true
+is_turn d (word.Named (Client c) ∷ words) = not (nat_lt c d.group.clients) || (c == length d.scripts)
+is_turn d (_ ∷ words) = true
+
+-- skews stand before all blocks, and the blocks in the order of the clients
+abbrev pub is_in_turn : Draft → Verb → List Word → Bool
+is_in_turn d verb.Skew words = length d.scripts == 0
+is_in_turn d verb.Client words = is_turn d words
+is_in_turn d _ words = true
+
+-- the line stands in its place
+abbrev pub in_order : Draft → Line → Bool
+in_order d line = (rank_of d.place == rank_of (place_of line.verb)) && is_in_turn d line.verb line.words
+
+-- ---- names
+
+-- the actor is of the cluster
+abbrev pub knows : Group → Actor → Bool
+knows g (Replica r) = nat_lt r (replica_count g.cluster)
+knows g (Proxy p) = nat_lt p g.proxies
+knows g (Client c) = nat_lt c g.clients
+
+abbrev pub is_server : Actor → Bool
+is_server (Client c) = false
+is_server _ = true
+
+abbrev pub is_replica : Actor → Bool
+is_replica (Replica r) = true
+is_replica _ = false
+
+abbrev pub is_client : Actor → Bool
+is_client (Client c) = true
+is_client _ = false
+
+-- the actor is of the sort that is to stand here
+abbrev pub suits : Form → Actor → Bool
+suits form.Server a = is_server a
+suits form.Replica a = is_replica a
+suits form.Client a = is_client a
+suits _ a = true
+
+-- what the word names is there
+abbrev pub is_known : Group → Form → Word → Bool
+is_known g f (word.Named a) = suits f a && knows g a
+is_known g f (word.Kind None) = false
+is_known g f (word.Kind (Some kind)) = is_between 1 18 kind
+is_known g f _ = true
+
+abbrev pub all_known : Group → List Form → List Word → Bool
+all_known g [] words = true
+all_known g (f ∷ forms) [] = true
+all_known g (f ∷ forms) (w ∷ words) = is_known g f w && all_known g forms words
+
+-- the actor's clock has a skew already
+abbrev pub has_skew : List Skew → Actor → Bool
+has_skew skews a = list_any (λ s. actor_eq s.actor a) skews
+
+-- a skew is the first of its actor
+abbrev pub is_new_skew : Draft → Verb → List Word → Bool
+is_new_skew d verb.Skew words = not (has_skew d.skews (actor_in 0 words))
+is_new_skew d _ words = true
+
+-- its actors are those of the cluster and of their sorts, its kinds are there, and a skew is the actor's first
+abbrev pub names_known : Draft → Line → Bool
+names_known d line = all_known d.group (forms_of line.verb) line.words && is_new_skew d line.verb line.words
+
+-- ---- limits
+
+abbrev pub has_number : ℕ → ℕ → Word → Bool
+has_number least most (word.Number n) = nat_le least n && nat_le n most
+has_number least most _ = false
+
+abbrev pub has_units : Word → Bool
+has_units (word.Units back n) = nat_le n 4611686018427387904
+has_units _ = false
+
+abbrev pub has_key : Word → Bool
+has_key (word.Text text) = is_key_text text
+has_key _ = false
+
+abbrev pub has_value : Word → Bool
+has_value (word.Text text) = is_value_text text
+has_value _ = false
+
+abbrev pub has_choice : Word → Bool
+has_choice word.Nothing = true
+has_choice w = has_value w
+
+-- the number or the length is in the range of the form
+abbrev pub is_within : Form → Word → Bool
+is_within (form.Number least most) w = has_number least most w
+is_within form.Units w = has_units w
+is_within form.Key w = has_key w
+is_within form.Value w = has_value w
+is_within form.Choice w = has_choice w
+is_within _ w = true
+
+abbrev pub all_within : List Form → List Word → Bool
+all_within [] words = true
+all_within (f ∷ forms) [] = false
+all_within (f ∷ forms) (w ∷ words) = is_within f w && all_within forms words
+
+-- 2,000 requests and 2,000,000 requests times ticks
+abbrev pub has_room_for_requests : ℕ → ℕ → Bool
+has_room_for_requests requests ticks = nat_le requests 2000 && nat_le (requests * ticks) 2000000
+
+-- 1,000 faults and 200,000 requests times faults
+abbrev pub has_room_for_faults : ℕ → ℕ → Bool
+has_room_for_faults requests faults = nat_le faults 1000 && nat_le (requests * faults) 200000
+
+-- with this line there are not too many of its sort
+abbrev pub has_room : Draft → Verb → Bool
+has_room d (verb.Ask a) = has_room_for_requests (d.requests + 1) d.ticks
+has_room d (verb.Mishap m) = has_room_for_faults d.requests (length d.faults + 1)
+has_room d _ = true
+
+-- the ticks of a block are in order
+abbrev pub is_span : Verb → List Word → Bool
+is_span (verb.Mishap mishap.Block) words = nat_le (number_in 2 words) (number_in 3 words)
+is_span _ words = true
+
+-- its numbers and lengths are in range, and so are the sums and the products with it
+abbrev pub within_limits : Draft → Line → Bool
+within_limits d line = (all_within (forms_of line.verb) line.words && is_span line.verb line.words) && has_room d line.verb
+
+-- ---- what a line adds
+
+abbrev pub command_in : Ask → List Word → Command
+command_in Put words = command.Put (text_in 0 words) (text_in 1 words)
+command_in Get words = command.Get (text_in 0 words)
+command_in Del words = command.Del (text_in 0 words)
+command_in Cas words = command.Cas (text_in 0 words) (choice_in 1 words) (choice_in 2 words)
+
+abbrev pub fault_in : Mishap → List Word → Fault
+fault_in mishap.Drop words = fault.Drop (actor_in 0 words) (actor_in 1 words) (kind_in 2 words) (number_in 3 words)
+fault_in mishap.Hold words = fault.Hold (actor_in 0 words) (actor_in 1 words) (kind_in 2 words) (number_in 3 words) (number_in 4 words)
+fault_in mishap.Twice words = fault.Twice (actor_in 0 words) (actor_in 1 words) (kind_in 2 words) (number_in 3 words) (number_in 4 words)
+fault_in mishap.Cut words = fault.Cut (actor_in 0 words) (actor_in 1 words) (kind_in 2 words) (number_in 3 words) (number_in 4 words)
+fault_in mishap.Block words = fault.Block (actors_in 0 words) (actors_in 1 words) (number_in 2 words) (number_in 3 words)
+fault_in mishap.Crash words = fault.Crash (actor_in 0 words) (number_in 1 words)
+fault_in mishap.Restart words = fault.Restart (actor_in 0 words) (number_in 1 words)
+fault_in mishap.Alarm words = fault.Alarm (actor_in 0 words) (number_in 1 words)
+
+abbrev pub with_head : Draft → Head → List Word → Draft
+with_head d head.Version words = record d { place = place.Faulty }
+with_head d head.Faulty words = record d { place = place.Proxies; group = record d.group { cluster = byte_in 0 words } }
+with_head d head.Proxies words = record d { place = place.Clients; group = record d.group { proxies = byte_in 0 words } }
+with_head d head.Clients words = record d { place = place.Ticks; group = record d.group { clients = byte_in 0 words } }
+with_head d head.Ticks words = record d { place = place.Between; ticks = number_in 0 words }
+
+abbrev pub skew_in : List Word → Skew
+skew_in words = record { actor = actor_in 0 words; units = units_in 1 words }
+
+-- the wait that was read last holds for this request alone
+abbrev pub with_request : Draft → Command → Draft
+with_request d c = record d { block = d.block ++ (record { wait = d.wait; command = spelling c }) ∷ []; wait = 0; requests = d.requests + 1 }
+
+-- the block is whole, and a wait without a request behind it is forgotten
+abbrev pub with_script : Draft → Draft
+with_script d = record d {
+  place = if length d.scripts + 1 == d.group.clients then place.Mishaps else place.Between;
+  scripts = d.scripts ++ d.block ∷ [];
+  block = [];
+  wait = 0;
+}
+
+-- what has been read with this line
+abbrev pub with_words : Draft → Verb → List Word → Draft
+with_words d (verb.Head h) words = with_head d h words
+with_words d verb.Skew words = record d { skews = d.skews ++ skew_in words ∷ [] }
+with_words d verb.Client words = record d { place = place.Block }
+with_words d (verb.Ask a) words = with_request d (command_in a words)
+with_words d verb.Wait words = record d { wait = number_in 0 words }
+with_words d verb.End words = with_script d
+with_words d (verb.Mishap m) words = record d { faults = d.faults ++ fault_in m words ∷ [] }
+with_words d verb.Done words = record d { place = place.Behind }
+
+-- before the first line; the numbers of the head are not read before they are set
+abbrev pub start : Draft
+start = record {
+  place = place.Version;
+  group = record { cluster = 1; proxies = 1; clients = 1 };
+  ticks = 1;
+  skews = [];
+  scripts = [];
+  block = [];
+  wait = 0;
+  requests = 0;
+  faults = [];
+}
+
+abbrev pub scenario_of : Draft → Scenario
+scenario_of d = record {
+  cluster = d.group.cluster;
+  proxies = d.group.proxies;
+  clients = d.group.clients;
+  ticks = d.ticks;
+  skews = d.skews;
+  scripts = d.scripts;
+  faults = d.faults;
+}

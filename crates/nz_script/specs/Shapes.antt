@@ -1,0 +1,97 @@
+-- The table of lines: by their first word, where they may stand and what follows.
+use Rattle.std.specs.Prelude.{ℕ, if◌then◌else◌, List, [], ◌∷◌, Option, Some, None, codes}
+use Rattle.std.specs.Str.{bytes_eq}
+use Rattle.nz_script.specs.declared.shape.Place.{Place}
+use Rattle.nz_script.specs.declared.shape.Place.TheVariants as place
+use Rattle.nz_script.specs.declared.shape.Head.{Head}
+use Rattle.nz_script.specs.declared.shape.Head.TheVariants as head
+use Rattle.nz_script.specs.declared.shape.Ask.{Ask}
+use Rattle.nz_script.specs.declared.shape.Ask.TheVariants.{Put, Get, Del, Cas}
+use Rattle.nz_script.specs.declared.shape.Mishap.{Mishap}
+use Rattle.nz_script.specs.declared.shape.Mishap.TheVariants as mishap
+use Rattle.nz_script.specs.declared.shape.Verb.{Verb}
+use Rattle.nz_script.specs.declared.shape.Verb.TheVariants as verb
+use Rattle.nz_script.specs.declared.shape.Form.{Form}
+use Rattle.nz_script.specs.declared.shape.Form.TheVariants as form
+
+-- the places in the order of a text
+abbrev pub rank_of : Place → ℕ
+rank_of place.Version = 0
+rank_of place.Faulty = 1
+rank_of place.Proxies = 2
+rank_of place.Clients = 3
+rank_of place.Ticks = 4
+rank_of place.Between = 5
+rank_of place.Block = 6
+rank_of place.Mishaps = 7
+rank_of place.Behind = 8
+
+-- a tick, or a number of ticks
+abbrev pub tick : Form
+tick = form.Number 1 20000
+
+-- which parcel of those that match
+abbrev pub count : Form
+count = form.Number 1 1000000
+
+-- the first word, the place and the further words of the lines of the head
+abbrev pub head_shape_of : Head → List ℕ × Place × List Form
+head_shape_of head.Version = (codes "nezha", place.Version, form.Number 1 1 ∷ [])
+head_shape_of head.Faulty = (codes "f", place.Faulty, form.Number 1 4 ∷ [])
+head_shape_of head.Proxies = (codes "proxies", place.Proxies, form.Number 1 8 ∷ [])
+head_shape_of head.Clients = (codes "clients", place.Clients, form.Number 1 64 ∷ [])
+head_shape_of head.Ticks = (codes "ticks", place.Ticks, tick ∷ [])
+
+-- those of the commands
+abbrev pub ask_shape_of : Ask → List ℕ × Place × List Form
+ask_shape_of Put = (codes "put", place.Block, form.Key ∷ form.Value ∷ [])
+ask_shape_of Get = (codes "get", place.Block, form.Key ∷ [])
+ask_shape_of Del = (codes "del", place.Block, form.Key ∷ [])
+ask_shape_of Cas = (codes "cas", place.Block, form.Key ∷ form.Choice ∷ form.Choice ∷ [])
+
+-- those of the faults
+abbrev pub mishap_shape_of : Mishap → List ℕ × Place × List Form
+mishap_shape_of mishap.Drop = (codes "drop", place.Mishaps, form.Actor ∷ form.Actor ∷ form.Kind ∷ count ∷ [])
+mishap_shape_of mishap.Hold = (codes "hold", place.Mishaps, form.Actor ∷ form.Actor ∷ form.Kind ∷ count ∷ tick ∷ [])
+mishap_shape_of mishap.Twice = (codes "twice", place.Mishaps, form.Actor ∷ form.Actor ∷ form.Kind ∷ count ∷ form.Number 0 20000 ∷ [])
+mishap_shape_of mishap.Cut = (codes "cut", place.Mishaps, form.Actor ∷ form.Actor ∷ form.Kind ∷ count ∷ form.Number 0 16777216 ∷ [])
+mishap_shape_of mishap.Block = (codes "block", place.Mishaps, form.Actors ∷ form.Actors ∷ tick ∷ tick ∷ [])
+mishap_shape_of mishap.Crash = (codes "crash", place.Mishaps, form.Server ∷ tick ∷ [])
+mishap_shape_of mishap.Restart = (codes "restart", place.Mishaps, form.Server ∷ tick ∷ [])
+mishap_shape_of mishap.Alarm = (codes "alarm", place.Mishaps, form.Replica ∷ tick ∷ [])
+
+-- the first word, the place and the further words of each line
+abbrev pub shape_of : Verb → List ℕ × Place × List Form
+shape_of (verb.Head h) = head_shape_of h
+shape_of verb.Skew = (codes "skew", place.Between, form.Server ∷ form.Units ∷ [])
+shape_of verb.Client = (codes "client", place.Between, form.Client ∷ [])
+shape_of (verb.Ask a) = ask_shape_of a
+shape_of verb.Wait = (codes "wait", place.Block, tick ∷ [])
+shape_of verb.End = (codes "end", place.Block, [])
+shape_of (verb.Mishap m) = mishap_shape_of m
+shape_of verb.Done = (codes "done", place.Mishaps, [])
+
+abbrev pub word_of : Verb → List ℕ
+word_of v = (shape_of v).0
+
+abbrev pub place_of : Verb → Place
+place_of v = (shape_of v).1
+
+abbrev pub forms_of : Verb → List Form
+forms_of v = (shape_of v).2
+
+-- all sorts of lines
+abbrev pub verbs : List Verb
+verbs =
+    verb.Head head.Version ∷ verb.Head head.Faulty ∷ verb.Head head.Proxies ∷ verb.Head head.Clients ∷ verb.Head head.Ticks ∷
+    verb.Skew ∷ verb.Client ∷ verb.Ask Put ∷ verb.Ask Get ∷ verb.Ask Del ∷ verb.Ask Cas ∷ verb.Wait ∷ verb.End ∷
+    verb.Mishap mishap.Drop ∷ verb.Mishap mishap.Hold ∷ verb.Mishap mishap.Twice ∷ verb.Mishap mishap.Cut ∷ verb.Mishap mishap.Block ∷
+    verb.Mishap mishap.Crash ∷ verb.Mishap mishap.Restart ∷ verb.Mishap mishap.Alarm ∷ verb.Done ∷ []
+
+abbrev pub verb_in : List Verb → List ℕ → Option Verb
+verb_in [] word = None
+verb_in (verb ∷ others) word = if bytes_eq (word_of verb) word then Some verb else verb_in others word
+
+-- the sort of the lines with this first word
+unfoldable pub verb_of : List ℕ → Option Verb
+verb_of word = verb_in verbs word

@@ -1,0 +1,61 @@
+-- Which scenarios are as a run asks.
+use Rattle.std.specs.Prelude.{ℕ, Bool, true, not, ◌&&◌, nat_le, ◌==◌, List, [], ◌∷◌, length, is_some, IsTrue}
+use Rattle.std.specs.List.{list_all, sum_by}
+use Rattle.nz_base.specs.declared.scenario.Request.{Request}
+use Rattle.nz_base.specs.declared.scenario.Skew.{Skew}
+use Rattle.nz_base.specs.declared.scenario.Scenario.{Scenario}
+use Rattle.nz_base.specs.Actor.{is_within}
+use Rattle.nz_store.specs.Reading.{command_of}
+use Rattle.nz_script.specs.declared.line.Line.{Line}
+use Rattle.nz_script.specs.declared.group.Group.{Group}
+use Rattle.nz_script.specs.Shapes.{forms_of}
+use Rattle.nz_script.specs.Drafts.{all_known, all_within, is_span, has_skew, has_room_for_requests, has_room_for_faults}
+use Rattle.nz_script.specs.Texts.{skew_line, fault_line, text_of}
+
+abbrev pub group_of : Scenario → Group
+group_of s = record { cluster = s.cluster; proxies = s.proxies; clients = s.clients }
+
+-- the actors of the line are of the group and of their sorts, and its numbers are in the ranges of the table
+abbrev pub is_sound : Group → Line → Bool
+is_sound g line = all_known g (forms_of line.verb) line.words && (all_within (forms_of line.verb) line.words && is_span line.verb line.words)
+
+-- f is 1 to 4, there are 1 to 8 proxies and 1 to 64 clients with a script each, and 1 to 20,000 ticks
+abbrev pub has_group : Scenario → Bool
+has_group s = ((is_within 1 4 s.cluster && is_within 1 8 s.proxies) && (is_within 1 64 s.clients && is_within 1 20000 s.ticks)) && (length s.scripts == s.clients)
+
+-- no clock has two skews
+abbrev pub are_apart : List Skew → Bool
+are_apart [] = true
+are_apart (s ∷ skews) = not (has_skew skews s.actor) && are_apart skews
+
+abbrev pub has_skews : Scenario → Bool
+has_skews s = list_all (λ k. is_sound (group_of s) (skew_line k)) s.skews && are_apart s.skews
+
+-- a request waits at most 20,000 ticks, and its bytes are those of a command
+abbrev pub is_request : Request → Bool
+is_request r = nat_le r.wait 20000 && is_some (command_of r.command)
+
+abbrev pub are_requests : List Request → Bool
+are_requests script = list_all is_request script
+
+-- how many requests there are in all
+abbrev pub request_count : List (List Request) → ℕ
+request_count scripts = sum_by length scripts
+
+-- the sums and the products are within the limits
+abbrev pub has_few : Scenario → Bool
+has_few s = has_room_for_requests (request_count s.scripts) s.ticks && has_room_for_faults (request_count s.scripts) (length s.faults)
+
+abbrev pub has_faults : Scenario → Bool
+has_faults s = list_all (λ f. is_sound (group_of s) (fault_line f)) s.faults
+
+-- the text has at most 1,048,576 bytes
+abbrev pub is_short : Scenario → Bool
+is_short s = nat_le (length (text_of s)) 1048576
+
+-- the scenario is as a run asks, and its text can be read
+abbrev pub is_valid : Scenario → Bool
+is_valid s = ((has_group s && has_skews s) && (list_all are_requests s.scripts && has_few s)) && (has_faults s && is_short s)
+
+abbrev pub IsValid : Scenario → Type 0
+IsValid s = IsTrue (is_valid s)

@@ -1,0 +1,263 @@
+ghost use Rattle.std.specs.Prelude.{◌≡◌, ◌<◌, ◌^◌};
+ghost use Rattle.nz_base.specs.Actor.{actor_eq};
+ghost use Rattle.nz_store.specs.Reading.{is_key_text, is_value_text};
+ghost use Rattle.nz_store.specs.Grammar.{is_graphic};
+ghost use Rattle.std.specs.List.{list_all};
+ghost use Rattle.nz_script.specs.Drafts.{is_turn as turn_is, is_in_turn as line_is_in_turn, in_order as order_is_kept, suits as form_suits, is_known as word_is_known, all_known, has_skew as skew_is_there, is_new_skew as skew_is_new, names_known as names_are_known, has_number as number_is, has_units as units_are, has_value as value_is, has_key as key_is, has_choice as choice_is, is_within as word_is_within, all_within, has_room_for_requests, has_room_for_faults, has_room as room_is_left, is_span as span_is, within_limits as limits_are_kept};
+ghost use Rattle.nz_script.specs.Reading.{fault_of as first_fault};
+
+use super::draft::Draft;
+use super::faults::Kind;
+use super::group::{Group, knows};
+use super::line::Line;
+use super::shape::{Form, Mishap, Verb};
+use super::word::{Word, actor_at, number_at};
+use nz_base::{Actor, Skew};
+
+const MOST_REQUESTS: u64 = 2_000;
+/// Requests times ticks.
+const MOST_TURNS: u64 = 2_000_000;
+
+const MOST_FAULTS: u64 = 1_000;
+/// Requests times faults.
+const MOST_CHANCES: u64 = 200_000;
+
+fn is_turn(draft: &Draft, words: &[Word]) -> bool
+    ensures { result ≡ turn_is draft.now words.now }
+{
+    match words {
+        [Word::Named(Actor::Client(number)), ..] => {
+            *number >= draft.group.clients || u32::from(*number) == draft.scripts.len()
+        }
+        _ => true,
+    }
+}
+
+fn is_in_turn(draft: &Draft, verb: Verb, words: &[Word]) -> bool
+    ensures { result ≡ line_is_in_turn draft.now verb words.now }
+{
+    match verb {
+        Verb::Skew => draft.scripts.len() == 0,
+        Verb::Client => is_turn(draft, words),
+        _ => true,
+    }
+}
+
+fn is_in_order(draft: &Draft, line: &Line) -> bool
+    ensures { result ≡ order_is_kept draft.now line.now }
+{
+    draft.place.is(line.verb.shape().1) && is_in_turn(draft, line.verb, line.words.as_slice())
+}
+
+fn suits(form: Form, actor: Actor) -> bool
+    ensures { result ≡ form_suits form actor }
+{
+    match (form, actor) {
+        (Form::Server, Actor::Client(_)) => false,
+        (Form::Replica, Actor::Proxy(_) | Actor::Client(_)) => false,
+        (Form::Client, Actor::Replica(_) | Actor::Proxy(_)) => false,
+        _ => true,
+    }
+}
+
+fn is_known(group: &Group, form: Form, word: &Word) -> bool
+    ensures { result ≡ word_is_known group.now form word.now }
+{
+    match word {
+        Word::Named(actor) => suits(form, *actor) && knows(group, *actor),
+        Word::Kind(None) => false,
+        Word::Kind(Some(kind)) => 1 <= *kind && *kind <= 18,
+        _ => true,
+    }
+}
+
+pub fn are_known(group: &Group, forms: &[Form], words: &[Word]) -> bool
+    ensures { result ≡ all_known group.now forms.now words.now }
+{
+    let [form, forms @ ..] = forms else {
+        return true;
+    };
+    let [word, words @ ..] = words else {
+        return true;
+    };
+    is_known(group, *form, word) && are_known(group, forms, words)
+}
+
+fn is_same_actor(one: Actor, other: Actor) -> bool
+    ensures { result ≡ actor_eq one other }
+{
+    one == other
+}
+
+pub fn has_skew(skews: &[Skew], actor: Actor) -> bool
+    ensures { result ≡ skew_is_there skews.now actor }
+{
+    skews.iter().any(|skew| is_same_actor(skew.actor, actor))
+}
+
+fn is_new_skew(draft: &Draft, verb: Verb, words: &[Word]) -> bool
+    ensures { result ≡ skew_is_new draft.now verb words.now }
+{
+    match verb {
+        Verb::Skew => !has_skew(draft.skews.as_slice(), actor_at(words, 0)),
+        _ => true,
+    }
+}
+
+fn has_known_names(draft: &Draft, line: &Line) -> bool
+    ensures { result ≡ names_are_known draft.now line.now }
+{
+    are_known(&draft.group, line.verb.shape().2, line.words.as_slice())
+        && is_new_skew(draft, line.verb, line.words.as_slice())
+}
+
+fn are_graphic(bytes: &[u8]) -> bool
+    ensures { result ≡ list_all is_graphic bytes.now }
+{
+    bytes.iter().all(|b| b.is_ascii_graphic())
+}
+
+fn has_number(least: u32, most: u32, word: &Word) -> bool
+    ensures { result ≡ number_is least most word.now }
+{
+    match word {
+        Word::Number(number) => u64::from(least) <= *number && *number <= u64::from(most),
+        _ => false,
+    }
+}
+
+fn has_units(word: &Word) -> bool
+    ensures { result ≡ units_are word.now }
+{
+    match word {
+        Word::Units { back: _, number } => *number <= 4_611_686_018_427_387_904,
+        _ => false,
+    }
+}
+
+pub fn is_key(bytes: &[u8]) -> bool
+    ensures { result ≡ is_key_text bytes.now }
+{
+    let len = bytes.len();
+    1 <= len && len <= 32 && are_graphic(bytes)
+}
+
+pub fn is_value(bytes: &[u8]) -> bool
+    ensures { result ≡ is_value_text bytes.now }
+{
+    let len = bytes.len();
+    1 <= len && len <= 256 && are_graphic(bytes) && bytes != b"-".as_slice()
+}
+
+fn has_key(word: &Word) -> bool
+    ensures { result ≡ key_is word.now }
+{
+    match word {
+        Word::Text(text) => is_key(text.as_slice()),
+        _ => false,
+    }
+}
+
+fn has_value(word: &Word) -> bool
+    ensures { result ≡ value_is word.now }
+{
+    match word {
+        Word::Text(text) => is_value(text.as_slice()),
+        _ => false,
+    }
+}
+
+fn has_choice(word: &Word) -> bool
+    ensures { result ≡ choice_is word.now }
+{
+    match word {
+        Word::Nothing => true,
+        _ => has_value(word),
+    }
+}
+
+fn is_within(form: Form, word: &Word) -> bool
+    ensures { result ≡ word_is_within form word.now }
+{
+    match form {
+        Form::Number { least, most } => has_number(least, most, word),
+        Form::Units => has_units(word),
+        Form::Key => has_key(word),
+        Form::Value => has_value(word),
+        Form::Choice => has_choice(word),
+        _ => true,
+    }
+}
+
+pub fn are_within(forms: &[Form], words: &[Word]) -> bool
+    ensures { result ≡ all_within forms.now words.now }
+{
+    let [form, forms @ ..] = forms else {
+        return true;
+    };
+    let [word, words @ ..] = words else {
+        return false;
+    };
+    is_within(*form, word) && are_within(forms, words)
+}
+
+/// Whether so many requests are within the limits.
+pub fn fits_requests(requests: u64, ticks: u32) -> bool
+    requires { requests < 2 ^ 40 }
+    ensures { result ≡ has_room_for_requests requests ticks }
+{
+    requests <= MOST_REQUESTS && requests * u64::from(ticks) <= MOST_TURNS
+}
+
+/// Whether so many faults are within the limits.
+pub fn fits_faults(requests: u64, faults: u64) -> bool
+    requires { requests < 2 ^ 40 }
+    ensures { result ≡ has_room_for_faults requests faults }
+{
+    faults <= MOST_FAULTS && requests * faults <= MOST_CHANCES
+}
+
+fn has_room(draft: &Draft, verb: Verb) -> bool
+    ensures { result ≡ room_is_left draft.now verb }
+{
+    let requests = u64::from(draft.requests);
+    match verb {
+        Verb::Ask(_) => fits_requests(requests + 1, draft.ticks),
+        Verb::Mishap(_) => fits_faults(requests, u64::from(draft.faults.len()) + 1),
+        _ => true,
+    }
+}
+
+pub fn is_span(verb: Verb, words: &[Word]) -> bool
+    ensures { result ≡ span_is verb words.now }
+{
+    match verb {
+        Verb::Mishap(Mishap::Block) => number_at(words, 2) <= number_at(words, 3),
+        _ => true,
+    }
+}
+
+fn is_within_limits(draft: &Draft, line: &Line) -> bool
+    ensures { result ≡ limits_are_kept draft.now line.now }
+{
+    let words = line.words.as_slice();
+    are_within(line.verb.shape().2, words)
+        && is_span(line.verb, words)
+        && has_room(draft, line.verb)
+}
+
+/// What is wrong with the line: the first test that fails.
+pub fn fault_of(draft: &Draft, line: &Line) -> Option<Kind>
+    ensures { result ≡ first_fault draft.now line.now }
+{
+    if !is_in_order(draft, line) {
+        return Some(Kind::Order);
+    }
+    if !has_known_names(draft, line) {
+        return Some(Kind::Name);
+    }
+    if !is_within_limits(draft, line) {
+        return Some(Kind::Limit);
+    }
+    None
+}

@@ -1,0 +1,23 @@
+ghost use Rattle.std.specs.Prelude.{◌≡◌};
+ghost use Rattle.nz_script.specs.Drafts.{knows as knows_actor};
+
+use nz_base::{Actor, Cluster};
+
+/// Who takes part.
+#[derive(Clone, Copy, Debug)]
+pub struct Group {
+    pub cluster: Cluster,
+    pub proxies: u8,
+    pub clients: u8,
+}
+
+/// Whether the actor is of the group.
+pub fn knows(group: &Group, actor: Actor) -> bool
+    ensures { result ≡ knows_actor group.now actor }
+{
+    match actor {
+        Actor::Replica(number) => number < group.cluster.n(),
+        Actor::Proxy(number) => number < group.proxies,
+        Actor::Client(number) => number < group.clients,
+    }
+}

@@ -1,0 +1,29 @@
+//! The scenario language: what a text says, line by line, and the one text of each scenario.
+#![tactic(auto)]
+
+mod bytes;
+mod checks;
+mod draft;
+mod faults;
+mod generating;
+mod group;
+mod laws;
+mod line;
+mod message;
+mod printing;
+mod reading;
+mod shape;
+mod sizes;
+mod spelled;
+mod validity;
+mod word;
+
+pub use faults::{Kind, ScriptFault};
+pub use generating::generate;
+pub use laws::texts_are_read_back;
+pub use printing::print;
+pub use reading::read;
+pub use validity::ValidScenario;
+
+#[cfg(test)]
+mod tests;

@@ -1,0 +1,174 @@
+ghost use Rattle.std.specs.Prelude.{◌≡◌, ◌↔◌, ◌≤◌, ◌<◌, ◌^◌, IsTrue, length};
+ghost use Rattle.std.specs.List.{list_all};
+ghost use Rattle.nz_base.specs.Actor.{is_within as is_between_of};
+ghost use Rattle.nz_base.specs.declared.scenario.Scenario.{Scenario as AScenario};
+ghost use Rattle.nz_script.specs.Lines.{a_line};
+ghost use Rattle.nz_script.specs.Texts.{skew_line, fault_line};
+ghost use Rattle.nz_script.specs.Valid.{group_of as group_in, is_sound as line_is_sound, has_group as group_is, are_apart as skews_are_apart, has_skews as skews_are, is_request as request_is, are_requests as requests_are, request_count as count_of, has_few as few_are, has_faults as faults_are, is_short as text_is_short, is_valid as scenario_is_valid, IsValid};
+
+use super::checks::{are_known, are_within, fits_faults, fits_requests, has_skew, is_span};
+use super::group::Group;
+use super::printing::{fault_parts, units_of};
+use super::shape::Verb;
+use super::sizes::scenario_room;
+use super::spelled::spelled_len;
+use super::word::Word;
+use nz_base::{Fault, Request, RequestList, Scenario, Skew};
+
+/// A scenario that may be run and written.
+pub trait ValidScenario {
+    /// Whether it may.
+    ghost Holds: { Self → Type 0 };
+
+    /// Whether the scenario is as a run asks, and its text has at most 1,048,576 bytes.
+    fn is_valid(&self) -> bool
+        ensures { IsTrue result ↔ Holds self.now };
+}
+
+fn group_of(scenario: &Scenario) -> Group
+    ensures { result ≡ group_in scenario.now }
+{
+    Group {
+        cluster: scenario.cluster,
+        proxies: scenario.proxies,
+        clients: scenario.clients,
+    }
+}
+
+fn is_between(least: u32, most: u32, number: u32) -> bool
+    ensures { result ≡ is_between_of least most number }
+{
+    least <= number && number <= most
+}
+
+fn has_group(scenario: &Scenario) -> bool
+    ensures { result ≡ group_is scenario.now }
+{
+    let few = is_between(1, 4, u32::from(scenario.cluster.f()))
+        && is_between(1, 8, u32::from(scenario.proxies));
+    let many = is_between(1, 64, u32::from(scenario.clients))
+        && is_between(1, 20_000, scenario.ticks);
+    few && many && scenario.scripts.len() == u32::from(scenario.clients)
+}
+
+/// Whether the actors of the line are there and its numbers in range.
+fn is_sound(group: &Group, verb: Verb, words: &[Word]) -> bool
+    ensures { result ≡ line_is_sound group.now (a_line verb words.now) }
+{
+    let forms = verb.shape().2;
+    are_known(group, forms, words) && (are_within(forms, words) && is_span(verb, words))
+}
+
+fn is_sound_skew(group: &Group, skew: &Skew) -> bool
+    ensures { result ≡ line_is_sound group.now (skew_line skew.now) }
+{
+    is_sound(
+        group,
+        Verb::Skew,
+        &[Word::Named(skew.actor), units_of(skew.units)],
+    )
+}
+
+fn are_apart(skews: &[Skew]) -> bool
+    ensures { result ≡ skews_are_apart skews.now }
+{
+    for i in 0..skews.len() {
+        if has_skew(&skews[i + 1..], skews[i].actor) {
+            return false;
+        }
+    }
+    true
+}
+
+fn are_sound_skews(group: &Group, skews: &[Skew]) -> bool
+    ensures { result ≡ list_all (λ k. line_is_sound group.now (skew_line k)) skews.now }
+{
+    skews.iter().all(|skew| is_sound_skew(group, skew))
+}
+
+fn has_skews(scenario: &Scenario) -> bool
+    ensures { result ≡ skews_are scenario.now }
+{
+    let skews = scenario.skews.as_slice();
+    are_sound_skews(&group_of(scenario), skews) && are_apart(skews)
+}
+
+fn is_request(request: &Request) -> bool
+    ensures { result ≡ request_is request.now }
+{
+    request.wait <= 20_000 && spelled_len(request.command.as_slice()).is_some()
+}
+
+fn are_requests(script: &[Request]) -> bool
+    ensures { result ≡ requests_are script.now }
+{
+    script.iter().all(is_request)
+}
+
+fn are_scripts(scripts: &[RequestList]) -> bool
+    ensures { result ≡ list_all requests_are scripts.now }
+{
+    scripts.iter().all(|script| are_requests(script.as_slice()))
+}
+
+/// How many requests there are in all.
+fn request_count(scripts: &[RequestList]) -> u64
+    requires { length scripts.now ≤ 255 }
+    ensures value { result ≡ count_of scripts.now }
+    ensures bound { result < 2 ^ 40 }
+{
+    let mut count = 0;
+    for script in scripts {
+        count += u64::from(script.len());
+    }
+    count
+}
+
+fn has_few(scenario: &Scenario) -> bool
+    requires { length scenario.now.scripts ≤ 255 }
+    ensures { result ≡ few_are scenario.now }
+{
+    let requests = request_count(scenario.scripts.as_slice());
+    fits_requests(requests, scenario.ticks)
+        && fits_faults(requests, u64::from(scenario.faults.len()))
+}
+
+fn is_sound_fault(group: &Group, fault: &Fault) -> bool
+    ensures { result ≡ line_is_sound group.now (fault_line fault.now) }
+{
+    let (verb, words, len) = fault_parts(fault);
+    is_sound(group, verb, &words[..len])
+}
+
+fn are_sound_faults(group: &Group, faults: &[Fault]) -> bool
+    ensures { result ≡ list_all (λ f. line_is_sound group.now (fault_line f)) faults.now }
+{
+    faults.iter().all(|fault| is_sound_fault(group, fault))
+}
+
+fn is_short(scenario: &Scenario) -> bool
+    requires { length scenario.now.scripts ≤ 255 }
+    ensures { result ≡ text_is_short scenario.now }
+{
+    scenario_room(1_048_576, scenario).is_some()
+}
+
+fn is_valid(scenario: &Scenario) -> bool
+    ensures { result ≡ scenario_is_valid scenario.now }
+{
+    let first = has_group(scenario) && has_skews(scenario);
+    if !first {
+        return false;
+    }
+    let second = are_scripts(scenario.scripts.as_slice()) && has_few(scenario);
+    let group = group_of(scenario);
+    second && (are_sound_faults(&group, scenario.faults.as_slice()) && is_short(scenario))
+}
+
+impl ValidScenario for Scenario {
+    ghost Holds = { IsValid };
+
+    fn is_valid(&self) -> bool {
+        is_valid(self)
+    }
+}
