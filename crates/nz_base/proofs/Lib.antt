@@ -1,2 +1,4 @@
+pub mod Booleans
 pub mod Names
 pub mod Keys
+pub mod Logs

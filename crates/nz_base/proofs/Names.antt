@@ -1,5 +1,5 @@
 -- The tests on actors, ids and keys say what they seem to say.
-use Rattle.std.proofs.Common.{◌≡◌, true, refl, ap, arith}
+use Rattle.std.proofs.Common.{◌≡◌, true, false, refl, ap, subst, inl, inr, arith}
 use Rattle.std.proofs.lemmas.Bool.{eqb-true, eq-eqb}
 use Rattle.nz_base.specs.declared.actor.Actor.{Actor}
 use Rattle.nz_base.specs.declared.actor.Actor.TheVariants.{Replica, Proxy, Client}
@@ -7,6 +7,7 @@ use Rattle.nz_base.specs.declared.key.Id.{Id}
 use Rattle.nz_base.specs.declared.key.Key.{Key}
 use Rattle.nz_base.specs.Actor.{actor_eq}
 use Rattle.nz_base.specs.Key.{id_eq, key_eq}
+use Rattle.nz_base.proofs.Booleans.{cases_bool, clash}
 
 pub actor_eq_self : (a : Actor) → actor_eq a a ≡ true
 actor_eq_self (Replica r) = eq-eqb r r refl
@@ -29,6 +30,17 @@ id_eq_self a = grind arith
 
 pub same_id : (a b : Id) → id_eq a b ≡ true → a ≡ b
 same_id a b h = grind arith
+
+-- an id is found either way round
+pub id_turn : (a b : Id) → id_eq a b ≡ true → id_eq b a ≡ true
+id_turn a b h = subst (λ (i : Id). id_eq i a ≡ true) (same_id a b h) (id_eq_self a)
+
+pub id_turn_away : (a b : Id) → id_eq a b ≡ false → id_eq b a ≡ false
+id_turn_away a b h =
+    elim (cases_bool (id_eq b a)) [
+      | inl same ↦ clash (id_eq a b) (id_turn b a same) h
+      | inr away ↦ away
+    ]
 
 pub key_eq_self : (a : Key) → key_eq a a ≡ true
 key_eq_self a = grind arith

@@ -5,9 +5,13 @@ use Rattle.std.specs.Prelude.{ℕ, ◌+◌, ◌*◌, ◌/◌, ◌%◌}
 abbrev pub replica_count : ℕ → ℕ
 replica_count f = 2 * f + 1
 
+-- half of f, rounded up
+abbrev pub half_up : ℕ → ℕ
+half_up f = (f + 1) / 2
+
 -- a fast quorum: f, half of f rounded up, and one
 abbrev pub fast_size : ℕ → ℕ
-fast_size f = f + (f + 1) / 2 + 1
+fast_size f = f + half_up f + 1
 
 -- a slow quorum: f and one
 abbrev pub slow_size : ℕ → ℕ

@@ -1,3 +1,4 @@
 pub mod Actor
 pub mod Cluster
 pub mod Key
+pub mod Log

@@ -10,7 +10,15 @@ pub enum Actor {
 }
 
 impl Actor {
-    ghost use Rattle.nz_base.specs.Actor.{HasAddress, address_of, actor_at};
+    ghost use Rattle.nz_base.specs.Actor.{actor_eq, HasAddress, address_of, actor_at};
+
+    /// Whether this is the other actor.
+    pub fn is(&self, other: &Actor) -> bool
+        ensures value { result ≡ actor_eq self.now other.now }
+        ensures same { IsTrue result ↔ (self.now ≡ other.now) }
+    {
+        self == other
+    }
 
     /// Whether frames can name this actor.
     pub fn has_address(&self) -> bool

@@ -33,6 +33,15 @@ impl<T> List<T> {
         }
     }
 
+    /// An empty list with room for so many items.
+    pub fn with_capacity(alloc: Global, count: u32) -> Result<List<T>, NoMemory>
+        ensures { IfOk result (λ list. list ≡ []) }
+    {
+        Ok(List {
+            items: Vec::with_capacity(alloc, count as usize)?,
+        })
+    }
+
     pub fn len(&self) -> u32
         ensures { result ≡ length self.now }
     {
@@ -85,7 +94,8 @@ impl<T: TryCopy + Drop> List<T> {
     pub fn from_slice(alloc: Global, items: &[T]) -> Result<List<T>, NoMemory>
         ensures { IfOk result (λ list. list ≡ items.now) }
     {
-        let mut list = List::new(alloc);
+        let count = u32::try_from(items.len()).map_err(|_| NoMemory)?;
+        let mut list = List::with_capacity(alloc, count)?;
         for item in items {
             list.push(item.copy(alloc)?)?;
         }

@@ -40,6 +40,9 @@ fn addresses(rt: HostRuntime) -> Result<(), Fail> {
     ];
     for (actor, address) in known {
         assert!(rt; actor.has_address());
+        for (other, place) in known {
+            assert_eq!(rt; actor.is(&other), address == place);
+        }
         assert_eq!(rt; actor.address(), address);
         assert_eq!(rt; Actor::from_address(address), Some(actor));
     }
@@ -153,6 +156,11 @@ fn lists_with_ample_memory(rt: HostRuntime) -> Result<(), Fail> {
         List::from_slice(alloc, &actors)?.as_slice(),
         actors.as_slice()
     );
+    let mut room = KeyList::with_capacity(alloc, 2)?;
+    assert!(rt; room.is_empty());
+    room.push(key)?;
+    room.push(key)?;
+    assert_eq!(rt; room, keys);
     let ids = IdList::from_slice(alloc, &[key.id()])?;
     assert_eq!(rt; ids.into_vec().as_slice(), [key.id()].as_slice());
     Ok(())

@@ -1,17 +1,16 @@
 -- An early entry goes to its place, and the others stay as they are.
-use Rattle.std.proofs.Common.{◌≡◌, ℕ, suc, Bool, true, false, cond, List, [], ◌∷◌, ◌++◌, refl, sym, ap, subst, ◌∙◌, inl, inr, ◌⊎◌}
+use Rattle.std.proofs.Common.{◌≡◌, ℕ, suc, Bool, true, false, cond, List, [], ◌∷◌, refl, sym, ap, subst, ◌∙◌, inl, inr, ◌⊎◌}
 use Rattle.std.specs.List.{insert}
-use Rattle.std.proofs.lemmas.List.{map-append}
 use Rattle.nz_base.specs.declared.key.Id.{Id}
 use Rattle.nz_base.specs.declared.key.Key.{Key}
 use Rattle.nz_base.specs.declared.key.Entry.{Entry}
 use Rattle.nz_base.specs.Key.{key_below, key_eq, id_eq, id_of}
+use Rattle.nz_base.specs.Log.{keys_of, has_key, has_id, AreRising, HaveOwnIds, IsLog}
 use Rattle.nz_base.proofs.Keys.{key_below-trans, key_below-total}
-use Rattle.nz_base.proofs.Names.{id_eq_self, same_key}
-use Rattle.nz_buffers.specs.Log.{keys_of, has_key, has_id, AreRising, HaveOwnIds, IsLog}
+use Rattle.nz_base.proofs.Names.{id_eq_self, same_key, id_turn_away}
+use Rattle.nz_base.proofs.Booleans.{cases_bool, or_cases, or_left, or_right, neither_left, neither_right, clash}
 use Rattle.nz_buffers.specs.Buffers.{insert_by_key}
 use Rattle.nz_buffers.specs.Places.{key_place_from}
-use Rattle.nz_buffers.proofs.Booleans.{cases_bool, or_cases, or_left, or_right, neither_left, neither_right, clash, any_append, id_turn_away}
 
 -- ---- the place
 
@@ -110,14 +109,3 @@ pub log_insert : (es : List Entry) (e : Entry) → IsLog es → has_id (keys_of 
 log_insert es e log fresh = record { rising = rising_insert es e log.rising fresh; own_ids = own_insert es e log.own_ids fresh }
 
 -- ---- an entry that comes last
-
-pub own_more : (keys : List Key) (key : Key) → HaveOwnIds keys → has_id keys (id_of key) ≡ false → HaveOwnIds (keys ++ key ∷ [])
-own_more [] key own h = (refl, tt)
-own_more (k ∷ keys) key own h =
-    let apart = id_turn_away (id_of key) (id_of k) (neither_left (id_eq (id_of key) (id_of k)) (has_id keys (id_of key)) h) in
-    let rest = neither_right (id_eq (id_of key) (id_of k)) (has_id keys (id_of key)) h in
-    let new : has_id (keys ++ key ∷ []) (id_of k) ≡ false = any_append (λ x. id_eq (id_of k) (id_of x)) keys (key ∷ []) ∙ (rw (own.0, apart) refl) in
-    (new, own_more keys key own.1 rest)
-
-pub own_push : (es : List Entry) (e : Entry) → HaveOwnIds (keys_of es) → has_id (keys_of es) (id_of e.key) ≡ false → HaveOwnIds (keys_of (es ++ e ∷ []))
-own_push es e own fresh = subst HaveOwnIds (sym (map-append (λ (x : Entry). x.key) es (e ∷ []))) (own_more (keys_of es) e.key own fresh)

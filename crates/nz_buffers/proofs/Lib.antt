@@ -1,4 +1,3 @@
-pub mod Booleans
 pub mod Inserting
 pub mod Releasing
 pub mod Removing

@@ -6,10 +6,10 @@ use Rattle.std.proofs.lemmas.List.Sums.{take_while-cons}
 use Rattle.nz_base.specs.declared.key.Key.{Key}
 use Rattle.nz_base.specs.declared.key.Entry.{Entry}
 use Rattle.nz_base.specs.Key.{key_below, key_eq}
-use Rattle.nz_buffers.specs.Log.{keys_of, has_key, AreRising}
-use Rattle.nz_buffers.specs.Buffers.{is_due, released, held_back}
-use Rattle.nz_buffers.proofs.Booleans.{cases_bool, or_left, or_right}
+use Rattle.nz_base.specs.Log.{keys_of, has_key, AreRising}
 use Rattle.nz_base.proofs.Names.{key_eq_self}
+use Rattle.nz_base.proofs.Booleans.{cases_bool, or_left, or_right}
+use Rattle.nz_buffers.specs.Buffers.{is_due, released, held_back}
 
 -- a key above one that is not due is not due
 pub later_not_due : (clock : ℕ) (e f : Entry) → is_due clock e ≡ false → key_below e.key f.key ≡ true → is_due clock f ≡ false

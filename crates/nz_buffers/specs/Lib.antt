@@ -1,4 +1,3 @@
 pub mod Buffers
-pub mod Log
 pub mod Offers
 pub mod Places

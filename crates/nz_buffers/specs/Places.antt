@@ -4,7 +4,7 @@ use Rattle.nz_base.specs.declared.key.Id.{Id}
 use Rattle.nz_base.specs.declared.key.Key.{Key}
 use Rattle.nz_base.specs.declared.key.Entry.{Entry}
 use Rattle.nz_base.specs.Key.{key_below, id_eq, id_of}
-use Rattle.nz_buffers.specs.Log.{keys_of, has_id}
+use Rattle.nz_base.specs.Log.{keys_of, has_id}
 
 -- The first entry with the id stands at this place.
 pub record IsPlace (entries : List Entry) (id : Id) (place : ℕ) : Type 0 where

@@ -1,7 +1,7 @@
 ghost use Rattle.std.specs.Prelude.{◌≡◌, ◌++◌, [], ◌↔◌, length, IsTrue, IsFalse, IsSome, IsOk, IfOk, OnOk, OnErr, not};
 ghost use Rattle.std.specs.Option.{option_copied, option_to_list};
 ghost use Rattle.nz_base.specs.Key.{key_below, id_of};
-ghost use Rattle.nz_buffers.specs.Log.{keys_of, has_id, IsLog};
+ghost use Rattle.nz_base.specs.Log.{keys_of, has_id, IsLog};
 ghost use Rattle.nz_buffers.specs.Buffers.{find_id, without, first_key, is_past, is_due, released, first_if};
 ghost use Rattle.nz_buffers.specs.Offers.{answer_to, after_offer};
 
@@ -28,7 +28,7 @@ pub struct Early {
 impl Model for Early {
     ghost use Rattle.std.specs.Prelude.{List};
     ghost use Rattle.nz_base.specs.declared.key.Entry.{Entry as AnEntry};
-    ghost use Rattle.nz_buffers.specs.Log.{IsLog};
+    ghost use Rattle.nz_base.specs.Log.{IsLog};
 
     ghost Value = { List AnEntry };
 
@@ -56,14 +56,6 @@ impl Early {
         ensures { IsTrue result ↔ (self.now ≡ []) }
     {
         self.entries.is_empty()
-    }
-
-    /// The entries. Their keys rise, and their ids differ.
-    pub fn as_slice(&self) -> &[Entry]
-        ensures value { result.now ≡ self.now }
-        ensures log { IsLog self.now }
-    {
-        &self.entries
     }
 
     /// The least key.

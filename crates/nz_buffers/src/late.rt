@@ -1,7 +1,7 @@
 ghost use Rattle.std.specs.Prelude.{◌≡◌, [], ◌∷◌, ◌++◌, ◌↔◌, length, IsTrue, IsFalse, IsSome, OnOk, OnErr};
 ghost use Rattle.std.specs.Option.{option_copied};
 ghost use Rattle.nz_base.specs.Key.{id_of};
-ghost use Rattle.nz_buffers.specs.Log.{keys_of, has_id, HaveOwnIds};
+ghost use Rattle.nz_base.specs.Log.{keys_of, has_id, HaveOwnIds};
 ghost use Rattle.nz_buffers.specs.Buffers.{find_id, without};
 
 use super::places::{find, take_out};
@@ -19,7 +19,7 @@ pub struct Late {
 impl Model for Late {
     ghost use Rattle.std.specs.Prelude.{List};
     ghost use Rattle.nz_base.specs.declared.key.Entry.{Entry as AnEntry};
-    ghost use Rattle.nz_buffers.specs.Log.{keys_of, HaveOwnIds};
+    ghost use Rattle.nz_base.specs.Log.{keys_of, HaveOwnIds};
 
     ghost Value = { List AnEntry };
 
@@ -47,14 +47,6 @@ impl Late {
         ensures { IsTrue result ↔ (self.now ≡ []) }
     {
         self.entries.is_empty()
-    }
-
-    /// The entries. Their ids differ.
-    pub fn as_slice(&self) -> &[Entry]
-        ensures value { result.now ≡ self.now }
-        ensures own_ids { HaveOwnIds (keys_of self.now) }
-    {
-        &self.entries
     }
 
     /// Puts the entry last.

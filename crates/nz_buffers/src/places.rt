@@ -2,7 +2,7 @@
 
 ghost use Rattle.std.specs.Prelude.{◌≡◌, ◌+◌, ◌≤◌, length, OnOk, OnErr, ◌↔◌, IfSome, IfNone, IsSome, IsTrue, IsFalse};
 ghost use Rattle.std.specs.Option.{option_copied};
-ghost use Rattle.nz_buffers.specs.Log.{keys_of, has_id, HaveOwnIds};
+ghost use Rattle.nz_base.specs.Log.{keys_of, has_id, HaveOwnIds};
 ghost use Rattle.nz_buffers.specs.Buffers.{find_id, without, insert_by_key};
 ghost use Rattle.nz_buffers.specs.Places.{IsPlace, key_place_from};
 

@@ -6,12 +6,12 @@ use Rattle.std.proofs.Math.Seq.{take-append_seam, drop-append_seam}
 use Rattle.nz_base.specs.declared.key.Key.{Key}
 use Rattle.nz_base.specs.declared.key.Entry.{Entry}
 use Rattle.nz_base.specs.Key.{key_below, key_eq, id_eq, id_of}
+use Rattle.nz_base.specs.Log.{keys_of, has_key, has_id, IsLog, is_above_last}
 use Rattle.nz_base.proofs.Names.{same_key}
-use Rattle.nz_log.specs.Log.{keys_of, has_key, has_id, IsLog, is_above_last}
+use Rattle.nz_base.proofs.Booleans.{cases_bool, or_cases, or_left, or_right, length-filter_le}
+use Rattle.nz_base.proofs.Logs.{has_append, has_front, has_back, keys_append, log_push}
 use Rattle.nz_log.specs.Synced.{Log, IsSound, synced_part, unsynced_part, stays_behind, is_displaced, modified, displaced}
-use Rattle.nz_log.proofs.Booleans.{cases_bool, or_cases, or_left, or_right}
-use Rattle.nz_log.proofs.Joining.{has_append, has_front, has_back}
-use Rattle.nz_log.proofs.Lists.{keys_append, log_push, log_put, length-filter_le}
+use Rattle.nz_log.proofs.Lists.{log_put}
 
 -- an entry is put in at a place, and of what then stands behind it some goes
 pub put_parts : (es : List Entry) (place : ℕ) (e : Entry) (p : Entry → Bool) → place ≤ length es

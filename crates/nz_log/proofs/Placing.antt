@@ -4,10 +4,10 @@ use Rattle.std.specs.Option.{option_map}
 use Rattle.nz_base.specs.declared.key.Id.{Id}
 use Rattle.nz_base.specs.declared.key.Entry.{Entry}
 use Rattle.nz_base.specs.Key.{id_eq, id_of}
+use Rattle.nz_base.specs.Log.{keys_of, has_id, HaveOwnIds}
 use Rattle.nz_base.proofs.Names.{same_id}
-use Rattle.nz_log.specs.Log.{keys_of, has_id, HaveOwnIds}
+use Rattle.nz_base.proofs.Booleans.{cases_bool, or_left, or_right, neither_left, neither_right, clash}
 use Rattle.nz_log.specs.Places.{place_of, IsPlace, IsFirstPlace}
-use Rattle.nz_log.proofs.Booleans.{cases_bool, or_left, or_right, neither_left, neither_right, clash}
 
 pub place_held : (es : List Entry) (i : Id) → is_some (place_of es i) ≡ has_id (keys_of es) i
 place_held [] i = refl

@@ -4,8 +4,8 @@ use Rattle.std.specs.Option.{option_map}
 use Rattle.nz_base.specs.declared.key.Id.{Id}
 use Rattle.nz_base.specs.declared.key.Entry.{Entry}
 use Rattle.nz_base.specs.Key.{id_eq, id_of}
+use Rattle.nz_base.specs.Log.{keys_of, has_id}
 use Rattle.nz_digest.specs.Digests.{EntryKey, digest}
-use Rattle.nz_log.specs.Log.{keys_of, has_id}
 
 -- The first place of an entry with the id, if there is one.
 abbrev pub place_of : List Entry → Id → Option ℕ

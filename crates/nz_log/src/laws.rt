@@ -5,7 +5,7 @@ ghost use Rattle.nz_base.specs.declared.key.Key.{Key as AKey};
 ghost use Rattle.nz_base.specs.declared.key.Entry.{Entry as AnEntry};
 ghost use Rattle.nz_base.specs.Key.{key_below, id_eq, id_of};
 ghost use Rattle.nz_digest.specs.Digests.{digest_of_key, xor_bytes};
-ghost use Rattle.nz_log.specs.Log.{keys_of, has_key, has_id, is_above_last, HaveOwnIds, IsLog};
+ghost use Rattle.nz_base.specs.Log.{keys_of, has_key, has_id, is_above_last, HaveOwnIds, IsLog};
 ghost use Rattle.nz_log.specs.Places.{place_of, last_entry, IsPlace, digest_of_log, digest_at};
 ghost use Rattle.nz_log.specs.Synced.{Log, IsSound, synced_part, modified, displaced};
 

@@ -1,7 +1,7 @@
 ghost use Rattle.std.specs.Prelude.{◌≡◌, ◌↔◌, ◌<◌, ◌≤◌, [], ◌∷◌, ◌++◌, length, IsTrue, IsFalse, IsSome, Some, IfSome, IfOk, OnOk, OnErr, slice_get};
 ghost use Rattle.std.specs.Option.{option_copied};
 ghost use Rattle.nz_base.specs.Key.{id_of};
-ghost use Rattle.nz_log.specs.Log.{keys_of, has_id, is_above_last, IsLog};
+ghost use Rattle.nz_base.specs.Log.{keys_of, has_id, is_above_last, IsLog};
 ghost use Rattle.nz_log.specs.Places.{place_of, last_entry, digest_at};
 ghost use Rattle.nz_log.specs.Synced.{IsSound, synced_part, modified, displaced, left_out};
 
@@ -59,14 +59,6 @@ impl HashedLog {
         ensures { result ≡ self.now.synced }
     {
         self.synced
-    }
-
-    /// The entries, of which all that a log keeps is known.
-    pub fn as_slice(&self) -> &[Entry]
-        ensures value { result.now ≡ self.now.entries }
-        ensures sound { IsSound self.now }
-    {
-        &self.entries
     }
 
     pub fn get(&self, place: u32) -> &Entry

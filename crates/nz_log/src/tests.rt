@@ -108,7 +108,7 @@ fn modifies(rt: HostRuntime) -> Result<(), Fail> {
         let answer = modify(&mut log, entry(alloc, row)?)?;
         assert_eq!(rt; answer, Some(list_of(alloc, displaced)?));
         let expected = log_of(alloc, synced, behind)?;
-        assert_eq!(rt; log.as_slice(), expected.as_slice());
+        assert_eq!(rt; log.entries()?, expected.entries()?);
         assert_eq!(rt; u64::from(log.synced()), u64::from(expected.synced()) + 1);
     }
     Ok(())
@@ -147,7 +147,7 @@ fn takes_a_list_in_place_of_its_entries(rt: HostRuntime) -> Result<(), Fail> {
     let list = other.entries()?;
     let left_out = log.replace_all(list)?;
     assert_eq!(rt; left_out, list_of(alloc, &[(20, 1, 1)])?);
-    assert_eq!(rt; log.as_slice(), other.as_slice());
+    assert_eq!(rt; log.entries()?, other.entries()?);
     assert_eq!(rt; log.synced(), 2);
     Ok(())
 }

@@ -7,11 +7,13 @@ use Rattle.nz_base.specs.declared.key.Key.{Key}
 use Rattle.nz_base.specs.declared.key.Id.{Id}
 use Rattle.nz_base.specs.declared.key.Entry.{Entry}
 use Rattle.nz_base.specs.Key.{key_below, key_eq, id_eq, id_of}
+use Rattle.nz_base.specs.Log.{keys_of, has_key, has_id, AreRising, is_above_last}
 use Rattle.nz_base.proofs.Names.{same_key}
-use Rattle.nz_merge.specs.Log.{keys_of, has_key, has_id, AreRising}
-use Rattle.nz_merge.specs.Merged.{IsFit, greatest, lowest, synced_entries, synced_part, holders, all_keys, is_above_last, is_taken, later, command_at, command_in, entry_in, merged_from}
+use Rattle.nz_base.proofs.Booleans.{cases_bool, or_cases, or_left, or_right, and_both, and_left, clash}
+use Rattle.nz_base.proofs.Logs.{has_first, has_append, has_front, has_back, above_each, above_last}
+use Rattle.nz_base.proofs.Keys.{never_self}
+use Rattle.nz_merge.specs.Merged.{IsFit, greatest, lowest, synced_entries, synced_part, holders, all_keys, is_taken, later, command_at, command_in, entry_in, merged_from}
 use Rattle.nz_merge.specs.declared.change.Change.{Change}
-use Rattle.nz_merge.proofs.Lines.{cases_bool, or_cases, or_left, or_right, and_both, and_left, clash, has_first, has_append, has_front, has_back, above_each, above_last, never_self}
 use Rattle.nz_merge.proofs.Ordering.{in_order_rising, has_in_order}
 use Rattle.nz_merge.proofs.Fronts.{among_all, merged_keys}
 use Rattle.nz_merge.proofs.Logs.{base_log, lowest_has, all_filter}

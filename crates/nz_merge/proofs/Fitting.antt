@@ -1,18 +1,15 @@
 -- The test of what a replica may report is exact.
-use Rattle.std.proofs.Common.{◌≡◌, Bool, true, false, ◌&&◌, not, leb, List, [], ◌∷◌, length, refl, sym, subst, inl, inr}
-use Rattle.std.proofs.lemmas.Bool.{le-leb, leb-true}
+use Rattle.std.proofs.Common.{◌≡◌, true, false, ◌&&◌, not, leb, List, [], ◌∷◌, length, refl, sym, subst, inl, inr}
+use Rattle.std.proofs.lemmas.Bool.{not-true, le-leb, leb-true}
 use Rattle.nz_base.specs.declared.key.Key.{Key}
 use Rattle.nz_base.specs.Key.{key_below, key_eq, id_eq, id_of}
+use Rattle.nz_base.specs.Log.{keys_of, has_key, has_id, AreRising, HaveOwnIds}
 use Rattle.nz_base.proofs.Names.{same_key}
-use Rattle.nz_merge.specs.Log.{keys_of, has_key, has_id, AreRising, HaveOwnIds}
+use Rattle.nz_base.proofs.Booleans.{cases_bool, or_cases, or_left, and_left, and_right, and_both, clash}
+use Rattle.nz_base.proofs.Logs.{has_first, has_later}
 use Rattle.nz_merge.specs.Merged.{AreFit}
 use Rattle.nz_merge.specs.Fit.{comes_first, are_log, is_fit, are_fit}
 use Rattle.nz_merge.specs.declared.change.Change.{Change}
-use Rattle.nz_merge.proofs.Lines.{cases_bool, or_cases, or_left, and_left, and_right, and_both, has_first, has_later, clash}
-
-not_true : (a : Bool) → not a ≡ true → a ≡ false
-not_true true h = absurd cc
-not_true false h = refl
 
 first_below : (key : Key) (keys : List Key) → comes_first key keys ≡ true → (x : Key) → has_key keys x ≡ true → key_below key x ≡ true
 first_below key [] h x there = absurd cc
@@ -27,7 +24,7 @@ first_own : (key : Key) (keys : List Key) → comes_first key keys ≡ true → 
 first_own key [] h = refl
 first_own key (k ∷ keys) h =
     let own = and_left (key_below key k && not (id_eq (id_of key) (id_of k))) (comes_first key keys) h in
-    let apart = not_true (id_eq (id_of key) (id_of k)) (and_right (key_below key k) (not (id_eq (id_of key) (id_of k))) own) in
+    let apart = not-true (id_eq (id_of key) (id_of k)) (and_right (key_below key k) (not (id_eq (id_of key) (id_of k))) own) in
     rw apart (first_own key keys (and_right (key_below key k && not (id_eq (id_of key) (id_of k))) (comes_first key keys) h))
 
 first_is : (key : Key) (keys : List Key) → ((x : Key) → has_key keys x ≡ true → key_below key x ≡ true) → has_id keys (id_of key) ≡ false → comes_first key keys ≡ true

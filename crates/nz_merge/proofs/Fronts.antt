@@ -6,25 +6,18 @@ use Rattle.std.proofs.lemmas.Bool.{le-leb, leb-true}
 use Rattle.std.proofs.lemmas.List.{map-append}
 use Rattle.nz_base.specs.declared.key.Key.{Key}
 use Rattle.nz_base.specs.declared.key.Entry.{Entry}
-use Rattle.nz_base.specs.declared.key.Id.{Id}
-use Rattle.nz_base.specs.Key.{key_eq, id_eq, id_of}
+use Rattle.nz_base.specs.Key.{key_eq}
+use Rattle.nz_base.specs.Log.{keys_of, has_key, AreRising, HaveOwnIds}
 use Rattle.nz_base.proofs.Names.{key_eq_self}
-use Rattle.nz_merge.specs.Log.{keys_of, has_key, has_id, AreRising, HaveOwnIds, begins_with}
-use Rattle.nz_merge.specs.Merged.{IsFit, synced_part, holders, all_keys, later, entry_in, merged_from, count_beginning}
+use Rattle.nz_base.proofs.Booleans.{cases_bool, and_both, and_left, and_right}
+use Rattle.nz_base.proofs.Logs.{has_append, has_front, has_back, front_below, rising_front, own_front}
+use Rattle.nz_merge.specs.Merged.{begins_with, IsFit, synced_part, holders, all_keys, later, entry_in, merged_from, count_beginning}
 use Rattle.nz_merge.specs.declared.change.Change.{Change}
-use Rattle.nz_merge.proofs.Lines.{cases_bool, or_left, clash, any_append, and_both, and_left, and_right, has_append, has_front, has_back, front_below, rising_front, begins_append, rest_of, AreAmong}
+use Rattle.nz_merge.proofs.Beginnings.{begins_append, rest_of, AreAmong}
 use Rattle.nz_merge.proofs.Ordering.{in_order_rising, has_in_order}
 use Rattle.nz_merge.proofs.Walk.{IsSettled, walk}
 
 -- ---- counting changes
-
-pub kept_length : {X : Type 0} (p : X → Bool) (xs : List X) → length (filter p xs) ≤ length xs
-kept_length p [] = omega arith
-kept_length p (x ∷ xs) = by_test (p x) x xs (filter p xs) (kept_length p xs)
-  where
-    by_test : {X : Type 0} (b : Bool) (x : X) (xs few : List X) → length few ≤ length xs → length (cond b (x ∷ few) few) ≤ length (x ∷ xs)
-    by_test true x xs few h = omega (arith, h)
-    by_test false x xs few h = omega (arith, h)
 
 -- two tests that are passed by more than there are have one in common
 pub both_pass : {X : Type 0} (p q : X → Bool) (xs : List X) → length (filter p xs) + length (filter q xs) ≤ length xs + length (filter (λ x. p x && q x) xs)
@@ -59,17 +52,6 @@ more_pass p q (x ∷ xs) h = by_tests (p x) (q x) x (filter p xs) (filter q xs) 
     by_tests false false x ps qs k h = h
 
 -- ---- keys of logs
-
-fewer_ids : (xs ys : List Key) (i : Id) → has_id (xs ++ ys) i ≡ false → has_id xs i ≡ false
-fewer_ids xs ys i h =
-    elim (cases_bool (has_id xs i)) [
-      | inr away ↦ away
-      | inl there ↦ clash (has_id (xs ++ ys) i) (any_append (λ k. id_eq i (id_of k)) xs ys ∙ or_left (has_id xs i) (has_id ys i) there) h
-    ]
-
-pub own_front : (xs ys : List Key) → HaveOwnIds (xs ++ ys) → HaveOwnIds xs
-own_front [] ys h = tt
-own_front (x ∷ xs) ys h = (fewer_ids xs ys (id_of x) h.0, own_front xs ys h.1)
 
 -- a key of a log that passes a test is among all keys
 pub among_all : (p : Change → Bool) (changes : List Change) (k : Key) → ((c : Change) → p c ≡ true → has_key (keys_of c.log) k ≡ true) → 0 < length (filter p changes)

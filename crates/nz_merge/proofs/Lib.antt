@@ -1,4 +1,4 @@
-pub mod Lines
+pub mod Beginnings
 pub mod Ordering
 pub mod Walk
 pub mod Fronts

@@ -3,49 +3,16 @@ use Rattle.std.proofs.Common.{◌≡◌, ℕ, Bool, true, false, ◌&&◌, not, 
 use Rattle.std.specs.Prelude.{map, take, drop}
 use Rattle.std.specs.List.{filter, AllByRecursion}
 use Rattle.std.proofs.lemmas.List.{map-append, append-nil, take-append-drop}
+use Rattle.std.proofs.lemmas.Bool.{not-true}
 use Rattle.nz_base.specs.declared.key.Key.{Key}
-use Rattle.nz_base.specs.declared.key.Id.{Id}
 use Rattle.nz_base.specs.declared.key.Entry.{Entry}
-use Rattle.nz_base.specs.Key.{key_below, key_eq, id_eq, id_of}
-use Rattle.nz_base.proofs.Names.{same_key, id_eq_self, same_id}
-use Rattle.nz_merge.specs.Log.{keys_of, has_key, has_id, AreRising, HaveOwnIds, IsLog}
-use Rattle.nz_merge.specs.Merged.{IsFit, greatest, lower, lowest, synced_entries, synced_part, holders, all_keys, is_above_last, is_taken, later, merged_from}
+use Rattle.nz_base.specs.Key.{id_of}
+use Rattle.nz_base.specs.Log.{keys_of, has_id, AreRising, HaveOwnIds, IsLog, is_above_last}
+use Rattle.nz_base.proofs.Booleans.{cases_bool, and_left, and_right}
+use Rattle.nz_base.proofs.Logs.{rising_front, rising_more, own_front, own_more}
+use Rattle.nz_merge.specs.Merged.{IsFit, greatest, lower, lowest, synced_entries, synced_part, holders, all_keys, is_taken, later, merged_from}
 use Rattle.nz_merge.specs.declared.change.Change.{Change}
-use Rattle.nz_merge.proofs.Lines.{cases_bool, or_cases, or_left, or_right, and_left, and_right, clash, any_append, has_first, has_later, has_append, rising_front, above_each}
-use Rattle.nz_merge.proofs.Fronts.{own_front, merged_keys}
-
--- ---- a key behind a log
-
-rising_more : (keys : List Key) (key : Key) → AreRising keys → ((x : Key) → has_key keys x ≡ true → key_below x key ≡ true) → AreRising (keys ++ key ∷ [])
-rising_more [] key r h = (λ x none. absurd cc, tt)
-rising_more (k ∷ keys) key r h = (
-  λ x there. elim (has_append keys (key ∷ []) x there) [
-    | inl early ↦ r.0 x early
-    | inr late ↦ elim (or_cases (key_eq x key) false late) [
-      | inl same ↦ subst (λ (y : Key). key_below k y ≡ true) (sym (same_key x key same)) (h k (has_first k keys))
-      | inr none ↦ absurd cc
-    ]
-  ],
-  rising_more keys key r.1 (λ x there. h x (has_later k keys x there)),
-)
-
--- an id is found either way round
-id_turn : (a b : Id) → id_eq a b ≡ true → id_eq b a ≡ true
-id_turn a b h = subst (λ (i : Id). id_eq i a ≡ true) (same_id a b h) (id_eq_self a)
-
-own_more : (keys : List Key) (key : Key) → HaveOwnIds keys → has_id keys (id_of key) ≡ false → HaveOwnIds (keys ++ key ∷ [])
-own_more [] key own h = (refl, tt)
-own_more (k ∷ keys) key own h =
-    let apart : id_eq (id_of k) (id_of key) ≡ false = elim (cases_bool (id_eq (id_of k) (id_of key))) [
-      | inr away ↦ away
-      | inl same ↦ clash (has_id (k ∷ keys) (id_of key)) (or_left (id_eq (id_of key) (id_of k)) (has_id keys (id_of key)) (id_turn (id_of k) (id_of key) same)) h
-    ] in
-    let rest : has_id keys (id_of key) ≡ false = elim (cases_bool (has_id keys (id_of key))) [
-      | inr away ↦ away
-      | inl there ↦ clash (has_id (k ∷ keys) (id_of key)) (or_right (id_eq (id_of key) (id_of k)) (has_id keys (id_of key)) there) h
-    ] in
-    let new : has_id (keys ++ key ∷ []) (id_of k) ≡ false = any_append (λ x. id_eq (id_of k) (id_of x)) keys (key ∷ []) ∙ (rw (own.0, apart) refl) in
-    (new, own_more keys key own.1 rest)
+use Rattle.nz_merge.proofs.Fronts.{merged_keys}
 
 -- what is taken keeps the keys rising and the ids apart
 pub taken_log : (limit : ℕ) (changes : List Change) (taken candidates : List Key) → AreRising taken → HaveOwnIds taken
@@ -58,15 +25,11 @@ taken_log limit changes taken (k ∷ keys) r own =
       | inl joins ↦
           let tests = and_right (leb limit (length (holders changes k))) (is_above_last taken k && not (has_id taken (id_of k))) joins in
           let above = and_left (is_above_last taken k) (not (has_id taken (id_of k))) tests in
-          let fresh = not_true (has_id taken (id_of k)) (and_right (is_above_last taken k) (not (has_id taken (id_of k))) tests) in
-          let both = taken_log limit changes (taken ++ k ∷ []) keys (rising_more taken k r (λ x h. above_each taken k x r above h)) (own_more taken k own fresh) in
+          let fresh = not-true (has_id taken (id_of k)) (and_right (is_above_last taken k) (not (has_id taken (id_of k))) tests) in
+          let both = taken_log limit changes (taken ++ k ∷ []) keys (rising_more taken k r above) (own_more taken k own fresh) in
           let regroup : (taken ++ k ∷ []) ++ later limit changes (taken ++ k ∷ []) keys ≡ taken ++ k ∷ later limit changes (taken ++ k ∷ []) keys = append_assoc taken (k ∷ []) (later limit changes (taken ++ k ∷ []) keys) in
           rw joins (subst AreRising regroup both.0, subst HaveOwnIds regroup both.1)
     ]
-  where
-    not_true : (a : Bool) → not a ≡ true → a ≡ false
-    not_true true h = absurd cc
-    not_true false h = refl
 
 -- ---- the lowest sender
 

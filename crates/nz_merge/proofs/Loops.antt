@@ -2,11 +2,11 @@
 use Rattle.std.proofs.Common.{◌≡◌, ℕ, suc, ◌+◌, ◌<◌, Bool, true, false, ◌&&◌, cond, eqb, List, ◌∷◌, length, get_or, drop, refl, sym, ap, ◌∙◌, arith, add-one, drop-cons, inl, inr, ltb, Option, Some, None}
 use Rattle.std.proofs.lemmas.Bool.{lt-ltb, le-ltb, ltb-true, ltb-false}
 use Rattle.nz_base.specs.declared.key.Key.{Key}
-use Rattle.nz_merge.specs.Log.{keys_of, has_key}
+use Rattle.nz_base.specs.Log.{keys_of, has_key}
+use Rattle.nz_base.proofs.Booleans.{cases_bool}
 use Rattle.nz_merge.specs.Merged.{of_view, holders, with_synced, lower, lowest}
 use Rattle.nz_merge.specs.Lower.{lower_of}
 use Rattle.nz_merge.specs.declared.change.Change.{Change}
-use Rattle.nz_merge.proofs.Lines.{cases_bool}
 
 pub next_item : (changes : List Change) (i : ℕ) (x : Change) → i < length changes → x ≡ get_or changes i x → drop i changes ≡ x ∷ drop (i + 1) changes
 next_item changes i x lt is = rw add-one (drop-cons changes i x lt ∙ ap (λ (c : Change). c ∷ drop (suc i) changes) (sym is))

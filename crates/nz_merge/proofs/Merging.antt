@@ -5,10 +5,11 @@ use Rattle.std.specs.List.{AllByRecursion}
 use Rattle.nz_base.specs.declared.key.Key.{Key}
 use Rattle.nz_base.specs.declared.key.Entry.{Entry}
 use Rattle.nz_base.specs.Key.{id_eq, id_of}
-use Rattle.nz_merge.specs.Log.{keys_of, has_key, IsLog, begins_with}
-use Rattle.nz_merge.specs.Merged.{IsFit, AreFit, greatest, kept, synced_part, holders, all_keys, is_above_last, later, entry_in, threshold, merged, count_beginning}
+use Rattle.nz_base.specs.Log.{keys_of, has_key, IsLog, is_above_last}
+use Rattle.nz_base.proofs.Booleans.{length-filter_le}
+use Rattle.nz_merge.specs.Merged.{begins_with, IsFit, AreFit, greatest, kept, synced_part, holders, all_keys, later, entry_in, threshold, merged, count_beginning}
 use Rattle.nz_merge.specs.declared.change.Change.{Change}
-use Rattle.nz_merge.proofs.Fronts.{kept_length, begins_longer, begins_with_front, merged_keys}
+use Rattle.nz_merge.proofs.Fronts.{begins_longer, begins_with_front, merged_keys}
 use Rattle.nz_merge.proofs.Logs.{all_filter, merged_log}
 use Rattle.nz_merge.proofs.Entries.{merged_has, merged_entries}
 
@@ -33,7 +34,7 @@ pub front_stays : (f : ℕ) (changes : List Change) (front : List Key) → AreFi
     → (begins_with (keys_of (synced_part (kept changes))) front ≡ true) ⊎ (begins_with front (keys_of (synced_part (kept changes))) ≡ true) → begins_with (keys_of (merged f changes)) front ≡ true
 unfolding merged
 front_stays f changes front fit few enough either =
-    let fewer = kept_length (λ c. eqb c.last (greatest (map (λ d. d.last) changes))) changes in
+    let fewer = length-filter_le (λ c. eqb c.last (greatest (map (λ d. d.last) changes))) changes in
     begins_with_front (threshold f) (kept changes) front (kept_fit IsFit changes fit) (omega arith) (omega (arith, few, fewer)) enough either
 
 pub held_key : (f : ℕ) (changes : List Change) (key : Key) → AreFit changes → threshold f ≤ length (holders (kept changes) key) → is_above_last (keys_of (synced_part (kept changes))) key ≡ true

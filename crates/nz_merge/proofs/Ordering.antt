@@ -2,11 +2,12 @@
 use Rattle.std.proofs.Common.{◌≡◌, true, false, List, [], ◌∷◌, ◌++◌, refl, sym, subst, inl, inr, ◌⊎◌}
 use Rattle.nz_base.specs.declared.key.Key.{Key}
 use Rattle.nz_base.specs.Key.{key_below, key_eq}
+use Rattle.nz_base.specs.Log.{has_key, AreRising}
 use Rattle.nz_base.proofs.Keys.{key_below-trans, key_below-total}
 use Rattle.nz_base.proofs.Names.{key_eq_self, same_key}
-use Rattle.nz_merge.specs.Log.{has_key, AreRising}
+use Rattle.nz_base.proofs.Booleans.{cases_bool, or_cases, or_left, clash}
+use Rattle.nz_base.proofs.Logs.{has_first, has_later}
 use Rattle.nz_merge.specs.Merged.{put_in_order, put_all_in_order, in_order}
-use Rattle.nz_merge.proofs.Lines.{cases_bool, or_cases, or_left, has_first, has_later, clash}
 
 -- by how two keys stand
 put_cases : (P : List Key → Type 0) (key k : Key) (keys : List Key)

@@ -11,11 +11,12 @@ use Rattle.std.proofs.lemmas.Bool.Decides.{nat_tests}
 use Rattle.nz_base.specs.declared.key.Key.{Key}
 use Rattle.nz_base.specs.declared.key.Entry.{Entry}
 use Rattle.nz_base.specs.Key.{key_cmp, key_below, key_eq}
+use Rattle.nz_base.specs.Log.{keys_of, has_key, AreRising}
 use Rattle.nz_base.proofs.Keys.{key_below-self, key_below-trans}
 use Rattle.nz_base.proofs.Names.{key_eq_self, same_key}
-use Rattle.nz_merge.specs.Log.{keys_of, has_key, AreRising}
+use Rattle.nz_base.proofs.Booleans.{cases_bool, or_left, or_right, clash}
+use Rattle.nz_base.proofs.Logs.{has_first}
 use Rattle.nz_merge.specs.Merged.{command_at}
-use Rattle.nz_merge.proofs.Lines.{cases_bool, or_left, or_right, has_first, clash}
 
 pub cmp_less : (a b : Key) → key_below a b ≡ true → key_cmp a b ≡ Less
 cmp_less a b h = is_less (key_cmp a b) h

@@ -1,16 +1,15 @@
 -- A set of keys in their order, and keys that are put into it.
-use Rattle.std.proofs.Common.{◌≡◌, Bool, true, false, List, [], ◌∷◌, ◌++◌, refl, sym, ap, subst, ◌∙◌, drop, length, get_or, ℕ, suc, ◌+◌, ◌<◌, add-one, drop-cons, arith, eqb, ◌-◌, Some, None}
-use Rattle.std.specs.Prelude.{slice_get}
+use Rattle.std.proofs.Common.{◌≡◌, Bool, true, false, List, [], ◌∷◌, ◌++◌, refl, sym, ap, subst, ◌∙◌, drop, length, get_or, ℕ, suc, ◌+◌, ◌<◌, add-one, drop-cons, eqb}
 use Rattle.std.specs.List.{flat_map}
 use Rattle.std.specs.BTreeSet.{insert_key}
 use Rattle.std.specs.declared.cmp.Ordering.{Ordering}
 use Rattle.std.specs.declared.cmp.Ordering.TheVariants.{Less, Equal, Greater}
 use Rattle.nz_base.specs.declared.key.Key.{Key}
 use Rattle.nz_base.specs.declared.key.Entry.{Entry}
-use Rattle.nz_base.specs.Key.{key_cmp, key_below, key_eq}
+use Rattle.nz_base.specs.Key.{key_cmp, key_eq}
+use Rattle.nz_base.specs.Log.{keys_of}
 use Rattle.nz_base.proofs.Names.{key_eq_self, same_key}
-use Rattle.nz_merge.specs.Log.{keys_of}
-use Rattle.nz_merge.specs.Merged.{put_in_order, put_all_in_order, of_view, is_above_last}
+use Rattle.nz_merge.specs.Merged.{put_in_order, put_all_in_order, of_view}
 use Rattle.nz_merge.specs.declared.change.Change.{Change}
 use Rattle.nz_merge.proofs.Ordering.{put_all-append}
 use Rattle.nz_merge.proofs.Loops.{next_item}
@@ -61,19 +60,3 @@ skip_step view before total changes i c lt is other h =
     let whole : put_all_in_order before (flat_map (λ d. keys_of d.log) (of_view view (c ∷ drop (i + 1) changes))) ≡ total =
     ap (λ (xs : List Change). put_all_in_order before (flat_map (λ d. keys_of d.log) (of_view view xs))) (sym (next_item changes i c lt is)) ∙ h in
     rw other at whole
-
--- ---- the last of a log
-
-pub above_none : (log : List Entry) (key : Key) → slice_get log (length log - 1) ≡ None → is_above_last (keys_of log) key ≡ true
-above_none [] key h = refl
-above_none (e ∷ []) key h = absurd cc
-above_none (e ∷ f ∷ log) key h =
-    let last : length (e ∷ f ∷ log) - 1 ≡ suc (length (f ∷ log) - 1) = omega arith in
-    above_none (f ∷ log) key (rw last at h)
-
-pub above_some : (log : List Entry) (key : Key) (last : Entry) → slice_get log (length log - 1) ≡ Some last → is_above_last (keys_of log) key ≡ key_below last.key key
-above_some [] key last h = absurd cc
-above_some (e ∷ []) key last h = let same : e ≡ last = cc in ap (λ (x : Entry). key_below x.key key) same
-above_some (e ∷ f ∷ log) key last h =
-    let place : length (e ∷ f ∷ log) - 1 ≡ suc (length (f ∷ log) - 1) = omega arith in
-    above_some (f ∷ log) key last (rw place at h)

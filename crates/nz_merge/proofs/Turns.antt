@@ -6,10 +6,10 @@ use Rattle.std.proofs.lemmas.List.{map-append, append-nil}
 use Rattle.nz_base.specs.declared.key.Key.{Key}
 use Rattle.nz_base.specs.declared.key.Entry.{Entry}
 use Rattle.nz_base.specs.Key.{id_of}
-use Rattle.nz_merge.specs.Log.{keys_of, has_id}
-use Rattle.nz_merge.specs.Merged.{holders, is_above_last, is_taken, later, entry_in, synced_part, all_keys, merged_from, merged, threshold, greatest, of_view, kept}
+use Rattle.nz_base.specs.Log.{keys_of, has_id, is_above_last}
+use Rattle.nz_base.proofs.Booleans.{and_both}
+use Rattle.nz_merge.specs.Merged.{holders, is_taken, later, entry_in, synced_part, all_keys, merged_from, merged, threshold, greatest, of_view, kept}
 use Rattle.nz_merge.specs.declared.change.Change.{Change}
-use Rattle.nz_merge.proofs.Lines.{and_both}
 
 -- what is taken so far, and what will be
 abbrev pub in_all : ℕ → List Change → List Entry → List Key → List Entry

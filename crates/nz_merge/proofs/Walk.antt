@@ -2,12 +2,14 @@
 use Rattle.std.proofs.Common.{◌≡◌, ℕ, true, false, ◌&&◌, not, List, [], ◌∷◌, ◌++◌, length, leb, refl, sym, ap, subst, ◌∙◌, inl, inr, ◌⊎◌, append_assoc}
 use Rattle.nz_base.specs.declared.key.Key.{Key}
 use Rattle.nz_base.specs.Key.{key_below, key_eq, id_of}
-use Rattle.nz_base.proofs.Keys.{key_below-trans}
+use Rattle.nz_base.specs.Log.{has_key, has_id, AreRising, HaveOwnIds, is_above_last}
+use Rattle.nz_base.proofs.Keys.{key_below-trans, never_both, never_self}
 use Rattle.nz_base.proofs.Names.{same_key}
-use Rattle.nz_merge.specs.Log.{has_key, has_id, AreRising, HaveOwnIds, begins_with}
-use Rattle.nz_merge.specs.Merged.{holders, is_above_last, is_taken, later}
+use Rattle.nz_base.proofs.Booleans.{cases_bool, or_cases, and_left, and_right, and_both, clash}
+use Rattle.nz_base.proofs.Logs.{has_first, has_later, has_append, has_back, front_below, rising_back, rising_front, above_each, above_last, own_id}
+use Rattle.nz_merge.specs.Merged.{begins_with, holders, is_taken, later}
 use Rattle.nz_merge.specs.declared.change.Change.{Change}
-use Rattle.nz_merge.proofs.Lines.{cases_bool, or_cases, and_left, and_right, and_both, clash, has_first, has_later, has_append, has_back, AreAmong, never_both, never_self, front_below, rising_back, rising_front, above_each, above_last, own_id}
+use Rattle.nz_merge.proofs.Beginnings.{AreAmong}
 
 -- what is asked of a list P, where enough is `limit` logs: its keys rise and its ids differ, enough logs
 -- hold each of its keys, and a key that enough hold is in it or above all of it

@@ -2,7 +2,7 @@
 use Rattle.std.specs.Prelude.{Bool, true, not, ◌&&◌, nat_le, List, [], ◌∷◌, length}
 use Rattle.nz_base.specs.declared.key.Key.{Key}
 use Rattle.nz_base.specs.Key.{key_below, id_eq, id_of}
-use Rattle.nz_merge.specs.Log.{keys_of}
+use Rattle.nz_base.specs.Log.{keys_of}
 use Rattle.nz_merge.specs.declared.change.Change.{Change}
 
 -- Whether a key may stand before these.

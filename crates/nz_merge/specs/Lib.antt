@@ -1,4 +1,3 @@
-pub mod Log
 pub mod Merged
 pub mod Sender
 pub mod Lower

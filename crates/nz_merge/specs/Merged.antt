@@ -1,10 +1,11 @@
 -- The log that a new leader makes of the logs that replicas reported.
-use Rattle.std.specs.Prelude.{ℕ, ◌+◌, ◌/◌, ◌≤◌, max, Bool, true, not, ◌&&◌, ◌==◌, nat_le, nat_lt, if◌then◌else◌, List, [], ◌∷◌, ◌++◌, length, map, take, Option, Some, None}
+use Rattle.std.specs.Prelude.{ℕ, ◌+◌, ◌≤◌, max, Bool, true, false, not, ◌&&◌, ◌==◌, nat_le, nat_lt, if◌then◌else◌, List, [], ◌∷◌, ◌++◌, length, map, take, Option, Some, None}
 use Rattle.std.specs.List.{filter, flat_map, AllByRecursion}
 use Rattle.nz_base.specs.declared.key.Key.{Key}
 use Rattle.nz_base.specs.declared.key.Entry.{Entry}
+use Rattle.nz_base.specs.Cluster.{half_up}
 use Rattle.nz_base.specs.Key.{key_below, key_eq, id_of}
-use Rattle.nz_merge.specs.Log.{keys_of, has_key, has_id, IsLog, begins_with}
+use Rattle.nz_base.specs.Log.{keys_of, has_key, has_id, IsLog, is_above_last}
 use Rattle.nz_merge.specs.declared.change.Change.{Change}
 
 -- What a replica may report: its log is a log, and it has the entries that it calls synced.
@@ -73,12 +74,6 @@ in_order keys = put_all_in_order [] keys
 abbrev pub all_keys : List Change → List Key
 all_keys changes = in_order (flat_map (λ c. keys_of c.log) changes)
 
--- Whether a key is above the last of a list.
-abbrev pub is_above_last : List Key → Key → Bool
-is_above_last [] key = true
-is_above_last (k ∷ []) key = key_below k key
-is_above_last (k ∷ l ∷ keys) key = is_above_last (l ∷ keys) key
-
 -- Whether a key is taken behind those that were taken: enough logs hold it, it is above the last of
 -- them, and its id is not among theirs.
 abbrev pub is_taken : ℕ → List Change → List Key → Key → Bool
@@ -114,10 +109,16 @@ merged_from limit changes =
 
 -- A key is taken where one more than half of f, rounded up, hold it.
 abbrev pub threshold : ℕ → ℕ
-threshold f = (f + 1) / 2 + 1
+threshold f = half_up f + 1
 
 unfoldable pub merged : ℕ → List Change → List Entry
 merged f changes = merged_from (threshold f) (kept changes)
+
+-- Whether one list of keys begins with another.
+abbrev pub begins_with : List Key → List Key → Bool
+begins_with keys [] = true
+begins_with [] (f ∷ front) = false
+begins_with (k ∷ keys) (f ∷ front) = key_eq f k && begins_with keys front
 
 -- How many of the logs begin with these keys.
 abbrev pub count_beginning : List Key → List Change → ℕ

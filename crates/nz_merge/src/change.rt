@@ -1,6 +1,6 @@
 ghost use Rattle.std.specs.Prelude.{◌≡◌, [], ◌∷◌, ◌++◌, ◌↔◌, IsTrue, IsFalse, OnOk, OnErr};
+ghost use Rattle.nz_base.specs.Log.{keys_of};
 ghost use Rattle.nz_merge.specs.Fit.{comes_first as first_of, are_log, are_fit};
-ghost use Rattle.nz_merge.specs.Log.{keys_of};
 ghost use Rattle.nz_merge.specs.Merged.{AreFit};
 ghost use Rattle.nz_merge.specs.Sender.{has_sender};
 

@@ -5,9 +5,9 @@ ghost use Rattle.std.specs.List.{AllByRecursion};
 ghost use Rattle.nz_base.specs.declared.key.Key.{Key as AKey};
 ghost use Rattle.nz_base.specs.declared.key.Entry.{Entry as AnEntry};
 ghost use Rattle.nz_base.specs.Key.{id_eq, id_of};
+ghost use Rattle.nz_base.specs.Log.{keys_of, has_key, IsLog, is_above_last};
 ghost use Rattle.nz_merge.specs.declared.change.Change.{Change as AChange};
-ghost use Rattle.nz_merge.specs.Log.{keys_of, has_key, IsLog, begins_with};
-ghost use Rattle.nz_merge.specs.Merged.{AreFit, kept, synced_part, holders, is_above_last, threshold, merged, count_beginning};
+ghost use Rattle.nz_merge.specs.Merged.{AreFit, kept, synced_part, holders, threshold, merged, begins_with, count_beginning};
 
 /// The merged log is a log.
 pub fn merged_is_log()

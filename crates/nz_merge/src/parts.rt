@@ -3,9 +3,9 @@
 ghost use Rattle.std.specs.Prelude.{◌≡◌, ◌+◌, ◌≤◌, ◌<◌, ◌&&◌, ◌==◌, not, length, map, IfOk, OnOk, IfSome, is_some, IsFalse, IsTrue, slice_get, Some, drop};
 ghost use Rattle.std.specs.Option.{option_copied};
 ghost use Rattle.nz_base.specs.Key.{id_of};
+ghost use Rattle.nz_base.specs.Log.{keys_of, has_key, has_id, AreRising, is_above_last};
 ghost use Rattle.nz_merge.specs.Lower.{lower_of};
-ghost use Rattle.nz_merge.specs.Log.{keys_of, has_key, has_id, AreRising};
-ghost use Rattle.nz_merge.specs.Merged.{AreFit, command_at, put_all_in_order, IsFit, greatest, of_view, lowest, with_synced, synced_part, holders, all_keys, is_above_last, entry_in};
+ghost use Rattle.nz_merge.specs.Merged.{AreFit, command_at, put_all_in_order, IsFit, greatest, of_view, lowest, with_synced, synced_part, holders, all_keys, entry_in};
 
 use super::change::Change;
 use nz_base::{Blob, Entry, EntryList, Id, Key, List, NoMemory, TryCopy};

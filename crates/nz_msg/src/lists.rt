@@ -1,11 +1,11 @@
 //! Reading of lists, whose count stands before them.
 
-ghost use Rattle.std.specs.Prelude.{◌≡◌, ◌<◌, ◌≤◌, [], ◌&&◌, not, take, IfOk};
+ghost use Rattle.std.specs.Prelude.{◌≡◌, ◌<◌, ◌≤◌, ◌/◌, [], ◌&&◌, not, take, length, min, IfOk};
 ghost use Rattle.std.specs.List.{list_all};
 ghost use Rattle.nz_base.specs.Key.{key_below, id_of, id_eq};
 ghost use Rattle.nz_cv.specs.Vectors.{IsClusterSize};
 ghost use Rattle.nz_msg.specs.Codec.{items_at, limited, number};
-ghost use Rattle.nz_msg.specs.Fields.{u32, id, is_cluster_size, vector, may_follow as may_follow_by, next_key_by, next_key, next_entry, ids, keys, entries};
+ghost use Rattle.nz_msg.specs.Fields.{u32, id, is_cluster_size as is_cluster_size_test, vector, may_follow as may_follow_by, next_key_by, next_key, next_entry, ids, keys, entries};
 ghost use Rattle.nz_msg.specs.Reading.{Gives};
 
 use super::fault::Fault;
@@ -20,13 +20,41 @@ const MOST: usize = 9;
 /// The most ids or keys that a message has, and the most entries that answer a fetch.
 pub const MAX_KEYS: u8 = 64;
 
+/// The fewest bytes of an id, a key and an entry: its key, the length of its command, and one byte.
+const ID_SIZE: u8 = 8;
+
+const KEY_SIZE: u8 = 16;
+
+const ENTRY_SIZE: u8 = 19;
+
+// How many items a list takes room for: as many as are counted, but no more than the bytes can hold,
+// each at least so large. So a count alone takes no memory.
+fn room_for(count: u32, size: u8, bytes: &[u8]) -> u32
+    requires { 0 < size }
+    ensures { result ≡ min count (length bytes.now / size) }
+{
+    let most = bytes.len() / usize::from(size);
+    if most < count as usize {
+        most as u32
+    } else {
+        count
+    }
+}
+
+/// Whether a cluster has so many replicas.
+pub fn is_cluster_size(size: usize) -> bool
+    ensures { result ≡ is_cluster_size_test size }
+{
+    matches!(size, 3 | 5 | 7 | 9)
+}
+
 #[tactic(auto, unfolding(crate::specs::Codec::limited_at))]
 fn size_at(bytes: &[u8]) -> Result<(u8, &[u8]), Fault>
-    ensures size { Gives (λ x. (x.0, x.1.now)) result ((limited is_cluster_size (number 1)).get bytes.now) }
+    ensures size { Gives (λ x. (x.0, x.1.now)) result ((limited is_cluster_size_test (number 1)).get bytes.now) }
     ensures cluster { IfOk result (λ x. IsClusterSize x.0) }
 {
     let (size, rest) = u8_at(bytes)?;
-    if !matches!(size, 3 | 5 | 7 | 9) {
+    if !is_cluster_size(usize::from(size)) {
         return Err(Fault::at(bytes));
     }
     Ok((size, rest))
@@ -60,7 +88,7 @@ pub fn vector_at(bytes: &[u8]) -> Result<(CrashVector, &[u8]), Fault>
 fn list_of_ids(alloc: Global, count: u32, bytes: &[u8]) -> Result<(IdList, &[u8]), Fault>
     ensures { Gives (λ x. (x.0, x.1.now)) result (items_at (λ _. id) [] count bytes.now) }
 {
-    let mut ids = IdList::new(alloc);
+    let mut ids = IdList::with_capacity(alloc, room_for(count, ID_SIZE, bytes))?;
     let mut rest = bytes;
     for _ in 0..count {
         let (id, after) = id_at(rest)?;
@@ -133,7 +161,7 @@ fn next_entry_at<'a>(
 fn list_of_keys(alloc: Global, count: u32, bytes: &[u8]) -> Result<(KeyList, &[u8]), Fault>
     ensures { Gives (λ x. (x.0, x.1.now)) result (items_at next_key [] count bytes.now) }
 {
-    let mut keys = KeyList::new(alloc);
+    let mut keys = KeyList::with_capacity(alloc, room_for(count, KEY_SIZE, bytes))?;
     let mut rest = bytes;
     for _ in 0..count {
         let (key, after) = next_key_at(keys.as_slice(), rest)?;
@@ -153,7 +181,7 @@ pub fn keys_at(alloc: Global, bytes: &[u8]) -> Result<(KeyList, &[u8]), Fault>
 fn list_of_entries(alloc: Global, count: u32, bytes: &[u8]) -> Result<(EntryList, &[u8]), Fault>
     ensures { Gives (λ x. (x.0, x.1.now)) result (items_at next_entry [] count bytes.now) }
 {
-    let mut entries = EntryList::new(alloc);
+    let mut entries = EntryList::with_capacity(alloc, room_for(count, ENTRY_SIZE, bytes))?;
     let mut rest = bytes;
     for _ in 0..count {
         let (entry, after) = next_entry_at(alloc, entries.as_slice(), rest)?;

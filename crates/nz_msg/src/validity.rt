@@ -2,11 +2,11 @@
 
 ghost use Rattle.std.specs.Prelude.{◌↔◌, ◌≡◌, IsTrue, []};
 ghost use Rattle.nz_msg.specs.Codec.{optional, ItemsFit};
-ghost use Rattle.nz_msg.specs.Fields.{view, deadline, id, command, digest, is_cluster_size as is_cluster_size_test, vector, answer, key, next_key, next_entry, ids, keys, entries};
+ghost use Rattle.nz_msg.specs.Fields.{view, deadline, id, command, digest, vector, answer, key, next_key, next_entry, ids, keys, entries};
 ghost use Rattle.nz_msg.specs.Messages.{request, timed, fast_reply, slow_reply, client_answer, log_mod, fetch, fetch_reply, sync_report, view_change, start_view, vector_tell, vector_ask, rejoin_tell, state_ask, state_tell};
 
 use super::bodies::{MAX_ENTRIES, MAX_FETCHED};
-use super::lists::{MAX_KEYS, may_follow, may_follow_entries};
+use super::lists::{MAX_KEYS, is_cluster_size, may_follow, may_follow_entries};
 use super::message::{
     AnswerBody, FastReplyBody, FetchBody, FetchReplyBody, LogModBody, Message, RejoinTellBody,
     RequestBody, SlowReplyBody, StartViewBody, StateAskBody, StateTellBody, SyncReportBody,
@@ -50,12 +50,6 @@ fn is_digest(d: &Digest) -> bool
     ensures { IsTrue result ↔ digest.fits d.now }
 {
     d.as_bytes().len() == 20
-}
-
-fn is_cluster_size(size: usize) -> bool
-    ensures { result ≡ is_cluster_size_test size }
-{
-    matches!(size, 3 | 5 | 7 | 9)
 }
 
 fn are_counters(counters: &[u32]) -> bool

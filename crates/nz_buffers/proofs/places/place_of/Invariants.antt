@@ -1,5 +1,5 @@
 use Rattle.std.proofs.Common.{◌≡◌, false, take}
-use Rattle.nz_buffers.specs.Log.{keys_of, has_id}
+use Rattle.nz_base.specs.Log.{keys_of, has_id}
 use Rattle.nz_buffers.proofs.places.place_of.Given as goal
 
 -- none so far has the id

@@ -1,4 +1,4 @@
-use Rattle.nz_log.proofs.Lists.{log_push}
+use Rattle.nz_base.proofs.Logs.{log_push}
 use Rattle.nz_log.proofs.laws.appended_is_log.Goals as goal
 
 pub returns : goal.returns

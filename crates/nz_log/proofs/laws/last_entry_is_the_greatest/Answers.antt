@@ -1,4 +1,4 @@
-use Rattle.nz_log.proofs.Lists.{above_none, above_some}
+use Rattle.nz_base.proofs.Logs.{above_none, above_some}
 use Rattle.nz_log.proofs.laws.last_entry_is_the_greatest.Goals as goal
 
 pub returns : goal.returns

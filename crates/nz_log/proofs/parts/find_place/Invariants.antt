@@ -1,5 +1,5 @@
 use Rattle.std.proofs.Common.{◌≡◌, false, take}
-use Rattle.nz_log.specs.Log.{keys_of, has_id}
+use Rattle.nz_base.specs.Log.{keys_of, has_id}
 use Rattle.nz_log.proofs.parts.find_place.Given as goal
 
 -- none so far has the id

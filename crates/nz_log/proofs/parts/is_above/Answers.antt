@@ -1,5 +1,5 @@
 use Rattle.std.proofs.Common.{sym, ◌∙◌}
-use Rattle.nz_log.proofs.Lists.{above_none, above_some}
+use Rattle.nz_base.proofs.Logs.{above_none, above_some}
 use Rattle.nz_log.proofs.parts.is_above.Goals as goal
 
 pub returns-in-Some : goal.returns-in-Some

@@ -1,5 +1,5 @@
 use Rattle.std.proofs.Common.{◌≡◌, drop}
-use Rattle.nz_merge.specs.Log.{keys_of}
+use Rattle.nz_base.specs.Log.{keys_of}
 use Rattle.nz_merge.specs.Fit.{comes_first}
 use Rattle.nz_merge.proofs.change.comes_first.Given as goal
 

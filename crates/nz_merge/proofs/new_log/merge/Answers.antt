@@ -1,13 +1,12 @@
 use Rattle.std.proofs.Common.{◌≡◌, ◌&&◌, not, subst, List, ◌∙◌, arith}
 use Rattle.std.proofs.lemmas.Map.Iter.{rest_more, rest_all}
 use Rattle.std.specs.Map.Iter.{deref}
-use Rattle.nz_merge.specs.Merged.{is_above_last}
-use Rattle.nz_merge.specs.Log.{keys_of, has_id}
+use Rattle.nz_base.specs.Log.{is_above_last, keys_of, has_id}
 use Rattle.nz_base.specs.Key.{id_of}
 use Rattle.nz_base.specs.declared.key.Entry.{Entry}
 use Rattle.nz_merge.proofs.Turns.{start, taken, left_few, left_other, ended, same_merge}
-use Rattle.nz_merge.proofs.new_log.merge.Goals as goal
 use Rattle.nz_merge.proofs.new_log.merge.Goals.{else-count_holders-least-via-then-count_holders-least+else-may_follow, else-count_holders-least-via-else-count_holders-least}
+use Rattle.nz_merge.proofs.new_log.merge.Goals as goal
 
 pub loop-key-init : goal.loop-key-init
 loop-key-init c = start _ _ _ c.in_ok-keys.keys.keys _ c.in_ok-log.ensures c.into_iter-key-iterator.ensures.into_iter_gives.0 c.in_ok-keys.ensures

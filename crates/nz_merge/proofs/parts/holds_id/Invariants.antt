@@ -1,5 +1,5 @@
 use Rattle.std.proofs.Common.{◌≡◌, drop}
-use Rattle.nz_merge.specs.Log.{keys_of, has_id}
+use Rattle.nz_base.specs.Log.{keys_of, has_id}
 use Rattle.nz_merge.proofs.parts.holds_id.Given as goal
 
 abbrev pub invariant-loop-entry : goal.invariant-loop-entry

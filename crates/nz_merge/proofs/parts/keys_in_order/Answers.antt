@@ -2,11 +2,11 @@ use Rattle.std.proofs.Common.{◌≡◌, ap, sym, ◌∙◌, subst, drop, BTreeS
 use Rattle.std.proofs.lemmas.Bool.{eq-eqb, ne_eqb}
 use Rattle.std.specs.List.{flat_map}
 use Rattle.nz_base.specs.declared.key.Key.{Key}
-use Rattle.nz_merge.specs.Log.{keys_of}
+use Rattle.nz_base.specs.Log.{keys_of}
 use Rattle.nz_merge.specs.Merged.{put_all_in_order, of_view, all_keys}
 use Rattle.nz_merge.proofs.Sets.{log_step, skip_step}
-use Rattle.nz_merge.proofs.parts.keys_in_order.Goals as goal
 use Rattle.nz_merge.proofs.parts.keys_in_order.Goals.{then-change-view+in_ok-put_keys, else-change-view}
+use Rattle.nz_merge.proofs.parts.keys_in_order.Goals as goal
 
 pub loop-change-preserved : goal.loop-change-preserved
 loop-change-preserved c =

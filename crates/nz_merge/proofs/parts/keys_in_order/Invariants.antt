@@ -1,6 +1,6 @@
 use Rattle.std.proofs.Common.{◌≡◌, drop}
 use Rattle.std.specs.List.{flat_map}
-use Rattle.nz_merge.specs.Log.{keys_of}
+use Rattle.nz_base.specs.Log.{keys_of}
 use Rattle.nz_merge.specs.Merged.{of_view, all_keys, put_all_in_order}
 use Rattle.nz_merge.proofs.parts.keys_in_order.Given as goal
 

@@ -1,5 +1,5 @@
 use Rattle.std.proofs.Common.{◌≡◌, drop}
-use Rattle.nz_merge.specs.Log.{keys_of}
+use Rattle.nz_base.specs.Log.{keys_of}
 use Rattle.nz_merge.specs.Merged.{put_all_in_order}
 use Rattle.nz_merge.proofs.parts.put_keys.Given as goal
 

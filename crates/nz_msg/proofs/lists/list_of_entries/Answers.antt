@@ -9,7 +9,7 @@ use Rattle.nz_msg.proofs.lists.list_of_entries.Goals as goal
 
 pub returns-in_err-entry : goal.returns-in_err-entry
 returns-in_err-entry c =
-    let p = err_from_is_err_and c.from_residual.result c.from_residual.ensures.1 in
+    let p = err_from_is_err_and c.from_residual-in_err-entry.result c.from_residual-in_err-entry.ensures.1 in
     rw (p.1, p.2) (ends next_entry c.in_err-entry.field-0.0 c.loop.entries c.args.count c.loop.counter c.loop.rest.now (items_at next_entry [] c.args.count c.args.bytes.now) c.loop-test.true (subst (λ (before : List Entry). Fails c.in_err-entry.field-0.0 ((next_entry before).get c.loop.rest.now)) c.as_slice.ensures c.in_err-entry.ensures) c.loop.invariant)
 
 pub loop-preserved : goal.loop-preserved

@@ -9,7 +9,7 @@ use Rattle.nz_msg.proofs.lists.list_of_keys.Goals as goal
 
 pub returns-in_err-key : goal.returns-in_err-key
 returns-in_err-key c =
-    let p = err_from_is_err_and c.from_residual.result c.from_residual.ensures.1 in
+    let p = err_from_is_err_and c.from_residual-in_err-key.result c.from_residual-in_err-key.ensures.1 in
     rw (p.1, p.2) (ends next_key c.in_err-key.field-0.0 c.loop.keys c.args.count c.loop.counter c.loop.rest.now (items_at next_key [] c.args.count c.args.bytes.now) c.loop-test.true (subst (λ (before : List Key). Fails c.in_err-key.field-0.0 ((next_key before).get c.loop.rest.now)) c.as_slice.ensures c.in_err-key.ensures) c.loop.invariant)
 
 pub loop-preserved : goal.loop-preserved

@@ -1,7 +1,7 @@
 use Rattle.std.proofs.Common.{◌≡◌, false, List, sym, subst}
 use Rattle.nz_base.specs.declared.key.Entry.{Entry}
 use Rattle.nz_base.specs.Key.{id_of}
-use Rattle.nz_buffers.specs.Log.{keys_of, has_id, IsLog}
+use Rattle.nz_base.specs.Log.{keys_of, has_id, IsLog}
 use Rattle.nz_buffers.proofs.Inserting.{log_insert}
 use Rattle.nz_buffers.proofs.early.Early.offer.Goals as goal
 

@@ -1,6 +1,6 @@
 use Rattle.std.proofs.Common.{sym, subst}
-use Rattle.nz_buffers.specs.Log.{IsLog}
-use Rattle.nz_buffers.proofs.Removing.{log_filter}
+use Rattle.nz_base.specs.Log.{IsLog}
+use Rattle.nz_base.proofs.Logs.{log_filter}
 use Rattle.nz_buffers.proofs.early.Early.remove.Goals as goal
 
 pub invariant_of-self : goal.invariant_of-self

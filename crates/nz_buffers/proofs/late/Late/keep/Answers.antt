@@ -1,8 +1,8 @@
 use Rattle.std.proofs.Common.{◌≡◌, false, List, sym, subst}
 use Rattle.nz_base.specs.declared.key.Entry.{Entry}
 use Rattle.nz_base.specs.Key.{id_of}
-use Rattle.nz_buffers.specs.Log.{keys_of, has_id, HaveOwnIds}
-use Rattle.nz_buffers.proofs.Inserting.{own_push}
+use Rattle.nz_base.specs.Log.{keys_of, has_id, HaveOwnIds}
+use Rattle.nz_base.proofs.Logs.{own_push}
 use Rattle.nz_buffers.proofs.late.Late.keep.Goals as goal
 
 pub invariant_of-self-2 : goal.invariant_of-self-2

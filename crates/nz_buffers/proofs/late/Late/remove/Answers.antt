@@ -1,7 +1,7 @@
 use Rattle.std.proofs.Common.{List, sym, subst}
 use Rattle.nz_base.specs.declared.key.Entry.{Entry}
-use Rattle.nz_buffers.specs.Log.{keys_of, HaveOwnIds}
-use Rattle.nz_buffers.proofs.Removing.{own_filter}
+use Rattle.nz_base.specs.Log.{keys_of, HaveOwnIds}
+use Rattle.nz_base.proofs.Logs.{own_filter}
 use Rattle.nz_buffers.proofs.late.Late.remove.Goals as goal
 
 pub invariant_of-self : goal.invariant_of-self

@@ -1,7 +1,7 @@
 use Rattle.std.proofs.Common.{◌≡◌, ◌+◌, ◌<◌, true, false, List, length, sym, subst}
 use Rattle.nz_base.specs.declared.key.Entry.{Entry}
 use Rattle.nz_base.specs.Key.{id_of}
-use Rattle.nz_log.specs.Log.{keys_of, has_id, is_above_last}
+use Rattle.nz_base.specs.Log.{keys_of, has_id, is_above_last}
 use Rattle.nz_log.specs.Synced.{IsSound, Log, synced_part}
 use Rattle.nz_log.proofs.Modifying.{modified_sound}
 use Rattle.nz_log.proofs.log.HashedLog.modify.Goals as goal

@@ -1,6 +1,6 @@
 use Rattle.std.proofs.Common.{◌≡◌, false, List, refl, sym, ap, subst, ◌∙◌}
 use Rattle.nz_base.specs.declared.key.Entry.{Entry}
-use Rattle.nz_log.specs.Log.{keys_of, has_id}
+use Rattle.nz_base.specs.Log.{keys_of, has_id}
 use Rattle.nz_log.specs.Places.{IsFirstPlace}
 use Rattle.nz_log.specs.Synced.{Log}
 use Rattle.nz_log.proofs.Placing.{first_place, held_at, place_none}
