@@ -46,7 +46,8 @@ impl ReplicaSet {
 
     /// How many members there are.
     pub fn count(&self) -> u8
-        ensures { result ≡ length self.now }
+        ensures size { result ≡ length self.now }
+        ensures numbers { IsChoice 9 self.now }
     {
         let mut count = 0;
         for r in 0..9 {

@@ -22,4 +22,4 @@ pub returns : goal.returns
 returns c =
     let all : c.loop-r.r ≡ 9 = omega arith in
     let choice = c.loop-r.invariant.1 (omega arith) in
-    c.loop-r.invariant.0 ∙ (rw all (count_choice 9 c.args.self.now choice))
+    record { size = c.loop-r.invariant.0 ∙ (rw all (count_choice 9 c.args.self.now choice)); numbers = choice }
