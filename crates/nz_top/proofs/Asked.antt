@@ -41,11 +41,17 @@ RequestSent E (Client c) b = WasSent E (id_at c b.num) b.command
 RequestSent E (Replica r) b = Unit {0}
 RequestSent E (Proxy p) b = Unit {0}
 
+abbrev pub IsOfProxy : Actor → Type 0
+IsOfProxy (Proxy p) = Unit {0}
+IsOfProxy (Replica r) = ⊥
+IsOfProxy (Client c) = ⊥
+
+-- an answer is a proxy's, and a command was sent by its client
 abbrev pub MessageSent : List Told → Actor → Message → Type 0
 MessageSent E from (Asked b) = RequestSent E from b
 MessageSent E from (Timed b) = WasSent E b.id b.command
 MessageSent E from (FastReply b) = Unit {0}
-MessageSent E from (Answered b) = Unit {0}
+MessageSent E from (Answered b) = IsOfProxy from
 
 abbrev pub EntriesSent : List Told → List Entry → Type 0
 EntriesSent E es = AllByRecursion (λ (e : Entry). WasSent E (entry_id e) e.command) es
@@ -68,7 +74,7 @@ pub message_later : (E more : List Told) (from : Actor) (m : Message) → Messag
 message_later E more from (Asked b) h = request_later E more from b h
 message_later E more from (Timed b) h = has-left E more (Sent b.id b.command) h
 message_later E more from (FastReply b) h = tt
-message_later E more from (Answered b) h = tt
+message_later E more from (Answered b) h = h
 
 entries_later : (E more : List Told) (es : List Entry) → EntriesSent E es → EntriesSent (E ++ more) es
 entries_later E more es h = all-weaker (λ (e : Entry). WasSent E (entry_id e) e.command) (λ (e : Entry). WasSent (E ++ more) (entry_id e) e.command) (λ e q. has-left E more (Sent (entry_id e) e.command) q) es h
@@ -134,30 +140,30 @@ replies_sent E me log (Answered b) h = absurd h
 
 -- ---- proxies
 
-request_at_sent : (E : List Told) (a : Actor) (s : ProxyData) (id : Id) (command : List ℕ) (o : Option Tally) → WasSent E id command → AllSent E a (request_at s id command o).1
-request_at_sent E a s id command None p = (p, (p, (p, tt)))
-request_at_sent E a s id command (Some (Open noted)) p = (p, (p, (p, tt)))
-request_at_sent E a s id command (Some (Decided x)) p = (tt, tt)
+request_at_sent : (E : List Told) (q : ℕ) (s : ProxyData) (id : Id) (command : List ℕ) (o : Option Tally) → WasSent E id command → AllSent E (Proxy q) (request_at s id command o).1
+request_at_sent E q s id command None p = (p, (p, (p, tt)))
+request_at_sent E q s id command (Some (Open noted)) p = (p, (p, (p, tt)))
+request_at_sent E q s id command (Some (Decided x)) p = (tt, tt)
 
-decided_sent : (E : List Told) (a : Actor) (s : ProxyData) (id : Id) (noted : List Noted) (o : Option Answer) → AllSent E a (decided_at s id noted o).1
-decided_sent E a s id noted None = tt
-decided_sent E a s id noted (Some x) = (tt, tt)
+decided_sent : (E : List Told) (q : ℕ) (s : ProxyData) (id : Id) (noted : List Noted) (o : Option Answer) → AllSent E (Proxy q) (decided_at s id noted o).1
+decided_sent E q s id noted None = tt
+decided_sent E q s id noted (Some x) = (tt, tt)
 
-noted_sent : (E : List Told) (a : Actor) (s : ProxyData) (id : Id) (o : Option (List Noted)) → AllSent E a (noted_at s id o).1
-noted_sent E a s id None = tt
-noted_sent E a s id (Some noted) = decided_sent E a s id noted (decision noted)
+noted_sent : (E : List Told) (q : ℕ) (s : ProxyData) (id : Id) (o : Option (List Noted)) → AllSent E (Proxy q) (noted_at s id o).1
+noted_sent E q s id None = tt
+noted_sent E q s id (Some noted) = decided_sent E q s id noted (decision noted)
 
-proxy_message_sent : (E : List Told) (a : Actor) (s : ProxyData) (from : Actor) (m : Message) → MessageSent E from m → AllSent E a (proxy_message s from m).1
+proxy_message_sent : (E : List Told) (q : ℕ) (s : ProxyData) (from : Actor) (m : Message) → MessageSent E from m → AllSent E (Proxy q) (proxy_message s from m).1
 unfolding stamp_rule reply_rule
-proxy_message_sent E a s (Client c) (Asked b) p = request_at_sent E a s (record { client = c; num = b.num }) b.command (tally_in s (record { client = c; num = b.num })) p
-proxy_message_sent E a s (Replica r) (FastReply b) p =
-    on_cond (λ (t : ProxyData × List Out). AllSent E a t.1) (nat_lt r 3) (reply_rule s r b) (s, []) (λ _. noted_sent E a (record s { samples = sampled s.samples r b.delay }) b.id (open_with (note_of r b) (tally_in s b.id))) (λ _. tt)
-proxy_message_sent E a s _ _ p = tt
+proxy_message_sent E q s (Client c) (Asked b) p = request_at_sent E q s (record { client = c; num = b.num }) b.command (tally_in s (record { client = c; num = b.num })) p
+proxy_message_sent E q s (Replica r) (FastReply b) p =
+    on_cond (λ (t : ProxyData × List Out). AllSent E (Proxy q) t.1) (nat_lt r 3) (reply_rule s r b) (s, []) (λ _. noted_sent E q (record s { samples = sampled s.samples r b.delay }) b.id (open_with (note_of r b) (tally_in s b.id))) (λ _. tt)
+proxy_message_sent E q s _ _ p = tt
 
 proxy_event_sent : (E : List Told) (g : Group) (q : ℕ) (s : ProxyData) (e : Event) → EventSent E e → AllSent E (Proxy q) (event_step g (Proxy q) s e).1
 unfolding clock_rule
 proxy_event_sent E g q s (Deliver p) h =
-    on_cond (λ (t : ProxyData × List Out). AllSent E (Proxy q) t.1) (is_for (Proxy q) p) (proxy_message s p.from p.message) (s, []) (λ _. proxy_message_sent E (Proxy q) s p.from p.message h) (λ _. tt)
+    on_cond (λ (t : ProxyData × List Out). AllSent E (Proxy q) t.1) (is_for (Proxy q) p) (proxy_message s p.from p.message) (s, []) (λ _. proxy_message_sent E q s p.from p.message h) (λ _. tt)
 proxy_event_sent E g q s (Tick clock) h = tt
 
 -- ---- clients

@@ -46,11 +46,11 @@ due_is : (b : Bool) (request r : Request) → cond b (Some request) None ≡ Som
 due_is true request r e = same_Some request r e
 due_is false request r e = absurd (none-some r e)
 
-if_due_is : (ticks : ℕ) (o : Option Request) (r : Request) → if_due ticks o ≡ Some r → o ≡ Some r
+pub if_due_is : (ticks : ℕ) (o : Option Request) (r : Request) → if_due ticks o ≡ Some r → o ≡ Some r
 if_due_is ticks None r e = absurd (none-some r e)
 if_due_is ticks (Some request) r e = ap Some (due_is (nat_le request.wait ticks) request r e)
 
-own_command : (script : List Request) (num place : ℕ) (r : Request) → place ≡ num - 1 → slice_get script place ≡ Some r → r.command ≡ command_at script num
+pub own_command : (script : List Request) (num place : ℕ) (r : Request) → place ≡ num - 1 → slice_get script place ≡ Some r → r.command ≡ command_at script num
 own_command script num place r e at = sym (ap (λ (k : ℕ). command_of_request (slice_get script k)) (sym e) ∙ ap command_of_request at)
 
 opened_turns : (proxies me : ℕ) (script : List Request) (s : ClientData) (o : Option Request) → if_due s.ticks (slice_get script s.sent) ≡ o → Turns script s (opened proxies me s o)

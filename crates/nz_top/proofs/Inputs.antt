@@ -1,5 +1,5 @@
 -- The input is what was read, and a call has one word.
-use Rattle.std.proofs.Common.{◌≡◌, ◌<◌, ◌≤◌, ◌⊎◌, inl, inr, ℕ, List, [], ◌∷◌, ◌++◌, length, get_or, Option, Some, None, sym, ap, subst, ◌∙◌, arith, append-nil, take_all}
+use Rattle.std.proofs.Common.{◌≡◌, ◌<◌, ◌≤◌, ◌⊎◌, inl, inr, ℕ, List, [], ◌∷◌, ◌++◌, length, get_or, Option, Some, None, refl, sym, ap, subst, ◌∙◌, arith, append-nil, take_all}
 use Rattle.std.specs.Prelude.{IfSome, IfNone}
 use Rattle.std.proofs.lemmas.List.{take_at}
 use Rattle.std.proofs.lemmas.Bool.{cases_lt}
@@ -7,6 +7,7 @@ use Rattle.std.proofs.lemmas.Option.{none-some, same_Some}
 use Rattle.nz_edge.specs.Told.{Loses}
 use Rattle.nz_base.specs.declared.scenario.Scenario.{Scenario}
 use Rattle.nz_top.specs.Plain.{IsPlain}
+use Rattle.nz_top.specs.Plays.{IsPlainRun}
 use Rattle.nz_top.specs.Moves.{most_input, input}
 use Rattle.nz_top.specs.Calls.{ReadsAs, IsReadable, IsRefused}
 
@@ -34,6 +35,14 @@ pub none_is_input : (before : Option (List ℕ)) (bytes : List ℕ) (found : Opt
 none_is_input before bytes (Some s) h f = tt
 none_is_input None bytes None h f = tt
 none_is_input (Some all) bytes None h f = λ s p. f s (subst (λ (b : List ℕ). IsPlain b s) (sym h) p)
+
+plain_run : (bytes : List ℕ) (s : Scenario) → IsPlain bytes s → IsPlainRun s
+plain_run bytes s h = subst IsPlainRun (sym h.meaning) (record { ticks = h.few_ticks; group = record { proxies = refl; scripts = refl } })
+
+-- what is read is played
+pub found_is_plain : (bytes : List ℕ) (found : Option Scenario) → IfSome found (IsPlain bytes) → IfSome found IsPlainRun
+found_is_plain bytes None f = tt
+found_is_plain bytes (Some s) f = plain_run bytes s f
 
 pub only_word : (words : List (List ℕ)) (word d : List ℕ) → length words ≡ 1 → get_or words 0 d ≡ word → words ≡ word ∷ []
 only_word [] word d one is = absurd (omega (arith, one))

@@ -25,3 +25,11 @@ pub mod OneHistory
 pub mod Accepting
 pub mod UpTo
 pub mod Inputs
+pub mod Casts
+pub mod Playing
+pub mod Ticking
+pub mod Journals
+pub mod Progressing
+pub mod OpenLines
+pub mod Printing
+pub mod Addressed

@@ -1,5 +1,5 @@
 -- With one client the history is the leader's log up to the last entry that the client has accepted.
-use Rattle.std.proofs.Common.{◌≡◌, ℕ, zero, suc, ◌+◌, ◌<◌, ◌≤◌, List, [], ◌∷◌, ◌++◌, length, take, Some, refl, sym, ap, subst, ◌∙◌, arith, inl, inr, ◌⊎◌}
+use Rattle.std.proofs.Common.{◌≡◌, ℕ, zero, suc, ◌+◌, ◌<◌, ◌≤◌, List, [], ◌∷◌, ◌++◌, length, take, Some, refl, sym, ap, subst, ◌∙◌, arith, inl, inr}
 use Rattle.std.specs.Prelude.{slice_get}
 use Rattle.std.proofs.lemmas.Option.{none-some, same_Some}
 use Rattle.std.proofs.lemmas.Bool.{cases_lt}
@@ -11,6 +11,7 @@ use Rattle.nz_top.specs.Logs.{entry_id}
 use Rattle.nz_top.specs.State.{Group}
 use Rattle.nz_top.specs.World.{state_after, Has, World}
 use Rattle.nz_top.specs.History.{id_at, events, history}
+use Rattle.nz_top.specs.Progress.{IsUpTo}
 use Rattle.nz_top.proofs.Runs.{all-has}
 use Rattle.nz_top.proofs.Prefixes.{IsPrefix, get_more, place_is}
 use Rattle.nz_top.proofs.Distinct.{own_ids}
@@ -19,11 +20,6 @@ use Rattle.nz_top.proofs.Replies.{leader_log}
 use Rattle.nz_top.proofs.Asked.{WasSent, is_sent}
 use Rattle.nz_top.proofs.Accepting.{IsOfClient, is_counted, was_accepted, is_of_client}
 use Rattle.nz_top.proofs.Histories.{IsLast, history_is}
-
--- the first k entries end with the last entry whose number is at most n
-pub record IsUpTo (n : ℕ) (log : List Entry) (k : ℕ) : Type 0 where
-  pub last : (k ≡ 0) ⊎ ((i : ℕ) × ((e : Entry) × ((k ≡ i + 1) × ((slice_get log i ≡ Some e) × (e.key.num ≤ n)))))
-  pub behind : (j : ℕ) (e : Entry) → k ≤ j → slice_get log j ≡ Some e → n < e.key.num
 
 get_has : (es : List Entry) (i : ℕ) (e : Entry) → slice_get es i ≡ Some e → Has es e
 get_has [] i e h = absurd (none-some e h)

@@ -6,8 +6,10 @@ use Rattle.nz_base.specs.declared.scenario.Scenario.{Scenario}
 use Rattle.nz_top.specs.declared.status.Status.{Status}
 use Rattle.nz_top.specs.declared.status.Status.TheVariants.{Done, Usage, BadScenario, ReadFault, WriteFault, NoMemory}
 use Rattle.nz_top.specs.declared.machine.message.Journal.{Journal}
+use Rattle.nz_top.specs.Journals.{group_in, run_in}
 use Rattle.nz_top.specs.Moves.{input, TakesFront}
 use Rattle.nz_top.specs.Plain.{IsPlain}
+use Rattle.nz_top.specs.Text.{text}
 
 -- the one word `run`
 abbrev pub IsAccepted : List (List ℕ) → Type 0
@@ -31,6 +33,10 @@ IsRefused (Some bytes) = (scenario : Scenario) → ¬ IsPlain (input bytes) scen
 pub record WritesLine (line : List ℕ) (before after : Option (List ℕ)) (counted counts : ℕ) : Type 0 where
   pub front : TakesFront before after line
   pub whole : Rose counted counts ⊎ Gains before after line
+
+-- what is written is the text of the journal
+abbrev pub WritesText : Option Journal → Option (List ℕ) → Option (List ℕ) → Type 0
+WritesText journal before after = IfSome journal (λ j. Gains before after (text (group_in j) (run_in j)))
 
 -- the codes that the program ends with
 abbrev pub code_of : Status → ℕ

@@ -13,3 +13,8 @@ pub mod Moves
 pub mod Calls
 pub mod World
 pub mod History
+pub mod Schedule
+pub mod Plays
+pub mod Journals
+pub mod Text
+pub mod Progress

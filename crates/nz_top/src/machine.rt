@@ -10,6 +10,7 @@ mod play;
 mod proxy;
 mod replica;
 
+pub use cast::same_actor;
 pub use message::{
     AnswerBody, Event, FastReplyBody, Journal, Message, Parcel, Record, RecordList, RequestBody,
     Sends, TimedBody,
@@ -33,3 +34,6 @@ fn copy_choice(alloc: Global, answer: &Option<Answer>) -> Result<Option<Answer>,
         Some(answer) => Ok(Some(copy_answer(alloc, answer)?)),
     }
 }
+
+#[cfg(test)]
+mod tests;

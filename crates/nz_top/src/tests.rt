@@ -7,11 +7,18 @@ use nz_edge::{CallList, MemSink, MemSource, OpenGate};
 use std::alloc::Global;
 use std::test::Fail;
 
-const PUT_THEN_GET: &str =
+pub const PUT_THEN_GET: &str =
     "nezha 1\nf 1\nproxies 1\nclients 1\nticks 40\nclient c0\nput a 1\nget a\nend\ndone\n";
 
 const PUT_THEN_GET_TEXT: &str = "send c0 1 put a 1\naccept c0 1 done fast\nsend c0 2 get a\n\
 accept c0 2 value 1 fast\nat 1 c0 1 put a 1 gives done\nat 2 c0 2 get a gives value 1\nend\n";
+
+/// The get is sent in tick 15. Its way to a proxy, a replica and back takes four ticks at least.
+const GET_STAYS_OPEN: &str =
+    "nezha 1\nf 1\nproxies 1\nclients 1\nticks 18\nclient c0\nput a 1\nget a\nend\ndone\n";
+
+const GET_STAYS_OPEN_TEXT: &str = "send c0 1 put a 1\naccept c0 1 done fast\nsend c0 2 get a\n\
+open c0 2\nat 1 c0 1 put a 1 gives done\nend\n";
 
 const EMPTY: &str = "nezha 1\nf 1\nproxies 1\nclients 1\nticks 10\nclient c0\nend\ndone\n";
 
@@ -34,7 +41,7 @@ const CRASH: &str =
 
 /// A call on an input, with the pieces and failing calls of its ends.
 #[derive(Clone, Copy)]
-struct Call<'a> {
+pub struct Call<'a> {
     word: &'a str,
     input: &'a str,
     read_piece: usize,
@@ -43,7 +50,7 @@ struct Call<'a> {
     failing_writes: &'a [u32],
 }
 
-fn plain<'a>(word: &'a str, input: &'a str) -> Call<'a>
+pub fn plain<'a>(word: &'a str, input: &'a str) -> Call<'a>
     ensures read { 0 < result.read_piece }
     ensures write { 0 < result.write_piece }
 {
@@ -57,7 +64,7 @@ fn plain<'a>(word: &'a str, input: &'a str) -> Call<'a>
     }
 }
 
-fn answer(alloc: Global, call: &Call) -> Result<(Outcome, MemSink), NoMemory>
+pub fn answer(alloc: Global, call: &Call) -> Result<(Outcome, MemSink), NoMemory>
     requires read { 0 < call.now.read_piece }
     requires write { 0 < call.now.write_piece }
 {
@@ -78,6 +85,7 @@ fn answer(alloc: Global, call: &Call) -> Result<(Outcome, MemSink), NoMemory>
 fn scenarios_and_refusals(rt: HostRuntime) -> Result<(), Fail> {
     let table = [
         ("run", PUT_THEN_GET, Status::Done, PUT_THEN_GET_TEXT),
+        ("run", GET_STAYS_OPEN, Status::Done, GET_STAYS_OPEN_TEXT),
         ("run", EMPTY, Status::Done, "end\n"),
         ("run", SEVEN, Status::Done, SEVEN_TEXT),
         ("run", THREE_CLIENTS, Status::BadScenario, "refused form\n"),

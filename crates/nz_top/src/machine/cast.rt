@@ -1,4 +1,4 @@
-ghost use Rattle.std.specs.Prelude.{◌≡◌, ◌++◌, map, OnOk};
+ghost use Rattle.std.specs.Prelude.{◌≡◌, ◌++◌, [], List, ℕ, map, OnOk, IfOk, IsTrue};
 ghost use Rattle.nz_base.specs.declared.actor.Actor.TheVariants.{Replica as IsReplica, Proxy as IsProxy, Client as IsClient};
 ghost use Rattle.nz_top.specs.State.{Group};
 ghost use Rattle.nz_top.specs.Step.{node_step, parcel, is_for as is_for_of};
@@ -15,7 +15,7 @@ use super::replica::{ReplicaState, release_rule, request_rule};
 use nz_base::{Actor, Entry, NoMemory, RequestList};
 use std::alloc::Global;
 
-fn same_actor(a: Actor, b: Actor) -> bool
+pub fn same_actor(a: Actor, b: Actor) -> bool
     ensures { result ≡ actor_eq a b }
 {
     match (a, b) {
@@ -81,7 +81,11 @@ fn client_message(
     }
 }
 
-fn replica_step(state: &mut ReplicaState, event: &Event, sends: &mut Sends) -> Result<(), NoMemory>
+pub fn replica_step(
+    state: &mut ReplicaState,
+    event: &Event,
+    sends: &mut Sends,
+) -> Result<(), NoMemory>
     ensures state { (g : Group) → OnOk result (state.new ≡ record { me = state.old.me; state = (node_step g (IsReplica state.old.me) state.old.state event.now).0 }) }
     ensures sends { (g : Group) → OnOk result (sends.new ≡ sends.old ++ (node_step g (IsReplica state.old.me) state.old.state event.now).1) }
 {
@@ -145,8 +149,15 @@ pub struct Cast {
 }
 
 impl Cast {
+    ghost use Rattle.nz_top.specs.declared.machine.message.Record.{Record};
+    ghost use Rattle.nz_top.specs.Plays.{IsCast, Steps};
+    ghost use Rattle.nz_top.specs.Schedule.{takes_part};
+    ghost use Rattle.nz_top.specs.Step.{script_of};
+
     /// The actors in their first states, with the client's requests.
-    pub fn new(alloc: Global, script: RequestList) -> Cast {
+    pub fn new(alloc: Global, script: RequestList) -> Cast
+        ensures { (g : Group) → g.proxies ≡ 1 → script_of g 0 ≡ script → IsCast g [] result }
+    {
         Cast {
             alloc,
             r0: ReplicaState::new(alloc, 0),
@@ -158,21 +169,39 @@ impl Cast {
     }
 
     /// What happens to this actor, and what it sends. Nobody else takes part.
-    pub fn step(&mut self, actor: Actor, event: &Event) -> Result<Sends, NoMemory> {
+    pub fn step(&mut self, actor: Actor, event: &Event) -> Result<Sends, NoMemory>
+        ensures { IfOk result (λ sends. (g : Group) (J : List Record) (tick : ℕ) → IsTrue (takes_part actor) → IsCast g J self.old → Steps g J tick actor event.now sends self.new) }
+    {
         let mut sends = Sends::new(self.alloc);
         match actor {
-            Actor::Replica(0) => replica_step(&mut self.r0, event, &mut sends)?,
-            Actor::Replica(1) => replica_step(&mut self.r1, event, &mut sends)?,
-            Actor::Replica(2) => replica_step(&mut self.r2, event, &mut sends)?,
-            Actor::Proxy(0) => proxy_step(&mut self.proxy, event, &mut sends)?,
-            Actor::Client(0) => client_step(&mut self.client, event, &mut sends)?,
-            _ => {}
+            Actor::Replica(0) => {
+                replica_step(&mut self.r0, event, &mut sends)?;
+                Ok(sends)
+            }
+            Actor::Replica(1) => {
+                replica_step(&mut self.r1, event, &mut sends)?;
+                Ok(sends)
+            }
+            Actor::Replica(2) => {
+                replica_step(&mut self.r2, event, &mut sends)?;
+                Ok(sends)
+            }
+            Actor::Proxy(0) => {
+                proxy_step(&mut self.proxy, event, &mut sends)?;
+                Ok(sends)
+            }
+            Actor::Client(0) => {
+                client_step(&mut self.client, event, &mut sends)?;
+                Ok(sends)
+            }
+            _ => Ok(sends),
         }
-        Ok(sends)
     }
 
     /// The leader's log.
-    pub fn log(&self) -> &[Entry] {
+    pub fn log(&self) -> &[Entry]
+        ensures { result.now ≡ self.now.r0.state.log }
+    {
         self.r0.log()
     }
 }

@@ -1,4 +1,9 @@
-ghost use Rattle.std.specs.Prelude.{◌≡◌, IfOk};
+ghost use Rattle.std.specs.Prelude.{◌≡◌, ◌≤◌, ◌∷◌, ◌++◌, [], length, map, reverse, OnOk, IfOk, IsTrue};
+ghost use Rattle.nz_base.specs.declared.actor.Actor.TheVariants.{Replica as IsReplica};
+ghost use Rattle.nz_top.specs.History.{log_at};
+ghost use Rattle.nz_top.specs.Journals.{group_in, run_in, IsRun};
+ghost use Rattle.nz_top.specs.Plays.{IsPlainRun, group_of};
+ghost use Rattle.nz_top.specs.Step.{script_of as script_in};
 
 use super::cast::Cast;
 use super::message::{Event, Journal, Parcel, Record, RecordList};
@@ -35,14 +40,18 @@ struct Play {
 }
 
 /// The requests of the client, which has the first script.
-fn script_of(alloc: Global, scenario: &Scenario) -> Result<RequestList, NoMemory> {
+fn script_of(alloc: Global, scenario: &Scenario) -> Result<RequestList, NoMemory>
+    ensures { IfOk result (λ script. script ≡ script_in (group_of scenario.now) 0) }
+{
     match scenario.scripts.as_slice().first() {
         None => Ok(RequestList::new(alloc)),
         Some(script) => script.copy(alloc),
     }
 }
 
-fn add_copies(alloc: Global, parcels: &[Parcel], into: &mut Vec<Parcel>) -> Result<(), NoMemory> {
+fn add_copies(alloc: Global, parcels: &[Parcel], into: &mut Vec<Parcel>) -> Result<(), NoMemory>
+    ensures { OnOk result (into.new.items ≡ into.old.items ++ parcels.now) }
+{
     for parcel in parcels {
         into.push(parcel.copy(alloc)?)?;
     }
@@ -50,8 +59,13 @@ fn add_copies(alloc: Global, parcels: &[Parcel], into: &mut Vec<Parcel>) -> Resu
 }
 
 impl Play {
+    ghost use Rattle.nz_top.specs.Plays.{Plays, Ticks};
+    ghost use Rattle.nz_top.specs.Schedule.{tick_turn, actors, delivery};
+
     /// One turn of an actor, which is recorded.
-    fn turn(&mut self, tick: u32, actor: Actor, event: Event) -> Result<(), NoMemory> {
+    fn turn(&mut self, tick: u32, actor: Actor, event: Event) -> Result<(), NoMemory>
+        ensures { OnOk result (Plays self.old self.new (record { tick = tick; actor = actor; event = event } ∷ [])) }
+    {
         let sends = self.cast.step(actor, &event)?;
         add_copies(self.alloc, sends.as_slice(), &mut self.sent)?;
         self.records.push(Record {
@@ -59,25 +73,49 @@ impl Play {
             actor,
             event,
             sends,
-        })
+        })?;
+        Ok(())
     }
 
-    /// One tick: each actor's clock first, then the parcels of the tick before, in their order.
-    fn tick(&mut self, tick: u32) -> Result<(), NoMemory> {
-        let due = std::mem::replace(&mut self.sent, Vec::new(self.alloc));
+    /// Each actor's clock, in their order.
+    fn clocks(&mut self, tick: u32) -> Result<(), NoMemory>
+        requires { tick ≤ 20000 }
+        ensures { OnOk result (Plays self.old self.new (map (tick_turn tick) actors)) }
+    {
         for actor in ACTORS {
             self.turn(tick, actor, Event::Tick(UNITS * u64::from(tick)))?;
         }
-        for parcel in due {
+        Ok(())
+    }
+
+    /// The parcels come, in their order.
+    fn deliveries(&mut self, tick: u32, parcels: Vec<Parcel>) -> Result<(), NoMemory>
+        ensures { OnOk result (Plays self.old self.new (map (delivery tick) parcels.items)) }
+    {
+        for parcel in parcels {
             self.turn(tick, parcel.to, Event::Deliver(parcel))?;
         }
+        Ok(())
+    }
+
+    /// One tick: each actor's clock first, then the parcels of the tick before, in their order.
+    fn tick(&mut self, tick: u32) -> Result<(), NoMemory>
+        requires { tick ≤ 20000 }
+        ensures { OnOk result (Ticks tick self.old self.new) }
+    {
+        let due = std::mem::replace(&mut self.sent, Vec::new(self.alloc));
+        self.clocks(tick)?;
+        self.deliveries(tick, due)?;
         Ok(())
     }
 }
 
 /// Plays the scenario to its last tick.
 pub fn run(alloc: Global, scenario: Scenario) -> Result<Played, NoMemory>
+    requires { IsPlainRun scenario }
     ensures scenario { IfOk result (λ played. played.journal.scenario ≡ scenario) }
+    ensures run { IfOk result (λ played. IsRun played.journal) }
+    ensures log { IfOk result (λ played. played.log ≡ log_at (group_in played.journal) (IsReplica 0) (run_in played.journal)) }
 {
     let script = script_of(alloc, &scenario)?;
     let mut play = Play {
@@ -86,8 +124,8 @@ pub fn run(alloc: Global, scenario: Scenario) -> Result<Played, NoMemory>
         records: RecordList::new(alloc),
         sent: Vec::new(alloc),
     };
-    for tick in 1..=scenario.ticks {
-        play.tick(tick)?;
+    for done in 0..scenario.ticks {
+        play.tick(done + 1)?;
     }
     let log = EntryList::from_slice(alloc, play.cast.log())?;
     Ok(Played {
