@@ -1,0 +1,32 @@
+-- Moments of a run: the run up to one of its records, or before all.
+use Rattle.std.proofs.Common.{◌≡◌, List, [], ◌∷◌, refl, sym, subst, inl, inr, ◌⊎◌}
+use Rattle.nz_machine.specs.declared.event.Record.{Record}
+use Rattle.nz_machine.specs.State.{Group}
+use Rattle.nz_machine.specs.World.{World}
+
+-- K is the run J up to some moment
+abbrev pub At : List Record → List Record → Type 0
+At [] K = K ≡ []
+At (r ∷ J) K = (K ≡ r ∷ J) ⊎ At J K
+
+pub at_self : (J : List Record) → At J J
+at_self [] = refl
+at_self (r ∷ J) = inl refl
+
+pub at_world : (g : Group) (J K : List Record) → World g J → At J K → World g K
+at_world g [] K w at = subst (World g) (sym at) w
+at_world g (r ∷ J) K w (inl same) = subst (World g) (sym same) w
+at_world g (r ∷ J) K w (inr older) = at_world g J K w.1 older
+
+pub at_then : (J K L : List Record) → At J K → At K L → At J L
+at_then [] K L first second = subst (λ (x : List Record). At x L) first second
+at_then (r ∷ J) K L (inl same) second = subst (λ (x : List Record). At x L) same second
+at_then (r ∷ J) K L (inr older) second = inr (at_then J K L older second)
+
+-- what one record keeps holds between a moment and any later one
+pub between : (g : Group) (P : List Record → List Record → Type 0) → ((K : List Record) → P K K)
+    → ((J K : List Record) (r : Record) → World g (r ∷ J) → P K J → P K (r ∷ J))
+    → (J K : List Record) → World g J → At J K → P K J
+between g P here more [] K w at = subst (λ (x : List Record). P x []) (sym at) (here [])
+between g P here more (r ∷ J) K w (inl same) = subst (λ (x : List Record). P x (r ∷ J)) (sym same) (here (r ∷ J))
+between g P here more (r ∷ J) K w (inr older) = more J K r w (between g P here more J K w.1 older)

@@ -1,0 +1,69 @@
+-- What the clients of a run see.
+use Rattle.std.specs.Prelude.{ℕ, ◌-◌, List, [], ◌∷◌, ◌++◌, Option, Some, None, nat_lt, if◌then◌else◌, slice_get}
+use Rattle.nz_base.specs.declared.actor.Actor.{Actor}
+use Rattle.nz_base.specs.declared.actor.Actor.TheVariants.{Replica, Proxy, Client}
+use Rattle.nz_base.specs.declared.key.Id.{Id}
+use Rattle.nz_base.specs.declared.scenario.Request.{Request}
+use Rattle.nz_store.specs.declared.command.Answer.{Answer as AnAnswer}
+use Rattle.nz_msg.specs.declared.envelope.Envelope.{Envelope}
+use Rattle.nz_msg.specs.declared.message.Path.{Path}
+use Rattle.nz_msg.specs.declared.message.Message.{Message}
+use Rattle.nz_msg.specs.declared.message.Message.TheVariants.{Answer}
+use Rattle.nz_machine.specs.declared.event.Event.{Event}
+use Rattle.nz_machine.specs.declared.event.Event.TheVariants.{Deliver, Cut, Tick, Alarm, Crash, Restart}
+use Rattle.nz_machine.specs.declared.event.Record.{Record}
+use Rattle.nz_machine.specs.State.{ClientData, Group}
+use Rattle.nz_machine.specs.Step.{received, script_of}
+use Rattle.nz_machine.specs.World.{state_after}
+
+-- A client sent a request for the first time, or accepted its answer.
+pub data Told : Type 0 where
+  Sent : (id : Id) (command : List ℕ) → Told
+  Accepted : (id : Id) (answer : AnAnswer) (path : Path) → Told
+
+abbrev pub id_at : ℕ → ℕ → Id
+id_at client num = record { client = client; num = num }
+
+abbrev pub command_of_request : Option Request → List ℕ
+command_of_request None = []
+command_of_request (Some request) = request.command
+
+-- The command of the request of this number, counted from 1.
+abbrev pub command_at : List Request → ℕ → List ℕ
+command_at script num = command_of_request (slice_get script (num - 1))
+
+-- What an actor reads in an event.
+abbrev pub read_in : Group → Actor → Event → Option Envelope
+read_in g a (Deliver p) = received g.f a p
+read_in g a (Cut p kept) = None
+read_in g a (Tick clock) = None
+read_in g a Alarm = None
+read_in g a Crash = None
+read_in g a (Restart nonce) = None
+
+-- The count of acceptances rose: the answer was accepted, to the request that was open.
+abbrev pub accepted_in : ℕ → ClientData → ClientData → Message → List Told
+accepted_in c before after (Answer b) = if nat_lt before.accepted after.accepted then Accepted (id_at c before.sent) b.answer b.path ∷ [] else []
+accepted_in c before after _ = []
+
+abbrev pub accepted_by : ℕ → ClientData → ClientData → Option Envelope → List Told
+accepted_by c before after None = []
+accepted_by c before after (Some e) = accepted_in c before after e.message
+
+-- The count of requests rose: one more was sent.
+abbrev pub sent_by : ℕ → List Request → ClientData → ClientData → List Told
+sent_by c script before after = if nat_lt before.sent after.sent then Sent (id_at c after.sent) (command_at script after.sent) ∷ [] else []
+
+-- What a record tells, behind the records J: an acceptance first.
+abbrev pub told_by : Group → Actor → Record → List Record → List Told
+told_by g (Client c) r J =
+    let before = state_after g (Client c) J in
+    let after = state_after g (Client c) (r ∷ J) in
+    accepted_by c before after (read_in g (Client c) r.event) ++ sent_by c (script_of g c) before after
+told_by g (Replica m) r J = []
+told_by g (Proxy p) r J = []
+
+-- The events of a run, the oldest first.
+abbrev pub events : Group → List Record → List Told
+events g [] = []
+events g (r ∷ J) = events g J ++ told_by g r.actor r J

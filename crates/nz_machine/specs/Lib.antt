@@ -1,0 +1,15 @@
+pub mod State
+pub mod Replicas
+pub mod Requests
+pub mod Releases
+pub mod Facts
+pub mod Vectors
+pub mod LogMods
+pub mod Quorums
+pub mod Proxies
+pub mod Clients
+pub mod Step
+pub mod World
+pub mod Events
+pub mod History
+pub mod OneHistory

@@ -1,0 +1,185 @@
+-- The rules by which followers make their logs agree with the leader's: what the leader tells at a tick, how
+-- a follower takes it, and how missing entries are fetched and sync points reported.
+use Rattle.std.specs.Prelude.{ℕ, ◌-◌, Bool, not, ◌&&◌, ◌||◌, ◌==◌, nat_lt, nat_le, max, min, List, [], ◌∷◌, ◌++◌, length, map, take, drop, filter, Option, Some, None, if◌then◌else◌, slice_index, slice_set}
+use Rattle.std.specs.List.{list_any, flat_map}
+use Rattle.std.specs.Map.{lookup}
+use Rattle.nz_base.specs.Cluster.{replica_count, leader_of}
+use Rattle.nz_base.specs.Key.{id_eq, id_of}
+use Rattle.nz_base.specs.Log.{keys_of, has_id, is_above_last}
+use Rattle.nz_base.specs.declared.actor.Actor.TheVariants.{Replica}
+use Rattle.nz_base.specs.declared.key.Id.{Id}
+use Rattle.nz_base.specs.declared.key.Key.{Key}
+use Rattle.nz_base.specs.declared.key.Entry.{Entry}
+use Rattle.nz_window.specs.Samples.{in_order}
+use Rattle.nz_log.specs.Synced.{synced_part, unsynced_part, modified, displaced}
+use Rattle.nz_buffers.specs.Buffers.{find_id, without}
+use Rattle.nz_msg.specs.declared.message.LogModBody.{LogModBody}
+use Rattle.nz_msg.specs.declared.message.FetchBody.{FetchBody}
+use Rattle.nz_msg.specs.declared.message.FetchReplyBody.{FetchReplyBody}
+use Rattle.nz_msg.specs.declared.message.SyncReportBody.{SyncReportBody}
+use Rattle.nz_msg.specs.declared.message.Message.TheVariants.{LogMod, Fetch, FetchReply, SyncReport}
+use Rattle.nz_machine.specs.State.{ReplicaData, Out}
+use Rattle.nz_machine.specs.Replicas.{leads, is_normal, most_entries, numbers_below, slow_replies}
+use Rattle.nz_machine.specs.Requests.{is_full}
+use Rattle.nz_machine.specs.Vectors.{unless_stray}
+
+-- A log modification has at most this many keys, and a fetch at most this many ids.
+abbrev pub most_keys : ℕ
+most_keys = 64
+
+-- The other replicas, in rising number.
+abbrev pub others : ℕ → ℕ → List ℕ
+others f me = filter (λ r. not (r == me)) (numbers_below (replica_count f))
+
+-- ---- what the leader tells
+
+-- The keys of the leader's log, from where the replica's log agrees with it.
+abbrev pub log_mod_to : ReplicaData → ℕ → Out
+log_mod_to s r =
+    let start = slice_index s.ack r in
+    (Replica r, LogMod (record { view = s.view; vector = s.vector; commit = s.commit; start = start; keys = take most_keys (drop start (keys_of s.log.entries)) }))
+
+-- At a tick the leader in normal operation tells each of the others.
+abbrev pub told : ℕ → ℕ → ReplicaData → List Out
+told f me s = if is_normal s.status && leads f me s then map (log_mod_to s) (others f me) else []
+
+-- ---- how a follower takes it
+
+abbrev pub sync_report_to : ℕ → ReplicaData → Out
+sync_report_to leader s = (Replica leader, SyncReport (record { view = s.view; synced = s.log.synced }))
+
+-- The first of two that is there.
+abbrev pub or_else : Option Entry → Option Entry → Option Entry
+or_else None second = second
+or_else (Some e) second = Some e
+
+-- The entry with the id beyond the synced ones, in early or in late.
+abbrev pub found : ReplicaData → Id → Option Entry
+found s id = or_else (find_id (unsynced_part s.log) id) (or_else (find_id s.early id) (find_id s.late id))
+
+-- Whether the id is in log, early or late.
+abbrev pub is_held : ReplicaData → Id → Bool
+is_held s id = has_id (keys_of s.log.entries) id || (has_id (keys_of s.early) id || has_id (keys_of s.late) id)
+
+-- Whether the key may be the next that is synced: it is above the last synced one, its id is not among the
+-- synced ones, and the log has room.
+abbrev pub may_sync : ReplicaData → Key → Bool
+may_sync s key =
+    is_above_last (keys_of (synced_part s.log)) key
+    && (not (has_id (keys_of (synced_part s.log)) (id_of key)) && nat_lt (length s.log.entries) most_entries)
+
+-- The entry is put at the end of the synced part. What loses its place to it goes to late, and its id leaves
+-- the rest of the log, early and late.
+abbrev pub synced_with : ReplicaData → Entry → ReplicaData
+synced_with s e =
+    record s {
+      log = modified s.log e;
+      early = without s.early (id_of e.key);
+      late = without (s.late ++ displaced s.log e) (id_of e.key);
+    }
+
+abbrev pub if_found : Option Entry → ReplicaData × List Key → (Entry → ReplicaData × List Key) → ReplicaData × List Key
+if_found None missing next = missing
+if_found (Some e) missing next = next e
+
+-- The keys in turn, each with the command that is found for its id: the state, and the keys from the first on
+-- whose id is found nowhere. The taking stops at a key that may not be synced.
+unfoldable pub sync_keys : ReplicaData → List Key → ReplicaData × List Key
+sync_keys s [] = (s, [])
+sync_keys s (key ∷ keys) =
+    if may_sync s key
+    then if_found (found s (id_of key)) (s, key ∷ keys) (λ e. sync_keys (synced_with s (record { key = key; command = e.command })) keys)
+    else (s, [])
+
+-- Early entries whose key is not above the last of the log go to late.
+abbrev pub is_early_yet : ReplicaData → Entry → Bool
+is_early_yet s e = is_above_last (keys_of s.log.entries) e.key
+
+abbrev pub overtaken : ReplicaData → ReplicaData
+overtaken s =
+    record s {
+      early = filter (is_early_yet s) s.early;
+      late = s.late ++ filter (λ e. not (is_early_yet s e)) s.early;
+    }
+
+-- What the leader committed is committed, as far as it is synced here.
+abbrev pub committed_to : ReplicaData → ℕ → ReplicaData
+committed_to s commit = record s { commit = max s.commit (min commit s.log.synced) }
+
+-- The slow replies for the entries that are synced since a count, in their order.
+abbrev pub replies_since : ReplicaData → ℕ → List Out
+replies_since s count =
+    flat_map (λ e. slow_replies s (id_of e.key) (lookup (id_eq (id_of e.key)) s.origin)) (drop count (synced_part s.log))
+
+-- The ids of some keys that are found nowhere.
+abbrev pub missing_ids : ReplicaData → List Key → List Id
+missing_ids s keys = filter (λ id. not (is_held s id)) (map id_of keys)
+
+abbrev pub fetch_from : ℕ → ReplicaData → List Id → List Out
+fetch_from leader s [] = []
+fetch_from leader s (id ∷ ids) = (Replica leader, Fetch (record { view = s.view; ids = id ∷ ids })) ∷ []
+
+-- What follows once the keys were taken: the state before, the leader, what it committed, and the state after
+-- with the keys from the first missing one on.
+abbrev pub taken_in : ReplicaData → ℕ → ℕ → ReplicaData × List Key → ReplicaData × List Out
+taken_in before leader commit (s, missing) =
+    let after = committed_to (overtaken s) commit in
+    (after, replies_since after before.log.synced ++ (fetch_from leader after (missing_ids after missing) ++ sync_report_to leader after ∷ []))
+
+-- The first key belongs to the place start, so that of the first place that is not synced is so many behind it.
+abbrev pub taken_from : ℕ → LogModBody → ReplicaData → ReplicaData × List Out
+taken_from leader b s =
+    if nat_lt s.log.synced b.start then (s, sync_report_to leader s ∷ [])
+    else taken_in s leader b.commit (sync_keys s (drop (s.log.synced - b.start) b.keys))
+
+-- A log modification of the leader of the own view. Those of later views are still to come.
+unfoldable pub log_mod_rule : ℕ → ℕ → ReplicaData → ℕ → LogModBody → ReplicaData × List Out
+log_mod_rule f me s sender b =
+    if is_normal s.status && ((b.view == s.view) && ((sender == leader_of f b.view) && not (leads f me s)))
+    then unless_stray me s sender b.vector (taken_from sender b)
+    else (s, [])
+
+-- ---- fetches
+
+abbrev pub is_asked : List Id → Entry → Bool
+is_asked ids e = list_any (λ id. id_eq id (id_of e.key)) ids
+
+-- The leader replies with the asked entries that its log has, in their order.
+unfoldable pub fetch_rule : ℕ → ℕ → ReplicaData → ℕ → FetchBody → ReplicaData × List Out
+fetch_rule f me s sender b =
+    if is_normal s.status && ((b.view == s.view) && leads f me s)
+    then (s, (Replica sender, FetchReply (record { view = s.view; entries = filter (is_asked b.ids) s.log.entries })) ∷ [])
+    else (s, [])
+
+-- An entry goes to late where its id is held nowhere and there is room.
+abbrev pub kept_late : ReplicaData → Entry → ReplicaData
+kept_late s e = if is_held s (id_of e.key) || is_full s then s else record s { late = s.late ++ e ∷ [] }
+
+unfoldable pub kept_all : ReplicaData → List Entry → ReplicaData
+kept_all s [] = s
+kept_all s (e ∷ es) = kept_all (kept_late s e) es
+
+unfoldable pub fetch_reply_rule : ℕ → ℕ → ReplicaData → ℕ → FetchReplyBody → ReplicaData × List Out
+fetch_reply_rule f me s sender b =
+    if is_normal s.status && ((b.view == s.view) && ((sender == leader_of f b.view) && not (leads f me s)))
+    then (kept_all s b.entries, [])
+    else (s, [])
+
+-- ---- sync reports
+
+abbrev pub with_ack : ReplicaData → ℕ → ℕ → ReplicaData
+with_ack s sender synced = record s { ack = slice_set s.ack sender (max (slice_index s.ack sender) synced) }
+
+-- The f-th greatest of what the 2f others report: with the least at place 0, that at place f.
+abbrev pub reported : ℕ → ℕ → List ℕ → ℕ
+reported f me ack = slice_index (in_order (map (slice_index ack) (others f me))) f
+
+abbrev pub with_commit : ℕ → ℕ → ReplicaData → ReplicaData
+with_commit f me s = record s { commit = max s.commit (reported f me s.ack) }
+
+-- The leader notes how far a replica's log agrees, and commits what f others report.
+unfoldable pub sync_report_rule : ℕ → ℕ → ReplicaData → ℕ → SyncReportBody → ReplicaData × List Out
+sync_report_rule f me s sender b =
+    if is_normal s.status && ((b.view == s.view) && (leads f me s && nat_le b.synced (length s.log.entries)))
+    then (with_commit f me (with_ack s sender b.synced), [])
+    else (s, [])

@@ -1,0 +1,95 @@
+-- Words on a replica's state that its rules share.
+use Rattle.std.specs.Prelude.{ℕ, zero, suc, ◌-◌, ◌^◌, Bool, true, false, List, [], ◌∷◌, ◌++◌, replicate, map, Option, Some, None, ◌==◌, if◌then◌else◌, slice_get}
+use Rattle.nz_base.specs.Cluster.{replica_count, leader_of}
+use Rattle.nz_base.specs.declared.actor.Actor.TheVariants.{Proxy}
+use Rattle.nz_base.specs.declared.key.Id.{Id}
+use Rattle.nz_base.specs.declared.key.Key.{Key}
+use Rattle.nz_base.specs.declared.key.Entry.{Entry}
+use Rattle.nz_store.specs.declared.command.Answer.{Answer}
+use Rattle.nz_log.specs.Places.{digest_at}
+use Rattle.nz_msg.specs.declared.message.Message.TheVariants.{FastReply, SlowReply}
+use Rattle.nz_machine.specs.declared.data.Status.{Status}
+use Rattle.nz_machine.specs.declared.data.Status.TheVariants.{Normal, ViewChange, Rejoining, Down}
+use Rattle.nz_machine.specs.declared.data.Origin.{Origin}
+use Rattle.nz_machine.specs.State.{ReplicaData, Out}
+
+-- The numbers below n.
+abbrev pub numbers_below : ℕ → List ℕ
+numbers_below zero = []
+numbers_below (suc n) = numbers_below n ++ n ∷ []
+
+-- Clocks stop here, in clock units.
+abbrev pub last_clock : ℕ
+last_clock = 2 ^ 62 - 1
+
+-- Views stop here.
+abbrev pub last_view : ℕ
+last_view = 2 ^ 62 - 1
+
+-- A log holds at most this many entries.
+abbrev pub most_entries : ℕ
+most_entries = 4096
+
+abbrev pub is_normal : Status → Bool
+is_normal Normal = true
+is_normal ViewChange = false
+is_normal Rejoining = false
+is_normal Down = false
+
+-- Whether the replica with this number leads the view that it is in.
+abbrev pub leads : ℕ → ℕ → ReplicaData → Bool
+leads f me s = leader_of f s.view == me
+
+-- The commands of some entries, in order.
+abbrev pub commands : List Entry → List (List ℕ)
+commands entries = map (λ e. e.command) entries
+
+abbrev pub key_at : ℕ → Id → Key
+key_at deadline id = record { deadline = deadline; client = id.client; num = id.num }
+
+-- ---- replies
+
+-- The leader has an answer to the entry at a place.
+abbrev pub answer_at : ℕ → ℕ → ReplicaData → ℕ → Option Answer
+answer_at f me s place = if leads f me s then slice_get s.results place else None
+
+abbrev pub fast_reply : ℕ → ℕ → ReplicaData → Id → ℕ → Origin → Out
+fast_reply f me s id place origin = (
+  Proxy origin.proxy,
+  FastReply (record {
+    view = s.view;
+    id = id;
+    digest = digest_at s.log.entries place;
+    vector = s.vector;
+    delay = origin.delay;
+    answer = answer_at f me s place;
+  }),
+)
+
+abbrev pub slow_reply : ReplicaData → Id → Origin → Out
+slow_reply s id origin = (Proxy origin.proxy, SlowReply (record { view = s.view; id = id; delay = origin.delay }))
+
+-- A fast reply for the entry at a place, to where its request came from, if that is known.
+abbrev pub fast_replies : ℕ → ℕ → ReplicaData → Id → ℕ → Option Origin → List Out
+fast_replies f me s id place None = []
+fast_replies f me s id place (Some origin) = fast_reply f me s id place origin ∷ []
+
+abbrev pub slow_replies : ReplicaData → Id → Option Origin → List Out
+slow_replies s id None = []
+slow_replies s id (Some origin) = slow_reply s id origin ∷ []
+
+-- The state at the start.
+abbrev pub first_replica : ℕ → ReplicaData
+first_replica f = record {
+  status = Normal;
+  clock = 0;
+  view = 0;
+  log = record { entries = []; synced = 0 };
+  commit = 0;
+  results = [];
+  vector = replicate (replica_count f) 0;
+  early = [];
+  late = [];
+  origin = [];
+  ack = replicate (replica_count f) 0;
+}

@@ -1,0 +1,162 @@
+-- One step of an actor: which rule an event comes to.
+use Rattle.std.specs.Prelude.{ℕ, Bool, true, ◌&&◌, not, ◌==◌, List, [], ◌++◌, length, map, Option, Some, None, Result, Ok, Err, nat_lt, if◌then◌else◌, slice_index_or}
+use Rattle.nz_base.specs.Actor.{actor_eq}
+use Rattle.nz_base.specs.Cluster.{replica_count}
+use Rattle.nz_base.specs.declared.actor.Actor.{Actor}
+use Rattle.nz_base.specs.declared.actor.Actor.TheVariants.{Replica, Proxy, Client}
+use Rattle.nz_base.specs.declared.scenario.Request.{Request}
+use Rattle.nz_msg.specs.declared.envelope.Envelope.{Envelope}
+use Rattle.nz_msg.specs.declared.refusal.DecodeRefusal.{DecodeRefusal}
+use Rattle.nz_msg.specs.declared.message.Message.{Message}
+use Rattle.nz_msg.specs.declared.message.Message.TheVariants as messages
+use Rattle.nz_msg.specs.Envelope.{encode_of, decode_of}
+use Rattle.nz_machine.specs.declared.event.Event.{Event}
+use Rattle.nz_machine.specs.declared.event.Event.TheVariants.{Deliver, Cut, Tick, Alarm, Crash, Restart}
+use Rattle.nz_machine.specs.declared.event.Parcel.{Parcel}
+use Rattle.nz_machine.specs.State.{ReplicaData, ProxyData, ClientData, State, Group, Out}
+use Rattle.nz_machine.specs.Replicas.{first_replica}
+use Rattle.nz_machine.specs.Requests.{request_rule}
+use Rattle.nz_machine.specs.Releases.{release_rule}
+use Rattle.nz_machine.specs.LogMods.{told, log_mod_rule, fetch_rule, fetch_reply_rule, sync_report_rule}
+use Rattle.nz_machine.specs.Proxies.{first_proxy, stamp_rule, reply_rule, of_fast, of_slow, clock_rule, crashed_proxy, restarted_proxy}
+use Rattle.nz_machine.specs.Clients.{first_client, wait_rule, accept_rule}
+
+abbrev pub script_of : Group → ℕ → List Request
+script_of g c = slice_index_or g.scripts c []
+
+abbrev pub first : Group → (a : Actor) → State a
+first g (Replica r) = first_replica g.f
+first g (Proxy p) = first_proxy g.f
+first g (Client c) = first_client
+
+-- ---- what is read of a parcel
+
+-- A replica that sends is of the cluster.
+abbrev pub is_in_cluster : ℕ → Actor → Bool
+is_in_cluster f (Replica r) = nat_lt r (replica_count f)
+is_in_cluster f (Proxy p) = true
+is_in_cluster f (Client c) = true
+
+-- The crash vector of a message, if it carries one.
+abbrev pub vector_of : Message → Option (List ℕ)
+vector_of (messages.Request b) = None
+vector_of (messages.Timed b) = None
+vector_of (messages.FastReply b) = Some b.vector
+vector_of (messages.SlowReply b) = None
+vector_of (messages.Answer b) = None
+vector_of (messages.LogMod b) = Some b.vector
+vector_of (messages.Fetch b) = None
+vector_of (messages.FetchReply b) = None
+vector_of (messages.SyncReport b) = None
+vector_of (messages.ViewAsk b) = None
+vector_of (messages.ViewChange b) = Some b.vector
+vector_of (messages.StartView b) = Some b.vector
+vector_of (messages.VectorAsk b) = None
+vector_of (messages.VectorTell b) = Some b.vector
+vector_of (messages.RejoinAsk b) = Some b.vector
+vector_of (messages.RejoinTell b) = Some b.vector
+vector_of (messages.StateAsk b) = Some b.vector
+vector_of (messages.StateTell b) = Some b.vector
+
+-- A vector has a counter for each replica.
+abbrev pub is_sized : ℕ → Option (List ℕ) → Bool
+is_sized f None = true
+is_sized f (Some vector) = length vector == replica_count f
+
+-- The frame's sender and receiver are those of the parcel, the receiver is this actor, and the sender is another.
+abbrev pub is_for : Actor → Parcel → Envelope → Bool
+is_for me p e = actor_eq e.from p.from && (actor_eq e.to p.to && (actor_eq e.to me && not (actor_eq e.from me)))
+
+abbrev pub heard_if : Actor → Parcel → Result Envelope DecodeRefusal → Option Envelope
+heard_if me p (Err refusal) = None
+heard_if me p (Ok e) = if is_for me p e then Some e else None
+
+-- What this actor reads of a parcel.
+unfoldable pub heard : Actor → Parcel → Option Envelope
+heard me p = heard_if me p (decode_of p.frame)
+
+-- It counts where it is of the cluster's size.
+abbrev pub counted : ℕ → Option Envelope → Option Envelope
+counted f None = None
+counted f (Some e) = if is_in_cluster f e.from && is_sized f (vector_of e.message) then Some e else None
+
+abbrev pub received : ℕ → Actor → Parcel → Option Envelope
+received f me p = counted f (heard me p)
+
+-- ---- which rule
+
+abbrev pub replica_message : ℕ → ℕ → ReplicaData → Actor → Message → ReplicaData × List Out
+replica_message f me s (Proxy p) (messages.Timed b) = request_rule f me s p b
+replica_message f me s (Replica r) (messages.LogMod b) = log_mod_rule f me s r b
+replica_message f me s (Replica r) (messages.Fetch b) = fetch_rule f me s r b
+replica_message f me s (Replica r) (messages.FetchReply b) = fetch_reply_rule f me s r b
+replica_message f me s (Replica r) (messages.SyncReport b) = sync_report_rule f me s r b
+replica_message f me s _ _ = (s, [])
+
+abbrev pub proxy_message : ℕ → ProxyData → Actor → Message → ProxyData × List Out
+proxy_message f s (Client c) (messages.Request b) = stamp_rule f s c b
+proxy_message f s (Replica r) (messages.FastReply b) = reply_rule f s r b.id b.delay (of_fast r b)
+proxy_message f s (Replica r) (messages.SlowReply b) = reply_rule f s r b.id b.delay (of_slow r b)
+proxy_message f s _ _ = (s, [])
+
+abbrev pub client_message : ℕ → ℕ → List Request → ClientData → Actor → Message → ClientData × List Out
+client_message proxies me script s (Proxy p) (messages.Answer b) = accept_rule proxies me script s b
+client_message proxies me script s _ _ = (s, [])
+
+-- A proxy that is down hears nothing.
+abbrev pub message_step : Group → (a : Actor) → State a → Actor → Message → State a × List Out
+message_step g (Replica r) s from m = replica_message g.f r s from m
+message_step g (Proxy p) s from m = if s.is_down then (s, []) else proxy_message g.f s from m
+message_step g (Client c) s from m = client_message g.proxies c (script_of g c) s from m
+
+abbrev pub envelope_step : Group → (a : Actor) → State a → Option Envelope → State a × List Out
+envelope_step g a s None = (s, [])
+envelope_step g a s (Some e) = message_step g a s e.from e.message
+
+-- At a tick a replica releases what is due. Then the leader tells the others what its log has.
+abbrev pub tick_rule : ℕ → ℕ → ReplicaData → ℕ → ReplicaData × List Out
+tick_rule f me s clock = let t = release_rule f me s clock in (t.0, t.1 ++ told f me t.0)
+
+abbrev pub tick_step : Group → (a : Actor) → State a → ℕ → State a × List Out
+tick_step g (Replica r) s clock = tick_rule g.f r s clock
+tick_step g (Proxy p) s clock = if s.is_down then (s, []) else (clock_rule s clock, [])
+tick_step g (Client c) s clock = wait_rule g.proxies c (script_of g c) s
+
+-- Clients do not crash. What a replica forgets in a crash, and how it rejoins, is still to come.
+abbrev pub crash_step : Group → (a : Actor) → State a → State a
+crash_step g (Replica r) s = s
+crash_step g (Proxy p) s = crashed_proxy g.f
+crash_step g (Client c) s = s
+
+abbrev pub restart_step : Group → (a : Actor) → State a → ℕ → State a
+restart_step g (Replica r) s nonce = s
+restart_step g (Proxy p) s nonce = restarted_proxy g.f s
+restart_step g (Client c) s nonce = s
+
+-- The state after an event, and what is sent. A cut parcel changes nothing, and an alarm nothing yet.
+abbrev pub event_step : Group → (a : Actor) → State a → Event → State a × List Out
+event_step g a s (Deliver p) = envelope_step g a s (received g.f a p)
+event_step g a s (Cut p kept) = (s, [])
+event_step g a s (Tick clock) = tick_step g a s clock
+event_step g a s Alarm = (s, [])
+event_step g a s Crash = (crash_step g a s, [])
+event_step g a s (Restart nonce) = (restart_step g a s nonce, [])
+
+abbrev pub parcel : Actor → Out → Parcel
+parcel from o = record { from = from; to = o.0; frame = encode_of from o.0 o.1 }
+
+-- The same, with what is sent as parcels.
+abbrev pub node_step : Group → (a : Actor) → State a → Event → State a × List Parcel
+node_step g a s e = let t = event_step g a s e in (t.0, map (parcel a) t.1)
+
+-- ---- an actor with its state
+
+pub record Node : Type 0 where
+  pub actor : Actor
+  pub state : State actor
+
+abbrev pub node_run : Group → Node → Event → Node × List Parcel
+node_run g n e = let t = node_step g n.actor n.state e in (record { actor = n.actor; state = t.0 }, t.1)
+
+abbrev pub first_node : Group → Actor → Node
+first_node g a = record { actor = a; state = first g a }

@@ -1,0 +1,30 @@
+//! The machine: the rules of all actors as definitions, what a run of the world is, and what the code of
+//! an actor is held to.
+#![tactic(auto)]
+
+mod answers;
+mod cores;
+mod counting;
+mod data;
+mod event;
+mod laws;
+mod parts;
+mod receiving;
+mod reply;
+mod replying;
+mod sending;
+mod state;
+
+pub use answers::copy_answer;
+pub use cores::Core;
+pub use counting::is_counted;
+pub use data::{Attempt, Origin, Status};
+pub use event::{Event, Parcel, Record, RecordList, Sends};
+pub use laws::{due_entries_are_released, facts_are_kept};
+pub use receiving::heard;
+pub use reply::{Reply, ReplyList};
+pub use sending::send;
+pub use state::ReplicaState;
+
+#[cfg(test)]
+mod tests;
