@@ -1,0 +1,15 @@
+use Rattle.std.proofs.Common.{◌++◌, map, length}
+use Rattle.nz_base.specs.declared.actor.Actor.TheVariants.{Replica}
+use Rattle.nz_machine.specs.Releases.{releases}
+use Rattle.nz_machine.specs.Step.{parcel}
+use Rattle.nz_normal.proofs.Releasing.{Releases}
+use Rattle.nz_normal.proofs.releases.release_due.Given as goal
+
+abbrev pub invariant-due : goal.invariant-due
+invariant-due l =
+    let seat = l.fn.state in
+    let all = releases seat.f seat.me seat.state seat.state.early in
+    Releases seat.f seat.me (all.0, l.fn.sends ++ map (parcel (Replica seat.me)) all.1) l.state l.sends
+
+abbrev pub decreases-due : goal.decreases-due
+decreases-due l = length l.state.state.early

@@ -1,0 +1,50 @@
+//! The release rule.
+
+ghost use Rattle.std.specs.Prelude.{◌≡◌, ◌∷◌, ◌++◌, List, map, IsTrue, OnOk};
+ghost use Rattle.nz_base.specs.declared.actor.Actor.TheVariants.{Replica as IsReplica};
+ghost use Rattle.nz_base.specs.declared.key.Entry.{Entry};
+ghost use Rattle.nz_machine.specs.Replicas.{is_normal};
+ghost use Rattle.nz_machine.specs.Releases.{released, release_replies, first_may, releases, release_rule};
+ghost use Rattle.nz_machine.specs.Step.{parcel};
+
+use nz_base::NoMemory;
+use nz_machine::{ReplicaState, Sends};
+
+/// Releases the first early entry, and replies to its request.
+fn release_first(state: &mut ReplicaState, sends: &mut Sends) -> Result<(), NoMemory>
+    requires normal { IsTrue (is_normal state.old.state.status) }
+    requires first { IsTrue (first_may state.old.state state.old.state.early) }
+    ensures state { OnOk result ((e : Entry) (es : List Entry) → state.old.state.early ≡ e ∷ es
+        → state.new ≡ record state.old { state = released state.old.f state.old.me state.old.state e es }) }
+    ensures sends { OnOk result ((e : Entry) (es : List Entry) → state.old.state.early ≡ e ∷ es
+        → sends.new ≡ sends.old ++ map (parcel (IsReplica state.old.me)) (release_replies state.old.f state.old.me (released state.old.f state.old.me state.old.state e es) e)) }
+{
+    let place = state.log().len();
+    let id = state.release()?;
+    state.reply_fast(id, place, sends)
+}
+
+/// Releases early entries up to the first that may not be.
+fn release_due(state: &mut ReplicaState, sends: &mut Sends) -> Result<(), NoMemory>
+    requires normal { IsTrue (is_normal state.old.state.status) }
+    ensures state { OnOk result (state.new ≡ record state.old { state = (releases state.old.f state.old.me state.old.state state.old.state.early).0 }) }
+    ensures sends { OnOk result (sends.new ≡ sends.old ++ map (parcel (IsReplica state.old.me)) (releases state.old.f state.old.me state.old.state state.old.state.early).1) }
+{
+    'due: while state.may_release() {
+        release_first(state, sends)?;
+    }
+    Ok(())
+}
+
+/// What a replica does when its clock reads so many clock units.
+#[tactic(auto, unfolding(nz_machine::specs::Releases::release_rule))]
+pub fn tick(state: &mut ReplicaState, clock: u64, sends: &mut Sends) -> Result<(), NoMemory>
+    ensures state { OnOk result (state.new ≡ record state.old { state = (release_rule state.old.f state.old.me state.old.state clock).0 }) }
+    ensures sends { OnOk result (sends.new ≡ sends.old ++ map (parcel (IsReplica state.old.me)) (release_rule state.old.f state.old.me state.old.state clock).1) }
+{
+    state.set_clock(clock);
+    if state.is_normal() {
+        release_due(state, sends)?;
+    }
+    Ok(())
+}

@@ -1,0 +1,162 @@
+//! The request rule.
+
+ghost use Rattle.std.specs.Prelude.{◌≡◌, ◌≤◌, ◌<◌, ◌^◌, ◌++◌, map, length, nat_lt, IsTrue, IsFalse, IfOk, OnOk, if◌then◌else◌};
+ghost use Rattle.nz_base.specs.Actor.{HasAddress};
+ghost use Rattle.nz_base.specs.Log.{keys_of, has_id};
+ghost use Rattle.nz_base.specs.declared.actor.Actor.TheVariants.{Replica as IsReplica};
+ghost use Rattle.nz_log.specs.Places.{last_entry};
+ghost use Rattle.nz_msg.specs.Messages.{timed};
+ghost use Rattle.nz_msg.specs.declared.message.Message.TheVariants.{Timed};
+ghost use Rattle.nz_machine.specs.Replicas.{key_at as key_of};
+ghost use Rattle.nz_machine.specs.Requests.{replies_at, entry_at as entry_of, next_deadline as deadline_behind, restamped, placed, is_full as is_full_state, unlogged as unlogged_of, request_rule};
+ghost use Rattle.nz_machine.specs.Step.{parcel, replica_message};
+
+use nz_base::{Actor, Entry, Id, Key, NoMemory, TryCopy};
+use nz_log::{HashedLog, MAX_ENTRIES};
+use nz_machine::{ReplicaState, Sends};
+use nz_msg::TimedBody;
+use std::alloc::Global;
+
+/// Deadlines are below this, in clock units.
+const DEADLINES: u64 = 1 << 63;
+
+fn key_at(deadline: u64, id: Id) -> Key
+    ensures { result ≡ key_of deadline id }
+{
+    Key {
+        deadline,
+        client: id.client,
+        num: id.num,
+    }
+}
+
+fn entry_at(alloc: Global, deadline: u64, body: &TimedBody) -> Result<Entry, NoMemory>
+    ensures { IfOk result (λ entry. entry ≡ entry_of deadline body.now) }
+{
+    Ok(Entry {
+        key: key_at(deadline, body.id),
+        command: body.command.copy(alloc)?,
+    })
+}
+
+/// The deadline behind that of the log's last entry, if there is one.
+fn next_deadline(log: &HashedLog) -> Option<u64>
+    ensures { result ≡ (let deadline = deadline_behind (last_entry log.now.entries) in if nat_lt deadline (2 ^ 63) then Some deadline else None) }
+{
+    match log.last() {
+        None => Some(1),
+        Some(last) => {
+            if last.key.deadline < DEADLINES - 1 {
+                Some(last.key.deadline + 1)
+            } else {
+                None
+            }
+        }
+    }
+}
+
+/// The leader stamps a late request anew.
+fn restamp(state: &mut ReplicaState, body: &TimedBody) -> Result<(), NoMemory>
+    requires fits { timed.fits body.now }
+    requires logged { IsFalse (has_id (keys_of state.old.state.log.entries) body.now.id) }
+    requires held { IsFalse (has_id (keys_of state.old.state.early) body.now.id) }
+    ensures { OnOk result (state.new ≡ record state.old { state = restamped state.old.state body.now }) }
+{
+    match next_deadline(state.log()) {
+        None => Ok(()),
+        Some(deadline) => {
+            let entry = entry_at(state.allocator(), deadline, body)?;
+            state.keep_early(entry)
+        }
+    }
+}
+
+/// A request that is neither logged nor early waits for its deadline, or is late.
+fn place(state: &mut ReplicaState, body: &TimedBody) -> Result<(), NoMemory>
+    requires fits { timed.fits body.now }
+    requires logged { IsFalse (has_id (keys_of state.old.state.log.entries) body.now.id) }
+    requires held { IsFalse (has_id (keys_of state.old.state.early) body.now.id) }
+    ensures { OnOk result (state.new ≡ record state.old { state = placed state.old.f state.old.me state.old.state body.now }) }
+{
+    let is_early = state.log().is_above(&key_at(body.deadline, body.id));
+    if !is_early && state.leads() {
+        return restamp(state, body);
+    }
+    let entry = entry_at(state.allocator(), body.deadline, body)?;
+    if is_early {
+        state.keep_early(entry)
+    } else {
+        state.keep_late(entry)
+    }
+}
+
+/// Whether log, early and late together hold as many entries as a log may.
+fn is_full(state: &ReplicaState) -> bool
+    ensures { result ≡ is_full_state state.now.state }
+{
+    let waiting = state.early().len().saturating_add(state.late().len());
+    waiting.saturating_add(state.log().len() as usize) >= MAX_ENTRIES as usize
+}
+
+fn unlogged(state: &mut ReplicaState, body: &TimedBody) -> Result<(), NoMemory>
+    requires fits { timed.fits body.now }
+    requires logged { IsFalse (has_id (keys_of state.old.state.log.entries) body.now.id) }
+    ensures { OnOk result (state.new ≡ record state.old { state = unlogged_of state.old.f state.old.me state.old.state body.now }) }
+{
+    if state.early().find(body.id).is_some() || is_full(state) {
+        return Ok(());
+    }
+    place(state, body)
+}
+
+/// Replies to a request whose entry is at this place in the log.
+fn reply(state: &ReplicaState, id: Id, place: u32, sends: &mut Sends) -> Result<(), NoMemory>
+    requires { place < length state.now.state.log.entries }
+    ensures { OnOk result (sends.new ≡ sends.old ++ map (parcel (IsReplica state.now.me)) (replies_at state.now.f state.now.me state.now.state id place)) }
+{
+    if !state.leads() && place < state.log().synced() {
+        state.reply_slowly(id, sends)
+    } else {
+        state.reply_fast(id, place, sends)
+    }
+}
+
+#[tactic(auto, unfolding(nz_machine::specs::Requests::request_rule))]
+fn request(
+    state: &mut ReplicaState,
+    proxy: u8,
+    body: &TimedBody,
+    sends: &mut Sends,
+) -> Result<(), NoMemory>
+    requires proxy { proxy ≤ 7 }
+    requires fits { timed.fits body.now }
+    ensures state { OnOk result (state.new ≡ record state.old { state = (request_rule state.old.f state.old.me state.old.state proxy body.now).0 }) }
+    ensures sends { OnOk result (sends.new ≡ sends.old ++ map (parcel (IsReplica state.old.me)) (request_rule state.old.f state.old.me state.old.state proxy body.now).1) }
+{
+    if !state.is_normal() {
+        return Ok(());
+    }
+    state.note_origin(proxy, body)?;
+    match state.log().place_of(body.id) {
+        Some(place) => reply(state, body.id, place, sends),
+        None => unlogged(state, body),
+    }
+}
+
+/// What a replica does with a timed message. It takes them from proxies alone.
+pub fn on_timed(
+    state: &mut ReplicaState,
+    from: Actor,
+    body: &TimedBody,
+    sends: &mut Sends,
+) -> Result<(), NoMemory>
+    requires from { HasAddress from }
+    requires fits { timed.fits body.now }
+    ensures state { OnOk result (state.new ≡ record state.old { state = (replica_message state.old.f state.old.me state.old.state from (Timed body.now)).0 }) }
+    ensures sends { OnOk result (sends.new ≡ sends.old ++ map (parcel (IsReplica state.old.me)) (replica_message state.old.f state.old.me state.old.state from (Timed body.now)).1) }
+{
+    match from {
+        Actor::Proxy(proxy) => request(state, proxy, body, sends),
+        Actor::Replica(_) | Actor::Client(_) => Ok(()),
+    }
+}
