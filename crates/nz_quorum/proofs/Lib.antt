@@ -1,0 +1,3 @@
+mod Support
+mod Leads
+pub mod Choosing
