@@ -1,0 +1,5 @@
+mod Tables
+mod Sends
+mod Fitting
+mod Noting
+mod Passing

@@ -1,0 +1,27 @@
+-- What a proxy passes over changes nothing.
+use Rattle.std.proofs.Common.{◌≡◌, ◌⊎◌, ℕ, Bool, true, false, ◌&&◌, List, [], ◌++◌, Option, Some, map, refl, sym, ap, ◌∙◌, inl, inr}
+use Rattle.std.proofs.lemmas.List.{append-nil}
+use Rattle.nz_base.specs.declared.actor.Actor.TheVariants.{Proxy}
+use Rattle.nz_base.proofs.Booleans.{cases_bool}
+use Rattle.nz_msg.specs.declared.envelope.Envelope.{Envelope}
+use Rattle.nz_machine.specs.declared.event.Parcel.{Parcel}
+use Rattle.nz_machine.specs.State.{ProxyData, Out}
+use Rattle.nz_machine.specs.Step.{is_in_cluster, is_sized, vector_of, counted, envelope_step}
+use Rattle.nz_proxy.specs.Seats.{group_of}
+
+-- where nothing is sent
+pub nothing_sent : (f : Out → Parcel) (sends : List Parcel) (outs : List Out) → outs ≡ [] → sends ≡ sends ++ map f outs
+nothing_sent f sends outs none = sym (append-nil sends) ∙ ap (λ (os : List Out). sends ++ map f os) (sym none)
+
+abbrev pub counts : ℕ → Envelope → Bool
+counts f e = is_in_cluster f e.from && is_sized f (vector_of e.message)
+
+pub passed_over : (f me : ℕ) (s : ProxyData) (o : Option Envelope) (e : Envelope) → o ≡ Some e → (s.is_down ≡ true) ⊎ (counts f e ≡ false)
+    → envelope_step (group_of f) (Proxy me) s (counted f o) ≡ (s, [])
+passed_over f me s o e is (inr stray) = ap (λ x. envelope_step (group_of f) (Proxy me) s (counted f x)) is ∙ (rw stray refl)
+passed_over f me s o e is (inl down) =
+    ap (λ x. envelope_step (group_of f) (Proxy me) s (counted f x)) is
+    ∙ elim (cases_bool (counts f e)) [
+      | inl here ↦ rw (here, down) refl
+      | inr stray ↦ rw stray refl
+    ]

@@ -1,0 +1,41 @@
+-- What a contract sees of a proxy, and what the code keeps.
+use Rattle.std.specs.Prelude.{ℕ, Bool, ◌≡◌, ◌≤◌, List, [], length, if◌then◌else◌}
+use Rattle.std.specs.List.{AllByRecursion}
+use Rattle.nz_base.specs.Cluster.{replica_count}
+use Rattle.nz_base.specs.declared.key.Id.{Id}
+use Rattle.nz_machine.specs.State.{ProxyData, Group}
+use Rattle.nz_machine.specs.Replicas.{last_clock}
+use Rattle.nz_machine.specs.Proxies.{clock_rule}
+use Rattle.nz_proxy.specs.declared.standing.Standing.{Standing}
+use Rattle.nz_proxy.specs.Standings.{IsFitEntry}
+
+-- The f of the cluster, the proxy's number, and its state.
+pub record ProxySeat : Type 0 where
+  pub f : ℕ
+  pub me : ℕ
+  pub state : ProxyData
+
+-- What the code keeps of a proxy's parts.
+pub record IsKept (f me clock : ℕ) (samples : List (List ℕ)) (entries : List (Id × Standing)) : Type 0 where
+  pub named : me ≤ 7
+  pub in_time : clock ≤ last_clock
+  pub window : length samples ≡ replica_count f
+  pub standings : AllByRecursion (IsFitEntry f) entries
+
+-- A group with this cluster. No rule of a proxy asks for more of it.
+abbrev pub group_of : ℕ → Group
+group_of f = record { f = f; proxies = 0; scripts = [] }
+
+-- One proxy, maybe in another state.
+pub record IsSame (a b : ProxySeat) : Type 0 where
+  pub f : b.f ≡ a.f
+  pub me : b.me ≡ a.me
+
+-- What a contract sees of a proxy as a core: whether no step has run out of memory, too.
+pub record ProxyView : Type 0 where
+  pub seat : ProxySeat
+  pub live : Bool
+
+-- The state after a tick.
+abbrev pub ticked : ProxyData → ℕ → ProxyData
+ticked s clock = if s.is_down then s else clock_rule s clock

@@ -1,0 +1,11 @@
+-- One message to some replicas.
+use Rattle.std.specs.Prelude.{ℕ, List, map}
+use Rattle.nz_base.specs.declared.actor.Actor.TheVariants.{Replica}
+use Rattle.nz_msg.specs.declared.message.Message.{Message}
+use Rattle.nz_machine.specs.State.{Out}
+
+abbrev pub to_replica : Message → ℕ → Out
+to_replica message replica = (Replica replica, message)
+
+abbrev pub to_each : Message → List ℕ → List Out
+to_each message replicas = map (to_replica message) replicas

@@ -1,0 +1,288 @@
+ghost use Rattle.std.specs.Prelude.{◌≡◌, ◌+◌, ◌-◌, ◌^◌, ◌<◌, ◌≤◌, ◌++◌, ◌∷◌, List, [], map, length, OnOk, IfOk, IsSome, IfSome, true, false};
+ghost use Rattle.std.specs.Option.{option_map};
+ghost use Rattle.nz_base.specs.Actor.{HasAddress};
+ghost use Rattle.nz_base.specs.Cluster.{replica_count};
+ghost use Rattle.nz_base.specs.declared.actor.Actor.TheVariants.{Proxy as IsProxy};
+ghost use Rattle.nz_msg.specs.Fields.{answer as an_answer, command as a_command};
+ghost use Rattle.nz_msg.specs.Messages.{Fits, request as a_request, timed as a_timed};
+ghost use Rattle.nz_machine.specs.State.{Standing as Known, Open as IsOpen};
+ghost use Rattle.nz_machine.specs.Proxies.{first_proxy, margin, with_standing, standing_of, answer_to, timed_to, timed_to_all, stamp_rule as stamp_rule_of, noted_in, reply_rule as reply_rule_of, clock_rule as clock_rule_of, crashed_proxy, restarted_proxy};
+ghost use Rattle.nz_machine.specs.Replicas.{numbers_below};
+ghost use Rattle.nz_machine.specs.Step.{parcel};
+ghost use Rattle.nz_quorum.specs.Tallies.{IsOfCluster, replica_of};
+ghost use Rattle.nz_window.specs.Samples.{bound_of, sampled};
+ghost use Rattle.nz_proxy.specs.Standings.{known, IsFit, HasFitAnswer, answers_to};
+ghost use Rattle.nz_proxy.specs.Sending.{to_each};
+ghost use Rattle.nz_proxy.specs.Seats.{IsSame};
+
+use crate::standing::Standing;
+use indexmap::IndexMap;
+use nz_base::{Actor, Blob, Cluster, Id, NoMemory};
+use nz_machine::{Reply, Sends, copy_answer, send};
+use nz_msg::{AnswerBody, Message, Path, RequestBody, TimedBody};
+use nz_quorum::Tally;
+use nz_store::Answer;
+use nz_window::Window;
+use std::alloc::Global;
+use std::marker::Model;
+
+/// Clocks stop here.
+const LAST_CLOCK: u64 = (1 << 62) - 1;
+
+/// Behind the bound on the delay, in clock units.
+const MARGIN: u64 = 500;
+
+/// The state of a proxy.
+#[derive(Drop)]
+pub struct ProxyState {
+    cluster: Cluster,
+    me: u8,
+    is_down: bool,
+    clock: u64,
+    window: Window,
+    standings: IndexMap<Id, Standing>,
+    alloc: Global,
+}
+
+impl Model for ProxyState {
+    ghost use Rattle.nz_proxy.specs.Standings.{known_all};
+    ghost use Rattle.nz_proxy.specs.Seats.{ProxySeat, IsKept};
+
+    ghost Value = { ProxySeat };
+
+    ghost view = { λ s. record { f = s.cluster; me = s.me; state = record { is_down = s.is_down; clock = s.clock; samples = s.window; standings = known_all s.standings.entries } } };
+
+    ghost invariant = { λ s. IsKept s.cluster s.me s.clock s.window s.standings.entries };
+}
+
+impl ProxyState {
+    /// A proxy in its first state.
+    pub fn new(alloc: Global, cluster: Cluster, me: u8) -> ProxyState
+        requires { me ≤ 7 }
+        ensures { result ≡ record { f = cluster; me = me; state = first_proxy cluster } }
+    {
+        ProxyState {
+            cluster,
+            me,
+            is_down: false,
+            clock: 0,
+            window: Window::new(cluster.n()),
+            standings: IndexMap::new(alloc),
+            alloc,
+        }
+    }
+
+    /// The actor's name.
+    pub fn name(&self) -> Actor
+        ensures name { result ≡ IsProxy self.now.me }
+        ensures address { HasAddress result }
+    {
+        Actor::Proxy(self.me)
+    }
+
+    pub fn allocator(&self) -> Global {
+        self.alloc
+    }
+
+    pub fn cluster(&self) -> Cluster
+        ensures { result ≡ self.now.f }
+    {
+        self.cluster
+    }
+
+    pub fn is_down(&self) -> bool
+        ensures { result ≡ self.now.state.is_down }
+    {
+        self.is_down
+    }
+
+    /// Forgets all, and is down.
+    pub fn crash(&mut self)
+        ensures { self.new ≡ record self.old { state = crashed_proxy self.old.f } }
+    {
+        *self = ProxyState::new(self.alloc, self.cluster, self.me);
+        self.is_down = true;
+    }
+
+    /// Begins anew, if it is down.
+    pub fn restart(&mut self)
+        ensures { self.new ≡ record self.old { state = restarted_proxy self.old.f self.old.state } }
+    {
+        if self.is_down {
+            *self = ProxyState::new(self.alloc, self.cluster, self.me);
+        }
+    }
+
+    /// What is known of a request.
+    fn standing(&self, id: Id) -> Option<&Standing>
+        ensures value { option_map {U = Known} (λ s. known s.now) result ≡ standing_of self.now.state id }
+        ensures fit { IfSome result (λ s. IsFit self.now.f s.now) }
+    {
+        self.standings.get(&id)
+    }
+
+    /// The deadline of a request that is stamped now.
+    fn deadline(&self) -> u64
+        ensures value { result ≡ self.now.state.clock + bound_of self.now.state.samples + margin }
+        ensures named { result ≤ 2 ^ 63 - 1 }
+    {
+        self.clock + u64::from(self.window.bound()) + MARGIN
+    }
+
+    fn set_standing(&mut self, id: Id, standing: Standing) -> Result<(), NoMemory>
+        requires client { id.client ≤ 63 }
+        requires fit { IsFit self.old.f standing }
+        ensures same { IsSame self.old self.new }
+        ensures state { OnOk result (self.new ≡ record self.old { state = with_standing self.old.state id (known standing) }) }
+    {
+        self.standings.insert(id, standing)?;
+        Ok(())
+    }
+
+    fn sample(&mut self, replica: u8, delay: u32)
+        requires { replica < replica_count self.old.f }
+        ensures { self.new ≡ record self.old { state = record self.old.state { samples = sampled self.old.state.samples replica delay } } }
+    {
+        self.window.sample(replica, delay);
+    }
+
+    /// Notes a reply, if its request is open. Where the replies decide now, gives the answer for the client.
+    fn note(&mut self, id: Id, reply: Reply) -> Result<Option<(Answer, Path)>, NoMemory>
+        requires reply { IsOfCluster self.old.f reply }
+        requires answer { HasFitAnswer reply }
+        ensures same { IsSame self.old self.new }
+        ensures state { IfOk result (λ told. noted_in self.old.f self.old.state id reply (standing_of self.old.state id) ≡ (self.new.state, answers_to id told)) }
+        ensures client { IfOk result (λ told. IsSome told → id.client ≤ 63) }
+        ensures fit { IfOk result (λ told. IfSome told (λ t. an_answer.fits t.0)) }
+    {
+        let alloc = self.alloc;
+        match self.standings.get_mut(&id) {
+            None => Ok(None),
+            Some(standing) => standing.note(alloc, reply),
+        }
+    }
+}
+
+fn send_answer(
+    state: &ProxyState,
+    id: Id,
+    answer: Answer,
+    path: Path,
+    sends: &mut Sends,
+) -> Result<(), NoMemory>
+    requires client { id.client ≤ 63 }
+    requires answer { an_answer.fits answer }
+    ensures { OnOk result (sends.new ≡ sends.old ++ map (parcel (IsProxy state.now.me)) (answer_to id answer path ∷ [])) }
+{
+    let message = Message::Answer(AnswerBody {
+        num: id.num,
+        answer,
+        path,
+    });
+    let to = Actor::Client(id.client as u8);
+    send(state.alloc, state.name(), to, &message, sends)
+}
+
+fn timed(state: &ProxyState, id: Id, command: Blob) -> TimedBody
+    requires { a_command.fits command }
+    ensures value { result ≡ record { sent = state.now.state.clock; deadline = state.now.state.clock + bound_of state.now.state.samples + margin; id = id; command = command } }
+    ensures fit { a_timed.fits result }
+{
+    TimedBody {
+        sent: state.clock,
+        deadline: state.deadline(),
+        id,
+        command,
+    }
+}
+
+/// Sends the message to each replica.
+fn send_to_replicas(
+    state: &ProxyState,
+    message: &Message,
+    sends: &mut Sends,
+) -> Result<(), NoMemory>
+    requires { Fits message.now }
+    ensures { OnOk result (sends.new ≡ sends.old ++ map (parcel (IsProxy state.now.me)) (to_each message.now (numbers_below (replica_count state.now.f)))) }
+{
+    let cluster = state.cluster();
+    for replica in 0..cluster.n() {
+        let to = Actor::Replica(replica);
+        send(state.alloc, state.name(), to, message, sends)?;
+    }
+    Ok(())
+}
+
+/// Sends the request to each replica, stamped with its deadline.
+fn send_to_all(state: &ProxyState, id: Id, command: Blob, sends: &mut Sends) -> Result<(), NoMemory>
+    requires { a_command.fits command }
+    ensures { OnOk result (sends.new ≡ sends.old ++ map (parcel (IsProxy state.now.me)) (timed_to_all state.now.f state.now.state id command)) }
+{
+    let message = Message::Timed(timed(state, id, command));
+    send_to_replicas(state, &message, sends)
+}
+
+/// The rule for a request of a client.
+#[tactic(auto, unfolding(nz_machine::specs::Proxies::stamp_rule))]
+pub fn stamp_rule(
+    state: &mut ProxyState,
+    client: u8,
+    body: RequestBody,
+    sends: &mut Sends,
+) -> Result<(), NoMemory>
+    requires client { client ≤ 63 }
+    requires body { a_request.fits body }
+    ensures same { IsSame state.old state.new }
+    ensures state { OnOk result (state.new ≡ record state.old { state = (stamp_rule_of state.old.f state.old.state client body).0 }) }
+    ensures sends { OnOk result (sends.new ≡ sends.old ++ map (parcel (IsProxy state.old.me)) (stamp_rule_of state.old.f state.old.state client body).1) }
+{
+    let id = Id {
+        client: u32::from(client),
+        num: body.num,
+    };
+    let alloc = state.alloc;
+    match state.standing(id) {
+        Some(Standing::Decided { answer, path }) => {
+            let answer = copy_answer(alloc, answer)?;
+            send_answer(state, id, answer, *path, sends)
+        }
+        Some(Standing::Open(_)) => send_to_all(state, id, body.command, sends),
+        None => {
+            send_to_all(state, id, body.command, sends)?;
+            let tally = Tally::new(alloc, state.cluster);
+            state.set_standing(id, Standing::Open(tally))
+        }
+    }
+}
+
+/// The rule for a reply of a replica to the request, whose timed message was under way for the delay.
+#[tactic(auto, unfolding(nz_machine::specs::Proxies::reply_rule))]
+pub fn reply_rule(
+    state: &mut ProxyState,
+    replica: u8,
+    id: Id,
+    delay: u32,
+    reply: Reply,
+    sends: &mut Sends,
+) -> Result<(), NoMemory>
+    requires replica { replica < replica_count state.old.f }
+    requires reply { IsOfCluster state.old.f reply }
+    requires answer { HasFitAnswer reply }
+    ensures same { IsSame state.old state.new }
+    ensures state { OnOk result (state.new ≡ record state.old { state = (reply_rule_of state.old.f state.old.state replica id delay reply).0 }) }
+    ensures sends { OnOk result (sends.new ≡ sends.old ++ map (parcel (IsProxy state.old.me)) (reply_rule_of state.old.f state.old.state replica id delay reply).1) }
+{
+    state.sample(replica, delay);
+    match state.note(id, reply)? {
+        None => Ok(()),
+        Some((answer, path)) => send_answer(state, id, answer, path, sends),
+    }
+}
+
+/// The rule for a tick.
+#[tactic(auto, unfolding(nz_machine::specs::Proxies::clock_rule))]
+pub fn clock_rule(state: &mut ProxyState, clock: u64)
+    ensures { state.new ≡ record state.old { state = clock_rule_of state.old.state clock } }
+{
+    state.clock = clock.min(LAST_CLOCK);
+}
