@@ -1,0 +1,53 @@
+-- A client hears answers of proxies alone, which every cluster lets pass.
+use Rattle.std.proofs.Common.{◌≡◌, ℕ, Bool, true, false, List, [], Option, Some, None, refl, sym, ap, ◌∙◌, if◌then◌else◌}
+use Rattle.nz_base.specs.declared.actor.Actor.{Actor}
+use Rattle.nz_base.specs.declared.actor.Actor.TheVariants.{Replica, Proxy, Client}
+use Rattle.nz_msg.specs.declared.envelope.Envelope.{Envelope}
+use Rattle.nz_msg.specs.declared.message.Message.{Message}
+use Rattle.nz_msg.specs.declared.message.Message.TheVariants.{Request, Timed, FastReply, SlowReply, Answer, LogMod, Fetch, FetchReply, SyncReport, ViewAsk, ViewChange, StartView, VectorAsk, VectorTell, RejoinAsk, RejoinTell, StateAsk, StateTell}
+use Rattle.nz_base.specs.declared.scenario.Request.{Request as Wish}
+use Rattle.nz_machine.specs.declared.event.Parcel.{Parcel}
+use Rattle.nz_machine.specs.State.{ClientData, Group, Out}
+use Rattle.nz_machine.specs.Step.{is_in_cluster, is_sized, vector_of, heard, received, counted, envelope_step, client_message, script_of}
+use Rattle.nz_client.specs.Seats.{ClientSeat, IsOf}
+
+-- what is passed over changes nothing
+pub idle : (g : Group) (me : ℕ) (s : ClientData) (e : Envelope) (b : Bool) → client_message g.proxies me (script_of g me) s e.from e.message ≡ (s, [])
+    → envelope_step g (Client me) s (if b then Some e else None) ≡ client_message g.proxies me (script_of g me) s e.from e.message
+idle g me s e true same = refl
+idle g me s e false same = sym same
+
+-- a client takes what it hears as if it were of the cluster's size
+pub takes_all : (g : Group) (me : ℕ) (s : ClientData) (from to : Actor) (m : Message)
+    → envelope_step g (Client me) s (counted g.f (Some (record { from = from; to = to; message = m })))
+    ≡ client_message g.proxies me (script_of g me) s from m
+takes_all g me s (Replica r) to m = idle g me s _ _ refl
+takes_all g me s (Client c) to m = idle g me s _ _ refl
+takes_all g me s (Proxy p) to (Answer b) = refl
+takes_all g me s (Proxy p) to (Request b) = refl
+takes_all g me s (Proxy p) to (Timed b) = refl
+takes_all g me s (Proxy p) to (FastReply b) = idle g me s _ _ refl
+takes_all g me s (Proxy p) to (SlowReply b) = refl
+takes_all g me s (Proxy p) to (LogMod b) = idle g me s _ _ refl
+takes_all g me s (Proxy p) to (Fetch b) = refl
+takes_all g me s (Proxy p) to (FetchReply b) = refl
+takes_all g me s (Proxy p) to (SyncReport b) = refl
+takes_all g me s (Proxy p) to (ViewAsk b) = refl
+takes_all g me s (Proxy p) to (ViewChange b) = idle g me s _ _ refl
+takes_all g me s (Proxy p) to (StartView b) = idle g me s _ _ refl
+takes_all g me s (Proxy p) to (VectorAsk b) = refl
+takes_all g me s (Proxy p) to (VectorTell b) = idle g me s _ _ refl
+takes_all g me s (Proxy p) to (RejoinAsk b) = idle g me s _ _ refl
+takes_all g me s (Proxy p) to (RejoinTell b) = idle g me s _ _ refl
+takes_all g me s (Proxy p) to (StateAsk b) = idle g me s _ _ refl
+takes_all g me s (Proxy p) to (StateTell b) = idle g me s _ _ refl
+
+-- what a client does with a parcel that it hears
+pub delivered : (g : Group) (seat : ClientSeat) (p : Parcel) (e : Envelope) → IsOf g seat → heard (Client seat.me) p ≡ Some e
+    → envelope_step g (Client seat.me) seat.state (received g.f (Client seat.me) p)
+    ≡ client_message seat.proxies seat.me seat.script seat.state e.from e.message
+delivered g seat p e is h =
+    ap (λ (o : Option Envelope). envelope_step g (Client seat.me) seat.state (counted g.f o)) h
+    ∙ takes_all g seat.me seat.state e.from e.to e.message
+    ∙ ap (λ (n : ℕ). client_message n seat.me (script_of g seat.me) seat.state e.from e.message) (sym is.proxies)
+    ∙ ap (λ (script : List Wish). client_message seat.proxies seat.me script seat.state e.from e.message) (sym is.script)

@@ -1,0 +1,64 @@
+-- What a contract sees of a client, and what the code keeps.
+use Rattle.std.specs.Prelude.{ℕ, Bool, ◌≡◌, ◌<◌, ◌≤◌, ◌+◌, ◌^◌, List, length, Option, Some, None}
+use Rattle.std.specs.List.{AllByRecursion}
+use Rattle.nz_base.specs.declared.scenario.Request.{Request}
+use Rattle.nz_msg.specs.Fields.{command}
+use Rattle.nz_machine.specs.declared.data.Attempt.{Attempt}
+use Rattle.nz_machine.specs.State.{ClientData, Group}
+use Rattle.nz_machine.specs.Clients.{patience}
+use Rattle.nz_machine.specs.Step.{script_of}
+
+-- The client's number, how many proxies there are, its requests, and its state.
+pub record ClientSeat : Type 0 where
+  pub me : ℕ
+  pub proxies : ℕ
+  pub script : List Request
+  pub state : ClientData
+
+-- No request is open, or one is.
+abbrev pub open_count : Option Attempt → ℕ
+open_count None = 0
+open_count (Some a) = 1
+
+abbrev pub IsOfProxies : ℕ → Option Attempt → Type 0
+IsOfProxies proxies None = Unit {0}
+IsOfProxies proxies (Some a) = (a.proxy < proxies) × (a.since < patience)
+
+-- A request that a frame can carry.
+pub record IsSendable (request : Request) : Type 0 where
+  pub command : command.fits request.command
+
+abbrev pub AreSendable : List Request → Type 0
+AreSendable script = AllByRecursion IsSendable script
+
+-- What the code keeps of a client's parts.
+pub record IsInTurn (me proxies : ℕ) (script : List Request) (sent accepted : ℕ) (attempt : Option Attempt) : Type 0 where
+  pub named : me ≤ 63
+  pub some_proxies : 1 ≤ proxies
+  pub few_proxies : proxies ≤ 8
+  pub sendable : AreSendable script
+  pub short : length script < 2 ^ 32
+  pub in_script : sent ≤ length script
+  pub in_turn : accepted + open_count attempt ≡ sent
+  pub of_proxies : IsOfProxies proxies attempt
+
+-- The number of the open request, if one is: the one that was sent last.
+abbrev pub open_num : ClientData → Option Attempt → Option ℕ
+open_num s None = None
+open_num s (Some a) = Some s.sent
+
+-- The client is of this group.
+pub record IsOf (g : Group) (seat : ClientSeat) : Type 0 where
+  pub proxies : seat.proxies ≡ g.proxies
+  pub script : seat.script ≡ script_of g seat.me
+
+-- One client, maybe in another state.
+pub record IsSame (a b : ClientSeat) : Type 0 where
+  pub me : b.me ≡ a.me
+  pub proxies : b.proxies ≡ a.proxies
+  pub script : b.script ≡ a.script
+
+-- What a contract sees of a client as a core: whether no step has run out of memory, too.
+pub record ClientView : Type 0 where
+  pub seat : ClientSeat
+  pub live : Bool

@@ -1,0 +1,143 @@
+ghost use Rattle.std.specs.Prelude.{◌≡◌, ◌≤◌, ◌++◌, ◌↔◌, true, map, OnOk, IsTrue};
+ghost use Rattle.nz_base.specs.declared.actor.Actor.TheVariants.{Client as IsClient};
+ghost use Rattle.nz_msg.specs.Fields.{command};
+ghost use Rattle.nz_machine.specs.State.{Group};
+ghost use Rattle.nz_machine.specs.Clients.{first_client};
+ghost use Rattle.nz_machine.specs.Step.{node_step, envelope_step, client_message, received, parcel};
+ghost use Rattle.nz_client.specs.Seats.{AreSendable, IsOf, IsSame, open_num};
+
+use crate::state::{ClientState, accept_rule, wait_rule};
+use nz_base::{Actor, NoMemory, RequestList};
+use nz_machine::{Core, Event, Parcel, Sends, heard};
+use nz_msg::{Envelope, Message};
+use std::alloc::Global;
+use std::marker::Model;
+
+/// A frame carries a command of at most this many bytes.
+const MAX_COMMAND: usize = 552;
+
+/// Whether frames can carry each request of a script.
+pub fn are_sendable(script: &RequestList) -> bool
+    ensures { IsTrue result ↔ AreSendable script.now }
+{
+    script
+        .as_slice()
+        .iter()
+        .all(|request| is_command(request.command.as_slice()))
+}
+
+fn is_command(bytes: &[u8]) -> bool
+    ensures { IsTrue result ↔ command.fits bytes.now }
+{
+    1 <= bytes.len() && bytes.len() <= MAX_COMMAND
+}
+
+/// A client, which sends the requests of its script one by one: each when its wait is over and the one
+/// before it was accepted, and again through the next proxy while no answer comes.
+#[derive(Drop)]
+pub struct Client {
+    state: ClientState,
+    live: bool,
+}
+
+impl Model for Client {
+    ghost use Rattle.nz_client.specs.Seats.{ClientView};
+
+    ghost Value = { ClientView };
+
+    ghost view = { λ c. record { seat = c.state; live = c.live } };
+}
+
+impl Client {
+    /// A client in its first state, with its requests.
+    pub fn new(alloc: Global, me: u8, proxies: u8, script: RequestList) -> Client
+        requires named { me ≤ 63 }
+        requires least { 1 ≤ proxies }
+        requires most { proxies ≤ 8 }
+        requires sendable { AreSendable script }
+        ensures { result ≡ record { seat = record { me = me; proxies = proxies; script = script; state = first_client }; live = true } }
+    {
+        Client {
+            state: ClientState::new(alloc, me, proxies, script),
+            live: true,
+        }
+    }
+
+    /// The number of the open request, if one is.
+    pub fn open(&self) -> Option<u32>
+        ensures { result ≡ open_num self.now.seat.state self.now.seat.state.attempt }
+    {
+        self.state.open()
+    }
+
+    /// How many requests were accepted.
+    pub fn finished(&self) -> u32
+        ensures { result ≡ self.now.seat.state.accepted }
+    {
+        self.state.accepted()
+    }
+}
+
+fn handle(state: &mut ClientState, envelope: &Envelope, sends: &mut Sends) -> Result<(), NoMemory>
+    ensures same { IsSame state.old state.new }
+    ensures state { OnOk result (state.new ≡ record state.old { state = (client_message state.old.proxies state.old.me state.old.script state.old.state envelope.now.from envelope.now.message).0 }) }
+    ensures sends { OnOk result (sends.new ≡ sends.old ++ map (parcel (IsClient state.old.me)) (client_message state.old.proxies state.old.me state.old.script state.old.state envelope.now.from envelope.now.message).1) }
+{
+    match (envelope.from, &envelope.message) {
+        (Actor::Proxy(_), Message::Answer(body)) => accept_rule(state, body, sends),
+        _ => Ok(()),
+    }
+}
+
+fn deliver(state: &mut ClientState, p: &Parcel, sends: &mut Sends) -> Result<(), NoMemory>
+    ensures same { IsSame state.old state.new }
+    ensures state { (g : Group) → IsOf g state.old → OnOk result (state.new ≡ record state.old { state = (envelope_step g (IsClient state.old.me) state.old.state (received g.f (IsClient state.old.me) p.now)).0 }) }
+    ensures sends { (g : Group) → IsOf g state.old → OnOk result (sends.new ≡ sends.old ++ map (parcel (IsClient state.old.me)) (envelope_step g (IsClient state.old.me) state.old.state (received g.f (IsClient state.old.me) p.now)).1) }
+{
+    match heard(state.allocator(), state.name(), p)? {
+        None => Ok(()),
+        Some(envelope) => handle(state, &envelope, sends),
+    }
+}
+
+fn take(state: &mut ClientState, event: &Event, sends: &mut Sends) -> Result<(), NoMemory>
+    ensures same { IsSame state.old state.new }
+    ensures state { (g : Group) → IsOf g state.old → OnOk result (state.new ≡ record state.old { state = (node_step g (IsClient state.old.me) state.old.state event.now).0 }) }
+    ensures sends { (g : Group) → IsOf g state.old → OnOk result (sends.new ≡ sends.old ++ (node_step g (IsClient state.old.me) state.old.state event.now).1) }
+{
+    match event {
+        Event::Deliver(p) => deliver(state, p, sends),
+        Event::Tick(_) => wait_rule(state, sends),
+        Event::Cut(..) | Event::Alarm | Event::Crash | Event::Restart(_) => Ok(()),
+    }
+}
+
+impl Core for Client {
+    ghost use Rattle.nz_base.specs.declared.actor.Actor.TheVariants.{Client as IsClient};
+    ghost use Rattle.nz_client.specs.Seats.{IsOf};
+
+    ghost meaning = { λ c. record { actor = IsClient c.seat.me; state = c.seat.state } };
+
+    ghost live = { λ c. c.live };
+
+    ghost fits = { λ c g. IsOf g c.seat };
+
+    fn step(&mut self, event: &Event) -> Result<Sends, NoMemory> {
+        let mut sends = Sends::new(self.state.allocator());
+        match take(&mut self.state, event, &mut sends) {
+            Ok(()) => Ok(sends),
+            Err(error) => {
+                self.live = false;
+                Err(error)
+            }
+        }
+    }
+
+    fn is_live(&self) -> bool {
+        self.live
+    }
+
+    fn actor(&self) -> Actor {
+        self.state.name()
+    }
+}
