@@ -1,0 +1,15 @@
+pub mod Decoded
+pub mod Views
+pub mod Prefixes
+pub mod Says
+pub mod Heard
+pub mod Leader
+pub mod Standings
+pub mod Notes
+pub mod Decisions
+pub mod AnswersSent
+pub mod Clients
+pub mod Tells
+pub mod Asked
+pub mod Histories
+pub mod OneHistory

@@ -1,0 +1,116 @@
+-- What a step does to what a proxy knows of a request.
+use Rattle.std.proofs.Common.{◌≡◌, ℕ, Bool, true, false, cond, List, [], ◌∷◌, Option, Some, None, refl, sym, ap, subst, ◌∙◌}
+use Rattle.std.specs.Map.{lookup}
+use Rattle.indexmap.specs.IndexMap.{insert_entry}
+use Rattle.nz_base.specs.declared.actor.Actor.{Actor}
+use Rattle.nz_base.specs.declared.actor.Actor.TheVariants.{Replica, Proxy, Client}
+use Rattle.nz_base.specs.declared.key.Id.{Id}
+use Rattle.nz_base.specs.Key.{id_eq}
+use Rattle.nz_base.proofs.Names.{id_eq_self, same_id}
+use Rattle.nz_store.specs.declared.command.Answer.{Answer}
+use Rattle.nz_window.specs.Samples.{sampled}
+use Rattle.nz_msg.specs.declared.message.Path.{Path}
+use Rattle.nz_msg.specs.declared.message.RequestBody.{RequestBody}
+use Rattle.nz_msg.specs.declared.message.Message.{Message}
+use Rattle.nz_msg.specs.declared.message.Message.TheVariants as messages
+use Rattle.nz_msg.specs.declared.envelope.Envelope.{Envelope}
+use Rattle.nz_machine.specs.declared.event.Event.{Event}
+use Rattle.nz_machine.specs.declared.event.Event.TheVariants.{Deliver, Cut, Tick, Alarm, Crash, Restart}
+use Rattle.nz_machine.specs.declared.reply.Reply.{Reply}
+use Rattle.nz_machine.specs.State.{ProxyData, Standing, Open, Decided, Group, Out}
+use Rattle.nz_machine.specs.Quorums.{Chosen, decision, answer_in, with_note}
+use Rattle.nz_machine.specs.Proxies.{with_standing, standing_of, stamped, stamp_rule, answered, decided_as, noted_in, reply_rule, of_fast, of_slow, clock_rule, first_proxy, restarted_proxy}
+use Rattle.nz_machine.specs.Step.{proxy_message, received, envelope_step, event_step}
+use Rattle.nz_machine.specs.Events.{read_in}
+use Rattle.nz_machine.specs.History.{reply_in, reply_read}
+use Rattle.nz_machine.proofs.Runs.{on_cond}
+
+-- ---- tables
+
+pub lookup_inserted : {V : Type 0} (es : List (Id × V)) (id : Id) (v : V) → lookup (id_eq id) (insert_entry id_eq es id v) ≡ Some v
+lookup_inserted [] id v = ap (λ b. cond b (Some v) None) (id_eq_self id)
+lookup_inserted {V} (e ∷ es) id v =
+    on_cond (λ (t : List (Id × V)). lookup (id_eq id) t ≡ Some v) (id_eq id e.0) ((e.0, v) ∷ es) (e ∷ insert_entry id_eq es id v)
+    (λ t. ap (λ b. cond b (Some v) (lookup (id_eq id) es)) t)
+    (λ f. ap (λ b. cond b (Some e.1) (lookup (id_eq id) (insert_entry id_eq es id v))) f ∙ lookup_inserted es id v)
+
+lookup_other : {V : Type 0} (es : List (Id × V)) (x id : Id) (v : V) → id_eq x id ≡ false → lookup (id_eq x) (insert_entry id_eq es id v) ≡ lookup (id_eq x) es
+lookup_other [] x id v h = ap (λ b. cond b (Some v) None) h
+lookup_other {V} (e ∷ es) x id v h =
+    on_cond (λ (t : List (Id × V)). lookup (id_eq x) t ≡ lookup (id_eq x) (e ∷ es)) (id_eq id e.0) ((e.0, v) ∷ es) (e ∷ insert_entry id_eq es id v)
+    (λ t. let other : id_eq x e.0 ≡ false = ap (id_eq x) (sym (same_id id e.0 t)) ∙ h in
+    ap (λ b. cond b (Some v) (lookup (id_eq x) es)) other ∙ sym (ap (λ b. cond b (Some e.1) (lookup (id_eq x) es)) other))
+    (λ _. ap (cond (id_eq x e.0) (Some e.1)) (lookup_other es x id v h))
+
+-- ---- moves of a standing
+
+-- with the reply that an event gives, what is known goes from one value to the next
+pub data Moves (f : ℕ) (heard : Option Reply) (before after : Option Standing) : Type 0 where
+  Stays : after ≡ before → Moves f heard before after
+  Forgets : after ≡ None → Moves f heard before after
+  Opens : before ≡ None → after ≡ Some (Open []) → Moves f heard before after
+  Notes : (replies : List Reply) (r : Reply) → before ≡ Some (Open replies) → heard ≡ Some r → after ≡ Some (Open (with_note replies r)) → Moves f heard before after
+  Decides : (replies : List Reply) (r : Reply) (chosen : Chosen) (a : Answer) → before ≡ Some (Open replies) → heard ≡ Some r → decision f (with_note replies r) ≡ Some chosen → answer_in chosen.reply ≡ Some a → after ≡ Some (Decided a chosen.path) → Moves f heard before after
+
+moves_by : (f : ℕ) (s : ProxyData) (x id : Id) (v : Standing) (heard : Option Reply) (b : Bool) → id_eq x id ≡ b → (x ≡ id → Moves f heard (standing_of s x) (Some v)) → Moves f heard (standing_of s x) (standing_of (with_standing s id v) x)
+moves_by f s x id v heard true e h =
+    let same = same_id x id e in
+    let found : standing_of (with_standing s id v) x ≡ Some v = ap (λ (y : Id). lookup (id_eq y) (insert_entry id_eq s.standings id v)) same ∙ lookup_inserted s.standings id v in
+    subst (Moves f heard (standing_of s x)) (sym found) (h same)
+moves_by f s x id v heard false e h = Stays (lookup_other s.standings x id v e)
+
+standing_moves : (f : ℕ) (s : ProxyData) (x id : Id) (v : Standing) (heard : Option Reply) → (x ≡ id → Moves f heard (standing_of s x) (Some v)) → Moves f heard (standing_of s x) (standing_of (with_standing s id v) x)
+standing_moves f s x id v heard h = moves_by f s x id v heard (id_eq x id) refl h
+
+stamped_moves : (f : ℕ) (s : ProxyData) (x id : Id) (command : List ℕ) (heard : Option Reply) (o : Option Standing) → standing_of s id ≡ o → Moves f heard (standing_of s x) (standing_of (stamped f s id command o).0 x)
+stamped_moves f s x id command heard None e = standing_moves f s x id (Open []) heard (λ same. Opens (ap (standing_of s) same ∙ e) refl)
+stamped_moves f s x id command heard (Some (Open replies)) e = Stays refl
+stamped_moves f s x id command heard (Some (Decided a p)) e = Stays refl
+
+answered_moves : (f : ℕ) (s : ProxyData) (x id : Id) (replies : List Reply) (r : Reply) (chosen : Chosen) (heard : Option Reply) (o : Option Answer) → standing_of s id ≡ Some (Open replies) → (x ≡ id → heard ≡ Some r) → decision f (with_note replies r) ≡ Some chosen → answer_in chosen.reply ≡ o
+    → Moves f heard (standing_of s x) (standing_of (answered s id (with_note replies r) chosen.path o).0 x)
+answered_moves f s x id replies r chosen heard None e h d is = standing_moves f s x id (Open (with_note replies r)) heard (λ same. Notes replies r (ap (standing_of s) same ∙ e) (h same) refl)
+answered_moves f s x id replies r chosen heard (Some a) e h d is = standing_moves f s x id (Decided a chosen.path) heard (λ same. Decides replies r chosen a (ap (standing_of s) same ∙ e) (h same) d is refl)
+
+decided_moves : (f : ℕ) (s : ProxyData) (x id : Id) (replies : List Reply) (r : Reply) (heard : Option Reply) (o : Option Chosen) → standing_of s id ≡ Some (Open replies) → (x ≡ id → heard ≡ Some r) → decision f (with_note replies r) ≡ o
+    → Moves f heard (standing_of s x) (standing_of (decided_as s id (with_note replies r) o).0 x)
+decided_moves f s x id replies r heard None e h d = standing_moves f s x id (Open (with_note replies r)) heard (λ same. Notes replies r (ap (standing_of s) same ∙ e) (h same) refl)
+decided_moves f s x id replies r heard (Some chosen) e h d = answered_moves f s x id replies r chosen heard (answer_in chosen.reply) e h d refl
+
+noted_moves : (f : ℕ) (s : ProxyData) (x id : Id) (r : Reply) (heard : Option Reply) (o : Option Standing) → standing_of s id ≡ o → (x ≡ id → heard ≡ Some r) → Moves f heard (standing_of s x) (standing_of (noted_in f s id r o).0 x)
+noted_moves f s x id r heard None e h = Stays refl
+noted_moves f s x id r heard (Some (Open replies)) e h = decided_moves f s x id replies r heard (decision f (with_note replies r)) e h refl
+noted_moves f s x id r heard (Some (Decided a p)) e h = Stays refl
+
+reply_moves : (f : ℕ) (s : ProxyData) (x : Id) (replica : ℕ) (id : Id) (delay : ℕ) (r : Reply) (heard : Option Reply) → (x ≡ id → heard ≡ Some r) → Moves f heard (standing_of s x) (standing_of (reply_rule f s replica id delay r).0 x)
+unfolding reply_rule
+reply_moves f s x replica id delay r heard h = noted_moves f (record s { samples = sampled s.samples replica delay }) x id r heard (standing_of s id) refl h
+
+stamp_moves : (f : ℕ) (s : ProxyData) (x : Id) (c : ℕ) (b : RequestBody) (heard : Option Reply) → Moves f heard (standing_of s x) (standing_of (stamp_rule f s c b).0 x)
+unfolding stamp_rule
+stamp_moves f s x c b heard = let id : Id = record { client = c; num = b.num } in stamped_moves f s x id b.command heard (standing_of s id) refl
+
+message_moves : (f : ℕ) (s : ProxyData) (x : Id) (from : Actor) (m : Message) → Moves f (reply_in x from m) (standing_of s x) (standing_of (proxy_message f s from m).0 x)
+message_moves f s x (Client c) (messages.Request b) = stamp_moves f s x c b None
+message_moves f s x (Replica r) (messages.FastReply b) =
+    reply_moves f s x r b.id b.delay (of_fast r b) (reply_in x (Replica r) (messages.FastReply b)) (λ same. ap (λ t. cond t (Some (of_fast r b)) None) (ap (id_eq b.id) same ∙ id_eq_self b.id))
+message_moves f s x (Replica r) (messages.SlowReply b) =
+    reply_moves f s x r b.id b.delay (of_slow r b) (reply_in x (Replica r) (messages.SlowReply b)) (λ same. ap (λ t. cond t (Some (of_slow r b)) None) (ap (id_eq b.id) same ∙ id_eq_self b.id))
+message_moves f s x _ _ = Stays refl
+
+-- a proxy that is down hears nothing
+up_moves : (f : ℕ) (heard : Option Reply) (s : ProxyData) (x : Id) (t : ProxyData × List Out) → Moves f heard (standing_of s x) (standing_of t.0 x) → Moves f heard (standing_of s x) (standing_of (cond s.is_down (s, []) t).0 x)
+up_moves f heard s x t h = on_cond (λ (u : ProxyData × List Out). Moves f heard (standing_of s x) (standing_of u.0 x)) s.is_down (s, []) t (λ _. Stays refl) (λ _. h)
+
+envelope_moves : (g : Group) (q : ℕ) (s : ProxyData) (x : Id) (o : Option Envelope) → Moves g.f (reply_read x o) (standing_of s x) (standing_of (envelope_step g (Proxy q) s o).0 x)
+envelope_moves g q s x None = Stays refl
+envelope_moves g q s x (Some e) = up_moves g.f (reply_in x e.from e.message) s x (proxy_message g.f s e.from e.message) (message_moves g.f s x e.from e.message)
+
+pub event_moves : (g : Group) (q : ℕ) (s : ProxyData) (x : Id) (e : Event) → Moves g.f (reply_read x (read_in g (Proxy q) e)) (standing_of s x) (standing_of (event_step g (Proxy q) s e).0 x)
+unfolding clock_rule
+event_moves g q s x (Deliver p) = envelope_moves g q s x (received g.f (Proxy q) p)
+event_moves g q s x (Cut p kept) = Stays refl
+event_moves g q s x (Tick clock) = up_moves g.f None s x (clock_rule s clock, []) (Stays refl)
+event_moves g q s x Alarm = Stays refl
+event_moves g q s x Crash = Forgets refl
+event_moves g q s x (Restart nonce) = on_cond (λ (t : ProxyData). Moves g.f None (standing_of s x) (standing_of t x)) s.is_down (first_proxy g.f) s (λ _. Forgets refl) (λ _. Stays refl)

@@ -1,0 +1,5 @@
+use Rattle.nz_lin.proofs.OneHistory.{one_history}
+use Rattle.nz_lin.proofs.laws.one_history.Goals as goal
+
+pub returns : goal.returns
+returns c = one_history
