@@ -1,5 +1,5 @@
 -- An answer parcel leads from its source to the front of the leader's log that gives the answer.
-use Rattle.std.proofs.Common.{◌≡◌, ℕ, cond, List, [], ◌∷◌, Option, Some, None, refl, sym, ap, subst, ◌∙◌, inl, inr}
+use Rattle.std.proofs.Common.{◌≡◌, ℕ, List, [], ◌∷◌, Option, Some, None, refl, sym, ap, subst, ◌∙◌, map}
 use Rattle.std.specs.List.{AllByRecursion}
 use Rattle.std.specs.Option.{option_and_then}
 use Rattle.nz_base.specs.Cluster.{replica_count}
@@ -23,18 +23,18 @@ use Rattle.nz_machine.specs.declared.reply.Reply.{Reply}
 use Rattle.nz_machine.specs.State.{ProxyData, Standing, Open, Decided, Group, Out}
 use Rattle.nz_machine.specs.Replicas.{numbers_below}
 use Rattle.nz_machine.specs.Quorums.{Chosen, decision, answer_in, with_note}
-use Rattle.nz_machine.specs.Proxies.{standing_of, timed_to, timed_to_all, stamped, stamp_rule, answered, decided_as, noted_in, reply_rule, of_fast, of_slow, clock_rule}
+use Rattle.nz_machine.specs.Proxies.{standing_of, timed_to, stamped, stamp_rule, answered, decided_as, noted_in, reply_rule, of_fast, of_slow, clock_rule}
 use Rattle.nz_machine.specs.Step.{proxy_message, received, envelope_step, event_step}
 use Rattle.nz_machine.specs.World.{state_after, Has, World}
 use Rattle.nz_machine.specs.Events.{id_at}
-use Rattle.nz_machine.specs.History.{standing_after, prefix_at_decision, prefix_of_sender}
+use Rattle.nz_machine.specs.History.{prefix_at_decision, prefix_of_sender}
 use Rattle.nz_machine.proofs.Runs.{acts_itself, all_has, on_cond}
-use Rattle.nz_machine.proofs.Moments.{At, at_world}
+use Rattle.nz_machine.proofs.Moments.{at_world}
 use Rattle.nz_lin.proofs.Prefixes.{Front}
 use Rattle.nz_lin.proofs.Heard.{IsTold}
 use Rattle.nz_lin.proofs.Leader.{leader_log, front_later}
 use Rattle.nz_lin.proofs.Standings.{lookup_inserted}
-use Rattle.nz_lin.proofs.Decisions.{HasDecided, has_decided}
+use Rattle.nz_lin.proofs.Decisions.{has_decided}
 
 -- ---- a proxy sends only answers that it has decided
 
@@ -54,7 +54,7 @@ SentDecided s to _ = Unit {0}
 abbrev AllDecided : ProxyData × List Out → Type 0
 AllDecided t = AllByRecursion (λ (o : Out). SentDecided t.0 o.0 o.1) t.1
 
-timed_decided : (s t : ProxyData) (id : Id) (command : List ℕ) (rs : List ℕ) → AllByRecursion (λ (o : Out). SentDecided s o.0 o.1) (Rattle.std.proofs.Common.map (timed_to t id command) rs)
+timed_decided : (s t : ProxyData) (id : Id) (command : List ℕ) (rs : List ℕ) → AllByRecursion (λ (o : Out). SentDecided s o.0 o.1) (map (timed_to t id command) rs)
 timed_decided s t id command [] = tt
 timed_decided s t id command (r ∷ rs) = (tt, timed_decided s t id command rs)
 

@@ -1,5 +1,5 @@
 -- Each command in a message or with a replica was sent by its client before, under its id.
-use Rattle.std.proofs.Common.{◌≡◌, ℕ, ◌≤◌, cond, map, List, [], ◌∷◌, ◌++◌, Option, Some, None, refl, sym, ap, subst, ◌∙◌, inl, inr}
+use Rattle.std.proofs.Common.{◌≡◌, ℕ, map, List, [], ◌∷◌, ◌++◌, Option, Some, None, refl, sym, subst, inl, inr}
 use Rattle.std.specs.List.{AllByRecursion}
 use Rattle.nz_base.specs.Cluster.{replica_count}
 use Rattle.nz_base.specs.declared.actor.Actor.{Actor}
@@ -18,18 +18,18 @@ use Rattle.nz_msg.specs.declared.message.Message.TheVariants as messages
 use Rattle.nz_machine.specs.declared.event.Record.{Record}
 use Rattle.nz_machine.specs.declared.reply.Reply.{Reply}
 use Rattle.nz_machine.specs.State.{ReplicaData, ProxyData, ClientData, Standing, Open, Decided, State, Group, Out}
-use Rattle.nz_machine.specs.Replicas.{numbers_below, last_clock}
+use Rattle.nz_machine.specs.Replicas.{numbers_below}
 use Rattle.nz_machine.specs.Quorums.{Chosen, decision, answer_in, with_note}
-use Rattle.nz_machine.specs.Proxies.{standing_of, timed_to, timed_to_all, stamped, stamp_rule, answered, decided_as, noted_in, reply_rule, of_fast, of_slow, clock_rule}
-use Rattle.nz_machine.specs.Step.{first, script_of, replica_message, proxy_message, message_step, tick_step, crash_step, restart_step, event_step}
+use Rattle.nz_machine.specs.Proxies.{standing_of, timed_to, stamped, stamp_rule, answered, decided_as, noted_in, reply_rule, of_fast, of_slow, clock_rule}
+use Rattle.nz_machine.specs.Step.{first, script_of, replica_message, proxy_message, message_step, tick_step, crash_step, restart_step}
 use Rattle.nz_machine.specs.World.{state_after, Has, World}
 use Rattle.nz_machine.specs.Events.{Told, Sent, id_at, told_by, events}
-use Rattle.nz_machine.proofs.Runs.{FitsOut, Hears, Holds, KeepsMore, StepHas, holds, keeps_both, all_has, has_left, on_cond}
+use Rattle.nz_machine.proofs.Runs.{FitsOut, KeepsMore, holds, keeps_both, all_has, has_left, on_cond}
 use Rattle.nz_machine.proofs.Each.{all_imply}
-use Rattle.nz_machine.proofs.Entries.{EachEntry, IsTaken, Renames, request_each, release_each, log_mod_each, fetch_reply_each, sync_report_each}
-use Rattle.nz_machine.proofs.FitRuns.{Fitted, FittedState, FitsState, fits_keep}
+use Rattle.nz_machine.proofs.Entries.{EachEntry, Renames, request_each, release_each, log_mod_each, fetch_reply_each, sync_report_each}
+use Rattle.nz_machine.proofs.FitRuns.{Fitted, FittedState, fits_keep}
 use Rattle.nz_machine.proofs.Seats.{fetch_same}
-use Rattle.nz_lin.proofs.Says.{IsLed, Says, Grows, message_grows, tick_grows}
+use Rattle.nz_lin.proofs.Says.{IsLed, Says, message_grows, tick_grows}
 use Rattle.nz_lin.proofs.Leader.{is_led}
 use Rattle.nz_lin.proofs.Clients.{AskedFrom, IsNumbered, Turns, message_turns, tick_turns}
 use Rattle.nz_lin.proofs.Tells.{HasSent, has_sent, numbered}
@@ -264,3 +264,6 @@ pub entries_sent : (g : Group) (J : List Record) → World g J → (m : ℕ) →
 entries_sent g J w m =
     let both = keeps_both g (Fitted g) (FittedState g) (SentOut g) (SentState g) (fits_keep g) (sent_keep g) in
     ((holds g _ _ both J w).states (Replica m)).1
+
+pub own_command : (g : Group) (J : List Record) (m : ℕ) (e : Entry) → World g J → Has (state_after g (Replica m) J).log.entries e → WasSent (events g J) e
+own_command g J m e w h = all_has (WasSent (events g J)) (state_after g (Replica m) J).log.entries e (entries_sent g J w m).log h

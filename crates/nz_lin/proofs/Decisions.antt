@@ -1,5 +1,5 @@
 -- Where a proxy has decided a request, the decision leads to the front of the leader's log that gives its answer.
-use Rattle.std.proofs.Common.{◌≡◌, ℕ, Bool, true, false, cond, List, [], ◌∷◌, Option, Some, None, refl, sym, ap, subst, ◌∙◌, inl, inr}
+use Rattle.std.proofs.Common.{◌≡◌, ℕ, false, cond, List, [], ◌∷◌, Option, Some, None, refl, sym, ap, ◌∙◌, inl, inr}
 use Rattle.std.specs.List.{list_any}
 use Rattle.std.specs.Option.{option_map, option_and_then}
 use Rattle.std.proofs.lemmas.Option.{none-some}
@@ -20,7 +20,7 @@ use Rattle.nz_machine.proofs.Moments.{At, at_self}
 use Rattle.nz_machine.proofs.Sources.{reply_eq_self}
 use Rattle.nz_machine.proofs.Choices.{decision_is}
 use Rattle.nz_lin.proofs.Prefixes.{Front}
-use Rattle.nz_lin.proofs.Leader.{leader_log, front_later}
+use Rattle.nz_lin.proofs.Leader.{leader_log}
 use Rattle.nz_lin.proofs.Standings.{Moves, Stays, Forgets, Opens, Notes, Decides}
 use Rattle.nz_lin.proofs.Notes.{IsNoted, moment_of, standing_moves, has_moment, behind}
 

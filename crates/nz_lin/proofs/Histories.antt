@@ -5,7 +5,6 @@ use Rattle.nz_base.specs.declared.actor.Actor.{Actor}
 use Rattle.nz_base.specs.declared.actor.Actor.TheVariants.{Client}
 use Rattle.nz_base.specs.declared.key.Id.{Id}
 use Rattle.nz_base.specs.declared.key.Entry.{Entry}
-use Rattle.nz_base.specs.Key.{id_of}
 use Rattle.nz_base.specs.Log.{keys_of, has_id}
 use Rattle.nz_store.specs.declared.command.Answer.{Answer}
 use Rattle.nz_msg.specs.declared.message.AnswerBody.{AnswerBody}
@@ -22,15 +21,16 @@ use Rattle.nz_machine.specs.World.{state_after, Has, MayHappen, World}
 use Rattle.nz_machine.specs.Events.{Told, Sent, Accepted, id_at, told_by, events}
 use Rattle.nz_machine.specs.History.{prefix_of_sender, entries_or, prefix_in, longer, history}
 use Rattle.nz_machine.specs.OneHistory.{Precedes}
-use Rattle.nz_machine.proofs.Runs.{ReadsMessage, acts_itself, delivered, has_left, has_right, has_split, all_has}
+use Rattle.nz_machine.proofs.Runs.{acts_itself, delivered, has_left, has_right, has_split, all_has}
 use Rattle.nz_machine.proofs.Moments.{at_self}
 use Rattle.nz_machine.proofs.Sources.{has_source}
 use Rattle.nz_machine.proofs.FitRuns.{Fitted, FittedState, fits_keep, all_fit}
 use Rattle.std.proofs.lemmas.Option.{none-some, same_Some}
-use Rattle.nz_lin.proofs.Prefixes.{IsPrefix, Front, absent_by}
+use Rattle.nz_lin.specs.Laws.{IsPrefix}
+use Rattle.nz_lin.proofs.Prefixes.{Front, absent_by}
 use Rattle.nz_lin.proofs.Heard.{told_at}
 use Rattle.nz_lin.proofs.Leader.{leader_log, front_later}
-use Rattle.nz_lin.proofs.Notes.{Delivers, delivers}
+use Rattle.nz_lin.proofs.Notes.{delivers}
 use Rattle.nz_lin.proofs.AnswersSent.{LeadsBack, answer_source}
 use Rattle.nz_lin.proofs.Clients.{IsAnswerTo, client_accepts}
 use Rattle.nz_lin.proofs.Tells.{Accepts, told_sent, told_accepted, not_sent_before}

@@ -1,5 +1,5 @@
 -- The leader's log only grows, and a reply with an answer is one of that log.
-use Rattle.std.proofs.Common.{◌≡◌, ℕ, eqb, eqb-true, eq-eqb, true, List, [], ◌∷◌, Option, Some, None, refl, sym, ap, subst, ◌∙◌, inl, inr, arith}
+use Rattle.std.proofs.Common.{◌≡◌, ℕ, eqb, eqb-true, eq-eqb, true, List, ◌∷◌, Option, Some, sym, ap, subst, ◌∙◌, inl, inr, arith, [], ◌++◌}
 use Rattle.nz_base.specs.Cluster.{leader_of}
 use Rattle.nz_base.specs.declared.actor.Actor.{Actor}
 use Rattle.nz_base.specs.declared.actor.Actor.TheVariants.{Replica}
@@ -12,20 +12,22 @@ use Rattle.nz_msg.specs.declared.message.Message.TheVariants.{FastReply}
 use Rattle.nz_msg.specs.declared.envelope.Envelope.{Envelope}
 use Rattle.nz_machine.specs.declared.event.Parcel.{Parcel}
 use Rattle.nz_machine.specs.declared.event.Event.{Event}
-use Rattle.nz_machine.specs.declared.event.Event.TheVariants.{Deliver, Cut, Tick, Alarm, Crash, Restart}
+use Rattle.nz_machine.specs.declared.event.Event.TheVariants.{Deliver, Tick}
 use Rattle.nz_machine.specs.declared.event.Record.{Record}
 use Rattle.nz_machine.specs.State.{ReplicaData, Group, Out}
-use Rattle.nz_machine.specs.Replicas.{is_normal, leads}
-use Rattle.nz_machine.specs.Step.{received, replica_message, envelope_step, event_step}
+use Rattle.nz_machine.specs.Replicas.{is_normal, leads, commands}
+use Rattle.nz_store.specs.Sequence.{replies}
+use Rattle.nz_machine.specs.Step.{received, envelope_step, event_step}
 use Rattle.nz_machine.specs.World.{state_after, Has, MayHappen, World}
 use Rattle.nz_machine.specs.History.{log_at, cut_after}
 use Rattle.nz_machine.specs.OneHistory.{IsAnswered}
 use Rattle.nz_machine.proofs.Runs.{Reads, acts_itself, may_act, delivered, all_has}
 use Rattle.nz_machine.proofs.Moments.{At, at_world, between}
 use Rattle.nz_machine.proofs.FitRuns.{Fitted, FittedState, fits_keep, all_fit}
-use Rattle.nz_lin.proofs.Prefixes.{IsPrefix, prefix_self, prefix_then, Front, front_of, front_more}
+use Rattle.nz_lin.specs.Laws.{IsPrefix}
+use Rattle.nz_lin.proofs.Prefixes.{prefix_self, prefix_then, Front, front_of, front_more}
 use Rattle.nz_lin.proofs.Views.{seat_stays}
-use Rattle.nz_lin.proofs.Says.{IsReply, IsLed, Says, AllSay, Grows, message_grows, tick_grows}
+use Rattle.nz_lin.proofs.Says.{IsReply, IsLed, Says, Grows, message_grows, tick_grows}
 use Rattle.nz_lin.proofs.Heard.{IsTold}
 
 abbrev pub leader_log : Group → List Record → List Entry
@@ -75,6 +77,13 @@ pub log_later : (g : Group) (J K : List Record) → World g J → At J K → IsP
 log_later g J K w at =
     between g (λ K J. IsPrefix (leader_log g K) (leader_log g J)) (λ K. prefix_self (leader_log g K))
     (λ J K r w p. prefix_then (leader_log g K) (leader_log g J) (leader_log g (r ∷ J)) p (log_grows g r J w)) J K w at
+
+pub log_only_grows : (g : Group) (newer J : List Record) → World g (newer ++ J) → IsPrefix (leader_log g J) (leader_log g (newer ++ J))
+log_only_grows g [] J w = prefix_self (leader_log g J)
+log_only_grows g (r ∷ newer) J w = prefix_then (leader_log g J) (leader_log g (newer ++ J)) (leader_log g (r ∷ newer ++ J)) (log_only_grows g newer J w.1) (log_grows g r (newer ++ J) w)
+
+pub results_are_replies : (g : Group) (J : List Record) → World g J → (state_after g (Replica 0) J).results ≡ replies (commands (leader_log g J))
+results_are_replies g J w = let led = is_led g J 0 w in ((led.facts (zero_leads g J)).led led.normal (zero_leads g J)).results
 
 pub front_later : (g : Group) (J K : List Record) → World g J → At J K → (id : Id) (a : Answer) (P : List Entry) → Front (leader_log g K) id a P → Front (leader_log g J) id a P
 front_later g J K w at id a P h = front_more (leader_log g K) (leader_log g J) id a P (log_later g J K w at) h

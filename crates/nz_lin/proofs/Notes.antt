@@ -1,5 +1,5 @@
 -- A reply that a proxy noted was brought to it, and its parcel was read off the leader's log.
-use Rattle.std.proofs.Common.{◌≡◌, ℕ, Bool, true, false, cond, ◌||◌, List, [], ◌∷◌, ◌++◌, Option, Some, None, refl, sym, ap, subst, ◌∙◌, inl, inr, ◌⊎◌}
+use Rattle.std.proofs.Common.{◌≡◌, ℕ, Bool, true, false, cond, List, [], ◌∷◌, ◌++◌, Option, Some, None, refl, sym, ap, subst, ◌∙◌, inl, inr, ◌⊎◌}
 use Rattle.std.specs.List.{list_any}
 use Rattle.std.specs.Option.{option_map, option_and_then}
 use Rattle.std.proofs.lemmas.Option.{none-some, same_Some}
@@ -20,19 +20,18 @@ use Rattle.nz_machine.specs.declared.event.Event.{Event}
 use Rattle.nz_machine.specs.declared.event.Event.TheVariants.{Deliver, Cut, Tick, Alarm, Crash, Restart}
 use Rattle.nz_machine.specs.declared.event.Record.{Record}
 use Rattle.nz_machine.specs.declared.reply.Reply.{Reply}
-use Rattle.nz_machine.specs.declared.reply.Reply.TheVariants.{Fast, Slow}
-use Rattle.nz_machine.specs.State.{ProxyData, Standing, Open, Decided, Group}
+use Rattle.nz_machine.specs.State.{ProxyData, Standing, Open, Group}
 use Rattle.nz_machine.specs.Quorums.{reply_eq, with_note, answer_in}
 use Rattle.nz_machine.specs.Proxies.{standing_of, of_fast, of_slow}
 use Rattle.nz_machine.specs.Step.{received}
-use Rattle.nz_machine.specs.World.{state_after, Has, MayHappen, World}
+use Rattle.nz_machine.specs.World.{state_after, MayHappen, World}
 use Rattle.nz_machine.specs.Events.{read_in}
 use Rattle.nz_machine.specs.History.{source, standing_after, replies_of, reply_in, reply_read, noting_moment, parcel_in, delivered, log_at, cut_after, prefix_at_source, prefix_of_reply}
 use Rattle.nz_machine.proofs.Runs.{may_act}
 use Rattle.nz_machine.proofs.Moments.{At, at_self, at_world}
-use Rattle.nz_machine.proofs.Sources.{reply_eq_self, same_reply, has_source, source_stays}
+use Rattle.nz_machine.proofs.Sources.{same_reply, has_source, source_stays}
 use Rattle.nz_lin.proofs.Prefixes.{Front}
-use Rattle.nz_lin.proofs.Heard.{IsTold, told_at}
+use Rattle.nz_lin.proofs.Heard.{told_at}
 use Rattle.nz_lin.proofs.Leader.{leader_log, front_later, IsAnswering, reply_front}
 use Rattle.nz_lin.proofs.Standings.{Moves, Stays, Forgets, Opens, Notes, Decides, event_moves}
 

@@ -1,11 +1,9 @@
 -- Fronts of a log: places and answers in them are those of the log.
-use Rattle.std.proofs.Common.{◌≡◌, ℕ, zero, suc, ◌+◌, ◌<◌, ◌≤◌, ◌||◌, Bool, true, false, cond, List, [], ◌∷◌, ◌++◌, length, take, drop, Option, Some, None, is_some, refl, sym, ap, subst, ◌∙◌, arith, inl, inr, ◌⊎◌, append_assoc, append-nil, length-append, take-append-drop}
-use Rattle.std.specs.Prelude.{slice_get}
+use Rattle.std.proofs.Common.{◌≡◌, ℕ, zero, suc, ◌+◌, ◌<◌, ◌≤◌, Bool, true, false, cond, List, [], ◌∷◌, ◌++◌, length, take, drop, Option, Some, None, is_some, refl, sym, ap, subst, ◌∙◌, arith, inl, inr, ◌⊎◌, append_assoc, append-nil, length-append, take-append-drop}
 use Rattle.std.specs.Option.{option_map}
 use Rattle.std.proofs.lemmas.List.{map-append}
 use Rattle.std.proofs.lemmas.Option.{none-some, same_Some}
 use Rattle.nz_base.specs.declared.key.Id.{Id}
-use Rattle.nz_base.specs.declared.key.Key.{Key}
 use Rattle.nz_base.specs.declared.key.Entry.{Entry}
 use Rattle.nz_base.specs.Key.{id_eq, id_of}
 use Rattle.nz_base.specs.Log.{keys_of, has_id, HaveOwnIds}
@@ -21,11 +19,7 @@ use Rattle.nz_machine.specs.Replicas.{commands}
 use Rattle.nz_machine.specs.World.{Has}
 use Rattle.nz_machine.specs.History.{cut_at, cut_after}
 use Rattle.nz_machine.specs.OneHistory.{IsAnswered}
-use Rattle.nz_machine.proofs.Runs.{on_cond}
-
-pub record IsPrefix (xs ys : List Entry) : Type 0 where
-  pub rest : List Entry
-  pub whole : ys ≡ xs ++ rest
+use Rattle.nz_lin.specs.Laws.{IsPrefix}
 
 pub prefix_self : (xs : List Entry) → IsPrefix xs xs
 prefix_self xs = record { rest = []; whole = sym (append-nil xs) }

@@ -1,5 +1,5 @@
 -- What the messages of a replica say of its log, and that a leader's log only grows.
-use Rattle.std.proofs.Common.{◌≡◌, ℕ, suc, ◌+◌, ◌-◌, ◌<◌, ◌≤◌, ◌^◌, ◌&&◌, ◌||◌, not, eqb, Bool, true, false, cond, List, [], ◌∷◌, ◌++◌, length, drop, map, Option, Some, None, refl, sym, ap, subst, ◌∙◌, inl, inr, ◌⊎◌, arith, length-append}
+use Rattle.std.proofs.Common.{◌≡◌, ℕ, ◌+◌, ◌-◌, ◌<◌, ◌≤◌, ◌^◌, ◌&&◌, not, eqb, Bool, true, false, cond, List, [], ◌∷◌, ◌++◌, length, drop, map, Option, Some, None, refl, sym, ap, subst, ◌∙◌, inl, inr, ◌⊎◌, arith, length-append}
 use Rattle.std.specs.Prelude.{slice_get, nat_lt, nat_le}
 use Rattle.std.specs.List.{AllByRecursion, filter, flat_map}
 use Rattle.std.specs.Map.{lookup}
@@ -8,7 +8,6 @@ use Rattle.nz_base.specs.Cluster.{leader_of}
 use Rattle.nz_base.specs.declared.actor.Actor.{Actor}
 use Rattle.nz_base.specs.declared.actor.Actor.TheVariants.{Replica, Proxy}
 use Rattle.nz_base.specs.declared.key.Id.{Id}
-use Rattle.nz_base.specs.declared.key.Key.{Key}
 use Rattle.nz_base.specs.declared.key.Entry.{Entry}
 use Rattle.nz_base.specs.Actor.{HasAddress}
 use Rattle.nz_base.specs.Key.{id_eq, id_of}
@@ -37,13 +36,13 @@ use Rattle.nz_machine.specs.Step.{replica_message, tick_rule}
 use Rattle.nz_machine.specs.World.{Has}
 use Rattle.nz_machine.specs.OneHistory.{IsAnswered}
 use Rattle.nz_machine.proofs.Runs.{on_cond, has_left}
-use Rattle.nz_machine.proofs.Each.{all_append, all_imply, all_filter}
-use Rattle.nz_machine.proofs.Pieces.{all_map, all_flat_map}
+use Rattle.nz_machine.proofs.Each.{all_append, all_imply}
 use Rattle.nz_machine.proofs.Keeping.{arranged, clock_keeps, origin_keeps, released_keeps}
 use Rattle.nz_machine.proofs.Arranged.{AreArranged, first_fresh}
 use Rattle.nz_machine.proofs.Ranges.{has_place_left}
-use Rattle.nz_machine.proofs.Seats.{SameSeat, same_leads, message_seat, releases_seat, release_seat, log_mod_led, fetch_reply_led, fetch_same}
-use Rattle.nz_lin.proofs.Prefixes.{IsPrefix, prefix_self, prefix_then, prefix_same, place_last, answered_more}
+use Rattle.nz_machine.proofs.Seats.{SameSeat, same_leads, releases_seat, log_mod_led, fetch_reply_led}
+use Rattle.nz_lin.specs.Laws.{IsPrefix}
+use Rattle.nz_lin.proofs.Prefixes.{prefix_self, prefix_then, prefix_same, place_last, answered_more}
 
 -- the leader's answer is that of its log
 pub record IsReply (f me : ℕ) (s : ReplicaData) (id : Id) (a : Answer) : Type 0 where

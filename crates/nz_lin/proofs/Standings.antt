@@ -9,7 +9,6 @@ use Rattle.nz_base.specs.Key.{id_eq}
 use Rattle.nz_base.proofs.Names.{id_eq_self, same_id}
 use Rattle.nz_store.specs.declared.command.Answer.{Answer}
 use Rattle.nz_window.specs.Samples.{sampled}
-use Rattle.nz_msg.specs.declared.message.Path.{Path}
 use Rattle.nz_msg.specs.declared.message.RequestBody.{RequestBody}
 use Rattle.nz_msg.specs.declared.message.Message.{Message}
 use Rattle.nz_msg.specs.declared.message.Message.TheVariants as messages
@@ -19,7 +18,7 @@ use Rattle.nz_machine.specs.declared.event.Event.TheVariants.{Deliver, Cut, Tick
 use Rattle.nz_machine.specs.declared.reply.Reply.{Reply}
 use Rattle.nz_machine.specs.State.{ProxyData, Standing, Open, Decided, Group, Out}
 use Rattle.nz_machine.specs.Quorums.{Chosen, decision, answer_in, with_note}
-use Rattle.nz_machine.specs.Proxies.{with_standing, standing_of, stamped, stamp_rule, answered, decided_as, noted_in, reply_rule, of_fast, of_slow, clock_rule, first_proxy, restarted_proxy}
+use Rattle.nz_machine.specs.Proxies.{with_standing, standing_of, stamped, stamp_rule, answered, decided_as, noted_in, reply_rule, of_fast, of_slow, clock_rule, first_proxy}
 use Rattle.nz_machine.specs.Step.{proxy_message, received, envelope_step, event_step}
 use Rattle.nz_machine.specs.Events.{read_in}
 use Rattle.nz_machine.specs.History.{reply_in, reply_read}

@@ -1,0 +1,5 @@
+use Rattle.nz_lin.proofs.Asked.{own_command}
+use Rattle.nz_lin.proofs.laws.own_commands.Goals as goal
+
+pub returns : goal.returns
+returns c = own_command
