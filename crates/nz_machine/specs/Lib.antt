@@ -13,3 +13,5 @@ pub mod World
 pub mod Events
 pub mod History
 pub mod OneHistory
+pub mod Schedule
+pub mod Journals

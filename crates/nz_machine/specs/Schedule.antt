@@ -1,0 +1,219 @@
+-- The schedule: what is due in each tick of a scenario, and which runs keep to it.
+use Rattle.std.specs.Prelude.{ℕ, zero, suc, ◌≡◌, ◌+◌, ◌-◌, ◌*◌, ◌≤◌, min, Bool, true, false, ◌&&◌, ◌==◌, nat_le, if◌then◌else◌, is_some, List, [], ◌∷◌, ◌++◌, length, map, filter, reverse, Option, Some, None, ℤ, pos, negsuc, slice_index, IsPermutation}
+use Rattle.std.specs.List.{AllByRecursion}
+use Rattle.nz_base.specs.Actor.{actor_eq, is_within}
+use Rattle.nz_base.specs.Cluster.{replica_count}
+use Rattle.nz_base.specs.declared.actor.Actor.{Actor}
+use Rattle.nz_base.specs.declared.actor.Actor.TheVariants.{Replica, Proxy, Client}
+use Rattle.nz_base.specs.declared.scenario.Skew.{Skew}
+use Rattle.nz_base.specs.declared.scenario.Fault.{Fault}
+use Rattle.nz_base.specs.declared.scenario.Fault.TheVariants as faults
+use Rattle.nz_base.specs.declared.scenario.Scenario.{Scenario}
+use Rattle.nz_frame.specs.Refusal.{refusal}
+use Rattle.nz_frame.specs.declared.refusal.FrameRefusal.{FrameRefusal}
+use Rattle.nz_machine.specs.declared.event.Event.{Event}
+use Rattle.nz_machine.specs.declared.event.Event.TheVariants.{Deliver, Cut, Tick, Alarm, Crash, Restart}
+use Rattle.nz_machine.specs.declared.event.Parcel.{Parcel}
+use Rattle.nz_machine.specs.declared.event.Record.{Record}
+use Rattle.nz_machine.specs.declared.journal.Item.{Item}
+use Rattle.nz_machine.specs.State.{Group}
+use Rattle.nz_machine.specs.Replicas.{last_clock, numbers_below}
+use Rattle.nz_machine.specs.World.{IsGroup, IsMember}
+
+-- Who runs in a scenario.
+abbrev pub group_of : Scenario → Group
+group_of s = record { f = s.cluster; proxies = s.proxies; scripts = s.scripts }
+
+abbrev pub item : Actor → Event → Item
+item a e = record { actor = a; event = e }
+
+-- ---- crashes, restarts and alarms
+
+abbrev pub if_in : ℕ → ℕ → Item → List Item
+if_in tick t i = if t == tick then i ∷ [] else []
+
+-- Those of a tick, in the order of the fault lines. Each restart has a nonce of its own: how many restart
+-- lines there are up to and with its line.
+abbrev pub calls : ℕ → ℕ → List Fault → List Item
+calls tick restarts [] = []
+calls tick restarts (faults.Crash a t ∷ lines) = if_in tick t (item a Crash) ++ calls tick restarts lines
+calls tick restarts (faults.Restart a t ∷ lines) = if_in tick t (item a (Restart (restarts + 1))) ++ calls tick (restarts + 1) lines
+calls tick restarts (faults.Alarm a t ∷ lines) = if_in tick t (item a Alarm) ++ calls tick restarts lines
+calls tick restarts (_ ∷ lines) = calls tick restarts lines
+
+-- ---- clocks
+
+-- A clock that is so many units ahead, or behind. None reads less than 0.
+abbrev pub shifted : ℕ → ℤ → ℕ
+shifted units (pos n) = units + n
+shifted units (negsuc n) = units - suc n
+
+-- How far the actor's clock is ahead.
+abbrev pub skew_of : Actor → List Skew → ℤ
+skew_of a [] = pos 0
+skew_of a (s ∷ skews) = if actor_eq s.actor a then s.units else skew_of a skews
+
+-- A tick is 1,000 clock units.
+abbrev pub clock_at : Scenario → ℕ → Actor → ℕ
+clock_at s tick a = min (shifted (1000 * tick) (skew_of a s.skews)) last_clock
+
+-- Replicas, proxies and clients, each by number.
+abbrev pub actors_of : Scenario → List Actor
+actors_of s = map Replica (numbers_below (replica_count s.cluster)) ++ (map Proxy (numbers_below s.proxies) ++ map Client (numbers_below s.clients))
+
+abbrev pub tick_item : Scenario → ℕ → Actor → Item
+tick_item s tick a = item a (Tick (clock_at s tick a))
+
+-- ---- deliveries
+
+-- When a parcel comes, and how many bytes of it, where not all of them come.
+pub record Delivery : Type 0 where
+  pub tick : ℕ
+  pub kept : Option ℕ
+
+abbrev pub whole_in : ℕ → Delivery
+whole_in tick = record { tick = tick; kept = None }
+
+-- Every delivery comes later.
+abbrev pub held : ℕ → List Delivery → List Delivery
+held by ds = map (λ d. record d { tick = d.tick + by }) ds
+
+-- A whole copy comes so much later than the first delivery.
+abbrev pub repeated : ℕ → List Delivery → List Delivery
+repeated by [] = []
+repeated by (d ∷ ds) = d ∷ (ds ++ whole_in (d.tick + by) ∷ [])
+
+-- Of the first delivery so many bytes come, and never all of them.
+abbrev pub cut_short : ℕ → ℕ → List Delivery → List Delivery
+cut_short keep len [] = []
+cut_short keep len (d ∷ ds) = record d { kept = Some (min keep (len - 1)) } ∷ ds
+
+abbrev pub kind_if : List ℕ → Option FrameRefusal → Option ℕ
+kind_if frame None = Some (slice_index frame 5)
+kind_if frame (Some refusal) = None
+
+-- The kind of the message in a frame. What is no frame has none.
+abbrev pub kind_of : List ℕ → Option ℕ
+kind_of frame = kind_if frame (refusal frame)
+
+abbrev pub has_kind : ℕ → Option ℕ → Bool
+has_kind kind None = false
+has_kind kind (Some k) = k == kind
+
+-- A parcel of this kind from the one actor to the other.
+abbrev pub is_of : Actor → Actor → ℕ → Parcel → Bool
+is_of from to kind p = actor_eq p.from from && (actor_eq p.to to && has_kind kind (kind_of p.frame))
+
+-- It is the one with this number among the parcels of that kind, counted from 1, when those were sent earlier.
+abbrev pub is_nth : Actor → Actor → ℕ → ℕ → List Parcel → Parcel → Bool
+is_nth from to kind count earlier p = is_of from to kind p && (length (filter (is_of from to kind) earlier) + 1 == count)
+
+-- Whom an end of a block names: one actor, or everyone.
+abbrev pub is_named : Option Actor → Actor → Bool
+is_named None a = true
+is_named (Some b) a = actor_eq b a
+
+-- What is sent from here to there in these ticks is blocked.
+abbrev pub is_blocked : Option Actor → Option Actor → ℕ → ℕ → ℕ → Parcel → Bool
+is_blocked from to first last tick p = is_named from p.from && (is_named to p.to && is_within first last tick)
+
+-- What a fault line makes of the deliveries of a parcel that is sent in a tick behind earlier parcels.
+abbrev pub faulted : ℕ → List Parcel → Parcel → Fault → List Delivery → List Delivery
+faulted tick earlier p (faults.Drop from to kind count) ds = if is_nth from to kind count earlier p then [] else ds
+faulted tick earlier p (faults.Hold from to kind count by) ds = if is_nth from to kind count earlier p then held by ds else ds
+faulted tick earlier p (faults.Twice from to kind count by) ds = if is_nth from to kind count earlier p then repeated by ds else ds
+faulted tick earlier p (faults.Cut from to kind count keep) ds = if is_nth from to kind count earlier p then cut_short keep (length p.frame) ds else ds
+faulted tick earlier p (faults.Block from to first last) ds = if is_blocked from to first last tick p then [] else ds
+faulted tick earlier p _ ds = ds
+
+-- The lines in the order of the file, each on what those before it left.
+abbrev pub faulted_by : ℕ → List Parcel → Parcel → List Fault → List Delivery → List Delivery
+faulted_by tick earlier p [] ds = ds
+faulted_by tick earlier p (line ∷ lines) ds = faulted_by tick earlier p lines (faulted tick earlier p line ds)
+
+-- A parcel comes once and whole in the tick after the one it was sent in, but for the faults.
+abbrev pub deliveries : Scenario → ℕ → List Parcel → Parcel → List Delivery
+deliveries s tick earlier p = faulted_by tick earlier p s.faults (whole_in (tick + 1) ∷ [])
+
+abbrev pub coming : Parcel → Option ℕ → Event
+coming p None = Deliver p
+coming p (Some kept) = Cut p kept
+
+abbrev pub delivery_item : Parcel → Delivery → Item
+delivery_item p d = item p.to (coming p d.kept)
+
+-- The deliveries of a parcel that are due in a tick.
+abbrev pub due_of : ℕ → Parcel → List Delivery → List Item
+due_of tick p ds = map (delivery_item p) (filter (λ d. d.tick == tick) ds)
+
+-- A parcel, and the tick in which it was sent.
+pub record Posted : Type 0 where
+  pub tick : ℕ
+  pub parcel : Parcel
+
+abbrev pub posted_in : ℕ → Parcel → Posted
+posted_in tick p = record { tick = tick; parcel = p }
+
+-- What a run sent, the oldest first.
+abbrev pub posted : List Record → List Posted
+posted [] = []
+posted (r ∷ J) = posted J ++ map (posted_in r.tick) r.sends
+
+-- What of it comes in a tick, by the order of sending and then of the copies. `earlier` was sent before all of it.
+abbrev pub arrivals : Scenario → ℕ → List Parcel → List Posted → List Item
+arrivals s tick earlier [] = []
+arrivals s tick earlier (x ∷ xs) = due_of tick x.parcel (deliveries s x.tick earlier x.parcel) ++ arrivals s tick (earlier ++ x.parcel ∷ []) xs
+
+-- ---- the schedule
+
+-- What is due in a tick, by the records of the ticks before it: crashes, restarts and alarms, then every
+-- clock, then what arrives.
+abbrev pub due : Scenario → ℕ → List Record → List Item
+due s tick J = calls tick 0 s.faults ++ (map (tick_item s tick) (actors_of s) ++ arrivals s tick [] (posted J))
+
+abbrev pub item_of : Record → Item
+item_of r = item r.actor r.event
+
+-- The records of a tick, the newest first, stand before those of the ticks before, and are what is due in its order.
+pub record IsTick (s : Scenario) (tick : ℕ) (now older J : List Record) : Type 0 where
+  pub whole : J ≡ now ++ older
+  pub here : AllByRecursion (λ r. r.tick ≡ tick) now
+  pub items : map item_of (reverse now) ≡ due s tick older
+
+-- The same, in any order, each item once.
+pub record IsTickInSomeOrder (s : Scenario) (tick : ℕ) (now older J : List Record) : Type 0 where
+  pub whole : J ≡ now ++ older
+  pub here : AllByRecursion (λ r. r.tick ≡ tick) now
+  pub items : IsPermutation (due s tick older) (map item_of (reverse now))
+
+-- The run has the ticks up to this one, and the records of each are what is due in it, in its order.
+abbrev pub InOrderTo : Scenario → ℕ → List Record → Type 0
+InOrderTo s zero J = J ≡ []
+InOrderTo s (suc tick) J = (now : List Record) × ((older : List Record) × (IsTick s (suc tick) now older J × InOrderTo s tick older))
+
+-- The same, but those of a tick stand in any order.
+abbrev pub ScheduledTo : Scenario → ℕ → List Record → Type 0
+ScheduledTo s zero J = J ≡ []
+ScheduledTo s (suc tick) J = (now : List Record) × ((older : List Record) × (IsTickInSomeOrder s (suc tick) now older J × ScheduledTo s tick older))
+
+abbrev pub InOrder : Scenario → List Record → Type 0
+InOrder s J = InOrderTo s s.ticks J
+
+abbrev pub Scheduled : Scenario → List Record → Type 0
+Scheduled s J = ScheduledTo s s.ticks J
+
+-- ---- which scenarios can be run
+
+-- Who crashes, restarts or is alarmed takes part.
+abbrev pub NamesMember : Scenario → Fault → Type 0
+NamesMember s (faults.Crash a t) = IsMember (group_of s) a
+NamesMember s (faults.Restart a t) = IsMember (group_of s) a
+NamesMember s (faults.Alarm a t) = IsMember (group_of s) a
+NamesMember s _ = Unit {0}
+
+-- Its actors are a group, each client has a script, there are at most 20,000 ticks, and its faults are of its actors.
+pub record IsPlayable (s : Scenario) : Type 0 where
+  pub group : IsGroup (group_of s)
+  pub scripts : length s.scripts ≡ s.clients
+  pub ticks : s.ticks ≤ 20000
+  pub members : AllByRecursion (NamesMember s) s.faults
