@@ -119,7 +119,7 @@ request_taken g t ks ss b r q e room =
     (command_lines_taken g t ks ss b q.wait r q.command (command_of q.command) refl p.1 room)
 
 -- fewer requests have room where more have it
-room_less : (a b t : ℕ) → a ≤ b → has_room_for_requests b t ≡ true → has_room_for_requests a t ≡ true
+pub room_less : (a b t : ℕ) → a ≤ b → has_room_for_requests b t ≡ true → has_room_for_requests a t ≡ true
 room_less a b t h e =
     let p = both_of (nat_le b 2000) (nat_le (b * t) 2000000) e in
     both _ _ (is_most a 2000 (omega (arith, h, below_most b 2000 p.0))) (is_most (a * t) 2000000 (omega (arith, mul-le-mul_right t h, below_most (b * t) 2000000 p.1)))

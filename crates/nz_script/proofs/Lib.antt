@@ -12,3 +12,4 @@ pub mod Sections
 pub mod Blocks
 pub mod Mishaps
 pub mod Back
+pub mod Sound

@@ -3,13 +3,15 @@ use Rattle.std.specs.Prelude.{ℕ, Bool, true, not, ◌&&◌, nat_le, ◌==◌, 
 use Rattle.std.specs.List.{list_all, sum_by}
 use Rattle.nz_base.specs.declared.scenario.Request.{Request}
 use Rattle.nz_base.specs.declared.scenario.Skew.{Skew}
+use Rattle.nz_base.specs.declared.scenario.Fault.{Fault}
+use Rattle.nz_base.specs.declared.scenario.Fault.TheVariants as fault
 use Rattle.nz_base.specs.declared.scenario.Scenario.{Scenario}
 use Rattle.nz_base.specs.Actor.{is_within}
 use Rattle.nz_store.specs.Reading.{command_of}
 use Rattle.nz_script.specs.declared.line.Line.{Line}
 use Rattle.nz_script.specs.declared.group.Group.{Group}
 use Rattle.nz_script.specs.Shapes.{forms_of}
-use Rattle.nz_script.specs.Drafts.{all_known, all_within, is_span, has_skew, has_room_for_requests, has_room_for_faults}
+use Rattle.nz_script.specs.Drafts.{knows, all_known, all_within, is_span, has_skew, has_room_for_requests, has_room_for_faults}
 use Rattle.nz_script.specs.Texts.{skew_line, fault_line, text_of}
 
 abbrev pub group_of : Scenario → Group
@@ -59,3 +61,18 @@ is_valid s = ((has_group s && has_skews s) && (list_all are_requests s.scripts &
 
 abbrev pub IsValid : Scenario → Type 0
 IsValid s = IsTrue (is_valid s)
+
+-- who crashes, restarts or is alarmed is of the group
+abbrev pub calls_known : Group → Fault → Bool
+calls_known g (fault.Crash a t) = knows g a
+calls_known g (fault.Restart a t) = knows g a
+calls_known g (fault.Alarm a t) = knows g a
+calls_known g _ = true
+
+-- a scenario that can be run: its group and its ticks are in range, its requests are commands, there are not too many
+-- requests and faults, and its faults call nobody who is not there
+pub record IsRunnable (s : Scenario) : Type 0 where
+  pub group : IsTrue (has_group s)
+  pub requests : IsTrue (list_all are_requests s.scripts)
+  pub few : IsTrue (has_few s)
+  pub calls : IsTrue (list_all (calls_known (group_of s)) s.faults)

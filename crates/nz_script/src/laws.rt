@@ -1,11 +1,16 @@
 //! What holds of the definitions. Each law is the contract of a function that does nothing.
-ghost use Rattle.std.specs.Prelude.{◌≡◌, Ok};
+ghost use Rattle.std.specs.Prelude.{◌≡◌, ℕ, List, Ok};
 ghost use Rattle.nz_base.specs.declared.scenario.Scenario.{Scenario as AScenario};
 ghost use Rattle.nz_script.specs.Reading.{scenario};
 ghost use Rattle.nz_script.specs.Texts.{text_of};
-ghost use Rattle.nz_script.specs.Valid.{IsValid};
+ghost use Rattle.nz_script.specs.Valid.{IsValid, IsRunnable};
 
 /// The text of a valid scenario is read as that scenario.
 pub fn texts_are_read_back()
     ensures { (s : AScenario) → IsValid s → scenario (text_of s) ≡ Ok s }
+{}
+
+/// What is read can be run.
+pub fn what_is_read_can_be_run()
+    ensures { (bytes : List ℕ) (s : AScenario) → scenario bytes ≡ Ok s → IsRunnable s }
 {}

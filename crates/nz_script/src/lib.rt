@@ -20,7 +20,7 @@ mod word;
 
 pub use faults::{Kind, ScriptFault};
 pub use generating::generate;
-pub use laws::texts_are_read_back;
+pub use laws::{texts_are_read_back, what_is_read_can_be_run};
 pub use printing::print;
 pub use reading::read;
 pub use validity::ValidScenario;
