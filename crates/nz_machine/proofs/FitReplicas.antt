@@ -21,7 +21,7 @@ use Rattle.nz_msg.specs.declared.message.TimedBody.{TimedBody}
 use Rattle.nz_msg.specs.declared.message.LogModBody.{LogModBody}
 use Rattle.nz_msg.specs.declared.message.FetchBody.{FetchBody}
 use Rattle.nz_msg.specs.Messages.{timed}
-use Rattle.nz_msg.specs.Fields.{id, key, answer}
+use Rattle.nz_msg.specs.Fields.{id, key, keys, entries, answer}
 use Rattle.nz_machine.specs.declared.data.Origin.{Origin}
 use Rattle.nz_machine.specs.State.{ReplicaData, Out}
 use Rattle.nz_machine.specs.Facts.{FitsEntry}
@@ -142,14 +142,19 @@ order_drop n keys h =
 keys_each : (es : List Entry) → AllByRecursion FitsEntry es → AllByRecursion key.fits (keys_of es)
 keys_each es all = all_map key.fits (λ (e : Entry). e.key) es (all_imply FitsEntry (λ (e : Entry). key.fits e.key) (λ e h. h.key) es all)
 
+-- the keys of a log from a place on, as many as a log modification has
+pub told_keys_fit : (s : ReplicaData) (start : ℕ) → IsLedLog s → AllByRecursion FitsEntry s.log.entries → keys.fits (take most_keys (drop start (keys_of s.log.entries)))
+told_keys_fit s start led all =
+    let ks = keys_of s.log.entries in
+    let few : length (take most_keys (drop start ks)) ≤ 64 = let long = length-take most_keys (drop start ks) in omega (arith, long) in
+    keys_fit (take most_keys (drop start ks)) few (order_take most_keys (drop start ks) (order_drop start ks led.order)) (all_take key.fits most_keys (drop start ks) (all_drop key.fits start ks (keys_each s.log.entries all)))
+
 log_mod_fits : (f me : ℕ) (s : ReplicaData) (r : ℕ) → IsReplica f me → Fitting f s → IsLedLog s → r < replica_count f → FitsOut (Replica me) (log_mod_to s r)
 log_mod_fits f me s r c h led other =
     let most = c.most in
     let start = slice_index s.ack r in
     let acked : start ≤ most_entries = all_index (λ n. n ≤ most_entries) s.ack r 0 h.range.acks (omega arith) in
     let so_far = h.range.commit in
-    let keys = keys_of s.log.entries in
-    let few : length (take most_keys (drop start keys)) ≤ 64 = let long = length-take most_keys (drop start keys) in omega (arith, long) in
     record {
       sender = replica_address f me c;
       receiver = omega (arith, other, most);
@@ -161,7 +166,7 @@ log_mod_fits f me s r c h led other =
             omega (arith, so_far),
             (
               omega (arith, acked),
-              keys_fit (take most_keys (drop start keys)) few (order_take most_keys (drop start keys) (order_drop start keys led.order)) (all_take key.fits most_keys (drop start keys) (all_drop key.fits start keys (keys_each s.log.entries h.entries.log))),
+              told_keys_fit s start led h.entries.log,
             ),
           ),
         ),
@@ -197,9 +202,9 @@ since_fits f me s count c h =
     (all_drop FitsEntry count (synced_part s.log) (all_take FitsEntry s.log.synced s.log.entries h.entries.log)))
 
 -- ids that are asked for, not too many
-record AreFew (xs : List Id) : Type 0 where
-  few : length xs ≤ 64
-  all : AllByRecursion id.fits xs
+pub record AreFew (xs : List Id) : Type 0 where
+  pub few : length xs ≤ 64
+  pub all : AllByRecursion id.fits xs
 
 fetch_fits : (f me leader : ℕ) (s : ReplicaData) (xs : List Id) → IsReplica f me → Fitting f s → leader < replica_count f → AreFew xs → AllFit (Replica me) (fetch_from leader s xs)
 fetch_fits f me leader s [] c h below few = tt
@@ -240,6 +245,10 @@ missing_few s keys h =
     length_ids [] = refl
     length_ids (k ∷ keys) = ap suc (length_ids keys)
 
+-- the ids that are missing of those of a message
+pub wanted_few : (s after : ReplicaData) (keys : List Key) → AreLeft keys 64 → AreFew (missing_ids after (sync_keys s keys).1)
+wanted_few s after keys h = missing_few after (sync_keys s keys).1 (sync_left s keys 64 h)
+
 -- a key of a message may be given to an entry of its id
 pub fit_names : (keys : List Key) → AllByRecursion key.fits keys → AllByRecursion (Renames FitsEntry) keys
 fit_names keys all = all_imply key.fits (Renames FitsEntry) (λ k fits. record { to = λ e own same. record { key = fits; command = own.command } }) keys all
@@ -257,7 +266,7 @@ taken_fits f me leader b s c h below left =
     (λ _.
     let all : Fitting f after = record { range = after_in_range f b s h.range; entries = after_each FitsEntry b s (fit_names b.keys left.all) h.entries } in
     all_append (FitsOut (Replica me)) (replies_since after s.log.synced) _ (since_fits f me after s.log.synced c all)
-    (all_append (FitsOut (Replica me)) (fetch_from leader after (missing_ids after t.1)) (sync_report_to leader after ∷ []) (fetch_fits f me leader after (missing_ids after t.1) c all below (missing_few after t.1 (sync_left s keys 64 now)))
+    (all_append (FitsOut (Replica me)) (fetch_from leader after (missing_ids after t.1)) (sync_report_to leader after ∷ []) (fetch_fits f me leader after (missing_ids after t.1) c all below (wanted_few s after keys now))
     (report_fits f me leader after c all below, tt)))
 
 pub log_mod_all : (f me : ℕ) (s : ReplicaData) (sender : ℕ) (b : LogModBody) → IsReplica f me → Fitting f s → sender < replica_count f → AreCounters f b.vector → AreLeft b.keys 64 → AllFit (Replica me) (log_mod_rule f me s sender b).1
@@ -283,24 +292,20 @@ asked_few (x ∷ xs) es own =
     let both = few_either (λ (e : Entry). id_eq x (id_of e.key)) (is_asked xs) es in
     omega (arith, one, rest, both)
 
+-- the entries of a log that are asked for
+pub asked_fit : (s : ReplicaData) (xs : List Id) → IsLedLog s → AllByRecursion FitsEntry s.log.entries → length xs ≤ 64 → (entries 0 64).fits (filter (is_asked xs) s.log.entries)
+asked_fit s xs log all few =
+    let test = is_asked xs in
+    let asked = asked_few xs s.log.entries log.order.own_ids in
+    entries_fit (filter test s.log.entries) (omega (arith, asked, few)) (record { rising = rising_filter test s.log.entries log.order.rising; own_ids = own_filter test s.log.entries log.order.own_ids })
+    (all_filter FitsEntry test s.log.entries all)
+
 pub fetch_all : (f me : ℕ) (s : ReplicaData) (sender : ℕ) (b : FetchBody) → IsReplica f me → Fitting f s → (leads f me s ≡ true → IsLedLog s) → sender < replica_count f → length b.ids ≤ 64 → AllFit (Replica me) (fetch_rule f me s sender b).1
 unfolding fetch_rule
 fetch_all f me s sender b c h led below few =
     let most = c.most in
-    let test = is_asked b.ids in
     on_cond (λ (t : ReplicaData × List Out). AllFit (Replica me) t.1) (is_normal s.status && (eqb b.view s.view && leads f me s)) _ (s, [])
     (λ passed.
     let log = led (and_right (eqb b.view s.view) (leads f me s) (and_right (is_normal s.status) _ passed)) in
-    let asked = asked_few b.ids s.log.entries log.order.own_ids in (
-      record {
-        sender = replica_address f me c;
-        receiver = omega (arith, below, most);
-        message = (
-          view_fits s.view h.range.view,
-          entries_fit (filter test s.log.entries) (omega (arith, asked, few)) (record { rising = rising_filter test s.log.entries log.order.rising; own_ids = own_filter test s.log.entries log.order.own_ids })
-              (all_filter FitsEntry test s.log.entries h.entries.log),
-        );
-      },
-      tt,
-    ))
+    (record { sender = replica_address f me c; receiver = omega (arith, below, most); message = (view_fits s.view h.range.view, asked_fit s b.ids log h.entries.log few) }, tt))
     (λ _. tt)

@@ -23,3 +23,6 @@ pub mod FitClients
 pub mod FitRuns
 pub mod Syncing
 pub mod Agreeing
+pub mod Takes
+pub mod Synced
+pub mod Reports

@@ -1,5 +1,5 @@
 -- The facts of a replica's state while keys of a log modification are taken, and behind that.
-use Rattle.std.proofs.Common.{◌≡◌, ℕ, suc, ◌+◌, ◌<◌, ◌≤◌, Bool, true, false, not, cond, max, min, nat_lt, ◌&&◌, List, [], ◌∷◌, ◌++◌, length, take, drop, Option, Some, None, refl, sym, ap, subst, ◌∙◌, inl, inr, arith, length-append}
+use Rattle.std.proofs.Common.{◌≡◌, ℕ, ◌+◌, ◌<◌, ◌≤◌, Bool, true, false, not, max, min, nat_lt, ◌&&◌, List, [], ◌∷◌, ◌++◌, length, Option, Some, None, refl, sym, ap, subst, ◌∙◌, inl, inr, arith}
 use Rattle.std.specs.List.{AllByRecursion, filter}
 use Rattle.std.proofs.lemmas.Bool.{ltb-true, not-true}
 use Rattle.std.proofs.lemmas.List.{take-append-drop}
@@ -18,7 +18,8 @@ use Rattle.nz_msg.specs.Fields.{key as key_field}
 use Rattle.nz_machine.specs.State.{ReplicaData}
 use Rattle.nz_machine.specs.Facts.{FitsEntry, HasFacts, AreApart}
 use Rattle.nz_machine.specs.Replicas.{most_entries, leads}
-use Rattle.nz_machine.specs.LogMods.{or_else, found, may_sync, synced_with, if_found, sync_keys, is_early_yet, overtaken, committed_to}
+use Rattle.nz_machine.specs.LogMods.{or_else, found, may_sync, synced_with, if_found, sync_keys, overtaken, committed_to}
+use Rattle.nz_machine.specs.Taking.{may_join, found_in}
 use Rattle.nz_machine.proofs.Each.{all_append, all_front, all_back, all_filter}
 use Rattle.nz_machine.proofs.Apart.{rising_both}
 use Rattle.nz_machine.proofs.Counts.{times, times_all, times_append, times_filter, times_parts, times_never, times_none, own_times, times_own}
@@ -55,7 +56,7 @@ other_left i x left = not-true (id_eq i (id_of x.key)) left
 whole : (log : Log) (i : Id) → times i log.entries ≡ times i (synced_part log) + times i (unsynced_part log)
 whole log i = ap (times i) (sym (take-append-drop log.synced log.entries)) ∙ times_append i (synced_part log) (unsynced_part log)
 
-own_synced : (log : Log) (early late : List Entry) (e : Entry) → AreApart log early late → has_id (keys_of (synced_part log)) (id_of e.key) ≡ false → (i : Id)
+pub own_synced : (log : Log) (early late : List Entry) (e : Entry) → AreApart log early late → has_id (keys_of (synced_part log)) (id_of e.key) ≡ false → (i : Id)
     → times i ((modified log e).entries ++ (without early (id_of e.key) ++ without (late ++ displaced log e) (id_of e.key))) ≤ 1
 own_synced log early late e a fresh i =
     let front = synced_part log in
@@ -119,16 +120,16 @@ first_fits : (a b : Option Entry) (e : Entry) → ((x : Entry) → a ≡ Some x 
 first_fits None b e ha hb is = hb e is
 first_fits (Some x) b e ha hb is = ha e is
 
-pub found_fits : (s : ReplicaData) (i : Id) (e : Entry) → AreApart s.log s.early s.late → found s i ≡ Some e → FitsEntry e
-found_fits s i e a is =
-    let log = all_front FitsEntry s.log.entries (s.early ++ s.late) a.fit in
-    let rest = all_back FitsEntry s.log.entries (s.early ++ s.late) a.fit in
-    let back = all_back FitsEntry (synced_part s.log) (unsynced_part s.log) (subst (λ (xs : List Entry). AllByRecursion FitsEntry xs) (sym (take-append-drop s.log.synced s.log.entries)) log) in
-    first_fits (find_id (unsynced_part s.log) i) (or_else (find_id s.early i) (find_id s.late i)) e
-    (λ x h. find_fits (unsynced_part s.log) i x back h)
-    (λ x h. first_fits (find_id s.early i) (find_id s.late i) x
-    (λ y k. find_fits s.early i y (all_front FitsEntry s.early s.late rest) k)
-    (λ y k. find_fits s.late i y (all_back FitsEntry s.early s.late rest) k) h)
+pub found_fits : (log : Log) (early late : List Entry) (i : Id) (e : Entry) → AreApart log early late → found_in log early late i ≡ Some e → FitsEntry e
+found_fits log early late i e a is =
+    let logged = all_front FitsEntry log.entries (early ++ late) a.fit in
+    let rest = all_back FitsEntry log.entries (early ++ late) a.fit in
+    let back = all_back FitsEntry (synced_part log) (unsynced_part log) (subst (λ (xs : List Entry). AllByRecursion FitsEntry xs) (sym (take-append-drop log.synced log.entries)) logged) in
+    first_fits (find_id (unsynced_part log) i) (or_else (find_id early i) (find_id late i)) e
+    (λ x h. find_fits (unsynced_part log) i x back h)
+    (λ x h. first_fits (find_id early i) (find_id late i) x
+    (λ y k. find_fits early i y (all_front FitsEntry early late rest) k)
+    (λ y k. find_fits late i y (all_back FitsEntry early late rest) k) h)
     is
 
 -- ---- all keys in turn
@@ -139,20 +140,21 @@ pub record HasTaken (s t : ReplicaData) : Type 0 where
   pub apart : AreApart t.log t.early t.late
   pub more : s.log.synced ≤ t.log.synced
 
-pub record MaySync (s : ReplicaData) (key : Key) : Type 0 where
-  pub above : is_above_last (keys_of (synced_part s.log)) key ≡ true
-  pub fresh : has_id (keys_of (synced_part s.log)) (id_of key) ≡ false
-  pub room : length s.log.entries < most_entries
+pub record MaySync (log : Log) (key : Key) : Type 0 where
+  pub above : is_above_last (keys_of (synced_part log)) key ≡ true
+  pub fresh : has_id (keys_of (synced_part log)) (id_of key) ≡ false
+  pub room : length log.entries < most_entries
 
-pub may_sync_true : (s : ReplicaData) (key : Key) → may_sync s key ≡ true → MaySync s key
-may_sync_true s key may =
-    let above = is_above_last (keys_of (synced_part s.log)) key in
-    let there = has_id (keys_of (synced_part s.log)) (id_of key) in
-    let rest = and_right above (not there && nat_lt (length s.log.entries) most_entries) may in
+pub may_sync_true : (log : Log) (key : Key) → may_join log key ≡ true → MaySync log key
+may_sync_true log key may =
+    let above = is_above_last (keys_of (synced_part log)) key in
+    let there = has_id (keys_of (synced_part log)) (id_of key) in
+    let room = nat_lt (length log.entries) most_entries in
+    let rest = and_right above (not there && room) may in
     record {
-      above = and_left above (not there && nat_lt (length s.log.entries) most_entries) may;
-      fresh = not-true there (and_left (not there) (nat_lt (length s.log.entries) most_entries) rest);
-      room = ltb-true _ _ (and_right (not there) (nat_lt (length s.log.entries) most_entries) rest);
+      above = and_left above (not there && room) may;
+      fresh = not-true there (and_left (not there) room rest);
+      room = ltb-true _ _ (and_right (not there) room rest);
     }
 
 then_taken : (s t u : ReplicaData) → t ≡ record s { log = t.log; early = t.early; late = t.late } → s.log.synced ≤ t.log.synced → HasTaken t u → HasTaken s u
@@ -168,16 +170,16 @@ unfolding sync_keys
 keys_taken s [] a fit = record { same = refl; apart = a; more = omega arith }
 keys_taken s (k ∷ keys) a fit =
     elim (cases_bool (may_sync s k)) [
-      | inl may ↦ rw may (go (λ t apart. keys_taken t keys apart fit.1) (found s (id_of k)) refl (may_sync_true s k may))
+      | inl may ↦ rw may (go (λ t apart. keys_taken t keys apart fit.1) (found s (id_of k)) refl (may_sync_true s.log k may))
       | inr stop ↦ rw stop (record { same = refl; apart = a; more = omega arith })
     ]
   where
-    go : ((t : ReplicaData) → AreApart t.log t.early t.late → HasTaken t (sync_keys t keys).0) → (o : Option Entry) → found s (id_of k) ≡ o → MaySync s k
+    go : ((t : ReplicaData) → AreApart t.log t.early t.late → HasTaken t (sync_keys t keys).0) → (o : Option Entry) → found s (id_of k) ≡ o → MaySync s.log k
         → HasTaken s (if_found o (s, k ∷ keys) (λ e. sync_keys (synced_with s (record { key = k; command = e.command })) keys)).0
     go rest None is m = record { same = refl; apart = a; more = omega arith }
     go rest (Some e) is m =
         let entry : Entry = record { key = k; command = e.command } in
-        let own : FitsEntry entry = record { key = fit.0; command = (found_fits s (id_of k) e a is).command } in
+        let own : FitsEntry entry = record { key = fit.0; command = (found_fits s.log s.early s.late (id_of k) e a is).command } in
         let t = synced_with s entry in
         then_taken s t (sync_keys t keys).0 refl (omega arith) (rest t (apart_synced s.log s.early s.late entry a own m.above m.fresh m.room))
 

@@ -9,6 +9,7 @@ pub mod Quorums
 pub mod Proxies
 pub mod Clients
 pub mod Step
+pub mod Taking
 pub mod World
 pub mod Events
 pub mod History

@@ -13,8 +13,10 @@ mod parts;
 mod receiving;
 mod reply;
 mod replying;
+mod reporting;
 mod sending;
 mod state;
+mod taking;
 
 pub use answers::copy_answer;
 pub use cores::Core;

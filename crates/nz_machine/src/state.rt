@@ -12,6 +12,8 @@ ghost use Rattle.nz_machine.specs.Replicas.{first_replica, is_normal, leads as l
 ghost use Rattle.nz_machine.specs.Requests.{with_origin, to_early as to_early_of, to_late as to_late_of};
 ghost use Rattle.nz_machine.specs.Releases.{at_clock, released, first_may};
 
+mod agreeing;
+
 use super::answers::copy_answer;
 use super::data::{Origin, Status};
 use super::parts::{last_key, put_early, put_late, take_in, vector_fits};

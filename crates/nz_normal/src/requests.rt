@@ -8,11 +8,11 @@ ghost use Rattle.nz_log.specs.Places.{last_entry};
 ghost use Rattle.nz_msg.specs.Messages.{timed};
 ghost use Rattle.nz_msg.specs.declared.message.Message.TheVariants.{Timed};
 ghost use Rattle.nz_machine.specs.Replicas.{key_at as key_of};
-ghost use Rattle.nz_machine.specs.Requests.{replies_at, entry_at as entry_of, next_deadline as deadline_behind, restamped, placed, is_full as is_full_state, unlogged as unlogged_of, request_rule};
+ghost use Rattle.nz_machine.specs.Requests.{replies_at, entry_at as entry_of, next_deadline as deadline_behind, restamped, placed, unlogged as unlogged_of, request_rule};
 ghost use Rattle.nz_machine.specs.Step.{parcel, replica_message};
 
 use nz_base::{Actor, Entry, Id, Key, NoMemory, TryCopy};
-use nz_log::{HashedLog, MAX_ENTRIES};
+use nz_log::HashedLog;
 use nz_machine::{ReplicaState, Sends};
 use nz_msg::TimedBody;
 use std::alloc::Global;
@@ -90,20 +90,12 @@ fn place(state: &mut ReplicaState, body: &TimedBody) -> Result<(), NoMemory>
     }
 }
 
-/// Whether log, early and late together hold as many entries as a log may.
-fn is_full(state: &ReplicaState) -> bool
-    ensures { result ≡ is_full_state state.now.state }
-{
-    let waiting = state.early().len().saturating_add(state.late().len());
-    waiting.saturating_add(state.log().len() as usize) >= MAX_ENTRIES as usize
-}
-
 fn unlogged(state: &mut ReplicaState, body: &TimedBody) -> Result<(), NoMemory>
     requires fits { timed.fits body.now }
     requires logged { IsFalse (has_id (keys_of state.old.state.log.entries) body.now.id) }
     ensures { OnOk result (state.new ≡ record state.old { state = unlogged_of state.old.f state.old.me state.old.state body.now }) }
 {
-    if state.early().find(body.id).is_some() || is_full(state) {
+    if state.early().find(body.id).is_some() || state.is_full() {
         return Ok(());
     }
     place(state, body)

@@ -1,0 +1,9 @@
+use Rattle.std.proofs.Common.{◌≡◌, ◌≤◌, take}
+use Rattle.nz_machine.proofs.Reports.{gathered}
+use Rattle.nz_machine.proofs.reporting.gather.Given as goal
+
+abbrev pub invariant-loop-replica : goal.invariant-loop-replica
+invariant-loop-replica l = record {
+  few : l.count ≤ l.replica;
+  all : take l.count l.reports ≡ gathered l.me l.ack l.replica;
+}

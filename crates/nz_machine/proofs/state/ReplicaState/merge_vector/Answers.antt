@@ -1,0 +1,9 @@
+use Rattle.std.proofs.Common.{◌≡◌, length, sym, subst}
+use Rattle.nz_base.specs.Cluster.{replica_count}
+use Rattle.nz_machine.specs.Facts.{ReplicaSeat}
+use Rattle.nz_machine.proofs.Synced.{kept_vector}
+use Rattle.nz_machine.proofs.state.ReplicaState.merge_vector.Goals as goal
+
+pub invariant_of-self : goal.invariant_of-self
+invariant_of-self c =
+    kept_vector _ _ _ _ c.args.vector.now _ c.self.invariant (subst (λ (v : ReplicaSeat). length c.args.vector.now ≡ replica_count v.f) (sym c.self.view_is) c.requires) c.merge.ensures

@@ -1,0 +1,126 @@
+//! What a replica does to its state so that its log agrees with the leader's.
+
+ghost use Rattle.std.specs.Prelude.{◌≡◌, ◌<◌, ◌≤◌, length, drop, IsTrue, IsFalse, IfOk, OnOk, slice_index};
+ghost use Rattle.std.specs.List.{AllByRecursion};
+ghost use Rattle.nz_base.specs.Cluster.{replica_count};
+ghost use Rattle.nz_msg.specs.Fields.{key as key_field};
+ghost use Rattle.nz_machine.specs.Replicas.{is_normal, leads as leads_in};
+ghost use Rattle.nz_machine.specs.Requests.{is_full};
+ghost use Rattle.nz_machine.specs.Vectors.{with_vector};
+ghost use Rattle.nz_machine.specs.LogMods.{is_held, with_ack, with_commit, sync_keys, overtaken, committed_to, missing_ids};
+
+use super::super::data::Status;
+use super::super::reporting::reported;
+use super::super::taking::sync_parts;
+use super::ReplicaState;
+use nz_base::{Id, IdList, Key, NoMemory};
+use nz_buffers::{Early, Late};
+use nz_cv::CrashVector;
+use nz_log::{HashedLog, MAX_ENTRIES};
+
+impl ReplicaState {
+    /// Takes in what a message's crash vector knows.
+    pub fn merge_vector(&mut self, vector: &CrashVector)
+        requires { length vector.now ≡ replica_count self.old.f }
+        ensures { self.new ≡ record self.old { state = with_vector self.old.me self.old.state vector.now } }
+    {
+        self.vector.merge(vector, self.me);
+    }
+
+    /// Whether an entry with the id is in log, early or late.
+    pub fn holds(&self, id: Id) -> bool
+        ensures { result ≡ is_held self.now.state id }
+    {
+        self.log.place_of(id).is_some()
+            || self.early.find(id).is_some()
+            || self.late.find(id).is_some()
+    }
+
+    /// Whether log, early and late together hold as many entries as a log may.
+    pub fn is_full(&self) -> bool
+        ensures { result ≡ is_full self.now.state }
+    {
+        let waiting = self.early.len().saturating_add(self.late.len());
+        waiting.saturating_add(self.log.len() as usize) >= MAX_ENTRIES as usize
+    }
+
+    /// How many entries of a replica's log agree with the leader's, as its reports say.
+    pub fn ack_of(&self, replica: u8) -> u32
+        requires { replica < replica_count self.now.f }
+        ensures { result ≡ slice_index self.now.state.ack replica }
+    {
+        self.ack[replica as usize]
+    }
+
+    /// The ids of some keys that are found nowhere.
+    #[tactic(auto, using(crate::proofs::Synced::missing_held, crate::proofs::Synced::missing_more))]
+    pub fn missing(&self, keys: &[Key]) -> Result<IdList, NoMemory>
+        ensures { IfOk result (λ ids. ids ≡ missing_ids self.now.state keys.now) }
+    {
+        let mut ids = IdList::new(self.alloc);
+        for key in keys {
+            let id = key.id();
+            if !self.holds(id) {
+                ids.push(id)?;
+            }
+        }
+        Ok(ids)
+    }
+
+    /// Notes how many entries of a replica's log agree, and commits what f others report.
+    pub fn note_report(&mut self, sender: u8, synced: u32)
+        requires normal { IsTrue (is_normal self.old.state.status) }
+        requires leads { IsTrue (leads_in self.old.f self.old.me self.old.state) }
+        requires sender { sender < replica_count self.old.f }
+        requires low { synced ≤ length self.old.state.log.entries }
+        ensures { self.new ≡ record self.old { state = with_commit self.old.f self.old.me (with_ack self.old.state sender synced) } }
+    {
+        let place = sender as usize;
+        self.ack[place] = self.ack[place].max(synced);
+        self.commit = self.commit.max(reported(self.cluster, self.me, &self.ack));
+    }
+
+    /// Takes keys of the leader's log, and commits what the leader committed. Gives the place of the first
+    /// key that is missing, or their count.
+    fn take(&mut self, keys: &[Key], commit: u32) -> Result<usize, NoMemory>
+        requires follows { IsFalse (leads_in self.old.f self.old.me self.old.state) }
+        requires fit { AllByRecursion key_field.fits keys.now }
+        ensures within { IfOk result (λ place. place ≤ length keys.now) }
+        ensures state { OnOk result (self.new ≡ record self.old { state = committed_to (overtaken (sync_keys self.old.state keys.now).0) commit }) }
+        ensures missing { IfOk result (λ place. (sync_keys self.old.state keys.now).1 ≡ drop place keys.now) }
+    {
+        match sync_parts(
+            self.alloc,
+            &mut self.log,
+            &mut self.early,
+            &mut self.late,
+            keys,
+        ) {
+            Ok(place) => {
+                self.commit = self.commit.max(commit.min(self.log.synced()));
+                Ok(place)
+            }
+            Err(error) => {
+                // What ran out of memory on the way holds nothing.
+                self.status = Status::Down;
+                self.commit = 0;
+                self.log = HashedLog::new(self.alloc);
+                self.early = Early::new(self.alloc);
+                self.late = Late::new(self.alloc);
+                Err(error)
+            }
+        }
+    }
+
+    /// Takes keys of the leader's log, of which the first belongs to the first place that is not synced,
+    /// and commits what the leader committed. Gives the ids that are missing.
+    pub fn sync(&mut self, keys: &[Key], commit: u32) -> Result<IdList, NoMemory>
+        requires follows { IsFalse (leads_in self.old.f self.old.me self.old.state) }
+        requires fit { AllByRecursion key_field.fits keys.now }
+        ensures state { OnOk result (self.new ≡ record self.old { state = committed_to (overtaken (sync_keys self.old.state keys.now).0) commit }) }
+        ensures missing { IfOk result (λ ids. ids ≡ missing_ids self.new.state (sync_keys self.old.state keys.now).1) }
+    {
+        let place = self.take(keys, commit)?;
+        self.missing(&keys[place..])
+    }
+}

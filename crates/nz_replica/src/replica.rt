@@ -1,0 +1,156 @@
+ghost use Rattle.std.specs.Prelude.{◌≡◌, ◌<◌, ◌++◌, ◌&&◌, true, map, IsTrue, IfOk, OnOk};
+ghost use Rattle.nz_base.specs.Actor.{HasAddress};
+ghost use Rattle.nz_base.specs.Cluster.{replica_count};
+ghost use Rattle.nz_base.specs.declared.actor.Actor.TheVariants.{Replica as IsReplica};
+ghost use Rattle.nz_msg.specs.Messages.{Fits};
+ghost use Rattle.nz_machine.specs.State.{Group};
+ghost use Rattle.nz_machine.specs.Replicas.{first_replica};
+ghost use Rattle.nz_machine.specs.Step.{node_step, envelope_step, replica_message, tick_rule, received, parcel, is_in_cluster, is_sized, vector_of};
+ghost use Rattle.nz_replica.specs.Seats.{IsOf};
+
+use nz_base::{Actor, Cluster, NoMemory};
+use nz_log::HashedLog;
+use nz_machine::{Core, Event, Parcel, ReplicaState, Sends, heard, is_counted};
+use nz_msg::{Envelope, Message};
+use nz_normal::{on_timed, tick};
+use nz_sync::{on_fetch, on_fetch_reply, on_log_mod, on_sync_report, tell};
+use std::alloc::Global;
+use std::marker::Model;
+
+/// A replica. Of its state nothing is known once a step ran out of memory, so its cluster stands apart.
+#[derive(Drop)]
+pub struct Replica {
+    cluster: Cluster,
+    state: ReplicaState,
+    live: bool,
+}
+
+impl Model for Replica {
+    ghost use Rattle.std.specs.Prelude.{◌≡◌, IsTrue};
+    ghost use Rattle.nz_replica.specs.Seats.{ReplicaView};
+
+    ghost Value = { ReplicaView };
+
+    ghost view = { λ r. record { f = r.cluster; seat = r.state; live = r.live } };
+
+    ghost invariant = { λ r. IsTrue r.live → r.state.f ≡ r.cluster };
+}
+
+impl Replica {
+    /// A replica in its first state.
+    pub fn new(alloc: Global, cluster: Cluster, me: u8) -> Result<Replica, NoMemory>
+        requires { me < replica_count cluster }
+        ensures { IfOk result (λ replica. replica ≡ record { f = cluster; seat = record { f = cluster; me = me; state = first_replica cluster }; live = true }) }
+    {
+        Ok(Replica {
+            cluster,
+            state: ReplicaState::new(alloc, cluster, me)?,
+            live: true,
+        })
+    }
+
+    pub fn log(&self) -> &HashedLog
+        ensures { result.now ≡ self.now.seat.state.log }
+    {
+        self.state.log()
+    }
+
+    pub fn view(&self) -> u64
+        ensures { result ≡ self.now.seat.state.view }
+    {
+        self.state.view()
+    }
+
+    pub fn commit(&self) -> u32
+        ensures { result ≡ self.now.seat.state.commit }
+    {
+        self.state.commit()
+    }
+}
+
+/// Which rule a message comes to.
+fn handle(state: &mut ReplicaState, envelope: &Envelope, sends: &mut Sends) -> Result<(), NoMemory>
+    requires from { HasAddress envelope.now.from }
+    requires fits { Fits envelope.now.message }
+    requires counted { IsTrue (is_in_cluster state.old.f envelope.now.from && is_sized state.old.f (vector_of envelope.now.message)) }
+    ensures state { OnOk result (state.new ≡ record state.old { state = (replica_message state.old.f state.old.me state.old.state envelope.now.from envelope.now.message).0 }) }
+    ensures sends { OnOk result (sends.new ≡ sends.old ++ map (parcel (IsReplica state.old.me)) (replica_message state.old.f state.old.me state.old.state envelope.now.from envelope.now.message).1) }
+{
+    let from = envelope.from;
+    match &envelope.message {
+        Message::Timed(body) => on_timed(state, from, body, sends),
+        Message::LogMod(body) => on_log_mod(state, from, body, sends),
+        Message::Fetch(body) => on_fetch(state, from, body, sends),
+        Message::FetchReply(body) => on_fetch_reply(state, from, body),
+        Message::SyncReport(body) => {
+            on_sync_report(state, from, body);
+            Ok(())
+        }
+        _ => Ok(()),
+    }
+}
+
+fn deliver(state: &mut ReplicaState, p: &Parcel, sends: &mut Sends) -> Result<(), NoMemory>
+    ensures state { (g : Group) → IsOf g state.old → OnOk result (state.new ≡ record state.old { state = (envelope_step g (IsReplica state.old.me) state.old.state (received g.f (IsReplica state.old.me) p.now)).0 }) }
+    ensures sends { (g : Group) → IsOf g state.old → OnOk result (sends.new ≡ sends.old ++ map (parcel (IsReplica state.old.me)) (envelope_step g (IsReplica state.old.me) state.old.state (received g.f (IsReplica state.old.me) p.now)).1) }
+{
+    match heard(state.allocator(), state.name(), p)? {
+        None => Ok(()),
+        Some(envelope) => {
+            if !is_counted(state.cluster(), &envelope) {
+                return Ok(());
+            }
+            handle(state, &envelope, sends)
+        }
+    }
+}
+
+/// Releases what is due, and tells the others.
+fn tick_and_tell(state: &mut ReplicaState, clock: u64, sends: &mut Sends) -> Result<(), NoMemory>
+    ensures state { OnOk result (state.new ≡ record state.old { state = (tick_rule state.old.f state.old.me state.old.state clock).0 }) }
+    ensures sends { OnOk result (sends.new ≡ sends.old ++ map (parcel (IsReplica state.old.me)) (tick_rule state.old.f state.old.me state.old.state clock).1) }
+{
+    tick(state, clock, sends)?;
+    tell(state, sends)
+}
+
+fn take(state: &mut ReplicaState, event: &Event, sends: &mut Sends) -> Result<(), NoMemory>
+    ensures state { (g : Group) → IsOf g state.old → OnOk result (state.new ≡ record state.old { state = (node_step g (IsReplica state.old.me) state.old.state event.now).0 }) }
+    ensures sends { (g : Group) → IsOf g state.old → OnOk result (sends.new ≡ sends.old ++ (node_step g (IsReplica state.old.me) state.old.state event.now).1) }
+{
+    match event {
+        Event::Deliver(p) => deliver(state, p, sends),
+        Event::Tick(clock) => tick_and_tell(state, *clock, sends),
+        Event::Cut(..) | Event::Alarm | Event::Crash | Event::Restart(_) => Ok(()),
+    }
+}
+
+impl Core for Replica {
+    ghost use Rattle.std.specs.Prelude.{◌≡◌};
+    ghost use Rattle.nz_base.specs.declared.actor.Actor.TheVariants.{Replica as IsReplica};
+
+    ghost meaning = { λ r. record { actor = IsReplica r.seat.me; state = r.seat.state } };
+
+    ghost live = { λ r. r.live };
+
+    ghost fits = { λ r g. g.f ≡ r.f };
+
+    fn step(&mut self, event: &Event) -> Result<Sends, NoMemory> {
+        let mut sends = Sends::new(self.state.allocator());
+        match take(&mut self.state, event, &mut sends) {
+            Ok(()) => Ok(sends),
+            Err(error) => {
+                self.live = false;
+                Err(error)
+            }
+        }
+    }
+
+    fn is_live(&self) -> bool {
+        self.live
+    }
+
+    fn actor(&self) -> Actor {
+        self.state.name()
+    }
+}

@@ -1,0 +1,11 @@
+use Rattle.std.proofs.Common.{◌≡◌, drop}
+use Rattle.nz_machine.specs.LogMods.{kept_all}
+use Rattle.nz_sync.proofs.fetches.keep_each.Given as goal
+
+-- the entries that are left lead to the end
+abbrev pub invariant-loop-entry : goal.invariant-loop-entry
+invariant-loop-entry l = record {
+  size : l.state.f ≡ l.initial.state.f;
+  number : l.state.me ≡ l.initial.state.me;
+  state : kept_all l.state.state (drop l.entry-index l.entries) ≡ kept_all l.initial.state.state l.entries;
+}

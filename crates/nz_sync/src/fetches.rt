@@ -1,0 +1,128 @@
+//! Entries that a follower misses, and the leader's reply with them.
+
+ghost use Rattle.std.specs.Prelude.{◌≡◌, ◌<◌, ◌≤◌, ◌++◌, [], map, length, filter, IfOk, OnOk};
+ghost use Rattle.std.specs.List.{AllByRecursion};
+ghost use Rattle.nz_base.specs.Actor.{HasAddress};
+ghost use Rattle.nz_base.specs.declared.actor.Actor.TheVariants.{Replica as IsReplica};
+ghost use Rattle.nz_msg.specs.Fields.{entries as entries_field};
+ghost use Rattle.nz_msg.specs.Messages.{fetch, fetch_reply};
+ghost use Rattle.nz_msg.specs.declared.message.Message.TheVariants.{Fetch, FetchReply};
+ghost use Rattle.nz_machine.specs.Facts.{FitsEntry};
+ghost use Rattle.nz_machine.specs.LogMods.{is_asked as is_asked_of, fetch_rule, kept_late, kept_all, fetch_reply_rule};
+ghost use Rattle.nz_machine.specs.Step.{parcel, replica_message};
+
+use super::log_mods::is_led_by;
+use nz_base::{Actor, Entry, EntryList, Id, NoMemory, TryCopy};
+use nz_machine::{ReplicaState, Sends, send};
+use nz_msg::{FetchBody, FetchReplyBody, Message};
+
+fn is_asked(ids: &[Id], entry: &Entry) -> bool
+    ensures { result ≡ is_asked_of ids.now entry.now }
+{
+    for id in ids {
+        if *id == entry.key.id() {
+            return true;
+        }
+    }
+    false
+}
+
+/// Copies of the log's entries with these ids.
+fn asked(state: &ReplicaState, ids: &[Id]) -> Result<EntryList, NoMemory>
+    requires { length ids.now ≤ 64 }
+    ensures value { IfOk result (λ list. list ≡ filter (is_asked_of ids.now) state.now.state.log.entries) }
+    ensures fits { IfOk result (entries_field 0 64).fits }
+{
+    state.has_facts();
+    let alloc = state.allocator();
+    let mut entries = EntryList::new(alloc);
+    for place in 0..state.log().len() {
+        let entry = state.log().get(place);
+        if is_asked(ids, entry) {
+            entries.push(entry.copy(alloc)?)?;
+        }
+    }
+    Ok(entries)
+}
+
+#[tactic(auto, unfolding(nz_machine::specs::LogMods::fetch_rule))]
+fn reply(
+    state: &ReplicaState,
+    sender: u8,
+    body: &FetchBody,
+    sends: &mut Sends,
+) -> Result<(), NoMemory>
+    requires sender { sender ≤ 8 }
+    requires fits { fetch.fits body.now }
+    ensures state { (fetch_rule state.now.f state.now.me state.now.state sender body.now).0 ≡ state.now.state }
+    ensures sends { OnOk result (sends.new ≡ sends.old ++ map (parcel (IsReplica state.now.me)) (fetch_rule state.now.f state.now.me state.now.state sender body.now).1) }
+{
+    if !state.is_normal() || body.view != state.view() || !state.leads() {
+        return Ok(());
+    }
+    let message = Message::FetchReply(FetchReplyBody {
+        view: state.view(),
+        entries: asked(state, body.ids.as_slice())?,
+    });
+    let to = Actor::Replica(sender);
+    send(state.allocator(), state.name(), to, &message, sends)
+}
+
+/// What a replica does with a fetch. It changes nothing, and takes them from replicas alone.
+pub fn on_fetch(
+    state: &ReplicaState,
+    from: Actor,
+    body: &FetchBody,
+    sends: &mut Sends,
+) -> Result<(), NoMemory>
+    requires from { HasAddress from }
+    requires fits { fetch.fits body.now }
+    ensures state { (replica_message state.now.f state.now.me state.now.state from (Fetch body.now)).0 ≡ state.now.state }
+    ensures sends { OnOk result (sends.new ≡ sends.old ++ map (parcel (IsReplica state.now.me)) (replica_message state.now.f state.now.me state.now.state from (Fetch body.now)).1) }
+{
+    match from {
+        Actor::Replica(sender) => reply(state, sender, body, sends),
+        Actor::Proxy(_) | Actor::Client(_) => Ok(()),
+    }
+}
+
+/// Keeps a fetched entry where its id is held nowhere and there is room.
+fn keep(state: &mut ReplicaState, entry: &Entry) -> Result<(), NoMemory>
+    requires { FitsEntry entry.now }
+    ensures { OnOk result (state.new ≡ record state.old { state = kept_late state.old.state entry.now }) }
+{
+    if state.holds(entry.key.id()) || state.is_full() {
+        return Ok(());
+    }
+    let entry = entry.copy(state.allocator())?;
+    state.keep_late(entry)
+}
+
+fn keep_each(state: &mut ReplicaState, entries: &[Entry]) -> Result<(), NoMemory>
+    requires { AllByRecursion FitsEntry entries.now }
+    ensures { OnOk result (state.new ≡ record state.old { state = kept_all state.old.state entries.now }) }
+{
+    for entry in entries {
+        keep(state, entry)?;
+    }
+    Ok(())
+}
+
+/// What a replica does with a fetch reply. It takes them from its leader alone, and sends nothing.
+#[tactic(auto, unfolding(nz_machine::specs::LogMods::fetch_reply_rule))]
+pub fn on_fetch_reply(
+    state: &mut ReplicaState,
+    from: Actor,
+    body: &FetchReplyBody,
+) -> Result<(), NoMemory>
+    requires { fetch_reply.fits body.now }
+    ensures state { OnOk result (state.new ≡ record state.old { state = (replica_message state.old.f state.old.me state.old.state from (FetchReply body.now)).0 }) }
+    ensures sends { (replica_message state.old.f state.old.me state.old.state from (FetchReply body.now)).1 ≡ [] }
+{
+    match from {
+        Actor::Replica(sender) if is_led_by(state, body.view, sender) => {
+            keep_each(state, body.entries.as_slice())
+        }
+        _ => Ok(()),
+    }
+}

@@ -1,0 +1,152 @@
+//! How a follower takes a log modification.
+
+ghost use Rattle.std.specs.Prelude.{◌≡◌, ◌<◌, ◌≤◌, ◌∷◌, ◌++◌, [], ◌==◌, ◌&&◌, not, map, length, IsTrue, IsFalse, OnOk, nat_lt};
+ghost use Rattle.std.specs.List.{AllByRecursion};
+ghost use Rattle.nz_base.specs.Actor.{HasAddress};
+ghost use Rattle.nz_base.specs.Cluster.{replica_count, leader_of};
+ghost use Rattle.nz_base.specs.declared.actor.Actor.TheVariants.{Replica as IsReplica};
+ghost use Rattle.nz_msg.specs.Fields.{id as id_field};
+ghost use Rattle.nz_msg.specs.Messages.{log_mod};
+ghost use Rattle.nz_msg.specs.declared.message.Message.TheVariants.{LogMod};
+ghost use Rattle.nz_machine.specs.Replicas.{is_normal, leads};
+ghost use Rattle.nz_machine.specs.LogMods.{replies_since as replies_since_of, fetch_from, sync_report_to, taken_from, log_mod_rule};
+ghost use Rattle.nz_machine.specs.Step.{parcel, replica_message, is_in_cluster};
+
+use nz_base::{Actor, IdList, NoMemory};
+use nz_machine::{ReplicaState, Sends, send};
+use nz_msg::{FetchBody, LogModBody, Message, SyncReportBody};
+
+/// Tells the leader how much of the log agrees with its own.
+fn report(state: &ReplicaState, leader: u8, sends: &mut Sends) -> Result<(), NoMemory>
+    requires { leader ≤ 8 }
+    ensures { OnOk result (sends.new ≡ sends.old ++ map (parcel (IsReplica state.now.me)) (sync_report_to leader state.now.state ∷ [])) }
+{
+    let message = Message::SyncReport(SyncReportBody {
+        view: state.view(),
+        synced: state.log().synced(),
+    });
+    let to = Actor::Replica(leader);
+    send(state.allocator(), state.name(), to, &message, sends)
+}
+
+/// Asks the leader for the entries with these ids, if there are any.
+fn fetch(state: &ReplicaState, leader: u8, ids: IdList, sends: &mut Sends) -> Result<(), NoMemory>
+    requires leader { leader ≤ 8 }
+    requires few { length ids ≤ 64 }
+    requires fit { AllByRecursion id_field.fits ids }
+    ensures { OnOk result (sends.new ≡ sends.old ++ map (parcel (IsReplica state.now.me)) (fetch_from leader state.now.state ids)) }
+{
+    if ids.is_empty() {
+        return Ok(());
+    }
+    let message = Message::Fetch(FetchBody {
+        view: state.view(),
+        ids,
+    });
+    let to = Actor::Replica(leader);
+    send(state.allocator(), state.name(), to, &message, sends)
+}
+
+/// Sends the slow replies for the entries that are synced since a count.
+fn reply_since(state: &ReplicaState, count: u32, sends: &mut Sends) -> Result<(), NoMemory>
+    ensures { OnOk result (sends.new ≡ sends.old ++ map (parcel (IsReplica state.now.me)) (replies_since_of state.now.state count)) }
+{
+    state.has_facts();
+    for place in count..state.log().synced() {
+        state.reply_slowly(state.log().get(place).key.id(), sends)?;
+    }
+    Ok(())
+}
+
+/// Takes the keys of a log modification that starts at most at the first place that is not synced.
+fn take_keys(
+    state: &mut ReplicaState,
+    leader: u8,
+    body: &LogModBody,
+    sends: &mut Sends,
+) -> Result<(), NoMemory>
+    requires leader { leader ≤ 8 }
+    requires follows { IsFalse (leads state.old.f state.old.me state.old.state) }
+    requires fits { log_mod.fits body.now }
+    requires within { IsFalse (nat_lt state.old.state.log.synced body.now.start) }
+    ensures state { OnOk result (state.new ≡ record state.old { state = (taken_from leader body.now state.old.state).0 }) }
+    ensures sends { OnOk result (sends.new ≡ sends.old ++ map (parcel (IsReplica state.old.me)) (taken_from leader body.now state.old.state).1) }
+{
+    let synced = state.log().synced();
+    let skipped = (synced - body.start).min(body.keys.len());
+    let missing = state.sync(&body.keys.as_slice()[skipped as usize..], body.commit)?;
+    reply_since(state, synced, sends)?;
+    fetch(state, leader, missing, sends)?;
+    report(state, leader, sends)
+}
+
+/// What follows once the vector of a log modification was taken in.
+fn take(
+    state: &mut ReplicaState,
+    leader: u8,
+    body: &LogModBody,
+    sends: &mut Sends,
+) -> Result<(), NoMemory>
+    requires leader { leader ≤ 8 }
+    requires follows { IsFalse (leads state.old.f state.old.me state.old.state) }
+    requires fits { log_mod.fits body.now }
+    ensures state { OnOk result (state.new ≡ record state.old { state = (taken_from leader body.now state.old.state).0 }) }
+    ensures sends { OnOk result (sends.new ≡ sends.old ++ map (parcel (IsReplica state.old.me)) (taken_from leader body.now state.old.state).1) }
+{
+    if state.log().synced() < body.start {
+        return report(state, leader, sends);
+    }
+    take_keys(state, leader, body, sends)
+}
+
+/// Whether a follower in normal operation takes what this replica tells of the view.
+pub fn is_led_by(state: &ReplicaState, view: u64, sender: u8) -> bool
+    ensures { result ≡ (is_normal state.now.state.status && ((view == state.now.state.view) && ((sender == leader_of state.now.f view) && not (leads state.now.f state.now.me state.now.state)))) }
+{
+    state.is_normal()
+        && view == state.view()
+        && sender == state.cluster().leader(view)
+        && !state.leads()
+}
+
+#[tactic(auto, unfolding(nz_machine::specs::LogMods::log_mod_rule))]
+fn log_mod(
+    state: &mut ReplicaState,
+    sender: u8,
+    body: &LogModBody,
+    sends: &mut Sends,
+) -> Result<(), NoMemory>
+    requires address { sender ≤ 8 }
+    requires sender { sender < replica_count state.old.f }
+    requires vector { length body.now.vector ≡ replica_count state.old.f }
+    requires fits { log_mod.fits body.now }
+    ensures state { OnOk result (state.new ≡ record state.old { state = (log_mod_rule state.old.f state.old.me state.old.state sender body.now).0 }) }
+    ensures sends { OnOk result (sends.new ≡ sends.old ++ map (parcel (IsReplica state.old.me)) (log_mod_rule state.old.f state.old.me state.old.state sender body.now).1) }
+{
+    state.has_facts();
+    if !is_led_by(state, body.view, sender) || body.vector.is_stray(sender, state.vector()) {
+        return Ok(());
+    }
+    state.merge_vector(&body.vector);
+    take(state, sender, body, sends)
+}
+
+/// What a replica does with a log modification. It takes them from replicas alone.
+pub fn on_log_mod(
+    state: &mut ReplicaState,
+    from: Actor,
+    body: &LogModBody,
+    sends: &mut Sends,
+) -> Result<(), NoMemory>
+    requires from { HasAddress from }
+    requires member { IsTrue (is_in_cluster state.old.f from) }
+    requires vector { length body.now.vector ≡ replica_count state.old.f }
+    requires fits { log_mod.fits body.now }
+    ensures state { OnOk result (state.new ≡ record state.old { state = (replica_message state.old.f state.old.me state.old.state from (LogMod body.now)).0 }) }
+    ensures sends { OnOk result (sends.new ≡ sends.old ++ map (parcel (IsReplica state.old.me)) (replica_message state.old.f state.old.me state.old.state from (LogMod body.now)).1) }
+{
+    match from {
+        Actor::Replica(sender) => log_mod(state, sender, body, sends),
+        Actor::Proxy(_) | Actor::Client(_) => Ok(()),
+    }
+}
