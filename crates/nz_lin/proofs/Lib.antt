@@ -13,3 +13,4 @@ pub mod Tells
 pub mod Asked
 pub mod Histories
 pub mod OneHistory
+pub mod Counts

@@ -13,6 +13,7 @@ ghost use Rattle.nz_machine.specs.Events.{Sent, events};
 ghost use Rattle.nz_machine.specs.History.{log_at, history};
 ghost use Rattle.nz_machine.specs.OneHistory.{Lin, NoCollision};
 ghost use Rattle.nz_lin.specs.Laws.{IsDecoded, IsPrefix};
+ghost use Rattle.nz_lin.specs.Once.{AreOnce};
 
 /// Each parcel that was sent is decoded as one message, from its sender to its receiver.
 pub fn each_parcel_decodes()
@@ -38,6 +39,11 @@ pub fn leader_executes_its_log()
 /// Each entry in the log of a replica was sent by its client before, with this command.
 pub fn own_commands()
     ensures { (g : Group) (J : List Record) (r : ℕ) (e : Entry) → World g J → Has (log_at g (Replica r) J) e → Has (events g J) (Sent (id_of e.key) e.command) }
+{}
+
+/// In every run each request is sent once, and accepted at most once and after that.
+pub fn once_each()
+    ensures { (g : Group) (J : List Record) → World g J → AreOnce (events g J) }
 {}
 
 /// In every run, whatever was lost, repeated, reordered or cut, whatever clocks read and whichever proxies
