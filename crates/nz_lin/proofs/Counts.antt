@@ -73,10 +73,10 @@ accept_counts proxies me script s b h =
     let free : ClientData = (record s { accepted = s.accepted + 1; attempt = None }) in
     on_cond (λ (t : ClientData × List Out). Counts s t.0) (is_awaited s b s.attempt) (open_next proxies me script free) (s, [])
     (λ awaited.
-        let own = awaited_open s b s.attempt h awaited in
-        let t = opened_free proxies me free (if_due s.ticks (slice_get script s.sent)) own in
-        let same = t.same in
-        record { counted = t.counted; more = omega (arith, same); open_before = λ _. own })
+    let own = awaited_open s b s.attempt h awaited in
+    let t = opened_free proxies me free (if_due s.ticks (slice_get script s.sent)) own in
+    let same = t.same in
+    record { counted = t.counted; more = omega (arith, same); open_before = λ _. own })
     (λ _. free_counts s s (record { counted = h; same = refl }))
 
 message_counts : (proxies me : ℕ) (script : List Request) (s : ClientData) (from : Actor) (m : Message) → Counted s.attempt s.sent s.accepted → Counts s (client_message proxies me script s from m).0

@@ -14,3 +14,6 @@ pub mod Asked
 pub mod Histories
 pub mod OneHistory
 pub mod Counts
+pub mod FactsStay
+pub mod Shows
+pub mod Snapshots

@@ -149,7 +149,7 @@ commands_long [] i lt = absurd (omega (arith, lt))
 commands_long (e ∷ es) zero lt = omega arith
 commands_long (e ∷ es) (suc i) lt = let ih = commands_long es i (omega (arith, lt)) in omega (arith, ih)
 
-reply_more : (xs ys : List Entry) (i : ℕ) → i < length xs → IsPrefix xs ys → reply (commands ys) i ≡ reply (commands xs) i
+pub reply_more : (xs ys : List Entry) (i : ℕ) → i < length xs → IsPrefix xs ys → reply (commands ys) i ≡ reply (commands xs) i
 reply_more xs ys i lt p =
     ap (λ (l : List Entry). reply (commands l) i) p.whole
     ∙ ap (λ (l : List (List ℕ)). reply l i) (map-append (λ (e : Entry). e.command) xs p.rest)

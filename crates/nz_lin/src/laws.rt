@@ -7,6 +7,7 @@ ghost use Rattle.nz_machine.specs.declared.data.Status.TheVariants.{Normal};
 ghost use Rattle.nz_machine.specs.declared.event.Parcel.{Parcel};
 ghost use Rattle.nz_machine.specs.declared.event.Record.{Record};
 ghost use Rattle.nz_machine.specs.State.{Group};
+ghost use Rattle.nz_machine.specs.Facts.{HasFacts};
 ghost use Rattle.nz_machine.specs.Replicas.{commands};
 ghost use Rattle.nz_machine.specs.World.{state_after, sent_in, Has, World};
 ghost use Rattle.nz_machine.specs.Events.{Sent, events};
@@ -14,6 +15,7 @@ ghost use Rattle.nz_machine.specs.History.{log_at, history};
 ghost use Rattle.nz_machine.specs.OneHistory.{Lin, NoCollision};
 ghost use Rattle.nz_lin.specs.Laws.{IsDecoded, IsPrefix};
 ghost use Rattle.nz_lin.specs.Once.{AreOnce};
+ghost use Rattle.nz_lin.specs.Snapshots.{IsSnapshot};
 
 /// Each parcel that was sent is decoded as one message, from its sender to its receiver.
 pub fn each_parcel_decodes()
@@ -24,6 +26,16 @@ pub fn each_parcel_decodes()
 pub fn views_stay()
     ensures view { (g : Group) (J : List Record) (r : ℕ) → World g J → (state_after g (Replica r) J).view ≡ 0 }
     ensures status { (g : Group) (J : List Record) (r : ℕ) → World g J → (state_after g (Replica r) J).status ≡ Normal }
+{}
+
+/// Each replica's state has its facts.
+pub fn facts_stay()
+    ensures { (g : Group) (J : List Record) (r : ℕ) → World g J → HasFacts g.f r (state_after g (Replica r) J) }
+{}
+
+/// Each message that was sent is read off its sender's state behind the record that first sent it.
+pub fn messages_are_snapshots()
+    ensures { (g : Group) (J : List Record) (parcel : Parcel) → World g J → Has (sent_in J) parcel → IsSnapshot g J parcel }
 {}
 
 /// The log of the leader, replica 0, only grows.
