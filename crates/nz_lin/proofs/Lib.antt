@@ -17,3 +17,4 @@ pub mod Counts
 pub mod FactsStay
 pub mod Shows
 pub mod Snapshots
+mod PutAndGet
