@@ -13,3 +13,8 @@ pub mod Tells
 pub mod Asked
 pub mod Histories
 pub mod OneHistory
+pub mod Counts
+pub mod FactsStay
+pub mod Shows
+pub mod Snapshots
+mod PutAndGet

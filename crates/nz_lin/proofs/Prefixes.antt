@@ -1,5 +1,5 @@
 -- Fronts of a log: places and answers in them are those of the log.
-use Rattle.std.proofs.Common.{◌≡◌, ℕ, zero, suc, ◌+◌, ◌<◌, ◌≤◌, Bool, true, false, cond, List, [], ◌∷◌, ◌++◌, length, take, drop, Option, Some, None, is_some, refl, sym, ap, subst, ◌∙◌, arith, inl, inr, ◌⊎◌, append_assoc, append-nil, length-append, take-append-drop}
+use Rattle.std.proofs.Common.{◌≡◌, ℕ, zero, suc, ◌<◌, ◌≤◌, Bool, true, false, cond, List, [], ◌∷◌, ◌++◌, length, take, drop, Option, Some, None, is_some, refl, sym, ap, subst, ◌∙◌, arith, inl, inr, ◌⊎◌, append_assoc, append-nil, length-append, take-append-drop}
 use Rattle.std.specs.Option.{option_map}
 use Rattle.std.proofs.lemmas.List.{map-append}
 use Rattle.std.proofs.lemmas.Option.{none-some, same_Some}
@@ -149,7 +149,7 @@ commands_long [] i lt = absurd (omega (arith, lt))
 commands_long (e ∷ es) zero lt = omega arith
 commands_long (e ∷ es) (suc i) lt = let ih = commands_long es i (omega (arith, lt)) in omega (arith, ih)
 
-reply_more : (xs ys : List Entry) (i : ℕ) → i < length xs → IsPrefix xs ys → reply (commands ys) i ≡ reply (commands xs) i
+pub reply_more : (xs ys : List Entry) (i : ℕ) → i < length xs → IsPrefix xs ys → reply (commands ys) i ≡ reply (commands xs) i
 reply_more xs ys i lt p =
     ap (λ (l : List Entry). reply (commands l) i) p.whole
     ∙ ap (λ (l : List (List ℕ)). reply l i) (map-append (λ (e : Entry). e.command) xs p.rest)

@@ -79,10 +79,10 @@ acceptance c before after (Some e) x h =
     }
 acceptance c before after None x h = absurd h
 
-not_sent : (c : ℕ) (before after : ClientData) (o : Option Envelope) (id : Id) (command : List ℕ) → Has (accepted_by c before after o) (Sent id command) → ⊥
+pub not_sent : (c : ℕ) (before after : ClientData) (o : Option Envelope) (id : Id) (command : List ℕ) → Has (accepted_by c before after o) (Sent id command) → ⊥
 not_sent c before after o id command h = let t = acceptance c before after o (Sent id command) h in let k = t.is in absurd cc
 
-not_accepted : (g : Group) (c : ℕ) (before after : ClientData) (id : Id) (answer : Answer) (path : Path) → Has (sent_by c (script_of g c) before after) (Accepted id answer path) → ⊥
+pub not_accepted : (g : Group) (c : ℕ) (before after : ClientData) (id : Id) (answer : Answer) (path : Path) → Has (sent_by c (script_of g c) before after) (Accepted id answer path) → ⊥
 not_accepted g c before after id answer path h =
     let t = one_told (nat_lt before.sent after.sent) (Sent (id_at c after.sent) (command_at (script_of g c) after.sent)) (Accepted id answer path) h in let k = t.1 in absurd cc
 

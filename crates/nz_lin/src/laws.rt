@@ -7,12 +7,15 @@ ghost use Rattle.nz_machine.specs.declared.data.Status.TheVariants.{Normal};
 ghost use Rattle.nz_machine.specs.declared.event.Parcel.{Parcel};
 ghost use Rattle.nz_machine.specs.declared.event.Record.{Record};
 ghost use Rattle.nz_machine.specs.State.{Group};
+ghost use Rattle.nz_machine.specs.Facts.{HasFacts};
 ghost use Rattle.nz_machine.specs.Replicas.{commands};
 ghost use Rattle.nz_machine.specs.World.{state_after, sent_in, Has, World};
 ghost use Rattle.nz_machine.specs.Events.{Sent, events};
 ghost use Rattle.nz_machine.specs.History.{log_at, history};
 ghost use Rattle.nz_machine.specs.OneHistory.{Lin, NoCollision};
 ghost use Rattle.nz_lin.specs.Laws.{IsDecoded, IsPrefix};
+ghost use Rattle.nz_lin.specs.Once.{AreOnce};
+ghost use Rattle.nz_lin.specs.Snapshots.{IsSnapshot};
 
 /// Each parcel that was sent is decoded as one message, from its sender to its receiver.
 pub fn each_parcel_decodes()
@@ -23,6 +26,16 @@ pub fn each_parcel_decodes()
 pub fn views_stay()
     ensures view { (g : Group) (J : List Record) (r : ℕ) → World g J → (state_after g (Replica r) J).view ≡ 0 }
     ensures status { (g : Group) (J : List Record) (r : ℕ) → World g J → (state_after g (Replica r) J).status ≡ Normal }
+{}
+
+/// Each replica's state has its facts.
+pub fn facts_stay()
+    ensures { (g : Group) (J : List Record) (r : ℕ) → World g J → HasFacts g.f r (state_after g (Replica r) J) }
+{}
+
+/// Each message that was sent is read off its sender's state behind the record that first sent it.
+pub fn messages_are_snapshots()
+    ensures { (g : Group) (J : List Record) (parcel : Parcel) → World g J → Has (sent_in J) parcel → IsSnapshot g J parcel }
 {}
 
 /// The log of the leader, replica 0, only grows.
@@ -38,6 +51,11 @@ pub fn leader_executes_its_log()
 /// Each entry in the log of a replica was sent by its client before, with this command.
 pub fn own_commands()
     ensures { (g : Group) (J : List Record) (r : ℕ) (e : Entry) → World g J → Has (log_at g (Replica r) J) e → Has (events g J) (Sent (id_of e.key) e.command) }
+{}
+
+/// In every run each request is sent once, and accepted at most once and after that.
+pub fn once_each()
+    ensures { (g : Group) (J : List Record) → World g J → AreOnce (events g J) }
 {}
 
 /// In every run, whatever was lost, repeated, reordered or cut, whatever clocks read and whichever proxies

@@ -17,6 +17,7 @@ mod reporting;
 mod sending;
 mod state;
 mod taking;
+mod telling;
 
 pub use answers::copy_answer;
 pub use cores::Core;
@@ -29,6 +30,7 @@ pub use receiving::heard;
 pub use reply::{Reply, ReplyList};
 pub use sending::send;
 pub use state::ReplicaState;
+pub use telling::{Acceptance, Clients, Progress, Telling};
 
 #[cfg(test)]
 mod tests;

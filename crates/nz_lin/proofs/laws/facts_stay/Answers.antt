@@ -1,0 +1,5 @@
+use Rattle.nz_lin.proofs.FactsStay.{facts_stay}
+use Rattle.nz_lin.proofs.laws.facts_stay.Goals as goal
+
+pub returns : goal.returns
+returns c = facts_stay

@@ -1,0 +1,5 @@
+use Rattle.nz_lin.proofs.Counts.{are_once}
+use Rattle.nz_lin.proofs.laws.once_each.Goals as goal
+
+pub returns : goal.returns
+returns c = λ g J w. are_once g J
