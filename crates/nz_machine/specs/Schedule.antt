@@ -74,6 +74,7 @@ pub record Delivery : Type 0 where
 abbrev pub whole_in : ℕ → Delivery
 whole_in tick = record { tick = tick; kept = None }
 
+-- The delivery comes so much later.
 abbrev pub later : ℕ → Delivery → Delivery
 later by d = record d { tick = d.tick + by }
 
