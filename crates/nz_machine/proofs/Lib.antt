@@ -26,3 +26,4 @@ pub mod Agreeing
 pub mod Takes
 pub mod Synced
 pub mod Reports
+pub mod Members
