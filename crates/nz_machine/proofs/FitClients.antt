@@ -59,7 +59,7 @@ if_due_is ticks (Some request) r e = ap Some (due_is (nat_le request.wait ticks)
 get_asked : (script : List Request) (i : ℕ) (r : Request) → AllByRecursion IsAsked script → slice_get script i ≡ Some r → IsAsked r
 get_asked script i r all e = subst (λ (o : Option Request). IfSome o IsAsked) e (all_get IsAsked script i all)
 
-own_proxy : (proxies n : ℕ) → 1 ≤ proxies → n % proxies < proxies
+pub own_proxy : (proxies n : ℕ) → 1 ≤ proxies → n % proxies < proxies
 own_proxy proxies n some = omega (arith, some)
 
 opened_step : (proxies me : ℕ) (script : List Request) (s : ClientData) (o : Option Request) → IsClient proxies me script → if_due s.ticks (slice_get script s.sent) ≡ o → FitsClient script s → ClientStep script me (opened proxies me s o)

@@ -27,3 +27,4 @@ pub mod Takes
 pub mod Synced
 pub mod Reports
 pub mod Progressing
+pub mod Members

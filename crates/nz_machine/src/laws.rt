@@ -1,5 +1,5 @@
 //! Laws of the rules, each the contract of a function with nothing to do.
-ghost use Rattle.std.specs.Prelude.{◌≡◌, ℕ, ◌+◌, ◌≤◌, ◌++◌, length, min, IsTrue};
+ghost use Rattle.std.specs.Prelude.{◌≡◌, ℕ, List, ◌+◌, ◌≤◌, ◌++◌, length, min, IsTrue};
 ghost use Rattle.nz_buffers.specs.Buffers.{released as released_of, held_back};
 ghost use Rattle.nz_base.specs.Cluster.{replica_count};
 ghost use Rattle.nz_msg.specs.declared.message.TimedBody.{TimedBody};
@@ -8,7 +8,10 @@ ghost use Rattle.nz_msg.specs.declared.message.FetchBody.{FetchBody};
 ghost use Rattle.nz_msg.specs.declared.message.FetchReplyBody.{FetchReplyBody};
 ghost use Rattle.nz_msg.specs.declared.message.SyncReportBody.{SyncReportBody};
 ghost use Rattle.nz_msg.specs.Messages.{timed, log_mod, fetch_reply};
-ghost use Rattle.nz_machine.specs.State.{ReplicaData};
+ghost use Rattle.nz_machine.specs.declared.event.Parcel.{Parcel};
+ghost use Rattle.nz_machine.specs.declared.event.Record.{Record};
+ghost use Rattle.nz_machine.specs.State.{ReplicaData, Group};
+ghost use Rattle.nz_machine.specs.World.{World, sent_in, Has, IsMember};
 ghost use Rattle.nz_machine.specs.Facts.{HasFacts};
 ghost use Rattle.nz_machine.specs.Replicas.{first_replica, last_clock, most_entries, is_normal};
 ghost use Rattle.nz_machine.specs.Requests.{request_rule};
@@ -40,4 +43,9 @@ pub fn due_entries_are_released()
     ensures early { (f me : ℕ) (s : ReplicaData) (clock : ℕ) → HasFacts f me s → IsTrue (is_normal s.status)
         → length s.log.entries + length (released_of s.early (min clock last_clock)) ≤ most_entries
         → (release_rule f me s clock).0.early ≡ held_back s.early (min clock last_clock) }
+{}
+
+/// In every run each parcel is for an actor of the group.
+pub fn receivers_take_part()
+    ensures { (g : Group) (J : List Record) (parcel : Parcel) → World g J → Has (sent_in J) parcel → IsMember g parcel.to }
 {}

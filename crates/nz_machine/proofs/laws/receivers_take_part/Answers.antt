@@ -1,0 +1,5 @@
+use Rattle.nz_machine.proofs.Members.{receiver_is_member}
+use Rattle.nz_machine.proofs.laws.receivers_take_part.Goals as goal
+
+pub returns : goal.returns
+returns c = receiver_is_member
