@@ -25,7 +25,6 @@ pub use counting::is_counted;
 pub use data::{Attempt, Origin, Status};
 pub use event::{Event, Parcel, Record, RecordList, Sends};
 pub use journal::{Executed, History, Item, ItemList, Journal};
-pub use laws::{due_entries_are_released, facts_are_kept};
 pub use laws::{due_entries_are_released, facts_are_kept, receivers_take_part};
 pub use receiving::heard;
 pub use reply::{Reply, ReplyList};
