@@ -1,5 +1,5 @@
 -- Each rule by which followers agree with the leader keeps what a replica's state always has.
-use Rattle.std.proofs.Common.{◌≡◌, ℕ, zero, suc, ◌+◌, ◌-◌, ◌<◌, ◌≤◌, Bool, true, false, not, ◌&&◌, ◌||◌, ◌==◌, cond, max, min, nat_lt, nat_le, List, [], ◌∷◌, ◌++◌, length, map, drop, get_or, Option, Some, None, IsTrue, refl, sym, ap, subst, ◌∙◌, inl, inr, arith}
+use Rattle.std.proofs.Common.{◌≡◌, ℕ, zero, suc, ◌-◌, ◌≤◌, Bool, true, false, not, ◌&&◌, ◌||◌, ◌==◌, max, nat_lt, nat_le, List, [], ◌∷◌, ◌++◌, length, map, drop, sym, ◌∙◌, inl, inr, arith}
 use Rattle.std.specs.Prelude.{slice_index, slice_set}
 use Rattle.std.specs.List.{AllByRecursion}
 use Rattle.std.proofs.lemmas.Bool.{leb-true, not-true}
@@ -10,7 +10,7 @@ use Rattle.nz_base.specs.declared.key.Entry.{Entry}
 use Rattle.nz_base.specs.Key.{id_of}
 use Rattle.nz_base.specs.Log.{keys_of, has_id}
 use Rattle.nz_base.proofs.Booleans.{cases_bool, and_left, and_right, neither_left, neither_right}
-use Rattle.nz_cv.specs.Vectors.{is_stray, merged}
+use Rattle.nz_cv.specs.Vectors.{is_stray}
 use Rattle.nz_cv.proofs.Merging.{length-merged}
 use Rattle.nz_window.specs.Samples.{placed, in_order}
 use Rattle.nz_msg.specs.Codec.{ItemsFit}
@@ -20,12 +20,12 @@ use Rattle.nz_msg.specs.declared.message.LogModBody.{LogModBody}
 use Rattle.nz_msg.specs.declared.message.FetchBody.{FetchBody}
 use Rattle.nz_msg.specs.declared.message.FetchReplyBody.{FetchReplyBody}
 use Rattle.nz_msg.specs.declared.message.SyncReportBody.{SyncReportBody}
-use Rattle.nz_machine.specs.State.{ReplicaData, Out}
+use Rattle.nz_machine.specs.State.{ReplicaData}
 use Rattle.nz_machine.specs.Facts.{FitsEntry, HasFacts}
 use Rattle.nz_machine.specs.Replicas.{is_normal, leads}
 use Rattle.nz_machine.specs.Requests.{is_full}
 use Rattle.nz_machine.specs.Vectors.{with_vector}
-use Rattle.nz_machine.specs.LogMods.{others, sync_keys, is_held, taken_from, log_mod_rule, fetch_rule, kept_late, kept_all, fetch_reply_rule, with_ack, reported, with_commit, sync_report_rule}
+use Rattle.nz_machine.specs.LogMods.{others, is_held, taken_from, log_mod_rule, fetch_rule, kept_late, kept_all, fetch_reply_rule, with_ack, reported, with_commit, sync_report_rule}
 use Rattle.nz_machine.proofs.Arranged.{arranged_late}
 use Rattle.nz_machine.proofs.Keeping.{arranged, waiting_keeps}
 use Rattle.nz_machine.proofs.Syncing.{apart_facts, keys_taken, taken_keeps}

@@ -23,3 +23,4 @@ pub mod FitClients
 pub mod FitRuns
 pub mod Syncing
 pub mod Agreeing
+pub mod Progressing

@@ -1,5 +1,5 @@
 -- The facts of a replica's state while keys of a log modification are taken, and behind that.
-use Rattle.std.proofs.Common.{◌≡◌, ℕ, suc, ◌+◌, ◌<◌, ◌≤◌, Bool, true, false, not, cond, max, min, nat_lt, ◌&&◌, List, [], ◌∷◌, ◌++◌, length, take, drop, Option, Some, None, refl, sym, ap, subst, ◌∙◌, inl, inr, arith, length-append}
+use Rattle.std.proofs.Common.{◌≡◌, ℕ, ◌+◌, ◌<◌, ◌≤◌, Bool, true, false, not, max, min, nat_lt, ◌&&◌, List, [], ◌∷◌, ◌++◌, length, Option, Some, None, refl, sym, ap, subst, ◌∙◌, inl, inr, arith}
 use Rattle.std.specs.List.{AllByRecursion, filter}
 use Rattle.std.proofs.lemmas.Bool.{ltb-true, not-true}
 use Rattle.std.proofs.lemmas.List.{take-append-drop}
@@ -18,7 +18,7 @@ use Rattle.nz_msg.specs.Fields.{key as key_field}
 use Rattle.nz_machine.specs.State.{ReplicaData}
 use Rattle.nz_machine.specs.Facts.{FitsEntry, HasFacts, AreApart}
 use Rattle.nz_machine.specs.Replicas.{most_entries, leads}
-use Rattle.nz_machine.specs.LogMods.{or_else, found, may_sync, synced_with, if_found, sync_keys, is_early_yet, overtaken, committed_to}
+use Rattle.nz_machine.specs.LogMods.{or_else, found, may_sync, synced_with, if_found, sync_keys, overtaken, committed_to}
 use Rattle.nz_machine.proofs.Each.{all_append, all_front, all_back, all_filter}
 use Rattle.nz_machine.proofs.Apart.{rising_both}
 use Rattle.nz_machine.proofs.Counts.{times, times_all, times_append, times_filter, times_parts, times_never, times_none, own_times, times_own}

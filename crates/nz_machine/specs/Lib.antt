@@ -15,3 +15,4 @@ pub mod History
 pub mod OneHistory
 pub mod Schedule
 pub mod Journals
+pub mod Telling

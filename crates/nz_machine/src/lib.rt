@@ -15,6 +15,7 @@ mod reply;
 mod replying;
 mod sending;
 mod state;
+mod telling;
 
 pub use answers::copy_answer;
 pub use cores::Core;
@@ -27,6 +28,7 @@ pub use receiving::heard;
 pub use reply::{Reply, ReplyList};
 pub use sending::send;
 pub use state::ReplicaState;
+pub use telling::{Acceptance, Clients, Progress, Telling};
 
 #[cfg(test)]
 mod tests;

@@ -2,8 +2,11 @@
 
 use super::*;
 use bytes::Bytes;
-use nz_base::{Actor, NoMemory, TryCopy};
-use nz_msg::{Message, ViewAskBody};
+use nz_base::{
+    Actor, Cluster, FaultList, NoMemory, RequestList, Scenario, ScriptList, SkewList, TryCopy,
+};
+use nz_msg::{AnswerBody, Message, Path, ViewAskBody, encode};
+use nz_store::Answer;
 use std::alloc::Global;
 use std::test::Fail;
 
@@ -64,6 +67,89 @@ fn copies_an_event_of_each_sort(rt: HostRuntime) -> Result<(), Fail> {
     ]?;
     for event in &events {
         assert!(rt; event.copy(alloc).is_ok());
+    }
+    Ok(())
+}
+
+// A record of client 0 in tick 1, with so many sends.
+fn record(alloc: Global, event: Event, count: u32) -> Result<Record, NoMemory> {
+    let mut sends = Sends::new(alloc);
+    for _ in 0..count {
+        sends.push(parcel(alloc, 1, 0, &[])?)?;
+    }
+    Ok(Record {
+        tick: 1,
+        actor: Actor::Client(0),
+        event,
+        sends,
+    })
+}
+
+// The answer of proxy 0 to the client's request of this number.
+fn answer(alloc: Global, num: u32) -> Result<Event, Fail> {
+    let message = Message::Answer(AnswerBody {
+        num,
+        answer: Answer::Done,
+        path: Path::Slow,
+    });
+    if !message.is_valid() {
+        return Err("no message".into());
+    }
+    let (from, to) = (Actor::Proxy(0), Actor::Client(0));
+    Ok(Event::Deliver(Parcel {
+        from,
+        to,
+        frame: encode(alloc, from, to, &message)?,
+    }))
+}
+
+// The one client of a small scenario.
+fn clients(alloc: Global) -> Result<Clients, Fail> {
+    let Some(cluster) = Cluster::new(1) else {
+        return Err("no cluster".into());
+    };
+    let mut scripts = ScriptList::new(alloc);
+    scripts.push(RequestList::new(alloc))?;
+    let scenario = Scenario {
+        cluster,
+        proxies: 1,
+        clients: 1,
+        ticks: 40,
+        skews: SkewList::new(alloc),
+        scripts,
+        faults: FaultList::new(alloc),
+    };
+    Ok(Clients::new(alloc, &scenario)?)
+}
+
+#[test]
+fn tells_what_the_records_of_a_client_show(rt: HostRuntime) -> Result<(), Fail> {
+    let alloc = rt.alloc();
+    let mut clients = clients(alloc)?;
+    // What happens, how many parcels the client sends, and the numbers of the request that it accepts an
+    // answer to and of the one that it sends.
+    let table = [
+        (Event::Tick(1_000), 0, None, None),
+        (Event::Tick(2_000), 1, None, Some(1)),
+        (Event::Tick(3_000), 1, None, None),
+        (answer(alloc, 2)?, 0, None, None),
+        (answer(alloc, 1)?, 1, Some(1), Some(2)),
+        (answer(alloc, 1)?, 0, None, None),
+        (answer(alloc, 2)?, 0, Some(2), None),
+        (Event::Alarm, 0, None, None),
+        (Event::Tick(4_000), 1, None, Some(3)),
+    ];
+    for (event, count, accepted, sent) in table {
+        let telling = clients.tell(alloc, &record(alloc, event, count)?)?;
+        assert_eq!(rt; telling.sent.map(|id| id.num), sent);
+        match (telling.accepted, accepted) {
+            (None, None) => {}
+            (Some(acceptance), Some(num)) => {
+                assert_eq!(rt; acceptance.id.num, num);
+                assert_eq!(rt; acceptance.path, Path::Slow);
+            }
+            _ => return Err("another acceptance".into()),
+        }
     }
     Ok(())
 }
