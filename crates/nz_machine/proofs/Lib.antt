@@ -24,3 +24,4 @@ pub mod FitRuns
 pub mod Syncing
 pub mod Agreeing
 pub mod Progressing
+pub mod Fronts

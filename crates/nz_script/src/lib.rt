@@ -21,7 +21,8 @@ mod word;
 pub use faults::{Kind, ScriptFault};
 pub use generating::generate;
 pub use laws::texts_are_read_back;
-pub use printing::print;
+pub use message::name_of;
+pub use printing::{print, put, put_actor, put_command, put_number};
 pub use reading::read;
 pub use validity::ValidScenario;
 
