@@ -28,3 +28,4 @@ pub mod Synced
 pub mod Reports
 pub mod Progressing
 pub mod Members
+pub mod Fronts

@@ -1,5 +1,5 @@
 -- The schedule: what is due in each tick of a scenario, and which runs keep to it.
-use Rattle.std.specs.Prelude.{ℕ, zero, suc, ◌≡◌, ◌+◌, ◌-◌, ◌*◌, ◌≤◌, min, Bool, true, false, ◌&&◌, ◌==◌, nat_le, if◌then◌else◌, is_some, List, [], ◌∷◌, ◌++◌, length, map, filter, reverse, Option, Some, None, ℤ, pos, negsuc, slice_index, IsPermutation}
+use Rattle.std.specs.Prelude.{ℕ, zero, suc, ◌≡◌, ◌+◌, ◌-◌, ◌*◌, ◌≤◌, min, Bool, true, false, ◌&&◌, ◌==◌, if◌then◌else◌, List, [], ◌∷◌, ◌++◌, length, map, filter, reverse, Option, Some, None, ℤ, pos, negsuc, slice_index, IsPermutation}
 use Rattle.std.specs.List.{AllByRecursion}
 use Rattle.nz_base.specs.Actor.{actor_eq, is_within}
 use Rattle.nz_base.specs.Cluster.{replica_count}
@@ -81,6 +81,7 @@ later by d = record d { tick = d.tick + by }
 -- Every delivery comes later.
 abbrev pub held : ℕ → List Delivery → List Delivery
 held by ds = map (later by) ds
+held by ds = map (λ (d : Delivery). record d { tick = d.tick + by }) ds
 
 -- A whole copy comes so much later than the first delivery.
 abbrev pub repeated : ℕ → List Delivery → List Delivery

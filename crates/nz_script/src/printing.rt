@@ -2,7 +2,7 @@ ghost use Rattle.std.specs.Prelude.{◌≡◌, ◌++◌, ◌∷◌, [], IfOk, On
 ghost use Rattle.std.specs.Fmt.{decimal};
 ghost use Rattle.nz_store.specs.Reading.{command_of};
 ghost use Rattle.nz_script.specs.Lines.{a_line};
-ghost use Rattle.nz_script.specs.Texts.{actor_text, word_text, words_text, text_of_lines, number_line, head_lines, units_of as units_word_of, skew_line, choice_of as choice_word_of, actors_of as actors_word_of, command_line, wait_lines, lines_of_command, request_lines, script_lines, scripts_lines, fault_line, text_of};
+ghost use Rattle.nz_script.specs.Texts.{actor_text, word_text, words_text, line_text, text_of_lines, number_line, head_lines, units_of as units_word_of, skew_line, choice_of as choice_word_of, actors_of as actors_word_of, command_line, wait_lines, lines_of_command, request_lines, script_lines, scripts_lines, fault_line, text_of};
 ghost use Rattle.nz_script.specs.declared.shape.Verb.TheVariants as verb;
 ghost use Rattle.nz_script.specs.declared.word.Word.TheVariants as word;
 ghost use Rattle.nz_script.specs.Valid.{IsValid};
@@ -15,21 +15,24 @@ use nz_base::{Actor, Blob, Fault, NoMemory, Request, RequestList, Scenario, Skew
 use nz_store::{Blob as Text, Command, read_command};
 use std::alloc::Global;
 
-fn put(out: &mut Vec<u8>, bytes: &[u8]) -> Result<(), NoMemory>
+/// Writes the bytes.
+pub fn put(out: &mut Vec<u8>, bytes: &[u8]) -> Result<(), NoMemory>
     ensures { OnOk result (out.new.items ≡ out.old.items ++ bytes.now) }
 {
     out.extend_from_slice(bytes)?;
     Ok(())
 }
 
-fn put_number(alloc: Global, out: &mut Vec<u8>, number: u64) -> Result<(), NoMemory>
+/// Writes the number in decimal.
+pub fn put_number(alloc: Global, out: &mut Vec<u8>, number: u64) -> Result<(), NoMemory>
     ensures { OnOk result (out.new.items ≡ out.old.items ++ decimal number) }
 {
     let digits = format!(in alloc; "{number}")?;
     put(out, digits.as_bytes())
 }
 
-fn put_actor(alloc: Global, out: &mut Vec<u8>, actor: Actor) -> Result<(), NoMemory>
+/// Writes the actor's name.
+pub fn put_actor(alloc: Global, out: &mut Vec<u8>, actor: Actor) -> Result<(), NoMemory>
     ensures { OnOk result (out.new.items ≡ out.old.items ++ actor_text actor) }
 {
     let (letter, number) = match actor {
@@ -72,12 +75,19 @@ fn put_words(alloc: Global, out: &mut Vec<u8>, words: &[Word]) -> Result<(), NoM
     put_words(alloc, out, others)
 }
 
+/// Writes a line without its newline.
+fn put_shaped(alloc: Global, out: &mut Vec<u8>, verb: Verb, words: &[Word]) -> Result<(), NoMemory>
+    ensures { OnOk result (out.new.items ≡ out.old.items ++ line_text (a_line verb words.now)) }
+{
+    put(out, verb.shape().0)?;
+    put_words(alloc, out, words)
+}
+
 /// Writes a line and its newline.
 fn put_line(alloc: Global, out: &mut Vec<u8>, verb: Verb, words: &[Word]) -> Result<(), NoMemory>
     ensures { OnOk result (out.new.items ≡ out.old.items ++ text_of_lines (a_line verb words.now ∷ [])) }
 {
-    put(out, verb.shape().0)?;
-    put_words(alloc, out, words)?;
+    put_shaped(alloc, out, verb, words)?;
     out.push(b'\n')?;
     Ok(())
 }
@@ -150,25 +160,34 @@ fn choice_of(choice: Option<Text>) -> Word
     }
 }
 
-fn put_command(alloc: Global, out: &mut Vec<u8>, command: Command) -> Result<(), NoMemory>
-    ensures { OnOk result (out.new.items ≡ out.old.items ++ text_of_lines (command_line command ∷ [])) }
+/// Writes the command as its line in a scenario has it, without the newline.
+pub fn put_command(alloc: Global, out: &mut Vec<u8>, command: Command) -> Result<(), NoMemory>
+    ensures { OnOk result (out.new.items ≡ out.old.items ++ line_text (command_line command)) }
 {
     match command {
-        Command::Put { key, value } => put_line(
+        Command::Put { key, value } => put_shaped(
             alloc,
             out,
             Verb::Ask(Ask::Put),
             &[Word::Text(key), Word::Text(value)],
         ),
-        Command::Get { key } => put_line(alloc, out, Verb::Ask(Ask::Get), &[Word::Text(key)]),
-        Command::Del { key } => put_line(alloc, out, Verb::Ask(Ask::Del), &[Word::Text(key)]),
-        Command::Cas { key, old, new } => put_line(
+        Command::Get { key } => put_shaped(alloc, out, Verb::Ask(Ask::Get), &[Word::Text(key)]),
+        Command::Del { key } => put_shaped(alloc, out, Verb::Ask(Ask::Del), &[Word::Text(key)]),
+        Command::Cas { key, old, new } => put_shaped(
             alloc,
             out,
             Verb::Ask(Ask::Cas),
             &[Word::Text(key), choice_of(old), choice_of(new)],
         ),
     }
+}
+
+fn put_command_line(alloc: Global, out: &mut Vec<u8>, command: Command) -> Result<(), NoMemory>
+    ensures { OnOk result (out.new.items ≡ out.old.items ++ text_of_lines (command_line command ∷ [])) }
+{
+    put_command(alloc, out, command)?;
+    out.push(b'\n')?;
+    Ok(())
 }
 
 fn put_wait(alloc: Global, out: &mut Vec<u8>, wait: u32) -> Result<(), NoMemory>
@@ -186,7 +205,7 @@ fn put_request(alloc: Global, out: &mut Vec<u8>, request: &Request) -> Result<()
     put_wait(alloc, out, request.wait)?;
     match read_command(alloc, request.command.as_slice()).map_err(|_| NoMemory)? {
         None => Ok(()),
-        Some(command) => put_command(alloc, out, command),
+        Some(command) => put_command_line(alloc, out, command),
     }
 }
 

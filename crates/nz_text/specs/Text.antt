@@ -1,0 +1,126 @@
+-- The text of a run: what its clients saw, what is open, the history, and the end. Its summary counts the lines.
+use Rattle.std.specs.Prelude.{ℕ, suc, ◌+◌, Bool, true, false, List, [], ◌∷◌, ◌++◌, length, map, Option, Some, None, if◌then◌else◌, codes, count_by}
+use Rattle.std.specs.Fmt.{decimal}
+use Rattle.std.specs.List.{list_any, flat_map}
+use Rattle.nz_base.specs.Key.{id_eq}
+use Rattle.nz_base.specs.declared.key.Id.{Id}
+use Rattle.nz_store.specs.declared.command.Command.{Command}
+use Rattle.nz_store.specs.declared.command.Answer.{Answer}
+use Rattle.nz_store.specs.declared.command.Answer.TheVariants.{Done, Value, Absent, Differs}
+use Rattle.nz_store.specs.Reading.{command_of}
+use Rattle.nz_script.specs.Texts.{line_text, command_line}
+use Rattle.nz_msg.specs.declared.message.Path.{Path}
+use Rattle.nz_msg.specs.declared.message.Path.TheVariants.{Fast, Slow}
+use Rattle.nz_machine.specs.declared.event.Record.{Record}
+use Rattle.nz_machine.specs.declared.journal.Executed.{Executed}
+use Rattle.nz_machine.specs.State.{Group}
+use Rattle.nz_machine.specs.Events.{Told, Sent, Accepted, events}
+use Rattle.nz_machine.specs.History.{history}
+use Rattle.nz_machine.specs.Journals.{executed}
+use Rattle.nz_text.specs.declared.counting.Sort.{Sort}
+use Rattle.nz_text.specs.declared.counting.Sort.TheVariants as sort
+use Rattle.nz_text.specs.declared.printed.Event.{Event}
+use Rattle.nz_text.specs.declared.printed.Event.TheVariants.{Send, Accept}
+use Rattle.nz_text.specs.declared.printed.Printed.{Printed}
+
+-- ---- lines
+
+abbrev pub newline : List ℕ
+newline = codes "\n"
+
+-- A client and its number of the request, behind a space.
+abbrev pub id_text : Id → List ℕ
+id_text id = codes " c" ++ (decimal id.client ++ (codes " " ++ decimal id.num))
+
+-- The command as a line of a scenario, behind a space. Bytes that are no command have no text.
+abbrev pub found_text : Option Command → List ℕ
+found_text None = []
+found_text (Some command) = codes " " ++ line_text (command_line command)
+
+abbrev pub answer_text : Answer → List ℕ
+answer_text Done = codes " done"
+answer_text (Value value) = codes " value " ++ value
+answer_text Absent = codes " absent"
+answer_text Differs = codes " differs"
+
+abbrev pub path_text : Path → List ℕ
+path_text Fast = codes " fast"
+path_text Slow = codes " slow"
+
+-- The line of an event: a request that was sent, or an answer that was accepted, and how it was decided.
+abbrev pub event_line : Event → List ℕ
+event_line (Send id command) = codes "send" ++ (id_text id ++ (found_text (command_of command) ++ newline))
+event_line (Accept id answer path) = codes "accept" ++ (id_text id ++ (answer_text answer ++ (path_text path ++ newline)))
+
+abbrev pub open_line : Id → List ℕ
+open_line id = codes "open" ++ (id_text id ++ newline)
+
+-- The line of the history's entry at this place, counted from 1.
+abbrev pub at_line : ℕ → Executed → List ℕ
+at_line place e = codes "at " ++ (decimal place ++ (id_text e.id ++ (found_text (command_of e.command) ++ (codes " gives" ++ (answer_text e.answer ++ newline)))))
+
+-- The lines of entries, the first of which has this place.
+abbrev pub at_lines : ℕ → List Executed → List ℕ
+at_lines place [] = []
+at_lines place (e ∷ es) = at_line place e ++ at_lines (suc place) es
+
+-- The events, then the open requests, then the history, then the end.
+abbrev pub text_of : Printed → List ℕ
+text_of p = flat_map event_line p.events ++ (flat_map open_line p.unanswered ++ (at_lines 1 p.history ++ codes "end\n"))
+
+-- ---- what is printed of a run
+
+abbrev pub event_of : Told → Event
+event_of (Sent id command) = Send id command
+event_of (Accepted id answer path) = Accept id answer path
+
+-- The event accepts an answer to the request.
+abbrev pub accepts_it : Id → Event → Bool
+accepts_it id (Send other command) = false
+accepts_it id (Accept other answer path) = id_eq other id
+
+-- The request of an event that sent it, where none of the events accepts an answer to it.
+abbrev pub open_in : List Event → Event → List Id
+open_in E (Send id command) = if list_any (accepts_it id) E then [] else id ∷ []
+open_in E (Accept id answer path) = []
+
+-- The requests without an acceptance, in the order in which they were sent.
+abbrev pub unanswered_in : List Event → List Id
+unanswered_in E = flat_map (open_in E) E
+
+-- The events of the clients, and which of their requests are open.
+abbrev pub events_in : Group → List Record → List Event
+events_in g J = map event_of (events g J)
+
+abbrev pub printed : Group → List Record → Printed
+printed g J = record { events = events_in g J; unanswered = unanswered_in (events_in g J); history = executed (history g J) }
+
+abbrev pub text : Group → List Record → List ℕ
+text g J = text_of (printed g J)
+
+-- ---- the summary
+
+-- The event is of this sort.
+abbrev pub is_of : Sort → Event → Bool
+is_of sort.Sent (Send id command) = true
+is_of sort.Accepted (Accept id answer path) = true
+is_of sort.Fast (Accept id answer Fast) = true
+is_of sort.Slow (Accept id answer Slow) = true
+is_of _ _ = false
+
+abbrev pub count_line : List ℕ → ℕ → List ℕ
+count_line name count = name ++ (codes " " ++ (decimal count ++ newline))
+
+-- How many lines of each sort the text has.
+abbrev pub summary_of : Printed → List ℕ
+summary_of p =
+    count_line (codes "sent") (count_by (is_of sort.Sent) p.events)
+    ++ (count_line (codes "accepted") (count_by (is_of sort.Accepted) p.events)
+    ++ (count_line (codes "fast") (count_by (is_of sort.Fast) p.events)
+    ++ (count_line (codes "slow") (count_by (is_of sort.Slow) p.events)
+    ++ (count_line (codes "open") (length p.unanswered)
+    ++ (count_line (codes "history") (length p.history)
+    ++ codes "end\n")))))
+
+abbrev pub summary : Group → List Record → List ℕ
+summary g J = summary_of (printed g J)

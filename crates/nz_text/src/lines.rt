@@ -1,0 +1,130 @@
+//! The lines of a text, each written behind what is there.
+ghost use Rattle.std.specs.Prelude.{◌≡◌, ◌++◌, ◌<◌, ◌^◌, length, OnOk};
+ghost use Rattle.std.specs.List.{flat_map};
+ghost use Rattle.nz_store.specs.Reading.{command_of};
+ghost use Rattle.nz_text.specs.Text.{id_text, found_text, answer_text, path_text, event_line, open_line as line_of_open, at_line as line_at, at_lines as lines_from};
+
+use super::printed::Event;
+use nz_base::{Id, NoMemory};
+use nz_machine::Executed;
+use nz_msg::Path;
+use nz_script::{put, put_command, put_number};
+use nz_store::{Answer, read_command};
+use std::alloc::Global;
+
+fn put_id(alloc: Global, out: &mut Vec<u8>, id: Id) -> Result<(), NoMemory>
+    ensures { OnOk result (out.new.items ≡ out.old.items ++ id_text id) }
+{
+    put(out, b" c")?;
+    put_number(alloc, out, u64::from(id.client))?;
+    put(out, b" ")?;
+    put_number(alloc, out, u64::from(id.num))
+}
+
+/// Bytes that are no command have no text.
+fn put_found(alloc: Global, out: &mut Vec<u8>, bytes: &[u8]) -> Result<(), NoMemory>
+    ensures { OnOk result (out.new.items ≡ out.old.items ++ found_text (command_of bytes.now)) }
+{
+    match read_command(alloc, bytes).map_err(|_| NoMemory)? {
+        None => Ok(()),
+        Some(command) => {
+            put(out, b" ")?;
+            put_command(alloc, out, command)
+        }
+    }
+}
+
+fn put_answer(out: &mut Vec<u8>, answer: &Answer) -> Result<(), NoMemory>
+    ensures { OnOk result (out.new.items ≡ out.old.items ++ answer_text answer.now) }
+{
+    match answer {
+        Answer::Done => put(out, b" done"),
+        Answer::Value(value) => {
+            put(out, b" value ")?;
+            put(out, value.as_slice())
+        }
+        Answer::Absent => put(out, b" absent"),
+        Answer::Differs => put(out, b" differs"),
+    }
+}
+
+fn put_path(out: &mut Vec<u8>, path: Path) -> Result<(), NoMemory>
+    ensures { OnOk result (out.new.items ≡ out.old.items ++ path_text path) }
+{
+    match path {
+        Path::Fast => put(out, b" fast"),
+        Path::Slow => put(out, b" slow"),
+    }
+}
+
+fn put_event(alloc: Global, out: &mut Vec<u8>, event: &Event) -> Result<(), NoMemory>
+    ensures { OnOk result (out.new.items ≡ out.old.items ++ event_line event.now) }
+{
+    match event {
+        Event::Send { id, command } => {
+            put(out, b"send")?;
+            put_id(alloc, out, *id)?;
+            put_found(alloc, out, command.as_slice())?;
+        }
+        Event::Accept { id, answer, path } => {
+            put(out, b"accept")?;
+            put_id(alloc, out, *id)?;
+            put_answer(out, answer)?;
+            put_path(out, *path)?;
+        }
+    }
+    put(out, b"\n")
+}
+
+/// Writes a line for each event.
+pub fn put_events(alloc: Global, out: &mut Vec<u8>, events: &[Event]) -> Result<(), NoMemory>
+    ensures { OnOk result (out.new.items ≡ out.old.items ++ flat_map event_line events.now) }
+{
+    for event in events {
+        put_event(alloc, out, event)?;
+    }
+    Ok(())
+}
+
+fn put_open(alloc: Global, out: &mut Vec<u8>, id: Id) -> Result<(), NoMemory>
+    ensures { OnOk result (out.new.items ≡ out.old.items ++ line_of_open id) }
+{
+    put(out, b"open")?;
+    put_id(alloc, out, id)?;
+    put(out, b"\n")
+}
+
+/// Writes a line for each open request.
+pub fn put_opens(alloc: Global, out: &mut Vec<u8>, ids: &[Id]) -> Result<(), NoMemory>
+    ensures { OnOk result (out.new.items ≡ out.old.items ++ flat_map line_of_open ids.now) }
+{
+    for id in ids {
+        put_open(alloc, out, *id)?;
+    }
+    Ok(())
+}
+
+fn put_at(alloc: Global, out: &mut Vec<u8>, place: u32, executed: &Executed) -> Result<(), NoMemory>
+    ensures { OnOk result (out.new.items ≡ out.old.items ++ line_at place executed.now) }
+{
+    put(out, b"at ")?;
+    put_number(alloc, out, u64::from(place))?;
+    put_id(alloc, out, executed.id)?;
+    put_found(alloc, out, executed.command.as_slice())?;
+    put(out, b" gives")?;
+    put_answer(out, &executed.answer)?;
+    put(out, b"\n")
+}
+
+/// Writes a line for each entry of the history, with its place from 1.
+pub fn put_history(alloc: Global, out: &mut Vec<u8>, history: &[Executed]) -> Result<(), NoMemory>
+    requires { length history.now < 2 ^ 32 }
+    ensures { OnOk result (out.new.items ≡ out.old.items ++ lines_from 1 history.now) }
+{
+    let mut place = 0;
+    for executed in history {
+        place += 1;
+        put_at(alloc, out, place, executed)?;
+    }
+    Ok(())
+}
