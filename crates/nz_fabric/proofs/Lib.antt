@@ -1,0 +1,4 @@
+pub mod Faulting
+pub mod Arriving
+pub mod Calling
+pub mod Held

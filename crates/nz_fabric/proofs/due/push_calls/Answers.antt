@@ -1,0 +1,15 @@
+use Rattle.std.proofs.Common.{refl}
+use Rattle.nz_fabric.proofs.Calling.{restarts_step, calls_step, few_step}
+use Rattle.nz_fabric.proofs.due.push_calls.Goals as goal
+
+pub loop-fault-preserved : goal.loop-fault-preserved
+loop-fault-preserved c =
+    let lines = c.args.faults.now in
+    let i = c.loop-fault.fault-index in
+    let inv = c.loop-fault.invariant in
+    let call = c.in_ok-push_call.ensures in
+    record {
+      few = few_step i _ _ _ inv.few call.restarts;
+      restarts = restarts_step lines i _ _ _ _ c.loop-fault-test.true refl inv.restarts call.restarts;
+      items = calls_step c.args.tick lines i _ _ _ _ _ _ c.loop-fault-test.true refl inv.restarts inv.items call.items;
+    }

@@ -1,0 +1,6 @@
+use Rattle.std.proofs.Common.{◌≡◌, drop}
+use Rattle.nz_machine.specs.Schedule.{skew_of}
+use Rattle.nz_fabric.proofs.due.units_of.Given as goal
+
+abbrev pub invariant-loop-skew : goal.invariant-loop-skew
+invariant-loop-skew l = skew_of l.actor (drop l.skew-index l.skews) ≡ skew_of l.actor l.skews

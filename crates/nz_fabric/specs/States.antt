@@ -1,0 +1,115 @@
+-- What contracts see of a fabric of one thread, and what it keeps.
+use Rattle.std.specs.Prelude.{◌≡◌, ℕ, zero, suc, ◌+◌, ◌≤◌, ◌<◌, Bool, true, false, List, [], ◌∷◌, ◌++◌, length, map, take, drop, reverse, ◌^◌, Some, slice_get}
+use Rattle.std.specs.List.{AllByRecursion}
+use Rattle.nz_base.specs.declared.scenario.Scenario.{Scenario}
+use Rattle.nz_machine.specs.declared.event.Parcel.{Parcel}
+use Rattle.nz_machine.specs.declared.event.Record.{Record}
+use Rattle.nz_machine.specs.declared.journal.Item.{Item}
+use Rattle.nz_machine.specs.Schedule.{item, item_of, posted, due, InOrderTo, IsPlayable}
+use Rattle.nz_fabric.specs.declared.turn.Turn.{Turn}
+use Rattle.nz_fabric.specs.declared.coming.Coming.{Coming}
+use Rattle.nz_fabric.specs.Coming.{IsComing}
+
+-- The tick, the records of the ticks before it and those of the tick, both the newest first, what is due in the
+-- tick, how many of it were taken, and whether a turn was given up or a tick could not begin.
+pub record State : Type 0 where
+  pub scenario : Scenario
+  pub tick : ℕ
+  pub finished : List Record
+  pub here : List Record
+  pub items : List Item
+  pub next : ℕ
+  pub marked : Bool
+
+-- All records so far, the newest first.
+abbrev pub records_of : State → List Record
+records_of f = f.here ++ f.finished
+
+-- Before the first tick nothing is due.
+abbrev pub start : Scenario → State
+start s = record { scenario = s; tick = 0; finished = []; here = []; items = []; next = 0; marked = false }
+
+abbrev pub item_in : Turn → Item
+item_in turn = item turn.actor turn.event
+
+-- The record of a turn with what its step sent.
+abbrev pub recorded : Turn → List Parcel → Record
+recorded turn sends = record { tick = turn.tick; actor = turn.actor; event = turn.event; sends = sends }
+
+-- No turn was given up, and none is open.
+pub record IsQuiet (f : State) : Type 0 where
+  pub unmarked : f.marked ≡ false
+  pub closed : f.next ≡ length f.here
+
+-- The turn of the next item.
+pub record IsNext (f : State) (turn : Turn) : Type 0 where
+  pub number : turn.number ≡ length (records_of f) + 1
+  pub tick : turn.tick ≡ f.tick
+  pub item : slice_get f.items (length f.here) ≡ Some (item_in turn)
+
+-- The turn is open: it was taken, and neither recorded nor given up.
+pub record IsOpen (f : State) (turn : Turn) : Type 0 where
+  pub unmarked : f.marked ≡ false
+  pub taken : f.next ≡ length f.here + 1
+  pub is_next : IsNext f turn
+
+-- All that is due in the tick was recorded.
+pub record IsDone (f : State) : Type 0 where
+  pub quiet : IsQuiet f
+  pub all : f.next ≡ length f.items
+
+abbrev pub with_taken : State → State
+with_taken f = record f { next = f.next + 1 }
+
+abbrev pub with_recorded : Turn → List Parcel → State → State
+with_recorded turn sends f = record f { here = recorded turn sends ∷ f.here }
+
+abbrev pub with_mark : State → State
+with_mark f = record f { marked = true }
+
+-- The next tick begins.
+abbrev pub after_tick : State → State
+after_tick f =
+    record f { tick = f.tick + 1; finished = records_of f; here = []; items = due f.scenario (f.tick + 1) (records_of f); next = 0 }
+
+-- The finished ticks are in order, and these items are due behind them.
+abbrev pub IsBegun : Scenario → ℕ → List Record → List Item → Type 0
+IsBegun s zero finished items = (finished ≡ []) × (items ≡ [])
+IsBegun s (suc tick) finished items = InOrderTo s tick finished × (items ≡ due s (suc tick) finished)
+
+-- The records of the tick are the first of its items, in their order; at most one further item was taken.
+pub record IsKept (f : State) : Type 0 where
+  pub playable : IsPlayable f.scenario
+  pub in_run : f.tick ≤ f.scenario.ticks
+  pub begun : IsBegun f.scenario f.tick f.finished f.items
+  pub here : AllByRecursion (λ r. r.tick ≡ f.tick) f.here
+  pub in_order : map item_of (reverse f.here) ≡ take (length f.here) f.items
+  pub next : f.next ≤ length f.items
+  pub least : length f.here ≤ f.next
+  pub most : f.next ≤ length f.here + 1
+
+-- The value of the code's fabric. All records are one list, the oldest first, with so many before this tick.
+abbrev pub state_of : Scenario → ℕ → ℕ → List Record → List Item → ℕ → Bool → State
+state_of s tick before records items next marked = record {
+  scenario = s;
+  tick = tick;
+  finished = reverse (take before records);
+  here = reverse (drop before records);
+  items = items;
+  next = next;
+  marked = marked;
+}
+
+-- The list has room for each turn that was taken.
+pub record HasRoom (f : State) (before room : ℕ) : Type 0 where
+  pub reserved : before + f.next ≤ room
+  pub few : before + f.next < 2 ^ 32
+
+-- What the code keeps: while a turn is open its record has a place, and what is to come is told by what was sent
+-- before the tick.
+pub record IsHeld (f : State) (before room : ℕ) (records : List Record) (coming : Coming) : Type 0 where
+  pub kept : IsKept f
+  pub within : before ≤ length records
+  pub few : length records < 2 ^ 32
+  pub has_room : f.marked ≡ false → HasRoom f before room
+  pub is_coming : f.marked ≡ false → IsComing f.scenario f.tick (posted f.finished) coming

@@ -1,0 +1,170 @@
+ghost use Rattle.std.specs.Prelude.{◌≡◌, ◌⊎◌, ◌<◌, ◌++◌, ◌∷◌, length, true, false, Some, OnErr, IfOk, MatchResult, MatchOption, MatchBool};
+ghost use Rattle.nz_machine.specs.Journals.{run_in};
+ghost use Rattle.nz_machine.specs.Schedule.{InOrder, IsPlayable};
+ghost use Rattle.nz_fabric.specs.States.{IsDone, IsKept, IsNext, IsOpen, after_tick, records_of, start, with_mark, with_recorded, with_taken};
+
+use crate::coming::Coming;
+use crate::due::due_items;
+use crate::turn::Turn;
+use nz_base::{List, NoMemory, Scenario, TryCopy};
+use nz_machine::{Item, Journal, Record, Sends};
+use std::alloc::Global;
+use std::marker::Model;
+
+/// The network of a run on one thread: what is due, and the journal, which is in the order of the schedule.
+#[derive(Drop)]
+pub struct Alone {
+    alloc: Global,
+    scenario: Scenario,
+    tick: u32,
+    records: Vec<Record>,
+    /// How many records there were before this tick.
+    before: usize,
+    items: Vec<Item>,
+    next: usize,
+    coming: Coming,
+    marked: bool,
+}
+
+impl Model for Alone {
+    ghost use Rattle.std.specs.Prelude.{vec_capacity};
+    ghost use Rattle.nz_fabric.specs.States.{State, IsHeld, state_of};
+
+    ghost Value = { State };
+
+    ghost view = { λ f. state_of f.scenario f.tick f.before f.records.items f.items.items f.next f.marked };
+
+    ghost invariant = { λ f. IsHeld (state_of f.scenario f.tick f.before f.records.items f.items.items f.next f.marked) f.before (vec_capacity f.records) f.records.items f.coming };
+}
+
+impl Alone {
+    /// A run that has not begun.
+    pub fn new(alloc: Global, scenario: Scenario) -> Result<Alone, NoMemory>
+        requires { IsPlayable scenario }
+        ensures { IfOk result (λ alone. alone ≡ start scenario) }
+    {
+        let coming = Coming::new(alloc, scenario.faults.as_slice())?;
+        Ok(Alone {
+            alloc,
+            scenario,
+            tick: 0,
+            records: Vec::new(alloc),
+            before: 0,
+            items: Vec::new(alloc),
+            next: 0,
+            coming,
+            marked: false,
+        })
+    }
+
+    /// What the type keeps.
+    pub fn kept(&self)
+        ensures { IsKept self.now }
+    {
+        let _ = &self.tick;
+    }
+
+    /// The next due item of the tick. Its place in the journal is reserved here.
+    pub fn take(&mut self) -> Result<Option<Turn>, NoMemory>
+        requires { self.old.marked ≡ false → self.old.next ≡ length self.old.here }
+        ensures { MatchResult result
+            (λ turn.
+            MatchOption turn
+            ((self.new ≡ self.old) × ((self.old.marked ≡ true) ⊎ (self.old.next ≡ length self.old.items)))
+            (λ turn. (self.new ≡ with_taken self.old) × (self.old.marked ≡ false) × IsNext self.old turn))
+            (λ _. self.new ≡ self.old) }
+    {
+        if self.marked || self.next == self.items.len() {
+            return Ok(None);
+        }
+        if self.records.len() >= u32::MAX as usize {
+            return Err(NoMemory);
+        }
+        let item = &self.items[self.next];
+        let actor = item.actor;
+        let event = item.event.copy(self.alloc)?;
+        self.records.reserve(1)?;
+        self.next += 1;
+        Ok(Some(Turn {
+            number: self.records.len() as u64 + 1,
+            tick: self.tick,
+            actor,
+            event,
+        }))
+    }
+
+    /// The record of the turn stands last in the journal.
+    pub fn record(&mut self, turn: Turn, sends: Sends)
+        requires { IsOpen self.old turn }
+        ensures { self.new ≡ with_recorded turn sends self.old }
+    {
+        let Turn {
+            number: _,
+            tick,
+            actor,
+            event,
+        } = turn;
+        self.records.push_reserved(Record {
+            tick,
+            actor,
+            event,
+            sends,
+        });
+    }
+
+    /// Nothing is recorded, and no further turn is given.
+    pub fn give_up(&mut self, turn: Turn)
+        requires { IsOpen self.old turn }
+        ensures { self.new ≡ with_mark self.old }
+    {
+        let Turn {
+            number: _,
+            tick: _,
+            actor: _,
+            event: _,
+        } = turn;
+        self.marked = true;
+    }
+
+    /// Begins the next tick. False exactly where the last one was done. After `NoMemory` no further turn is given.
+    pub fn next_tick(&mut self) -> Result<bool, NoMemory>
+        requires { IsDone self.old }
+        ensures { MatchResult result
+            (λ more.
+            MatchBool more
+            ((self.new ≡ after_tick self.old) × (self.old.tick < self.old.scenario.ticks))
+            ((self.new ≡ self.old) × (self.old.tick ≡ self.old.scenario.ticks)))
+            (λ _. self.new ≡ with_mark self.old) }
+    {
+        if self.tick == self.scenario.ticks {
+            return Ok(false);
+        }
+        self.marked = true;
+        self.coming.post_all(&self.records[self.before..])?;
+        self.items = due_items(self.alloc, &self.scenario, self.tick + 1, &mut self.coming)?;
+        self.tick += 1;
+        self.before = self.records.len();
+        self.next = 0;
+        self.marked = false;
+        Ok(true)
+    }
+
+    /// The scenario and the records, once the last tick was done.
+    pub fn into_journal(self) -> Journal
+        requires done { IsDone self }
+        requires last { self.tick ≡ self.scenario.ticks }
+        ensures scenario { result.scenario ≡ self.scenario }
+        ensures records { run_in result ≡ records_of self }
+        ensures in_order { InOrder self.scenario (run_in result) }
+    {
+        let Alone {
+            scenario,
+            records,
+            ..
+        } = self;
+        Journal {
+            scenario,
+            records: List::from_vec(records),
+        }
+    }
+}

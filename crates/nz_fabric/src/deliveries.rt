@@ -1,0 +1,43 @@
+ghost use Rattle.std.specs.Prelude.{◌≡◌, List, map, OnOk};
+ghost use Rattle.nz_machine.specs.Schedule.{Delivery as Planned, held as held_of, repeated as repeated_of, cut_short as cut_short_of};
+ghost use Rattle.nz_fabric.specs.Coming.{stored};
+
+use nz_base::NoMemory;
+
+/// When a copy of a parcel comes, and how many bytes of it, where not all of them come. Ticks stop at
+/// 2^32 - 1, which is behind the last tick of every run.
+#[derive(Clone, Copy, Debug)]
+pub struct Delivery {
+    pub tick: u32,
+    pub kept: Option<u32>,
+}
+
+/// Every delivery comes later.
+pub fn held(by: u32, deliveries: &mut [Delivery])
+    ensures { (ds : List Planned) → deliveries.old ≡ map stored ds → deliveries.new ≡ map stored (held_of by ds) }
+{
+    for place in 0..deliveries.len() {
+        deliveries[place].tick = deliveries[place].tick.saturating_add(by);
+    }
+}
+
+/// A whole copy comes so much later than the first delivery.
+pub fn repeated(by: u32, deliveries: &mut Vec<Delivery>) -> Result<(), NoMemory>
+    ensures { (ds : List Planned) → deliveries.old.items ≡ map stored ds → OnOk result (deliveries.new.items ≡ map stored (repeated_of by ds)) }
+{
+    if let Some(first) = deliveries.first() {
+        let tick = first.tick.saturating_add(by);
+        deliveries.push(Delivery { tick, kept: None })?;
+    }
+    Ok(())
+}
+
+/// Of the first delivery so many bytes come, and never all of them.
+pub fn cut_short(keep: u32, len: usize, deliveries: &mut [Delivery])
+    ensures { (ds : List Planned) → deliveries.old ≡ map stored ds → deliveries.new ≡ map stored (cut_short_of keep len ds) }
+{
+    if !deliveries.is_empty() {
+        let kept = len.saturating_sub(1).min(keep as usize);
+        deliveries[0].kept = Some(kept as u32);
+    }
+}

@@ -1,0 +1,152 @@
+ghost use Rattle.std.specs.Prelude.{◌≡◌, ◌<◌, ◌+◌, ◌-◌, ◌^◌, ◌==◌, ◌∷◌, ◌++◌, [], not, filter, map, IfOk, OnOk};
+ghost use Rattle.nz_machine.specs.Replicas.{numbers_below};
+ghost use Rattle.nz_machine.specs.Schedule.{item, if_in, calls, skew_of, clock_at as clock_in, actors_of, tick_item};
+ghost use Rattle.nz_fabric.specs.Coming.{arriving};
+ghost use Rattle.nz_fabric.specs.Dues.{named, restarts_in};
+
+use crate::coming::Coming;
+use nz_base::{Actor, Fault, NoMemory, Scenario, Skew};
+use nz_machine::{Event, Item};
+use std::alloc::Global;
+
+/// A tick in clock units.
+const UNITS: u64 = 1_000;
+
+/// Clocks stop here.
+const LAST_CLOCK: u64 = (1 << 62) - 1;
+
+/// The sorts of actors, in their order.
+#[derive(Clone, Copy, Debug)]
+pub enum Sort {
+    Replicas,
+    Proxies,
+    Clients,
+}
+
+impl Sort {
+    fn actor(self, number: u8) -> Actor
+        ensures { result ≡ named self number }
+    {
+        match self {
+            Sort::Replicas => Actor::Replica(number),
+            Sort::Proxies => Actor::Proxy(number),
+            Sort::Clients => Actor::Client(number),
+        }
+    }
+}
+
+/// What a fault line asks of an actor in a tick, if it is this one.
+fn push_if(
+    items: &mut Vec<Item>,
+    tick: u32,
+    at: u32,
+    actor: Actor,
+    event: Event,
+) -> Result<(), NoMemory>
+    ensures { OnOk result (items.new.items ≡ items.old.items ++ if_in tick at (item actor event)) }
+{
+    if at == tick {
+        items.push(Item { actor, event })?;
+    }
+    Ok(())
+}
+
+/// What a fault line asks of an actor in a tick, behind so many restart lines.
+fn push_call(
+    items: &mut Vec<Item>,
+    restarts: &mut u64,
+    fault: &Fault,
+    tick: u32,
+) -> Result<(), NoMemory>
+    requires { restarts.old < 2 ^ 64 - 1 }
+    ensures items { OnOk result (items.new.items ≡ items.old.items ++ calls tick restarts.old (fault.now ∷ [])) }
+    ensures restarts { OnOk result (restarts.new ≡ restarts.old + restarts_in (fault.now ∷ [])) }
+{
+    match fault {
+        Fault::Crash { actor, tick: at } => push_if(items, tick, *at, *actor, Event::Crash),
+        Fault::Restart { actor, tick: at } => {
+            *restarts += 1;
+            push_if(items, tick, *at, *actor, Event::Restart(*restarts))
+        }
+        Fault::Alarm { actor, tick: at } => push_if(items, tick, *at, *actor, Event::Alarm),
+        _ => Ok(()),
+    }
+}
+
+/// The crashes, restarts and alarms of a tick.
+fn push_calls(items: &mut Vec<Item>, faults: &[Fault], tick: u32) -> Result<(), NoMemory>
+    ensures { OnOk result (items.new.items ≡ items.old.items ++ calls tick 0 faults.now) }
+{
+    let mut restarts = 0;
+    for fault in faults {
+        push_call(items, &mut restarts, fault, tick)?;
+    }
+    Ok(())
+}
+
+/// How many clock units the actor's clock is ahead.
+fn units_of(skews: &[Skew], actor: Actor) -> i64
+    ensures { result ≡ skew_of actor skews.now }
+{
+    for skew in skews {
+        if skew.actor.is(&actor) {
+            return skew.units;
+        }
+    }
+    0
+}
+
+/// What the actor's clock reads in a tick.
+fn clock_at(scenario: &Scenario, tick: u32, actor: Actor) -> u64
+    ensures { result ≡ clock_in scenario.now tick actor }
+{
+    let units = units_of(scenario.skews.as_slice(), actor);
+    (UNITS * u64::from(tick))
+        .saturating_add_signed(units)
+        .min(LAST_CLOCK)
+}
+
+/// The clocks of the first actors of a sort.
+fn push_sort(
+    items: &mut Vec<Item>,
+    scenario: &Scenario,
+    tick: u32,
+    sort: Sort,
+    count: u8,
+) -> Result<(), NoMemory>
+    ensures { OnOk result (items.new.items ≡ items.old.items ++ map (tick_item scenario.now tick) (map (named sort) (numbers_below count))) }
+{
+    for number in 0..count {
+        let actor = sort.actor(number);
+        let event = Event::Tick(clock_at(scenario, tick, actor));
+        items.push(Item { actor, event })?;
+    }
+    Ok(())
+}
+
+/// Every clock.
+fn push_clocks(items: &mut Vec<Item>, scenario: &Scenario, tick: u32) -> Result<(), NoMemory>
+    ensures { OnOk result (items.new.items ≡ items.old.items ++ map (tick_item scenario.now tick) (actors_of scenario.now)) }
+{
+    push_sort(items, scenario, tick, Sort::Replicas, scenario.cluster.n())?;
+    push_sort(items, scenario, tick, Sort::Proxies, scenario.proxies)?;
+    push_sort(items, scenario, tick, Sort::Clients, scenario.clients)
+}
+
+/// What is due in a tick: crashes, restarts and alarms, then every clock, then what arrives.
+pub fn due_items(
+    alloc: Global,
+    scenario: &Scenario,
+    tick: u32,
+    coming: &mut Coming,
+) -> Result<Vec<Item>, NoMemory>
+    ensures items { IfOk result (λ v. v.items ≡ calls tick 0 scenario.now.faults ++ (map (tick_item scenario.now tick) (actors_of scenario.now) ++ arriving tick coming.old.pending.items)) }
+    ensures lines { OnOk result (coming.new.lines ≡ coming.old.lines) }
+    ensures left { OnOk result (coming.new.pending.items ≡ filter (λ a. not (a.tick == tick)) coming.old.pending.items) }
+{
+    let mut items = Vec::new(alloc);
+    push_calls(&mut items, scenario.faults.as_slice(), tick)?;
+    push_clocks(&mut items, scenario, tick)?;
+    coming.take(tick, &mut items)?;
+    Ok(items)
+}

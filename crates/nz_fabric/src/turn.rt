@@ -1,0 +1,11 @@
+use nz_base::Actor;
+use nz_machine::Event;
+
+/// A due item that was taken. It must be recorded or given up.
+pub struct Turn {
+    /// The turns of a run are numbered from 1 on, as they are taken.
+    pub number: u64,
+    pub tick: u32,
+    pub actor: Actor,
+    pub event: Event,
+}
