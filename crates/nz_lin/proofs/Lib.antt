@@ -18,3 +18,4 @@ pub mod FactsStay
 pub mod Shows
 pub mod Snapshots
 mod PutAndGet
+pub mod LeadersLog

@@ -21,7 +21,7 @@ use Rattle.nz_lin.proofs.Asked.{WasSent, entries_sent}
 use Rattle.nz_lin.proofs.Histories.{IsCovered, IsBefore, IsHistory, history_is}
 
 -- no id stands in the leader's log twice
-own_ids : (g : Group) (J : List Record) → World g J → HaveOwnIds (keys_of (leader_log g J))
+pub own_ids : (g : Group) (J : List Record) → World g J → HaveOwnIds (keys_of (leader_log g J))
 own_ids g J w = (led_log g.f 0 (state_after g (Replica 0) J) ((is_led g J 0 w).facts (zero_leads g J))).order.own_ids
 
 -- an entry of a front of the leader's log was sent

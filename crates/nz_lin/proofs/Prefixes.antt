@@ -56,7 +56,7 @@ later_place : (o : Option ℕ) (i : ℕ) → option_map suc o ≡ Some i → (j 
 later_place None i e = absurd (none-some i e)
 later_place (Some j) i e = (j, (refl, same_Some (suc j) i e))
 
-place_cases : (b : Bool) (o : Option ℕ) (i : ℕ) → cond b (Some 0) (option_map suc o) ≡ Some i → ((b ≡ true) × (0 ≡ i)) ⊎ ((b ≡ false) × ((j : ℕ) × ((o ≡ Some j) × (suc j ≡ i))))
+pub place_cases : (b : Bool) (o : Option ℕ) (i : ℕ) → cond b (Some 0) (option_map suc o) ≡ Some i → ((b ≡ true) × (0 ≡ i)) ⊎ ((b ≡ false) × ((j : ℕ) × ((o ≡ Some j) × (suc j ≡ i))))
 place_cases true o i e = inl (refl, same_Some 0 i e)
 place_cases false o i e = inr (refl, later_place o i e)
 
@@ -127,7 +127,7 @@ absent_append id (x ∷ front) rest i h e = elim (place_cases (id_eq id (id_of x
 pub absent_place : (id : Id) (front es : List Entry) (i : ℕ) → IsPrefix front es → has_id (keys_of front) id ≡ false → place_of es id ≡ Some i → length front ≤ i
 absent_place id front es i p h e = absent_append id front p.rest i h (ap (λ (l : List Entry). place_of l id) (sym p.whole) ∙ e)
 
-held : (id : Id) (es : List Entry) (e : Entry) → Has es e → id_of e.key ≡ id → has_id (keys_of es) id ≡ true
+pub held : (id : Id) (es : List Entry) (e : Entry) → Has es e → id_of e.key ≡ id → has_id (keys_of es) id ≡ true
 held id [] e h s = absurd h
 held id (x ∷ es) e (inl q) s = or_left (id_eq id (id_of x.key)) (has_id (keys_of es) id) (ap (id_eq id) (ap (λ (y : Entry). id_of y.key) q ∙ s) ∙ id_eq_self id)
 held id (x ∷ es) e (inr h) s = or_right (id_eq id (id_of x.key)) (has_id (keys_of es) id) (held id es e h s)

@@ -14,6 +14,7 @@ ghost use Rattle.nz_machine.specs.Events.{Sent, events};
 ghost use Rattle.nz_machine.specs.History.{log_at, history};
 ghost use Rattle.nz_machine.specs.OneHistory.{Lin, NoCollision};
 ghost use Rattle.nz_lin.specs.Laws.{IsDecoded, IsPrefix};
+ghost use Rattle.nz_lin.specs.LeadersLog.{was_accepted, up_to_last};
 ghost use Rattle.nz_lin.specs.Once.{AreOnce};
 ghost use Rattle.nz_lin.specs.Snapshots.{IsSnapshot};
 
@@ -56,6 +57,12 @@ pub fn own_commands()
 /// In every run each request is sent once, and accepted at most once and after that.
 pub fn once_each()
     ensures { (g : Group) (J : List Record) → World g J → AreOnce (events g J) }
+{}
+
+/// The history is the log of the leader, replica 0, up to and with the last entry to which a client
+/// accepted an answer.
+pub fn history_is_the_leaders_log()
+    ensures { (g : Group) (J : List Record) → World g J → history g J ≡ up_to_last (was_accepted (events g J)) (log_at g (Replica 0) J) }
 {}
 
 /// In every run, whatever was lost, repeated, reordered or cut, whatever clocks read and whichever proxies
