@@ -1,28 +1,17 @@
 ghost use Rattle.std.specs.Prelude.{◌≡◌, ◌-◌, ◌&&◌, ◌==◌, ◌∷◌, ◌++◌, [], List, map, OnOk, if◌then◌else◌};
 ghost use Rattle.nz_machine.specs.declared.event.Parcel.{Parcel as Parcels};
-ghost use Rattle.nz_machine.specs.Schedule.{Delivery as Planned, kind_of as kind_in, is_of as is_of_kind, is_named as is_named_by, is_blocked as is_blocked_by, faulted as faulted_of};
+ghost use Rattle.nz_machine.specs.Schedule.{Delivery as Planned, is_of as is_of_kind, is_named as is_named_by, is_blocked as is_blocked_by, faulted as faulted_of};
 ghost use Rattle.nz_fabric.specs.Coming.{stored, line_of, passed, strikes as strikes_of, struck};
 
 use crate::deliveries::{Delivery, cut_short, held, repeated};
 use nz_base::{Actor, Fault, NoMemory};
-use nz_frame::Frame;
-use nz_machine::Parcel;
+use nz_machine::{Parcel, kind_of};
 
 /// A fault line, and how many of its parcels are still to pass with the one that it strikes.
 #[derive(Clone, Copy, Debug)]
 pub struct Line {
     pub fault: Fault,
     pub left: u32,
-}
-
-/// The kind of the message in a frame. What is no frame has none.
-fn kind_of(frame: &[u8]) -> Option<u8>
-    ensures { result ≡ kind_in frame.now }
-{
-    match Frame::read(frame) {
-        Ok(view) => Some(view.kind),
-        Err(_) => None,
-    }
 }
 
 /// Whether a parcel is of this kind from the one actor to the other.

@@ -81,7 +81,6 @@ later by d = record d { tick = d.tick + by }
 -- Every delivery comes later.
 abbrev pub held : ℕ → List Delivery → List Delivery
 held by ds = map (later by) ds
-held by ds = map (λ (d : Delivery). record d { tick = d.tick + by }) ds
 
 -- A whole copy comes so much later than the first delivery.
 abbrev pub repeated : ℕ → List Delivery → List Delivery
