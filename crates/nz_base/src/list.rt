@@ -81,6 +81,14 @@ impl<T> List<T> {
         &self.items
     }
 
+    /// The list of these items, which are not copied.
+    pub fn from_vec(items: Vec<T>) -> List<T>
+        requires { length items.items < 2 ^ 32 }
+        ensures { result ≡ items.items }
+    {
+        List { items }
+    }
+
     /// The items as a vector, which is not copied.
     pub fn into_vec(self) -> Vec<T>
         ensures { result.items ≡ self }

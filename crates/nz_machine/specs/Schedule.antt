@@ -74,9 +74,12 @@ pub record Delivery : Type 0 where
 abbrev pub whole_in : ℕ → Delivery
 whole_in tick = record { tick = tick; kept = None }
 
+abbrev pub later : ℕ → Delivery → Delivery
+later by d = record d { tick = d.tick + by }
+
 -- Every delivery comes later.
 abbrev pub held : ℕ → List Delivery → List Delivery
-held by ds = map (λ d. record d { tick = d.tick + by }) ds
+held by ds = map (later by) ds
 
 -- A whole copy comes so much later than the first delivery.
 abbrev pub repeated : ℕ → List Delivery → List Delivery
