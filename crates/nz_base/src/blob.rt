@@ -37,6 +37,13 @@ impl Blob {
         Blob { bytes }
     }
 
+    /// The bytes as a vector, which is not copied.
+    pub fn into_vec(self) -> Vec<u8>
+        ensures { result.items ≡ self }
+    {
+        self.bytes
+    }
+
     pub fn as_slice(&self) -> &[u8]
         ensures { result.now ≡ self.now }
     {

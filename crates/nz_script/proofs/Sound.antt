@@ -465,3 +465,24 @@ reading_runnable long tail n d (line ∷ lines) s p e =
 pub read_runnable : (bytes : List ℕ) (s : Scenario) → scenario bytes ≡ Ok s → IsRunnable s
 unfolding scenario
 read_runnable bytes s e = reading_runnable (nat_lt most_bytes (length bytes)) (tail_in (take most_bytes bytes)) 1 start (lines_in (take most_bytes bytes)) s sound_at_start e
+
+-- ---- how long a text is
+
+long_behind : (n : ℕ) (s : Scenario) (further : Draft → Result Scenario ScriptFault) (answer : Result Draft Kind) → ((next : Draft) → further next ≡ Ok s → ⊥) → behind n further answer ≡ Ok s → ⊥
+long_behind n s further (Ok next) later e = later next e
+long_behind n s further (Err kind) later e = absurd cc
+
+long_refused : (tail : List ℕ) (n : ℕ) (d : Draft) (lines : List (List ℕ)) (s : Scenario) → reading true tail n d lines ≡ Ok s → ⊥
+long_refused tail n d [] s e = absurd cc
+long_refused tail n d (line ∷ lines) s e = long_behind n s (λ next. reading true tail (n + 1) next lines) (step d line) (λ next f. long_refused tail (n + 1) next lines s f) e
+
+not_above : (n m : ℕ) → nat_lt n m ≡ false → m ≤ n
+not_above n m e = grind (arith, e)
+
+short_by : (bytes : List ℕ) (s : Scenario) (long : Bool) → nat_lt most_bytes (length bytes) ≡ long → reading long (tail_in (take most_bytes bytes)) 1 start (lines_in (take most_bytes bytes)) ≡ Ok s → length bytes ≤ most_bytes
+short_by bytes s true is e = absurd (long_refused (tail_in (take most_bytes bytes)) 1 start (lines_in (take most_bytes bytes)) s e)
+short_by bytes s false is e = not_above most_bytes (length bytes) is
+
+pub read_short : (bytes : List ℕ) (s : Scenario) → scenario bytes ≡ Ok s → length bytes ≤ most_bytes
+unfolding scenario
+read_short bytes s e = short_by bytes s (nat_lt most_bytes (length bytes)) refl e

@@ -1,7 +1,7 @@
 //! What holds of the definitions. Each law is the contract of a function that does nothing.
-ghost use Rattle.std.specs.Prelude.{◌≡◌, ℕ, List, Ok};
+ghost use Rattle.std.specs.Prelude.{◌≡◌, ◌≤◌, ℕ, List, length, Ok};
 ghost use Rattle.nz_base.specs.declared.scenario.Scenario.{Scenario as AScenario};
-ghost use Rattle.nz_script.specs.Reading.{scenario};
+ghost use Rattle.nz_script.specs.Reading.{most_bytes, scenario};
 ghost use Rattle.nz_script.specs.Texts.{text_of};
 ghost use Rattle.nz_script.specs.Valid.{IsValid, IsRunnable};
 
@@ -10,7 +10,8 @@ pub fn texts_are_read_back()
     ensures { (s : AScenario) → IsValid s → scenario (text_of s) ≡ Ok s }
 {}
 
-/// What is read can be run.
+/// What is read can be run, and is not too long.
 pub fn what_is_read_can_be_run()
-    ensures { (bytes : List ℕ) (s : AScenario) → scenario bytes ≡ Ok s → IsRunnable s }
+    ensures run { (bytes : List ℕ) (s : AScenario) → scenario bytes ≡ Ok s → IsRunnable s }
+    ensures short { (bytes : List ℕ) (s : AScenario) → scenario bytes ≡ Ok s → length bytes ≤ most_bytes }
 {}

@@ -1,15 +1,19 @@
--- The input is what was read, and a call has one word.
-use Rattle.std.proofs.Common.{◌≡◌, ◌<◌, ◌≤◌, ◌⊎◌, inl, inr, ℕ, List, [], ◌∷◌, ◌++◌, length, get_or, Option, Some, None, refl, sym, ap, subst, ◌∙◌, arith, append-nil, take_all}
-use Rattle.std.specs.Prelude.{IfSome, IfNone}
+-- The input is what was read.
+use Rattle.std.proofs.Common.{◌≡◌, ◌≢◌, ◌<◌, ◌≤◌, ◌⊎◌, inl, inr, ℕ, List, [], ◌++◌, length, Option, Some, None, Result, Ok, Err, sym, ap, subst, ◌∙◌, arith, append-nil, take_all}
+use Rattle.std.specs.Prelude.{IfSome}
 use Rattle.std.proofs.lemmas.List.{take_at}
 use Rattle.std.proofs.lemmas.Bool.{cases_lt}
 use Rattle.std.proofs.lemmas.Option.{none-some, same_Some}
 use Rattle.nz_edge.specs.Told.{Loses}
 use Rattle.nz_base.specs.declared.scenario.Scenario.{Scenario}
-use Rattle.nz_top.specs.Plain.{IsPlain}
-use Rattle.nz_top.specs.Plays.{IsPlainRun}
+use Rattle.nz_script.specs.declared.faults.Kind.{Kind}
+use Rattle.nz_script.specs.declared.faults.ScriptFault.{ScriptFault}
+use Rattle.nz_script.specs.declared.faults.ScriptFault.TheVariants.{Refusal, NoMemory}
+use Rattle.nz_script.specs.Reading.{scenario}
 use Rattle.nz_top.specs.Moves.{most_input, input}
-use Rattle.nz_top.specs.Calls.{ReadsAs, IsReadable, IsRefused}
+use Rattle.nz_top.specs.declared.top.NoScenario.{NoScenario}
+use Rattle.nz_top.specs.declared.top.NoScenario.TheVariants.{Refused}
+use Rattle.nz_top.specs.Calls.{ReadsAs, RefusedAt, Explains, WritesLine, TellsBadLine, refusal_line}
 
 at_end : (bytes rest : List ℕ) → length bytes ≤ most_input → (length bytes < most_input → rest ≡ []) → bytes ≡ input (bytes ++ rest)
 at_end bytes rest most end = go (cases_lt (length bytes) most_input)
@@ -25,32 +29,26 @@ read_is_input (Some all) None bytes lost most end = absurd (none-some all (sym l
 read_is_input (Some all) (Some rest) bytes lost most end =
     at_end bytes rest most end ∙ ap input (sym (same_Some _ _ lost))
 
-pub found_is_input : (before : Option (List ℕ)) (bytes : List ℕ) (found : Option Scenario) → IfSome before (λ all. bytes ≡ input all) → IfSome found (IsPlain bytes) → IfSome found (ReadsAs before)
-found_is_input before bytes None h f = tt
-found_is_input None bytes (Some s) h f = tt
-found_is_input (Some all) bytes (Some s) h f = subst (λ (b : List ℕ). IsPlain b s) h f
+pub found_is_input : (before : Option (List ℕ)) (bytes : List ℕ) (s : Scenario) → IfSome before (λ all. bytes ≡ input all) → scenario bytes ≡ Ok s → ReadsAs before s
+found_is_input None bytes s h f = tt
+found_is_input (Some all) bytes s h f = ap scenario (sym h) ∙ f
 
-pub none_is_input : (before : Option (List ℕ)) (bytes : List ℕ) (found : Option Scenario) → IfSome before (λ all. bytes ≡ input all) → IfNone found ((s : Scenario) → ¬ IsPlain bytes s)
-    → IfNone found (IfSome before (λ all. IsRefused (Some all)))
-none_is_input before bytes (Some s) h f = tt
-none_is_input None bytes None h f = tt
-none_is_input (Some all) bytes None h f = λ s p. f s (subst (λ (b : List ℕ). IsPlain b s) (sym h) p)
+refused_as : (before : Option (List ℕ)) (bytes : List ℕ) (line : ℕ) (kind : Kind) → IfSome before (λ all. bytes ≡ input all) → scenario bytes ≡ Err (Refusal line kind) → RefusedAt before line kind
+refused_as None bytes line kind h f = tt
+refused_as (Some all) bytes line kind h f = ap scenario (sym h) ∙ f
 
-plain_run : (bytes : List ℕ) (s : Scenario) → IsPlain bytes s → IsPlainRun s
-plain_run bytes s h = subst IsPlainRun (sym h.meaning) (record { ticks = h.few_ticks; group = record { proxies = refl; scripts = refl } })
+no_want : (line : ℕ) (kind : Kind) → Refusal line kind ≡ NoMemory → ⊥
+no_want line kind e = absurd cc
 
--- what is read is played
-pub found_is_plain : (bytes : List ℕ) (found : Option Scenario) → IfSome found (IsPlain bytes) → IfSome found IsPlainRun
-found_is_plain bytes None f = tt
-found_is_plain bytes (Some s) f = plain_run bytes s f
+pub refused_is_input : (before : Option (List ℕ)) (bytes read : List ℕ) (fault : ScriptFault) (line : ℕ) (kind : Kind) → IfSome before (λ all. bytes ≡ input all) → read ≡ bytes → fault ≡ Refusal line kind
+    → (fault ≢ NoMemory → scenario read ≡ Err fault) → RefusedAt before line kind
+refused_is_input before bytes read fault line kind h same is f = refused_as before bytes line kind h (ap scenario (sym same) ∙ f (λ e. no_want line kind (sym is ∙ e)) ∙ ap Err is)
 
-pub only_word : (words : List (List ℕ)) (word d : List ℕ) → length words ≡ 1 → get_or words 0 d ≡ word → words ≡ word ∷ []
-only_word [] word d one is = absurd (omega (arith, one))
-only_word (w ∷ []) word d one is = ap (λ (x : List ℕ). x ∷ []) is
-only_word (w ∷ v ∷ ws) word d one is = absurd (omega (arith, one))
-
--- no input is the text of a scenario and of none
-pub read_or_refused : (left : Option (List ℕ)) (found : Option Scenario) → IsReadable left → found ≡ None → IfNone found (IfSome left (λ bytes. IsRefused (Some bytes))) → ⊥
-read_or_refused left (Some s) readable is refused = none-some s (sym is)
-read_or_refused None None readable is refused = readable
-read_or_refused (Some bytes) None readable is refused = refused readable.0 readable.1
+pub line_told : (left before after : Option (List ℕ)) (counted counts a b line told : ℕ) (kind said : Kind) (why : NoScenario) → why ≡ Refused line kind → told ≡ line → said ≡ kind → Explains left a b why
+    → WritesLine (refusal_line told said) before after counted counts → TellsBadLine left before after counted counts
+line_told left before after counted counts a b line told kind said why is same_line same_kind first written = record {
+  line = line;
+  kind = kind;
+  first = subst (Explains left a b) is first;
+  told = subst (λ (n : ℕ). WritesLine (refusal_line n kind) before after counted counts) same_line (subst (λ (k : Kind). WritesLine (refusal_line told k) before after counted counts) same_kind written);
+}

@@ -1,35 +1,3 @@
-pub mod Numerals
-pub mod LineLemmas
-pub mod ScriptLemmas
-pub mod HeadLemmas
-pub mod Places
-pub mod DigestLemmas
-pub mod Stores
-pub mod Releasing
-pub mod Tables
-pub mod Prefixes
-pub mod Runs
-pub mod Sources
-pub mod Distinct
-pub mod Kept
-pub mod Replies
-pub mod Tallies
-pub mod Notes
-pub mod Decisions
-pub mod AnswersSent
-pub mod Clients
-pub mod Tells
-pub mod Asked
-pub mod Histories
-pub mod OneHistory
-pub mod Accepting
-pub mod UpTo
-pub mod Inputs
-pub mod Casts
-pub mod Playing
-pub mod Ticking
-pub mod Journals
-pub mod Progressing
-pub mod OpenLines
-pub mod Printing
-pub mod Addressed
+mod Inputs
+mod Playable
+mod Schedules

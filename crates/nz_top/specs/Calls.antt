@@ -1,42 +1,80 @@
 -- What a call of the program is answered.
-use Rattle.std.specs.Prelude.{ℕ, ◌≡◌, ◌⊎◌, List, [], ◌∷◌, Option, Some, None, IsSome, IsNone, IfSome, codes}
+use Rattle.std.specs.Prelude.{ℕ, ◌≡◌, ◌⊎◌, List, [], ◌∷◌, ◌++◌, Option, Some, None, Ok, Err, IsSome, IsNone, IfSome, codes}
+use Rattle.std.specs.Fmt.{decimal}
 use Rattle.nz_edge.specs.Faults.{Rose}
 use Rattle.nz_edge.specs.Told.{Gains}
 use Rattle.nz_base.specs.declared.scenario.Scenario.{Scenario}
+use Rattle.nz_script.specs.declared.faults.Kind.{Kind}
+use Rattle.nz_script.specs.declared.faults.Kind.TheVariants.{Syntax, Order, Name, Limit}
+use Rattle.nz_script.specs.declared.faults.ScriptFault.TheVariants.{Refusal}
+use Rattle.nz_script.specs.Reading.{scenario}
+use Rattle.nz_machine.specs.declared.journal.Journal.{Journal}
+use Rattle.nz_machine.specs.Journals.{group_in, run_in}
+use Rattle.nz_machine.specs.Schedule.{InOrder}
+use Rattle.nz_machine.specs.World.{World}
+use Rattle.nz_text.specs.Text.{text, trace}
 use Rattle.nz_top.specs.declared.status.Status.{Status}
 use Rattle.nz_top.specs.declared.status.Status.TheVariants.{Done, Usage, BadScenario, ReadFault, WriteFault, NoMemory}
-use Rattle.nz_top.specs.declared.machine.message.Journal.{Journal}
-use Rattle.nz_top.specs.Journals.{group_in, run_in}
+use Rattle.nz_top.specs.declared.top.NoScenario.{NoScenario}
+use Rattle.nz_top.specs.declared.top.NoScenario.TheVariants as no_scenario
+use Rattle.nz_top.specs.declared.words.Command.{Command}
+use Rattle.nz_top.specs.declared.words.Command.TheVariants.{Run, Trace}
 use Rattle.nz_top.specs.Moves.{input, TakesFront}
-use Rattle.nz_top.specs.Plain.{IsPlain}
-use Rattle.nz_top.specs.Text.{text}
-
--- the one word `run`
-abbrev pub IsAccepted : List (List ℕ) → Type 0
-IsAccepted words = words ≡ codes "run" ∷ []
 
 -- the source tells its bytes, and what is looked at of them is the text of this scenario
 abbrev pub ReadsAs : Option (List ℕ) → Scenario → Type 0
-ReadsAs left scenario = IfSome left (λ bytes. IsPlain (input bytes) scenario)
+ReadsAs left s = IfSome left (λ bytes. scenario (input bytes) ≡ Ok s)
+
+-- the source tells its bytes, and in what is looked at of them this line is the first bad one, with what is wrong in it
+abbrev pub RefusedAt : Option (List ℕ) → ℕ → Kind → Type 0
+RefusedAt left line kind = IfSome left (λ bytes. scenario (input bytes) ≡ Err (Refusal line kind))
 
 -- the source tells its bytes, and what is looked at of them is the text of some scenario
 abbrev pub IsReadable : Option (List ℕ) → Type 0
 IsReadable None = ⊥
-IsReadable (Some bytes) = (scenario : Scenario) × IsPlain (input bytes) scenario
+IsReadable (Some bytes) = (s : Scenario) × (scenario (input bytes) ≡ Ok s)
 
--- the source tells its bytes, and what is looked at of them is the text of no scenario
+-- the source tells its bytes, and what is looked at of them has a bad line
 abbrev pub IsRefused : Option (List ℕ) → Type 0
 IsRefused None = ⊥
-IsRefused (Some bytes) = (scenario : Scenario) → ¬ IsPlain (input bytes) scenario
+IsRefused (Some bytes) = (line : ℕ) × ((kind : Kind) × (scenario (input bytes) ≡ Err (Refusal line kind)))
+
+-- why there is no scenario
+abbrev pub Explains : Option (List ℕ) → ℕ → ℕ → NoScenario → Type 0
+Explains left counted counts (no_scenario.Refused line kind) = RefusedAt left line kind
+Explains left counted counts no_scenario.Fault = Rose counted counts
+Explains left counted counts no_scenario.NoMemory = Unit {0}
 
 -- the line is written whole, but for a front of it where the sink counted a fault
 pub record WritesLine (line : List ℕ) (before after : Option (List ℕ)) (counted counts : ℕ) : Type 0 where
   pub front : TakesFront before after line
   pub whole : Rose counted counts ⊎ Gains before after line
 
--- what is written is the text of the journal
-abbrev pub WritesText : Option Journal → Option (List ℕ) → Option (List ℕ) → Type 0
-WritesText journal before after = IfSome journal (λ j. Gains before after (text (group_in j) (run_in j)))
+abbrev pub kind_name : Kind → List ℕ
+kind_name Syntax = codes "syntax"
+kind_name Order = codes "order"
+kind_name Name = codes "name"
+kind_name Limit = codes "limit"
+
+-- the line that tells a bad line of the input
+unfoldable pub refusal_line : ℕ → Kind → List ℕ
+refusal_line line kind = codes "refused line " ++ (decimal line ++ (codes ": " ++ (kind_name kind ++ codes "\n")))
+
+-- the input's first bad line is told
+pub record TellsBadLine (left before after : Option (List ℕ)) (counted counts : ℕ) : Type 0 where
+  pub line : ℕ
+  pub kind : Kind
+  pub first : RefusedAt left line kind
+  pub told : WritesLine (refusal_line line kind) before after counted counts
+
+-- what a command prints of a run
+abbrev pub printed_by : Command → Journal → List ℕ
+printed_by Run j = text (group_in j) (run_in j)
+printed_by Trace j = trace (run_in j) ++ (codes "text\n" ++ text (group_in j) (run_in j))
+
+abbrev pub printed : Option Command → Journal → List ℕ
+printed None j = []
+printed (Some command) j = printed_by command j
 
 -- the codes that the program ends with
 abbrev pub code_of : Status → ℕ
@@ -62,3 +100,8 @@ IsPlayed Done = Unit {0}
 IsPlayed WriteFault = Unit {0}
 IsPlayed NoMemory = Unit {0}
 IsPlayed _ = ⊥
+
+-- the records are a run of the machine, in the order of the schedule
+pub record IsRun (j : Journal) : Type 0 where
+  pub world : World (group_in j) (run_in j)
+  pub in_order : InOrder j.scenario (run_in j)

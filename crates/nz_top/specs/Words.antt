@@ -1,24 +1,15 @@
--- How commands are written in a scenario and in the output.
-use Rattle.std.specs.Prelude.{ℕ, List, ◌∷◌, ◌++◌, Option, Some, None, codes}
-use Rattle.nz_store.specs.declared.command.Command.{Command}
-use Rattle.nz_store.specs.declared.command.Command.TheVariants.{Put, Get, Del, Cas}
+-- Which commands there are, and the words that call them.
+use Rattle.std.specs.Prelude.{ℕ, List, [], ◌∷◌, Option, Some, None, if◌then◌else◌, codes}
+use Rattle.std.specs.Str.{bytes_eq}
+use Rattle.nz_top.specs.declared.words.Command.{Command}
+use Rattle.nz_top.specs.declared.words.Command.TheVariants.{Run, Trace}
 
--- the byte between two words
-abbrev pub space : ℕ
-space = 32
+-- `run` prints the text of the run, and `trace` its records before that
+abbrev pub named : List ℕ → Option Command
+named word = if bytes_eq word (codes "run") then Some Run else (if bytes_eq word (codes "trace") then Some Trace else None)
 
--- the byte behind each line
-abbrev pub newline : ℕ
-newline = 10
-
--- a value, or `-` where there is none
-abbrev pub choice_text : Option (List ℕ) → List ℕ
-choice_text None = codes "-"
-choice_text (Some value) = value
-
--- the words of the command, with one space between two
-abbrev pub command_text : Command → List ℕ
-command_text (Put key value) = codes "put" ++ space ∷ (key ++ space ∷ value)
-command_text (Get key) = codes "get" ++ space ∷ key
-command_text (Del key) = codes "del" ++ space ∷ key
-command_text (Cas key old new) = codes "cas" ++ space ∷ (key ++ space ∷ (choice_text old ++ space ∷ choice_text new))
+-- the command that the words call, which are one word
+abbrev pub command_of : List (List ℕ) → Option Command
+command_of [] = None
+command_of (word ∷ []) = named word
+command_of (word ∷ next ∷ words) = None

@@ -1,24 +1,16 @@
-//! The top call of the program, and the plain machine behind it.
+//! The top call of the program.
 #![tactic(auto)]
 
 mod input;
-mod laws;
-mod machine;
 mod output;
-mod plain;
+mod refusal;
 mod status;
-mod text;
 mod top;
 mod words;
 
-pub use laws::one_history;
-pub use machine::{
-    AnswerBody, Event, FastReplyBody, Journal, Message, Parcel, Record, RecordList, RequestBody,
-    Sends, TimedBody,
-};
 pub use status::{Outcome, Status};
 pub use top::nezha;
-pub use words::Words;
+pub use words::{Command, Words};
 
 #[cfg(test)]
 mod tests;

@@ -1,7 +1,7 @@
 //! How a call ends.
 ghost use Rattle.std.specs.Prelude.{◌≡◌, None};
 
-use crate::machine::Journal;
+use nz_machine::Journal;
 
 /// How a call ended.
 #[derive(Clone, Copy, Debug, PartialEq, Eq)]

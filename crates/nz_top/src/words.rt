@@ -1,11 +1,19 @@
 //! The words of a call.
-ghost use Rattle.std.specs.Prelude.{◌≡◌, ◌↔◌, IsTrue, IfOk, map};
-ghost use Rattle.nz_top.specs.Calls.{IsAccepted};
+ghost use Rattle.std.specs.Prelude.{◌≡◌, IfOk, map};
+ghost use Rattle.nz_top.specs.Words.{named as named_of, command_of};
 
-use crate::plain::is_same;
 use nz_base::{Blob, List, NoMemory};
 use std::alloc::Global;
 use std::marker::Model;
+
+/// What the program is to do.
+#[derive(Clone, Copy, Debug, PartialEq, Eq)]
+pub enum Command {
+    /// Play the scenario, and print the text of the run.
+    Run,
+    /// The same, and print each record of the run before that.
+    Trace,
+}
 
 /// The words behind the program's name.
 #[derive(Drop)]
@@ -21,6 +29,18 @@ impl Model for Words {
     ghost view = { λ w. w.words };
 }
 
+fn named(word: &[u8]) -> Option<Command>
+    ensures { result ≡ named_of word.now }
+{
+    if word == b"run".as_slice() {
+        Some(Command::Run)
+    } else if word == b"trace".as_slice() {
+        Some(Command::Trace)
+    } else {
+        None
+    }
+}
+
 impl Words {
     pub fn from_list(alloc: Global, list: &[&str]) -> Result<Words, NoMemory>
         ensures { IfOk result (λ words. words ≡ map (λ word. word.now) list.now) }
@@ -32,11 +52,13 @@ impl Words {
         Ok(Words { words })
     }
 
-    /// Whether the call is `run`.
-    pub fn is_run(&self) -> bool
-        ensures { IsTrue result ↔ IsAccepted self.now }
+    /// The command that the words call, if they call one.
+    pub fn command(&self) -> Option<Command>
+        ensures { result ≡ command_of self.now }
     {
-        let words = self.words.as_slice();
-        words.len() == 1 && is_same(words[0].as_slice(), b"run")
+        match self.words.as_slice() {
+            [word] => named(word.as_slice()),
+            _ => None,
+        }
     }
 }

@@ -1,0 +1,90 @@
+-- What is read can be played.
+use Rattle.std.proofs.Common.{◌≡◌, ℕ, ◌+◌, ◌<◌, ◌≤◌, Bool, true, List, [], ◌∷◌, Option, Some, None, Ok, sym, subst, arith, length}
+use Rattle.std.specs.Prelude.{◌&&◌, ◌*◌, nat_le, nat_lt, is_some, IsSome}
+use Rattle.std.specs.List.{list_all, AllByRecursion}
+use Rattle.std.proofs.lemmas.Bool.{eqb-true}
+use Rattle.std.proofs.lemmas.List.Sums.{sum-map}
+use Rattle.nz_base.specs.declared.actor.Actor.{Actor}
+use Rattle.nz_base.specs.declared.actor.Actor.TheVariants as actor
+use Rattle.nz_base.specs.declared.scenario.Request.{Request}
+use Rattle.nz_base.specs.declared.scenario.Fault.{Fault}
+use Rattle.nz_base.specs.declared.scenario.Fault.TheVariants as fault
+use Rattle.nz_base.specs.declared.scenario.Scenario.{Scenario}
+use Rattle.nz_base.specs.Actor.{is_within}
+use Rattle.nz_base.specs.Cluster.{replica_count}
+use Rattle.nz_store.specs.declared.command.Command.{Command}
+use Rattle.nz_store.specs.Reading.{command_of}
+use Rattle.nz_script.specs.Drafts.{knows, has_room_for_requests, has_room_for_faults}
+use Rattle.nz_script.specs.Reading.{scenario}
+use Rattle.nz_script.specs.Valid.{group_of as script_group, is_request, are_requests, request_count, calls_known, IsRunnable}
+use Rattle.nz_script.proofs.Passing.{both_of}
+use Rattle.nz_script.proofs.Sections.{group_parts, between_most, below_most}
+use Rattle.nz_script.proofs.Sound.{read_runnable}
+use Rattle.nz_machine.specs.World.{IsAsked, IsMember, request_count as asked_count}
+use Rattle.nz_machine.specs.Schedule.{group_of, NamesMember, IsPlayable}
+
+least : (low high n : ℕ) → is_within low high n ≡ true → low ≤ n
+least low high n e = below_most low n (both_of (nat_le low n) (nat_le n high) e).0
+
+some_command : (o : Option Command) → is_some o ≡ true → IsSome o
+some_command o e = e
+
+asked : (r : Request) → is_request r ≡ true → IsAsked r
+asked r e = record { command = some_command (command_of r.command) (both_of (nat_le r.wait 20000) (is_some (command_of r.command)) e).1 }
+
+all_asked : (script : List Request) → are_requests script ≡ true → AllByRecursion IsAsked script
+all_asked [] e = tt
+all_asked (r ∷ script) e = let p = both_of (is_request r) (are_requests script) e in (asked r p.0, all_asked script p.1)
+
+scripts_asked : (scripts : List (List Request)) → list_all are_requests scripts ≡ true → AllByRecursion (λ script. AllByRecursion IsAsked script) scripts
+scripts_asked [] e = tt
+scripts_asked (script ∷ scripts) e = let p = both_of (are_requests script) (list_all are_requests scripts) e in (all_asked script p.0, scripts_asked scripts p.1)
+
+below : (n m : ℕ) → nat_lt n m ≡ true → n < m
+below n m e = grind (arith, e)
+
+member : (s : Scenario) (a : Actor) → length s.scripts ≡ s.clients → knows (script_group s) a ≡ true → IsMember (group_of s) a
+member s (actor.Replica r) all e = below r (replica_count s.cluster) e
+member s (actor.Proxy p) all e = below p s.proxies e
+member s (actor.Client c) all e = omega (arith, below c s.clients e, all)
+
+names : (s : Scenario) (f : Fault) → length s.scripts ≡ s.clients → calls_known (script_group s) f ≡ true → NamesMember s f
+names s (fault.Crash a t) all e = member s a all e
+names s (fault.Restart a t) all e = member s a all e
+names s (fault.Alarm a t) all e = member s a all e
+names s (fault.Drop a b k n) all e = tt
+names s (fault.Hold a b k n d) all e = tt
+names s (fault.Twice a b k n d) all e = tt
+names s (fault.Cut a b k n l) all e = tt
+names s (fault.Block a b f l) all e = tt
+
+all_names : (s : Scenario) (faults : List Fault) → length s.scripts ≡ s.clients → list_all (calls_known (script_group s)) faults ≡ true → AllByRecursion (NamesMember s) faults
+all_names s [] all e = tt
+all_names s (f ∷ faults) all e = let p = both_of (calls_known (script_group s) f) (list_all (calls_known (script_group s)) faults) e in (names s f all p.0, all_names s faults all p.1)
+
+few_asked : (scripts : List (List Request)) → request_count scripts ≤ 2000 → asked_count scripts ≤ 2000
+few_asked scripts h = subst (λ (n : ℕ). n ≤ 2000) (sym (sum-map length scripts)) h
+
+playable : (s : Scenario) → IsRunnable s → IsPlayable s
+playable s h =
+    let g = group_parts s h.group in
+    let all = eqb-true (length s.scripts) s.clients g.scripts in
+    let few = both_of (has_room_for_requests (request_count s.scripts) s.ticks) (has_room_for_faults (request_count s.scripts) (length s.faults)) h.few in
+    record {
+      group = record {
+        least_f = least 1 4 s.cluster g.cluster;
+        most_f = between_most 1 4 s.cluster g.cluster;
+        least_proxies = least 1 8 s.proxies g.proxies;
+        most_proxies = between_most 1 8 s.proxies g.proxies;
+        least_clients = omega (arith, all, least 1 64 s.clients g.clients);
+        most_clients = omega (arith, all, between_most 1 64 s.clients g.clients);
+        few_requests = few_asked s.scripts (below_most (request_count s.scripts) 2000 (both_of (nat_le (request_count s.scripts) 2000) (nat_le (request_count s.scripts * s.ticks) 2000000) few.0).0);
+        commands = scripts_asked s.scripts h.requests;
+      };
+      scripts = all;
+      ticks = between_most 1 20000 s.ticks g.ticks;
+      members = all_names s s.faults all h.calls;
+    }
+
+pub read_playable : (bytes : List ℕ) (s : Scenario) → scenario bytes ≡ Ok s → IsPlayable s
+read_playable bytes s e = playable s (read_runnable bytes s e)

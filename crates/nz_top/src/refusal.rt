@@ -1,0 +1,35 @@
+//! The line of a refusal, which takes no memory.
+ghost use Rattle.std.specs.Prelude.{◌≡◌};
+ghost use Rattle.nz_top.specs.Calls.{kind_name as kind_name_of, refusal_line as refusal_line_of};
+
+use arrayvec::ArrayString;
+use itoa::Buffer;
+use nz_script::Kind;
+
+/// No line is longer: the words, a number of ten digits, and the kind.
+const LONGEST: usize = 32;
+
+fn kind_name(kind: Kind) -> &'static str
+    ensures { result.now ≡ kind_name_of kind }
+{
+    match kind {
+        Kind::Syntax => "syntax",
+        Kind::Order => "order",
+        Kind::Name => "name",
+        Kind::Limit => "limit",
+    }
+}
+
+#[tactic(auto, unfolding(crate::specs::Calls::refusal_line))]
+/// The line that tells a bad line of the input, counted from 1, and what is wrong in it.
+pub fn refusal_line(line: u32, kind: Kind) -> ArrayString<LONGEST>
+    ensures { result.bytes ≡ refusal_line_of line kind }
+{
+    let mut text = ArrayString::new();
+    text.push_str("refused line ");
+    text.push_str(Buffer::new().format(line));
+    text.push_str(": ");
+    text.push_str(kind_name(kind));
+    text.push_str("\n");
+    text
+}
