@@ -1,1 +1,188 @@
-//! Calls with their whole output.
+//! Calls with their whole output. The outputs are worked out apart from the program.
+ghost use Rattle.std.specs.Prelude.{◌<◌};
+
+mod collisions;
+mod rows;
+
+use crate::{Outcome, Status, Words, nezha};
+use nz_base::{Blob, NoMemory};
+use nz_edge::{CallList, MemSink, MemSource, OpenGate};
+use rows::{PUT_THEN_GET, ROWS};
+use std::alloc::Global;
+use std::test::Fail;
+
+/// A call on an input, with the pieces and failing calls of its ends.
+#[derive(Clone, Copy)]
+struct Call<'a> {
+    words: &'a [&'a str],
+    input: &'a [u8],
+    read_piece: usize,
+    failing_reads: &'a [u32],
+    write_piece: usize,
+    failing_writes: &'a [u32],
+}
+
+fn plain<'a>(words: &'a [&'a str], input: &'a [u8]) -> Call<'a>
+    ensures read { 0 < result.read_piece }
+    ensures write { 0 < result.write_piece }
+{
+    Call {
+        words,
+        input,
+        read_piece: 4096,
+        failing_reads: &[],
+        write_piece: 4096,
+        failing_writes: &[],
+    }
+}
+
+fn answer(alloc: Global, call: &Call) -> Result<(Outcome, MemSink), NoMemory>
+    requires read { 0 < call.now.read_piece }
+    requires write { 0 < call.now.write_piece }
+{
+    let words = Words::from_list(alloc, call.words)?;
+    let input = Blob::from_slice(alloc, call.input)?;
+    let mut source = MemSource::new(
+        input,
+        call.read_piece,
+        CallList::from_slice(alloc, call.failing_reads)?,
+    );
+    let failing_writes = CallList::from_slice(alloc, call.failing_writes)?;
+    let mut out = MemSink::new(alloc, 4096, call.write_piece, failing_writes)?;
+    let outcome = nezha(alloc, &words, &mut source, &mut out, &OpenGate::new());
+    Ok((outcome, out))
+}
+
+#[test]
+fn scenarios(rt: HostRuntime) -> Result<(), Fail> {
+    for row in &ROWS {
+        let (outcome, out) = answer(rt.alloc(), &plain(&[row.word], row.input.as_bytes()))?;
+        assert_eq!(rt; outcome.status, Status::Done);
+        assert_eq!(rt; out.bytes(), row.output.as_bytes());
+        assert!(rt; outcome.journal.is_some());
+    }
+    Ok(())
+}
+
+/// The first four lines of the head, one replica of three faulty, one proxy.
+const HEAD: &str = "nezha 1\nf 1\nproxies 1\nclients 1\nticks 10\nclient c0\n";
+
+#[test]
+fn bad_lines(rt: HostRuntime) -> Result<(), Fail> {
+    let table = [
+        ("", "", "refused line 1: order\n"),
+        ("nezha 1\nf 0\nand so on\n", "", "refused line 2: limit\n"),
+        ("nezha 1\nf 1\nproxies 1\nclients 65\n", "", "refused line 4: limit\n"),
+        (HEAD, "end\ncrash r9 5\ndone\n", "refused line 8: name\n"),
+        (HEAD, "get a\n", "refused line 8: order\n"),
+        (HEAD, "put k\nend\ndone\n", "refused line 7: syntax\n"),
+        (HEAD, "get a\nend\ndone", "refused line 9: syntax\n"),
+    ];
+    for (head, rest, line) in table {
+        let mut input = Vec::from_slice(rt.alloc(), head.as_bytes())?;
+        input.extend_from_slice(rest.as_bytes())?;
+        let (outcome, out) = answer(rt.alloc(), &plain(&["run"], &input))?;
+        assert_eq!(rt; outcome.status, Status::BadScenario);
+        assert_eq!(rt; out.bytes(), line.as_bytes());
+        assert!(rt; outcome.journal.is_none());
+    }
+    Ok(())
+}
+
+#[test]
+fn values_and_inputs_that_are_too_long(rt: HostRuntime) -> Result<(), Fail> {
+    let mut input = Vec::from_slice(rt.alloc(), HEAD.as_bytes())?;
+    input.extend_from_slice(b"put k ")?;
+    input.extend_from_slice(vec![in rt.alloc(); b'v'; 257]?.as_slice())?;
+    input.extend_from_slice(b"\nend\ndone\n")?;
+    let (_, out) = answer(rt.alloc(), &plain(&["run"], &input))?;
+    assert_eq!(rt; out.bytes(), b"refused line 7: limit\n".as_slice());
+    // A comment, so that nothing but the length is wrong.
+    let comment = vec![in rt.alloc(); b'#'; 1_048_577]?;
+    let (_, out) = answer(rt.alloc(), &plain(&["run"], &comment))?;
+    assert_eq!(rt; out.bytes(), b"refused line 1: limit\n".as_slice());
+    Ok(())
+}
+
+#[test]
+fn words_that_are_no_call(rt: HostRuntime) -> Result<(), Fail> {
+    let table: [&[&str]; 6] = [
+        &[],
+        &["walk"],
+        &["--help"],
+        &["run", "run"],
+        &["run", "--workers", "0"],
+        &["runs"],
+    ];
+    for words in table {
+        let (outcome, out) = answer(rt.alloc(), &plain(words, PUT_THEN_GET.input.as_bytes()))?;
+        assert_eq!(rt; outcome.status, Status::Usage);
+        assert_eq!(rt; out.bytes(), b"refused words\n".as_slice());
+        assert!(rt; outcome.journal.is_none());
+    }
+    Ok(())
+}
+
+#[test]
+fn a_source_of_small_pieces(rt: HostRuntime) -> Result<(), Fail> {
+    let call = Call {
+        read_piece: 1,
+        ..plain(&["run"], PUT_THEN_GET.input.as_bytes())
+    };
+    let (outcome, out) = answer(rt.alloc(), &call)?;
+    assert_eq!(rt; outcome.status, Status::Done);
+    assert_eq!(rt; out.bytes(), PUT_THEN_GET.output.as_bytes());
+    Ok(())
+}
+
+#[test]
+fn sources_that_fail(rt: HostRuntime) -> Result<(), Fail> {
+    let table: [&[u32]; 3] = [&[1], &[2], &[5, 6]];
+    for failing_reads in table {
+        let call = Call {
+            read_piece: 8,
+            failing_reads,
+            ..plain(&["run"], PUT_THEN_GET.input.as_bytes())
+        };
+        let (outcome, out) = answer(rt.alloc(), &call)?;
+        assert_eq!(rt; outcome.status, Status::ReadFault);
+        assert!(rt; out.bytes().is_empty());
+        assert!(rt; outcome.journal.is_none());
+    }
+    Ok(())
+}
+
+#[test]
+fn sinks_that_fail(rt: HostRuntime) -> Result<(), Fail> {
+    // The first call that fails, of writes of ten bytes, and what was taken by then.
+    let output = PUT_THEN_GET.output.as_bytes();
+    let writes = output.len().div_ceil(10) as u32;
+    let table = [(1u32, 0usize), (3, 20), (writes, 10 * (writes as usize - 1)), (writes + 1, output.len())];
+    for (call, taken) in table {
+        let call = Call {
+            write_piece: 10,
+            failing_writes: &[call],
+            ..plain(&["run"], PUT_THEN_GET.input.as_bytes())
+        };
+        let (outcome, out) = answer(rt.alloc(), &call)?;
+        assert_eq!(rt; outcome.status, Status::WriteFault);
+        assert_eq!(rt; out.bytes(), &output[..taken]);
+        assert!(rt; outcome.journal.is_some());
+    }
+    Ok(())
+}
+
+#[test]
+fn codes(rt: HostRuntime) {
+    let table = [
+        (Status::Done, 0u8),
+        (Status::Usage, 1),
+        (Status::BadScenario, 2),
+        (Status::ReadFault, 3),
+        (Status::WriteFault, 4),
+        (Status::NoMemory, 6),
+    ];
+    for (status, code) in table {
+        assert_eq!(rt; status.code(), code);
+    }
+}

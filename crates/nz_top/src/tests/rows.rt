@@ -8,7 +8,7 @@ pub struct Row {
     pub output: &'static str,
 }
 
-const PUT_THEN_GET: Row = Row {
+pub const PUT_THEN_GET: Row = Row {
     word: "run",
     input: "# a client puts a value and gets it back\nnezha 1\nf 1\nproxies 1\nclients 1\nticks 40\n\
 client c0\nput a 1\nget a\nend\ndone\n",

@@ -1,0 +1,108 @@
+//! The premise of one history on the run of a put and a get, by its definition: of the lists of keys that
+//! replicas replied over, no two that differ have the same digest.
+ghost use Rattle.std.specs.Prelude.{◌<◌};
+
+use super::rows::PUT_THEN_GET;
+use super::{answer, plain};
+use nz_base::{Actor, Cluster, Id, Key, NoMemory};
+use nz_digest::Digest;
+use nz_log::HashedLog;
+use nz_machine::{Core, Record};
+use nz_msg::{DecodeRefusal, Message, decode};
+use nz_replica::Replica;
+use std::alloc::Global;
+use std::test::Fail;
+
+/// The keys of a log up to the entry that was replied to, and their digest.
+#[derive(Drop)]
+struct RepliedOver {
+    keys: Vec<Key>,
+    digest: Digest,
+}
+
+/// Nothing where the log does not have the request.
+fn replied_over(alloc: Global, id: Id, log: &HashedLog) -> Result<Option<RepliedOver>, NoMemory> {
+    let Some(place) = log.place_of(id) else {
+        return Ok(None);
+    };
+    let mut keys = Vec::new(alloc);
+    for at in 0..place + 1 {
+        keys.push(log.get(at).key)?;
+    }
+    Ok(Some(RepliedOver {
+        keys,
+        digest: log.digest_at(place),
+    }))
+}
+
+/// Adds those of the fast replies that the record sends, over the log behind it.
+fn add_replies(
+    alloc: Global,
+    record: &Record,
+    log: &HashedLog,
+    lists: &mut Vec<RepliedOver>,
+) -> Result<(), NoMemory> {
+    for parcel in record.sends.as_slice() {
+        match decode(alloc, parcel.frame.as_slice()) {
+            Ok(envelope) => {
+                if let Message::FastReply(body) = envelope.message {
+                    if let Some(list) = replied_over(alloc, body.id, log)? {
+                        lists.push(list)?;
+                    }
+                }
+            }
+            Err(DecodeRefusal::NoMemory) => return Err(NoMemory),
+            Err(_) => {}
+        }
+    }
+    Ok(())
+}
+
+/// Adds those of all records of one replica of three, whose state they lead to.
+fn add_replica(
+    alloc: Global,
+    cluster: Cluster,
+    number: u8,
+    records: &[Record],
+    lists: &mut Vec<RepliedOver>,
+) -> Result<(), NoMemory> {
+    if number >= cluster.n() {
+        return Ok(());
+    }
+    let mut replica = Replica::new(alloc, cluster, number)?;
+    for record in records {
+        if record.actor.is(&Actor::Replica(number)) {
+            if replica.is_live() {
+                replica.step(&record.event)?;
+            }
+            add_replies(alloc, record, replica.log(), lists)?;
+        }
+    }
+    Ok(())
+}
+
+fn collides(list: &RepliedOver, others: &[RepliedOver]) -> bool {
+    others
+        .iter()
+        .any(|other| list.digest == other.digest && list.keys != other.keys)
+}
+
+#[test]
+fn no_lists_of_keys_collide(rt: HostRuntime) -> Result<(), Fail> {
+    let (outcome, _) = answer(rt.alloc(), &plain(&["run"], PUT_THEN_GET.input.as_bytes()))?;
+    let Some(journal) = outcome.journal else {
+        assert!(rt; false);
+        return Ok(());
+    };
+    let cluster = journal.scenario.cluster;
+    let mut lists = Vec::new(rt.alloc());
+    for number in 0..cluster.n() {
+        add_replica(rt.alloc(), cluster, number, journal.records.as_slice(), &mut lists)?;
+    }
+    // Each replica replies to the put over one key, and to the get over two.
+    assert_eq!(rt; lists.len(), 6);
+    for list in &lists {
+        assert!(rt; !collides(list, &lists));
+    }
+    Ok(())
+}
