@@ -1,6 +1,6 @@
 -- What a fabric of one thread keeps.
 use Rattle.std.proofs.Common.{◌≡◌, ℕ, zero, suc, ◌+◌, ◌<◌, ◌≤◌, eqb, Bool, false, List, [], ◌∷◌, ◌++◌, length, map, not, Some, refl, sym, ap, ◌∙◌, subst, arith, length-append, length-drop, take_all, take-append-drop}
-use Rattle.std.specs.Prelude.{take, drop, reverse, filter, slice_get}
+use Rattle.std.specs.Prelude.{take, drop, reverse, filter, slice_get, vec_capacity}
 use Rattle.std.specs.List.{AllByRecursion}
 use Rattle.std.proofs.lemmas.List.{map-append, reverse-append, length-reverse, drop_all, take-append-le, drop-append-le}
 use Rattle.std.proofs.lemmas.Grind.{reverse_onto}
@@ -13,25 +13,37 @@ use Rattle.nz_machine.specs.Schedule.{Posted, posted, item_of, calls, tick_item,
 use Rattle.nz_fabric.specs.declared.turn.Turn.{Turn}
 use Rattle.nz_fabric.specs.declared.coming.Arrival.{Arrival}
 use Rattle.nz_fabric.specs.declared.coming.Coming.{Coming}
+use Rattle.nz_fabric.specs.declared.ticks.Ticks.{Ticks}
 use Rattle.nz_fabric.specs.Coming.{arriving, posted_by, IsComing}
-use Rattle.nz_fabric.specs.States.{State, records_of, IsOpen, IsDone, item_in, recorded, with_recorded, after_tick, IsBegun, IsKept, state_of, IsHeld}
+use Rattle.nz_fabric.specs.States.{State, records_of, start, IsNew, IsOpen, IsDone, item_in, recorded, with_recorded, after_tick, IsBegun, IsBegunAs, IsKept, state_of, state_in, IsHeld}
 use Rattle.nz_fabric.proofs.Arriving.{posted_reverse, taken_out}
 
 -- ---- the start
 
-pub held_start : (s : Scenario) (room : ℕ) (records : List Record) (items : List Item) (coming : Coming) → IsPlayable s → records ≡ [] → items ≡ [] → IsComing s 0 [] coming → IsHeld (state_of s 0 0 records items 0 false) 0 room records coming
-held_start s room records items coming play none nothing h =
-    rw (none, nothing) (record {
+abbrev begin_with : Scenario → List Record → List Item → State
+begin_with s records items = state_of s 0 0 records items 0 false
+
+pub new_ticks : (s : Scenario) (t : Ticks) → state_in t ≡ begin_with s t.records.items t.items.items → t.before ≡ 0 → t.records.items ≡ [] → t.items.items ≡ [] → IsComing s 0 [] t.coming → IsNew s t
+new_ticks s t is first none nothing h =
+    record { state = is ∙ ap (λ (rs : List Record). begin_with s rs t.items.items) none ∙ ap (begin_with s []) nothing; records = none; before = first; is_coming = h }
+
+pub held_start : (s : Scenario) (t : Ticks) → IsPlayable s → IsNew s t → IsHeld (state_in t) t.before (vec_capacity t.records) t.records.items t.coming
+held_start s t play new =
+    let room = vec_capacity t.records in
+    subst (λ (f : State). IsHeld f t.before room t.records.items t.coming) (sym new.state)
+    (subst (λ (rs : List Record). IsHeld (start s) t.before room rs t.coming) (sym new.records)
+    (subst (λ (n : ℕ). IsHeld (start s) n room [] t.coming) (sym new.before)
+    (record {
       kept = record { playable = play; in_run = omega arith; begun = (refl, refl); here = tt; in_order = refl; next = omega arith; least = omega arith; most = omega arith };
       within = omega arith;
       few = omega arith;
       has_room = λ _. record { reserved = omega arith; few = omega arith };
-      is_coming = λ _. h;
-    })
+      is_coming = λ _. new.is_coming;
+    })))
 
 -- ---- one record more
 
-take_got : {X : Type 0} (xs : List X) (i : ℕ) (x : X) → slice_get xs i ≡ Some x → take (suc i) xs ≡ take i xs ++ x ∷ []
+pub take_got : {X : Type 0} (xs : List X) (i : ℕ) (x : X) → slice_get xs i ≡ Some x → take (suc i) xs ≡ take i xs ++ x ∷ []
 take_got [] i x e = absurd (none-some x e)
 take_got (y ∷ xs) zero x e = ap (λ z. z ∷ []) (same_Some y x e)
 take_got (y ∷ xs) (suc i) x e = ap (λ zs. y ∷ zs) (take_got xs i x e)
@@ -87,7 +99,7 @@ held_record s tick before room records items next marked coming turn sends h o =
 
 -- ---- the next tick
 
-no_records : (xs : List Record) → length xs ≡ 0 → xs ≡ []
+pub no_records : (xs : List Record) → length xs ≡ 0 → xs ≡ []
 no_records [] e = refl
 no_records (x ∷ xs) e = absurd (omega (arith, e))
 
@@ -118,35 +130,31 @@ in_order_now f k d = in_order_by f f.tick refl k.begun k (sym d.quiet.closed ∙
 pub all_records : (before : ℕ) (records : List Record) → reverse (drop before records) ++ reverse (take before records) ≡ reverse records
 all_records before records = sym (reverse-append (take before records) (drop before records)) ∙ ap reverse (take-append-drop before records)
 
-pub record Begins (s : Scenario) (tick : ℕ) (J : List Record) (items : List Item) (coming : Coming) : Type 0 where
-  pub begun : IsBegun s (tick + 1) J items
-  pub are_due : items ≡ due s (tick + 1) J
-  pub is_coming : IsComing s (tick + 1) (posted J) coming
+pub record IsDueNow (s : Scenario) (tick : ℕ) (J : List Record) (items : List Item) (coming : Coming) : Type 0 where
+  pub are_due : items ≡ due s tick J
+  pub is_coming : IsComing s tick (posted J) coming
 
-begun_at : (s : Scenario) (tick next : ℕ) (J : List Record) (items : List Item) → suc tick ≡ next → InOrderTo s tick J → items ≡ due s next J → IsBegun s next J items
-begun_at s tick next J items e order is = subst (λ (n : ℕ). items ≡ due s n J → IsBegun s n J items) e (λ now. (order, now)) is
-
-pub begins : (f : State) (rs : List Record) (coming mid coming' : Coming) (items : List Item) → IsKept f → IsDone f → f.tick < f.scenario.ticks → f.here ≡ reverse rs → IsComing f.scenario f.tick (posted f.finished) coming
-    → ((s : Scenario) (now : ℕ) (L : List Posted) → IsComing s now L coming → IsComing s now (L ++ posted_by rs) mid)
-    → items ≡ calls (f.tick + 1) 0 f.scenario.faults ++ (map (tick_item f.scenario (f.tick + 1)) (actors_of f.scenario) ++ arriving (f.tick + 1) mid.pending.items)
-    → coming'.lines ≡ mid.lines → coming'.pending.items ≡ filter (λ (a : Arrival). not (eqb a.tick (f.tick + 1))) mid.pending.items
-    → Begins f.scenario f.tick (records_of f) items coming'
-begins f rs coming mid coming' items k d lt here h step items_is lines left =
-    let s = f.scenario in
-    let next = f.tick + 1 in
-    let ticks = k.playable.ticks in
-    let all : posted (records_of f) ≡ posted f.finished ++ posted_by rs = ap (λ (xs : List Record). posted (xs ++ f.finished)) here ∙ posted_reverse rs f.finished in
-    let now : IsComing s f.tick (posted (records_of f)) mid = subst (λ (L : List Posted). IsComing s f.tick L mid) (sym all) (step s f.tick (posted f.finished) h) in
-    let arrive : arriving next mid.pending.items ≡ arrivals s next [] (posted (records_of f)) = now.pending next (omega arith) (omega (arith, lt, ticks)) in
-    let are_due : items ≡ due s next (records_of f) = items_is ∙ ap (λ (is : List Item). calls next 0 s.faults ++ (map (tick_item s next) (actors_of s) ++ is)) arrive in
+-- the records of a tick are told to what is to come
+pub due_now : (s : Scenario) (tick before : ℕ) (records : List Record) (coming mid coming' : Coming) (items : List Item) → tick < s.ticks → s.ticks ≤ 20000
+    → IsComing s tick (posted (reverse (take before records))) coming
+    → ((s : Scenario) (now : ℕ) (L : List Posted) → IsComing s now L coming → IsComing s now (L ++ posted_by (drop before records)) mid)
+    → items ≡ calls (tick + 1) 0 s.faults ++ (map (tick_item s (tick + 1)) (actors_of s) ++ arriving (tick + 1) mid.pending.items)
+    → coming'.lines ≡ mid.lines → coming'.pending.items ≡ filter (λ (a : Arrival). not (eqb a.tick (tick + 1))) mid.pending.items
+    → IsDueNow s (tick + 1) (reverse (drop before records) ++ reverse (take before records)) items coming'
+due_now s tick before records coming mid coming' items lt few h step items_is lines left =
+    let next = tick + 1 in
+    let finished = reverse (take before records) in
+    let J = reverse (drop before records) ++ finished in
+    let all : posted J ≡ posted finished ++ posted_by (drop before records) = posted_reverse (drop before records) finished in
+    let now : IsComing s tick (posted J) mid = subst (λ (L : List Posted). IsComing s tick L mid) (sym all) (step s tick (posted finished) h) in
+    let arrive : arriving next mid.pending.items ≡ arrivals s next [] (posted J) = now.pending next (omega arith) (omega (arith, lt, few)) in
     record {
-      begun = begun_at s f.tick next (records_of f) items (omega arith) (in_order_now f k d) are_due;
-      are_due = are_due;
-      is_coming = taken_out s f.tick next (posted (records_of f)) mid coming' (omega arith) now lines left;
+      are_due = items_is ∙ ap (λ (is : List Item). calls next 0 s.faults ++ (map (tick_item s next) (actors_of s) ++ is)) arrive;
+      is_coming = taken_out s tick next (posted J) mid coming' (omega arith) now lines left;
     }
 
-pub kept_next : (f : State) (coming : Coming) → IsKept f → IsDone f → f.tick < f.scenario.ticks → Begins f.scenario f.tick (records_of f) (due f.scenario (f.tick + 1) (records_of f)) coming → IsKept (after_tick f)
-kept_next f coming k d lt b = record { playable = k.playable; in_run = omega (arith, lt); begun = b.begun; here = tt; in_order = refl; next = omega arith; least = omega arith; most = omega arith }
+pub begun_next : (Ordered : Scenario → ℕ → List Record → Type 0) (s : Scenario) (tick next : ℕ) (J : List Record) → suc tick ≡ next → Ordered s tick J → IsBegunAs Ordered s next J (due s next J)
+begun_next Ordered s tick next J e order = subst (λ (n : ℕ). IsBegunAs Ordered s n J (due s n J)) e (order, refl)
 
 pub state_next : (s : Scenario) (tick before n : ℕ) (records : List Record) (items items' : List Item) (next : ℕ) (marked : Bool) → n ≡ length records → marked ≡ false
     → items' ≡ due s (tick + 1) (records_of (state_of s tick before records items next marked))
@@ -158,23 +166,3 @@ state_next s tick before n records items items' next marked long unmarked are_du
     ∙ ap (λ (xs : List Record). let f : State = record { scenario = s; tick = tick + 1; finished = records_of (state_of s tick before records items next marked); here = xs; items = items'; next = 0; marked = false } in f) here
     ∙ ap (λ (is : List Item). let f : State = record { scenario = s; tick = tick + 1; finished = records_of (state_of s tick before records items next marked); here = []; items = is; next = 0; marked = false } in f) are_due
     ∙ ap (λ (m : Bool). let f : State = record { scenario = s; tick = tick + 1; finished = records_of (state_of s tick before records items next marked); here = []; items = due s (tick + 1) (records_of (state_of s tick before records items next marked)); next = 0; marked = m } in f) (sym unmarked)
-
-pub held_next : (s : Scenario) (tick before n room : ℕ) (records : List Record) (items items' : List Item) (next : ℕ) (marked : Bool) (coming coming' : Coming)
-    → IsHeld (state_of s tick before records items next marked) before room records coming → IsDone (state_of s tick before records items next marked) → tick < s.ticks → n ≡ length records
-    → Begins s tick (records_of (state_of s tick before records items next marked)) items' coming'
-    → IsHeld (state_of s (tick + 1) n records items' 0 false) n room records coming'
-held_next s tick before n room records items items' next marked coming coming' h d lt long b =
-    let f = state_of s tick before records items next marked in
-    let few = h.few in
-    let here = long_here before records h.within in
-    let closed = d.quiet.closed in
-    let own = (h.has_room d.quiet.unmarked).reserved in
-    let b' = subst (λ (is : List Item). Begins s tick (records_of f) is coming') b.are_due b in
-    subst (λ (g : State). IsHeld g n room records coming') (sym (state_next s tick before n records items items' next marked long d.quiet.unmarked b.are_due))
-    (record {
-      kept = kept_next f coming' h.kept d lt b';
-      within = omega (arith, long);
-      few = few;
-      has_room = λ _. record { reserved = omega (arith, long, here, closed, own); few = omega (arith, long, few) };
-      is_coming = λ _. b.is_coming;
-    })

@@ -2,3 +2,4 @@ pub mod Faulting
 pub mod Arriving
 pub mod Calling
 pub mod Held
+pub mod Sharing

@@ -1,3 +1,4 @@
 pub mod Coming
 pub mod Dues
 pub mod States
+pub mod Shared

@@ -8,6 +8,7 @@ use Rattle.nz_machine.specs.declared.journal.Item.{Item}
 use Rattle.nz_machine.specs.Schedule.{item, item_of, posted, due, InOrderTo, IsPlayable}
 use Rattle.nz_fabric.specs.declared.turn.Turn.{Turn}
 use Rattle.nz_fabric.specs.declared.coming.Coming.{Coming}
+use Rattle.nz_fabric.specs.declared.ticks.Ticks.{Ticks}
 use Rattle.nz_fabric.specs.Coming.{IsComing}
 
 -- The tick, the records of the ticks before it and those of the tick, both the newest first, what is due in the
@@ -72,10 +73,14 @@ abbrev pub after_tick : State → State
 after_tick f =
     record f { tick = f.tick + 1; finished = records_of f; here = []; items = due f.scenario (f.tick + 1) (records_of f); next = 0 }
 
--- The finished ticks are in order, and these items are due behind them.
+-- The finished ticks are ordered in this way, and these items are due behind them.
+abbrev pub IsBegunAs : (Scenario → ℕ → List Record → Type 0) → Scenario → ℕ → List Record → List Item → Type 0
+IsBegunAs Ordered s zero finished items = (finished ≡ []) × (items ≡ [])
+IsBegunAs Ordered s (suc tick) finished items = Ordered s tick finished × (items ≡ due s (suc tick) finished)
+
+-- The same, in the order of the schedule.
 abbrev pub IsBegun : Scenario → ℕ → List Record → List Item → Type 0
-IsBegun s zero finished items = (finished ≡ []) × (items ≡ [])
-IsBegun s (suc tick) finished items = InOrderTo s tick finished × (items ≡ due s (suc tick) finished)
+IsBegun s tick finished items = IsBegunAs InOrderTo s tick finished items
 
 -- The records of the tick are the first of its items, in their order; at most one further item was taken.
 pub record IsKept (f : State) : Type 0 where
@@ -113,3 +118,34 @@ pub record IsHeld (f : State) (before room : ℕ) (records : List Record) (comin
   pub few : length records < 2 ^ 32
   pub has_room : f.marked ≡ false → HasRoom f before room
   pub is_coming : f.marked ≡ false → IsComing f.scenario f.tick (posted f.finished) coming
+
+abbrev pub state_in : Ticks → State
+state_in t = state_of t.scenario t.tick t.before t.records.items t.items.items t.next t.marked
+
+-- A run that has not begun.
+pub record IsNew (s : Scenario) (t : Ticks) : Type 0 where
+  pub state : state_in t ≡ start s
+  pub records : t.records.items ≡ []
+  pub before : t.before ≡ 0
+  pub is_coming : IsComing s 0 [] t.coming
+
+-- A further tick can begin.
+pub record CanGoOn (t : Ticks) : Type 0 where
+  pub within : t.before ≤ length t.records.items
+  pub unmarked : t.marked ≡ false
+  pub more : t.tick < t.scenario.ticks
+  pub ticks : t.scenario.ticks ≤ 20000
+  pub is_coming : IsComing t.scenario t.tick (posted (reverse (take t.before t.records.items))) t.coming
+
+-- The next tick began.
+pub record HasBegun (old new : Ticks) : Type 0 where
+  pub state : state_in new ≡ after_tick (state_in old)
+  pub records : new.records ≡ old.records
+  pub before : new.before ≡ length old.records.items
+  pub is_coming : IsComing old.scenario (old.tick + 1) (posted (records_of (state_in old))) new.coming
+
+-- No further turn is given.
+pub record IsStopped (old new : Ticks) : Type 0 where
+  pub state : state_in new ≡ with_mark (state_in old)
+  pub records : new.records ≡ old.records
+  pub before : new.before ≡ old.before

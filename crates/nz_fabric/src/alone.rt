@@ -3,10 +3,9 @@ ghost use Rattle.nz_machine.specs.Journals.{run_in};
 ghost use Rattle.nz_machine.specs.Schedule.{InOrder, IsPlayable};
 ghost use Rattle.nz_fabric.specs.States.{IsDone, IsKept, IsNext, IsOpen, after_tick, records_of, start, with_mark, with_recorded, with_taken};
 
-use crate::coming::Coming;
-use crate::due::due_items;
+use crate::ticks::Ticks;
 use crate::turn::Turn;
-use nz_base::{List, NoMemory, Scenario, TryCopy};
+use nz_base::{NoMemory, Scenario};
 use nz_machine::{Item, Journal, Record, Sends};
 use std::alloc::Global;
 use std::marker::Model;
@@ -14,27 +13,18 @@ use std::marker::Model;
 /// The network of a run on one thread: what is due, and the journal, which is in the order of the schedule.
 #[derive(Drop)]
 pub struct Alone {
-    alloc: Global,
-    scenario: Scenario,
-    tick: u32,
-    records: Vec<Record>,
-    /// How many records there were before this tick.
-    before: usize,
-    items: Vec<Item>,
-    next: usize,
-    coming: Coming,
-    marked: bool,
+    ticks: Ticks,
 }
 
 impl Model for Alone {
     ghost use Rattle.std.specs.Prelude.{vec_capacity};
-    ghost use Rattle.nz_fabric.specs.States.{State, IsHeld, state_of};
+    ghost use Rattle.nz_fabric.specs.States.{State, IsHeld, state_in};
 
     ghost Value = { State };
 
-    ghost view = { λ f. state_of f.scenario f.tick f.before f.records.items f.items.items f.next f.marked };
+    ghost view = { λ f. state_in f.ticks };
 
-    ghost invariant = { λ f. IsHeld (state_of f.scenario f.tick f.before f.records.items f.items.items f.next f.marked) f.before (vec_capacity f.records) f.records.items f.coming };
+    ghost invariant = { λ f. IsHeld (state_in f.ticks) f.ticks.before (vec_capacity f.ticks.records) f.ticks.records.items f.ticks.coming };
 }
 
 impl Alone {
@@ -43,25 +33,15 @@ impl Alone {
         requires { IsPlayable scenario }
         ensures { IfOk result (λ alone. alone ≡ start scenario) }
     {
-        let coming = Coming::new(alloc, scenario.faults.as_slice())?;
-        Ok(Alone {
-            alloc,
-            scenario,
-            tick: 0,
-            records: Vec::new(alloc),
-            before: 0,
-            items: Vec::new(alloc),
-            next: 0,
-            coming,
-            marked: false,
-        })
+        let ticks = Ticks::new(alloc, scenario)?;
+        Ok(Alone { ticks })
     }
 
     /// What the type keeps.
     pub fn kept(&self)
         ensures { IsKept self.now }
     {
-        let _ = &self.tick;
+        let _ = &self.ticks;
     }
 
     /// The next due item of the tick. Its place in the journal is reserved here.
@@ -74,20 +54,19 @@ impl Alone {
             (λ turn. (self.new ≡ with_taken self.old) × (self.old.marked ≡ false) × IsNext self.old turn))
             (λ _. self.new ≡ self.old) }
     {
-        if self.marked || self.next == self.items.len() {
+        let ticks = &mut self.ticks;
+        if ticks.marked || ticks.next == ticks.items.len() {
             return Ok(None);
         }
-        if self.records.len() >= u32::MAX as usize {
+        if ticks.records.len() >= u32::MAX as usize {
             return Err(NoMemory);
         }
-        let item = &self.items[self.next];
-        let actor = item.actor;
-        let event = item.event.copy(self.alloc)?;
-        self.records.reserve(1)?;
-        self.next += 1;
+        let Item { actor, event } = ticks.next_item()?;
+        ticks.records.reserve(1)?;
+        ticks.next += 1;
         Ok(Some(Turn {
-            number: self.records.len() as u64 + 1,
-            tick: self.tick,
+            number: ticks.records.len() as u64 + 1,
+            tick: ticks.tick,
             actor,
             event,
         }))
@@ -104,7 +83,7 @@ impl Alone {
             actor,
             event,
         } = turn;
-        self.records.push_reserved(Record {
+        self.ticks.records.push_reserved(Record {
             tick,
             actor,
             event,
@@ -117,13 +96,8 @@ impl Alone {
         requires { IsOpen self.old turn }
         ensures { self.new ≡ with_mark self.old }
     {
-        let Turn {
-            number: _,
-            tick: _,
-            actor: _,
-            event: _,
-        } = turn;
-        self.marked = true;
+        turn.into_number();
+        self.ticks.marked = true;
     }
 
     /// Begins the next tick. False exactly where the last one was done. After `NoMemory` no further turn is given.
@@ -136,16 +110,10 @@ impl Alone {
             ((self.new ≡ self.old) × (self.old.tick ≡ self.old.scenario.ticks)))
             (λ _. self.new ≡ with_mark self.old) }
     {
-        if self.tick == self.scenario.ticks {
+        if self.ticks.tick == self.ticks.scenario.ticks {
             return Ok(false);
         }
-        self.marked = true;
-        self.coming.post_all(&self.records[self.before..])?;
-        self.items = due_items(self.alloc, &self.scenario, self.tick + 1, &mut self.coming)?;
-        self.tick += 1;
-        self.before = self.records.len();
-        self.next = 0;
-        self.marked = false;
+        self.ticks.begin()?;
         Ok(true)
     }
 
@@ -157,14 +125,6 @@ impl Alone {
         ensures records { run_in result ≡ records_of self }
         ensures in_order { InOrder self.scenario (run_in result) }
     {
-        let Alone {
-            scenario,
-            records,
-            ..
-        } = self;
-        Journal {
-            scenario,
-            records: List::from_vec(records),
-        }
+        self.ticks.into_journal()
     }
 }

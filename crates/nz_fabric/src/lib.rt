@@ -6,8 +6,18 @@ mod alone;
 mod coming;
 mod deliveries;
 mod due;
+mod fabric;
 mod lines;
+mod name;
+mod running;
+mod share;
+mod shared;
+mod ticks;
 mod turn;
 
 pub use alone::Alone;
+pub use fabric::Fabric;
+pub use name::Name;
+pub use share::Share;
+pub use shared::FabricState;
 pub use turn::Turn;

@@ -1,3 +1,5 @@
+ghost use Rattle.std.specs.Prelude.{◌≡◌};
+
 use nz_base::Actor;
 use nz_machine::Event;
 
@@ -8,4 +10,19 @@ pub struct Turn {
     pub tick: u32,
     pub actor: Actor,
     pub event: Event,
+}
+
+impl Turn {
+    /// The number, when the turn is spent.
+    pub(crate) fn into_number(self) -> u64
+        ensures { result ≡ self.number }
+    {
+        let Turn {
+            number,
+            tick: _,
+            actor: _,
+            event: _,
+        } = self;
+        number
+    }
 }

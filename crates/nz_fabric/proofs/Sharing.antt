@@ -1,0 +1,249 @@
+-- What a fabric of threads keeps.
+use Rattle.std.proofs.Common.{◌≡◌, ℕ, zero, suc, ◌+◌, ◌^◌, ◌<◌, ◌≤◌, Bool, List, [], ◌∷◌, ◌++◌, length, map, Some, refl, sym, ap, ◌∙◌, subst, arith, length-append, append_assoc, take_all}
+use Rattle.std.specs.Prelude.{take, reverse, slice_get, get_or, vec_capacity, IsPermutation}
+use Rattle.std.specs.List.{AllByRecursion, remove}
+use Rattle.std.proofs.lemmas.List.{map-append, length-map}
+use Rattle.std.proofs.lemmas.List.Sorted.{IsPermutation-refl, IsPermutation-sym, IsPermutation-cons, IsPermutation-to_front, IsPermutation-map, IsPermutation-append_left, IsPermutation-append_right, IsPermutation-trans, IsPermutation-middle, IsPermutation-reverse, IsPermutation-remove, length_permutation}
+use Rattle.nz_base.specs.declared.scenario.Scenario.{Scenario}
+use Rattle.nz_machine.specs.declared.event.Parcel.{Parcel}
+use Rattle.nz_machine.specs.declared.event.Record.{Record}
+use Rattle.nz_machine.specs.declared.journal.Item.{Item}
+use Rattle.nz_machine.specs.Schedule.{item_of, ScheduledTo, IsPlayable}
+use Rattle.nz_fabric.specs.declared.running.Running.{Running}
+use Rattle.nz_fabric.specs.declared.coming.Coming.{Coming}
+use Rattle.nz_fabric.specs.declared.ticks.Ticks.{Ticks}
+use Rattle.nz_fabric.specs.States.{State, records_of, start, IsNew, recorded, with_recorded, with_taken, with_mark, after_tick, IsBegunAs, state_of, state_in, HasBegun}
+use Rattle.nz_fabric.specs.Shared.{shared, item_running, turn_of, IsOver, IsAccounted, IsBooked}
+use Rattle.nz_fabric.proofs.Held.{take_got, no_records, begun_next, state_record}
+
+-- ---- the start
+
+pub booked_start : (s : Scenario) (total : ℕ) (t : Ticks) (running : List Running) → IsPlayable s → IsNew s t → running ≡ [] → total ≡ 0
+    → IsBooked s total (state_in t) running t.before (vec_capacity t.records) t.records.items t.coming
+booked_start s total t running play new none nothing =
+    let room = vec_capacity t.records in
+    subst (λ (rest : List Running). IsBooked s total (state_in t) rest t.before room t.records.items t.coming) (sym none)
+    (subst (λ (f : State). IsBooked s total f [] t.before room t.records.items t.coming) (sym new.state)
+    (subst (λ (rs : List Record). IsBooked s total (start s) [] t.before room rs t.coming) (sym new.records)
+    (subst (λ (n : ℕ). IsBooked s total (start s) [] n room [] t.coming) (sym new.before)
+    (record {
+      accounted = record {
+        scenario = refl;
+        playable = play;
+        in_run = omega arith;
+        begun = (refl, refl);
+        here = tt;
+        next = omega arith;
+        given_up = [];
+        each_once = IsPermutation-refl [];
+        all_kept = λ _. refl;
+      };
+      within = omega arith;
+      few = omega arith;
+      reserved = omega arith;
+      is_coming = λ _. new.is_coming;
+      booked = nothing;
+    }))))
+
+-- ---- one turn more
+
+opened_one : (given_up : List Item) (running : List Running) (o : Running) (here taken : List Item)
+    → IsPermutation taken ((given_up ++ map item_running running) ++ here)
+    → IsPermutation (taken ++ o.item ∷ []) ((given_up ++ map item_running (running ++ o ∷ [])) ++ here)
+opened_one given_up running o here taken h =
+    let x = o.item in
+    let items = map item_running running in
+    let front = IsPermutation-trans _ _ _ (IsPermutation-to_front taken x) (IsPermutation-cons x _ _ h) in
+    let middle : IsPermutation (taken ++ x ∷ []) ((given_up ++ items) ++ x ∷ here) = IsPermutation-trans _ _ _ front (IsPermutation-sym _ _ (IsPermutation-middle (given_up ++ items) x here)) in
+    let same : (given_up ++ items) ++ x ∷ here ≡ (given_up ++ map item_running (running ++ o ∷ [])) ++ here =
+    sym (append_assoc (given_up ++ items) (x ∷ []) here)
+    ∙ ap (λ (is : List Item). is ++ here) (append_assoc given_up items (x ∷ []) ∙ ap (λ (is : List Item). given_up ++ is) (sym (map-append item_running running (o ∷ [])))) in
+    subst (λ (is : List Item). IsPermutation (taken ++ x ∷ []) is) same middle
+
+accounted_taken : (s : Scenario) (f : State) (running : List Running) (o : Running) → IsAccounted s (shared f running) → f.next < length f.items → slice_get f.items f.next ≡ Some o.item
+    → IsAccounted s (shared (with_taken f) (running ++ o ∷ []))
+accounted_taken s f running o k lt is =
+    let grown : take (f.next + 1) f.items ≡ take f.next f.items ++ o.item ∷ [] =
+    (let one : suc f.next ≡ f.next + 1 = omega arith in subst (λ (n : ℕ). take n f.items ≡ take f.next f.items ++ o.item ∷ []) one (take_got f.items f.next o.item is)) in
+    record {
+      scenario = k.scenario;
+      playable = k.playable;
+      in_run = k.in_run;
+      begun = k.begun;
+      here = k.here;
+      next = omega (arith, lt);
+      given_up = k.given_up;
+      each_once =
+          subst (λ (is : List Item). IsPermutation is ((k.given_up ++ map item_running (running ++ o ∷ [])) ++ map item_of f.here)) (sym grown)
+          (opened_one k.given_up running o (map item_of f.here) (take f.next f.items) k.each_once);
+      all_kept = k.all_kept;
+    }
+
+pub booked_taken : (s : Scenario) (total total' : ℕ) (f : State) (running : List Running) (o : Running) (before room room' : ℕ) (records : List Record) (coming : Coming)
+    → IsBooked s total f running before room records coming → f.next < length f.items → slice_get f.items f.next ≡ Some o.item
+    → length records + length running + 1 < 2 ^ 32 → length records + length running + 1 ≤ room' → total' ≡ total + 1
+    → IsBooked s total' (with_taken f) (running ++ o ∷ []) before room' records coming
+booked_taken s total total' f running o before room room' records coming h lt is few reserved count =
+    let long = length-append running (o ∷ []) in
+    let booked = h.booked in
+    record {
+      accounted = accounted_taken s f running o h.accounted lt is;
+      within = h.within;
+      few = omega (arith, long, few);
+      reserved = omega (arith, long, reserved);
+      is_coming = h.is_coming;
+      booked = omega (arith, long, booked, count);
+    }
+
+-- ---- one turn fewer
+
+closed_one : (given_up : List Item) (running : List Running) (here : List Item) (i : ℕ) (o : Running) → i < length running → o ≡ get_or running i o
+    → IsPermutation ((given_up ++ map item_running running) ++ here) (o.item ∷ ((given_up ++ map item_running (remove running i)) ++ here))
+closed_one given_up running here i o lt at =
+    let rest = map item_running (remove running i) in
+    let apart : IsPermutation (map item_running running) (o.item ∷ rest) = IsPermutation-map item_running running (o ∷ remove running i) (IsPermutation-remove running i o lt at) in
+    let front : IsPermutation (given_up ++ map item_running running) (o.item ∷ (given_up ++ rest)) =
+    IsPermutation-trans _ _ _ (IsPermutation-append_right given_up _ _ apart) (IsPermutation-middle given_up o.item rest) in
+    IsPermutation-append_left here _ _ front
+
+one_fewer : (running : List Running) (i : ℕ) (o : Running) → i < length running → o ≡ get_or running i o → length (remove running i) + 1 ≡ length running
+one_fewer running i o lt at = let e = length_permutation running (o ∷ remove running i) (IsPermutation-remove running i o lt at) in omega (arith, e)
+
+accounted_recorded : (s : Scenario) (f : State) (running : List Running) (i : ℕ) (o : Running) (sends : List Parcel) → IsAccounted s (shared f running) → i < length running → o ≡ get_or running i o
+    → IsAccounted s (shared (with_recorded (turn_of f.tick o) sends f) (remove running i))
+accounted_recorded s f running i o sends k lt at = record {
+  scenario = k.scenario;
+  playable = k.playable;
+  in_run = k.in_run;
+  begun = k.begun;
+  here = (refl, k.here);
+  next = k.next;
+  given_up = k.given_up;
+  each_once =
+      IsPermutation-trans _ _ _ k.each_once
+      (IsPermutation-trans _ _ _ (closed_one k.given_up running (map item_of f.here) i o lt at)
+      (IsPermutation-sym _ _ (IsPermutation-middle (k.given_up ++ map item_running (remove running i)) o.item (map item_of f.here))));
+  all_kept = k.all_kept;
+}
+
+pub booked_recorded : (s : Scenario) (total total' : ℕ) (scenario : Scenario) (tick before room : ℕ) (records : List Record) (items : List Item) (next : ℕ) (marked : Bool) (coming : Coming) (running rest : List Running) (i : ℕ) (o : Running) (sends : List Parcel)
+    → IsBooked s total (state_of scenario tick before records items next marked) running before room records coming → i < length running → o ≡ get_or running i o → rest ≡ remove running i → total' + 1 ≡ total
+    → IsBooked s total' (state_of scenario tick before (records ++ recorded (turn_of tick o) sends ∷ []) items next marked) rest before room (records ++ recorded (turn_of tick o) sends ∷ []) coming
+booked_recorded s total total' scenario tick before room records items next marked coming running rest i o sends h lt at left count =
+    let r = recorded (turn_of tick o) sends in
+    let f = state_of scenario tick before records items next marked in
+    let long = length-append records (r ∷ []) in
+    let fewer = one_fewer running i o lt at in
+    let within = h.within in
+    let few = h.few in
+    let reserved = h.reserved in
+    let booked = h.booked in
+    subst (λ (left : List Running). IsBooked s total' (state_of scenario tick before (records ++ r ∷ []) items next marked) left before room (records ++ r ∷ []) coming) (sym left)
+    (subst (λ (g : State). IsBooked s total' g (remove running i) before room (records ++ r ∷ []) coming) (sym (state_record scenario tick before records items next marked (turn_of tick o) sends h.within))
+    (record {
+      accounted = accounted_recorded s f running i o sends h.accounted lt at;
+      within = omega (arith, long, within);
+      few = omega (arith, long, fewer, few);
+      reserved = omega (arith, long, fewer, reserved);
+      is_coming = h.is_coming;
+      booked = omega (arith, fewer, booked, count);
+    }))
+
+accounted_given_up : (s : Scenario) (f : State) (running : List Running) (i : ℕ) (o : Running) → IsAccounted s (shared f running) → i < length running → o ≡ get_or running i o
+    → IsAccounted s (shared (with_mark f) (remove running i))
+accounted_given_up s f running i o k lt at = record {
+  scenario = k.scenario;
+  playable = k.playable;
+  in_run = k.in_run;
+  begun = k.begun;
+  here = k.here;
+  next = k.next;
+  given_up = o.item ∷ k.given_up;
+  each_once = IsPermutation-trans _ _ _ k.each_once (closed_one k.given_up running (map item_of f.here) i o lt at);
+  all_kept = λ e. cc;
+}
+
+pub booked_given_up : (s : Scenario) (total total' : ℕ) (f : State) (running rest : List Running) (before room : ℕ) (records : List Record) (coming : Coming) (i : ℕ) (o : Running)
+    → IsBooked s total f running before room records coming → i < length running → o ≡ get_or running i o → rest ≡ remove running i → total' + 1 ≡ total
+    → IsBooked s total' (with_mark f) rest before room records coming
+booked_given_up s total total' f running rest before room records coming i o h lt at left count =
+    let fewer = one_fewer running i o lt at in
+    let few = h.few in
+    let reserved = h.reserved in
+    let booked = h.booked in
+    subst (λ (left : List Running). IsBooked s total' (with_mark f) left before room records coming) (sym left)
+    (record {
+      accounted = accounted_given_up s f running i o h.accounted lt at;
+      within = h.within;
+      few = omega (arith, fewer, few);
+      reserved = omega (arith, fewer, reserved);
+      is_coming = λ e. cc;
+      booked = omega (arith, fewer, booked, count);
+    })
+
+-- ---- the next tick
+
+-- what is due is what was recorded
+all_recorded : (s : Scenario) (f : State) (running : List Running) → IsAccounted s (shared f running) → IsOver (shared f running) → IsPermutation f.items (map item_of f.here)
+all_recorded s f running k over =
+    let whole : take f.next f.items ≡ f.items = (let all = over.all in take_all f.next f.items (omega (arith, all))) in
+    subst (λ (is : List Item). IsPermutation is (map item_of f.here)) whole
+    (subst (λ (rest : List Running). IsPermutation (take f.next f.items) (([] ++ map item_running rest) ++ map item_of f.here)) over.none
+    (subst (λ (given_up : List Item). IsPermutation (take f.next f.items) ((given_up ++ map item_running running) ++ map item_of f.here)) (k.all_kept over.unmarked) k.each_once))
+
+scheduled_by : (f : State) (tick : ℕ) → f.tick ≡ tick → IsBegunAs ScheduledTo f.scenario tick f.finished f.items → AllByRecursion (λ (r : Record). r.tick ≡ f.tick) f.here → IsPermutation f.items (map item_of f.here)
+    → ScheduledTo f.scenario tick (records_of f)
+scheduled_by f zero e (none, nothing) in_tick all =
+    let here : f.here ≡ [] = no_records f.here (sym (length-map f.here item_of) ∙ length_permutation f.items (map item_of f.here) all ∙ ap length nothing) in
+    ap (λ (xs : List Record). xs ++ f.finished) here ∙ none
+scheduled_by f (suc tick) e (before, items) in_tick all = (
+  f.here,
+  (
+    f.finished,
+    (
+      record {
+        whole = refl;
+        here = subst (λ (t : ℕ). AllByRecursion (λ (r : Record). r.tick ≡ t) f.here) e in_tick;
+        items = subst (λ (is : List Item). IsPermutation is (map item_of (reverse f.here))) items (IsPermutation-trans _ _ _ all (IsPermutation-map item_of f.here (reverse f.here) (IsPermutation-reverse f.here)));
+      },
+      before,
+    ),
+  ),
+)
+
+-- all that was due was recorded, so the records are scheduled
+pub scheduled_now : (s : Scenario) (f : State) (running : List Running) → IsAccounted s (shared f running) → IsOver (shared f running) → ScheduledTo f.scenario f.tick (records_of f)
+scheduled_now s f running k over = scheduled_by f f.tick refl k.begun k.here (all_recorded s f running k over)
+
+accounted_next : (s : Scenario) (f : State) (running : List Running) → IsAccounted s (shared f running) → IsOver (shared f running) → f.tick < f.scenario.ticks → IsAccounted s (shared (after_tick f) [])
+accounted_next s f running k over lt = record {
+  scenario = k.scenario;
+  playable = k.playable;
+  in_run = omega (arith, lt);
+  begun = begun_next ScheduledTo f.scenario f.tick (f.tick + 1) (records_of f) (omega arith) (scheduled_now s f running k over);
+  here = tt;
+  next = omega arith;
+  given_up = [];
+  each_once = IsPermutation-refl [];
+  all_kept = λ _. refl;
+}
+
+pub booked_next : (s : Scenario) (total : ℕ) (old new : Ticks) (running : List Running) → IsBooked s total (state_in old) running old.before (vec_capacity old.records) old.records.items old.coming
+    → IsOver (shared (state_in old) running) → old.tick < old.scenario.ticks → HasBegun old new
+    → IsBooked s total (state_in new) running new.before (vec_capacity new.records) new.records.items new.coming
+booked_next s total old new running h over lt b =
+    let f = state_in old in
+    let few = h.few in
+    let reserved = h.reserved in
+    let booked = h.booked in
+    subst (λ (g : State). IsBooked s total g running new.before (vec_capacity new.records) new.records.items new.coming) (sym b.state)
+    (subst (λ v. IsBooked s total (after_tick f) running new.before (vec_capacity v) v.items new.coming) (sym b.records)
+    (subst (λ (n : ℕ). IsBooked s total (after_tick f) running n (vec_capacity old.records) old.records.items new.coming) (sym b.before)
+    (record {
+      accounted = subst (λ (rest : List Running). IsAccounted s (shared (after_tick f) rest)) (sym over.none) (accounted_next s f running h.accounted over lt);
+      within = omega arith;
+      few = few;
+      reserved = reserved;
+      is_coming = λ _. b.is_coming;
+      booked = booked;
+    })))

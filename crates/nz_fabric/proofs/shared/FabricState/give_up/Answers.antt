@@ -1,0 +1,13 @@
+use Rattle.std.proofs.Common.{arith}
+use Rattle.nz_fabric.proofs.Sharing.{booked_given_up}
+use Rattle.nz_fabric.specs.States.{state_in}
+use Rattle.nz_fabric.proofs.shared.FabricState.give_up.Goals as goal
+
+pub invariant_of-self : goal.invariant_of-self
+invariant_of-self g c =
+    let f = c.self.inside in
+    let out = c.close.ensures in (
+      c.self.invariant.0,
+      booked_given_up _ f.book.total c.sub.new.self.total (state_in f.ticks) f.running.items c.close.new.running.items f.ticks.before _ f.ticks.records.items f.ticks.coming _ c.close.result
+          c.self.invariant.1 out.place (out.turn c.close.result) out.closed (omega (arith, c.sub.ensures.total, c.audit.ensures.total)),
+    )

@@ -1,0 +1,18 @@
+use Rattle.std.proofs.Common.{◌≡◌, subst, sym, ℕ, List}
+use Rattle.nz_base.specs.declared.scenario.Scenario.{Scenario}
+use Rattle.nz_machine.specs.declared.event.Record.{Record}
+use Rattle.nz_machine.specs.Schedule.{Scheduled, ScheduledTo}
+use Rattle.nz_fabric.specs.States.{records_of, state_in}
+use Rattle.nz_fabric.specs.Shared.{IsOver, Shared}
+use Rattle.nz_fabric.proofs.Sharing.{scheduled_now}
+use Rattle.nz_fabric.proofs.shared.FabricState.into_journal.Goals as goal
+
+pub returns-clause-scheduled : goal.returns-clause-scheduled
+returns-clause-scheduled g c =
+    let f = state_in c.self.inside.ticks in
+    let k = c.self.invariant.1.accounted in
+    let J = records_of f in
+    let order : ScheduledTo f.scenario f.tick J = scheduled_now _ f c.self.inside.running.items k (subst IsOver (sym c.self.view_is) c.requires.over) in
+    let last : f.tick ≡ f.scenario.ticks = subst (λ (f : Shared). f.run.tick ≡ f.run.scenario.ticks) (sym c.self.view_is) c.requires.last in
+    let whole : Scheduled f.scenario J = subst (λ (n : ℕ). ScheduledTo f.scenario n J) last order in
+    subst (λ (J : List Record). Scheduled g.N.Name.scenario J) (sym c.into_journal.ensures.records) (subst (λ (s : Scenario). Scheduled s J) k.scenario whole)

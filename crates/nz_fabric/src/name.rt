@@ -1,0 +1,16 @@
+use std::marker::Brand;
+use std::sync::ledger::Ledger;
+
+/// Which run it is. The call that begins a run picks it.
+pub trait Name: Ledger {
+    ghost use Rattle.nz_base.specs.declared.scenario.Scenario.{Scenario};
+
+    /// What is run.
+    ghost scenario: { Scenario };
+}
+
+impl Name for Brand {
+    ghost use Rattle.nz_fabric.specs.Shared.{no_scenario};
+
+    ghost scenario = { no_scenario };
+}

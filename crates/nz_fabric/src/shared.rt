@@ -1,0 +1,209 @@
+ghost use Rattle.std.specs.Prelude.{◌≡◌, ◌⊎◌, ◌+◌, ◌<◌, ◌==◌, length, get_or, true, false, IfOk, IfSome, MatchBool, MatchOption, MatchResult};
+ghost use Rattle.std.specs.List.{position};
+ghost use Rattle.nz_machine.specs.Journals.{run_in};
+ghost use Rattle.nz_machine.specs.Schedule.{IsPlayable, Scheduled};
+ghost use Rattle.nz_fabric.specs.declared.running.Running.{Running as Entry};
+ghost use Rattle.nz_fabric.specs.States.{records_of, with_mark};
+ghost use Rattle.nz_fabric.specs.Shared.{IsAccounted, IsNextOf, IsOver, after_shared, closed, place_of as place_in, shared, start_shared, with_given_up, with_opened, with_record};
+
+use crate::name::Name;
+use crate::running::Running;
+use crate::share::Share;
+use crate::ticks::Ticks;
+use crate::turn::Turn;
+use nz_base::{NoMemory, Scenario, TryCopy};
+use nz_machine::{Item, Journal, Record, Sends};
+use std::alloc::Global;
+use std::marker::Model;
+use std::sync::ledger::{Blank, Book};
+
+/// The network of a run on several threads: what is due, the turns that are open, and the journal, in which the
+/// records of a tick stand in any order.
+#[derive(Drop)]
+pub struct FabricState<N: Name> {
+    ticks: Ticks,
+    running: Vec<Running>,
+    book: Book<N>,
+}
+
+impl<N: Name> Model for FabricState<N> {
+    ghost use Rattle.std.specs.Prelude.{◌≡◌, vec_capacity};
+    ghost use Rattle.nz_fabric.specs.States.{state_in};
+    ghost use Rattle.nz_fabric.specs.Shared.{Shared, IsBooked, shared};
+
+    ghost Value = { Shared };
+
+    ghost view = { λ f. shared (state_in f.ticks) f.running.items };
+
+    ghost invariant = { λ f. (N.parts ≡ 16) × IsBooked N.scenario f.book.total (state_in f.ticks) f.running.items f.ticks.before (vec_capacity f.ticks.records) f.ticks.records.items f.ticks.coming };
+}
+
+impl<N: Name> FabricState<N> {
+    /// A run that has not begun, and the whole share.
+    pub fn new(
+        alloc: Global,
+        blank: Blank,
+        scenario: Scenario,
+    ) -> Result<(FabricState<N>, Share<N>), NoMemory>
+        requires name { (blank.name ≡ N.name) × (blank.parts ≡ N.parts) × (blank.parts ≡ 16) }
+        requires scenario { scenario ≡ N.scenario }
+        requires playable { IsPlayable scenario }
+        ensures { IfOk result (λ r. (r.0 ≡ start_shared scenario) × (r.1.parts ≡ 16) × (r.1.amount ≡ 0)) }
+    {
+        let ticks = Ticks::new(alloc, scenario)?;
+        let (book, held) = blank.open::<N>();
+        let state = FabricState {
+            ticks,
+            running: Vec::new(alloc),
+            book,
+        };
+        Ok((state, Share { held }))
+    }
+
+    /// What the type keeps.
+    pub fn kept(&self)
+        ensures { IsAccounted N.scenario self.now }
+    {
+        let _ = &self.ticks;
+    }
+
+    /// The next due item of the tick. Its place in the journal is reserved here.
+    pub fn take(&mut self, share: &mut Share<N>) -> Result<Option<Turn>, NoMemory>
+        ensures { MatchResult result
+            (λ turn.
+            MatchOption turn
+            ((self.new ≡ self.old) × (share.new ≡ share.old) × ((self.old.run.marked ≡ true) ⊎ (self.old.run.next ≡ length self.old.run.items)))
+            (λ turn. (self.new ≡ with_opened turn self.old) × (share.new ≡ record share.old { amount = share.old.amount + 1 }) × IsNextOf self.old turn))
+            (λ _. (self.new ≡ self.old) × (share.new ≡ share.old)) }
+    {
+        let ticks = &mut self.ticks;
+        if ticks.marked || ticks.next == ticks.items.len() {
+            return Ok(None);
+        }
+        let taken = ticks.records.len() + self.running.len();
+        if taken >= u32::MAX as usize {
+            return Err(NoMemory);
+        }
+        let item = ticks.next_item()?;
+        let actor = item.actor;
+        let event = item.event.copy(ticks.alloc)?;
+        let number = taken as u64 + 1;
+        ticks.records.reserve(self.running.len() + 1)?;
+        self.running.push(Running { number, item })?;
+        ticks.next += 1;
+        self.book.add(&mut share.held, 1);
+        Ok(Some(Turn {
+            number,
+            tick: ticks.tick,
+            actor,
+            event,
+        }))
+    }
+
+    /// The record of the turn stands last in the journal.
+    pub fn record(&mut self, turn: Turn, sends: Sends, share: &mut Share<N>)
+        requires { 0 < share.old.amount }
+        ensures recorded { self.new ≡ with_record turn.number sends self.old }
+        ensures share { (share.new.amount + 1 ≡ share.old.amount) × (share.new.parts ≡ share.old.parts) }
+    {
+        let number = turn.into_number();
+        self.book.audit(&mut share.held);
+        let Running { number: _, item } = close(&mut self.running, number);
+        let Item { actor, event } = item;
+        self.ticks.records.push_reserved(Record {
+            tick: self.ticks.tick,
+            actor,
+            event,
+            sends,
+        });
+        self.book.sub(&mut share.held, 1);
+    }
+
+    /// Nothing is recorded, and no further turn is given.
+    pub fn give_up(&mut self, turn: Turn, share: &mut Share<N>)
+        requires { 0 < share.old.amount }
+        ensures given_up { self.new ≡ with_given_up turn.number self.old }
+        ensures share { (share.new.amount + 1 ≡ share.old.amount) × (share.new.parts ≡ share.old.parts) }
+    {
+        let number = turn.into_number();
+        self.book.audit(&mut share.held);
+        drop(close(&mut self.running, number));
+        self.ticks.marked = true;
+        self.book.sub(&mut share.held, 1);
+    }
+
+    /// Whether a turn was given up, or a tick could not begin.
+    pub fn is_marked(&self) -> bool
+        ensures { result ≡ self.now.run.marked }
+    {
+        self.ticks.marked
+    }
+
+    /// Nothing changes. The amount of the whole share is the number of open turns.
+    pub fn audit(&mut self, share: &mut Share<N>)
+        requires { share.old.parts ≡ 16 }
+        ensures same { (self.new ≡ self.old) × (share.new ≡ share.old) }
+        ensures running { share.new.amount ≡ length self.new.running }
+    {
+        self.book.audit(&mut share.held);
+    }
+
+    /// Begins the next tick. False exactly where the last one was done. After `NoMemory` no further turn is given.
+    pub fn next_tick(&mut self) -> Result<bool, NoMemory>
+        requires { IsOver self.old }
+        ensures { MatchResult result
+            (λ more.
+            MatchBool more
+            ((self.new ≡ after_shared self.old) × (self.old.run.tick < self.old.run.scenario.ticks))
+            ((self.new ≡ self.old) × (self.old.run.tick ≡ self.old.run.scenario.ticks)))
+            (λ _. self.new ≡ shared (with_mark self.old.run) self.old.running) }
+    {
+        if self.ticks.tick == self.ticks.scenario.ticks {
+            return Ok(false);
+        }
+        self.ticks.begin()?;
+        Ok(true)
+    }
+
+    /// The scenario and the records, once the last tick was done.
+    pub fn into_journal(self) -> Journal
+        requires over { IsOver self }
+        requires last { self.run.tick ≡ self.run.scenario.ticks }
+        ensures scenario { result.scenario ≡ N.scenario }
+        ensures records { run_in result ≡ records_of self.run }
+        ensures scheduled { Scheduled N.scenario (run_in result) }
+    {
+        let FabricState {
+            ticks,
+            running: _,
+            book: _,
+        } = self;
+        ticks.into_journal()
+    }
+}
+
+/// Takes out the open turn for which a number stands.
+fn close(running: &mut Vec<Running>, number: u64) -> Running
+    requires { 0 < length running.old.items }
+    ensures place { place_in number running.old.items < length running.old.items }
+    ensures closed { running.new.items ≡ closed number running.old.items }
+    ensures turn { (d : Entry) → result ≡ get_or running.old.items (place_in number running.old.items) d }
+{
+    let place = place_of(running.as_slice(), number);
+    running.remove(place)
+}
+
+fn place_of(running: &[Running], number: u64) -> usize
+    requires { 0 < length running.now }
+    ensures place { result ≡ place_in number running.now }
+    ensures within { result < length running.now }
+{
+    find(running, number).unwrap_or(0)
+}
+
+fn find(running: &[Running], number: u64) -> Option<usize>
+    ensures place { result ≡ position (λ o. o.number == number) running.now }
+    ensures within { IfSome result (λ place. place < length running.now) }
+{
+    running.iter().position(|o| o.number == number)
+}
