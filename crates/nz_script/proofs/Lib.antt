@@ -13,3 +13,4 @@ pub mod Blocks
 pub mod Mishaps
 pub mod Back
 pub mod Sound
+pub mod Generated

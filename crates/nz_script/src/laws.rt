@@ -1,6 +1,7 @@
 //! What holds of the definitions. Each law is the contract of a function that does nothing.
 ghost use Rattle.std.specs.Prelude.{◌≡◌, ◌≤◌, ℕ, List, length, Ok};
 ghost use Rattle.nz_base.specs.declared.scenario.Scenario.{Scenario as AScenario};
+ghost use Rattle.nz_script.specs.Draws.{generated};
 ghost use Rattle.nz_script.specs.Reading.{most_bytes, scenario};
 ghost use Rattle.nz_script.specs.Texts.{text_of};
 ghost use Rattle.nz_script.specs.Valid.{IsValid, IsRunnable};
@@ -14,4 +15,9 @@ pub fn texts_are_read_back()
 pub fn what_is_read_can_be_run()
     ensures run { (bytes : List ℕ) (s : AScenario) → scenario bytes ≡ Ok s → IsRunnable s }
     ensures short { (bytes : List ℕ) (s : AScenario) → scenario bytes ≡ Ok s → length bytes ≤ most_bytes }
+{}
+
+/// What a seed draws can be run.
+pub fn what_is_drawn_can_be_run()
+    ensures { (seed count : ℕ) → count ≤ 2000 → IsRunnable (generated seed count) }
 {}

@@ -20,7 +20,7 @@ mod word;
 
 pub use faults::{Kind, ScriptFault};
 pub use generating::generate;
-pub use laws::{texts_are_read_back, what_is_read_can_be_run};
+pub use laws::{texts_are_read_back, what_is_drawn_can_be_run, what_is_read_can_be_run};
 pub use message::name_of;
 pub use printing::{print, put, put_actor, put_command, put_number};
 pub use reading::read;

@@ -2,6 +2,7 @@
 //! are worked out apart from the program.
 
 /// A scenario: the word that it is called with, the input, and the output.
+#[derive(Clone, Copy)]
 pub struct Row {
     pub word: &'static str,
     pub input: &'static str,

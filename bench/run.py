@@ -1,0 +1,95 @@
+#!/usr/bin/env python3
+"""Times the proved program on scenarios of growing size.
+
+    (cd crates/nezha && rt run < ../../scenarios/put_then_get)     makes crates/nezha/out/nezha
+    bench/run.py [PROGRAM]
+
+prints a line for each scenario: how many requests and ticks it has, how long the run took, how much memory
+it took at most, and how many lines of output it made in a second. It judges nothing: compare two runs on one
+quiet machine.
+"""
+import os
+import sys
+import tempfile
+import time
+
+HERE = os.path.dirname(os.path.abspath(__file__))
+MASK = (1 << 64) - 1
+
+
+def scenario(f, proxies, clients, ticks, scripts, faults=()):
+    """The text of a scenario: a list of lines for each client."""
+    lines = ["nezha 1", f"f {f}", f"proxies {proxies}", f"clients {clients}", f"ticks {ticks}"]
+    for client in range(clients):
+        lines += [f"client c{client}", *scripts[client], "end"]
+    return "\n".join([*lines, *faults, "done"]) + "\n"
+
+
+def drawn(seed, count, ticks=1000):
+    """The scenario that a seed draws, as the program's own generator does (docs/FORMATS.md)."""
+    x = seed
+
+    def draw():
+        nonlocal x
+        x = (x * 6364136223846793005 + 1442695040888963407) & MASK
+        return x >> 33
+
+    scripts = [[] for _ in range(16)]
+    for i in range(count):
+        a, b = draw() % 4, draw() % 16
+        command = [f"put k{b} v{i}", f"get k{b}", f"del k{b}", f"cas k{b} - v{i}"][a]
+        scripts[i % 16].append(command)
+    faults = []
+    for j in range(count // 50):
+        replica, nth = draw() % 5, 1 + draw() % count
+        faults.append(f"drop p{j % 2} r{replica} timed {nth}")
+    return scenario(2, 2, 16, ticks, scripts, faults)
+
+
+def even(f, proxies, clients, requests, ticks):
+    """Puts and gets in turn, as many for each client."""
+    scripts = [[] for _ in range(clients)]
+    for i in range(requests):
+        command = f"put k{i % 97} v{i}" if i % 2 == 0 else f"get k{i % 97}"
+        scripts[i % clients].append(command)
+    return scenario(f, proxies, clients, ticks, scripts)
+
+
+def cases():
+    with open(f"{HERE}/../scenarios/put_then_get") as it:
+        yield "put and get", 2, 40, it.read()
+    for requests in (250, 500, 1000, 2000):
+        yield "drawn, more requests", requests, 1000, drawn(7, requests)
+    for ticks in (1000, 2000, 4000, 8000):
+        yield "drawn, more ticks", 250, ticks, drawn(7, 250, ticks)
+    yield "nine replicas, 64 clients", 500, 2000, even(4, 8, 64, 500, 2000)
+    yield "nine replicas, 64 clients", 1000, 2000, even(4, 8, 64, 1000, 2000)
+
+
+def measure(program, text):
+    """Seconds, the most memory in MiB, lines of output, and the exit status."""
+    with tempfile.TemporaryFile() as given, tempfile.TemporaryFile() as made:
+        given.write(text.encode())
+        given.seek(0)
+        start = time.monotonic()
+        child = os.fork()
+        if child == 0:
+            os.dup2(given.fileno(), 0)
+            os.dup2(made.fileno(), 1)
+            os.execv(program, [program, "run"])
+        _, status, used = os.wait4(child, 0)
+        seconds = time.monotonic() - start
+        made.seek(0)
+        return seconds, used.ru_maxrss / 1024, made.read().count(b"\n"), os.waitstatus_to_exitcode(status)
+
+
+def main():
+    program = os.path.abspath(sys.argv[1] if len(sys.argv) > 1 else f"{HERE}/../crates/nezha/out/nezha")
+    print(f"{'scenario':28} {'requests':>8} {'ticks':>6} {'seconds':>9} {'MiB':>8} {'lines/s':>9} status")
+    for name, requests, ticks, text in cases():
+        seconds, memory, lines, status = measure(program, text)
+        print(f"{name:28} {requests:8} {ticks:6} {seconds:9.3f} {memory:8.1f} {lines / seconds:9.0f} {status}")
+
+
+if __name__ == "__main__":
+    main()

@@ -1,0 +1,95 @@
+-- The next turn of a fabric may happen, and its record goes on with the run.
+use Rattle.std.proofs.Common.{◌≡◌, ℕ, zero, suc, ◌+◌, List, [], ◌∷◌, ◌++◌, length, map, Some, refl, sym, ap, ◌∙◌, subst, arith}
+use Rattle.std.specs.Prelude.{take, reverse, slice_get}
+use Rattle.std.specs.List.{AllByRecursion}
+use Rattle.std.proofs.lemmas.Option.{none-some}
+use Rattle.nz_base.specs.declared.actor.Actor.{Actor}
+use Rattle.nz_base.specs.declared.scenario.Scenario.{Scenario}
+use Rattle.nz_machine.specs.declared.event.Event.{Event}
+use Rattle.nz_machine.specs.declared.event.Event.TheVariants.{Deliver, Cut, Tick, Alarm, Crash, Restart}
+use Rattle.nz_machine.specs.declared.event.Parcel.{Parcel}
+use Rattle.nz_machine.specs.declared.event.Record.{Record}
+use Rattle.nz_machine.specs.declared.journal.Item.{Item}
+use Rattle.nz_machine.specs.State.{Group}
+use Rattle.nz_machine.specs.World.{sent_in, Has, IsMember, MayHappen, Restarts, World}
+use Rattle.nz_machine.specs.Schedule.{group_of, item_of, due, IsPlayable}
+use Rattle.nz_machine.proofs.Each.{all_append, all_imply}
+use Rattle.nz_machine.proofs.Runs.{has_right}
+use Rattle.nz_machine.proofs.Members.{receiver_is_member}
+use Rattle.nz_fabric.specs.declared.turn.Turn.{Turn}
+use Rattle.nz_fabric.specs.States.{State, records_of, IsBegun, IsKept, IsNext, IsOpen, IsQuiet, IsDone, item_in, with_taken, with_recorded, after_tick}
+use Rattle.nz_run.specs.declared.cast.Cast.{Cast}
+use Rattle.nz_run.specs.Casts.{record_of, sends_of, IsCast, IsUnderWay}
+use Rattle.nz_run.proofs.Fine.{IsFine, ItemIsFine, due_is_fine}
+use Rattle.nz_run.proofs.Fresh.{got_item, here_not, finished_not}
+
+sent_before : (now older : List Record) (p : Parcel) → Has (sent_in older) p → Has (sent_in (now ++ older)) p
+sent_before [] older p h = h
+sent_before (r ∷ now) older p h = has_right r.sends (sent_in (now ++ older)) p (sent_before now older p h)
+
+abbrev IsNot : ℕ → Record → Type 0
+IsNot nonce r = ¬ (r.event ≡ Restart nonce)
+
+-- the item may happen in its tick, and no record has its nonce
+record IsTurn (s : Scenario) (tick : ℕ) (finished here : List Record) (i : Item) : Type 0 where
+  fine : ItemIsFine s tick finished i
+  fresh : (nonce : ℕ) → i.event ≡ Restart nonce → AllByRecursion (IsNot nonce) (here ++ finished)
+
+is_turn : (s : Scenario) (tick : ℕ) (finished here : List Record) (items : List Item) (i : Item) → IsPlayable s → IsBegun s tick finished items → map item_of (reverse here) ≡ take (length here) items → slice_get items (length here) ≡ Some i → IsTurn s tick finished here i
+is_turn s zero finished here items i play (none, nothing) so_far at = absurd (none-some i (sym (ap (λ (is : List Item). slice_get is (length here)) nothing) ∙ at))
+is_turn s (suc tick) finished here items i play (order, are_due) so_far at =
+    let now : slice_get (due s (suc tick) finished) (length here) ≡ Some i = sym (ap (λ (is : List Item). slice_get is (length here)) are_due) ∙ at in
+    let fine = got_item (ItemIsFine s (suc tick) finished) (due s (suc tick) finished) (length here) i (due_is_fine s (suc tick) finished play) now in
+    record {
+      fine = fine;
+      fresh = λ nonce is.
+          all_append (IsNot nonce) here finished (here_not s (suc tick) finished here i nonce (so_far ∙ ap (take (length here)) are_due) now is)
+          (finished_not s tick nonce finished play order (subst (IsFine s (suc tick) finished i.actor) is fine).1);
+    }
+
+-- who acts takes part, and the event may happen
+pub record MayTurn (s : Scenario) (J : List Record) (a : Actor) (e : Event) : Type 0 where
+  pub member : IsMember (group_of s) a
+  pub event : MayHappen J a e
+
+may_turn : (s : Scenario) (tick : ℕ) (finished here : List Record) (a : Actor) (e : Event) → World (group_of s) (here ++ finished) → IsFine s tick finished a e
+    → ((nonce : ℕ) → e ≡ Restart nonce → AllByRecursion (IsNot nonce) (here ++ finished)) → MayTurn s (here ++ finished) a e
+may_turn s tick finished here a (Deliver p) w fine fresh =
+    let sent = sent_before here finished p fine.1 in
+    record { member = subst (IsMember (group_of s)) fine.0 (receiver_is_member (group_of s) (here ++ finished) p w sent); event = (fine.0, sent) }
+may_turn s tick finished here a (Cut p kept) w fine fresh =
+    let sent = sent_before here finished p fine.1 in
+    record { member = subst (IsMember (group_of s)) fine.0 (receiver_is_member (group_of s) (here ++ finished) p w sent); event = (fine.0, sent) }
+may_turn s tick finished here a (Tick clock) w fine fresh = record { member = fine.0; event = fine.1 }
+may_turn s tick finished here a Alarm w fine fresh = record { member = fine; event = tt }
+may_turn s tick finished here a Crash w fine fresh = record { member = fine; event = tt }
+may_turn s tick finished here a (Restart nonce) w fine fresh = record {
+  member = fine.0;
+  event = all_imply (IsNot nonce) (λ (r : Record). ¬ Restarts a nonce r) (λ r h both. h both.1) (here ++ finished) (fresh nonce refl);
+}
+
+pub next_may_turn : (f : State) (turn : Turn) → IsKept f → World (group_of f.scenario) (records_of f) → IsNext f turn → MayTurn f.scenario (records_of f) turn.actor turn.event
+next_may_turn f turn k w n =
+    let t = is_turn f.scenario f.tick f.finished f.here f.items (item_in turn) k.playable k.begun k.in_order n.item in
+    may_turn f.scenario f.tick f.finished f.here turn.actor turn.event w t.fine t.fresh
+
+pub open_now : (f : State) (turn : Turn) → IsQuiet f → IsNext f turn → IsOpen (with_taken f) turn
+open_now f turn q n = record { unmarked = q.unmarked; taken = ap (λ k. k + 1) q.closed; is_next = record { number = n.number; tick = n.tick; item = n.item } }
+
+-- the record of the turn goes on with the run
+pub under_way_now : (f : State) (cast cast' : Cast) (turn : Turn) (sends : List Parcel) → IsKept f → IsUnderWay f cast → IsNext f turn
+    → ((g : Group) (J : List Record) (tick : ℕ) → IsCast g J cast → IsMember g turn.actor → (sends ≡ sends_of g J turn.actor turn.event) × IsCast g (record_of tick turn.actor turn.event sends ∷ J) cast')
+    → IsUnderWay (with_recorded turn sends (with_taken f)) cast'
+under_way_now f cast cast' turn sends k u n step =
+    let may = next_may_turn f turn k u.world n in
+    let now = step (group_of f.scenario) (records_of f) turn.tick u.is_cast may.member in
+    record { world = (record { member = may.member; event = may.event; sends = now.0 }, u.world); is_cast = now.1 }
+
+pub under_way_next : (f : State) (cast : Cast) → IsUnderWay f cast → IsUnderWay (after_tick f) cast
+under_way_next f cast u = record { world = u.world; is_cast = u.is_cast }
+
+pub quiet_next : (f : State) → IsDone f → IsQuiet (after_tick f)
+quiet_next f d = record { unmarked = d.quiet.unmarked; closed = refl }
+
+pub quiet_now : (f : State) (turn : Turn) (sends : List Parcel) → IsQuiet f → IsQuiet (with_recorded turn sends (with_taken f))
+quiet_now f turn sends q = let closed = q.closed in record { unmarked = q.unmarked; closed = omega (arith, closed) }

@@ -1,0 +1,15 @@
+use Rattle.std.proofs.Common.{◌≡◌, ◌-◌, length}
+use Rattle.nz_fabric.specs.States.{IsQuiet}
+use Rattle.nz_run.specs.Casts.{IsUnderWay}
+use Rattle.nz_run.proofs.alone.play_tick.Given as goal
+
+abbrev pub decreases-turns : goal.decreases-turns
+decreases-turns l = length l.alone.items - l.alone.next
+
+abbrev pub invariant-turns : goal.invariant-turns
+invariant-turns l = record {
+  quiet : IsQuiet l.alone;
+  under_way : IsUnderWay l.alone l.cast;
+  scenario : l.alone.scenario ≡ l.initial.alone.scenario;
+  tick : l.alone.tick ≡ l.initial.alone.tick;
+}

@@ -1,0 +1,7 @@
+use Rattle.std.proofs.Common.{◌≡◌, map}
+use Rattle.nz_machine.specs.Replicas.{numbers_below}
+use Rattle.nz_run.specs.Casts.{new_proxy}
+use Rattle.nz_run.proofs.cast.make_proxies.Given as goal
+
+abbrev pub invariant-loop-me : goal.invariant-loop-me
+invariant-loop-me l = l.made.items ≡ map (new_proxy l.scenario.cluster) (numbers_below l.me)

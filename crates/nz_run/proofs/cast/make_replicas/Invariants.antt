@@ -1,0 +1,7 @@
+use Rattle.std.proofs.Common.{◌≡◌, map}
+use Rattle.nz_machine.specs.Replicas.{numbers_below}
+use Rattle.nz_run.specs.Casts.{new_replica}
+use Rattle.nz_run.proofs.cast.make_replicas.Given as goal
+
+abbrev pub invariant-loop-me : goal.invariant-loop-me
+invariant-loop-me l = l.made.items ≡ map (new_replica l.scenario.cluster) (numbers_below l.me)

@@ -1,0 +1,83 @@
+-- The cores of a run, each of which stands where the records lead its actor.
+use Rattle.std.specs.Prelude.{◌≡◌, ℕ, ◌<◌, Bool, true, List, length, get_or}
+use Rattle.nz_base.specs.Cluster.{replica_count}
+use Rattle.nz_base.specs.declared.actor.Actor.{Actor}
+use Rattle.nz_base.specs.declared.actor.Actor.TheVariants as actors
+use Rattle.nz_base.specs.declared.scenario.Scenario.{Scenario}
+use Rattle.nz_machine.specs.declared.event.Event.{Event}
+use Rattle.nz_machine.specs.declared.event.Parcel.{Parcel}
+use Rattle.nz_machine.specs.declared.event.Record.{Record}
+use Rattle.nz_machine.specs.State.{Group}
+use Rattle.nz_machine.specs.Replicas.{first_replica}
+use Rattle.nz_machine.specs.Proxies.{first_proxy}
+use Rattle.nz_machine.specs.Clients.{first_client}
+use Rattle.nz_machine.specs.Step.{Node, node_step, script_of}
+use Rattle.nz_machine.specs.World.{state_after, World}
+use Rattle.nz_machine.specs.Schedule.{group_of}
+use Rattle.nz_fabric.specs.States.{State, records_of}
+use Rattle.nz_replica.specs.Seats.{ReplicaView}
+use Rattle.nz_proxy.specs.Seats.{ProxyView}
+use Rattle.nz_client.specs.Seats.{ClientView, IsOf}
+use Rattle.nz_run.specs.declared.cast.Cast.{Cast}
+
+-- The actor's core: it stands where the records lead the actor, and no step of it ran out of memory.
+pub record IsAt (g : Group) (J : List Record) (a : Actor) (meaning : Node) (live : Bool) (fits : Type 0) : Type 0 where
+  pub stands : meaning ≡ record { actor = a; state = state_after g a J }
+  pub lives : live ≡ true
+  pub is_of : fits
+
+-- Each core of a list is that of the actor of its place.
+abbrev pub AreAt : {C : Type 0} → (C → Node) → (C → Bool) → (C → Group → Type 0) → Group → (ℕ → Actor) → List Record → List C → Type 0
+AreAt {C} meaning live fits g named J cores =
+    (k : ℕ) (d : C) → k < length cores → IsAt g J (named k) (meaning (get_or cores k d)) (live (get_or cores k d)) (fits (get_or cores k d) g)
+
+abbrev pub record_of : ℕ → Actor → Event → List Parcel → Record
+record_of tick a e sends = record { tick = tick; actor = a; event = e; sends = sends }
+
+-- What an actor sends at an event behind the records.
+abbrev pub sends_of : Group → List Record → Actor → Event → List Parcel
+sends_of g J a e = (node_step g a (state_after g a J) e).1
+
+-- ---- the cores of each sort
+
+abbrev pub replica_node : ReplicaView → Node
+replica_node r = record { actor = actors.Replica r.seat.me; state = r.seat.state }
+
+abbrev pub ReplicaFits : ReplicaView → Group → Type 0
+ReplicaFits r g = g.f ≡ r.f
+
+abbrev pub proxy_node : ProxyView → Node
+proxy_node p = record { actor = actors.Proxy p.seat.me; state = p.seat.state }
+
+abbrev pub ProxyFits : ProxyView → Group → Type 0
+ProxyFits p g = g.f ≡ p.seat.f
+
+abbrev pub client_node : ClientView → Node
+client_node c = record { actor = actors.Client c.seat.me; state = c.seat.state }
+
+abbrev pub ClientFits : ClientView → Group → Type 0
+ClientFits c g = IsOf g c.seat
+
+-- What the cores begin with.
+abbrev pub new_replica : ℕ → ℕ → ReplicaView
+new_replica f me = record { f = f; seat = record { f = f; me = me; state = first_replica f }; live = true }
+
+abbrev pub new_proxy : ℕ → ℕ → ProxyView
+new_proxy f me = record { seat = record { f = f; me = me; state = first_proxy f }; live = true }
+
+abbrev pub new_client : Scenario → ℕ → ClientView
+new_client s me = record { seat = record { me = me; proxies = s.proxies; script = script_of (group_of s) me; state = first_client }; live = true }
+
+-- Every actor of the group has its core.
+pub record IsCast (g : Group) (J : List Record) (cast : Cast) : Type 0 where
+  pub replicas : AreAt replica_node (λ r. r.live) ReplicaFits g actors.Replica J cast.replicas.items
+  pub proxies : AreAt proxy_node (λ p. p.live) ProxyFits g actors.Proxy J cast.proxies.items
+  pub clients : AreAt client_node (λ c. c.live) ClientFits g actors.Client J cast.clients.items
+  pub replica_count : length cast.replicas.items ≡ replica_count g.f
+  pub proxy_count : length cast.proxies.items ≡ g.proxies
+  pub client_count : length cast.clients.items ≡ length g.scripts
+
+-- The records so far are a run of the world, and the cores stand where they lead.
+pub record IsUnderWay (f : State) (cast : Cast) : Type 0 where
+  pub world : World (group_of f.scenario) (records_of f)
+  pub is_cast : IsCast (group_of f.scenario) (records_of f) cast
