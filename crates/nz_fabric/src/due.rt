@@ -24,7 +24,7 @@ pub enum Sort {
 }
 
 impl Sort {
-    fn actor(self, number: u8) -> Actor
+    pub fn actor(self, number: u8) -> Actor
         ensures { result ≡ named self number }
     {
         match self {

@@ -16,6 +16,7 @@ mod ticks;
 mod turn;
 
 pub use alone::Alone;
+pub use due::Sort;
 pub use fabric::Fabric;
 pub use name::Name;
 pub use share::Share;

@@ -1,0 +1,62 @@
+ghost use Rattle.std.specs.Prelude.{◌≡◌, ◌+◌, ◌<◌};
+
+use crate::state::ActorState;
+use nz_edge::Gate;
+use nz_fabric::{Fabric, Name, Share, Turn};
+use nz_machine::Core;
+use std::sync::{Mutex, Wait};
+
+/// An actor's state under its lock.
+pub struct ActorCell<N: Name, C: Core> {
+    state: Mutex<ActorState<N, C>>,
+}
+
+impl<N: Name, C: Core> ActorCell<N, C> {
+    pub fn new(state: ActorState<N, C>) -> ActorCell<N, C> {
+        ActorCell {
+            state: Mutex::new(state),
+        }
+    }
+
+    pub fn into_state(self) -> ActorState<N, C> {
+        let ActorCell { state } = self;
+        state.into_inner()
+    }
+
+    /// The state, while no other thread has the cell.
+    pub fn state(&mut self) -> &mut ActorState<N, C> {
+        self.state.get_mut()
+    }
+
+    /// Does the turn under the actor's lock, and records it before the lock is let go. A turn that is not the
+    /// actor's is given up, and one whose step runs out of memory. May wait.
+    pub fn turn(
+        &self,
+        rt: &impl Wait,
+        turn: Turn,
+        worker: u8,
+        gate: &impl Gate,
+        fabric: &Fabric<N>,
+        share: &mut Share<N>,
+    )
+        requires { 0 < share.old.amount }
+        ensures { (share.new.amount + 1 ≡ share.old.amount) × (share.new.parts ≡ share.old.parts) }
+    {
+        let mut state = self.state.lock(rt);
+        gate.arrive(worker, turn.number);
+        if !state.is_ready(&turn) {
+            fabric.lock(rt).give_up(turn, share);
+            return;
+        }
+        match state.step_turn(&turn) {
+            Ok(sends) => fabric.lock(rt).record(turn, sends, share),
+            Err(_) => fabric.lock(rt).give_up(turn, share),
+        }
+    }
+}
+
+impl<N: Name, C: Core + Drop> Drop for ActorCell<N, C> {
+    fn drop(self) {
+        let ActorCell { state: _ } = self;
+    }
+}
