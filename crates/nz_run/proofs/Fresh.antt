@@ -1,6 +1,6 @@
 -- Each restart has a nonce of its own, so an actor never has one twice.
 use Rattle.std.proofs.Common.{◌≡◌, ℕ, zero, suc, ◌+◌, ◌<◌, ◌≤◌, List, [], ◌∷◌, ◌++◌, length, map, Option, Some, None, refl, sym, ap, ◌∙◌, subst, arith}
-use Rattle.std.specs.Prelude.{take, reverse, slice_get}
+use Rattle.std.specs.Prelude.{take, reverse, slice_get, IsPermutation}
 use Rattle.std.specs.List.{AllByRecursion}
 use Rattle.std.proofs.lemmas.Grind.{reverse_onto}
 use Rattle.std.proofs.lemmas.Option.{none-some, same_Some}
@@ -12,13 +12,14 @@ use Rattle.nz_machine.specs.declared.event.Event.{Event}
 use Rattle.nz_machine.specs.declared.event.Event.TheVariants.{Deliver, Cut, Tick, Alarm, Crash, Restart}
 use Rattle.nz_machine.specs.declared.event.Record.{Record}
 use Rattle.nz_machine.specs.declared.journal.Item.{Item}
-use Rattle.nz_machine.specs.Schedule.{item, item_of, if_in, calls, actors_of, tick_item, Delivery, delivery_item, Posted, posted, arrivals, due, InOrderTo, IsPlayable}
+use Rattle.nz_machine.specs.Schedule.{item, item_of, if_in, calls, actors_of, tick_item, Delivery, delivery_item, Posted, posted, arrivals, due, ScheduledTo, IsPlayable}
 use Rattle.nz_machine.proofs.Each.{all_append, all_front, all_back, all_imply}
 use Rattle.nz_machine.proofs.Runs.{on_cond}
-use Rattle.nz_run.proofs.Fine.{IsCalled, IsFine, ItemIsFine, restart_tick, calls_called, due_is_fine}
+use Rattle.nz_run.proofs.Scheduling.{all_permuted}
+use Rattle.nz_run.proofs.Fine.{IsCalled, IsFine, ItemIsFine, restart_tick, all_two, calls_called, due_is_fine}
 
 -- a restart has a greater nonce than this
-abbrev IsAbove : ℕ → Event → Type 0
+abbrev pub IsAbove : ℕ → Event → Type 0
 IsAbove n (Deliver p) = Unit {0}
 IsAbove n (Cut p kept) = Unit {0}
 IsAbove n (Tick clock) = Unit {0}
@@ -27,7 +28,7 @@ IsAbove n Crash = Unit {0}
 IsAbove n (Restart nonce) = n < nonce
 
 -- if both are restarts, the second has the greater nonce
-abbrev IsBefore : Event → Event → Type 0
+abbrev pub IsBefore : Event → Event → Type 0
 IsBefore (Deliver p) e = Unit {0}
 IsBefore (Cut p kept) e = Unit {0}
 IsBefore (Tick clock) e = Unit {0}
@@ -36,7 +37,7 @@ IsBefore Crash e = Unit {0}
 IsBefore (Restart nonce) e = IsAbove nonce e
 
 -- nonces rise
-abbrev AreApart : List Item → Type 0
+abbrev pub AreApart : List Item → Type 0
 AreApart [] = Unit {0}
 AreApart (i ∷ is) = AllByRecursion (λ (j : Item). IsBefore i.event j.event) is × AreApart is
 
@@ -140,13 +141,10 @@ IsNot nonce e = ¬ (e ≡ Restart nonce)
 before_not : (e : Event) (nonce : ℕ) → IsBefore e (Restart nonce) → IsNot nonce e
 before_not e nonce h same = let lt : nonce < nonce = subst (λ (f : Event). IsBefore f (Restart nonce)) same h in omega (arith, lt)
 
-got : {X : Type 0} (P : X → Type 0) (xs : List X) (i : ℕ) (x : X) → AllByRecursion P xs → slice_get xs i ≡ Some x → P x
+pub got : {X : Type 0} (P : X → Type 0) (xs : List X) (i : ℕ) (x : X) → AllByRecursion P xs → slice_get xs i ≡ Some x → P x
 got P [] i x all e = absurd (none-some x e)
 got P (y ∷ xs) zero x all e = subst P (same_Some y x e) all.0
 got P (y ∷ xs) (suc i) x all e = got P xs i x all.1 e
-
-pub got_item : (P : Item → Type 0) (xs : List Item) (i : ℕ) (x : Item) → AllByRecursion P xs → slice_get xs i ≡ Some x → P x
-got_item P xs i x all e = got P xs i x all e
 
 earlier_not : (is : List Item) (i : ℕ) (x : Item) (nonce : ℕ) → AreApart is → slice_get is i ≡ Some x → x.event ≡ Restart nonce → AllByRecursion (λ (j : Item). IsNot nonce j.event) (take i is)
 earlier_not [] i x nonce h e is = absurd (none-some x e)
@@ -187,18 +185,21 @@ fine_restart s tick J r h e = record {
   fine = λ nonce is. (subst (IsFine s tick J r.actor) is h).1 ∙ ap Some (sym e);
 }
 
-all_both : {X : Type 0} (P Q R : X → Type 0) → ((x : X) → P x → Q x → R x) → (xs : List X) → AllByRecursion P xs → AllByRecursion Q xs → AllByRecursion R xs
-all_both P Q R f [] p q = tt
-all_both P Q R f (x ∷ xs) p q = (f x p.0 q.0, all_both P Q R f xs p.1 q.1)
+-- what is due is fine, so the records are
+pub here_is_fine : (s : Scenario) (tick : ℕ) (now older : List Record) → IsPlayable s → IsPermutation (due s (suc tick) older) (map item_of (reverse now))
+    → AllByRecursion (λ (r : Record). ItemIsFine s (suc tick) older (item_of r)) now
+here_is_fine s tick now older play same =
+    let P = ItemIsFine s (suc tick) older in
+    all_here P now (map item_of (reverse now)) refl (all_permuted P (due s (suc tick) older) (map item_of (reverse now)) same (due_is_fine s (suc tick) older play))
 
-pub all_past : (s : Scenario) (tick : ℕ) (J : List Record) → IsPlayable s → InOrderTo s tick J → AllByRecursion (IsPast s tick) J
+pub all_past : (s : Scenario) (tick : ℕ) (J : List Record) → IsPlayable s → ScheduledTo s tick J → AllByRecursion (IsPast s tick) J
 all_past s zero J play none = subst (AllByRecursion (IsPast s zero)) (sym none) tt
 all_past s (suc tick) J play (now, (older, (t, before))) =
     let P = IsPast s (suc tick) in
-    let fine = all_here (ItemIsFine s (suc tick) older) now (due s (suc tick) older) t.items (due_is_fine s (suc tick) older play) in
+    let fine = here_is_fine s tick now older play t.items in
     subst (AllByRecursion P) (sym t.whole)
     (all_append P now older
-    (all_both (λ (r : Record). ItemIsFine s (suc tick) older (item_of r)) (λ (r : Record). r.tick ≡ suc tick) P (λ r h e. fine_restart s (suc tick) older r h e) now fine t.here)
+    (all_two (λ (r : Record). ItemIsFine s (suc tick) older (item_of r)) (λ (r : Record). r.tick ≡ suc tick) P (λ r h e. fine_restart s (suc tick) older r h e) now fine t.here)
     (all_imply (IsPast s tick) P (λ r h. record { past = let le = h.past in omega (arith, le); fine = h.fine }) older (all_past s tick older play before)))
 
 past_not : (s : Scenario) (tick nonce : ℕ) (r : Record) → restart_tick 0 s.faults nonce ≡ Some (suc tick) → IsPast s tick r → IsNot nonce r.event
@@ -207,5 +208,5 @@ past_not s tick nonce r own h is =
     let le = h.past in
     omega (arith, same, le)
 
-pub finished_not : (s : Scenario) (tick nonce : ℕ) (J : List Record) → IsPlayable s → InOrderTo s tick J → restart_tick 0 s.faults nonce ≡ Some (suc tick) → AllByRecursion (λ (r : Record). IsNot nonce r.event) J
+pub finished_not : (s : Scenario) (tick nonce : ℕ) (J : List Record) → IsPlayable s → ScheduledTo s tick J → restart_tick 0 s.faults nonce ≡ Some (suc tick) → AllByRecursion (λ (r : Record). IsNot nonce r.event) J
 finished_not s tick nonce J play order own = all_imply (IsPast s tick) (λ (r : Record). IsNot nonce r.event) (λ r h. past_not s tick nonce r own h) J (all_past s tick J play order)

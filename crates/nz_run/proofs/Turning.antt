@@ -20,14 +20,15 @@ use Rattle.nz_fabric.specs.declared.turn.Turn.{Turn}
 use Rattle.nz_fabric.specs.States.{State, records_of, IsBegun, IsKept, IsNext, IsOpen, IsQuiet, IsDone, item_in, with_taken, with_recorded, after_tick}
 use Rattle.nz_run.specs.declared.cast.Cast.{Cast}
 use Rattle.nz_run.specs.Casts.{record_of, sends_of, IsCast, IsUnderWay}
+use Rattle.nz_run.proofs.Scheduling.{scheduled_in_order}
 use Rattle.nz_run.proofs.Fine.{IsFine, ItemIsFine, due_is_fine}
-use Rattle.nz_run.proofs.Fresh.{got_item, here_not, finished_not}
+use Rattle.nz_run.proofs.Fresh.{got, here_not, finished_not}
 
 sent_before : (now older : List Record) (p : Parcel) → Has (sent_in older) p → Has (sent_in (now ++ older)) p
 sent_before [] older p h = h
 sent_before (r ∷ now) older p h = has_right r.sends (sent_in (now ++ older)) p (sent_before now older p h)
 
-abbrev IsNot : ℕ → Record → Type 0
+abbrev pub IsNot : ℕ → Record → Type 0
 IsNot nonce r = ¬ (r.event ≡ Restart nonce)
 
 -- the item may happen in its tick, and no record has its nonce
@@ -39,12 +40,12 @@ is_turn : (s : Scenario) (tick : ℕ) (finished here : List Record) (items : Lis
 is_turn s zero finished here items i play (none, nothing) so_far at = absurd (none-some i (sym (ap (λ (is : List Item). slice_get is (length here)) nothing) ∙ at))
 is_turn s (suc tick) finished here items i play (order, are_due) so_far at =
     let now : slice_get (due s (suc tick) finished) (length here) ≡ Some i = sym (ap (λ (is : List Item). slice_get is (length here)) are_due) ∙ at in
-    let fine = got_item (ItemIsFine s (suc tick) finished) (due s (suc tick) finished) (length here) i (due_is_fine s (suc tick) finished play) now in
+    let fine = got (ItemIsFine s (suc tick) finished) (due s (suc tick) finished) (length here) i (due_is_fine s (suc tick) finished play) now in
     record {
       fine = fine;
       fresh = λ nonce is.
           all_append (IsNot nonce) here finished (here_not s (suc tick) finished here i nonce (so_far ∙ ap (take (length here)) are_due) now is)
-          (finished_not s tick nonce finished play order (subst (IsFine s (suc tick) finished i.actor) is fine).1);
+          (finished_not s tick nonce finished play (scheduled_in_order s tick finished order) (subst (IsFine s (suc tick) finished i.actor) is fine).1);
     }
 
 -- who acts takes part, and the event may happen
@@ -52,7 +53,7 @@ pub record MayTurn (s : Scenario) (J : List Record) (a : Actor) (e : Event) : Ty
   pub member : IsMember (group_of s) a
   pub event : MayHappen J a e
 
-may_turn : (s : Scenario) (tick : ℕ) (finished here : List Record) (a : Actor) (e : Event) → World (group_of s) (here ++ finished) → IsFine s tick finished a e
+pub may_turn : (s : Scenario) (tick : ℕ) (finished here : List Record) (a : Actor) (e : Event) → World (group_of s) (here ++ finished) → IsFine s tick finished a e
     → ((nonce : ℕ) → e ≡ Restart nonce → AllByRecursion (IsNot nonce) (here ++ finished)) → MayTurn s (here ++ finished) a e
 may_turn s tick finished here a (Deliver p) w fine fresh =
     let sent = sent_before here finished p fine.1 in

@@ -1,7 +1,12 @@
-//! Runs of a scenario.
+//! Runs of a scenario, on one thread and on several.
 #![tactic(auto)]
 
 mod alone;
 mod cast;
+mod shares;
+mod stage;
+mod threads;
+mod workers;
 
 pub use alone::run_alone;
+pub use threads::run;

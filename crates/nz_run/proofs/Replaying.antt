@@ -1,0 +1,205 @@
+-- Records that are scheduled, of which those of each actor are a replay, are a run.
+use Rattle.std.proofs.Common.{◌≡◌, ℕ, zero, suc, ◌+◌, ◌-◌, ◌<◌, ◌≤◌, inl, inr, eqb, cond, Bool, true, false, List, [], ◌∷◌, ◌++◌, map, refl, sym, ap, ◌∙◌, subst, arith, append-nil}
+use Rattle.std.specs.Prelude.{reverse, IsPermutation}
+use Rattle.std.specs.List.{AllByRecursion, sum_by}
+use Rattle.std.proofs.lemmas.Bool.{cases_lt, eqb-true}
+use Rattle.std.proofs.lemmas.Bool.Decides.{nat_tests}
+use Rattle.std.proofs.lemmas.Grind.{reverse_onto}
+use Rattle.std.proofs.lemmas.List.Elements.{filter-append}
+use Rattle.std.proofs.lemmas.List.Sums.{sum_by-append}
+use Rattle.std.proofs.lemmas.List.Sorted.{IsPermutation-map, IsPermutation-reverse, sum_by-IsPermutation}
+use Rattle.nz_base.specs.Actor.{actor_eq}
+use Rattle.nz_base.proofs.Names.{actor_eq_self}
+use Rattle.nz_base.specs.Cluster.{replica_count}
+use Rattle.nz_base.specs.declared.actor.Actor.{Actor}
+use Rattle.nz_base.specs.declared.actor.Actor.TheVariants as actors
+use Rattle.nz_base.specs.declared.scenario.Scenario.{Scenario}
+use Rattle.nz_machine.specs.declared.event.Event.{Event}
+use Rattle.nz_machine.specs.declared.event.Event.TheVariants.{Deliver, Cut, Tick, Alarm, Crash, Restart}
+use Rattle.nz_machine.specs.declared.event.Record.{Record}
+use Rattle.nz_machine.specs.declared.journal.Item.{Item}
+use Rattle.nz_machine.specs.State.{Group}
+use Rattle.nz_machine.specs.Step.{node_step, event_step}
+use Rattle.nz_machine.specs.World.{state_after, World}
+use Rattle.nz_machine.specs.Schedule.{group_of, item_of, due, ScheduledTo, IsPlayable}
+use Rattle.nz_machine.proofs.Runs.{acts, stays, on_cond}
+use Rattle.nz_actor.specs.Lanes.{of_actor, IsReplay}
+use Rattle.nz_machine.proofs.Each.{all_append}
+use Rattle.nz_run.specs.Stages.{AllReplay}
+use Rattle.nz_run.proofs.Fine.{IsFine, ItemIsFine}
+use Rattle.nz_run.proofs.Fresh.{IsAbove, IsBefore, AreApart, due_apart, finished_not, here_is_fine}
+use Rattle.nz_run.proofs.Turning.{IsNot, may_turn}
+
+-- ---- each nonce once
+
+-- 1 for a restart with the nonce
+abbrev weight : ℕ → Event → ℕ
+weight n (Deliver p) = 0
+weight n (Cut p kept) = 0
+weight n (Tick clock) = 0
+weight n Alarm = 0
+weight n Crash = 0
+weight n (Restart m) = cond (eqb m n) 1 0
+
+abbrev item_weight : ℕ → Item → ℕ
+item_weight n i = weight n i.event
+
+own_weight : (n : ℕ) → weight n (Restart n) ≡ 1
+own_weight n = on_cond (λ (k : ℕ). k ≡ 1) (eqb n n) 1 0 (λ _. refl) (λ e. absurd (grind (arith, nat_tests)))
+
+above_weight : (n : ℕ) (e : Event) → IsAbove n e → weight n e ≡ 0
+above_weight n (Deliver p) h = refl
+above_weight n (Cut p kept) h = refl
+above_weight n (Tick clock) h = refl
+above_weight n Alarm h = refl
+above_weight n Crash h = refl
+above_weight n (Restart m) h = on_cond (λ (k : ℕ). k ≡ 0) (eqb m n) 1 0 (λ e. absurd (let same = eqb-true m n e in omega (arith, same, h))) (λ _. refl)
+
+sum_first : (n : ℕ) (i : Item) (is : List Item) → sum_by (item_weight n) (i ∷ is) ≡ item_weight n i + sum_by (item_weight n) is
+sum_first n i is = let a = sum_by-append (item_weight n) (i ∷ []) is in omega (arith, a)
+
+all_above : (n : ℕ) (is : List Item) → AllByRecursion (λ (j : Item). IsAbove n j.event) is → sum_by (item_weight n) is ≡ 0
+all_above n [] h = refl
+all_above n (i ∷ is) h =
+    let a = sum_first n i is in
+    let w = above_weight n i.event h.0 in
+    let ih = all_above n is h.1 in
+    omega (arith, a, w, ih)
+
+most_once : (n : ℕ) (e : Event) (is : List Item) → AllByRecursion (λ (j : Item). IsBefore e j.event) is → sum_by (item_weight n) is ≤ 1 → weight n e + sum_by (item_weight n) is ≤ 1
+most_once n (Deliver p) is h rest = omega (arith, rest)
+most_once n (Cut p kept) is h rest = omega (arith, rest)
+most_once n (Tick clock) is h rest = omega (arith, rest)
+most_once n Alarm is h rest = omega (arith, rest)
+most_once n Crash is h rest = omega (arith, rest)
+most_once n (Restart m) is h rest =
+    on_cond (λ (k : ℕ). k + sum_by (item_weight n) is ≤ 1) (eqb m n) 1 0
+    (λ e. let none = all_above n is (subst (λ (k : ℕ). AllByRecursion (λ (j : Item). IsAbove k j.event) is) (eqb-true m n e) h) in omega (arith, none))
+    (λ _. omega (arith, rest))
+
+apart_once : (n : ℕ) (is : List Item) → AreApart is → sum_by (item_weight n) is ≤ 1
+apart_once n [] h = omega arith
+apart_once n (i ∷ is) h =
+    let a = sum_first n i is in
+    let most = most_once n i.event is h.0 (apart_once n is h.1) in
+    omega (arith, a, most)
+
+not_weighed : (n : ℕ) (e : Event) → weight n e ≡ 0 → ¬ (e ≡ Restart n)
+not_weighed n e none is = let w = sym (ap (weight n) is) ∙ none in let own = own_weight n in omega (arith, w, own)
+
+none_here : (n : ℕ) (rs : List Record) → sum_by (item_weight n) (map item_of rs) ≡ 0 → AllByRecursion (IsNot n) rs
+none_here n [] h = tt
+none_here n (r ∷ rs) h =
+    let a = sum_first n (item_of r) (map item_of rs) in
+    (not_weighed n r.event (omega (arith, a, h)), none_here n rs (omega (arith, a, h)))
+
+-- no earlier record has the nonce of a restart
+abbrev AreFresh : List Record → Type 0
+AreFresh [] = Unit {0}
+AreFresh (r ∷ rs) = ((n : ℕ) → r.event ≡ Restart n → AllByRecursion (IsNot n) rs) × AreFresh rs
+
+are_fresh : (rs : List Record) → ((n : ℕ) → sum_by (item_weight n) (map item_of rs) ≤ 1) → AreFresh rs
+are_fresh [] h = tt
+are_fresh (r ∷ rs) h = (
+  (λ n is.
+      let a = sum_first n (item_of r) (map item_of rs) in
+      let own : weight n r.event ≡ 1 = ap (weight n) is ∙ own_weight n in
+      let most = h n in
+      none_here n rs (omega (arith, a, own, most))),
+  are_fresh rs (λ n. let a = sum_first n (item_of r) (map item_of rs) in let most = h n in omega (arith, a, most)),
+)
+
+tick_is_fresh : (s : Scenario) (tick : ℕ) (now older : List Record) → IsPermutation (due s tick older) (map item_of (reverse now)) → AreFresh now
+tick_is_fresh s tick now older same =
+    are_fresh now (λ n.
+    let once = apart_once n (due s tick older) (due_apart s tick older) in
+    let moved = sum_by-IsPermutation (item_weight n) (due s tick older) (map item_of (reverse now)) same in
+    let turned = sum_by-IsPermutation (item_weight n) (map item_of now) (map item_of (reverse now)) (IsPermutation-map item_of now (reverse now) (IsPermutation-reverse now)) in
+    omega (arith, once, moved, turned))
+
+-- ---- the records of one actor
+
+-- an actor stands where its own records lead it
+own_state : (g : Group) (a : Actor) (J : List Record) → state_after g a (of_actor a J) ≡ state_after g a J
+own_state g a [] = refl
+own_state g a (r ∷ J) =
+    let own = of_actor a J in
+    let ih = own_state g a J in
+    on_cond (λ (L : List Record). state_after g a L ≡ state_after g a (r ∷ J)) (actor_eq r.actor a) (r ∷ own) own
+    (λ e. acts g a r own e ∙ ap (λ (s : _). (event_step g a s r.event).0) ih ∙ sym (acts g a r J e))
+    (λ e. ih ∙ sym (stays g a r J e))
+
+replay_back : (g : Group) (a : Actor) (r : Record) (J : List Record) → IsReplay g a (of_actor a (r ∷ J)) → IsReplay g a (of_actor a J)
+replay_back g a r J =
+    let own = of_actor a J in
+    on_cond (λ (L : List Record). IsReplay g a L → IsReplay g a own) (actor_eq r.actor a) (r ∷ own) own (λ _ h. h.1.1) (λ _ h. h)
+
+all_back : (g : Group) (now older : List Record) → AllReplay g (now ++ older) → AllReplay g older
+all_back g [] older h = h
+all_back g (r ∷ now) older h = all_back g now older (λ a member. replay_back g a r (now ++ older) (h a member))
+
+-- what an actor sends is what it sends behind its own records
+replay_sends : (g : Group) (a : Actor) (r : Record) (J : List Record) → r.actor ≡ a → IsReplay g a (of_actor a (r ∷ J)) → r.sends ≡ (node_step g a (state_after g a J) r.event).1
+replay_sends g a r J is h =
+    let own = of_actor a J in
+    let here : of_actor a (r ∷ J) ≡ r ∷ own = ap (λ (b : Bool). cond b (r ∷ own) own) (ap (λ (b : Actor). actor_eq b a) is ∙ actor_eq_self a) in
+    let first = subst (IsReplay g a) here h in
+    first.1.0 ∙ ap (λ (s : _). (node_step g a s r.event).1) (own_state g a J)
+
+-- ---- the run
+
+world_tick : (s : Scenario) (tick : ℕ) (older now : List Record) → World (group_of s) older → AllByRecursion (λ (r : Record). ItemIsFine s (suc tick) older (item_of r)) now → AreFresh now
+    → ((n : ℕ) (r : Record) → ItemIsFine s (suc tick) older (item_of r) → r.event ≡ Restart n → AllByRecursion (IsNot n) older)
+    → AllReplay (group_of s) (now ++ older) → World (group_of s) (now ++ older)
+world_tick s tick older [] w fine fresh past replay = w
+world_tick s tick older (r ∷ now) w fine fresh past replay =
+    let g = group_of s in
+    let ih = world_tick s tick older now w fine.1 fresh.1 past (λ a member. replay_back g a r (now ++ older) (replay a member)) in
+    let may = may_turn s (suc tick) older now r.actor r.event ih fine.0 (λ n is. all_append (IsNot n) now older (fresh.0 n is) (past n r fine.0 is)) in
+    (record { member = may.member; event = may.event; sends = replay_sends g r.actor r (now ++ older) refl (replay r.actor may.member) }, ih)
+
+pub world_now : (s : Scenario) (tick : ℕ) (J : List Record) → IsPlayable s → ScheduledTo s tick J → AllReplay (group_of s) J → World (group_of s) J
+world_now s zero J play none replay = subst (World (group_of s)) (sym none) play.group
+world_now s (suc tick) J play (now, (older, (t, before))) replay =
+    let g = group_of s in
+    let whole = subst (AllReplay g) t.whole replay in
+    let w = world_now s tick older play before (all_back g now older whole) in
+    subst (World g) (sym t.whole)
+    (world_tick s tick older now w (here_is_fine s tick now older play t.items) (tick_is_fresh s (suc tick) now older t.items)
+    (λ n r fine is. finished_not s tick n older play before (subst (IsFine s (suc tick) older r.actor) is fine).1) whole)
+
+on_bool : (P : Bool → Type 0) (b : Bool) → P true → P false → P b
+on_bool P true x y = x
+on_bool P false x y = y
+
+reverse_by : (a : Actor) (r : Record) (own turned : List Record) → reverse own ≡ turned → reverse (cond (actor_eq r.actor a) (r ∷ own) own) ≡ turned ++ cond (actor_eq r.actor a) (r ∷ []) []
+reverse_by a r own turned e =
+    on_bool (λ (b : Bool). reverse (cond b (r ∷ own) own) ≡ turned ++ cond b (r ∷ []) []) (actor_eq r.actor a)
+    (reverse_onto own r [] ∙ ap (λ (L : List Record). L ++ r ∷ []) e) (e ∙ sym (append-nil turned))
+
+-- the records of an actor, the newest first
+pub reverse_own : (a : Actor) (rs : List Record) → reverse (of_actor a rs) ≡ of_actor a (reverse rs)
+reverse_own a [] = refl
+reverse_own a (r ∷ rs) =
+    let own = of_actor a rs in
+    let turned = filter-append (λ (r : Record). actor_eq r.actor a) (reverse rs) (r ∷ []) in
+    let ih = reverse_own a rs in
+    reverse_by a r own (of_actor a (reverse rs)) ih ∙ sym turned ∙ ap (of_actor a) (sym (reverse_onto rs r []))
+
+-- each sort's actors are all
+pub all_replay : (s : Scenario) (rs : List Record) → IsPlayable s
+    → ((k : ℕ) → k < replica_count s.cluster → IsReplay (group_of s) (actors.Replica k) (reverse (of_actor (actors.Replica k) rs)))
+    → ((k : ℕ) → k < s.proxies → IsReplay (group_of s) (actors.Proxy k) (reverse (of_actor (actors.Proxy k) rs)))
+    → ((k : ℕ) → k < s.clients → IsReplay (group_of s) (actors.Client k) (reverse (of_actor (actors.Client k) rs))) → AllReplay (group_of s) (reverse rs)
+all_replay s rs play replicas proxies clients (actors.Replica k) lt = subst (IsReplay (group_of s) (actors.Replica k)) (reverse_own (actors.Replica k) rs) (replicas k lt)
+all_replay s rs play replicas proxies clients (actors.Proxy k) lt = subst (IsReplay (group_of s) (actors.Proxy k)) (reverse_own (actors.Proxy k) rs) (proxies k lt)
+all_replay s rs play replicas proxies clients (actors.Client k) lt =
+    subst (IsReplay (group_of s) (actors.Client k)) (reverse_own (actors.Client k) rs) (clients k (let scripts = play.scripts in omega (arith, lt, scripts)))
+
+-- one actor more, from the last down
+pub one_lower : (P : ℕ → Type 0) (n d : ℕ) → ((k : ℕ) → n ≤ k + d → k < n → P k) → P (n - 1 - d) → (k : ℕ) → n ≤ k + (d + 1) → k < n → P k
+one_lower P n d old new k le lt =
+    elim (cases_lt (k + d) n) as (λ _. P k) [
+      | inl below ↦ (let e : n - 1 - d ≡ k = omega arith in subst P e new)
+      | inr above ↦ old k above lt
+    ]

@@ -1,0 +1,11 @@
+use Rattle.nz_run.proofs.Firsts.{replicas_first, proxies_first, clients_first}
+use Rattle.nz_run.proofs.stage.Stage.new.Goals as goal
+
+pub cells_of-requires : goal.cells_of-requires
+cells_of-requires g c = replicas_first c.args.scenario.now g.N.Name.scenario c.in_ok-replicas.field-0 c.in_ok-replicas.ensures c.requires.scenario
+
+pub cells_of-requires-2 : goal.cells_of-requires-2
+cells_of-requires-2 g c = proxies_first c.args.scenario.now g.N.Name.scenario c.in_ok-replicas.field-0 c.in_ok-replicas.ensures c.requires.scenario
+
+pub cells_of-requires-3 : goal.cells_of-requires-3
+cells_of-requires-3 g c = clients_first c.args.scenario.now g.N.Name.scenario c.in_ok-replicas.field-0 c.in_ok-replicas.ensures c.requires.scenario

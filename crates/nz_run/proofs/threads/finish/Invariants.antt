@@ -1,0 +1,8 @@
+use Rattle.std.specs.Prelude.{◌≡◌, ◌-◌, length}
+use Rattle.nz_run.proofs.threads.finish.Given as goal
+
+abbrev pub invariant-left : goal.invariant-left
+invariant-left g l = (l.share.parts ≡ 16) × (l.share.amount ≡ 0)
+
+abbrev pub decreases-left : goal.decreases-left
+decreases-left g l = length l.state.run.items - l.state.run.next

@@ -1,0 +1,5 @@
+use Rattle.std.specs.Prelude.{◌≡◌}
+use Rattle.nz_run.proofs.workers.work.Given as goal
+
+abbrev pub invariant-turns : goal.invariant-turns
+invariant-turns g l = (l.worker.share.amount ≡ 0) × (l.worker.share.parts ≡ l.initial.worker.share.parts)

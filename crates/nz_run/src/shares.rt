@@ -1,0 +1,55 @@
+ghost use Rattle.std.specs.Prelude.{◌≡◌, ◌+◌, ◌<◌, ◌≤◌, ℕ, [], length, vec_len, vec_capacity, All, sum_by};
+
+use nz_fabric::{Name, Share};
+
+/// A worker, with its share.
+#[derive(Drop)]
+pub struct Worker<N: Name> {
+    pub number: u8,
+    pub share: Share<N>,
+}
+
+/// Deals the whole share out.
+pub fn deal<N: Name>(whole: Share<N>, workers: &mut Vec<Worker<N>>, count: u8)
+    requires whole { (whole.parts ≡ 16) × (whole.amount ≡ 0) }
+    requires count { (0 < count) × (count ≤ 16) }
+    requires room { (workers.old.items ≡ []) × (count ≤ vec_capacity workers.old) }
+    ensures len { vec_len workers.new ≡ count }
+    ensures idle { All (λ w. w.share.amount ≡ 0) workers.new.items }
+    ensures parts { sum_by (λ w. w.share.parts) workers.new.items ≡ 16 }
+    ensures capacity { vec_capacity workers.new ≡ vec_capacity workers.old }
+{
+    let mut rest = whole;
+    'dealt: for number in 1..count {
+        let share = rest.split();
+        workers.push_reserved(Worker { number, share });
+    }
+    workers.push_reserved(Worker {
+        number: 0,
+        share: rest,
+    });
+}
+
+/// Puts the shares together again.
+pub fn gather<N: Name>(workers: &mut Vec<Worker<N>>) -> Share<N>
+    requires idle { All (λ w. w.share.amount ≡ 0) workers.old.items }
+    requires parts { sum_by (λ w. w.share.parts) workers.old.items ≡ 16 }
+    ensures whole { (result.parts ≡ 16) × (result.amount ≡ 0) }
+    ensures empty { (workers.new.items ≡ []) × (vec_capacity workers.new ≡ vec_capacity workers.old) }
+{
+    let Some(first) = workers.pop() else {
+        unreachable!();
+    };
+    let Worker {
+        number: _,
+        mut share,
+    } = first;
+    'gathered: while let Some(worker) = workers.pop() {
+        let Worker {
+            number: _,
+            share: other,
+        } = worker;
+        share.join(other);
+    }
+    share
+}

@@ -1,0 +1,47 @@
+ghost use Rattle.std.specs.Prelude.{◌≡◌, ◌<◌, ℕ, length, All, slice_index_or};
+
+use crate::shares::Worker;
+use crate::stage::Stage;
+use nz_edge::Gate;
+use nz_fabric::{Fabric, Name};
+use std::sync::Wait;
+use std::thread;
+use std::thread::Threads;
+
+/// Takes turns until none is left.
+fn work<N: Name, R: Wait, G: Gate>(
+    rt: &R,
+    worker: &mut Worker<N>,
+    stage: &Stage<N>,
+    fabric: &Fabric<N>,
+    gate: &G,
+)
+    requires { worker.old.share.amount ≡ 0 }
+    ensures { (worker.new.share.amount ≡ 0) × (worker.new.share.parts ≡ worker.old.share.parts) }
+{
+    'turns: for _ in rt.forever() {
+        let Ok(Some(turn)) = fabric.lock(rt).take(&mut worker.share) else {
+            break;
+        };
+        stage.turn(rt, turn, worker.number, gate, fabric, &mut worker.share);
+    }
+}
+
+/// All workers, each on a thread of its own.
+pub fn round<N: Name + Send + Sync, R: Threads + Wait + Sync, G: Gate + Sync>(
+    rt: &R,
+    workers: &mut [Worker<N>],
+    stage: &Stage<N>,
+    fabric: &Fabric<N>,
+    gate: &G,
+)
+    requires { All (λ w. w.share.amount ≡ 0) workers.old }
+    ensures { (k : ℕ) (d : _) → k < length workers.old → ((slice_index_or workers.new k d).share.amount ≡ 0) × ((slice_index_or workers.new k d).share.parts ≡ (slice_index_or workers.old k d).share.parts) }
+{
+    thread::for_each_mut(
+        rt,
+        workers,
+        16,
+        &|_, worker| work(rt, worker, stage, fabric, gate),
+    );
+}
