@@ -1,2 +1,4 @@
 mod Events
 mod Opens
+mod Pieces
+mod Steps
