@@ -106,8 +106,12 @@ fn values_and_inputs_that_are_too_long(rt: HostRuntime) -> Result<(), Fail> {
 
 #[test]
 fn words_that_are_no_call(rt: HostRuntime) -> Result<(), Fail> {
-    let table: [&[&str]; 6] = [
+    let table: [&[&str]; 10] = [
         &[],
+        &["gen"],
+        &["gen", "7"],
+        &["gen", "7", "0"],
+        &["gen", "7", "2001"],
         &["walk"],
         &["--help"],
         &["run", "run"],
@@ -120,6 +124,15 @@ fn words_that_are_no_call(rt: HostRuntime) -> Result<(), Fail> {
         assert_eq!(rt; out.bytes(), b"refused words\n".as_slice());
         assert!(rt; outcome.journal.is_none());
     }
+    Ok(())
+}
+
+#[test]
+fn a_drawn_run(rt: HostRuntime) -> Result<(), Fail> {
+    let (outcome, out) = answer(rt.alloc(), &plain(&["gen", "7", "1"], b"not read"))?;
+    assert_eq!(rt; outcome.status, Status::Done);
+    let summary = b"sent 1\naccepted 1\nfast 1\nslow 0\nopen 0\nhistory 1\nend\n";
+    assert_eq!(rt; out.bytes(), summary.as_slice());
     Ok(())
 }
 
