@@ -6,3 +6,6 @@ mod history;
 mod reading;
 
 pub use history::history_of;
+
+#[cfg(test)]
+mod tests;

@@ -46,7 +46,8 @@ fn keep(accepted: &mut IndexSet<Id>, acceptance: Option<Acceptance>) -> Result<(
 }
 
 impl Reading {
-    fn new(alloc: Global, scenario: &Scenario) -> Result<Reading, NoMemory>
+    /// Before the first record.
+    pub fn new(alloc: Global, scenario: &Scenario) -> Result<Reading, NoMemory>
         ensures { IfOk result (λ reading. IsRead (group_of scenario.now) [] reading) }
     {
         Ok(Reading {
@@ -56,7 +57,8 @@ impl Reading {
         })
     }
 
-    fn read(&mut self, alloc: Global, next: &Record) -> Result<(), NoMemory>
+    /// Takes the next record.
+    pub fn read(&mut self, alloc: Global, next: &Record) -> Result<(), NoMemory>
         requires { self.old.leader.live ≡ true }
         ensures live { OnOk result (self.new.leader.live ≡ true) }
         ensures read { OnOk result ((g : Group) (J : List ARecord) → World g (next.now ∷ J) → IsRead g J self.old → IsRead g (next.now ∷ J) self.new) }
