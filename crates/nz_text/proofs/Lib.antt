@@ -2,3 +2,5 @@ mod Events
 mod Opens
 mod Pieces
 mod Steps
+pub mod ReadBack
+pub mod Whole

@@ -4,6 +4,7 @@
 mod counting;
 mod draft;
 mod fault;
+mod laws;
 mod line;
 mod lines;
 mod printed;
@@ -14,6 +15,7 @@ mod tracing;
 
 pub use counting::summary;
 pub use fault::TextFault;
+pub use laws::texts_are_read_back;
 pub use printed::{Event, EventList, Printed};
 pub use printing::text;
 pub use reading::read_text;
