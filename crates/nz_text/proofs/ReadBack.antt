@@ -1,6 +1,6 @@
 -- Each line that is written is read again.
-use Rattle.std.proofs.Common.{◌≡◌, ◌≢◌, ℕ, zero, suc, ◌+◌, ◌-◌, ◌<◌, ◌≤◌, ◌^◌, Bool, true, false, cond, List, [], ◌∷◌, ◌++◌, length, map, Option, Some, None, Result, Ok, refl, sym, ap, subst, ◌∙◌, arith, append_assoc}
-use Rattle.std.specs.Prelude.{◌&&◌, nat_le, codes, IsTrue}
+use Rattle.std.proofs.Common.{◌≡◌, ℕ, ◌+◌, ◌-◌, ◌<◌, ◌^◌, Bool, true, cond, List, [], ◌∷◌, ◌++◌, map, Option, Some, None, refl, sym, ap, subst, ◌∙◌, arith, append_assoc}
+use Rattle.std.specs.Prelude.{nat_le, codes}
 use Rattle.std.specs.Fmt.{decimal}
 use Rattle.std.specs.List.{list_all, AllByRecursion}
 use Rattle.std.proofs.lemmas.List.{append-nil}
@@ -9,34 +9,29 @@ use Rattle.nz_store.specs.declared.command.Command.{Command}
 use Rattle.nz_store.specs.declared.command.Answer.{Answer}
 use Rattle.nz_store.specs.declared.command.Answer.TheVariants.{Done, Value, Absent, Differs}
 use Rattle.nz_store.specs.Grammar.{is_graphic, spelling}
-use Rattle.nz_store.specs.Reading.{is_text, is_value_text, has_spelling, command_of}
+use Rattle.nz_store.specs.Reading.{has_spelling, command_of}
 use Rattle.nz_msg.specs.declared.message.Path.{Path}
 use Rattle.nz_msg.specs.declared.message.Path.TheVariants.{Fast, Slow}
 use Rattle.nz_script.specs.declared.word.Word.{Word}
-use Rattle.nz_script.specs.Bytes.{space, newline as line_end, Lacks, number_of, lines_in, tail_in}
-use Rattle.nz_script.specs.Commands.{command_first}
+use Rattle.nz_script.specs.Bytes.{space, newline as line_end, Lacks, lines_in, tail_in}
 use Rattle.nz_script.specs.Forms.{◌>>=◌}
 use Rattle.nz_script.specs.declared.shape.Form.{Form}
 use Rattle.nz_script.specs.declared.shape.Verb.TheVariants as verb
 use Rattle.nz_script.specs.Shapes.{word_of, ask_shape_of}
-use Rattle.nz_script.specs.Texts.{word_text, words_text, line_text, command_line}
+use Rattle.nz_script.specs.Texts.{word_text, words_text, command_line}
 use Rattle.nz_script.proofs.Again.{AreReadAs, first_word, graphic_lacks_space, graphic_are_printed, printed_lacks_newline}
-use Rattle.nz_script.proofs.Asking.{command_words, command_again, IsAskedBy, asked_by}
+use Rattle.nz_script.proofs.Asking.{command_words, command_again, asked_by}
 use Rattle.nz_script.proofs.Cuts.{lines-line, tail-line}
 use Rattle.nz_script.proofs.Drawing.{decimal_graphic}
-use Rattle.nz_script.proofs.Passing.{both_of}
 use Rattle.nz_script.proofs.Readable.{number_of-decimal, value_read}
 use Rattle.nz_machine.specs.declared.journal.Executed.{Executed}
 use Rattle.nz_text.specs.declared.draft.Draft.{Draft}
-use Rattle.nz_text.specs.declared.fault.TextFault.{TextFault}
 use Rattle.nz_text.specs.declared.line.Line.{Line}
 use Rattle.nz_text.specs.declared.line.Line.TheVariants as line
-use Rattle.nz_text.specs.declared.printed.Event.{Event}
 use Rattle.nz_text.specs.declared.printed.Event.TheVariants.{Send, Accept}
-use Rattle.nz_text.specs.declared.printed.Printed.{Printed}
 use Rattle.nz_text.specs.Fit.{FitsId, FitsAnswer}
 use Rattle.nz_text.specs.Text.{newline, id_text, found_text, answer_text, path_text, event_line, open_line, at_line}
-use Rattle.nz_text.specs.Reading.{pieces_in, number_in, client_in, id_of_words, id_first, value_first, answer_first, path_of, alone, send_of, accept_of, given, executed_of, sent, accepted, opened, placed, line_of, with_line, step, behind, reading}
+use Rattle.nz_text.specs.Reading.{pieces_in, number_in, id_first, answer_first, path_of, alone, send_of, accept_of, given, executed_of, placed, line_of, with_line, step, behind, reading}
 use Rattle.nz_text.proofs.Pieces.{pieces-word, pieces-last}
 
 -- ---- words with one space before each
@@ -309,8 +304,14 @@ at_line_is place e h few fits a = record {
   first = codes "at";
   words = decimal place ∷ client_word e.id.client ∷ decimal e.id.num ∷ (command_words h.command ++ codes "gives" ∷ answer_words e.answer);
   spelled = at_spelled place e h;
-  plain = (graphic_plain _ refl, (number_plain place few, plain-append (id_words e.id) (command_words h.command ++ codes "gives" ∷ answer_words e.answer) (id_plain e.id fits)
-      (plain-append (command_words h.command) (codes "gives" ∷ answer_words e.answer) (command_plain h.command h.spelled) (graphic_plain _ refl, answer_plain e.answer a))));
+  plain = (
+    graphic_plain _ refl,
+    (
+      number_plain place few,
+      plain-append (id_words e.id) (command_words h.command ++ codes "gives" ∷ answer_words e.answer) (id_plain e.id fits)
+          (plain-append (command_words h.command) (codes "gives" ∷ answer_words e.answer) (command_plain h.command h.spelled) (graphic_plain _ refl, answer_plain e.answer a)),
+    ),
+  );
   says = at_says place e h few fits a;
 }
 

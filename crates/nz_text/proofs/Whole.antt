@@ -1,6 +1,6 @@
 -- The text of what can be printed is read back.
-use Rattle.std.proofs.Common.{◌≡◌, ℕ, suc, ◌+◌, ◌<◌, ◌≤◌, ◌^◌, Bool, true, cond, List, [], ◌∷◌, ◌++◌, length, Option, Some, None, Result, Ok, refl, sym, ap, ◌∙◌, arith, append_assoc, length-append}
-use Rattle.std.specs.Prelude.{◌&&◌, ◌==◌, nat_le, codes, IsSome}
+use Rattle.std.proofs.Common.{◌≡◌, ℕ, suc, ◌+◌, ◌<◌, ◌^◌, Bool, true, cond, List, [], ◌∷◌, ◌++◌, length, Option, Some, None, Ok, refl, sym, ap, ◌∙◌, arith, append_assoc, length-append}
+use Rattle.std.specs.Prelude.{◌==◌, nat_le, codes, IsSome}
 use Rattle.std.specs.List.{AllByRecursion, flat_map}
 use Rattle.std.proofs.lemmas.Bool.{eq-eqb, false≢true}
 use Rattle.std.proofs.lemmas.List.{append-nil}
@@ -21,7 +21,7 @@ use Rattle.nz_text.specs.declared.printed.Event.TheVariants.{Send, Accept}
 use Rattle.nz_text.specs.declared.printed.Printed.{Printed}
 use Rattle.nz_text.specs.Fit.{FitsId, FitsEvent, FitsExecuted, FitsPrinted}
 use Rattle.nz_text.specs.Text.{event_line, open_line, at_line, at_lines, text_of}
-use Rattle.nz_text.specs.Reading.{rank_of, with_line, reading, printed_in}
+use Rattle.nz_text.specs.Reading.{rank_of, reading, printed_in}
 use Rattle.nz_text.proofs.ReadBack.{IsLine, IsCommand, line_read, send_line, accept_line, open_line_is, at_line_is, end_line_is}
 
 abbrev at : Stage → List Event → List Id → List Executed → Draft

@@ -1,5 +1,5 @@
 -- What can be printed, so that its text says it.
-use Rattle.std.specs.Prelude.{◌<◌, ◌^◌, List, length, IsSome, IsTrue}
+use Rattle.std.specs.Prelude.{◌<◌, ◌^◌, length, IsSome, IsTrue}
 use Rattle.std.specs.List.{AllByRecursion}
 use Rattle.nz_base.specs.declared.key.Id.{Id}
 use Rattle.nz_store.specs.declared.command.Answer.{Answer}

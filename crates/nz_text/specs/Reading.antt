@@ -2,7 +2,6 @@
 use Rattle.std.specs.Prelude.{ℕ, ◌+◌, ◌-◌, ◌^◌, Bool, ◌&&◌, nat_le, ◌==◌, if◌then◌else◌, List, [], ◌∷◌, ◌++◌, length, Option, Some, None, Result, Ok, Err, codes}
 use Rattle.std.specs.Str.{bytes_eq}
 use Rattle.nz_base.specs.declared.key.Id.{Id}
-use Rattle.nz_store.specs.declared.command.Command.{Command}
 use Rattle.nz_store.specs.declared.command.Answer.{Answer}
 use Rattle.nz_store.specs.declared.command.Answer.TheVariants.{Done, Value, Absent, Differs}
 use Rattle.nz_store.specs.Grammar.{spelling}
@@ -39,6 +38,7 @@ abbrev pub client_in : List ℕ → Option ℕ
 client_in [] = None
 client_in (letter ∷ digits) = if letter == 99 then number_in digits else None
 
+-- The id that two words are.
 abbrev pub id_of_words : List ℕ → List ℕ → Option Id
 id_of_words client num = client_in client >>= λ c. number_in num >>= λ n. Some (record { client = c; num = n })
 
@@ -47,6 +47,7 @@ unfoldable pub id_first : List (List ℕ) → Option (Id × List (List ℕ))
 id_first (client ∷ num ∷ more) = id_of_words client num >>= λ id. Some (id, more)
 id_first _ = None
 
+-- The value that stands first, and the words behind it.
 abbrev pub value_first : List (List ℕ) → Option (Answer × List (List ℕ))
 value_first [] = None
 value_first (value ∷ more) = if is_value_text value then Some (Value value, more) else None
@@ -62,6 +63,7 @@ answer_first (word ∷ more) =
 
 -- ---- lines, by the words behind the first one
 
+-- The one word is a path.
 unfoldable pub path_of : List (List ℕ) → Option Path
 path_of (word ∷ []) = if bytes_eq word (codes "fast") then Some Fast else (if bytes_eq word (codes "slow") then Some Slow else None)
 path_of _ = None
@@ -71,9 +73,11 @@ abbrev pub alone : {X : Type 0} → X → List (List ℕ) → Option X
 alone x [] = Some x
 alone x (word ∷ more) = None
 
+-- A command and no more.
 abbrev pub send_of : Id → List (List ℕ) → Option Line
 send_of id words = command_first words >>= λ c. alone (line.Event (Send id (spelling c.0))) c.1
 
+-- An answer and a path.
 abbrev pub accept_of : Id → List (List ℕ) → Option Line
 accept_of id words = answer_first words >>= λ a. path_of a.1 >>= λ path. Some (line.Event (Accept id a.0 path))
 
@@ -82,9 +86,11 @@ unfoldable pub given : List (List ℕ) → Option Answer
 given [] = None
 given (word ∷ more) = if bytes_eq word (codes "gives") then (answer_first more >>= λ a. alone a.0 a.1) else None
 
+-- A command, and behind `gives` its answer.
 abbrev pub executed_of : Id → List (List ℕ) → Option Executed
 executed_of id words = command_first words >>= λ c. given c.1 >>= λ answer. Some (record { id = id; command = spelling c.0; answer = answer })
 
+-- The words behind `send`, `accept`, `open` and `at`.
 abbrev pub sent : List (List ℕ) → Option Line
 sent words = id_first words >>= λ i. send_of i.0 i.1
 

@@ -8,5 +8,4 @@ ghost use Rattle.nz_text.specs.declared.printed.Printed.{Printed as APrinted};
 /// Reading the text of what can be printed gives it back.
 pub fn texts_are_read_back()
     ensures { (p : APrinted) → FitsPrinted p → printed_in (text_of p) ≡ Ok p }
-{
-}
+{}

@@ -1,4 +1,4 @@
-use Rattle.std.proofs.Common.{sym, refl, ◌∙◌}
+use Rattle.std.proofs.Common.{sym, refl}
 use Rattle.nz_script.specs.Bytes.{space}
 use Rattle.nz_script.proofs.Cuts.{shorter}
 use Rattle.nz_text.specs.Reading.{pieces_in}
