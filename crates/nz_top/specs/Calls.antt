@@ -1,5 +1,5 @@
 -- What a call of the program is answered.
-use Rattle.std.specs.Prelude.{ℕ, ◌≡◌, ◌⊎◌, List, [], ◌∷◌, ◌++◌, Option, Some, None, Ok, Err, IsSome, IsNone, IfSome, IsTrue, codes}
+use Rattle.std.specs.Prelude.{ℕ, ◌≡◌, ◌⊎◌, List, [], ◌++◌, Option, Some, None, Ok, Err, IsSome, IsNone, IfSome, IsTrue, codes}
 use Rattle.std.specs.Fmt.{decimal}
 use Rattle.nz_edge.specs.Faults.{Rose}
 use Rattle.nz_edge.specs.Told.{Gains}

@@ -72,7 +72,11 @@ fn bad_lines(rt: HostRuntime) -> Result<(), Fail> {
     let table = [
         ("", "", "refused line 1: order\n"),
         ("nezha 1\nf 0\nand so on\n", "", "refused line 2: limit\n"),
-        ("nezha 1\nf 1\nproxies 1\nclients 65\n", "", "refused line 4: limit\n"),
+        (
+            "nezha 1\nf 1\nproxies 1\nclients 65\n",
+            "",
+            "refused line 4: limit\n",
+        ),
         (HEAD, "end\ncrash r9 5\ndone\n", "refused line 8: name\n"),
         (HEAD, "get a\n", "refused line 8: order\n"),
         (HEAD, "put k\nend\ndone\n", "refused line 7: syntax\n"),
@@ -170,7 +174,12 @@ fn sinks_that_fail(rt: HostRuntime) -> Result<(), Fail> {
     // The first call that fails, of writes of ten bytes, and what was taken by then.
     let output = PUT_THEN_GET.output.as_bytes();
     let writes = output.len().div_ceil(10) as u32;
-    let table = [(1u32, 0usize), (3, 20), (writes, 10 * (writes as usize - 1)), (writes + 1, output.len())];
+    let table = [
+        (1u32, 0usize),
+        (3, 20),
+        (writes, 10 * (writes as usize - 1)),
+        (writes + 1, output.len()),
+    ];
     for (call, taken) in table {
         let call = Call {
             write_piece: 10,

@@ -82,9 +82,7 @@ fn add_replica(
 }
 
 fn collides(list: &RepliedOver, others: &[RepliedOver]) -> bool {
-    others
-        .iter()
-        .any(|other| list.digest == other.digest && list.keys != other.keys)
+    others.iter().any(|other| list.digest == other.digest && list.keys != other.keys)
 }
 
 #[test]
@@ -97,7 +95,13 @@ fn no_lists_of_keys_collide(rt: HostRuntime) -> Result<(), Fail> {
     let cluster = journal.scenario.cluster;
     let mut lists = Vec::new(rt.alloc());
     for number in 0..cluster.n() {
-        add_replica(rt.alloc(), cluster, number, journal.records.as_slice(), &mut lists)?;
+        add_replica(
+            rt.alloc(),
+            cluster,
+            number,
+            journal.records.as_slice(),
+            &mut lists,
+        )?;
     }
     // Each replica replies to the put over one key, and to the get over two.
     assert_eq!(rt; lists.len(), 6);

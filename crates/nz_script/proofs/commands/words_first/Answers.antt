@@ -1,4 +1,4 @@
-use Rattle.std.proofs.Common.{List, ℕ, map}
+use Rattle.std.proofs.Common.{map}
 use Rattle.nz_script.proofs.Fitting.{first_lacking}
 use Rattle.nz_script.proofs.commands.words_first.Goals as goal
 
