@@ -15,7 +15,7 @@ use Rattle.nz_machine.specs.declared.journal.Item.{Item}
 use Rattle.nz_machine.specs.Schedule.{item, item_of, if_in, calls, actors_of, tick_item, Delivery, delivery_item, Posted, posted, arrivals, due, InOrderTo, IsPlayable}
 use Rattle.nz_machine.proofs.Each.{all_append, all_front, all_back, all_imply}
 use Rattle.nz_machine.proofs.Runs.{on_cond}
-use Rattle.nz_run.proofs.Fine.{IsCalled, IsFine, ItemIsFine, restart_tick, calls_called, due_is_fine}
+use Rattle.nz_run.proofs.Fine.{IsCalled, IsFine, ItemIsFine, restart_tick, all_two, calls_called, due_is_fine}
 
 -- a restart has a greater nonce than this
 abbrev IsAbove : ℕ → Event → Type 0
@@ -140,13 +140,10 @@ IsNot nonce e = ¬ (e ≡ Restart nonce)
 before_not : (e : Event) (nonce : ℕ) → IsBefore e (Restart nonce) → IsNot nonce e
 before_not e nonce h same = let lt : nonce < nonce = subst (λ (f : Event). IsBefore f (Restart nonce)) same h in omega (arith, lt)
 
-got : {X : Type 0} (P : X → Type 0) (xs : List X) (i : ℕ) (x : X) → AllByRecursion P xs → slice_get xs i ≡ Some x → P x
+pub got : {X : Type 0} (P : X → Type 0) (xs : List X) (i : ℕ) (x : X) → AllByRecursion P xs → slice_get xs i ≡ Some x → P x
 got P [] i x all e = absurd (none-some x e)
 got P (y ∷ xs) zero x all e = subst P (same_Some y x e) all.0
 got P (y ∷ xs) (suc i) x all e = got P xs i x all.1 e
-
-pub got_item : (P : Item → Type 0) (xs : List Item) (i : ℕ) (x : Item) → AllByRecursion P xs → slice_get xs i ≡ Some x → P x
-got_item P xs i x all e = got P xs i x all e
 
 earlier_not : (is : List Item) (i : ℕ) (x : Item) (nonce : ℕ) → AreApart is → slice_get is i ≡ Some x → x.event ≡ Restart nonce → AllByRecursion (λ (j : Item). IsNot nonce j.event) (take i is)
 earlier_not [] i x nonce h e is = absurd (none-some x e)
@@ -187,10 +184,6 @@ fine_restart s tick J r h e = record {
   fine = λ nonce is. (subst (IsFine s tick J r.actor) is h).1 ∙ ap Some (sym e);
 }
 
-all_both : {X : Type 0} (P Q R : X → Type 0) → ((x : X) → P x → Q x → R x) → (xs : List X) → AllByRecursion P xs → AllByRecursion Q xs → AllByRecursion R xs
-all_both P Q R f [] p q = tt
-all_both P Q R f (x ∷ xs) p q = (f x p.0 q.0, all_both P Q R f xs p.1 q.1)
-
 pub all_past : (s : Scenario) (tick : ℕ) (J : List Record) → IsPlayable s → InOrderTo s tick J → AllByRecursion (IsPast s tick) J
 all_past s zero J play none = subst (AllByRecursion (IsPast s zero)) (sym none) tt
 all_past s (suc tick) J play (now, (older, (t, before))) =
@@ -198,7 +191,7 @@ all_past s (suc tick) J play (now, (older, (t, before))) =
     let fine = all_here (ItemIsFine s (suc tick) older) now (due s (suc tick) older) t.items (due_is_fine s (suc tick) older play) in
     subst (AllByRecursion P) (sym t.whole)
     (all_append P now older
-    (all_both (λ (r : Record). ItemIsFine s (suc tick) older (item_of r)) (λ (r : Record). r.tick ≡ suc tick) P (λ r h e. fine_restart s (suc tick) older r h e) now fine t.here)
+    (all_two (λ (r : Record). ItemIsFine s (suc tick) older (item_of r)) (λ (r : Record). r.tick ≡ suc tick) P (λ r h e. fine_restart s (suc tick) older r h e) now fine t.here)
     (all_imply (IsPast s tick) P (λ r h. record { past = let le = h.past in omega (arith, le); fine = h.fine }) older (all_past s tick older play before)))
 
 past_not : (s : Scenario) (tick nonce : ℕ) (r : Record) → restart_tick 0 s.faults nonce ≡ Some (suc tick) → IsPast s tick r → IsNot nonce r.event

@@ -21,7 +21,7 @@ use Rattle.nz_fabric.specs.States.{State, records_of, IsBegun, IsKept, IsNext, I
 use Rattle.nz_run.specs.declared.cast.Cast.{Cast}
 use Rattle.nz_run.specs.Casts.{record_of, sends_of, IsCast, IsUnderWay}
 use Rattle.nz_run.proofs.Fine.{IsFine, ItemIsFine, due_is_fine}
-use Rattle.nz_run.proofs.Fresh.{got_item, here_not, finished_not}
+use Rattle.nz_run.proofs.Fresh.{got, here_not, finished_not}
 
 sent_before : (now older : List Record) (p : Parcel) → Has (sent_in older) p → Has (sent_in (now ++ older)) p
 sent_before [] older p h = h
@@ -39,7 +39,7 @@ is_turn : (s : Scenario) (tick : ℕ) (finished here : List Record) (items : Lis
 is_turn s zero finished here items i play (none, nothing) so_far at = absurd (none-some i (sym (ap (λ (is : List Item). slice_get is (length here)) nothing) ∙ at))
 is_turn s (suc tick) finished here items i play (order, are_due) so_far at =
     let now : slice_get (due s (suc tick) finished) (length here) ≡ Some i = sym (ap (λ (is : List Item). slice_get is (length here)) are_due) ∙ at in
-    let fine = got_item (ItemIsFine s (suc tick) finished) (due s (suc tick) finished) (length here) i (due_is_fine s (suc tick) finished play) now in
+    let fine = got (ItemIsFine s (suc tick) finished) (due s (suc tick) finished) (length here) i (due_is_fine s (suc tick) finished play) now in
     record {
       fine = fine;
       fresh = λ nonce is.
