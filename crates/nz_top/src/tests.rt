@@ -110,20 +110,23 @@ fn values_and_inputs_that_are_too_long(rt: HostRuntime) -> Result<(), Fail> {
 
 #[test]
 fn words_that_are_no_call(rt: HostRuntime) -> Result<(), Fail> {
-    let table: [&[&str]; 10] = [
-        &[],
-        &["gen"],
-        &["gen", "7"],
-        &["gen", "7", "0"],
-        &["gen", "7", "2001"],
-        &["walk"],
-        &["--help"],
-        &["run", "run"],
-        &["run", "--workers", "0"],
-        &["runs"],
+    // How many words there are, and the words.
+    let table = [
+        (0, "", "", ""),
+        (1, "gen", "", ""),
+        (2, "gen", "7", ""),
+        (3, "gen", "7", "0"),
+        (3, "gen", "7", "2001"),
+        (1, "walk", "", ""),
+        (1, "--help", "", ""),
+        (2, "run", "run", ""),
+        (3, "run", "--workers", "0"),
+        (1, "runs", "", ""),
     ];
-    for words in table {
-        let (outcome, out) = answer(rt.alloc(), &plain(words, PUT_THEN_GET.input.as_bytes()))?;
+    for (count, first, second, third) in table {
+        let words = [first, second, third];
+        let call = plain(&words[..count], PUT_THEN_GET.input.as_bytes());
+        let (outcome, out) = answer(rt.alloc(), &call)?;
         assert_eq!(rt; outcome.status, Status::Usage);
         assert_eq!(rt; out.bytes(), b"refused words\n".as_slice());
         assert!(rt; outcome.journal.is_none());
