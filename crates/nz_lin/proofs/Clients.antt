@@ -1,5 +1,5 @@
 -- The rules of a client: what it sends and what it accepts.
-use Rattle.std.proofs.Common.{◌≡◌, ℕ, ◌+◌, ◌-◌, ◌%◌, ◌<◌, ◌≤◌, true, eqb, eqb-true, min, List, [], Option, Some, None, refl, sym, ap, ◌∙◌, arith}
+use Rattle.std.proofs.Common.{◌≡◌, ℕ, ◌+◌, ◌-◌, ◌%◌, ◌<◌, ◌≤◌, true, eqb, eqb-true, min, List, [], Option, Some, None, refl, arith}
 use Rattle.std.specs.Prelude.{slice_get}
 use Rattle.std.specs.List.{AllByRecursion}
 use Rattle.nz_base.specs.declared.actor.Actor.{Actor}
@@ -15,9 +15,10 @@ use Rattle.nz_machine.specs.declared.data.Attempt.{Attempt}
 use Rattle.nz_machine.specs.State.{ClientData, Group, Out}
 use Rattle.nz_machine.specs.Clients.{patience, last_tick, if_due, opened, open_next, asked_again, wait_on, ticked_at, wait_rule, is_awaited, accept_rule}
 use Rattle.nz_machine.specs.Step.{script_of, client_message, received, envelope_step, event_step}
-use Rattle.nz_machine.specs.Events.{command_of_request, command_at}
+use Rattle.nz_machine.specs.Events.{command_at}
 use Rattle.nz_machine.proofs.Runs.{on_cond}
 use Rattle.nz_machine.proofs.FitClients.{if_due_is}
+use Rattle.nz_machine.proofs.Progressing.{own_command}
 
 -- an open request has a number
 abbrev pub IsNumbered : Option Attempt → ℕ → Type 0
@@ -39,9 +40,6 @@ pub record Turns (script : List Request) (s : ClientData) (t : ClientData × Lis
   pub one : t.0.sent ≤ s.sent + 1
   pub numbered : IsNumbered t.0.attempt t.0.sent
   pub sends : AllByRecursion (λ (o : Out). AskedFrom script t.0.sent o.1) t.1
-
-own_command : (script : List Request) (num place : ℕ) (r : Request) → place ≡ num - 1 → slice_get script place ≡ Some r → r.command ≡ command_at script num
-own_command script num place r e at = sym (ap (λ (k : ℕ). command_of_request (slice_get script k)) (sym e) ∙ ap command_of_request at)
 
 opened_turns : (proxies me : ℕ) (script : List Request) (s : ClientData) (o : Option Request) → if_due s.ticks (slice_get script s.sent) ≡ o → Turns script s (opened proxies me s o)
 opened_turns proxies me script s None e = record { more = omega arith; one = omega arith; numbered = tt; sends = tt }

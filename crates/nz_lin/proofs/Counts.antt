@@ -1,5 +1,5 @@
 -- Each request is sent once, and accepted at most once and after that.
-use Rattle.std.proofs.Common.{◌≡◌, ℕ, ◌+◌, ◌<◌, ◌≤◌, Bool, true, false, cond, eqb, min, nat_lt, List, [], ◌∷◌, ◌++◌, Option, Some, None, refl, sym, subst, arith, inl, inr, ◌⊎◌}
+use Rattle.std.proofs.Common.{◌≡◌, ℕ, ◌+◌, ◌<◌, ◌≤◌, Bool, true, false, cond, eqb, min, nat_lt, List, [], ◌∷◌, ◌++◌, Option, Some, None, refl, sym, subst, arith, inl, inr}
 use Rattle.std.specs.Prelude.{slice_get}
 use Rattle.nz_base.specs.declared.actor.Actor.{Actor}
 use Rattle.nz_base.specs.declared.actor.Actor.TheVariants.{Replica, Proxy, Client}
@@ -23,6 +23,7 @@ use Rattle.nz_machine.specs.Events.{Told, Sent, Accepted, id_at, command_at, rea
 use Rattle.nz_machine.specs.OneHistory.{Precedes}
 use Rattle.nz_machine.proofs.Runs.{may_act, has_left, has_right, has_split, on_cond}
 use Rattle.nz_lin.specs.Once.{AreOnce}
+use Rattle.nz_lin.proofs.Histories.{precedes_three}
 use Rattle.nz_lin.proofs.Tells.{Accepts, told_sent, told_accepted, not_sent, not_accepted, not_sent_before, has_sent}
 
 -- ---- counts of a client
@@ -126,11 +127,6 @@ not_accepted_before g r J id a b p q t h =
     absurd (omega (arith, own, old))
 
 -- ---- lists of events
-
-precedes_three : {X : Type 0} (xs ys : List X) (x y : X) → Precedes (xs ++ ys) x y → Precedes xs x y ⊎ ((Has xs x × Has ys y) ⊎ Precedes ys x y)
-precedes_three [] ys x y h = inr (inr h)
-precedes_three (z ∷ xs) ys x y (inl h) = elim (has_split xs ys y h.1) [ inl a ↦ inl (inl (h.0, a)) | inr b ↦ inr (inl (inl h.0, b)) ]
-precedes_three (z ∷ xs) ys x y (inr h) = elim (precedes_three xs ys x y h) [ inl a ↦ inl (inr a) | inr (inl b) ↦ inr (inl (inr b.0, b.1)) | inr (inr c) ↦ inr (inr c) ]
 
 precedes_left : {X : Type 0} (xs ys : List X) (x y : X) → Precedes xs x y → Precedes (xs ++ ys) x y
 precedes_left [] ys x y h = absurd h

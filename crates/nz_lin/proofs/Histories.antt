@@ -184,11 +184,19 @@ precedes_has [] x y h = absurd h
 precedes_has (z ∷ zs) x y (inl h) = (inl h.0, inr h.1)
 precedes_has (z ∷ zs) x y (inr h) = let t = precedes_has zs x y h in (inr t.0, inr t.1)
 
+-- both in the first list, both in the second, or one in each
+pub precedes_three : {X : Type 0} (xs ys : List X) (x y : X) → Precedes (xs ++ ys) x y → Precedes xs x y ⊎ ((Has xs x × Has ys y) ⊎ Precedes ys x y)
+precedes_three [] ys x y h = inr (inr h)
+precedes_three (z ∷ xs) ys x y (inl h) = elim (has_split xs ys y h.1) [ inl a ↦ inl (inl (h.0, a)) | inr b ↦ inr (inl (inl h.0, b)) ]
+precedes_three (z ∷ xs) ys x y (inr h) = elim (precedes_three xs ys x y h) [ inl a ↦ inl (inr a) | inr (inl b) ↦ inr (inl (inr b.0, b.1)) | inr (inr c) ↦ inr (inr c) ]
+
 -- the second stands in the first list with the first, or in the second list
 precedes_split : {X : Type 0} (xs ys : List X) (x y : X) → Precedes (xs ++ ys) x y → Precedes xs x y ⊎ (Has (xs ++ ys) x × Has ys y)
-precedes_split [] ys x y h = inr (precedes_has ys x y h)
-precedes_split (z ∷ zs) ys x y (inl h) = elim (has_split zs ys y h.1) [ inl a ↦ inl (inl (h.0, a)) | inr b ↦ inr (inl h.0, b) ]
-precedes_split (z ∷ zs) ys x y (inr h) = elim (precedes_split zs ys x y h) [ inl a ↦ inl (inr a) | inr b ↦ inr (inr b.0, b.1) ]
+precedes_split xs ys x y h = elim (precedes_three xs ys x y h) [
+  | inl a ↦ inl a
+  | inr (inl b) ↦ inr (has_left xs ys x b.0, b.1)
+  | inr (inr k) ↦ let t = precedes_has ys x y k in inr (has_right xs ys x t.0, t.1)
+]
 
 -- ---- runs
 

@@ -132,18 +132,22 @@ request_grows f me s proxy b known h =
 
 -- ---- releases
 
-released_log : (f me : ℕ) (s : ReplicaData) (e : Entry) (es : List Entry) → (released f me s e es).log.entries ≡ s.log.entries ++ e ∷ []
+pub released_log : (f me : ℕ) (s : ReplicaData) (e : Entry) (es : List Entry) → (released f me s e es).log.entries ≡ s.log.entries ++ e ∷ []
 released_log f me s e es = on_cond (λ (l : Log). l.entries ≡ s.log.entries ++ e ∷ []) (leads f me s) _ _ (λ _. refl) (λ _. refl)
 
 released_led : (f me : ℕ) (s : ReplicaData) (e : Entry) (es : List Entry) → s.early ≡ e ∷ es → length s.log.entries < most_entries → IsLed f me s → IsLed f me (released f me s e es)
 released_led f me s e es is room h = record { normal = h.normal; facts = λ lead. released_keeps f me s e es (h.facts lead) is room }
 
-released_stands : (f me : ℕ) (s : ReplicaData) (e : Entry) (es : List Entry) → s.early ≡ e ∷ es → IsLed f me s → StandsIfLed f me (released f me s e es) (id_of e.key) (length (released f me s e es).log.entries - 1)
-released_stands f me s e es is h lead =
-    let fresh = first_fresh s.log.entries e es s.late (subst (λ (xs : List Entry). AreArranged s.log.entries xs s.late) is (arranged f me s (h.facts lead))) in
+-- a released entry stands last
+pub released_place : (f me : ℕ) (s : ReplicaData) (e : Entry) (es : List Entry) → s.early ≡ e ∷ es → HasFacts f me s → place_of (released f me s e es).log.entries (id_of e.key) ≡ Some (length (released f me s e es).log.entries - 1)
+released_place f me s e es is h =
+    let fresh = first_fresh s.log.entries e es s.late (subst (λ (xs : List Entry). AreArranged s.log.entries xs s.late) is (arranged f me s h)) in
     let whole = released_log f me s e es in
     let long : length (s.log.entries ++ e ∷ []) ≡ length s.log.entries + 1 = length-append s.log.entries (e ∷ []) in
     ap (λ (l : List Entry). place_of l (id_of e.key)) whole ∙ place_last e s.log.entries fresh ∙ ap Some (omega (arith, long, ap length whole))
+
+released_stands : (f me : ℕ) (s : ReplicaData) (e : Entry) (es : List Entry) → s.early ≡ e ∷ es → IsLed f me s → StandsIfLed f me (released f me s e es) (id_of e.key) (length (released f me s e es).log.entries - 1)
+released_stands f me s e es is h lead = released_place f me s e es is (h.facts lead)
 
 say_later : (f me : ℕ) (s t : ReplicaData) (m : Message) → SameSeat s t → IsPrefix s.log.entries t.log.entries → Says f me s m → Says f me t m
 say_later f me s t (messages.FastReply b) seat p says = λ a e. let r = says a e in record { leads = same_leads f me s t seat ∙ r.leads; answered = answered_more s.log.entries t.log.entries b.id a p r.answered }

@@ -1,8 +1,9 @@
 -- What the messages of a replica show of its state behind the step that sends them.
-use Rattle.std.proofs.Common.{◌≡◌, ℕ, zero, suc, ◌+◌, ◌-◌, ◌<◌, ◌≤◌, ◌&&◌, not, eqb, eqb-true, Bool, true, false, cond, List, [], ◌∷◌, ◌++◌, length, take, drop, map, Option, Some, None, refl, sym, ap, subst, ◌∙◌, inl, inr, arith, length-append, ltb-true}
+use Rattle.std.proofs.Common.{◌≡◌, ℕ, zero, suc, ◌-◌, ◌<◌, ◌≤◌, ◌&&◌, not, eqb, eqb-true, Bool, true, false, cond, List, [], ◌∷◌, ◌++◌, length, take, drop, map, Option, Some, None, refl, sym, ap, subst, ◌∙◌, inl, inr, arith, ltb-true}
 use Rattle.std.specs.Prelude.{slice_get, nat_lt, nat_le}
 use Rattle.std.specs.List.{AllByRecursion, filter, flat_map}
 use Rattle.std.specs.Map.{lookup}
+use Rattle.std.proofs.lemmas.Bool.{not-true}
 use Rattle.std.proofs.lemmas.List.{take-append-le}
 use Rattle.nz_base.specs.Cluster.{leader_of}
 use Rattle.nz_base.specs.declared.actor.Actor.{Actor}
@@ -38,13 +39,13 @@ use Rattle.nz_machine.specs.Step.{replica_message, tick_rule}
 use Rattle.nz_machine.specs.World.{Has}
 use Rattle.nz_machine.proofs.Runs.{on_cond}
 use Rattle.nz_machine.proofs.Each.{all_append}
-use Rattle.nz_machine.proofs.Keeping.{arranged, clock_keeps, released_keeps}
-use Rattle.nz_machine.proofs.Arranged.{AreArranged, first_fresh}
+use Rattle.nz_machine.proofs.Keeping.{clock_keeps, released_keeps}
 use Rattle.nz_machine.proofs.Ranges.{has_place_left}
 use Rattle.nz_machine.proofs.Seats.{SameSeat, same_seat, same_leads, log_mod_seat}
 use Rattle.nz_lin.specs.Laws.{IsPrefix}
 use Rattle.nz_lin.specs.Snapshots.{ShowsFast, ReplicaShows}
-use Rattle.nz_lin.proofs.Prefixes.{prefix_self, prefix_then, prefix_take, place_last, place_in, place_more, has_place, reply_more}
+use Rattle.nz_lin.proofs.Says.{released_log, released_place}
+use Rattle.nz_lin.proofs.Prefixes.{prefix_self, prefix_then, prefix_take, place_in, place_more, has_place, reply_more}
 
 -- all of some messages show the state s, of a sender that was in another before
 abbrev pub AllShow : ℕ → ℕ → ReplicaData → ReplicaData → List Out → Type 0
@@ -67,15 +68,11 @@ slow_shows f me before s id place None normal follows at synced known = tt
 slow_shows f me before s id place (Some origin) normal follows at synced known =
     (record { normal = normal; follows = follows; place = place; stands = at; synced = synced; origin = origin; known = known; read = refl }, tt)
 
-not_leading : (b : Bool) → not b ≡ true → b ≡ false
-not_leading true h = absurd cc
-not_leading false h = refl
-
 replies_show : (f me : ℕ) (before s : ReplicaData) (id : Id) (place : ℕ) → is_normal before.status ≡ true → is_normal s.status ≡ true → before.view ≡ s.view → place_of s.log.entries id ≡ Some place → AllShow f me before s (replies_at f me s id place)
 replies_show f me before s id place was normal view at =
     let origin = lookup (id_eq id) s.origin in
     on_cond (AllShow f me before s) (not (leads f me s) && nat_lt place s.log.synced) (slow_replies s id origin) (fast_replies f me s id place origin)
-    (λ t. slow_shows f me before s id place origin normal (not_leading (leads f me s) (and_left (not (leads f me s)) (nat_lt place s.log.synced) t)) at (ltb-true place s.log.synced (and_right (not (leads f me s)) (nat_lt place s.log.synced) t)) refl)
+    (λ t. slow_shows f me before s id place origin normal (not-true (leads f me s) (and_left (not (leads f me s)) (nat_lt place s.log.synced) t)) at (ltb-true place s.log.synced (and_right (not (leads f me s)) (nat_lt place s.log.synced) t)) refl)
     (λ _. fast_shows f me before s id place origin was view at refl)
 
 requested_shows : (f me : ℕ) (before s : ReplicaData) (b : TimedBody) (o : Option ℕ) → place_of s.log.entries b.id ≡ o → is_normal before.status ≡ true → is_normal s.status ≡ true → before.view ≡ s.view → Shown f me before (requested f me s b o)
@@ -99,9 +96,6 @@ record IsLater (f me : ℕ) (s t : ReplicaData) : Type 0 where
 
 not_released : (f me : ℕ) (s : ReplicaData) → IsLater f me s s
 not_released f me s = record { seat = same_seat s; vector = refl; origin = refl; log = prefix_self s.log.entries }
-
-released_log : (f me : ℕ) (s : ReplicaData) (e : Entry) (es : List Entry) → (released f me s e es).log.entries ≡ s.log.entries ++ e ∷ []
-released_log f me s e es = on_cond (λ (l : Rattle.nz_log.specs.Synced.Log). l.entries ≡ s.log.entries ++ e ∷ []) (leads f me s) _ _ (λ _. refl) (λ _. refl)
 
 releases_later : (f me : ℕ) (s : ReplicaData) (es : List Entry) → IsLater f me s (releases f me s es).0
 unfolding releases
@@ -164,13 +158,6 @@ later_shows f me before s t id place None was view normal l h k at known = tt
 later_shows f me before s t id place (Some origin) was view normal l h k at known =
     (fast_stays f me before s t _ _ view normal l h k (fast_shows f me before s id place (Some origin) was view at known).0, tt)
 
-released_stands : (f me : ℕ) (s : ReplicaData) (e : Entry) (es : List Entry) → s.early ≡ e ∷ es → HasFacts f me s → place_of (released f me s e es).log.entries (id_of e.key) ≡ Some (length (released f me s e es).log.entries - 1)
-released_stands f me s e es is h =
-    let fresh = first_fresh s.log.entries e es s.late (subst (λ (xs : List Entry). AreArranged s.log.entries xs s.late) is (arranged f me s h)) in
-    let whole = released_log f me s e es in
-    let long : length (s.log.entries ++ e ∷ []) ≡ length s.log.entries + 1 = length-append s.log.entries (e ∷ []) in
-    ap (λ (l : List Entry). place_of l (id_of e.key)) whole ∙ place_last e s.log.entries fresh ∙ ap Some (omega (arith, long, ap length whole))
-
 -- the facts at the end, and what was sent shows the end
 record ShowsEnd (f me : ℕ) (before : ReplicaData) (t : ReplicaData × List Out) : Type 0 where
   facts : HasFacts f me t.0
@@ -189,7 +176,7 @@ releases_show f me before s (e ∷ es) was view normal is h =
     record {
       facts = rest.facts;
       shows = all_append (λ (o : Out). ReplicaShows f me before end o.0 o.1) (release_replies f me next e) (releases f me next es).1
-          (later_shows f me before next end (id_of e.key) (length next.log.entries - 1) (lookup (id_eq (id_of e.key)) next.origin) was view normal (releases_later f me next es) now rest.facts (released_stands f me s e es is h) refl)
+          (later_shows f me before next end (id_of e.key) (length next.log.entries - 1) (lookup (id_eq (id_of e.key)) next.origin) was view normal (releases_later f me next es) now rest.facts (released_place f me s e es is h) refl)
           rest.shows;
     })
     (λ _. record { facts = h; shows = tt })
@@ -257,7 +244,7 @@ kept_missing s [] = tt
 kept_missing s (id ∷ ids) =
     let rest = kept_missing s ids in
     on_cond (AllByRecursion (λ (x : Id). is_held s x ≡ false)) (not (is_held s id)) (id ∷ filter (λ x. not (is_held s x)) ids) (filter (λ x. not (is_held s x)) ids)
-    (λ t. (not_leading (is_held s id) t, rest)) (λ _. rest)
+    (λ t. (not-true (is_held s id) t, rest)) (λ _. rest)
 
 fetch_shows : (f me : ℕ) (before s : ReplicaData) (ids : List Id) → Follows f me s → AllByRecursion (λ (id : Id). is_held s id ≡ false) ids → AllShow f me before s (fetch_from (leader_of f s.view) s ids)
 fetch_shows f me before s [] w all = tt
@@ -304,7 +291,7 @@ log_mod_after f me s sender b =
     let view = eqb-true b.view s.view (and_left (eqb b.view s.view) (eqb sender (leader_of f b.view) && not (leads f me s)) rest) in
     let to = eqb-true sender (leader_of f b.view) (and_left (eqb sender (leader_of f b.view)) (not (leads f me s)) more) ∙ ap (leader_of f) view in
     on_cond After (is_stray b.vector sender s.vector) (s, []) (taken_from sender b own) (λ _ _. tt)
-    (λ _ seat. taken_shows f me sender s b own to (and_left (is_normal s.status) (eqb b.view s.view && (eqb sender (leader_of f b.view) && not (leads f me s))) t) (not_leading (leads f me s) (and_right (eqb sender (leader_of f b.view)) (not (leads f me s)) more)) seat))
+    (λ _ seat. taken_shows f me sender s b own to (and_left (is_normal s.status) (eqb b.view s.view && (eqb sender (leader_of f b.view) && not (leads f me s))) t) (not-true (leads f me s) (and_right (eqb sender (leader_of f b.view)) (not (leads f me s)) more)) seat))
     (λ _ _. tt)
 
 log_mod_shows : (f me : ℕ) (s : ReplicaData) (sender : ℕ) (b : LogModBody) → Shown f me s (log_mod_rule f me s sender b)

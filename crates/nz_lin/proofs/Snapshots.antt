@@ -156,7 +156,7 @@ own_facts g J (Client c) w = tt
 
 -- ---- runs
 
-shown : (g : Group) (r : Record) (J : List Record) (o : Out) → World g (r ∷ J) → Has (event_step g r.actor (state_after g r.actor J) r.event).1 o → Shows g r.actor (state_after g r.actor J) (state_after g r.actor (r ∷ J)) o.0 o.1
+pub shown : (g : Group) (r : Record) (J : List Record) (o : Out) → World g (r ∷ J) → Has (event_step g r.actor (state_after g r.actor J) r.event).1 o → Shows g r.actor (state_after g r.actor J) (state_after g r.actor (r ∷ J)) o.0 o.1
 shown g r J o w among =
     let before = state_after g r.actor J in
     let step = event_step g r.actor before r.event in

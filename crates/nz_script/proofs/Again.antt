@@ -34,21 +34,21 @@ AreReadAs (f ∷ forms) (w ∷ words) = IsReadAs f w × AreReadAs forms words
 graphic_is_not_space : (c : ℕ) → is_graphic c ≡ true → c ≡ space → ⊥
 graphic_is_not_space c g e = let h : is_graphic 32 ≡ true = ap is_graphic (sym e) ∙ g in false≢true h
 
-graphic_lacks_space : (l : List ℕ) → list_all is_graphic l ≡ true → Lacks space l
+pub graphic_lacks_space : (l : List ℕ) → list_all is_graphic l ≡ true → Lacks space l
 graphic_lacks_space [] e = tt
 graphic_lacks_space (c ∷ cs) e = let p = both_of (is_graphic c) (list_all is_graphic cs) e in (graphic_is_not_space c p.0, graphic_lacks_space cs p.1)
 
 graphic_is_printed : (c : ℕ) → is_graphic c ≡ true → is_printed c ≡ true
 graphic_is_printed c e = grind (arith, e)
 
-graphic_are_printed : (l : List ℕ) → list_all is_graphic l ≡ true → list_all is_printed l ≡ true
+pub graphic_are_printed : (l : List ℕ) → list_all is_graphic l ≡ true → list_all is_printed l ≡ true
 graphic_are_printed [] e = refl
 graphic_are_printed (c ∷ cs) e = let p = both_of (is_graphic c) (list_all is_graphic cs) e in both _ _ (graphic_is_printed c p.0) (graphic_are_printed cs p.1)
 
 printed_is_not_newline : (c : ℕ) → is_printed c ≡ true → c ≡ newline → ⊥
 printed_is_not_newline c g e = let h : is_printed 10 ≡ true = ap is_printed (sym e) ∙ g in false≢true h
 
-printed_lacks_newline : (l : List ℕ) → list_all is_printed l ≡ true → Lacks newline l
+pub printed_lacks_newline : (l : List ℕ) → list_all is_printed l ≡ true → Lacks newline l
 printed_lacks_newline [] e = tt
 printed_lacks_newline (c ∷ cs) e = let p = both_of (is_printed c) (list_all is_printed cs) e in (printed_is_not_newline c p.0, printed_lacks_newline cs p.1)
 

@@ -45,7 +45,7 @@ then_taken d e f a b h k = record {
   after = after-append d a b ∙ ap (λ (x : Draft). after_lines x b) h.after ∙ k.after;
 }
 
-choice_again : (choice : Option (List ℕ)) → choice_as (Some (choice_of choice)) ≡ choice
+pub choice_again : (choice : Option (List ℕ)) → choice_as (Some (choice_of choice)) ≡ choice
 choice_again None = refl
 choice_again (Some v) = refl
 
@@ -56,11 +56,11 @@ known_choice g (Some v) = refl
 command_limits : (a room : Bool) → a ≡ true → room ≡ true → ((a && true) && room) ≡ true
 command_limits a room e h = both _ _ (both _ _ e refl) h
 
-choice_is_read : (choice : Option (List ℕ)) → is_choice_text choice ≡ true → IsReadAs form.Choice (choice_of choice)
+pub choice_is_read : (choice : Option (List ℕ)) → is_choice_text choice ≡ true → IsReadAs form.Choice (choice_of choice)
 choice_is_read None e = nothing_read
 choice_is_read (Some v) e = choice_read v e
 
-choice_within : (choice : Option (List ℕ)) → is_choice_text choice ≡ true → has_choice (choice_of choice) ≡ true
+pub choice_within : (choice : Option (List ℕ)) → is_choice_text choice ≡ true → has_choice (choice_of choice) ≡ true
 choice_within None e = refl
 choice_within (Some v) e = e
 

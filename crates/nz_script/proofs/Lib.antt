@@ -14,3 +14,4 @@ pub mod Mishaps
 pub mod Back
 pub mod Sound
 pub mod Generated
+pub mod Asking

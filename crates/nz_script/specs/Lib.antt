@@ -9,3 +9,4 @@ pub mod Texts
 pub mod Valid
 pub mod Draws
 pub mod Sizes
+pub mod Commands

@@ -33,7 +33,8 @@ pub struct Draft {
     pub faults: FaultList,
 }
 
-fn command_of(alloc: Global, ask: Ask, words: &[Word]) -> Result<Command, NoMemory>
+/// The command that the words mean.
+pub fn command_of(alloc: Global, ask: Ask, words: &[Word]) -> Result<Command, NoMemory>
     ensures { IfOk result (λ command. command ≡ command_in ask words.now) }
 {
     let key = text_at(alloc, words, 0)?;

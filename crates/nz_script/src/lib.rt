@@ -3,6 +3,7 @@
 
 mod bytes;
 mod checks;
+mod commands;
 mod draft;
 mod faults;
 mod generating;
@@ -18,6 +19,9 @@ mod spelled;
 mod validity;
 mod word;
 
+pub use bytes::{cut_at, number_of};
+pub use checks::is_value;
+pub use commands::command_first;
 pub use faults::{Kind, ScriptFault};
 pub use generating::generate;
 pub use laws::{texts_are_read_back, what_is_drawn_can_be_run, what_is_read_can_be_run};

@@ -1,2 +1,6 @@
 mod Events
 mod Opens
+mod Pieces
+mod Steps
+pub mod ReadBack
+pub mod Whole

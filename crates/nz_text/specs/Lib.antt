@@ -1,2 +1,4 @@
 pub mod Text
 pub mod Trace
+pub mod Reading
+pub mod Fit

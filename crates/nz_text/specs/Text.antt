@@ -1,5 +1,5 @@
 -- The text of a run: what its clients saw, what is open, the history, and the end. Its summary counts the lines.
-use Rattle.std.specs.Prelude.{ℕ, suc, ◌+◌, Bool, true, false, List, [], ◌∷◌, ◌++◌, length, map, Option, Some, None, if◌then◌else◌, codes, count_by}
+use Rattle.std.specs.Prelude.{ℕ, suc, Bool, true, false, List, [], ◌∷◌, ◌++◌, length, map, Option, Some, None, if◌then◌else◌, codes, count_by}
 use Rattle.std.specs.Fmt.{decimal}
 use Rattle.std.specs.List.{list_any, flat_map}
 use Rattle.nz_base.specs.Key.{id_eq}
@@ -25,6 +25,7 @@ use Rattle.nz_text.specs.declared.printed.Printed.{Printed}
 
 -- ---- lines
 
+-- What ends each line.
 abbrev pub newline : List ℕ
 newline = codes "\n"
 
@@ -37,12 +38,14 @@ abbrev pub found_text : Option Command → List ℕ
 found_text None = []
 found_text (Some command) = codes " " ++ line_text (command_line command)
 
+-- What the store answered, behind a space.
 abbrev pub answer_text : Answer → List ℕ
 answer_text Done = codes " done"
 answer_text (Value value) = codes " value " ++ value
 answer_text Absent = codes " absent"
 answer_text Differs = codes " differs"
 
+-- How the request was decided, behind a space.
 abbrev pub path_text : Path → List ℕ
 path_text Fast = codes " fast"
 path_text Slow = codes " slow"
@@ -52,6 +55,7 @@ abbrev pub event_line : Event → List ℕ
 event_line (Send id command) = codes "send" ++ (id_text id ++ (found_text (command_of command) ++ newline))
 event_line (Accept id answer path) = codes "accept" ++ (id_text id ++ (answer_text answer ++ (path_text path ++ newline)))
 
+-- The line of a request without an acceptance.
 abbrev pub open_line : Id → List ℕ
 open_line id = codes "open" ++ (id_text id ++ newline)
 
@@ -70,6 +74,7 @@ text_of p = flat_map event_line p.events ++ (flat_map open_line p.unanswered ++ 
 
 -- ---- what is printed of a run
 
+-- An event of the run, as a text has it.
 abbrev pub event_of : Told → Event
 event_of (Sent id command) = Send id command
 event_of (Accepted id answer path) = Accept id answer path
@@ -88,13 +93,15 @@ open_in E (Accept id answer path) = []
 abbrev pub unanswered_in : List Event → List Id
 unanswered_in E = flat_map (open_in E) E
 
--- The events of the clients, and which of their requests are open.
+-- The events of the run's clients.
 abbrev pub events_in : Group → List Record → List Event
 events_in g J = map event_of (events g J)
 
+-- What is printed of a run: its events, its open requests, and its history with the answers of one store.
 abbrev pub printed : Group → List Record → Printed
 printed g J = record { events = events_in g J; unanswered = unanswered_in (events_in g J); history = executed (history g J) }
 
+-- The text of a run.
 abbrev pub text : Group → List Record → List ℕ
 text g J = text_of (printed g J)
 
@@ -108,6 +115,7 @@ is_of sort.Fast (Accept id answer Fast) = true
 is_of sort.Slow (Accept id answer Slow) = true
 is_of _ _ = false
 
+-- A name and how many there are.
 abbrev pub count_line : List ℕ → ℕ → List ℕ
 count_line name count = name ++ (codes " " ++ (decimal count ++ newline))
 
@@ -122,5 +130,6 @@ summary_of p =
     ++ (count_line (codes "history") (length p.history)
     ++ codes "end\n")))))
 
+-- The summary of a run.
 abbrev pub summary : Group → List Record → List ℕ
 summary g J = summary_of (printed g J)

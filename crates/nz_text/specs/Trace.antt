@@ -22,6 +22,7 @@ what_text Alarm = codes "alarm"
 what_text Crash = codes "crash"
 what_text (Restart nonce) = codes "restart " ++ decimal nonce
 
+-- How many parcels were sent.
 abbrev pub sends_text : List Parcel → List ℕ
 sends_text sends = codes " -> " ++ (decimal (length sends) ++ codes "\n")
 

@@ -169,3 +169,75 @@ fn a_trace_line_of_each_sort(rt: HostRuntime) -> Result<(), Fail> {
     assert_eq!(rt; trace.as_slice(), TRACE);
     Ok(())
 }
+
+/// The first bad line of the text, 0 where it has none.
+fn first_bad(alloc: Global, text: &[u8]) -> Result<u32, Fail> {
+    if text.len() > 1_000 {
+        return Err("a long text".into());
+    }
+    match read_text(alloc, text) {
+        Ok(_) => Ok(0),
+        Err(TextFault::Bad { line }) => Ok(line),
+        Err(TextFault::NoMemory) => Err("no memory".into()),
+    }
+}
+
+#[test]
+fn what_was_printed_is_read_back(rt: HostRuntime) -> Result<(), Fail> {
+    let alloc = rt.alloc();
+    let Ok(printed) = read_text(alloc, TEXT) else {
+        return Err("a text that is none".into());
+    };
+    let text = spell(
+        alloc,
+        printed.events.as_slice(),
+        printed.unanswered.as_slice(),
+        &printed.history,
+    )?;
+    assert_eq!(rt; text.as_slice(), TEXT);
+    Ok(())
+}
+
+#[test]
+fn first_bad_lines(rt: HostRuntime) -> Result<(), Fail> {
+    let table: [(&[u8], u32); 28] = [
+        (b"end\n", 0),
+        (b"", 1),
+        (b"end", 1),
+        (b"end\nend\n", 2),
+        (b"end\n\n", 2),
+        (b"\nend\n", 1),
+        (b"end \n", 1),
+        (b" end\n", 1),
+        (b"open c4294967295 0\nend\n", 0),
+        (b"open c4294967296 0\nend\n", 1),
+        (b"open c0 00\nend\n", 1),
+        (b"open r0 1\nend\n", 1),
+        (b"open c0  1\nend\n", 1),
+        (b"open c0 1\n", 2),
+        (b"accept c0 1 value - fast\nend\n", 1),
+        (b"accept c0 1 value v slow\nsend c7 3 del d\nend\n", 0),
+        (b"accept c0 1 absent quick\nend\n", 1),
+        (b"accept c0 1 done fast more\nend\n", 1),
+        (b"send c0 1 cas k - -\nend\n", 0),
+        (b"send c0 1 put k -\nend\n", 1),
+        (b"send c0 1 wait 3\nend\n", 1),
+        (b"open c0 1\nsend c0 1 get k\nend\n", 2),
+        (b"at 1 c0 1 get gives gives differs\nend\n", 0),
+        (b"at 0 c0 1 get k gives done\nend\n", 1),
+        (
+            b"at 1 c0 1 get k gives done\nat 3 c0 1 get k gives done\nend\n",
+            2,
+        ),
+        (
+            b"at 1 c0 1 get k gives done\nat 1 c0 1 get k gives done\nend\n",
+            2,
+        ),
+        (b"at 1 c0 1 get k done\nend\n", 1),
+        (b"at 1 c0 1 get k gives done\nopen c0 1\nend\n", 2),
+    ];
+    for (text, line) in table {
+        assert_eq!(rt; first_bad(rt.alloc(), text)?, line);
+    }
+    Ok(())
+}

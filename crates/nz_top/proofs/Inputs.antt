@@ -1,5 +1,5 @@
 -- The input is what was read.
-use Rattle.std.proofs.Common.{◌≡◌, ◌≢◌, ◌<◌, ◌≤◌, ◌⊎◌, inl, inr, ℕ, List, [], ◌++◌, length, Option, Some, None, Result, Ok, Err, sym, ap, subst, ◌∙◌, arith, append-nil, take_all}
+use Rattle.std.proofs.Common.{◌≡◌, ◌≢◌, ◌<◌, ◌≤◌, ◌⊎◌, inl, inr, ℕ, List, [], ◌++◌, length, Option, Some, None, Ok, Err, sym, ap, subst, ◌∙◌, arith, append-nil, take_all}
 use Rattle.std.specs.Prelude.{IfSome}
 use Rattle.std.proofs.lemmas.List.{take_at}
 use Rattle.std.proofs.lemmas.Bool.{cases_lt}
@@ -11,6 +11,7 @@ use Rattle.nz_script.specs.declared.faults.ScriptFault.{ScriptFault}
 use Rattle.nz_script.specs.declared.faults.ScriptFault.TheVariants.{Refusal, NoMemory}
 use Rattle.nz_script.specs.Reading.{scenario}
 use Rattle.nz_top.specs.Moves.{most_input, input}
+use Rattle.nz_top.specs.declared.words.Command.{Command}
 use Rattle.nz_top.specs.declared.top.NoScenario.{NoScenario}
 use Rattle.nz_top.specs.declared.top.NoScenario.TheVariants.{Refused}
 use Rattle.nz_top.specs.Calls.{ReadsAs, RefusedAt, Explains, WritesLine, TellsBadLine, refusal_line}
@@ -44,11 +45,11 @@ pub refused_is_input : (before : Option (List ℕ)) (bytes read : List ℕ) (fau
     → (fault ≢ NoMemory → scenario read ≡ Err fault) → RefusedAt before line kind
 refused_is_input before bytes read fault line kind h same is f = refused_as before bytes line kind h (ap scenario (sym same) ∙ f (λ e. no_want line kind (sym is ∙ e)) ∙ ap Err is)
 
-pub line_told : (left before after : Option (List ℕ)) (counted counts a b line told : ℕ) (kind said : Kind) (why : NoScenario) → why ≡ Refused line kind → told ≡ line → said ≡ kind → Explains left a b why
+pub line_told : (command : Command) (left before after : Option (List ℕ)) (counted counts a b line told : ℕ) (kind said : Kind) (why : NoScenario) → why ≡ Refused line kind → told ≡ line → said ≡ kind → Explains command left a b why
     → WritesLine (refusal_line told said) before after counted counts → TellsBadLine left before after counted counts
-line_told left before after counted counts a b line told kind said why is same_line same_kind first written = record {
+line_told command left before after counted counts a b line told kind said why is same_line same_kind first written = record {
   line = line;
   kind = kind;
-  first = subst (Explains left a b) is first;
+  first = (subst (Explains command left a b) is first).1;
   told = subst (λ (n : ℕ). WritesLine (refusal_line n kind) before after counted counts) same_line (subst (λ (k : Kind). WritesLine (refusal_line told k) before after counted counts) same_kind written);
 }

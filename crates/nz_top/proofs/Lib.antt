@@ -1,3 +1,5 @@
 mod Inputs
 mod Playable
 mod Schedules
+pub mod Answers
+pub mod TextsOfRuns

@@ -1,6 +1,6 @@
 -- What is read can be played.
-use Rattle.std.proofs.Common.{◌≡◌, ℕ, ◌+◌, ◌<◌, ◌≤◌, Bool, true, List, [], ◌∷◌, Option, Some, None, Ok, sym, subst, arith, length}
-use Rattle.std.specs.Prelude.{◌&&◌, ◌*◌, nat_le, nat_lt, is_some, IsSome}
+use Rattle.std.proofs.Common.{◌≡◌, ℕ, ◌<◌, ◌≤◌, true, List, [], ◌∷◌, Option, Ok, sym, subst, arith, length}
+use Rattle.std.specs.Prelude.{◌*◌, nat_le, nat_lt, is_some, IsSome}
 use Rattle.std.specs.List.{list_all, AllByRecursion}
 use Rattle.std.proofs.lemmas.Bool.{eqb-true}
 use Rattle.std.proofs.lemmas.List.Sums.{sum-map}
@@ -19,7 +19,12 @@ use Rattle.nz_script.specs.Reading.{scenario}
 use Rattle.nz_script.specs.Valid.{group_of as script_group, is_request, are_requests, request_count, calls_known, IsRunnable}
 use Rattle.nz_script.proofs.Passing.{both_of}
 use Rattle.nz_script.proofs.Sections.{group_parts, between_most, below_most}
+use Rattle.nz_script.proofs.Generated.{generated_runnable}
 use Rattle.nz_script.proofs.Sound.{read_runnable}
+use Rattle.nz_script.specs.Draws.{generated}
+use Rattle.nz_top.specs.declared.words.Command.{Command as Commands}
+use Rattle.nz_top.specs.declared.words.Command.TheVariants.{Gen}
+use Rattle.nz_top.specs.Words.{IsCalled}
 use Rattle.nz_machine.specs.World.{IsAsked, IsMember, request_count as asked_count}
 use Rattle.nz_machine.specs.Schedule.{group_of, NamesMember, IsPlayable}
 
@@ -88,3 +93,9 @@ playable s h =
 
 pub read_playable : (bytes : List ℕ) (s : Scenario) → scenario bytes ≡ Ok s → IsPlayable s
 read_playable bytes s e = playable s (read_runnable bytes s e)
+
+few_called : (command : Commands) (seed count : ℕ) → command ≡ Gen seed count → IsCalled command → count ≤ 2000
+few_called command seed count is called = (subst IsCalled is called).1
+
+pub drawn_playable : (command : Commands) (seed count : ℕ) (s : Scenario) → command ≡ Gen seed count → IsCalled command → s ≡ generated seed count → IsPlayable s
+drawn_playable command seed count s is called drawn = subst IsPlayable (sym drawn) (playable (generated seed count) (generated_runnable seed count (few_called command seed count is called)))

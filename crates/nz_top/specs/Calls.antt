@@ -1,5 +1,5 @@
 -- What a call of the program is answered.
-use Rattle.std.specs.Prelude.{ℕ, ◌≡◌, ◌⊎◌, List, [], ◌∷◌, ◌++◌, Option, Some, None, Ok, Err, IsSome, IsNone, IfSome, codes}
+use Rattle.std.specs.Prelude.{ℕ, ◌≡◌, ◌⊎◌, List, [], ◌++◌, Option, Some, None, Ok, Err, IsSome, IsNone, IfSome, IsTrue, codes}
 use Rattle.std.specs.Fmt.{decimal}
 use Rattle.nz_edge.specs.Faults.{Rose}
 use Rattle.nz_edge.specs.Told.{Gains}
@@ -7,19 +7,22 @@ use Rattle.nz_base.specs.declared.scenario.Scenario.{Scenario}
 use Rattle.nz_script.specs.declared.faults.Kind.{Kind}
 use Rattle.nz_script.specs.declared.faults.Kind.TheVariants.{Syntax, Order, Name, Limit}
 use Rattle.nz_script.specs.declared.faults.ScriptFault.TheVariants.{Refusal}
+use Rattle.nz_script.specs.Draws.{generated}
 use Rattle.nz_script.specs.Reading.{scenario}
 use Rattle.nz_machine.specs.declared.journal.Journal.{Journal}
 use Rattle.nz_machine.specs.Journals.{group_in, run_in}
 use Rattle.nz_machine.specs.Schedule.{InOrder}
 use Rattle.nz_machine.specs.World.{World}
-use Rattle.nz_text.specs.Text.{text, trace}
+use Rattle.nz_text.specs.Text.{text, summary}
+use Rattle.nz_text.specs.Trace.{trace}
 use Rattle.nz_top.specs.declared.status.Status.{Status}
 use Rattle.nz_top.specs.declared.status.Status.TheVariants.{Done, Usage, BadScenario, ReadFault, WriteFault, NoMemory}
 use Rattle.nz_top.specs.declared.top.NoScenario.{NoScenario}
 use Rattle.nz_top.specs.declared.top.NoScenario.TheVariants as no_scenario
 use Rattle.nz_top.specs.declared.words.Command.{Command}
-use Rattle.nz_top.specs.declared.words.Command.TheVariants.{Run, Trace}
+use Rattle.nz_top.specs.declared.words.Command.TheVariants.{Run, Trace, Gen}
 use Rattle.nz_top.specs.Moves.{input, TakesFront}
+use Rattle.nz_top.specs.Words.{reads}
 
 -- the source tells its bytes, and what is looked at of them is the text of this scenario
 abbrev pub ReadsAs : Option (List ℕ) → Scenario → Type 0
@@ -39,11 +42,35 @@ abbrev pub IsRefused : Option (List ℕ) → Type 0
 IsRefused None = ⊥
 IsRefused (Some bytes) = (line : ℕ) × ((kind : Kind) × (scenario (input bytes) ≡ Err (Refusal line kind)))
 
+-- the scenario that a command plays: that of the input, or one that is drawn
+abbrev pub Plays : Command → Option (List ℕ) → Scenario → Type 0
+Plays Run left s = ReadsAs left s
+Plays Trace left s = ReadsAs left s
+Plays (Gen seed count) left s = s ≡ generated seed count
+
+-- what is left of the input then: nothing, or all of it where it is not read
+abbrev pub HasRead : Command → Option (List ℕ) → Option (List ℕ) → Type 0
+HasRead Run before after = IfSome after (λ rest. rest ≡ [])
+HasRead Trace before after = IfSome after (λ rest. rest ≡ [])
+HasRead (Gen seed count) before after = after ≡ before
+
+-- there is a scenario to play, and nothing keeps it from being read
+abbrev pub CanPlay : Option Command → Option (List ℕ) → ℕ → ℕ → Type 0
+CanPlay None left counted counts = ⊥
+CanPlay (Some Run) left counted counts = ¬ Rose counted counts × IsReadable left
+CanPlay (Some Trace) left counted counts = ¬ Rose counted counts × IsReadable left
+CanPlay (Some (Gen seed count)) left counted counts = Unit {0}
+
+-- the command reads a scenario from the source
+abbrev pub Reads : Option Command → Type 0
+Reads None = ⊥
+Reads (Some command) = IsTrue (reads command)
+
 -- why there is no scenario
-abbrev pub Explains : Option (List ℕ) → ℕ → ℕ → NoScenario → Type 0
-Explains left counted counts (no_scenario.Refused line kind) = RefusedAt left line kind
-Explains left counted counts no_scenario.Fault = Rose counted counts
-Explains left counted counts no_scenario.NoMemory = Unit {0}
+abbrev pub Explains : Command → Option (List ℕ) → ℕ → ℕ → NoScenario → Type 0
+Explains command left counted counts (no_scenario.Refused line kind) = IsTrue (reads command) × RefusedAt left line kind
+Explains command left counted counts no_scenario.Fault = IsTrue (reads command) × Rose counted counts
+Explains command left counted counts no_scenario.NoMemory = Unit {0}
 
 -- the line is written whole, but for a front of it where the sink counted a fault
 pub record WritesLine (line : List ℕ) (before after : Option (List ℕ)) (counted counts : ℕ) : Type 0 where
@@ -70,6 +97,7 @@ pub record TellsBadLine (left before after : Option (List ℕ)) (counted counts 
 -- what a command prints of a run
 abbrev pub printed_by : Command → Journal → List ℕ
 printed_by Run j = text (group_in j) (run_in j)
+printed_by (Gen seed count) j = summary (group_in j) (run_in j)
 printed_by Trace j = trace (run_in j) ++ (codes "text\n" ++ text (group_in j) (run_in j))
 
 abbrev pub printed : Option Command → Journal → List ℕ

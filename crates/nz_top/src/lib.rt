@@ -2,12 +2,14 @@
 #![tactic(auto)]
 
 mod input;
+mod laws;
 mod output;
 mod refusal;
 mod status;
 mod top;
 mod words;
 
+pub use laws::texts_of_runs_are_read_back;
 pub use status::{Outcome, Status};
 pub use top::nezha;
 pub use words::{Command, Words};

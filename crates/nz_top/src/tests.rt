@@ -72,7 +72,11 @@ fn bad_lines(rt: HostRuntime) -> Result<(), Fail> {
     let table = [
         ("", "", "refused line 1: order\n"),
         ("nezha 1\nf 0\nand so on\n", "", "refused line 2: limit\n"),
-        ("nezha 1\nf 1\nproxies 1\nclients 65\n", "", "refused line 4: limit\n"),
+        (
+            "nezha 1\nf 1\nproxies 1\nclients 65\n",
+            "",
+            "refused line 4: limit\n",
+        ),
         (HEAD, "end\ncrash r9 5\ndone\n", "refused line 8: name\n"),
         (HEAD, "get a\n", "refused line 8: order\n"),
         (HEAD, "put k\nend\ndone\n", "refused line 7: syntax\n"),
@@ -106,20 +110,36 @@ fn values_and_inputs_that_are_too_long(rt: HostRuntime) -> Result<(), Fail> {
 
 #[test]
 fn words_that_are_no_call(rt: HostRuntime) -> Result<(), Fail> {
-    let table: [&[&str]; 6] = [
-        &[],
-        &["walk"],
-        &["--help"],
-        &["run", "run"],
-        &["run", "--workers", "0"],
-        &["runs"],
+    // How many words there are, and the words.
+    let table = [
+        (0, "", "", ""),
+        (1, "gen", "", ""),
+        (2, "gen", "7", ""),
+        (3, "gen", "7", "0"),
+        (3, "gen", "7", "2001"),
+        (1, "walk", "", ""),
+        (1, "--help", "", ""),
+        (2, "run", "run", ""),
+        (3, "run", "--workers", "0"),
+        (1, "runs", "", ""),
     ];
-    for words in table {
-        let (outcome, out) = answer(rt.alloc(), &plain(words, PUT_THEN_GET.input.as_bytes()))?;
+    for (count, first, second, third) in table {
+        let words = [first, second, third];
+        let call = plain(&words[..count], PUT_THEN_GET.input.as_bytes());
+        let (outcome, out) = answer(rt.alloc(), &call)?;
         assert_eq!(rt; outcome.status, Status::Usage);
         assert_eq!(rt; out.bytes(), b"refused words\n".as_slice());
         assert!(rt; outcome.journal.is_none());
     }
+    Ok(())
+}
+
+#[test]
+fn a_drawn_run(rt: HostRuntime) -> Result<(), Fail> {
+    let (outcome, out) = answer(rt.alloc(), &plain(&["gen", "7", "1"], b"not read"))?;
+    assert_eq!(rt; outcome.status, Status::Done);
+    let summary = b"sent 1\naccepted 1\nfast 1\nslow 0\nopen 0\nhistory 1\nend\n";
+    assert_eq!(rt; out.bytes(), summary.as_slice());
     Ok(())
 }
 
@@ -157,7 +177,12 @@ fn sinks_that_fail(rt: HostRuntime) -> Result<(), Fail> {
     // The first call that fails, of writes of ten bytes, and what was taken by then.
     let output = PUT_THEN_GET.output.as_bytes();
     let writes = output.len().div_ceil(10) as u32;
-    let table = [(1u32, 0usize), (3, 20), (writes, 10 * (writes as usize - 1)), (writes + 1, output.len())];
+    let table = [
+        (1u32, 0usize),
+        (3, 20),
+        (writes, 10 * (writes as usize - 1)),
+        (writes + 1, output.len()),
+    ];
     for (call, taken) in table {
         let call = Call {
             write_piece: 10,

@@ -1,5 +1,5 @@
 //! The top call.
-ghost use Rattle.std.specs.Prelude.{◌≡◌, ◌≤◌, ◌⊎◌, ◌↔◌, [], None, IfOk, IfErr, IfSome, OnOk, OnSome, Some, IsSome, codes};
+ghost use Rattle.std.specs.Prelude.{◌≡◌, ◌≤◌, ◌⊎◌, ◌↔◌, [], None, IfOk, IfErr, IfSome, OnOk, OnSome, Some, IsSome, IsTrue, codes};
 ghost use Rattle.nz_edge.specs.Faults.{Rose};
 ghost use Rattle.nz_edge.specs.Told.{Gains};
 ghost use Rattle.nz_machine.specs.Events.{events};
@@ -9,9 +9,10 @@ ghost use Rattle.nz_machine.specs.OneHistory.{Lin, NoCollision};
 ghost use Rattle.nz_machine.specs.Schedule.{IsPlayable, InOrder, Scheduled};
 ghost use Rattle.nz_machine.specs.World.{World};
 ghost use Rattle.nz_top.specs.declared.status.Status.TheVariants as status;
-ghost use Rattle.nz_top.specs.Calls.{Explains, HasRun, IsPlayed, IsReadable, IsRefused, IsRun, ReadsAs, TellsBadLine, WritesLine, printed, printed_by, refusal_line as refusal_line_of};
+ghost use Rattle.nz_top.specs.Calls.{CanPlay, Explains, HasRead, HasRun, IsPlayed, IsReadable, IsRefused, IsRun, Plays, Reads, ReadsAs, TellsBadLine, WritesLine, printed, printed_by, refusal_line as refusal_line_of};
 ghost use Rattle.nz_top.specs.Moves.{TakesFront};
-ghost use Rattle.nz_top.specs.Words.{command_of};
+ghost use Rattle.nz_top.specs.declared.words.Command.{Command as Commands};
+ghost use Rattle.nz_top.specs.Words.{command_of, reads, IsCalled};
 
 use crate::input::{Stop, read_input};
 use crate::output::write_all;
@@ -23,8 +24,8 @@ use nz_base::{Blob, NoMemory, Scenario};
 use nz_edge::{Gate, Sink, Source};
 use nz_machine::Journal;
 use nz_run::run_alone;
-use nz_script::{Kind, ScriptFault, read};
-use nz_text::{text, trace};
+use nz_script::{Kind, ScriptFault, generate, read};
+use nz_text::{summary, text, trace};
 use std::alloc::Global;
 
 /// Why there is no scenario.
@@ -42,7 +43,7 @@ fn scenario_of<S: Source>(alloc: Global, source: &mut S) -> Result<Scenario, NoS
     ensures found { IfOk result (ReadsAs (S.left source.old)) }
     ensures playable { IfOk result IsPlayable }
     ensures end { OnOk result (IfSome (S.left source.new) (λ rest. rest ≡ [])) }
-    ensures none { IfErr result (Explains (S.left source.old) (S.faults source.old) (S.faults source.new)) }
+    ensures none { (command : Commands) → IsTrue (reads command) → IfErr result (Explains command (S.left source.old) (S.faults source.old) (S.faults source.new)) }
     ensures counts { S.faults source.old ≤ S.faults source.new }
 {
     let bytes = match read_input(alloc, source) {
@@ -54,6 +55,28 @@ fn scenario_of<S: Source>(alloc: Global, source: &mut S) -> Result<Scenario, NoS
         Ok(scenario) => Ok(scenario),
         Err(ScriptFault::Refusal { line, kind }) => Err(NoScenario::Refused { line, kind }),
         Err(ScriptFault::NoMemory) => Err(NoScenario::NoMemory),
+    }
+}
+
+/// The scenario that the command plays.
+fn scenario_for<S: Source>(
+    alloc: Global,
+    command: Command,
+    source: &mut S,
+) -> Result<Scenario, NoScenario>
+    requires { IsCalled command }
+    ensures found { IfOk result (Plays command (S.left source.old)) }
+    ensures playable { IfOk result IsPlayable }
+    ensures read { OnOk result (HasRead command (S.left source.old) (S.left source.new)) }
+    ensures none { IfErr result (Explains command (S.left source.old) (S.faults source.old) (S.faults source.new)) }
+    ensures counts { S.faults source.old ≤ S.faults source.new }
+{
+    match command {
+        Command::Run | Command::Trace => scenario_of(alloc, source),
+        Command::Gen { seed, count } => match generate(alloc, seed, count) {
+            Ok(scenario) => Ok(scenario),
+            Err(_) => Err(NoScenario::NoMemory),
+        },
     }
 }
 
@@ -88,15 +111,15 @@ fn print(alloc: Global, command: Command, journal: &Journal) -> Result<Blob, NoM
     ensures { IfOk result (λ bytes. bytes ≡ printed_by command journal.now) }
 {
     let history = history_of(alloc, journal)?;
-    let text = text(alloc, journal, &history)?;
     match command {
-        Command::Run => Ok(text),
+        Command::Run => text(alloc, journal, &history),
         Command::Trace => {
             let mut bytes = trace(alloc, journal)?.into_vec();
             bytes.extend_from_slice(b"text\n")?;
-            bytes.extend_from_slice(text.as_slice())?;
+            bytes.extend_from_slice(text(alloc, journal, &history)?.as_slice())?;
             Ok(Blob::from_vec(bytes))
         }
+        Command::Gen { .. } => summary(alloc, journal, &history),
     }
 }
 
@@ -143,7 +166,8 @@ fn answer<O: Sink>(alloc: Global, command: Command, scenario: &Scenario, out: &m
 }
 
 /// What the program does with the words behind its name: `run` and `trace` read a scenario from the
-/// source, play it, and write the run to the sink. The gate serves runs with workers.
+/// source, play it, and write the run to the sink; `gen` plays one that is drawn, and writes its summary.
+/// The gate serves runs with workers.
 pub fn nezha<S: Source, O: Sink, G: Gate>(
     alloc: Global,
     words: &Words,
@@ -153,18 +177,19 @@ pub fn nezha<S: Source, O: Sink, G: Gate>(
 ) -> Outcome
     // When each answer comes.
     ensures usage { (result.status ≡ status.Usage) ↔ (command_of words.now ≡ None) }
-    ensures refused { IsSome (command_of words.now) → ¬ Rose (S.faults source.old) (S.faults source.new) → IsRefused (S.left source.old)
+    ensures reading { (result.status ≡ status.BadScenario) ⊎ (result.status ≡ status.ReadFault) → Reads (command_of words.now) }
+    ensures refused { Reads (command_of words.now) → ¬ Rose (S.faults source.old) (S.faults source.new) → IsRefused (S.left source.old)
         → (result.status ≡ status.BadScenario) ⊎ (result.status ≡ status.NoMemory) }
     ensures read_fault { result.status ≡ status.ReadFault → Rose (S.faults source.old) (S.faults source.new) }
     ensures write_fault { result.status ≡ status.WriteFault → Rose (O.faults out.old) (O.faults out.new) }
     ensures no_memory { result.status ≡ status.NoMemory → IsSome (command_of words.now) }
-    ensures complete { IsSome (command_of words.now) → ¬ Rose (S.faults source.old) (S.faults source.new) → ¬ Rose (O.faults out.old) (O.faults out.new) → IsReadable (S.left source.old)
+    ensures complete { CanPlay (command_of words.now) (S.left source.old) (S.faults source.old) (S.faults source.new) → ¬ Rose (O.faults out.old) (O.faults out.new)
         → ((result.status ≡ status.Done) × IfSome result.journal (λ journal. Gains (O.taken out.old) (O.taken out.new) (printed (command_of words.now) journal))) ⊎ (result.status ≡ status.NoMemory) }
 
     // The run, and the scenario that it is a run of.
     ensures run { HasRun result.status result.journal }
-    ensures scenario { IfSome result.journal (λ journal. ReadsAs (S.left source.old) journal.scenario) }
-    ensures whole_input { OnSome result.journal (IfSome (S.left source.new) (λ rest. rest ≡ [])) }
+    ensures scenario { IfSome result.journal (λ journal. IfSome (command_of words.now) (λ command. Plays command (S.left source.old) journal.scenario)) }
+    ensures whole_input { OnSome result.journal (IfSome (command_of words.now) (λ command. HasRead command (S.left source.old) (S.left source.new))) }
     ensures world { IfSome result.journal (λ journal. World (group_in journal) (run_in journal)) }
     ensures scheduled { IfSome result.journal (λ journal. Scheduled journal.scenario (run_in journal)) }
     ensures in_order { IfSome result.journal (λ journal. InOrder journal.scenario (run_in journal)) }
@@ -183,7 +208,7 @@ pub fn nezha<S: Source, O: Sink, G: Gate>(
         refuse(out, b"refused words\n");
         return Outcome::without_run(Status::Usage);
     };
-    match scenario_of(alloc, source) {
+    match scenario_for(alloc, command, source) {
         Ok(scenario) => answer(alloc, command, &scenario, out),
         Err(NoScenario::Refused { line, kind }) => {
             tell_bad_line(out, line, kind);

@@ -1,8 +1,9 @@
 //! The words of a call.
-ghost use Rattle.std.specs.Prelude.{◌≡◌, IfOk, map};
-ghost use Rattle.nz_top.specs.Words.{named as named_of, command_of};
+ghost use Rattle.std.specs.Prelude.{◌≡◌, ◌≤◌, IfOk, IfSome, map};
+ghost use Rattle.nz_top.specs.Words.{named as named_of, counted as counted_of, drawn as drawn_of, command_of, IsCalled};
 
 use nz_base::{Blob, List, NoMemory};
+use nz_script::number_of;
 use std::alloc::Global;
 use std::marker::Model;
 
@@ -13,6 +14,8 @@ pub enum Command {
     Run,
     /// The same, and print each record of the run before that.
     Trace,
+    /// Play the scenario that the seed draws, with so many requests, 1 to 2,000, and print its summary.
+    Gen { seed: u64, count: u32 },
 }
 
 /// The words behind the program's name.
@@ -30,7 +33,8 @@ impl Model for Words {
 }
 
 fn named(word: &[u8]) -> Option<Command>
-    ensures { result ≡ named_of word.now }
+    ensures value { result ≡ named_of word.now }
+    ensures called { IfSome result IsCalled }
 {
     if word == b"run".as_slice() {
         Some(Command::Run)
@@ -38,6 +42,30 @@ fn named(word: &[u8]) -> Option<Command>
         Some(Command::Trace)
     } else {
         None
+    }
+}
+
+fn counted(number: Option<u64>) -> Option<u32>
+    ensures value { result ≡ counted_of number }
+    ensures some { IfSome result (λ count. 1 ≤ count) }
+    ensures few { IfSome result (λ count. count ≤ 2000) }
+{
+    match number {
+        Some(count @ 1..=2000) => Some(count as u32),
+        _ => None,
+    }
+}
+
+fn drawn(word: &[u8], seed: &[u8], count: &[u8]) -> Option<Command>
+    ensures value { result ≡ drawn_of word.now seed.now count.now }
+    ensures called { IfSome result IsCalled }
+{
+    if word != b"gen".as_slice() {
+        return None;
+    }
+    match (number_of(seed), counted(number_of(count))) {
+        (Some(seed), Some(count)) => Some(Command::Gen { seed, count }),
+        _ => None,
     }
 }
 
@@ -54,10 +82,12 @@ impl Words {
 
     /// The command that the words call, if they call one.
     pub fn command(&self) -> Option<Command>
-        ensures { result ≡ command_of self.now }
+        ensures value { result ≡ command_of self.now }
+        ensures called { IfSome result IsCalled }
     {
         match self.words.as_slice() {
             [word] => named(word.as_slice()),
+            [word, seed, count] => drawn(word.as_slice(), seed.as_slice(), count.as_slice()),
             _ => None,
         }
     }

@@ -35,6 +35,21 @@ fn replied_over(alloc: Global, id: Id, log: &HashedLog) -> Result<Option<Replied
     }))
 }
 
+/// Adds that of a fast reply over the log.
+fn add_reply(
+    alloc: Global,
+    message: &Message,
+    log: &HashedLog,
+    lists: &mut Vec<RepliedOver>,
+) -> Result<(), NoMemory> {
+    if let Message::FastReply(body) = message {
+        if let Some(list) = replied_over(alloc, body.id, log)? {
+            lists.push(list)?;
+        }
+    }
+    Ok(())
+}
+
 /// Adds those of the fast replies that the record sends, over the log behind it.
 fn add_replies(
     alloc: Global,
@@ -44,13 +59,7 @@ fn add_replies(
 ) -> Result<(), NoMemory> {
     for parcel in record.sends.as_slice() {
         match decode(alloc, parcel.frame.as_slice()) {
-            Ok(envelope) => {
-                if let Message::FastReply(body) = envelope.message {
-                    if let Some(list) = replied_over(alloc, body.id, log)? {
-                        lists.push(list)?;
-                    }
-                }
-            }
+            Ok(envelope) => add_reply(alloc, &envelope.message, log, lists)?,
             Err(DecodeRefusal::NoMemory) => return Err(NoMemory),
             Err(_) => {}
         }
@@ -82,22 +91,26 @@ fn add_replica(
 }
 
 fn collides(list: &RepliedOver, others: &[RepliedOver]) -> bool {
-    others
-        .iter()
-        .any(|other| list.digest == other.digest && list.keys != other.keys)
+    others.iter().any(|other| list.digest == other.digest && list.keys != other.keys)
 }
 
 #[test]
 fn no_lists_of_keys_collide(rt: HostRuntime) -> Result<(), Fail> {
     let (outcome, _) = answer(rt.alloc(), &plain(&["run"], PUT_THEN_GET.input.as_bytes()))?;
-    let Some(journal) = outcome.journal else {
+    let Some(journal) = &outcome.journal else {
         assert!(rt; false);
         return Ok(());
     };
     let cluster = journal.scenario.cluster;
     let mut lists = Vec::new(rt.alloc());
     for number in 0..cluster.n() {
-        add_replica(rt.alloc(), cluster, number, journal.records.as_slice(), &mut lists)?;
+        add_replica(
+            rt.alloc(),
+            cluster,
+            number,
+            journal.records.as_slice(),
+            &mut lists,
+        )?;
     }
     // Each replica replies to the put over one key, and to the get over two.
     assert_eq!(rt; lists.len(), 6);

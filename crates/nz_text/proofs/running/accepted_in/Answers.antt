@@ -1,9 +1,7 @@
-use Rattle.std.proofs.Common.{sym, ap, ◌∙◌, refl}
+use Rattle.std.proofs.Common.{ap, ◌∙◌}
 use Rattle.std.specs.HashSet.{contains}
 use Rattle.nz_base.specs.Key.{id_eq}
-use Rattle.nz_base.specs.declared.key.Id.{Id}
 use Rattle.nz_text.specs.Text.{accepts_it}
-use Rattle.nz_text.specs.declared.printed.Event.{Event}
 use Rattle.nz_text.proofs.Opens.{accepted_more, others_more}
 use Rattle.nz_text.proofs.running.accepted_in.Goals as goal
 use Rattle.nz_text.proofs.running.accepted_in.Goals.{in-Accept+in_ok-insert, in_default}

@@ -22,4 +22,4 @@ returns-in-Ok-read-clause-end g c =
 pub returns-in-Err-Refusal-clause-none : goal.returns-in-Err-Refusal-clause-none
 returns-in-Err-Refusal-clause-none g c =
     let whole = read_is_input (g.S.Source.left c.args.source.now) _ c.in-Ok.bytes.items c.in-Ok.ensures.lost c.in-Ok.ensures.most c.in-Ok.ensures.end in
-    refused_is_input (g.S.Source.left c.args.source.now) c.in-Ok.bytes.items _ c.in-Err-Refusal.field-0 c.in-Err-Refusal.line c.in-Err-Refusal.kind whole c.deref.ensures.value c.in-Err-Refusal.field-0-is c.in-Err-Refusal.ensures.refused
+    λ command is_reading. (is_reading, refused_is_input (g.S.Source.left c.args.source.now) c.in-Ok.bytes.items _ c.in-Err-Refusal.field-0 c.in-Err-Refusal.line c.in-Err-Refusal.kind whole c.deref.ensures.value c.in-Err-Refusal.field-0-is c.in-Err-Refusal.ensures.refused)

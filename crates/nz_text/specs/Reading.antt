@@ -1,0 +1,162 @@
+-- What a text says, line by line, or its first bad line.
+use Rattle.std.specs.Prelude.{ℕ, ◌+◌, ◌-◌, ◌^◌, Bool, ◌&&◌, nat_le, ◌==◌, if◌then◌else◌, List, [], ◌∷◌, ◌++◌, length, Option, Some, None, Result, Ok, Err, codes}
+use Rattle.std.specs.Str.{bytes_eq}
+use Rattle.nz_base.specs.declared.key.Id.{Id}
+use Rattle.nz_store.specs.declared.command.Answer.{Answer}
+use Rattle.nz_store.specs.declared.command.Answer.TheVariants.{Done, Value, Absent, Differs}
+use Rattle.nz_store.specs.Grammar.{spelling}
+use Rattle.nz_store.specs.Reading.{is_value_text}
+use Rattle.nz_msg.specs.declared.message.Path.{Path}
+use Rattle.nz_msg.specs.declared.message.Path.TheVariants.{Fast, Slow}
+use Rattle.nz_script.specs.Bytes.{space, number_of, onto_first, lines_in, tail_in}
+use Rattle.nz_script.specs.Commands.{command_first}
+use Rattle.nz_script.specs.Forms.{◌>>=◌}
+use Rattle.nz_machine.specs.declared.journal.Executed.{Executed}
+use Rattle.nz_text.specs.declared.draft.Draft.{Draft}
+use Rattle.nz_text.specs.declared.draft.Stage.{Stage}
+use Rattle.nz_text.specs.declared.draft.Stage.TheVariants as stage
+use Rattle.nz_text.specs.declared.fault.TextFault.{TextFault}
+use Rattle.nz_text.specs.declared.fault.TextFault.TheVariants.{Bad}
+use Rattle.nz_text.specs.declared.line.Line.{Line}
+use Rattle.nz_text.specs.declared.line.Line.TheVariants as line
+use Rattle.nz_text.specs.declared.printed.Event.TheVariants.{Send, Accept}
+use Rattle.nz_text.specs.declared.printed.Printed.{Printed}
+
+-- ---- words
+
+-- What stands between the spaces of a line: two spaces have an empty word between them.
+abbrev pub pieces_in : List ℕ → List (List ℕ)
+pieces_in [] = [] ∷ []
+pieces_in (x ∷ xs) = if x == space then [] ∷ pieces_in xs else onto_first x (pieces_in xs)
+
+-- A number of 32 bits.
+abbrev pub number_in : List ℕ → Option ℕ
+number_in word = number_of word >>= λ n. if nat_le n (2 ^ 32 - 1) then Some n else None
+
+-- `c`, and the client's number.
+abbrev pub client_in : List ℕ → Option ℕ
+client_in [] = None
+client_in (letter ∷ digits) = if letter == 99 then number_in digits else None
+
+-- The id that two words are.
+abbrev pub id_of_words : List ℕ → List ℕ → Option Id
+id_of_words client num = client_in client >>= λ c. number_in num >>= λ n. Some (record { client = c; num = n })
+
+-- The id whose two words stand first, and the words behind them.
+unfoldable pub id_first : List (List ℕ) → Option (Id × List (List ℕ))
+id_first (client ∷ num ∷ more) = id_of_words client num >>= λ id. Some (id, more)
+id_first _ = None
+
+-- The value that stands first, and the words behind it.
+abbrev pub value_first : List (List ℕ) → Option (Answer × List (List ℕ))
+value_first [] = None
+value_first (value ∷ more) = if is_value_text value then Some (Value value, more) else None
+
+-- The answer whose words stand first, and the words behind it.
+unfoldable pub answer_first : List (List ℕ) → Option (Answer × List (List ℕ))
+answer_first [] = None
+answer_first (word ∷ more) =
+    if bytes_eq word (codes "done") then Some (Done, more)
+    else (if bytes_eq word (codes "value") then value_first more
+    else (if bytes_eq word (codes "absent") then Some (Absent, more)
+    else (if bytes_eq word (codes "differs") then Some (Differs, more) else None)))
+
+-- ---- lines, by the words behind the first one
+
+-- The one word is a path.
+unfoldable pub path_of : List (List ℕ) → Option Path
+path_of (word ∷ []) = if bytes_eq word (codes "fast") then Some Fast else (if bytes_eq word (codes "slow") then Some Slow else None)
+path_of _ = None
+
+-- The thing, where nothing stands behind it.
+abbrev pub alone : {X : Type 0} → X → List (List ℕ) → Option X
+alone x [] = Some x
+alone x (word ∷ more) = None
+
+-- A command and no more.
+abbrev pub send_of : Id → List (List ℕ) → Option Line
+send_of id words = command_first words >>= λ c. alone (line.Event (Send id (spelling c.0))) c.1
+
+-- An answer and a path.
+abbrev pub accept_of : Id → List (List ℕ) → Option Line
+accept_of id words = answer_first words >>= λ a. path_of a.1 >>= λ path. Some (line.Event (Accept id a.0 path))
+
+-- The answer behind the word `gives`.
+unfoldable pub given : List (List ℕ) → Option Answer
+given [] = None
+given (word ∷ more) = if bytes_eq word (codes "gives") then (answer_first more >>= λ a. alone a.0 a.1) else None
+
+-- A command, and behind `gives` its answer.
+abbrev pub executed_of : Id → List (List ℕ) → Option Executed
+executed_of id words = command_first words >>= λ c. given c.1 >>= λ answer. Some (record { id = id; command = spelling c.0; answer = answer })
+
+-- The words behind `send`, `accept`, `open` and `at`.
+abbrev pub sent : List (List ℕ) → Option Line
+sent words = id_first words >>= λ i. send_of i.0 i.1
+
+abbrev pub accepted : List (List ℕ) → Option Line
+accepted words = id_first words >>= λ i. accept_of i.0 i.1
+
+abbrev pub opened : List (List ℕ) → Option Line
+opened words = id_first words >>= λ i. alone (line.Open i.0) i.1
+
+unfoldable pub placed : List (List ℕ) → Option Line
+placed [] = None
+placed (place ∷ words) = number_of place >>= λ n. id_first words >>= λ i. executed_of i.0 i.1 >>= λ x. Some (line.At n x)
+
+-- What the words of a line say.
+unfoldable pub line_of : List (List ℕ) → Option Line
+line_of [] = None
+line_of (first ∷ words) =
+    if bytes_eq first (codes "send") then sent words
+    else (if bytes_eq first (codes "accept") then accepted words
+    else (if bytes_eq first (codes "open") then opened words
+    else (if bytes_eq first (codes "at") then placed words
+    else (if bytes_eq first (codes "end") then alone line.End words else None))))
+
+-- ---- the order of lines
+
+-- How far a text has come.
+abbrev pub rank_of : Stage → ℕ
+rank_of stage.Events = 0
+rank_of stage.Opens = 1
+rank_of stage.History = 2
+rank_of stage.Behind = 3
+
+-- The line was good, and what was read with it; or it was not.
+abbrev pub outcome : Bool → Draft → Option Draft
+outcome good d = if good then Some d else None
+
+-- What was read with the line, where it may stand here: events, then open requests, then the history with its
+-- places from 1, then the end.
+abbrev pub with_line : Draft → Line → Option Draft
+with_line d (line.Event e) = outcome (rank_of d.stage == 0) (record d { printed = record d.printed { events = d.printed.events ++ e ∷ [] } })
+with_line d (line.Open id) = outcome (nat_le (rank_of d.stage) 1) (record { stage = stage.Opens; printed = record d.printed { unanswered = d.printed.unanswered ++ id ∷ [] } })
+with_line d (line.At place x) = outcome (nat_le (rank_of d.stage) 2 && (place == length d.printed.history + 1)) (record { stage = stage.History; printed = record d.printed { history = d.printed.history ++ x ∷ [] } })
+with_line d line.End = outcome (nat_le (rank_of d.stage) 2) (record d { stage = stage.Behind })
+
+-- What was read with these bytes as a line, if they are one that may stand here.
+unfoldable pub step : Draft → List ℕ → Option Draft
+step d bytes = line_of (pieces_in bytes) >>= λ l. with_line d l
+
+-- Before the first line.
+abbrev pub start : Draft
+start = record { stage = stage.Events; printed = record { events = []; unanswered = []; history = [] } }
+
+-- Behind the last newline: nothing stands there, and the end was read.
+abbrev pub ending : List ℕ → ℕ → Draft → Result Printed TextFault
+ending tail n d = if (length tail == 0) && (rank_of d.stage == 3) then Ok d.printed else Err (Bad n)
+
+-- The answer to the lines behind, where line n is not bad.
+abbrev pub behind : ℕ → (Draft → Result Printed TextFault) → Option Draft → Result Printed TextFault
+behind n further None = Err (Bad n)
+behind n further (Some next) = further next
+
+-- The lines from line n on, and what stands behind the last newline.
+abbrev pub reading : List ℕ → ℕ → Draft → List (List ℕ) → Result Printed TextFault
+reading tail n d [] = ending tail n d
+reading tail n d (bytes ∷ lines) = behind n (λ next. reading tail (n + 1) next lines) (step d bytes)
+
+-- What the text says, or its first bad line.
+unfoldable pub printed_in : List ℕ → Result Printed TextFault
+printed_in bytes = reading (tail_in bytes) 1 start (lines_in bytes)

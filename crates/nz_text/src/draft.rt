@@ -1,0 +1,119 @@
+ghost use Rattle.std.specs.Prelude.{◌≡◌, IfOk};
+ghost use Rattle.nz_text.specs.declared.line.Line.TheVariants as line;
+ghost use Rattle.nz_text.specs.Reading.{rank_of, start, with_line, step as step_by, outcome};
+
+use super::line::{Line, line_of};
+use super::printed::{Event, EventList, Printed};
+use nz_base::{Id, IdList, NoMemory};
+use nz_machine::{Executed, History};
+use std::alloc::Global;
+
+/// How far a text has come: which lines it has had.
+#[derive(Clone, Copy, Debug)]
+pub enum Stage {
+    Events,
+    Opens,
+    History,
+    Behind,
+}
+
+/// What was read of a text.
+#[derive(Drop)]
+pub struct Draft {
+    pub stage: Stage,
+    pub printed: Printed,
+}
+
+impl Stage {
+    pub fn rank(self) -> u8
+        ensures { result ≡ rank_of self }
+    {
+        match self {
+            Stage::Events => 0,
+            Stage::Opens => 1,
+            Stage::History => 2,
+            Stage::Behind => 3,
+        }
+    }
+}
+
+impl Draft {
+    /// Before the first line.
+    pub fn new(alloc: Global) -> Draft
+        ensures { result ≡ start }
+    {
+        Draft {
+            stage: Stage::Events,
+            printed: Printed {
+                events: EventList::new(alloc),
+                unanswered: IdList::new(alloc),
+                history: History::new(alloc),
+            },
+        }
+    }
+
+    fn take_event(&mut self, event: Event) -> Result<bool, NoMemory>
+        ensures { IfOk result (λ good. with_line self.old (line.Event event) ≡ outcome good self.new) }
+    {
+        if self.stage.rank() != 0 {
+            return Ok(false);
+        }
+        self.printed.events.push(event)?;
+        Ok(true)
+    }
+
+    fn take_open(&mut self, id: Id) -> Result<bool, NoMemory>
+        ensures { IfOk result (λ good. with_line self.old (line.Open id) ≡ outcome good self.new) }
+    {
+        if self.stage.rank() > 1 {
+            return Ok(false);
+        }
+        self.stage = Stage::Opens;
+        self.printed.unanswered.push(id)?;
+        Ok(true)
+    }
+
+    fn take_executed(&mut self, place: u64, executed: Executed) -> Result<bool, NoMemory>
+        ensures { IfOk result (λ good. with_line self.old (line.At place executed) ≡ outcome good self.new) }
+    {
+        let next = u64::from(self.printed.history.len()) + 1;
+        if self.stage.rank() > 2 || place != next {
+            return Ok(false);
+        }
+        self.stage = Stage::History;
+        self.printed.history.push(executed)?;
+        Ok(true)
+    }
+
+    fn take_end(&mut self) -> bool
+        ensures { with_line self.old line.End ≡ outcome result self.new }
+    {
+        if self.stage.rank() > 2 {
+            return false;
+        }
+        self.stage = Stage::Behind;
+        true
+    }
+
+    fn take(&mut self, next: Line) -> Result<bool, NoMemory>
+        ensures { IfOk result (λ good. with_line self.old next ≡ outcome good self.new) }
+    {
+        match next {
+            Line::Event(event) => self.take_event(event),
+            Line::Open(id) => self.take_open(id),
+            Line::At(place, executed) => self.take_executed(place, executed),
+            Line::End => Ok(self.take_end()),
+        }
+    }
+
+    /// Takes a line in, if the bytes are one that may stand here.
+    #[tactic(auto, unfolding(crate::specs::Reading::step))]
+    pub fn step(&mut self, alloc: Global, bytes: &[u8]) -> Result<bool, NoMemory>
+        ensures { IfOk result (λ good. step_by self.old bytes.now ≡ outcome good self.new) }
+    {
+        match line_of(alloc, bytes)? {
+            None => Ok(false),
+            Some(line) => self.take(line),
+        }
+    }
+}

@@ -1,0 +1,302 @@
+//! What a line of a text says, by its words.
+ghost use Rattle.std.specs.Prelude.{◌≡◌, map, IfOk, Some, None};
+ghost use Rattle.std.specs.Option.{option_map};
+ghost use Rattle.nz_store.specs.Grammar.{IsValid, spelling};
+ghost use Rattle.nz_text.specs.Reading.{pieces_in, number_in, client_in, id_of_words, id_first as id_at_front, value_first as value_at_front, answer_first as answer_at_front, path_of as path_for, alone, send_of, accept_of, given as given_by, executed_of as executed_by, sent as sent_by, accepted as accepted_by, opened as opened_by, placed as placed_by, line_of as line_for};
+ghost use Rattle.nz_text.specs.declared.line.Line.TheVariants as line;
+
+use super::printed::Event;
+use nz_base::{Blob, Id, NoMemory};
+use nz_machine::Executed;
+use nz_msg::Path;
+use nz_script::{command_first, cut_at, is_value, number_of};
+use nz_store::{Answer, Blob as Value, Command, write_command};
+use std::alloc::Global;
+
+/// A line of a text.
+#[derive(Drop)]
+pub enum Line {
+    Event(Event),
+    Open(Id),
+    /// The place in the history, from 1.
+    At(u64, Executed),
+    End,
+}
+
+/// What stands between the spaces of the line.
+fn pieces<'a>(alloc: Global, line: &'a [u8]) -> Result<Vec<&'a [u8]>, NoMemory>
+    ensures { IfOk result (λ pieces. map (λ p. p.now) pieces.items ≡ pieces_in line.now) }
+{
+    let mut pieces = Vec::new(alloc);
+    let mut rest = line;
+    while let Some((piece, behind)) = cut_at(rest, b' ') {
+        pieces.push(piece)?;
+        rest = behind;
+    }
+    pieces.push(rest)?;
+    Ok(pieces)
+}
+
+fn number(word: &[u8]) -> Option<u32>
+    ensures { result ≡ number_in word.now }
+{
+    let number = number_of(word)?;
+    if number <= 4_294_967_295 {
+        Some(number as u32)
+    } else {
+        None
+    }
+}
+
+fn client(word: &[u8]) -> Option<u32>
+    ensures { result ≡ client_in word.now }
+{
+    let [letter, digits @ ..] = word else {
+        return None;
+    };
+    if *letter == b'c' {
+        number(digits)
+    } else {
+        None
+    }
+}
+
+fn id(client_word: &[u8], num_word: &[u8]) -> Option<Id>
+    ensures { result ≡ id_of_words client_word.now num_word.now }
+{
+    let client = client(client_word)?;
+    let num = number(num_word)?;
+    Some(Id { client, num })
+}
+
+#[tactic(auto, unfolding(crate::specs::Reading::id_first))]
+fn id_first<'a, 'b>(words: &'a [&'b [u8]]) -> Option<(Id, &'a [&'b [u8]])>
+    ensures { option_map (λ x. (x.0, map (λ w. w.now) x.1.now)) result ≡ id_at_front (map (λ w. w.now) words.now) }
+{
+    let [client_word, num_word, more @ ..] = words else {
+        return None;
+    };
+    let id = id(client_word, num_word)?;
+    Some((id, more))
+}
+
+fn value_first<'a, 'b>(
+    alloc: Global,
+    words: &'a [&'b [u8]],
+) -> Result<Option<(Answer, &'a [&'b [u8]])>, NoMemory>
+    ensures { IfOk result (λ answer. option_map (λ x. (x.0, map (λ w. w.now) x.1.now)) answer ≡ value_at_front (map (λ w. w.now) words.now)) }
+{
+    let [value, more @ ..] = words else {
+        return Ok(None);
+    };
+    if !is_value(value) {
+        return Ok(None);
+    }
+    let value = Value::from_slice(alloc, value).map_err(|_| NoMemory)?;
+    Ok(Some((Answer::Value(value), more)))
+}
+
+/// The answer whose words stand first, and the words behind it.
+#[tactic(auto, unfolding(crate::specs::Reading::answer_first))]
+fn answer_first<'a, 'b>(
+    alloc: Global,
+    words: &'a [&'b [u8]],
+) -> Result<Option<(Answer, &'a [&'b [u8]])>, NoMemory>
+    ensures { IfOk result (λ answer. option_map (λ x. (x.0, map (λ w. w.now) x.1.now)) answer ≡ answer_at_front (map (λ w. w.now) words.now)) }
+{
+    let [word, more @ ..] = words else {
+        return Ok(None);
+    };
+    if *word == b"done".as_slice() {
+        return Ok(Some((Answer::Done, more)));
+    }
+    if *word == b"value".as_slice() {
+        return value_first(alloc, more);
+    }
+    if *word == b"absent".as_slice() {
+        return Ok(Some((Answer::Absent, more)));
+    }
+    if *word == b"differs".as_slice() {
+        return Ok(Some((Answer::Differs, more)));
+    }
+    Ok(None)
+}
+
+#[tactic(auto, unfolding(crate::specs::Reading::path_of))]
+fn path_of(words: &[&[u8]]) -> Option<Path>
+    ensures { result ≡ path_for (map (λ w. w.now) words.now) }
+{
+    let [word] = words else {
+        return None;
+    };
+    if *word == b"fast".as_slice() {
+        return Some(Path::Fast);
+    }
+    if *word == b"slow".as_slice() {
+        return Some(Path::Slow);
+    }
+    None
+}
+
+/// The one spelling of the command.
+fn spelled(alloc: Global, command: &Command) -> Result<Blob, NoMemory>
+    requires { IsValid command.now }
+    ensures { IfOk result (λ bytes. bytes ≡ spelling command.now) }
+{
+    let bytes = write_command(alloc, command).map_err(|_| NoMemory)?;
+    Blob::from_slice(alloc, bytes.as_slice())
+}
+
+fn send_line(alloc: Global, id: Id, words: &[&[u8]]) -> Result<Option<Line>, NoMemory>
+    ensures { IfOk result (λ line. line ≡ send_of id (map (λ w. w.now) words.now)) }
+{
+    let Some((command, rest)) = command_first(alloc, words)? else {
+        return Ok(None);
+    };
+    match rest {
+        [] => {
+            let command = spelled(alloc, &command)?;
+            Ok(Some(Line::Event(Event::Send { id, command })))
+        }
+        [_, ..] => Ok(None),
+    }
+}
+
+fn accept_line(alloc: Global, id: Id, words: &[&[u8]]) -> Result<Option<Line>, NoMemory>
+    ensures { IfOk result (λ line. line ≡ accept_of id (map (λ w. w.now) words.now)) }
+{
+    let Some((answer, rest)) = answer_first(alloc, words)? else {
+        return Ok(None);
+    };
+    let Some(path) = path_of(rest) else {
+        return Ok(None);
+    };
+    Ok(Some(Line::Event(Event::Accept { id, answer, path })))
+}
+
+/// The answer behind the word `gives`.
+#[tactic(auto, unfolding(crate::specs::Reading::given))]
+fn given(alloc: Global, words: &[&[u8]]) -> Result<Option<Answer>, NoMemory>
+    ensures { IfOk result (λ answer. answer ≡ given_by (map (λ w. w.now) words.now)) }
+{
+    let [word, more @ ..] = words else {
+        return Ok(None);
+    };
+    if *word != b"gives".as_slice() {
+        return Ok(None);
+    }
+    let Some((answer, rest)) = answer_first(alloc, more)? else {
+        return Ok(None);
+    };
+    match rest {
+        [] => Ok(Some(answer)),
+        [_, ..] => Ok(None),
+    }
+}
+
+fn executed_of(alloc: Global, id: Id, words: &[&[u8]]) -> Result<Option<Executed>, NoMemory>
+    ensures { IfOk result (λ executed. executed ≡ executed_by id (map (λ w. w.now) words.now)) }
+{
+    let Some((command, rest)) = command_first(alloc, words)? else {
+        return Ok(None);
+    };
+    let Some(answer) = given(alloc, rest)? else {
+        return Ok(None);
+    };
+    let command = spelled(alloc, &command)?;
+    Ok(Some(Executed {
+        id,
+        command,
+        answer,
+    }))
+}
+
+fn sent(alloc: Global, words: &[&[u8]]) -> Result<Option<Line>, NoMemory>
+    ensures { IfOk result (λ line. line ≡ sent_by (map (λ w. w.now) words.now)) }
+{
+    match id_first(words) {
+        None => Ok(None),
+        Some((id, more)) => send_line(alloc, id, more),
+    }
+}
+
+fn accepted(alloc: Global, words: &[&[u8]]) -> Result<Option<Line>, NoMemory>
+    ensures { IfOk result (λ line. line ≡ accepted_by (map (λ w. w.now) words.now)) }
+{
+    match id_first(words) {
+        None => Ok(None),
+        Some((id, more)) => accept_line(alloc, id, more),
+    }
+}
+
+fn opened(words: &[&[u8]]) -> Option<Line>
+    ensures { result ≡ opened_by (map (λ w. w.now) words.now) }
+{
+    let (id, rest) = id_first(words)?;
+    match rest {
+        [] => Some(Line::Open(id)),
+        [_, ..] => None,
+    }
+}
+
+#[tactic(auto, unfolding(crate::specs::Reading::placed))]
+fn placed(alloc: Global, words: &[&[u8]]) -> Result<Option<Line>, NoMemory>
+    ensures { IfOk result (λ line. line ≡ placed_by (map (λ w. w.now) words.now)) }
+{
+    let [place, more @ ..] = words else {
+        return Ok(None);
+    };
+    let Some(place) = number_of(place) else {
+        return Ok(None);
+    };
+    let Some((id, rest)) = id_first(more) else {
+        return Ok(None);
+    };
+    match executed_of(alloc, id, rest)? {
+        None => Ok(None),
+        Some(executed) => Ok(Some(Line::At(place, executed))),
+    }
+}
+
+fn ended(words: &[&[u8]]) -> Option<Line>
+    ensures { result ≡ alone line.End (map (λ w. w.now) words.now) }
+{
+    match words {
+        [] => Some(Line::End),
+        [_, ..] => None,
+    }
+}
+
+/// What the words say as a line.
+#[tactic(auto, unfolding(crate::specs::Reading::line_of))]
+fn line_of_words(alloc: Global, words: &[&[u8]]) -> Result<Option<Line>, NoMemory>
+    ensures { IfOk result (λ line. line ≡ line_for (map (λ w. w.now) words.now)) }
+{
+    let [first, more @ ..] = words else {
+        return Ok(None);
+    };
+    if *first == b"send".as_slice() {
+        return sent(alloc, more);
+    }
+    if *first == b"accept".as_slice() {
+        return accepted(alloc, more);
+    }
+    if *first == b"open".as_slice() {
+        return Ok(opened(more));
+    }
+    if *first == b"at".as_slice() {
+        return placed(alloc, more);
+    }
+    if *first == b"end".as_slice() {
+        return Ok(ended(more));
+    }
+    Ok(None)
+}
+
+/// What the bytes say as a line, without its newline.
+pub fn line_of(alloc: Global, bytes: &[u8]) -> Result<Option<Line>, NoMemory>
+    ensures { IfOk result (λ line. line ≡ line_for (pieces_in bytes.now)) }
+{
+    let words = pieces(alloc, bytes)?;
+    line_of_words(alloc, &words)
+}
