@@ -1,5 +1,4 @@
 mod Inputs
 mod Playable
-mod Schedules
 pub mod Answers
 pub mod TextsOfRuns

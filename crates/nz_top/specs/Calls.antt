@@ -11,7 +11,7 @@ use Rattle.nz_script.specs.Draws.{generated}
 use Rattle.nz_script.specs.Reading.{scenario}
 use Rattle.nz_machine.specs.declared.journal.Journal.{Journal}
 use Rattle.nz_machine.specs.Journals.{group_in, run_in}
-use Rattle.nz_machine.specs.Schedule.{InOrder}
+use Rattle.nz_machine.specs.Schedule.{Scheduled}
 use Rattle.nz_machine.specs.World.{World}
 use Rattle.nz_text.specs.Text.{text, summary}
 use Rattle.nz_text.specs.Trace.{trace}
@@ -44,21 +44,21 @@ IsRefused (Some bytes) = (line : ℕ) × ((kind : Kind) × (scenario (input byte
 
 -- the scenario that a command plays: that of the input, or one that is drawn
 abbrev pub Plays : Command → Option (List ℕ) → Scenario → Type 0
-Plays Run left s = ReadsAs left s
-Plays Trace left s = ReadsAs left s
+Plays (Run workers) left s = ReadsAs left s
+Plays (Trace workers) left s = ReadsAs left s
 Plays (Gen seed count) left s = s ≡ generated seed count
 
 -- what is left of the input then: nothing, or all of it where it is not read
 abbrev pub HasRead : Command → Option (List ℕ) → Option (List ℕ) → Type 0
-HasRead Run before after = IfSome after (λ rest. rest ≡ [])
-HasRead Trace before after = IfSome after (λ rest. rest ≡ [])
+HasRead (Run workers) before after = IfSome after (λ rest. rest ≡ [])
+HasRead (Trace workers) before after = IfSome after (λ rest. rest ≡ [])
 HasRead (Gen seed count) before after = after ≡ before
 
 -- there is a scenario to play, and nothing keeps it from being read
 abbrev pub CanPlay : Option Command → Option (List ℕ) → ℕ → ℕ → Type 0
 CanPlay None left counted counts = ⊥
-CanPlay (Some Run) left counted counts = ¬ Rose counted counts × IsReadable left
-CanPlay (Some Trace) left counted counts = ¬ Rose counted counts × IsReadable left
+CanPlay (Some (Run workers)) left counted counts = ¬ Rose counted counts × IsReadable left
+CanPlay (Some (Trace workers)) left counted counts = ¬ Rose counted counts × IsReadable left
 CanPlay (Some (Gen seed count)) left counted counts = Unit {0}
 
 -- the command reads a scenario from the source
@@ -96,9 +96,9 @@ pub record TellsBadLine (left before after : Option (List ℕ)) (counted counts 
 
 -- what a command prints of a run
 abbrev pub printed_by : Command → Journal → List ℕ
-printed_by Run j = text (group_in j) (run_in j)
+printed_by (Run workers) j = text (group_in j) (run_in j)
 printed_by (Gen seed count) j = summary (group_in j) (run_in j)
-printed_by Trace j = trace (run_in j) ++ (codes "text\n" ++ text (group_in j) (run_in j))
+printed_by (Trace workers) j = trace (run_in j) ++ (codes "text\n" ++ text (group_in j) (run_in j))
 
 abbrev pub printed : Option Command → Journal → List ℕ
 printed None j = []
@@ -129,7 +129,7 @@ IsPlayed WriteFault = Unit {0}
 IsPlayed NoMemory = Unit {0}
 IsPlayed _ = ⊥
 
--- the records are a run of the machine, in the order of the schedule
+-- the records are a run of the machine, which keeps to the schedule
 pub record IsRun (j : Journal) : Type 0 where
   pub world : World (group_in j) (run_in j)
-  pub in_order : InOrder j.scenario (run_in j)
+  pub scheduled : Scheduled j.scenario (run_in j)

@@ -12,7 +12,7 @@ ghost use Rattle.nz_top.specs.declared.status.Status.TheVariants as status;
 ghost use Rattle.nz_top.specs.Calls.{CanPlay, Explains, HasRead, HasRun, IsPlayed, IsReadable, IsRefused, IsRun, Plays, Reads, ReadsAs, TellsBadLine, WritesLine, printed, printed_by, refusal_line as refusal_line_of};
 ghost use Rattle.nz_top.specs.Moves.{TakesFront};
 ghost use Rattle.nz_top.specs.declared.words.Command.{Command as Commands};
-ghost use Rattle.nz_top.specs.Words.{command_of, reads, IsCalled};
+ghost use Rattle.nz_top.specs.Words.{command_of, reads, IsAlone, IsCalled};
 
 use crate::input::{Stop, read_input};
 use crate::output::write_all;
@@ -23,10 +23,12 @@ use nz_audit::history_of;
 use nz_base::{Blob, NoMemory, Scenario};
 use nz_edge::{Gate, Sink, Source};
 use nz_machine::Journal;
-use nz_run::run_alone;
+use nz_run::run;
 use nz_script::{Kind, ScriptFault, generate, read};
 use nz_text::{summary, text, trace};
 use std::alloc::Global;
+use std::sync::Wait;
+use std::thread::Threads;
 
 /// Why there is no scenario.
 #[derive(Clone, Copy, Debug)]
@@ -72,7 +74,7 @@ fn scenario_for<S: Source>(
     ensures counts { S.faults source.old ≤ S.faults source.new }
 {
     match command {
-        Command::Run | Command::Trace => scenario_of(alloc, source),
+        Command::Run { .. } | Command::Trace { .. } => scenario_of(alloc, source),
         Command::Gen { seed, count } => match generate(alloc, seed, count) {
             Ok(scenario) => Ok(scenario),
             Err(_) => Err(NoScenario::NoMemory),
@@ -96,13 +98,21 @@ fn tell_bad_line<O: Sink>(out: &mut O, line: u32, kind: Kind)
     refuse(out, refusal_line(line, kind).as_bytes());
 }
 
-/// Plays the scenario.
-fn play(alloc: Global, scenario: &Scenario) -> Result<Journal, NoMemory>
-    requires { IsPlayable scenario.now }
+/// Plays the scenario with the workers of the command.
+fn play<R: Threads + Wait + Sync, G: Gate + Sync>(
+    rt: &R,
+    alloc: Global,
+    command: Command,
+    scenario: &Scenario,
+    gate: &G,
+) -> Result<Journal, NoMemory>
+    requires called { IsCalled command }
+    requires playable { IsPlayable scenario.now }
     ensures scenario { IfOk result (λ journal. journal.scenario ≡ scenario.now) }
     ensures run { IfOk result IsRun }
+    ensures in_order { IsAlone (Some command) → IfOk result (λ journal. InOrder journal.scenario (run_in journal)) }
 {
-    run_alone(alloc, scenario)
+    run(rt, alloc, scenario, command.workers(), gate)
 }
 
 /// What the command prints of the run.
@@ -112,8 +122,8 @@ fn print(alloc: Global, command: Command, journal: &Journal) -> Result<Blob, NoM
 {
     let history = history_of(alloc, journal)?;
     match command {
-        Command::Run => text(alloc, journal, &history),
-        Command::Trace => {
+        Command::Run { .. } => text(alloc, journal, &history),
+        Command::Trace { .. } => {
             let mut bytes = trace(alloc, journal)?.into_vec();
             bytes.extend_from_slice(b"text\n")?;
             bytes.extend_from_slice(text(alloc, journal, &history)?.as_slice())?;
@@ -143,8 +153,16 @@ fn write_run<O: Sink>(journal: Journal, bytes: &[u8], out: &mut O) -> Outcome
 }
 
 /// Plays the scenario, and writes what the command prints of the run.
-fn answer<O: Sink>(alloc: Global, command: Command, scenario: &Scenario, out: &mut O) -> Outcome
-    requires { IsPlayable scenario.now }
+fn answer<O: Sink, R: Threads + Wait + Sync, G: Gate + Sync>(
+    rt: &R,
+    alloc: Global,
+    command: Command,
+    scenario: &Scenario,
+    out: &mut O,
+    gate: &G,
+) -> Outcome
+    requires called { IsCalled command }
+    requires playable { IsPlayable scenario.now }
     ensures played { IsPlayed result.status }
     ensures done { ¬ Rose (O.faults out.old) (O.faults out.new) → (result.status ≡ status.Done) ⊎ (result.status ≡ status.NoMemory) }
     ensures write_fault { result.status ≡ status.WriteFault → Rose (O.faults out.old) (O.faults out.new) }
@@ -152,11 +170,12 @@ fn answer<O: Sink>(alloc: Global, command: Command, scenario: &Scenario, out: &m
     ensures run { HasRun result.status result.journal }
     ensures scenario { IfSome result.journal (λ journal. journal.scenario ≡ scenario.now) }
     ensures is_run { IfSome result.journal IsRun }
+    ensures in_order { IsAlone (Some command) → IfSome result.journal (λ journal. InOrder journal.scenario (run_in journal)) }
     ensures text { result.status ≡ status.Done → IfSome result.journal (λ journal. Gains (O.taken out.old) (O.taken out.new) (printed_by command journal)) }
     ensures front { IfSome result.journal (λ journal. TakesFront (O.taken out.old) (O.taken out.new) (printed_by command journal)) }
     ensures counts { O.faults out.old ≤ O.faults out.new }
 {
-    let Ok(journal) = play(alloc, scenario) else {
+    let Ok(journal) = play(rt, alloc, command, scenario, gate) else {
         return Outcome::without_run(Status::NoMemory);
     };
     let Ok(bytes) = print(alloc, command, &journal) else {
@@ -167,8 +186,9 @@ fn answer<O: Sink>(alloc: Global, command: Command, scenario: &Scenario, out: &m
 
 /// What the program does with the words behind its name: `run` and `trace` read a scenario from the
 /// source, play it, and write the run to the sink; `gen` plays one that is drawn, and writes its summary.
-/// The gate serves runs with workers.
-pub fn nezha<S: Source, O: Sink, G: Gate>(
+/// Each worker calls the gate before each turn. May wait.
+pub fn nezha<R: Threads + Wait + Sync, S: Source, O: Sink, G: Gate + Sync>(
+    rt: &R,
     alloc: Global,
     words: &Words,
     source: &mut S,
@@ -192,7 +212,7 @@ pub fn nezha<S: Source, O: Sink, G: Gate>(
     ensures whole_input { OnSome result.journal (IfSome (command_of words.now) (λ command. HasRead command (S.left source.old) (S.left source.new))) }
     ensures world { IfSome result.journal (λ journal. World (group_in journal) (run_in journal)) }
     ensures scheduled { IfSome result.journal (λ journal. Scheduled journal.scenario (run_in journal)) }
-    ensures in_order { IfSome result.journal (λ journal. InOrder journal.scenario (run_in journal)) }
+    ensures in_order { IsAlone (command_of words.now) → IfSome result.journal (λ journal. InOrder journal.scenario (run_in journal)) }
     ensures one_history { IfSome result.journal (λ journal. NoCollision (group_in journal) (run_in journal) → Lin (events (group_in journal) (run_in journal)) (history (group_in journal) (run_in journal))) }
 
     // What is written.
@@ -203,13 +223,12 @@ pub fn nezha<S: Source, O: Sink, G: Gate>(
     ensures unwritten { (result.status ≡ status.ReadFault) ⊎ (result.status ≡ status.NoMemory) → O.taken out.new ≡ O.taken out.old }
     ensures counts { (S.faults source.old ≤ S.faults source.new) × (O.faults out.old ≤ O.faults out.new) }
 {
-    let _ = gate;
     let Some(command) = words.command() else {
         refuse(out, b"refused words\n");
         return Outcome::without_run(Status::Usage);
     };
     match scenario_for(alloc, command, source) {
-        Ok(scenario) => answer(alloc, command, &scenario, out),
+        Ok(scenario) => answer(rt, alloc, command, &scenario, out, gate),
         Err(NoScenario::Refused { line, kind }) => {
             tell_bad_line(out, line, kind);
             Outcome::without_run(Status::BadScenario)

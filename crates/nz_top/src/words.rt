@@ -1,6 +1,6 @@
 //! The words of a call.
-ghost use Rattle.std.specs.Prelude.{◌≡◌, ◌≤◌, IfOk, IfSome, map};
-ghost use Rattle.nz_top.specs.Words.{named as named_of, counted as counted_of, drawn as drawn_of, command_of, IsCalled};
+ghost use Rattle.std.specs.Prelude.{◌≡◌, ◌<◌, ◌≤◌, IfOk, IfSome, map};
+ghost use Rattle.nz_top.specs.Words.{up_to as up_to_of, workers_in as workers_in_of, workers_at as workers_at_of, named as named_of, played as played_of, drawn as drawn_of, of_three as of_three_of, workers_of, command_of, IsCalled};
 
 use nz_base::{Blob, List, NoMemory};
 use nz_script::number_of;
@@ -10,12 +10,27 @@ use std::marker::Model;
 /// What the program is to do.
 #[derive(Clone, Copy, Debug, PartialEq, Eq)]
 pub enum Command {
-    /// Play the scenario, and print the text of the run.
-    Run,
+    /// Play the scenario with so many workers, 1 to 16, and print the text of the run.
+    Run { workers: u8 },
     /// The same, and print each record of the run before that.
-    Trace,
+    Trace { workers: u8 },
     /// Play the scenario that the seed draws, with so many requests, 1 to 2,000, and print its summary.
     Gen { seed: u64, count: u32 },
+}
+
+impl Command {
+    /// How many workers play it, 1 to 16.
+    pub fn workers(self) -> u8
+        requires { IsCalled self }
+        ensures value { result ≡ workers_of self }
+        ensures some { 0 < result }
+        ensures few { result ≤ 16 }
+    {
+        match self {
+            Command::Run { workers } | Command::Trace { workers } => workers,
+            Command::Gen { .. } => 1,
+        }
+    }
 }
 
 /// The words behind the program's name.
@@ -32,21 +47,55 @@ impl Model for Words {
     ghost view = { λ w. w.words };
 }
 
-fn named(word: &[u8]) -> Option<Command>
-    ensures value { result ≡ named_of word.now }
+fn workers_in(numeral: &[u8]) -> Option<u8>
+    ensures value { result ≡ workers_in_of numeral.now }
+    ensures some { IfSome result (λ workers. 1 ≤ workers) }
+    ensures few { IfSome result (λ workers. workers ≤ 16) }
+{
+    match number_of(numeral) {
+        Some(workers @ 1..=16) => Some(workers as u8),
+        _ => None,
+    }
+}
+
+fn workers_at(word: &[u8]) -> Option<u8>
+    ensures value { result ≡ workers_at_of word.now }
+    ensures some { IfSome result (λ workers. 1 ≤ workers) }
+    ensures few { IfSome result (λ workers. workers ≤ 16) }
+{
+    match word.strip_prefix(b"--workers=".as_slice()) {
+        Some(numeral) => workers_in(numeral),
+        None => None,
+    }
+}
+
+fn named(word: &[u8], workers: u8) -> Option<Command>
+    requires { (1 ≤ workers) × (workers ≤ 16) }
+    ensures value { result ≡ named_of word.now workers }
     ensures called { IfSome result IsCalled }
 {
     if word == b"run".as_slice() {
-        Some(Command::Run)
+        Some(Command::Run { workers })
     } else if word == b"trace".as_slice() {
-        Some(Command::Trace)
+        Some(Command::Trace { workers })
     } else {
         None
     }
 }
 
+fn played(word: &[u8], workers: Option<u8>) -> Option<Command>
+    requires { IfSome workers (λ n. (1 ≤ n) × (n ≤ 16)) }
+    ensures value { result ≡ played_of word.now workers }
+    ensures called { IfSome result IsCalled }
+{
+    match workers {
+        Some(workers) => named(word, workers),
+        None => None,
+    }
+}
+
 fn counted(number: Option<u64>) -> Option<u32>
-    ensures value { result ≡ counted_of number }
+    ensures value { result ≡ up_to_of 2000 number }
     ensures some { IfSome result (λ count. 1 ≤ count) }
     ensures few { IfSome result (λ count. count ≤ 2000) }
 {
@@ -56,16 +105,27 @@ fn counted(number: Option<u64>) -> Option<u32>
     }
 }
 
-fn drawn(word: &[u8], seed: &[u8], count: &[u8]) -> Option<Command>
-    ensures value { result ≡ drawn_of word.now seed.now count.now }
+fn drawn(seed: Option<u64>, count: Option<u32>) -> Option<Command>
+    requires { IfSome count (λ n. (1 ≤ n) × (n ≤ 2000)) }
+    ensures value { result ≡ drawn_of seed count }
     ensures called { IfSome result IsCalled }
 {
-    if word != b"gen".as_slice() {
-        return None;
-    }
-    match (number_of(seed), counted(number_of(count))) {
+    match (seed, count) {
         (Some(seed), Some(count)) => Some(Command::Gen { seed, count }),
         _ => None,
+    }
+}
+
+fn of_three(word: &[u8], second: &[u8], third: &[u8]) -> Option<Command>
+    ensures value { result ≡ of_three_of word.now second.now third.now }
+    ensures called { IfSome result IsCalled }
+{
+    if word == b"gen".as_slice() {
+        drawn(number_of(second), counted(number_of(third)))
+    } else if second == b"--workers".as_slice() {
+        played(word, workers_in(third))
+    } else {
+        None
     }
 }
 
@@ -86,8 +146,11 @@ impl Words {
         ensures called { IfSome result IsCalled }
     {
         match self.words.as_slice() {
-            [word] => named(word.as_slice()),
-            [word, seed, count] => drawn(word.as_slice(), seed.as_slice(), count.as_slice()),
+            [word] => named(word.as_slice(), 1),
+            [word, option] => played(word.as_slice(), workers_at(option.as_slice())),
+            [word, second, third] => {
+                of_three(word.as_slice(), second.as_slice(), third.as_slice())
+            }
             _ => None,
         }
     }

@@ -26,9 +26,10 @@ fn replied_over(alloc: Global, id: Id, log: &HashedLog) -> Result<Option<Replied
         return Ok(None);
     };
     let mut keys = Vec::new(alloc);
-    for at in 0..place + 1 {
+    for at in 0..place {
         keys.push(log.get(at).key)?;
     }
+    keys.push(log.get(place).key)?;
     Ok(Some(RepliedOver {
         keys,
         digest: log.digest_at(place),
@@ -96,7 +97,7 @@ fn collides(list: &RepliedOver, others: &[RepliedOver]) -> bool {
 
 #[test]
 fn no_lists_of_keys_collide(rt: HostRuntime) -> Result<(), Fail> {
-    let (outcome, _) = answer(rt.alloc(), &plain(&["run"], PUT_THEN_GET.input.as_bytes()))?;
+    let (outcome, _) = answer(&rt, &plain(&["run"], PUT_THEN_GET.input.as_bytes()))?;
     let Some(journal) = &outcome.journal else {
         assert!(rt; false);
         return Ok(());

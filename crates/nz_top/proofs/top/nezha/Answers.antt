@@ -2,11 +2,10 @@ use Rattle.std.proofs.lemmas.Option.{IfSome_then}
 use Rattle.nz_machine.specs.Journals.{group_in, run_in}
 use Rattle.nz_lin.proofs.OneHistory.{one_history}
 use Rattle.nz_top.proofs.Inputs.{line_told}
-use Rattle.nz_top.proofs.Schedules.{in_order_is_scheduled}
 use Rattle.nz_top.proofs.top.nezha.Goals as goal
 
 pub returns-in-Ok-clause-scheduled : goal.returns-in-Ok-clause-scheduled
-returns-in-Ok-clause-scheduled g c = IfSome_then c.answer.result.journal c.answer.ensures.is_run (λ j h. in_order_is_scheduled j.scenario j.scenario.ticks (run_in j) h.in_order)
+returns-in-Ok-clause-scheduled g c = IfSome_then c.answer.result.journal c.answer.ensures.is_run (λ j h. h.scheduled)
 
 pub returns-in-Ok-clause-one_history : goal.returns-in-Ok-clause-one_history
 returns-in-Ok-clause-one_history g c = IfSome_then c.answer.result.journal c.answer.ensures.is_run (λ j h. one_history (group_in j) (run_in j) h.world)
