@@ -3,6 +3,8 @@
 
 mod alone;
 mod cast;
+#[cfg(test)]
+mod gate_tests;
 mod shares;
 mod stage;
 mod threads;

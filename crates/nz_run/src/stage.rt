@@ -39,7 +39,7 @@ fn cells_of<N: Name, C: Core + Drop>(
 }
 
 /// The cell of a place does the turn. Where there is none it is given up.
-fn turn_at<N: Name, C: Core>(
+pub fn turn_at<N: Name, C: Core>(
     rt: &impl Wait,
     cells: &[ActorCell<N, C>],
     place: u8,

@@ -1,0 +1,248 @@
+//! Runs on several threads, in which a gate or a core looks at what other threads do in the meantime.
+ghost use Rattle.std.specs.Prelude.{◌≡◌, ◌≤◌, length, IfOk};
+ghost use Rattle.std.specs.List.{AllByRecursion};
+ghost use Rattle.nz_machine.specs.Schedule.{IsPlayable};
+ghost use Rattle.nz_machine.specs.World.{IsAsked, request_count};
+
+use super::run;
+use super::shares::{Worker, deal};
+use super::stage::turn_at;
+use nz_actor::{ActorCell, ActorState};
+use nz_base::{
+    Actor, Blob, Cluster, FaultList, NoMemory, Request, RequestList, Scenario, ScriptList,
+    SkewList, TryCopy,
+};
+use nz_edge::{Gate, OpenGate};
+use nz_fabric::{Fabric, FabricState, Name};
+use nz_machine::{Core, Event, Record, Sends};
+use nz_replica::Replica;
+use nz_store::read_command;
+use std::alloc::Global;
+use std::marker::Brand;
+use std::sync::Wait;
+use std::sync::atomic::{AtomicU64, Ordering};
+use std::sync::ledger::Blank;
+use std::test::*;
+use std::thread;
+use std::thread::Threads;
+
+const LOOKS: u64 = 100_000_000;
+
+fn request(alloc: Global, bytes: &[u8]) -> Result<Request, Fail>
+    ensures { IfOk result IsAsked }
+{
+    if read_command(alloc, bytes)?.is_none() {
+        return Err("no command".into());
+    }
+    Ok(Request {
+        wait: 0,
+        command: Blob::from_slice(alloc, bytes)?,
+    })
+}
+
+fn script(alloc: Global, bytes: &[u8]) -> Result<RequestList, Fail>
+    ensures { IfOk result (λ script. (length script ≡ 1) × AllByRecursion IsAsked script) }
+{
+    let mut script = RequestList::new(alloc);
+    script.push(request(alloc, bytes)?)?;
+    Ok(script)
+}
+
+fn scripts(alloc: Global) -> Result<ScriptList, Fail>
+    ensures { IfOk result (λ scripts. (length scripts ≡ 3) × ((request_count scripts ≡ 3) × AllByRecursion (λ script. AllByRecursion IsAsked script) scripts)) }
+{
+    let mut scripts = ScriptList::new(alloc);
+    scripts.push(script(alloc, &[1, 1, b'x', 0, 1, b'0'])?)?;
+    scripts.push(script(alloc, &[1, 1, b'x', 0, 1, b'1'])?)?;
+    scripts.push(script(alloc, &[2, 1, b'x'])?)?;
+    Ok(scripts)
+}
+
+/// Three requests with equal deadlines: `put x 0`, `put x 1` and `get x`.
+fn three_deadlines(alloc: Global) -> Result<Scenario, Fail>
+    ensures { IfOk result IsPlayable }
+{
+    Ok(Scenario {
+        cluster: Cluster::new(1).ok_or("1 is an f")?,
+        proxies: 1,
+        clients: 3,
+        ticks: 30,
+        skews: SkewList::new(alloc),
+        scripts: scripts(alloc)?,
+        faults: FaultList::new(alloc),
+    })
+}
+
+/// Holds the worker of the first turn, and its actor's lock, until the other of two workers arrived twice.
+#[derive(Drop)]
+struct Holding {
+    first: AtomicU64,
+    second: AtomicU64,
+    met: AtomicU64,
+}
+
+impl Gate for Holding {
+    fn arrive(&self, worker: u8, turn: u64) {
+        let (own, other) = if worker == 0 {
+            (&self.first, &self.second)
+        } else {
+            (&self.second, &self.first)
+        };
+        own.fetch_add(1, Ordering::SeqCst);
+        if turn != 1 {
+            return;
+        }
+        for _ in 0..LOOKS {
+            if other.load(Ordering::SeqCst) >= 2 {
+                self.met.store(1, Ordering::SeqCst);
+                break;
+            }
+        }
+    }
+}
+
+/// Where the first record of an actor stands.
+fn first_of(records: &[Record], actor: Actor) -> Option<usize> {
+    records.iter().position(|record| record.actor == actor)
+}
+
+#[test]
+fn held_lock_stops_no_other_worker(rt: HostRuntime) -> Result<(), Fail> {
+    let alloc = rt.alloc();
+    let gate = Holding {
+        first: AtomicU64::new(0),
+        second: AtomicU64::new(0),
+        met: AtomicU64::new(0),
+    };
+    let journal = run(&rt, alloc, &three_deadlines(alloc)?, 2, &gate)?;
+    assert_eq!(rt; gate.met.load(Ordering::SeqCst), 1);
+    let records = journal.records.as_slice();
+    let held = first_of(records, Actor::Replica(0)).ok_or("r0 steps")?;
+    let next = first_of(records, Actor::Replica(1)).ok_or("r1 steps")?;
+    assert!(rt; next < held);
+    Ok(())
+}
+
+#[test]
+fn many_workers(rt: HostRuntime) -> Result<(), Fail> {
+    let alloc = rt.alloc();
+    let scenario = three_deadlines(alloc)?;
+    let alone = run(&rt, alloc, &scenario, 1, &OpenGate::new())?;
+    for workers in [2, 4, 16] {
+        let journal = run(&rt, alloc, &scenario, workers, &OpenGate::new())?;
+        assert_eq!(rt; journal.records.len(), alone.records.len(), "with {workers}");
+    }
+    Ok(())
+}
+
+/// A replica that looks for another one which is in a step at the same time.
+#[derive(Drop)]
+struct Watcher<'a> {
+    replica: Replica,
+    own: &'a AtomicU64,
+    other: &'a AtomicU64,
+    seen: &'a AtomicU64,
+}
+
+impl<'a> Core for Watcher<'a> {
+    ghost meaning = { λ w. ⟦<Replica as Core>⟧.meaning w.replica };
+
+    ghost live = { λ w. ⟦<Replica as Core>⟧.live w.replica };
+
+    ghost fits = { λ w g. ⟦<Replica as Core>⟧.fits w.replica g };
+
+    fn step(&mut self, event: &Event) -> Result<Sends, NoMemory> {
+        self.own.store(1, Ordering::SeqCst);
+        for _ in 0..LOOKS {
+            if self.other.load(Ordering::SeqCst) == 1 {
+                self.seen.fetch_add(1, Ordering::SeqCst);
+                break;
+            }
+        }
+        self.replica.step(event)
+    }
+
+    fn is_live(&self) -> bool {
+        self.replica.is_live()
+    }
+
+    fn actor(&self) -> Actor {
+        self.replica.actor()
+    }
+}
+
+/// Takes one turn, which is of one of the cells.
+fn one_turn<N: Name, C: Core, R: Wait>(
+    rt: &R,
+    worker: &mut Worker<N>,
+    cells: &[ActorCell<N, C>],
+    fabric: &Fabric<N>,
+) {
+    let Ok(Some(turn)) = fabric.lock(rt).take(&mut worker.share) else {
+        return;
+    };
+    let gate = OpenGate::new();
+    let share = &mut worker.share;
+    match turn.actor {
+        Actor::Replica(place) => {
+            turn_at(rt, cells, place, turn, worker.number, &gate, fabric, share)
+        }
+        _ => fabric.lock(rt).give_up(turn, share),
+    }
+}
+
+/// How many of two replicas, each in a turn of its own, saw the other in its step.
+fn seen_at_once<N: Name + Send + Sync, R: Threads + Wait + Sync>(
+    rt: &R,
+    alloc: Global,
+    blank: Blank,
+    scenario: &Scenario,
+) -> Result<u64, NoMemory>
+    requires name { (blank.name ≡ N.name) × (blank.parts ≡ N.parts) × (blank.parts ≡ 16) }
+    requires scenario { scenario.now ≡ N.scenario }
+    requires playable { IsPlayable scenario.now }
+{
+    let (mut state, whole) = FabricState::<N>::new(alloc, blank, scenario.copy(alloc)?)?;
+    state.next_tick()?;
+    let (a, b, seen) = (AtomicU64::new(0), AtomicU64::new(0), AtomicU64::new(0));
+    let mut workers = Vec::new(alloc);
+    workers.reserve(2)?;
+    deal(whole, &mut workers, 2);
+    let cells = [
+        ActorCell::new(ActorState::new(
+            alloc,
+            Watcher {
+                replica: Replica::new(alloc, scenario.cluster, 0)?,
+                own: &a,
+                other: &b,
+                seen: &seen,
+            },
+        )),
+        ActorCell::new(ActorState::new(
+            alloc,
+            Watcher {
+                replica: Replica::new(alloc, scenario.cluster, 1)?,
+                own: &b,
+                other: &a,
+                seen: &seen,
+            },
+        )),
+    ];
+    let fabric = Fabric::new(state);
+    thread::for_each_mut(
+        rt,
+        workers.as_mut_slice(),
+        2,
+        &|_, worker| one_turn(rt, worker, &cells, &fabric),
+    );
+    Ok(seen.load(Ordering::SeqCst))
+}
+
+#[test]
+fn two_steps_at_once(rt: HostRuntime) -> Result<(), Fail> {
+    let alloc = rt.alloc();
+    let scenario = three_deadlines(alloc)?;
+    let seen = seen_at_once::<Brand, _>(&rt, alloc, Blank::new(16), &scenario)?;
+    assert_eq!(rt; seen, 2);
+    Ok(())
+}
