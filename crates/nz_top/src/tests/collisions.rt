@@ -26,9 +26,10 @@ fn replied_over(alloc: Global, id: Id, log: &HashedLog) -> Result<Option<Replied
         return Ok(None);
     };
     let mut keys = Vec::new(alloc);
-    for at in 0..place + 1 {
+    for at in 0..place {
         keys.push(log.get(at).key)?;
     }
+    keys.push(log.get(place).key)?;
     Ok(Some(RepliedOver {
         keys,
         digest: log.digest_at(place),
