@@ -7,8 +7,12 @@ mod rows;
 use crate::{Outcome, Status, Words, nezha};
 use nz_base::{Blob, NoMemory};
 use nz_edge::{CallList, MemSink, MemSource, OpenGate};
-use rows::{PUT_THEN_GET, ROWS};
+use nz_text::read_text;
+use rows::{PUT_THEN_GET, ROWS, THREE_EQUAL_DEADLINES};
+use std::alloc::Global;
+use std::sync::Wait;
 use std::test::Fail;
+use std::thread::Threads;
 
 /// A call on an input, with the pieces and failing calls of its ends.
 #[derive(Clone, Copy)]
@@ -35,11 +39,14 @@ fn plain<'a>(words: &'a [&'a str], input: &'a [u8]) -> Call<'a>
     }
 }
 
-fn answer(rt: &HostRuntime, call: &Call) -> Result<(Outcome, MemSink), NoMemory>
+fn answer<R: Threads + Wait + Sync>(
+    rt: &R,
+    alloc: Global,
+    call: &Call,
+) -> Result<(Outcome, MemSink), NoMemory>
     requires read { 0 < call.now.read_piece }
     requires write { 0 < call.now.write_piece }
 {
-    let alloc = rt.alloc();
     let words = Words::from_list(alloc, call.words)?;
     let input = Blob::from_slice(alloc, call.input)?;
     let mut source = MemSource::new(
@@ -56,7 +63,7 @@ fn answer(rt: &HostRuntime, call: &Call) -> Result<(Outcome, MemSink), NoMemory>
 #[test]
 fn scenarios(rt: HostRuntime) -> Result<(), Fail> {
     for row in &ROWS {
-        let (outcome, out) = answer(&rt, &plain(&[row.word], row.input.as_bytes()))?;
+        let (outcome, out) = answer(&rt, rt.alloc(), &plain(&[row.word], row.input.as_bytes()))?;
         assert_eq!(rt; outcome.status, Status::Done);
         assert_eq!(rt; out.bytes(), row.output.as_bytes());
         assert!(rt; outcome.journal.is_some());
@@ -85,7 +92,7 @@ fn bad_lines(rt: HostRuntime) -> Result<(), Fail> {
     for (head, rest, line) in table {
         let mut input = Vec::from_slice(rt.alloc(), head.as_bytes())?;
         input.extend_from_slice(rest.as_bytes())?;
-        let (outcome, out) = answer(&rt, &plain(&["run"], &input))?;
+        let (outcome, out) = answer(&rt, rt.alloc(), &plain(&["run"], &input))?;
         assert_eq!(rt; outcome.status, Status::BadScenario);
         assert_eq!(rt; out.bytes(), line.as_bytes());
         assert!(rt; outcome.journal.is_none());
@@ -99,11 +106,11 @@ fn values_and_inputs_that_are_too_long(rt: HostRuntime) -> Result<(), Fail> {
     input.extend_from_slice(b"put k ")?;
     input.extend_from_slice(vec![in rt.alloc(); b'v'; 257]?.as_slice())?;
     input.extend_from_slice(b"\nend\ndone\n")?;
-    let (_, out) = answer(&rt, &plain(&["run"], &input))?;
+    let (_, out) = answer(&rt, rt.alloc(), &plain(&["run"], &input))?;
     assert_eq!(rt; out.bytes(), b"refused line 7: limit\n".as_slice());
     // A comment, so that nothing but the length is wrong.
     let comment = vec![in rt.alloc(); b'#'; 1_048_577]?;
-    let (_, out) = answer(&rt, &plain(&["run"], &comment))?;
+    let (_, out) = answer(&rt, rt.alloc(), &plain(&["run"], &comment))?;
     assert_eq!(rt; out.bytes(), b"refused line 1: limit\n".as_slice());
     Ok(())
 }
@@ -133,7 +140,7 @@ fn words_that_are_no_call(rt: HostRuntime) -> Result<(), Fail> {
     for (count, first, second, third) in table {
         let words = [first, second, third];
         let call = plain(&words[..count], PUT_THEN_GET.input.as_bytes());
-        let (outcome, out) = answer(&rt, &call)?;
+        let (outcome, out) = answer(&rt, rt.alloc(), &call)?;
         assert_eq!(rt; outcome.status, Status::Usage);
         assert_eq!(rt; out.bytes(), b"refused words\n".as_slice());
         assert!(rt; outcome.journal.is_none());
@@ -142,8 +149,31 @@ fn words_that_are_no_call(rt: HostRuntime) -> Result<(), Fail> {
 }
 
 #[test]
+fn runs_by_workers(rt: HostRuntime) -> Result<(), Fail> {
+    // Whichever worker was first, each of the three requests is printed, accepted and executed.
+    for workers in ["2", "4", "16"] {
+        let words = ["run", "--workers", workers];
+        let call = plain(&words, THREE_EQUAL_DEADLINES.input.as_bytes());
+        let (outcome, out) = answer(&rt, rt.alloc(), &call)?;
+        assert_eq!(rt; outcome.status, Status::Done);
+        assert!(rt; outcome.journal.is_some());
+        let text = out.bytes();
+        if text.len() > 4096 {
+            return Err("a short text".into());
+        }
+        let Ok(printed) = read_text(rt.alloc(), text) else {
+            return Err("a text".into());
+        };
+        assert_eq!(rt; printed.events.len(), 6);
+        assert_eq!(rt; printed.unanswered.len(), 0);
+        assert_eq!(rt; printed.history.len(), 3);
+    }
+    Ok(())
+}
+
+#[test]
 fn a_drawn_run(rt: HostRuntime) -> Result<(), Fail> {
-    let (outcome, out) = answer(&rt, &plain(&["gen", "7", "1"], b"not read"))?;
+    let (outcome, out) = answer(&rt, rt.alloc(), &plain(&["gen", "7", "1"], b"not read"))?;
     assert_eq!(rt; outcome.status, Status::Done);
     let summary = b"sent 1\naccepted 1\nfast 1\nslow 0\nopen 0\nhistory 1\nend\n";
     assert_eq!(rt; out.bytes(), summary.as_slice());
@@ -156,7 +186,7 @@ fn a_source_of_small_pieces(rt: HostRuntime) -> Result<(), Fail> {
         read_piece: 1,
         ..plain(&["run"], PUT_THEN_GET.input.as_bytes())
     };
-    let (outcome, out) = answer(&rt, &call)?;
+    let (outcome, out) = answer(&rt, rt.alloc(), &call)?;
     assert_eq!(rt; outcome.status, Status::Done);
     assert_eq!(rt; out.bytes(), PUT_THEN_GET.output.as_bytes());
     Ok(())
@@ -171,7 +201,7 @@ fn sources_that_fail(rt: HostRuntime) -> Result<(), Fail> {
             failing_reads,
             ..plain(&["run"], PUT_THEN_GET.input.as_bytes())
         };
-        let (outcome, out) = answer(&rt, &call)?;
+        let (outcome, out) = answer(&rt, rt.alloc(), &call)?;
         assert_eq!(rt; outcome.status, Status::ReadFault);
         assert!(rt; out.bytes().is_empty());
         assert!(rt; outcome.journal.is_none());
@@ -196,7 +226,7 @@ fn sinks_that_fail(rt: HostRuntime) -> Result<(), Fail> {
             failing_writes: &[call],
             ..plain(&["run"], PUT_THEN_GET.input.as_bytes())
         };
-        let (outcome, out) = answer(&rt, &call)?;
+        let (outcome, out) = answer(&rt, rt.alloc(), &call)?;
         assert_eq!(rt; outcome.status, Status::WriteFault);
         assert_eq!(rt; out.bytes(), &output[..taken]);
         assert!(rt; outcome.journal.is_some());

@@ -97,7 +97,11 @@ fn collides(list: &RepliedOver, others: &[RepliedOver]) -> bool {
 
 #[test]
 fn no_lists_of_keys_collide(rt: HostRuntime) -> Result<(), Fail> {
-    let (outcome, _) = answer(&rt, &plain(&["run"], PUT_THEN_GET.input.as_bytes()))?;
+    let (outcome, _) = answer(
+        &rt,
+        rt.alloc(),
+        &plain(&["run"], PUT_THEN_GET.input.as_bytes()),
+    )?;
     let Some(journal) = &outcome.journal else {
         assert!(rt; false);
         return Ok(());

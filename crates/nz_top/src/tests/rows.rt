@@ -37,7 +37,7 @@ end\ndone\n",
     output: "end\n",
 };
 
-const THREE_EQUAL_DEADLINES: Row = Row {
+pub const THREE_EQUAL_DEADLINES: Row = Row {
     word: "run",
     input: "# three requests with one deadline: they are executed in the order of their clients\n\
 nezha 1\nf 1\nproxies 1\nclients 3\nticks 30\nclient c0\nput x 0\nend\nclient c1\nput x 1\n\
