@@ -139,6 +139,9 @@ fn words_that_are_no_call(rt: HostRuntime) -> Result<(), Fail> {
     ];
     for (count, first, second, third) in table {
         let words = [first, second, third];
+        if count > 3 {
+            return Err("at most three words".into());
+        }
         let call = plain(&words[..count], PUT_THEN_GET.input.as_bytes());
         let (outcome, out) = answer(&rt, rt.alloc(), &call)?;
         assert_eq!(rt; outcome.status, Status::Usage);
