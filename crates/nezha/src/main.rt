@@ -26,6 +26,13 @@ fn main(rt: HostRuntime) -> ExitCode {
     };
     let mut source = StdSource::new(rt.stdin());
     let mut out = StdSink::new(rt.stdout());
-    let outcome = nezha(&rt, rt.alloc(), &words, &mut source, &mut out, &OpenGate::new());
+    let outcome = nezha(
+        &rt,
+        rt.alloc(),
+        &words,
+        &mut source,
+        &mut out,
+        &OpenGate::new(),
+    );
     ExitCode::from(outcome.status.code())
 }

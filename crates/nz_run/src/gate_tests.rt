@@ -130,7 +130,11 @@ fn many_workers(rt: HostRuntime) -> Result<(), Fail> {
     let alone = run(&rt, alloc, &scenario, 1, &OpenGate::new())?;
     for workers in [2, 4, 16] {
         let journal = run(&rt, alloc, &scenario, workers, &OpenGate::new())?;
-        assert_eq!(rt; journal.records.len(), alone.records.len(), "with {workers}");
+        assert_eq!(rt;
+            journal.records.len(),
+            alone.records.len(),
+            "with {workers}"
+        );
     }
     Ok(())
 }
