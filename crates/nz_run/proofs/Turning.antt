@@ -1,5 +1,5 @@
 -- The next turn of a fabric may happen, and its record goes on with the run.
-use Rattle.std.proofs.Common.{◌≡◌, ℕ, zero, suc, ◌+◌, List, [], ◌∷◌, ◌++◌, length, map, Some, refl, sym, ap, ◌∙◌, subst, arith}
+use Rattle.std.proofs.Common.{◌≡◌, ℕ, zero, suc, List, [], ◌∷◌, ◌++◌, length, map, Some, refl, sym, ap, ◌∙◌, subst, arith}
 use Rattle.std.specs.Prelude.{take, reverse, slice_get}
 use Rattle.std.specs.List.{AllByRecursion}
 use Rattle.std.proofs.lemmas.Option.{none-some}
@@ -17,7 +17,7 @@ use Rattle.nz_machine.proofs.Each.{all_append, all_imply}
 use Rattle.nz_machine.proofs.Runs.{has_right}
 use Rattle.nz_machine.proofs.Members.{receiver_is_member}
 use Rattle.nz_fabric.specs.declared.turn.Turn.{Turn}
-use Rattle.nz_fabric.specs.States.{State, records_of, IsBegun, IsKept, IsNext, IsOpen, IsQuiet, IsDone, item_in, with_taken, with_recorded, after_tick}
+use Rattle.nz_fabric.specs.States.{State, records_of, IsBegun, IsKept, IsNext, IsQuiet, item_in, with_taken, with_recorded}
 use Rattle.nz_run.specs.declared.cast.Cast.{Cast}
 use Rattle.nz_run.specs.Casts.{record_of, sends_of, IsCast, IsUnderWay}
 use Rattle.nz_run.proofs.Scheduling.{scheduled_in_order}
@@ -74,9 +74,6 @@ next_may_turn f turn k w n =
     let t = is_turn f.scenario f.tick f.finished f.here f.items (item_in turn) k.playable k.begun k.in_order n.item in
     may_turn f.scenario f.tick f.finished f.here turn.actor turn.event w t.fine t.fresh
 
-pub open_now : (f : State) (turn : Turn) → IsQuiet f → IsNext f turn → IsOpen (with_taken f) turn
-open_now f turn q n = record { unmarked = q.unmarked; taken = ap (λ k. k + 1) q.closed; is_next = record { number = n.number; tick = n.tick; item = n.item } }
-
 -- the record of the turn goes on with the run
 pub under_way_now : (f : State) (cast cast' : Cast) (turn : Turn) (sends : List Parcel) → IsKept f → IsUnderWay f cast → IsNext f turn
     → ((g : Group) (J : List Record) (tick : ℕ) → IsCast g J cast → IsMember g turn.actor → (sends ≡ sends_of g J turn.actor turn.event) × IsCast g (record_of tick turn.actor turn.event sends ∷ J) cast')
@@ -85,12 +82,6 @@ under_way_now f cast cast' turn sends k u n step =
     let may = next_may_turn f turn k u.world n in
     let now = step (group_of f.scenario) (records_of f) turn.tick u.is_cast may.member in
     record { world = (record { member = may.member; event = may.event; sends = now.0 }, u.world); is_cast = now.1 }
-
-pub under_way_next : (f : State) (cast : Cast) → IsUnderWay f cast → IsUnderWay (after_tick f) cast
-under_way_next f cast u = record { world = u.world; is_cast = u.is_cast }
-
-pub quiet_next : (f : State) → IsDone f → IsQuiet (after_tick f)
-quiet_next f d = record { unmarked = d.quiet.unmarked; closed = refl }
 
 pub quiet_now : (f : State) (turn : Turn) (sends : List Parcel) → IsQuiet f → IsQuiet (with_recorded turn sends (with_taken f))
 quiet_now f turn sends q = let closed = q.closed in record { unmarked = q.unmarked; closed = omega (arith, closed) }

@@ -32,9 +32,6 @@ record Reaches (n : ℕ) (d : Draft) (text rest : List ℕ) (next : Draft) : Typ
   line : ℕ
   same : reading (tail_in text) n d (lines_in text) ≡ reading (tail_in rest) line next (lines_in rest)
 
-then_reaches : (n : ℕ) (d e f : Draft) (a b c : List ℕ) (h : Reaches n d a b e) → Reaches h.line e b c f → Reaches n d a c f
-then_reaches n d e f a b c h k = record { line = k.line; same = h.same ∙ k.same }
-
 first_line : (n : ℕ) (d e f : Draft) (bytes a rest : List ℕ) → reading (tail_in (bytes ++ (a ++ rest))) n d (lines_in (bytes ++ (a ++ rest))) ≡ reading (tail_in (a ++ rest)) (n + 1) e (lines_in (a ++ rest))
     → Reaches (n + 1) e (a ++ rest) rest f → Reaches n d ((bytes ++ a) ++ rest) rest f
 first_line n d e f bytes a rest now h = record { line = h.line; same = ap (λ (l : List ℕ). reading (tail_in l) n d (lines_in l)) (append_assoc bytes a rest) ∙ now ∙ h.same }

@@ -71,7 +71,7 @@ fn scenarios(rt: HostRuntime) -> Result<(), Fail> {
     Ok(())
 }
 
-/// The first four lines of the head, one replica of three faulty, one proxy.
+/// The head of a scenario with three replicas, one proxy and one client, and the first line of its block.
 const HEAD: &str = "nezha 1\nf 1\nproxies 1\nclients 1\nticks 10\nclient c0\n";
 
 #[test]
