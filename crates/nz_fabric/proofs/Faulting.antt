@@ -1,5 +1,5 @@
 -- Fault lines, and what they make of deliveries.
-use Rattle.std.proofs.Common.{◌≡◌, ℕ, ◌+◌, ◌-◌, ◌<◌, ◌≤◌, eqb, Bool, true, false, cond, ◌&&◌, List, [], ◌∷◌, ◌++◌, length, map, refl, sym, ap, ◌∙◌, arith, length-append, append-nil, take_all, length-take-le, get_or-drop}
+use Rattle.std.proofs.Common.{◌≡◌, ℕ, ◌+◌, ◌-◌, ◌<◌, ◌≤◌, eqb, Bool, true, false, cond, List, [], ◌∷◌, ◌++◌, length, map, refl, sym, ap, ◌∙◌, arith, length-append, append-nil, take_all, length-take-le, get_or-drop}
 use Rattle.std.specs.Prelude.{filter, take, drop, get_or}
 use Rattle.std.proofs.lemmas.List.{drop_all, get_or-append_right, get_or-map, length-map, take_more}
 use Rattle.std.proofs.lemmas.List.Elements.{filter-append}
@@ -8,7 +8,7 @@ use Rattle.nz_base.specs.declared.scenario.Fault.{Fault}
 use Rattle.nz_base.specs.declared.scenario.Fault.TheVariants as faults
 use Rattle.nz_base.specs.declared.actor.Actor.{Actor}
 use Rattle.nz_machine.specs.declared.event.Parcel.{Parcel}
-use Rattle.nz_machine.specs.Schedule.{Delivery as Planned, later, held, is_of, is_nth, faulted, faulted_by}
+use Rattle.nz_machine.specs.Schedule.{Delivery as Planned, later, held, is_of, faulted, faulted_by}
 use Rattle.nz_fabric.specs.declared.deliveries.Delivery.{Delivery}
 use Rattle.nz_fabric.specs.declared.lines.Line.{Line}
 use Rattle.nz_fabric.specs.Coming.{stored, put_off, line_of, passed, strikes, struck}
@@ -67,10 +67,6 @@ all_passed earlier p (line ∷ lines) = let ih = all_passed earlier p lines in l
 
 last_one : (count n : ℕ) → eqb (count - n) 1 ≡ eqb (n + 1) count
 last_one count n = grind (arith, nat_tests)
-
--- the line that has one parcel to pass strikes the parcel that it sought
-pub struck_by_left : (from to : Actor) (kind count : ℕ) (earlier : List Parcel) (p : Parcel) → (is_of from to kind p && eqb (count - length (filter (is_of from to kind) earlier)) 1) ≡ is_nth from to kind count earlier p
-struck_by_left from to kind count earlier p = ap (λ (b : Bool). is_of from to kind p && b) (last_one count (length (filter (is_of from to kind) earlier)))
 
 same_choice : (b : Bool) (ds : List Planned) → cond b ds ds ≡ ds
 same_choice true ds = refl
