@@ -8,6 +8,7 @@ use Rattle.nz_machine.specs.State.{Group}
 use Rattle.nz_machine.specs.Step.{Node, first_node, node_run}
 use Rattle.nz_machine.specs.World.{state_after}
 use Rattle.nz_machine.proofs.Runs.{acts_itself}
+use Rattle.nz_fabric.specs.Replays.{IsSentOn}
 use Rattle.nz_actor.specs.Lanes.{Lane, IsLane}
 
 abbrev node_of : (g : Group) (a : Actor) → List Record → Node
@@ -25,13 +26,21 @@ lane_start g meaning live fits a is_of is lives own = record {
   there = λ _. record { lives = lives; stands = is ∙ begin_at g meaning.actor ∙ ap (λ (b : Actor). node_of g b []) (sym own) };
 }
 
+-- the live core runs as the actor does behind its records
+runs_as : (g : Group) (lane : Lane) (old : Node) (before : Bool) (fits : Type 0) (e : Event) (ran : Node × List Parcel) → IsLane g old before fits lane → lane.live ≡ true → node_run g old e ≡ ran
+    → node_run g (node_of g lane.actor lane.steps) e ≡ ran
+runs_as g lane old before fits e ran k live step = ap (λ (n : Node). node_run g n e) (sym (k.there live).stands) ∙ step
+
+pub lane_sends : (g : Group) (lane : Lane) (old new : Node) (before : Bool) (fits : Type 0) (e : Event) (sends : List Parcel) → IsLane g old before fits lane → lane.live ≡ true → node_run g old e ≡ (new, sends)
+    → IsSentOn g lane.actor e sends
+lane_sends g lane old new before fits e sends k live step = (lane.steps, (k.replay, sym (ap (λ (t : Node × List Parcel). t.1) (runs_as g lane old before fits e (new, sends) k live step))))
+
 pub lane_step : (g : Group) (lane : Lane) (old new : Node) (before now : Bool) (fits fits' : Type 0) (r : Record) (e : Event) (sends : List Parcel)
     → IsLane g old before fits lane → lane.live ≡ true → r.actor ≡ lane.actor → r.event ≡ e → r.sends ≡ sends → node_run g old e ≡ (new, sends) → now ≡ true → fits'
     → IsLane g new now fits' (record { actor = lane.actor; live = true; steps = r ∷ lane.steps })
 lane_step g lane old new before now fits fits' r e sends k live own event sent step lives is_of =
     let a = lane.actor in
-    let at : Node = node_of g a lane.steps in
-    let ran : node_run g at r.event ≡ (new, sends) = ap (λ (f : Event). node_run g at f) event ∙ (ap (λ (n : Node). node_run g n e) (sym (k.there live).stands) ∙ step) in
+    let ran : node_run g (node_of g a lane.steps) r.event ≡ (new, sends) = ap (λ (f : Event). node_run g (node_of g a lane.steps) f) event ∙ runs_as g lane old before fits e (new, sends) k live step in
     record {
       is_of = is_of;
       replay = (own, (sent ∙ sym (ap (λ (t : Node × List Parcel). t.1) ran), k.replay));

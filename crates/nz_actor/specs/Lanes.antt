@@ -1,11 +1,12 @@
 -- What contracts see of an actor's state, and what it keeps.
-use Rattle.std.specs.Prelude.{◌≡◌, Bool, true, List, [], ◌∷◌, filter}
+use Rattle.std.specs.Prelude.{◌≡◌, Bool, true, List, filter}
 use Rattle.nz_base.specs.Actor.{actor_eq}
 use Rattle.nz_base.specs.declared.actor.Actor.{Actor}
 use Rattle.nz_machine.specs.declared.event.Record.{Record}
 use Rattle.nz_machine.specs.State.{Group}
-use Rattle.nz_machine.specs.Step.{Node, node_step}
+use Rattle.nz_machine.specs.Step.{Node}
 use Rattle.nz_machine.specs.World.{state_after}
+use Rattle.nz_fabric.specs.Replays.{IsReplay}
 
 -- The records of the actor's steps, the newest first, and whether no step has run out of memory.
 pub record Lane : Type 0 where
@@ -16,11 +17,6 @@ pub record Lane : Type 0 where
 -- The records of an actor among others.
 abbrev pub of_actor : Actor → List Record → List Record
 of_actor a records = filter (λ r. actor_eq r.actor a) records
-
--- They are of the actor, and each sends what the machine says behind those before it.
-abbrev pub IsReplay : Group → Actor → List Record → Type 0
-IsReplay g a [] = Unit {0}
-IsReplay g a (r ∷ older) = (r.actor ≡ a) × ((r.sends ≡ (node_step g a (state_after g a older) r.event).1) × IsReplay g a older)
 
 -- The core stands where the records lead the actor.
 pub record IsThere (g : Group) (a : Actor) (steps : List Record) (meaning : Node) (live : Bool) : Type 0 where

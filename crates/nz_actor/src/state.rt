@@ -1,8 +1,8 @@
 ghost use Rattle.std.specs.Prelude.{◌≡◌, ◌↔◌, ◌∷◌, [], true, false, reverse, IfOk, OnErr, IsTrue};
 ghost use Rattle.nz_machine.specs.Schedule.{group_of};
 ghost use Rattle.nz_machine.specs.Step.{first_node};
+ghost use Rattle.nz_fabric.specs.Replays.{IsReplay, IsSentOn};
 ghost use Rattle.nz_fabric.specs.States.{recorded};
-ghost use Rattle.nz_actor.specs.Lanes.{IsReplay};
 
 use nz_base::{Actor, NoMemory, TryCopy};
 use nz_fabric::{Name, Turn};
@@ -64,6 +64,7 @@ impl<N: Name, C: Core> ActorState<N, C> {
         requires live { self.old.live ≡ true }
         requires actor { turn.now.actor ≡ self.old.actor }
         ensures ok { IfOk result (λ sends. self.new ≡ record self.old { steps = recorded turn.now sends ∷ self.old.steps }) }
+        ensures sent { IfOk result (IsSentOn (group_of N.scenario) turn.now.actor turn.now.event) }
         ensures err { OnErr result (self.new ≡ record self.old { live = false }) }
     {
         self.live = false;

@@ -1,8 +1,9 @@
 ghost use Rattle.std.specs.Prelude.{◌≡◌, ◌⊎◌, ◌+◌, ◌<◌, ◌==◌, length, get_or, true, false, IfOk, IfSome, MatchBool, MatchOption, MatchResult};
 ghost use Rattle.std.specs.List.{position};
 ghost use Rattle.nz_machine.specs.Journals.{run_in};
-ghost use Rattle.nz_machine.specs.Schedule.{IsPlayable, Scheduled};
+ghost use Rattle.nz_machine.specs.Schedule.{group_of, IsPlayable, Scheduled};
 ghost use Rattle.nz_fabric.specs.declared.running.Running.{Running as Entry};
+ghost use Rattle.nz_fabric.specs.Replays.{IsSentOn};
 ghost use Rattle.nz_fabric.specs.States.{records_of, with_mark};
 ghost use Rattle.nz_fabric.specs.Shared.{IsAccounted, IsNextOf, IsOver, after_shared, closed, place_of as place_in, shared, start_shared, with_given_up, with_opened, with_record};
 
@@ -100,9 +101,10 @@ impl<N: Name> FabricState<N> {
         }))
     }
 
-    /// The record of the turn stands last in the journal.
+    /// The record of the turn stands last in the journal. What it sends is of a step of the turn's actor.
     pub fn record(&mut self, turn: Turn, sends: Sends, share: &mut Share<N>)
-        requires { 0 < share.old.amount }
+        requires open { 0 < share.old.amount }
+        requires sent { IsSentOn (group_of N.scenario) turn.actor turn.event sends }
         ensures recorded { self.new ≡ with_record turn.number sends self.old }
         ensures share { (share.new.amount + 1 ≡ share.old.amount) × (share.new.parts ≡ share.old.parts) }
     {

@@ -23,7 +23,8 @@ use Rattle.nz_machine.specs.Step.{node_step, event_step}
 use Rattle.nz_machine.specs.World.{state_after, World}
 use Rattle.nz_machine.specs.Schedule.{group_of, item_of, due, ScheduledTo, IsPlayable}
 use Rattle.nz_machine.proofs.Runs.{acts, stays, on_cond}
-use Rattle.nz_actor.specs.Lanes.{of_actor, IsReplay}
+use Rattle.nz_fabric.specs.Replays.{IsReplay}
+use Rattle.nz_actor.specs.Lanes.{of_actor}
 use Rattle.nz_machine.proofs.Each.{all_append}
 use Rattle.nz_run.specs.Stages.{AllReplay}
 use Rattle.nz_run.proofs.Fine.{IsFine, ItemIsFine}

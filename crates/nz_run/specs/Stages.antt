@@ -5,7 +5,8 @@ use Rattle.nz_machine.specs.declared.event.Record.{Record}
 use Rattle.nz_machine.specs.State.{Group}
 use Rattle.nz_machine.specs.Step.{Node, first_node}
 use Rattle.nz_machine.specs.World.{IsMember}
-use Rattle.nz_actor.specs.Lanes.{of_actor, IsReplay}
+use Rattle.nz_fabric.specs.Replays.{IsReplay}
+use Rattle.nz_actor.specs.Lanes.{of_actor}
 
 -- A core of the group that has not stepped.
 pub record HasNotStepped (g : Group) (meaning : Node) (live : Bool) (fits : Type 0) : Type 0 where

@@ -1,7 +1,8 @@
 ghost use Rattle.std.specs.Prelude.{◌≡◌, ◌+◌, ◌<◌, All, ℕ, IsTrue, reverse};
 ghost use Rattle.nz_machine.specs.Schedule.{group_of, IsPlayable};
 ghost use Rattle.nz_fabric.specs.Dues.{named};
-ghost use Rattle.nz_actor.specs.Lanes.{IsReplay, of_actor};
+ghost use Rattle.nz_fabric.specs.Replays.{IsReplay};
+ghost use Rattle.nz_actor.specs.Lanes.{of_actor};
 ghost use Rattle.nz_run.specs.Stages.{AllReplay, HasNotStepped};
 
 use crate::cast::Cast;

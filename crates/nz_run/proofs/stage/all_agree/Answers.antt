@@ -4,7 +4,8 @@ use Rattle.nz_base.specs.declared.actor.Actor.{Actor}
 use Rattle.nz_machine.specs.declared.event.Record.{Record}
 use Rattle.nz_machine.specs.Schedule.{group_of}
 use Rattle.nz_fabric.specs.Dues.{named}
-use Rattle.nz_actor.specs.Lanes.{IsReplay, of_actor}
+use Rattle.nz_fabric.specs.Replays.{IsReplay}
+use Rattle.nz_actor.specs.Lanes.{of_actor}
 use Rattle.nz_run.proofs.Replaying.{one_lower}
 use Rattle.nz_run.proofs.stage.all_agree.Goals as goal
 

@@ -1,7 +1,8 @@
 use Rattle.std.specs.Prelude.{◌≤◌, ◌+◌, ◌<◌, ℕ, reverse}
 use Rattle.nz_machine.specs.Schedule.{group_of}
 use Rattle.nz_fabric.specs.Dues.{named}
-use Rattle.nz_actor.specs.Lanes.{IsReplay, of_actor}
+use Rattle.nz_fabric.specs.Replays.{IsReplay}
+use Rattle.nz_actor.specs.Lanes.{of_actor}
 use Rattle.nz_run.proofs.stage.all_agree.Given as goal
 
 abbrev pub invariant-cells : goal.invariant-cells
