@@ -1,14 +1,16 @@
 //! Calls with their whole output. The outputs are worked out apart from the program.
-ghost use Rattle.std.specs.Prelude.{◌<◌};
+ghost use Rattle.std.specs.Prelude.{◌<◌, IfOk, IfSome};
+ghost use Rattle.nz_machine.specs.Journals.{group_in, run_in};
+ghost use Rattle.nz_machine.specs.World.{World};
 
 mod collisions;
 mod rows;
+mod workers;
 
 use crate::{Outcome, Status, Words, nezha};
 use nz_base::{Blob, NoMemory};
 use nz_edge::{CallList, MemSink, MemSource, OpenGate};
-use nz_text::read_text;
-use rows::{PUT_THEN_GET, ROWS, THREE_EQUAL_DEADLINES};
+use rows::{PUT_THEN_GET, ROWS};
 use std::alloc::Global;
 use std::sync::Wait;
 use std::test::Fail;
@@ -46,6 +48,7 @@ fn answer<R: Threads + Wait + Sync>(
 ) -> Result<(Outcome, MemSink), NoMemory>
     requires read { 0 < call.now.read_piece }
     requires write { 0 < call.now.write_piece }
+    ensures { IfOk result (λ answered. IfSome answered.0.journal (λ journal. World (group_in journal) (run_in journal))) }
 {
     let words = Words::from_list(alloc, call.words)?;
     let input = Blob::from_slice(alloc, call.input)?;
@@ -147,29 +150,6 @@ fn words_that_are_no_call(rt: HostRuntime) -> Result<(), Fail> {
         assert_eq!(rt; outcome.status, Status::Usage);
         assert_eq!(rt; out.bytes(), b"refused words\n".as_slice());
         assert!(rt; outcome.journal.is_none());
-    }
-    Ok(())
-}
-
-#[test]
-fn runs_by_workers(rt: HostRuntime) -> Result<(), Fail> {
-    // Whichever worker was first, each of the three requests is printed, accepted and executed.
-    for workers in ["2", "4", "16"] {
-        let words = ["run", "--workers", workers];
-        let call = plain(&words, THREE_EQUAL_DEADLINES.input.as_bytes());
-        let (outcome, out) = answer(&rt, rt.alloc(), &call)?;
-        assert_eq!(rt; outcome.status, Status::Done);
-        assert!(rt; outcome.journal.is_some());
-        let text = out.bytes();
-        if text.len() > 4096 {
-            return Err("a short text".into());
-        }
-        let Ok(printed) = read_text(rt.alloc(), text) else {
-            return Err("a text".into());
-        };
-        assert_eq!(rt; printed.events.len(), 6);
-        assert_eq!(rt; printed.unanswered.len(), 0);
-        assert_eq!(rt; printed.history.len(), 3);
     }
     Ok(())
 }

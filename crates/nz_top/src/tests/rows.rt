@@ -103,6 +103,12 @@ clients 1\nticks 1\nclient c0\nend\ndone\n",
 1 c0 tick 1000 -> 0\ntext\nend\n",
 };
 
+/// Five replicas, of which the leader is heard by none of the others, and a proxy that reaches one of them.
+pub const FIVE_REPLICAS: &str =
+    "nezha 1\nf 2\nproxies 2\nclients 2\nticks 60\nskew p1 -2000\nclient c0\n\
+put a 1\nend\nclient c1\nput b 2\nend\ndrop p1 r0 timed 1\ndrop p1 r1 timed 1\ndrop p1 r2 timed 1\n\
+drop p1 r3 timed 1\nblock r0 r1 1 60\nblock r0 r2 1 60\nblock r0 r3 1 60\nblock r0 r4 1 60\ndone\n";
+
 pub const ROWS: [Row; 11] = [
     PUT_THEN_GET,
     SEVEN_ANSWERS,

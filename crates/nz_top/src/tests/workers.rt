@@ -1,0 +1,120 @@
+//! Runs by several workers. Whichever worker did what, the text that was written says what the journal does.
+
+use super::rows::{FIVE_REPLICAS, THREE_EQUAL_DEADLINES};
+use super::{answer, plain};
+use crate::Status;
+use nz_audit::history_of;
+use nz_base::{Id, NoMemory};
+use nz_machine::{Acceptance, Clients, Executed, Journal};
+use nz_store::Answer;
+use nz_text::{Event, read_text};
+use std::alloc::Global;
+use std::test::Fail;
+
+/// The kind of the answer, and its value, or no bytes.
+fn parts(answer: &Answer) -> (u8, &[u8]) {
+    match answer {
+        Answer::Done => (0, &[]),
+        Answer::Value(value) => (1, value.as_slice()),
+        Answer::Absent => (2, &[]),
+        Answer::Differs => (3, &[]),
+    }
+}
+
+fn is_acceptance(event: Option<&Event>, accepted: &Acceptance) -> bool {
+    match event {
+        Some(Event::Accept { id, answer, path }) => {
+            *id == accepted.id && parts(answer) == parts(&accepted.answer) && *path == accepted.path
+        }
+        _ => false,
+    }
+}
+
+/// The command of the journal's request, or no bytes.
+fn command_of(journal: &Journal, id: Id) -> &[u8] {
+    let scripts = journal.scenario.scripts.as_slice();
+    match scripts.get(id.client as usize) {
+        None => &[],
+        Some(script) => match script.as_slice().get(id.num.saturating_sub(1) as usize) {
+            None => &[],
+            Some(request) => request.command.as_slice(),
+        },
+    }
+}
+
+fn is_sending(event: Option<&Event>, journal: &Journal, sent: Id) -> bool {
+    match event {
+        Some(Event::Send { id, command }) => {
+            *id == sent && command.as_slice() == command_of(journal, sent)
+        }
+        _ => false,
+    }
+}
+
+/// Whether these are the events of the journal, in their order.
+fn are_events(alloc: Global, journal: &Journal, events: &[Event]) -> Result<bool, NoMemory> {
+    let mut clients = Clients::new(alloc, &journal.scenario)?;
+    let mut place = 0usize;
+    for next in journal.records.as_slice() {
+        let telling = clients.tell(alloc, next)?;
+        if let Some(accepted) = telling.accepted {
+            if !is_acceptance(events.get(place), &accepted) {
+                return Ok(false);
+            }
+            place = place.saturating_add(1);
+        }
+        if let Some(sent) = telling.sent {
+            if !is_sending(events.get(place), journal, sent) {
+                return Ok(false);
+            }
+            place = place.saturating_add(1);
+        }
+    }
+    Ok(place == events.len())
+}
+
+fn is_same(a: &Executed, b: &Executed) -> bool {
+    a.id == b.id
+        && a.command.as_slice() == b.command.as_slice()
+        && parts(&a.answer) == parts(&b.answer)
+}
+
+fn are_same(a: &[Executed], b: &[Executed]) -> bool {
+    a.len() == b.len() && a.iter().zip(b.iter()).all(|(x, y)| is_same(x, y))
+}
+
+#[test]
+fn texts_of_runs_by_workers(rt: HostRuntime) -> Result<(), Fail> {
+    // The input, the workers, and how many requests are sent.
+    let table = [
+        (THREE_EQUAL_DEADLINES.input, "2", 3),
+        (THREE_EQUAL_DEADLINES.input, "4", 3),
+        (THREE_EQUAL_DEADLINES.input, "16", 3),
+        (FIVE_REPLICAS, "2", 2),
+        (FIVE_REPLICAS, "4", 2),
+        (FIVE_REPLICAS, "16", 2),
+    ];
+    for (input, workers, sent) in table {
+        let words = ["run", "--workers", workers];
+        let (outcome, out) = answer(&rt, rt.alloc(), &plain(&words, input.as_bytes()))?;
+        assert_eq!(rt; outcome.status, Status::Done);
+        let Some(journal) = &outcome.journal else {
+            return Err("a run".into());
+        };
+        let text = out.bytes();
+        if text.len() > 4096 {
+            return Err("a short text".into());
+        }
+        let Ok(printed) = read_text(rt.alloc(), text) else {
+            return Err("a text".into());
+        };
+        assert!(rt; are_events(rt.alloc(), journal, printed.events.as_slice())?);
+        assert_eq!(rt; printed.unanswered.len(), 0);
+        let history = history_of(rt.alloc(), journal)?;
+        assert!(rt; are_same(printed.history.as_slice(), history.as_slice()));
+        // Each request is printed, accepted and executed.
+        assert_eq!(rt; printed.events.len(), 2 * sent);
+        assert_eq!(rt; history.len(), sent);
+    }
+    Ok(())
+}
