@@ -57,14 +57,14 @@ fn are_events(alloc: Global, journal: &Journal, events: &[Event]) -> Result<bool
     let mut place = 0usize;
     for next in journal.records.as_slice() {
         let telling = clients.tell(alloc, next)?;
-        if let Some(accepted) = telling.accepted {
-            if !is_acceptance(events.get(place), &accepted) {
+        if let Some(accepted) = &telling.accepted {
+            if !is_acceptance(events.get(place), accepted) {
                 return Ok(false);
             }
             place = place.saturating_add(1);
         }
-        if let Some(sent) = telling.sent {
-            if !is_sending(events.get(place), journal, sent) {
+        if let Some(sent) = &telling.sent {
+            if !is_sending(events.get(place), journal, *sent) {
                 return Ok(false);
             }
             place = place.saturating_add(1);
