@@ -154,3 +154,6 @@ impl Core for Replica {
         self.state.name()
     }
 }
+
+#[cfg(test)]
+mod tests;
