@@ -33,5 +33,5 @@ returns-clause-sent g c =
     let inv = c.self.invariant in
     let lane : Lane = record { actor = s.actor; live = s.live; steps = reverse s.lane } in
     let sent = lane_sends group lane (g.C.Core.meaning s.core) (g.C.Core.meaning c.step.new.self) (g.C.Core.live s.core) (g.C.Core.fits s.core group) turn.event c.in_ok-sends.sends inv
-      (ap (λ (l : Lane). l.live) c.self.view_is ∙ c.requires.live) (c.in_ok-sends.ensures.step group inv.is_of) in
+    (ap (λ (l : Lane). l.live) c.self.view_is ∙ c.requires.live) (c.in_ok-sends.ensures.step group inv.is_of) in
     subst (λ (a : Actor). IsSentOn group a turn.event c.in_ok-sends.sends) (sym (c.requires.actor ∙ sym (ap (λ (l : Lane). l.actor) c.self.view_is))) sent
