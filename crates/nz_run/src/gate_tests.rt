@@ -1,4 +1,4 @@
-//! Runs on several threads, in which a gate or a core looks at what other threads do in the meantime.
+//! Runs on several threads, in which a core looks at what another thread does in the meantime.
 ghost use Rattle.std.specs.Prelude.{◌≡◌, ◌≤◌, length, IfOk};
 ghost use Rattle.std.specs.List.{AllByRecursion};
 ghost use Rattle.nz_machine.specs.Schedule.{IsPlayable};
@@ -12,9 +12,9 @@ use nz_base::{
     Actor, Blob, Cluster, FaultList, NoMemory, Request, RequestList, Scenario, ScriptList,
     SkewList, TryCopy,
 };
-use nz_edge::{Gate, OpenGate};
+use nz_edge::OpenGate;
 use nz_fabric::{Fabric, FabricState, Name};
-use nz_machine::{Core, Event, Record, Sends};
+use nz_machine::{Core, Event, Sends};
 use nz_replica::Replica;
 use nz_store::read_command;
 use std::alloc::Global;
@@ -71,56 +71,6 @@ fn three_deadlines(alloc: Global) -> Result<Scenario, Fail>
         scripts: scripts(alloc)?,
         faults: FaultList::new(alloc),
     })
-}
-
-/// Holds the worker of the first turn, and its actor's lock, until the other of two workers arrived twice.
-#[derive(Drop)]
-struct Holding {
-    first: AtomicU64,
-    second: AtomicU64,
-    met: AtomicU64,
-}
-
-impl Gate for Holding {
-    fn arrive(&self, worker: u8, turn: u64) {
-        let (own, other) = if worker == 0 {
-            (&self.first, &self.second)
-        } else {
-            (&self.second, &self.first)
-        };
-        own.fetch_add(1, Ordering::SeqCst);
-        if turn != 1 {
-            return;
-        }
-        for _ in 0..LOOKS {
-            if other.load(Ordering::SeqCst) >= 2 {
-                self.met.store(1, Ordering::SeqCst);
-                break;
-            }
-        }
-    }
-}
-
-/// Where the first record of an actor stands.
-fn first_of(records: &[Record], actor: Actor) -> Option<usize> {
-    records.iter().position(|record| record.actor == actor)
-}
-
-#[test]
-fn held_lock_stops_no_other_worker(rt: HostRuntime) -> Result<(), Fail> {
-    let alloc = rt.alloc();
-    let gate = Holding {
-        first: AtomicU64::new(0),
-        second: AtomicU64::new(0),
-        met: AtomicU64::new(0),
-    };
-    let journal = run(&rt, alloc, &three_deadlines(alloc)?, 2, &gate)?;
-    assert_eq!(rt; gate.met.load(Ordering::SeqCst), 1);
-    let records = journal.records.as_slice();
-    let held = first_of(records, Actor::Replica(0)).ok_or("r0 steps")?;
-    let next = first_of(records, Actor::Replica(1)).ok_or("r1 steps")?;
-    assert!(rt; next < held);
-    Ok(())
 }
 
 #[test]

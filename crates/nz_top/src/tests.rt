@@ -9,7 +9,7 @@ mod workers;
 
 use crate::{Outcome, Status, Words, nezha};
 use nz_base::{Blob, NoMemory};
-use nz_edge::{CallList, MemSink, MemSource, OpenGate};
+use nz_edge::{CallList, Gate, MemSink, MemSource, OpenGate};
 use rows::{PUT_THEN_GET, ROWS};
 use std::alloc::Global;
 use std::sync::Wait;
@@ -41,10 +41,11 @@ fn plain<'a>(words: &'a [&'a str], input: &'a [u8]) -> Call<'a>
     }
 }
 
-fn answer<R: Threads + Wait + Sync>(
+fn answer_through<R: Threads + Wait + Sync, G: Gate + Sync>(
     rt: &R,
     alloc: Global,
     call: &Call,
+    gate: &G,
 ) -> Result<(Outcome, MemSink), NoMemory>
     requires read { 0 < call.now.read_piece }
     requires write { 0 < call.now.write_piece }
@@ -59,8 +60,20 @@ fn answer<R: Threads + Wait + Sync>(
     );
     let failing_writes = CallList::from_slice(alloc, call.failing_writes)?;
     let mut out = MemSink::new(alloc, 4096, call.write_piece, failing_writes)?;
-    let outcome = nezha(rt, alloc, &words, &mut source, &mut out, &OpenGate::new());
+    let outcome = nezha(rt, alloc, &words, &mut source, &mut out, gate);
     Ok((outcome, out))
+}
+
+fn answer<R: Threads + Wait + Sync>(
+    rt: &R,
+    alloc: Global,
+    call: &Call,
+) -> Result<(Outcome, MemSink), NoMemory>
+    requires read { 0 < call.now.read_piece }
+    requires write { 0 < call.now.write_piece }
+    ensures { IfOk result (λ answered. IfSome answered.0.journal (λ journal. World (group_in journal) (run_in journal))) }
+{
+    answer_through(rt, alloc, call, &OpenGate::new())
 }
 
 #[test]

@@ -1,14 +1,16 @@
 //! Runs by several workers. Whichever worker did what, the text that was written says what the journal does.
 
 use super::rows::{FIVE_REPLICAS, THREE_EQUAL_DEADLINES};
-use super::{answer, plain};
+use super::{answer, answer_through, plain};
 use crate::Status;
 use nz_audit::history_of;
-use nz_base::{Id, NoMemory};
-use nz_machine::{Acceptance, Clients, Executed, Journal};
+use nz_base::{Actor, Id, NoMemory};
+use nz_edge::Gate;
+use nz_machine::{Acceptance, Clients, Executed, Journal, Record};
 use nz_store::Answer;
 use nz_text::{Event, read_text};
 use std::alloc::Global;
+use std::sync::atomic::{AtomicU64, Ordering};
 use std::test::Fail;
 
 /// The kind of the answer, and its value, or no bytes.
@@ -116,5 +118,64 @@ fn texts_of_runs_by_workers(rt: HostRuntime) -> Result<(), Fail> {
         assert_eq!(rt; printed.events.len(), 2 * sent);
         assert_eq!(rt; history.len(), sent);
     }
+    Ok(())
+}
+
+/// How often a worker that holds a lock looks for the other.
+const LOOKS: u64 = 100_000_000;
+
+/// Holds the worker of the first turn, and its actor's lock, until the other of two workers arrived twice.
+#[derive(Drop)]
+struct Holding {
+    first: AtomicU64,
+    second: AtomicU64,
+    met: AtomicU64,
+}
+
+impl Gate for Holding {
+    fn arrive(&self, worker: u8, turn: u64) {
+        let (own, other) = if worker == 0 {
+            (&self.first, &self.second)
+        } else {
+            (&self.second, &self.first)
+        };
+        own.fetch_add(1, Ordering::SeqCst);
+        if turn != 1 {
+            return;
+        }
+        for _ in 0..LOOKS {
+            if other.load(Ordering::SeqCst) >= 2 {
+                self.met.store(1, Ordering::SeqCst);
+                break;
+            }
+        }
+    }
+}
+
+/// Where the first record of an actor stands.
+fn first_of(records: &[Record], actor: Actor) -> Option<usize> {
+    records.iter().position(|record| record.actor == actor)
+}
+
+#[test]
+fn held_lock_stops_no_other_worker(rt: HostRuntime) -> Result<(), Fail> {
+    let gate = Holding {
+        first: AtomicU64::new(0),
+        second: AtomicU64::new(0),
+        met: AtomicU64::new(0),
+    };
+    let call = plain(
+        &["run", "--workers", "2"],
+        THREE_EQUAL_DEADLINES.input.as_bytes(),
+    );
+    let (outcome, _) = answer_through(&rt, rt.alloc(), &call, &gate)?;
+    assert_eq!(rt; gate.met.load(Ordering::SeqCst), 1);
+    let Some(journal) = &outcome.journal else {
+        return Err("a run".into());
+    };
+    let records = journal.records.as_slice();
+    let held = first_of(records, Actor::Replica(0)).ok_or("r0 steps")?;
+    let next = first_of(records, Actor::Replica(1)).ok_or("r1 steps")?;
+    assert!(rt; next < held);
     Ok(())
 }
