@@ -2,11 +2,11 @@
 """Times the proved program on scenarios of growing size.
 
     (cd crates/nezha && rt run < ../../scenarios/put_then_get)     makes crates/nezha/out/nezha
-    bench/run.py [PROGRAM]
+    bench/run.py [PROGRAM [WORKERS]]
 
-prints a line for each scenario: how many requests and ticks it has, how long the run took, how much memory
-it took at most, and how many lines of output it made in a second. It judges nothing: compare two runs on one
-quiet machine.
+prints a line for each scenario: how many requests and ticks it has, how long the run took by so many workers
+(1 if left out), how much memory it took at most, and how many lines of output it made in a second. It judges
+nothing: compare two runs on one quiet machine.
 """
 import os
 import sys
@@ -64,9 +64,10 @@ def cases():
         yield "drawn, more ticks", 250, ticks, drawn(7, 250, ticks)
     yield "nine replicas, 64 clients", 500, 2000, even(4, 8, 64, 500, 2000)
     yield "nine replicas, 64 clients", 1000, 2000, even(4, 8, 64, 1000, 2000)
+    yield "nine replicas, full ticks", 2000, 500, even(4, 8, 64, 2000, 500)
 
 
-def measure(program, text):
+def measure(program, workers, text):
     """Seconds, the most memory in MiB, lines of output, and the exit status."""
     with tempfile.TemporaryFile() as given, tempfile.TemporaryFile() as made:
         given.write(text.encode())
@@ -76,7 +77,7 @@ def measure(program, text):
         if child == 0:
             os.dup2(given.fileno(), 0)
             os.dup2(made.fileno(), 1)
-            os.execv(program, [program, "run"])
+            os.execv(program, [program, "run", "--workers", workers])
         _, status, used = os.wait4(child, 0)
         seconds = time.monotonic() - start
         made.seek(0)
@@ -84,10 +85,13 @@ def measure(program, text):
 
 
 def main():
-    program = os.path.abspath(sys.argv[1] if len(sys.argv) > 1 else f"{HERE}/../crates/nezha/out/nezha")
+    program, workers = [*sys.argv[1:], *[f"{HERE}/../crates/nezha/out/nezha", "1"][len(sys.argv) - 1 :]]
+    program = os.path.abspath(program)
+    if not os.access(program, os.X_OK):
+        sys.exit(f"there is no program {program}: make it as the head of this file says")
     print(f"{'scenario':28} {'requests':>8} {'ticks':>6} {'seconds':>9} {'MiB':>8} {'lines/s':>9} status")
     for name, requests, ticks, text in cases():
-        seconds, memory, lines, status = measure(program, text)
+        seconds, memory, lines, status = measure(program, workers, text)
         print(f"{name:28} {requests:8} {ticks:6} {seconds:9.3f} {memory:8.1f} {lines / seconds:9.0f} {status}")
 
 
