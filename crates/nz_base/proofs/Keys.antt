@@ -5,10 +5,6 @@ use Rattle.nz_base.specs.declared.key.Key.{Key}
 use Rattle.nz_base.specs.Key.{KeyBelow, key_below}
 use Rattle.nz_base.proofs.Booleans.{clash}
 
--- the test says that one key is below the other
-pub key_below-true : (a b : Key) → key_below a b ≡ true → KeyBelow a b
-key_below-true a b h = grind (arith, nat_tests)
-
 pub KeyBelow-test : (a b : Key) → KeyBelow a b → key_below a b ≡ true
 KeyBelow-test a b h = grind (arith, nat_tests)
 

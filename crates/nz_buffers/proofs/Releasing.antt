@@ -40,7 +40,3 @@ left (e ∷ es) clock r =
           let none = none_due clock e es not_due r.0 in
           rw (not_due, none.0, none.1) refl
     ]
-
--- if the first is not due, none is
-pub first_not_due : (e : Entry) (es : List Entry) (clock : ℕ) → AreRising (keys_of (e ∷ es)) → is_due clock e ≡ false → released (e ∷ es) clock ≡ []
-first_not_due e es clock r not_due = rw not_due (none_due clock e es not_due r.0).0

@@ -1,5 +1,5 @@
 -- The exclusive or of lists of bytes.
-use Rattle.std.proofs.Common.{◌≡◌, ℕ, ◌<◌, ◌≤◌, zero, suc, List, [], ◌∷◌, replicate, length, get_or, arith, refl, sym, ◌∙◌, ap}
+use Rattle.std.proofs.Common.{◌≡◌, ℕ, ◌<◌, ◌≤◌, List, [], ◌∷◌, length, get_or, arith, refl, sym, ◌∙◌, ap}
 use Rattle.std.specs.Prelude.{bit_xor}
 use Rattle.std.specs.List.{zip}
 use Rattle.std.proofs.lemmas.Nat.{xor_comm}
@@ -49,9 +49,3 @@ pub xor_bytes-twice : (xs ys : List ℕ) → length xs ≡ length ys → xor_byt
 xor_bytes-twice [] ys same = refl
 xor_bytes-twice (x ∷ xs) [] same = cc
 xor_bytes-twice (x ∷ xs) (y ∷ ys) same = λ i. xor-twice x y i ∷ xor_bytes-twice xs ys (omega arith) i
-
-pub xor_bytes-zeros : (xs : List ℕ) (n : ℕ) → length xs ≡ n → xor_bytes (replicate n 0) xs ≡ xs
-xor_bytes-zeros [] zero long = refl
-xor_bytes-zeros [] (suc n) long = refl
-xor_bytes-zeros (x ∷ xs) zero long = cc
-xor_bytes-zeros (x ∷ xs) (suc n) long = λ i. x ∷ xor_bytes-zeros xs n (omega arith) i

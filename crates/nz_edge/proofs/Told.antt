@@ -4,11 +4,6 @@ use Rattle.std.proofs.lemmas.List.{take-append-drop, length-take-le, drop-drop, 
 use Rattle.std.proofs.lemmas.Grind.{common_steps}
 use Rattle.nz_edge.specs.Told.{Loses, Gains}
 
--- the bytes lost in two calls are those of the first and then those of the second
-pub loses_in_turn : (a b c : Option (List ℕ)) (xs ys : List ℕ) → Loses a b xs → Loses b c ys → Loses a c (xs ++ ys)
-loses_in_turn a b None xs ys h k = search (rules, common_steps)
-loses_in_turn a b (Some rest) xs ys h k = search (rules, common_steps)
-
 -- the bytes gained in two calls are those of the first and then those of the second
 pub gains_in_turn : (a b c : Option (List ℕ)) (xs ys : List ℕ) → Gains a b xs → Gains b c ys → Gains a c (xs ++ ys)
 gains_in_turn None b c xs ys h k = search (rules, common_steps)

@@ -1,9 +1,8 @@
 -- Fault lines, and what they make of deliveries.
-use Rattle.std.proofs.Common.{◌≡◌, ℕ, ◌+◌, ◌-◌, ◌<◌, ◌≤◌, eqb, Bool, true, false, cond, List, [], ◌∷◌, ◌++◌, length, map, refl, sym, ap, ◌∙◌, arith, length-append, append-nil, take_all, length-take-le, get_or-drop}
+use Rattle.std.proofs.Common.{◌≡◌, ℕ, ◌+◌, ◌-◌, ◌<◌, ◌≤◌, Bool, true, false, cond, List, [], ◌∷◌, ◌++◌, length, map, refl, sym, ap, ◌∙◌, arith, length-append, append-nil, take_all, length-take-le, get_or-drop}
 use Rattle.std.specs.Prelude.{filter, take, drop, get_or}
 use Rattle.std.proofs.lemmas.List.{drop_all, get_or-append_right, get_or-map, length-map, take_more}
 use Rattle.std.proofs.lemmas.List.Elements.{filter-append}
-use Rattle.std.proofs.lemmas.Bool.Decides.{nat_tests}
 use Rattle.nz_base.specs.declared.scenario.Fault.{Fault}
 use Rattle.nz_base.specs.declared.scenario.Fault.TheVariants as faults
 use Rattle.nz_base.specs.declared.actor.Actor.{Actor}
@@ -11,7 +10,7 @@ use Rattle.nz_machine.specs.declared.event.Parcel.{Parcel}
 use Rattle.nz_machine.specs.Schedule.{Delivery as Planned, later, held, is_of, faulted, faulted_by}
 use Rattle.nz_fabric.specs.declared.deliveries.Delivery.{Delivery}
 use Rattle.nz_fabric.specs.declared.lines.Line.{Line}
-use Rattle.nz_fabric.specs.Coming.{stored, put_off, line_of, passed, strikes, struck}
+use Rattle.nz_fabric.specs.Coming.{stored, put_off, line_of, passed}
 
 -- ---- what was held
 
@@ -64,23 +63,6 @@ all_passed earlier p [] = refl
 all_passed earlier p (line ∷ lines) = let ih = all_passed earlier p lines in let this = passed_is earlier p line in cc
 
 -- ---- which is struck
-
-last_one : (count n : ℕ) → eqb (count - n) 1 ≡ eqb (n + 1) count
-last_one count n = grind (arith, nat_tests)
-
-same_choice : (b : Bool) (ds : List Planned) → cond b ds ds ≡ ds
-same_choice true ds = refl
-same_choice false ds = refl
-
-pub faulted_is : (tick : ℕ) (earlier : List Parcel) (p : Parcel) (fault : Fault) (ds : List Planned) → faulted tick earlier p fault ds ≡ cond (strikes tick earlier p fault) (struck p fault ds) ds
-faulted_is tick earlier p (faults.Drop from to kind count) ds = refl
-faulted_is tick earlier p (faults.Hold from to kind count by) ds = refl
-faulted_is tick earlier p (faults.Twice from to kind count by) ds = refl
-faulted_is tick earlier p (faults.Cut from to kind count keep) ds = refl
-faulted_is tick earlier p (faults.Block from to first last) ds = refl
-faulted_is tick earlier p (faults.Crash a t) ds = refl
-faulted_is tick earlier p (faults.Restart a t) ds = refl
-faulted_is tick earlier p (faults.Alarm a t) ds = refl
 
 pub faulted_by_push : (tick : ℕ) (earlier : List Parcel) (p : Parcel) (lines : List Fault) (line : Fault) (ds : List Planned)
     → faulted_by tick earlier p (lines ++ line ∷ []) ds ≡ faulted tick earlier p line (faulted_by tick earlier p lines ds)

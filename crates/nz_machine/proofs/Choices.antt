@@ -1,13 +1,13 @@
 -- The reply that decides is one of the replies, of the leader of its view, and has an answer.
-use Rattle.std.proofs.Common.{◌≡◌, ℕ, ◌&&◌, eqb, eqb-true, Bool, true, false, cond, List, [], ◌∷◌, Option, Some, None, is_some, refl, sym, ap, subst, ◌∙◌, inl, inr, ◌⊎◌}
+use Rattle.std.proofs.Common.{◌≡◌, ℕ, Bool, true, false, cond, List, [], ◌∷◌, Option, Some, None, refl, sym, ap, subst, ◌∙◌, inl, inr, ◌⊎◌}
 use Rattle.std.specs.Prelude.{nat_lt}
 use Rattle.std.specs.List.{filter}
 use Rattle.std.proofs.lemmas.Option.{none-some, same_Some}
 use Rattle.nz_base.specs.Cluster.{leader_of}
-use Rattle.nz_base.proofs.Booleans.{and_left, and_right}
+use Rattle.nz_base.proofs.Booleans.{and_left}
 use Rattle.nz_store.specs.declared.command.Answer.{Answer}
 use Rattle.nz_machine.specs.declared.reply.Reply.{Reply}
-use Rattle.nz_machine.specs.declared.reply.Reply.TheVariants.{Fast, Slow}
+use Rattle.nz_machine.specs.declared.reply.Reply.TheVariants.{Fast}
 use Rattle.nz_machine.specs.Quorums.{view_of, is_of_leader, has_slow_quorum, has_fast_quorum, of_lesser_view, first_of_least_view, fast_lead, slow_lead, Chosen, slow_or_none, fast_or, decision}
 use Rattle.nz_machine.specs.World.{Has}
 
@@ -75,11 +75,3 @@ pub record IsLeaders (f : ℕ) (r : Reply) : Type 0 where
   pub answer : Answer
   pub is : r ≡ Fast replica view digest vector (Some answer)
   pub leads : replica ≡ leader_of f view
-
-leaders_by : (f replica view : ℕ) (digest vector : List ℕ) (o : Option Answer) → (eqb replica (leader_of f view) && is_some o) ≡ true → IsLeaders f (Fast replica view digest vector o)
-leaders_by f replica view digest vector (Some a) e = record { replica = replica; view = view; digest = digest; vector = vector; answer = a; is = refl; leads = eqb-true replica (leader_of f view) (and_left (eqb replica (leader_of f view)) true e) }
-leaders_by f replica view digest vector None e = absurd (let t = and_right (eqb replica (leader_of f view)) false e in cc)
-
-pub leaders_is : (f : ℕ) (r : Reply) → is_of_leader f r ≡ true → IsLeaders f r
-leaders_is f (Fast replica view digest vector o) e = leaders_by f replica view digest vector o e
-leaders_is f (Slow replica view) e = absurd cc

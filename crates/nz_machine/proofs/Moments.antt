@@ -18,11 +18,6 @@ at_world g [] K w at = subst (World g) (sym at) w
 at_world g (r ∷ J) K w (inl same) = subst (World g) (sym same) w
 at_world g (r ∷ J) K w (inr older) = at_world g J K w.1 older
 
-pub at_then : (J K L : List Record) → At J K → At K L → At J L
-at_then [] K L first second = subst (λ (x : List Record). At x L) first second
-at_then (r ∷ J) K L (inl same) second = subst (λ (x : List Record). At x L) same second
-at_then (r ∷ J) K L (inr older) second = inr (at_then J K L older second)
-
 -- what one record keeps holds between a moment and any later one
 pub between : (g : Group) (P : List Record → List Record → Type 0) → ((K : List Record) → P K K)
     → ((J K : List Record) (r : Record) → World g (r ∷ J) → P K J → P K (r ∷ J))

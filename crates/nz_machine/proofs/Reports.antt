@@ -1,13 +1,11 @@
 -- What the others report, gathered one after the other and put in order.
-use Rattle.std.proofs.Common.{◌≡◌, ℕ, zero, suc, ◌+◌, ◌<◌, ◌≤◌, false, not, ◌==◌, List, [], ◌∷◌, ◌++◌, length, map, take, get_or, set, add-one, refl, sym, ap, ◌∙◌, inl, inr, arith, length-append, IsPermutation}
+use Rattle.std.proofs.Common.{◌≡◌, ℕ, zero, suc, ◌+◌, ◌<◌, ◌≤◌, false, not, ◌==◌, List, [], ◌∷◌, length, map, get_or, refl, ap, ◌∙◌, inl, inr, arith, length-append, IsPermutation}
 use Rattle.std.specs.Prelude.{slice_index}
 use Rattle.std.specs.List.{filter}
 use Rattle.std.specs.List.Sorted.{IsSorted}
 use Rattle.std.specs.Ordering.{nat_cmp}
-use Rattle.std.proofs.Math.Seq.{take-suc-set}
-use Rattle.std.proofs.lemmas.Bool.{eqb-true, eq-eqb}
+use Rattle.std.proofs.lemmas.Bool.{eqb-true}
 use Rattle.std.proofs.lemmas.Bool.Decides.{nat_tests}
-use Rattle.std.proofs.lemmas.List.{map-append, append-nil}
 use Rattle.std.proofs.lemmas.List.Elements.{filter-append}
 use Rattle.std.proofs.lemmas.List.Sorted.{IsNonDecreasingBy-from_sort}
 use Rattle.nz_base.proofs.Booleans.{cases_bool}
@@ -18,23 +16,6 @@ use Rattle.nz_machine.specs.LogMods.{others, reported}
 
 abbrev pub gathered : ℕ → List ℕ → ℕ → List ℕ
 gathered me ack n = map (slice_index ack) (filter (λ r. not (r == me)) (numbers_below n))
-
-gathered_next : (me : ℕ) (ack : List ℕ) (n : ℕ) → gathered me ack (n + 1) ≡ gathered me ack n ++ map (slice_index ack) (filter (λ r. not (r == me)) (n ∷ []))
-gathered_next me ack n =
-    ap (gathered me ack) (add-one n)
-    ∙ ap (map (slice_index ack)) (filter-append (λ r. not (r == me)) (numbers_below n) (n ∷ []))
-    ∙ map-append (slice_index ack) (filter (λ r. not (r == me)) (numbers_below n)) (filter (λ r. not (r == me)) (n ∷ []))
-
-pub own_left_out : (me : ℕ) (ack : List ℕ) (n : ℕ) → n ≡ me → gathered me ack (n + 1) ≡ gathered me ack n
-own_left_out me ack n same = gathered_next me ack n ∙ (rw (eq-eqb n me same) (append-nil (gathered me ack n)))
-
-pub other_put : (me : ℕ) (ack reports : List ℕ) (n count : ℕ) → (n == me) ≡ false → count < length reports → take count reports ≡ gathered me ack n
-    → take (count + 1) (set reports count (slice_index ack n)) ≡ gathered me ack (n + 1)
-other_put me ack reports n count other within is =
-    ap (λ (k : ℕ). take k (set reports count (slice_index ack n))) (add-one count)
-    ∙ take-suc-set reports count (slice_index ack n) within
-    ∙ ap (λ (xs : List ℕ). xs ++ slice_index ack n ∷ []) is
-    ∙ sym (gathered_next me ack n ∙ (rw other refl))
 
 -- ---- how many they are
 

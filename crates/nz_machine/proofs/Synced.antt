@@ -1,5 +1,5 @@
 -- What the code keeps of a replica that agrees with the leader's log.
-use Rattle.std.proofs.Common.{◌≡◌, ℕ, ◌+◌, ◌<◌, ◌≤◌, true, false, not, max, min, List, [], ◌∷◌, ◌++◌, length, map, take, get_or, refl, sym, ap, subst, ◌∙◌, arith}
+use Rattle.std.proofs.Common.{◌≡◌, ℕ, ◌+◌, ◌<◌, ◌≤◌, true, false, not, max, min, List, [], ◌∷◌, ◌++◌, length, map, take, get_or, refl, sym, ap, subst, ◌∙◌}
 use Rattle.std.specs.List.{AllByRecursion, filter}
 use Rattle.std.proofs.lemmas.List.{append-nil, map-append, take_more}
 use Rattle.std.proofs.lemmas.List.Elements.{filter-append}
@@ -13,7 +13,6 @@ use Rattle.nz_cv.specs.Vectors.{merged}
 use Rattle.nz_store.specs.Entries.{Entries}
 use Rattle.nz_log.specs.Synced.{Log}
 use Rattle.nz_msg.specs.Fields.{key as key_field}
-use Rattle.nz_machine.specs.declared.data.Status.TheVariants.{Down}
 use Rattle.nz_machine.specs.State.{ReplicaData}
 use Rattle.nz_machine.specs.Facts.{HasFacts, IsKept, AreApart}
 use Rattle.nz_machine.specs.Replicas.{is_normal, leads}
@@ -51,40 +50,6 @@ pub sync_state : (s : ReplicaData) (keys : List Key) (commit : ℕ) (log : Log) 
     → record s { log = log; early = early; late = late; commit = committed } ≡ committed_to (overtaken (sync_keys s keys).0) commit
 sync_state s keys commit log early late committed is committed-is =
     (λ i. record s { log = log; early = early; late = late; commit = committed-is i }) ∙ ap (λ (t : ReplicaData). committed_to t commit) (sym is)
-
--- what is lost for want of memory holds nothing
-nothing : ReplicaData → Log → List Entry → List Entry → ReplicaData
-nothing s log early late = record s { status = Down; commit = 0; log = log; early = early; late = late }
-
-nothing_has_facts : (f me : ℕ) (s : ReplicaData) → HasFacts f me s → HasFacts f me (nothing s (record { entries = []; synced = 0 }) [] [])
-unfolding nothing
-nothing_has_facts f me s h = record {
-  clock = h.clock;
-  view = h.view;
-  rising = tt;
-  own_ids = tt;
-  fit = tt;
-  few = omega arith;
-  synced = omega arith;
-  commit = omega arith;
-  answers = h.answers;
-  origins = h.origins;
-  vector = h.vector;
-  acks = h.acks;
-  led = λ normal lead. absurd cc;
-}
-
-pub kept_nothing : (f me : ℕ) (s : ReplicaData) (store : Entries) (log : Log) (early late : List Entry) → IsKept f me s store
-    → log ≡ record { entries = []; synced = 0 } → early ≡ [] → late ≡ []
-    → IsKept f me (record s { status = Down; commit = 0; log = log; early = early; late = late }) store
-unfolding nothing
-kept_nothing f me s store log early late k log-is early-is late-is =
-    let same : nothing s (record { entries = []; synced = 0 }) [] [] ≡ nothing s log early late = λ i. nothing s (sym log-is i) (sym early-is i) (sym late-is i) in
-    record {
-      member = k.member;
-      facts = subst (λ (t : ReplicaData). HasFacts f me t) same (nothing_has_facts f me s k.facts);
-      store = λ normal lead. absurd cc;
-    }
 
 -- ---- missing ids, one more
 

@@ -242,14 +242,6 @@ count_no n p h = let e : n + 1 ≡ suc n = omega arith in rw (e, h) (omega arith
 pub count_choice : (n : ℕ) (xs : List ℕ) → IsChoice n xs → count_below n (is_in xs) ≡ length xs
 count_choice n xs h = count_of_list n xs h.distinct h.below
 
--- past the limit nothing is a member
-pub past_choice : (n : ℕ) (xs : List ℕ) (x : ℕ) → IsChoice n xs → n ≤ x → is_in xs x ≡ false
-past_choice n xs x h le =
-    elim (cases_bool (is_in xs x)) [
-      | inl here ↦ absurd (let lt = h.below x here in omega arith)
-      | inr away ↦ away
-    ]
-
 -- ---- all but one
 
 pub within_all_but : (n m : ℕ) (p : ℕ → Bool) → p m ≡ false → IsWithin n p (all_but m)

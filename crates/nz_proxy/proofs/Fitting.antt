@@ -8,11 +8,11 @@ use Rattle.nz_msg.specs.declared.message.Path.{Path}
 use Rattle.nz_msg.specs.Fields.{answer as an_answer}
 use Rattle.nz_machine.specs.declared.reply.Reply.{Reply}
 use Rattle.nz_machine.specs.Quorums.{Chosen, decision, answer_in, reply_eq, with_note}
-use Rattle.nz_quorum.specs.Tallies.{TallyData, IsOfCluster}
+use Rattle.nz_quorum.specs.Tallies.{IsOfCluster}
 use Rattle.nz_quorum.proofs.Choosing.{chosen_is_first}
 use Rattle.nz_proxy.specs.declared.standing.Standing.{Standing}
 use Rattle.nz_proxy.specs.declared.standing.Standing.TheVariants.{Open, Decided}
-use Rattle.nz_proxy.specs.Standings.{IsFit, IsNotable, HasFitAnswer, settled_by, settled, with_reply, noted, told_by, told_of, told}
+use Rattle.nz_proxy.specs.Standings.{IsFit, IsNotable, HasFitAnswer, with_reply, told_by, told_of, told}
 
 each_more : (replies : List Reply) (reply : Reply) → AllByRecursion HasFitAnswer replies → HasFitAnswer reply → AllByRecursion HasFitAnswer (replies ++ reply ∷ [])
 each_more [] reply all fit = (fit, tt)
@@ -38,22 +38,6 @@ pub decided_fits : (f : ℕ) (replies : List Reply) (chosen : Chosen) (a : Answe
 decided_fits f replies chosen a all e is =
     let fit = chosen_fits f replies chosen all e in
     subst (λ (o : Option Answer). IfSome o an_answer.fits) is fit.answer
-
-settled_by_fits : (f : ℕ) (tally : TallyData) (path : Path) (a : Option Answer) → tally.f ≡ f → AllByRecursion HasFitAnswer tally.replies → IfSome a an_answer.fits → IsFit f (settled_by tally path a)
-settled_by_fits f tally path None same all fit = (same, all)
-settled_by_fits f tally path (Some a) same all fit = fit
-
-settled_fits : (f : ℕ) (tally : TallyData) (o : Option Chosen) → tally.f ≡ f → AllByRecursion HasFitAnswer tally.replies → decision tally.f tally.replies ≡ o → IsFit f (settled tally o)
-settled_fits f tally None same all e = (same, all)
-settled_fits f tally (Some chosen) same all e =
-    let fit = chosen_fits tally.f tally.replies chosen all e in
-    settled_by_fits f tally chosen.path (answer_in chosen.reply) same all fit.answer
-
-pub noted_fits : (f : ℕ) (s : Standing) (reply : Reply) → HasFitAnswer reply → IsFit f s → IsFit f (noted s reply)
-noted_fits f (Decided a path) reply fit all = all
-noted_fits f (Open tally) reply fit all =
-    let t = with_reply tally reply in
-    settled_fits f t (decision t.f t.replies) all.0 (fit_note tally.replies reply all.1 fit) refl
 
 told_by_fits : (path : Path) (a : Option Answer) → IfSome a an_answer.fits → IfSome (told_by path a) (λ t. an_answer.fits t.0)
 told_by_fits path None fit = tt

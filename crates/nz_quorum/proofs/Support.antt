@@ -26,11 +26,6 @@ taken_in true false s rest total e h = h
 taken_in false true s rest total e h = rw e at h
 taken_in false false s rest total e h = h
 
-pub passed_by : (a b s rest total : Bool) → s ≡ false → (a || ((b && s) || rest)) ≡ total → (a || rest) ≡ total
-passed_by true b s rest total e h = h
-passed_by false true s rest total e h = rw e at h
-passed_by false false s rest total e h = h
-
 -- ---- the set is the one that is counted
 
 -- this replica sent a reply that supports the lead
@@ -108,7 +103,3 @@ count_supporters path f replies lead set leader of_cluster choice members leads 
 pub quorum_counts : (path : Path) (f : ℕ) (replies : List Reply) (lead : Reply) → is_of_leader f lead ≡ true → nat_le (quorum_size path f) (count_below (replica_count f) (stands path f replies lead)) ≡ has_quorum path f replies lead
 quorum_counts paths.Fast f replies lead leads = rw leads refl
 quorum_counts paths.Slow f replies lead leads = rw leads refl
-
-pub quorum_leads : (path : Path) (f : ℕ) (replies : List Reply) (lead : Reply) → has_quorum path f replies lead ≡ true → is_of_leader f lead ≡ true
-quorum_leads paths.Fast f replies lead h = and_left (is_of_leader f lead) _ h
-quorum_leads paths.Slow f replies lead h = and_left (is_of_leader f lead) _ h

@@ -11,10 +11,6 @@ pub cut-takes : (b : ℕ) (l : List ℕ) (p : List ℕ × List ℕ) → cut b l 
 cut-takes b [] p e = absurd cc
 cut-takes b (x ∷ xs) p e = let ih = cut-takes b xs in grind (arith, ih)
 
-pub cut-again : (b : ℕ) (x y : List ℕ) → Lacks b x → cut b (x ++ b ∷ y) ≡ Some (x, y)
-cut-again b [] y h = grind arith
-cut-again b (c ∷ cs) y h = let ih = cut-again b cs y h.1 in grind (arith, ih)
-
 pub cut-none : (b : ℕ) (x : List ℕ) → Lacks b x → cut b x ≡ None
 cut-none b [] h = refl
 cut-none b (c ∷ cs) h = let ih = cut-none b cs h.1 in grind (arith, ih)

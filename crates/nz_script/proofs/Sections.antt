@@ -184,10 +184,6 @@ is_not : (b : Bool) → b ≡ false → not b ≡ true
 is_not true e = absurd (false≢true (sym e))
 is_not false e = refl
 
-known_units : (g : Group) (z : ℤ) → is_known g form.Units (units_of z) ≡ true
-known_units g (pos n) = refl
-known_units g (negsuc n) = refl
-
 -- the parts of a sound skew
 record IsSoundSkew (g : Group) (k : Skew) : Type 0 where
   known : all_known g (forms_of verb.Skew) (skew_line k).words ≡ true

@@ -7,7 +7,7 @@ use Rattle.std.proofs.Math.ListN.{drop_of_length-le}
 use Rattle.std.proofs.lemmas.Bool.{cases_lt}
 use Rattle.std.proofs.lemmas.Option.{slice_get_within, unwrap_or-slice_get}
 use Rattle.std.specs.Option.{unwrap_or}
-use Rattle.std.proofs.lemmas.List.{append-nil, map-append, length-take, get_or-take}
+use Rattle.std.proofs.lemmas.List.{map-append, length-take, get_or-take}
 use Rattle.nz_base.proofs.Booleans.{clash}
 use Rattle.nz_base.specs.declared.actor.Actor.TheVariants.{Replica}
 use Rattle.nz_base.specs.declared.key.Id.{Id}
@@ -49,12 +49,6 @@ one_replied s me sends after place e low at is =
     ∙ append_assoc sends (map (parcel (Replica me)) own) (map (parcel (Replica me)) rest)
     ∙ ap (λ (xs : List Parcel). sends ++ xs) (sym (map-append (parcel (Replica me)) own rest))
     ∙ ap (λ (xs : List Out). sends ++ map (parcel (Replica me)) xs) (sym all)
-
-pub none_replied : (s : ReplicaData) (me : ℕ) (sends : List Parcel) (place : ℕ) → s.log.synced ≤ place → sends ++ map (parcel (Replica me)) (replies_since s place) ≡ sends
-none_replied s me sends place past =
-    let long = length-take s.log.synced s.log.entries in
-    let none : drop place (synced_part s.log) ≡ [] = drop_of_length-le (synced_part s.log) (omega (arith, long, past)) in
-    ap (λ (xs : List Entry). sends ++ map (parcel (Replica me)) (flat_map (λ (x : Entry). slow_replies s (id_of x.key) (lookup (id_eq (id_of x.key)) s.origin)) xs)) none ∙ append-nil sends
 
 -- ---- the keys that are taken
 

@@ -62,9 +62,6 @@ others_below me n = filter (λ r. not (r == me)) (numbers_below n)
 others_next : (me n : ℕ) → others_below me (n + 1) ≡ others_below me n ++ filter (λ r. not (r == me)) (n ∷ [])
 others_next me n = ap (others_below me) (add-one n) ∙ filter-append (λ r. not (r == me)) (numbers_below n) (n ∷ [])
 
-pub own_skipped : (me n : ℕ) → (n == me) ≡ true → others_below me (n + 1) ≡ others_below me n
-own_skipped me n own = others_next me n ∙ (rw own (append-nil (others_below me n)))
-
 other_next : (me n : ℕ) → (n == me) ≡ false → others_below me (n + 1) ≡ others_below me n ++ n ∷ []
 other_next me n other = others_next me n ∙ (rw other refl)
 
