@@ -62,7 +62,7 @@ pub all_passed : (earlier : List Parcel) (p : Parcel) (lines : List Fault) → m
 all_passed earlier p [] = refl
 all_passed earlier p (line ∷ lines) = let ih = all_passed earlier p lines in let this = passed_is earlier p line in cc
 
--- ---- which is struck
+-- ---- one fault line more
 
 pub faulted_by_push : (tick : ℕ) (earlier : List Parcel) (p : Parcel) (lines : List Fault) (line : Fault) (ds : List Planned)
     → faulted_by tick earlier p (lines ++ line ∷ []) ds ≡ faulted tick earlier p line (faulted_by tick earlier p lines ds)

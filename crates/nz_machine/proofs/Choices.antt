@@ -3,11 +3,8 @@ use Rattle.std.proofs.Common.{◌≡◌, ℕ, Bool, true, false, cond, List, [],
 use Rattle.std.specs.Prelude.{nat_lt}
 use Rattle.std.specs.List.{filter}
 use Rattle.std.proofs.lemmas.Option.{none-some, same_Some}
-use Rattle.nz_base.specs.Cluster.{leader_of}
 use Rattle.nz_base.proofs.Booleans.{and_left}
-use Rattle.nz_store.specs.declared.command.Answer.{Answer}
 use Rattle.nz_machine.specs.declared.reply.Reply.{Reply}
-use Rattle.nz_machine.specs.declared.reply.Reply.TheVariants.{Fast}
 use Rattle.nz_machine.specs.Quorums.{view_of, is_of_leader, has_slow_quorum, has_fast_quorum, of_lesser_view, first_of_least_view, fast_lead, slow_lead, Chosen, slow_or_none, fast_or, decision}
 use Rattle.nz_machine.specs.World.{Has}
 
@@ -65,13 +62,3 @@ chosen_by f replies chosen None None p q e = absurd (none-some chosen e)
 pub decision_is : (f : ℕ) (replies : List Reply) (chosen : Chosen) → decision f replies ≡ Some chosen → IsChosen f replies chosen.reply
 unfolding decision
 decision_is f replies chosen e = chosen_by f replies chosen (fast_lead f replies) (slow_lead f replies) refl refl e
-
--- a fast reply of its view's leader, with an answer
-pub record IsLeaders (f : ℕ) (r : Reply) : Type 0 where
-  pub replica : ℕ
-  pub view : ℕ
-  pub digest : List ℕ
-  pub vector : List ℕ
-  pub answer : Answer
-  pub is : r ≡ Fast replica view digest vector (Some answer)
-  pub leads : replica ≡ leader_of f view

@@ -1,4 +1,4 @@
--- One more message of several.
+-- What the loop that sends to each replica has sent.
 use Rattle.std.proofs.Common.{ℕ, List, map}
 use Rattle.nz_base.specs.declared.actor.Actor.{Actor}
 use Rattle.nz_msg.specs.declared.message.Message.{Message}

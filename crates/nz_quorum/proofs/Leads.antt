@@ -1,4 +1,4 @@
--- One step of the loop that looks for the lead.
+-- What the loop that looks for the lead keeps.
 use Rattle.std.proofs.Common.{Option, Some, None}
 use Rattle.nz_machine.specs.declared.reply.Reply.{Reply}
 use Rattle.nz_machine.specs.Quorums.{of_lesser_view}

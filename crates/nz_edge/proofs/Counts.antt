@@ -1,1 +1,0 @@
--- Counts of faults over several calls.
