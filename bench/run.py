@@ -85,8 +85,8 @@ def measure(program, workers, text):
 
 
 def main():
-    program, workers = [*sys.argv[1:], *[f"{HERE}/../crates/nezha/out/nezha", "1"][len(sys.argv) - 1 :]]
-    program = os.path.abspath(program)
+    program = os.path.abspath(sys.argv[1] if len(sys.argv) > 1 else f"{HERE}/../crates/nezha/out/nezha")
+    workers = sys.argv[2] if len(sys.argv) > 2 else "1"
     if not os.access(program, os.X_OK):
         sys.exit(f"there is no program {program}: make it as the head of this file says")
     print(f"{'scenario':28} {'requests':>8} {'ticks':>6} {'seconds':>9} {'MiB':>8} {'lines/s':>9} status")
