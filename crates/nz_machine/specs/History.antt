@@ -120,27 +120,40 @@ cut_at (Some place) log = take (suc place) log
 abbrev pub cut_after : Id → List Entry → List Entry
 cut_after id log = cut_at (place_of log id) log
 
--- The log of the sender of a parcel when it first sent it, up to and with the entry.
-abbrev pub prefix_at_source : Group → Id → List Record → Parcel → Option (List Entry)
-prefix_at_source g id J p = option_map (λ K. cut_after id (log_at g p.from K)) (source p J)
+-- Who sent a reply first, and the run up to that record, with it.
+pub record ReplySource : Type 0 where
+  pub sender : Actor
+  pub run : List Record
 
--- The same, of the parcel that brought a reply.
-abbrev pub prefix_of_reply : Group → ℕ → Id → List Record → Reply → Option (List Entry)
-prefix_of_reply g p id K reply = option_and_then (λ M. option_and_then (prefix_at_source g id M) (delivered M)) (noting_moment g p id reply K)
+-- The source of a parcel, with its sender.
+abbrev pub source_of : List Record → Parcel → Option ReplySource
+source_of J p = option_map (λ K. record { sender = p.from; run = K }) (source p J)
 
--- The same, from the moment when a proxy decided.
-abbrev pub prefix_at_decision : Group → ℕ → Id → List Record → Option (List Entry)
-prefix_at_decision g p id K = option_and_then (prefix_of_reply g p id K) (deciding_reply g p id K)
+-- The source of the parcel that brought a reply.
+abbrev pub source_of_reply : Group → ℕ → Id → List Record → Reply → Option ReplySource
+source_of_reply g p id K reply = option_and_then (λ M. option_and_then (source_of M) (delivered M)) (noting_moment g p id reply K)
+
+-- The source of the reply with which a proxy decided.
+abbrev pub source_at_decision : Group → ℕ → Id → List Record → Option ReplySource
+source_at_decision g p id K = option_and_then (source_of_reply g p id K) (deciding_reply g p id K)
 
 -- The same, from the record that first sent the answer, which is of a proxy.
-abbrev pub prefix_of_sender : Group → Id → Actor → List Record → Option (List Entry)
-prefix_of_sender g id (Proxy p) K = option_and_then (prefix_at_decision g p id) (decision_moment g p id K)
-prefix_of_sender g id (Replica m) K = None
-prefix_of_sender g id (Client c) K = None
+abbrev pub source_of_sender : Group → Id → Actor → List Record → Option ReplySource
+source_of_sender g id (Proxy p) K = option_and_then (source_at_decision g p id) (decision_moment g p id K)
+source_of_sender g id (Replica m) K = None
+source_of_sender g id (Client c) K = None
+
+-- The source of the reply that an accepted answer comes from; the parcel brought the answer.
+abbrev pub accepted_source : Group → Id → Parcel → List Record → Option ReplySource
+accepted_source g id p J = option_and_then (source_of_sender g id p.from) (source p J)
+
+-- The log of a reply's sender when it first sent the reply, up to and with the entry.
+abbrev pub prefix_at_source : Group → Id → ReplySource → List Entry
+prefix_at_source g id at = cut_after id (log_at g at.sender at.run)
 
 -- The accepted prefix of an answer parcel that was accepted for this request.
 abbrev pub accepted_prefix : Group → Id → Parcel → List Record → Option (List Entry)
-accepted_prefix g id p J = option_and_then (prefix_of_sender g id p.from) (source p J)
+accepted_prefix g id p J = option_map (prefix_at_source g id) (accepted_source g id p J)
 
 abbrev pub entries_or : Option (List Entry) → List Entry
 entries_or None = []
