@@ -1,5 +1,5 @@
 -- The moments of one run are ordered.
-use Rattle.std.proofs.Common.{◌≤◌, List, [], ◌∷◌, length, refl, sym, ap, subst, ◌∙◌, inl, inr, ◌⊎◌, arith}
+use Rattle.std.proofs.Common.{◌≡◌, ◌≤◌, List, [], ◌∷◌, length, refl, sym, ap, subst, ◌∙◌, inl, inr, ◌⊎◌, arith}
 use Rattle.nz_base.specs.Moments.{At, Before}
 
 pub at_self : {X : Type 0} (J : List X) → At J J
@@ -31,3 +31,18 @@ at_either {X} (r ∷ J) K Q (inl a) (inl b) = inl (subst (λ (x : List X). At Q 
 at_either {X} (r ∷ J) K Q (inl a) (inr b) = inr (subst (λ (x : List X). Before x Q) (sym a) b)
 at_either {X} (r ∷ J) K Q (inr a) (inl b) = inl (subst (λ (x : List X). At x K) (sym b) (inr a))
 at_either (r ∷ J) K Q (inr a) (inr b) = at_either J K Q a b
+
+-- of two moments the shorter is a moment of the longer
+pub at_order : {X : Type 0} (J K L : List X) → At J K → At J L → length K ≤ length L → At L K
+at_order {X} [] K L k l le = subst (λ (x : List X). At x K) (sym l) k
+at_order {X} (r ∷ J) K L k (inl same) le = subst (λ (x : List X). At x K) (sym same) k
+at_order (r ∷ J) K L (inl same) (inr older) le = absurd (let short = at_shorter J L older in let e = ap length same in omega (arith, short, e))
+at_order (r ∷ J) K L (inr k) (inr l) le = at_order J K L k l le
+
+-- moments with as many records are the same
+pub at_same : {X : Type 0} (J K L : List X) → At J K → At J L → length K ≡ length L → K ≡ L
+at_same [] K L k l e = k ∙ sym l
+at_same (r ∷ J) K L (inl k) (inl l) e = k ∙ sym l
+at_same (r ∷ J) K L (inl k) (inr l) e = absurd (let short = at_shorter J L l in let a = ap length k in omega (arith, short, a, e))
+at_same (r ∷ J) K L (inr k) (inl l) e = absurd (let short = at_shorter J K k in let a = ap length l in omega (arith, short, a, e))
+at_same (r ∷ J) K L (inr k) (inr l) e = at_same J K L k l e

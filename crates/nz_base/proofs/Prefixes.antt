@@ -1,7 +1,7 @@
 -- Prefixes: their order, their lengths, and which are comparable.
 use Rattle.std.proofs.Common.{◌≡◌, ℕ, ◌≤◌, List, [], ◌∷◌, ◌++◌, length, take, drop, map, refl, sym, ap, ◌∙◌, arith, inl, inr, append_assoc, append-nil, length-append, take-append-drop}
 use Rattle.std.proofs.lemmas.Bool.{cases_lt}
-use Rattle.std.proofs.lemmas.List.{map-append}
+use Rattle.std.proofs.lemmas.List.{map-append, take-append-le}
 use Rattle.nz_base.specs.Prefixes.{IsPrefix, Comparable}
 
 pub prefix_self : {X : Type 0} (xs : List X) → IsPrefix xs xs
@@ -62,3 +62,7 @@ shorter_comparable xs ys (inr p) le = shorter_prefix xs ys xs (prefix_self xs) p
 pub comparable_prefix : {X : Type 0} (xs ys zs : List X) → Comparable xs zs → IsPrefix ys zs → Comparable xs ys
 comparable_prefix xs ys zs (inl p) q = both_prefixes xs ys zs p q
 comparable_prefix xs ys zs (inr p) q = inr (prefix_then ys zs xs q p)
+
+-- the first items of a prefix are those of the list
+pub take_front : {X : Type 0} (n : ℕ) (xs ys : List X) → IsPrefix xs ys → n ≤ length xs → take n xs ≡ take n ys
+take_front n xs ys p le = sym (ap (take n) p.whole ∙ take-append-le n xs p.rest le)
