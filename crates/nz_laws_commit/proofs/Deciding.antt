@@ -36,7 +36,9 @@ module _ {R : Type 0} (M : Machine R) (J : List R) (h : RunLaws M J) where
   -- a moment at which the leader of v is Normal in v, and its log begins with P
   module _ (v : ℕ) (P : List Key) (K : List R) (at : At J K) (n : IsNormal M (view_leader M v) v K) (prefix : IsPrefix P (keys_at M (view_leader M v) K)) where
     in_lead : IsPrefix P (M.lead v J)
-    in_lead = prefix_then P (keys_at M (view_leader M v) K) (M.lead v J) prefix (subst (λ (l : List Key). IsPrefix l (M.lead v J)) (sym (h.lead_is v K at n)) (h.lead_grows v K J (at_self J) at))
+    in_lead =
+        let grows = subst (λ (l : List Key). IsPrefix l (M.lead v J)) (sym (h.lead_is v K at n)) (h.lead_grows v K J (at_self J) at) in
+        prefix_then P (keys_at M (view_leader M v) K) (M.lead v J) prefix grows
 
     leader_had : (y : ℕ) → y ≡ view_leader M v → HadSynced M v y (length P) J
     leader_had y e =
@@ -45,7 +47,8 @@ module _ {R : Type 0} (M : Machine R) (J : List R) (h : RunLaws M J) where
         let all = h.leads_synced v K at n in
         subst (λ (x : ℕ). HadSynced M v x (length P) J) (sym e) (record { K = K; moment = at; normal = n; enough = omega (arith, long, keys, all) })
 
-    pub slowly : (test : ℕ → Bool) → slow_quorum M.f ≤ count_below (group_size M.f) test → ((y : ℕ) → test y ≡ true → (y ≡ view_leader M v) ⊎ HadSynced M v y (length P) J) → Support M v P J
+    pub slowly : (test : ℕ → Bool) → slow_quorum M.f ≤ count_below (group_size M.f) test
+        → ((y : ℕ) → test y ≡ true → (y ≡ view_leader M v) ⊎ HadSynced M v y (length P) J) → Support M v P J
     slowly test enough each =
         let c = counted (group_size M.f) (slow_quorum M.f) test enough in
         record {
@@ -84,14 +87,28 @@ module _ {R : Type 0} (M : Machine R) (J : List R) (h : RunLaws M J) where
   had_stays v y count L at had = record { K = had.K; moment = at_then J L had.K at had.moment; normal = had.normal; enough = had.enough }
 
   over_stays : (v y : ℕ) (P : List Key) (u : List ℕ) (L : List R) → At J L → FastReplied M v y P u L → FastReplied M v y P u J
-  over_stays v y P u L at over = record { r = over.r; K = over.K; moment = at_then J L (over.r ∷ over.K) at over.moment; actor = over.actor; normal = over.normal; after = over.after; vector = over.vector; holds = over.holds }
+  over_stays v y P u L at over = record {
+    r = over.r;
+    K = over.K;
+    moment = at_then J L (over.r ∷ over.K) at over.moment;
+    actor = over.actor;
+    normal = over.normal;
+    after = over.after;
+    vector = over.vector;
+    holds = over.holds;
+  }
 
   pub support_stays : (v : ℕ) (P : List Key) (L : List R) → At J L → Support M v P L → Support M v P J
   support_stays v P L at s =
       record {
         lead = prefix_then P (M.lead v L) (M.lead v J) s.lead (h.lead_grows v L J (at_self J) at);
         quorum = elim s.quorum [
-          | inl q ↦ inl (record { members = q.members; choice = q.choice; enough = q.enough; each = λ y member. had_stays v y (length P) L at (q.each y member) })
+          | inl q ↦ inl (record {
+            members = q.members;
+            choice = q.choice;
+            enough = q.enough;
+            each = λ y member. had_stays v y (length P) L at (q.each y member);
+          })
           | inr q ↦ inr (record {
             u = q.u;
             K = q.K;

@@ -93,7 +93,15 @@ others Fourth (suc (suc y)) s h = refl
 -- ---- the four records
 
 does_first : (y : ℕ) → by First y ≡ true → Does group y First []
-does_first zero h = Released (record { before = refl; after = refl; view = refl; last = refl; log = prefix_none (key ∷ []); leads = λ e. refl; follows = λ other. absurd (other refl) })
+does_first zero h = Released (record {
+  before = refl;
+  after = refl;
+  view = refl;
+  last = refl;
+  log = prefix_none (key ∷ []);
+  leads = λ e. refl;
+  follows = λ other. absurd (other refl);
+})
 does_first (suc y) h = absurd cc
 
 does_second : (y : ℕ) → by Second y ≡ true → Does group y Second (First ∷ [])
@@ -185,15 +193,21 @@ no_start v (r ∷ K) high =
     let other : eqb (state l (r ∷ K)).view v ≡ false = ne_eqb (state l (r ∷ K)).view v (λ z. absurd (omega (arith, high, z, low))) in
     let test : leads_by group v r K ≡ false = never_all (by r l) (is_normal (state l (r ∷ K)).status) (eqb (state l (r ∷ K)).view v) other in
     let log = keys_of (state l (r ∷ K)).log in
-    ap (λ (o : Option (List Key)). option_or o (cond (leads_by group v r K) (Some log) None)) (no_start v K high) ∙ ap (λ (b : Bool). cond b (Some log) None) test
+    ap (λ (o : Option (List Key)). option_or o (cond (leads_by group v r K) (Some log) None)) (no_start v K high)
+    ∙ ap (λ (b : Bool). cond b (Some log) None) test
 
-is_member : (x : ℕ) → is_in (1 ∷ 2 ∷ []) x ≡ true → x < 3
-is_member x h =
-    elim (cases_eq 1 x) [
-      | inl e ↦ omega (arith, e)
-      | inr a ↦ elim (cases_eq 2 x) [
-        | inl e ↦ omega (arith, e)
-        | inr b ↦ absurd (let one : eqb 1 x ≡ false = ne_eqb 1 x a in let two : eqb 2 x ≡ false = ne_eqb 2 x b in let clash : false ≡ true = rw (one, two) at h in cc)
+-- the items of a list of two
+of_two : (a b x : ℕ) → is_in (a ∷ b ∷ []) x ≡ true → (a ≡ x) ⊎ (b ≡ x)
+of_two a b x h =
+    elim (cases_eq a x) [
+      | inl e ↦ inl e
+      | inr other ↦ elim (cases_eq b x) [
+        | inl e ↦ inr e
+        | inr differs ↦ absurd (
+            let one : eqb a x ≡ false = ne_eqb a x other in
+            let two : eqb b x ≡ false = ne_eqb b x differs in
+            let clash : false ≡ true = rw (one, two) at h in
+            cc)
       ]
     ]
 
@@ -206,20 +220,53 @@ abbrev second_change : Change
 second_change = record { sender = 2; last = 0; synced = 0; commit = 0; log = [] }
 
 report_first : IsMemberReport (machine_of group) 1 first_change run
-report_first = record { q = run; moment = inl refl; up = tt; view = refl; read = early; is = inr (Fourth, refl, refl); read_up = tt; last = refl; synced = refl; log = refl; low = omega arith; later = λ C at completes less. absurd (let z = inc_zero 1 C in omega (arith, less, z)) }
+report_first = record {
+  q = run;
+  moment = inl refl;
+  up = tt;
+  view = refl;
+  read = early;
+  is = inr (Fourth, refl, refl);
+  read_up = tt;
+  last = refl;
+  synced = refl;
+  log = refl;
+  low = omega arith;
+  later = λ C at completes less. absurd (let z = inc_zero 1 C in omega (arith, less, z));
+}
 
 report_second : IsMemberReport (machine_of group) 1 second_change run
-report_second = record { q = early; moment = inr (inl refl); up = tt; view = refl; read = early; is = inl refl; read_up = tt; last = refl; synced = refl; log = refl; low = omega arith; later = λ C at completes less. absurd (let z = inc_zero 2 C in omega (arith, less, z)) }
+report_second = record {
+  q = early;
+  moment = inr (inl refl);
+  up = tt;
+  view = refl;
+  read = early;
+  is = inl refl;
+  read_up = tt;
+  last = refl;
+  synced = refl;
+  log = refl;
+  low = omega arith;
+  later = λ C at completes less. absurd (let z = inc_zero 2 C in omega (arith, less, z));
+}
 
 reports : All (λ (c : Change). IsMemberReport (machine_of group) 1 c run) (first_change ∷ second_change ∷ [])
-reports = All-from_recursion (λ (c : Change). IsMemberReport (machine_of group) 1 c run) (first_change ∷ second_change ∷ []) (report_first, (report_second, tt))
+reports =
+    All-from_recursion (λ (c : Change). IsMemberReport (machine_of group) 1 c run) (first_change ∷ second_change ∷ []) (report_first, (report_second, tt))
 
 merged_is : key ∷ [] ≡ keys_of (merged 1 (first_change ∷ second_change ∷ []))
 unfolding merged later
 merged_is = refl
 
 begun_one : IsMergeOfReports (machine_of group) 1 (key ∷ []) run
-begun_one = record { changes = first_change ∷ second_change ∷ []; merged = merged_is; choice = record { distinct = (refl, (refl, tt)); below = is_member }; size = omega arith; reports = reports }
+begun_one = record {
+  changes = first_change ∷ second_change ∷ [];
+  merged = merged_is;
+  choice = record { distinct = (refl, (refl, tt)); below = λ x h. elim (of_two 1 2 x h) [ inl e ↦ omega (arith, e) | inr e ↦ omega (arith, e) ] };
+  size = omega arith;
+  reports = reports;
+}
 
 begins : (w : ℕ) (S : List Key) → 0 < w → start_of group w run ≡ Some S → IsMergeOfReports (machine_of group) w S run
 begins zero S some e = absurd (omega (arith, some))
@@ -244,7 +291,9 @@ rules = record {
   first_last = λ y. refl;
   stays = λ y r K at other. others r y (state y K) other;
   does = λ y r K at acts. at_each DoesAt run (r ∷ K) (does_fourth, (does_third, (does_second, (does_first, tt)))) at y acts;
-  vectors = λ y r K at acts up now. let a = (fine y K).vector in let b = (fine y (r ∷ K)).vector in record { vector = λ m. omega (arith, ap (λ (u : List ℕ). place u m) (a ∙ sym b)); own = ap (λ (u : List ℕ). place u y) (a ∙ sym b) };
+  vectors = λ y r K at acts up now.
+      let same = (fine y K).vector ∙ sym (fine y (r ∷ K)).vector in
+      record { vector = λ m. omega (arith, ap (λ (u : List ℕ). place u m) same); own = ap (λ (u : List ℕ). place u y) same };
   begins_once = λ v r K at acts n. at_each OnceAt run (r ∷ K) (once_fourth, (once_third, (once_second, (once_first, tt)))) at v (leader_of 1 v) acts n;
   base = base;
 }
@@ -261,23 +310,16 @@ had_first = record { K = First ∷ []; moment = inr (inr (inr (inl refl))); norm
 had_second : HadSynced (machine_of group) 0 1 1 run
 had_second = record { K = Second ∷ First ∷ []; moment = inr (inr (inl refl)); normal = record { status = refl; view = refl }; enough = omega arith }
 
-of_two : (y : ℕ) → is_in (0 ∷ 1 ∷ []) y ≡ true → (0 ≡ y) ⊎ (1 ≡ y)
-of_two y h =
-    elim (cases_eq 0 y) [
-      | inl e ↦ inl e
-      | inr a ↦ elim (cases_eq 1 y) [
-        | inl e ↦ inr e
-        | inr b ↦ absurd (let one : eqb 0 y ≡ false = ne_eqb 0 y a in let two : eqb 1 y ≡ false = ne_eqb 1 y b in let clash : false ≡ true = rw (one, two) at h in cc)
-      ]
-    ]
-
 pub support : Support (machine_of group) 0 (key ∷ []) run
 support = record {
   lead = subst (IsPrefix (key ∷ [])) lead_is (prefix_self (key ∷ []));
   quorum = inl (record {
     members = 0 ∷ 1 ∷ [];
-    choice = record { distinct = (refl, (refl, tt)); below = λ y h. elim (of_two y h) [ inl e ↦ omega (arith, e) | inr e ↦ omega (arith, e) ] };
+    choice = record { distinct = (refl, (refl, tt)); below = λ y h. elim (of_two 0 1 y h) [ inl e ↦ omega (arith, e) | inr e ↦ omega (arith, e) ] };
     enough = omega arith;
-    each = λ y h. elim (of_two y h) [ inl e ↦ subst (λ (x : ℕ). HadSynced (machine_of group) 0 x 1 run) e had_first | inr e ↦ subst (λ (x : ℕ). HadSynced (machine_of group) 0 x 1 run) e had_second ];
+    each = λ y h. elim (of_two 0 1 y h) [
+      | inl e ↦ subst (λ (x : ℕ). HadSynced (machine_of group) 0 x 1 run) e had_first
+      | inr e ↦ subst (λ (x : ℕ). HadSynced (machine_of group) 0 x 1 run) e had_second
+    ];
   });
 }

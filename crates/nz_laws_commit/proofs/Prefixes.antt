@@ -94,7 +94,8 @@ module _ {R : Type 0} (M : Machine R) (J : List R) (h : RunLaws M J) (v : ℕ) (
         let enough = fast_count M.f q.members changes P q.choice q.enough b.choice b.size (λ c among member. holds c among (q.each c.sender member)) in
         fast_stays M.f changes P fit b.size enough (both_prefixes P (keys_of (synced_part (kept changes))) (M.lead v J) s.lead lead)
       where
-        held : (c : Change) (among : Contains b.changes c) → c.last ≡ v → HadSynced M v c.sender (length P) J ⊎ FastReplied M v c.sender P q.u J → IsPrefix P (keys_of c.log)
+        held : (c : Change) (among : Contains b.changes c) → c.last ≡ v → HadSynced M v c.sender (length P) J ⊎ FastReplied M v c.sender P q.u J
+            → IsPrefix P (keys_of c.log)
         held c among e (inr over) = reports.fast_held M J h w v lt c (report c among) P q.u q.K over q.moment q.normal q.vector q.long s.lead e
         held c among e (inl had) =
             let from = report c among in
@@ -105,7 +106,8 @@ module _ {R : Type 0} (M : Machine R) (J : List R) (h : RunLaws M J) (v : ℕ) (
             let part : IsPrefix (take c.synced (keys_of c.log)) (M.lead v J) = subst (λ (g : ℕ). IsPrefix (take c.synced (keys_of c.log)) (M.lead g J)) e (reports.report_synced M J h w v lt c from) in
             prefix_then P (take c.synced (keys_of c.log)) (keys_of c.log) (shorter_prefix P (take c.synced (keys_of c.log)) (M.lead v J) s.lead part (omega (arith, count, long))) (prefix_take c.synced (keys_of c.log))
 
-        holds : (c : Change) → Contains b.changes c → HadSynced M v c.sender (length P) J ⊎ FastReplied M v c.sender P q.u J → (c.last ≡ last_of b.changes) × IsPrefix P (keys_of c.log)
+        holds : (c : Change) → Contains b.changes c → HadSynced M v c.sender (length P) J ⊎ FastReplied M v c.sender P q.u J
+            → (c.last ≡ last_of b.changes) × IsPrefix P (keys_of c.log)
         holds c among support =
             let low = reaches c among (was_in c.sender q.u support) in
             let high = within c among in
@@ -143,7 +145,8 @@ module _ {R : Type 0} (M : Machine R) (J : List R) (h : RunLaws M J) (v : ℕ) (
               ]
         ]
 
-  step : (w : ℕ) → ((g : ℕ) → g < w → (T : List Key) → v < g → M.start g J ≡ Some T → IsPrefix P T) → (S : List Key) → v < w → M.start w J ≡ Some S → IsPrefix P S
+  step : (w : ℕ) → ((g : ℕ) → g < w → (T : List Key) → v < g → M.start g J ≡ Some T → IsPrefix P T) → (S : List Key) → v < w → M.start w J ≡ Some S
+      → IsPrefix P S
   step w ih S lt start =
       let b = h.begins w S (omega (arith, lt)) start in
       subst (IsPrefix P) (sym b.merged) (merged_has w lt S start b ih)

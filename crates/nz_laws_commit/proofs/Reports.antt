@@ -60,7 +60,8 @@ module _ {R : Type 0} (M : Machine R) (J : List R) (h : RunLaws M J) where
     pub synced : (M.state y C).synced ≡ length (keys_at M y C)
     pub counter : place (M.state y C).vector y ≤ place (M.state (view_leader M v) t).vector y
 
-  rejoined_in : (y v : ℕ) (K L : List R) → At J K → At J L → IsNormal M y v K → IsUp (M.state y L).status → M.inc y K < M.inc y L → (M.state y L).last ≡ v → RejoinedIn y v L
+  rejoined_in : (y v : ℕ) (K L : List R) → At J K → At J L → IsNormal M y v K → IsUp (M.state y L).status → M.inc y K < M.inc y L → (M.state y L).last ≡ v
+      → RejoinedIn y v L
   rejoined_in y v K L at there n up newer last =
       let back = h.completed y L there up (omega (arith, newer)) in
       let C = back.C in
@@ -87,7 +88,8 @@ module _ {R : Type 0} (M : Machine R) (J : List R) (h : RunLaws M J) where
       }
 
   -- what it was told is synced at L, and the log begins with it
-  told_stays : (y v : ℕ) (L : List R) → At J L → IsUpIn M y v L → (b : RejoinedIn y v L) → ((M.state y b.C).synced ≤ (M.state y L).synced) × IsPrefix (keys_at M y b.C) (keys_at M y L)
+  told_stays : (y v : ℕ) (L : List R) → At J L → IsUpIn M y v L → (b : RejoinedIn y v L)
+      → ((M.state y b.C).synced ≤ (M.state y L).synced) × IsPrefix (keys_at M y b.C) (keys_at M y L)
   told_stays y v L at up b =
       let at_C = up_in y v b.C b.at b.normal in
       let grew = h.monotone y b.C L at b.after b.same at_C.up up.up in
@@ -229,7 +231,8 @@ module _ {R : Type 0} (M : Machine R) (J : List R) (h : RunLaws M J) where
         ]
 
     -- a report of v begins with what the member sent a fast-reply of v for, if the leader had the vector and as long a log
-    pub fast_held : (P : List Key) (u : List ℕ) (L : List R) → FastReplied M v c.sender P u J → At J L → IsNormal M (view_leader M v) v L → (M.state (view_leader M v) L).vector ≡ u → length P ≤ length (keys_at M (view_leader M v) L)
+    pub fast_held : (P : List Key) (u : List ℕ) (L : List R) → FastReplied M v c.sender P u J → At J L → IsNormal M (view_leader M v) v L
+        → (M.state (view_leader M v) L).vector ≡ u → length P ≤ length (keys_at M (view_leader M v) L)
         → IsPrefix P (M.lead v J) → c.last ≡ v → IsPrefix P (keys_of c.log)
     fast_held P u L over L_at leads vector long prefix e =
         let y = c.sender in
