@@ -12,7 +12,7 @@ use Rattle.nz_math.specs.Count.{count_below, is_in, IsChoice, members_below}
 use Rattle.nz_math.specs.Quorum.{group_size, slow_quorum, fast_quorum}
 use Rattle.nz_math.proofs.Counting.{count_same, count_choice, is_in-members, members_choice, and_right}
 use Rattle.nz_laws_commit.specs.States.{Machine}
-use Rattle.nz_laws_commit.specs.Supports.{IsNormal, HadSynced, FastReplied, Support, keys_at, view_leader}
+use Rattle.nz_laws_commit.specs.Supports.{HadSynced, FastReplied, IsLedAt, Support, keys_at, view_leader}
 use Rattle.nz_laws_commit.proofs.RunLaws.{RunLaws}
 
 -- the members of a counted set, as a list
@@ -34,18 +34,20 @@ counted n k test enough =
 
 module _ {R : Type 0} (M : Machine R) (J : List R) (h : RunLaws M J) where
   -- a moment at which the leader of v is Normal in v, and its log begins with P
-  module _ (v : ℕ) (P : List Key) (K : List R) (at : At J K) (n : IsNormal M (view_leader M v) v K) (prefix : IsPrefix P (keys_at M (view_leader M v) K)) where
+  module _ (v : ℕ) (P : List Key) (K : List R) (led : IsLedAt M v P K J) where
     in_lead : IsPrefix P (M.lead v J)
     in_lead =
-        let grows = subst (λ (l : List Key). IsPrefix l (M.lead v J)) (sym (h.lead_is v K at n)) (h.lead_grows v K J (at_self J) at) in
-        prefix_then P (keys_at M (view_leader M v) K) (M.lead v J) prefix grows
+        let is = h.lead_is v K led.moment led.normal in
+        let grows = subst (λ (l : List Key). IsPrefix l (M.lead v J)) (sym is) (h.lead_grows v K J (at_self J) led.moment) in
+        prefix_then P (keys_at M (view_leader M v) K) (M.lead v J) led.holds grows
 
     leader_had : (y : ℕ) → y ≡ view_leader M v → HadSynced M v y (length P) J
     leader_had y e =
-        let long = prefix_length P (keys_at M (view_leader M v) K) prefix in
+        let long = prefix_length P (keys_at M (view_leader M v) K) led.holds in
         let keys = length-map (M.state (view_leader M v) K).log (λ (x : Entry). x.key) in
-        let all = h.leads_synced v K at n in
-        subst (λ (x : ℕ). HadSynced M v x (length P) J) (sym e) (record { K = K; moment = at; normal = n; enough = omega (arith, long, keys, all) })
+        let all = h.leads_synced v K led.moment led.normal in
+        subst (λ (x : ℕ). HadSynced M v x (length P) J) (sym e)
+        (record { K = K; moment = led.moment; normal = led.normal; enough = omega (arith, long, keys, all) })
 
     pub slowly : (test : ℕ → Bool) → slow_quorum M.f ≤ count_below (group_size M.f) test
         → ((y : ℕ) → test y ≡ true → (y ≡ view_leader M v) ⊎ HadSynced M v y (length P) J) → Support M v P J
@@ -61,19 +63,20 @@ module _ {R : Type 0} (M : Machine R) (J : List R) (h : RunLaws M J) where
           });
         }
 
-    pub quickly : (u : List ℕ) → (M.state (view_leader M v) K).vector ≡ u → (test : ℕ → Bool) → fast_quorum M.f ≤ count_below (group_size M.f) test
-        → ((y : ℕ) → test y ≡ true → (y ≡ view_leader M v) ⊎ (HadSynced M v y (length P) J ⊎ FastReplied M v y P u J)) → Support M v P J
-    quickly u vector test enough each =
+    pub quickly : (test : ℕ → Bool) → fast_quorum M.f ≤ count_below (group_size M.f) test
+        → ((y : ℕ) → test y ≡ true → (y ≡ view_leader M v) ⊎ (HadSynced M v y (length P) J ⊎ FastReplied M v y P (M.state (view_leader M v) K).vector J))
+        → Support M v P J
+    quickly test enough each =
         let c = counted (group_size M.f) (fast_quorum M.f) test enough in
         record {
           lead = in_lead;
           quorum = inr (record {
-            u = u;
+            u = (M.state (view_leader M v) K).vector;
             K = K;
-            moment = at;
-            normal = n;
-            vector = vector;
-            long = prefix_length P (keys_at M (view_leader M v) K) prefix;
+            moment = led.moment;
+            normal = led.normal;
+            vector = refl;
+            long = prefix_length P (keys_at M (view_leader M v) K) led.holds;
             members = members_below (group_size M.f) test;
             choice = c.choice;
             enough = c.enough;

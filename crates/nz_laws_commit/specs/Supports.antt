@@ -47,6 +47,12 @@ module _ {R : Type 0} (M : Machine R) where
     pub vector : (M.state y (r ∷ K)).vector ≡ u
     pub holds : IsPrefix P (keys_at y (r ∷ K))
 
+  -- At the moment K the view's leader is Normal in it, and its log begins with the keys.
+  pub record IsLedAt (v : ℕ) (P : List Key) (K J : List R) : Type 0 where
+    pub moment : At J K
+    pub normal : IsNormal (view_leader v) v K
+    pub holds : IsPrefix P (keys_at (view_leader v) K)
+
   -- f + 1 replicas had so many entries synced.
   pub record SlowSupport (v : ℕ) (P : List Key) (J : List R) : Type 0 where
     pub members : List ℕ

@@ -3,10 +3,11 @@
 ghost use Rattle.std.specs.Prelude.{◌≡◌, ◌≤◌, ◌⊎◌, ℕ, Bool, List, [], ◌∷◌, length, Some, IsTrue};
 ghost use Rattle.nz_base.specs.declared.key.Key.{Key};
 ghost use Rattle.nz_base.specs.Moments.{At};
-ghost use Rattle.nz_base.specs.Prefixes.{IsPrefix, Comparable};
+ghost use Rattle.nz_base.specs.Cluster.{leader_of};
+ghost use Rattle.nz_base.specs.Prefixes.{Comparable};
 ghost use Rattle.nz_math.specs.Count.{count_below};
 ghost use Rattle.nz_math.specs.Quorum.{group_size, slow_quorum, fast_quorum};
-ghost use Rattle.nz_laws_commit.specs.Supports.{IsNormal, HadSynced, FastReplied, Support, InLaterStarts, keys_at, view_leader};
+ghost use Rattle.nz_laws_commit.specs.Supports.{HadSynced, FastReplied, IsLedAt, Support, InLaterStarts};
 ghost use Rattle.nz_laws_commit.specs.Machines.{GroupStates, machine_of, start_of};
 ghost use Rattle.nz_laws_commit.specs.Does.{FollowsRules};
 ghost use Rattle.nz_laws_commit.specs.Example as example;
@@ -27,21 +28,17 @@ pub fn supports_are_comparable<R>()
 {}
 
 /// A quorum, counted by a test on the replicas, supports a prefix of the log that the leader had at K: a
-/// slow one whose members had so many entries synced, and a fast one whose other members could send a
-/// fast-reply for the prefix with the leader's vector at K.
+/// slow one where each other member had as many entries synced, a fast one where each other member had
+/// so or could send a fast-reply for the prefix with the leader's vector at K.
 pub fn quorums_support<R>()
-    ensures slow { (g : GroupStates R) (J K : List R) (v : ℕ) (P : List Key) (test : ℕ → Bool) → FollowsRules g J → At J K
-        → IsNormal (machine_of g) (view_leader (machine_of g) v) v K
-        → IsPrefix P (keys_at (machine_of g) (view_leader (machine_of g) v) K)
-        → slow_quorum g.f ≤ count_below (group_size g.f) test
-        → ((y : ℕ) → IsTrue (test y) → (y ≡ view_leader (machine_of g) v) ⊎ HadSynced (machine_of g) v y (length P) J)
+    ensures slow { (g : GroupStates R) (J K : List R) (v : ℕ) (P : List Key) (test : ℕ → Bool) → FollowsRules g J
+        → IsLedAt (machine_of g) v P K J → slow_quorum g.f ≤ count_below (group_size g.f) test
+        → ((y : ℕ) → IsTrue (test y) → (y ≡ leader_of g.f v) ⊎ HadSynced (machine_of g) v y (length P) J)
         → Support (machine_of g) v P J }
-    ensures fast { (g : GroupStates R) (J K : List R) (v : ℕ) (P : List Key) (test : ℕ → Bool) → FollowsRules g J → At J K
-        → IsNormal (machine_of g) (view_leader (machine_of g) v) v K
-        → IsPrefix P (keys_at (machine_of g) (view_leader (machine_of g) v) K)
-        → fast_quorum g.f ≤ count_below (group_size g.f) test
-        → ((y : ℕ) → IsTrue (test y) → (y ≡ view_leader (machine_of g) v) ⊎ (HadSynced (machine_of g) v y (length P) J
-        ⊎ FastReplied (machine_of g) v y P (g.state (view_leader (machine_of g) v) K).vector J))
+    ensures fast { (g : GroupStates R) (J K : List R) (v : ℕ) (P : List Key) (test : ℕ → Bool) → FollowsRules g J
+        → IsLedAt (machine_of g) v P K J → fast_quorum g.f ≤ count_below (group_size g.f) test
+        → ((y : ℕ) → IsTrue (test y) → (y ≡ leader_of g.f v) ⊎ (HadSynced (machine_of g) v y (length P) J
+        ⊎ FastReplied (machine_of g) v y P (g.state (leader_of g.f v) K).vector J))
         → Support (machine_of g) v P J }
 {}
 
