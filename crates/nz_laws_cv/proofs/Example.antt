@@ -1,12 +1,18 @@
 -- The example has the ground: no premise contradicts the others.
-use Rattle.std.proofs.Common.{◌≡◌, ℕ, zero, suc, ◌<◌, ◌≤◌, List, [], ◌∷◌, length, refl, sym, ap, subst, inl, inr, ◌⊎◌, arith}
-use Rattle.std.proofs.lemmas.Bool.{cases_lt, cases_eq}
+use Rattle.std.proofs.Common.{◌≡◌, ℕ, zero, suc, ◌<◌, ◌≤◌, true, false, ◌&&◌, ◌||◌, eqb, leb, List, [], ◌∷◌, length, refl, sym, ap, subst, ◌∙◌, inl, inr, ◌⊎◌, arith}
+use Rattle.std.proofs.lemmas.Bool.{cases_lt, cases_eq, eqb-true, ltb-true, lt-ltb, leb-true, le-leb}
 use Rattle.nz_base.specs.Moments.{At}
-use Rattle.nz_base.proofs.Moments.{at_self, at_shorter, at_order}
+use Rattle.nz_base.proofs.Booleans.{and_both, and_left, and_right, or_cases, or_left, or_right}
+use Rattle.nz_base.proofs.Moments.{at_self, at_shorter, at_order, at_same}
 use Rattle.nz_math.proofs.Twos.{of_two, two_choice}
-use Rattle.nz_laws_cv.specs.Notions.{IsHeldByMany}
+use Rattle.nz_laws_cv.specs.Notions.{Notions, IsHeldByMany}
 use Rattle.nz_laws_cv.specs.Ground.{TellsVector, IsUsed, IsCompletion, IsReport, IsBegin, HasModes, Ground}
-use Rattle.nz_laws_cv.specs.Example.{first_records, run, IsUpAfter, IsNormalAfter, one_from, inc_after, view_after, last_after, knows_from, place_after, CompletesAt, AnswersAt, BeginsAt, ReportsAt, notions}
+use Rattle.nz_laws_cv.specs.Tests.{notions}
+use Rattle.nz_laws_cv.specs.Example.{tests, first_records, run, is_up_after, is_normal_after, one_from, inc_after, view_after, last_after, knows_from, place_after, are_first, completes_at, answers_at, begins_at, reports_at}
+
+-- what is read of the run
+abbrev N : Notions ℕ
+N = notions tests
 
 -- ---- moments
 
@@ -28,12 +34,32 @@ at_moment K m at le =
     let few = short K at in
     at_order run (first_records m) K (at_number 12 m (omega (arith, few, le))) at (omega (arith, len, le))
 
+first_is : (n : ℕ) (K : List ℕ) → are_first n K ≡ true → K ≡ first_records n
+first_is zero [] h = refl
+first_is zero (r ∷ K) h = absurd cc
+first_is (suc n) [] h = absurd cc
+first_is (suc n) (r ∷ K) h =
+    let same = eqb-true n r (and_left (eqb n r) (are_first n K) h) in
+    let rest = first_is n K (and_right (eqb n r) (are_first n K) h) in
+    ap (λ (x : ℕ). x ∷ K) (sym same) ∙ ap (λ (l : List ℕ). n ∷ l) rest
+
+is_first : (K : List ℕ) → At run K → length K ≡ 9 → are_first 9 K ≡ true
+is_first K at nine =
+    let same = at_same run K (first_records 9) at (at_number 12 9 (omega arith)) nine in
+    subst (λ (l : List ℕ). are_first 9 l ≡ true) (sym same) refl
+
 -- ---- status, incarnations and views
 
-normal_up : (x n : ℕ) → IsNormalAfter x n → IsUpAfter x n
-normal_up zero n h = tt
+normal_up : (x n : ℕ) → is_normal_after x n ≡ true → is_up_after x n ≡ true
+normal_up zero n h = refl
 normal_up (suc zero) n h = h
-normal_up (suc (suc x)) n h = tt
+normal_up (suc (suc x)) n h = refl
+
+one_up : (n : ℕ) → (eqb n 0 || leb 9 n) ≡ true → (n ≡ 0) ⊎ (9 ≤ n)
+one_up n h = elim (or_cases (eqb n 0) (leb 9 n) h) [ inl e ↦ inl (eqb-true n 0 e) | inr e ↦ inr (leb-true 9 n e) ]
+
+one_late : (n : ℕ) → 9 ≤ n → (eqb n 0 || leb 9 n) ≡ true
+one_late n le = or_right (eqb n 0) (leb 9 n) (le-leb 9 n le)
 
 no_restart : (x : ℕ) → inc_after x 0 ≡ 0
 no_restart zero = refl
@@ -64,46 +90,46 @@ place_grows x zero n m le = omega arith
 place_grows x (suc zero) n m le = one_grows (knows_from x) n m le
 place_grows x (suc (suc k)) n m le = omega arith
 
-own_stays : (x n m : ℕ) → inc_after x n ≡ inc_after x m → IsUpAfter x n → IsUpAfter x m → place_after x x n ≡ place_after x x m
+own_stays : (x n m : ℕ) → inc_after x n ≡ inc_after x m → is_up_after x n ≡ true → is_up_after x m ≡ true → place_after x x n ≡ place_after x x m
 own_stays zero n m same up_n up_m = refl
-own_stays (suc zero) n m same up_n up_m = omega (arith, same, up_n, up_m)
+own_stays (suc zero) n m same up_n up_m = let a = one_up n up_n in let b = one_up m up_m in omega (arith, same, a, b)
 own_stays (suc (suc x)) n m same up_n up_m = refl
 
 -- who is up after a record was so before, but for the completion
-stays : (x n : ℕ) → IsUpAfter x (suc n) → (IsUpAfter x n × (inc_after x n ≡ inc_after x (suc n))) ⊎ ((x ≡ 1) × (suc n ≡ 9))
-stays zero n up = inl (tt, refl)
+stays : (x n : ℕ) → is_up_after x (suc n) ≡ true → ((is_up_after x n ≡ true) × (inc_after x n ≡ inc_after x (suc n))) ⊎ ((x ≡ 1) × (suc n ≡ 9))
+stays zero n up = inl (refl, refl)
 stays (suc zero) n up = elim (cases_lt n 9) [
-  | inl early ↦ inr (refl, omega (arith, early, up))
-  | inr late ↦ inl (inr late, omega (arith, late))
+  | inl early ↦ let now = one_up (suc n) up in inr (refl, omega (arith, early, now))
+  | inr late ↦ inl (one_late n late, omega (arith, late))
 ]
-stays (suc (suc x)) n up = inl (tt, refl)
+stays (suc (suc x)) n up = inl (refl, refl)
 
-mode : (x n : ℕ) → IsNormalAfter x n → last_after x n ≡ view_after x n
+mode : (x n : ℕ) → is_normal_after x n ≡ true → last_after x n ≡ view_after x n
 mode zero n h = refl
 mode (suc zero) n h = refl
-mode (suc (suc zero)) n early = omega (arith, early)
+mode (suc (suc zero)) n h = let early = ltb-true n 11 h in omega (arith, early)
 mode (suc (suc (suc x))) n h = refl
 
-changing : (x n : ℕ) → IsUpAfter x n → IsNormalAfter x n ⊎ (last_after x n < view_after x n)
-changing zero n up = inl tt
+changing : (x n : ℕ) → is_up_after x n ≡ true → (is_normal_after x n ≡ true) ⊎ (last_after x n < view_after x n)
+changing zero n up = inl refl
 changing (suc zero) n up = inl up
-changing (suc (suc zero)) n up = elim (cases_lt n 11) [ inl early ↦ inl early | inr late ↦ inr (omega (arith, late)) ]
-changing (suc (suc (suc x))) n up = inl tt
+changing (suc (suc zero)) n up = elim (cases_lt n 11) [ inl early ↦ inl (lt-ltb n 11 early) | inr late ↦ inr (omega (arith, late)) ]
+changing (suc (suc (suc x))) n up = inl refl
 
-began : (x n v : ℕ) → n ≤ 12 → IsNormalAfter x n → view_after x n ≡ v → 0 < v → (n ≡ 12) × (v ≡ 1)
+began : (x n v : ℕ) → n ≤ 12 → is_normal_after x n ≡ true → view_after x n ≡ v → 0 < v → (n ≡ 12) × (v ≡ 1)
 began zero n v few h is more = absurd (omega (arith, is, more))
 began (suc zero) n v few h is more = (omega (arith, few, is, more), omega (arith, few, is, more))
-began (suc (suc zero)) n v few early is more = absurd (omega (arith, early, is, more))
+began (suc (suc zero)) n v few h is more = let early = ltb-true n 11 h in absurd (omega (arith, early, is, more))
 began (suc (suc (suc x))) n v few h is more = absurd (omega (arith, is, more))
 
-modes : HasModes notions run
+modes : HasModes N run
 modes = record {
   normal_up = λ x K h. normal_up x (length K) h;
   first = no_restart;
   grows = λ x K L at older. inc_grows x (length K) (length L) (at_shorter L K older);
   stays = λ x r K at up. elim (stays x (length K) up) [
     | inl s ↦ inl (record { up = s.0; same = s.1 })
-    | inr c ↦ inr (record { who = c.0; at = at; count = c.1 })
+    | inr c ↦ inr (and_both (eqb x 1) (are_first 9 (r ∷ K)) (subst (λ (y : ℕ). eqb y 1 ≡ true) (sym c.0) refl) (is_first (r ∷ K) at c.1))
   ];
   mode = λ x K at h. mode x (length K) h;
   changing = λ x K at up. changing x (length K) up;
@@ -117,7 +143,9 @@ modes = record {
       };
   begun = λ x v K at is more.
       let b = began x (length K) v (short K at) is.normal is.view more in
-      (K, record { view = b.1; at = at; count = b.0 }, at_self K);
+      let whole = at_same run K run at (at_self run) b.0 in
+      let all = subst (λ (l : List ℕ). are_first 12 l ≡ true) (sym whole) refl in
+      (K, and_both (eqb v 1) (are_first 12 K) (subst (λ (y : ℕ). eqb y 1 ≡ true) (sym b.1) refl) all, at_self K);
 }
 
 own_zero : (x n : ℕ) → inc_after x n ≡ 0 → place_after x x n ≡ 0
@@ -140,78 +168,134 @@ two_hold {Holds = Holds} a b S T low less apart first second = record {
 
 -- ---- the vectors that replica 1 was told
 
-claimed : (x : ℕ) (K : List ℕ) → At run K → IsUpAfter x (length K) → 0 < inc_after x (length K) → IsHeldByMany 1 (TellsVector notions x K)
+claimed : (x : ℕ) (K : List ℕ) → At run K → is_up_after x (length K) ≡ true → 0 < inc_after x (length K)
+    → IsHeldByMany 1 (TellsVector N x K)
 claimed zero K at up more = absurd (omega (arith, more))
 claimed (suc zero) K at up more =
+    let late = one_up (length K) up in
     two_hold 0 2 (first_records 3) (first_records 4) (omega arith) (omega arith) (λ e. cc)
-    (record { at = at_moment K 3 at (omega (arith, up, more)); up = tt; inside = omega (arith, up, more); below = omega (arith, up, more) })
-    (record { at = at_moment K 4 at (omega (arith, up, more)); up = tt; inside = omega (arith, up, more); below = omega (arith, up, more) })
+    (record { at = at_moment K 3 at (omega (arith, late, more)); up = refl; inside = omega (arith, late, more); below = omega (arith, late, more) })
+    (record { at = at_moment K 4 at (omega (arith, late, more)); up = refl; inside = omega (arith, late, more); below = omega (arith, late, more) })
 claimed (suc (suc x)) K at up more = absurd (omega (arith, more))
 
 -- ---- the completion
+
+pub record CompletesAt (m : ℕ) (C : List ℕ) : Type 0 where
+  pub who : m ≡ 1
+  pub at : At run C
+  pub count : length C ≡ 9
+
+completes_is : (m : ℕ) (C : List ℕ) → completes_at m C ≡ true → CompletesAt m C
+completes_is m C h =
+    let is = first_is 9 C (and_right (eqb m 1) (are_first 9 C) h) in
+    record { who = eqb-true m 1 (and_left (eqb m 1) (are_first 9 C) h); at = subst (At run) (sym is) (at_number 12 9 (omega arith)); count = ap length is }
+
+pub record AnswersAt (y : ℕ) (T : List ℕ) : Type 0 where
+  pub at : At run T
+  pub answer : ((y ≡ 0) × (length T ≡ 6)) ⊎ ((y ≡ 2) × (length T ≡ 7))
+
+answers_is : (m : ℕ) (C : List ℕ) (y : ℕ) (T : List ℕ) → answers_at m C y T ≡ true → AnswersAt y T
+answers_is m C y T h =
+    elim (or_cases (eqb y 0 && are_first 6 T) (eqb y 2 && are_first 7 T) (and_right (completes_at m C) _ h)) [
+      | inl e ↦
+          let is = first_is 6 T (and_right (eqb y 0) (are_first 6 T) e) in
+          let who = eqb-true y 0 (and_left (eqb y 0) (are_first 6 T) e) in
+          record { at = subst (At run) (sym is) (at_number 12 6 (omega arith)); answer = inl (who, ap length is) }
+      | inr e ↦
+          let is = first_is 7 T (and_right (eqb y 2) (are_first 7 T) e) in
+          let who = eqb-true y 2 (and_left (eqb y 2) (are_first 7 T) e) in
+          record { at = subst (At run) (sym is) (at_number 12 7 (omega arith)); answer = inr (who, ap length is) }
+    ]
 
 off_one : (y m n u k : ℕ) → ¬ (1 ≡ k) → place_after y k n ≤ place_after m k u
 off_one y m n u zero other = omega arith
 off_one y m n u (suc zero) other = absurd (other refl)
 off_one y m n u (suc (suc k)) other = omega arith
 
-used_zero : (C T : List ℕ) → At run T → length C ≡ 9 → length T ≡ 6 → IsUsed notions run 1 C 0 T
+used_zero : (C T : List ℕ) → At run T → length C ≡ 9 → length T ≡ 6 → IsUsed N run 1 C 0 T
 used_zero C T at nine six = record {
   at = at;
   before = omega (arith, nine, six);
-  up = tt;
+  up = refl;
   inside = omega (arith, nine, six);
   counter = omega (arith, nine, six);
   view = omega arith;
   merged = λ k other. off_one 0 1 (length T) (length C) k other;
 }
 
-used_two : (C T : List ℕ) → At run T → length C ≡ 9 → length T ≡ 7 → IsUsed notions run 1 C 2 T
+used_two : (C T : List ℕ) → At run T → length C ≡ 9 → length T ≡ 7 → IsUsed N run 1 C 2 T
 used_two C T at nine seven = record {
   at = at;
   before = omega (arith, nine, seven);
-  up = tt;
+  up = refl;
   inside = omega (arith, nine, seven);
   counter = omega (arith, nine, seven);
   view = omega (arith, seven);
   merged = λ k other. off_one 2 1 (length T) (length C) k other;
 }
 
-answered : (C : List ℕ) (y : ℕ) (T : List ℕ) → AnswersAt 1 C y T → IsUsed notions run 1 C y T
-answered C y T u = elim (u.answer) [
-  | inl a ↦ subst (λ z. IsUsed notions run 1 C z T) (sym a.0) (used_zero C T u.at u.completion.count a.1)
-  | inr a ↦ subst (λ z. IsUsed notions run 1 C z T) (sym a.0) (used_two C T u.at u.completion.count a.1)
+answered : (C : List ℕ) → length C ≡ 9 → (y : ℕ) (T : List ℕ) → AnswersAt y T → IsUsed N run 1 C y T
+answered C nine y T u = elim (u.answer) [
+  | inl a ↦ subst (λ z. IsUsed N run 1 C z T) (sym a.0) (used_zero C T u.at nine a.1)
+  | inr a ↦ subst (λ z. IsUsed N run 1 C z T) (sym a.0) (used_two C T u.at nine a.1)
 ]
 
-completed_one : (C : List ℕ) → CompletesAt 1 C → IsCompletion notions run 1 C
-completed_one C c =
+completed_one : (C : List ℕ) → completes_at 1 C ≡ true → IsCompletion N run 1 C
+completed_one C h =
+    let c = completes_is 1 C h in
     let nine = c.count in
     record {
       at = c.at;
-      normal = inr (omega (arith, nine));
+      normal = one_late (length C) (omega (arith, nine));
       follows = λ e. absurd (omega (arith, nine, e));
       answers = two_hold 0 2 (first_records 6) (first_records 7) (omega arith) (omega arith) (λ e. cc)
-          (record { completion = c; at = at_number 12 6 (omega arith); answer = inl (refl, refl) })
-          (record { completion = c; at = at_number 12 7 (omega arith); answer = inr (refl, refl) });
-      answer = answered C;
-      consistent = λ y x S T s t. elim (t.answer) [
+          (and_both (completes_at 1 C) true h refl)
+          (and_both (completes_at 1 C) true h refl);
+      answer = λ y T u. answered C nine y T (answers_is 1 C y T u);
+      consistent = λ y x S T s t. elim (answers_is 1 C x T t).answer [
         | inl a ↦ off_one y x (length S) (length T) x (λ e. let z = a.0 in cc)
         | inr a ↦ off_one y x (length S) (length T) x (λ e. let z = a.0 in cc)
       ];
     }
 
-completion : (m : ℕ) (C : List ℕ) → CompletesAt m C → IsCompletion notions run m C
-completion m C c = subst (λ z. IsCompletion notions run z C) (sym c.who) (completed_one C (record { who = refl; at = c.at; count = c.count }))
+completion : (m : ℕ) (C : List ℕ) → completes_at m C ≡ true → IsCompletion N run m C
+completion m C h =
+    let who = (completes_is m C h).who in
+    subst (λ z. IsCompletion N run z C) (sym who) (completed_one C (subst (λ z. completes_at z C ≡ true) who h))
 
 -- ---- the begin
 
-reported : (B : List ℕ) → length B ≡ 12 → (y : ℕ) (Q : List ℕ) → ReportsAt 1 B y Q → IsReport notions run 1 B y Q
+pub record BeginsAt (w : ℕ) (B : List ℕ) : Type 0 where
+  pub view : w ≡ 1
+  pub whole : B ≡ run
+
+begins_is : (w : ℕ) (B : List ℕ) → begins_at w B ≡ true → BeginsAt w B
+begins_is w B h = record { view = eqb-true w 1 (and_left (eqb w 1) (are_first 12 B) h); whole = first_is 12 B (and_right (eqb w 1) (are_first 12 B) h) }
+
+pub record ReportsAt (B : List ℕ) (y : ℕ) (Q : List ℕ) : Type 0 where
+  pub at : At B Q
+  pub report : ((y ≡ 1) × (Q ≡ B)) ⊎ ((y ≡ 2) × (length Q ≡ 11))
+
+reports_is : (B : List ℕ) (y : ℕ) (Q : List ℕ) → reports_at 1 B y Q ≡ true → ReportsAt B y Q
+reports_is B y Q h =
+    let whole = (begins_is 1 B (and_left (begins_at 1 B) _ h)).whole in
+    elim (or_cases (eqb y 1 && are_first 12 Q) (eqb y 2 && are_first 11 Q) (and_right (begins_at 1 B) _ h)) [
+      | inl e ↦
+          let same = first_is 12 Q (and_right (eqb y 1) (are_first 12 Q) e) ∙ sym whole in
+          record { at = subst (At B) (sym same) (at_self B); report = inl (eqb-true y 1 (and_left (eqb y 1) (are_first 12 Q) e), same) }
+      | inr e ↦
+          let is = first_is 11 Q (and_right (eqb y 2) (are_first 11 Q) e) in
+          let at = subst (λ (l : List ℕ). At l Q) (sym whole) (subst (At run) (sym is) (at_number 12 11 (omega arith))) in
+          record { at = at; report = inr (eqb-true y 2 (and_left (eqb y 2) (are_first 11 Q) e), ap length is) }
+    ]
+
+reported : (B : List ℕ) → length B ≡ 12 → (y : ℕ) (Q : List ℕ) → ReportsAt B y Q → IsReport N run 1 B y Q
 reported B twelve y Q r = elim (r.report) [
   | inl a ↦
       let same : length Q ≡ length B = ap length a.1 in
-      subst (λ z. IsReport notions run 1 B z Q) (sym a.0) (record {
+      subst (λ z. IsReport N run 1 B z Q) (sym a.0) (record {
         at = r.at;
-        up = inr (omega (arith, twelve, same));
+        up = one_late (length Q) (omega (arith, twelve, same));
         view = omega (arith, twelve, same);
         fresh = omega (arith, same);
         merged = λ k other. off_one 1 1 (length Q) (length B) k other;
@@ -219,9 +303,9 @@ reported B twelve y Q r = elim (r.report) [
       })
   | inr a ↦
       let eleven = a.1 in
-      subst (λ z. IsReport notions run 1 B z Q) (sym a.0) (record {
+      subst (λ z. IsReport N run 1 B z Q) (sym a.0) (record {
         at = r.at;
-        up = tt;
+        up = refl;
         view = omega (arith, eleven);
         fresh = omega arith;
         merged = λ k other. off_one 2 1 (length Q) (length B) k other;
@@ -229,24 +313,27 @@ reported B twelve y Q r = elim (r.report) [
       })
 ]
 
-begun_one : (B : List ℕ) → BeginsAt 1 B → IsBegin notions run 1 B
-begun_one B b =
-    let at = b.at in
-    let twelve = b.count in
+begun_one : (B : List ℕ) → begins_at 1 B ≡ true → IsBegin N run 1 B
+begun_one B h =
+    let whole = (begins_is 1 B h).whole in
+    let at = subst (At run) (sym whole) (at_self run) in
+    let twelve : length B ≡ 12 = ap length whole in
     record {
       at = at;
-      leads = record { normal = inr (omega (arith, twelve)); view = omega (arith, twelve) };
-      turns = λ r K e is. let whole = ap length e in let view = is.view in omega (arith, whole, twelve, view);
+      leads = record { normal = one_late (length B) (omega (arith, twelve)); view = omega (arith, twelve) };
+      turns = λ r K e is. let longer = ap length e in let view = is.view in omega (arith, longer, twelve, view);
       members = two_hold 1 2 B (first_records 11) (omega arith) (omega arith) (λ e. cc)
-          (record { at = at_self B; report = inl (refl, refl) })
-          (record { at = at_moment B 11 at (omega (arith, twelve)); report = inr (refl, refl) });
-      report = reported B twelve;
+          (and_both (begins_at 1 B) (are_first 12 B || false) h (or_left (are_first 12 B) false h))
+          (and_both (begins_at 1 B) true h refl);
+      report = λ y Q r. reported B twelve y Q (reports_is B y Q r);
     }
 
-begin : (w : ℕ) (B : List ℕ) → BeginsAt w B → IsBegin notions run w B
-begin w B b = subst (λ v. IsBegin notions run v B) (sym b.view) (begun_one B (record { view = refl; at = b.at; count = b.count }))
+begin : (w : ℕ) (B : List ℕ) → begins_at w B ≡ true → IsBegin N run w B
+begin w B h =
+    let view = (begins_is w B h).view in
+    subst (λ v. IsBegin N run v B) (sym view) (begun_one B (subst (λ v. begins_at v B ≡ true) view h))
 
-pub ground : Ground notions run
+pub ground : Ground N run
 ground = record {
   modes = modes;
   own_zero = λ x K at up none. own_zero x (length K) none;

@@ -2,9 +2,8 @@
 -- 0 on: 0 crash of replica 1; 1 its restart; 2, 3 replicas 0 and 2 tell it their vectors; 4 the last of these arrives;
 -- 5, 6 replicas 0 and 2 answer; 7 the last answer arrives; 8 replica 1 takes the log of view 0, which completes its
 -- rejoin; 9 nothing; 10 replica 2 changes to view 1; 11 replica 1 begins it.
-use Rattle.std.specs.Prelude.{◌≡◌, ℕ, zero, suc, ◌-◌, ◌<◌, ◌≤◌, List, [], ◌∷◌, length, ◌⊎◌}
-use Rattle.nz_base.specs.Moments.{At}
-use Rattle.nz_laws_cv.specs.Notions.{Notions}
+use Rattle.std.specs.Prelude.{ℕ, zero, suc, ◌-◌, Bool, true, false, ◌&&◌, ◌||◌, ◌==◌, nat_le, nat_lt, List, [], ◌∷◌, length}
+use Rattle.nz_laws_cv.specs.Tests.{Tests}
 
 -- The first records, the newest first, and the run.
 abbrev pub first_records : ℕ → List ℕ
@@ -14,17 +13,17 @@ first_records (suc n) = n ∷ first_records n
 abbrev pub run : List ℕ
 run = first_records 12
 
--- After how many records a replica is up, and Normal.
-abbrev pub IsUpAfter : ℕ → ℕ → Type 0
-IsUpAfter zero n = Unit {0}
-IsUpAfter (suc zero) n = (n ≡ 0) ⊎ (9 ≤ n)
-IsUpAfter (suc (suc x)) n = Unit {0}
+-- Whether a replica is up, and Normal, after so many records.
+abbrev pub is_up_after : ℕ → ℕ → Bool
+is_up_after zero n = true
+is_up_after (suc zero) n = (n == 0) || nat_le 9 n
+is_up_after (suc (suc x)) n = true
 
-abbrev pub IsNormalAfter : ℕ → ℕ → Type 0
-IsNormalAfter zero n = Unit {0}
-IsNormalAfter (suc zero) n = (n ≡ 0) ⊎ (9 ≤ n)
-IsNormalAfter (suc (suc zero)) n = n < 11
-IsNormalAfter (suc (suc (suc x))) n = Unit {0}
+abbrev pub is_normal_after : ℕ → ℕ → Bool
+is_normal_after zero n = true
+is_normal_after (suc zero) n = (n == 0) || nat_le 9 n
+is_normal_after (suc (suc zero)) n = nat_lt n 11
+is_normal_after (suc (suc (suc x))) n = true
 
 -- A number that is 0, and 1 from so many records on.
 abbrev pub one_from : ℕ → ℕ → ℕ
@@ -58,39 +57,39 @@ place_after x zero n = 0
 place_after x (suc zero) n = one_from (knows_from x) n
 place_after x (suc (suc k)) n = 0
 
+-- Whether these are the first records, so many.
+abbrev pub are_first : ℕ → List ℕ → Bool
+are_first zero [] = true
+are_first zero (r ∷ K) = false
+are_first (suc n) [] = false
+are_first (suc n) (r ∷ K) = (n == r) && are_first n K
+
 -- The completion, the answers that it used, the begin, and its members' reports.
-pub record CompletesAt (m : ℕ) (C : List ℕ) : Type 0 where
-  pub who : m ≡ 1
-  pub at : At run C
-  pub count : length C ≡ 9
+abbrev pub completes_at : ℕ → List ℕ → Bool
+completes_at m C = (m == 1) && are_first 9 C
 
-pub record AnswersAt (m : ℕ) (C : List ℕ) (y : ℕ) (T : List ℕ) : Type 0 where
-  pub completion : CompletesAt m C
-  pub at : At run T
-  pub answer : ((y ≡ 0) × (length T ≡ 6)) ⊎ ((y ≡ 2) × (length T ≡ 7))
+abbrev pub answers_at : ℕ → List ℕ → ℕ → List ℕ → Bool
+answers_at m C y T = completes_at m C && (((y == 0) && are_first 6 T) || ((y == 2) && are_first 7 T))
 
-pub record BeginsAt (w : ℕ) (B : List ℕ) : Type 0 where
-  pub view : w ≡ 1
-  pub at : At run B
-  pub count : length B ≡ 12
+abbrev pub begins_at : ℕ → List ℕ → Bool
+begins_at w B = (w == 1) && are_first 12 B
 
-pub record ReportsAt (w : ℕ) (B : List ℕ) (y : ℕ) (Q : List ℕ) : Type 0 where
-  pub at : At B Q
-  pub report : ((y ≡ 1) × (Q ≡ B)) ⊎ ((y ≡ 2) × (length Q ≡ 11))
+abbrev pub reports_at : ℕ → List ℕ → ℕ → List ℕ → Bool
+reports_at w B y Q = begins_at w B && (((y == 1) && are_first 12 Q) || ((y == 2) && are_first 11 Q))
 
 -- What is read of this run.
-abbrev pub notions : Notions ℕ
-notions = record {
+abbrev pub tests : Tests ℕ
+tests = record {
   f = 1;
   leader = λ v. v;
   inc = λ x K. inc_after x (length K);
   place = λ x K k. place_after x k (length K);
   view = λ x K. view_after x (length K);
   last = λ x K. last_after x (length K);
-  IsUp = λ x K. IsUpAfter x (length K);
-  IsNormal = λ x K. IsNormalAfter x (length K);
-  Completes = CompletesAt;
-  Uses = AnswersAt;
-  Begins = BeginsAt;
-  Reports = ReportsAt;
+  is_up = λ x K. is_up_after x (length K);
+  is_normal = λ x K. is_normal_after x (length K);
+  completes = completes_at;
+  uses = answers_at;
+  begins = begins_at;
+  reports = reports_at;
 }

@@ -28,5 +28,5 @@ pub fn leaders_do_not_rejoin<R>()
 
 /// The ground contradicts nothing: a run in which a replica crashes, rejoins and begins a view has it.
 pub fn a_run_has_the_ground()
-    ensures { Ground example.notions example.run }
+    ensures { Ground (notions example.tests) example.run }
 {}
