@@ -5,20 +5,22 @@
 use Rattle.std.specs.Prelude.{ℕ, zero, suc, ◌-◌, Bool, true, false, ◌&&◌, ◌||◌, ◌==◌, nat_le, nat_lt, List, [], ◌∷◌, length}
 use Rattle.nz_laws_cv.specs.Tests.{Tests}
 
--- The first records, the newest first, and the run.
+-- The first records, so many, the newest first.
 abbrev pub first_records : ℕ → List ℕ
 first_records zero = []
 first_records (suc n) = n ∷ first_records n
 
+-- The run of all twelve.
 abbrev pub run : List ℕ
 run = first_records 12
 
--- Whether a replica is up, and Normal, after so many records.
+-- Whether a replica is up after so many records: replica 1 is down or rejoins from its crash to its completion.
 abbrev pub is_up_after : ℕ → ℕ → Bool
 is_up_after zero n = true
 is_up_after (suc zero) n = (n == 0) || nat_le 9 n
 is_up_after (suc (suc x)) n = true
 
+-- Whether it is Normal: replica 2 is no longer once it has changed to view 1.
 abbrev pub is_normal_after : ℕ → ℕ → Bool
 is_normal_after zero n = true
 is_normal_after (suc zero) n = (n == 0) || nat_le 9 n
@@ -29,29 +31,33 @@ is_normal_after (suc (suc (suc x))) n = true
 abbrev pub one_from : ℕ → ℕ → ℕ
 one_from start n = (suc n - start) - (n - start)
 
--- Incarnations, views, last views, and places of crash vectors: only place 1 is ever raised.
+-- A replica's incarnation: that of replica 1 rises with its restart.
 abbrev pub inc_after : ℕ → ℕ → ℕ
 inc_after zero n = 0
 inc_after (suc zero) n = one_from 2 n
 inc_after (suc (suc x)) n = 0
 
+-- Its view: replica 2 changes to view 1, and then replica 1 begins it.
 abbrev pub view_after : ℕ → ℕ → ℕ
 view_after zero n = 0
 view_after (suc zero) n = one_from 12 n
 view_after (suc (suc zero)) n = one_from 11 n
 view_after (suc (suc (suc x))) n = 0
 
+-- The last view in which it was Normal.
 abbrev pub last_after : ℕ → ℕ → ℕ
 last_after zero n = 0
 last_after (suc zero) n = one_from 12 n
 last_after (suc (suc x)) n = 0
 
+-- From how many records on it knows the counter of replica 1, which claims it after 5.
 abbrev pub knows_from : ℕ → ℕ
 knows_from zero = 6
 knows_from (suc zero) = 5
 knows_from (suc (suc zero)) = 7
 knows_from (suc (suc (suc x))) = 100
 
+-- A place of its crash vector: the counter of replica 1 is 1 from then on, and the others stay 0.
 abbrev pub place_after : ℕ → ℕ → ℕ → ℕ
 place_after x zero n = 0
 place_after x (suc zero) n = one_from (knows_from x) n
@@ -64,16 +70,19 @@ are_first zero (r ∷ K) = false
 are_first (suc n) [] = false
 are_first (suc n) (r ∷ K) = (n == r) && are_first n K
 
--- The completion, the answers that it used, the begin, and its members' reports.
+-- Replica 1 completes by record 8.
 abbrev pub completes_at : ℕ → List ℕ → Bool
 completes_at m C = (m == 1) && are_first 9 C
 
+-- It used the answers that replicas 0 and 2 sent by records 5 and 6.
 abbrev pub answers_at : ℕ → List ℕ → ℕ → List ℕ → Bool
 answers_at m C y T = completes_at m C && (((y == 0) && are_first 6 T) || ((y == 2) && are_first 7 T))
 
+-- View 1 begins by record 11.
 abbrev pub begins_at : ℕ → List ℕ → Bool
 begins_at w B = (w == 1) && are_first 12 B
 
+-- Its members are replica 1, by the begin, and replica 2, which reported by record 10.
 abbrev pub reports_at : ℕ → List ℕ → ℕ → List ℕ → Bool
 reports_at w B y Q = begins_at w B && (((y == 1) && are_first 12 Q) || ((y == 2) && are_first 11 Q))
 
