@@ -95,8 +95,8 @@ module _ {R : Type 0} (g : GroupStates R) where
     pub after : t.status ≡ Rejoining
     pub event : IsTrue (g.restarts r)
 
-  -- ---- a record r of the replica y, after the records K
-
+  -- What a record r of the replica y, after the records K, does to its state: nothing that is read here, a release, an
+  -- entered view, a log modification, a begin, a log that is adopted, a crash, or a restart.
   pub data Does (y : ℕ) (r : R) (K : List R) : Type 0 where
     Stays : IsUnchanged (g.state y K) (g.state y (r ∷ K)) → Does y r K
     Released : Releases g.f y (g.state y K) (g.state y (r ∷ K)) → Does y r K
@@ -107,14 +107,16 @@ module _ {R : Type 0} (g : GroupStates R) where
     Fell : (g.state y (r ∷ K)).status ≡ Down → Does y r K
     Rose : Restarts r (g.state y K) (g.state y (r ∷ K)) → Does y r K
 
-  -- The run begins with empty logs, each record does one of these to its actor and nothing to others, and what is to be
-  -- known of states, begins and rejoins holds.
+  -- The run follows the rules, and has what is to be known of states, begins and rejoins.
   pub record FollowsRules (J : List R) : Type 0 where
+    -- Before all records logs are empty, and views are 0.
     pub first : (y : ℕ) → (g.state y []).log ≡ []
     pub first_view : (y : ℕ) → (g.state y []).view ≡ 0
     pub first_last : (y : ℕ) → (g.state y []).last ≡ 0
+    -- A record changes the state of its actor alone, in one of these ways.
     pub stays : (y : ℕ) (r : R) (K : List R) → At J (r ∷ K) → IsFalse (g.by r y) → g.state y (r ∷ K) ≡ g.state y K
     pub does : (y : ℕ) (r : R) (K : List R) → At J (r ∷ K) → IsTrue (g.by r y) → Does y r K
+    -- While a replica is up its vector grows.
     pub vectors : (y : ℕ) (r : R) (K : List R) → At J (r ∷ K) → IsTrue (g.by r y) → IsUp (g.state y K).status → IsUp (g.state y (r ∷ K)).status
         → VectorGrows y (g.state y K) (g.state y (r ∷ K))
     -- A view that has begun does not begin again.
