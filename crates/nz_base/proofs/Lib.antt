@@ -2,3 +2,5 @@ pub mod Booleans
 pub mod Names
 pub mod Keys
 pub mod Logs
+pub mod Prefixes
+pub mod Moments

@@ -2,3 +2,5 @@ pub mod Actor
 pub mod Cluster
 pub mod Key
 pub mod Log
+pub mod Prefixes
+pub mod Moments

@@ -2,3 +2,4 @@ pub mod Digests
 pub mod Lists
 pub mod Modifying
 pub mod Placing
+pub mod LedKeys

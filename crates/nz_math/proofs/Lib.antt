@@ -1,3 +1,4 @@
 pub mod Counting
 pub mod Marks
 pub mod Sharing
+pub mod Upto

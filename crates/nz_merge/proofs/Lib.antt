@@ -10,3 +10,5 @@ pub mod Loops
 pub mod Sets
 pub mod Turns
 pub mod Fitting
+pub mod Senders
+pub mod Bases

@@ -1,0 +1,12 @@
+use Rattle.std.proofs.Common.{refl}
+use Rattle.nz_laws_commit.specs.Machines.{machine_of}
+use Rattle.nz_laws_commit.proofs.Deciding.{slowly, quickly}
+use Rattle.nz_laws_commit.proofs.OneView.{run_laws}
+use Rattle.nz_laws_commit.proofs.laws.quorums_support.Goals as goal
+
+pub returns-clause-slow : goal.returns-clause-slow
+returns-clause-slow h c = λ g J K v P test m at n prefix enough each. slowly (machine_of g) J (run_laws g J m) v P K at n prefix test enough each
+
+pub returns-clause-fast : goal.returns-clause-fast
+returns-clause-fast h c = λ g J K v P test m at n prefix enough each.
+    quickly (machine_of g) J (run_laws g J m) v P K at n prefix _ refl test enough each

@@ -1,0 +1,6 @@
+pub mod States
+pub mod Supports
+pub mod Premises
+pub mod Machines
+pub mod Does
+pub mod Example

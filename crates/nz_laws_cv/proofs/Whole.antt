@@ -1,0 +1,64 @@
+-- Knowledge and views, from the ground; and of runs in which no replica crashes.
+use Rattle.std.proofs.Common.{◌≡◌, ℕ, ◌+◌, ◌<◌, List, ◌∷◌, length, refl, sym, ◌∙◌, arith}
+use Rattle.nz_base.specs.Moments.{At}
+use Rattle.nz_laws_cv.specs.Notions.{Notions, IsIn}
+use Rattle.nz_laws_cv.specs.Ground.{Ground}
+use Rattle.nz_laws_cv.specs.Views.{HasViews, IsQuiet}
+use Rattle.nz_laws_cv.proofs.Completing.{comes_from}
+use Rattle.nz_laws_cv.proofs.Knowing.{knows_to}
+use Rattle.nz_laws_cv.proofs.Members.{members_to, was_normal}
+use Rattle.nz_laws_cv.proofs.Leading.{LeadsOnce, one_leader, leader_of_zero, begins_once, once}
+
+module _ {R : Type 0} (N : Notions R) (J : List R) where
+  leader_is_one : Ground N J → (v : ℕ) (B K : List R) → N.Begins v B → At J K → IsIn N (N.leader v) v K → N.inc (N.leader v) K ≡ N.inc (N.leader v) B
+  leader_is_one h v B K b at is = let begin = h.begin v B b in one_leader N J h v K B at begin.at is begin.leads
+
+  leads_once : Ground N J → LeadsOnce N J
+  leads_once h = record {
+    follows = λ x C c. (h.completion x C c).follows;
+    at = λ v B b. (h.begin v B b).at;
+    leads = λ v B b. (h.begin v B b).leads;
+    turns = λ v r K b. (h.begin v (r ∷ K) b).turns r K refl;
+    one = leader_is_one h;
+  }
+
+  pub views : Ground N J → HasViews N J
+  views h = record {
+    rise = λ x S K s k up_s up_k lower. (knows_to N J h (length S + length K)).rise x S K s k up_s up_k lower (omega arith);
+    know = λ m x C T K c u at up lower. (knows_to N J h (length C + length K)).know m x C T K c u at up lower (omega arith);
+    member = λ x w C B Q c b r lower. members_to N J h (length C) x w C B Q c b r lower (omega arith);
+    was_normal = was_normal N J h;
+    one_leader = one_leader N J h;
+    leader_of_zero = leader_of_zero N J h;
+    leader_is_one = leader_is_one h;
+    begins_once = begins_once N J h.modes (leads_once h);
+    once = once N J h.modes (leads_once h);
+    completed = comes_from N J h;
+    completion = h.completion;
+  }
+
+  -- ---- where no replica crashes
+
+  not_below : IsQuiet N J → (x : ℕ) (S K : List R) → At J K → N.inc x S < N.inc x K → ⊥
+  not_below q x S K k lower = let none = q.still x K k in omega (arith, none, lower)
+
+  quiet_leader : IsQuiet N J → (v : ℕ) (B K : List R) → N.Begins v B → At J K → IsIn N (N.leader v) v K → N.inc (N.leader v) K ≡ N.inc (N.leader v) B
+  quiet_leader q v B K b at is = q.still (N.leader v) K at ∙ sym (q.still (N.leader v) B (q.at v B b))
+
+  quiet_leads_once : IsQuiet N J → LeadsOnce N J
+  quiet_leads_once q = record { follows = λ x C c. absurd (q.none x C c); at = q.at; leads = q.leads; turns = q.turns; one = quiet_leader q }
+
+  pub quiet_views : IsQuiet N J → HasViews N J
+  quiet_views q = record {
+    rise = λ x S K s k up_s up_k lower. absurd (not_below q x S K k lower);
+    know = λ m x C T K c u at up lower. absurd (q.none m C c);
+    member = λ x w C B Q c b r lower. absurd (q.none x C c);
+    was_normal = λ x w K C at is c lower. absurd (q.none x C c);
+    one_leader = λ v S K s k was is. q.still (N.leader v) S s ∙ sym (q.still (N.leader v) K k);
+    leader_of_zero = λ K at is. q.still (N.leader 0) K at;
+    leader_is_one = quiet_leader q;
+    begins_once = begins_once N J q.modes (quiet_leads_once q);
+    once = once N J q.modes (quiet_leads_once q);
+    completed = λ x K at up more. absurd (let none = q.still x K at in omega (arith, none, more));
+    completion = λ x C c. absurd (q.none x C c);
+  }

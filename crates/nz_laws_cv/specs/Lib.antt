@@ -1,0 +1,5 @@
+pub mod Notions
+pub mod Ground
+pub mod Views
+pub mod Tests
+pub mod Example

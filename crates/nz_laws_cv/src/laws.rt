@@ -1,0 +1,32 @@
+//! The laws of knowledge and views, of every run that has the ground.
+
+ghost use Rattle.std.specs.Prelude.{ℕ, List, ◌∷◌};
+ghost use Rattle.nz_base.specs.Moments.{At};
+ghost use Rattle.nz_laws_cv.specs.Notions.{IsIn};
+ghost use Rattle.nz_laws_cv.specs.Ground.{Ground, StaysUp};
+ghost use Rattle.nz_laws_cv.specs.Views.{HasViews, IsQuiet};
+ghost use Rattle.nz_laws_cv.specs.Tests.{Tests, notions};
+ghost use Rattle.nz_laws_cv.specs.Example as example;
+
+/// In a run with the ground, own counters rise from incarnation to incarnation, what was answered stays
+/// known, a rejoin ends in no lower view than those of before, and each view begins once and is led in
+/// one incarnation.
+pub fn views_follow<R>()
+    ensures { (t : Tests R) (J : List R) → Ground (notions t) J → HasViews (notions t) J }
+{}
+
+/// The same in a run in which no replica crashes, which needs no vectors and no answers.
+pub fn quiet_runs_have_views<R>()
+    ensures { (t : Tests R) (J : List R) → IsQuiet (notions t) J → HasViews (notions t) J }
+{}
+
+/// A leader was up, in the same incarnation, before each record that finds it Normal in its view.
+pub fn leaders_do_not_rejoin<R>()
+    ensures { (t : Tests R) (J : List R) (v : ℕ) (r : R) (K : List R) → Ground (notions t) J → At J (r ∷ K)
+        → IsIn (notions t) (t.leader v) v (r ∷ K) → StaysUp (notions t) (t.leader v) K (r ∷ K) }
+{}
+
+/// The ground contradicts nothing: a run in which a replica crashes, rejoins and begins a view has it.
+pub fn a_run_has_the_ground()
+    ensures { Ground example.notions example.run }
+{}

@@ -1,0 +1,7 @@
+//! What replicas that rejoin know, and the views that they take part in: laws over an abstract machine,
+//! from premises on single states and messages.
+#![tactic(auto)]
+
+mod laws;
+
+pub use laws::{a_run_has_the_ground, leaders_do_not_rejoin, quiet_runs_have_views, views_follow};
