@@ -34,7 +34,16 @@ module _ {R : Type 0} (M : Machine R) (J : List R) (h : RunLaws M J) (v : ℕ) (
     report c among = All-contains (λ (d : Change). IsMemberReport M w d J) b.changes c b.reports among
 
     fit : AreFit b.changes
-    fit = recursion_from_All IsFit b.changes (All-weaker (λ (c : Change). IsMemberReport M w c J) IsFit (λ c r. reports.report_fit M J h w v lt c r) b.changes b.reports)
+    fit =
+        let each = All-weaker (λ (c : Change). IsMemberReport M w c J) IsFit (λ c r. reports.report_fit M J h w v lt c r) b.changes b.reports in
+        recursion_from_All IsFit b.changes each
+
+    -- the synced part that is merged, and the greatest last view
+    abbrev base_keys : List Key
+    base_keys = keys_of (synced_part (kept b.changes))
+
+    abbrev greatest_last : ℕ
+    greatest_last = last_of b.changes
 
     base : IsBase b.changes
     base = base_of b.changes (let size = b.size in omega (arith, size))
@@ -43,12 +52,12 @@ module _ {R : Type 0} (M : Machine R) (J : List R) (h : RunLaws M J) (v : ℕ) (
     base_report = report base.c base.among
 
     -- the base is the first keys of the leader's log, as many as the report has synced
-    base_lead : IsPrefix (keys_of (synced_part (kept b.changes))) (M.lead (last_of b.changes) J)
+    base_lead : IsPrefix base_keys (M.lead greatest_last J)
     base_lead =
         let part = reports.report_synced M J h w v lt base.c base_report in
-        subst (λ (ks : List Key). IsPrefix ks (M.lead (last_of b.changes) J)) (sym base.is) (subst (λ (g : ℕ). IsPrefix (take base.c.synced (keys_of base.c.log)) (M.lead g J)) base.last part)
+        subst (λ (ks : List Key). IsPrefix ks (M.lead greatest_last J)) (sym base.is) (subst (λ (g : ℕ). IsPrefix (take base.c.synced (keys_of base.c.log)) (M.lead g J)) base.last part)
 
-    base_long : length (keys_of (synced_part (kept b.changes))) ≡ base.c.synced
+    base_long : length base_keys ≡ base.c.synced
     base_long =
         let sound = (reports.report_fit M J h w v lt base.c base_report).synced in
         let keys = length-map base.c.log (λ (e : Entry). e.key) in
@@ -58,23 +67,23 @@ module _ {R : Type 0} (M : Machine R) (J : List R) (h : RunLaws M J) (v : ℕ) (
     pub reaches : (c : Change) → Contains b.changes c → (K : List R) × At J K × IsNormal M c.sender v K → v ≤ c.last
     reaches c among n = reports.last_after M J h w v lt c (report c among) n.0 n.1 n.2
 
-    within : (c : Change) → Contains b.changes c → c.last ≤ last_of b.changes
+    within : (c : Change) → Contains b.changes c → c.last ≤ greatest_last
     within c among = within_greatest (λ (d : Change). d.last) b.changes c among
 
     -- case 1: the greatest last view is above v, and began with P
-    above : v < last_of b.changes → ((T : List Key) → M.start (last_of b.changes) J ≡ Some T → IsPrefix P T) → IsPrefix P (keys_of (merged M.f b.changes))
+    above : v < greatest_last → ((T : List Key) → M.start greatest_last J ≡ Some T → IsPrefix P T) → IsPrefix P (keys_of (merged M.f b.changes))
     above more ih =
         let last = base.last in
         let started = reports.report_started M J h w v lt base.c base_report (omega (arith, last, more)) in
         let T = started.0 in
         let in_T = ih T (subst (λ (g : ℕ). M.start g J ≡ Some T) last started.1) in
-        let T_lead : IsPrefix T (M.lead (last_of b.changes) J) = subst (λ (g : ℕ). IsPrefix T (M.lead g J)) last started.3 in
+        let T_lead : IsPrefix T (M.lead greatest_last J) = subst (λ (g : ℕ). IsPrefix T (M.lead g J)) last started.3 in
         let few = started.2 in
-        let T_base = shorter_prefix T (keys_of (synced_part (kept b.changes))) (M.lead (last_of b.changes) J) T_lead base_lead (omega (arith, few, base_long)) in
-        synced_stays M.f b.changes P (prefix_then P T (keys_of (synced_part (kept b.changes))) in_T T_base)
+        let T_base = shorter_prefix T base_keys (M.lead greatest_last J) T_lead base_lead (omega (arith, few, base_long)) in
+        synced_stays M.f b.changes P (prefix_then P T base_keys in_T T_base)
 
     -- case 2: a slow quorum, and the greatest last view is v
-    slow : last_of b.changes ≡ v → SlowSupport M v P J → IsPrefix P (keys_of (merged M.f b.changes))
+    slow : greatest_last ≡ v → SlowSupport M v P J → IsPrefix P (keys_of (merged M.f b.changes))
     slow same q =
         let shared = slow_member M.f q.members b.changes q.choice q.enough b.choice b.size in
         let c = shared.0 in
@@ -83,16 +92,16 @@ module _ {R : Type 0} (M : Machine R) (J : List R) (h : RunLaws M J) (v : ℕ) (
         let high = within c shared.1 in
         let held = reports.had_held M J h w v lt c (report c shared.1) (length P) had (omega (arith, low, high, same)) in
         let most = base.most c shared.1 (omega (arith, low, high, same)) in
-        let lead : IsPrefix (keys_of (synced_part (kept b.changes))) (M.lead v J) = subst (λ (g : ℕ). IsPrefix (keys_of (synced_part (kept b.changes))) (M.lead g J)) same base_lead in
-        synced_stays M.f b.changes P (shorter_prefix P (keys_of (synced_part (kept b.changes))) (M.lead v J) s.lead lead (omega (arith, held, most, base_long)))
+        let lead = subst (λ (g : ℕ). IsPrefix base_keys (M.lead g J)) same base_lead in
+        synced_stays M.f b.changes P (shorter_prefix P base_keys (M.lead v J) s.lead lead (omega (arith, held, most, base_long)))
 
     -- case 3: a fast quorum
-    fast : last_of b.changes ≡ v → FastSupport M v P J → IsPrefix P (keys_of (merged M.f b.changes))
+    fast : greatest_last ≡ v → FastSupport M v P J → IsPrefix P (keys_of (merged M.f b.changes))
     fast same q =
         let changes = b.changes in
-        let lead : IsPrefix (keys_of (synced_part (kept changes))) (M.lead v J) = subst (λ (g : ℕ). IsPrefix (keys_of (synced_part (kept changes))) (M.lead g J)) same base_lead in
+        let lead : IsPrefix base_keys (M.lead v J) = subst (λ (g : ℕ). IsPrefix base_keys (M.lead g J)) same base_lead in
         let enough = fast_count M.f q.members changes P q.choice q.enough b.choice b.size (λ c among member. holds c among (q.each c.sender member)) in
-        fast_stays M.f changes P fit b.size enough (both_prefixes P (keys_of (synced_part (kept changes))) (M.lead v J) s.lead lead)
+        fast_stays M.f changes P fit b.size enough (both_prefixes P base_keys (M.lead v J) s.lead lead)
       where
         held : (c : Change) (among : Contains b.changes c) → c.last ≡ v → HadSynced M v c.sender (length P) J ⊎ FastReplied M v c.sender P q.u J
             → IsPrefix P (keys_of c.log)
@@ -103,11 +112,12 @@ module _ {R : Type 0} (M : Machine R) (J : List R) (h : RunLaws M J) (v : ℕ) (
             let sound = (reports.report_fit M J h w v lt c from).synced in
             let keys = length-map c.log (λ (x : Entry). x.key) in
             let long = length-take-le c.synced (keys_of c.log) (omega (arith, sound, keys)) in
-            let part : IsPrefix (take c.synced (keys_of c.log)) (M.lead v J) = subst (λ (g : ℕ). IsPrefix (take c.synced (keys_of c.log)) (M.lead g J)) e (reports.report_synced M J h w v lt c from) in
-            prefix_then P (take c.synced (keys_of c.log)) (keys_of c.log) (shorter_prefix P (take c.synced (keys_of c.log)) (M.lead v J) s.lead part (omega (arith, count, long))) (prefix_take c.synced (keys_of c.log))
+            let T = take c.synced (keys_of c.log) in
+            let part : IsPrefix T (M.lead v J) = subst (λ (g : ℕ). IsPrefix (take c.synced (keys_of c.log)) (M.lead g J)) e (reports.report_synced M J h w v lt c from) in
+            prefix_then P T (keys_of c.log) (shorter_prefix P T (M.lead v J) s.lead part (omega (arith, count, long))) (prefix_take c.synced (keys_of c.log))
 
         holds : (c : Change) → Contains b.changes c → HadSynced M v c.sender (length P) J ⊎ FastReplied M v c.sender P q.u J
-            → (c.last ≡ last_of b.changes) × IsPrefix P (keys_of c.log)
+            → (c.last ≡ greatest_last) × IsPrefix P (keys_of c.log)
         holds c among support =
             let low = reaches c among (was_in c.sender q.u support) in
             let high = within c among in
@@ -115,7 +125,7 @@ module _ {R : Type 0} (M : Machine R) (J : List R) (h : RunLaws M J) (v : ℕ) (
             (last ∙ sym same, held c among last support)
 
     -- v is not above the greatest last view
-    not_below : v ≤ last_of b.changes
+    not_below : v ≤ greatest_last
     not_below = elim s.quorum [
       | inl q ↦
           let shared = slow_member M.f q.members b.changes q.choice q.enough b.choice b.size in
@@ -135,10 +145,10 @@ module _ {R : Type 0} (M : Machine R) (J : List R) (h : RunLaws M J) (v : ℕ) (
     merged_has ih =
         let low = base_report.low in
         let last = base.last in
-        elim (cases_lt v (last_of b.changes)) [
-          | inl more ↦ above more (λ T began. ih (last_of b.changes) (omega (arith, low, last)) T more began)
+        elim (cases_lt v greatest_last) [
+          | inl more ↦ above more (λ T began. ih greatest_last (omega (arith, low, last)) T more began)
           | inr no_more ↦
-              let same : last_of b.changes ≡ v = omega (arith, no_more, not_below) in
+              let same : greatest_last ≡ v = omega (arith, no_more, not_below) in
               elim s.quorum [
                 | inl q ↦ slow same q
                 | inr q ↦ fast same q

@@ -29,13 +29,14 @@ module _ {R : Type 0} (M : Machine R) (J : List R) (h : RunLaws M J) where
 
   -- what a leader of v tells with more at y's place, it tells later
   pub tell_after : (v y : ℕ) (K t : List R) → At J K → At J t → IsNormal M (view_leader M v) v K → IsNormal M (view_leader M v) v t
-      → place (M.state (view_leader M v) K).vector y < place (M.state (view_leader M v) t).vector y → At t K × IsPrefix (keys_at M (view_leader M v) K) (keys_at M (view_leader M v) t)
+      → place (M.state (view_leader M v) K).vector y < place (M.state (view_leader M v) t).vector y
+      → At t K × IsPrefix (keys_at M (view_leader M v) K) (keys_at M (view_leader M v) t)
   tell_after v y K t at there n m more =
       let l = view_leader M v in
       elim (at_either J K t at there) [
         | inl later ↦
-            let grows = h.lead_grows v K t there later in
-            (later, subst (λ (ks : List Key). IsPrefix ks (keys_at M l t)) (sym (h.lead_is v K at n)) (subst (IsPrefix (M.lead v K)) (sym (h.lead_is v t there m)) grows))
+            let grows = subst (IsPrefix (M.lead v K)) (sym (h.lead_is v t there m)) (h.lead_grows v K t there later) in
+            (later, subst (λ (ks : List Key). IsPrefix ks (keys_at M l t)) (sym (h.lead_is v K at n)) grows)
         | inr earlier ↦
             let grew = h.monotone l t K at (at_before K t earlier) (h.leader_is_one v t K there at m n) (normal_up l v t m) (normal_up l v K n) in
             let no_less = grew.vector y in
@@ -280,8 +281,8 @@ module _ {R : Type 0} (M : Machine R) (J : List R) (h : RunLaws M J) where
         let own = h.synced_lead c.sender c.last r.read read_at in_last in
         let same : take (M.state c.sender r.read).synced (keys_at M c.sender r.read) ≡ take c.synced (keys_of c.log) =
         ap (λ (k : ℕ). take k (keys_at M c.sender r.read)) (sym r.synced) ∙ ap (λ (log : List Entry). take c.synced (keys_of log)) (sym r.log) in
-        subst (λ (ks : List Key). IsPrefix ks (M.lead c.last J)) same
-        (prefix_then (take (M.state c.sender r.read).synced (keys_at M c.sender r.read)) (M.lead c.last r.read) (M.lead c.last J) own (h.lead_grows c.last r.read J (at_self J) read_at))
+        let part = subst (λ (ks : List Key). IsPrefix ks (M.lead c.last r.read)) same own in
+        prefix_then (take c.synced (keys_of c.log)) (M.lead c.last r.read) (M.lead c.last J) part (h.lead_grows c.last r.read J (at_self J) read_at)
 
     -- what its last view began with is synced
     pub report_started : 0 < c.last → (T : List Key) × (M.start c.last J ≡ Some T) × (length T ≤ c.synced) × IsPrefix T (M.lead c.last J)

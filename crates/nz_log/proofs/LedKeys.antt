@@ -61,9 +61,8 @@ none_goes [] key more e rising own = absurd cc
 none_goes (x ∷ es) key more e rising own =
     let head : x.key ≡ key = cc in
     let low : key_below key x.key ≡ false = ap (λ (k : Key). key_below key k) head ∙ key_below-self key in
-    let above : (y : Key) → has_key (keys_of es) y ≡ true → key_below key y ≡ true = λ y there. subst (λ (k : Key). key_below k y ≡ true) head (rising.0 y there) in
     let apart : has_id (keys_of es) (id_of key) ≡ false = subst (λ (k : Key). has_id (keys_of es) (id_of k) ≡ false) head own.0 in
-    let rest = all_stay key es above apart in
+    let rest = all_stay key es (λ y there. subst (λ (k : Key). key_below k y ≡ true) head (rising.0 y there)) apart in
     rw (low, rest) (ap (λ (k : Key). k ∷ keys_of es) (sym head))
 
 own_rest : (xs ys : List Key) → HaveOwnIds (xs ++ ys) → HaveOwnIds ys
@@ -92,7 +91,8 @@ module _ (log : Log) (e : Entry) (lead : List Key) (sound : IsSound log) (more :
 
   pub synced_stays : IsPrefix (keys_of (synced_part (modified log e))) lead
   synced_stays =
-      let part : keys_of (synced_part (modified log e)) ≡ keys_of (synced_part log) ++ e.key ∷ [] = ap keys_of (synced_more log e sound) ∙ keys_append (synced_part log) (e ∷ []) in
+      let part : keys_of (synced_part (modified log e)) ≡ keys_of (synced_part log) ++ e.key ∷ [] =
+      ap keys_of (synced_more log e sound) ∙ keys_append (synced_part log) (e ∷ []) in
       record { rest = more; whole = ahead ∙ sym (append_assoc (keys_of (synced_part log)) (e.key ∷ []) more) ∙ ap (λ (l : List Key). l ++ more) (sym part) }
 
   -- a prefix that goes beyond the synced part has the key there already
@@ -155,12 +155,9 @@ module _ {S : Type 0} (log_of : S → Log) (may : S → Key → Bool) (found : S
     pub prefixes : (P : List Key) → IsPrefix P (keys_of (log_of s).entries) → Comparable P lead → IsPrefix P (keys_of (log_of t).entries)
 
   keeps_same : (lead : List Key) (s : S) (ks : List Key) → IsSound (log_of s) → IsPrefix (keys_of (synced_part (log_of s)) ++ ks) lead → KeepsPrefixes lead s s
-  keeps_same lead s ks sound p = record {
-    sound = sound;
-    synced = prefix_then (keys_of (synced_part (log_of s))) (keys_of (synced_part (log_of s)) ++ ks) lead (prefix_more (keys_of (synced_part (log_of s))) ks) p;
-    grown = prefix_self (keys_of (synced_part (log_of s)));
-    prefixes = λ P prefix either. prefix;
-  }
+  keeps_same lead s ks sound p =
+      let A = keys_of (synced_part (log_of s)) in
+      record { sound = sound; synced = prefix_then A (A ++ ks) lead (prefix_more A ks) p; grown = prefix_self A; prefixes = λ P prefix either. prefix }
 
   -- the leader's log goes on with the keys after the synced part
   pub keeps : ModifiesLog → (lead : List Key) (s : S) (ks : List Key) → IsSound (log_of s) → IsPrefix (keys_of (synced_part (log_of s)) ++ ks) lead
@@ -171,7 +168,8 @@ module _ {S : Type 0} (log_of : S → Log) (may : S → Key → Bool) (found : S
     where
       -- one key, and then the rest of them
       step : (e : Entry) → e.key ≡ k → may s e.key ≡ true
-          → (IsSound (log_of (next s e)) → IsPrefix (keys_of (synced_part (log_of (next s e))) ++ ks) lead → KeepsPrefixes lead (next s e) (syncs (next s e) ks))
+          → (IsSound (log_of (next s e)) → IsPrefix (keys_of (synced_part (log_of (next s e))) ++ ks) lead
+          → KeepsPrefixes lead (next s e) (syncs (next s e) ks))
           → KeepsPrefixes lead s (syncs (next s e) ks)
       step e same yes_may rest =
           let log = log_of s in
@@ -221,24 +219,25 @@ pub told_ahead : {X : Type 0} (A early lead : List X) (start count : ℕ) → Is
     → IsPrefix (A ++ drop (length A - start) (take count (drop start early))) lead
 told_ahead {X} A early lead start count a b le =
     let told = drop start early in
-    let some = drop (length A - start) (take count told) in
-    let more : IsPrefix some (drop (length A - start) (take count told ++ drop count told)) = prefix_drop (length A - start) (take count told) (drop count told) in
-    let place : start + (length A - start) ≡ length A = omega (arith, le) in
-    let rest : drop (length A - start) (take count told ++ drop count told) ≡ drop (length A) early =
-    ap (λ (l : List X). drop (length A - start) l) (take-append-drop count told) ∙ drop-drop (length A - start) start early ∙ ap (λ (n : ℕ). drop n early) place in
+    let known = length A - start in
+    let some = drop known (take count told) in
+    let more : IsPrefix some (drop known (take count told ++ drop count told)) = prefix_drop known (take count told) (drop count told) in
+    let place : start + known ≡ length A = omega (arith, le) in
+    let rest : drop known (take count told ++ drop count told) ≡ drop (length A) early =
+    ap (drop known) (take-append-drop count told) ∙ drop-drop known start early ∙ ap (λ (n : ℕ). drop n early) place in
     let prefix : IsPrefix some (drop (length A) early) = subst (IsPrefix some) rest more in
     elim (cases_lt (length early) (length A)) [
       | inl short ↦
           let none : drop (length A) early ≡ [] = drop_all (length A) early (omega (arith, short)) in
           let empty = no_more some (subst (IsPrefix some) none prefix) in
-          subst (λ (l : List X). IsPrefix (A ++ l) lead) (sym empty) (record { rest = a.rest; whole = a.whole ∙ ap (λ (l : List X). l ++ a.rest) (sym (append-nil A)) })
+          subst (λ (l : List X). IsPrefix (A ++ l) lead) (sym empty) (subst (λ (l : List X). IsPrefix l lead) (sym (append-nil A)) a)
       | inr long_enough ↦
           let within = shorter_prefix A early lead a b long_enough in
           let follows : drop (length A) early ≡ within.rest = ap (λ (l : List X). drop (length A) l) within.whole ∙ drop-append_seam A within.rest in
-          let both = subst (IsPrefix some) follows prefix in
-          record {
-            rest = both.rest ++ b.rest;
-            whole =
-                b.whole ∙ ap (λ (l : List X). l ++ b.rest) (within.whole ∙ ap (λ (l : List X). A ++ l) both.whole ∙ sym (append_assoc A some both.rest)) ∙ append_assoc (A ++ some) both.rest b.rest;
-          }
+          let next = subst (IsPrefix some) follows prefix in
+          let both : IsPrefix (A ++ some) early = record {
+            rest = next.rest;
+            whole = within.whole ∙ ap (λ (l : List X). A ++ l) next.whole ∙ sym (append_assoc A some next.rest);
+          } in
+          prefix_then (A ++ some) early lead both b
     ]

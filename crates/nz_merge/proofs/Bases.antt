@@ -92,7 +92,7 @@ base_from changes (x ∷ xs) e c h = found (with_synced most (x ∷ xs)) refl
     found [] none =
         let m = greatest (map (λ (d : Change). d.synced) (x ∷ xs)) in
         let best = is_greatest (λ (d : Change). d.synced) x xs in
-        let there : Contains (with_synced m (x ∷ xs)) best.0 = in_filter (λ (d : Change). eqb d.synced m) (x ∷ xs) best.0 best.1 (eq-eqb best.0.synced m best.2) in
+        let there = in_filter (λ (d : Change). eqb d.synced m) (x ∷ xs) best.0 best.1 (eq-eqb best.0.synced m best.2) in
         let left = subst (λ (l : List Change). Contains l best.0) none there in
         let short = left.1 in
         absurd (omega (arith, short))
@@ -134,7 +134,8 @@ pub fast_count : (f : ℕ) (quorum : List ℕ) (changes : List Change) (P : List
     → threshold f ≤ count_beginning P (kept changes)
 fast_count f quorum changes P choice enough members size holds =
     let some = fast_members f quorum changes choice enough members size in
-    let among = pass_twice (λ (c : Change). is_in quorum c.sender) (λ (c : Change). begins_with (keys_of c.log) P) (λ (c : Change). eqb c.last (last_of changes)) changes
+    let from_quorum : Change → Bool = λ c. is_in quorum c.sender in
+    let among = pass_twice from_quorum (λ (c : Change). begins_with (keys_of c.log) P) (λ (c : Change). eqb c.last (last_of changes)) changes
     (λ c there h. let both = holds c there h in (eq-eqb c.last (last_of changes) both.0, begins P (keys_of c.log) both.1)) in
     omega (arith, some, among)
 

@@ -82,7 +82,8 @@ count_senders n test (c ∷ changes) h =
     let low : c.sender < n = h.below c.sender (rw own refl) in
     elim (cases_bool (test c.sender)) [
       | inl here ↦
-          let same = count_same n (both (is_in (senders (c ∷ changes))) test) (λ x. eqb c.sender x || later x) (λ x lt. pass_first test c.sender x (is_in (senders changes) x) here) in
+          let same = count_same n (both (is_in (senders (c ∷ changes))) test) (λ x. eqb c.sender x || later x)
+          (λ x lt. pass_first test c.sender x (is_in (senders changes) x) here) in
           let fresh : later c.sender ≡ false = rw h.distinct.0 refl in
           let more = count_add n c.sender later low fresh in
           rw here (omega (arith, same, more, rest))
