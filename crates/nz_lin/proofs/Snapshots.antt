@@ -28,10 +28,10 @@ use Rattle.nz_machine.specs.Replicas.{numbers_below}
 use Rattle.nz_machine.specs.Quorums.{Chosen, decision, answer_in, with_note}
 use Rattle.nz_machine.specs.Proxies.{standing_of, with_standing, timed_to, stamped, stamp_rule, answered, decided_as, noted_in, reply_rule, of_fast, of_slow, clock_rule}
 use Rattle.nz_machine.specs.Clients.{patience, last_tick, if_due, opened, open_next, asked_again, wait_on, ticked_at, wait_rule, is_awaited, accept_rule}
-use Rattle.nz_machine.specs.Step.{script_of, proxy_message, client_message, received, envelope_step, event_step}
+use Rattle.nz_machine.specs.Step.{script_of, replica_message, tick_rule, proxy_message, client_message, received, envelope_step, event_step}
 use Rattle.nz_machine.specs.World.{state_after, sent_in, Has, World}
 use Rattle.nz_machine.specs.History.{source}
-use Rattle.nz_machine.proofs.Runs.{FitsOut, SentBy, sent_by, sends_have, acts_itself, all_has, on_cond}
+use Rattle.nz_machine.proofs.Runs.{unless_down, FitsOut, SentBy, sent_by, sends_have, acts_itself, all_has, on_cond}
 use Rattle.nz_machine.proofs.Moments.{at_world}
 use Rattle.nz_machine.proofs.Sources.{has_source, source_is}
 use Rattle.nz_machine.proofs.FitClients.{if_due_is}
@@ -129,7 +129,7 @@ AllShow g a before t = AllByRecursion (λ (o : Out). Shows g a before t.0 o.0 o.
 
 envelope_shows : (g : Group) (a : Actor) (s : State a) (x : Option Envelope) → AllShow g a s (envelope_step g a s x)
 envelope_shows g a s None = tt
-envelope_shows g (Replica r) s (Some e) = message_shows g.f r s e.from e.message
+envelope_shows g (Replica r) s (Some e) = unless_down (AllShow g (Replica r) s) s (replica_message g.f r s e.from e.message) tt (message_shows g.f r s e.from e.message)
 envelope_shows g (Proxy p) s (Some e) = on_cond ProxyShown s.is_down (s, []) (proxy_message g.f s e.from e.message) (λ _. tt) (λ up. proxy_message_shows g.f s e.from e.message up)
 envelope_shows g (Client c) s (Some e) = client_message_shows g.proxies c (script_of g c) s e.from e.message
 
@@ -140,14 +140,17 @@ HasOwn g (Proxy p) s = Unit {0}
 HasOwn g (Client c) s = Unit {0}
 
 tick_shows_all : (g : Group) (a : Actor) (s : State a) (clock : ℕ) → HasOwn g a s → AllShow g a s (event_step g a s (Tick clock))
-tick_shows_all g (Replica r) s clock h = tick_shows g.f r s clock h
+tick_shows_all g (Replica r) s clock h = unless_down (AllShow g (Replica r) s) s (tick_rule g.f r s clock) tt (tick_shows g.f r s clock h)
 tick_shows_all g (Proxy p) s clock h = on_cond ProxyShown s.is_down (s, []) (clock_rule s clock, []) (λ _. tt) (λ _. tt)
 tick_shows_all g (Client c) s clock h = wait_shows g.proxies c (script_of g c) s
 
 event_shows : (g : Group) (a : Actor) (s : State a) (e : Event) → HasOwn g a s → AllShow g a s (event_step g a s e)
 event_shows g a s (Deliver p) h = envelope_shows g a s (received g.f a p)
 event_shows g a s (Tick clock) h = tick_shows_all g a s clock h
-event_shows g a s _ h = tt
+event_shows g a s (Cut p kept) h = tt
+event_shows g (Replica r) s _ h = tt
+event_shows g (Proxy p) s _ h = tt
+event_shows g (Client c) s _ h = tt
 
 own_facts : (g : Group) (J : List Record) (a : Actor) → World g J → HasOwn g a (state_after g a J)
 own_facts g J (Replica r) w = facts_stay g J r w

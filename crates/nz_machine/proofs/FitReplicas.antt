@@ -1,5 +1,5 @@
 -- A replica sends only messages that frames can carry.
-use Rattle.std.proofs.Common.{◌≡◌, ℕ, zero, suc, ◌-◌, ◌<◌, ◌≤◌, ◌&&◌, not, eqb, true, List, [], ◌∷◌, length, take, drop, map, Option, Some, None, refl, sym, ap, subst, arith, length-take, length-drop, take-append-drop}
+use Rattle.std.proofs.Common.{◌≡◌, ℕ, zero, suc, ◌-◌, ◌<◌, ◌≤◌, ◌&&◌, not, eqb, true, false, List, [], ◌∷◌, length, take, drop, map, Option, Some, None, refl, sym, ap, subst, arith, length-take, length-drop, take-append-drop}
 use Rattle.std.specs.Prelude.{IfSome, nat_lt, slice_index, slice_get}
 use Rattle.std.specs.List.{AllByRecursion, filter}
 use Rattle.std.specs.Map.{lookup}
@@ -24,9 +24,9 @@ use Rattle.nz_msg.specs.Messages.{timed}
 use Rattle.nz_msg.specs.Fields.{id, key, keys, entries, answer}
 use Rattle.nz_machine.specs.declared.data.Origin.{Origin}
 use Rattle.nz_machine.specs.State.{ReplicaData, Out}
-use Rattle.nz_machine.specs.Facts.{FitsEntry}
+use Rattle.nz_machine.specs.Facts.{FitsEntry, IsKnown, AreCounters, HasFacts}
 use Rattle.nz_machine.specs.Replicas.{most_entries, numbers_below, is_normal, leads, answer_at, fast_reply, slow_reply, fast_replies, slow_replies}
-use Rattle.nz_machine.specs.Requests.{with_origin, replies_at, requested, request_rule}
+use Rattle.nz_machine.specs.Requests.{origin_of, with_origin, replies_at, requested, request_rule}
 use Rattle.nz_machine.specs.Releases.{released, release_replies, may_release, releases, at_clock, release_rule}
 use Rattle.nz_machine.specs.LogMods.{most_keys, others, log_mod_to, told, sync_report_to, may_sync, found, if_found, synced_with, sync_keys, overtaken, committed_to, replies_since, missing_ids, fetch_from, taken_in, taken_from, log_mod_rule, is_asked, fetch_rule, is_held}
 use Rattle.nz_machine.specs.Vectors.{with_vector}
@@ -34,8 +34,10 @@ use Rattle.nz_machine.proofs.Runs.{FitsOut, on_cond}
 use Rattle.nz_machine.proofs.Each.{all_append, all_filter, all_imply}
 use Rattle.nz_machine.proofs.Apart.{own_rest}
 use Rattle.nz_machine.proofs.Pieces.{all_take, all_drop, all_map, all_flat_map, all_get, all_index, lookup_each, few_either, one_of_id}
-use Rattle.nz_machine.proofs.Entries.{EachEntry, Renames, released_each, after_each}
-use Rattle.nz_machine.proofs.Ranges.{IsOrigin, AreCounters, InRange, has_place_left, released_in_range, clock_in_range, origin_in_range, vector_in_range, after_in_range}
+use Rattle.nz_machine.proofs.Entries.{each_fits}
+use Rattle.nz_machine.proofs.Keeping.{has_place_left, clock_keeps, origin_keeps, vector_keeps, released_keeps}
+use Rattle.nz_machine.proofs.Syncing.{apart_held, keys_taken, taken_keeps}
+use Rattle.nz_machine.proofs.MoveRules.{hears_leader}
 use Rattle.nz_machine.proofs.Fields.{view_fits, ids_fit, vector_fits, AreInOrder, keys_fit, entries_fit}
 
 -- a cluster that frames can name, and one of its replicas
@@ -43,11 +45,6 @@ pub record IsReplica (f me : ℕ) : Type 0 where
   pub least : 1 ≤ f
   pub most : f ≤ 4
   pub member : me < replica_count f
-
--- what a replica holds fits into frames
-pub record Fitting (f : ℕ) (s : ReplicaData) : Type 0 where
-  pub range : InRange f s
-  pub entries : EachEntry FitsEntry s
 
 abbrev pub AllFit : Actor → List Out → Type 0
 AllFit a os = AllByRecursion (FitsOut a) os
@@ -57,71 +54,68 @@ replica_address f me c = let most = c.most in let member = c.member in omega (ar
 
 -- ---- replies
 
-fast_fits : (f me : ℕ) (s : ReplicaData) (i : Id) (place : ℕ) (origin : Origin) → IsReplica f me → Fitting f s → id.fits i → IsOrigin (i, origin) → FitsOut (Replica me) (fast_reply f me s i place origin)
+fast_fits : (f me : ℕ) (s : ReplicaData) (i : Id) (place : ℕ) (origin : Origin) → IsReplica f me → HasFacts f me s → id.fits i → IsKnown (i, origin) → FitsOut (Replica me) (fast_reply f me s i place origin)
 fast_fits f me s i place origin c h fits from =
     let delay = from.delay in
-    let answers : IfSome (answer_at f me s place) answer.fits = on_cond (λ o. IfSome o answer.fits) (leads f me s) (slice_get s.results place) None (λ _. all_get answer.fits s.results place h.range.answers) (λ _. tt) in
+    let answers : IfSome (answer_at f me s place) answer.fits = on_cond (λ o. IfSome o answer.fits) (leads f me s) (slice_get s.results place) None (λ _. all_get answer.fits s.results place h.executed.answers) (λ _. tt) in
     record {
       sender = replica_address f me c;
       receiver = from.proxy;
-      message = (view_fits s.view h.range.view, (fits, (length-digest (map entry_key (take (suc place) s.log.entries)), (vector_fits f s.vector c.least c.most h.range.vector, (omega (arith, delay), answers)))));
+      message = (view_fits s.view h.bounds.view, (fits, (length-digest (map entry_key (take (suc place) s.log.entries)), (vector_fits f s.vector c.least c.most h.tables.vector, (omega (arith, delay), answers)))));
     }
 
-slow_fits : (f me : ℕ) (s : ReplicaData) (i : Id) (origin : Origin) → IsReplica f me → Fitting f s → id.fits i → IsOrigin (i, origin) → FitsOut (Replica me) (slow_reply s i origin)
+slow_fits : (f me : ℕ) (s : ReplicaData) (i : Id) (origin : Origin) → IsReplica f me → HasFacts f me s → id.fits i → IsKnown (i, origin) → FitsOut (Replica me) (slow_reply s i origin)
 slow_fits f me s i origin c h fits from =
     let delay = from.delay in
-    record { sender = replica_address f me c; receiver = from.proxy; message = (view_fits s.view h.range.view, (fits, omega (arith, delay))) }
+    record { sender = replica_address f me c; receiver = from.proxy; message = (view_fits s.view h.bounds.view, (fits, omega (arith, delay))) }
 
-fast_all : (f me : ℕ) (s : ReplicaData) (i : Id) (place : ℕ) (o : Option Origin) → IsReplica f me → Fitting f s → id.fits i → IfSome o (λ v. IsOrigin (i, v)) → AllFit (Replica me) (fast_replies f me s i place o)
+fast_all : (f me : ℕ) (s : ReplicaData) (i : Id) (place : ℕ) (o : Option Origin) → IsReplica f me → HasFacts f me s → id.fits i → IfSome o (λ v. IsKnown (i, v)) → AllFit (Replica me) (fast_replies f me s i place o)
 fast_all f me s i place None c h fits from = tt
 fast_all f me s i place (Some origin) c h fits from = (fast_fits f me s i place origin c h fits from, tt)
 
-slow_all : (f me : ℕ) (s : ReplicaData) (i : Id) (o : Option Origin) → IsReplica f me → Fitting f s → id.fits i → IfSome o (λ v. IsOrigin (i, v)) → AllFit (Replica me) (slow_replies s i o)
+slow_all : (f me : ℕ) (s : ReplicaData) (i : Id) (o : Option Origin) → IsReplica f me → HasFacts f me s → id.fits i → IfSome o (λ v. IsKnown (i, v)) → AllFit (Replica me) (slow_replies s i o)
 slow_all f me s i None c h fits from = tt
 slow_all f me s i (Some origin) c h fits from = (slow_fits f me s i origin c h fits from, tt)
 
-origin_at : (f : ℕ) (s : ReplicaData) (i : Id) → Fitting f s → IfSome (lookup (id_eq i) s.origin) (λ v. IsOrigin (i, v))
-origin_at f s i h = lookup_each IsOrigin s.origin i h.range.origins
+origin_at : (f me : ℕ) (s : ReplicaData) (i : Id) → HasFacts f me s → IfSome (lookup (id_eq i) s.origin) (λ v. IsKnown (i, v))
+origin_at f me s i h = lookup_each IsKnown s.origin i h.tables.origins
 
 -- ---- requests
 
-replies_fit : (f me : ℕ) (s : ReplicaData) (i : Id) (place : ℕ) → IsReplica f me → Fitting f s → id.fits i → AllFit (Replica me) (replies_at f me s i place)
+replies_fit : (f me : ℕ) (s : ReplicaData) (i : Id) (place : ℕ) → IsReplica f me → HasFacts f me s → id.fits i → AllFit (Replica me) (replies_at f me s i place)
 replies_fit f me s i place c h fits =
     on_cond (AllFit (Replica me)) (not (leads f me s) && nat_lt place s.log.synced) (slow_replies s i (lookup (id_eq i) s.origin)) (fast_replies f me s i place (lookup (id_eq i) s.origin))
-    (λ _. slow_all f me s i (lookup (id_eq i) s.origin) c h fits (origin_at f s i h)) (λ _. fast_all f me s i place (lookup (id_eq i) s.origin) c h fits (origin_at f s i h))
+    (λ _. slow_all f me s i (lookup (id_eq i) s.origin) c h fits (origin_at f me s i h)) (λ _. fast_all f me s i place (lookup (id_eq i) s.origin) c h fits (origin_at f me s i h))
 
-requested_fit : (f me : ℕ) (s : ReplicaData) (b : TimedBody) (o : Option ℕ) → IsReplica f me → Fitting f s → id.fits b.id → AllFit (Replica me) (requested f me s b o).1
+requested_fit : (f me : ℕ) (s : ReplicaData) (b : TimedBody) (o : Option ℕ) → IsReplica f me → HasFacts f me s → id.fits b.id → AllFit (Replica me) (requested f me s b o).1
 requested_fit f me s b (Some place) c h fits = replies_fit f me s b.id place c h fits
 requested_fit f me s b None c h fits = tt
 
-pub request_fits : (f me : ℕ) (s : ReplicaData) (proxy : ℕ) (b : TimedBody) → IsReplica f me → proxy ≤ 7 → timed.fits b → Fitting f s → AllFit (Replica me) (request_rule f me s proxy b).1
+pub request_fits : (f me : ℕ) (s : ReplicaData) (proxy : ℕ) (b : TimedBody) → IsReplica f me → proxy ≤ 7 → timed.fits b → HasFacts f me s → AllFit (Replica me) (request_rule f me s proxy b).1
 unfolding request_rule
 request_fits f me s proxy b c known fits h =
-    let now : Fitting f (with_origin s proxy b) = record { range = origin_in_range f s proxy b known h.range; entries = record { log = h.entries.log; early = h.entries.early; late = h.entries.late } } in
+    let now : HasFacts f me (with_origin s proxy b) = origin_keeps f me s b.id (origin_of s proxy b) h (record { proxy = known; delay = omega arith }) in
     on_cond (λ (t : ReplicaData × List Out). AllFit (Replica me) t.1) (is_normal s.status) (requested f me (with_origin s proxy b) b (place_of s.log.entries b.id)) (s, [])
     (λ _. requested_fit f me (with_origin s proxy b) b (place_of s.log.entries b.id) c now fits.1.1.0) (λ _. tt)
 
 -- ---- releases
 
-released_fitting : (f me : ℕ) (s : ReplicaData) (e : Entry) (es : List Entry) → length s.log.entries < most_entries → Fitting f s → AllByRecursion FitsEntry (e ∷ es) → Fitting f (released f me s e es)
-released_fitting f me s e es room h all = record { range = released_in_range f me s e es room h.range; entries = released_each FitsEntry f me s e es h.entries all }
-
-releases_fit : (f me : ℕ) (s : ReplicaData) (es : List Entry) → IsReplica f me → Fitting f s → AllByRecursion FitsEntry es → AllFit (Replica me) (releases f me s es).1
+releases_fit : (f me : ℕ) (s : ReplicaData) (es : List Entry) → IsReplica f me → HasFacts f me s → s.early ≡ es → AllFit (Replica me) (releases f me s es).1
 unfolding releases
-releases_fit f me s [] c h all = tt
-releases_fit f me s (e ∷ es) c h all =
+releases_fit f me s [] c h is = tt
+releases_fit f me s (e ∷ es) c h is =
     let next = released f me s e es in
     on_cond (λ (t : ReplicaData × List Out). AllFit (Replica me) t.1) (may_release s e) _ (s, [])
     (λ may.
-    let now = released_fitting f me s e es (has_place_left s e may) h all in
-    all_append (FitsOut (Replica me)) (release_replies f me next e) (releases f me next es).1 (fast_all f me next (id_of e.key) _ (lookup (id_eq (id_of e.key)) next.origin) c now all.0.key.1 (origin_at f next (id_of e.key) now)) (releases_fit f me next es c now all.1))
+    let now = released_keeps f me s e es h is (has_place_left s e may) in
+    let first : FitsEntry e = (subst (λ (xs : List Entry). AllByRecursion FitsEntry xs) is (each_fits f me s h).early).0 in
+    all_append (FitsOut (Replica me)) (release_replies f me next e) (releases f me next es).1 (fast_all f me next (id_of e.key) _ (lookup (id_eq (id_of e.key)) next.origin) c now first.key.1 (origin_at f me next (id_of e.key) now)) (releases_fit f me next es c now refl))
     (λ _. tt)
 
-pub release_fits : (f me : ℕ) (s : ReplicaData) (clock : ℕ) → IsReplica f me → Fitting f s → AllFit (Replica me) (release_rule f me s clock).1
+pub release_fits : (f me : ℕ) (s : ReplicaData) (clock : ℕ) → IsReplica f me → HasFacts f me s → AllFit (Replica me) (release_rule f me s clock).1
 unfolding release_rule
 release_fits f me s clock c h =
-    let now : Fitting f (at_clock s clock) = record { range = clock_in_range f s clock h.range; entries = record { log = h.entries.log; early = h.entries.early; late = h.entries.late } } in
-    on_cond (λ (t : ReplicaData × List Out). AllFit (Replica me) t.1) (is_normal s.status) (releases f me (at_clock s clock) s.early) (at_clock s clock, []) (λ _. releases_fit f me (at_clock s clock) s.early c now h.entries.early) (λ _. tt)
+    on_cond (λ (t : ReplicaData × List Out). AllFit (Replica me) t.1) (is_normal s.status) (releases f me (at_clock s clock) s.early) (at_clock s clock, []) (λ _. releases_fit f me (at_clock s clock) s.early c (clock_keeps f me s clock h) refl) (λ _. tt)
 
 -- ---- what the leader tells
 
@@ -149,24 +143,26 @@ told_keys_fit s start led all =
     let few : length (take most_keys (drop start ks)) ≤ 64 = let long = length-take most_keys (drop start ks) in omega (arith, long) in
     keys_fit (take most_keys (drop start ks)) few (order_take most_keys (drop start ks) (order_drop start ks led.order)) (all_take key.fits most_keys (drop start ks) (all_drop key.fits start ks (keys_each s.log.entries all)))
 
-log_mod_fits : (f me : ℕ) (s : ReplicaData) (r : ℕ) → IsReplica f me → Fitting f s → IsLedLog s → r < replica_count f → FitsOut (Replica me) (log_mod_to s r)
+log_mod_fits : (f me : ℕ) (s : ReplicaData) (r : ℕ) → IsReplica f me → HasFacts f me s → IsLedLog s → r < replica_count f → FitsOut (Replica me) (log_mod_to s r)
 log_mod_fits f me s r c h led other =
     let most = c.most in
     let start = slice_index s.ack r in
-    let acked : start ≤ most_entries = all_index (λ n. n ≤ most_entries) s.ack r 0 h.range.acks (omega arith) in
-    let so_far = h.range.commit in
+    let acked : start ≤ most_entries = all_index (λ n. n ≤ most_entries) s.ack r 0 h.tables.few (omega arith) in
+    let so_far = h.commit in
+    let within = h.entries.within in
+    let few = h.entries.few in
     record {
       sender = replica_address f me c;
       receiver = omega (arith, other, most);
       message = (
-        view_fits s.view h.range.view,
+        view_fits s.view h.bounds.view,
         (
-          vector_fits f s.vector c.least c.most h.range.vector,
+          vector_fits f s.vector c.least c.most h.tables.vector,
           (
-            omega (arith, so_far),
+            omega (arith, so_far, within, few),
             (
               omega (arith, acked),
-              told_keys_fit s start led h.entries.log,
+              told_keys_fit s start led (each_fits f me s h).log,
             ),
           ),
         ),
@@ -177,7 +173,7 @@ pub numbers_are_below : (n most : ℕ) → n ≤ most → AllByRecursion (λ r. 
 numbers_are_below zero most le = tt
 numbers_are_below (suc n) most le = all_append (λ r. r < most) (numbers_below n) (n ∷ []) (numbers_are_below n most (omega (arith, le))) (omega (arith, le), tt)
 
-pub told_fits : (f me : ℕ) (s : ReplicaData) → IsReplica f me → Fitting f s → (leads f me s ≡ true → IsLedLog s) → AllFit (Replica me) (told f me s)
+pub told_fits : (f me : ℕ) (s : ReplicaData) → IsReplica f me → HasFacts f me s → (leads f me s ≡ true → IsLedLog s) → AllFit (Replica me) (told f me s)
 told_fits f me s c h led =
     on_cond (AllFit (Replica me)) (is_normal s.status && leads f me s) (map (log_mod_to s) (others f me)) []
     (λ t. all_map (FitsOut (Replica me)) (log_mod_to s) (others f me)
@@ -187,30 +183,30 @@ told_fits f me s c h led =
 
 -- ---- log modifications
 
-report_fits : (f me leader : ℕ) (s : ReplicaData) → IsReplica f me → Fitting f s → leader < replica_count f → FitsOut (Replica me) (sync_report_to leader s)
+report_fits : (f me leader : ℕ) (s : ReplicaData) → IsReplica f me → HasFacts f me s → leader < replica_count f → FitsOut (Replica me) (sync_report_to leader s)
 report_fits f me leader s c h below =
     let most = c.most in
-    let synced = h.range.synced in
-    let few = h.range.few in
-    record { sender = replica_address f me c; receiver = omega (arith, below, most); message = (view_fits s.view h.range.view, omega (arith, synced, few)) }
+    let synced = h.entries.within in
+    let few = h.entries.few in
+    record { sender = replica_address f me c; receiver = omega (arith, below, most); message = (view_fits s.view h.bounds.view, omega (arith, synced, few)) }
 
-since_fits : (f me : ℕ) (s : ReplicaData) (count : ℕ) → IsReplica f me → Fitting f s → AllFit (Replica me) (replies_since s count)
+since_fits : (f me : ℕ) (s : ReplicaData) (count : ℕ) → IsReplica f me → HasFacts f me s → AllFit (Replica me) (replies_since s count)
 since_fits f me s count c h =
     let es = drop count (synced_part s.log) in
     all_flat_map (FitsOut (Replica me)) (λ (e : Entry). slow_replies s (id_of e.key) (lookup (id_eq (id_of e.key)) s.origin)) es
-    (all_imply FitsEntry (λ (e : Entry). AllFit (Replica me) (slow_replies s (id_of e.key) (lookup (id_eq (id_of e.key)) s.origin))) (λ e fits. slow_all f me s (id_of e.key) (lookup (id_eq (id_of e.key)) s.origin) c h fits.key.1 (origin_at f s (id_of e.key) h)) es
-    (all_drop FitsEntry count (synced_part s.log) (all_take FitsEntry s.log.synced s.log.entries h.entries.log)))
+    (all_imply FitsEntry (λ (e : Entry). AllFit (Replica me) (slow_replies s (id_of e.key) (lookup (id_eq (id_of e.key)) s.origin))) (λ e fits. slow_all f me s (id_of e.key) (lookup (id_eq (id_of e.key)) s.origin) c h fits.key.1 (origin_at f me s (id_of e.key) h)) es
+    (all_drop FitsEntry count (synced_part s.log) (all_take FitsEntry s.log.synced s.log.entries (each_fits f me s h).log)))
 
 -- ids that are asked for, not too many
 pub record AreFew (xs : List Id) : Type 0 where
   pub few : length xs ≤ 64
   pub all : AllByRecursion id.fits xs
 
-fetch_fits : (f me leader : ℕ) (s : ReplicaData) (xs : List Id) → IsReplica f me → Fitting f s → leader < replica_count f → AreFew xs → AllFit (Replica me) (fetch_from leader s xs)
+fetch_fits : (f me leader : ℕ) (s : ReplicaData) (xs : List Id) → IsReplica f me → HasFacts f me s → leader < replica_count f → AreFew xs → AllFit (Replica me) (fetch_from leader s xs)
 fetch_fits f me leader s [] c h below few = tt
 fetch_fits f me leader s (x ∷ xs) c h below few =
     let most = c.most in
-    (record { sender = replica_address f me c; receiver = omega (arith, below, most); message = (view_fits s.view h.range.view, ids_fit (x ∷ xs) (omega arith) few.few few.all) }, tt)
+    (record { sender = replica_address f me c; receiver = omega (arith, below, most); message = (view_fits s.view h.bounds.view, ids_fit (x ∷ xs) (omega arith) few.few few.all) }, tt)
 
 -- keys that are left of those of a message
 pub record AreLeft (keys : List Key) (most : ℕ) : Type 0 where
@@ -249,12 +245,8 @@ missing_few s keys h =
 pub wanted_few : (s after : ReplicaData) (keys : List Key) → AreLeft keys 64 → AreFew (missing_ids after (sync_keys s keys).1)
 wanted_few s after keys h = missing_few after (sync_keys s keys).1 (sync_left s keys 64 h)
 
--- a key of a message may be given to an entry of its id
-pub fit_names : (keys : List Key) → AllByRecursion key.fits keys → AllByRecursion (Renames FitsEntry) keys
-fit_names keys all = all_imply key.fits (Renames FitsEntry) (λ k fits. record { to = λ e own same. record { key = fits; command = own.command } }) keys all
-
-taken_fits : (f me leader : ℕ) (b : LogModBody) (s : ReplicaData) → IsReplica f me → Fitting f s → leader < replica_count f → AreLeft b.keys 64 → AllFit (Replica me) (taken_from leader b s).1
-taken_fits f me leader b s c h below left =
+taken_fits : (f me leader : ℕ) (b : LogModBody) (s : ReplicaData) → IsReplica f me → HasFacts f me s → leads f me s ≡ false → leader < replica_count f → AreLeft b.keys 64 → AllFit (Replica me) (taken_from leader b s).1
+taken_fits f me leader b s c h follows below left =
     let keys = drop (s.log.synced - b.start) b.keys in
     let fewer = length-drop (s.log.synced - b.start) b.keys in
     let few = left.few in
@@ -264,18 +256,18 @@ taken_fits f me leader b s c h below left =
     on_cond (λ (t : ReplicaData × List Out). AllFit (Replica me) t.1) (nat_lt s.log.synced b.start) (s, sync_report_to leader s ∷ []) (taken_in s leader b.commit t)
     (λ _. (report_fits f me leader s c h below, tt))
     (λ _.
-    let all : Fitting f after = record { range = after_in_range f b s h.range; entries = after_each FitsEntry b s (fit_names b.keys left.all) h.entries } in
+    let all : HasFacts f me after = taken_keeps f me s t.0 b.commit h follows (keys_taken s keys (apart_held s.log s.early s.late h.entries) now.all) in
     all_append (FitsOut (Replica me)) (replies_since after s.log.synced) _ (since_fits f me after s.log.synced c all)
     (all_append (FitsOut (Replica me)) (fetch_from leader after (missing_ids after t.1)) (sync_report_to leader after ∷ []) (fetch_fits f me leader after (missing_ids after t.1) c all below (wanted_few s after keys now))
     (report_fits f me leader after c all below, tt)))
 
-pub log_mod_all : (f me : ℕ) (s : ReplicaData) (sender : ℕ) (b : LogModBody) → IsReplica f me → Fitting f s → sender < replica_count f → AreCounters f b.vector → AreLeft b.keys 64 → AllFit (Replica me) (log_mod_rule f me s sender b).1
+pub log_mod_all : (f me : ℕ) (s : ReplicaData) (sender : ℕ) (b : LogModBody) → IsReplica f me → HasFacts f me s → sender < replica_count f → AreCounters f b.vector → AreLeft b.keys 64 → AllFit (Replica me) (log_mod_rule f me s sender b).1
 unfolding log_mod_rule
 log_mod_all f me s sender b c h below counters left =
-    let merged : Fitting f (with_vector me s b.vector) = record { range = vector_in_range f me s b.vector counters h.range; entries = record { log = h.entries.log; early = h.entries.early; late = h.entries.late } } in
+    let merged : HasFacts f me (with_vector me s b.vector) = vector_keeps f me s b.vector h counters in
     on_cond (λ (t : ReplicaData × List Out). AllFit (Replica me) t.1) (is_normal s.status && (eqb b.view s.view && (eqb sender (leader_of f b.view) && not (leads f me s)))) _ (s, [])
-    (λ _. on_cond (λ (t : ReplicaData × List Out). AllFit (Replica me) t.1) (is_stray b.vector sender s.vector) (s, []) (taken_from sender b (with_vector me s b.vector)) (λ _. tt)
-    (λ _. taken_fits f me sender b (with_vector me s b.vector) c merged below left))
+    (λ ours. on_cond (λ (t : ReplicaData × List Out). AllFit (Replica me) t.1) (is_stray b.vector sender s.vector) (s, []) (taken_from sender b (with_vector me s b.vector)) (λ _. tt)
+    (λ _. taken_fits f me sender b (with_vector me s b.vector) c merged (hears_leader f me s sender b.view ours).follows below left))
     (λ _. tt)
 
 -- ---- fetches
@@ -300,12 +292,12 @@ asked_fit s xs log all few =
     entries_fit (filter test s.log.entries) (omega (arith, asked, few)) (record { rising = rising_filter test s.log.entries log.order.rising; own_ids = own_filter test s.log.entries log.order.own_ids })
     (all_filter FitsEntry test s.log.entries all)
 
-pub fetch_all : (f me : ℕ) (s : ReplicaData) (sender : ℕ) (b : FetchBody) → IsReplica f me → Fitting f s → (leads f me s ≡ true → IsLedLog s) → sender < replica_count f → length b.ids ≤ 64 → AllFit (Replica me) (fetch_rule f me s sender b).1
+pub fetch_all : (f me : ℕ) (s : ReplicaData) (sender : ℕ) (b : FetchBody) → IsReplica f me → HasFacts f me s → (leads f me s ≡ true → IsLedLog s) → sender < replica_count f → length b.ids ≤ 64 → AllFit (Replica me) (fetch_rule f me s sender b).1
 unfolding fetch_rule
 fetch_all f me s sender b c h led below few =
     let most = c.most in
     on_cond (λ (t : ReplicaData × List Out). AllFit (Replica me) t.1) (is_normal s.status && (eqb b.view s.view && leads f me s)) _ (s, [])
     (λ passed.
     let log = led (and_right (eqb b.view s.view) (leads f me s) (and_right (is_normal s.status) _ passed)) in
-    (record { sender = replica_address f me c; receiver = omega (arith, below, most); message = (view_fits s.view h.range.view, asked_fit s b.ids log h.entries.log few) }, tt))
+    (record { sender = replica_address f me c; receiver = omega (arith, below, most); message = (view_fits s.view h.bounds.view, asked_fit s b.ids log (each_fits f me s h).log few) }, tt))
     (λ _. tt)

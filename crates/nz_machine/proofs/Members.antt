@@ -40,9 +40,9 @@ use Rattle.nz_machine.specs.LogMods.{others, log_mod_to, told, sync_report_to, m
 use Rattle.nz_machine.specs.Quorums.{Chosen, decision, with_note}
 use Rattle.nz_machine.specs.Proxies.{with_standing, standing_of, timed_to, timed_to_all, stamped, stamp_rule, answered, decided_as, noted_in, reply_rule, first_proxy, clock_rule, of_fast, of_slow}
 use Rattle.nz_machine.specs.Clients.{if_due, opened, open_next, asked_again, ticked_at, wait_rule, is_awaited, accept_rule, patience, last_tick}
-use Rattle.nz_machine.specs.Step.{first, script_of, is_sized, vector_of, replica_message, proxy_message, client_message, message_step, tick_rule, tick_step, crash_step, restart_step}
+use Rattle.nz_machine.specs.Step.{first, script_of, is_sized, vector_of, replica_message, proxy_message, client_message, message_step, tick_rule, tick_step, alarm_step, crash_step, restart_step}
 use Rattle.nz_machine.specs.World.{sent_in, Has, IsGroup, IsMember, World}
-use Rattle.nz_machine.proofs.Runs.{Hears, sent_from, KeepsMore, keeps_both, holds, group_of, on_cond}
+use Rattle.nz_machine.proofs.Runs.{Hears, sent_from, KeepsMore, keeps_both, holds, group_of, on_cond, unless_down}
 use Rattle.nz_machine.proofs.Each.{all_append, all_filter, all_imply}
 use Rattle.nz_machine.proofs.Pieces.{all_map, all_flat_map, lookup_each, insert_each}
 use Rattle.nz_machine.proofs.FitReplicas.{numbers_are_below}
@@ -318,28 +318,37 @@ record KnowsStep (g : Group) (a : Actor) (t : State a × List Out) : Type 0 wher
   sends : AreFor g t.1
 
 takes : (g : Group) (a : Actor) (s : State a) (from : Actor) (m : Message) → IsGroup g → Hears g.f a from m → IsMember g from → Knows g a s → KnowsStep g a (message_step g a s from m)
-takes g (Replica r) s from m group hears member h = let t = replica_takes g r s from m hears member h in record { state = t.state; sends = t.sends }
+takes g (Replica r) s from m group hears member h =
+    let t = unless_down (ReplicaStep g) s (replica_message g.f r s from m) (nothing g s h) (replica_takes g r s from m hears member h) in
+    record { state = t.state; sends = t.sends }
 takes g (Proxy p) s from m group hears member h =
     let t = up_or_down g s s.is_down (proxy_message g.f s from m) h (proxy_takes g s from m member h) in
     record { state = t.state; sends = t.sends }
 takes g (Client c) s from m group hears member h = record { state = tt; sends = client_takes g c (script_of g c) s from m group.least_proxies }
 
 ticks : (g : Group) (a : Actor) (s : State a) (clock : ℕ) → IsGroup g → Knows g a s → KnowsStep g a (tick_step g a s clock)
-ticks g (Replica r) s clock group h = let t = replica_tick g r s clock h in record { state = t.state; sends = t.sends }
+ticks g (Replica r) s clock group h =
+    let t = unless_down (ReplicaStep g) s (tick_rule g.f r s clock) (nothing g s h) (replica_tick g r s clock h) in
+    record { state = t.state; sends = t.sends }
 ticks g (Proxy p) s clock group h =
     let t = up_or_down g s s.is_down (clock_rule s clock, []) h (clocked g s clock h) in
     record { state = t.state; sends = t.sends }
 ticks g (Client c) s clock group h = record { state = tt; sends = wait_for g c (script_of g c) s group.least_proxies }
 
-crashes : (g : Group) (a : Actor) (s : State a) → Knows g a s → Knows g a (crash_step g a s)
-crashes g (Replica r) s h = h
-crashes g (Proxy p) s h = record { standings = tt }
-crashes g (Client c) s h = tt
+alarms : (g : Group) (a : Actor) (s : State a) → Knows g a s → KnowsStep g a (alarm_step g a s)
+alarms g (Replica r) s h = record { state = h; sends = tt }
+alarms g (Proxy p) s h = record { state = h; sends = tt }
+alarms g (Client c) s h = record { state = h; sends = tt }
 
-restarts : (g : Group) (a : Actor) (s : State a) (nonce : ℕ) → Knows g a s → Knows g a (restart_step g a s nonce)
-restarts g (Replica r) s nonce h = h
-restarts g (Proxy p) s nonce h = on_cond (KnowsClients g) s.is_down (first_proxy g.f) s (λ _. record { standings = tt }) (λ _. h)
-restarts g (Client c) s nonce h = tt
+crashes : (g : Group) (a : Actor) (s : State a) → Knows g a s → KnowsStep g a (crash_step g a s)
+crashes g (Replica r) s h = record { state = h; sends = tt }
+crashes g (Proxy p) s h = record { state = record { standings = tt }; sends = tt }
+crashes g (Client c) s h = record { state = h; sends = tt }
+
+restarts : (g : Group) (a : Actor) (s : State a) (nonce : ℕ) → Knows g a s → KnowsStep g a (restart_step g a s nonce)
+restarts g (Replica r) s nonce h = record { state = h; sends = tt }
+restarts g (Proxy p) s nonce h = record { state = on_cond (KnowsClients g) s.is_down (first_proxy g.f) s (λ _. record { standings = tt }) (λ _. h); sends = tt }
+restarts g (Client c) s nonce h = record { state = h; sends = tt }
 
 starts : (g : Group) (a : Actor) → Knows g a (first g a)
 starts g (Replica r) = record { origins = tt }
@@ -365,8 +374,9 @@ members_keep g = record {
   state_stays = λ J r w a s q. q;
   message = λ J r w from m hears p f q h now. let t = takes g r.actor _ from m (group_of g J w.1) hears f.0 h in (t.state, all_among g (r ∷ J) r.actor _ w.0.member t.sends);
   tick = λ J r w c le q h now. let t = ticks g r.actor _ c (group_of g J w.1) h in (t.state, all_among g (r ∷ J) r.actor _ w.0.member t.sends);
-  crash = λ J r w h. crashes g r.actor _ h;
-  restart = λ J r w nonce h. restarts g r.actor _ nonce h;
+  alarm = λ J r w q h now. let t = alarms g r.actor _ h in (t.state, all_among g (r ∷ J) r.actor _ w.0.member t.sends);
+  crash = λ J r w q h now. let t = crashes g r.actor _ h in (t.state, all_among g (r ∷ J) r.actor _ w.0.member t.sends);
+  restart = λ J r w nonce q h now. let t = restarts g r.actor _ nonce h in (t.state, all_among g (r ∷ J) r.actor _ w.0.member t.sends);
 }
 
 -- whoever gets a parcel takes part
