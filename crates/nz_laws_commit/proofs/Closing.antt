@@ -1,6 +1,6 @@
 -- From what holds of each record to pairs of moments: the leader's log of a view grows, nothing falls within an
 -- incarnation, and a prefix that is comparable with the leader's log stays.
-use Rattle.std.proofs.Common.{◌≡◌, ℕ, zero, suc, ◌≤◌, Bool, true, false, ◌&&◌, cond, eqb, List, [], ◌∷◌, take, Option, Some, None, refl, sym, ap, subst, ◌∙◌, arith, inl, inr, ◌⊎◌}
+use Rattle.std.proofs.Common.{◌≡◌, ℕ, suc, ◌≤◌, Bool, true, false, ◌&&◌, cond, eqb, List, [], ◌∷◌, take, Option, Some, None, refl, sym, ap, subst, ◌∙◌, arith, inl, inr, ◌⊎◌}
 use Rattle.std.proofs.lemmas.Bool.{eq-eqb, eqb-true}
 use Rattle.std.proofs.lemmas.List.{take-take}
 use Rattle.std.proofs.lemmas.Option.{none-some, same_Some}
@@ -11,8 +11,8 @@ use Rattle.nz_base.specs.Cluster.{leader_of}
 use Rattle.nz_base.specs.Moments.{At}
 use Rattle.nz_base.specs.Prefixes.{IsPrefix, Comparable}
 use Rattle.nz_base.proofs.Booleans.{cases_bool, and_left, and_right, and_both}
-use Rattle.nz_base.proofs.Moments.{at_self, at_then, at_tail}
-use Rattle.nz_base.proofs.Prefixes.{prefix_self, prefix_same, prefix_none, prefix_then, both_prefixes, comparable_prefix}
+use Rattle.nz_base.proofs.Moments.{at_tail}
+use Rattle.nz_base.proofs.Prefixes.{prefix_self, prefix_same, prefix_none, prefix_then, comparable_prefix}
 use Rattle.nz_laws_commit.specs.States.{Status, Normal, ViewChange, Rejoining, Down, IsUp, LogState, Machine, place}
 use Rattle.nz_laws_commit.specs.Supports.{IsNormal, IsUpIn, keys_at}
 use Rattle.nz_laws_commit.specs.Machines.{is_normal, is_down, GroupStates, leads_by, inc_of, lead_of, start_of, machine_of}
@@ -165,7 +165,8 @@ module _ {R : Type 0} (g : GroupStates R) where
             → option_or o (cond b (Some (led_keys v (r ∷ K))) None) ≡ Some S
             → (start_of g v K ≡ Some S → IsPrefix S (lead_of g v K)) → IsPrefix (lead_of g v K) (cond (leads_by g v r K) (led_keys v (r ∷ K)) (lead_of g v K))
             → IsPrefix S (cond (leads_by g v r K) (led_keys v (r ∷ K)) (lead_of g v K))
-        go (Some T) is b test same rest one = prefix_then S (lead_of g v K) (cond (leads_by g v r K) (led_keys v (r ∷ K)) (lead_of g v K)) (rest (is ∙ same)) one
+        go (Some T) is b test same rest one =
+            prefix_then S (lead_of g v K) (cond (leads_by g v r K) (led_keys v (r ∷ K)) (lead_of g v K)) (rest (is ∙ same)) one
         go None is true test same rest one = rw test (prefix_same S (led_keys v (r ∷ K)) (same_Some (led_keys v (r ∷ K)) S same))
         go None is false test same rest one = absurd (none-some S same)
 

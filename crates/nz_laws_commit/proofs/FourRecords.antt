@@ -2,7 +2,7 @@
 use Rattle.std.proofs.Common.{◌≡◌, ℕ, zero, suc, ◌<◌, ◌≤◌, Bool, true, false, ◌&&◌, cond, eqb, List, [], ◌∷◌, length, Option, Some, None, refl, sym, ap, subst, ◌∙◌, arith, inl, inr, ◌⊎◌}
 use Rattle.std.specs.List.{All}
 use Rattle.std.specs.Option.{option_or}
-use Rattle.std.proofs.lemmas.Bool.{cases_eq, ne_eqb}
+use Rattle.std.proofs.lemmas.Bool.{ne_eqb}
 use Rattle.std.proofs.lemmas.List.Elements.{All-from_recursion}
 use Rattle.std.proofs.lemmas.Option.{none-some, same_Some}
 use Rattle.nz_base.specs.declared.key.Key.{Key}
@@ -11,7 +11,7 @@ use Rattle.nz_base.specs.Cluster.{leader_of}
 use Rattle.nz_base.specs.Moments.{At}
 use Rattle.nz_base.specs.Prefixes.{IsPrefix}
 use Rattle.nz_base.proofs.Prefixes.{prefix_self, prefix_none, prefix_then}
-use Rattle.nz_math.specs.Count.{is_in}
+use Rattle.nz_math.proofs.Twos.{of_two, two_choice}
 use Rattle.nz_merge.specs.declared.change.Change.{Change}
 use Rattle.nz_merge.specs.Merged.{merged, later}
 use Rattle.nz_laws_commit.specs.States.{Normal, ViewChange, LogState, place}
@@ -117,7 +117,7 @@ does_second (suc zero) h = Synced (record {
   leader = record { status = refl; view = refl };
   synced = omega arith;
   entries = refl;
-  modified = λ lead front told. record { part = told; prefixes = λ P p either. prefix_then P [] (key ∷ []) p (prefix_none (key ∷ [])) };
+  modified = λ lead prefix told. record { part = told; prefixes = λ P p either. prefix_then P [] (key ∷ []) p (prefix_none (key ∷ [])) };
 })
 does_second (suc (suc y)) h = absurd cc
 
@@ -196,21 +196,6 @@ no_start v (r ∷ K) high =
     ap (λ (o : Option (List Key)). option_or o (cond (leads_by group v r K) (Some log) None)) (no_start v K high)
     ∙ ap (λ (b : Bool). cond b (Some log) None) test
 
--- the items of a list of two
-of_two : (a b x : ℕ) → is_in (a ∷ b ∷ []) x ≡ true → (a ≡ x) ⊎ (b ≡ x)
-of_two a b x h =
-    elim (cases_eq a x) [
-      | inl e ↦ inl e
-      | inr other ↦ elim (cases_eq b x) [
-        | inl e ↦ inr e
-        | inr differs ↦ absurd (
-            let one : eqb a x ≡ false = ne_eqb a x other in
-            let two : eqb b x ≡ false = ne_eqb b x differs in
-            let clash : false ≡ true = rw (one, two) at h in
-            cc)
-      ]
-    ]
-
 -- ---- what was merged
 
 abbrev first_change : Change
@@ -263,7 +248,7 @@ begun_one : IsMergeOfReports (machine_of group) 1 (key ∷ []) run
 begun_one = record {
   changes = first_change ∷ second_change ∷ [];
   merged = merged_is;
-  choice = record { distinct = (refl, (refl, tt)); below = λ x h. elim (of_two 1 2 x h) [ inl e ↦ omega (arith, e) | inr e ↦ omega (arith, e) ] };
+  choice = two_choice 3 1 2 (omega arith) (omega arith) (λ e. cc);
   size = omega arith;
   reports = reports;
 }
@@ -315,7 +300,7 @@ support = record {
   lead = subst (IsPrefix (key ∷ [])) lead_is (prefix_self (key ∷ []));
   quorum = inl (record {
     members = 0 ∷ 1 ∷ [];
-    choice = record { distinct = (refl, (refl, tt)); below = λ y h. elim (of_two 0 1 y h) [ inl e ↦ omega (arith, e) | inr e ↦ omega (arith, e) ] };
+    choice = two_choice 3 0 1 (omega arith) (omega arith) (λ e. cc);
     enough = omega arith;
     each = λ y h. elim (of_two 0 1 y h) [
       | inl e ↦ subst (λ (x : ℕ). HadSynced (machine_of group) 0 x 1 run) e had_first

@@ -1,5 +1,5 @@
 -- One view: from what each record does, what is synced is the leader's, and what a record leaves of a prefix.
-use Rattle.std.proofs.Common.{◌≡◌, ℕ, zero, suc, ◌≤◌, Bool, true, false, ◌&&◌, cond, eqb, List, [], ◌∷◌, ◌++◌, length, take, Option, Some, None, refl, sym, ap, subst, ◌∙◌, arith, inl, inr, ◌⊎◌}
+use Rattle.std.proofs.Common.{◌≡◌, ℕ, ◌<◌, ◌≤◌, Bool, true, false, cond, eqb, List, [], ◌∷◌, length, take, Option, Some, None, refl, sym, ap, subst, ◌∙◌, arith, inl, inr, ◌⊎◌}
 use Rattle.std.proofs.lemmas.Bool.{cases_eq, eq-eqb}
 use Rattle.std.proofs.lemmas.Option.{same_Some}
 use Rattle.std.proofs.lemmas.List.{length-map}
@@ -10,12 +10,12 @@ use Rattle.nz_base.specs.Log.{keys_of}
 use Rattle.nz_base.specs.Cluster.{leader_of}
 use Rattle.nz_base.specs.Moments.{At}
 use Rattle.nz_base.specs.Prefixes.{IsPrefix, Comparable}
-use Rattle.nz_base.proofs.Booleans.{cases_bool, and_both}
+use Rattle.nz_base.proofs.Booleans.{cases_bool}
 use Rattle.nz_base.proofs.Moments.{at_self, at_then, at_tail}
-use Rattle.nz_base.proofs.Prefixes.{prefix_self, prefix_same, prefix_then, prefix_take, prefix_length, take_front}
+use Rattle.nz_base.proofs.Prefixes.{prefix_same, prefix_then, prefix_take, prefix_length, take_front}
 use Rattle.nz_laws_commit.specs.States.{Status, Normal, ViewChange, Rejoining, Down, IsUp, LogState, Machine}
 use Rattle.nz_laws_commit.specs.Supports.{IsNormal, IsUpIn, keys_at}
-use Rattle.nz_laws_commit.specs.Machines.{is_normal, GroupStates, leads_by, lead_of, start_of, machine_of}
+use Rattle.nz_laws_commit.specs.Machines.{GroupStates, leads_by, lead_of, start_of, machine_of}
 use Rattle.nz_laws_commit.specs.Does.{IsUnchanged, IsModified, Syncs, Does, Stays, Released, Entered, Synced, Began, Adopted, Fell, Rose, VectorGrows, FollowsRules}
 use Rattle.nz_laws_commit.proofs.RunLaws.{HasGrown, RecordLaws, RunLaws, StepLaws}
 use Rattle.nz_laws_commit.proofs.Closing.{never_up, run_laws_of, start_step, start_stays, leads_test, lead_is, lead_step, lead_grows, starts}
@@ -97,6 +97,17 @@ module _ {R : Type 0} (g : GroupStates R) (J : List R) (m : FollowsRules g J) wh
       let count = length-map (g.state y K).log (λ (x : Entry). x.key) in
       omega (arith, sound, count)
 
+  grown : (y : ℕ) (r : R) (K : List R) → VectorGrows y (g.state y K) (g.state y (r ∷ K)) → (g.state y K).view ≤ (g.state y (r ∷ K)).view
+      → (g.state y K).last ≤ (g.state y (r ∷ K)).last
+      → ((g.state y K).last ≡ (g.state y (r ∷ K)).last → (g.state y K).synced ≤ (g.state y (r ∷ K)).synced)
+      → ((g.state y K).last ≡ (g.state y (r ∷ K)).last → part_of y K ≡ take (g.state y K).synced (keys y (r ∷ K))) → HasGrown M y K (r ∷ K)
+  grown y r K v view last synced entries = record { view = view; last = last; vector = v.vector; own = v.own; synced = synced; entries = entries }
+
+  -- with a greater last view nothing is said of the log
+  risen : (y : ℕ) (r : R) (K : List R) → VectorGrows y (g.state y K) (g.state y (r ∷ K)) → (g.state y K).view ≤ (g.state y (r ∷ K)).view
+      → (g.state y K).last < (g.state y (r ∷ K)).last → HasGrown M y K (r ∷ K)
+  risen y r K v view higher = grown y r K v view (omega (arith, higher)) (λ e. absurd (omega (arith, higher, e))) (λ e. absurd (omega (arith, higher, e)))
+
   -- nothing falls by a record
   grows_step : (y : ℕ) (r : R) (K : List R) → At J (r ∷ K) → Does g y r K → VectorGrows y (g.state y K) (g.state y (r ∷ K)) → IsUp (g.state y K).status
       → IsUp (g.state y (r ∷ K)).status → HasGrown M y K (r ∷ K)
@@ -104,67 +115,31 @@ module _ {R : Type 0} (g : GroupStates R) (J : List R) (m : FollowsRules g J) wh
       let view = d.view in
       let last = d.last in
       let synced = d.synced in
-      record {
-        view = omega (arith, view);
-        last = omega (arith, last);
-        vector = v.vector;
-        own = v.own;
-        synced = λ e. omega (arith, synced);
-        entries = λ e. ap (λ l. take (g.state y K).synced (keys_of l)) (sym d.log);
-      }
+      let same = ap (λ (l : List Entry). take (g.state y K).synced (keys_of l)) (sym d.log) in
+      grown y r K v (omega (arith, view)) (omega (arith, last)) (λ e. omega (arith, synced)) (λ e. same)
   grows_step y r K at (Released d) v up now =
       let view = d.view in
       let last = d.last in
       let room = within y K (at_tail J r K at) up in
       let more = prefix_length (keys y K) (keys y (r ∷ K)) d.log in
       let count = length-map (g.state y (r ∷ K)).log (λ (x : Entry). x.key) in
-      record {
-        view = omega (arith, view);
-        last = omega (arith, last);
-        vector = v.vector;
-        own = v.own;
-        synced = λ e. elim (cases_eq (leader_of g.f (g.state y K).view) y) [
-          | inl leads ↦ let all = d.leads leads in omega (arith, all, room, more, count)
-          | inr follows ↦ let same = d.follows follows in omega (arith, same)
-        ];
-        entries = λ e. take_front (g.state y K).synced (keys y K) (keys y (r ∷ K)) d.log room;
-      }
+      let synced : (g.state y K).synced ≤ (g.state y (r ∷ K)).synced = elim (cases_eq (leader_of g.f (g.state y K).view) y) [
+        | inl leads ↦ let all = d.leads leads in omega (arith, all, room, more, count)
+        | inr follows ↦ let same = d.follows follows in omega (arith, same)
+      ] in
+      grown y r K v (omega (arith, view)) (omega (arith, last)) (λ e. synced) (λ e. take_front (g.state y K).synced (keys y K) (keys y (r ∷ K)) d.log room)
   grows_step y r K at (Entered d) v up now =
       let view = d.view in
       let last = d.last in
       let synced = d.synced in
-      record {
-        view = omega (arith, view);
-        last = omega (arith, last);
-        vector = v.vector;
-        own = v.own;
-        synced = λ e. omega (arith, synced);
-        entries = λ e. take_front (g.state y K).synced (keys y K) (keys y (r ∷ K)) d.log (within y K (at_tail J r K at) up);
-      }
+      let same = take_front (g.state y K).synced (keys y K) (keys y (r ∷ K)) d.log (within y K (at_tail J r K at) up) in
+      grown y r K v (omega (arith, view)) (omega (arith, last)) (λ e. omega (arith, synced)) (λ e. same)
   grows_step y r K at (Synced d) v up now =
       let view = d.view in
       let last = d.last in
-      record { view = omega (arith, view); last = omega (arith, last); vector = v.vector; own = v.own; synced = λ e. d.synced; entries = λ e. d.entries }
-  grows_step y r K at (Began d) v up now =
-      let higher = d.higher in
-      record {
-        view = d.view;
-        last = omega (arith, higher);
-        vector = v.vector;
-        own = v.own;
-        synced = λ e. absurd (omega (arith, higher, e));
-        entries = λ e. absurd (omega (arith, higher, e));
-      }
-  grows_step y r K at (Adopted d) v up now =
-      let higher = d.higher up in
-      record {
-        view = d.view up;
-        last = omega (arith, higher);
-        vector = v.vector;
-        own = v.own;
-        synced = λ e. absurd (omega (arith, higher, e));
-        entries = λ e. absurd (omega (arith, higher, e));
-      }
+      grown y r K v (omega (arith, view)) (omega (arith, last)) (λ e. d.synced) (λ e. d.entries)
+  grows_step y r K at (Began d) v up now = risen y r K v d.view d.higher
+  grows_step y r K at (Adopted d) v up now = risen y r K v (d.view up) (d.higher up)
   grows_step y r K at (Fell down) v up now = never_up (g.state y (r ∷ K)).status now down
   grows_step y r K at (Rose d) v up now = never_up (g.state y K).status up d.before
 

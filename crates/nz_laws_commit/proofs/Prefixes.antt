@@ -55,7 +55,8 @@ module _ {R : Type 0} (M : Machine R) (J : List R) (h : RunLaws M J) (v : ℕ) (
     base_lead : IsPrefix base_keys (M.lead greatest_last J)
     base_lead =
         let part = reports.report_synced M J h w v lt base.c base_report in
-        subst (λ (ks : List Key). IsPrefix ks (M.lead greatest_last J)) (sym base.is) (subst (λ (g : ℕ). IsPrefix (take base.c.synced (keys_of base.c.log)) (M.lead g J)) base.last part)
+        let in_greatest = subst (λ (g : ℕ). IsPrefix (take base.c.synced (keys_of base.c.log)) (M.lead g J)) base.last part in
+        subst (λ (ks : List Key). IsPrefix ks (M.lead greatest_last J)) (sym base.is) in_greatest
 
     base_long : length base_keys ≡ base.c.synced
     base_long =
@@ -113,7 +114,7 @@ module _ {R : Type 0} (M : Machine R) (J : List R) (h : RunLaws M J) (v : ℕ) (
             let keys = length-map c.log (λ (x : Entry). x.key) in
             let long = length-take-le c.synced (keys_of c.log) (omega (arith, sound, keys)) in
             let T = take c.synced (keys_of c.log) in
-            let part : IsPrefix T (M.lead v J) = subst (λ (g : ℕ). IsPrefix (take c.synced (keys_of c.log)) (M.lead g J)) e (reports.report_synced M J h w v lt c from) in
+            let part = subst (λ (g : ℕ). IsPrefix (take c.synced (keys_of c.log)) (M.lead g J)) e (reports.report_synced M J h w v lt c from) in
             prefix_then P T (keys_of c.log) (shorter_prefix P T (M.lead v J) s.lead part (omega (arith, count, long))) (prefix_take c.synced (keys_of c.log))
 
         holds : (c : Change) → Contains b.changes c → HadSynced M v c.sender (length P) J ⊎ FastReplied M v c.sender P q.u J

@@ -1,5 +1,5 @@
 -- What replicas had and could answer, and what supports a list of keys in a view.
-use Rattle.std.specs.Prelude.{◌≡◌, ℕ, ◌≤◌, ◌<◌, ◌⊎◌, true, List, ◌∷◌, length, Some, IsTrue}
+use Rattle.std.specs.Prelude.{◌≡◌, ℕ, ◌≤◌, ◌<◌, ◌⊎◌, List, ◌∷◌, length, Some, IsTrue}
 use Rattle.nz_base.specs.declared.key.Key.{Key}
 use Rattle.nz_base.specs.Log.{keys_of}
 use Rattle.nz_base.specs.Cluster.{leader_of}

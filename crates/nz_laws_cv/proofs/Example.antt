@@ -1,9 +1,9 @@
 -- The example has the ground: no premise contradicts the others.
-use Rattle.std.proofs.Common.{◌≡◌, ℕ, zero, suc, ◌<◌, ◌≤◌, true, false, eqb, List, [], ◌∷◌, length, refl, sym, ap, subst, inl, inr, ◌⊎◌, arith}
-use Rattle.std.proofs.lemmas.Bool.{cases_lt, cases_eq, ne_eqb}
+use Rattle.std.proofs.Common.{◌≡◌, ℕ, zero, suc, ◌<◌, ◌≤◌, List, [], ◌∷◌, length, refl, sym, ap, subst, inl, inr, ◌⊎◌, arith}
+use Rattle.std.proofs.lemmas.Bool.{cases_lt, cases_eq}
 use Rattle.nz_base.specs.Moments.{At}
 use Rattle.nz_base.proofs.Moments.{at_self, at_shorter, at_order}
-use Rattle.nz_math.specs.Count.{is_in, IsChoice}
+use Rattle.nz_math.proofs.Twos.{of_two, two_choice}
 use Rattle.nz_laws_cv.specs.Notions.{IsHeldByMany}
 use Rattle.nz_laws_cv.specs.Ground.{TellsVector, IsUsed, IsCompletion, IsReport, IsBegin, HasModes, Ground}
 use Rattle.nz_laws_cv.specs.Example.{first_records, run, IsUpAfter, IsNormalAfter, one_from, inc_after, view_after, last_after, knows_from, place_after, CompletesAt, AnswersAt, BeginsAt, ReportsAt, notions}
@@ -127,33 +127,14 @@ own_zero (suc (suc x)) n none = refl
 
 -- ---- two of three
 
-two_of : (a b x : ℕ) → is_in (a ∷ b ∷ []) x ≡ true → (x ≡ a) ⊎ (x ≡ b)
-two_of a b x h = elim (cases_eq a x) [
-  | inl e ↦ inl (sym e)
-  | inr other ↦ elim (cases_eq b x) [
-    | inl e ↦ inr (sym e)
-    | inr differs ↦ absurd (
-        let p : eqb a x ≡ false = ne_eqb a x other in
-        let q : eqb b x ≡ false = ne_eqb b x differs in
-        let none : is_in (a ∷ b ∷ []) x ≡ false = rw (p, q) refl in
-        cc)
-  ]
-]
-
-two_choice : (a b : ℕ) → a < 3 → b < 3 → (b ≡ a → ⊥) → IsChoice 3 (a ∷ b ∷ [])
-two_choice a b low less apart = record {
-  distinct = ((let p : eqb b a ≡ false = ne_eqb b a apart in rw p refl), (refl, tt));
-  below = λ x h. elim (two_of a b x h) [ inl e ↦ omega (arith, e, low) | inr e ↦ omega (arith, e, less) ];
-}
-
 two_hold : {Holds : ℕ → List ℕ → Type 0} → (a b : ℕ) (S T : List ℕ) → a < 3 → b < 3 → (b ≡ a → ⊥) → Holds a S → Holds b T → IsHeldByMany 1 Holds
 two_hold {Holds = Holds} a b S T low less apart first second = record {
   members = a ∷ b ∷ [];
-  choice = two_choice a b low less apart;
+  choice = two_choice 3 a b low less apart;
   enough = omega arith;
-  each = λ y h. elim (two_of a b y h) [
-    | inl e ↦ (S, subst (λ z. Holds z S) (sym e) first)
-    | inr e ↦ (T, subst (λ z. Holds z T) (sym e) second)
+  each = λ y h. elim (of_two a b y h) [
+    | inl e ↦ (S, subst (λ z. Holds z S) e first)
+    | inr e ↦ (T, subst (λ z. Holds z T) e second)
   ];
 }
 

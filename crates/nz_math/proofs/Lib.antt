@@ -2,3 +2,4 @@ pub mod Counting
 pub mod Marks
 pub mod Sharing
 pub mod Upto
+pub mod Twos
