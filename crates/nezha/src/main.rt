@@ -3,15 +3,22 @@
 
 use nz_edge::{OpenGate, StdSink, StdSource};
 use nz_top::{Status, Words, nezha};
-use std::alloc::AllocError;
 use std::env;
+use std::io::ErrorKind;
 use std::process::ExitCode;
 
-/// The words behind the program's name, or None where memory was not found.
+/// The words after the program's name, or None where memory was not found. A word that is not UTF-8 is in
+/// no command: where one is not, there are no words, which call no command either.
 fn words_of(rt: &HostRuntime) -> Option<Words> {
     let mut args = Vec::new(rt.alloc());
-    for arg in env::args(rt).ok()?.skip(1) {
-        args.push(arg).ok()?;
+    match env::args(rt) {
+        Ok(all) => {
+            for arg in all.skip(1) {
+                args.push(arg).ok()?;
+            }
+        }
+        Err(error) if error.kind() == ErrorKind::InvalidData => {}
+        Err(_) => return None,
     }
     let mut words = Vec::new(rt.alloc());
     for arg in &args {

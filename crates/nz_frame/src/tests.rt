@@ -73,13 +73,3 @@ fn refusals(rt: HostRuntime) {
         assert_eq!(rt; Frame::read(bytes).err(), Some(want));
     }
 }
-
-#[test]
-fn addresses(rt: HostRuntime) {
-    for address in [0, 8, 16, 23, 64, 127] {
-        assert!(rt; is_address(address));
-    }
-    for address in [9, 15, 24, 63, 128, 256, 65_535] {
-        assert!(rt; !is_address(address));
-    }
-}

@@ -1,7 +1,6 @@
 pub mod Decoded
 pub mod Views
 pub mod Prefixes
-pub mod Says
 pub mod Heard
 pub mod Leader
 pub mod Standings
@@ -15,7 +14,6 @@ pub mod Histories
 pub mod OneHistory
 pub mod Counts
 pub mod FactsStay
-pub mod Shows
 pub mod Snapshots
 mod PutAndGet
 pub mod LeadersLog

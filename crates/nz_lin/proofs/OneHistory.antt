@@ -13,7 +13,7 @@ use Rattle.nz_machine.specs.Events.{Sent, events}
 use Rattle.nz_machine.specs.History.{history}
 use Rattle.nz_machine.specs.OneHistory.{StandsBefore, IsAnswered, Lin, NoCollision}
 use Rattle.nz_machine.proofs.Runs.{has_left, all_has}
-use Rattle.nz_machine.proofs.FitSteps.{led_log}
+use Rattle.nz_machine.proofs.FitReplicas.{led_log}
 use Rattle.nz_lin.specs.Laws.{IsPrefix}
 use Rattle.nz_lin.proofs.Prefixes.{shorter_prefix, place_more, place_in, answered_more, absent_place, has_place, own_prefix}
 use Rattle.nz_lin.proofs.Leader.{leader_log, is_led, zero_leads}

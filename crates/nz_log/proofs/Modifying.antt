@@ -106,3 +106,38 @@ none_lost log e x h apart =
         | inr goes ↦ inr goes
       ]
     ]
+
+-- ---- an entry put in, and what may not follow it taken out
+
+-- What stands before and after the entry that was put in.
+pub put_front : (es : List Entry) (place : ℕ) (e : Entry) → place ≤ length es → take (place + 1) (take place es ++ e ∷ drop place es) ≡ take place es ++ e ∷ []
+put_front es place e within =
+    let front = take place es ++ e ∷ [] in
+    let back = drop place es in
+    let long : length front ≡ place + 1 = length-append (take place es) (e ∷ []) ∙ ap (λ (n : ℕ). n + 1) (length-take-le place es within) in
+    ap (λ (xs : List Entry). take (place + 1) xs) (sym (append_assoc (take place es) (e ∷ []) back)) ∙ ap (λ (n : ℕ). take n (front ++ back)) (sym long) ∙ take-append_seam front back
+
+pub put_back : (es : List Entry) (place : ℕ) (e : Entry) → place ≤ length es → drop (place + 1) (take place es ++ e ∷ drop place es) ≡ drop place es
+put_back es place e within =
+    let front = take place es ++ e ∷ [] in
+    let back = drop place es in
+    let long : length front ≡ place + 1 = length-append (take place es) (e ∷ []) ∙ ap (λ (n : ℕ). n + 1) (length-take-le place es within) in
+    ap (λ (xs : List Entry). drop (place + 1) xs) (sym (append_assoc (take place es) (e ∷ []) back)) ∙ ap (λ (n : ℕ). drop n (front ++ back)) (sym long) ∙ drop-append_seam front back
+
+pub kept_after : (es : List Entry) (place : ℕ) (e : Entry) (put left : List Entry) → place ≤ length es → put ≡ take place es ++ e ∷ drop place es
+    → left ≡ take (place + 1) put ++ filter (stays_behind e.key) (drop (place + 1) put) → left ≡ take place es ++ e ∷ filter (stays_behind e.key) (drop place es)
+kept_after es place e put left within is kept =
+    kept
+    ∙ ap (λ (xs : List Entry). take (place + 1) xs ++ filter (stays_behind e.key) (drop (place + 1) xs)) is
+    ∙ ap (λ (xs : List Entry). xs ++ filter (stays_behind e.key) (drop (place + 1) (take place es ++ e ∷ drop place es))) (put_front es place e within)
+    ∙ ap (λ (xs : List Entry). (take place es ++ e ∷ []) ++ filter (stays_behind e.key) xs) (put_back es place e within)
+    ∙ append_assoc (take place es) (e ∷ []) (filter (stays_behind e.key) (drop place es))
+
+-- it is at most one entry longer
+pub kept_long : (es : List Entry) (place : ℕ) (e : Entry) → place ≤ length es → length (take place es ++ e ∷ filter (stays_behind e.key) (drop place es)) ≤ length es + 1
+kept_long es place e within =
+    let kept = filter (stays_behind e.key) (drop place es) in
+    let long : length (take place es ++ e ∷ kept) ≡ length (take place es) + length (e ∷ kept) = length-append (take place es) (e ∷ kept) in
+    let whole : length (take place es) + length (drop place es) ≡ length es = sym (length-append (take place es) (drop place es)) ∙ ap length (take-append-drop place es) in
+    let few : length kept ≤ length (drop place es) = length-filter_le (stays_behind e.key) (drop place es) in
+    omega (arith, long, whole, few)

@@ -6,10 +6,12 @@ ghost use Rattle.nz_log.specs.Places.{place_of, last_entry, digest_at};
 ghost use Rattle.nz_log.specs.Synced.{IsSound, synced_part, modified, displaced, left_out};
 
 use super::MAX_ENTRIES;
-use super::parts::{
-    contains, copy_displaced, copy_left_out, digest_of, find_place, is_above, put_at,
-};
-use nz_base::{Entry, EntryList, Id, Key, List, NoMemory};
+use super::index::{keep_above, set_place};
+use super::log_rep::{Allocating, LogRep};
+use super::pages::Pages;
+use super::sums::{digest_after, fold_from};
+use indexmap::IndexMap;
+use nz_base::{Entry, EntryList, Id, Key, List, NoMemory, TryCopy};
 use nz_digest::Digest;
 use std::alloc::Global;
 use std::marker::Model;
@@ -18,18 +20,23 @@ use std::marker::Model;
 /// synced: they agree with the leader's log. Places count from 0.
 #[derive(Debug, Drop)]
 pub struct HashedLog {
-    entries: Vec<Entry>,
+    entries: Pages,
+    // One at each place.
+    digests: Vec<Digest>,
+    // Of each id.
+    places: IndexMap<Id, u32>,
     synced: u32,
 }
 
 impl Model for HashedLog {
-    ghost use Rattle.nz_log.specs.Synced.{Log, IsSound};
+    ghost use Rattle.nz_log.specs.Synced.{Log};
+    ghost use Rattle.nz_log.specs.Keeping.{IsKept};
 
     ghost Value = { Log };
 
-    ghost view = { λ l. record { entries = l.entries.items; synced = l.synced } };
+    ghost view = { λ l. record { entries = l.entries; synced = l.synced } };
 
-    ghost invariant = { λ l. IsSound (record { entries = l.entries.items; synced = l.synced }) };
+    ghost invariant = { λ l. IsKept (record { entries = l.entries; synced = l.synced }) l.digests.items l.places.entries };
 }
 
 impl HashedLog {
@@ -37,7 +44,9 @@ impl HashedLog {
         ensures { result ≡ record { entries = []; synced = 0 } }
     {
         HashedLog {
-            entries: Vec::new(alloc),
+            entries: Pages::new(alloc),
+            digests: Vec::new(alloc),
+            places: IndexMap::new(alloc),
             synced: 0,
         }
     }
@@ -51,7 +60,7 @@ impl HashedLog {
     pub fn is_empty(&self) -> bool
         ensures { IsTrue result ↔ (self.now.entries ≡ []) }
     {
-        self.entries.is_empty()
+        self.entries.len() == 0
     }
 
     /// How many entries are synced.
@@ -65,7 +74,7 @@ impl HashedLog {
         requires { place < length self.now.entries }
         ensures { slice_get self.now.entries place ≡ Some result.now }
     {
-        &self.entries[place as usize]
+        self.entries.get(place as usize)
     }
 
     pub fn last(&self) -> Option<&Entry>
@@ -79,7 +88,7 @@ impl HashedLog {
         requires { place < length self.now.entries }
         ensures { result ≡ digest_at self.now.entries place }
     {
-        digest_of(&self.entries[..place as usize + 1])
+        self.digests[place as usize]
     }
 
     /// The place of the entry with this id.
@@ -88,31 +97,37 @@ impl HashedLog {
         ensures held { IsSome result ↔ IsTrue (has_id (keys_of self.now.entries) id) }
         ensures within { IfSome result (λ place. place < length self.now.entries) }
     {
-        match find_place(&self.entries, id) {
-            Some(place) => Some(place as u32),
-            None => None,
-        }
+        self.places.get(&id).copied()
     }
 
     /// Whether a key is above that of the last entry, or there is none.
     pub fn is_above(&self, key: &Key) -> bool
         ensures { result ≡ is_above_last (keys_of self.now.entries) key.now }
     {
-        is_above(&self.entries, key)
+        match self.entries.last() {
+            Some(last) => last.key.is_below(key),
+            None => true,
+        }
     }
 
     /// Whether a key is above that of the last synced entry, or there is none.
     pub fn is_above_synced(&self, key: &Key) -> bool
         ensures { result ≡ is_above_last (keys_of (synced_part self.now)) key.now }
     {
-        is_above(&self.entries[..self.synced as usize], key)
+        match self.synced.checked_sub(1) {
+            Some(last) => self.entries.get(last as usize).key.is_below(key),
+            None => true,
+        }
     }
 
     /// Whether a synced entry has the id.
     pub fn has_synced(&self, id: Id) -> bool
         ensures { result ≡ has_id (keys_of (synced_part self.now)) id }
     {
-        contains(&self.entries[..self.synced as usize], id)
+        match self.places.get(&id) {
+            Some(place) => *place < self.synced,
+            None => false,
+        }
     }
 
     /// Puts the entry last. It is not synced.
@@ -123,7 +138,15 @@ impl HashedLog {
         ensures ok { OnOk result (self.new ≡ record self.old { entries = self.old.entries ++ entry ∷ [] }) }
         ensures err { OnErr result (self.new ≡ self.old) }
     {
+        let place = self.len();
+        let id = entry.key.id();
+        let digest = digest_after(&self.digests, &entry.key);
+        self.digests.reserve(1)?;
+        self.places.reserve(1)?;
         self.entries.push(entry)?;
+        // Nothing takes memory any more.
+        self.digests.push_reserved(digest);
+        set_place(&mut self.places, id, place);
         Ok(())
     }
 
@@ -145,9 +168,15 @@ impl HashedLog {
         ensures err { OnErr result (self.new ≡ self.old) }
     {
         let place = self.synced as usize;
-        let alloc = *self.entries.allocator();
-        let displaced = copy_displaced(alloc, &self.entries[place..], entry.key)?;
-        put_at(&mut self.entries, place, entry)?;
+        let key = entry.key;
+        let displaced = self.entries.displaced_by(place, key)?;
+        self.digests.reserve(1)?;
+        self.places.reserve(1)?;
+        self.entries.insert(place, entry)?;
+        // Nothing takes memory any more.
+        set_place(&mut self.places, key.id(), self.synced);
+        keep_above(&mut self.entries, &mut self.places, place + 1, key);
+        fold_from(&mut self.digests, &self.entries, place);
         self.synced += 1;
         Ok(displaced)
     }
@@ -160,17 +189,96 @@ impl HashedLog {
         ensures left_out { IfOk result (λ old. old ≡ left_out self.old.entries list) }
         ensures err { OnErr result (self.new ≡ self.old) }
     {
-        let alloc = *self.entries.allocator();
-        let left_out = copy_left_out(alloc, &self.entries, list.as_slice())?;
-        self.synced = list.len();
-        self.entries = list.into_vec();
+        let new = HashedLog::from_list(self.entries.alloc(), list)?;
+        let left_out = self.left_out(&new)?;
+        *self = new;
         Ok(left_out)
+    }
+
+    // The log of these entries, all of which are synced.
+    fn from_list(alloc: Global, list: EntryList) -> Result<HashedLog, NoMemory>
+        requires log { IsLog list }
+        requires few { length list ≤ MAX_ENTRIES }
+        ensures { IfOk result (λ log. log ≡ record { entries = list; synced = length list }) }
+    {
+        let mut log = HashedLog::new(alloc);
+        for entry in list.into_vec() {
+            log.append(entry)?;
+        }
+        log.sync_all();
+        Ok(log)
+    }
+
+    // Copies of the entries whose ids are not in the other log.
+    fn left_out(&self, other: &HashedLog) -> Result<EntryList, NoMemory>
+        ensures { IfOk result (λ list. list ≡ left_out self.now.entries other.now.entries) }
+    {
+        let alloc = self.entries.alloc();
+        let mut list = List::new(alloc);
+        for place in 0..self.entries.len() {
+            let entry = self.entries.get(place);
+            if other.place_of(entry.key.id()).is_none() {
+                list.push(entry.copy(alloc)?)?;
+            }
+        }
+        Ok(list)
     }
 
     /// Copies of the entries.
     pub fn entries(&self) -> Result<EntryList, NoMemory>
         ensures { IfOk result (λ list. list ≡ self.now.entries) }
     {
-        List::from_slice(*self.entries.allocator(), &self.entries)
+        self.entries.copies()
+    }
+}
+
+impl Allocating for HashedLog {
+    fn alloc(&self) -> Global {
+        self.entries.alloc()
+    }
+}
+
+impl LogRep for HashedLog {
+    ghost log = { λ l. l };
+
+    fn len(&self) -> u32 {
+        HashedLog::len(self)
+    }
+
+    fn synced(&self) -> u32 {
+        let _ = &self.entries;
+        HashedLog::synced(self)
+    }
+
+    fn get(&self, place: u32) -> &Entry {
+        HashedLog::get(self, place)
+    }
+
+    fn digest_at(&self, place: u32) -> Digest {
+        HashedLog::digest_at(self, place)
+    }
+
+    fn place_of(&self, id: Id) -> Option<u32> {
+        HashedLog::place_of(self, id)
+    }
+
+    fn append(&mut self, entry: Entry) -> Result<(), NoMemory> {
+        HashedLog::append(self, entry)
+    }
+
+    fn sync_all(&mut self) {
+        HashedLog::sync_all(self);
+    }
+
+    fn modify(&mut self, entry: Entry) -> Result<EntryList, NoMemory> {
+        HashedLog::modify(self, entry)
+    }
+
+    fn replace_all(&mut self, list: EntryList) -> Result<EntryList, NoMemory> {
+        HashedLog::replace_all(self, list)
+    }
+
+    fn entries(&self) -> Result<EntryList, NoMemory> {
+        HashedLog::entries(self)
     }
 }

@@ -20,9 +20,8 @@ use Rattle.nz_store.proofs.Spellings.{spells_from_reading}
 use Rattle.nz_msg.specs.Codec.{ItemsFit}
 use Rattle.nz_msg.proofs.Fields.{within_most}
 use Rattle.nz_msg.specs.Fields.{u32, view, id, key, command, vector, may_follow, next_key, next_entry, ids, keys, entries, is_cluster_size}
-use Rattle.nz_machine.specs.Facts.{FitsEntry}
+use Rattle.nz_machine.specs.Facts.{FitsEntry, AreCounters}
 use Rattle.nz_machine.specs.Replicas.{last_view}
-use Rattle.nz_machine.proofs.Ranges.{AreCounters}
 
 -- ---- numbers
 
@@ -41,7 +40,7 @@ within_count least most n low high = and_both (nat_le least n) (nat_le n most) (
 pub ids_fit : (xs : List Id) → 1 ≤ length xs → length xs ≤ 64 → AllByRecursion id.fits xs → ids.fits xs
 ids_fit xs some few all = ((omega (arith, few), within_count 1 64 (length xs) some few), (refl, ids_each [] xs all))
 
-counters_each : (before xs : List ℕ) → AllByRecursion (λ n. n < 256 ^ 4) xs → ItemsFit (λ _. u32) before xs
+counters_each : (before xs : List ℕ) → AllByRecursion (λ n. n < 2 ^ 32) xs → ItemsFit (λ _. u32) before xs
 counters_each before [] all = tt
 counters_each before (x ∷ xs) all = (all.0, counters_each (before ++ x ∷ []) xs all.1)
 
@@ -53,7 +52,7 @@ vector_fits f v least most h =
     let size = h.size in
     ((omega (arith, size, most), subst (λ (n : ℕ). is_cluster_size n ≡ true) (sym size) (size_is f least most)), (refl, counters_each [] v h.small))
 
-counters_are : (before xs : List ℕ) → ItemsFit (λ _. u32) before xs → AllByRecursion (λ n. n < 256 ^ 4) xs
+counters_are : (before xs : List ℕ) → ItemsFit (λ _. u32) before xs → AllByRecursion (λ n. n < 2 ^ 32) xs
 counters_are before [] all = tt
 counters_are before (x ∷ xs) all = (all.0, counters_are (before ++ x ∷ []) xs all.1)
 

@@ -1,42 +1,47 @@
--- A replica sends only messages that frames can carry.
-use Rattle.std.proofs.Common.{◌≡◌, ℕ, zero, suc, ◌-◌, ◌<◌, ◌≤◌, ◌&&◌, not, eqb, true, List, [], ◌∷◌, length, take, drop, map, Option, Some, None, refl, sym, ap, subst, arith, length-take, length-drop, take-append-drop}
-use Rattle.std.specs.Prelude.{IfSome, nat_lt, slice_index, slice_get}
+-- Each kind of message of a replica is one that frames can carry.
+use Rattle.std.proofs.Common.{◌≡◌, ℕ, zero, suc, ◌<◌, ◌≤◌, not, cond, true, List, [], ◌∷◌, ◌++◌, length, take, drop, map, Some, None, is_some, refl, sym, ap, subst, ◌∙◌, inl, inr, arith, length-append, length-take, take-append-drop}
+use Rattle.std.specs.Prelude.{IfSome, slice_index, slice_get}
 use Rattle.std.specs.List.{AllByRecursion, filter}
 use Rattle.std.specs.Map.{lookup}
-use Rattle.nz_base.specs.Cluster.{replica_count, leader_of}
+use Rattle.nz_base.specs.Actor.{HasAddress}
+use Rattle.nz_base.specs.Cluster.{replica_count}
 use Rattle.nz_base.specs.declared.actor.Actor.{Actor}
 use Rattle.nz_base.specs.declared.actor.Actor.TheVariants.{Replica}
 use Rattle.nz_base.specs.declared.key.Id.{Id}
 use Rattle.nz_base.specs.declared.key.Key.{Key}
 use Rattle.nz_base.specs.declared.key.Entry.{Entry}
 use Rattle.nz_base.specs.Key.{id_eq, id_of}
-use Rattle.nz_base.specs.Log.{keys_of, AreRising, HaveOwnIds}
-use Rattle.nz_base.proofs.Booleans.{and_right, length-filter_le}
-use Rattle.nz_base.proofs.Logs.{rising_front, rising_back, own_front, rising_filter, own_filter}
-use Rattle.nz_cv.specs.Vectors.{is_stray}
+use Rattle.nz_base.specs.Log.{keys_of, has_id, AreRising, HaveOwnIds}
+use Rattle.nz_base.proofs.Booleans.{or_cases, length-filter_le}
+use Rattle.nz_base.proofs.Logs.{rising_front, rising_back, own_front, rising_filter, own_filter, keys_append}
+use Rattle.nz_base.proofs.Names.{same_id}
 use Rattle.nz_digest.proofs.Keys.{length-digest}
 use Rattle.nz_log.specs.Places.{place_of, entry_key}
-use Rattle.nz_log.specs.Synced.{synced_part}
-use Rattle.nz_msg.specs.declared.message.TimedBody.{TimedBody}
+use Rattle.nz_log.proofs.Placing.{place_held}
+use Rattle.nz_msg.specs.Messages.{Fits}
+use Rattle.nz_msg.specs.Fields.{id, key, keys, entries, answer, view, vector}
+use Rattle.nz_msg.specs.declared.message.FastReplyBody.{FastReplyBody}
+use Rattle.nz_msg.specs.declared.message.SlowReplyBody.{SlowReplyBody}
 use Rattle.nz_msg.specs.declared.message.LogModBody.{LogModBody}
 use Rattle.nz_msg.specs.declared.message.FetchBody.{FetchBody}
-use Rattle.nz_msg.specs.Messages.{timed}
-use Rattle.nz_msg.specs.Fields.{id, key, keys, entries, answer}
+use Rattle.nz_msg.specs.declared.message.FetchReplyBody.{FetchReplyBody}
+use Rattle.nz_msg.specs.declared.message.SyncReportBody.{SyncReportBody}
+use Rattle.nz_msg.specs.declared.message.Message.{Message}
+use Rattle.nz_msg.specs.declared.message.Message.TheVariants as messages
 use Rattle.nz_machine.specs.declared.data.Origin.{Origin}
 use Rattle.nz_machine.specs.State.{ReplicaData, Out}
-use Rattle.nz_machine.specs.Facts.{FitsEntry}
-use Rattle.nz_machine.specs.Replicas.{most_entries, numbers_below, is_normal, leads, answer_at, fast_reply, slow_reply, fast_replies, slow_replies}
-use Rattle.nz_machine.specs.Requests.{with_origin, replies_at, requested, request_rule}
-use Rattle.nz_machine.specs.Releases.{released, release_replies, may_release, releases, at_clock, release_rule}
-use Rattle.nz_machine.specs.LogMods.{most_keys, others, log_mod_to, told, sync_report_to, may_sync, found, if_found, synced_with, sync_keys, overtaken, committed_to, replies_since, missing_ids, fetch_from, taken_in, taken_from, log_mod_rule, is_asked, fetch_rule, is_held}
-use Rattle.nz_machine.specs.Vectors.{with_vector}
+use Rattle.nz_machine.specs.Facts.{FitsEntry, IsKnown, HasFacts}
+use Rattle.nz_machine.specs.Replicas.{last_view, most_entries, numbers_below, leads}
+use Rattle.nz_machine.specs.LogMods.{most_keys, sync_keys, missing_ids, is_asked, is_held}
+use Rattle.nz_machine.specs.Hearing.{Heard}
+use Rattle.nz_machine.specs.Shows.{IsOther, IsRest, told_from, ShowsFast, ShowsSlow, ShowsLogMod, ShowsFetch, ShowsFetchReply, ShowsReport, ReplicaShows}
 use Rattle.nz_machine.proofs.Runs.{FitsOut, on_cond}
 use Rattle.nz_machine.proofs.Each.{all_append, all_filter, all_imply}
 use Rattle.nz_machine.proofs.Apart.{own_rest}
-use Rattle.nz_machine.proofs.Pieces.{all_take, all_drop, all_map, all_flat_map, all_get, all_index, lookup_each, few_either, one_of_id}
-use Rattle.nz_machine.proofs.Entries.{EachEntry, Renames, released_each, after_each}
-use Rattle.nz_machine.proofs.Ranges.{IsOrigin, AreCounters, InRange, has_place_left, released_in_range, clock_in_range, origin_in_range, vector_in_range, after_in_range}
-use Rattle.nz_machine.proofs.Fields.{view_fits, ids_fit, vector_fits, AreInOrder, keys_fit, entries_fit}
+use Rattle.nz_machine.proofs.Pieces.{all_take, all_drop, all_map, all_get, all_index, lookup_each, few_either, one_of_id}
+use Rattle.nz_machine.proofs.Entries.{each_fits}
+use Rattle.nz_machine.proofs.Fields.{view_fits, ids_fit, vector_fits, AreInOrder, keys_fit, entries_fit, keys_of_fit, few_keys, few_ids}
+use Rattle.nz_machine.proofs.Following.{sync_rest}
 
 -- a cluster that frames can name, and one of its replicas
 pub record IsReplica (f me : ℕ) : Type 0 where
@@ -44,90 +49,24 @@ pub record IsReplica (f me : ℕ) : Type 0 where
   pub most : f ≤ 4
   pub member : me < replica_count f
 
--- what a replica holds fits into frames
-pub record Fitting (f : ℕ) (s : ReplicaData) : Type 0 where
-  pub range : InRange f s
-  pub entries : EachEntry FitsEntry s
-
 abbrev pub AllFit : Actor → List Out → Type 0
 AllFit a os = AllByRecursion (FitsOut a) os
 
-replica_address : (f me : ℕ) → IsReplica f me → me ≤ 8
-replica_address f me c = let most = c.most in let member = c.member in omega (arith, most, member)
+pub numbers_are_below : (n most : ℕ) → n ≤ most → AllByRecursion (λ r. r < most) (numbers_below n)
+numbers_are_below zero most le = tt
+numbers_are_below (suc n) most le = all_append (λ r. r < most) (numbers_below n) (n ∷ []) (numbers_are_below n most (omega (arith, le))) (omega (arith, le), tt)
 
--- ---- replies
+-- ---- the keys of a log
 
-fast_fits : (f me : ℕ) (s : ReplicaData) (i : Id) (place : ℕ) (origin : Origin) → IsReplica f me → Fitting f s → id.fits i → IsOrigin (i, origin) → FitsOut (Replica me) (fast_reply f me s i place origin)
-fast_fits f me s i place origin c h fits from =
-    let delay = from.delay in
-    let answers : IfSome (answer_at f me s place) answer.fits = on_cond (λ o. IfSome o answer.fits) (leads f me s) (slice_get s.results place) None (λ _. all_get answer.fits s.results place h.range.answers) (λ _. tt) in
-    record {
-      sender = replica_address f me c;
-      receiver = from.proxy;
-      message = (view_fits s.view h.range.view, (fits, (length-digest (map entry_key (take (suc place) s.log.entries)), (vector_fits f s.vector c.least c.most h.range.vector, (omega (arith, delay), answers)))));
-    }
-
-slow_fits : (f me : ℕ) (s : ReplicaData) (i : Id) (origin : Origin) → IsReplica f me → Fitting f s → id.fits i → IsOrigin (i, origin) → FitsOut (Replica me) (slow_reply s i origin)
-slow_fits f me s i origin c h fits from =
-    let delay = from.delay in
-    record { sender = replica_address f me c; receiver = from.proxy; message = (view_fits s.view h.range.view, (fits, omega (arith, delay))) }
-
-fast_all : (f me : ℕ) (s : ReplicaData) (i : Id) (place : ℕ) (o : Option Origin) → IsReplica f me → Fitting f s → id.fits i → IfSome o (λ v. IsOrigin (i, v)) → AllFit (Replica me) (fast_replies f me s i place o)
-fast_all f me s i place None c h fits from = tt
-fast_all f me s i place (Some origin) c h fits from = (fast_fits f me s i place origin c h fits from, tt)
-
-slow_all : (f me : ℕ) (s : ReplicaData) (i : Id) (o : Option Origin) → IsReplica f me → Fitting f s → id.fits i → IfSome o (λ v. IsOrigin (i, v)) → AllFit (Replica me) (slow_replies s i o)
-slow_all f me s i None c h fits from = tt
-slow_all f me s i (Some origin) c h fits from = (slow_fits f me s i origin c h fits from, tt)
-
-origin_at : (f : ℕ) (s : ReplicaData) (i : Id) → Fitting f s → IfSome (lookup (id_eq i) s.origin) (λ v. IsOrigin (i, v))
-origin_at f s i h = lookup_each IsOrigin s.origin i h.range.origins
-
--- ---- requests
-
-replies_fit : (f me : ℕ) (s : ReplicaData) (i : Id) (place : ℕ) → IsReplica f me → Fitting f s → id.fits i → AllFit (Replica me) (replies_at f me s i place)
-replies_fit f me s i place c h fits =
-    on_cond (AllFit (Replica me)) (not (leads f me s) && nat_lt place s.log.synced) (slow_replies s i (lookup (id_eq i) s.origin)) (fast_replies f me s i place (lookup (id_eq i) s.origin))
-    (λ _. slow_all f me s i (lookup (id_eq i) s.origin) c h fits (origin_at f s i h)) (λ _. fast_all f me s i place (lookup (id_eq i) s.origin) c h fits (origin_at f s i h))
-
-requested_fit : (f me : ℕ) (s : ReplicaData) (b : TimedBody) (o : Option ℕ) → IsReplica f me → Fitting f s → id.fits b.id → AllFit (Replica me) (requested f me s b o).1
-requested_fit f me s b (Some place) c h fits = replies_fit f me s b.id place c h fits
-requested_fit f me s b None c h fits = tt
-
-pub request_fits : (f me : ℕ) (s : ReplicaData) (proxy : ℕ) (b : TimedBody) → IsReplica f me → proxy ≤ 7 → timed.fits b → Fitting f s → AllFit (Replica me) (request_rule f me s proxy b).1
-unfolding request_rule
-request_fits f me s proxy b c known fits h =
-    let now : Fitting f (with_origin s proxy b) = record { range = origin_in_range f s proxy b known h.range; entries = record { log = h.entries.log; early = h.entries.early; late = h.entries.late } } in
-    on_cond (λ (t : ReplicaData × List Out). AllFit (Replica me) t.1) (is_normal s.status) (requested f me (with_origin s proxy b) b (place_of s.log.entries b.id)) (s, [])
-    (λ _. requested_fit f me (with_origin s proxy b) b (place_of s.log.entries b.id) c now fits.1.1.0) (λ _. tt)
-
--- ---- releases
-
-released_fitting : (f me : ℕ) (s : ReplicaData) (e : Entry) (es : List Entry) → length s.log.entries < most_entries → Fitting f s → AllByRecursion FitsEntry (e ∷ es) → Fitting f (released f me s e es)
-released_fitting f me s e es room h all = record { range = released_in_range f me s e es room h.range; entries = released_each FitsEntry f me s e es h.entries all }
-
-releases_fit : (f me : ℕ) (s : ReplicaData) (es : List Entry) → IsReplica f me → Fitting f s → AllByRecursion FitsEntry es → AllFit (Replica me) (releases f me s es).1
-unfolding releases
-releases_fit f me s [] c h all = tt
-releases_fit f me s (e ∷ es) c h all =
-    let next = released f me s e es in
-    on_cond (λ (t : ReplicaData × List Out). AllFit (Replica me) t.1) (may_release s e) _ (s, [])
-    (λ may.
-    let now = released_fitting f me s e es (has_place_left s e may) h all in
-    all_append (FitsOut (Replica me)) (release_replies f me next e) (releases f me next es).1 (fast_all f me next (id_of e.key) _ (lookup (id_eq (id_of e.key)) next.origin) c now all.0.key.1 (origin_at f next (id_of e.key) now)) (releases_fit f me next es c now all.1))
-    (λ _. tt)
-
-pub release_fits : (f me : ℕ) (s : ReplicaData) (clock : ℕ) → IsReplica f me → Fitting f s → AllFit (Replica me) (release_rule f me s clock).1
-unfolding release_rule
-release_fits f me s clock c h =
-    let now : Fitting f (at_clock s clock) = record { range = clock_in_range f s clock h.range; entries = record { log = h.entries.log; early = h.entries.early; late = h.entries.late } } in
-    on_cond (λ (t : ReplicaData × List Out). AllFit (Replica me) t.1) (is_normal s.status) (releases f me (at_clock s clock) s.early) (at_clock s clock, []) (λ _. releases_fit f me (at_clock s clock) s.early c now h.entries.early) (λ _. tt)
-
--- ---- what the leader tells
-
--- the log of a leader
+-- the log of a replica
 pub record IsLedLog (s : ReplicaData) : Type 0 where
   pub order : AreInOrder (keys_of s.log.entries)
+
+pub led_log : (f me : ℕ) (s : ReplicaData) → HasFacts f me s → IsLedLog s
+led_log f me s h =
+    let rising = subst AreRising (keys_append s.log.entries s.early) h.entries.arranged.rising in
+    let own = subst HaveOwnIds (keys_append s.log.entries (s.early ++ s.late)) h.entries.arranged.own_ids in
+    record { order = record { rising = rising_front (keys_of s.log.entries) (keys_of s.early) rising; own_ids = own_front (keys_of s.log.entries) (keys_of (s.early ++ s.late)) own } }
 
 order_take : (n : ℕ) (keys : List Key) → AreInOrder keys → AreInOrder (take n keys)
 order_take n keys h =
@@ -149,87 +88,27 @@ told_keys_fit s start led all =
     let few : length (take most_keys (drop start ks)) ≤ 64 = let long = length-take most_keys (drop start ks) in omega (arith, long) in
     keys_fit (take most_keys (drop start ks)) few (order_take most_keys (drop start ks) (order_drop start ks led.order)) (all_take key.fits most_keys (drop start ks) (all_drop key.fits start ks (keys_each s.log.entries all)))
 
-log_mod_fits : (f me : ℕ) (s : ReplicaData) (r : ℕ) → IsReplica f me → Fitting f s → IsLedLog s → r < replica_count f → FitsOut (Replica me) (log_mod_to s r)
-log_mod_fits f me s r c h led other =
-    let most = c.most in
-    let start = slice_index s.ack r in
-    let acked : start ≤ most_entries = all_index (λ n. n ≤ most_entries) s.ack r 0 h.range.acks (omega arith) in
-    let so_far = h.range.commit in
-    record {
-      sender = replica_address f me c;
-      receiver = omega (arith, other, most);
-      message = (
-        view_fits s.view h.range.view,
-        (
-          vector_fits f s.vector c.least c.most h.range.vector,
-          (
-            omega (arith, so_far),
-            (
-              omega (arith, acked),
-              told_keys_fit s start led h.entries.log,
-            ),
-          ),
-        ),
-      );
-    }
-
-pub numbers_are_below : (n most : ℕ) → n ≤ most → AllByRecursion (λ r. r < most) (numbers_below n)
-numbers_are_below zero most le = tt
-numbers_are_below (suc n) most le = all_append (λ r. r < most) (numbers_below n) (n ∷ []) (numbers_are_below n most (omega (arith, le))) (omega (arith, le), tt)
-
-pub told_fits : (f me : ℕ) (s : ReplicaData) → IsReplica f me → Fitting f s → (leads f me s ≡ true → IsLedLog s) → AllFit (Replica me) (told f me s)
-told_fits f me s c h led =
-    on_cond (AllFit (Replica me)) (is_normal s.status && leads f me s) (map (log_mod_to s) (others f me)) []
-    (λ t. all_map (FitsOut (Replica me)) (log_mod_to s) (others f me)
-    (all_imply (λ r. r < replica_count f) (λ r. FitsOut (Replica me) (log_mod_to s r)) (λ r below. log_mod_fits f me s r c h (led (and_right (is_normal s.status) (leads f me s) t)) below) (others f me)
-    (all_filter (λ r. r < replica_count f) (λ r. not (eqb r me)) (numbers_below (replica_count f)) (numbers_are_below (replica_count f) (replica_count f) (omega arith)))))
-    (λ _. tt)
-
--- ---- log modifications
-
-report_fits : (f me leader : ℕ) (s : ReplicaData) → IsReplica f me → Fitting f s → leader < replica_count f → FitsOut (Replica me) (sync_report_to leader s)
-report_fits f me leader s c h below =
-    let most = c.most in
-    let synced = h.range.synced in
-    let few = h.range.few in
-    record { sender = replica_address f me c; receiver = omega (arith, below, most); message = (view_fits s.view h.range.view, omega (arith, synced, few)) }
-
-since_fits : (f me : ℕ) (s : ReplicaData) (count : ℕ) → IsReplica f me → Fitting f s → AllFit (Replica me) (replies_since s count)
-since_fits f me s count c h =
-    let es = drop count (synced_part s.log) in
-    all_flat_map (FitsOut (Replica me)) (λ (e : Entry). slow_replies s (id_of e.key) (lookup (id_eq (id_of e.key)) s.origin)) es
-    (all_imply FitsEntry (λ (e : Entry). AllFit (Replica me) (slow_replies s (id_of e.key) (lookup (id_eq (id_of e.key)) s.origin))) (λ e fits. slow_all f me s (id_of e.key) (lookup (id_eq (id_of e.key)) s.origin) c h fits.key.1 (origin_at f s (id_of e.key) h)) es
-    (all_drop FitsEntry count (synced_part s.log) (all_take FitsEntry s.log.synced s.log.entries h.entries.log)))
+-- ---- ids that are missing
 
 -- ids that are asked for, not too many
 pub record AreFew (xs : List Id) : Type 0 where
   pub few : length xs ≤ 64
   pub all : AllByRecursion id.fits xs
 
-fetch_fits : (f me leader : ℕ) (s : ReplicaData) (xs : List Id) → IsReplica f me → Fitting f s → leader < replica_count f → AreFew xs → AllFit (Replica me) (fetch_from leader s xs)
-fetch_fits f me leader s [] c h below few = tt
-fetch_fits f me leader s (x ∷ xs) c h below few =
-    let most = c.most in
-    (record { sender = replica_address f me c; receiver = omega (arith, below, most); message = (view_fits s.view h.range.view, ids_fit (x ∷ xs) (omega arith) few.few few.all) }, tt)
-
 -- keys that are left of those of a message
 pub record AreLeft (keys : List Key) (most : ℕ) : Type 0 where
   pub few : length keys ≤ most
   pub all : AllByRecursion key.fits keys
 
-if_found_left : (o : Option Entry) (missing : ReplicaData × List Key) (next : Entry → ReplicaData × List Key) (most : ℕ) → AreLeft missing.1 most → ((e : Entry) → AreLeft (next e).1 most) → AreLeft (if_found o missing next).1 most
-if_found_left None missing next most h k = h
-if_found_left (Some e) missing next most h k = k e
+all_rest : (P : Key → Type 0) (front rest : List Key) → AllByRecursion P (front ++ rest) → AllByRecursion P rest
+all_rest P [] rest all = all
+all_rest P (k ∷ front) rest all = all_rest P front rest all.1
 
-sync_left : (s : ReplicaData) (keys : List Key) (most : ℕ) → AreLeft keys most → AreLeft (sync_keys s keys).1 most
-unfolding sync_keys
-sync_left s [] most h = h
-sync_left s (key ∷ keys) most h =
+rest_left : (rest keys : List Key) (most : ℕ) → IsRest rest keys → AreLeft keys most → AreLeft rest most
+rest_left rest keys most r h =
     let few = h.few in
-    let none : AreLeft [] most = record { few = omega arith; all = tt } in
-    on_cond (λ (t : ReplicaData × List Key). AreLeft t.1 most) (may_sync s key) _ (s, [])
-    (λ _. if_found_left (found s (id_of key)) (s, key ∷ keys) _ most h (λ e. sync_left (synced_with s (record { key = key; command = e.command })) keys most (record { few = omega (arith, few); all = h.all.1 })))
-    (λ _. none)
+    let part = ap length r.whole ∙ length-append r.front rest in
+    record { few = omega (arith, few, part); all = all_rest key.fits r.front rest (subst (AllByRecursion key.fits) r.whole h.all) }
 
 missing_few : (s : ReplicaData) (keys : List Key) → AreLeft keys 64 → AreFew (missing_ids s keys)
 missing_few s keys h =
@@ -247,38 +126,9 @@ missing_few s keys h =
 
 -- the ids that are missing of those of a message
 pub wanted_few : (s after : ReplicaData) (keys : List Key) → AreLeft keys 64 → AreFew (missing_ids after (sync_keys s keys).1)
-wanted_few s after keys h = missing_few after (sync_keys s keys).1 (sync_left s keys 64 h)
+wanted_few s after keys h = missing_few after (sync_keys s keys).1 (rest_left (sync_keys s keys).1 keys 64 (sync_rest s keys) h)
 
--- a key of a message may be given to an entry of its id
-pub fit_names : (keys : List Key) → AllByRecursion key.fits keys → AllByRecursion (Renames FitsEntry) keys
-fit_names keys all = all_imply key.fits (Renames FitsEntry) (λ k fits. record { to = λ e own same. record { key = fits; command = own.command } }) keys all
-
-taken_fits : (f me leader : ℕ) (b : LogModBody) (s : ReplicaData) → IsReplica f me → Fitting f s → leader < replica_count f → AreLeft b.keys 64 → AllFit (Replica me) (taken_from leader b s).1
-taken_fits f me leader b s c h below left =
-    let keys = drop (s.log.synced - b.start) b.keys in
-    let fewer = length-drop (s.log.synced - b.start) b.keys in
-    let few = left.few in
-    let now : AreLeft keys 64 = record { few = omega (arith, few, fewer); all = all_drop key.fits (s.log.synced - b.start) b.keys left.all } in
-    let t = sync_keys s keys in
-    let after = committed_to (overtaken t.0) b.commit in
-    on_cond (λ (t : ReplicaData × List Out). AllFit (Replica me) t.1) (nat_lt s.log.synced b.start) (s, sync_report_to leader s ∷ []) (taken_in s leader b.commit t)
-    (λ _. (report_fits f me leader s c h below, tt))
-    (λ _.
-    let all : Fitting f after = record { range = after_in_range f b s h.range; entries = after_each FitsEntry b s (fit_names b.keys left.all) h.entries } in
-    all_append (FitsOut (Replica me)) (replies_since after s.log.synced) _ (since_fits f me after s.log.synced c all)
-    (all_append (FitsOut (Replica me)) (fetch_from leader after (missing_ids after t.1)) (sync_report_to leader after ∷ []) (fetch_fits f me leader after (missing_ids after t.1) c all below (wanted_few s after keys now))
-    (report_fits f me leader after c all below, tt)))
-
-pub log_mod_all : (f me : ℕ) (s : ReplicaData) (sender : ℕ) (b : LogModBody) → IsReplica f me → Fitting f s → sender < replica_count f → AreCounters f b.vector → AreLeft b.keys 64 → AllFit (Replica me) (log_mod_rule f me s sender b).1
-unfolding log_mod_rule
-log_mod_all f me s sender b c h below counters left =
-    let merged : Fitting f (with_vector me s b.vector) = record { range = vector_in_range f me s b.vector counters h.range; entries = record { log = h.entries.log; early = h.entries.early; late = h.entries.late } } in
-    on_cond (λ (t : ReplicaData × List Out). AllFit (Replica me) t.1) (is_normal s.status && (eqb b.view s.view && (eqb sender (leader_of f b.view) && not (leads f me s)))) _ (s, [])
-    (λ _. on_cond (λ (t : ReplicaData × List Out). AllFit (Replica me) t.1) (is_stray b.vector sender s.vector) (s, []) (taken_from sender b (with_vector me s b.vector)) (λ _. tt)
-    (λ _. taken_fits f me sender b (with_vector me s b.vector) c merged below left))
-    (λ _. tt)
-
--- ---- fetches
+-- ---- entries that are asked for
 
 asked_few : (xs : List Id) (es : List Entry) → HaveOwnIds (keys_of es) → length (filter (is_asked xs) es) ≤ length xs
 asked_few [] es own = none_asked es
@@ -300,12 +150,107 @@ asked_fit s xs log all few =
     entries_fit (filter test s.log.entries) (omega (arith, asked, few)) (record { rising = rising_filter test s.log.entries log.order.rising; own_ids = own_filter test s.log.entries log.order.own_ids })
     (all_filter FitsEntry test s.log.entries all)
 
-pub fetch_all : (f me : ℕ) (s : ReplicaData) (sender : ℕ) (b : FetchBody) → IsReplica f me → Fitting f s → (leads f me s ≡ true → IsLedLog s) → sender < replica_count f → length b.ids ≤ 64 → AllFit (Replica me) (fetch_rule f me s sender b).1
-unfolding fetch_rule
-fetch_all f me s sender b c h led below few =
-    let most = c.most in
-    on_cond (λ (t : ReplicaData × List Out). AllFit (Replica me) t.1) (is_normal s.status && (eqb b.view s.view && leads f me s)) _ (s, [])
-    (λ passed.
-    let log = led (and_right (eqb b.view s.view) (leads f me s) (and_right (is_normal s.status) _ passed)) in
-    (record { sender = replica_address f me c; receiver = omega (arith, below, most); message = (view_fits s.view h.range.view, asked_fit s b.ids log h.entries.log few) }, tt))
-    (λ _. tt)
+-- ---- one lemma a kind
+
+-- what is heard was in a frame
+abbrev pub HeardFits : Heard → Type 0
+HeardFits None = Unit {0}
+HeardFits (Some (from, m)) = HasAddress from × Fits m
+
+own_address : (f me : ℕ) → IsReplica f me → me ≤ 8
+own_address f me c = let most = c.most in let member = c.member in omega (arith, most, member)
+
+other_address : (f me : ℕ) (to : Actor) → IsReplica f me → IsOther f me to → HasAddress to
+other_address f me to c other = let most = c.most in let member = other.member in let le : other.replica ≤ 8 = omega (arith, most, member) in subst HasAddress (sym other.is) le
+
+held_fits : (es : List Entry) (i : Id) → AllByRecursion FitsEntry es → has_id (keys_of es) i ≡ true → id.fits i
+held_fits [] i all h = absurd cc
+held_fits (e ∷ es) i all h = elim (or_cases (id_eq i (id_of e.key)) (has_id (keys_of es) i) h) [ inl here ↦ subst id.fits (sym (same_id i (id_of e.key) here)) all.0.key.1 | inr rest ↦ held_fits es i all.1 rest ]
+
+place_fits : (f me : ℕ) (s : ReplicaData) (i : Id) (place : ℕ) → HasFacts f me s → place_of s.log.entries i ≡ Some place → id.fits i
+place_fits f me s i place h at = held_fits s.log.entries i (each_fits f me s h).log (sym (place_held s.log.entries i) ∙ ap is_some at)
+
+origin_fits : (f me : ℕ) (s : ReplicaData) (i : Id) (origin : Origin) → HasFacts f me s → lookup (id_eq i) s.origin ≡ Some origin → IsKnown (i, origin)
+origin_fits f me s i origin h known = subst (λ o. IfSome o (λ v. IsKnown (i, v))) known (lookup_each IsKnown s.origin i h.tables.origins)
+
+fast_fits : (f me : ℕ) (before s : ReplicaData) (to : Actor) (b : FastReplyBody) → IsReplica f me → before.view ≤ last_view → HasFacts f me s → ShowsFast f me before s to b → FitsOut (Replica me) (to, messages.FastReply b)
+fast_fits f me before s to b c low h w =
+    let from = origin_fits f me s b.id w.origin h w.known in
+    let slow = from.delay in
+    let delay = w.delay in
+    let answers : IfSome (cond (leads f me before) (slice_get s.results w.place) None) answer.fits =
+    on_cond (λ o. IfSome o answer.fits) (leads f me before) (slice_get s.results w.place) None (λ _. all_get answer.fits s.results w.place h.executed.answers) (λ _. tt) in
+    record {
+      sender = own_address f me c;
+      receiver = subst HasAddress (sym w.receiver) from.proxy;
+      message = (
+        subst view.fits (sym w.view) (view_fits before.view low),
+        (
+          place_fits f me s b.id w.place h w.stands,
+          (
+            ap length w.digest ∙ length-digest (map entry_key (take (suc w.place) s.log.entries)),
+            (
+              subst (λ u. vector.fits u) (sym w.vector) (vector_fits f s.vector c.least c.most h.tables.vector),
+              (
+                omega (arith, slow, delay),
+                subst (λ o. IfSome o answer.fits) (sym w.answer) answers,
+              ),
+            ),
+          ),
+        ),
+      );
+    }
+
+slow_fits : (f me : ℕ) (s : ReplicaData) (to : Actor) (b : SlowReplyBody) → IsReplica f me → HasFacts f me s → ShowsSlow f me s to b → FitsOut (Replica me) (to, messages.SlowReply b)
+slow_fits f me s to b c h w =
+    let from = origin_fits f me s b.id w.origin h w.known in
+    let slow = from.delay in
+    let fit : Fits (messages.SlowReply (record { view = s.view; id = b.id; delay = w.origin.delay })) = (view_fits s.view h.bounds.view, (place_fits f me s b.id w.place h w.stands, omega (arith, slow))) in
+    record { sender = own_address f me c; receiver = subst HasAddress (sym w.receiver) from.proxy; message = subst (λ (x : SlowReplyBody). Fits (messages.SlowReply x)) (sym w.read) fit }
+
+log_mod_fits : (f me : ℕ) (s : ReplicaData) (to : Actor) (b : LogModBody) → IsReplica f me → HasFacts f me s → ShowsLogMod f me s to b → FitsOut (Replica me) (to, messages.LogMod b)
+log_mod_fits f me s to b c h w =
+    let start = slice_index s.ack w.receiver.replica in
+    let acked : start ≤ most_entries = all_index (λ n. n ≤ most_entries) s.ack w.receiver.replica 0 h.tables.few (omega arith) in
+    let commit = h.commit in
+    let within = h.entries.within in
+    let few = h.entries.few in
+    let fit : Fits (messages.LogMod (told_from s start)) = (view_fits s.view h.bounds.view, (vector_fits f s.vector c.least c.most h.tables.vector, (omega (arith, commit, within, few), (omega (arith, acked), told_keys_fit s start (led_log f me s h) (each_fits f me s h).log)))) in
+    record { sender = own_address f me c; receiver = other_address f me to c w.receiver; message = subst (λ (x : LogModBody). Fits (messages.LogMod x)) (sym w.read) fit }
+
+fetch_fits : (f me : ℕ) (heard : Heard) (s : ReplicaData) (to : Actor) (b : FetchBody) → IsReplica f me → HeardFits heard → HasFacts f me s → ShowsFetch f me heard s to b → FitsOut (Replica me) (to, messages.Fetch b)
+fetch_fits f me heard s to b c k h w =
+    let told : keys.fits w.told.keys = (subst HeardFits w.hears k).1.1.1.1.1 in
+    let left = rest_left w.keys w.told.keys 64 w.rest (record { few = few_keys w.told.keys told; all = keys_of_fit w.told.keys told }) in
+    let asked : AreFew b.ids = subst AreFew (sym w.read) (missing_few s w.keys left) in
+    record {
+      sender = own_address f me c;
+      receiver = other_address f me to c w.receiver;
+      message = (subst view.fits (sym w.view) (view_fits s.view h.bounds.view), ids_fit b.ids w.some asked.few asked.all);
+    }
+
+fetch_reply_fits : (f me : ℕ) (heard : Heard) (s : ReplicaData) (to : Actor) (b : FetchReplyBody) → IsReplica f me → HeardFits heard → HasFacts f me s → ShowsFetchReply f me heard s to b → FitsOut (Replica me) (to, messages.FetchReply b)
+fetch_reply_fits f me heard s to b c k h w =
+    let ask = subst HeardFits w.hears k in
+    record {
+      sender = own_address f me c;
+      receiver = subst HasAddress (sym w.receiver) ask.0;
+      message = (subst view.fits (sym w.view) (view_fits s.view h.bounds.view), subst (entries 0 64).fits (sym w.read) (asked_fit s w.ask.ids (led_log f me s h) (each_fits f me s h).log (few_ids w.ask.ids ask.1.1)));
+    }
+
+report_fits : (f me : ℕ) (s : ReplicaData) (to : Actor) (b : SyncReportBody) → IsReplica f me → HasFacts f me s → ShowsReport f me s to b → FitsOut (Replica me) (to, messages.SyncReport b)
+report_fits f me s to b c h w =
+    let within = h.entries.within in
+    let few = h.entries.few in
+    let fit : Fits (messages.SyncReport (record { view = s.view; synced = s.log.synced })) = (view_fits s.view h.bounds.view, omega (arith, within, few)) in
+    record { sender = own_address f me c; receiver = other_address f me to c w.receiver; message = subst (λ (x : SyncReportBody). Fits (messages.SyncReport x)) (sym w.read) fit }
+
+-- what a replica shows fits
+pub shows_fit : (f me : ℕ) (heard : Heard) (before s : ReplicaData) (to : Actor) (m : Message) → IsReplica f me → HeardFits heard → HasFacts f me before → HasFacts f me s → ReplicaShows f me heard before s to m → FitsOut (Replica me) (to, m)
+shows_fit f me heard before s to (messages.FastReply b) c k was h w = fast_fits f me before s to b c was.bounds.view h w
+shows_fit f me heard before s to (messages.SlowReply b) c k was h w = slow_fits f me s to b c h w
+shows_fit f me heard before s to (messages.LogMod b) c k was h w = log_mod_fits f me s to b c h w
+shows_fit f me heard before s to (messages.Fetch b) c k was h w = fetch_fits f me heard s to b c k h w
+shows_fit f me heard before s to (messages.FetchReply b) c k was h w = fetch_reply_fits f me heard s to b c k h w
+shows_fit f me heard before s to (messages.SyncReport b) c k was h w = report_fits f me s to b c h w
+shows_fit f me heard before s to _ c k was h w = absurd w

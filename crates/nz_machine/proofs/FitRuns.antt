@@ -7,17 +7,19 @@ use Rattle.nz_msg.specs.declared.message.Message.{Message}
 use Rattle.nz_machine.specs.declared.event.Record.{Record}
 use Rattle.nz_machine.specs.State.{ProxyData, State, Group, Out}
 use Rattle.nz_machine.specs.Proxies.{first_proxy, clock_rule}
-use Rattle.nz_machine.specs.Step.{first, script_of, proxy_message, message_step, tick_step, crash_step, restart_step}
+use Rattle.nz_machine.specs.Step.{first, script_of, proxy_message, replica_message, tick_rule, message_step, tick_step, alarm_step, crash_step, restart_step}
+use Rattle.nz_machine.specs.Facts.{HasFacts}
 use Rattle.nz_machine.specs.World.{state_after, IsGroup, IsMember, World}
-use Rattle.nz_machine.proofs.Runs.{FitsOut, Hears, Holds, Keeps, holds, on_cond, group_of}
+use Rattle.nz_machine.proofs.Runs.{FitsOut, Hears, Holds, Keeps, holds, on_cond, unless_down, group_of}
 use Rattle.nz_machine.proofs.FitReplicas.{IsReplica, AllFit}
-use Rattle.nz_machine.proofs.FitSteps.{FitsReplica, first_fits, message_fits, tick_fits}
+use Rattle.nz_machine.proofs.FitSteps.{ReplicaStep, message_fits, tick_fits}
+use Rattle.nz_machine.proofs.Keeping.{first_has_facts}
 use Rattle.nz_machine.proofs.FitProxies.{IsProxy, FitsProxy, ProxyStep, first_proxy_fits, crashed_fits, proxy_message_fits, proxy_tick_fits}
 use Rattle.nz_machine.proofs.FitClients.{FitsClient, client_of, client_message_fits, client_tick_fits}
 
 -- an actor's state fits
 abbrev pub FitsState : Group → (a : Actor) → State a → Type 0
-FitsState g (Replica r) s = FitsReplica g.f r s
+FitsState g (Replica r) s = HasFacts g.f r s
 FitsState g (Proxy p) s = FitsProxy g.f s
 FitsState g (Client c) s = FitsClient (script_of g c) s
 
@@ -34,7 +36,7 @@ proxy_of : (g : Group) (p : ℕ) → IsGroup g → p < g.proxies → IsProxy g.f
 proxy_of g p h member = let most = h.most_proxies in record { least = h.least_f; most = h.most_f; address = omega (arith, member, most) }
 
 start_fits : (g : Group) (a : Actor) → FitsState g a (first g a)
-start_fits g (Replica r) = first_fits g.f r
+start_fits g (Replica r) = first_has_facts g.f r
 start_fits g (Proxy p) = first_proxy_fits g.f
 start_fits g (Client c) = record { sent = omega arith }
 
@@ -48,28 +50,37 @@ up_or_down g p s true t h step = record { state = h; sends = tt }
 up_or_down g p s false t h step = step
 
 message_step_fits : (g : Group) (a : Actor) (s : State a) (from : Actor) (m : Message) → IsGroup g → IsMember g a → Hears g.f a from m → FitsOut from (a, m) → FitsState g a s → StepFits g a (message_step g a s from m)
-message_step_fits g (Replica r) s from m group member hears fit h = let t = message_fits g.f r s from m (replica_of g r group member) hears fit h in record { state = t.state; sends = t.sends }
+message_step_fits g (Replica r) s from m group member hears fit h =
+    let t = unless_down (ReplicaStep g.f r) s (replica_message g.f r s from m) (record { state = h; sends = tt }) (message_fits g.f r s from m (replica_of g r group member) hears fit h) in
+    record { state = t.state; sends = t.sends }
 message_step_fits g (Proxy p) s from m group member hears fit h =
     let t = up_or_down g p s s.is_down (proxy_message g.f s from m) h (proxy_message_fits g.f p s from m (proxy_of g p group member) hears fit h) in
     record { state = t.state; sends = t.sends }
 message_step_fits g (Client c) s from m group member hears fit h = let t = client_message_fits g.proxies c (script_of g c) s from m (client_of g c group member) h in record { state = t.state; sends = t.sends }
 
 tick_step_fits : (g : Group) (a : Actor) (s : State a) (clock : ℕ) → IsGroup g → IsMember g a → FitsState g a s → StepFits g a (tick_step g a s clock)
-tick_step_fits g (Replica r) s clock group member h = let t = tick_fits g.f r s clock (replica_of g r group member) h in record { state = t.state; sends = t.sends }
+tick_step_fits g (Replica r) s clock group member h =
+    let t = unless_down (ReplicaStep g.f r) s (tick_rule g.f r s clock) (record { state = h; sends = tt }) (tick_fits g.f r s clock (replica_of g r group member) h) in
+    record { state = t.state; sends = t.sends }
 tick_step_fits g (Proxy p) s clock group member h =
     let t = up_or_down g p s s.is_down (clock_rule s clock, []) h (record { state = proxy_tick_fits g.f s clock h; sends = tt }) in
     record { state = t.state; sends = t.sends }
 tick_step_fits g (Client c) s clock group member h = let t = client_tick_fits g.proxies c (script_of g c) s (client_of g c group member) h in record { state = t.state; sends = t.sends }
 
-crash_fits : (g : Group) (a : Actor) (s : State a) → FitsState g a s → FitsState g a (crash_step g a s)
-crash_fits g (Replica r) s h = h
-crash_fits g (Proxy p) s h = crashed_fits g.f
-crash_fits g (Client c) s h = h
+alarm_fits : (g : Group) (a : Actor) (s : State a) → FitsState g a s → StepFits g a (alarm_step g a s)
+alarm_fits g (Replica r) s h = record { state = h; sends = tt }
+alarm_fits g (Proxy p) s h = record { state = h; sends = tt }
+alarm_fits g (Client c) s h = record { state = h; sends = tt }
 
-restart_fits : (g : Group) (a : Actor) (s : State a) (nonce : ℕ) → FitsState g a s → FitsState g a (restart_step g a s nonce)
-restart_fits g (Replica r) s nonce h = h
-restart_fits g (Proxy p) s nonce h = on_cond (FitsProxy g.f) s.is_down (first_proxy g.f) s (λ _. first_proxy_fits g.f) (λ _. h)
-restart_fits g (Client c) s nonce h = h
+crash_fits : (g : Group) (a : Actor) (s : State a) → FitsState g a s → StepFits g a (crash_step g a s)
+crash_fits g (Replica r) s h = record { state = h; sends = tt }
+crash_fits g (Proxy p) s h = record { state = crashed_fits g.f; sends = tt }
+crash_fits g (Client c) s h = record { state = h; sends = tt }
+
+restart_fits : (g : Group) (a : Actor) (s : State a) (nonce : ℕ) → FitsState g a s → StepFits g a (restart_step g a s nonce)
+restart_fits g (Replica r) s nonce h = record { state = h; sends = tt }
+restart_fits g (Proxy p) s nonce h = record { state = on_cond (FitsProxy g.f) s.is_down (first_proxy g.f) s (λ _. first_proxy_fits g.f) (λ _. h); sends = tt }
+restart_fits g (Client c) s nonce h = record { state = h; sends = tt }
 
 pub fits_keep : (g : Group) → Keeps g (Fitted g) (FittedState g)
 fits_keep g = record {
@@ -79,8 +90,9 @@ fits_keep g = record {
   state_stays = λ J r w a s q. q;
   message = λ J r w from m hears p q now. let t = message_step_fits g r.actor (state_after g r.actor J) from m (group_of g J w.1) w.0.member hears p q in (t.state, t.sends);
   tick = λ J r w c le q now. let t = tick_step_fits g r.actor (state_after g r.actor J) c (group_of g J w.1) w.0.member q in (t.state, t.sends);
-  crash = λ J r w q. crash_fits g r.actor (state_after g r.actor J) q;
-  restart = λ J r w nonce q. restart_fits g r.actor (state_after g r.actor J) nonce q;
+  alarm = λ J r w q now. let t = alarm_fits g r.actor (state_after g r.actor J) q in (t.state, t.sends);
+  crash = λ J r w q now. let t = crash_fits g r.actor (state_after g r.actor J) q in (t.state, t.sends);
+  restart = λ J r w nonce q now. let t = restart_fits g r.actor (state_after g r.actor J) nonce q in (t.state, t.sends);
 }
 
 pub all_fit : (g : Group) (J : List Record) → World g J → Holds g (Fitted g) (FittedState g) J

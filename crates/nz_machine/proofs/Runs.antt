@@ -14,9 +14,9 @@ use Rattle.nz_machine.specs.declared.event.Parcel.{Parcel}
 use Rattle.nz_machine.specs.declared.event.Event.{Event}
 use Rattle.nz_machine.specs.declared.event.Event.TheVariants.{Deliver, Cut, Tick, Alarm, Crash, Restart}
 use Rattle.nz_machine.specs.declared.event.Record.{Record}
-use Rattle.nz_machine.specs.State.{State, Group, Out}
-use Rattle.nz_machine.specs.Replicas.{last_clock}
-use Rattle.nz_machine.specs.Step.{first, is_in_cluster, is_sized, vector_of, is_for, heard_if, heard, counted, received, message_step, envelope_step, tick_step, crash_step, restart_step, event_step, parcel}
+use Rattle.nz_machine.specs.State.{ReplicaData, State, Group, Out}
+use Rattle.nz_machine.specs.Replicas.{last_clock, is_down}
+use Rattle.nz_machine.specs.Step.{first, is_in_cluster, is_sized, vector_of, is_for, heard_if, heard, counted, received, message_step, envelope_step, tick_step, alarm_step, crash_step, restart_step, event_step, parcel}
 use Rattle.nz_machine.specs.World.{state_after, sent_in, Has, IsGroup, MayHappen, World}
 use Rattle.nz_machine.proofs.Each.{all_imply}
 
@@ -75,6 +75,10 @@ all_has P (z ∷ xs) x all (inr h) = all_has P xs x all.1 h
 pub on_cond : {X : Type 0} (P : X → Type 0) (b : Bool) (x y : X) → (b ≡ true → P x) → (b ≡ false → P y) → P (cond b x y)
 on_cond P true x y f h = f refl
 on_cond P false x y f h = h refl
+
+-- what is down does nothing
+pub unless_down : (P : ReplicaData × List Out → Type 0) (s : ReplicaData) (t : ReplicaData × List Out) → P (s, []) → P t → P (cond (is_down s.status) (s, []) t)
+unless_down P s t h k = on_cond P (is_down s.status) (s, []) t (λ _. h) (λ _. k)
 
 -- ---- sends
 
@@ -180,8 +184,15 @@ module _ (g : Group) (P : List Record → Actor → Out → Type 0) (Q : List Re
     pub tick : (J : List Record) (r : Record) → World g (r ∷ J) → (c : ℕ) → c ≤ last_clock → Q J r.actor (state_after g r.actor J)
         → state_after g r.actor (r ∷ J) ≡ (tick_step g r.actor (state_after g r.actor J) c).0
         → StepHas (r ∷ J) r.actor (tick_step g r.actor (state_after g r.actor J) c)
-    pub crash : (J : List Record) (r : Record) → World g (r ∷ J) → Q J r.actor (state_after g r.actor J) → Q (r ∷ J) r.actor (crash_step g r.actor (state_after g r.actor J))
-    pub restart : (J : List Record) (r : Record) → World g (r ∷ J) → (nonce : ℕ) → Q J r.actor (state_after g r.actor J) → Q (r ∷ J) r.actor (restart_step g r.actor (state_after g r.actor J) nonce)
+    pub alarm : (J : List Record) (r : Record) → World g (r ∷ J) → Q J r.actor (state_after g r.actor J)
+        → state_after g r.actor (r ∷ J) ≡ (alarm_step g r.actor (state_after g r.actor J)).0
+        → StepHas (r ∷ J) r.actor (alarm_step g r.actor (state_after g r.actor J))
+    pub crash : (J : List Record) (r : Record) → World g (r ∷ J) → Q J r.actor (state_after g r.actor J)
+        → state_after g r.actor (r ∷ J) ≡ (crash_step g r.actor (state_after g r.actor J)).0
+        → StepHas (r ∷ J) r.actor (crash_step g r.actor (state_after g r.actor J))
+    pub restart : (J : List Record) (r : Record) → World g (r ∷ J) → (nonce : ℕ) → Q J r.actor (state_after g r.actor J)
+        → state_after g r.actor (r ∷ J) ≡ (restart_step g r.actor (state_after g r.actor J) nonce).0
+        → StepHas (r ∷ J) r.actor (restart_step g r.actor (state_after g r.actor J) nonce)
 
   -- a message that was sent to the actor
   pub record ReadsMessage (J : List Record) (a : Actor) (x : Option Envelope) : Type 0 where
@@ -228,9 +239,9 @@ module _ (g : Group) (P : List Record → Actor → Out → Type 0) (Q : List Re
   event_keeps k J r w h (Deliver q) may now = envelope_keeps k J r w (h.states r.actor) (received g.f r.actor q) (delivered k J h r.actor q may) now
   event_keeps k J r w h (Cut q kept) may now = (k.state_stays J r w r.actor _ (h.states r.actor), tt)
   event_keeps k J r w h (Tick c) may now = k.tick J r w c may (h.states r.actor) now
-  event_keeps k J r w h Alarm may now = (k.state_stays J r w r.actor _ (h.states r.actor), tt)
-  event_keeps k J r w h Crash may now = (k.crash J r w (h.states r.actor), tt)
-  event_keeps k J r w h (Restart n) may now = (k.restart J r w n (h.states r.actor), tt)
+  event_keeps k J r w h Alarm may now = k.alarm J r w (h.states r.actor) now
+  event_keeps k J r w h Crash may now = k.crash J r w (h.states r.actor) now
+  event_keeps k J r w h (Restart n) may now = k.restart J r w n (h.states r.actor) now
 
   state_keeps : Keeps → (J : List Record) (r : Record) → World g (r ∷ J) → Holds J → Q (r ∷ J) r.actor (event_step g r.actor (state_after g r.actor J) r.event).0
       → (a : Actor) (b : Bool) → actor_eq r.actor a ≡ b → Q (r ∷ J) a (state_after g a (r ∷ J))
@@ -272,8 +283,15 @@ module _ (g : Group) (P : List Record → Actor → Out → Type 0) (Q : List Re
     pub tick : (J : List Record) (r : Record) → World g (r ∷ J) → (c : ℕ) → c ≤ last_clock → Q J r.actor (state_after g r.actor J) → R J r.actor (state_after g r.actor J)
         → state_after g r.actor (r ∷ J) ≡ (tick_step g r.actor (state_after g r.actor J) c).0
         → StepHas g F R (r ∷ J) r.actor (tick_step g r.actor (state_after g r.actor J) c)
-    pub crash : (J : List Record) (r : Record) → World g (r ∷ J) → R J r.actor (state_after g r.actor J) → R (r ∷ J) r.actor (crash_step g r.actor (state_after g r.actor J))
-    pub restart : (J : List Record) (r : Record) → World g (r ∷ J) → (nonce : ℕ) → R J r.actor (state_after g r.actor J) → R (r ∷ J) r.actor (restart_step g r.actor (state_after g r.actor J) nonce)
+    pub alarm : (J : List Record) (r : Record) → World g (r ∷ J) → Q J r.actor (state_after g r.actor J) → R J r.actor (state_after g r.actor J)
+        → state_after g r.actor (r ∷ J) ≡ (alarm_step g r.actor (state_after g r.actor J)).0
+        → StepHas g F R (r ∷ J) r.actor (alarm_step g r.actor (state_after g r.actor J))
+    pub crash : (J : List Record) (r : Record) → World g (r ∷ J) → Q J r.actor (state_after g r.actor J) → R J r.actor (state_after g r.actor J)
+        → state_after g r.actor (r ∷ J) ≡ (crash_step g r.actor (state_after g r.actor J)).0
+        → StepHas g F R (r ∷ J) r.actor (crash_step g r.actor (state_after g r.actor J))
+    pub restart : (J : List Record) (r : Record) → World g (r ∷ J) → (nonce : ℕ) → Q J r.actor (state_after g r.actor J) → R J r.actor (state_after g r.actor J)
+        → state_after g r.actor (r ∷ J) ≡ (restart_step g r.actor (state_after g r.actor J) nonce).0
+        → StepHas g F R (r ∷ J) r.actor (restart_step g r.actor (state_after g r.actor J) nonce)
 
   abbrev pub BothSent : List Record → Actor → Out → Type 0
   BothSent J a o = P J a o × F J a o
@@ -296,6 +314,7 @@ module _ (g : Group) (P : List Record → Actor → Out → Type 0) (Q : List Re
     state_stays = λ J r w a s q. (k.state_stays J r w a s q.0, m.state_stays J r w a s q.1);
     message = λ J r w from msg hears p q now. both_steps (r ∷ J) r.actor _ (k.message J r w from msg hears p.0 q.0 now) (m.message J r w from msg hears p.0 p.1 q.0 q.1 now);
     tick = λ J r w c le q now. both_steps (r ∷ J) r.actor _ (k.tick J r w c le q.0 now) (m.tick J r w c le q.0 q.1 now);
-    crash = λ J r w q. (k.crash J r w q.0, m.crash J r w q.1);
-    restart = λ J r w n q. (k.restart J r w n q.0, m.restart J r w n q.1);
+    alarm = λ J r w q now. both_steps (r ∷ J) r.actor _ (k.alarm J r w q.0 now) (m.alarm J r w q.0 q.1 now);
+    crash = λ J r w q now. both_steps (r ∷ J) r.actor _ (k.crash J r w q.0 now) (m.crash J r w q.0 q.1 now);
+    restart = λ J r w n q now. both_steps (r ∷ J) r.actor _ (k.restart J r w n q.0 now) (m.restart J r w n q.0 q.1 now);
   }

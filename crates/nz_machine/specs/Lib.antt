@@ -17,3 +17,5 @@ pub mod OneHistory
 pub mod Schedule
 pub mod Journals
 pub mod Telling
+pub mod Hearing
+pub mod Shows

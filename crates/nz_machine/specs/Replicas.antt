@@ -36,9 +36,26 @@ is_normal ViewChange = false
 is_normal Rejoining = false
 is_normal Down = false
 
+-- Out of service: it ran out of memory, or has crashed and is not back.
+abbrev pub is_down : Status → Bool
+is_down Normal = false
+is_down ViewChange = false
+is_down Rejoining = false
+is_down Down = true
+
 -- Whether the replica with this number leads the view that it is in.
 abbrev pub leads : ℕ → ℕ → ReplicaData → Bool
 leads f me s = leader_of f s.view == me
+
+-- ---- stages of a rule
+
+-- One stage of a rule after another: the second goes on from the state that the first leaves, and what it
+-- sends follows what the first sends.
+infixl 10 ◌and_then◌
+abbrev pub ◌and_then◌ : ReplicaData × List Out → (ReplicaData → ReplicaData × List Out) → ReplicaData × List Out
+t and_then next = let u = next t.0 in (u.0, t.1 ++ u.1)
+
+-- ---- the commands of entries
 
 -- The commands of some entries, in order.
 abbrev pub commands : List Entry → List (List ℕ)

@@ -1,5 +1,5 @@
 -- One step of an actor: which rule an event comes to.
-use Rattle.std.specs.Prelude.{ℕ, Bool, true, ◌&&◌, not, ◌==◌, List, [], ◌++◌, length, map, Option, Some, None, Result, Ok, Err, nat_lt, if◌then◌else◌, slice_index_or}
+use Rattle.std.specs.Prelude.{ℕ, Bool, true, ◌&&◌, not, ◌==◌, List, [], length, map, Option, Some, None, Result, Ok, Err, nat_lt, if◌then◌else◌, slice_index_or}
 use Rattle.nz_base.specs.Actor.{actor_eq}
 use Rattle.nz_base.specs.Cluster.{replica_count}
 use Rattle.nz_base.specs.declared.actor.Actor.{Actor}
@@ -14,7 +14,7 @@ use Rattle.nz_machine.specs.declared.event.Event.{Event}
 use Rattle.nz_machine.specs.declared.event.Event.TheVariants.{Deliver, Cut, Tick, Alarm, Crash, Restart}
 use Rattle.nz_machine.specs.declared.event.Parcel.{Parcel}
 use Rattle.nz_machine.specs.State.{ReplicaData, ProxyData, ClientData, State, Group, Out}
-use Rattle.nz_machine.specs.Replicas.{first_replica}
+use Rattle.nz_machine.specs.Replicas.{first_replica, is_down, ◌and_then◌}
 use Rattle.nz_machine.specs.Requests.{request_rule}
 use Rattle.nz_machine.specs.Releases.{release_rule}
 use Rattle.nz_machine.specs.LogMods.{told, log_mod_rule, fetch_rule, fetch_reply_rule, sync_report_rule}
@@ -103,9 +103,9 @@ abbrev pub client_message : ℕ → ℕ → List Request → ClientData → Acto
 client_message proxies me script s (Proxy p) (messages.Answer b) = accept_rule proxies me script s b
 client_message proxies me script s _ _ = (s, [])
 
--- A proxy that is down hears nothing.
+-- A replica or a proxy that is down hears nothing.
 abbrev pub message_step : Group → (a : Actor) → State a → Actor → Message → State a × List Out
-message_step g (Replica r) s from m = replica_message g.f r s from m
+message_step g (Replica r) s from m = if is_down s.status then (s, []) else replica_message g.f r s from m
 message_step g (Proxy p) s from m = if s.is_down then (s, []) else proxy_message g.f s from m
 message_step g (Client c) s from m = client_message g.proxies c (script_of g c) s from m
 
@@ -115,32 +115,40 @@ envelope_step g a s (Some e) = message_step g a s e.from e.message
 
 -- At a tick a replica releases what is due. Then the leader tells the others what its log has.
 abbrev pub tick_rule : ℕ → ℕ → ReplicaData → ℕ → ReplicaData × List Out
-tick_rule f me s clock = let t = release_rule f me s clock in (t.0, t.1 ++ told f me t.0)
+tick_rule f me s clock = release_rule f me s clock and_then (λ t. (t, told f me t))
 
+-- A replica or a proxy that is down has no clock.
 abbrev pub tick_step : Group → (a : Actor) → State a → ℕ → State a × List Out
-tick_step g (Replica r) s clock = tick_rule g.f r s clock
+tick_step g (Replica r) s clock = if is_down s.status then (s, []) else tick_rule g.f r s clock
 tick_step g (Proxy p) s clock = if s.is_down then (s, []) else (clock_rule s clock, [])
 tick_step g (Client c) s clock = wait_rule g.proxies c (script_of g c) s
 
+-- Alarms are for replicas. What one does then is still to come.
+abbrev pub alarm_step : Group → (a : Actor) → State a → State a × List Out
+alarm_step g (Replica r) s = (s, [])
+alarm_step g (Proxy p) s = (s, [])
+alarm_step g (Client c) s = (s, [])
+
 -- Clients do not crash. What a replica forgets in a crash, and how it rejoins, is still to come.
-abbrev pub crash_step : Group → (a : Actor) → State a → State a
-crash_step g (Replica r) s = s
-crash_step g (Proxy p) s = crashed_proxy g.f
-crash_step g (Client c) s = s
+abbrev pub crash_step : Group → (a : Actor) → State a → State a × List Out
+crash_step g (Replica r) s = (s, [])
+crash_step g (Proxy p) s = (crashed_proxy g.f, [])
+crash_step g (Client c) s = (s, [])
 
-abbrev pub restart_step : Group → (a : Actor) → State a → ℕ → State a
-restart_step g (Replica r) s nonce = s
-restart_step g (Proxy p) s nonce = restarted_proxy g.f s
-restart_step g (Client c) s nonce = s
+-- Clients do not restart.
+abbrev pub restart_step : Group → (a : Actor) → State a → ℕ → State a × List Out
+restart_step g (Replica r) s nonce = (s, [])
+restart_step g (Proxy p) s nonce = (restarted_proxy g.f s, [])
+restart_step g (Client c) s nonce = (s, [])
 
--- The state after an event, and what is sent. A cut parcel changes nothing, and an alarm nothing yet.
+-- The state after an event, and what is sent. A cut parcel changes nothing.
 abbrev pub event_step : Group → (a : Actor) → State a → Event → State a × List Out
 event_step g a s (Deliver p) = envelope_step g a s (received g.f a p)
 event_step g a s (Cut p kept) = (s, [])
 event_step g a s (Tick clock) = tick_step g a s clock
-event_step g a s Alarm = (s, [])
-event_step g a s Crash = (crash_step g a s, [])
-event_step g a s (Restart nonce) = (restart_step g a s nonce, [])
+event_step g a s Alarm = alarm_step g a s
+event_step g a s Crash = crash_step g a s
+event_step g a s (Restart nonce) = restart_step g a s nonce
 
 abbrev pub parcel : Actor → Out → Parcel
 parcel from o = record { from = from; to = o.0; frame = encode_of from o.0 o.1 }

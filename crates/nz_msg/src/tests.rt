@@ -4,7 +4,6 @@ ghost use Rattle.std.specs.Prelude.{◌<◌};
 use super::*;
 use bytes::Bytes;
 use nz_base::{Actor, Blob, NoMemory};
-use nz_frame::FrameRefusal;
 use std::alloc::Global;
 use std::test::Fail;
 
@@ -202,48 +201,6 @@ fn one_message_of_each_kind(rt: HostRuntime) -> Result<(), Fail> {
 
 fn is_refused(alloc: Global, bytes: &[u8], want: DecodeRefusal) -> bool {
     decode(alloc, bytes).err() == Some(want)
-}
-
-// Whether all that is left of a frame that is cut is refused as too short, at its end.
-fn cuts_are_short(alloc: Global, bytes: &[u8]) -> bool {
-    for end in 0..bytes.len() {
-        let want = FrameRefusal::Short {
-            place: end.min(1000) as u32,
-        };
-        if !is_refused(alloc, &bytes[..end], DecodeRefusal::Frame(want)) {
-            return false;
-        }
-    }
-    true
-}
-
-#[test]
-fn frames_that_are_none(rt: HostRuntime) -> Result<(), Fail> {
-    let alloc = rt.alloc();
-    let request = bytes_of(alloc, REQUEST)?;
-    assert!(rt; cuts_are_short(alloc, &request));
-    let view_ask = bytes_of(alloc, VIEW_ASK)?;
-    assert!(rt; cuts_are_short(alloc, &view_ask));
-    let table = [
-        (
-            "0000000f01010040001000000001000302016100",
-            FrameRefusal::Trailing { place: 19 },
-        ),
-        (
-            "0000000f020100400010000000010003020161",
-            FrameRefusal::BadVersion { place: 4 },
-        ),
-        (
-            "0000000f011300400010000000010003020161",
-            FrameRefusal::BadKind { place: 5 },
-        ),
-        ("01000001", FrameRefusal::TooLong { place: 0 }),
-    ];
-    for (text, want) in table {
-        let bytes = bytes_of(alloc, text)?;
-        assert!(rt; is_refused(alloc, &bytes, DecodeRefusal::Frame(want)));
-    }
-    Ok(())
 }
 
 // Whether the frame of a line is refused at the line's place.

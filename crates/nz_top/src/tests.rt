@@ -87,47 +87,23 @@ fn scenarios(rt: HostRuntime) -> Result<(), Fail> {
     Ok(())
 }
 
-/// The head of a scenario with three replicas, one proxy and one client, and the first line of its block.
-const HEAD: &str = "nezha 1\nf 1\nproxies 1\nclients 1\nticks 10\nclient c0\n";
-
 #[test]
-fn bad_lines(rt: HostRuntime) -> Result<(), Fail> {
+fn a_line_of_each_refusal(rt: HostRuntime) -> Result<(), Fail> {
     let table = [
-        ("", "", "refused line 1: order\n"),
-        ("nezha 1\nf 0\nand so on\n", "", "refused line 2: limit\n"),
+        ("", "refused line 1: order\n"),
+        ("nezha 1\nf one\n", "refused line 2: syntax\n"),
+        ("nezha 1\nf 1\nproxies 9\n", "refused line 3: limit\n"),
         (
-            "nezha 1\nf 1\nproxies 1\nclients 65\n",
-            "",
-            "refused line 4: limit\n",
+            "nezha 1\nf 1\nproxies 1\nclients 1\nticks 10\nclient c1\n",
+            "refused line 6: name\n",
         ),
-        (HEAD, "end\ncrash r9 5\ndone\n", "refused line 8: name\n"),
-        (HEAD, "get a\n", "refused line 8: order\n"),
-        (HEAD, "put k\nend\ndone\n", "refused line 7: syntax\n"),
-        (HEAD, "get a\nend\ndone", "refused line 9: syntax\n"),
     ];
-    for (head, rest, line) in table {
-        let mut input = Vec::from_slice(rt.alloc(), head.as_bytes())?;
-        input.extend_from_slice(rest.as_bytes())?;
-        let (outcome, out) = answer(&rt, rt.alloc(), &plain(&["run"], &input))?;
+    for (input, line) in table {
+        let (outcome, out) = answer(&rt, rt.alloc(), &plain(&["run"], input.as_bytes()))?;
         assert_eq!(rt; outcome.status, Status::BadScenario);
         assert_eq!(rt; out.bytes(), line.as_bytes());
         assert!(rt; outcome.journal.is_none());
     }
-    Ok(())
-}
-
-#[test]
-fn values_and_inputs_that_are_too_long(rt: HostRuntime) -> Result<(), Fail> {
-    let mut input = Vec::from_slice(rt.alloc(), HEAD.as_bytes())?;
-    input.extend_from_slice(b"put k ")?;
-    input.extend_from_slice(vec![in rt.alloc(); b'v'; 257]?.as_slice())?;
-    input.extend_from_slice(b"\nend\ndone\n")?;
-    let (_, out) = answer(&rt, rt.alloc(), &plain(&["run"], &input))?;
-    assert_eq!(rt; out.bytes(), b"refused line 7: limit\n".as_slice());
-    // A comment, so that nothing but the length is wrong.
-    let comment = vec![in rt.alloc(); b'#'; 1_048_577]?;
-    let (_, out) = answer(&rt, rt.alloc(), &plain(&["run"], &comment))?;
-    assert_eq!(rt; out.bytes(), b"refused line 1: limit\n".as_slice());
     Ok(())
 }
 
@@ -173,6 +149,34 @@ fn a_drawn_run(rt: HostRuntime) -> Result<(), Fail> {
     assert_eq!(rt; outcome.status, Status::Done);
     let summary = b"sent 1\naccepted 1\nfast 1\nslow 0\nopen 0\nhistory 1\nend\n";
     assert_eq!(rt; out.bytes(), summary.as_slice());
+    Ok(())
+}
+
+/// The numbers of a summary, in the order of its lines.
+fn numbers_of(alloc: Global, summary: &[u8]) -> Result<Vec<u64>, Fail> {
+    let text = str::from_utf8(summary).ok().ok_or("a text")?;
+    let mut numbers = Vec::new(alloc);
+    for line in text.lines() {
+        if let Some((_, numeral)) = line.split_once(' ') {
+            numbers.push(numeral.parse().ok().ok_or("a number")?)?;
+        }
+    }
+    Ok(numbers)
+}
+
+#[test]
+fn a_drawn_run_of_2000_requests_twice(rt: HostRuntime) -> Result<(), Fail> {
+    let call = plain(&["gen", "7", "2000"], b"not read");
+    let (outcome, out) = answer(&rt, rt.alloc(), &call)?;
+    assert_eq!(rt; outcome.status, Status::Done);
+    let numbers = numbers_of(rt.alloc(), out.bytes())?;
+    let [sent, accepted, fast, slow, open, _] = numbers.as_slice() else {
+        return Err("six numbers".into());
+    };
+    assert_eq!(rt; accepted.checked_add(*open), Some(*sent));
+    assert_eq!(rt; fast.checked_add(*slow), Some(*accepted));
+    let (_, again) = answer(&rt, rt.alloc(), &call)?;
+    assert_eq!(rt; again.bytes(), out.bytes());
     Ok(())
 }
 
@@ -228,19 +232,4 @@ fn sinks_that_fail(rt: HostRuntime) -> Result<(), Fail> {
         assert!(rt; outcome.journal.is_some());
     }
     Ok(())
-}
-
-#[test]
-fn codes(rt: HostRuntime) {
-    let table = [
-        (Status::Done, 0u8),
-        (Status::Usage, 1),
-        (Status::BadScenario, 2),
-        (Status::ReadFault, 3),
-        (Status::WriteFault, 4),
-        (Status::NoMemory, 6),
-    ];
-    for (status, code) in table {
-        assert_eq!(rt; status.code(), code);
-    }
 }

@@ -10,6 +10,7 @@ ghost use Rattle.nz_machine.specs.Vectors.{with_vector};
 ghost use Rattle.nz_machine.specs.LogMods.{is_held, with_ack, with_commit, sync_keys, overtaken, committed_to, missing_ids};
 
 use super::super::data::Status;
+use super::super::parts::vector_fits;
 use super::super::reporting::reported;
 use super::super::taking::sync_parts;
 use super::ReplicaState;
@@ -24,6 +25,8 @@ impl ReplicaState {
         requires { length vector.now ≡ replica_count self.old.f }
         ensures { self.new ≡ record self.old { state = with_vector self.old.me self.old.state vector.now } }
     {
+        // Each of its counters has four bytes.
+        vector_fits(vector);
         self.vector.merge(vector, self.me);
     }
 

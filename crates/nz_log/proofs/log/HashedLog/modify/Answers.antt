@@ -1,16 +1,71 @@
-use Rattle.std.proofs.Common.{◌≡◌, ◌+◌, ◌<◌, true, false, List, length, sym, subst}
+use Rattle.std.proofs.Common.{◌≡◌, ◌+◌, ◌<◌, ◌≤◌, ◌++◌, ◌∷◌, true, false, List, ℕ, length, take, drop, sym, ap, subst, ◌∙◌, arith, Some, if◌then◌else◌}
+use Rattle.std.specs.List.{filter}
+use Rattle.std.specs.Map.{lookup}
+use Rattle.std.specs.Vec.{vec_capacity, vec_len}
+use Rattle.nz_base.specs.declared.key.Id.{Id}
 use Rattle.nz_base.specs.declared.key.Entry.{Entry}
-use Rattle.nz_base.specs.Key.{id_of}
+use Rattle.nz_base.specs.Key.{id_of, id_eq}
 use Rattle.nz_base.specs.Log.{keys_of, has_id, is_above_last}
-use Rattle.nz_log.specs.Synced.{IsSound, Log, synced_part}
-use Rattle.nz_log.proofs.Modifying.{modified_sound}
+use Rattle.nz_log.specs.Synced.{Log, IsSound, synced_part, unsynced_part, stays_behind, modified}
+use Rattle.nz_log.specs.Keeping.{IsKept, IsSummed}
+use Rattle.nz_log.proofs.Modifying.{kept_after, kept_long, modified_sound}
+use Rattle.nz_log.proofs.Keeping.{midway_put, sums_put}
 use Rattle.nz_log.proofs.log.HashedLog.modify.Goals as goal
+
+pub keep_above-requires-clause-midway : goal.keep_above-requires-clause-midway
+keep_above-requires-clause-midway c =
+    let e = c.args.entry in
+    let log : Log = record { entries = c.self.inside.entries; synced = c.self.inside.synced } in
+    let fresh = subst (λ (l : Log). has_id (keys_of (synced_part l)) (id_of e.key) ≡ false) (sym c.self.view_is) c.requires.fresh in
+    midway_put log e c.self.inside.digests.items c.self.inside.places.entries (λ i. lookup (id_eq i) c.set_place.new.places.entries) c.insert.new.self c.self.invariant fresh c.in_ok-insert.ensures.ok
+    (λ i. c.set_place.ensures i
+    ∙ ap (λ (j : Id). if id_eq j i then Some log.synced else lookup (id_eq i) c.reserve-2.new.self.entries) c.id.ensures
+    ∙ ap (λ (m : List (Id × ℕ)). if id_eq (id_of e.key) i then Some log.synced else lookup (id_eq i) m) c.reserve-2.ensures.entries)
+
+pub fold_from-requires-clause-room : goal.fold_from-requires-clause-room
+fold_from-requires-clause-room c =
+    let e = c.args.entry in
+    let es = c.self.inside.entries in
+    let place = c.self.inside.synced in
+    let within = c.self.invariant.sound.within in
+    let is = kept_after es place e c.insert.new.self c.keep_above.new.entries within c.in_ok-insert.ensures.ok c.keep_above.ensures.entries in
+    let long : length c.keep_above.new.entries ≤ length es + 1 = subst (λ (xs : List Entry). length xs ≤ length es + 1) (sym is) (kept_long es place e within) in
+    let count : length c.self.inside.digests.items ≡ length es = c.self.invariant.summed.count in
+    let items : length c.reserve.new.self.items ≡ length c.self.inside.digests.items = ap length c.reserve.ensures.items in
+    let size : length c.reserve.new.self.items ≡ vec_len c.reserve.new.self = sym c.reserve.new.self.ok.0 in
+    let ok : vec_len c.reserve.new.self + 1 ≤ vec_capacity c.reserve.new.self = c.in_ok-reserve.ensures.ok in
+    omega (arith, long, count, items, size, ok)
+
+pub fold_from-requires-clause-before : goal.fold_from-requires-clause-before
+fold_from-requires-clause-before c =
+    let e = c.args.entry in
+    let es = c.self.inside.entries in
+    let place = c.self.inside.synced in
+    let log : Log = record { entries = es; synced = place } in
+    let is = kept_after es place e c.insert.new.self c.keep_above.new.entries c.self.invariant.sound.within c.in_ok-insert.ensures.ok c.keep_above.ensures.entries in
+    subst (λ (ds : List (List ℕ)). IsSummed (take place c.keep_above.new.entries) (take place ds)) (sym c.reserve.ensures.items)
+    (sums_put log e c.self.inside.digests.items (filter (stays_behind e.key) (drop place es)) c.keep_above.new.entries c.self.invariant.sound c.self.invariant.summed is)
 
 pub invariant_of-self-2 : goal.invariant_of-self-2
 invariant_of-self-2 c =
-    let key = c.args.entry.key in
-    let log : Log = record { entries = c.self.inside.entries.items; synced = c.self.inside.synced } in
-    let above = subst (λ (l : Log). is_above_last (keys_of (synced_part l)) key ≡ true) (sym c.self.view_is) c.requires.above in
-    let fresh = subst (λ (l : Log). has_id (keys_of (synced_part l)) (id_of key) ≡ false) (sym c.self.view_is) c.requires.fresh in
+    let e = c.args.entry in
+    let es = c.self.inside.entries in
+    let place = c.self.inside.synced in
+    let log : Log = record { entries = es; synced = place } in
+    let above = subst (λ (l : Log). is_above_last (keys_of (synced_part l)) e.key ≡ true) (sym c.self.view_is) c.requires.above in
+    let fresh = subst (λ (l : Log). has_id (keys_of (synced_part l)) (id_of e.key) ≡ false) (sym c.self.view_is) c.requires.fresh in
     let room = subst (λ (l : Log). length l.entries < 4096) (sym c.self.view_is) c.requires.room in
-    subst (λ (xs : List Entry). IsSound (record { entries = xs; synced = c.self.inside.synced + 1 })) (sym c.in_ok-put_at.ensures.ok) (modified_sound log c.args.entry c.self.invariant above fresh room)
+    let is = kept_after es place e c.insert.new.self c.keep_above.new.entries c.self.invariant.sound.within c.in_ok-insert.ensures.ok c.keep_above.ensures.entries in
+    record {
+      sound = subst (λ (xs : List Entry). IsSound (record { entries = xs; synced = place + 1 })) (sym is) (modified_sound log e c.self.invariant.sound above fresh room);
+      summed = c.fold_from.ensures;
+      found = c.keep_above.ensures.places;
+    }
+
+pub returns-clause-ok : goal.returns-clause-ok
+returns-clause-ok c =
+    let e = c.args.entry in
+    let es = c.self.inside.entries in
+    let place = c.self.inside.synced in
+    let is = kept_after es place e c.insert.new.self c.keep_above.new.entries c.self.invariant.sound.within c.in_ok-insert.ensures.ok c.keep_above.ensures.entries in
+    ap (λ (xs : List Entry). record { entries = xs; synced = place + 1 }) is ∙ ap (λ (l : Log). modified l e) c.self.view_is

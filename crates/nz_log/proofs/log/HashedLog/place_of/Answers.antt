@@ -1,23 +1,15 @@
-use Rattle.std.proofs.Common.{◌≡◌, false, List, refl, sym, ap, subst, ◌∙◌}
-use Rattle.nz_base.specs.declared.key.Entry.{Entry}
-use Rattle.nz_base.specs.Log.{keys_of, has_id}
-use Rattle.nz_log.specs.Places.{IsFirstPlace}
+use Rattle.std.proofs.Common.{◌≡◌, ◌<◌, ℕ, length, Option, IfSome, is_some, sym, ap, subst, ◌∙◌}
+use Rattle.nz_log.specs.Places.{place_of}
 use Rattle.nz_log.specs.Synced.{Log}
-use Rattle.nz_log.proofs.Placing.{first_place, held_at, place_none}
+use Rattle.nz_log.proofs.Placing.{place_held}
+use Rattle.nz_log.proofs.Keeping.{place_within}
 use Rattle.nz_log.proofs.log.HashedLog.place_of.Goals as goal
 
--- the place that is found is one in the log
-at : (c : goal.In-Some) → IsFirstPlace c.args.self.now.entries c.args.id c.in-Some.place
-at c =
-    subst (λ (xs : List Entry). IsFirstPlace xs c.args.id c.in-Some.place) (c.deref.ensures.value ∙ ap (λ (l : Log). l.entries) c.self.view_is) c.in-Some.ensures.found
+is : (c : goal.After-copied) → c.copied.result ≡ place_of c.args.self.now.entries c.args.id
+is c = c.copied.ensures ∙ c.get.ensures.value ∙ c.self.invariant.found c.args.id ∙ ap (λ (l : Log). place_of l.entries c.args.id) c.self.view_is
 
-pub returns-in-Some-clause-value : goal.returns-in-Some-clause-value
-returns-in-Some-clause-value c = sym (first_place c.args.self.now.entries c.args.id c.in-Some.place (at c))
+pub returns-clause-held : goal.returns-clause-held
+returns-clause-held c = (λ some. sym (place_held c.args.self.now.entries c.args.id) ∙ ap is_some (sym (is c)) ∙ some, λ held. ap is_some (is c) ∙ place_held c.args.self.now.entries c.args.id ∙ held)
 
-pub returns-in-Some-clause-held : goal.returns-in-Some-clause-held
-returns-in-Some-clause-held c = (λ _. held_at c.args.self.now.entries c.args.id c.in-Some.place (at c).at, λ _. refl)
-
-pub returns-in-None-clause-value : goal.returns-in-None-clause-value
-returns-in-None-clause-value c =
-    let away = subst (λ (xs : List Entry). has_id (keys_of xs) c.args.id ≡ false) (c.deref.ensures.value ∙ ap (λ (l : Log). l.entries) c.self.view_is) c.in-None.ensures.none in
-    sym (place_none c.args.self.now.entries c.args.id away)
+pub returns-clause-within : goal.returns-clause-within
+returns-clause-within c = subst (λ (o : Option ℕ). IfSome o (λ place. place < length c.args.self.now.entries)) (sym (is c)) (place_within c.args.self.now.entries c.args.id)

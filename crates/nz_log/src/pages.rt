@@ -1,0 +1,158 @@
+//! The entries of a log.
+ghost use Rattle.std.specs.Prelude.{◌≡◌, ◌+◌, ◌≤◌, ◌<◌, [], ◌∷◌, ◌++◌, length, take, drop, OnOk, OnErr, IfOk, filter, slice_set, slice_index_or};
+ghost use Rattle.std.specs.Option.{option_copied};
+ghost use Rattle.nz_log.specs.Places.{last_entry};
+ghost use Rattle.nz_log.specs.Synced.{is_displaced};
+
+use nz_base::{Blob, Entry, EntryList, Key, List, NoMemory, TryCopy};
+use std::alloc::Global;
+use std::marker::Model;
+use std::mem;
+
+/// Entries in order. A clause sees the list of them.
+#[derive(Debug, Drop)]
+pub struct Pages {
+    items: Vec<Entry>,
+}
+
+impl Model for Pages {
+    ghost use Rattle.std.specs.Prelude.{List};
+    ghost use Rattle.nz_base.specs.declared.key.Entry.{Entry as AnEntry};
+
+    ghost Value = { List AnEntry };
+
+    ghost view = { λ p. p.items.items };
+}
+
+impl Pages {
+    pub fn new(alloc: Global) -> Pages
+        ensures { result ≡ [] }
+    {
+        Pages {
+            items: Vec::new(alloc),
+        }
+    }
+
+    pub fn alloc(&self) -> Global {
+        *self.items.allocator()
+    }
+
+    pub fn len(&self) -> usize
+        ensures { result ≡ length self.now }
+    {
+        self.items.len()
+    }
+
+    pub fn get(&self, place: usize) -> &Entry
+        requires { place < length self.now }
+        ensures { result.now ≡ slice_index_or self.now place result.now }
+    {
+        &self.items[place]
+    }
+
+    pub fn last(&self) -> Option<&Entry>
+        ensures { option_copied result ≡ last_entry self.now }
+    {
+        self.items.last()
+    }
+
+    /// Puts the entry last.
+    pub fn push(&mut self, entry: Entry) -> Result<(), NoMemory>
+        ensures ok { OnOk result (self.new ≡ self.old ++ entry ∷ []) }
+        ensures err { OnErr result (self.new ≡ self.old) }
+    {
+        self.items.push(entry)?;
+        Ok(())
+    }
+
+    /// Puts the entry in the place of another, which it answers.
+    pub fn replace(&mut self, place: usize, entry: Entry) -> Entry
+        requires { place < length self.old }
+        ensures value { result ≡ slice_index_or self.old place result }
+        ensures rest { self.new ≡ slice_set self.old place entry }
+    {
+        mem::replace(&mut self.items[place], entry)
+    }
+
+    /// Keeps so many entries, from the first on.
+    pub fn truncate(&mut self, len: usize)
+        ensures { self.new ≡ take len self.old }
+    {
+        self.items.truncate(len);
+    }
+
+    /// Copies of the entries.
+    pub fn copies(&self) -> Result<EntryList, NoMemory>
+        ensures { IfOk result (λ list. list ≡ self.now) }
+    {
+        let alloc = self.alloc();
+        let mut list = List::new(alloc);
+        for place in 0..self.len() {
+            list.push(self.get(place).copy(alloc)?)?;
+        }
+        Ok(list)
+    }
+
+    /// Copies of the entries from a place on that lose their places to one with this key.
+    pub fn displaced_by(&self, from: usize, key: Key) -> Result<EntryList, NoMemory>
+        requires { from ≤ length self.now }
+        ensures { IfOk result (λ list. list ≡ filter (is_displaced key) (drop from self.now)) }
+    {
+        let alloc = self.alloc();
+        let mut list = List::new(alloc);
+        for place in from..self.len() {
+            let entry = self.get(place);
+            if !key.is_below(&entry.key) && key.id() != entry.key.id() {
+                list.push(entry.copy(alloc)?)?;
+            }
+        }
+        Ok(list)
+    }
+
+    /// Puts the entry at a place. Those from there on move by one.
+    pub fn insert(&mut self, place: usize, entry: Entry) -> Result<(), NoMemory>
+        requires { place ≤ length self.old }
+        ensures ok { OnOk result (self.new ≡ take place self.old ++ entry ∷ drop place self.old) }
+        ensures err { OnErr result (self.new ≡ self.old) }
+    {
+        self.push(no_request(self.alloc()))?;
+        let _ = self.move_on(place, entry);
+        Ok(())
+    }
+
+    // Puts the entry at a place, and each from there on at the next place. It answers the last one.
+    fn move_on(&mut self, place: usize, entry: Entry) -> Entry
+        requires { place ≤ length self.old }
+        ensures { self.new ++ result ∷ [] ≡ take place self.old ++ entry ∷ drop place self.old }
+    {
+        let mut hand = entry;
+        for at in place..self.len() {
+            hand = self.replace(at, hand);
+        }
+        hand
+    }
+
+    /// Moves an entry down to a place. What was there is dropped, and what is left where it was is
+    /// of no request.
+    pub fn move_down(&mut self, from: usize, to: usize)
+        requires down { to ≤ from }
+        requires within { from < length self.old }
+        ensures len { length self.new ≡ length self.old }
+        ensures moved { (d : _) → take (to + 1) self.new ≡ take to self.old ++ slice_index_or self.old from d ∷ [] }
+        ensures above { drop (from + 1) self.new ≡ drop (from + 1) self.old }
+    {
+        let entry = self.replace(from, no_request(self.alloc()));
+        let _ = self.replace(to, entry);
+    }
+}
+
+// Holds a place for a moment.
+fn no_request(alloc: Global) -> Entry {
+    let key = Key {
+        deadline: 0,
+        client: 0,
+        num: 0,
+    };
+    let command = Blob::from_vec(Vec::new(alloc));
+    Entry { key, command }
+}

@@ -1,0 +1,206 @@
+-- What the rules of requests and releases send is what the states before and after show.
+use Rattle.std.proofs.Common.{◌≡◌, ℕ, ◌+◌, ◌-◌, ◌<◌, ◌&&◌, not, eqb, Bool, true, false, cond, List, [], ◌∷◌, ◌++◌, length, Option, Some, None, refl, sym, ap, subst, ◌∙◌, arith, ltb-true, append_assoc, length-append}
+use Rattle.std.specs.Prelude.{slice_get, nat_lt}
+use Rattle.std.specs.Map.{lookup}
+use Rattle.std.proofs.lemmas.Bool.{not-true}
+use Rattle.nz_base.specs.Prefixes.{IsPrefix}
+use Rattle.nz_base.specs.Cluster.{leader_of}
+use Rattle.nz_base.specs.declared.key.Id.{Id}
+use Rattle.nz_base.specs.declared.key.Entry.{Entry}
+use Rattle.nz_base.specs.Key.{id_eq, id_of}
+use Rattle.nz_base.specs.Log.{keys_of, HaveOwnIds}
+use Rattle.nz_base.proofs.Booleans.{and_left, and_right}
+use Rattle.nz_base.proofs.Logs.{own_front, keys_append}
+use Rattle.nz_base.proofs.Prefixes.{prefix_self, prefix_more, prefix_then}
+use Rattle.nz_store.specs.declared.command.Answer.{Answer}
+use Rattle.nz_log.specs.Places.{place_of}
+use Rattle.nz_log.specs.Synced.{Log}
+use Rattle.nz_msg.specs.declared.message.TimedBody.{TimedBody}
+use Rattle.nz_machine.specs.declared.data.Origin.{Origin}
+use Rattle.nz_machine.specs.declared.data.Status.{Status}
+use Rattle.nz_machine.specs.State.{ReplicaData, Out}
+use Rattle.nz_machine.specs.Replicas.{is_normal, leads, fast_replies, slow_replies}
+use Rattle.nz_machine.specs.Requests.{with_origin, replies_at, requested, unlogged, request_rule}
+use Rattle.nz_machine.specs.Releases.{appended, executed, released, release_replies, may_release, releases, at_clock, release_rule}
+use Rattle.nz_machine.specs.LogMods.{told}
+use Rattle.nz_machine.specs.Step.{tick_rule}
+use Rattle.nz_machine.specs.Hearing.{Heard}
+use Rattle.nz_machine.specs.Shows.{ReplicaShows}
+use Rattle.nz_machine.proofs.Runs.{on_cond}
+use Rattle.nz_machine.proofs.Each.{all_append}
+use Rattle.nz_machine.proofs.Placed.{get_kept, place_kept, place_within, digest_kept, place_at_end}
+use Rattle.nz_machine.proofs.Shows.{AllShow, Shown, silent, told_shows}
+
+-- what is asked of the state before: no id stands twice in log and early, and a leader has an answer for each entry
+pub record HasAnswers (f me : ℕ) (s : ReplicaData) : Type 0 where
+  pub own_ids : HaveOwnIds (keys_of (s.log.entries ++ s.early))
+  pub count : is_normal s.status ≡ true → leads f me s ≡ true → length s.results ≡ length s.log.entries
+
+-- ---- fast replies
+
+-- a state s of the view in which a record began, and the state t at the record's end
+record Later (f me : ℕ) (before s t : ReplicaData) : Type 0 where
+  log : IsPrefix s.log.entries t.log.entries
+  results : IsPrefix s.results t.results
+  vector : s.vector ≡ t.vector
+  origin : t.origin ≡ s.origin
+  view : s.view ≡ before.view
+  led : leads f me before ≡ true → (is_normal t.status ≡ true) × (t.view ≡ before.view)
+
+answer_by : (b : Bool) (xs ys : List Answer) (place : ℕ) → IsPrefix xs ys → (b ≡ true → place < length xs) → cond b (slice_get xs place) None ≡ cond b (slice_get ys place) None
+answer_by true xs ys place p lt = sym (get_kept xs ys place p (lt refl))
+answer_by false xs ys place p lt = refl
+
+fast_shows : (f me : ℕ) (heard : Heard) (before s t : ReplicaData) (id : Id) (place : ℕ) (o : Option Origin) → is_normal before.status ≡ true → Later f me before s t → place_of s.log.entries id ≡ Some place
+    → (leads f me before ≡ true → place < length s.results) → lookup (id_eq id) s.origin ≡ o → AllShow f me heard before t (fast_replies f me s id place o)
+fast_shows f me heard before s t id place None normal l at answered known = tt
+fast_shows f me heard before s t id place (Some origin) normal l at answered known = (
+  record {
+    normal = normal;
+    view = l.view;
+    vector = l.vector;
+    place = place;
+    stands = place_kept s.log.entries t.log.entries id place l.log at;
+    digest = sym (digest_kept s.log.entries t.log.entries place (place_within s.log.entries id place at) l.log);
+    led = l.led;
+    answer = ap (λ v. cond (eqb (leader_of f v) me) (slice_get s.results place) None) l.view ∙ answer_by (leads f me before) s.results t.results place l.results answered;
+    origin = origin;
+    known = ap (λ (x : List (Id × Origin)). lookup (id_eq id) x) l.origin ∙ known;
+    delay = refl;
+    receiver = refl;
+  },
+  tt,
+)
+
+pub slow_shows : (f me : ℕ) (heard : Heard) (before s : ReplicaData) (id : Id) (place : ℕ) (o : Option Origin) → is_normal s.status ≡ true → leads f me s ≡ false → place_of s.log.entries id ≡ Some place → place < s.log.synced
+    → lookup (id_eq id) s.origin ≡ o → AllShow f me heard before s (slow_replies s id o)
+slow_shows f me heard before s id place None normal follows at synced known = tt
+slow_shows f me heard before s id place (Some origin) normal follows at synced known =
+    (record { normal = normal; follows = follows; place = place; stands = at; synced = synced; origin = origin; known = known; receiver = refl; read = refl }, tt)
+
+-- ---- requests
+
+pub request_shows : (f me : ℕ) (heard : Heard) (s : ReplicaData) (proxy : ℕ) (b : TimedBody) → HasAnswers f me s → Shown f me heard s (request_rule f me s proxy b)
+unfolding request_rule
+request_shows f me heard s proxy b a =
+    on_cond (Shown f me heard s) (is_normal s.status) (requested f me own b (place_of s.log.entries b.id)) (s, [])
+    (λ normal. found normal (place_of s.log.entries b.id) refl) (λ _. silent f me heard s s)
+  where
+    own : ReplicaData
+    own = with_origin s proxy b
+
+    replies : is_normal s.status ≡ true → (place : ℕ) → place_of s.log.entries b.id ≡ Some place → AllShow f me heard s own (replies_at f me own b.id place)
+    replies normal place at =
+        let origin = lookup (id_eq b.id) own.origin in
+        on_cond (AllShow f me heard s own) (not (leads f me s) && nat_lt place s.log.synced) (slow_replies own b.id origin) (fast_replies f me own b.id place origin)
+        (λ t. slow_shows f me heard s own b.id place origin normal (not-true (leads f me s) (and_left (not (leads f me s)) (nat_lt place s.log.synced) t)) at (ltb-true place s.log.synced (and_right (not (leads f me s)) (nat_lt place s.log.synced) t)) refl)
+        (λ _. fast_shows f me heard s own own b.id place origin normal
+        (record { log = prefix_self s.log.entries; results = prefix_self s.results; vector = refl; origin = refl; view = refl; led = λ _. (normal, refl) })
+        at (λ lead. let lt = place_within s.log.entries b.id place at in let n = a.count normal lead in omega (arith, lt, n)) refl)
+
+    found : is_normal s.status ≡ true → (o : Option ℕ) → place_of s.log.entries b.id ≡ o → Shown f me heard s (requested f me own b o)
+    found normal None at = silent f me heard s (unlogged f me own b)
+    found normal (Some place) at = record { shows = replies normal place at }
+
+-- ---- releases
+
+appended_is : (b : Bool) (log : Log) (e : Entry) → (appended b log e).entries ≡ log.entries ++ e ∷ []
+appended_is true log e = refl
+appended_is false log e = refl
+
+executed_more : (b : Bool) (results : List Answer) (es : List Entry) (e : Entry) → IsPrefix results (executed b results es e)
+executed_more true results es e = prefix_more results _
+executed_more false results es e = prefix_self results
+
+executed_one : (b : Bool) (results : List Answer) (es : List Entry) (e : Entry) → b ≡ true → length (executed b results es e) ≡ length results + 1
+executed_one true results es e h = length-append results _
+executed_one false results es e h = absurd cc
+
+released_later : (f me : ℕ) (before s t : ReplicaData) (e : Entry) (es : List Entry) → Later f me before (released f me s e es) t → Later f me before s t
+released_later f me before s t e es l =
+    let next = released f me s e es in
+    record {
+      log = prefix_then s.log.entries next.log.entries t.log.entries (record { rest = e ∷ []; whole = appended_is (leads f me s) s.log e }) l.log;
+      results = prefix_then s.results next.results t.results (executed_more (leads f me s) s.results s.log.entries e) l.results;
+      vector = l.vector;
+      origin = l.origin;
+      view = l.view;
+      led = l.led;
+    }
+
+releases_later : (f me : ℕ) (before s t : ReplicaData) (es : List Entry) → Later f me before (releases f me s es).0 t → Later f me before s t
+unfolding releases
+releases_later f me before s t [] l = l
+releases_later f me before s t (e ∷ es) l =
+    let next = released f me s e es in
+    on_cond (λ (x : ReplicaData × List Out). Later f me before x.0 t → Later f me before s t) (may_release s e) _ (s, [])
+    (λ _ l. released_later f me before s t e es (releases_later f me before next t es l)) (λ _ l. l) l
+
+-- once it is released, an entry stands last, and the ids are those of before
+released_own : (f me : ℕ) (s : ReplicaData) (e : Entry) (es : List Entry) → HaveOwnIds (keys_of (s.log.entries ++ e ∷ es)) → HaveOwnIds (keys_of ((released f me s e es).log.entries ++ es))
+released_own f me s e es own =
+    subst (λ (l : List Entry). HaveOwnIds (keys_of l)) (sym (append_assoc s.log.entries (e ∷ []) es) ∙ ap (λ (l : List Entry). l ++ es) (sym (appended_is (leads f me s) s.log e))) own
+
+released_stands : (f me : ℕ) (s : ReplicaData) (e : Entry) (es : List Entry) → HaveOwnIds (keys_of ((released f me s e es).log.entries ++ es))
+    → place_of (released f me s e es).log.entries (id_of e.key) ≡ Some (length (released f me s e es).log.entries - 1)
+released_stands f me s e es own =
+    let is = appended_is (leads f me s) s.log e in
+    let front = own_front (keys_of (released f me s e es).log.entries) (keys_of es) (subst HaveOwnIds (keys_append (released f me s e es).log.entries es) own) in
+    let long = length-append s.log.entries (e ∷ []) in
+    let at : length s.log.entries ≡ length (s.log.entries ++ e ∷ []) - 1 = omega (arith, long) in
+    subst (λ (l : List Entry). place_of l (id_of e.key) ≡ Some (length l - 1)) (sym is) (place_at_end s.log.entries e (subst (λ (l : List Entry). HaveOwnIds (keys_of l)) is front) ∙ ap Some at)
+
+releases_show : (f me : ℕ) (heard : Heard) (before s t : ReplicaData) (es : List Entry) → is_normal before.status ≡ true → Later f me before (releases f me s es).0 t → HaveOwnIds (keys_of (s.log.entries ++ es))
+    → (leads f me before ≡ true → length s.results ≡ length s.log.entries) → AllShow f me heard before t (releases f me s es).1
+unfolding releases
+releases_show f me heard before s t [] normal l own answered = tt
+releases_show f me heard before s t (e ∷ es) normal l own answered =
+    let next = released f me s e es in
+    on_cond (λ (x : ReplicaData × List Out). Later f me before x.0 t → AllShow f me heard before t x.1) (may_release s e) _ (s, [])
+    (λ _ l.
+    let now = releases_later f me before next t es l in
+    let apart = released_own f me s e es own in
+    let at = released_stands f me s e es apart in
+    let one : leads f me before ≡ true → length next.results ≡ length next.log.entries = λ lead.
+    let more = executed_one (leads f me s) s.results s.log.entries e (ap (λ v. eqb (leader_of f v) me) now.view ∙ lead) in
+    let long = ap length (appended_is (leads f me s) s.log e) ∙ length-append s.log.entries (e ∷ []) in
+    let n = answered lead in
+    omega (arith, more, long, n) in
+    all_append (λ (o : Out). ReplicaShows f me heard before t o.0 o.1) (release_replies f me next e) (releases f me next es).1
+    (fast_shows f me heard before next t (id_of e.key) (length next.log.entries - 1) (lookup (id_eq (id_of e.key)) next.origin) normal now at
+    (λ lead. let n = one lead in let lt = place_within next.log.entries (id_of e.key) (length next.log.entries - 1) at in omega (arith, lt, n)) refl)
+    (releases_show f me heard before next t es normal l apart one))
+    (λ _ l. tt) l
+
+-- ---- ticks
+
+abbrev pub Seat : Type 0
+Seat = Status × ℕ
+
+abbrev pub seat : ReplicaData → Seat
+seat s = (s.status, s.view)
+
+releases_seat : (f me : ℕ) (s : ReplicaData) (es : List Entry) → seat (releases f me s es).0 ≡ seat s
+unfolding releases
+releases_seat f me s [] = refl
+releases_seat f me s (e ∷ es) = let rest = releases_seat f me (released f me s e es) es in grind (arith, rest)
+
+-- the state t in which the releases end
+at_end : (f me : ℕ) (before t : ReplicaData) → is_normal t.status ≡ true → t.view ≡ before.view → Later f me before t t
+at_end f me before t normal view = record { log = prefix_self t.log.entries; results = prefix_self t.results; vector = refl; origin = refl; view = view; led = λ _. (normal, view) }
+
+release_shows : (f me : ℕ) (heard : Heard) (s : ReplicaData) (clock : ℕ) → HasAnswers f me s → Shown f me heard s (release_rule f me s clock)
+unfolding release_rule
+release_shows f me heard s clock a =
+    let now = at_clock s clock in
+    let t = (releases f me now s.early).0 in
+    on_cond (Shown f me heard s) (is_normal s.status) (releases f me now s.early) (now, [])
+    (λ normal.
+    let same = releases_seat f me now s.early in
+    record { shows = releases_show f me heard s now t s.early normal (at_end f me s t (ap (λ (x : Seat). is_normal x.0) same ∙ normal) (ap (λ (x : Seat). x.1) same)) a.own_ids (λ lead. a.count normal lead) })
+    (λ _. silent f me heard s now)
+
+pub tick_shows : (f me : ℕ) (heard : Heard) (s : ReplicaData) (clock : ℕ) → HasAnswers f me s → Shown f me heard s (tick_rule f me s clock)
+tick_shows f me heard s clock a =
+    let t = release_rule f me s clock in
+    record { shows = all_append (λ (o : Out). ReplicaShows f me heard s t.0 o.0 o.1) t.1 (told f me t.0) (release_shows f me heard s clock a).shows (told_shows f me heard s t.0).shows }

@@ -1,0 +1,180 @@
+-- What a message shows of its sender: it is read off the sender's states before and after the record that sends it.
+use Rattle.std.specs.Prelude.{◌≡◌, ℕ, ◌+◌, ◌-◌, ◌<◌, ◌≤◌, ◌==◌, not, true, false, List, ◌++◌, length, Some, None, filter, map, take, drop, slice_get, slice_index, if◌then◌else◌}
+use Rattle.std.specs.Map.{lookup}
+use Rattle.nz_base.specs.Cluster.{replica_count, leader_of}
+use Rattle.nz_base.specs.Key.{id_eq, id_of}
+use Rattle.nz_base.specs.Log.{keys_of}
+use Rattle.nz_base.specs.declared.actor.Actor.{Actor}
+use Rattle.nz_base.specs.declared.actor.Actor.TheVariants.{Replica, Proxy, Client}
+use Rattle.nz_base.specs.declared.key.Key.{Key}
+use Rattle.nz_base.specs.declared.scenario.Request.{Request}
+use Rattle.nz_window.specs.Samples.{bound_of}
+use Rattle.nz_log.specs.Places.{place_of, digest_at}
+use Rattle.nz_msg.specs.declared.message.RequestBody.{RequestBody}
+use Rattle.nz_msg.specs.declared.message.TimedBody.{TimedBody}
+use Rattle.nz_msg.specs.declared.message.FastReplyBody.{FastReplyBody}
+use Rattle.nz_msg.specs.declared.message.SlowReplyBody.{SlowReplyBody}
+use Rattle.nz_msg.specs.declared.message.AnswerBody.{AnswerBody}
+use Rattle.nz_msg.specs.declared.message.LogModBody.{LogModBody}
+use Rattle.nz_msg.specs.declared.message.FetchBody.{FetchBody}
+use Rattle.nz_msg.specs.declared.message.FetchReplyBody.{FetchReplyBody}
+use Rattle.nz_msg.specs.declared.message.SyncReportBody.{SyncReportBody}
+use Rattle.nz_msg.specs.declared.message.Message.{Message}
+use Rattle.nz_msg.specs.declared.message.Message.TheVariants as messages
+use Rattle.nz_machine.specs.declared.data.Origin.{Origin}
+use Rattle.nz_machine.specs.declared.reply.Reply.{Reply}
+use Rattle.nz_machine.specs.State.{ReplicaData, ProxyData, ClientData, State, Open, Decided, Group}
+use Rattle.nz_machine.specs.Replicas.{is_normal, leads}
+use Rattle.nz_machine.specs.LogMods.{most_keys, is_held, is_asked}
+use Rattle.nz_machine.specs.Proxies.{margin, standing_of}
+use Rattle.nz_machine.specs.Step.{script_of}
+use Rattle.nz_machine.specs.Events.{id_at}
+use Rattle.nz_machine.specs.Hearing.{Heard}
+
+-- ---- a replica: what it hears in the record, its state before, and its state s after
+
+-- Another replica of the cluster.
+pub record IsOther (f me : ℕ) (to : Actor) : Type 0 where
+  pub replica : ℕ
+  pub is : to ≡ Replica replica
+  pub member : replica < replica_count f
+  pub other : (replica == me) ≡ false
+
+-- The keys are the last ones of a list.
+pub record IsRest (rest keys : List Key) : Type 0 where
+  pub front : List Key
+  pub whole : keys ≡ front ++ rest
+
+-- A fast reply is of a view in which the replica was in normal operation before, and of a place of its log.
+-- The leader of the view is in it still, and replies with its answer.
+pub record ShowsFast (f me : ℕ) (before s : ReplicaData) (to : Actor) (b : FastReplyBody) : Type 0 where
+  pub normal : is_normal before.status ≡ true
+  pub view : b.view ≡ before.view
+  pub vector : b.vector ≡ s.vector
+  pub place : ℕ
+  pub stands : place_of s.log.entries b.id ≡ Some place
+  pub digest : b.digest ≡ digest_at s.log.entries place
+  pub led : leads f me before ≡ true → (is_normal s.status ≡ true) × (s.view ≡ before.view)
+  pub answer : b.answer ≡ (if leads f me before then slice_get s.results place else None)
+  pub origin : Origin
+  pub known : lookup (id_eq b.id) s.origin ≡ Some origin
+  pub delay : b.delay ≡ origin.delay
+  pub receiver : to ≡ Proxy origin.proxy
+
+-- A slow reply is a follower's, of a synced place.
+pub record ShowsSlow (f me : ℕ) (s : ReplicaData) (to : Actor) (b : SlowReplyBody) : Type 0 where
+  pub normal : is_normal s.status ≡ true
+  pub follows : leads f me s ≡ false
+  pub place : ℕ
+  pub stands : place_of s.log.entries b.id ≡ Some place
+  pub synced : place < s.log.synced
+  pub origin : Origin
+  pub known : lookup (id_eq b.id) s.origin ≡ Some origin
+  pub receiver : to ≡ Proxy origin.proxy
+  pub read : b ≡ record { view = s.view; id = b.id; delay = origin.delay }
+
+-- What a leader tells of its log from a place on.
+abbrev pub told_from : ReplicaData → ℕ → LogModBody
+told_from s start = record { view = s.view; vector = s.vector; commit = s.commit; start = start; keys = take most_keys (drop start (keys_of s.log.entries)) }
+
+-- A log modification has the keys of the leader's log, from where the receiver's agrees with it.
+pub record ShowsLogMod (f me : ℕ) (s : ReplicaData) (to : Actor) (b : LogModBody) : Type 0 where
+  pub normal : is_normal s.status ≡ true
+  pub led : leads f me s ≡ true
+  pub receiver : IsOther f me to
+  pub read : b ≡ told_from s (slice_index s.ack receiver.replica)
+
+-- A fetch asks the leader for ids that the follower does not hold, some of those that the leader told it.
+pub record ShowsFetch (f me : ℕ) (heard : Heard) (s : ReplicaData) (to : Actor) (b : FetchBody) : Type 0 where
+  pub normal : is_normal s.status ≡ true
+  pub follows : leads f me s ≡ false
+  pub receiver : IsOther f me to
+  pub to_leader : to ≡ Replica (leader_of f s.view)
+  pub view : b.view ≡ s.view
+  pub told : LogModBody
+  pub hears : heard ≡ Some (Replica (leader_of f s.view), messages.LogMod told)
+  pub keys : List Key
+  pub rest : IsRest keys told.keys
+  pub read : b.ids ≡ filter (λ id. not (is_held s id)) (map id_of keys)
+  pub some : 1 ≤ length b.ids
+
+-- A reply to a fetch has the entries of the leader's log that were asked for, for the replica that asked.
+pub record ShowsFetchReply (f me : ℕ) (heard : Heard) (s : ReplicaData) (to : Actor) (b : FetchReplyBody) : Type 0 where
+  pub normal : is_normal s.status ≡ true
+  pub led : leads f me s ≡ true
+  pub view : b.view ≡ s.view
+  pub asker : ℕ
+  pub ask : FetchBody
+  pub hears : heard ≡ Some (Replica asker, messages.Fetch ask)
+  pub receiver : to ≡ Replica asker
+  pub read : b.entries ≡ filter (is_asked ask.ids) s.log.entries
+
+-- A sync report tells the leader how far the follower's log is synced.
+pub record ShowsReport (f me : ℕ) (s : ReplicaData) (to : Actor) (b : SyncReportBody) : Type 0 where
+  pub normal : is_normal s.status ≡ true
+  pub follows : leads f me s ≡ false
+  pub receiver : IsOther f me to
+  pub to_leader : to ≡ Replica (leader_of f s.view)
+  pub read : b ≡ record { view = s.view; synced = s.log.synced }
+
+-- A replica sends no others yet.
+abbrev pub ReplicaShows : ℕ → ℕ → Heard → ReplicaData → ReplicaData → Actor → Message → Type 0
+ReplicaShows f me heard before s to (messages.FastReply b) = ShowsFast f me before s to b
+ReplicaShows f me heard before s to (messages.SlowReply b) = ShowsSlow f me s to b
+ReplicaShows f me heard before s to (messages.LogMod b) = ShowsLogMod f me s to b
+ReplicaShows f me heard before s to (messages.Fetch b) = ShowsFetch f me heard s to b
+ReplicaShows f me heard before s to (messages.FetchReply b) = ShowsFetchReply f me heard s to b
+ReplicaShows f me heard before s to (messages.SyncReport b) = ShowsReport f me s to b
+ReplicaShows f me heard before s to _ = ⊥
+
+-- ---- a proxy: what it hears in the record, and its state s after
+
+-- A timed message is the client's request that was heard, stamped by the proxy's clock, for a replica of the cluster.
+-- The request is open.
+pub record ShowsTimed (f : ℕ) (heard : Heard) (s : ProxyData) (to : Actor) (b : TimedBody) : Type 0 where
+  pub up : s.is_down ≡ false
+  pub hears : heard ≡ Some (Client b.id.client, messages.Request (record { num = b.id.num; command = b.command }))
+  pub replies : List Reply
+  pub standing : standing_of s b.id ≡ Some (Open replies)
+  pub replica : ℕ
+  pub member : replica < replica_count f
+  pub receiver : to ≡ Replica replica
+  pub sent : b.sent ≡ s.clock
+  pub deadline : b.deadline ≡ s.clock + bound_of s.samples + margin
+
+-- An answer is what the proxy decided.
+pub record ShowsAnswer (s : ProxyData) (to : Actor) (b : AnswerBody) : Type 0 where
+  pub up : s.is_down ≡ false
+  pub client : ℕ
+  pub decided : standing_of s (id_at client b.num) ≡ Some (Decided b.answer b.path)
+  pub to_client : to ≡ Client client
+
+abbrev pub ProxyShows : ℕ → Heard → ProxyData → Actor → Message → Type 0
+ProxyShows f heard s to (messages.Timed b) = ShowsTimed f heard s to b
+ProxyShows f heard s to (messages.Answer b) = ShowsAnswer s to b
+ProxyShows f heard s to _ = ⊥
+
+-- ---- a client: its state s after the record
+
+-- A request is the open one, of its script, sent just now to one of the proxies.
+pub record ShowsRequest (proxies : ℕ) (script : List Request) (s : ClientData) (to : Actor) (b : RequestBody) : Type 0 where
+  pub proxy : ℕ
+  pub member : proxy < proxies
+  pub receiver : to ≡ Proxy proxy
+  pub attempt : s.attempt ≡ Some (record { proxy = proxy; since = 0 })
+  pub request : Request
+  pub own : slice_get script (s.sent - 1) ≡ Some request
+  pub read : b ≡ record { num = s.sent; command = request.command }
+
+abbrev pub ClientShows : ℕ → List Request → ClientData → Actor → Message → Type 0
+ClientShows proxies script s to (messages.Request b) = ShowsRequest proxies script s to b
+ClientShows proxies script s to _ = ⊥
+
+-- ---- any actor
+
+-- What a message to an actor shows of its sender: of what the sender hears in the record, and of its states before
+-- and after.
+abbrev pub Shows : Group → (a : Actor) → Heard → State a → State a → Actor → Message → Type 0
+Shows g (Replica r) heard before s to m = ReplicaShows g.f r heard before s to m
+Shows g (Proxy p) heard before s to m = ProxyShows g.f heard s to m
+Shows g (Client c) heard before s to m = ClientShows g.proxies (script_of g c) s to m
