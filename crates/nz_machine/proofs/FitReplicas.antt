@@ -3,7 +3,7 @@ use Rattle.std.proofs.Common.{◌≡◌, ℕ, zero, suc, ◌-◌, ◌<◌, ◌�
 use Rattle.std.specs.Prelude.{IfSome, nat_lt, slice_index, slice_get}
 use Rattle.std.specs.List.{AllByRecursion, filter}
 use Rattle.std.specs.Map.{lookup}
-use Rattle.nz_base.specs.Cluster.{replica_count, leader_of}
+use Rattle.nz_base.specs.Cluster.{replica_count}
 use Rattle.nz_base.specs.declared.actor.Actor.{Actor}
 use Rattle.nz_base.specs.declared.actor.Actor.TheVariants.{Replica}
 use Rattle.nz_base.specs.declared.key.Id.{Id}
@@ -11,7 +11,7 @@ use Rattle.nz_base.specs.declared.key.Key.{Key}
 use Rattle.nz_base.specs.declared.key.Entry.{Entry}
 use Rattle.nz_base.specs.Key.{id_eq, id_of}
 use Rattle.nz_base.specs.Log.{keys_of, AreRising, HaveOwnIds}
-use Rattle.nz_base.proofs.Booleans.{and_right, length-filter_le}
+use Rattle.nz_base.proofs.Booleans.{and_left, and_right, length-filter_le}
 use Rattle.nz_base.proofs.Logs.{rising_front, rising_back, own_front, rising_filter, own_filter}
 use Rattle.nz_cv.specs.Vectors.{is_stray}
 use Rattle.nz_digest.proofs.Keys.{length-digest}
@@ -25,7 +25,7 @@ use Rattle.nz_msg.specs.Fields.{id, key, keys, entries, answer}
 use Rattle.nz_machine.specs.declared.data.Origin.{Origin}
 use Rattle.nz_machine.specs.State.{ReplicaData, Out}
 use Rattle.nz_machine.specs.Facts.{FitsEntry, IsKnown, AreCounters, HasFacts}
-use Rattle.nz_machine.specs.Replicas.{most_entries, numbers_below, is_normal, leads, answer_at, fast_reply, slow_reply, fast_replies, slow_replies}
+use Rattle.nz_machine.specs.Replicas.{leads_view, hears_leader, most_entries, numbers_below, is_normal, leads, answer_at, fast_reply, slow_reply, fast_replies, slow_replies}
 use Rattle.nz_machine.specs.Requests.{origin_of, with_origin, replies_at, requested, request_rule}
 use Rattle.nz_machine.specs.Releases.{released, release_replies, may_release, releases, at_clock, release_rule}
 use Rattle.nz_machine.specs.LogMods.{most_keys, others, log_mod_to, told, sync_report_to, may_sync, found, if_found, synced_with, sync_keys, overtaken, committed_to, replies_since, missing_ids, fetch_from, taken_in, taken_from, log_mod_rule, is_asked, fetch_rule, is_held}
@@ -37,7 +37,7 @@ use Rattle.nz_machine.proofs.Pieces.{all_take, all_drop, all_map, all_flat_map, 
 use Rattle.nz_machine.proofs.Entries.{each_fits}
 use Rattle.nz_machine.proofs.Keeping.{has_place_left, clock_keeps, origin_keeps, vector_keeps, released_keeps}
 use Rattle.nz_machine.proofs.Syncing.{apart_held, keys_taken, taken_keeps}
-use Rattle.nz_machine.proofs.MoveRules.{hears_leader}
+use Rattle.nz_machine.proofs.Guards.{hears_leader_parts, leads_view_parts}
 use Rattle.nz_machine.proofs.Fields.{view_fits, ids_fit, vector_fits, AreInOrder, keys_fit, entries_fit}
 
 -- a cluster that frames can name, and one of its replicas
@@ -265,9 +265,9 @@ pub log_mod_all : (f me : ℕ) (s : ReplicaData) (sender : ℕ) (b : LogModBody)
 unfolding log_mod_rule
 log_mod_all f me s sender b c h below counters left =
     let merged : HasFacts f me (with_vector me s b.vector) = vector_keeps f me s b.vector h counters in
-    on_cond (λ (t : ReplicaData × List Out). AllFit (Replica me) t.1) (is_normal s.status && (eqb b.view s.view && (eqb sender (leader_of f b.view) && not (leads f me s)))) _ (s, [])
+    on_cond (λ (t : ReplicaData × List Out). AllFit (Replica me) t.1) (hears_leader f me s b.view sender) _ (s, [])
     (λ ours. on_cond (λ (t : ReplicaData × List Out). AllFit (Replica me) t.1) (is_stray b.vector sender s.vector) (s, []) (taken_from sender b (with_vector me s b.vector)) (λ _. tt)
-    (λ _. taken_fits f me sender b (with_vector me s b.vector) c merged (hears_leader f me s sender b.view ours).follows below left))
+    (λ _. taken_fits f me sender b (with_vector me s b.vector) c merged (hears_leader_parts f me s b.view sender ours).follows below left))
     (λ _. tt)
 
 -- ---- fetches
@@ -296,8 +296,8 @@ pub fetch_all : (f me : ℕ) (s : ReplicaData) (sender : ℕ) (b : FetchBody) �
 unfolding fetch_rule
 fetch_all f me s sender b c h led below few =
     let most = c.most in
-    on_cond (λ (t : ReplicaData × List Out). AllFit (Replica me) t.1) (is_normal s.status && (eqb b.view s.view && leads f me s)) _ (s, [])
+    on_cond (λ (t : ReplicaData × List Out). AllFit (Replica me) t.1) (leads_view f me s && eqb b.view s.view) _ (s, [])
     (λ passed.
-    let log = led (and_right (eqb b.view s.view) (leads f me s) (and_right (is_normal s.status) _ passed)) in
+    let log = led (leads_view_parts f me s (and_left (leads_view f me s) (eqb b.view s.view) passed)).leads in
     (record { sender = replica_address f me c; receiver = omega (arith, below, most); message = (view_fits s.view h.bounds.view, asked_fit s b.ids log (each_fits f me s h).log few) }, tt))
     (λ _. tt)
