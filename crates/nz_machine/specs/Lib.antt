@@ -3,12 +3,14 @@ pub mod Replicas
 pub mod Requests
 pub mod Releases
 pub mod Facts
+pub mod Parts
 pub mod Vectors
 pub mod LogMods
 pub mod Quorums
 pub mod Proxies
 pub mod Clients
 pub mod Step
+pub mod Does
 pub mod Taking
 pub mod World
 pub mod Events
