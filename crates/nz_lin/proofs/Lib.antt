@@ -3,7 +3,8 @@ pub mod Views
 pub mod Prefixes
 pub mod Says
 pub mod Heard
-pub mod Leader
+pub mod Leading
+pub mod Answering
 pub mod Standings
 pub mod Notes
 pub mod Decisions
@@ -13,9 +14,11 @@ pub mod Tells
 pub mod Asked
 pub mod Histories
 pub mod OneHistory
+pub mod Pairs
 pub mod Counts
 pub mod FactsStay
 pub mod Shows
 pub mod Snapshots
+pub mod Replied
 mod PutAndGet
-pub mod LeadersLog
+pub mod SyncedPrefixes
