@@ -16,6 +16,7 @@ pub mod World
 pub mod Events
 pub mod History
 pub mod OneHistory
+pub mod Leading
 pub mod Schedule
 pub mod Journals
 pub mod Telling
