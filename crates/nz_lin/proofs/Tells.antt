@@ -34,7 +34,7 @@ pub record Sends (g : Group) (r : Record) (J : List Record) (id : Id) : Type 0 w
   pub id_is : id ≡ id_at client (state_after g (Client client) (r ∷ J)).sent
 
 -- an answer was accepted
-pub record Accepts (g : Group) (r : Record) (J : List Record) (id : Id) (answer : Answer) (path : Path) : Type 0 where
+pub record AcceptsAnswer (g : Group) (r : Record) (J : List Record) (id : Id) (answer : Answer) (path : Path) : Type 0 where
   pub client : ℕ
   pub by : r.actor ≡ Client client
   pub envelope : Envelope
@@ -102,7 +102,7 @@ told_sent_by g (Proxy p) r J id command by h = absurd h
 pub told_sent : (g : Group) (r : Record) (J : List Record) (id : Id) (command : List ℕ) → Has (told_by g r.actor r J) (Sent id command) → Sends g r J id
 told_sent g r J id command h = told_sent_by g r.actor r J id command refl h
 
-told_accepted_by : (g : Group) (a : Actor) (r : Record) (J : List Record) (id : Id) (answer : Answer) (path : Path) → r.actor ≡ a → Has (told_by g a r J) (Accepted id answer path) → Accepts g r J id answer path
+told_accepted_by : (g : Group) (a : Actor) (r : Record) (J : List Record) (id : Id) (answer : Answer) (path : Path) → r.actor ≡ a → Has (told_by g a r J) (Accepted id answer path) → AcceptsAnswer g r J id answer path
 told_accepted_by g (Client c) r J id answer path by h =
     let before = state_after g (Client c) J in
     let after = state_after g (Client c) (r ∷ J) in
@@ -129,7 +129,7 @@ told_accepted_by g (Client c) r J id answer path by h =
 told_accepted_by g (Replica m) r J id answer path by h = absurd h
 told_accepted_by g (Proxy p) r J id answer path by h = absurd h
 
-pub told_accepted : (g : Group) (r : Record) (J : List Record) (id : Id) (answer : Answer) (path : Path) → Has (told_by g r.actor r J) (Accepted id answer path) → Accepts g r J id answer path
+pub told_accepted : (g : Group) (r : Record) (J : List Record) (id : Id) (answer : Answer) (path : Path) → Has (told_by g r.actor r J) (Accepted id answer path) → AcceptsAnswer g r J id answer path
 told_accepted g r J id answer path h = told_accepted_by g r.actor r J id answer path refl h
 
 -- ---- a client's count of requests
