@@ -85,7 +85,8 @@ pub record IsGiven (g : Group) (J : List Record) (v : ℕ) (id : Id) (a : Answer
   pub led : is_led g v moment ≡ true
   pub from : EndsAnswered (leader_at g v moment).log.entries id a P
 
-pub given_later : (g : Group) (J K : List Record) → At J K → (v : ℕ) (id : Id) (a : Answer) (P : List Entry) → IsGiven g K v id a P → IsGiven g J v id a P
+pub given_later : (g : Group) (J K : List Record) → At J K → (v : ℕ) (id : Id) (a : Answer) (P : List Entry) → IsGiven g K v id a P
+    → IsGiven g J v id a P
 given_later g J K at v id a P h = record { moment = h.moment; at = at_then J K h.moment at h.at; led = h.led; from = h.from }
 
 -- the message is a fast reply of the view with this answer
@@ -99,7 +100,8 @@ pub record IsAnswering (e : Envelope) (v : ℕ) (id : Id) (a : Answer) : Type 0 
   pub answer : body.answer ≡ Some a
 
 -- the log of the reply's sender when it first sent the reply, up to its entry
-pub reply_given : (g : Group) (J K : List Record) (p : Parcel) (e : Envelope) (v : ℕ) (id : Id) (a : Answer) → World g J → IsTold g J K p e → IsAnswering e v id a
+pub reply_given : (g : Group) (J K : List Record) (p : Parcel) (e : Envelope) (v : ℕ) (id : Id) (a : Answer) → World g J → IsTold g J K p e
+    → IsAnswering e v id a
     → IsGiven g J v id a (cut_after id (log_at g p.from K))
 reply_given g J K p e v id a w t n =
     let me = n.replica in

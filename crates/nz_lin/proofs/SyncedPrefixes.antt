@@ -139,7 +139,8 @@ record HeardFrom (g : Group) (me : ℕ) (event : Event) (from : Actor) (m : Mess
   sender : envelope.from ≡ from
   message : envelope.message ≡ m
 
-heard_parcel : (g : Group) (me : ℕ) (p : Parcel) (o : Option Envelope) (from : Actor) (m : Message) → received g.f (Replica me) p ≡ o → heard_as o ≡ Some (from, m) → HeardFrom g me (Deliver p) from m
+heard_parcel : (g : Group) (me : ℕ) (p : Parcel) (o : Option Envelope) (from : Actor) (m : Message) → received g.f (Replica me) p ≡ o
+    → heard_as o ≡ Some (from, m) → HeardFrom g me (Deliver p) from m
 heard_parcel g me p None from m read e = absurd (none-some (from, m) e)
 heard_parcel g me p (Some x) from m read e =
     let same : (x.from, x.message) ≡ (from, m) = same_Some (x.from, x.message) (from, m) e in
@@ -157,7 +158,8 @@ same_log_mod : (x y : LogModBody) → messages.LogMod x ≡ messages.LogMod y �
 same_log_mod x y e = cc
 
 -- keys that are read off a leader's log are at their places in what it leads with
-shown_keys : (g : Group) (J K : List Record) (sender v : ℕ) (to : Actor) (b : LogModBody) → At J K → ShowsLogMod g.f sender (state_after g (Replica sender) K) to b → b.view ≡ v → sender ≡ leader_of g.f b.view
+shown_keys : (g : Group) (J K : List Record) (sender v : ℕ) (to : Actor) (b : LogModBody) → At J K
+    → ShowsLogMod g.f sender (state_after g (Replica sender) K) to b → b.view ≡ v → sender ≡ leader_of g.f b.view
     → (i : ℕ) (k : Key) → slice_get b.keys i ≡ Some k → slice_get (keys_of (lead g v J)) (b.start + i) ≡ Some k
 shown_keys g J K sender v to b at h view leader i k e =
     let s = state_after g (Replica sender) K in
@@ -173,7 +175,8 @@ shown_keys g J K sender v to b at h view leader i k e =
     let p = prefix_map (λ (x : Entry). x.key) (lead g v K) (lead g v J) (lead_later g v J K at) in
     ap (λ (l : List Key). slice_get l (b.start + i)) p.whole ∙ get_longer (keys_of (lead g v K)) p.rest (b.start + i) k in_lead
 
-told_keys : (g : Group) (J : List Record) (r : Record) → World g (r ∷ J) → (me : ℕ) → r.actor ≡ Replica me → (s : ReplicaData) (m : HearsLogMod g.f me (heard_at g me r.event) s)
+told_keys : (g : Group) (J : List Record) (r : Record) → World g (r ∷ J) → (me : ℕ) → r.actor ≡ Replica me
+    → (s : ReplicaData) (m : HearsLogMod g.f me (heard_at g me r.event) s)
     → (i : ℕ) (k : Key) → slice_get m.body.keys i ≡ Some k → slice_get (keys_of (lead g s.view (r ∷ J))) (m.body.start + i) ≡ Some k
 told_keys g J r w me by s m i k e =
     let h = heard_from g me r.event (Replica m.sender) (messages.LogMod m.body) m.is in
@@ -197,7 +200,8 @@ told_keys g J r w me by s m i k e =
 abbrev FollowsLead : Group → List Record → ℕ → Status → ℕ → Log → Type 0
 FollowsLead g J me status v l = is_normal status ≡ true → eqb (leader_of g.f v) me ≡ false → AreOf (keys_of (lead g v J)) l
 
-move_follows : (g : Group) (J : List Record) (r : Record) → World g (r ∷ J) → (me : ℕ) → r.actor ≡ Replica me → (s t : ReplicaData) (p q : Phase) → Move g.f me (heard_at g me r.event) s p q t
+move_follows : (g : Group) (J : List Record) (r : Record) → World g (r ∷ J) → (me : ℕ) → r.actor ≡ Replica me → (s t : ReplicaData) (p q : Phase)
+    → Move g.f me (heard_at g me r.event) s p q t
     → FollowsLead g (r ∷ J) me s.status s.view s.log → FollowsLead g (r ∷ J) me t.status t.view t.log
 move_follows g J r w me by s _ _ _ (Release e es m) h = λ normal follows. released_keys (keys_of (lead g s.view (r ∷ J))) (leads g.f me s) s.log e follows (h normal follows)
 move_follows g J r w me by s _ _ _ (Sync e m) h = λ normal follows.
@@ -226,7 +230,8 @@ there_low [] i k e = absurd (none-some k (sym (none_there i) ∙ e))
 there_low (x ∷ L) zero k e = omega arith
 there_low (x ∷ L) (suc i) k e = let more = there_low L i k e in omega (arith, more)
 
-follows_later : (g : Group) (J : List Record) (r : Record) (me : ℕ) (status : Status) (v : ℕ) (l : Log) → FollowsLead g J me status v l → FollowsLead g (r ∷ J) me status v l
+follows_later : (g : Group) (J : List Record) (r : Record) (me : ℕ) (status : Status) (v : ℕ) (l : Log) → FollowsLead g J me status v l
+    → FollowsLead g (r ∷ J) me status v l
 follows_later g J r me status v l h = λ normal follows.
     let own = h normal follows in
     let within = own.within in
