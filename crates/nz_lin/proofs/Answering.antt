@@ -109,13 +109,15 @@ reply_given g J K p e v id a w t n =
     let moment = t.newest ∷ t.older in
     let now : World g moment = at_world g J moment w t.at in
     let by : t.newest.actor ≡ Replica me = t.sender ∙ n.sender in
-    let among = subst (λ (x : Message). Has (event_step g t.newest.actor (state_after g t.newest.actor t.older) t.newest.event).1 (e.to, x)) n.message t.among in
+    let among =
+    subst (λ (x : Message). Has (event_step g t.newest.actor (state_after g t.newest.actor t.older) t.newest.event).1 (e.to, x)) n.message t.among in
     let shows = shown g t.newest t.older (e.to, FastReply b) now among in
     let fast : ShowsFast g.f me (state_after g (Replica me) t.older) (state_after g (Replica me) moment) e.to b =
     subst (λ (x : Actor). Shows g x (state_after g x t.older) (state_after g x moment) e.to (FastReply b)) by shows in
     let own = answers_shown g t.newest t.older me e.to b a now fast n.answer in
     let from : p.from ≡ Replica (leader_of g.f b.view) = t.from ∙ n.sender ∙ ap Replica (sym own.leader) in
-    let answered : IsAnswered (leader_at g b.view moment).log.entries id a = subst (λ (x : Id). IsAnswered (leader_at g b.view moment).log.entries x a) n.same own.answered in
+    let answered : IsAnswered (leader_at g b.view moment).log.entries id a =
+    subst (λ (x : Id). IsAnswered (leader_at g b.view moment).log.entries x a) n.same own.answered in
     let log : log_at g p.from K ≡ (leader_at g b.view moment).log.entries = ap (log_at g p.from) t.is ∙ ap (λ (x : Actor). log_at g x moment) from in
     let given : IsGiven g J b.view id a (cut_after id (leader_at g b.view moment).log.entries) = record {
       moment = moment;

@@ -48,14 +48,16 @@ record Counts (s t : ClientData) : Type 0 where
   open_before : s.accepted < t.accepted → s.accepted + 1 ≡ s.sent
 
 free_counts : (s t : ClientData) → IsFree s t → Counts s t
-free_counts s t h = let same = h.same in record { counted = h.counted; more = omega (arith, same); one = omega (arith, same); open_before = λ lt. absurd (omega (arith, lt, same)) }
+free_counts s t h =
+    let same = h.same in record { counted = h.counted; more = omega (arith, same); one = omega (arith, same); open_before = λ lt. absurd (omega (arith, lt, same)) }
 
 opened_free : (proxies me : ℕ) (s : ClientData) (o : Option Request) → s.accepted ≡ s.sent → IsFree s (opened proxies me s o).0
 opened_free proxies me s None e = record { counted = e; same = refl }
 opened_free proxies me s (Some r) e = record { counted = omega (arith, e); same = refl }
 
 waited_free : (proxies : ℕ) (script : List Request) (s : ClientData) (a : Attempt) → s.accepted + 1 ≡ s.sent → IsFree s (wait_on proxies script s a).0
-waited_free proxies script s a e = on_cond (λ (t : ClientData × List Out). IsFree s t.0) (eqb (a.since + 1) patience) _ _ (λ _. record { counted = e; same = refl }) (λ _. record { counted = e; same = refl })
+waited_free proxies script s a e =
+    on_cond (λ (t : ClientData × List Out). IsFree s t.0) (eqb (a.since + 1) patience) _ _ (λ _. record { counted = e; same = refl }) (λ _. record { counted = e; same = refl })
 
 ticked_free : (proxies me : ℕ) (script : List Request) (s : ClientData) (o : Option Attempt) → Counted o s.sent s.accepted
     → IsFree s (ticked_at proxies me script s o).0
@@ -241,7 +243,8 @@ accepted_told : (c : ℕ) (before after : ClientData) (o : Option Envelope) → 
 accepted_told c before after o lt h =
     let b = h.body in
     let x : Told = Accepted (id_at c before.sent) b.answer b.path in
-    let here : Has (accepted_in c before after (Answered b)) x = subst (λ t. Has (cond t (x ∷ []) []) x) (sym (lt-ltb before.accepted after.accepted lt)) (inl refl) in
+    let here : Has (accepted_in c before after (Answered b)) x =
+    subst (λ t. Has (cond t (x ∷ []) []) x) (sym (lt-ltb before.accepted after.accepted lt)) (inl refl) in
     let there : Has (accepted_by c before after (Some h.envelope)) x = subst (λ (m : Message). Has (accepted_in c before after m) x) (sym h.message) here in
     record { answer = b.answer; path = b.path; told = subst (λ (y : Option Envelope). Has (accepted_by c before after y) x) (sym h.read) there }
 
@@ -324,7 +327,8 @@ closed_now g r J c num b y by some low more told =
             | inl k ↦ absurd (not_sent c before after (read_in g (Client c) r.event) b y k)
             | inr k ↦ k
           ] in
-          let both : Precedes (told_by g r.actor r J) x (Sent b y) = subst (λ (a : Actor). Precedes (told_by g a r J) x (Sent b y)) (sym by) (precedes_across own sends x (Sent b y) first second) in
+          let both : Precedes (told_by g r.actor r J) x (Sent b y) =
+          subst (λ (a : Actor). Precedes (told_by g a r J) x (Sent b y)) (sym by) (precedes_across own sends x (Sent b y) first second) in
           record { answer = t.1.answer; path = t.1.path; before = precedes_right (events g J) (told_by g r.actor r J) x (Sent b y) both }
       | inr old ↦
           let t = (has_taken g c J).each num some old in

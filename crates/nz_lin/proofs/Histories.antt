@@ -113,17 +113,20 @@ gives_by g r J id a path w t to =
     let s = has_source p J may.1 in
     let told = told_at g J w.1 (Client c) p e d.heard s.0 s.1 in
     let id_is : id_at c t.body.num ≡ id = ap (id_at c) num ∙ sym t.id_is in
-    let back : LeadsBack g J (id_at c t.body.num) t.body.answer p.from s.0 = answer_source g J s.0 p e c t.body w.1 told (record { proxy = to.proxy; sender = to.sender; receiver = read_to g J (Client c) p e w.1 may d.heard; message = t.message }) in
+    let back : LeadsBack g J (id_at c t.body.num) t.body.answer p.from s.0 =
+    answer_source g J s.0 p e c t.body w.1 told (record { proxy = to.proxy; sender = to.sender; receiver = read_to g J (Client c) p e w.1 may d.heard; message = t.message }) in
     let mine : LeadsBack g J id t.body.answer p.from s.0 = subst (λ (x : Id). LeadsBack g J x t.body.answer p.from s.0) id_is back in
     let prefix = prefix_at_source g id mine.source in
     let found : accepted_prefix g id p J ≡ Some prefix =
-    ap (λ (o : Option (List Record)). option_map (prefix_at_source g id) (option_and_then (source_of_sender g id p.from) o)) s.1 ∙ ap (option_map (prefix_at_source g id)) mine.is in
+    ap (λ (o : Option (List Record)). option_map (prefix_at_source g id) (option_and_then (source_of_sender g id p.from) o)) s.1
+    ∙ ap (option_map (prefix_at_source g id)) mine.is in
     record {
       parcel = p;
       event = d.is;
       prefix = prefix;
       found = found;
-      is = ap (λ (l : List Told). prefix_in g l r.event J) t.told ∙ ap (λ (e : Event). prefix_in g (Accepted id a path ∷ t.rest) e J) d.is ∙ ap entries_or found;
+      is = ap (λ (l : List Told). prefix_in g l r.event J) t.told ∙ ap (λ (e : Event). prefix_in g (Accepted id a path ∷ t.rest) e J) d.is
+          ∙ ap entries_or found;
       view = mine.view;
       given = subst (λ (x : Answer). IsGiven g J mine.view id x prefix) (sym t.answer_is) mine.given;
     }
@@ -135,8 +138,10 @@ gives g r J id a path w t =
     let before = state_after g (Client c) J in
     let d = delivers g (Client c) r.event t.envelope t.read in
     let step : state_after g (Client c) (r ∷ J) ≡ (envelope_step g (Client c) before (Some t.envelope)).0 =
-    acts_itself g (Client c) r J t.by ∙ ap (λ (e : Event). (event_step g (Client c) before e).0) d.is ∙ ap (λ (o : Option Envelope). (envelope_step g (Client c) before o).0) d.heard in
-    let more : before.accepted < (envelope_step g (Client c) before (Some t.envelope)).0.accepted = subst (λ (s : ClientData). before.accepted < s.accepted) step t.more in
+    acts_itself g (Client c) r J t.by ∙ ap (λ (e : Event). (event_step g (Client c) before e).0) d.is
+    ∙ ap (λ (o : Option Envelope). (envelope_step g (Client c) before o).0) d.heard in
+    let more : before.accepted < (envelope_step g (Client c) before (Some t.envelope)).0.accepted =
+    subst (λ (s : ClientData). before.accepted < s.accepted) step t.more in
     gives_by g r J id a path w t (client_accepts g c before t.envelope more)
 
 -- ---- accepted prefixes
@@ -220,7 +225,8 @@ pub record IsCoveredBy (g : Group) (r : Record) (J : List Record) (id : Id) (a :
   pub short : length prefix ≤ length (history g (r ∷ J))
 
 covered_old : (g : Group) (r : Record) (J : List Record) (id : Id) (a : Answer) → IsCovered g J id a → IsCoveredBy g r J id a
-covered_old g r J id a h = record { prefix = h.prefix; accepted = inr h.accepted; view = h.view; given = h.given; short = let k = grown g r J in omega (arith, k, h.short) }
+covered_old g r J id a h =
+    record { prefix = h.prefix; accepted = inr h.accepted; view = h.view; given = h.given; short = let k = grown g r J in omega (arith, k, h.short) }
 
 covered_now : (g : Group) (r : Record) (J : List Record) (id : Id) (a : Answer) (path : Path) → World g (r ∷ J)
     → Has (told_by g r.actor r J) (Accepted id a path) → IsCoveredBy g r J id a
@@ -236,7 +242,8 @@ covered_now g r J id a path w h =
     }
 
 covered_at : (g : Group) (r : Record) (J : List Record) (id : Id) (a : Answer) → IsCoveredBy g r J id a → IsCovered g (r ∷ J) id a
-covered_at g r J id a h = record { prefix = h.prefix; accepted = h.accepted; view = h.view; given = given_later g (r ∷ J) J (inr (at_self J)) h.view id a h.prefix h.given; short = h.short }
+covered_at g r J id a h =
+    record { prefix = h.prefix; accepted = h.accepted; view = h.view; given = given_later g (r ∷ J) J (inr (at_self J)) h.view id a h.prefix h.given; short = h.short }
 
 -- a request that is sent now is in no log of before
 absent_now : (g : Group) (r : Record) (J : List Record) (other : Id) (command : List ℕ) (v : ℕ) (id : Id) (a : Answer) (P : List Entry) → World g J
@@ -248,7 +255,8 @@ absent_now g r J other command v id a P w h given =
 before_now : (g : Group) (r : Record) (J : List Record) (id : Id) (a : Answer) (other : Id) (command : List ℕ) → World g (r ∷ J)
     → Has (told_by g r.actor r J) (Sent other command) → IsCoveredBy g r J id a → IsBefore g (r ∷ J) id a other
 unfolding covered_at
-before_now g r J id a other command w h k = record { covered = covered_at g r J id a k; absent = absent_now g r J other command k.view id a k.prefix w.1 h k.given }
+before_now g r J id a other command w h k =
+    record { covered = covered_at g r J id a k; absent = absent_now g r J other command k.view id a k.prefix w.1 h k.given }
 
 before_later : (g : Group) (r : Record) (J : List Record) (id : Id) (a : Answer) (other : Id) → IsBefore g J id a other
     → IsBefore g (r ∷ J) id a other
@@ -266,7 +274,8 @@ precedes_has (z ∷ zs) x y (inr h) = let t = precedes_has zs x y h in (inr t.0,
 pub precedes_three : {X : Type 0} (xs ys : List X) (x y : X) → Precedes (xs ++ ys) x y → Precedes xs x y ⊎ ((Has xs x × Has ys y) ⊎ Precedes ys x y)
 precedes_three [] ys x y h = inr (inr h)
 precedes_three (z ∷ xs) ys x y (inl h) = elim (has_split xs ys y h.1) [ inl a ↦ inl (inl (h.0, a)) | inr b ↦ inr (inl (inl h.0, b)) ]
-precedes_three (z ∷ xs) ys x y (inr h) = elim (precedes_three xs ys x y h) [ inl a ↦ inl (inr a) | inr (inl b) ↦ inr (inl (inr b.0, b.1)) | inr (inr c) ↦ inr (inr c) ]
+precedes_three (z ∷ xs) ys x y (inr h) =
+    elim (precedes_three xs ys x y h) [ inl a ↦ inl (inr a) | inr (inl b) ↦ inr (inl (inr b.0, b.1)) | inr (inr c) ↦ inr (inr c) ]
 
 -- the second stands in the first list with the first, or in the second list
 precedes_split : {X : Type 0} (xs ys : List X) (x y : X) → Precedes (xs ++ ys) x y → Precedes xs x y ⊎ (Has (xs ++ ys) x × Has ys y)
@@ -293,7 +302,8 @@ accepted_now g r J id a path w h =
 
 ends_new : (g : Group) (r : Record) (J : List Record) → World g (r ∷ J)
     → (prefix_in g (told_by g r.actor r J) r.event J ≡ []) ⊎ IsAccepted g (prefix_in g (told_by g r.actor r J) r.event J) (r ∷ J)
-ends_new g r J w = elim (prefix_cases g (told_by g r.actor r J) r.event J) [ inl none ↦ inl none | inr h ↦ inr (accepted_now g r J h.0 h.1.0 h.1.1.0 w h.1.1.1) ]
+ends_new g r J w =
+    elim (prefix_cases g (told_by g r.actor r J) r.event J) [ inl none ↦ inl none | inr h ↦ inr (accepted_now g r J h.0 h.1.0 h.1.1.0 w h.1.1.1) ]
 
 ends_later : (g : Group) (r : Record) (J : List Record) → World g (r ∷ J) → IsHistory g J
     → (history g (r ∷ J) ≡ []) ⊎ IsAccepted g (history g (r ∷ J)) (r ∷ J)

@@ -106,7 +106,8 @@ lead_later g v (r ∷ J) K (inr older) = prefix_then (lead g v K) (lead g v J) (
 
 pub lead_only_grows : (g : Group) (newer J : List Record) (v : ℕ) → World g (newer ++ J) → IsPrefix (lead g v J) (lead g v (newer ++ J))
 lead_only_grows g [] J v w = prefix_self (lead g v J)
-lead_only_grows g (r ∷ newer) J v w = prefix_then (lead g v J) (lead g v (newer ++ J)) (lead g v (r ∷ newer ++ J)) (lead_only_grows g newer J v w.1) (lead_then g v r (newer ++ J))
+lead_only_grows g (r ∷ newer) J v w =
+    prefix_then (lead g v J) (lead g v (newer ++ J)) (lead g v (r ∷ newer ++ J)) (lead_only_grows g newer J v w.1) (lead_then g v r (newer ++ J))
 
 pub led_results : (g : Group) (J : List Record) (v : ℕ) → World g J → is_led g v J ≡ true
     → (leader_at g v J).results ≡ replies (commands (lead g v J))
