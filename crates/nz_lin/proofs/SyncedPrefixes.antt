@@ -178,8 +178,7 @@ shown_keys g J K sender v to b at h view leader i k e =
     let p = prefix_map (λ (x : Entry). x.key) (lead g v K) (lead g v J) (lead_later g v J K at) in
     ap (λ (l : List Key). slice_get l (b.start + i)) p.whole ∙ get_longer (keys_of (lead g v K)) p.rest (b.start + i) k in_lead
 
-told_keys : (g : Group) (J : List Record) (r : Record) → World g (r ∷ J) → (me : ℕ) → r.actor ≡ Replica me
-    → (s : ReplicaData) (m : HearsLogMod g.f me (heard_at g me r.event) s)
+told_keys : (g : Group) (J : List Record) (r : Record) → World g (r ∷ J) → (me : ℕ) → r.actor ≡ Replica me → (s : ReplicaData) (m : HearsLogMod g.f me (heard_at g me r.event) s)
     → (i : ℕ) (k : Key) → slice_get m.body.keys i ≡ Some k → slice_get (keys_of (lead g s.view (r ∷ J))) (m.body.start + i) ≡ Some k
 told_keys g J r w me by s m i k e =
     let h = heard_from g me r.event (Replica m.sender) (messages.LogMod m.body) m.is in
@@ -203,8 +202,7 @@ told_keys g J r w me by s m i k e =
 abbrev FollowsLead : Group → List Record → ℕ → Status → ℕ → Log → Type 0
 FollowsLead g J me status v l = is_normal status ≡ true → eqb (leader_of g.f v) me ≡ false → AreOf (keys_of (lead g v J)) l
 
-move_follows : (g : Group) (J : List Record) (r : Record) → World g (r ∷ J) → (me : ℕ) → r.actor ≡ Replica me → (s t : ReplicaData) (p q : Phase)
-    → Move g.f me (heard_at g me r.event) s p q t
+move_follows : (g : Group) (J : List Record) (r : Record) → World g (r ∷ J) → (me : ℕ) → r.actor ≡ Replica me → (s t : ReplicaData) (p q : Phase) → Move g.f me (heard_at g me r.event) s p q t
     → FollowsLead g (r ∷ J) me s.status s.view s.log → FollowsLead g (r ∷ J) me t.status t.view t.log
 move_follows g J r w me by s _ _ _ (Release e es m) h =
     λ normal follows. released_keys (keys_of (lead g s.view (r ∷ J))) (leads g.f me s) s.log e follows (h normal follows)
