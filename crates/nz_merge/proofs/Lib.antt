@@ -10,3 +10,4 @@ pub mod Loops
 pub mod Sets
 pub mod Turns
 pub mod Fitting
+pub mod Senders
