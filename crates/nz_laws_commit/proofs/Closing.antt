@@ -172,9 +172,6 @@ module _ {R : Type 0} (g : GroupStates R) where
 
     -- ---- up between two moments of one incarnation at which the replica is up
 
-    IsUpOrDown : ℕ → List R → Type 0
-    IsUpOrDown y K = IsUp (g.state y K).status ⊎ ((g.state y K).status ≡ Down)
-
     -- who is down is down after a record, or in the next incarnation
     down_step : (y : ℕ) (r : R) (K : List R) → At J (r ∷ K) → (g.state y K).status ≡ Down
         → ((g.state y (r ∷ K)).status ≡ Down) ⊎ (inc_of g y (r ∷ K) ≡ suc (inc_of g y K))
