@@ -78,7 +78,8 @@ pub record IsGiven (g : Group) (J : List Record) (v : ℕ) (id : Id) (a : Answer
   pub led : is_led g v moment ≡ true
   pub from : EndsAnswered (leader_at g v moment).log.entries id a P
 
-pub given_later : (g : Group) (J K : List Record) → At J K → (v : ℕ) (id : Id) (a : Answer) (P : List Entry) → IsGiven g K v id a P → IsGiven g J v id a P
+pub given_later : (g : Group) (J K : List Record) → At J K → (v : ℕ) (id : Id) (a : Answer) (P : List Entry) → IsGiven g K v id a P
+    → IsGiven g J v id a P
 given_later g J K at v id a P h = record { moment = h.moment; at = at_then J K h.moment at h.at; led = h.led; from = h.from }
 
 -- the message is a fast reply of the view with this answer
@@ -92,7 +93,8 @@ pub record IsAnswering (e : Envelope) (v : ℕ) (id : Id) (a : Answer) : Type 0 
   pub answer : body.answer ≡ Some a
 
 -- the log of the reply's sender when it first sent the reply, up to its entry
-pub reply_given : (g : Group) (J K : List Record) (p : Parcel) (e : Envelope) (v : ℕ) (id : Id) (a : Answer) → World g J → IsTold g J K p e → IsAnswering e v id a
+pub reply_given : (g : Group) (J K : List Record) (p : Parcel) (e : Envelope) (v : ℕ) (id : Id) (a : Answer) → World g J → IsTold g J K p e
+    → IsAnswering e v id a
     → IsGiven g J v id a (cut_after id (log_at g p.from K))
 reply_given g J K p e v id a w t n =
     let me = n.replica in
@@ -100,13 +102,15 @@ reply_given g J K p e v id a w t n =
     let moment = t.newest ∷ t.older in
     let now : World g moment = at_world g J moment w t.at in
     let by : t.newest.actor ≡ Replica me = t.sender ∙ n.sender in
-    let among = subst (λ (x : Message). Has (event_step g t.newest.actor (state_after g t.newest.actor t.older) t.newest.event).1 (e.to, x)) n.message t.among in
+    let among =
+    subst (λ (x : Message). Has (event_step g t.newest.actor (state_after g t.newest.actor t.older) t.newest.event).1 (e.to, x)) n.message t.among in
     let shows = shown g t.newest t.older (e.to, FastReply b) now among in
     let fast : ShowsFast g.f me (state_after g (Replica me) t.older) (state_after g (Replica me) moment) e.to b =
     subst (λ (x : Actor). Shows g x (heard_at g x t.newest.event) (state_after g x t.older) (state_after g x moment) e.to (FastReply b)) by shows in
     let own = answers_shown g t.newest t.older me e.to b a now fast n.answer in
     let from : p.from ≡ Replica (leader_of g.f b.view) = t.from ∙ n.sender ∙ ap Replica (sym own.leader) in
-    let answered : IsAnswered (leader_at g b.view moment).log.entries id a = subst (λ (x : Id). IsAnswered (leader_at g b.view moment).log.entries x a) n.same own.answered in
+    let answered : IsAnswered (leader_at g b.view moment).log.entries id a =
+    subst (λ (x : Id). IsAnswered (leader_at g b.view moment).log.entries x a) n.same own.answered in
     let log : log_at g p.from K ≡ (leader_at g b.view moment).log.entries = ap (log_at g p.from) t.is ∙ ap (λ (x : Actor). log_at g x moment) from in
     let given : IsGiven g J b.view id a (cut_after id (leader_at g b.view moment).log.entries) = record {
       moment = moment;

@@ -46,7 +46,8 @@ shown_decided : (s : ProxyData) (c : ℕ) (b : AnswerBody) → ShowsAnswer s (Cl
 shown_decided s c b h = let same : h.client ≡ c = (let to = h.to_client in cc) in record { path = b.path; stands = ap (λ (k : ℕ). standing_of s (id_at k b.num)) (sym same) ∙ h.decided }
 
 -- a proxy sends only answers that it has decided
-decided_at : (g : Group) (r : Record) (J : List Record) (q c : ℕ) (b : AnswerBody) → World g (r ∷ J) → r.actor ≡ Proxy q → Has (event_step g r.actor (state_after g r.actor J) r.event).1 (Client c, messages.Answer b)
+decided_at : (g : Group) (r : Record) (J : List Record) (q c : ℕ) (b : AnswerBody) → World g (r ∷ J) → r.actor ≡ Proxy q
+    → Has (event_step g r.actor (state_after g r.actor J) r.event).1 (Client c, messages.Answer b)
     → IsDecidedAs (state_after g (Proxy q) (r ∷ J)) (id_at c b.num) b.answer
 decided_at g r J q c b w by among =
     shown_decided (state_after g (Proxy q) (r ∷ J)) c b (subst (λ (x : Actor). Shows g x (heard_at g x r.event) (state_after g x J) (state_after g x (r ∷ J)) (Client c) (messages.Answer b)) by (shown g r J (Client c, messages.Answer b) w among))
@@ -57,7 +58,8 @@ pub record LeadsBack (g : Group) (J : List Record) (id : Id) (a : Answer) (from 
   pub view : ℕ
   pub given : IsGiven g J view id a (prefix_at_source g id source)
 
-pub answer_source : (g : Group) (J K : List Record) (p : Parcel) (e : Envelope) (c : ℕ) (b : AnswerBody) → World g J → IsTold g J K p e → IsAnswerOf e c b → LeadsBack g J (id_at c b.num) b.answer p.from K
+pub answer_source : (g : Group) (J K : List Record) (p : Parcel) (e : Envelope) (c : ℕ) (b : AnswerBody) → World g J → IsTold g J K p e
+    → IsAnswerOf e c b → LeadsBack g J (id_at c b.num) b.answer p.from K
 answer_source g J K p e c b w t n =
     let q = n.proxy in
     let id = id_at c b.num in

@@ -48,30 +48,36 @@ record Counts (s t : ClientData) : Type 0 where
   open_before : s.accepted < t.accepted → s.accepted + 1 ≡ s.sent
 
 free_counts : (s t : ClientData) → IsFree s t → Counts s t
-free_counts s t h = let same = h.same in record { counted = h.counted; more = omega (arith, same); one = omega (arith, same); open_before = λ lt. absurd (omega (arith, lt, same)) }
+free_counts s t h =
+    let same = h.same in record { counted = h.counted; more = omega (arith, same); one = omega (arith, same); open_before = λ lt. absurd (omega (arith, lt, same)) }
 
 opened_free : (proxies me : ℕ) (s : ClientData) (o : Option Request) → s.accepted ≡ s.sent → IsFree s (opened proxies me s o).0
 opened_free proxies me s None e = record { counted = e; same = refl }
 opened_free proxies me s (Some r) e = record { counted = omega (arith, e); same = refl }
 
 waited_free : (proxies : ℕ) (script : List Request) (s : ClientData) (a : Attempt) → s.accepted + 1 ≡ s.sent → IsFree s (wait_on proxies script s a).0
-waited_free proxies script s a e = on_cond (λ (t : ClientData × List Out). IsFree s t.0) (eqb (a.since + 1) patience) _ _ (λ _. record { counted = e; same = refl }) (λ _. record { counted = e; same = refl })
+waited_free proxies script s a e =
+    on_cond (λ (t : ClientData × List Out). IsFree s t.0) (eqb (a.since + 1) patience) _ _ (λ _. record { counted = e; same = refl }) (λ _. record { counted = e; same = refl })
 
-ticked_free : (proxies me : ℕ) (script : List Request) (s : ClientData) (o : Option Attempt) → Counted o s.sent s.accepted → IsFree s (ticked_at proxies me script s o).0
+ticked_free : (proxies me : ℕ) (script : List Request) (s : ClientData) (o : Option Attempt) → Counted o s.sent s.accepted
+    → IsFree s (ticked_at proxies me script s o).0
 ticked_free proxies me script s None h = opened_free proxies me s (if_due s.ticks (slice_get script s.sent)) h
 ticked_free proxies me script s (Some a) h = waited_free proxies script s a h
 
-tick_counts : (proxies me : ℕ) (script : List Request) (s : ClientData) → Counted s.attempt s.sent s.accepted → Counts s (wait_rule proxies me script s).0
+tick_counts : (proxies me : ℕ) (script : List Request) (s : ClientData) → Counted s.attempt s.sent s.accepted
+    → Counts s (wait_rule proxies me script s).0
 unfolding wait_rule
 tick_counts proxies me script s h =
     let t = ticked_free proxies me script (record s { ticks = min (s.ticks + 1) last_tick }) s.attempt h in
     free_counts s _ (record { counted = t.counted; same = t.same })
 
-awaited_open : (s : ClientData) (b : AnswerBody) (o : Option Attempt) → Counted o s.sent s.accepted → is_awaited s b o ≡ true → s.accepted + 1 ≡ s.sent
+awaited_open : (s : ClientData) (b : AnswerBody) (o : Option Attempt) → Counted o s.sent s.accepted → is_awaited s b o ≡ true
+    → s.accepted + 1 ≡ s.sent
 awaited_open s b None h e = absurd cc
 awaited_open s b (Some a) h e = h
 
-accept_counts : (proxies me : ℕ) (script : List Request) (s : ClientData) (b : AnswerBody) → Counted s.attempt s.sent s.accepted → Counts s (accept_rule proxies me script s b).0
+accept_counts : (proxies me : ℕ) (script : List Request) (s : ClientData) (b : AnswerBody) → Counted s.attempt s.sent s.accepted
+    → Counts s (accept_rule proxies me script s b).0
 unfolding accept_rule
 accept_counts proxies me script s b h =
     let free : ClientData = (record s { accepted = s.accepted + 1; attempt = None }) in
@@ -83,11 +89,13 @@ accept_counts proxies me script s b h =
     record { counted = t.counted; more = omega (arith, same); one = omega (arith, same); open_before = λ _. own })
     (λ _. free_counts s s (record { counted = h; same = refl }))
 
-message_counts : (proxies me : ℕ) (script : List Request) (s : ClientData) (from : Actor) (m : Message) → Counted s.attempt s.sent s.accepted → Counts s (client_message proxies me script s from m).0
+message_counts : (proxies me : ℕ) (script : List Request) (s : ClientData) (from : Actor) (m : Message) → Counted s.attempt s.sent s.accepted
+    → Counts s (client_message proxies me script s from m).0
 message_counts proxies me script s (Proxy p) (Answered b) h = accept_counts proxies me script s b h
 message_counts proxies me script s _ _ h = free_counts s s (record { counted = h; same = refl })
 
-envelope_counts : (g : Group) (c : ℕ) (s : ClientData) (o : Option Envelope) → Counted s.attempt s.sent s.accepted → Counts s (envelope_step g (Client c) s o).0
+envelope_counts : (g : Group) (c : ℕ) (s : ClientData) (o : Option Envelope) → Counted s.attempt s.sent s.accepted
+    → Counts s (envelope_step g (Client c) s o).0
 envelope_counts g c s None h = free_counts s s (record { counted = h; same = refl })
 envelope_counts g c s (Some e) h = message_counts g.proxies c (script_of g c) s e.from e.message h
 
@@ -96,7 +104,8 @@ event_counts g c s (Deliver p) h = envelope_counts g c s (received g.f (Client c
 event_counts g c s (Tick clock) h = tick_counts g.proxies c (script_of g c) s h
 event_counts g c s _ h = free_counts s s (record { counted = h; same = refl })
 
-counted : (g : Group) (c : ℕ) (J : List Record) → Counted (state_after g (Client c) J).attempt (state_after g (Client c) J).sent (state_after g (Client c) J).accepted
+counted : (g : Group) (c : ℕ) (J : List Record)
+    → Counted (state_after g (Client c) J).attempt (state_after g (Client c) J).sent (state_after g (Client c) J).accepted
 unfolding state_after
 counted g c [] = refl
 counted g c (r ∷ J) = elim (may_act g (Client c) r J).cases [
@@ -112,7 +121,8 @@ counts g c r J = elim (may_act g (Client c) r J).cases [
 
 -- ---- what was accepted is counted
 
-accepted_count : (g : Group) (J : List Record) (id : Id) (a : Answer) (p : Path) → Has (events g J) (Accepted id a p) → id.num ≤ (state_after g (Client id.client) J).accepted
+accepted_count : (g : Group) (J : List Record) (id : Id) (a : Answer) (p : Path) → Has (events g J) (Accepted id a p)
+    → id.num ≤ (state_after g (Client id.client) J).accepted
 accepted_count g [] id a p h = absurd h
 accepted_count g (r ∷ J) id a p h = elim (has_split (events g J) (told_by g r.actor r J) (Accepted id a p) h) [
   | inl x ↦ let old = accepted_count g J id a p x in let k = (counts g id.client r J).more in omega (arith, old, k)
@@ -123,7 +133,8 @@ accepted_count g (r ∷ J) id a p h = elim (has_split (events g J) (told_by g r.
       subst (λ (i : Id). i.num ≤ (state_after g (Client i.client) (r ∷ J)).accepted) (sym t.id_is) (omega (arith, own, more))
 ]
 
-not_accepted_before : (g : Group) (r : Record) (J : List Record) (id : Id) (a b : Answer) (p q : Path) → AcceptsAnswer g r J id b q → Has (events g J) (Accepted id a p) → ⊥
+not_accepted_before : (g : Group) (r : Record) (J : List Record) (id : Id) (a b : Answer) (p q : Path) → AcceptsAnswer g r J id b q
+    → Has (events g J) (Accepted id a p) → ⊥
 not_accepted_before g r J id a b p q t h =
     let old = subst (λ (i : Id). i.num ≤ (state_after g (Client i.client) J).accepted) t.id_is (accepted_count g J id a p h) in
     let own = (counts g t.client r J).open_before t.more in
@@ -183,7 +194,8 @@ below_sent : (o : Option Attempt) (sent accepted : ℕ) → Counted o sent accep
 below_sent None sent accepted e = omega (arith, e)
 below_sent (Some a) sent accepted e = omega (arith, e)
 
-all_before : (o p : Option Attempt) (s t : ClientData) → Counted o s.sent s.accepted → Counted p t.sent t.accepted → Counts s t → s.sent < t.sent → t.sent ≤ s.sent + 1 → t.accepted ≡ s.sent
+all_before : (o p : Option Attempt) (s t : ClientData) → Counted o s.sent s.accepted → Counted p t.sent t.accepted → Counts s t → s.sent < t.sent
+    → t.sent ≤ s.sent + 1 → t.accepted ≡ s.sent
 all_before o (Some a) s t before after h more one = omega (arith, after, more, one)
 all_before o None s t before after h more one =
     let low = below_sent o s.sent s.accepted before in
@@ -193,7 +205,8 @@ all_before o None s t before after h more one =
     absurd (omega (arith, own, most, after, more))
 
 -- when a request is sent, all before it are accepted
-filled : (g : Group) (c : ℕ) (r : Record) (J : List Record) → (state_after g (Client c) J).sent < (state_after g (Client c) (r ∷ J)).sent → (state_after g (Client c) (r ∷ J)).accepted ≡ (state_after g (Client c) J).sent
+filled : (g : Group) (c : ℕ) (r : Record) (J : List Record) → (state_after g (Client c) J).sent < (state_after g (Client c) (r ∷ J)).sent
+    → (state_after g (Client c) (r ∷ J)).accepted ≡ (state_after g (Client c) J).sent
 filled g c r J more =
     let s = state_after g (Client c) J in
     let t = state_after g (Client c) (r ∷ J) in
@@ -205,11 +218,13 @@ record ReadsAnswer (o : Option Envelope) : Type 0 where
   body : AnswerBody
   message : envelope.message ≡ Answered body
 
-envelope_answer : (g : Group) (c : ℕ) (s : ClientData) (o : Option Envelope) → s.accepted < (envelope_step g (Client c) s o).0.accepted → ReadsAnswer o
+envelope_answer : (g : Group) (c : ℕ) (s : ClientData) (o : Option Envelope) → s.accepted < (envelope_step g (Client c) s o).0.accepted
+    → ReadsAnswer o
 envelope_answer g c s None lt = absurd (omega (arith, lt))
 envelope_answer g c s (Some e) lt = let t = client_accepts g c s e lt in record { envelope = e; read = refl; body = t.body; message = t.message }
 
-event_answer : (g : Group) (c : ℕ) (s : ClientData) (e : Event) → Counted s.attempt s.sent s.accepted → s.accepted < (event_step g (Client c) s e).0.accepted → ReadsAnswer (read_in g (Client c) e)
+event_answer : (g : Group) (c : ℕ) (s : ClientData) (e : Event) → Counted s.attempt s.sent s.accepted
+    → s.accepted < (event_step g (Client c) s e).0.accepted → ReadsAnswer (read_in g (Client c) e)
 unfolding wait_rule
 event_answer g c s (Deliver p) h lt = envelope_answer g c s (received g.f (Client c) p) lt
 event_answer g c s (Tick clock) h lt =
@@ -223,16 +238,19 @@ record WasAccepted (E : List Told) (id : Id) : Type 0 where
   path : Path
   told : Has E (Accepted id answer path)
 
-accepted_told : (c : ℕ) (before after : ClientData) (o : Option Envelope) → before.accepted < after.accepted → ReadsAnswer o → WasAccepted (accepted_by c before after o) (id_at c before.sent)
+accepted_told : (c : ℕ) (before after : ClientData) (o : Option Envelope) → before.accepted < after.accepted → ReadsAnswer o
+    → WasAccepted (accepted_by c before after o) (id_at c before.sent)
 accepted_told c before after o lt h =
     let b = h.body in
     let x : Told = Accepted (id_at c before.sent) b.answer b.path in
-    let here : Has (accepted_in c before after (Answered b)) x = subst (λ t. Has (cond t (x ∷ []) []) x) (sym (lt-ltb before.accepted after.accepted lt)) (inl refl) in
+    let here : Has (accepted_in c before after (Answered b)) x =
+    subst (λ t. Has (cond t (x ∷ []) []) x) (sym (lt-ltb before.accepted after.accepted lt)) (inl refl) in
     let there : Has (accepted_by c before after (Some h.envelope)) x = subst (λ (m : Message). Has (accepted_in c before after m) x) (sym h.message) here in
     record { answer = b.answer; path = b.path; told = subst (λ (y : Option Envelope). Has (accepted_by c before after y) x) (sym h.read) there }
 
 -- the open request is accepted
-accepted_now : (g : Group) (c : ℕ) (r : Record) (J : List Record) → (state_after g (Client c) J).accepted < (state_after g (Client c) (r ∷ J)).accepted
+accepted_now : (g : Group) (c : ℕ) (r : Record) (J : List Record)
+    → (state_after g (Client c) J).accepted < (state_after g (Client c) (r ∷ J)).accepted
     → (r.actor ≡ Client c) × WasAccepted (accepted_by c (state_after g (Client c) J) (state_after g (Client c) (r ∷ J)) (read_in g (Client c) r.event)) (id_at c (state_after g (Client c) J).sent)
 accepted_now g c r J lt =
     let before = state_after g (Client c) J in
@@ -287,7 +305,8 @@ record IsClosed (E : List Told) (id other : Id) (command : List ℕ) : Type 0 wh
   path : Path
   before : Precedes E (Accepted id answer path) (Sent other command)
 
-closed_now : (g : Group) (r : Record) (J : List Record) (c num : ℕ) (b : Id) (y : List ℕ) → r.actor ≡ Client c → 0 < num → num ≤ (state_after g (Client c) J).sent → (state_after g (Client c) J).sent < (state_after g (Client c) (r ∷ J)).sent
+closed_now : (g : Group) (r : Record) (J : List Record) (c num : ℕ) (b : Id) (y : List ℕ) → r.actor ≡ Client c → 0 < num
+    → num ≤ (state_after g (Client c) J).sent → (state_after g (Client c) J).sent < (state_after g (Client c) (r ∷ J)).sent
     → Has (told_by g r.actor r J) (Sent b y) → IsClosed (events g (r ∷ J)) (id_at c num) b y
 closed_now g r J c num b y by some low more told =
     let before = state_after g (Client c) J in
@@ -308,14 +327,16 @@ closed_now g r J c num b y by some low more told =
             | inl k ↦ absurd (not_sent c before after (read_in g (Client c) r.event) b y k)
             | inr k ↦ k
           ] in
-          let both : Precedes (told_by g r.actor r J) x (Sent b y) = subst (λ (a : Actor). Precedes (told_by g a r J) x (Sent b y)) (sym by) (precedes_across own sends x (Sent b y) first second) in
+          let both : Precedes (told_by g r.actor r J) x (Sent b y) =
+          subst (λ (a : Actor). Precedes (told_by g a r J) x (Sent b y)) (sym by) (precedes_across own sends x (Sent b y) first second) in
           record { answer = t.1.answer; path = t.1.path; before = precedes_right (events g J) (told_by g r.actor r J) x (Sent b y) both }
       | inr old ↦
           let t = (has_taken g c J).each num some old in
           record { answer = t.answer; path = t.path; before = precedes_across (events g J) (told_by g r.actor r J) (Accepted (id_at c num) t.answer t.path) (Sent b y) t.told told }
     ]
 
-closed_before : (g : Group) (r : Record) (J : List Record) (a b : Id) (x y : List ℕ) → a.client ≡ b.client → Has (events g J) (Sent a x) → Has (told_by g r.actor r J) (Sent b y) → IsClosed (events g (r ∷ J)) a b y
+closed_before : (g : Group) (r : Record) (J : List Record) (a b : Id) (x y : List ℕ) → a.client ≡ b.client → Has (events g J) (Sent a x)
+    → Has (told_by g r.actor r J) (Sent b y) → IsClosed (events g (r ∷ J)) a b y
 closed_before g r J a b x y same old told =
     let t = told_sent g r J b y told in
     let c = t.client in
@@ -326,21 +347,24 @@ closed_before g r J a b x y same old told =
 
 -- ---- runs
 
-sent_twice : (g : Group) (r : Record) (J : List Record) (id : Id) (x y : List ℕ) → AreOnce (events g J) → Precedes (events g (r ∷ J)) (Sent id x) (Sent id y) → ⊥
+sent_twice : (g : Group) (r : Record) (J : List Record) (id : Id) (x y : List ℕ) → AreOnce (events g J)
+    → Precedes (events g (r ∷ J)) (Sent id x) (Sent id y) → ⊥
 sent_twice g r J id x y old h = elim (precedes_three (events g J) (told_by g r.actor r J) (Sent id x) (Sent id y) h) [
   | inl k ↦ old.sent id x y k
   | inr (inl k) ↦ not_sent_before g r J id x (told_sent g r J id y k.1) k.0
   | inr (inr k) ↦ let t = pair_told g r.actor r J (Sent id x) (Sent id y) k in not_sent t.client (state_after g (Client t.client) J) (state_after g (Client t.client) (r ∷ J)) (read_in g (Client t.client) r.event) id x t.first
 ]
 
-accepted_twice : (g : Group) (r : Record) (J : List Record) (id : Id) (a b : Answer) (p q : Path) → AreOnce (events g J) → Precedes (events g (r ∷ J)) (Accepted id a p) (Accepted id b q) → ⊥
+accepted_twice : (g : Group) (r : Record) (J : List Record) (id : Id) (a b : Answer) (p q : Path) → AreOnce (events g J)
+    → Precedes (events g (r ∷ J)) (Accepted id a p) (Accepted id b q) → ⊥
 accepted_twice g r J id a b p q old h = elim (precedes_three (events g J) (told_by g r.actor r J) (Accepted id a p) (Accepted id b q) h) [
   | inl k ↦ old.accepted id a b p q k
   | inr (inl k) ↦ not_accepted_before g r J id a b p q (told_accepted g r J id b q k.1) k.0
   | inr (inr k) ↦ let t = pair_told g r.actor r J (Accepted id a p) (Accepted id b q) k in not_accepted g t.client (state_after g (Client t.client) J) (state_after g (Client t.client) (r ∷ J)) id b q t.second
 ]
 
-sent_first : (g : Group) (r : Record) (J : List Record) (id : Id) (a : Answer) (p : Path) → AcceptsAnswer g r J id a p → (command : List ℕ) × Has (events g J) (Sent id command)
+sent_first : (g : Group) (r : Record) (J : List Record) (id : Id) (a : Answer) (p : Path) → AcceptsAnswer g r J id a p
+    → (command : List ℕ) × Has (events g J) (Sent id command)
 sent_first g r J id a p t =
     let c = t.client in
     let own = (counts g c r J).open_before t.more in
@@ -348,7 +372,8 @@ sent_first g r J id a p t =
     let sent = (has_sent g c J).each n (omega (arith, own)) (omega arith) in
     (command_at (script_of g c) n, subst (λ (i : Id). Has (events g J) (Sent i (command_at (script_of g c) n))) (sym t.id_is) sent)
 
-accepted_after : (g : Group) (r : Record) (J : List Record) (id : Id) (a : Answer) (p : Path) → AreOnce (events g J) → Has (events g (r ∷ J)) (Accepted id a p) → (command : List ℕ) × Precedes (events g (r ∷ J)) (Sent id command) (Accepted id a p)
+accepted_after : (g : Group) (r : Record) (J : List Record) (id : Id) (a : Answer) (p : Path) → AreOnce (events g J)
+    → Has (events g (r ∷ J)) (Accepted id a p) → (command : List ℕ) × Precedes (events g (r ∷ J)) (Sent id command) (Accepted id a p)
 accepted_after g r J id a p old h =
     let more = told_by g r.actor r J in
     elim (has_split (events g J) more (Accepted id a p) h) [
@@ -356,7 +381,8 @@ accepted_after g r J id a p old h =
       | inr k ↦ let t = sent_first g r J id a p (told_accepted g r J id a p k) in (t.0, precedes_across (events g J) more (Sent id t.0) (Accepted id a p) t.1 k)
     ]
 
-open_twice : (g : Group) (r : Record) (J : List Record) (a b : Id) (x y : List ℕ) → AreOnce (events g J) → a.client ≡ b.client → Precedes (events g (r ∷ J)) (Sent a x) (Sent b y)
+open_twice : (g : Group) (r : Record) (J : List Record) (a b : Id) (x y : List ℕ) → AreOnce (events g J) → a.client ≡ b.client
+    → Precedes (events g (r ∷ J)) (Sent a x) (Sent b y)
     → (answer : Answer) × (path : Path) × Precedes (events g (r ∷ J)) (Accepted a answer path) (Sent b y)
 open_twice g r J a b x y old same h = elim (precedes_three (events g J) (told_by g r.actor r J) (Sent a x) (Sent b y) h) [
   | inl k ↦ let t = old.one_open a b x y same k in (t.0, t.1, precedes_left (events g J) (told_by g r.actor r J) (Accepted a t.0 t.1) (Sent b y) t.2)

@@ -43,10 +43,12 @@ undecided : (g : Group) (J : List Record) (q : ℕ) (id : Id) → is_decided (st
 undecided g [] q id h = refl
 undecided g (r ∷ J) q id h = ap (λ b. cond b (older_or (decision_moment g q id J) (r ∷ J)) None) h
 
-decided_now : (g : Group) (r : Record) (J : List Record) (q : ℕ) (id : Id) (a : Answer) (p : Path) → standing_after g q id (r ∷ J) ≡ Some (Decided a p) → decision_moment g q id (r ∷ J) ≡ older_or (decision_moment g q id J) (r ∷ J)
+decided_now : (g : Group) (r : Record) (J : List Record) (q : ℕ) (id : Id) (a : Answer) (p : Path)
+    → standing_after g q id (r ∷ J) ≡ Some (Decided a p) → decision_moment g q id (r ∷ J) ≡ older_or (decision_moment g q id J) (r ∷ J)
 decided_now g r J q id a p now = ap (λ (t : Option Standing). cond (is_decided t) (older_or (decision_moment g q id J) (r ∷ J)) None) now
 
-decided_later : (g : Group) (r : Record) (J : List Record) (q : ℕ) (id : Id) (a : Answer) (p : Path) → standing_after g q id (r ∷ J) ≡ Some (Decided a p) → HasDecided g J q id a → HasDecided g (r ∷ J) q id a
+decided_later : (g : Group) (r : Record) (J : List Record) (q : ℕ) (id : Id) (a : Answer) (p : Path)
+    → standing_after g q id (r ∷ J) ≡ Some (Decided a p) → HasDecided g J q id a → HasDecided g (r ∷ J) q id a
 decided_later g r J q id a p now h = record {
   moment = h.moment;
   is = decided_now g r J q id a p now ∙ ap (λ (o : Option (List Record)). older_or o (r ∷ J)) h.is;
@@ -58,7 +60,8 @@ decided_later g r J q id a p now h = record {
   given = h.given;
 }
 
-decides : (g : Group) (r : Record) (J : List Record) (q : ℕ) (id : Id) (a : Answer) (p : Path) (replies : List Reply) (n : Reply) (chosen : Chosen) → World g (r ∷ J) → r.actor ≡ Proxy q → standing_after g q id J ≡ Some (Open replies) → reply_read id (read_in g (Proxy q) r.event) ≡ Some n
+decides : (g : Group) (r : Record) (J : List Record) (q : ℕ) (id : Id) (a : Answer) (p : Path) (replies : List Reply) (n : Reply) (chosen : Chosen)
+    → World g (r ∷ J) → r.actor ≡ Proxy q → standing_after g q id J ≡ Some (Open replies) → reply_read id (read_in g (Proxy q) r.event) ≡ Some n
     → decision g.f (with_note replies n) ≡ Some chosen → answer_in chosen.reply ≡ Some a → standing_after g q id (r ∷ J) ≡ Some (Decided a p) → HasDecided g (r ∷ J) q id a
 decides g r J q id a p replies n chosen w by before heard d answer now =
     let noted = has_noted (with_note replies n) chosen.reply (decision_is g.f (with_note replies n) chosen d).among in
@@ -84,7 +87,8 @@ decided_same a c p q e = cc
 open_decided : (replies : List Reply) (a : Answer) (p : Path) (o : Option Standing) → o ≡ Some (Open replies) → o ≡ Some (Decided a p) → ⊥
 open_decided replies a p o h k = let e : Some (Open replies) ≡ Some (Decided a p) = sym h ∙ k in absurd cc
 
-after_moves : (g : Group) (r : Record) (J : List Record) (q : ℕ) (id : Id) (a : Answer) (p : Path) → World g (r ∷ J) → r.actor ≡ Proxy q → Moves g.f (reply_read id (read_in g (Proxy q) r.event)) (standing_after g q id J) (standing_after g q id (r ∷ J))
+after_moves : (g : Group) (r : Record) (J : List Record) (q : ℕ) (id : Id) (a : Answer) (p : Path) → World g (r ∷ J) → r.actor ≡ Proxy q
+    → Moves g.f (reply_read id (read_in g (Proxy q) r.event)) (standing_after g q id J) (standing_after g q id (r ∷ J))
     → (standing_after g q id J ≡ Some (Decided a p) → HasDecided g J q id a) → standing_after g q id (r ∷ J) ≡ Some (Decided a p) → HasDecided g (r ∷ J) q id a
 after_moves g r J q id a p w by (Stays e) old now = decided_later g r J q id a p now (old (sym e ∙ now))
 after_moves g r J q id a p w by (Forgets after) old now = absurd (none-some (Decided a p) (sym after ∙ now))
@@ -93,7 +97,8 @@ after_moves g r J q id a p w by (Notes replies n before heard after) old now = a
 after_moves g r J q id a p w by (Decides replies n chosen c before heard d is after) old now =
     decides g r J q id a p replies n chosen w by before heard d (is ∙ ap Some (decided_same c a chosen.path p (sym after ∙ now))) now
 
-pub has_decided : (g : Group) (J : List Record) → World g J → (q : ℕ) (id : Id) (a : Answer) (p : Path) → standing_after g q id J ≡ Some (Decided a p) → HasDecided g J q id a
+pub has_decided : (g : Group) (J : List Record) → World g J → (q : ℕ) (id : Id) (a : Answer) (p : Path) → standing_after g q id J ≡ Some (Decided a p)
+    → HasDecided g J q id a
 unfolding state_after
 has_decided g [] w q id a p e = absurd (none-some (Decided a p) e)
 has_decided g (r ∷ J) w q id a p e = elim (standing_moves g r J q id) [

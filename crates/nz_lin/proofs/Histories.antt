@@ -52,7 +52,8 @@ events_later g (r ∷ J) K (inl same) x h = subst (λ (L : List Record). Has (ev
 events_later g (r ∷ J) K (inr older) x h = has_left (events g J) (told_by g r.actor r J) x (events_later g J K older x h)
 
 -- each entry was sent
-pub given_sent : (g : Group) (J : List Record) → World g J → (v : ℕ) (id : Id) (a : Answer) (P : List Entry) → IsGiven g J v id a P → (e : Entry) → Has P e → WasSent (events g J) e
+pub given_sent : (g : Group) (J : List Record) → World g J → (v : ℕ) (id : Id) (a : Answer) (P : List Entry) → IsGiven g J v id a P → (e : Entry)
+    → Has P e → WasSent (events g J) e
 given_sent g J w v id a P h e there =
     let log = (leader_at g v h.moment).log.entries in
     let in_log : Has log e = subst (λ (l : List Entry). Has l e) (sym h.from.prefix.whole) (has_left P h.from.prefix.rest e there) in
@@ -60,14 +61,16 @@ given_sent g J w v id a P h e there =
     events_later g J h.moment h.at (Sent (id_of e.key) e.command) sent
 
 -- no id stands in it twice
-pub given_own : (g : Group) (J : List Record) → World g J → (v : ℕ) (id : Id) (a : Answer) (P : List Entry) → IsGiven g J v id a P → HaveOwnIds (keys_of P)
+pub given_own : (g : Group) (J : List Record) → World g J → (v : ℕ) (id : Id) (a : Answer) (P : List Entry) → IsGiven g J v id a P
+    → HaveOwnIds (keys_of P)
 given_own g J w v id a P h =
     let s = leader_at g v h.moment in
     let facts = facts_stay g h.moment (leader_of g.f v) (at_world g J h.moment w h.at) in
     let all = subst HaveOwnIds (keys_append s.log.entries (s.early ++ s.late)) facts.entries.arranged.own_ids in
     own_prefix P s.log.entries h.from.prefix (own_front (keys_of s.log.entries) (keys_of (s.early ++ s.late)) all)
 
-pub given_few : (g : Group) (J : List Record) → World g J → (v : ℕ) (id : Id) (a : Answer) (P : List Entry) → IsGiven g J v id a P → length P ≤ most_entries
+pub given_few : (g : Group) (J : List Record) → World g J → (v : ℕ) (id : Id) (a : Answer) (P : List Entry) → IsGiven g J v id a P
+    → length P ≤ most_entries
 given_few g J w v id a P h =
     let s = leader_at g v h.moment in
     let few = (facts_stay g h.moment (leader_of g.f v) (at_world g J h.moment w h.at)).entries.few in
@@ -89,13 +92,15 @@ same_body : (x y : AnswerBody) → Answered x ≡ Answered y → x ≡ y
 same_body x y e = cc
 
 -- what is read of a parcel is sent to the reader
-read_to : (g : Group) (J : List Record) (a : Actor) (p : Parcel) (e : Envelope) → World g J → MayHappen J a (Deliver p) → received g.f a p ≡ Some e → e.to ≡ a
+read_to : (g : Group) (J : List Record) (a : Actor) (p : Parcel) (e : Envelope) → World g J → MayHappen J a (Deliver p) → received g.f a p ≡ Some e
+    → e.to ≡ a
 read_to g J a p e w may heard = elim (delivered g (Fitted g) (FittedState g) (fits_keep g) J (all_fit g J w) a p may) [
   | inl none ↦ absurd (none-some e (sym none ∙ heard))
   | inr y ↦ sym (ap (λ (x : Envelope). x.to) (same_Some (record { from = y.from; to = a; message = y.message }) e (sym y.is ∙ heard)))
 ]
 
-gives_by : (g : Group) (r : Record) (J : List Record) (id : Id) (a : Answer) (path : Path) → World g (r ∷ J) → (t : AcceptsAnswer g r J id a path) → IsAnswerTo (state_after g (Client t.client) J) t.envelope.from t.envelope.message → Gives g r J id a
+gives_by : (g : Group) (r : Record) (J : List Record) (id : Id) (a : Answer) (path : Path) → World g (r ∷ J) → (t : AcceptsAnswer g r J id a path)
+    → IsAnswerTo (state_after g (Client t.client) J) t.envelope.from t.envelope.message → Gives g r J id a
 gives_by g r J id a path w t to =
     let c = t.client in
     let e = t.envelope in
@@ -108,29 +113,35 @@ gives_by g r J id a path w t to =
     let s = has_source p J may.1 in
     let told = told_at g J w.1 (Client c) p e d.heard s.0 s.1 in
     let id_is : id_at c t.body.num ≡ id = ap (id_at c) num ∙ sym t.id_is in
-    let back : LeadsBack g J (id_at c t.body.num) t.body.answer p.from s.0 = answer_source g J s.0 p e c t.body w.1 told (record { proxy = to.proxy; sender = to.sender; receiver = read_to g J (Client c) p e w.1 may d.heard; message = t.message }) in
+    let back : LeadsBack g J (id_at c t.body.num) t.body.answer p.from s.0 =
+    answer_source g J s.0 p e c t.body w.1 told (record { proxy = to.proxy; sender = to.sender; receiver = read_to g J (Client c) p e w.1 may d.heard; message = t.message }) in
     let mine : LeadsBack g J id t.body.answer p.from s.0 = subst (λ (x : Id). LeadsBack g J x t.body.answer p.from s.0) id_is back in
     let prefix = prefix_at_source g id mine.source in
     let found : accepted_prefix g id p J ≡ Some prefix =
-    ap (λ (o : Option (List Record)). option_map (prefix_at_source g id) (option_and_then (source_of_sender g id p.from) o)) s.1 ∙ ap (option_map (prefix_at_source g id)) mine.is in
+    ap (λ (o : Option (List Record)). option_map (prefix_at_source g id) (option_and_then (source_of_sender g id p.from) o)) s.1
+    ∙ ap (option_map (prefix_at_source g id)) mine.is in
     record {
       parcel = p;
       event = d.is;
       prefix = prefix;
       found = found;
-      is = ap (λ (l : List Told). prefix_in g l r.event J) t.told ∙ ap (λ (e : Event). prefix_in g (Accepted id a path ∷ t.rest) e J) d.is ∙ ap entries_or found;
+      is = ap (λ (l : List Told). prefix_in g l r.event J) t.told ∙ ap (λ (e : Event). prefix_in g (Accepted id a path ∷ t.rest) e J) d.is
+          ∙ ap entries_or found;
       view = mine.view;
       given = subst (λ (x : Answer). IsGiven g J mine.view id x prefix) (sym t.answer_is) mine.given;
     }
 
-pub gives : (g : Group) (r : Record) (J : List Record) (id : Id) (a : Answer) (path : Path) → World g (r ∷ J) → AcceptsAnswer g r J id a path → Gives g r J id a
+pub gives : (g : Group) (r : Record) (J : List Record) (id : Id) (a : Answer) (path : Path) → World g (r ∷ J) → AcceptsAnswer g r J id a path
+    → Gives g r J id a
 gives g r J id a path w t =
     let c = t.client in
     let before = state_after g (Client c) J in
     let d = delivers g (Client c) r.event t.envelope t.read in
     let step : state_after g (Client c) (r ∷ J) ≡ (envelope_step g (Client c) before (Some t.envelope)).0 =
-    acts_itself g (Client c) r J t.by ∙ ap (λ (e : Event). (event_step g (Client c) before e).0) d.is ∙ ap (λ (o : Option Envelope). (envelope_step g (Client c) before o).0) d.heard in
-    let more : before.accepted < (envelope_step g (Client c) before (Some t.envelope)).0.accepted = subst (λ (s : ClientData). before.accepted < s.accepted) step t.more in
+    acts_itself g (Client c) r J t.by ∙ ap (λ (e : Event). (event_step g (Client c) before e).0) d.is
+    ∙ ap (λ (o : Option Envelope). (envelope_step g (Client c) before o).0) d.heard in
+    let more : before.accepted < (envelope_step g (Client c) before (Some t.envelope)).0.accepted =
+    subst (λ (s : ClientData). before.accepted < s.accepted) step t.more in
     gives_by g r J id a path w t (client_accepts g c before t.envelope more)
 
 -- ---- accepted prefixes
@@ -163,7 +174,8 @@ accepted_given g (r ∷ J) w P (inr b) =
 
 -- ---- the longest
 
-longer_by : (old new : List Entry) (b : Bool) → nat_lt (length old) (length new) ≡ b → (length old ≤ length (cond b new old)) × ((length new ≤ length (cond b new old)) × ((cond b new old ≡ old) ⊎ (cond b new old ≡ new)))
+longer_by : (old new : List Entry) (b : Bool) → nat_lt (length old) (length new) ≡ b
+    → (length old ≤ length (cond b new old)) × ((length new ≤ length (cond b new old)) × ((cond b new old ≡ old) ⊎ (cond b new old ≡ new)))
 longer_by old new true e = let lt = ltb-true (length old) (length new) e in (omega (arith, lt), (omega arith, inr refl))
 longer_by old new false e = let le = ltb-false (length old) (length new) e in (omega arith, (omega (arith, le), inl refl))
 
@@ -175,7 +187,8 @@ pub record IsLonger (old new both : List Entry) : Type 0 where
 longer_is : (old new : List Entry) → IsLonger old new (longer old new)
 longer_is old new = let t = longer_by old new (nat_lt (length old) (length new)) refl in record { than_old = t.0; than_new = t.1.0; cases = t.1.1 }
 
-prefix_cases : (g : Group) (told : List Told) (e : Event) (J : List Record) → (prefix_in g told e J ≡ []) ⊎ ((id : Id) × ((a : Answer) × ((path : Path) × Has told (Accepted id a path))))
+prefix_cases : (g : Group) (told : List Told) (e : Event) (J : List Record)
+    → (prefix_in g told e J ≡ []) ⊎ ((id : Id) × ((a : Answer) × ((path : Path) × Has told (Accepted id a path))))
 prefix_cases g (Accepted id a path ∷ told) (Deliver p) J = inr (id, (a, (path, inl refl)))
 prefix_cases g _ _ J = inl refl
 
@@ -197,7 +210,8 @@ pub record IsBefore (g : Group) (J : List Record) (id : Id) (a : Answer) (other 
 pub record IsHistory (g : Group) (J : List Record) : Type 0 where
   pub covers : (id : Id) (a : Answer) (path : Path) → Has (events g J) (Accepted id a path) → IsCovered g J id a
   pub ends : (history g J ≡ []) ⊎ IsAccepted g (history g J) J
-  pub in_order : (id : Id) (a : Answer) (path : Path) (other : Id) (command : List ℕ) → Precedes (events g J) (Accepted id a path) (Sent other command) → IsBefore g J id a other
+  pub in_order : (id : Id) (a : Answer) (path : Path) (other : Id) (command : List ℕ)
+      → Precedes (events g J) (Accepted id a path) (Sent other command) → IsBefore g J id a other
 
 grown : (g : Group) (r : Record) (J : List Record) → length (history g J) ≤ length (history g (r ∷ J))
 grown g r J = (longer_is (history g J) (prefix_in g (told_by g r.actor r J) r.event J)).than_old
@@ -211,9 +225,11 @@ pub record IsCoveredBy (g : Group) (r : Record) (J : List Record) (id : Id) (a :
   pub short : length prefix ≤ length (history g (r ∷ J))
 
 covered_old : (g : Group) (r : Record) (J : List Record) (id : Id) (a : Answer) → IsCovered g J id a → IsCoveredBy g r J id a
-covered_old g r J id a h = record { prefix = h.prefix; accepted = inr h.accepted; view = h.view; given = h.given; short = let k = grown g r J in omega (arith, k, h.short) }
+covered_old g r J id a h =
+    record { prefix = h.prefix; accepted = inr h.accepted; view = h.view; given = h.given; short = let k = grown g r J in omega (arith, k, h.short) }
 
-covered_now : (g : Group) (r : Record) (J : List Record) (id : Id) (a : Answer) (path : Path) → World g (r ∷ J) → Has (told_by g r.actor r J) (Accepted id a path) → IsCoveredBy g r J id a
+covered_now : (g : Group) (r : Record) (J : List Record) (id : Id) (a : Answer) (path : Path) → World g (r ∷ J)
+    → Has (told_by g r.actor r J) (Accepted id a path) → IsCoveredBy g r J id a
 covered_now g r J id a path w h =
     let t = gives g r J id a path w (told_accepted g r J id a path h) in
     let long = (longer_is (history g J) (prefix_in g (told_by g r.actor r J) r.event J)).than_new in
@@ -226,19 +242,24 @@ covered_now g r J id a path w h =
     }
 
 covered_at : (g : Group) (r : Record) (J : List Record) (id : Id) (a : Answer) → IsCoveredBy g r J id a → IsCovered g (r ∷ J) id a
-covered_at g r J id a h = record { prefix = h.prefix; accepted = h.accepted; view = h.view; given = given_later g (r ∷ J) J (inr (at_self J)) h.view id a h.prefix h.given; short = h.short }
+covered_at g r J id a h =
+    record { prefix = h.prefix; accepted = h.accepted; view = h.view; given = given_later g (r ∷ J) J (inr (at_self J)) h.view id a h.prefix h.given; short = h.short }
 
 -- a request that is sent now is in no log of before
-absent_now : (g : Group) (r : Record) (J : List Record) (other : Id) (command : List ℕ) (v : ℕ) (id : Id) (a : Answer) (P : List Entry) → World g J → Has (told_by g r.actor r J) (Sent other command) → IsGiven g J v id a P → has_id (keys_of P) other ≡ false
+absent_now : (g : Group) (r : Record) (J : List Record) (other : Id) (command : List ℕ) (v : ℕ) (id : Id) (a : Answer) (P : List Entry) → World g J
+    → Has (told_by g r.actor r J) (Sent other command) → IsGiven g J v id a P → has_id (keys_of P) other ≡ false
 absent_now g r J other command v id a P w h given =
     let new = told_sent g r J other command h in
     absent_by other P (λ e within same. not_sent_before g r J other e.command new (subst (λ (i : Id). Has (events g J) (Sent i e.command)) same (given_sent g J w v id a P given e within)))
 
-before_now : (g : Group) (r : Record) (J : List Record) (id : Id) (a : Answer) (other : Id) (command : List ℕ) → World g (r ∷ J) → Has (told_by g r.actor r J) (Sent other command) → IsCoveredBy g r J id a → IsBefore g (r ∷ J) id a other
+before_now : (g : Group) (r : Record) (J : List Record) (id : Id) (a : Answer) (other : Id) (command : List ℕ) → World g (r ∷ J)
+    → Has (told_by g r.actor r J) (Sent other command) → IsCoveredBy g r J id a → IsBefore g (r ∷ J) id a other
 unfolding covered_at
-before_now g r J id a other command w h k = record { covered = covered_at g r J id a k; absent = absent_now g r J other command k.view id a k.prefix w.1 h k.given }
+before_now g r J id a other command w h k =
+    record { covered = covered_at g r J id a k; absent = absent_now g r J other command k.view id a k.prefix w.1 h k.given }
 
-before_later : (g : Group) (r : Record) (J : List Record) (id : Id) (a : Answer) (other : Id) → IsBefore g J id a other → IsBefore g (r ∷ J) id a other
+before_later : (g : Group) (r : Record) (J : List Record) (id : Id) (a : Answer) (other : Id) → IsBefore g J id a other
+    → IsBefore g (r ∷ J) id a other
 unfolding covered_at covered_old
 before_later g r J id a other h = record { covered = covered_at g r J id a (covered_old g r J id a h.covered); absent = h.absent }
 
@@ -253,7 +274,8 @@ precedes_has (z ∷ zs) x y (inr h) = let t = precedes_has zs x y h in (inr t.0,
 pub precedes_three : {X : Type 0} (xs ys : List X) (x y : X) → Precedes (xs ++ ys) x y → Precedes xs x y ⊎ ((Has xs x × Has ys y) ⊎ Precedes ys x y)
 precedes_three [] ys x y h = inr (inr h)
 precedes_three (z ∷ xs) ys x y (inl h) = elim (has_split xs ys y h.1) [ inl a ↦ inl (inl (h.0, a)) | inr b ↦ inr (inl (inl h.0, b)) ]
-precedes_three (z ∷ xs) ys x y (inr h) = elim (precedes_three xs ys x y h) [ inl a ↦ inl (inr a) | inr (inl b) ↦ inr (inl (inr b.0, b.1)) | inr (inr c) ↦ inr (inr c) ]
+precedes_three (z ∷ xs) ys x y (inr h) =
+    elim (precedes_three xs ys x y h) [ inl a ↦ inl (inr a) | inr (inl b) ↦ inr (inl (inr b.0, b.1)) | inr (inr c) ↦ inr (inr c) ]
 
 -- the second stands in the first list with the first, or in the second list
 precedes_split : {X : Type 0} (xs ys : List X) (x y : X) → Precedes (xs ++ ys) x y → Precedes xs x y ⊎ (Has (xs ++ ys) x × Has ys y)
@@ -265,27 +287,34 @@ precedes_split xs ys x y h = elim (precedes_three xs ys x y h) [
 
 -- ---- runs
 
-covered_in : (g : Group) (r : Record) (J : List Record) → World g (r ∷ J) → IsHistory g J → (id : Id) (a : Answer) (path : Path) → Has (events g (r ∷ J)) (Accepted id a path) → IsCoveredBy g r J id a
+covered_in : (g : Group) (r : Record) (J : List Record) → World g (r ∷ J) → IsHistory g J → (id : Id) (a : Answer) (path : Path)
+    → Has (events g (r ∷ J)) (Accepted id a path) → IsCoveredBy g r J id a
 covered_in g r J w h id a path k = elim (has_split (events g J) (told_by g r.actor r J) (Accepted id a path) k) [
   | inl x ↦ covered_old g r J id a (h.covers id a path x)
   | inr x ↦ covered_now g r J id a path w x
 ]
 
-accepted_now : (g : Group) (r : Record) (J : List Record) (id : Id) (a : Answer) (path : Path) → World g (r ∷ J) → Has (told_by g r.actor r J) (Accepted id a path) → IsAccepted g (prefix_in g (told_by g r.actor r J) r.event J) (r ∷ J)
+accepted_now : (g : Group) (r : Record) (J : List Record) (id : Id) (a : Answer) (path : Path) → World g (r ∷ J)
+    → Has (told_by g r.actor r J) (Accepted id a path) → IsAccepted g (prefix_in g (told_by g r.actor r J) r.event J) (r ∷ J)
 accepted_now g r J id a path w h =
     let t = gives g r J id a path w (told_accepted g r J id a path h) in
     inl (record { id = id; answer = a; path = path; brought = t.parcel; told = h; event = t.event; prefix = t.found ∙ ap Some (sym t.is) })
 
-ends_new : (g : Group) (r : Record) (J : List Record) → World g (r ∷ J) → (prefix_in g (told_by g r.actor r J) r.event J ≡ []) ⊎ IsAccepted g (prefix_in g (told_by g r.actor r J) r.event J) (r ∷ J)
-ends_new g r J w = elim (prefix_cases g (told_by g r.actor r J) r.event J) [ inl none ↦ inl none | inr h ↦ inr (accepted_now g r J h.0 h.1.0 h.1.1.0 w h.1.1.1) ]
+ends_new : (g : Group) (r : Record) (J : List Record) → World g (r ∷ J)
+    → (prefix_in g (told_by g r.actor r J) r.event J ≡ []) ⊎ IsAccepted g (prefix_in g (told_by g r.actor r J) r.event J) (r ∷ J)
+ends_new g r J w =
+    elim (prefix_cases g (told_by g r.actor r J) r.event J) [ inl none ↦ inl none | inr h ↦ inr (accepted_now g r J h.0 h.1.0 h.1.1.0 w h.1.1.1) ]
 
-ends_later : (g : Group) (r : Record) (J : List Record) → World g (r ∷ J) → IsHistory g J → (history g (r ∷ J) ≡ []) ⊎ IsAccepted g (history g (r ∷ J)) (r ∷ J)
+ends_later : (g : Group) (r : Record) (J : List Record) → World g (r ∷ J) → IsHistory g J
+    → (history g (r ∷ J) ≡ []) ⊎ IsAccepted g (history g (r ∷ J)) (r ∷ J)
 ends_later g r J w h = elim (longer_is (history g J) (prefix_in g (told_by g r.actor r J) r.event J)).cases [
   | inl old ↦ elim h.ends [ inl none ↦ inl (old ∙ none) | inr l ↦ inr (inr (subst (λ (H : List Entry). IsAccepted g H J) (sym old) l)) ]
   | inr new ↦ elim (ends_new g r J w) [ inl none ↦ inl (new ∙ none) | inr l ↦ inr (subst (λ (H : List Entry). IsAccepted g H (r ∷ J)) (sym new) l) ]
 ]
 
-order_later : (g : Group) (r : Record) (J : List Record) → World g (r ∷ J) → IsHistory g J → (id : Id) (a : Answer) (path : Path) (other : Id) (command : List ℕ) → Precedes (events g (r ∷ J)) (Accepted id a path) (Sent other command) → IsBefore g (r ∷ J) id a other
+order_later : (g : Group) (r : Record) (J : List Record) → World g (r ∷ J) → IsHistory g J
+    → (id : Id) (a : Answer) (path : Path) (other : Id) (command : List ℕ) → Precedes (events g (r ∷ J)) (Accepted id a path) (Sent other command)
+    → IsBefore g (r ∷ J) id a other
 order_later g r J w h id a path other command p = elim (precedes_split (events g J) (told_by g r.actor r J) (Accepted id a path) (Sent other command) p) [
   | inl old ↦ before_later g r J id a other (h.in_order id a path other command old)
   | inr new ↦ before_now g r J id a other command w new.1 (covered_in g r J w h id a path new.0)

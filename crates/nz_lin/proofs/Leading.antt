@@ -35,7 +35,8 @@ record GrowsFrom (f me : ℕ) (s t : ReplicaData) : Type 0 where
 released_log : (f me : ℕ) (s : ReplicaData) (e : Entry) (es : List Entry) → (released f me s e es).log.entries ≡ s.log.entries ++ e ∷ []
 released_log f me s e es = on_cond (λ (l : Log). l.entries ≡ s.log.entries ++ e ∷ []) (leads f me s) _ _ (λ _. refl) (λ _. refl)
 
-log_grows : (f me : ℕ) (heard : Heard) (s t : ReplicaData) (p q : Phase) → Move f me heard s p q t → leads f me s ≡ true → IsPrefix s.log.entries t.log.entries
+log_grows : (f me : ℕ) (heard : Heard) (s t : ReplicaData) (p q : Phase) → Move f me heard s p q t → leads f me s ≡ true
+    → IsPrefix s.log.entries t.log.entries
 log_grows f me heard s _ _ _ (Release e es m) led = record { rest = e ∷ []; whole = released_log f me s e es }
 log_grows f me heard s _ _ _ (Sync e m) led = clash (leads f me s) led m.told.leader.follows
 log_grows f me heard s _ _ _ _ led = prefix_self s.log.entries
@@ -106,9 +107,11 @@ lead_later g v (r ∷ J) K (inr older) = prefix_then (lead g v K) (lead g v J) (
 
 pub lead_only_grows : (g : Group) (newer J : List Record) (v : ℕ) → World g (newer ++ J) → IsPrefix (lead g v J) (lead g v (newer ++ J))
 lead_only_grows g [] J v w = prefix_self (lead g v J)
-lead_only_grows g (r ∷ newer) J v w = prefix_then (lead g v J) (lead g v (newer ++ J)) (lead g v (r ∷ newer ++ J)) (lead_only_grows g newer J v w.1) (lead_then g v r (newer ++ J))
+lead_only_grows g (r ∷ newer) J v w =
+    prefix_then (lead g v J) (lead g v (newer ++ J)) (lead g v (r ∷ newer ++ J)) (lead_only_grows g newer J v w.1) (lead_then g v r (newer ++ J))
 
-pub led_results : (g : Group) (J : List Record) (v : ℕ) → World g J → is_led g v J ≡ true → (leader_at g v J).results ≡ replies (commands (lead g v J))
+pub led_results : (g : Group) (J : List Record) (v : ℕ) → World g J → is_led g v J ≡ true
+    → (leader_at g v J).results ≡ replies (commands (lead g v J))
 led_results g J v w led =
     let facts = facts_stay g J (leader_of g.f v) w in
     (facts.executed.led (led_status g v J led) (led_leads g v J led)).results ∙ ap (λ (l : List Entry). replies (commands l)) (sym (led_log g v J led))

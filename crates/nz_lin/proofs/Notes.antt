@@ -45,7 +45,8 @@ choice_some : {X : Type 0} (b : Bool) (x y : X) → cond b (Some x) None ≡ Som
 choice_some true x y e = (refl, same_Some x y e)
 choice_some false x y e = absurd (none-some y e)
 
-answering_by : (id : Id) (e : Envelope) (from : Actor) (m : Message) (r : Reply) (a : Answer) → e.from ≡ from → e.message ≡ m → reply_in id from m ≡ Some r → answer_in r ≡ Some a → IsAnswering e (view_of r) id a
+answering_by : (id : Id) (e : Envelope) (from : Actor) (m : Message) (r : Reply) (a : Answer) → e.from ≡ from → e.message ≡ m
+    → reply_in id from m ≡ Some r → answer_in r ≡ Some a → IsAnswering e (view_of r) id a
 answering_by id e (Replica k) (messages.FastReply b) r a from is said answer =
     let c = choice_some (id_eq b.id id) (of_fast k b) r said in
     record { replica = k; body = b; sender = from; message = is; view = ap view_of c.1; same = same_id b.id id c.0; answer = ap answer_in c.1 ∙ answer }
@@ -67,7 +68,8 @@ delivers g a Alarm e h = absurd (none-some e h)
 delivers g a Crash e h = absurd (none-some e h)
 delivers g a (Restart nonce) e h = absurd (none-some e h)
 
-read_is : (id : Id) (o : Option Envelope) (r : Reply) → reply_read id o ≡ Some r → (e : Envelope) × ((o ≡ Some e) × (reply_in id e.from e.message ≡ Some r))
+read_is : (id : Id) (o : Option Envelope) (r : Reply) → reply_read id o ≡ Some r
+    → (e : Envelope) × ((o ≡ Some e) × (reply_in id e.from e.message ≡ Some r))
 read_is id None r h = absurd (none-some r h)
 read_is id (Some e) r h = (e, (refl, h))
 
@@ -87,7 +89,8 @@ pub record HasMoment (g : Group) (q : ℕ) (id : Id) (reply : Reply) (J : List R
   pub is : noting_moment g q id reply J ≡ Some moment
   pub brings : Brings g q id reply J moment
 
-later : (g : Group) (q : ℕ) (id : Id) (reply : Reply) (r : Record) (J : List Record) → IsNoted reply (replies_of (standing_after g q id J)) → HasMoment g q id reply J → HasMoment g q id reply (r ∷ J)
+later : (g : Group) (q : ℕ) (id : Id) (reply : Reply) (r : Record) (J : List Record) → IsNoted reply (replies_of (standing_after g q id J))
+    → HasMoment g q id reply J → HasMoment g q id reply (r ∷ J)
 later g q id reply r J noted h =
     let b = h.brings in
     record {
@@ -96,14 +99,17 @@ later g q id reply r J noted h =
       brings = record { newest = b.newest; older = b.older; is = b.is; at = inr b.at; by = b.by; heard = b.heard };
     }
 
-now : (g : Group) (q : ℕ) (id : Id) (reply : Reply) (r : Record) (J : List Record) → list_any (reply_eq reply) (replies_of (standing_after g q id J)) ≡ false → r.actor ≡ Proxy q → reply_read id (read_in g (Proxy q) r.event) ≡ Some reply → HasMoment g q id reply (r ∷ J)
+now : (g : Group) (q : ℕ) (id : Id) (reply : Reply) (r : Record) (J : List Record)
+    → list_any (reply_eq reply) (replies_of (standing_after g q id J)) ≡ false → r.actor ≡ Proxy q
+    → reply_read id (read_in g (Proxy q) r.event) ≡ Some reply → HasMoment g q id reply (r ∷ J)
 now g q id reply r J none by heard = record {
   moment = r ∷ J;
   is = ap (λ t. cond t (noting_moment g q id reply J) (Some (r ∷ J))) none;
   brings = record { newest = r; older = J; is = refl; at = at_self (r ∷ J); by = by; heard = heard };
 }
 
-with_note_cases : (replies : List Reply) (n reply : Reply) (b : Bool) → IsNoted reply (cond b replies (replies ++ n ∷ [])) → IsNoted reply replies ⊎ (n ≡ reply)
+with_note_cases : (replies : List Reply) (n reply : Reply) (b : Bool) → IsNoted reply (cond b replies (replies ++ n ∷ []))
+    → IsNoted reply replies ⊎ (n ≡ reply)
 with_note_cases replies n reply true h = inl h
 with_note_cases replies n reply false h = elim (or_cases (list_any (reply_eq reply) replies) (list_any (reply_eq reply) (n ∷ [])) (sym (list_any-append (reply_eq reply) replies (n ∷ [])) ∙ h)) [
   | inl a ↦ inl a
@@ -111,7 +117,8 @@ with_note_cases replies n reply false h = elim (or_cases (list_any (reply_eq rep
 ]
 
 -- a reply that stands once the record was handled, over an open request
-pub moment_of : (g : Group) (q : ℕ) (id : Id) (r : Record) (J : List Record) (replies : List Reply) (n reply : Reply) → r.actor ≡ Proxy q → standing_after g q id J ≡ Some (Open replies) → reply_read id (read_in g (Proxy q) r.event) ≡ Some n
+pub moment_of : (g : Group) (q : ℕ) (id : Id) (r : Record) (J : List Record) (replies : List Reply) (n reply : Reply) → r.actor ≡ Proxy q
+    → standing_after g q id J ≡ Some (Open replies) → reply_read id (read_in g (Proxy q) r.event) ≡ Some n
     → (IsNoted reply (replies_of (standing_after g q id J)) → HasMoment g q id reply J) → IsNoted reply (with_note replies n) → HasMoment g q id reply (r ∷ J)
 moment_of g q id r J replies n reply by before heard old noted =
     let same : replies_of (standing_after g q id J) ≡ replies = ap replies_of before in
@@ -124,13 +131,15 @@ moment_of g q id r J replies n reply by before heard old noted =
     ]
 
 -- what is known before and after a record
-pub standing_moves : (g : Group) (r : Record) (J : List Record) (q : ℕ) (id : Id) → ((r.actor ≡ Proxy q) × Moves g.f (reply_read id (read_in g (Proxy q) r.event)) (standing_after g q id J) (standing_after g q id (r ∷ J))) ⊎ (standing_after g q id (r ∷ J) ≡ standing_after g q id J)
+pub standing_moves : (g : Group) (r : Record) (J : List Record) (q : ℕ) (id : Id)
+    → ((r.actor ≡ Proxy q) × Moves g.f (reply_read id (read_in g (Proxy q) r.event)) (standing_after g q id J) (standing_after g q id (r ∷ J))) ⊎ (standing_after g q id (r ∷ J) ≡ standing_after g q id J)
 standing_moves g r J q id = elim (may_act g (Proxy q) r J).cases [
   | inl a ↦ inl (a.0, subst (λ (s : ProxyData). Moves g.f (reply_read id (read_in g (Proxy q) r.event)) (standing_after g q id J) (standing_of s id)) (sym a.1) (event_moves g q (state_after g (Proxy q) J) id r.event))
   | inr s ↦ inr (ap (λ (t : ProxyData). standing_of t id) s)
 ]
 
-after_moves : (g : Group) (r : Record) (J : List Record) (q : ℕ) (id : Id) (reply : Reply) → r.actor ≡ Proxy q → Moves g.f (reply_read id (read_in g (Proxy q) r.event)) (standing_after g q id J) (standing_after g q id (r ∷ J))
+after_moves : (g : Group) (r : Record) (J : List Record) (q : ℕ) (id : Id) (reply : Reply) → r.actor ≡ Proxy q
+    → Moves g.f (reply_read id (read_in g (Proxy q) r.event)) (standing_after g q id J) (standing_after g q id (r ∷ J))
     → (IsNoted reply (replies_of (standing_after g q id J)) → HasMoment g q id reply J) → IsNoted reply (replies_of (standing_after g q id (r ∷ J))) → HasMoment g q id reply (r ∷ J)
 after_moves g r J q id reply by (Stays e) old noted =
     let there = subst (λ (o : Option Standing). IsNoted reply (replies_of o)) e noted in later g q id reply r J there (old there)
@@ -141,7 +150,8 @@ after_moves g r J q id reply by (Notes replies n before heard after) old noted =
 after_moves g r J q id reply by (Decides replies n chosen a before heard d is after) old noted = absurd (let t = subst (λ (o : Option Standing). IsNoted reply (replies_of o)) after noted in cc)
 
 -- each noted reply has its moment
-pub has_moment : (g : Group) (J : List Record) (q : ℕ) (id : Id) (reply : Reply) → IsNoted reply (replies_of (standing_after g q id J)) → HasMoment g q id reply J
+pub has_moment : (g : Group) (J : List Record) (q : ℕ) (id : Id) (reply : Reply) → IsNoted reply (replies_of (standing_after g q id J))
+    → HasMoment g q id reply J
 unfolding state_after
 has_moment g [] q id reply noted = absurd cc
 has_moment g (r ∷ J) q id reply noted = elim (standing_moves g r J q id) [
@@ -157,7 +167,8 @@ pub record HasSource (g : Group) (J : List Record) (q : ℕ) (id : Id) (reply : 
   pub is : source_of_reply g q id J reply ≡ Some source
   pub given : IsGiven g J (view_of reply) id a (prefix_at_source g id source)
 
-pub noted_source : (g : Group) (J : List Record) (q : ℕ) (id : Id) (reply : Reply) (a : Answer) → World g J → HasMoment g q id reply J → answer_in reply ≡ Some a → HasSource g J q id reply a
+pub noted_source : (g : Group) (J : List Record) (q : ℕ) (id : Id) (reply : Reply) (a : Answer) → World g J → HasMoment g q id reply J
+    → answer_in reply ≡ Some a → HasSource g J q id reply a
 noted_source g J q id reply a w h answer =
     let b = h.brings in
     let moment = b.newest ∷ b.older in

@@ -16,7 +16,8 @@ use Rattle.nz_lin.proofs.Prefixes.{place_more, place_in, answered_more, absent_p
 use Rattle.nz_lin.proofs.Histories.{IsCovered, IsBefore, IsHistory, history_is, history_sent, history_own}
 
 -- an accepted prefix is one of the history
-in_history : (g : Group) (J : List Record) → ArePaired g J → IsHistory g J → (P : List Entry) → IsAccepted g P J → length P ≤ length (history g J) → IsPrefix P (history g J)
+in_history : (g : Group) (J : List Record) → ArePaired g J → IsHistory g J → (P : List Entry) → IsAccepted g P J → length P ≤ length (history g J)
+    → IsPrefix P (history g J)
 in_history g J pairs h P accepted short = elim h.ends [
   | inl none ↦ shorter_comparable P (history g J) (inr (subst (λ (H : List Entry). IsPrefix H P) (sym none) (prefix_none P))) short
   | inr whole ↦ shorter_comparable P (history g J) (pairs.each P (history g J) accepted whole) short
@@ -25,7 +26,8 @@ in_history g J pairs h P accepted short = elim h.ends [
 answered : (g : Group) (J : List Record) → ArePaired g J → IsHistory g J → (id : Id) (a : Answer) → IsCovered g J id a → IsAnswered (history g J) id a
 answered g J pairs h id a k = answered_more k.prefix (history g J) id a (in_history g J pairs h k.prefix k.accepted k.short) k.given.from.answered
 
-ordered : (g : Group) (J : List Record) → ArePaired g J → IsHistory g J → (a b : Id) (answer : Answer) → IsBefore g J a answer b → (e : Entry) → Has (history g J) e → id_of e.key ≡ b → StandsBefore (history g J) a b
+ordered : (g : Group) (J : List Record) → ArePaired g J → IsHistory g J → (a b : Id) (answer : Answer) → IsBefore g J a answer b → (e : Entry)
+    → Has (history g J) e → id_of e.key ≡ b → StandsBefore (history g J) a b
 ordered g J pairs h a b answer k e has same =
     let P = k.covered.prefix in
     let part : IsPrefix P (history g J) = in_history g J pairs h P k.covered.accepted k.covered.short in

@@ -20,10 +20,12 @@ use Rattle.nz_lin.proofs.Histories.{accepted_given}
 use Rattle.nz_lin.proofs.OneHistory.{history_of_pairs}
 
 pub given_lead : (g : Group) (J : List Record) (v : ℕ) (id : Id) (a : Answer) (P : List Entry) → IsGiven g J v id a P → IsPrefix P (lead g v J)
-given_lead g J v id a P h = prefix_then P (lead g v h.moment) (lead g v J) (subst (IsPrefix P) (sym (led_log g v h.moment h.led)) h.from.prefix) (lead_later g v J h.moment h.at)
+given_lead g J v id a P h =
+    prefix_then P (lead g v h.moment) (lead g v J) (subst (IsPrefix P) (sym (led_log g v h.moment h.led)) h.from.prefix) (lead_later g v J h.moment h.at)
 
 -- accepted in one view
-pub paired_in_a_view : (g : Group) (J : List Record) (v : ℕ) (id other : Id) (a b : Answer) (P Q : List Entry) → IsGiven g J v id a P → IsGiven g J v other b Q → Comparable P Q
+pub paired_in_a_view : (g : Group) (J : List Record) (v : ℕ) (id other : Id) (a b : Answer) (P Q : List Entry) → IsGiven g J v id a P
+    → IsGiven g J v other b Q → Comparable P Q
 paired_in_a_view g J v id other a b P Q p q = both_prefixes P Q (lead g v J) (given_lead g J v id a P p) (given_lead g J v other b Q q)
 
 -- the only view is view zero

@@ -29,7 +29,8 @@ later_place : (o : Option ℕ) (i : ℕ) → option_map suc o ≡ Some i → (j 
 later_place None i e = absurd (none-some i e)
 later_place (Some j) i e = (j, (refl, same_Some (suc j) i e))
 
-pub place_cases : (b : Bool) (o : Option ℕ) (i : ℕ) → cond b (Some 0) (option_map suc o) ≡ Some i → ((b ≡ true) × (0 ≡ i)) ⊎ ((b ≡ false) × ((j : ℕ) × ((o ≡ Some j) × (suc j ≡ i))))
+pub place_cases : (b : Bool) (o : Option ℕ) (i : ℕ) → cond b (Some 0) (option_map suc o) ≡ Some i
+    → ((b ≡ true) × (0 ≡ i)) ⊎ ((b ≡ false) × ((j : ℕ) × ((o ≡ Some j) × (suc j ≡ i))))
 place_cases true o i e = inl (refl, same_Some 0 i e)
 place_cases false o i e = inr (refl, later_place o i e)
 

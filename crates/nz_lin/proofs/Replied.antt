@@ -37,8 +37,10 @@ reply_listed g r J keys w h =
 
 pub replies_listed : (g : Group) (J : List Record) (keys : List EntryKey) → World g J → HasReplyOver g J keys → Has (replied_lists g J) keys
 replies_listed g [] keys w h = absurd h
-replies_listed g (r ∷ J) keys w (inl h) = has_left (flat_map (λ p. list_read (log_at g r.actor (r ∷ J)) (decode_of p.frame)) r.sends) (replied_lists g J) keys (reply_listed g r J keys w h)
-replies_listed g (r ∷ J) keys w (inr h) = has_right (flat_map (λ p. list_read (log_at g r.actor (r ∷ J)) (decode_of p.frame)) r.sends) (replied_lists g J) keys (replies_listed g J keys w.1 h)
+replies_listed g (r ∷ J) keys w (inl h) =
+    has_left (flat_map (λ p. list_read (log_at g r.actor (r ∷ J)) (decode_of p.frame)) r.sends) (replied_lists g J) keys (reply_listed g r J keys w h)
+replies_listed g (r ∷ J) keys w (inr h) =
+    has_right (flat_map (λ p. list_read (log_at g r.actor (r ∷ J)) (decode_of p.frame)) r.sends) (replied_lists g J) keys (replies_listed g J keys w.1 h)
 
 pub no_collision_listed : (g : Group) (J : List Record) → World g J → AreApart (replied_lists g J) → NoCollision g J
 no_collision_listed g J w apart keys others h k same = apart keys others (replies_listed g J keys w h) (replies_listed g J others w k) same

@@ -140,7 +140,8 @@ record HeardFrom (g : Group) (me : ℕ) (event : Event) (from : Actor) (m : Mess
   sender : envelope.from ≡ from
   message : envelope.message ≡ m
 
-heard_parcel : (g : Group) (me : ℕ) (p : Parcel) (o : Option Envelope) (from : Actor) (m : Message) → received g.f (Replica me) p ≡ o → heard_as o ≡ Some (from, m) → HeardFrom g me (Deliver p) from m
+heard_parcel : (g : Group) (me : ℕ) (p : Parcel) (o : Option Envelope) (from : Actor) (m : Message) → received g.f (Replica me) p ≡ o
+    → heard_as o ≡ Some (from, m) → HeardFrom g me (Deliver p) from m
 heard_parcel g me p None from m read e = absurd (none-some (from, m) e)
 heard_parcel g me p (Some x) from m read e =
     let same : (x.from, x.message) ≡ (from, m) = same_Some (x.from, x.message) (from, m) e in
@@ -155,19 +156,23 @@ heard_from g me Crash from m e = absurd (none-some (from, m) e)
 heard_from g me (Restart nonce) from m e = absurd (none-some (from, m) e)
 
 -- keys that are read off a leader's log are at their places in what it leads with
-shown_keys : (g : Group) (J K : List Record) (sender v : ℕ) (to : Actor) (b : LogModBody) → At J K → ShowsLogMod g.f sender (state_after g (Replica sender) K) to b → b.view ≡ v → sender ≡ leader_of g.f b.view
+shown_keys : (g : Group) (J K : List Record) (sender v : ℕ) (to : Actor) (b : LogModBody) → At J K
+    → ShowsLogMod g.f sender (state_after g (Replica sender) K) to b → b.view ≡ v → sender ≡ leader_of g.f b.view
     → (i : ℕ) (k : Key) → slice_get b.keys i ≡ Some k → slice_get (keys_of (lead g v J)) (b.start + i) ≡ Some k
 shown_keys g J K sender v to b at h view leader i k e =
     let s = state_after g (Replica sender) K in
     let is = h.read in
     let start = slice_index s.ack h.receiver.replica in
     let own : sender ≡ leader_of g.f v = leader ∙ ap (leader_of g.f) view in
-    let in_view : is_normal_in v s ≡ true = and_both (is_normal s.status) (eqb s.view v) h.normal (eq-eqb s.view v (sym (ap (λ (x : LogModBody). x.view) is) ∙ view)) in
+    let in_view : is_normal_in v s ≡ true =
+    and_both (is_normal s.status) (eqb s.view v) h.normal (eq-eqb s.view v (sym (ap (λ (x : LogModBody). x.view) is) ∙ view)) in
     let led : is_led g v K ≡ true = subst (λ (n : ℕ). is_normal_in v (state_after g (Replica n) K) ≡ true) own in_view in
     let whole : lead g v K ≡ s.log.entries = led_log g v K led ∙ ap (λ (n : ℕ). (state_after g (Replica n) K).log.entries) (sym own) in
     let told : slice_get (take most_keys (drop start (keys_of s.log.entries))) i ≡ Some k = ap (λ (x : LogModBody). slice_get x.keys i) (sym is) ∙ e in
-    let placed : slice_get (keys_of s.log.entries) (start + i) ≡ Some k = get_dropped start i (keys_of s.log.entries) k (get_taken most_keys i (drop start (keys_of s.log.entries)) k told) in
-    let in_lead : slice_get (keys_of (lead g v K)) (b.start + i) ≡ Some k = ap (λ (l : List Entry). slice_get (keys_of l) (b.start + i)) whole ∙ ap (λ (x : LogModBody). slice_get (keys_of s.log.entries) (x.start + i)) is ∙ placed in
+    let placed : slice_get (keys_of s.log.entries) (start + i) ≡ Some k =
+    get_dropped start i (keys_of s.log.entries) k (get_taken most_keys i (drop start (keys_of s.log.entries)) k told) in
+    let in_lead : slice_get (keys_of (lead g v K)) (b.start + i) ≡ Some k =
+    ap (λ (l : List Entry). slice_get (keys_of l) (b.start + i)) whole ∙ ap (λ (x : LogModBody). slice_get (keys_of s.log.entries) (x.start + i)) is ∙ placed in
     let p = prefix_map (λ (x : Entry). x.key) (lead g v K) (lead g v J) (lead_later g v J K at) in
     ap (λ (l : List Key). slice_get l (b.start + i)) p.whole ∙ get_longer (keys_of (lead g v K)) p.rest (b.start + i) k in_lead
 
@@ -197,17 +202,20 @@ FollowsLead g J me status v l = is_normal status ≡ true → eqb (leader_of g.f
 
 move_follows : (g : Group) (J : List Record) (r : Record) → World g (r ∷ J) → (me : ℕ) → r.actor ≡ Replica me → (s t : ReplicaData) (p q : Phase) → Move g.f me (heard_at g (Replica me) r.event) s p q t
     → FollowsLead g (r ∷ J) me s.status s.view s.log → FollowsLead g (r ∷ J) me t.status t.view t.log
-move_follows g J r w me by s _ _ _ (Release e es m) h = λ normal follows. released_keys (keys_of (lead g s.view (r ∷ J))) (leads g.f me s) s.log e follows (h normal follows)
+move_follows g J r w me by s _ _ _ (Release e es m) h =
+    λ normal follows. released_keys (keys_of (lead g s.view (r ∷ J))) (leads g.f me s) s.log e follows (h normal follows)
 move_follows g J r w me by s _ _ _ (Sync e m) h = λ normal follows.
     let start = m.start in
     let L = keys_of (lead g s.view (r ∷ J)) in
     let place : s.log.synced ≡ m.told.body.start + (s.log.synced - m.told.body.start) = omega (arith, start) in
-    let here : slice_get L s.log.synced ≡ Some e.key = ap (slice_get L) place ∙ told_keys g J r w me by s m.told (s.log.synced - m.told.body.start) e.key m.key in
+    let here : slice_get L s.log.synced ≡ Some e.key =
+    ap (slice_get L) place ∙ told_keys g J r w me by s m.told (s.log.synced - m.told.body.start) e.key m.key in
     synced_keys L s.log e here (h normal follows)
 move_follows g J r w me by s _ _ _ _ h = h
 
 longer_list : (K L : List Key) (l : Log) → IsPrefix K L → ((i : ℕ) → i < l.synced → i < length K) → AreOf K l → AreOf L l
-longer_list K L l p short h = record { within = h.within; same = λ i low. h.same i low ∙ sym (ap (λ (x : List Key). slice_get x i) p.whole ∙ kept K p.rest i (short i low)) }
+longer_list K L l p short h =
+    record { within = h.within; same = λ i low. h.same i low ∙ sym (ap (λ (x : List Key). slice_get x i) p.whole ∙ kept K p.rest i (short i low)) }
   where
     kept : (xs rest : List Key) (i : ℕ) → i < length xs → slice_get (xs ++ rest) i ≡ slice_get xs i
     kept [] rest i low = absurd (omega (arith, low))
@@ -224,7 +232,8 @@ there_low [] i k e = absurd (none-some k (sym (none_there i) ∙ e))
 there_low (x ∷ L) zero k e = omega arith
 there_low (x ∷ L) (suc i) k e = let more = there_low L i k e in omega (arith, more)
 
-follows_later : (g : Group) (J : List Record) (r : Record) (me : ℕ) (status : Status) (v : ℕ) (l : Log) → FollowsLead g J me status v l → FollowsLead g (r ∷ J) me status v l
+follows_later : (g : Group) (J : List Record) (r : Record) (me : ℕ) (status : Status) (v : ℕ) (l : Log) → FollowsLead g J me status v l
+    → FollowsLead g (r ∷ J) me status v l
 follows_later g J r me status v l h = λ normal follows.
     let own = h normal follows in
     let within = own.within in
