@@ -16,8 +16,8 @@ use Rattle.nz_msg.specs.declared.message.Message.TheVariants.{FastReply}
 use Rattle.nz_msg.specs.declared.envelope.Envelope.{Envelope}
 use Rattle.nz_machine.specs.declared.event.Parcel.{Parcel}
 use Rattle.nz_machine.specs.declared.event.Record.{Record}
-use Rattle.nz_machine.specs.State.{ReplicaData, Group, Out}
-use Rattle.nz_machine.specs.Replicas.{is_normal, leads, commands, fast_reply}
+use Rattle.nz_machine.specs.State.{Group}
+use Rattle.nz_machine.specs.Replicas.{is_normal, leads, commands}
 use Rattle.nz_machine.specs.Step.{event_step}
 use Rattle.nz_machine.specs.World.{state_after, Has, World}
 use Rattle.nz_machine.specs.History.{log_at, cut_after}
@@ -29,7 +29,6 @@ use Rattle.nz_machine.specs.Hearing.{heard_at}
 use Rattle.nz_machine.specs.Shows.{ShowsFast, Shows}
 use Rattle.nz_base.proofs.Moments.{at_then}
 use Rattle.nz_lin.proofs.Prefixes.{EndsAnswered, cut_answered}
-use Rattle.nz_lin.proofs.Views.{seat_kept}
 use Rattle.nz_lin.proofs.FactsStay.{facts_stay}
 use Rattle.nz_machine.proofs.Sends.{shown}
 use Rattle.nz_lin.proofs.Heard.{IsTold}

@@ -74,13 +74,6 @@ length_taken n [] lt = absurd (omega (arith, lt))
 length_taken zero (x ∷ xs) lt = omega arith
 length_taken (suc n) (x ∷ xs) lt = let ih = length_taken n xs (omega (arith, lt)) in omega (arith, ih)
 
--- an entry of a new id is found at the end
-pub place_last : (e : Entry) (es : List Entry) → has_id (keys_of es) (id_of e.key) ≡ false → place_of (es ++ e ∷ []) (id_of e.key) ≡ Some (length es)
-place_last e [] h = place_here (id_eq (id_of e.key) (id_of e.key)) None 0 (id_eq_self (id_of e.key)) refl
-place_last e (x ∷ es) h =
-    place_there (id_eq (id_of e.key) (id_of x.key)) (place_of (es ++ e ∷ []) (id_of e.key)) (suc (length es)) (length es) (neither_left (id_eq (id_of e.key) (id_of x.key)) (has_id (keys_of es) (id_of e.key)) h)
-    (place_last e es (neither_right (id_eq (id_of e.key) (id_of x.key)) (has_id (keys_of es) (id_of e.key)) h)) refl
-
 -- ---- ids that a prefix has not
 
 pub absent_by : (id : Id) (es : List Entry) → ((e : Entry) → Has es e → id_of e.key ≡ id → ⊥) → has_id (keys_of es) id ≡ false

@@ -23,15 +23,9 @@ use Rattle.nz_machine.specs.Step.{proxy_message, received, envelope_step, event_
 use Rattle.nz_machine.specs.Events.{read_in}
 use Rattle.nz_machine.specs.History.{reply_in, reply_read}
 use Rattle.nz_machine.proofs.Runs.{on_cond}
+use Rattle.nz_machine.proofs.OthersShow.{lookup_inserted}
 
 -- ---- tables
-
-pub lookup_inserted : {V : Type 0} (es : List (Id × V)) (id : Id) (v : V) → lookup (id_eq id) (insert_entry id_eq es id v) ≡ Some v
-lookup_inserted [] id v = ap (λ b. cond b (Some v) None) (id_eq_self id)
-lookup_inserted {V} (e ∷ es) id v =
-    on_cond (λ (t : List (Id × V)). lookup (id_eq id) t ≡ Some v) (id_eq id e.0) ((e.0, v) ∷ es) (e ∷ insert_entry id_eq es id v)
-    (λ t. ap (λ b. cond b (Some v) (lookup (id_eq id) es)) t)
-    (λ f. ap (λ b. cond b (Some e.1) (lookup (id_eq id) (insert_entry id_eq es id v))) f ∙ lookup_inserted es id v)
 
 lookup_other : {V : Type 0} (es : List (Id × V)) (x id : Id) (v : V) → id_eq x id ≡ false
     → lookup (id_eq x) (insert_entry id_eq es id v) ≡ lookup (id_eq x) es

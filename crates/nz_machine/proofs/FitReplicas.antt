@@ -113,15 +113,15 @@ pub record AreLeft (keys : List Key) (most : ℕ) : Type 0 where
   pub few : length keys ≤ most
   pub all : AllByRecursion key.fits keys
 
-all_rest : (P : Key → Type 0) (front rest : List Key) → AllByRecursion P (front ++ rest) → AllByRecursion P rest
+all_rest : (P : Key → Type 0) (earlier rest : List Key) → AllByRecursion P (earlier ++ rest) → AllByRecursion P rest
 all_rest P [] rest all = all
-all_rest P (k ∷ front) rest all = all_rest P front rest all.1
+all_rest P (k ∷ earlier) rest all = all_rest P earlier rest all.1
 
 rest_left : (rest keys : List Key) (most : ℕ) → IsRest rest keys → AreLeft keys most → AreLeft rest most
 rest_left rest keys most r h =
     let few = h.few in
-    let part = ap length r.whole ∙ length-append r.front rest in
-    record { few = omega (arith, few, part); all = all_rest key.fits r.front rest (subst (AllByRecursion key.fits) r.whole h.all) }
+    let part = ap length r.whole ∙ length-append r.earlier rest in
+    record { few = omega (arith, few, part); all = all_rest key.fits r.earlier rest (subst (AllByRecursion key.fits) r.whole h.all) }
 
 missing_few : (s : ReplicaData) (keys : List Key) → AreLeft keys 64 → AreFew (missing_ids s keys)
 missing_few s keys h =

@@ -60,20 +60,20 @@ still_follows f me leader s t same w = record {
 -- ---- the keys that are left
 
 rest_self : (keys : List Key) → IsRest keys keys
-rest_self keys = record { front = []; whole = refl }
+rest_self keys = record { earlier = []; whole = refl }
 
 rest_then : (a b c : List Key) → IsRest a b → IsRest b c → IsRest a c
-rest_then a b c p q = record { front = q.front ++ p.front; whole = q.whole ∙ ap (λ l. q.front ++ l) p.whole ∙ sym (append_assoc q.front p.front a) }
+rest_then a b c p q = record { earlier = q.earlier ++ p.earlier; whole = q.whole ∙ ap (λ l. q.earlier ++ l) p.whole ∙ sym (append_assoc q.earlier p.earlier a) }
 
 rest_more : (k : Key) (a b : List Key) → IsRest a b → IsRest a (k ∷ b)
-rest_more k a b p = record { front = k ∷ p.front; whole = ap (λ l. k ∷ l) p.whole }
+rest_more k a b p = record { earlier = k ∷ p.earlier; whole = ap (λ l. k ∷ l) p.whole }
 
 rest_none : (keys : List Key) → IsRest [] keys
 rest_none [] = rest_self []
 rest_none (k ∷ keys) = rest_more k [] keys (rest_none keys)
 
 pub rest_drop : (n : ℕ) (keys : List Key) → IsRest (drop n keys) keys
-rest_drop n keys = record { front = take n keys; whole = sym (take-append-drop n keys) }
+rest_drop n keys = record { earlier = take n keys; whole = sym (take-append-drop n keys) }
 
 found_rest : (s : ReplicaData) (k : Key) (keys : List Key) → ((t : ReplicaData) → IsRest (sync_keys t keys).1 keys) → (o : Option Entry)
     → IsRest (if_found o (s, k ∷ keys) (λ e. sync_keys (synced_with s (record { key = k; command = e.command })) keys)).1 (k ∷ keys)
@@ -96,10 +96,10 @@ has_dropped zero xs x h = h
 has_dropped (suc n) [] x h = absurd h
 has_dropped (suc n) (y ∷ xs) x h = inr (has_dropped n xs x h)
 
-length_front : {X : Type 0} (n : ℕ) (xs : List X) → length (take n xs) ≤ n
-length_front zero xs = omega arith
-length_front (suc n) [] = omega arith
-length_front (suc n) (x ∷ xs) = let ih = length_front n xs in omega (arith, ih)
+length_taken : {X : Type 0} (n : ℕ) (xs : List X) → length (take n xs) ≤ n
+length_taken zero xs = omega arith
+length_taken (suc n) [] = omega arith
+length_taken (suc n) (x ∷ xs) = let ih = length_taken n xs in omega (arith, ih)
 
 -- an entry of the synced part stands at a synced place
 record IsSynced (s : ReplicaData) (id : Id) : Type 0 where
@@ -111,7 +111,7 @@ synced_stands : (s : ReplicaData) (e : Entry) → Has (synced_part s.log) e → 
 synced_stands s e h =
     let at = has_place (synced_part s.log) e h in
     let within = place_within (synced_part s.log) (id_of e.key) at.0 at.1 in
-    let few = length_front s.log.synced s.log.entries in
+    let few = length_taken s.log.synced s.log.entries in
     record {
       place = at.0;
       stands = place_kept (synced_part s.log) s.log.entries (id_of e.key) at.0 (prefix_take s.log.synced s.log.entries) at.1;

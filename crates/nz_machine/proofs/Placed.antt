@@ -16,20 +16,20 @@ use Rattle.nz_machine.specs.World.{Has}
 
 -- ---- longer lists
 
-get_front : {X : Type 0} (xs ys : List X) (i : ℕ) → i < length xs → slice_get (xs ++ ys) i ≡ slice_get xs i
-get_front [] ys i lt = absurd (omega (arith, lt))
-get_front (x ∷ xs) ys zero lt = refl
-get_front (x ∷ xs) ys (suc i) lt = get_front xs ys i (omega (arith, lt))
+get_append : {X : Type 0} (xs ys : List X) (i : ℕ) → i < length xs → slice_get (xs ++ ys) i ≡ slice_get xs i
+get_append [] ys i lt = absurd (omega (arith, lt))
+get_append (x ∷ xs) ys zero lt = refl
+get_append (x ∷ xs) ys (suc i) lt = get_append xs ys i (omega (arith, lt))
 
 pub get_kept : {X : Type 0} (xs ys : List X) (i : ℕ) → IsPrefix xs ys → i < length xs → slice_get ys i ≡ slice_get xs i
-get_kept {X} xs ys i p lt = ap (λ (l : List X). slice_get l i) p.whole ∙ get_front xs p.rest i lt
+get_kept {X} xs ys i p lt = ap (λ (l : List X). slice_get l i) p.whole ∙ get_append xs p.rest i lt
 
-place_front : (xs ys : List Entry) (id : Id) (i : ℕ) → place_of xs id ≡ Some i → place_of (xs ++ ys) id ≡ Some i
-place_front [] ys id i e = absurd cc
-place_front (x ∷ xs) ys id i e =
+place_append : (xs ys : List Entry) (id : Id) (i : ℕ) → place_of xs id ≡ Some i → place_of (xs ++ ys) id ≡ Some i
+place_append [] ys id i e = absurd cc
+place_append (x ∷ xs) ys id i e =
     elim (cases_bool (id_eq id (id_of x.key))) [
       | inl here ↦ rw here (rw here at e)
-      | inr away ↦ rw away (further (place_of xs id) (λ n. place_front xs ys id n) (rw away at e))
+      | inr away ↦ rw away (further (place_of xs id) (λ n. place_append xs ys id n) (rw away at e))
     ]
   where
     further : (o : Option ℕ) → ((n : ℕ) → o ≡ Some n → place_of (xs ++ ys) id ≡ Some n) → option_map suc o ≡ Some i
@@ -39,7 +39,7 @@ place_front (x ∷ xs) ys id i e =
 
 -- a place in a log is one in a longer log
 pub place_kept : (xs ys : List Entry) (id : Id) (i : ℕ) → IsPrefix xs ys → place_of xs id ≡ Some i → place_of ys id ≡ Some i
-place_kept xs ys id i p e = ap (λ (l : List Entry). place_of l id) p.whole ∙ place_front xs p.rest id i e
+place_kept xs ys id i p e = ap (λ (l : List Entry). place_of l id) p.whole ∙ place_append xs p.rest id i e
 
 pub place_within : (es : List Entry) (id : Id) (i : ℕ) → place_of es id ≡ Some i → i < length es
 place_within es id i e = (place_found es id i e).within

@@ -156,8 +156,8 @@ released_stands : (f me : ℕ) (s : ReplicaData) (e : Entry) (es : List Entry) �
 released_stands f me s e es own =
     let is = appended_is (leads f me s) s.log e in
     let entries = (released f me s e es).log.entries in
-    let front = own_front (keys_of entries) (keys_of es) (subst HaveOwnIds (keys_append entries es) own) in
-    let last = place_at_end s.log.entries e (subst (λ (l : List Entry). HaveOwnIds (keys_of l)) is front) in
+    let own_log = own_front (keys_of entries) (keys_of es) (subst HaveOwnIds (keys_append entries es) own) in
+    let last = place_at_end s.log.entries e (subst (λ (l : List Entry). HaveOwnIds (keys_of l)) is own_log) in
     let long = length-append s.log.entries (e ∷ []) in
     let at : length s.log.entries ≡ length (s.log.entries ++ e ∷ []) - 1 = omega (arith, long) in
     subst (λ (l : List Entry). place_of l (id_of e.key) ≡ Some (length l - 1)) (sym is) (last ∙ ap Some at)

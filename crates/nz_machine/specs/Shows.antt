@@ -42,8 +42,8 @@ pub record IsOther (f me : ℕ) (to : Actor) : Type 0 where
 
 -- The keys are the last ones of a list.
 pub record IsRest (rest keys : List Key) : Type 0 where
-  pub front : List Key
-  pub whole : keys ≡ front ++ rest
+  pub earlier : List Key
+  pub whole : keys ≡ earlier ++ rest
 
 -- A fast reply is of a view in which the replica was in normal operation before, and of a place of its log.
 -- The leader of the view is in it still, and replies with its answer.

@@ -5,7 +5,8 @@ ghost use Rattle.nz_base.specs.declared.actor.Actor.TheVariants.{Replica as IsRe
 ghost use Rattle.nz_msg.specs.Messages.{Fits};
 ghost use Rattle.nz_machine.specs.State.{Group};
 ghost use Rattle.nz_machine.specs.Replicas.{first_replica};
-ghost use Rattle.nz_machine.specs.Step.{node_step, envelope_step, replica_message, tick_rule, received, parcel, is_in_cluster, is_sized, vector_of};
+ghost use Rattle.nz_machine.specs.Does.{Does};
+ghost use Rattle.nz_machine.specs.Step.{event_step, envelope_step, replica_message, tick_rule, received, parcel, is_in_cluster, is_sized, vector_of};
 ghost use Rattle.nz_replica.specs.Seats.{IsOf};
 
 use nz_base::{Actor, Cluster, NoMemory};
@@ -73,8 +74,7 @@ fn handle(state: &mut ReplicaState, envelope: &Envelope, sends: &mut Sends) -> R
     requires from { HasAddress envelope.now.from }
     requires fits { Fits envelope.now.message }
     requires counted { IsTrue (is_in_cluster state.old.f envelope.now.from && is_sized state.old.f (vector_of envelope.now.message)) }
-    ensures state { OnOk result (state.new ≡ record state.old { state = (replica_message state.old.f state.old.me state.old.state envelope.now.from envelope.now.message).0 }) }
-    ensures sends { OnOk result (sends.new ≡ sends.old ++ map (parcel (IsReplica state.old.me)) (replica_message state.old.f state.old.me state.old.state envelope.now.from envelope.now.message).1) }
+    ensures { let s = state.old in OnOk result (Does s state.new sends.old sends.new (replica_message s.f s.me s.state envelope.now.from envelope.now.message)) }
 {
     let from = envelope.from;
     match &envelope.message {
@@ -91,13 +91,12 @@ fn handle(state: &mut ReplicaState, envelope: &Envelope, sends: &mut Sends) -> R
 }
 
 fn deliver(state: &mut ReplicaState, p: &Parcel, sends: &mut Sends) -> Result<(), NoMemory>
-    ensures state { (g : Group) → IsOf g state.old → OnOk result (state.new ≡ record state.old { state = (envelope_step g (IsReplica state.old.me) state.old.state (received g.f (IsReplica state.old.me) p.now)).0 }) }
-    ensures sends { (g : Group) → IsOf g state.old → OnOk result (sends.new ≡ sends.old ++ map (parcel (IsReplica state.old.me)) (envelope_step g (IsReplica state.old.me) state.old.state (received g.f (IsReplica state.old.me) p.now)).1) }
+    ensures { let s = state.old in (g : Group) → IsOf g s → OnOk result (Does s state.new sends.old sends.new (envelope_step g (IsReplica s.me) s.state (received g.f (IsReplica s.me) p.now))) }
 {
     match heard(state.allocator(), state.name(), p)? {
         None => Ok(()),
         Some(envelope) => {
-            if !is_counted(state.cluster(), &envelope) {
+            if state.is_down() || !is_counted(state.cluster(), &envelope) {
                 return Ok(());
             }
             handle(state, &envelope, sends)
@@ -107,21 +106,19 @@ fn deliver(state: &mut ReplicaState, p: &Parcel, sends: &mut Sends) -> Result<()
 
 /// Releases what is due, and tells the others.
 fn tick_and_tell(state: &mut ReplicaState, clock: u64, sends: &mut Sends) -> Result<(), NoMemory>
-    ensures state { OnOk result (state.new ≡ record state.old { state = (tick_rule state.old.f state.old.me state.old.state clock).0 }) }
-    ensures sends { OnOk result (sends.new ≡ sends.old ++ map (parcel (IsReplica state.old.me)) (tick_rule state.old.f state.old.me state.old.state clock).1) }
+    ensures { let s = state.old in OnOk result (Does s state.new sends.old sends.new (tick_rule s.f s.me s.state clock)) }
 {
     tick(state, clock, sends)?;
     tell(state, sends)
 }
 
 fn take(state: &mut ReplicaState, event: &Event, sends: &mut Sends) -> Result<(), NoMemory>
-    ensures state { (g : Group) → IsOf g state.old → OnOk result (state.new ≡ record state.old { state = (node_step g (IsReplica state.old.me) state.old.state event.now).0 }) }
-    ensures sends { (g : Group) → IsOf g state.old → OnOk result (sends.new ≡ sends.old ++ (node_step g (IsReplica state.old.me) state.old.state event.now).1) }
+    ensures { let s = state.old in (g : Group) → IsOf g s → OnOk result (Does s state.new sends.old sends.new (event_step g (IsReplica s.me) s.state event.now)) }
 {
     match event {
         Event::Deliver(p) => deliver(state, p, sends),
-        Event::Tick(clock) => tick_and_tell(state, *clock, sends),
-        Event::Cut(..) | Event::Alarm | Event::Crash | Event::Restart(_) => Ok(()),
+        Event::Tick(clock) if !state.is_down() => tick_and_tell(state, *clock, sends),
+        Event::Tick(_) | Event::Cut(..) | Event::Alarm | Event::Crash | Event::Restart(_) => Ok(()),
     }
 }
 
