@@ -2,12 +2,17 @@
 """Times the proved program on scenarios of growing size.
 
     (cd crates/nezha && rt run < ../../scenarios/put_then_get)     makes crates/nezha/out/nezha
-    bench/run.py [PROGRAM [WORKERS]]
+    bench/run.py [PROGRAM [WORKERS [REFERENCE]]]
 
 prints a line for each scenario: how many requests and ticks it has, how long the run took by so many workers
 (1 if left out), how much memory it took at most, and how many lines of output it made in a second. It judges
 nothing: compare two runs on one quiet machine.
+
+With the path of a REFERENCE, another program with the same words, it first prints both side by side on the
+generated runs `gen 7 COUNT`, ours by one worker: the best of five times each, their ratio, the memory of both,
+and the exponents by which the times grow from one count to the next.
 """
+import math
 import os
 import sys
 import tempfile
@@ -67,7 +72,7 @@ def cases():
     yield "nine replicas, full ticks", 2000, 500, even(4, 8, 64, 2000, 500)
 
 
-def measure(program, workers, text):
+def measure(program, words, text):
     """Seconds, the most memory in MiB, lines of output, and the exit status."""
     with tempfile.TemporaryFile() as given, tempfile.TemporaryFile() as made:
         given.write(text.encode())
@@ -77,11 +82,40 @@ def measure(program, workers, text):
         if child == 0:
             os.dup2(given.fileno(), 0)
             os.dup2(made.fileno(), 1)
-            os.execv(program, [program, "run", "--workers", workers])
+            os.execv(program, [program, *words])
         _, status, used = os.wait4(child, 0)
         seconds = time.monotonic() - start
         made.seek(0)
         return seconds, used.ru_maxrss / 1024, made.read().count(b"\n"), os.waitstatus_to_exitcode(status)
+
+
+def best(program, count):
+    """The least seconds of five generated runs with so many requests, and the most memory of any in MiB."""
+    runs = [measure(program, ["gen", "7", str(count)], "") for _ in range(5)]
+    for _, _, _, status in runs:
+        if status != 0:
+            sys.exit(f"{program} gen 7 {count} ended with status {status}")
+    return min(run[0] for run in runs), max(run[1] for run in runs)
+
+
+def exponent(times, counts, at):
+    """By which power of the count the time grew from the last count to this one."""
+    if at == 0:
+        return "-"
+    return f"{math.log(times[at] / times[at - 1]) / math.log(counts[at] / counts[at - 1]):.2f}"
+
+
+def side_by_side(program, reference):
+    counts = (250, 500, 1000, 2000)
+    ours, theirs = [], []
+    print(f"{'gen 7':>8} {'ours, s':>9} {'ref, s':>9} {'ratio':>7} {'growth':>7} {'ref':>6} {'ours, MiB':>10} {'ref, MiB':>9}")
+    for at, count in enumerate(counts):
+        (seconds, memory), (other, other_memory) = best(program, count), best(reference, count)
+        ours.append(seconds)
+        theirs.append(other)
+        growth, other_growth = exponent(ours, counts, at), exponent(theirs, counts, at)
+        print(f"{count:8} {seconds:9.4f} {other:9.4f} {seconds / other:7.1f} {growth:>7} {other_growth:>6} {memory:10.1f} {other_memory:9.1f}")
+    print()
 
 
 def main():
@@ -89,9 +123,11 @@ def main():
     workers = sys.argv[2] if len(sys.argv) > 2 else "1"
     if not os.access(program, os.X_OK):
         sys.exit(f"there is no program {program}: make it as the head of this file says")
+    if len(sys.argv) > 3:
+        side_by_side(program, os.path.abspath(sys.argv[3]))
     print(f"{'scenario':28} {'requests':>8} {'ticks':>6} {'seconds':>9} {'MiB':>8} {'lines/s':>9} status")
     for name, requests, ticks, text in cases():
-        seconds, memory, lines, status = measure(program, workers, text)
+        seconds, memory, lines, status = measure(program, ["run", "--workers", workers], text)
         print(f"{name:28} {requests:8} {ticks:6} {seconds:9.3f} {memory:8.1f} {lines / seconds:9.0f} {status}")
 
 

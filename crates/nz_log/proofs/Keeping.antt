@@ -57,10 +57,13 @@ late (e ∷ es) (suc n) i place is above =
     further (Some m) place rest h above = let next : suc m ≡ place = some_same (suc m) place h in rest m refl (omega (arith, next, above))
 
 pub held_before : (es : List Entry) (n : ℕ) (i : Id) (place : ℕ) → n ≤ length es → place_of es i ≡ Some place → nat_lt place n ≡ has_id (keys_of (take n es)) i
-held_before es n i place few is = sym (ltb_from_iff (λ held. elim (cases_lt place n) [
-  | inl below ↦ below
-  | inr above ↦ absurd (let no = late es n i place is above in cc)
-], λ below. early es n i place few is below))
+held_before es n i place few is = sym (ltb_from_iff (
+  λ held. elim (cases_lt place n) [
+    | inl below ↦ below
+    | inr above ↦ absurd (let no = late es n i place is above in cc)
+  ],
+  λ below. early es n i place few is below,
+))
 
 pub none_before : (es : List Entry) (n : ℕ) (i : Id) → place_of es i ≡ None → false ≡ has_id (keys_of (take n es)) i
 none_before es n i is =

@@ -1,3 +1,4 @@
+pub mod Calling
 pub mod Digests
 pub mod Indexing
 pub mod Keeping

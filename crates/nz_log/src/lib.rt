@@ -1,6 +1,7 @@
 //! A replica's log, which knows its digest at each place and how much of it is synced.
 #![tactic(auto)]
 
+mod calls;
 mod index;
 mod laws;
 mod list_log;
@@ -10,6 +11,7 @@ mod pages;
 mod parts;
 mod sums;
 
+pub use calls::{LogAnswer, LogAnswerList, LogCall, LogCallList, run_calls};
 pub use laws::{
     appended_is_log, digest_folds_one_more, last_entry_is_the_greatest, modified_is_log,
     no_entry_is_lost, place_is_the_only_one, synced_part_stays,

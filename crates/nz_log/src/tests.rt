@@ -2,6 +2,7 @@ use super::*;
 use nz_base::{Blob, Entry, EntryList, Id, Key, List, NoMemory};
 use nz_digest::Digest;
 use std::alloc::Global;
+use std::process::Abort;
 use std::test::*;
 
 // Deadline, client and number.
@@ -150,4 +151,31 @@ fn takes_a_list_in_place_of_its_entries(rt: HostRuntime) -> Result<(), Fail> {
     assert_eq!(rt; log.entries()?, other.entries()?);
     assert_eq!(rt; log.synced(), 2);
     Ok(())
+}
+
+// Of two entries the first loses its place to a third one, and a key below the last is skipped.
+fn check_calls<L: LogRep>(rt: &impl Abort, alloc: Global, log: &mut L) -> Result<(), Fail> {
+    let mut calls = List::new(alloc);
+    calls.push(LogCall::Append(entry(alloc, (5, 0, 1))?))?;
+    calls.push(LogCall::Append(entry(alloc, (7, 1, 1))?))?;
+    calls.push(LogCall::Modify(entry(alloc, (6, 2, 1))?))?;
+    calls.push(LogCall::PlaceOf(Id { client: 1, num: 1 }))?;
+    calls.push(LogCall::Append(entry(alloc, (5, 3, 1))?))?;
+    let mut expected = List::new(alloc);
+    expected.push(LogAnswer::Nothing)?;
+    expected.push(LogAnswer::Nothing)?;
+    expected.push(LogAnswer::Removed(list_of(alloc, &[(5, 0, 1)])?))?;
+    expected.push(LogAnswer::Place(Some(1)))?;
+    expected.push(LogAnswer::Skipped)?;
+    let answers = run_calls(log, &calls)?;
+    assert_eq!(rt; answers, expected);
+    assert_eq!(rt; log.entries()?, list_of(alloc, &[(6, 2, 1), (7, 1, 1)])?);
+    assert_eq!(rt; log.synced(), 1);
+    Ok(())
+}
+
+#[test]
+fn both_logs_answer_a_list_of_calls(rt: HostRuntime) -> Result<(), Fail> {
+    check_calls(&rt, rt.alloc(), &mut HashedLog::new(rt.alloc()))?;
+    check_calls(&rt, rt.alloc(), &mut ListLog::new(rt.alloc()))
 }
