@@ -1,3 +1,4 @@
 pub mod Inserting
+pub mod Keeping
 pub mod Releasing
 pub mod Removing

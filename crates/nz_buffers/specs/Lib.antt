@@ -1,3 +1,4 @@
 pub mod Buffers
+pub mod Keeping
 pub mod Offers
 pub mod Places

@@ -1,13 +1,17 @@
-ghost use Rattle.std.specs.Prelude.{◌≡◌, ◌++◌, [], ◌↔◌, length, IsTrue, IsFalse, IsSome, IsOk, IfOk, OnOk, OnErr, not};
+ghost use Rattle.std.specs.Prelude.{◌≡◌, ◌++◌, ◌<◌, [], ◌↔◌, if◌then◌else◌, true, Some, None, length, IsTrue, IsFalse, IsSome, IsOk, IfOk, OnOk, OnErr, not};
 ghost use Rattle.std.specs.Option.{option_copied, option_to_list};
-ghost use Rattle.nz_base.specs.Key.{key_below, id_of};
-ghost use Rattle.nz_base.specs.Log.{keys_of, has_id, IsLog};
+ghost use Rattle.indexmap.specs.IndexMap.{get, spare};
+ghost use Rattle.nz_base.specs.declared.key.Id.{Id as AnId};
+ghost use Rattle.nz_base.specs.Key.{key_below, id_eq, id_of};
+ghost use Rattle.nz_base.specs.Log.{keys_of, has_id};
 ghost use Rattle.nz_buffers.specs.Buffers.{find_id, without, first_key, is_past, is_due, released, first_if};
 ghost use Rattle.nz_buffers.specs.Offers.{answer_to, after_offer};
 
-use super::places::{find, put_by_key, take_out};
+use super::early_rep::EarlyRep;
+use indexmap::IndexMap;
 use nz_base::{Entry, Id, Key, NoMemory};
 use std::alloc::Global;
+use std::collections::BTreeMap;
 use std::marker::Model;
 
 /// What became of an entry that was offered to the early buffer.
@@ -22,19 +26,22 @@ pub enum Offer {
 /// their keys.
 #[derive(Debug, Drop)]
 pub struct Early {
-    entries: Vec<Entry>,
+    entries: BTreeMap<Key, Entry>,
+    // Of each id.
+    keys: IndexMap<Id, Key>,
 }
 
 impl Model for Early {
     ghost use Rattle.std.specs.Prelude.{List};
     ghost use Rattle.nz_base.specs.declared.key.Entry.{Entry as AnEntry};
-    ghost use Rattle.nz_base.specs.Log.{IsLog};
+    ghost use Rattle.std.specs.Map.{values_of};
+    ghost use Rattle.nz_buffers.specs.Keeping.{IsKept};
 
     ghost Value = { List AnEntry };
 
-    ghost view = { λ b. b.entries.items };
+    ghost view = { λ b. values_of b.entries.entries };
 
-    ghost invariant = { λ b. IsLog b.entries.items };
+    ghost invariant = { λ b. IsKept b.entries.entries b.keys.entries };
 }
 
 impl Early {
@@ -42,7 +49,8 @@ impl Early {
         ensures { result ≡ [] }
     {
         Early {
-            entries: Vec::new(alloc),
+            entries: BTreeMap::new(alloc),
+            keys: IndexMap::new(alloc),
         }
     }
 
@@ -62,7 +70,10 @@ impl Early {
     pub fn first(&self) -> Option<Key>
         ensures { result ≡ first_key self.now }
     {
-        self.entries.first().map(|entry| entry.key)
+        match self.entries.first_key_value() {
+            Some((key, _)) => Some(*key),
+            None => None,
+        }
     }
 
     /// Takes the entry in if its key is above `last`, the last key of the log.
@@ -76,7 +87,11 @@ impl Early {
         if !is_past_last(&entry.key, last) {
             return Ok(Offer::Late(entry));
         }
-        put_by_key(&mut self.entries, entry)?;
+        let key = entry.key;
+        self.keys.reserve(1)?;
+        self.entries.insert(key, entry)?;
+        // Nothing takes memory any more.
+        note_key(&mut self.keys, key);
         Ok(Offer::Taken)
     }
 
@@ -86,10 +101,10 @@ impl Early {
         ensures rest { self.old ≡ option_to_list result ++ self.new }
         ensures released { released self.old clock ≡ option_to_list result ++ released self.new clock }
     {
-        if self.entries.is_empty() || self.entries[0].key.deadline > clock {
-            return None;
+        match self.first() {
+            Some(key) if key.deadline <= clock => self.take_first(),
+            _ => None,
         }
-        Some(self.entries.remove(0))
     }
 
     /// Takes the entry of least key out if that key is not above `last`.
@@ -97,10 +112,20 @@ impl Early {
         ensures value { result ≡ first_if (λ e. not (key_below last e.key)) self.old }
         ensures rest { self.old ≡ option_to_list result ++ self.new }
     {
-        if self.entries.is_empty() || last.is_below(&self.entries[0].key) {
-            return None;
+        match self.first() {
+            Some(key) if !last.is_below(&key) => self.take_first(),
+            _ => None,
         }
-        Some(self.entries.remove(0))
+    }
+
+    // Takes the entry of least key out.
+    fn take_first(&mut self) -> Option<Entry>
+        ensures value { result ≡ first_if (λ _. true) self.old }
+        ensures rest { self.old ≡ option_to_list result ++ self.new }
+    {
+        let (key, entry) = self.entries.pop_first()?;
+        forget(&mut self.keys, key.id());
+        Some(entry)
     }
 
     pub fn remove(&mut self, id: Id) -> Option<Entry>
@@ -108,18 +133,67 @@ impl Early {
         ensures held { IsSome result ↔ IsTrue (has_id (keys_of self.old) id) }
         ensures rest { self.new ≡ without self.old id }
     {
-        take_out(&mut self.entries, id)
+        match self.keys.swap_remove(&id) {
+            Some(key) => self.entries.remove(&key),
+            None => None,
+        }
     }
 
     pub fn find(&self, id: Id) -> Option<&Entry>
         ensures value { option_copied result ≡ find_id self.now id }
         ensures held { IsSome result ↔ IsTrue (has_id (keys_of self.now) id) }
     {
-        find(&self.entries, id)
+        match self.keys.get(&id) {
+            Some(key) => self.entries.get(key),
+            None => None,
+        }
     }
 }
 
-fn is_past_last(key: &Key, last: Option<Key>) -> bool
+impl EarlyRep for Early {
+    ghost early = { λ b. b };
+
+    fn first(&self) -> Option<Key> {
+        Early::first(self)
+    }
+
+    fn offer(&mut self, entry: Entry, last: Option<Key>) -> Result<Offer, NoMemory> {
+        Early::offer(self, entry, last)
+    }
+
+    fn take_due(&mut self, clock: u64) -> Option<Entry> {
+        Early::take_due(self, clock)
+    }
+
+    fn take_below(&mut self, last: Key) -> Option<Entry> {
+        Early::take_below(self, last)
+    }
+
+    fn remove(&mut self, id: Id) -> Option<Entry> {
+        Early::remove(self, id)
+    }
+
+    fn find(&self, id: Id) -> Option<&Entry> {
+        Early::find(self, id)
+    }
+}
+
+// Notes the key of an id, for which there is room.
+fn note_key(keys: &mut IndexMap<Id, Key>, key: Key)
+    requires { 0 < spare keys.old }
+    ensures { (i : AnId) → get id_eq keys.new i ≡ (if id_eq (id_of key) i then Some key else get id_eq keys.old i) }
+{
+    let _ = keys.insert(key.id(), key);
+}
+
+fn forget(keys: &mut IndexMap<Id, Key>, id: Id)
+    ensures { (i : AnId) → get id_eq keys.new i ≡ (if id_eq id i then None else get id_eq keys.old i) }
+{
+    let _ = keys.swap_remove(&id);
+}
+
+/// Whether a key is above the last one of a log, or the log has none.
+pub fn is_past_last(key: &Key, last: Option<Key>) -> bool
     ensures { result ≡ is_past last key.now }
 {
     match last {

@@ -4,7 +4,7 @@ ghost use Rattle.nz_base.specs.Key.{id_of};
 ghost use Rattle.nz_base.specs.Log.{keys_of, has_id, HaveOwnIds};
 ghost use Rattle.nz_buffers.specs.Buffers.{find_id, without};
 
-use super::places::{find, take_out};
+use indexmap::IndexMap;
 use nz_base::{Entry, Id, NoMemory};
 use std::alloc::Global;
 use std::marker::Model;
@@ -13,19 +13,20 @@ use std::marker::Model;
 /// they came.
 #[derive(Debug, Drop)]
 pub struct Late {
-    entries: Vec<Entry>,
+    entries: IndexMap<Id, Entry>,
 }
 
 impl Model for Late {
     ghost use Rattle.std.specs.Prelude.{List};
     ghost use Rattle.nz_base.specs.declared.key.Entry.{Entry as AnEntry};
-    ghost use Rattle.nz_base.specs.Log.{keys_of, HaveOwnIds};
+    ghost use Rattle.std.specs.Map.{values_of};
+    ghost use Rattle.nz_buffers.specs.Keeping.{AreByIds};
 
     ghost Value = { List AnEntry };
 
-    ghost view = { λ b. b.entries.items };
+    ghost view = { λ b. values_of b.entries.entries };
 
-    ghost invariant = { λ b. HaveOwnIds (keys_of b.entries.items) };
+    ghost invariant = { λ b. AreByIds b.entries.entries };
 }
 
 impl Late {
@@ -33,7 +34,7 @@ impl Late {
         ensures { result ≡ [] }
     {
         Late {
-            entries: Vec::new(alloc),
+            entries: IndexMap::new(alloc),
         }
     }
 
@@ -55,7 +56,7 @@ impl Late {
         ensures ok { OnOk result (self.new ≡ self.old ++ entry ∷ []) }
         ensures err { OnErr result (self.new ≡ self.old) }
     {
-        self.entries.push(entry)?;
+        self.entries.insert(entry.key.id(), entry)?;
         Ok(())
     }
 
@@ -64,13 +65,13 @@ impl Late {
         ensures held { IsSome result ↔ IsTrue (has_id (keys_of self.old) id) }
         ensures rest { self.new ≡ without self.old id }
     {
-        take_out(&mut self.entries, id)
+        self.entries.shift_remove(&id)
     }
 
     pub fn find(&self, id: Id) -> Option<&Entry>
         ensures value { option_copied result ≡ find_id self.now id }
         ensures held { IsSome result ↔ IsTrue (has_id (keys_of self.now) id) }
     {
-        find(&self.entries, id)
+        self.entries.get(&id)
     }
 }

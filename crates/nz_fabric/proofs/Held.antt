@@ -1,45 +1,43 @@
 -- What a fabric of one thread keeps.
-use Rattle.std.proofs.Common.{◌≡◌, ℕ, zero, suc, ◌+◌, ◌<◌, ◌≤◌, eqb, Bool, false, List, [], ◌∷◌, ◌++◌, length, map, not, Some, refl, sym, ap, ◌∙◌, subst, arith, length-append, length-drop, take_all, take-append-drop}
-use Rattle.std.specs.Prelude.{take, drop, reverse, filter, slice_get, vec_capacity}
+use Rattle.std.proofs.Common.{◌≡◌, ℕ, zero, suc, ◌+◌, ◌<◌, ◌≤◌, Bool, true, false, List, [], ◌∷◌, ◌++◌, length, map, Some, refl, sym, ap, ◌∙◌, subst, arith, length-append, length-drop, take_all, take-append-drop, append-nil, append_assoc}
+use Rattle.std.specs.Prelude.{take, drop, reverse, slice_get}
 use Rattle.std.specs.List.{AllByRecursion}
-use Rattle.std.proofs.lemmas.List.{map-append, reverse-append, length-reverse, drop_all, take-append-le, drop-append-le}
+use Rattle.std.proofs.lemmas.List.{map-append, reverse-append, length-reverse, reverse-reverse, drop_all, take-append-le, drop-append-le}
 use Rattle.std.proofs.lemmas.Grind.{reverse_onto}
 use Rattle.std.proofs.lemmas.Option.{none-some, same_Some}
 use Rattle.nz_base.specs.declared.scenario.Scenario.{Scenario}
 use Rattle.nz_machine.specs.declared.event.Parcel.{Parcel}
 use Rattle.nz_machine.specs.declared.event.Record.{Record}
 use Rattle.nz_machine.specs.declared.journal.Item.{Item}
-use Rattle.nz_machine.specs.Schedule.{Posted, posted, item_of, calls, tick_item, actors_of, arrivals, due, InOrderTo, IsPlayable}
+use Rattle.nz_machine.specs.Schedule.{Posted, posted, posted_in, item_of, calls, tick_item, actors_of, arrivals, due, InOrderTo, IsPlayable}
 use Rattle.nz_fabric.specs.declared.turn.Turn.{Turn}
-use Rattle.nz_fabric.specs.declared.coming.Arrival.{Arrival}
-use Rattle.nz_fabric.specs.declared.coming.Coming.{Coming}
 use Rattle.nz_fabric.specs.declared.ticks.Ticks.{Ticks}
-use Rattle.nz_fabric.specs.Coming.{arriving, posted_by, IsComing}
-use Rattle.nz_fabric.specs.States.{State, records_of, start, IsNew, IsOpen, IsDone, item_in, recorded, with_recorded, after_tick, IsBegun, IsBegunAs, IsKept, state_of, state_in, IsHeld}
-use Rattle.nz_fabric.proofs.Arriving.{posted_reverse, taken_out}
+use Rattle.nz_fabric.specs.Calendars.{Dates, StandsFor, HasPosted, posted_by}
+use Rattle.nz_fabric.specs.States.{State, records_of, start, IsNew, IsOpen, IsDone, item_in, recorded, with_recorded, after_tick, IsBegun, IsBegunAs, IsKept, IsPosted, state_of, state_in, IsHeld, HasBegun}
+use Rattle.nz_fabric.proofs.Dating.{posted_push, posted_reverse}
 
 -- ---- the start
 
-abbrev begin_with : Scenario → List Record → List Item → State
-begin_with s records items = state_of s 0 0 records items 0 false
+abbrev begin_with : Scenario → List Item → State
+begin_with s items = state_of s 0 0 [] items 0 false
 
-pub new_ticks : (s : Scenario) (t : Ticks) → state_in t ≡ begin_with s t.records.items t.items.items → t.before ≡ 0 → t.records.items ≡ [] → t.items.items ≡ [] → IsComing s 0 [] t.coming → IsNew s t
-new_ticks s t is first none nothing h =
-    record { state = is ∙ ap (λ (rs : List Record). begin_with s rs t.items.items) none ∙ ap (begin_with s []) nothing; records = none; before = first; is_coming = h }
+pub new_ticks : (s : Scenario) (t : Ticks) → state_in t 0 [] ≡ begin_with s t.items.items → t.items.items ≡ [] → StandsFor s [] 0 t.calendar → IsNew s t
+new_ticks s t is nothing h = record { state = is ∙ ap (begin_with s) nothing; stands = h }
 
-pub held_start : (s : Scenario) (t : Ticks) → IsPlayable s → IsNew s t → IsHeld (state_in t) t.before (vec_capacity t.records) t.records.items t.coming
-held_start s t play new =
-    let room = vec_capacity t.records in
-    subst (λ (f : State). IsHeld f t.before room t.records.items t.coming) (sym new.state)
-    (subst (λ (rs : List Record). IsHeld (start s) t.before room rs t.coming) (sym new.records)
-    (subst (λ (n : ℕ). IsHeld (start s) n room [] t.coming) (sym new.before)
+pub posted_start : (s : Scenario) (c : Dates) → StandsFor s [] 0 c → IsPosted (start s) c
+posted_start s c h = record { sent = []; rest = []; prefix = refl; stands = h; none = λ _. refl }
+
+pub held_start : (s : Scenario) (t : Ticks) (records : List Record) (room : ℕ) → IsPlayable s → IsNew s t → records ≡ [] → IsHeld (state_in t 0 records) 0 room records t.calendar
+held_start s t records room play new none =
+    subst (λ (rs : List Record). IsHeld (state_in t 0 rs) 0 room rs t.calendar) (sym none)
+    (subst (λ (f : State). IsHeld f 0 room [] t.calendar) (sym new.state)
     (record {
       kept = record { playable = play; in_run = omega arith; begun = (refl, refl); here = tt; in_order = refl; next = omega arith; least = omega arith; most = omega arith };
       within = omega arith;
       few = omega arith;
       has_room = λ _. record { reserved = omega arith; few = omega arith };
-      is_coming = λ _. new.is_coming;
-    })))
+      is_posted = posted_start s t.calendar new.stands;
+    }))
 
 -- ---- one record more
 
@@ -78,23 +76,37 @@ state_record s tick before records items next marked turn sends le =
 long_here : (before : ℕ) (records : List Record) → before ≤ length records → before + length (reverse (drop before records)) ≡ length records
 long_here before records le = let a = length-reverse (drop before records) in let b = length-drop before records in omega (arith, a, b, le)
 
-pub held_record : (s : Scenario) (tick before room : ℕ) (records : List Record) (items : List Item) (next : ℕ) (marked : Bool) (coming : Coming) (turn : Turn) (sends : List Parcel)
-    → IsHeld (state_of s tick before records items next marked) before room records coming → IsOpen (state_of s tick before records items next marked) turn
-    → IsHeld (state_of s tick before (records ++ recorded turn sends ∷ []) items next marked) before room (records ++ recorded turn sends ∷ []) coming
-held_record s tick before room records items next marked coming turn sends h o =
+-- what was sent before goes first
+pub posted_grow : (f : State) (r : Record) (c : Dates) → IsPosted f c → IsPosted (record f { here = r ∷ f.here }) c
+posted_grow f r c h = record {
+  sent = h.sent;
+  rest = h.rest ++ map (posted_in r.tick) r.sends;
+  prefix =
+      ap posted_by (reverse_onto f.here r [])
+      ∙ posted_push (reverse f.here) r
+      ∙ ap (λ (L : List Posted). L ++ map (posted_in r.tick) r.sends) h.prefix
+      ∙ append_assoc h.sent h.rest (map (posted_in r.tick) r.sends);
+  stands = h.stands;
+  none = h.none;
+}
+
+pub held_record : (s : Scenario) (tick before room : ℕ) (records : List Record) (items : List Item) (next : ℕ) (marked : Bool) (c : Dates) (turn : Turn) (sends : List Parcel)
+    → IsHeld (state_of s tick before records items next marked) before room records c → IsOpen (state_of s tick before records items next marked) turn
+    → IsHeld (state_of s tick before (records ++ recorded turn sends ∷ []) items next marked) before room (records ++ recorded turn sends ∷ []) c
+held_record s tick before room records items next marked c turn sends h o =
     let r = recorded turn sends in
     let long = length-append records (r ∷ []) in
     let taken = o.taken in
     let here = long_here before records h.within in
     let own = h.has_room o.unmarked in
     let few = own.few in
-    subst (λ (f : State). IsHeld f before room (records ++ r ∷ []) coming) (sym (state_record s tick before records items next marked turn sends h.within))
+    subst (λ (f : State). IsHeld f before room (records ++ r ∷ []) c) (sym (state_record s tick before records items next marked turn sends h.within))
     (record {
       kept = kept_record (state_of s tick before records items next marked) turn sends h.kept o;
       within = let le = h.within in omega (arith, long, le);
       few = omega (arith, long, here, taken, few);
       has_room = λ e. record { reserved = own.reserved; few = own.few };
-      is_coming = h.is_coming;
+      is_posted = posted_grow (state_of s tick before records items next marked) r c h.is_posted;
     })
 
 -- ---- the next tick
@@ -130,29 +142,6 @@ in_order_now f k d = in_order_by f f.tick refl k.begun k (sym d.quiet.closed ∙
 pub all_records : (before : ℕ) (records : List Record) → reverse (drop before records) ++ reverse (take before records) ≡ reverse records
 all_records before records = sym (reverse-append (take before records) (drop before records)) ∙ ap reverse (take-append-drop before records)
 
-pub record IsDueNow (s : Scenario) (tick : ℕ) (J : List Record) (items : List Item) (coming : Coming) : Type 0 where
-  pub are_due : items ≡ due s tick J
-  pub is_coming : IsComing s tick (posted J) coming
-
--- the records of a tick are told to what is to come
-pub due_now : (s : Scenario) (tick before : ℕ) (records : List Record) (coming mid coming' : Coming) (items : List Item) → tick < s.ticks → s.ticks ≤ 20000
-    → IsComing s tick (posted (reverse (take before records))) coming
-    → ((s : Scenario) (now : ℕ) (L : List Posted) → IsComing s now L coming → IsComing s now (L ++ posted_by (drop before records)) mid)
-    → items ≡ calls (tick + 1) 0 s.faults ++ (map (tick_item s (tick + 1)) (actors_of s) ++ arriving (tick + 1) mid.pending.items)
-    → coming'.lines ≡ mid.lines → coming'.pending.items ≡ filter (λ (a : Arrival). not (eqb a.tick (tick + 1))) mid.pending.items
-    → IsDueNow s (tick + 1) (reverse (drop before records) ++ reverse (take before records)) items coming'
-due_now s tick before records coming mid coming' items lt few h step items_is lines left =
-    let next = tick + 1 in
-    let finished = reverse (take before records) in
-    let J = reverse (drop before records) ++ finished in
-    let all : posted J ≡ posted finished ++ posted_by (drop before records) = posted_reverse (drop before records) finished in
-    let now : IsComing s tick (posted J) mid = subst (λ (L : List Posted). IsComing s tick L mid) (sym all) (step s tick (posted finished) h) in
-    let arrive : arriving next mid.pending.items ≡ arrivals s next [] (posted J) = now.pending next (omega arith) (omega (arith, lt, few)) in
-    record {
-      are_due = items_is ∙ ap (λ (is : List Item). calls next 0 s.faults ++ (map (tick_item s next) (actors_of s) ++ is)) arrive;
-      is_coming = taken_out s tick next (posted J) mid coming' (omega arith) now lines left;
-    }
-
 pub begun_next : (Ordered : Scenario → ℕ → List Record → Type 0) (s : Scenario) (tick next : ℕ) (J : List Record) → suc tick ≡ next → Ordered s tick J → IsBegunAs Ordered s next J (due s next J)
 begun_next Ordered s tick next J e order = subst (λ (n : ℕ). IsBegunAs Ordered s n J (due s n J)) e (order, refl)
 
@@ -166,3 +155,85 @@ state_next s tick before n records items items' next marked long unmarked are_du
     ∙ ap (λ (xs : List Record). let f : State = record { scenario = s; tick = tick + 1; finished = records_of (state_of s tick before records items next marked); here = xs; items = items'; next = 0; marked = false } in f) here
     ∙ ap (λ (is : List Item). let f : State = record { scenario = s; tick = tick + 1; finished = records_of (state_of s tick before records items next marked); here = []; items = is; next = 0; marked = false } in f) are_due
     ∙ ap (λ (m : Bool). let f : State = record { scenario = s; tick = tick + 1; finished = records_of (state_of s tick before records items next marked); here = []; items = due s (tick + 1) (records_of (state_of s tick before records items next marked)); next = 0; marked = m } in f) (sym unmarked)
+
+-- the ticks that began are the next state
+pub next_is : (s : Scenario) (tick before n : ℕ) (records : List Record) (items : List Item) (next : ℕ) (marked : Bool) (new : Ticks) → HasBegun s tick (posted (records_of (state_of s tick before records items next marked))) new → n ≡ length records → marked ≡ false
+    → state_in new n records ≡ after_tick (state_of s tick before records items next marked)
+next_is s tick before n records items next marked new b long unmarked =
+    let is = new.items.items in
+    ap (λ (t : Scenario). state_of t new.tick n records is new.next new.marked) b.scenario
+    ∙ ap (λ (t : ℕ). state_of s t n records is new.next new.marked) b.tick
+    ∙ ap (λ (k : ℕ). state_of s (tick + 1) n records is k new.marked) b.next
+    ∙ ap (λ (m : Bool). state_of s (tick + 1) n records is 0 m) b.unmarked
+    ∙ state_next s tick before n records items is next marked long unmarked b.items
+
+-- ---- what is posted when a tick is over
+
+whole_here : (before : ℕ) (records : List Record) → reverse (reverse (drop before records)) ≡ drop before records
+whole_here before records = reverse-reverse (drop before records)
+
+-- before it begins the next tick, the calendar has what the finished ticks sent
+pub posted_started : (f : State) (c : Dates) → f.marked ≡ false → IsPosted f c → StandsFor f.scenario (posted f.finished) f.tick c
+posted_started f c e h = subst (λ (L : List Posted). StandsFor f.scenario L f.tick c) (ap (λ (L : List Posted). posted f.finished ++ L) (h.none e) ∙ append-nil (posted f.finished)) h.stands
+
+-- then it has what this tick sent
+pub posted_now : (s : Scenario) (tick before : ℕ) (records : List Record) (c : Dates) → StandsFor s (posted (reverse (take before records)) ++ posted_by (drop before records)) tick c
+    → StandsFor s (posted (reverse (drop before records) ++ reverse (take before records))) tick c
+posted_now s tick before records c h = subst (λ (L : List Posted). StandsFor s L tick c) (sym (posted_reverse (drop before records) (reverse (take before records)))) h
+
+pub posted_some : (s : Scenario) (tick before : ℕ) (records : List Record) (items : List Item) (next : ℕ) (c : Dates) → HasPosted s (posted (reverse (take before records))) (posted_by (drop before records)) tick c
+    → IsPosted (state_of s tick before records items next true) c
+posted_some s tick before records items next c h =
+    record { sent = h.sent; rest = h.rest; prefix = ap posted_by (whole_here before records) ∙ h.prefix; stands = h.stands; none = λ e. cc }
+
+pub posted_whole : (s : Scenario) (tick before : ℕ) (records : List Record) (items : List Item) (next : ℕ) (c : Dates) → StandsFor s (posted (reverse (take before records)) ++ posted_by (drop before records)) tick c
+    → IsPosted (state_of s tick before records items next true) c
+posted_whole s tick before records items next c h =
+    posted_some s tick before records items next c (record { sent = posted_by (drop before records); rest = []; prefix = sym (append-nil (posted_by (drop before records))); stands = h })
+
+pub posted_next : (f : State) (c : Dates) → StandsFor f.scenario (posted (records_of f)) (f.tick + 1) c → IsPosted (after_tick f) c
+posted_next f c h = record { sent = []; rest = []; prefix = refl; stands = subst (λ (L : List Posted). StandsFor f.scenario L (f.tick + 1) c) (sym (append-nil (posted (records_of f)))) h; none = λ _. refl }
+
+-- ---- the next tick of a fabric of one thread
+
+kept_next : (f : State) → IsKept f → IsDone f → f.tick < f.scenario.ticks → IsKept (after_tick f)
+kept_next f k d lt = record {
+  playable = k.playable;
+  in_run = omega (arith, lt);
+  begun = begun_next InOrderTo f.scenario f.tick (f.tick + 1) (records_of f) (omega arith) (in_order_now f k d);
+  here = tt;
+  in_order = refl;
+  next = omega arith;
+  least = omega arith;
+  most = omega arith;
+}
+
+pub held_next : (s : Scenario) (tick before n room : ℕ) (records : List Record) (items : List Item) (next : ℕ) (marked : Bool) (c : Dates) (new : Ticks) → IsHeld (state_of s tick before records items next marked) before room records c
+    → IsDone (state_of s tick before records items next marked) → tick < s.ticks → HasBegun s tick (posted (records_of (state_of s tick before records items next marked))) new → n ≡ length records
+    → IsHeld (state_in new n records) n room records new.calendar
+held_next s tick before n room records items next marked c new h d lt b long =
+    let f = state_of s tick before records items next marked in
+    let own = h.has_room d.quiet.unmarked in
+    let reserved = own.reserved in
+    let few = own.few in
+    let closed = d.quiet.closed in
+    let here = long_here before records h.within in
+    subst (λ (g : State). IsHeld g n room records new.calendar) (sym (next_is s tick before n records items next marked new b long d.quiet.unmarked))
+    (record {
+      kept = kept_next f h.kept d lt;
+      within = omega (arith, long);
+      few = h.few;
+      has_room = λ _. record { reserved = omega (arith, long, here, closed, reserved); few = omega (arith, long, here, closed, few) };
+      is_posted = posted_next f new.calendar b.stands;
+    })
+
+-- no further turn is given
+pub held_marked : (s : Scenario) (tick before room : ℕ) (records : List Record) (items : List Item) (next : ℕ) (marked : Bool) (c c' : Dates) → IsHeld (state_of s tick before records items next marked) before room records c
+    → IsPosted (state_of s tick before records items next true) c' → IsHeld (state_of s tick before records items next true) before room records c'
+held_marked s tick before room records items next marked c c' h posted = record {
+  kept = let k = h.kept in record { playable = k.playable; in_run = k.in_run; begun = k.begun; here = k.here; in_order = k.in_order; next = k.next; least = k.least; most = k.most };
+  within = h.within;
+  few = h.few;
+  has_room = λ e. cc;
+  is_posted = posted;
+}

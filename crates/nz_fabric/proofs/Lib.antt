@@ -1,5 +1,6 @@
-pub mod Faulting
-pub mod Arriving
+pub mod Numbering
+pub mod Dating
+pub mod Sending
 pub mod Calling
 pub mod Held
 pub mod Sharing

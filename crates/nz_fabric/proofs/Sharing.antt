@@ -1,5 +1,5 @@
 -- What a fabric of threads keeps.
-use Rattle.std.proofs.Common.{◌≡◌, ℕ, zero, suc, ◌+◌, ◌^◌, ◌<◌, ◌≤◌, Bool, List, [], ◌∷◌, ◌++◌, length, map, Some, refl, sym, ap, ◌∙◌, subst, arith, length-append, append_assoc, take_all}
+use Rattle.std.proofs.Common.{◌≡◌, ℕ, zero, suc, ◌+◌, ◌^◌, ◌<◌, ◌≤◌, Bool, true, List, [], ◌∷◌, ◌++◌, length, map, Some, refl, sym, ap, ◌∙◌, subst, arith, length-append, append_assoc, take_all}
 use Rattle.std.specs.Prelude.{take, reverse, slice_get, get_or, vec_capacity, IsPermutation}
 use Rattle.std.specs.List.{AllByRecursion, remove}
 use Rattle.std.proofs.lemmas.List.{map-append, length-map}
@@ -8,24 +8,22 @@ use Rattle.nz_base.specs.declared.scenario.Scenario.{Scenario}
 use Rattle.nz_machine.specs.declared.event.Parcel.{Parcel}
 use Rattle.nz_machine.specs.declared.event.Record.{Record}
 use Rattle.nz_machine.specs.declared.journal.Item.{Item}
-use Rattle.nz_machine.specs.Schedule.{item_of, ScheduledTo, IsPlayable}
+use Rattle.nz_machine.specs.Schedule.{item_of, posted, ScheduledTo, IsPlayable}
 use Rattle.nz_fabric.specs.declared.running.Running.{Running}
-use Rattle.nz_fabric.specs.declared.coming.Coming.{Coming}
 use Rattle.nz_fabric.specs.declared.ticks.Ticks.{Ticks}
-use Rattle.nz_fabric.specs.States.{State, records_of, start, IsNew, recorded, with_recorded, with_taken, with_mark, after_tick, IsBegunAs, state_of, state_in, HasBegun}
+use Rattle.nz_fabric.specs.States.{State, records_of, start, IsNew, recorded, with_recorded, with_taken, with_mark, after_tick, IsBegunAs, IsPosted, state_of, state_in, HasBegun}
+use Rattle.nz_fabric.specs.Calendars.{Dates}
 use Rattle.nz_fabric.specs.Shared.{shared, item_running, turn_of, IsOver, IsAccounted, IsBooked}
-use Rattle.nz_fabric.proofs.Held.{take_got, no_records, begun_next, state_record}
+use Rattle.nz_fabric.proofs.Held.{take_got, no_records, begun_next, state_record, next_is, posted_start, posted_grow, posted_next}
 
 -- ---- the start
 
-pub booked_start : (s : Scenario) (total : ℕ) (t : Ticks) (running : List Running) → IsPlayable s → IsNew s t → running ≡ [] → total ≡ 0
-    → IsBooked s total (state_in t) running t.before (vec_capacity t.records) t.records.items t.coming
-booked_start s total t running play new none nothing =
-    let room = vec_capacity t.records in
-    subst (λ (rest : List Running). IsBooked s total (state_in t) rest t.before room t.records.items t.coming) (sym none)
-    (subst (λ (f : State). IsBooked s total f [] t.before room t.records.items t.coming) (sym new.state)
-    (subst (λ (rs : List Record). IsBooked s total (start s) [] t.before room rs t.coming) (sym new.records)
-    (subst (λ (n : ℕ). IsBooked s total (start s) [] n room [] t.coming) (sym new.before)
+pub booked_start : (s : Scenario) (total : ℕ) (t : Ticks) (records : List Record) (running : List Running) (room : ℕ) → IsPlayable s → IsNew s t → records ≡ [] → running ≡ [] → total ≡ 0
+    → IsBooked s total (state_in t 0 records) running 0 room records t.calendar
+booked_start s total t records running room play new no_record none nothing =
+    subst (λ (rest : List Running). IsBooked s total (state_in t 0 records) rest 0 room records t.calendar) (sym none)
+    (subst (λ (rs : List Record). IsBooked s total (state_in t 0 rs) [] 0 room rs t.calendar) (sym no_record)
+    (subst (λ (f : State). IsBooked s total f [] 0 room [] t.calendar) (sym new.state)
     (record {
       accounted = record {
         scenario = refl;
@@ -41,9 +39,9 @@ booked_start s total t running play new none nothing =
       within = omega arith;
       few = omega arith;
       reserved = omega arith;
-      is_coming = λ _. new.is_coming;
+      is_posted = posted_start s t.calendar new.stands;
       booked = nothing;
-    }))))
+    })))
 
 -- ---- one turn more
 
@@ -79,11 +77,11 @@ accounted_taken s f running o k lt is =
       all_kept = k.all_kept;
     }
 
-pub booked_taken : (s : Scenario) (total total' : ℕ) (f : State) (running : List Running) (o : Running) (before room room' : ℕ) (records : List Record) (coming : Coming)
-    → IsBooked s total f running before room records coming → f.next < length f.items → slice_get f.items f.next ≡ Some o.item
+pub booked_taken : (s : Scenario) (total total' : ℕ) (f : State) (running : List Running) (o : Running) (before room room' : ℕ) (records : List Record) (c : Dates)
+    → IsBooked s total f running before room records c → f.next < length f.items → slice_get f.items f.next ≡ Some o.item
     → length records + length running + 1 < 2 ^ 32 → length records + length running + 1 ≤ room' → total' ≡ total + 1
-    → IsBooked s total' (with_taken f) (running ++ o ∷ []) before room' records coming
-booked_taken s total total' f running o before room room' records coming h lt is few reserved count =
+    → IsBooked s total' (with_taken f) (running ++ o ∷ []) before room' records c
+booked_taken s total total' f running o before room room' records c h lt is few reserved count =
     let long = length-append running (o ∷ []) in
     let booked = h.booked in
     record {
@@ -91,7 +89,7 @@ booked_taken s total total' f running o before room room' records coming h lt is
       within = h.within;
       few = omega (arith, long, few);
       reserved = omega (arith, long, reserved);
-      is_coming = h.is_coming;
+      is_posted = let p = h.is_posted in record { sent = p.sent; rest = p.rest; prefix = p.prefix; stands = p.stands; none = p.none };
       booked = omega (arith, long, booked, count);
     }
 
@@ -126,10 +124,10 @@ accounted_recorded s f running i o sends k lt at = record {
   all_kept = k.all_kept;
 }
 
-pub booked_recorded : (s : Scenario) (total total' : ℕ) (scenario : Scenario) (tick before room : ℕ) (records : List Record) (items : List Item) (next : ℕ) (marked : Bool) (coming : Coming) (running rest : List Running) (i : ℕ) (o : Running) (sends : List Parcel)
-    → IsBooked s total (state_of scenario tick before records items next marked) running before room records coming → i < length running → o ≡ get_or running i o → rest ≡ remove running i → total' + 1 ≡ total
-    → IsBooked s total' (state_of scenario tick before (records ++ recorded (turn_of tick o) sends ∷ []) items next marked) rest before room (records ++ recorded (turn_of tick o) sends ∷ []) coming
-booked_recorded s total total' scenario tick before room records items next marked coming running rest i o sends h lt at left count =
+pub booked_recorded : (s : Scenario) (total total' : ℕ) (scenario : Scenario) (tick before room : ℕ) (records : List Record) (items : List Item) (next : ℕ) (marked : Bool) (c : Dates) (running rest : List Running) (i : ℕ) (o : Running) (sends : List Parcel)
+    → IsBooked s total (state_of scenario tick before records items next marked) running before room records c → i < length running → o ≡ get_or running i o → rest ≡ remove running i → total' + 1 ≡ total
+    → IsBooked s total' (state_of scenario tick before (records ++ recorded (turn_of tick o) sends ∷ []) items next marked) rest before room (records ++ recorded (turn_of tick o) sends ∷ []) c
+booked_recorded s total total' scenario tick before room records items next marked c running rest i o sends h lt at left count =
     let r = recorded (turn_of tick o) sends in
     let f = state_of scenario tick before records items next marked in
     let long = length-append records (r ∷ []) in
@@ -138,14 +136,14 @@ booked_recorded s total total' scenario tick before room records items next mark
     let few = h.few in
     let reserved = h.reserved in
     let booked = h.booked in
-    subst (λ (left : List Running). IsBooked s total' (state_of scenario tick before (records ++ r ∷ []) items next marked) left before room (records ++ r ∷ []) coming) (sym left)
-    (subst (λ (g : State). IsBooked s total' g (remove running i) before room (records ++ r ∷ []) coming) (sym (state_record scenario tick before records items next marked (turn_of tick o) sends h.within))
+    subst (λ (left : List Running). IsBooked s total' (state_of scenario tick before (records ++ r ∷ []) items next marked) left before room (records ++ r ∷ []) c) (sym left)
+    (subst (λ (g : State). IsBooked s total' g (remove running i) before room (records ++ r ∷ []) c) (sym (state_record scenario tick before records items next marked (turn_of tick o) sends h.within))
     (record {
       accounted = accounted_recorded s f running i o sends h.accounted lt at;
       within = omega (arith, long, within);
       few = omega (arith, long, fewer, few);
       reserved = omega (arith, long, fewer, reserved);
-      is_coming = h.is_coming;
+      is_posted = posted_grow f r c h.is_posted;
       booked = omega (arith, fewer, booked, count);
     }))
 
@@ -163,21 +161,21 @@ accounted_given_up s f running i o k lt at = record {
   all_kept = λ e. cc;
 }
 
-pub booked_given_up : (s : Scenario) (total total' : ℕ) (f : State) (running rest : List Running) (before room : ℕ) (records : List Record) (coming : Coming) (i : ℕ) (o : Running)
-    → IsBooked s total f running before room records coming → i < length running → o ≡ get_or running i o → rest ≡ remove running i → total' + 1 ≡ total
-    → IsBooked s total' (with_mark f) rest before room records coming
-booked_given_up s total total' f running rest before room records coming i o h lt at left count =
+pub booked_given_up : (s : Scenario) (total total' : ℕ) (f : State) (running rest : List Running) (before room : ℕ) (records : List Record) (c : Dates) (i : ℕ) (o : Running)
+    → IsBooked s total f running before room records c → i < length running → o ≡ get_or running i o → rest ≡ remove running i → total' + 1 ≡ total
+    → IsBooked s total' (with_mark f) rest before room records c
+booked_given_up s total total' f running rest before room records c i o h lt at left count =
     let fewer = one_fewer running i o lt at in
     let few = h.few in
     let reserved = h.reserved in
     let booked = h.booked in
-    subst (λ (left : List Running). IsBooked s total' (with_mark f) left before room records coming) (sym left)
+    subst (λ (left : List Running). IsBooked s total' (with_mark f) left before room records c) (sym left)
     (record {
       accounted = accounted_given_up s f running i o h.accounted lt at;
       within = h.within;
       few = omega (arith, fewer, few);
       reserved = omega (arith, fewer, reserved);
-      is_coming = λ e. cc;
+      is_posted = let p = h.is_posted in record { sent = p.sent; rest = p.rest; prefix = p.prefix; stands = p.stands; none = λ e. cc };
       booked = omega (arith, fewer, booked, count);
     })
 
@@ -228,22 +226,41 @@ accounted_next s f running k over lt = record {
   all_kept = λ _. refl;
 }
 
-pub booked_next : (s : Scenario) (total : ℕ) (old new : Ticks) (running : List Running) → IsBooked s total (state_in old) running old.before (vec_capacity old.records) old.records.items old.coming
-    → IsOver (shared (state_in old) running) → old.tick < old.scenario.ticks → HasBegun old new
-    → IsBooked s total (state_in new) running new.before (vec_capacity new.records) new.records.items new.coming
-booked_next s total old new running h over lt b =
-    let f = state_in old in
-    let few = h.few in
-    let reserved = h.reserved in
-    let booked = h.booked in
-    subst (λ (g : State). IsBooked s total g running new.before (vec_capacity new.records) new.records.items new.coming) (sym b.state)
-    (subst (λ v. IsBooked s total (after_tick f) running new.before (vec_capacity v) v.items new.coming) (sym b.records)
-    (subst (λ (n : ℕ). IsBooked s total (after_tick f) running n (vec_capacity old.records) old.records.items new.coming) (sym b.before)
+pub booked_next : (s : Scenario) (total : ℕ) (scenario : Scenario) (tick before n room : ℕ) (records : List Record) (items : List Item) (next : ℕ) (marked : Bool) (running : List Running) (c : Dates) (new : Ticks)
+    → IsBooked s total (state_of scenario tick before records items next marked) running before room records c → IsOver (shared (state_of scenario tick before records items next marked) running) → tick < scenario.ticks
+    → HasBegun scenario tick (posted (records_of (state_of scenario tick before records items next marked))) new → n ≡ length records
+    → IsBooked s total (state_in new n records) running n room records new.calendar
+booked_next s total scenario tick before n room records items next marked running c new h over lt b long =
+    let f = state_of scenario tick before records items next marked in
+    subst (λ (g : State). IsBooked s total g running n room records new.calendar) (sym (next_is scenario tick before n records items next marked new b long over.unmarked))
     (record {
       accounted = subst (λ (rest : List Running). IsAccounted s (shared (after_tick f) rest)) (sym over.none) (accounted_next s f running h.accounted over lt);
-      within = omega arith;
-      few = few;
-      reserved = reserved;
-      is_coming = λ _. b.is_coming;
-      booked = booked;
-    })))
+      within = omega (arith, long);
+      few = h.few;
+      reserved = h.reserved;
+      is_posted = posted_next f new.calendar b.stands;
+      booked = h.booked;
+    })
+
+-- no further turn is given
+pub booked_marked : (s : Scenario) (total : ℕ) (scenario : Scenario) (tick before room : ℕ) (records : List Record) (items : List Item) (next : ℕ) (marked : Bool) (running : List Running) (c c' : Dates)
+    → IsBooked s total (state_of scenario tick before records items next marked) running before room records c → IsPosted (state_of scenario tick before records items next true) c'
+    → IsBooked s total (state_of scenario tick before records items next true) running before room records c'
+booked_marked s total scenario tick before room records items next marked running c c' h posted = record {
+  accounted = let k = h.accounted in record {
+    scenario = k.scenario;
+    playable = k.playable;
+    in_run = k.in_run;
+    begun = k.begun;
+    here = k.here;
+    next = k.next;
+    given_up = k.given_up;
+    each_once = k.each_once;
+    all_kept = λ e. cc;
+  };
+  within = h.within;
+  few = h.few;
+  reserved = h.reserved;
+  is_posted = posted;
+  booked = h.booked;
+}

@@ -1,4 +1,5 @@
-pub mod Coming
+pub mod Calendars
+pub mod Posting
 pub mod Dues
 pub mod States
 pub mod Shared

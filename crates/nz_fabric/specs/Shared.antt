@@ -7,12 +7,11 @@ use Rattle.nz_machine.specs.declared.event.Event.TheVariants.{Alarm}
 use Rattle.nz_machine.specs.declared.event.Parcel.{Parcel}
 use Rattle.nz_machine.specs.declared.event.Record.{Record}
 use Rattle.nz_machine.specs.declared.journal.Item.{Item}
-use Rattle.nz_machine.specs.Schedule.{item, item_of, posted, ScheduledTo, IsPlayable}
+use Rattle.nz_machine.specs.Schedule.{item, item_of, ScheduledTo, IsPlayable}
 use Rattle.nz_fabric.specs.declared.turn.Turn.{Turn}
 use Rattle.nz_fabric.specs.declared.running.Running.{Running}
-use Rattle.nz_fabric.specs.declared.coming.Coming.{Coming}
-use Rattle.nz_fabric.specs.Coming.{IsComing}
-use Rattle.nz_fabric.specs.States.{State, records_of, start, item_in, with_recorded, with_taken, with_mark, after_tick, IsBegunAs}
+use Rattle.nz_fabric.specs.Calendars.{Dates}
+use Rattle.nz_fabric.specs.States.{State, records_of, start, item_in, IsPosted, with_recorded, with_taken, with_mark, after_tick, IsBegunAs}
 
 -- The run, and the turns that are open: they were taken, and neither recorded nor given up.
 pub record Shared : Type 0 where
@@ -103,11 +102,11 @@ pub record IsAccounted (s : Scenario) (f : Shared) : Type 0 where
   pub all_kept : f.run.marked ≡ false → given_up ≡ []
 
 -- What the code keeps, in the form of a fabric of one thread: each open turn has its place in the journal, the
--- ledger counts the open turns, and what is to come is told by what was sent before the tick.
-pub record IsBooked (s : Scenario) (total : ℕ) (f : State) (running : List Running) (before room : ℕ) (records : List Record) (coming : Coming) : Type 0 where
+-- ledger counts the open turns, and the calendar has what was sent.
+pub record IsBooked (s : Scenario) (total : ℕ) (f : State) (running : List Running) (before room : ℕ) (records : List Record) (c : Dates) : Type 0 where
   pub accounted : IsAccounted s (shared f running)
   pub within : before ≤ length records
   pub few : length records + length running < 2 ^ 32
   pub reserved : length records + length running ≤ room
-  pub is_coming : f.marked ≡ false → IsComing f.scenario f.tick (posted f.finished) coming
+  pub is_posted : IsPosted f c
   pub booked : total ≡ length running

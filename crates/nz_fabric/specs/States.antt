@@ -5,11 +5,10 @@ use Rattle.nz_base.specs.declared.scenario.Scenario.{Scenario}
 use Rattle.nz_machine.specs.declared.event.Parcel.{Parcel}
 use Rattle.nz_machine.specs.declared.event.Record.{Record}
 use Rattle.nz_machine.specs.declared.journal.Item.{Item}
-use Rattle.nz_machine.specs.Schedule.{item, item_of, posted, due, InOrderTo, IsPlayable}
+use Rattle.nz_machine.specs.Schedule.{item, item_of, Posted, posted, calls, tick_item, actors_of, arrivals, due, InOrderTo, IsPlayable}
 use Rattle.nz_fabric.specs.declared.turn.Turn.{Turn}
-use Rattle.nz_fabric.specs.declared.coming.Coming.{Coming}
 use Rattle.nz_fabric.specs.declared.ticks.Ticks.{Ticks}
-use Rattle.nz_fabric.specs.Coming.{IsComing}
+use Rattle.nz_fabric.specs.Calendars.{Dates, StandsFor, posted_by}
 
 -- The tick, the records of the ticks before it and those of the tick, both the newest first, what is due in the
 -- tick, how many of it were taken, and whether a turn was given up or a tick could not begin.
@@ -110,42 +109,35 @@ pub record HasRoom (f : State) (before room : ℕ) : Type 0 where
   pub reserved : before + f.next ≤ room
   pub few : before + f.next < 2 ^ 32
 
--- What the code keeps: while a turn is open its record has a place, and what is to come is told by what was sent
--- before the tick.
-pub record IsHeld (f : State) (before room : ℕ) (records : List Record) (coming : Coming) : Type 0 where
+-- The calendar has what the finished ticks sent, and after a tick that could not begin a prefix of what this one sent.
+pub record IsPosted (f : State) (c : Dates) : Type 0 where
+  pub sent : List Posted
+  pub rest : List Posted
+  pub prefix : posted_by (reverse f.here) ≡ sent ++ rest
+  pub stands : StandsFor f.scenario (posted f.finished ++ sent) f.tick c
+  pub none : f.marked ≡ false → sent ≡ []
+
+-- What the code keeps: while a turn is open its record has a place, and the calendar has what was sent.
+pub record IsHeld (f : State) (before room : ℕ) (records : List Record) (c : Dates) : Type 0 where
   pub kept : IsKept f
   pub within : before ≤ length records
   pub few : length records < 2 ^ 32
   pub has_room : f.marked ≡ false → HasRoom f before room
-  pub is_coming : f.marked ≡ false → IsComing f.scenario f.tick (posted f.finished) coming
+  pub is_posted : IsPosted f c
 
-abbrev pub state_in : Ticks → State
-state_in t = state_of t.scenario t.tick t.before t.records.items t.items.items t.next t.marked
+abbrev pub state_in : Ticks → ℕ → List Record → State
+state_in t before records = state_of t.scenario t.tick before records t.items.items t.next t.marked
 
 -- A run that has not begun.
 pub record IsNew (s : Scenario) (t : Ticks) : Type 0 where
-  pub state : state_in t ≡ start s
-  pub records : t.records.items ≡ []
-  pub before : t.before ≡ 0
-  pub is_coming : IsComing s 0 [] t.coming
+  pub state : state_in t 0 [] ≡ start s
+  pub stands : StandsFor s [] 0 t.calendar
 
--- A further tick can begin.
-pub record CanGoOn (t : Ticks) : Type 0 where
-  pub within : t.before ≤ length t.records.items
-  pub unmarked : t.marked ≡ false
-  pub more : t.tick < t.scenario.ticks
-  pub ticks : t.scenario.ticks ≤ 20000
-  pub is_coming : IsComing t.scenario t.tick (posted (reverse (take t.before t.records.items))) t.coming
-
--- The next tick began.
-pub record HasBegun (old new : Ticks) : Type 0 where
-  pub state : state_in new ≡ after_tick (state_in old)
-  pub records : new.records ≡ old.records
-  pub before : new.before ≡ length old.records.items
-  pub is_coming : IsComing old.scenario (old.tick + 1) (posted (records_of (state_in old))) new.coming
-
--- No further turn is given.
-pub record IsStopped (old new : Ticks) : Type 0 where
-  pub state : state_in new ≡ with_mark (state_in old)
-  pub records : new.records ≡ old.records
-  pub before : new.before ≡ old.before
+-- The next tick began, after what was posted.
+pub record HasBegun (s : Scenario) (last : ℕ) (L : List Posted) (new : Ticks) : Type 0 where
+  pub scenario : new.scenario ≡ s
+  pub tick : new.tick ≡ last + 1
+  pub items : new.items.items ≡ calls (last + 1) 0 s.faults ++ (map (tick_item s (last + 1)) (actors_of s) ++ arrivals s (last + 1) [] L)
+  pub next : new.next ≡ 0
+  pub unmarked : new.marked ≡ false
+  pub stands : StandsFor s L (last + 1) new.calendar

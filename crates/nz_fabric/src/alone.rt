@@ -3,9 +3,10 @@ ghost use Rattle.nz_machine.specs.Journals.{run_in};
 ghost use Rattle.nz_machine.specs.Schedule.{InOrder, IsPlayable};
 ghost use Rattle.nz_fabric.specs.States.{IsDone, IsKept, IsNext, IsOpen, after_tick, records_of, start, with_mark, with_recorded, with_taken};
 
+use crate::posting::post_all;
 use crate::ticks::Ticks;
 use crate::turn::Turn;
-use nz_base::{NoMemory, Scenario};
+use nz_base::{List, NoMemory, Scenario};
 use nz_machine::{Item, Journal, Record, Sends};
 use std::alloc::Global;
 use std::marker::Model;
@@ -14,6 +15,9 @@ use std::marker::Model;
 #[derive(Drop)]
 pub struct Alone {
     ticks: Ticks,
+    records: Vec<Record>,
+    /// How many records there were before this tick.
+    before: usize,
 }
 
 impl Model for Alone {
@@ -22,9 +26,9 @@ impl Model for Alone {
 
     ghost Value = { State };
 
-    ghost view = { λ f. state_in f.ticks };
+    ghost view = { λ f. state_in f.ticks f.before f.records.items };
 
-    ghost invariant = { λ f. IsHeld (state_in f.ticks) f.ticks.before (vec_capacity f.ticks.records) f.ticks.records.items f.ticks.coming };
+    ghost invariant = { λ f. IsHeld (state_in f.ticks f.before f.records.items) f.before (vec_capacity f.records) f.records.items f.ticks.calendar };
 }
 
 impl Alone {
@@ -33,8 +37,11 @@ impl Alone {
         requires { IsPlayable scenario }
         ensures { IfOk result (λ alone. alone ≡ start scenario) }
     {
-        let ticks = Ticks::new(alloc, scenario)?;
-        Ok(Alone { ticks })
+        Ok(Alone {
+            ticks: Ticks::new(alloc, scenario),
+            records: Vec::new(alloc),
+            before: 0,
+        })
     }
 
     /// What the type keeps.
@@ -54,25 +61,24 @@ impl Alone {
             (λ turn. (self.new ≡ with_taken self.old) × (self.old.marked ≡ false) × IsNext self.old turn))
             (λ _. self.new ≡ self.old) }
     {
-        let ticks = &mut self.ticks;
-        if ticks.marked || ticks.next == ticks.items.len() {
+        if self.ticks.marked || self.ticks.next == self.ticks.items.len() {
             return Ok(None);
         }
-        if ticks.records.len() >= u32::MAX as usize {
+        if self.records.len() >= u32::MAX as usize {
             return Err(NoMemory);
         }
-        let Item { actor, event } = ticks.next_item()?;
-        ticks.records.reserve(1)?;
-        ticks.next += 1;
+        let Item { actor, event } = self.ticks.next_item()?;
+        self.records.reserve(1)?;
+        self.ticks.next += 1;
         Ok(Some(Turn {
-            number: ticks.records.len() as u64 + 1,
-            tick: ticks.tick,
+            number: self.records.len() as u64 + 1,
+            tick: self.ticks.tick,
             actor,
             event,
         }))
     }
 
-    /// The record of the turn stands last in the journal.
+    /// The record of the turn is last in the journal.
     pub fn record(&mut self, turn: Turn, sends: Sends)
         requires { IsOpen self.old turn }
         ensures { self.new ≡ with_recorded turn sends self.old }
@@ -83,7 +89,7 @@ impl Alone {
             actor,
             event,
         } = turn;
-        self.ticks.records.push_reserved(Record {
+        self.records.push_reserved(Record {
             tick,
             actor,
             event,
@@ -113,7 +119,11 @@ impl Alone {
         if self.ticks.tick == self.ticks.scenario.ticks {
             return Ok(false);
         }
+        self.ticks.marked = true;
+        let sent = &self.records[self.before..];
+        post_all(&mut self.ticks.calendar, &self.ticks.scenario, sent)?;
         self.ticks.begin()?;
+        self.before = self.records.len();
         Ok(true)
     }
 
@@ -125,6 +135,10 @@ impl Alone {
         ensures records { run_in result ≡ records_of self }
         ensures in_order { InOrder self.scenario (run_in result) }
     {
-        self.ticks.into_journal()
+        let Alone { ticks, records, .. } = self;
+        Journal {
+            scenario: ticks.scenario,
+            records: List::from_vec(records),
+        }
     }
 }

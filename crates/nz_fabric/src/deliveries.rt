@@ -1,11 +1,11 @@
 ghost use Rattle.std.specs.Prelude.{◌≡◌, List, map, OnOk};
 ghost use Rattle.nz_machine.specs.Schedule.{Delivery as Planned, held as held_of, repeated as repeated_of, cut_short as cut_short_of};
-ghost use Rattle.nz_fabric.specs.Coming.{stored};
+ghost use Rattle.nz_fabric.specs.Posting.{stored};
 
 use nz_base::NoMemory;
 
 /// When a copy of a parcel comes, and how many bytes of it, where not all of them come. Ticks stop at
-/// 2^32 - 1, which is behind the last tick of every run.
+/// 2^32 - 1, which is after the last tick of every run.
 #[derive(Clone, Copy, Debug)]
 pub struct Delivery {
     pub tick: u32,

@@ -1,10 +1,8 @@
-ghost use Rattle.std.specs.Prelude.{◌≡◌, ◌<◌, ◌+◌, ◌-◌, ◌^◌, ◌==◌, ◌∷◌, ◌++◌, [], not, filter, map, IfOk, OnOk};
+ghost use Rattle.std.specs.Prelude.{◌≡◌, ◌<◌, ◌+◌, ◌-◌, ◌^◌, ◌==◌, ◌∷◌, ◌++◌, [], map, IfOk, OnOk};
 ghost use Rattle.nz_machine.specs.Replicas.{numbers_below};
 ghost use Rattle.nz_machine.specs.Schedule.{item, if_in, calls, skew_of, clock_at as clock_in, actors_of, tick_item};
-ghost use Rattle.nz_fabric.specs.Coming.{arriving};
 ghost use Rattle.nz_fabric.specs.Dues.{named, restarts_in};
 
-use crate::coming::Coming;
 use nz_base::{Actor, Fault, NoMemory, Scenario, Skew};
 use nz_machine::{Event, Item};
 use std::alloc::Global;
@@ -133,20 +131,12 @@ fn push_clocks(items: &mut Vec<Item>, scenario: &Scenario, tick: u32) -> Result<
     push_sort(items, scenario, tick, Sort::Clients, scenario.clients)
 }
 
-/// What is due in a tick: crashes, restarts and alarms, then every clock, then what arrives.
-pub fn due_items(
-    alloc: Global,
-    scenario: &Scenario,
-    tick: u32,
-    coming: &mut Coming,
-) -> Result<Vec<Item>, NoMemory>
-    ensures items { IfOk result (λ v. v.items ≡ calls tick 0 scenario.now.faults ++ (map (tick_item scenario.now tick) (actors_of scenario.now) ++ arriving tick coming.old.pending.items)) }
-    ensures lines { OnOk result (coming.new.lines ≡ coming.old.lines) }
-    ensures left { OnOk result (coming.new.pending.items ≡ filter (λ a. not (a.tick == tick)) coming.old.pending.items) }
+/// What is due in a tick before what arrives: crashes, restarts and alarms, then every clock.
+pub fn due_items(alloc: Global, scenario: &Scenario, tick: u32) -> Result<Vec<Item>, NoMemory>
+    ensures { IfOk result (λ v. v.items ≡ calls tick 0 scenario.now.faults ++ map (tick_item scenario.now tick) (actors_of scenario.now)) }
 {
     let mut items = Vec::new(alloc);
     push_calls(&mut items, scenario.faults.as_slice(), tick)?;
     push_clocks(&mut items, scenario, tick)?;
-    coming.take(tick, &mut items)?;
     Ok(items)
 }

@@ -3,12 +3,16 @@
 #![tactic(auto)]
 
 mod alone;
-mod coming;
+mod calendar;
+#[cfg(test)]
+mod calendar_tests;
+mod course;
 mod deliveries;
 mod due;
 mod fabric;
-mod lines;
+mod faults;
 mod name;
+mod posting;
 mod running;
 mod share;
 mod shared;
@@ -16,6 +20,7 @@ mod ticks;
 mod turn;
 
 pub use alone::Alone;
+pub use calendar::Calendar;
 pub use due::Sort;
 pub use fabric::Fabric;
 pub use name::Name;

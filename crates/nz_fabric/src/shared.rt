@@ -8,11 +8,12 @@ ghost use Rattle.nz_fabric.specs.States.{records_of, with_mark};
 ghost use Rattle.nz_fabric.specs.Shared.{IsAccounted, IsNextOf, IsOver, after_shared, closed, place_of as place_in, shared, start_shared, with_given_up, with_opened, with_record};
 
 use crate::name::Name;
+use crate::posting::post_all;
 use crate::running::Running;
 use crate::share::Share;
 use crate::ticks::Ticks;
 use crate::turn::Turn;
-use nz_base::{NoMemory, Scenario, TryCopy};
+use nz_base::{List, NoMemory, Scenario, TryCopy};
 use nz_machine::{Item, Journal, Record, Sends};
 use std::alloc::Global;
 use std::marker::Model;
@@ -23,6 +24,9 @@ use std::sync::ledger::{Blank, Book};
 #[derive(Drop)]
 pub struct FabricState<N: Name> {
     ticks: Ticks,
+    records: Vec<Record>,
+    /// How many records there were before this tick.
+    before: usize,
     running: Vec<Running>,
     book: Book<N>,
 }
@@ -34,9 +38,9 @@ impl<N: Name> Model for FabricState<N> {
 
     ghost Value = { Shared };
 
-    ghost view = { λ f. shared (state_in f.ticks) f.running.items };
+    ghost view = { λ f. shared (state_in f.ticks f.before f.records.items) f.running.items };
 
-    ghost invariant = { λ f. (N.parts ≡ 16) × IsBooked N.scenario f.book.total (state_in f.ticks) f.running.items f.ticks.before (vec_capacity f.ticks.records) f.ticks.records.items f.ticks.coming };
+    ghost invariant = { λ f. (N.parts ≡ 16) × IsBooked N.scenario f.book.total (state_in f.ticks f.before f.records.items) f.running.items f.before (vec_capacity f.records) f.records.items f.ticks.calendar };
 }
 
 impl<N: Name> FabricState<N> {
@@ -51,10 +55,11 @@ impl<N: Name> FabricState<N> {
         requires playable { IsPlayable scenario }
         ensures { IfOk result (λ r. (r.0 ≡ start_shared scenario) × (r.1.parts ≡ 16) × (r.1.amount ≡ 0)) }
     {
-        let ticks = Ticks::new(alloc, scenario)?;
         let (book, held) = blank.open::<N>();
         let state = FabricState {
-            ticks,
+            ticks: Ticks::new(alloc, scenario),
+            records: Vec::new(alloc),
+            before: 0,
             running: Vec::new(alloc),
             book,
         };
@@ -77,31 +82,30 @@ impl<N: Name> FabricState<N> {
             (λ turn. (self.new ≡ with_opened turn self.old) × (share.new ≡ record share.old { amount = share.old.amount + 1 }) × IsNextOf self.old turn))
             (λ _. (self.new ≡ self.old) × (share.new ≡ share.old)) }
     {
-        let ticks = &mut self.ticks;
-        if ticks.marked || ticks.next == ticks.items.len() {
+        if self.ticks.marked || self.ticks.next == self.ticks.items.len() {
             return Ok(None);
         }
-        let taken = ticks.records.len() + self.running.len();
+        let taken = self.records.len() + self.running.len();
         if taken >= u32::MAX as usize {
             return Err(NoMemory);
         }
-        let item = ticks.next_item()?;
+        let item = self.ticks.next_item()?;
         let actor = item.actor;
-        let event = item.event.copy(ticks.alloc)?;
+        let event = item.event.copy(self.ticks.alloc)?;
         let number = taken as u64 + 1;
-        ticks.records.reserve(self.running.len() + 1)?;
+        self.records.reserve(self.running.len() + 1)?;
         self.running.push(Running { number, item })?;
-        ticks.next += 1;
+        self.ticks.next += 1;
         self.book.add(&mut share.held, 1);
         Ok(Some(Turn {
             number,
-            tick: ticks.tick,
+            tick: self.ticks.tick,
             actor,
             event,
         }))
     }
 
-    /// The record of the turn stands last in the journal. What it sends is of a step of the turn's actor.
+    /// The record of the turn is last in the journal. What it sends is of a step of the turn's actor.
     pub fn record(&mut self, turn: Turn, sends: Sends, share: &mut Share<N>)
         requires open { 0 < share.old.amount }
         requires sent { IsSentOn (group_of N.scenario) turn.actor turn.event sends }
@@ -112,7 +116,7 @@ impl<N: Name> FabricState<N> {
         self.book.audit(&mut share.held);
         let Running { number: _, item } = close(&mut self.running, number);
         let Item { actor, event } = item;
-        self.ticks.records.push_reserved(Record {
+        self.records.push_reserved(Record {
             tick: self.ticks.tick,
             actor,
             event,
@@ -163,7 +167,11 @@ impl<N: Name> FabricState<N> {
         if self.ticks.tick == self.ticks.scenario.ticks {
             return Ok(false);
         }
+        self.ticks.marked = true;
+        let sent = &self.records[self.before..];
+        post_all(&mut self.ticks.calendar, &self.ticks.scenario, sent)?;
         self.ticks.begin()?;
+        self.before = self.records.len();
         Ok(true)
     }
 
@@ -175,12 +183,11 @@ impl<N: Name> FabricState<N> {
         ensures records { run_in result ≡ records_of self.run }
         ensures scheduled { Scheduled N.scenario (run_in result) }
     {
-        let FabricState {
-            ticks,
-            running: _,
-            book: _,
-        } = self;
-        ticks.into_journal()
+        let FabricState { ticks, records, .. } = self;
+        Journal {
+            scenario: ticks.scenario,
+            records: List::from_vec(records),
+        }
     }
 }
 

@@ -1,45 +1,50 @@
-ghost use Rattle.std.specs.Prelude.{◌≡◌, ◌<◌, ◌^◌, length, slice_get, Some, IfOk, OnOk, OnErr};
-ghost use Rattle.nz_machine.specs.Journals.{run_in};
-ghost use Rattle.nz_fabric.specs.States.{CanGoOn, HasBegun, IsNew, IsStopped, records_of, state_in};
+ghost use Rattle.std.specs.Prelude.{◌≡◌, ◌<◌, ◌≤◌, ◌+◌, ◌++◌, vec_capacity, List, length, map, slice_get, Some, IfOk, OnOk, OnErr};
+ghost use Rattle.nz_machine.specs.Schedule.{Posted};
+ghost use Rattle.nz_fabric.specs.Calendars.{StandsFor};
+ghost use Rattle.nz_fabric.specs.States.{HasBegun, IsNew};
 
-use crate::coming::Coming;
+use crate::calendar::Calendar;
 use crate::due::due_items;
-use nz_base::{List, NoMemory, Scenario, TryCopy};
-use nz_machine::{Item, Journal, Record};
+use nz_base::{NoMemory, Scenario, TryCopy};
+use nz_machine::{Item, ItemList};
 use std::alloc::Global;
 
-/// The tick that is run, what is due in it, and the journal so far.
+/// The tick that is run, what is due in it, and what is to come after it.
 #[derive(Drop)]
 pub struct Ticks {
     pub alloc: Global,
     pub scenario: Scenario,
     pub tick: u32,
-    pub records: Vec<Record>,
-    /// How many records there were before this tick.
-    pub before: usize,
     pub items: Vec<Item>,
     pub next: usize,
-    pub coming: Coming,
+    pub calendar: Calendar,
     pub marked: bool,
+}
+
+/// Puts items after others, where there is room.
+fn append(items: &mut Vec<Item>, more: ItemList)
+    requires { length items.old.items + length more ≤ vec_capacity items.old }
+    ensures { items.new.items ≡ items.old.items ++ more }
+{
+    for item in more.into_vec() {
+        items.push_reserved(item);
+    }
 }
 
 impl Ticks {
     /// A run that has not begun.
-    pub fn new(alloc: Global, scenario: Scenario) -> Result<Ticks, NoMemory>
-        ensures { IfOk result (λ ticks. IsNew scenario ticks) }
+    pub fn new(alloc: Global, scenario: Scenario) -> Ticks
+        ensures { IsNew scenario result }
     {
-        let coming = Coming::new(alloc, scenario.faults.as_slice())?;
-        Ok(Ticks {
+        Ticks {
             alloc,
             scenario,
             tick: 0,
-            records: Vec::new(alloc),
-            before: 0,
             items: Vec::new(alloc),
             next: 0,
-            coming,
+            calendar: Calendar::new(alloc),
             marked: false,
-        })
+        }
     }
 
     /// A copy of the next item.
@@ -54,36 +59,21 @@ impl Ticks {
         })
     }
 
-    /// Begins the next tick. The mark stays where memory ran out.
+    /// Begins the next tick, once what this one sent is posted. All memory is taken before the calendar changes.
     pub fn begin(&mut self) -> Result<(), NoMemory>
-        requires { CanGoOn self.old }
-        ensures ok { OnOk result (HasBegun self.old self.new) }
-        ensures err { OnErr result (IsStopped self.old self.new) }
+        requires more { self.old.tick < self.old.scenario.ticks }
+        requires ticks { self.old.scenario.ticks ≤ 20000 }
+        ensures ok { (L : List Posted) → StandsFor self.old.scenario L self.old.tick self.old.calendar → OnOk result (HasBegun self.old.scenario self.old.tick L self.new) }
+        ensures err { OnErr result (self.new ≡ self.old) }
     {
-        self.marked = true;
-        self.coming.post_all(&self.records[self.before..])?;
-        self.items = due_items(self.alloc, &self.scenario, self.tick + 1, &mut self.coming)?;
-        self.tick += 1;
-        self.before = self.records.len();
+        let tick = self.tick + 1;
+        let mut items = due_items(self.alloc, &self.scenario, tick)?;
+        items.reserve(self.calendar.due(tick))?;
+        append(&mut items, self.calendar.take(tick));
+        self.items = items;
+        self.tick = tick;
         self.next = 0;
         self.marked = false;
         Ok(())
-    }
-
-    /// The scenario and the records.
-    pub fn into_journal(self) -> Journal
-        requires { length self.records.items < 2 ^ 32 }
-        ensures scenario { result.scenario ≡ self.scenario }
-        ensures records { run_in result ≡ records_of (state_in self) }
-    {
-        let Ticks {
-            scenario,
-            records,
-            ..
-        } = self;
-        Journal {
-            scenario,
-            records: List::from_vec(records),
-        }
     }
 }

@@ -1,10 +1,9 @@
--- An answer parcel leads from its source to the front of the leader's log that gives the answer.
+-- An answer parcel leads from its source to the source of the reply that gives the answer.
 use Rattle.std.proofs.Common.{◌≡◌, ℕ, List, ◌∷◌, Some, sym, ap, subst, ◌∙◌}
 use Rattle.std.specs.Option.{option_and_then}
 use Rattle.nz_base.specs.declared.actor.Actor.{Actor}
 use Rattle.nz_base.specs.declared.actor.Actor.TheVariants.{Proxy, Client}
 use Rattle.nz_base.specs.declared.key.Id.{Id}
-use Rattle.nz_base.specs.declared.key.Entry.{Entry}
 use Rattle.nz_store.specs.declared.command.Answer.{Answer}
 use Rattle.nz_msg.specs.declared.message.Path.{Path}
 use Rattle.nz_msg.specs.declared.message.AnswerBody.{AnswerBody}
@@ -18,13 +17,15 @@ use Rattle.nz_machine.specs.Proxies.{standing_of}
 use Rattle.nz_machine.specs.Step.{event_step}
 use Rattle.nz_machine.specs.World.{state_after, Has, World}
 use Rattle.nz_machine.specs.Events.{id_at}
-use Rattle.nz_machine.specs.History.{prefix_at_decision, prefix_of_sender}
+use Rattle.nz_machine.specs.History.{ReplySource, source_at_decision, source_of_sender, prefix_at_source}
+use Rattle.nz_machine.specs.Quorums.{view_of}
 use Rattle.nz_machine.proofs.Moments.{at_world}
-use Rattle.nz_lin.specs.Snapshots.{ShowsAnswer, Shows}
-use Rattle.nz_lin.proofs.Snapshots.{shown}
-use Rattle.nz_lin.proofs.Prefixes.{Front}
+use Rattle.nz_base.proofs.Moments.{at_then}
+use Rattle.nz_machine.specs.Hearing.{heard_at}
+use Rattle.nz_machine.specs.Shows.{ShowsAnswer, Shows}
+use Rattle.nz_machine.proofs.Sends.{shown}
 use Rattle.nz_lin.proofs.Heard.{IsTold}
-use Rattle.nz_lin.proofs.Leader.{leader_log, front_later}
+use Rattle.nz_lin.proofs.Answering.{IsGiven, given_later}
 use Rattle.nz_lin.proofs.Decisions.{has_decided}
 
 -- ---- the source of an answer
@@ -45,17 +46,20 @@ shown_decided : (s : ProxyData) (c : ℕ) (b : AnswerBody) → ShowsAnswer s (Cl
 shown_decided s c b h = let same : h.client ≡ c = (let to = h.to_client in cc) in record { path = b.path; stands = ap (λ (k : ℕ). standing_of s (id_at k b.num)) (sym same) ∙ h.decided }
 
 -- a proxy sends only answers that it has decided
-decided_at : (g : Group) (r : Record) (J : List Record) (q c : ℕ) (b : AnswerBody) → World g (r ∷ J) → r.actor ≡ Proxy q → Has (event_step g r.actor (state_after g r.actor J) r.event).1 (Client c, messages.Answer b)
+decided_at : (g : Group) (r : Record) (J : List Record) (q c : ℕ) (b : AnswerBody) → World g (r ∷ J) → r.actor ≡ Proxy q
+    → Has (event_step g r.actor (state_after g r.actor J) r.event).1 (Client c, messages.Answer b)
     → IsDecidedAs (state_after g (Proxy q) (r ∷ J)) (id_at c b.num) b.answer
 decided_at g r J q c b w by among =
-    shown_decided (state_after g (Proxy q) (r ∷ J)) c b (subst (λ (x : Actor). Shows g x (state_after g x J) (state_after g x (r ∷ J)) (Client c) (messages.Answer b)) by (shown g r J (Client c, messages.Answer b) w among))
+    shown_decided (state_after g (Proxy q) (r ∷ J)) c b (subst (λ (x : Actor). Shows g x (heard_at g x r.event) (state_after g x J) (state_after g x (r ∷ J)) (Client c) (messages.Answer b)) by (shown g r J (Client c, messages.Answer b) w among))
 
 pub record LeadsBack (g : Group) (J : List Record) (id : Id) (a : Answer) (from : Actor) (K : List Record) : Type 0 where
-  pub prefix : List Entry
-  pub is : prefix_of_sender g id from K ≡ Some prefix
-  pub front : Front (leader_log g J) id a prefix
+  pub source : ReplySource
+  pub is : source_of_sender g id from K ≡ Some source
+  pub view : ℕ
+  pub given : IsGiven g J view id a (prefix_at_source g id source)
 
-pub answer_source : (g : Group) (J K : List Record) (p : Parcel) (e : Envelope) (c : ℕ) (b : AnswerBody) → World g J → IsTold g J K p e → IsAnswerOf e c b → LeadsBack g J (id_at c b.num) b.answer p.from K
+pub answer_source : (g : Group) (J K : List Record) (p : Parcel) (e : Envelope) (c : ℕ) (b : AnswerBody) → World g J → IsTold g J K p e
+    → IsAnswerOf e c b → LeadsBack g J (id_at c b.num) b.answer p.from K
 answer_source g J K p e c b w t n =
     let q = n.proxy in
     let id = id_at c b.num in
@@ -68,7 +72,8 @@ answer_source g J K p e c b w t n =
     let d = decided_at g t.newest t.older q c b known by answer in
     let h = has_decided g moment known q id b.answer d.path d.stands in
     record {
-      prefix = h.prefix;
-      is = ap (λ (x : Actor). prefix_of_sender g id x K) (t.from ∙ n.sender) ∙ ap (prefix_of_sender g id (Proxy q)) t.is ∙ ap (option_and_then (prefix_at_decision g q id)) h.is ∙ h.leads;
-      front = front_later g J moment w t.at id b.answer h.prefix (front_later g moment h.moment known h.at id b.answer h.prefix h.front);
+      source = h.source;
+      is = ap (λ (x : Actor). source_of_sender g id x K) (t.from ∙ n.sender) ∙ ap (source_of_sender g id (Proxy q)) t.is ∙ ap (option_and_then (source_at_decision g q id)) h.is ∙ h.leads;
+      view = view_of h.reply;
+      given = given_later g J h.moment (at_then J moment h.moment t.at h.at) (view_of h.reply) id b.answer (prefix_at_source g id h.source) h.given;
     }

@@ -41,7 +41,8 @@ pub record Turns (script : List Request) (s : ClientData) (t : ClientData × Lis
   pub numbered : IsNumbered t.0.attempt t.0.sent
   pub sends : AllByRecursion (λ (o : Out). AskedFrom script t.0.sent o.1) t.1
 
-opened_turns : (proxies me : ℕ) (script : List Request) (s : ClientData) (o : Option Request) → if_due s.ticks (slice_get script s.sent) ≡ o → Turns script s (opened proxies me s o)
+opened_turns : (proxies me : ℕ) (script : List Request) (s : ClientData) (o : Option Request) → if_due s.ticks (slice_get script s.sent) ≡ o
+    → Turns script s (opened proxies me s o)
 opened_turns proxies me script s None e = record { more = omega arith; one = omega arith; numbered = tt; sends = tt }
 opened_turns proxies me script s (Some r) e = record {
   more = omega arith;
@@ -53,7 +54,8 @@ opened_turns proxies me script s (Some r) e = record {
 next_turns : (proxies me : ℕ) (script : List Request) (s : ClientData) → Turns script s (open_next proxies me script s)
 next_turns proxies me script s = opened_turns proxies me script s (if_due s.ticks (slice_get script s.sent)) refl
 
-again_asked : (proxy num : ℕ) (script : List Request) (o : Option Request) → 0 < num → slice_get script (num - 1) ≡ o → AllByRecursion (λ (o : Out). AskedFrom script num o.1) (asked_again proxy num o)
+again_asked : (proxy num : ℕ) (script : List Request) (o : Option Request) → 0 < num → slice_get script (num - 1) ≡ o
+    → AllByRecursion (λ (o : Out). AskedFrom script num o.1) (asked_again proxy num o)
 again_asked proxy num script None some e = tt
 again_asked proxy num script (Some r) some e = (record { some = some; sent_before = omega arith; own = own_command script num (num - 1) r refl e }, tt)
 
@@ -63,11 +65,13 @@ wait_turns proxies script s a some =
     (λ _. record { more = omega arith; one = omega arith; numbered = some; sends = again_asked ((a.proxy + 1) % proxies) s.sent script (slice_get script (s.sent - 1)) some refl })
     (λ _. record { more = omega arith; one = omega arith; numbered = some; sends = tt })
 
-ticked_turns : (proxies me : ℕ) (script : List Request) (s : ClientData) (o : Option Attempt) → IsNumbered o s.sent → Turns script s (ticked_at proxies me script s o)
+ticked_turns : (proxies me : ℕ) (script : List Request) (s : ClientData) (o : Option Attempt) → IsNumbered o s.sent
+    → Turns script s (ticked_at proxies me script s o)
 ticked_turns proxies me script s None h = next_turns proxies me script s
 ticked_turns proxies me script s (Some a) h = wait_turns proxies script s a h
 
-pub tick_turns : (proxies me : ℕ) (script : List Request) (s : ClientData) → IsNumbered s.attempt s.sent → Turns script s (wait_rule proxies me script s)
+pub tick_turns : (proxies me : ℕ) (script : List Request) (s : ClientData) → IsNumbered s.attempt s.sent
+    → Turns script s (wait_rule proxies me script s)
 unfolding wait_rule
 tick_turns proxies me script s h =
     let now : ClientData = (record s { ticks = min (s.ticks + 1) last_tick }) in
@@ -77,22 +81,26 @@ tick_turns proxies me script s h =
 nothing : (script : List Request) (s : ClientData) → IsNumbered s.attempt s.sent → Turns script s (s, [])
 nothing script s h = record { more = omega arith; one = omega arith; numbered = h; sends = tt }
 
-accept_turns : (proxies me : ℕ) (script : List Request) (s : ClientData) (b : AnswerBody) → IsNumbered s.attempt s.sent → Turns script s (accept_rule proxies me script s b)
+accept_turns : (proxies me : ℕ) (script : List Request) (s : ClientData) (b : AnswerBody) → IsNumbered s.attempt s.sent
+    → Turns script s (accept_rule proxies me script s b)
 unfolding accept_rule
 accept_turns proxies me script s b h =
     let free : ClientData = (record s { accepted = s.accepted + 1; attempt = None }) in
     let t = next_turns proxies me script free in
     on_cond (Turns script s) (is_awaited s b s.attempt) (open_next proxies me script free) (s, []) (λ _. record { more = t.more; one = t.one; numbered = t.numbered; sends = t.sends }) (λ _. nothing script s h)
 
-pub message_turns : (proxies me : ℕ) (script : List Request) (s : ClientData) (from : Actor) (m : Message) → IsNumbered s.attempt s.sent → Turns script s (client_message proxies me script s from m)
+pub message_turns : (proxies me : ℕ) (script : List Request) (s : ClientData) (from : Actor) (m : Message) → IsNumbered s.attempt s.sent
+    → Turns script s (client_message proxies me script s from m)
 message_turns proxies me script s (Proxy p) (Answered b) h = accept_turns proxies me script s b h
 message_turns proxies me script s _ _ h = nothing script s h
 
-envelope_turns : (g : Group) (c : ℕ) (s : ClientData) (o : Option Envelope) → IsNumbered s.attempt s.sent → Turns (script_of g c) s (envelope_step g (Client c) s o)
+envelope_turns : (g : Group) (c : ℕ) (s : ClientData) (o : Option Envelope) → IsNumbered s.attempt s.sent
+    → Turns (script_of g c) s (envelope_step g (Client c) s o)
 envelope_turns g c s None h = nothing (script_of g c) s h
 envelope_turns g c s (Some e) h = message_turns g.proxies c (script_of g c) s e.from e.message h
 
-pub client_turns : (g : Group) (c : ℕ) (s : ClientData) (e : Event) → IsNumbered s.attempt s.sent → Turns (script_of g c) s (event_step g (Client c) s e)
+pub client_turns : (g : Group) (c : ℕ) (s : ClientData) (e : Event) → IsNumbered s.attempt s.sent
+    → Turns (script_of g c) s (event_step g (Client c) s e)
 client_turns g c s (Deliver p) h = envelope_turns g c s (received g.f (Client c) p) h
 client_turns g c s (Tick clock) h = tick_turns g.proxies c (script_of g c) s h
 client_turns g c s _ h = nothing (script_of g c) s h
@@ -111,16 +119,19 @@ awaited_is : (s : ClientData) (b : AnswerBody) (o : Option Attempt) → is_await
 awaited_is s b None e = absurd cc
 awaited_is s b (Some a) e = eqb-true b.num s.sent e
 
-accept_is : (proxies me p : ℕ) (script : List Request) (s : ClientData) (b : AnswerBody) → s.accepted < (accept_rule proxies me script s b).0.accepted → IsAnswerTo s (Proxy p) (Answered b)
+accept_is : (proxies me p : ℕ) (script : List Request) (s : ClientData) (b : AnswerBody) → s.accepted < (accept_rule proxies me script s b).0.accepted
+    → IsAnswerTo s (Proxy p) (Answered b)
 unfolding accept_rule
 accept_is proxies me p script s b =
     let free : ClientData = (record s { accepted = s.accepted + 1; attempt = None }) in
     on_cond (λ (t : ClientData × List Out). s.accepted < t.0.accepted → IsAnswerTo s (Proxy p) (Answered b)) (is_awaited s b s.attempt) (open_next proxies me script free) (s, [])
     (λ t _. record { proxy = p; body = b; sender = refl; message = refl; num = awaited_is s b s.attempt t }) (λ _ lt. absurd (omega (arith, lt)))
 
-message_accepts : (proxies me : ℕ) (script : List Request) (s : ClientData) (from : Actor) (m : Message) → s.accepted < (client_message proxies me script s from m).0.accepted → IsAnswerTo s from m
+message_accepts : (proxies me : ℕ) (script : List Request) (s : ClientData) (from : Actor) (m : Message)
+    → s.accepted < (client_message proxies me script s from m).0.accepted → IsAnswerTo s from m
 message_accepts proxies me script s (Proxy p) (Answered b) lt = accept_is proxies me p script s b lt
 message_accepts proxies me script s _ _ lt = absurd (omega (arith, lt))
 
-pub client_accepts : (g : Group) (c : ℕ) (s : ClientData) (e : Envelope) → s.accepted < (envelope_step g (Client c) s (Some e)).0.accepted → IsAnswerTo s e.from e.message
+pub client_accepts : (g : Group) (c : ℕ) (s : ClientData) (e : Envelope) → s.accepted < (envelope_step g (Client c) s (Some e)).0.accepted
+    → IsAnswerTo s e.from e.message
 client_accepts g c s e lt = message_accepts g.proxies c (script_of g c) s e.from e.message lt

@@ -1,66 +1,72 @@
--- Where a proxy has decided a request, the decision leads to the front of the leader's log that gives its answer.
+-- Where a proxy has decided a request, the decision leads to the source of the reply that gives its answer.
 use Rattle.std.proofs.Common.{◌≡◌, ℕ, false, cond, List, [], ◌∷◌, Option, Some, None, refl, sym, ap, ◌∙◌, inl, inr}
 use Rattle.std.specs.List.{list_any}
 use Rattle.std.specs.Option.{option_map, option_and_then}
 use Rattle.std.proofs.lemmas.Option.{none-some}
 use Rattle.nz_base.specs.declared.actor.Actor.TheVariants.{Proxy}
 use Rattle.nz_base.specs.declared.key.Id.{Id}
-use Rattle.nz_base.specs.declared.key.Entry.{Entry}
 use Rattle.nz_base.proofs.Booleans.{or_left, or_right}
 use Rattle.nz_store.specs.declared.command.Answer.{Answer}
 use Rattle.nz_msg.specs.declared.message.Path.{Path}
 use Rattle.nz_machine.specs.declared.event.Record.{Record}
 use Rattle.nz_machine.specs.declared.reply.Reply.{Reply}
 use Rattle.nz_machine.specs.State.{Standing, Open, Decided, Group}
-use Rattle.nz_machine.specs.Quorums.{Chosen, decision, reply_eq, answer_in, with_note}
+use Rattle.nz_machine.specs.Quorums.{Chosen, decision, reply_eq, answer_in, with_note, view_of}
 use Rattle.nz_machine.specs.World.{state_after, Has, World}
 use Rattle.nz_machine.specs.Events.{read_in}
-use Rattle.nz_machine.specs.History.{older_or, standing_after, is_decided, decision_moment, replies_of, reply_read, with_reply, replies_at_last, deciding_reply, prefix_of_reply, prefix_at_decision}
-use Rattle.nz_machine.proofs.Moments.{At, at_self}
+use Rattle.nz_machine.specs.History.{older_or, standing_after, is_decided, decision_moment, replies_of, reply_read, with_reply, replies_at_last, deciding_reply, ReplySource, source_of_reply, source_at_decision, prefix_at_source}
+use Rattle.nz_base.specs.Moments.{At}
+use Rattle.nz_base.proofs.Moments.{at_self}
 use Rattle.nz_machine.proofs.Sources.{reply_eq_self}
 use Rattle.nz_machine.proofs.Choices.{decision_is}
-use Rattle.nz_lin.proofs.Prefixes.{Front}
-use Rattle.nz_lin.proofs.Leader.{leader_log}
+use Rattle.nz_lin.proofs.Answering.{IsGiven}
 use Rattle.nz_lin.proofs.Standings.{Moves, Stays, Forgets, Opens, Notes, Decides}
-use Rattle.nz_lin.proofs.Notes.{IsNoted, moment_of, standing_moves, has_moment, behind}
+use Rattle.nz_lin.proofs.Notes.{IsNoted, moment_of, standing_moves, has_moment, noted_source}
 
 has_noted : (replies : List Reply) (r : Reply) → Has replies r → IsNoted r replies
 has_noted [] r h = absurd h
 has_noted (x ∷ replies) r (inl e) = or_left (reply_eq r x) (list_any (reply_eq r) replies) (ap (reply_eq r) e ∙ reply_eq_self r)
 has_noted (x ∷ replies) r (inr h) = or_right (reply_eq r x) (list_any (reply_eq r) replies) (has_noted replies r h)
 
--- the run up to the decision, and the front of the leader's log that it leads to
+-- the run up to the decision, the reply that it names, and the source of that
 pub record HasDecided (g : Group) (J : List Record) (q : ℕ) (id : Id) (a : Answer) : Type 0 where
   pub moment : List Record
   pub is : decision_moment g q id J ≡ Some moment
   pub at : At J moment
-  pub prefix : List Entry
-  pub leads : prefix_at_decision g q id moment ≡ Some prefix
-  pub front : Front (leader_log g moment) id a prefix
+  pub reply : Reply
+  pub names : deciding_reply g q id moment ≡ Some reply
+  pub source : ReplySource
+  pub leads : source_at_decision g q id moment ≡ Some source
+  pub given : IsGiven g moment (view_of reply) id a (prefix_at_source g id source)
 
 undecided : (g : Group) (J : List Record) (q : ℕ) (id : Id) → is_decided (standing_after g q id J) ≡ false → decision_moment g q id J ≡ None
 undecided g [] q id h = refl
 undecided g (r ∷ J) q id h = ap (λ b. cond b (older_or (decision_moment g q id J) (r ∷ J)) None) h
 
-decided_now : (g : Group) (r : Record) (J : List Record) (q : ℕ) (id : Id) (a : Answer) (p : Path) → standing_after g q id (r ∷ J) ≡ Some (Decided a p) → decision_moment g q id (r ∷ J) ≡ older_or (decision_moment g q id J) (r ∷ J)
+decided_now : (g : Group) (r : Record) (J : List Record) (q : ℕ) (id : Id) (a : Answer) (p : Path)
+    → standing_after g q id (r ∷ J) ≡ Some (Decided a p) → decision_moment g q id (r ∷ J) ≡ older_or (decision_moment g q id J) (r ∷ J)
 decided_now g r J q id a p now = ap (λ (t : Option Standing). cond (is_decided t) (older_or (decision_moment g q id J) (r ∷ J)) None) now
 
-decided_later : (g : Group) (r : Record) (J : List Record) (q : ℕ) (id : Id) (a : Answer) (p : Path) → standing_after g q id (r ∷ J) ≡ Some (Decided a p) → HasDecided g J q id a → HasDecided g (r ∷ J) q id a
+decided_later : (g : Group) (r : Record) (J : List Record) (q : ℕ) (id : Id) (a : Answer) (p : Path)
+    → standing_after g q id (r ∷ J) ≡ Some (Decided a p) → HasDecided g J q id a → HasDecided g (r ∷ J) q id a
 decided_later g r J q id a p now h = record {
   moment = h.moment;
   is = decided_now g r J q id a p now ∙ ap (λ (o : Option (List Record)). older_or o (r ∷ J)) h.is;
   at = inr h.at;
-  prefix = h.prefix;
+  reply = h.reply;
+  names = h.names;
+  source = h.source;
   leads = h.leads;
-  front = h.front;
+  given = h.given;
 }
 
-decides : (g : Group) (r : Record) (J : List Record) (q : ℕ) (id : Id) (a : Answer) (p : Path) (replies : List Reply) (n : Reply) (chosen : Chosen) → World g (r ∷ J) → r.actor ≡ Proxy q → standing_after g q id J ≡ Some (Open replies) → reply_read id (read_in g (Proxy q) r.event) ≡ Some n
+decides : (g : Group) (r : Record) (J : List Record) (q : ℕ) (id : Id) (a : Answer) (p : Path) (replies : List Reply) (n : Reply) (chosen : Chosen)
+    → World g (r ∷ J) → r.actor ≡ Proxy q → standing_after g q id J ≡ Some (Open replies) → reply_read id (read_in g (Proxy q) r.event) ≡ Some n
     → decision g.f (with_note replies n) ≡ Some chosen → answer_in chosen.reply ≡ Some a → standing_after g q id (r ∷ J) ≡ Some (Decided a p) → HasDecided g (r ∷ J) q id a
 decides g r J q id a p replies n chosen w by before heard d answer now =
     let noted = has_noted (with_note replies n) chosen.reply (decision_is g.f (with_note replies n) chosen d).among in
     let m = moment_of g q id r J replies n chosen.reply by before heard (has_moment g J q id chosen.reply) noted in
-    let b = behind g (r ∷ J) q id chosen.reply a w m answer in
+    let b = noted_source g (r ∷ J) q id chosen.reply a w m answer in
     let stood : replies_at_last g q id (r ∷ J) ≡ with_note replies n =
     ap (λ (t : Option Standing). with_reply (replies_of t) (reply_read id (read_in g (Proxy q) r.event))) before ∙ ap (with_reply replies) heard in
     let deciding : deciding_reply g q id (r ∷ J) ≡ Some chosen.reply = ap (λ (ys : List Reply). option_map (λ (c : Chosen). c.reply) (decision g.f ys)) stood ∙ ap (option_map (λ (c : Chosen). c.reply)) d in
@@ -68,9 +74,11 @@ decides g r J q id a p replies n chosen w by before heard d answer now =
       moment = r ∷ J;
       is = decided_now g r J q id a p now ∙ ap (λ (o : Option (List Record)). older_or o (r ∷ J)) (undecided g J q id (ap is_decided before));
       at = at_self (r ∷ J);
-      prefix = b.prefix;
-      leads = ap (option_and_then (prefix_of_reply g q id (r ∷ J))) deciding ∙ b.is;
-      front = b.front;
+      reply = chosen.reply;
+      names = deciding;
+      source = b.source;
+      leads = ap (option_and_then (source_of_reply g q id (r ∷ J))) deciding ∙ b.is;
+      given = b.given;
     }
 
 decided_same : (a c : Answer) (p q : Path) → Some (Decided a p) ≡ Some (Decided c q) → a ≡ c
@@ -79,7 +87,8 @@ decided_same a c p q e = cc
 open_decided : (replies : List Reply) (a : Answer) (p : Path) (o : Option Standing) → o ≡ Some (Open replies) → o ≡ Some (Decided a p) → ⊥
 open_decided replies a p o h k = let e : Some (Open replies) ≡ Some (Decided a p) = sym h ∙ k in absurd cc
 
-after_moves : (g : Group) (r : Record) (J : List Record) (q : ℕ) (id : Id) (a : Answer) (p : Path) → World g (r ∷ J) → r.actor ≡ Proxy q → Moves g.f (reply_read id (read_in g (Proxy q) r.event)) (standing_after g q id J) (standing_after g q id (r ∷ J))
+after_moves : (g : Group) (r : Record) (J : List Record) (q : ℕ) (id : Id) (a : Answer) (p : Path) → World g (r ∷ J) → r.actor ≡ Proxy q
+    → Moves g.f (reply_read id (read_in g (Proxy q) r.event)) (standing_after g q id J) (standing_after g q id (r ∷ J))
     → (standing_after g q id J ≡ Some (Decided a p) → HasDecided g J q id a) → standing_after g q id (r ∷ J) ≡ Some (Decided a p) → HasDecided g (r ∷ J) q id a
 after_moves g r J q id a p w by (Stays e) old now = decided_later g r J q id a p now (old (sym e ∙ now))
 after_moves g r J q id a p w by (Forgets after) old now = absurd (none-some (Decided a p) (sym after ∙ now))
@@ -88,7 +97,8 @@ after_moves g r J q id a p w by (Notes replies n before heard after) old now = a
 after_moves g r J q id a p w by (Decides replies n chosen c before heard d is after) old now =
     decides g r J q id a p replies n chosen w by before heard d (is ∙ ap Some (decided_same c a chosen.path p (sym after ∙ now))) now
 
-pub has_decided : (g : Group) (J : List Record) → World g J → (q : ℕ) (id : Id) (a : Answer) (p : Path) → standing_after g q id J ≡ Some (Decided a p) → HasDecided g J q id a
+pub has_decided : (g : Group) (J : List Record) → World g J → (q : ℕ) (id : Id) (a : Answer) (p : Path) → standing_after g q id J ≡ Some (Decided a p)
+    → HasDecided g J q id a
 unfolding state_after
 has_decided g [] w q id a p e = absurd (none-some (Decided a p) e)
 has_decided g (r ∷ J) w q id a p e = elim (standing_moves g r J q id) [

@@ -10,7 +10,8 @@ use Rattle.nz_machine.specs.Step.{parcel, received, event_step}
 use Rattle.nz_machine.specs.World.{state_after, Has, World}
 use Rattle.nz_machine.specs.History.{source}
 use Rattle.nz_machine.proofs.Runs.{FitsOut, received_is, sent_by, sends_have, all_has}
-use Rattle.nz_machine.proofs.Moments.{At, at_world}
+use Rattle.nz_base.specs.Moments.{At}
+use Rattle.nz_machine.proofs.Moments.{at_world}
 use Rattle.nz_machine.proofs.Sources.{source_is}
 use Rattle.nz_machine.proofs.FitRuns.{Fitted, FittedState, fits_keep}
 

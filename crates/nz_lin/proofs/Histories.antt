@@ -1,11 +1,14 @@
--- The history of a run is the front of the leader's log up to the last accepted request.
+-- The history of a run is one of its accepted prefixes, and each accepted answer has a prefix that is not longer.
 use Rattle.std.proofs.Common.{◌≡◌, ℕ, ◌<◌, ◌≤◌, Bool, true, false, cond, nat_lt, List, [], ◌∷◌, ◌++◌, length, Option, Some, refl, sym, ap, subst, ◌∙◌, arith, inl, inr, ◌⊎◌, ltb-true, ltb-false}
-use Rattle.std.specs.Option.{option_and_then}
+use Rattle.std.specs.Option.{option_map, option_and_then}
+use Rattle.nz_base.specs.Cluster.{leader_of}
 use Rattle.nz_base.specs.declared.actor.Actor.{Actor}
 use Rattle.nz_base.specs.declared.actor.Actor.TheVariants.{Client}
 use Rattle.nz_base.specs.declared.key.Id.{Id}
 use Rattle.nz_base.specs.declared.key.Entry.{Entry}
-use Rattle.nz_base.specs.Log.{keys_of, has_id}
+use Rattle.nz_base.specs.Key.{id_of}
+use Rattle.nz_base.specs.Log.{keys_of, has_id, HaveOwnIds}
+use Rattle.nz_base.proofs.Logs.{own_front, keys_append}
 use Rattle.nz_store.specs.declared.command.Answer.{Answer}
 use Rattle.nz_msg.specs.declared.message.AnswerBody.{AnswerBody}
 use Rattle.nz_msg.specs.declared.message.Path.{Path}
@@ -19,45 +22,85 @@ use Rattle.nz_machine.specs.State.{ClientData, Group}
 use Rattle.nz_machine.specs.Step.{received, envelope_step, event_step}
 use Rattle.nz_machine.specs.World.{state_after, Has, MayHappen, World}
 use Rattle.nz_machine.specs.Events.{Told, Sent, Accepted, id_at, told_by, events}
-use Rattle.nz_machine.specs.History.{prefix_of_sender, entries_or, prefix_in, longer, history}
-use Rattle.nz_machine.specs.OneHistory.{Precedes}
-use Rattle.nz_machine.proofs.Runs.{acts_itself, delivered, has_left, has_right, has_split, all_has}
-use Rattle.nz_machine.proofs.Moments.{at_self}
+use Rattle.nz_machine.specs.History.{source_of_sender, prefix_at_source, accepted_prefix, entries_or, prefix_in, longer, history}
+use Rattle.nz_machine.specs.OneHistory.{Precedes, IsAccepted}
+use Rattle.nz_machine.proofs.Runs.{acts_itself, delivered, has_left, has_right, has_split}
+use Rattle.nz_machine.specs.Replicas.{most_entries}
+use Rattle.nz_base.specs.Moments.{At}
+use Rattle.nz_base.proofs.Moments.{at_self}
+use Rattle.nz_machine.proofs.Moments.{at_world}
 use Rattle.nz_machine.proofs.Sources.{has_source}
 use Rattle.nz_machine.proofs.FitRuns.{Fitted, FittedState, fits_keep, all_fit}
 use Rattle.std.proofs.lemmas.Option.{none-some, same_Some}
-use Rattle.nz_lin.specs.Laws.{IsPrefix}
-use Rattle.nz_lin.proofs.Prefixes.{Front, absent_by}
+use Rattle.nz_machine.specs.Leading.{leader_at}
+use Rattle.nz_base.proofs.Prefixes.{prefix_length}
+use Rattle.nz_lin.proofs.Prefixes.{absent_by, own_prefix}
 use Rattle.nz_lin.proofs.Heard.{told_at}
-use Rattle.nz_lin.proofs.Leader.{leader_log, front_later}
+use Rattle.nz_lin.proofs.FactsStay.{facts_stay}
+use Rattle.nz_lin.proofs.Answering.{IsGiven, given_later}
 use Rattle.nz_lin.proofs.Notes.{delivers}
 use Rattle.nz_lin.proofs.AnswersSent.{LeadsBack, answer_source}
 use Rattle.nz_lin.proofs.Clients.{IsAnswerTo, client_accepts}
-use Rattle.nz_lin.proofs.Tells.{Accepts, told_sent, told_accepted, not_sent_before}
-use Rattle.nz_lin.proofs.Asked.{WasSent, entries_sent}
+use Rattle.nz_lin.proofs.Tells.{AcceptsAnswer, told_sent, told_accepted, not_sent_before}
+use Rattle.nz_lin.proofs.Asked.{WasSent, own_command}
 
--- a front of the log before a record is one of the log after it
-front_then : (g : Group) (r : Record) (J : List Record) → World g (r ∷ J) → (id : Id) (a : Answer) (P : List Entry) → Front (leader_log g J) id a P → Front (leader_log g (r ∷ J)) id a P
-front_then g r J w id a P h = front_later g (r ∷ J) J w (inr (at_self J)) id a P h
+-- ---- what a leader's log has, up to an entry
+
+events_later : (g : Group) (J K : List Record) → At J K → (x : Told) → Has (events g K) x → Has (events g J) x
+events_later g [] K at x h = subst (λ (L : List Record). Has (events g L) x) at h
+events_later g (r ∷ J) K (inl same) x h = subst (λ (L : List Record). Has (events g L) x) same h
+events_later g (r ∷ J) K (inr older) x h = has_left (events g J) (told_by g r.actor r J) x (events_later g J K older x h)
+
+-- each entry was sent
+pub given_sent : (g : Group) (J : List Record) → World g J → (v : ℕ) (id : Id) (a : Answer) (P : List Entry) → IsGiven g J v id a P → (e : Entry)
+    → Has P e → WasSent (events g J) e
+given_sent g J w v id a P h e there =
+    let log = (leader_at g v h.moment).log.entries in
+    let in_log : Has log e = subst (λ (l : List Entry). Has l e) (sym h.from.prefix.whole) (has_left P h.from.prefix.rest e there) in
+    let sent = own_command g h.moment (leader_of g.f v) e (at_world g J h.moment w h.at) in_log in
+    events_later g J h.moment h.at (Sent (id_of e.key) e.command) sent
+
+-- no id stands in it twice
+pub given_own : (g : Group) (J : List Record) → World g J → (v : ℕ) (id : Id) (a : Answer) (P : List Entry) → IsGiven g J v id a P
+    → HaveOwnIds (keys_of P)
+given_own g J w v id a P h =
+    let s = leader_at g v h.moment in
+    let facts = facts_stay g h.moment (leader_of g.f v) (at_world g J h.moment w h.at) in
+    let all = subst HaveOwnIds (keys_append s.log.entries (s.early ++ s.late)) facts.entries.arranged.own_ids in
+    own_prefix P s.log.entries h.from.prefix (own_front (keys_of s.log.entries) (keys_of (s.early ++ s.late)) all)
+
+pub given_few : (g : Group) (J : List Record) → World g J → (v : ℕ) (id : Id) (a : Answer) (P : List Entry) → IsGiven g J v id a P
+    → length P ≤ most_entries
+given_few g J w v id a P h =
+    let s = leader_at g v h.moment in
+    let few = (facts_stay g h.moment (leader_of g.f v) (at_world g J h.moment w h.at)).entries.few in
+    let short = prefix_length P s.log.entries h.from.prefix in
+    omega (arith, few, short)
 
 -- ---- the prefix of an acceptance
 
 pub record Gives (g : Group) (r : Record) (J : List Record) (id : Id) (a : Answer) : Type 0 where
+  pub parcel : Parcel
+  pub event : r.event ≡ Deliver parcel
   pub prefix : List Entry
+  pub found : accepted_prefix g id parcel J ≡ Some prefix
   pub is : prefix_in g (told_by g r.actor r J) r.event J ≡ prefix
-  pub front : Front (leader_log g J) id a prefix
+  pub view : ℕ
+  pub given : IsGiven g J view id a prefix
 
 same_body : (x y : AnswerBody) → Answered x ≡ Answered y → x ≡ y
 same_body x y e = cc
 
 -- what is read of a parcel is sent to the reader
-read_to : (g : Group) (J : List Record) (a : Actor) (p : Parcel) (e : Envelope) → World g J → MayHappen J a (Deliver p) → received g.f a p ≡ Some e → e.to ≡ a
+read_to : (g : Group) (J : List Record) (a : Actor) (p : Parcel) (e : Envelope) → World g J → MayHappen J a (Deliver p) → received g.f a p ≡ Some e
+    → e.to ≡ a
 read_to g J a p e w may heard = elim (delivered g (Fitted g) (FittedState g) (fits_keep g) J (all_fit g J w) a p may) [
   | inl none ↦ absurd (none-some e (sym none ∙ heard))
   | inr y ↦ sym (ap (λ (x : Envelope). x.to) (same_Some (record { from = y.from; to = a; message = y.message }) e (sym y.is ∙ heard)))
 ]
 
-gives_by : (g : Group) (r : Record) (J : List Record) (id : Id) (a : Answer) (path : Path) → World g (r ∷ J) → (t : Accepts g r J id a path) → IsAnswerTo (state_after g (Client t.client) J) t.envelope.from t.envelope.message → Gives g r J id a
+gives_by : (g : Group) (r : Record) (J : List Record) (id : Id) (a : Answer) (path : Path) → World g (r ∷ J) → (t : AcceptsAnswer g r J id a path)
+    → IsAnswerTo (state_after g (Client t.client) J) t.envelope.from t.envelope.message → Gives g r J id a
 gives_by g r J id a path w t to =
     let c = t.client in
     let e = t.envelope in
@@ -70,28 +113,69 @@ gives_by g r J id a path w t to =
     let s = has_source p J may.1 in
     let told = told_at g J w.1 (Client c) p e d.heard s.0 s.1 in
     let id_is : id_at c t.body.num ≡ id = ap (id_at c) num ∙ sym t.id_is in
-    let back : LeadsBack g J (id_at c t.body.num) t.body.answer p.from s.0 = answer_source g J s.0 p e c t.body w.1 told (record { proxy = to.proxy; sender = to.sender; receiver = read_to g J (Client c) p e w.1 may d.heard; message = t.message }) in
+    let back : LeadsBack g J (id_at c t.body.num) t.body.answer p.from s.0 =
+    answer_source g J s.0 p e c t.body w.1 told (record { proxy = to.proxy; sender = to.sender; receiver = read_to g J (Client c) p e w.1 may d.heard; message = t.message }) in
     let mine : LeadsBack g J id t.body.answer p.from s.0 = subst (λ (x : Id). LeadsBack g J x t.body.answer p.from s.0) id_is back in
+    let prefix = prefix_at_source g id mine.source in
+    let found : accepted_prefix g id p J ≡ Some prefix =
+    ap (λ (o : Option (List Record)). option_map (prefix_at_source g id) (option_and_then (source_of_sender g id p.from) o)) s.1
+    ∙ ap (option_map (prefix_at_source g id)) mine.is in
     record {
-      prefix = mine.prefix;
+      parcel = p;
+      event = d.is;
+      prefix = prefix;
+      found = found;
       is = ap (λ (l : List Told). prefix_in g l r.event J) t.told ∙ ap (λ (e : Event). prefix_in g (Accepted id a path ∷ t.rest) e J) d.is
-          ∙ ap (λ (o : Option (List Record)). entries_or (option_and_then (prefix_of_sender g id p.from) o)) s.1 ∙ ap entries_or mine.is;
-      front = subst (λ (x : Answer). Front (leader_log g J) id x mine.prefix) (sym t.answer_is) mine.front;
+          ∙ ap entries_or found;
+      view = mine.view;
+      given = subst (λ (x : Answer). IsGiven g J mine.view id x prefix) (sym t.answer_is) mine.given;
     }
 
-pub gives : (g : Group) (r : Record) (J : List Record) (id : Id) (a : Answer) (path : Path) → World g (r ∷ J) → Accepts g r J id a path → Gives g r J id a
+pub gives : (g : Group) (r : Record) (J : List Record) (id : Id) (a : Answer) (path : Path) → World g (r ∷ J) → AcceptsAnswer g r J id a path
+    → Gives g r J id a
 gives g r J id a path w t =
     let c = t.client in
     let before = state_after g (Client c) J in
     let d = delivers g (Client c) r.event t.envelope t.read in
     let step : state_after g (Client c) (r ∷ J) ≡ (envelope_step g (Client c) before (Some t.envelope)).0 =
-    acts_itself g (Client c) r J t.by ∙ ap (λ (e : Event). (event_step g (Client c) before e).0) d.is ∙ ap (λ (o : Option Envelope). (envelope_step g (Client c) before o).0) d.heard in
-    let more : before.accepted < (envelope_step g (Client c) before (Some t.envelope)).0.accepted = subst (λ (s : ClientData). before.accepted < s.accepted) step t.more in
+    acts_itself g (Client c) r J t.by ∙ ap (λ (e : Event). (event_step g (Client c) before e).0) d.is
+    ∙ ap (λ (o : Option Envelope). (envelope_step g (Client c) before o).0) d.heard in
+    let more : before.accepted < (envelope_step g (Client c) before (Some t.envelope)).0.accepted =
+    subst (λ (s : ClientData). before.accepted < s.accepted) step t.more in
     gives_by g r J id a path w t (client_accepts g c before t.envelope more)
+
+-- ---- accepted prefixes
+
+-- the prefix is given from the log of a view's leader
+pub record IsGivenOnce (g : Group) (J : List Record) (P : List Entry) : Type 0 where
+  pub id : Id
+  pub answer : Answer
+  pub view : ℕ
+  pub given : IsGiven g J view id answer P
+
+same_parcel : (p q : Parcel) → Deliver p ≡ Deliver q → p ≡ q
+same_parcel p q e = cc
+
+pub accepted_given : (g : Group) (J : List Record) → World g J → (P : List Entry) → IsAccepted g P J → IsGivenOnce g J P
+accepted_given g [] w P h = absurd h
+accepted_given g (r ∷ J) w P (inl a) =
+    let t = gives g r J a.id a.answer a.path w (told_accepted g r J a.id a.answer a.path a.told) in
+    let parcel : t.parcel ≡ a.brought = same_parcel t.parcel a.brought (sym t.event ∙ a.event) in
+    let same : t.prefix ≡ P = same_Some t.prefix P (sym t.found ∙ ap (λ (p : Parcel). accepted_prefix g a.id p J) parcel ∙ a.prefix) in
+    record {
+      id = a.id;
+      answer = a.answer;
+      view = t.view;
+      given = given_later g (r ∷ J) J (inr (at_self J)) t.view a.id a.answer P (subst (IsGiven g J t.view a.id a.answer) same t.given);
+    }
+accepted_given g (r ∷ J) w P (inr b) =
+    let h = accepted_given g J w.1 P b in
+    record { id = h.id; answer = h.answer; view = h.view; given = given_later g (r ∷ J) J (inr (at_self J)) h.view h.id h.answer P h.given }
 
 -- ---- the longest
 
-longer_by : (old new : List Entry) (b : Bool) → nat_lt (length old) (length new) ≡ b → (length old ≤ length (cond b new old)) × ((length new ≤ length (cond b new old)) × ((cond b new old ≡ old) ⊎ (cond b new old ≡ new)))
+longer_by : (old new : List Entry) (b : Bool) → nat_lt (length old) (length new) ≡ b
+    → (length old ≤ length (cond b new old)) × ((length new ≤ length (cond b new old)) × ((cond b new old ≡ old) ⊎ (cond b new old ≡ new)))
 longer_by old new true e = let lt = ltb-true (length old) (length new) e in (omega (arith, lt), (omega arith, inr refl))
 longer_by old new false e = let le = ltb-false (length old) (length new) e in (omega arith, (omega (arith, le), inl refl))
 
@@ -103,79 +187,81 @@ pub record IsLonger (old new both : List Entry) : Type 0 where
 longer_is : (old new : List Entry) → IsLonger old new (longer old new)
 longer_is old new = let t = longer_by old new (nat_lt (length old) (length new)) refl in record { than_old = t.0; than_new = t.1.0; cases = t.1.1 }
 
-prefix_cases : (g : Group) (told : List Told) (e : Event) (J : List Record) → (prefix_in g told e J ≡ []) ⊎ ((id : Id) × ((a : Answer) × ((path : Path) × Has told (Accepted id a path))))
+prefix_cases : (g : Group) (told : List Told) (e : Event) (J : List Record)
+    → (prefix_in g told e J ≡ []) ⊎ ((id : Id) × ((a : Answer) × ((path : Path) × Has told (Accepted id a path))))
 prefix_cases g (Accepted id a path ∷ told) (Deliver p) J = inr (id, (a, (path, inl refl)))
 prefix_cases g _ _ J = inl refl
 
 -- ---- the history
 
--- the front of an accepted request is in the history
+-- an accepted answer has an accepted prefix, which is not longer than the history
 pub record IsCovered (g : Group) (J : List Record) (id : Id) (a : Answer) : Type 0 where
-  pub front : List Entry
-  pub is : Front (leader_log g J) id a front
-  pub short : length front ≤ length (history g J)
+  pub prefix : List Entry
+  pub accepted : IsAccepted g prefix J
+  pub view : ℕ
+  pub given : IsGiven g J view id a prefix
+  pub short : length prefix ≤ length (history g J)
 
--- the same, and another request is not in that front
+-- the same, and another request is not in that prefix
 pub record IsBefore (g : Group) (J : List Record) (id : Id) (a : Answer) (other : Id) : Type 0 where
-  pub front : List Entry
-  pub is : Front (leader_log g J) id a front
-  pub short : length front ≤ length (history g J)
-  pub absent : has_id (keys_of front) other ≡ false
-
--- the history ends with an accepted request
-pub record IsLast (g : Group) (J : List Record) (H : List Entry) : Type 0 where
-  pub id : Id
-  pub answer : Answer
-  pub path : Path
-  pub told : Has (events g J) (Accepted id answer path)
-  pub front : Front (leader_log g J) id answer H
+  pub covered : IsCovered g J id a
+  pub absent : has_id (keys_of covered.prefix) other ≡ false
 
 pub record IsHistory (g : Group) (J : List Record) : Type 0 where
-  pub prefix : IsPrefix (history g J) (leader_log g J)
   pub covers : (id : Id) (a : Answer) (path : Path) → Has (events g J) (Accepted id a path) → IsCovered g J id a
-  pub ends : (history g J ≡ []) ⊎ IsLast g J (history g J)
-  pub in_order : (id : Id) (a : Answer) (path : Path) (other : Id) (command : List ℕ) → Precedes (events g J) (Accepted id a path) (Sent other command) → IsBefore g J id a other
+  pub ends : (history g J ≡ []) ⊎ IsAccepted g (history g J) J
+  pub in_order : (id : Id) (a : Answer) (path : Path) (other : Id) (command : List ℕ)
+      → Precedes (events g J) (Accepted id a path) (Sent other command) → IsBefore g J id a other
 
 grown : (g : Group) (r : Record) (J : List Record) → length (history g J) ≤ length (history g (r ∷ J))
 grown g r J = (longer_is (history g J) (prefix_in g (told_by g r.actor r J) r.event J)).than_old
 
--- the front, as of before the record
+-- a prefix that is given before the record
 pub record IsCoveredBy (g : Group) (r : Record) (J : List Record) (id : Id) (a : Answer) : Type 0 where
-  pub front : List Entry
-  pub is : Front (leader_log g J) id a front
-  pub short : length front ≤ length (history g (r ∷ J))
+  pub prefix : List Entry
+  pub accepted : IsAccepted g prefix (r ∷ J)
+  pub view : ℕ
+  pub given : IsGiven g J view id a prefix
+  pub short : length prefix ≤ length (history g (r ∷ J))
 
 covered_old : (g : Group) (r : Record) (J : List Record) (id : Id) (a : Answer) → IsCovered g J id a → IsCoveredBy g r J id a
-covered_old g r J id a h = record { front = h.front; is = h.is; short = let k = grown g r J in omega (arith, k, h.short) }
+covered_old g r J id a h =
+    record { prefix = h.prefix; accepted = inr h.accepted; view = h.view; given = h.given; short = let k = grown g r J in omega (arith, k, h.short) }
 
-covered_now : (g : Group) (r : Record) (J : List Record) (id : Id) (a : Answer) (path : Path) → World g (r ∷ J) → Has (told_by g r.actor r J) (Accepted id a path) → IsCoveredBy g r J id a
+covered_now : (g : Group) (r : Record) (J : List Record) (id : Id) (a : Answer) (path : Path) → World g (r ∷ J)
+    → Has (told_by g r.actor r J) (Accepted id a path) → IsCoveredBy g r J id a
 covered_now g r J id a path w h =
     let t = gives g r J id a path w (told_accepted g r J id a path h) in
     let long = (longer_is (history g J) (prefix_in g (told_by g r.actor r J) r.event J)).than_new in
-    record { front = t.prefix; is = t.front; short = omega (arith, long, ap length t.is) }
+    record {
+      prefix = t.prefix;
+      accepted = inl (record { id = id; answer = a; path = path; brought = t.parcel; told = h; event = t.event; prefix = t.found });
+      view = t.view;
+      given = t.given;
+      short = omega (arith, long, ap length t.is);
+    }
 
-covered_at : (g : Group) (r : Record) (J : List Record) (id : Id) (a : Answer) → World g (r ∷ J) → IsCoveredBy g r J id a → IsCovered g (r ∷ J) id a
-covered_at g r J id a w h = record { front = h.front; is = front_then g r J w id a h.front h.is; short = h.short }
+covered_at : (g : Group) (r : Record) (J : List Record) (id : Id) (a : Answer) → IsCoveredBy g r J id a → IsCovered g (r ∷ J) id a
+covered_at g r J id a h =
+    record { prefix = h.prefix; accepted = h.accepted; view = h.view; given = given_later g (r ∷ J) J (inr (at_self J)) h.view id a h.prefix h.given; short = h.short }
 
--- a request that is sent now is in no front of the log of before
-absent_now : (g : Group) (r : Record) (J : List Record) (other : Id) (command : List ℕ) (front : List Entry) → World g J → Has (told_by g r.actor r J) (Sent other command) → IsPrefix front (leader_log g J) → has_id (keys_of front) other ≡ false
-absent_now g r J other command front w h p =
+-- a request that is sent now is in no log of before
+absent_now : (g : Group) (r : Record) (J : List Record) (other : Id) (command : List ℕ) (v : ℕ) (id : Id) (a : Answer) (P : List Entry) → World g J
+    → Has (told_by g r.actor r J) (Sent other command) → IsGiven g J v id a P → has_id (keys_of P) other ≡ false
+absent_now g r J other command v id a P w h given =
     let new = told_sent g r J other command h in
-    absent_by other front (λ e within same.
-    let in_log : Has (leader_log g J) e = subst (λ (l : List Entry). Has l e) (sym p.whole) (has_left front p.rest e within) in
-    let sent = all_has (WasSent (events g J)) (leader_log g J) e (entries_sent g J w 0).log in_log in
-    not_sent_before g r J other e.command new (subst (λ (i : Id). Has (events g J) (Sent i e.command)) same sent))
+    absent_by other P (λ e within same. not_sent_before g r J other e.command new (subst (λ (i : Id). Has (events g J) (Sent i e.command)) same (given_sent g J w v id a P given e within)))
 
-before_now : (g : Group) (r : Record) (J : List Record) (id : Id) (a : Answer) (other : Id) (command : List ℕ) → World g (r ∷ J) → Has (told_by g r.actor r J) (Sent other command) → IsCoveredBy g r J id a → IsBefore g (r ∷ J) id a other
-before_now g r J id a other command w h k = record {
-  front = k.front;
-  is = front_then g r J w id a k.front k.is;
-  short = k.short;
-  absent = absent_now g r J other command k.front w.1 h k.is.prefix;
-}
+before_now : (g : Group) (r : Record) (J : List Record) (id : Id) (a : Answer) (other : Id) (command : List ℕ) → World g (r ∷ J)
+    → Has (told_by g r.actor r J) (Sent other command) → IsCoveredBy g r J id a → IsBefore g (r ∷ J) id a other
+unfolding covered_at
+before_now g r J id a other command w h k =
+    record { covered = covered_at g r J id a k; absent = absent_now g r J other command k.view id a k.prefix w.1 h k.given }
 
-before_later : (g : Group) (r : Record) (J : List Record) (id : Id) (a : Answer) (other : Id) → World g (r ∷ J) → IsBefore g J id a other → IsBefore g (r ∷ J) id a other
-before_later g r J id a other w h = record { front = h.front; is = front_then g r J w id a h.front h.is; short = let k = grown g r J in omega (arith, k, h.short); absent = h.absent }
+before_later : (g : Group) (r : Record) (J : List Record) (id : Id) (a : Answer) (other : Id) → IsBefore g J id a other
+    → IsBefore g (r ∷ J) id a other
+unfolding covered_at covered_old
+before_later g r J id a other h = record { covered = covered_at g r J id a (covered_old g r J id a h.covered); absent = h.absent }
 
 -- ---- lists of events
 
@@ -188,7 +274,8 @@ precedes_has (z ∷ zs) x y (inr h) = let t = precedes_has zs x y h in (inr t.0,
 pub precedes_three : {X : Type 0} (xs ys : List X) (x y : X) → Precedes (xs ++ ys) x y → Precedes xs x y ⊎ ((Has xs x × Has ys y) ⊎ Precedes ys x y)
 precedes_three [] ys x y h = inr (inr h)
 precedes_three (z ∷ xs) ys x y (inl h) = elim (has_split xs ys y h.1) [ inl a ↦ inl (inl (h.0, a)) | inr b ↦ inr (inl (inl h.0, b)) ]
-precedes_three (z ∷ xs) ys x y (inr h) = elim (precedes_three xs ys x y h) [ inl a ↦ inl (inr a) | inr (inl b) ↦ inr (inl (inr b.0, b.1)) | inr (inr c) ↦ inr (inr c) ]
+precedes_three (z ∷ xs) ys x y (inr h) =
+    elim (precedes_three xs ys x y h) [ inl a ↦ inl (inr a) | inr (inl b) ↦ inr (inl (inr b.0, b.1)) | inr (inr c) ↦ inr (inr c) ]
 
 -- the second stands in the first list with the first, or in the second list
 precedes_split : {X : Type 0} (xs ys : List X) (x y : X) → Precedes (xs ++ ys) x y → Precedes xs x y ⊎ (Has (xs ++ ys) x × Has ys y)
@@ -200,67 +287,65 @@ precedes_split xs ys x y h = elim (precedes_three xs ys x y h) [
 
 -- ---- runs
 
-nothing_yet : (g : Group) → IsHistory g []
-nothing_yet g = record {
-  prefix = record { rest = leader_log g []; whole = refl };
-  covers = λ id a path h. absurd h;
-  ends = inl refl;
-  in_order = λ id a path other command h. absurd h;
-}
-
-covered_in : (g : Group) (r : Record) (J : List Record) → World g (r ∷ J) → IsHistory g J → (id : Id) (a : Answer) (path : Path) → Has (events g (r ∷ J)) (Accepted id a path) → IsCoveredBy g r J id a
+covered_in : (g : Group) (r : Record) (J : List Record) → World g (r ∷ J) → IsHistory g J → (id : Id) (a : Answer) (path : Path)
+    → Has (events g (r ∷ J)) (Accepted id a path) → IsCoveredBy g r J id a
 covered_in g r J w h id a path k = elim (has_split (events g J) (told_by g r.actor r J) (Accepted id a path) k) [
   | inl x ↦ covered_old g r J id a (h.covers id a path x)
   | inr x ↦ covered_now g r J id a path w x
 ]
 
-last_later : (g : Group) (r : Record) (J : List Record) (H : List Entry) → World g (r ∷ J) → IsLast g J H → IsLast g (r ∷ J) H
-last_later g r J H w l = record {
-  id = l.id;
-  answer = l.answer;
-  path = l.path;
-  told = has_left (events g J) (told_by g r.actor r J) (Accepted l.id l.answer l.path) l.told;
-  front = front_then g r J w l.id l.answer H l.front;
-}
-
-last_now : (g : Group) (r : Record) (J : List Record) (id : Id) (a : Answer) (path : Path) → World g (r ∷ J) → Has (told_by g r.actor r J) (Accepted id a path) → IsLast g (r ∷ J) (prefix_in g (told_by g r.actor r J) r.event J)
-last_now g r J id a path w h =
+accepted_now : (g : Group) (r : Record) (J : List Record) (id : Id) (a : Answer) (path : Path) → World g (r ∷ J)
+    → Has (told_by g r.actor r J) (Accepted id a path) → IsAccepted g (prefix_in g (told_by g r.actor r J) r.event J) (r ∷ J)
+accepted_now g r J id a path w h =
     let t = gives g r J id a path w (told_accepted g r J id a path h) in
-    record {
-      id = id;
-      answer = a;
-      path = path;
-      told = has_right (events g J) (told_by g r.actor r J) (Accepted id a path) h;
-      front = subst (Front (leader_log g (r ∷ J)) id a) (sym t.is) (front_then g r J w id a t.prefix t.front);
-    }
+    inl (record { id = id; answer = a; path = path; brought = t.parcel; told = h; event = t.event; prefix = t.found ∙ ap Some (sym t.is) })
 
-ends_new : (g : Group) (r : Record) (J : List Record) → World g (r ∷ J) → (prefix_in g (told_by g r.actor r J) r.event J ≡ []) ⊎ IsLast g (r ∷ J) (prefix_in g (told_by g r.actor r J) r.event J)
-ends_new g r J w = elim (prefix_cases g (told_by g r.actor r J) r.event J) [ inl none ↦ inl none | inr h ↦ inr (last_now g r J h.0 h.1.0 h.1.1.0 w h.1.1.1) ]
+ends_new : (g : Group) (r : Record) (J : List Record) → World g (r ∷ J)
+    → (prefix_in g (told_by g r.actor r J) r.event J ≡ []) ⊎ IsAccepted g (prefix_in g (told_by g r.actor r J) r.event J) (r ∷ J)
+ends_new g r J w =
+    elim (prefix_cases g (told_by g r.actor r J) r.event J) [ inl none ↦ inl none | inr h ↦ inr (accepted_now g r J h.0 h.1.0 h.1.1.0 w h.1.1.1) ]
 
-ends_later : (g : Group) (r : Record) (J : List Record) → World g (r ∷ J) → IsHistory g J → (history g (r ∷ J) ≡ []) ⊎ IsLast g (r ∷ J) (history g (r ∷ J))
+ends_later : (g : Group) (r : Record) (J : List Record) → World g (r ∷ J) → IsHistory g J
+    → (history g (r ∷ J) ≡ []) ⊎ IsAccepted g (history g (r ∷ J)) (r ∷ J)
 ends_later g r J w h = elim (longer_is (history g J) (prefix_in g (told_by g r.actor r J) r.event J)).cases [
-  | inl old ↦ elim h.ends [ inl none ↦ inl (old ∙ none) | inr l ↦ inr (subst (IsLast g (r ∷ J)) (sym old) (last_later g r J (history g J) w l)) ]
-  | inr new ↦ elim (ends_new g r J w) [ inl none ↦ inl (new ∙ none) | inr l ↦ inr (subst (IsLast g (r ∷ J)) (sym new) l) ]
+  | inl old ↦ elim h.ends [ inl none ↦ inl (old ∙ none) | inr l ↦ inr (inr (subst (λ (H : List Entry). IsAccepted g H J) (sym old) l)) ]
+  | inr new ↦ elim (ends_new g r J w) [ inl none ↦ inl (new ∙ none) | inr l ↦ inr (subst (λ (H : List Entry). IsAccepted g H (r ∷ J)) (sym new) l) ]
 ]
 
-ends_prefix : (g : Group) (J : List Record) → (history g J ≡ []) ⊎ IsLast g J (history g J) → IsPrefix (history g J) (leader_log g J)
-ends_prefix g J (inl none) = subst (λ (l : List Entry). IsPrefix l (leader_log g J)) (sym none) (record { rest = leader_log g J; whole = refl })
-ends_prefix g J (inr l) = l.front.prefix
-
-order_later : (g : Group) (r : Record) (J : List Record) → World g (r ∷ J) → IsHistory g J → (id : Id) (a : Answer) (path : Path) (other : Id) (command : List ℕ) → Precedes (events g (r ∷ J)) (Accepted id a path) (Sent other command) → IsBefore g (r ∷ J) id a other
+order_later : (g : Group) (r : Record) (J : List Record) → World g (r ∷ J) → IsHistory g J
+    → (id : Id) (a : Answer) (path : Path) (other : Id) (command : List ℕ) → Precedes (events g (r ∷ J)) (Accepted id a path) (Sent other command)
+    → IsBefore g (r ∷ J) id a other
 order_later g r J w h id a path other command p = elim (precedes_split (events g J) (told_by g r.actor r J) (Accepted id a path) (Sent other command) p) [
-  | inl old ↦ before_later g r J id a other w (h.in_order id a path other command old)
+  | inl old ↦ before_later g r J id a other (h.in_order id a path other command old)
   | inr new ↦ before_now g r J id a other command w new.1 (covered_in g r J w h id a path new.0)
 ]
 
 pub history_is : (g : Group) (J : List Record) → World g J → IsHistory g J
-history_is g [] w = nothing_yet g
+history_is g [] w = record { covers = λ id a path h. absurd h; ends = inl refl; in_order = λ id a path other command h. absurd h }
 history_is g (r ∷ J) w =
     let h = history_is g J w.1 in
-    let ends = ends_later g r J w h in
     record {
-      prefix = ends_prefix g (r ∷ J) ends;
-      covers = λ id a path k. covered_at g r J id a w (covered_in g r J w h id a path k);
-      ends = ends;
+      covers = λ id a path k. covered_at g r J id a (covered_in g r J w h id a path k);
+      ends = ends_later g r J w h;
       in_order = order_later g r J w h;
     }
+
+-- each entry of the history was sent
+pub history_sent : (g : Group) (J : List Record) → World g J → (e : Entry) → Has (history g J) e → WasSent (events g J) e
+history_sent g J w e there = elim (history_is g J w).ends [
+  | inl none ↦ absurd (subst (λ (H : List Entry). Has H e) none there)
+  | inr l ↦ let h = accepted_given g J w (history g J) l in given_sent g J w h.view h.id h.answer (history g J) h.given e there
+]
+
+-- no id stands in it twice
+pub history_own : (g : Group) (J : List Record) → World g J → HaveOwnIds (keys_of (history g J))
+history_own g J w = elim (history_is g J w).ends [
+  | inl none ↦ subst (λ (H : List Entry). HaveOwnIds (keys_of H)) (sym none) tt
+  | inr l ↦ let h = accepted_given g J w (history g J) l in given_own g J w h.view h.id h.answer (history g J) h.given
+]
+
+pub history_few : (g : Group) (J : List Record) → World g J → length (history g J) ≤ most_entries
+history_few g J w = elim (history_is g J w).ends [
+  | inl none ↦ omega (arith, ap length none)
+  | inr l ↦ let h = accepted_given g J w (history g J) l in given_few g J w h.view h.id h.answer (history g J) h.given
+]

@@ -2,7 +2,8 @@ pub mod Decoded
 pub mod Views
 pub mod Prefixes
 pub mod Heard
-pub mod Leader
+pub mod Leading
+pub mod Answering
 pub mod Standings
 pub mod Notes
 pub mod Decisions
@@ -12,8 +13,10 @@ pub mod Tells
 pub mod Asked
 pub mod Histories
 pub mod OneHistory
+pub mod Pairs
 pub mod Counts
 pub mod FactsStay
 pub mod Snapshots
+pub mod Replied
 mod PutAndGet
-pub mod LeadersLog
+pub mod SyncedPrefixes

@@ -1,5 +1,5 @@
--- Fronts of a log: places and answers in them are those of the log.
-use Rattle.std.proofs.Common.{◌≡◌, ℕ, zero, suc, ◌<◌, ◌≤◌, Bool, true, false, cond, List, [], ◌∷◌, ◌++◌, length, take, drop, Option, Some, None, is_some, refl, sym, ap, subst, ◌∙◌, arith, inl, inr, ◌⊎◌, append_assoc, append-nil, length-append, take-append-drop}
+-- Prefixes of a log: places and answers in them are those of the log.
+use Rattle.std.proofs.Common.{◌≡◌, ℕ, zero, suc, ◌<◌, ◌≤◌, Bool, true, false, cond, List, [], ◌∷◌, ◌++◌, length, take, Option, Some, None, is_some, refl, sym, ap, subst, ◌∙◌, arith, inl, inr, ◌⊎◌}
 use Rattle.std.specs.Option.{option_map}
 use Rattle.std.proofs.lemmas.List.{map-append}
 use Rattle.std.proofs.lemmas.Option.{none-some, same_Some}
@@ -19,44 +19,18 @@ use Rattle.nz_machine.specs.Replicas.{commands}
 use Rattle.nz_machine.specs.World.{Has}
 use Rattle.nz_machine.specs.History.{cut_at, cut_after}
 use Rattle.nz_machine.specs.OneHistory.{IsAnswered}
-use Rattle.nz_lin.specs.Laws.{IsPrefix}
-
-pub prefix_self : (xs : List Entry) → IsPrefix xs xs
-prefix_self xs = record { rest = []; whole = sym (append-nil xs) }
-
-pub prefix_same : (xs ys : List Entry) → ys ≡ xs → IsPrefix xs ys
-prefix_same xs ys e = record { rest = []; whole = e ∙ sym (append-nil xs) }
-
-pub prefix_then : (xs ys zs : List Entry) → IsPrefix xs ys → IsPrefix ys zs → IsPrefix xs zs
-prefix_then xs ys zs p q = record { rest = p.rest ++ q.rest; whole = q.whole ∙ ap (λ (l : List Entry). l ++ q.rest) p.whole ∙ append_assoc xs p.rest q.rest }
-
-pub prefix_take : (n : ℕ) (xs : List Entry) → IsPrefix (take n xs) xs
-prefix_take n xs = record { rest = drop n xs; whole = sym (take-append-drop n xs) }
-
-pub prefix_length : (xs ys : List Entry) → IsPrefix xs ys → length xs ≤ length ys
-prefix_length xs ys p = let n = length-append xs p.rest in omega (arith, n, ap length p.whole)
-
--- of two fronts of one list the shorter is a front of the longer
-fronts : (xs ys r s : List Entry) → xs ++ r ≡ ys ++ s → length xs ≤ length ys → IsPrefix xs ys
-fronts [] ys r s e le = record { rest = ys; whole = refl }
-fronts (x ∷ xs) [] r s e le = absurd (omega (arith, le))
-fronts (x ∷ xs) (y ∷ ys) r s e le =
-    let tail : xs ++ r ≡ ys ++ s = cc in
-    let head : x ≡ y = cc in
-    let p = fronts xs ys r s tail (omega (arith, le)) in
-    record { rest = p.rest; whole = ap (λ (z : Entry). z ∷ ys) (sym head) ∙ ap (λ (l : List Entry). x ∷ l) p.whole }
-
-pub shorter_prefix : (xs ys log : List Entry) → IsPrefix xs log → IsPrefix ys log → length xs ≤ length ys → IsPrefix xs ys
-shorter_prefix xs ys log p q le = fronts xs ys p.rest q.rest (sym p.whole ∙ q.whole) le
+use Rattle.nz_base.specs.Prefixes.{IsPrefix}
+use Rattle.nz_base.proofs.Prefixes.{prefix_take}
 
 -- ---- places
 
--- a place behind the first is one more than that in the rest
+-- a place after the first is one more than that in the rest
 later_place : (o : Option ℕ) (i : ℕ) → option_map suc o ≡ Some i → (j : ℕ) × ((o ≡ Some j) × (suc j ≡ i))
 later_place None i e = absurd (none-some i e)
 later_place (Some j) i e = (j, (refl, same_Some (suc j) i e))
 
-pub place_cases : (b : Bool) (o : Option ℕ) (i : ℕ) → cond b (Some 0) (option_map suc o) ≡ Some i → ((b ≡ true) × (0 ≡ i)) ⊎ ((b ≡ false) × ((j : ℕ) × ((o ≡ Some j) × (suc j ≡ i))))
+pub place_cases : (b : Bool) (o : Option ℕ) (i : ℕ) → cond b (Some 0) (option_map suc o) ≡ Some i
+    → ((b ≡ true) × (0 ≡ i)) ⊎ ((b ≡ false) × ((j : ℕ) × ((o ≡ Some j) × (suc j ≡ i))))
 place_cases true o i e = inl (refl, same_Some 0 i e)
 place_cases false o i e = inr (refl, later_place o i e)
 
@@ -78,27 +52,27 @@ place_append id (x ∷ xs) ys i e = elim (place_cases (id_eq id (id_of x.key)) (
 pub place_more : (id : Id) (xs ys : List Entry) (i : ℕ) → IsPrefix xs ys → place_of xs id ≡ Some i → place_of ys id ≡ Some i
 place_more id xs ys i p e = ap (λ (l : List Entry). place_of l id) p.whole ∙ place_append id xs p.rest i e
 
--- a place is within, and so in the front up to it
+-- a place is within, and so in the prefix up to it
 pub record IsIn (id : Id) (xs : List Entry) (i : ℕ) : Type 0 where
   pub within : i < length xs
-  pub front : place_of (take (suc i) xs) id ≡ Some i
+  pub taken : place_of (take (suc i) xs) id ≡ Some i
 
 place_by : (id : Id) (x : Entry) (xs : List Entry) (i j : ℕ) → id_eq id (id_of x.key) ≡ false → suc j ≡ i → IsIn id xs j → IsIn id (x ∷ xs) i
 place_by id x xs i j away same h =
     let within = h.within in
-    subst (IsIn id (x ∷ xs)) same (record { within = omega (arith, within); front = place_there (id_eq id (id_of x.key)) (place_of (take (suc j) xs) id) (suc j) j away h.front refl })
+    subst (IsIn id (x ∷ xs)) same (record { within = omega (arith, within); taken = place_there (id_eq id (id_of x.key)) (place_of (take (suc j) xs) id) (suc j) j away h.taken refl })
 
 pub place_in : (id : Id) (xs : List Entry) (i : ℕ) → place_of xs id ≡ Some i → IsIn id xs i
 place_in id [] i e = absurd (none-some i e)
 place_in id (x ∷ xs) i e = elim (place_cases (id_eq id (id_of x.key)) (place_of xs id) i e) [
-  | inl h ↦ subst (IsIn id (x ∷ xs)) h.1 (record { within = omega arith; front = place_here (id_eq id (id_of x.key)) None 0 h.0 refl })
+  | inl h ↦ subst (IsIn id (x ∷ xs)) h.1 (record { within = omega arith; taken = place_here (id_eq id (id_of x.key)) None 0 h.0 refl })
   | inr h ↦ place_by id x xs i h.1.0 h.0 h.1.1.1 (place_in id xs h.1.0 h.1.1.0)
 ]
 
-pub length_front : (n : ℕ) (xs : List Entry) → n < length xs → length (take (suc n) xs) ≡ suc n
-length_front n [] lt = absurd (omega (arith, lt))
-length_front zero (x ∷ xs) lt = omega arith
-length_front (suc n) (x ∷ xs) lt = let ih = length_front n xs (omega (arith, lt)) in omega (arith, ih)
+pub length_taken : (n : ℕ) (xs : List Entry) → n < length xs → length (take (suc n) xs) ≡ suc n
+length_taken n [] lt = absurd (omega (arith, lt))
+length_taken zero (x ∷ xs) lt = omega arith
+length_taken (suc n) (x ∷ xs) lt = let ih = length_taken n xs (omega (arith, lt)) in omega (arith, ih)
 
 -- an entry of a new id is found at the end
 pub place_last : (e : Entry) (es : List Entry) → has_id (keys_of es) (id_of e.key) ≡ false → place_of (es ++ e ∷ []) (id_of e.key) ≡ Some (length es)
@@ -107,7 +81,7 @@ place_last e (x ∷ es) h =
     place_there (id_eq (id_of e.key) (id_of x.key)) (place_of (es ++ e ∷ []) (id_of e.key)) (suc (length es)) (length es) (neither_left (id_eq (id_of e.key) (id_of x.key)) (has_id (keys_of es) (id_of e.key)) h)
     (place_last e es (neither_right (id_eq (id_of e.key) (id_of x.key)) (has_id (keys_of es) (id_of e.key)) h)) refl
 
--- ---- ids that a front has not
+-- ---- ids that a prefix has not
 
 pub absent_by : (id : Id) (es : List Entry) → ((e : Entry) → Has es e → id_of e.key ≡ id → ⊥) → has_id (keys_of es) id ≡ false
 absent_by id [] f = refl
@@ -116,16 +90,16 @@ absent_by id (e ∷ es) f = elim (cases_bool (id_eq id (id_of e.key))) [
   | inr away ↦ rw away (absent_by id es (λ x h. f x (inr h)))
 ]
 
-absent_append : (id : Id) (front rest : List Entry) (i : ℕ) → has_id (keys_of front) id ≡ false → place_of (front ++ rest) id ≡ Some i → length front ≤ i
+absent_append : (id : Id) (xs rest : List Entry) (i : ℕ) → has_id (keys_of xs) id ≡ false → place_of (xs ++ rest) id ≡ Some i → length xs ≤ i
 absent_append id [] rest i h e = omega arith
-absent_append id (x ∷ front) rest i h e = elim (place_cases (id_eq id (id_of x.key)) (place_of (front ++ rest) id) i e) [
-  | inl k ↦ absurd (let away = neither_left (id_eq id (id_of x.key)) (has_id (keys_of front) id) h in let both : true ≡ false = sym k.0 ∙ away in cc)
-  | inr k ↦ let ih = absent_append id front rest k.1.0 (neither_right (id_eq id (id_of x.key)) (has_id (keys_of front) id) h) k.1.1.0 in let same = k.1.1.1 in omega (arith, ih, same)
+absent_append id (x ∷ xs) rest i h e = elim (place_cases (id_eq id (id_of x.key)) (place_of (xs ++ rest) id) i e) [
+  | inl k ↦ absurd (let away = neither_left (id_eq id (id_of x.key)) (has_id (keys_of xs) id) h in let both : true ≡ false = sym k.0 ∙ away in cc)
+  | inr k ↦ let ih = absent_append id xs rest k.1.0 (neither_right (id_eq id (id_of x.key)) (has_id (keys_of xs) id) h) k.1.1.0 in let same = k.1.1.1 in omega (arith, ih, same)
 ]
 
--- it stands behind the front
-pub absent_place : (id : Id) (front es : List Entry) (i : ℕ) → IsPrefix front es → has_id (keys_of front) id ≡ false → place_of es id ≡ Some i → length front ≤ i
-absent_place id front es i p h e = absent_append id front p.rest i h (ap (λ (l : List Entry). place_of l id) (sym p.whole) ∙ e)
+-- it is after the prefix
+pub absent_place : (id : Id) (xs es : List Entry) (i : ℕ) → IsPrefix xs es → has_id (keys_of xs) id ≡ false → place_of es id ≡ Some i → length xs ≤ i
+absent_place id xs es i p h e = absent_append id xs p.rest i h (ap (λ (l : List Entry). place_of l id) (sym p.whole) ∙ e)
 
 pub held : (id : Id) (es : List Entry) (e : Entry) → Has es e → id_of e.key ≡ id → has_id (keys_of es) id ≡ true
 held id [] e h s = absurd h
@@ -162,26 +136,23 @@ answered_more log more id a p h = record {
   answered = reply_more log more h.place (place_in id log h.place h.stands).within p ∙ h.answered;
 }
 
--- what is answered by a log is answered by its front up to there
-pub record Front (log : List Entry) (id : Id) (a : Answer) (front : List Entry) : Type 0 where
-  pub answered : IsAnswered front id a
-  pub ends : length front ≡ suc answered.place
-  pub prefix : IsPrefix front log
+-- P is the log up to and with the entry of the request, and answers it as the log does
+pub record EndsAnswered (log : List Entry) (id : Id) (a : Answer) (P : List Entry) : Type 0 where
+  pub answered : IsAnswered P id a
+  pub ends : length P ≡ suc answered.place
+  pub prefix : IsPrefix P log
 
-pub front_of : (log : List Entry) (id : Id) (a : Answer) → IsAnswered log id a → Front log id a (cut_after id log)
-front_of log id a h =
+pub cut_answered : (log : List Entry) (id : Id) (a : Answer) → IsAnswered log id a → EndsAnswered log id a (cut_after id log)
+cut_answered log id a h =
     let here = place_in id log h.place h.stands in
-    let long = length_front h.place log here.within in
-    let cut : Front log id a (take (suc h.place) log) = record {
+    let long = length_taken h.place log here.within in
+    let cut : EndsAnswered log id a (take (suc h.place) log) = record {
       answered = record {
         place = h.place;
-        stands = here.front;
+        stands = here.taken;
         answered = sym (reply_more (take (suc h.place) log) log h.place (omega (arith, long)) (prefix_take (suc h.place) log)) ∙ h.answered;
       };
       ends = long;
       prefix = prefix_take (suc h.place) log;
     } in
-    subst (λ (o : Option ℕ). Front log id a (cut_at o log)) (sym h.stands) cut
-
-pub front_more : (log more : List Entry) (id : Id) (a : Answer) (P : List Entry) → IsPrefix log more → Front log id a P → Front more id a P
-front_more log more id a P p h = record { answered = h.answered; ends = h.ends; prefix = prefix_then P log more h.prefix p }
+    subst (λ (o : Option ℕ). EndsAnswered log id a (cut_at o log)) (sym h.stands) cut

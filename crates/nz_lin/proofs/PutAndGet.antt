@@ -1,6 +1,8 @@
 -- A first put and get, played by the definitions themselves: one proxy, one client, three replicas. The
 -- numbers are those of the worked example: the first stamp is 12,500, the second 17,500.
-use Rattle.std.proofs.Common.{◌≡◌, ℕ, zero, suc, ◌≤◌, inl, inr, arith, List, [], ◌∷◌, Option, Some, None, refl}
+use Rattle.std.proofs.Common.{◌≡◌, ℕ, zero, suc, ◌≤◌, true, false, inl, inr, ◌⊎◌, arith, List, [], ◌∷◌, map, Option, Some, None, refl, sym, ap, subst, ◌∙◌}
+use Rattle.std.specs.Str.{bytes_eq}
+use Rattle.std.proofs.lemmas.Slice.Eq.{bytes_eq-Decides}
 use Rattle.std.specs.Prelude.{slice_get}
 use Rattle.std.specs.Option.{option_and_then}
 use Rattle.sha1.specs.Sha1.{first_words, schedule, rounds, compress, hash_after, digest_bytes, sha1}
@@ -8,7 +10,8 @@ use Rattle.nz_base.specs.declared.actor.Actor.{Actor}
 use Rattle.nz_base.specs.declared.actor.Actor.TheVariants.{Replica, Proxy, Client}
 use Rattle.nz_base.specs.declared.key.Id.{Id}
 use Rattle.nz_base.specs.declared.key.Entry.{Entry}
-use Rattle.nz_digest.specs.Digests.{key_bytes}
+use Rattle.nz_digest.specs.Digests.{EntryKey, key_bytes, digest}
+use Rattle.nz_log.specs.Places.{entry_key}
 use Rattle.nz_frame.specs.Grammar.{frame}
 use Rattle.nz_frame.specs.Refusal.{refusal}
 use Rattle.nz_math.specs.Count.{count_below}
@@ -37,6 +40,9 @@ use Rattle.nz_machine.specs.World.{state_after, sent_in, Has, IsGroup, IsMember,
 use Rattle.std.proofs.lemmas.Option.{none-some, same_Some}
 use Rattle.nz_machine.specs.Events.{Sent, Accepted, events}
 use Rattle.nz_machine.specs.History.{source, decision_moment, accepted_prefix, history}
+use Rattle.nz_machine.specs.OneHistory.{NoCollision}
+use Rattle.nz_lin.specs.Replied.{replied_lists}
+use Rattle.nz_lin.proofs.Replied.{no_collision_listed}
 
 -- put a 1
 put : List ℕ
@@ -148,7 +154,7 @@ all_ticked clock J w le =
     let first = played (play J (Replica 0) (Tick clock)) (Replica 1) (Tick clock) zeroth (omega arith) le in
     played (play (play J (Replica 0) (Tick clock)) (Replica 1) (Tick clock)) (Replica 2) (Tick clock) first (omega arith) le
 
--- each record may follow those behind it
+-- each record may follow the older ones
 is_run : World group ended
 unfolding group play arrive come ticked put get first second first_entry second_entry asked stamped told released decided once again_stamped again_told again_released again_decided ended state_after encode_of decode_of frame refusal number_bytes number_at run_at limited_at optional_at items_put items_at body_at heard wait_rule accept_rule clock_rule stamp_rule reply_rule request_rule release_rule releases decision count_below key_bytes first_words schedule rounds compress hash_after digest_bytes sha1 apply apply_bytes store_from replies_from key_at value_at choice_at command_of command_body_at command_there
 is_run =
@@ -190,3 +196,42 @@ record IsAsWorked : Type 0 where
 as_worked : IsAsWorked
 unfolding group play arrive come ticked put get first second first_entry second_entry asked stamped told released decided once again_stamped again_told again_released again_decided ended state_after encode_of decode_of frame refusal number_bytes number_at run_at limited_at optional_at items_put items_at body_at heard wait_rule accept_rule clock_rule stamp_rule reply_rule request_rule release_rule releases decision count_below key_bytes first_words schedule rounds compress hash_after digest_bytes sha1 apply apply_bytes store_from replies_from key_at value_at choice_at command_of command_body_at command_there
 as_worked = record { seen_once = refl; seen = refl; first_source = refl; first_decision = refl; first_prefix = refl; second_prefix = refl; history_once = refl; history_then = refl; answers = refl }
+
+-- ---- the premise on digests holds of it
+
+first_list : List EntryKey
+first_list = map entry_key (first_entry ∷ [])
+
+second_list : List EntryKey
+second_list = map entry_key (first_entry ∷ second_entry ∷ [])
+
+-- each replica replied over the first entry, and then over both
+lists : replied_lists group ended ≡ second_list ∷ second_list ∷ second_list ∷ first_list ∷ first_list ∷ first_list ∷ []
+unfolding first_list second_list group play arrive come ticked put get first second first_entry second_entry asked stamped told released decided once again_stamped again_told again_released again_decided ended state_after encode_of decode_of frame refusal number_bytes number_at run_at limited_at optional_at items_put items_at body_at heard wait_rule accept_rule clock_rule stamp_rule reply_rule request_rule release_rule releases decision count_below key_bytes first_words schedule rounds compress hash_after digest_bytes sha1 apply apply_bytes store_from replies_from key_at value_at choice_at command_of command_body_at command_there
+lists = refl
+
+one_or_other : (keys : List EntryKey) → Has (second_list ∷ second_list ∷ second_list ∷ first_list ∷ first_list ∷ first_list ∷ []) keys → (keys ≡ second_list) ⊎ (keys ≡ first_list)
+one_or_other keys (inl e) = inl (sym e)
+one_or_other keys (inr (inl e)) = inl (sym e)
+one_or_other keys (inr (inr (inl e))) = inl (sym e)
+one_or_other keys (inr (inr (inr (inl e)))) = inr (sym e)
+one_or_other keys (inr (inr (inr (inr (inl e))))) = inr (sym e)
+one_or_other keys (inr (inr (inr (inr (inr (inl e)))))) = inr (sym e)
+one_or_other keys (inr (inr (inr (inr (inr (inr h)))))) = absurd h
+
+-- the two have different digests
+differ : bytes_eq (digest first_list) (digest second_list) ≡ false
+unfolding first_list second_list first_entry second_entry put get key_bytes first_words schedule rounds compress hash_after digest_bytes sha1
+differ = refl
+
+not_same : digest first_list ≡ digest second_list → ⊥
+not_same e = let same : bytes_eq (digest first_list) (digest second_list) ≡ true = (bytes_eq-Decides (digest first_list) (digest second_list)).1 e in let both : true ≡ false = sym same ∙ differ in absurd cc
+
+none_collide : NoCollision group ended
+none_collide = no_collision_listed group ended is_run (λ keys others h k same.
+    let here = one_or_other keys (subst (λ l. Has l keys) lists h) in
+    let there = one_or_other others (subst (λ l. Has l others) lists k) in
+    elim here [
+      | inl a ↦ elim there [ inl b ↦ a ∙ sym b | inr b ↦ absurd (not_same (sym (ap digest b) ∙ sym same ∙ ap digest a)) ]
+      | inr a ↦ elim there [ inl b ↦ absurd (not_same (sym (ap digest a) ∙ same ∙ ap digest b)) | inr b ↦ a ∙ sym b ]
+    ])

@@ -14,7 +14,8 @@ use Rattle.nz_machine.proofs.FitRuns.{Fitted, FittedState, fits_keep}
 use Rattle.nz_machine.proofs.Sends.{shown}
 use Rattle.nz_lin.specs.Snapshots.{IsSnapshot}
 
-snapshot : (g : Group) (J : List Record) (p : Parcel) (r : Record) (older : List Record) → source p J ≡ Some (r ∷ older) → World g (r ∷ older) → SentBy g r older p → IsSnapshot g J p
+snapshot : (g : Group) (J : List Record) (p : Parcel) (r : Record) (older : List Record) → source p J ≡ Some (r ∷ older) → World g (r ∷ older)
+    → SentBy g r older p → IsSnapshot g J p
 snapshot g J p r older first w b =
     let outs = (event_step g r.actor (state_after g r.actor older) r.event).1 in
     let fit : FitsOut r.actor b.out = all_has (FitsOut r.actor) outs b.out (sends_have g (Fitted g) (FittedState g) (fits_keep g) older r w) b.among in

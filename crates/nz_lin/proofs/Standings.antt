@@ -33,7 +33,8 @@ lookup_inserted {V} (e ∷ es) id v =
     (λ t. ap (λ b. cond b (Some v) (lookup (id_eq id) es)) t)
     (λ f. ap (λ b. cond b (Some e.1) (lookup (id_eq id) (insert_entry id_eq es id v))) f ∙ lookup_inserted es id v)
 
-lookup_other : {V : Type 0} (es : List (Id × V)) (x id : Id) (v : V) → id_eq x id ≡ false → lookup (id_eq x) (insert_entry id_eq es id v) ≡ lookup (id_eq x) es
+lookup_other : {V : Type 0} (es : List (Id × V)) (x id : Id) (v : V) → id_eq x id ≡ false
+    → lookup (id_eq x) (insert_entry id_eq es id v) ≡ lookup (id_eq x) es
 lookup_other [] x id v h = ap (λ b. cond b (Some v) None) h
 lookup_other {V} (e ∷ es) x id v h =
     on_cond (λ (t : List (Id × V)). lookup (id_eq x) t ≡ lookup (id_eq x) (e ∷ es)) (id_eq id e.0) ((e.0, v) ∷ es) (e ∷ insert_entry id_eq es id v)
@@ -48,48 +49,60 @@ pub data Moves (f : ℕ) (heard : Option Reply) (before after : Option Standing)
   Stays : after ≡ before → Moves f heard before after
   Forgets : after ≡ None → Moves f heard before after
   Opens : before ≡ None → after ≡ Some (Open []) → Moves f heard before after
-  Notes : (replies : List Reply) (r : Reply) → before ≡ Some (Open replies) → heard ≡ Some r → after ≡ Some (Open (with_note replies r)) → Moves f heard before after
-  Decides : (replies : List Reply) (r : Reply) (chosen : Chosen) (a : Answer) → before ≡ Some (Open replies) → heard ≡ Some r → decision f (with_note replies r) ≡ Some chosen → answer_in chosen.reply ≡ Some a → after ≡ Some (Decided a chosen.path) → Moves f heard before after
+  Notes : (replies : List Reply) (r : Reply) → before ≡ Some (Open replies) → heard ≡ Some r → after ≡ Some (Open (with_note replies r))
+      → Moves f heard before after
+  Decides : (replies : List Reply) (r : Reply) (chosen : Chosen) (a : Answer) → before ≡ Some (Open replies) → heard ≡ Some r
+      → decision f (with_note replies r) ≡ Some chosen → answer_in chosen.reply ≡ Some a → after ≡ Some (Decided a chosen.path)
+      → Moves f heard before after
 
-moves_by : (f : ℕ) (s : ProxyData) (x id : Id) (v : Standing) (heard : Option Reply) (b : Bool) → id_eq x id ≡ b → (x ≡ id → Moves f heard (standing_of s x) (Some v)) → Moves f heard (standing_of s x) (standing_of (with_standing s id v) x)
+moves_by : (f : ℕ) (s : ProxyData) (x id : Id) (v : Standing) (heard : Option Reply) (b : Bool) → id_eq x id ≡ b
+    → (x ≡ id → Moves f heard (standing_of s x) (Some v)) → Moves f heard (standing_of s x) (standing_of (with_standing s id v) x)
 moves_by f s x id v heard true e h =
     let same = same_id x id e in
     let found : standing_of (with_standing s id v) x ≡ Some v = ap (λ (y : Id). lookup (id_eq y) (insert_entry id_eq s.standings id v)) same ∙ lookup_inserted s.standings id v in
     subst (Moves f heard (standing_of s x)) (sym found) (h same)
 moves_by f s x id v heard false e h = Stays (lookup_other s.standings x id v e)
 
-standing_moves : (f : ℕ) (s : ProxyData) (x id : Id) (v : Standing) (heard : Option Reply) → (x ≡ id → Moves f heard (standing_of s x) (Some v)) → Moves f heard (standing_of s x) (standing_of (with_standing s id v) x)
+standing_moves : (f : ℕ) (s : ProxyData) (x id : Id) (v : Standing) (heard : Option Reply) → (x ≡ id → Moves f heard (standing_of s x) (Some v))
+    → Moves f heard (standing_of s x) (standing_of (with_standing s id v) x)
 standing_moves f s x id v heard h = moves_by f s x id v heard (id_eq x id) refl h
 
-stamped_moves : (f : ℕ) (s : ProxyData) (x id : Id) (command : List ℕ) (heard : Option Reply) (o : Option Standing) → standing_of s id ≡ o → Moves f heard (standing_of s x) (standing_of (stamped f s id command o).0 x)
+stamped_moves : (f : ℕ) (s : ProxyData) (x id : Id) (command : List ℕ) (heard : Option Reply) (o : Option Standing) → standing_of s id ≡ o
+    → Moves f heard (standing_of s x) (standing_of (stamped f s id command o).0 x)
 stamped_moves f s x id command heard None e = standing_moves f s x id (Open []) heard (λ same. Opens (ap (standing_of s) same ∙ e) refl)
 stamped_moves f s x id command heard (Some (Open replies)) e = Stays refl
 stamped_moves f s x id command heard (Some (Decided a p)) e = Stays refl
 
-answered_moves : (f : ℕ) (s : ProxyData) (x id : Id) (replies : List Reply) (r : Reply) (chosen : Chosen) (heard : Option Reply) (o : Option Answer) → standing_of s id ≡ Some (Open replies) → (x ≡ id → heard ≡ Some r) → decision f (with_note replies r) ≡ Some chosen → answer_in chosen.reply ≡ o
+answered_moves : (f : ℕ) (s : ProxyData) (x id : Id) (replies : List Reply) (r : Reply) (chosen : Chosen) (heard : Option Reply) (o : Option Answer)
+    → standing_of s id ≡ Some (Open replies) → (x ≡ id → heard ≡ Some r) → decision f (with_note replies r) ≡ Some chosen → answer_in chosen.reply ≡ o
     → Moves f heard (standing_of s x) (standing_of (answered s id (with_note replies r) chosen.path o).0 x)
 answered_moves f s x id replies r chosen heard None e h d is = standing_moves f s x id (Open (with_note replies r)) heard (λ same. Notes replies r (ap (standing_of s) same ∙ e) (h same) refl)
 answered_moves f s x id replies r chosen heard (Some a) e h d is = standing_moves f s x id (Decided a chosen.path) heard (λ same. Decides replies r chosen a (ap (standing_of s) same ∙ e) (h same) d is refl)
 
-decided_moves : (f : ℕ) (s : ProxyData) (x id : Id) (replies : List Reply) (r : Reply) (heard : Option Reply) (o : Option Chosen) → standing_of s id ≡ Some (Open replies) → (x ≡ id → heard ≡ Some r) → decision f (with_note replies r) ≡ o
+decided_moves : (f : ℕ) (s : ProxyData) (x id : Id) (replies : List Reply) (r : Reply) (heard : Option Reply) (o : Option Chosen)
+    → standing_of s id ≡ Some (Open replies) → (x ≡ id → heard ≡ Some r) → decision f (with_note replies r) ≡ o
     → Moves f heard (standing_of s x) (standing_of (decided_as s id (with_note replies r) o).0 x)
 decided_moves f s x id replies r heard None e h d = standing_moves f s x id (Open (with_note replies r)) heard (λ same. Notes replies r (ap (standing_of s) same ∙ e) (h same) refl)
 decided_moves f s x id replies r heard (Some chosen) e h d = answered_moves f s x id replies r chosen heard (answer_in chosen.reply) e h d refl
 
-noted_moves : (f : ℕ) (s : ProxyData) (x id : Id) (r : Reply) (heard : Option Reply) (o : Option Standing) → standing_of s id ≡ o → (x ≡ id → heard ≡ Some r) → Moves f heard (standing_of s x) (standing_of (noted_in f s id r o).0 x)
+noted_moves : (f : ℕ) (s : ProxyData) (x id : Id) (r : Reply) (heard : Option Reply) (o : Option Standing) → standing_of s id ≡ o
+    → (x ≡ id → heard ≡ Some r) → Moves f heard (standing_of s x) (standing_of (noted_in f s id r o).0 x)
 noted_moves f s x id r heard None e h = Stays refl
 noted_moves f s x id r heard (Some (Open replies)) e h = decided_moves f s x id replies r heard (decision f (with_note replies r)) e h refl
 noted_moves f s x id r heard (Some (Decided a p)) e h = Stays refl
 
-reply_moves : (f : ℕ) (s : ProxyData) (x : Id) (replica : ℕ) (id : Id) (delay : ℕ) (r : Reply) (heard : Option Reply) → (x ≡ id → heard ≡ Some r) → Moves f heard (standing_of s x) (standing_of (reply_rule f s replica id delay r).0 x)
+reply_moves : (f : ℕ) (s : ProxyData) (x : Id) (replica : ℕ) (id : Id) (delay : ℕ) (r : Reply) (heard : Option Reply) → (x ≡ id → heard ≡ Some r)
+    → Moves f heard (standing_of s x) (standing_of (reply_rule f s replica id delay r).0 x)
 unfolding reply_rule
 reply_moves f s x replica id delay r heard h = noted_moves f (record s { samples = sampled s.samples replica delay }) x id r heard (standing_of s id) refl h
 
-stamp_moves : (f : ℕ) (s : ProxyData) (x : Id) (c : ℕ) (b : RequestBody) (heard : Option Reply) → Moves f heard (standing_of s x) (standing_of (stamp_rule f s c b).0 x)
+stamp_moves : (f : ℕ) (s : ProxyData) (x : Id) (c : ℕ) (b : RequestBody) (heard : Option Reply)
+    → Moves f heard (standing_of s x) (standing_of (stamp_rule f s c b).0 x)
 unfolding stamp_rule
 stamp_moves f s x c b heard = let id : Id = record { client = c; num = b.num } in stamped_moves f s x id b.command heard (standing_of s id) refl
 
-message_moves : (f : ℕ) (s : ProxyData) (x : Id) (from : Actor) (m : Message) → Moves f (reply_in x from m) (standing_of s x) (standing_of (proxy_message f s from m).0 x)
+message_moves : (f : ℕ) (s : ProxyData) (x : Id) (from : Actor) (m : Message)
+    → Moves f (reply_in x from m) (standing_of s x) (standing_of (proxy_message f s from m).0 x)
 message_moves f s x (Client c) (messages.Request b) = stamp_moves f s x c b None
 message_moves f s x (Replica r) (messages.FastReply b) =
     reply_moves f s x r b.id b.delay (of_fast r b) (reply_in x (Replica r) (messages.FastReply b)) (λ same. ap (λ t. cond t (Some (of_fast r b)) None) (ap (id_eq b.id) same ∙ id_eq_self b.id))
@@ -98,14 +111,17 @@ message_moves f s x (Replica r) (messages.SlowReply b) =
 message_moves f s x _ _ = Stays refl
 
 -- a proxy that is down hears nothing
-up_moves : (f : ℕ) (heard : Option Reply) (s : ProxyData) (x : Id) (t : ProxyData × List Out) → Moves f heard (standing_of s x) (standing_of t.0 x) → Moves f heard (standing_of s x) (standing_of (cond s.is_down (s, []) t).0 x)
+up_moves : (f : ℕ) (heard : Option Reply) (s : ProxyData) (x : Id) (t : ProxyData × List Out) → Moves f heard (standing_of s x) (standing_of t.0 x)
+    → Moves f heard (standing_of s x) (standing_of (cond s.is_down (s, []) t).0 x)
 up_moves f heard s x t h = on_cond (λ (u : ProxyData × List Out). Moves f heard (standing_of s x) (standing_of u.0 x)) s.is_down (s, []) t (λ _. Stays refl) (λ _. h)
 
-envelope_moves : (g : Group) (q : ℕ) (s : ProxyData) (x : Id) (o : Option Envelope) → Moves g.f (reply_read x o) (standing_of s x) (standing_of (envelope_step g (Proxy q) s o).0 x)
+envelope_moves : (g : Group) (q : ℕ) (s : ProxyData) (x : Id) (o : Option Envelope)
+    → Moves g.f (reply_read x o) (standing_of s x) (standing_of (envelope_step g (Proxy q) s o).0 x)
 envelope_moves g q s x None = Stays refl
 envelope_moves g q s x (Some e) = up_moves g.f (reply_in x e.from e.message) s x (proxy_message g.f s e.from e.message) (message_moves g.f s x e.from e.message)
 
-pub event_moves : (g : Group) (q : ℕ) (s : ProxyData) (x : Id) (e : Event) → Moves g.f (reply_read x (read_in g (Proxy q) e)) (standing_of s x) (standing_of (event_step g (Proxy q) s e).0 x)
+pub event_moves : (g : Group) (q : ℕ) (s : ProxyData) (x : Id) (e : Event)
+    → Moves g.f (reply_read x (read_in g (Proxy q) e)) (standing_of s x) (standing_of (event_step g (Proxy q) s e).0 x)
 unfolding clock_rule
 event_moves g q s x (Deliver p) = envelope_moves g q s x (received g.f (Proxy q) p)
 event_moves g q s x (Cut p kept) = Stays refl

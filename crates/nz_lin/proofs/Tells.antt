@@ -34,7 +34,7 @@ pub record Sends (g : Group) (r : Record) (J : List Record) (id : Id) : Type 0 w
   pub id_is : id ≡ id_at client (state_after g (Client client) (r ∷ J)).sent
 
 -- an answer was accepted
-pub record Accepts (g : Group) (r : Record) (J : List Record) (id : Id) (answer : Answer) (path : Path) : Type 0 where
+pub record AcceptsAnswer (g : Group) (r : Record) (J : List Record) (id : Id) (answer : Answer) (path : Path) : Type 0 where
   pub client : ℕ
   pub by : r.actor ≡ Client client
   pub envelope : Envelope
@@ -61,11 +61,13 @@ record IsAcceptance (c : ℕ) (before after : ClientData) (o : Option Envelope) 
   is : Accepted (id_at c before.sent) body.answer body.path ≡ x
   alone : accepted_by c before after o ≡ x ∷ []
 
-in_message : (c : ℕ) (before after : ClientData) (m : Message) (x : Told) → Has (accepted_in c before after m) x → (b : AnswerBody) × ((m ≡ Answered b) × ((nat_lt before.accepted after.accepted ≡ true) × (Accepted (id_at c before.sent) b.answer b.path ≡ x)))
+in_message : (c : ℕ) (before after : ClientData) (m : Message) (x : Told) → Has (accepted_in c before after m) x
+    → (b : AnswerBody) × ((m ≡ Answered b) × ((nat_lt before.accepted after.accepted ≡ true) × (Accepted (id_at c before.sent) b.answer b.path ≡ x)))
 in_message c before after (Answered b) x h = let t = one_told (nat_lt before.accepted after.accepted) (Accepted (id_at c before.sent) b.answer b.path) x h in (b, (refl, (t.0, t.1)))
 in_message c before after _ x h = absurd h
 
-acceptance : (c : ℕ) (before after : ClientData) (o : Option Envelope) (x : Told) → Has (accepted_by c before after o) x → IsAcceptance c before after o x
+acceptance : (c : ℕ) (before after : ClientData) (o : Option Envelope) (x : Told) → Has (accepted_by c before after o) x
+    → IsAcceptance c before after o x
 acceptance c before after (Some e) x h =
     let t = in_message c before after e.message x h in
     record {
@@ -79,14 +81,17 @@ acceptance c before after (Some e) x h =
     }
 acceptance c before after None x h = absurd h
 
-pub not_sent : (c : ℕ) (before after : ClientData) (o : Option Envelope) (id : Id) (command : List ℕ) → Has (accepted_by c before after o) (Sent id command) → ⊥
+pub not_sent : (c : ℕ) (before after : ClientData) (o : Option Envelope) (id : Id) (command : List ℕ)
+    → Has (accepted_by c before after o) (Sent id command) → ⊥
 not_sent c before after o id command h = let t = acceptance c before after o (Sent id command) h in let k = t.is in absurd cc
 
-pub not_accepted : (g : Group) (c : ℕ) (before after : ClientData) (id : Id) (answer : Answer) (path : Path) → Has (sent_by c (script_of g c) before after) (Accepted id answer path) → ⊥
+pub not_accepted : (g : Group) (c : ℕ) (before after : ClientData) (id : Id) (answer : Answer) (path : Path)
+    → Has (sent_by c (script_of g c) before after) (Accepted id answer path) → ⊥
 not_accepted g c before after id answer path h =
     let t = one_told (nat_lt before.sent after.sent) (Sent (id_at c after.sent) (command_at (script_of g c) after.sent)) (Accepted id answer path) h in let k = t.1 in absurd cc
 
-told_sent_by : (g : Group) (a : Actor) (r : Record) (J : List Record) (id : Id) (command : List ℕ) → r.actor ≡ a → Has (told_by g a r J) (Sent id command) → Sends g r J id
+told_sent_by : (g : Group) (a : Actor) (r : Record) (J : List Record) (id : Id) (command : List ℕ) → r.actor ≡ a
+    → Has (told_by g a r J) (Sent id command) → Sends g r J id
 told_sent_by g (Client c) r J id command by h =
     let before = state_after g (Client c) J in
     let after = state_after g (Client c) (r ∷ J) in
@@ -99,10 +104,12 @@ told_sent_by g (Client c) r J id command by h =
 told_sent_by g (Replica m) r J id command by h = absurd h
 told_sent_by g (Proxy p) r J id command by h = absurd h
 
-pub told_sent : (g : Group) (r : Record) (J : List Record) (id : Id) (command : List ℕ) → Has (told_by g r.actor r J) (Sent id command) → Sends g r J id
+pub told_sent : (g : Group) (r : Record) (J : List Record) (id : Id) (command : List ℕ) → Has (told_by g r.actor r J) (Sent id command)
+    → Sends g r J id
 told_sent g r J id command h = told_sent_by g r.actor r J id command refl h
 
-told_accepted_by : (g : Group) (a : Actor) (r : Record) (J : List Record) (id : Id) (answer : Answer) (path : Path) → r.actor ≡ a → Has (told_by g a r J) (Accepted id answer path) → Accepts g r J id answer path
+told_accepted_by : (g : Group) (a : Actor) (r : Record) (J : List Record) (id : Id) (answer : Answer) (path : Path) → r.actor ≡ a
+    → Has (told_by g a r J) (Accepted id answer path) → AcceptsAnswer g r J id answer path
 told_accepted_by g (Client c) r J id answer path by h =
     let before = state_after g (Client c) J in
     let after = state_after g (Client c) (r ∷ J) in
@@ -129,7 +136,8 @@ told_accepted_by g (Client c) r J id answer path by h =
 told_accepted_by g (Replica m) r J id answer path by h = absurd h
 told_accepted_by g (Proxy p) r J id answer path by h = absurd h
 
-pub told_accepted : (g : Group) (r : Record) (J : List Record) (id : Id) (answer : Answer) (path : Path) → Has (told_by g r.actor r J) (Accepted id answer path) → Accepts g r J id answer path
+pub told_accepted : (g : Group) (r : Record) (J : List Record) (id : Id) (answer : Answer) (path : Path)
+    → Has (told_by g r.actor r J) (Accepted id answer path) → AcceptsAnswer g r J id answer path
 told_accepted g r J id answer path h = told_accepted_by g r.actor r J id answer path refl h
 
 -- ---- a client's count of requests
@@ -157,7 +165,8 @@ count_rises g c r J =
 
 -- ---- runs
 
-pub sent_once : (g : Group) (J : List Record) (id : Id) (command : List ℕ) → Has (events g J) (Sent id command) → id.num ≤ (state_after g (Client id.client) J).sent
+pub sent_once : (g : Group) (J : List Record) (id : Id) (command : List ℕ) → Has (events g J) (Sent id command)
+    → id.num ≤ (state_after g (Client id.client) J).sent
 sent_once g [] id command h = absurd h
 sent_once g (r ∷ J) id command h = elim (has_split (events g J) (told_by g r.actor r J) (Sent id command) h) [
   | inl x ↦ let old = sent_once g J id command x in let k = count_rises g id.client r J in omega (arith, old, k.more)
@@ -165,7 +174,8 @@ sent_once g (r ∷ J) id command h = elim (has_split (events g J) (told_by g r.a
 ]
 
 -- a request that is sent for the first time was not sent before
-pub not_sent_before : (g : Group) (r : Record) (J : List Record) (id : Id) (command : List ℕ) → Sends g r J id → Has (events g J) (Sent id command) → ⊥
+pub not_sent_before : (g : Group) (r : Record) (J : List Record) (id : Id) (command : List ℕ) → Sends g r J id → Has (events g J) (Sent id command)
+    → ⊥
 not_sent_before g r J id command t h =
     let old : id.num ≤ (state_after g (Client id.client) J).sent = sent_once g J id command h in
     let at = subst (λ (i : Id). i.num ≤ (state_after g (Client i.client) J).sent) t.id_is old in
@@ -175,7 +185,8 @@ not_sent_before g r J id command t h =
 pub record HasSent (c : ℕ) (g : Group) (sent : ℕ) (E : List Told) : Type 0 where
   pub each : (n : ℕ) → 0 < n → n ≤ sent → Has E (Sent (id_at c n) (command_at (script_of g c) n))
 
-own_told : (g : Group) (c : ℕ) (r : Record) (J : List Record) → r.actor ≡ Client c → (state_after g (Client c) J).sent < (state_after g (Client c) (r ∷ J)).sent
+own_told : (g : Group) (c : ℕ) (r : Record) (J : List Record) → r.actor ≡ Client c
+    → (state_after g (Client c) J).sent < (state_after g (Client c) (r ∷ J)).sent
     → Has (told_by g r.actor r J) (Sent (id_at c (state_after g (Client c) (r ∷ J)).sent) (command_at (script_of g c) (state_after g (Client c) (r ∷ J)).sent))
 own_told g c r J by lt =
     let before = state_after g (Client c) J in
@@ -184,7 +195,8 @@ own_told g c r J by lt =
     let here : Has (sent_by c (script_of g c) before after) x = subst (λ b. Has (cond b (x ∷ []) []) x) (sym (lt-ltb before.sent after.sent lt)) (inl refl) in
     subst (λ (y : Actor). Has (told_by g y r J) x) (sym by) (has_right (accepted_by c before after (read_in g (Client c) r.event)) (sent_by c (script_of g c) before after) x here)
 
-last_sent : (g : Group) (c : ℕ) (r : Record) (J : List Record) (n : ℕ) → HasSent c g (state_after g (Client c) J).sent (events g J) → 0 < n → n ≤ (state_after g (Client c) (r ∷ J)).sent → (state_after g (Client c) J).sent < n
+last_sent : (g : Group) (c : ℕ) (r : Record) (J : List Record) (n : ℕ) → HasSent c g (state_after g (Client c) J).sent (events g J) → 0 < n
+    → n ≤ (state_after g (Client c) (r ∷ J)).sent → (state_after g (Client c) J).sent < n
     → Has (told_by g r.actor r J) (Sent (id_at c n) (command_at (script_of g c) n))
 last_sent g c r J n h some le lt = elim (may_act g (Client c) r J).cases [
   | inl a ↦

@@ -1,7 +1,6 @@
 -- What the laws over all runs say, beside the words of the machine.
-use Rattle.std.specs.Prelude.{◌≡◌, List, ◌++◌, Ok}
+use Rattle.std.specs.Prelude.{◌≡◌, Ok}
 use Rattle.nz_base.specs.Actor.{HasAddress}
-use Rattle.nz_base.specs.declared.key.Entry.{Entry}
 use Rattle.nz_msg.specs.declared.message.Message.{Message}
 use Rattle.nz_msg.specs.Messages.{Fits}
 use Rattle.nz_msg.specs.Envelope.{decode_of}
@@ -14,8 +13,3 @@ pub record IsDecoded (p : Parcel) : Type 0 where
   pub receiver : HasAddress p.to
   pub fit : Fits message
   pub decoded : decode_of p.frame ≡ Ok (record { from = p.from; to = p.to; message = message })
-
--- The second log begins with the first.
-pub record IsPrefix (xs ys : List Entry) : Type 0 where
-  pub rest : List Entry
-  pub whole : ys ≡ xs ++ rest

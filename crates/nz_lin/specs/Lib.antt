@@ -1,4 +1,4 @@
 pub mod Laws
 pub mod Once
 pub mod Snapshots
-pub mod LeadersLog
+pub mod Replied

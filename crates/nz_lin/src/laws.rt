@@ -1,8 +1,9 @@
-ghost use Rattle.std.specs.Prelude.{◌≡◌, ℕ, List, ◌++◌};
+ghost use Rattle.std.specs.Prelude.{◌≡◌, ℕ, List, ◌++◌, IsTrue};
 ghost use Rattle.nz_base.specs.Key.{id_of};
 ghost use Rattle.nz_base.specs.declared.actor.Actor.TheVariants.{Replica};
 ghost use Rattle.nz_base.specs.declared.key.Entry.{Entry};
 ghost use Rattle.nz_store.specs.Sequence.{replies};
+ghost use Rattle.nz_log.specs.Synced.{synced_part};
 ghost use Rattle.nz_machine.specs.declared.data.Status.TheVariants.{Normal};
 ghost use Rattle.nz_machine.specs.declared.event.Parcel.{Parcel};
 ghost use Rattle.nz_machine.specs.declared.event.Record.{Record};
@@ -12,10 +13,12 @@ ghost use Rattle.nz_machine.specs.Replicas.{commands};
 ghost use Rattle.nz_machine.specs.World.{state_after, sent_in, Has, World};
 ghost use Rattle.nz_machine.specs.Events.{Sent, events};
 ghost use Rattle.nz_machine.specs.History.{log_at, history};
-ghost use Rattle.nz_machine.specs.OneHistory.{Lin, NoCollision};
-ghost use Rattle.nz_lin.specs.Laws.{IsDecoded, IsPrefix};
-ghost use Rattle.nz_lin.specs.LeadersLog.{was_accepted, up_to_last};
+ghost use Rattle.nz_machine.specs.OneHistory.{Lin, NoCollision, ArePaired};
+ghost use Rattle.nz_lin.specs.Laws.{IsDecoded};
+ghost use Rattle.nz_machine.specs.Leading.{is_normal_in, leader_at, is_led, lead};
+ghost use Rattle.nz_base.specs.Prefixes.{IsPrefix};
 ghost use Rattle.nz_lin.specs.Once.{AreOnce};
+ghost use Rattle.nz_lin.specs.Replied.{replied_lists, AreApart};
 ghost use Rattle.nz_lin.specs.Snapshots.{IsSnapshot};
 
 /// Each parcel that was sent is decoded as one message, from its sender to its receiver.
@@ -39,30 +42,50 @@ pub fn messages_are_snapshots()
     ensures { (g : Group) (J : List Record) (parcel : Parcel) → World g J → Has (sent_in J) parcel → IsSnapshot g J parcel }
 {}
 
-/// The log of the leader, replica 0, only grows.
+/// The log that the leader of a view leads with only grows.
 pub fn leader_log_grows()
-    ensures { (g : Group) (newer J : List Record) → World g (newer ++ J) → IsPrefix (log_at g (Replica 0) J) (log_at g (Replica 0) (newer ++ J)) }
+    ensures { (g : Group) (newer J : List Record) (v : ℕ) → World g (newer ++ J) → IsPrefix (lead g v J) (lead g v (newer ++ J)) }
 {}
 
-/// The leader's answers are those of one store that executes its log.
+/// The answers of a leader are those of one store that executes its log.
 pub fn leader_executes_its_log()
-    ensures { (g : Group) (J : List Record) → World g J → (state_after g (Replica 0) J).results ≡ replies (commands (log_at g (Replica 0) J)) }
+    ensures { (g : Group) (J : List Record) (v : ℕ) → World g J → IsTrue (is_led g v J)
+        → (leader_at g v J).results ≡ replies (commands (lead g v J)) }
+{}
+
+/// The synced part of a replica's log is a prefix of the log that the leader of its view leads with.
+pub fn synced_parts_are_the_leaders()
+    ensures { (g : Group) (J : List Record) (r v : ℕ) → World g J → IsTrue (is_normal_in v (state_after g (Replica r) J))
+        → IsPrefix (synced_part (state_after g (Replica r) J).log) (lead g v J) }
 {}
 
 /// Each entry in the log of a replica was sent by its client before, with this command.
 pub fn own_commands()
-    ensures { (g : Group) (J : List Record) (r : ℕ) (e : Entry) → World g J → Has (log_at g (Replica r) J) e → Has (events g J) (Sent (id_of e.key) e.command) }
+    ensures { (g : Group) (J : List Record) (r : ℕ) (e : Entry) → World g J → Has (log_at g (Replica r) J) e
+        → Has (events g J) (Sent (id_of e.key) e.command) }
 {}
 
-/// In every run each request is sent once, and accepted at most once and after that.
+/// In every run each request is sent once, and accepted at most once and after that; and a client has at most
+/// one request open.
 pub fn once_each()
     ensures { (g : Group) (J : List Record) → World g J → AreOnce (events g J) }
 {}
 
-/// The history is the log of the leader, replica 0, up to and with the last entry to which a client
-/// accepted an answer.
-pub fn history_is_the_leaders_log()
-    ensures { (g : Group) (J : List Record) → World g J → history g J ≡ up_to_last (was_accepted (events g J)) (log_at g (Replica 0) J) }
+/// The premise on digests holds of a run where no two different ones of the lists that its parcels say have one
+/// digest.
+pub fn premise_on_digests()
+    ensures { (g : Group) (J : List Record) → World g J → AreApart (replied_lists g J) → NoCollision g J }
+{}
+
+/// Where of any two accepted prefixes one begins with the other, the answers that clients accepted are those
+/// of one store that executes the history.
+pub fn history_of_paired_prefixes()
+    ensures { (g : Group) (J : List Record) → World g J → ArePaired g J → Lin (events g J) (history g J) }
+{}
+
+/// In every run of any two accepted prefixes one begins with the other.
+pub fn accepted_prefixes_are_paired()
+    ensures { (g : Group) (J : List Record) → World g J → ArePaired g J }
 {}
 
 /// In every run, whatever was lost, repeated, reordered or cut, whatever clocks read and whichever proxies

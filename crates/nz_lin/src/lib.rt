@@ -1,4 +1,6 @@
-//! Laws over all runs of the machine in view zero, each the contract of a function with nothing to do.
+//! Laws over all runs of the machine, each the contract of a function with nothing to do.
 #![tactic(auto)]
 
 pub mod laws;
+
+pub use laws::one_history;

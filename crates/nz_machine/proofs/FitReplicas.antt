@@ -54,7 +54,8 @@ AllFit a os = AllByRecursion (FitsOut a) os
 
 pub numbers_are_below : (n most : ℕ) → n ≤ most → AllByRecursion (λ r. r < most) (numbers_below n)
 numbers_are_below zero most le = tt
-numbers_are_below (suc n) most le = all_append (λ r. r < most) (numbers_below n) (n ∷ []) (numbers_are_below n most (omega (arith, le))) (omega (arith, le), tt)
+numbers_are_below (suc n) most le =
+    all_append (λ r. r < most) (numbers_below n) (n ∷ []) (numbers_are_below n most (omega (arith, le))) (omega (arith, le), tt)
 
 -- ---- the keys of a log
 
@@ -66,27 +67,39 @@ pub led_log : (f me : ℕ) (s : ReplicaData) → HasFacts f me s → IsLedLog s
 led_log f me s h =
     let rising = subst AreRising (keys_append s.log.entries s.early) h.entries.arranged.rising in
     let own = subst HaveOwnIds (keys_append s.log.entries (s.early ++ s.late)) h.entries.arranged.own_ids in
-    record { order = record { rising = rising_front (keys_of s.log.entries) (keys_of s.early) rising; own_ids = own_front (keys_of s.log.entries) (keys_of (s.early ++ s.late)) own } }
+    let order : AreInOrder (keys_of s.log.entries) = record {
+      rising = rising_front (keys_of s.log.entries) (keys_of s.early) rising;
+      own_ids = own_front (keys_of s.log.entries) (keys_of (s.early ++ s.late)) own;
+    } in
+    record { order = order }
 
 order_take : (n : ℕ) (keys : List Key) → AreInOrder keys → AreInOrder (take n keys)
 order_take n keys h =
     let whole = sym (take-append-drop n keys) in
-    record { rising = rising_front (take n keys) (drop n keys) (subst AreRising whole h.rising); own_ids = own_front (take n keys) (drop n keys) (subst HaveOwnIds whole h.own_ids) }
+    record {
+      rising = rising_front (take n keys) (drop n keys) (subst AreRising whole h.rising);
+      own_ids = own_front (take n keys) (drop n keys) (subst HaveOwnIds whole h.own_ids);
+    }
 
 order_drop : (n : ℕ) (keys : List Key) → AreInOrder keys → AreInOrder (drop n keys)
 order_drop n keys h =
     let whole = sym (take-append-drop n keys) in
-    record { rising = rising_back (take n keys) (drop n keys) (subst AreRising whole h.rising); own_ids = own_rest (take n keys) (drop n keys) (subst HaveOwnIds whole h.own_ids) }
+    record {
+      rising = rising_back (take n keys) (drop n keys) (subst AreRising whole h.rising);
+      own_ids = own_rest (take n keys) (drop n keys) (subst HaveOwnIds whole h.own_ids);
+    }
 
 keys_each : (es : List Entry) → AllByRecursion FitsEntry es → AllByRecursion key.fits (keys_of es)
 keys_each es all = all_map key.fits (λ (e : Entry). e.key) es (all_imply FitsEntry (λ (e : Entry). key.fits e.key) (λ e h. h.key) es all)
 
 -- the keys of a log from a place on, as many as a log modification has
-pub told_keys_fit : (s : ReplicaData) (start : ℕ) → IsLedLog s → AllByRecursion FitsEntry s.log.entries → keys.fits (take most_keys (drop start (keys_of s.log.entries)))
+pub told_keys_fit : (s : ReplicaData) (start : ℕ) → IsLedLog s → AllByRecursion FitsEntry s.log.entries
+    → keys.fits (take most_keys (drop start (keys_of s.log.entries)))
 told_keys_fit s start led all =
     let ks = keys_of s.log.entries in
     let few : length (take most_keys (drop start ks)) ≤ 64 = let long = length-take most_keys (drop start ks) in omega (arith, long) in
-    keys_fit (take most_keys (drop start ks)) few (order_take most_keys (drop start ks) (order_drop start ks led.order)) (all_take key.fits most_keys (drop start ks) (all_drop key.fits start ks (keys_each s.log.entries all)))
+    let fit = all_take key.fits most_keys (drop start ks) (all_drop key.fits start ks (keys_each s.log.entries all)) in
+    keys_fit (take most_keys (drop start ks)) few (order_take most_keys (drop start ks) (order_drop start ks led.order)) fit
 
 -- ---- ids that are missing
 
@@ -117,7 +130,8 @@ missing_few s keys h =
     let same = length_ids keys in
     record {
       few = omega (arith, few, fewer, same);
-      all = all_filter id.fits _ (map id_of keys) (all_map id.fits id_of keys (all_imply key.fits (λ (k : Key). id.fits (id_of k)) (λ k fits. fits.1) keys h.all));
+      all =
+          all_filter id.fits _ (map id_of keys) (all_map id.fits id_of keys (all_imply key.fits (λ (k : Key). id.fits (id_of k)) (λ k fits. fits.1) keys h.all));
     }
   where
     length_ids : (keys : List Key) → length (map id_of keys) ≡ length keys
@@ -143,11 +157,16 @@ asked_few (x ∷ xs) es own =
     omega (arith, one, rest, both)
 
 -- the entries of a log that are asked for
-pub asked_fit : (s : ReplicaData) (xs : List Id) → IsLedLog s → AllByRecursion FitsEntry s.log.entries → length xs ≤ 64 → (entries 0 64).fits (filter (is_asked xs) s.log.entries)
+pub asked_fit : (s : ReplicaData) (xs : List Id) → IsLedLog s → AllByRecursion FitsEntry s.log.entries → length xs ≤ 64
+    → (entries 0 64).fits (filter (is_asked xs) s.log.entries)
 asked_fit s xs log all few =
     let test = is_asked xs in
     let asked = asked_few xs s.log.entries log.order.own_ids in
-    entries_fit (filter test s.log.entries) (omega (arith, asked, few)) (record { rising = rising_filter test s.log.entries log.order.rising; own_ids = own_filter test s.log.entries log.order.own_ids })
+    let order : AreInOrder (keys_of (filter test s.log.entries)) = record {
+      rising = rising_filter test s.log.entries log.order.rising;
+      own_ids = own_filter test s.log.entries log.order.own_ids;
+    } in
+    entries_fit (filter test s.log.entries) (omega (arith, asked, few)) order
     (all_filter FitsEntry test s.log.entries all)
 
 -- ---- one lemma a kind
@@ -161,11 +180,16 @@ own_address : (f me : ℕ) → IsReplica f me → me ≤ 8
 own_address f me c = let most = c.most in let member = c.member in omega (arith, most, member)
 
 other_address : (f me : ℕ) (to : Actor) → IsReplica f me → IsOther f me to → HasAddress to
-other_address f me to c other = let most = c.most in let member = other.member in let le : other.replica ≤ 8 = omega (arith, most, member) in subst HasAddress (sym other.is) le
+other_address f me to c other =
+    let most = c.most in let member = other.member in let le : other.replica ≤ 8 = omega (arith, most, member) in subst HasAddress (sym other.is) le
 
 held_fits : (es : List Entry) (i : Id) → AllByRecursion FitsEntry es → has_id (keys_of es) i ≡ true → id.fits i
 held_fits [] i all h = absurd cc
-held_fits (e ∷ es) i all h = elim (or_cases (id_eq i (id_of e.key)) (has_id (keys_of es) i) h) [ inl here ↦ subst id.fits (sym (same_id i (id_of e.key) here)) all.0.key.1 | inr rest ↦ held_fits es i all.1 rest ]
+held_fits (e ∷ es) i all h =
+    elim (or_cases (id_eq i (id_of e.key)) (has_id (keys_of es) i) h) [
+      | inl here ↦ subst id.fits (sym (same_id i (id_of e.key) here)) all.0.key.1
+      | inr rest ↦ held_fits es i all.1 rest
+    ]
 
 place_fits : (f me : ℕ) (s : ReplicaData) (i : Id) (place : ℕ) → HasFacts f me s → place_of s.log.entries i ≡ Some place → id.fits i
 place_fits f me s i place h at = held_fits s.log.entries i (each_fits f me s h).log (sym (place_held s.log.entries i) ∙ ap is_some at)
@@ -173,13 +197,15 @@ place_fits f me s i place h at = held_fits s.log.entries i (each_fits f me s h).
 origin_fits : (f me : ℕ) (s : ReplicaData) (i : Id) (origin : Origin) → HasFacts f me s → lookup (id_eq i) s.origin ≡ Some origin → IsKnown (i, origin)
 origin_fits f me s i origin h known = subst (λ o. IfSome o (λ v. IsKnown (i, v))) known (lookup_each IsKnown s.origin i h.tables.origins)
 
-fast_fits : (f me : ℕ) (before s : ReplicaData) (to : Actor) (b : FastReplyBody) → IsReplica f me → before.view ≤ last_view → HasFacts f me s → ShowsFast f me before s to b → FitsOut (Replica me) (to, messages.FastReply b)
+fast_fits : (f me : ℕ) (before s : ReplicaData) (to : Actor) (b : FastReplyBody) → IsReplica f me → before.view ≤ last_view → HasFacts f me s
+    → ShowsFast f me before s to b → FitsOut (Replica me) (to, messages.FastReply b)
 fast_fits f me before s to b c low h w =
     let from = origin_fits f me s b.id w.origin h w.known in
     let slow = from.delay in
     let delay = w.delay in
     let answers : IfSome (cond (leads f me before) (slice_get s.results w.place) None) answer.fits =
-    on_cond (λ o. IfSome o answer.fits) (leads f me before) (slice_get s.results w.place) None (λ _. all_get answer.fits s.results w.place h.executed.answers) (λ _. tt) in
+    on_cond (λ o. IfSome o answer.fits) (leads f me before) (slice_get s.results w.place) None (λ _. all_get answer.fits s.results w.place h.executed.answers)
+    (λ _. tt) in
     record {
       sender = own_address f me c;
       receiver = subst HasAddress (sym w.receiver) from.proxy;
@@ -201,24 +227,39 @@ fast_fits f me before s to b c low h w =
       );
     }
 
-slow_fits : (f me : ℕ) (s : ReplicaData) (to : Actor) (b : SlowReplyBody) → IsReplica f me → HasFacts f me s → ShowsSlow f me s to b → FitsOut (Replica me) (to, messages.SlowReply b)
+slow_fits : (f me : ℕ) (s : ReplicaData) (to : Actor) (b : SlowReplyBody) → IsReplica f me → HasFacts f me s → ShowsSlow f me s to b
+    → FitsOut (Replica me) (to, messages.SlowReply b)
 slow_fits f me s to b c h w =
     let from = origin_fits f me s b.id w.origin h w.known in
     let slow = from.delay in
-    let fit : Fits (messages.SlowReply (record { view = s.view; id = b.id; delay = w.origin.delay })) = (view_fits s.view h.bounds.view, (place_fits f me s b.id w.place h w.stands, omega (arith, slow))) in
-    record { sender = own_address f me c; receiver = subst HasAddress (sym w.receiver) from.proxy; message = subst (λ (x : SlowReplyBody). Fits (messages.SlowReply x)) (sym w.read) fit }
+    let fit : Fits (messages.SlowReply (record { view = s.view; id = b.id; delay = w.origin.delay })) =
+    (view_fits s.view h.bounds.view, (place_fits f me s b.id w.place h w.stands, omega (arith, slow))) in
+    record {
+      sender = own_address f me c;
+      receiver = subst HasAddress (sym w.receiver) from.proxy;
+      message = subst (λ (x : SlowReplyBody). Fits (messages.SlowReply x)) (sym w.read) fit;
+    }
 
-log_mod_fits : (f me : ℕ) (s : ReplicaData) (to : Actor) (b : LogModBody) → IsReplica f me → HasFacts f me s → ShowsLogMod f me s to b → FitsOut (Replica me) (to, messages.LogMod b)
+log_mod_fits : (f me : ℕ) (s : ReplicaData) (to : Actor) (b : LogModBody) → IsReplica f me → HasFacts f me s → ShowsLogMod f me s to b
+    → FitsOut (Replica me) (to, messages.LogMod b)
 log_mod_fits f me s to b c h w =
     let start = slice_index s.ack w.receiver.replica in
     let acked : start ≤ most_entries = all_index (λ n. n ≤ most_entries) s.ack w.receiver.replica 0 h.tables.few (omega arith) in
     let commit = h.commit in
     let within = h.entries.within in
     let few = h.entries.few in
-    let fit : Fits (messages.LogMod (told_from s start)) = (view_fits s.view h.bounds.view, (vector_fits f s.vector c.least c.most h.tables.vector, (omega (arith, commit, within, few), (omega (arith, acked), told_keys_fit s start (led_log f me s h) (each_fits f me s h).log)))) in
-    record { sender = own_address f me c; receiver = other_address f me to c w.receiver; message = subst (λ (x : LogModBody). Fits (messages.LogMod x)) (sym w.read) fit }
+    let keys_told = told_keys_fit s start (led_log f me s h) (each_fits f me s h).log in
+    let vector_told = vector_fits f s.vector c.least c.most h.tables.vector in
+    let fit : Fits (messages.LogMod (told_from s start)) =
+    (view_fits s.view h.bounds.view, (vector_told, (omega (arith, commit, within, few), (omega (arith, acked), keys_told)))) in
+    record {
+      sender = own_address f me c;
+      receiver = other_address f me to c w.receiver;
+      message = subst (λ (x : LogModBody). Fits (messages.LogMod x)) (sym w.read) fit;
+    }
 
-fetch_fits : (f me : ℕ) (heard : Heard) (s : ReplicaData) (to : Actor) (b : FetchBody) → IsReplica f me → HeardFits heard → HasFacts f me s → ShowsFetch f me heard s to b → FitsOut (Replica me) (to, messages.Fetch b)
+fetch_fits : (f me : ℕ) (heard : Heard) (s : ReplicaData) (to : Actor) (b : FetchBody) → IsReplica f me → HeardFits heard → HasFacts f me s
+    → ShowsFetch f me heard s to b → FitsOut (Replica me) (to, messages.Fetch b)
 fetch_fits f me heard s to b c k h w =
     let told : keys.fits w.told.keys = (subst HeardFits w.hears k).1.1.1.1.1 in
     let left = rest_left w.keys w.told.keys 64 w.rest (record { few = few_keys w.told.keys told; all = keys_of_fit w.told.keys told }) in
@@ -229,24 +270,33 @@ fetch_fits f me heard s to b c k h w =
       message = (subst view.fits (sym w.view) (view_fits s.view h.bounds.view), ids_fit b.ids w.some asked.few asked.all);
     }
 
-fetch_reply_fits : (f me : ℕ) (heard : Heard) (s : ReplicaData) (to : Actor) (b : FetchReplyBody) → IsReplica f me → HeardFits heard → HasFacts f me s → ShowsFetchReply f me heard s to b → FitsOut (Replica me) (to, messages.FetchReply b)
+fetch_reply_fits : (f me : ℕ) (heard : Heard) (s : ReplicaData) (to : Actor) (b : FetchReplyBody) → IsReplica f me → HeardFits heard → HasFacts f me s
+    → ShowsFetchReply f me heard s to b → FitsOut (Replica me) (to, messages.FetchReply b)
 fetch_reply_fits f me heard s to b c k h w =
     let ask = subst HeardFits w.hears k in
+    let asked = asked_fit s w.ask.ids (led_log f me s h) (each_fits f me s h).log (few_ids w.ask.ids ask.1.1) in
     record {
       sender = own_address f me c;
       receiver = subst HasAddress (sym w.receiver) ask.0;
-      message = (subst view.fits (sym w.view) (view_fits s.view h.bounds.view), subst (entries 0 64).fits (sym w.read) (asked_fit s w.ask.ids (led_log f me s h) (each_fits f me s h).log (few_ids w.ask.ids ask.1.1)));
+      message =
+          (subst view.fits (sym w.view) (view_fits s.view h.bounds.view), subst (entries 0 64).fits (sym w.read) asked);
     }
 
-report_fits : (f me : ℕ) (s : ReplicaData) (to : Actor) (b : SyncReportBody) → IsReplica f me → HasFacts f me s → ShowsReport f me s to b → FitsOut (Replica me) (to, messages.SyncReport b)
+report_fits : (f me : ℕ) (s : ReplicaData) (to : Actor) (b : SyncReportBody) → IsReplica f me → HasFacts f me s → ShowsReport f me s to b
+    → FitsOut (Replica me) (to, messages.SyncReport b)
 report_fits f me s to b c h w =
     let within = h.entries.within in
     let few = h.entries.few in
     let fit : Fits (messages.SyncReport (record { view = s.view; synced = s.log.synced })) = (view_fits s.view h.bounds.view, omega (arith, within, few)) in
-    record { sender = own_address f me c; receiver = other_address f me to c w.receiver; message = subst (λ (x : SyncReportBody). Fits (messages.SyncReport x)) (sym w.read) fit }
+    record {
+      sender = own_address f me c;
+      receiver = other_address f me to c w.receiver;
+      message = subst (λ (x : SyncReportBody). Fits (messages.SyncReport x)) (sym w.read) fit;
+    }
 
 -- what a replica shows fits
-pub shows_fit : (f me : ℕ) (heard : Heard) (before s : ReplicaData) (to : Actor) (m : Message) → IsReplica f me → HeardFits heard → HasFacts f me before → HasFacts f me s → ReplicaShows f me heard before s to m → FitsOut (Replica me) (to, m)
+pub shows_fit : (f me : ℕ) (heard : Heard) (before s : ReplicaData) (to : Actor) (m : Message) → IsReplica f me → HeardFits heard → HasFacts f me before
+    → HasFacts f me s → ReplicaShows f me heard before s to m → FitsOut (Replica me) (to, m)
 shows_fit f me heard before s to (messages.FastReply b) c k was h w = fast_fits f me before s to b c was.bounds.view h w
 shows_fit f me heard before s to (messages.SlowReply b) c k was h w = slow_fits f me s to b c h w
 shows_fit f me heard before s to (messages.LogMod b) c k was h w = log_mod_fits f me s to b c h w

@@ -118,21 +118,25 @@ synced_stands s e h =
       synced = omega (arith, within, few);
     }
 
-since_shows : (f me leader : ℕ) (heard : Heard) (before s : ReplicaData) → Follows f me leader s → (es : List Entry) → ((e : Entry) → Has es e → Has (synced_part s.log) e)
+since_shows : (f me leader : ℕ) (heard : Heard) (before s : ReplicaData) → Follows f me leader s → (es : List Entry)
+    → ((e : Entry) → Has es e → Has (synced_part s.log) e)
     → AllShow f me heard before s (flat_map (λ (e : Entry). slow_replies s (id_of e.key) (lookup (id_eq (id_of e.key)) s.origin)) es)
 since_shows f me leader heard before s w [] all = tt
 since_shows f me leader heard before s w (e ∷ es) all =
     let at = synced_stands s e (all e (inl refl)) in
     let origin = lookup (id_eq (id_of e.key)) s.origin in
-    all_append (λ (o : Out). ReplicaShows f me heard before s o.0 o.1) (slow_replies s (id_of e.key) origin) (flat_map (λ (x : Entry). slow_replies s (id_of x.key) (lookup (id_eq (id_of x.key)) s.origin)) es)
-    (slow_shows f me heard before s (id_of e.key) at.place origin w.normal w.follows at.stands at.synced refl) (since_shows f me leader heard before s w es (λ x h. all x (inr h)))
+    all_append (λ (o : Out). ReplicaShows f me heard before s o.0 o.1) (slow_replies s (id_of e.key) origin)
+    (flat_map (λ (x : Entry). slow_replies s (id_of x.key) (lookup (id_eq (id_of x.key)) s.origin)) es)
+    (slow_shows f me heard before s (id_of e.key) at.place origin w.normal w.follows at.stands at.synced refl)
+    (since_shows f me leader heard before s w es (λ x h. all x (inr h)))
 
 -- ---- fetches and reports
 
 leader_other : (f me leader : ℕ) (s : ReplicaData) → Follows f me leader s → IsOther f me (Replica leader)
 leader_other f me leader s w = subst (λ n. IsOther f me (Replica n)) (sym w.is) (other_is f me (leader_of f s.view) (leader_below f s.view) w.follows)
 
-fetch_by : (f me leader : ℕ) (before s : ReplicaData) (b : LogModBody) (keys : List Key) (ids : List Id) → missing_ids s keys ≡ ids → Follows f me leader s → IsRest keys b.keys
+fetch_by : (f me leader : ℕ) (before s : ReplicaData) (b : LogModBody) (keys : List Key) (ids : List Id) → missing_ids s keys ≡ ids → Follows f me leader s
+    → IsRest keys b.keys
     → AllShow f me (Some (Replica leader, messages.LogMod b)) before s (fetch_from leader s ids)
 fetch_by f me leader before s b keys [] is w rest = tt
 fetch_by f me leader before s b keys (id ∷ ids) is w rest = (
@@ -153,18 +157,22 @@ fetch_by f me leader before s b keys (id ∷ ids) is w rest = (
 )
 
 report_shows : (f me leader : ℕ) (heard : Heard) (before s : ReplicaData) → Follows f me leader s → AllShow f me heard before s (sync_report_to leader s ∷ [])
-report_shows f me leader heard before s w = (record { normal = w.normal; follows = w.follows; receiver = leader_other f me leader s w; to_leader = ap Replica w.is; read = refl }, tt)
+report_shows f me leader heard before s w =
+    (record { normal = w.normal; follows = w.follows; receiver = leader_other f me leader s w; to_leader = ap Replica w.is; read = refl }, tt)
 
 after_shows : (f me leader : ℕ) (before s : ReplicaData) (b : LogModBody) (count : ℕ) (keys : List Key) → Follows f me leader s → IsRest keys b.keys
-    → AllShow f me (Some (Replica leader, messages.LogMod b)) before s (replies_since s count ++ (fetch_from leader s (missing_ids s keys) ++ sync_report_to leader s ∷ []))
+    → AllShow f me (Some (Replica leader, messages.LogMod b)) before s
+    (replies_since s count ++ (fetch_from leader s (missing_ids s keys) ++ sync_report_to leader s ∷ []))
 after_shows f me leader before s b count keys w rest =
     let heard : Heard = Some (Replica leader, messages.LogMod b) in
     let Shows = λ (o : Out). ReplicaShows f me heard before s o.0 o.1 in
     all_append Shows (replies_since s count) (fetch_from leader s (missing_ids s keys) ++ sync_report_to leader s ∷ [])
     (since_shows f me leader heard before s w (drop count (synced_part s.log)) (has_dropped count (synced_part s.log)))
-    (all_append Shows (fetch_from leader s (missing_ids s keys)) (sync_report_to leader s ∷ []) (fetch_by f me leader before s b keys (missing_ids s keys) refl w rest) (report_shows f me leader heard before s w))
+    (all_append Shows (fetch_from leader s (missing_ids s keys)) (sync_report_to leader s ∷ [])
+    (fetch_by f me leader before s b keys (missing_ids s keys) refl w rest) (report_shows f me leader heard before s w))
 
-taken_shows : (f me leader : ℕ) (before s : ReplicaData) (b : LogModBody) → Follows f me leader s → Shown f me (Some (Replica leader, messages.LogMod b)) before (taken_from leader b s)
+taken_shows : (f me leader : ℕ) (before s : ReplicaData) (b : LogModBody) → Follows f me leader s
+    → Shown f me (Some (Replica leader, messages.LogMod b)) before (taken_from leader b s)
 taken_shows f me leader before s b w =
     let heard : Heard = Some (Replica leader, messages.LogMod b) in
     let keys = drop (s.log.synced - b.start) b.keys in
@@ -172,36 +180,46 @@ taken_shows f me leader before s b w =
     let after = committed_to (overtaken t.0) b.commit in
     on_cond (Shown f me heard before) (nat_lt s.log.synced b.start) (s, sync_report_to leader s ∷ []) (taken_in s leader b.commit t)
     (λ _. record { shows = report_shows f me leader heard before s w })
-    (λ _. record { shows = after_shows f me leader before after b s.log.synced t.1 (still_follows f me leader s after (sync_seat s keys) w) (rest_then t.1 keys b.keys (sync_rest s keys) (rest_drop (s.log.synced - b.start) b.keys)) })
+    (λ _.
+    let follows = still_follows f me leader s after (sync_seat s keys) w in
+    let rest = rest_then t.1 keys b.keys (sync_rest s keys) (rest_drop (s.log.synced - b.start) b.keys) in
+    record { shows = after_shows f me leader before after b s.log.synced t.1 follows rest })
 
-pub log_mod_shows : (f me : ℕ) (s : ReplicaData) (sender : ℕ) (b : LogModBody) → Shown f me (Some (Replica sender, messages.LogMod b)) s (log_mod_rule f me s sender b)
+pub log_mod_shows : (f me : ℕ) (s : ReplicaData) (sender : ℕ) (b : LogModBody)
+    → Shown f me (Some (Replica sender, messages.LogMod b)) s (log_mod_rule f me s sender b)
 unfolding log_mod_rule
 log_mod_shows f me s sender b =
     let heard : Heard = Some (Replica sender, messages.LogMod b) in
     let own = with_vector me s b.vector in
     let stay = silent f me heard s s in
-    let take : is_normal s.status ≡ true → leads f me s ≡ false → b.view ≡ s.view → sender ≡ leader_of f b.view → Shown f me heard s (taken_from sender b own)
-    = λ normal follows view is. taken_shows f me sender s own b (record { normal = normal; follows = follows; is = is ∙ ap (leader_of f) view }) in
+    let take : is_normal s.status ≡ true → leads f me s ≡ false → b.view ≡ s.view → sender ≡ leader_of f b.view → Shown f me heard s (taken_from sender b own) =
+    λ normal follows view is. taken_shows f me sender s own b (record { normal = normal; follows = follows; is = is ∙ ap (leader_of f) view }) in
     grind (arith, nat_tests, stay, take)
 
 -- ---- what the leader answers, and what is not answered
 
-pub fetch_shows : (f me : ℕ) (s : ReplicaData) (sender : ℕ) (b : FetchBody) → Shown f me (Some (Replica sender, messages.Fetch b)) s (fetch_rule f me s sender b)
+pub fetch_shows : (f me : ℕ) (s : ReplicaData) (sender : ℕ) (b : FetchBody)
+    → Shown f me (Some (Replica sender, messages.Fetch b)) s (fetch_rule f me s sender b)
 unfolding fetch_rule
 fetch_shows f me s sender b =
     let heard : Heard = Some (Replica sender, messages.Fetch b) in
     let stay = silent f me heard s s in
-    let reply : is_normal s.status ≡ true → leads f me s ≡ true → Shown f me heard s (s, (Replica sender, messages.FetchReply (record { view = s.view; entries = filter (is_asked b.ids) s.log.entries })) ∷ [])
-    = λ normal lead. record { shows = (record { normal = normal; led = lead; view = refl; asker = sender; ask = b; hears = refl; receiver = refl; read = refl }, tt) } in
+    let body : FetchReplyBody = record { view = s.view; entries = filter (is_asked b.ids) s.log.entries } in
+    let reply : is_normal s.status ≡ true → leads f me s ≡ true → Shown f me heard s (s, (Replica sender, messages.FetchReply body) ∷ []) =
+    λ normal lead.
+    record { shows = (record { normal = normal; led = lead; view = refl; asker = sender; ask = b; hears = refl; receiver = refl; read = refl }, tt) } in
     grind (arith, stay, reply)
 
-pub fetch_reply_silent : (f me : ℕ) (heard : Heard) (s : ReplicaData) (sender : ℕ) (b : FetchReplyBody) → Shown f me heard s (fetch_reply_rule f me s sender b)
+pub fetch_reply_silent : (f me : ℕ) (heard : Heard) (s : ReplicaData) (sender : ℕ) (b : FetchReplyBody)
+    → Shown f me heard s (fetch_reply_rule f me s sender b)
 unfolding fetch_reply_rule
-fetch_reply_silent f me heard s sender b = let stay = silent f me heard s s in let keep = silent f me heard s (kept_all s b.entries) in grind (arith, stay, keep)
+fetch_reply_silent f me heard s sender b =
+    let stay = silent f me heard s s in let keep = silent f me heard s (kept_all s b.entries) in grind (arith, stay, keep)
 
 pub report_silent : (f me : ℕ) (heard : Heard) (s : ReplicaData) (sender : ℕ) (b : SyncReportBody) → Shown f me heard s (sync_report_rule f me s sender b)
 unfolding sync_report_rule
-report_silent f me heard s sender b = let stay = silent f me heard s s in let note = silent f me heard s (with_commit f me (with_ack s sender b.synced)) in grind (arith, stay, note)
+report_silent f me heard s sender b =
+    let stay = silent f me heard s s in let note = silent f me heard s (with_commit f me (with_ack s sender b.synced)) in grind (arith, stay, note)
 
 -- what a fetch asks for is not held
 pub kept_missing : (s : ReplicaData) (ids : List Id) → AllByRecursion (λ (id : Id). is_held s id ≡ false) (filter (λ id. not (is_held s id)) ids)

@@ -64,9 +64,11 @@ origin_in : (g : Group) (s : ReplicaData) (i : Id) (origin : Origin) → KnowsPr
 origin_in g s i origin h known = subst (λ (o : Option Origin). IfSome o (λ v. v.proxy < g.proxies)) known (lookup_each (IsProxyOf g) s.origin i h.origins)
 
 client_in : (g : Group) (s : ProxyData) (i : Id) (v : Standing) → KnowsClients g s → standing_of s i ≡ Some v → i.client < length g.scripts
-client_in g s i v h known = subst (λ (o : Option Standing). IfSome o (λ _. i.client < length g.scripts)) known (lookup_each (IsClientOf g) s.standings i h.standings)
+client_in g s i v h known =
+    subst (λ (o : Option Standing). IfSome o (λ _. i.client < length g.scripts)) known (lookup_each (IsClientOf g) s.standings i h.standings)
 
-replica_for : (g : Group) (me : ℕ) (heard : Heard) (before s : ReplicaData) (to : Actor) (m : Message) → HearsMember g heard → KnowsProxies g s → ReplicaShows g.f me heard before s to m → IsMember g to
+replica_for : (g : Group) (me : ℕ) (heard : Heard) (before s : ReplicaData) (to : Actor) (m : Message) → HearsMember g heard → KnowsProxies g s
+    → ReplicaShows g.f me heard before s to m → IsMember g to
 replica_for g me heard before s to (messages.FastReply b) k h w = subst (IsMember g) (sym w.receiver) (origin_in g s b.id w.origin h w.known)
 replica_for g me heard before s to (messages.SlowReply b) k h w = subst (IsMember g) (sym w.receiver) (origin_in g s b.id w.origin h w.known)
 replica_for g me heard before s to (messages.LogMod b) k h w = subst (IsMember g) (sym w.receiver.is) w.receiver.member
@@ -84,18 +86,22 @@ client_for : (g : Group) (script : List _) (s : _) (to : Actor) (m : Message) �
 client_for g script s to (messages.Request b) w = subst (IsMember g) (sym w.receiver) w.member
 client_for g script s to _ w = absurd w
 
-shown_for : (g : Group) (a : Actor) (heard : Heard) (before s : State a) (to : Actor) (m : Message) → HearsMember g heard → Knows g a s → Shows g a heard before s to m → IsMember g to
+shown_for : (g : Group) (a : Actor) (heard : Heard) (before s : State a) (to : Actor) (m : Message) → HearsMember g heard → Knows g a s
+    → Shows g a heard before s to m → IsMember g to
 shown_for g (Replica r) heard before s to m k h w = replica_for g r heard before s to m k h w
 shown_for g (Proxy p) heard before s to m k h w = proxy_for g heard s to m h w
 shown_for g (Client c) heard before s to m k h w = client_for g _ s to m w
 
 -- ---- replicas: only a request notes where it came from
 
-origins_kept : (g : Group) (me : ℕ) (heard : Heard) → HearsMember g heard → (s t : ReplicaData) (p q : Phase) → Move g.f me heard s p q t → KnowsProxies g s → KnowsProxies g t
-origins_kept g me heard k s _ _ _ (NoteOrigin proxy b is) h = record { origins = insert_each (IsProxyOf g) s.origin b.id _ h.origins (subst (HearsMember g) is k) }
+origins_kept : (g : Group) (me : ℕ) (heard : Heard) → HearsMember g heard → (s t : ReplicaData) (p q : Phase) → Move g.f me heard s p q t → KnowsProxies g s
+    → KnowsProxies g t
+origins_kept g me heard k s _ _ _ (NoteOrigin proxy b is) h =
+    record { origins = insert_each (IsProxyOf g) s.origin b.id _ h.origins (subst (HearsMember g) is k) }
 origins_kept g me heard k s _ _ _ _ h = record { origins = h.origins }
 
-replica_takes : (g : Group) (me : ℕ) (s : ReplicaData) (from : Actor) (m : Message) → IsMember g from → KnowsProxies g s → KnowsProxies g (replica_message g.f me s from m).0
+replica_takes : (g : Group) (me : ℕ) (s : ReplicaData) (from : Actor) (m : Message) → IsMember g from → KnowsProxies g s
+    → KnowsProxies g (replica_message g.f me s from m).0
 replica_takes g me s from m member h = message_moves (λ p t. KnowsProxies g t) g.f me s from m (record { kept = origins_kept g me _ member }) h
 
 replica_ticks : (g : Group) (me : ℕ) (s : ReplicaData) (clock : ℕ) → KnowsProxies g s → KnowsProxies g (tick_rule g.f me s clock).0
@@ -106,31 +112,39 @@ replica_ticks g me s clock h = release_moves (λ p t. KnowsProxies g t) g.f me N
 standing_known : (g : Group) (s : ProxyData) (i : Id) (v : Standing) → i.client < length g.scripts → KnowsClients g s → KnowsClients g (with_standing s i v)
 standing_known g s i v below h = record { standings = insert_each (IsClientOf g) s.standings i v h.standings below }
 
-stamped_knows : (g : Group) (s : ProxyData) (i : Id) (bytes : List ℕ) (o : Option Standing) → i.client < length g.scripts → KnowsClients g s → KnowsClients g (stamped g.f s i bytes o).0
+stamped_knows : (g : Group) (s : ProxyData) (i : Id) (bytes : List ℕ) (o : Option Standing) → i.client < length g.scripts → KnowsClients g s
+    → KnowsClients g (stamped g.f s i bytes o).0
 stamped_knows g s i bytes None below h = standing_known g s i (Open []) below h
 stamped_knows g s i bytes (Some (Open replies)) below h = h
 stamped_knows g s i bytes (Some (Decided a p)) below h = h
 
-answered_knows : (g : Group) (s : ProxyData) (i : Id) (replies : List Reply) (p : Path) (o : Option Answer) → i.client < length g.scripts → KnowsClients g s → KnowsClients g (answered s i replies p o).0
+answered_knows : (g : Group) (s : ProxyData) (i : Id) (replies : List Reply) (p : Path) (o : Option Answer) → i.client < length g.scripts → KnowsClients g s
+    → KnowsClients g (answered s i replies p o).0
 answered_knows g s i replies p None below h = standing_known g s i (Open replies) below h
 answered_knows g s i replies p (Some a) below h = standing_known g s i (Decided a p) below h
 
-decided_knows : (g : Group) (s : ProxyData) (i : Id) (replies : List Reply) (o : Option Chosen) → i.client < length g.scripts → KnowsClients g s → KnowsClients g (decided_as s i replies o).0
+decided_knows : (g : Group) (s : ProxyData) (i : Id) (replies : List Reply) (o : Option Chosen) → i.client < length g.scripts → KnowsClients g s
+    → KnowsClients g (decided_as s i replies o).0
 decided_knows g s i replies None below h = standing_known g s i (Open replies) below h
 decided_knows g s i replies (Some chosen) below h = answered_knows g s i replies chosen.path (answer_in chosen.reply) below h
 
-noted_knows : (g : Group) (s : ProxyData) (i : Id) (r : Reply) (o : Option Standing) → KnowsClients g s → IfSome o (λ _. i.client < length g.scripts) → KnowsClients g (noted_in g.f s i r o).0
+noted_knows : (g : Group) (s : ProxyData) (i : Id) (r : Reply) (o : Option Standing) → KnowsClients g s → IfSome o (λ _. i.client < length g.scripts)
+    → KnowsClients g (noted_in g.f s i r o).0
 noted_knows g s i r None h own = h
 noted_knows g s i r (Some (Decided a p)) h own = h
 noted_knows g s i r (Some (Open replies)) h own = decided_knows g s i (with_note replies r) (decision g.f (with_note replies r)) own h
 
-stamp_knows : (g : Group) (s : ProxyData) (client : ℕ) (b : RequestBody) → client < length g.scripts → KnowsClients g s → KnowsClients g (stamp_rule g.f s client b).0
+stamp_knows : (g : Group) (s : ProxyData) (client : ℕ) (b : RequestBody) → client < length g.scripts → KnowsClients g s
+    → KnowsClients g (stamp_rule g.f s client b).0
 unfolding stamp_rule
 stamp_knows g s client b below h = let i : Id = record { client = client; num = b.num } in stamped_knows g s i b.command (standing_of s i) below h
 
-reply_knows : (g : Group) (s : ProxyData) (replica : ℕ) (i : Id) (delay : ℕ) (r : Reply) → KnowsClients g s → KnowsClients g (reply_rule g.f s replica i delay r).0
+reply_knows : (g : Group) (s : ProxyData) (replica : ℕ) (i : Id) (delay : ℕ) (r : Reply) → KnowsClients g s
+    → KnowsClients g (reply_rule g.f s replica i delay r).0
 unfolding reply_rule
-reply_knows g s replica i delay r h = noted_knows g (record s { samples = sampled s.samples replica delay }) i r (standing_of s i) (record { standings = h.standings }) (lookup_each (IsClientOf g) s.standings i h.standings)
+reply_knows g s replica i delay r h =
+    let own = lookup_each (IsClientOf g) s.standings i h.standings in
+    noted_knows g (record s { samples = sampled s.samples replica delay }) i r (standing_of s i) (record { standings = h.standings }) own
 
 proxy_takes : (g : Group) (s : ProxyData) (from : Actor) (m : Message) → IsMember g from → KnowsClients g s → KnowsClients g (proxy_message g.f s from m).0
 proxy_takes g s (Client c) (messages.Request b) member h = stamp_knows g s c b member h
@@ -145,13 +159,19 @@ proxy_ticks g s clock h = record { standings = h.standings }
 -- ---- every actor
 
 takes : (g : Group) (a : Actor) (s : State a) (from : Actor) (m : Message) → IsMember g from → Knows g a s → Knows g a (message_step g a s from m).0
-takes g (Replica r) s from m member h = on_cond (λ (t : ReplicaData × List Out). KnowsProxies g t.0) (is_down s.status) (s, []) (replica_message g.f r s from m) (λ _. h) (λ _. replica_takes g r s from m member h)
-takes g (Proxy p) s from m member h = on_cond (λ (t : ProxyData × List Out). KnowsClients g t.0) s.is_down (s, []) (proxy_message g.f s from m) (λ _. h) (λ _. proxy_takes g s from m member h)
+takes g (Replica r) s from m member h =
+    on_cond (λ (t : ReplicaData × List Out). KnowsProxies g t.0) (is_down s.status) (s, []) (replica_message g.f r s from m) (λ _. h)
+    (λ _. replica_takes g r s from m member h)
+takes g (Proxy p) s from m member h =
+    on_cond (λ (t : ProxyData × List Out). KnowsClients g t.0) s.is_down (s, []) (proxy_message g.f s from m) (λ _. h) (λ _. proxy_takes g s from m member h)
 takes g (Client c) s from m member h = tt
 
 ticks : (g : Group) (a : Actor) (s : State a) (clock : ℕ) → Knows g a s → Knows g a (tick_step g a s clock).0
-ticks g (Replica r) s clock h = on_cond (λ (t : ReplicaData × List Out). KnowsProxies g t.0) (is_down s.status) (s, []) (tick_rule g.f r s clock) (λ _. h) (λ _. replica_ticks g r s clock h)
-ticks g (Proxy p) s clock h = on_cond (λ (t : ProxyData × List Out). KnowsClients g t.0) s.is_down (s, []) (clock_rule s clock, []) (λ _. h) (λ _. proxy_ticks g s clock h)
+ticks g (Replica r) s clock h =
+    on_cond (λ (t : ReplicaData × List Out). KnowsProxies g t.0) (is_down s.status) (s, []) (tick_rule g.f r s clock) (λ _. h)
+    (λ _. replica_ticks g r s clock h)
+ticks g (Proxy p) s clock h =
+    on_cond (λ (t : ProxyData × List Out). KnowsClients g t.0) s.is_down (s, []) (clock_rule s clock, []) (λ _. h) (λ _. proxy_ticks g s clock h)
 ticks g (Client c) s clock h = tt
 
 alarms : (g : Group) (a : Actor) (s : State a) → Knows g a s → Knows g a (alarm_step g a s).0
@@ -184,9 +204,12 @@ abbrev KnownState : Group → List Record → (a : Actor) → State a → Type 0
 KnownState g J a s = Knows g a s
 
 -- a step whose sends show its states is of members
-all_among : (g : Group) (J : List Record) (a : Actor) (heard : Heard) (s : State a) (t : State a × List Out) → IsMember g a → HearsMember g heard → Knows g a t.0 → StepShows g a heard s t
+all_among : (g : Group) (J : List Record) (a : Actor) (heard : Heard) (s : State a) (t : State a × List Out) → IsMember g a → HearsMember g heard
+    → Knows g a t.0 → StepShows g a heard s t
     → Knows g a t.0 × AllByRecursion (AmongMembers g J a) t.1
-all_among g J a heard s t member k h w = (h, all_imply (λ (o : Out). Shows g a heard s t.0 o.0 o.1) (AmongMembers g J a) (λ o shows. (member, shown_for g a heard s t.0 o.0 o.1 k h shows)) t.1 w.shows)
+all_among g J a heard s t member k h w =
+    let among : (o : Out) → Shows g a heard s t.0 o.0 o.1 → AmongMembers g J a o = λ o shows. (member, shown_for g a heard s t.0 o.0 o.1 k h shows) in
+    (h, all_imply (λ (o : Out). Shows g a heard s t.0 o.0 o.1) (AmongMembers g J a) among t.1 w.shows)
 
 members_keep : (g : Group) → KeepsMore g (Fitted g) (FittedState g) (AmongMembers g) (KnownState g)
 members_keep g = record {
@@ -195,19 +218,25 @@ members_keep g = record {
   state_stays = λ J r w a s q. q;
   message = λ J r w from m hears p f q h now.
       let s = state_after g r.actor J in
-      all_among g (r ∷ J) r.actor (Some (from, m)) s (message_step g r.actor s from m) w.0.member f.0 (takes g r.actor s from m f.0 h) (message_step_shows g r.actor s from m (may_show g r.actor s (group_of g J w.1) q));
+      let may = may_show g r.actor s (group_of g J w.1) q in
+      all_among g (r ∷ J) r.actor (Some (from, m)) s (message_step g r.actor s from m) w.0.member f.0 (takes g r.actor s from m f.0 h)
+      (message_step_shows g r.actor s from m may);
   tick = λ J r w c le q h now.
       let s = state_after g r.actor J in
-      all_among g (r ∷ J) r.actor None s (tick_step g r.actor s c) w.0.member tt (ticks g r.actor s c h) (tick_step_shows g r.actor s c (may_show g r.actor s (group_of g J w.1) q));
+      let may = may_show g r.actor s (group_of g J w.1) q in
+      all_among g (r ∷ J) r.actor None s (tick_step g r.actor s c) w.0.member tt (ticks g r.actor s c h) (tick_step_shows g r.actor s c may);
   alarm = λ J r w q h now.
       let s = state_after g r.actor J in
-      all_among g (r ∷ J) r.actor None s (alarm_step g r.actor s) w.0.member tt (alarms g r.actor s h) (alarm_step_shows g r.actor s (may_show g r.actor s (group_of g J w.1) q));
+      let may = may_show g r.actor s (group_of g J w.1) q in
+      all_among g (r ∷ J) r.actor None s (alarm_step g r.actor s) w.0.member tt (alarms g r.actor s h) (alarm_step_shows g r.actor s may);
   crash = λ J r w q h now.
       let s = state_after g r.actor J in
-      all_among g (r ∷ J) r.actor None s (crash_step g r.actor s) w.0.member tt (crashes g r.actor s h) (crash_step_shows g r.actor s (may_show g r.actor s (group_of g J w.1) q));
+      let may = may_show g r.actor s (group_of g J w.1) q in
+      all_among g (r ∷ J) r.actor None s (crash_step g r.actor s) w.0.member tt (crashes g r.actor s h) (crash_step_shows g r.actor s may);
   restart = λ J r w nonce q h now.
       let s = state_after g r.actor J in
-      all_among g (r ∷ J) r.actor None s (restart_step g r.actor s nonce) w.0.member tt (restarts g r.actor s nonce h) (restart_step_shows g r.actor s nonce (may_show g r.actor s (group_of g J w.1) q));
+      let may = may_show g r.actor s (group_of g J w.1) q in
+      all_among g (r ∷ J) r.actor None s (restart_step g r.actor s nonce) w.0.member tt (restarts g r.actor s nonce h) (restart_step_shows g r.actor s nonce may);
 }
 
 -- whoever gets a parcel takes part

@@ -1,17 +1,9 @@
--- Moments of a run: the run up to one of its records, or before all.
-use Rattle.std.proofs.Common.{◌≡◌, List, [], ◌∷◌, refl, sym, subst, inl, inr, ◌⊎◌}
+-- What holds at the moments of a run of the world.
+use Rattle.std.proofs.Common.{List, [], ◌∷◌, sym, subst, inl, inr}
+use Rattle.nz_base.specs.Moments.{At}
 use Rattle.nz_machine.specs.declared.event.Record.{Record}
 use Rattle.nz_machine.specs.State.{Group}
 use Rattle.nz_machine.specs.World.{World}
-
--- K is the run J up to some moment
-abbrev pub At : List Record → List Record → Type 0
-At [] K = K ≡ []
-At (r ∷ J) K = (K ≡ r ∷ J) ⊎ At J K
-
-pub at_self : (J : List Record) → At J J
-at_self [] = refl
-at_self (r ∷ J) = inl refl
 
 pub at_world : (g : Group) (J K : List Record) → World g J → At J K → World g K
 at_world g [] K w at = subst (World g) (sym at) w

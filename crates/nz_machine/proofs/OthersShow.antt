@@ -52,7 +52,8 @@ proxy_silent f heard s = record { shows = tt }
 abbrev asks : Id → List ℕ → Heard
 asks id command = Some (Client id.client, messages.Request (record { num = id.num; command = command }))
 
-timed_shows : (f : ℕ) (s : ProxyData) (standings : List (Id × Standing)) (id : Id) (command : List ℕ) (replies : List Reply) → s.is_down ≡ false → lookup (id_eq id) standings ≡ Some (Open replies)
+timed_shows : (f : ℕ) (s : ProxyData) (standings : List (Id × Standing)) (id : Id) (command : List ℕ) (replies : List Reply) → s.is_down ≡ false
+    → lookup (id_eq id) standings ≡ Some (Open replies)
     → ProxyShown f (asks id command) (record s { standings = standings }, timed_to_all f s id command)
 timed_shows f s standings id command replies up at =
     let t = record s { standings = standings } in
@@ -62,20 +63,26 @@ timed_shows f s standings id command replies up at =
           (λ r lt. record { up = up; hears = refl; replies = replies; standing = at; replica = r; member = lt; receiver = refl; sent = refl; deadline = refl }));
     }
 
-stamped_shows : (f : ℕ) (s : ProxyData) (id : Id) (command : List ℕ) (o : Option Standing) → s.is_down ≡ false → standing_of s id ≡ o → ProxyShown f (asks id command) (stamped f s id command o)
-stamped_shows f s id command None up e = timed_shows f s (insert_entry id_eq s.standings id (Open [])) id command [] up (lookup_inserted s.standings id (Open []))
+stamped_shows : (f : ℕ) (s : ProxyData) (id : Id) (command : List ℕ) (o : Option Standing) → s.is_down ≡ false → standing_of s id ≡ o
+    → ProxyShown f (asks id command) (stamped f s id command o)
+stamped_shows f s id command None up e =
+    timed_shows f s (insert_entry id_eq s.standings id (Open [])) id command [] up (lookup_inserted s.standings id (Open []))
 stamped_shows f s id command (Some (Open replies)) up e = timed_shows f s s.standings id command replies up e
 stamped_shows f s id command (Some (Decided a p)) up e = record { shows = (record { up = up; client = id.client; decided = e; to_client = refl }, tt) }
 
-answered_shows : (f : ℕ) (heard : Heard) (s : ProxyData) (id : Id) (replies : List Reply) (p : Path) (o : Option Answer) → s.is_down ≡ false → ProxyShown f heard (answered s id replies p o)
+answered_shows : (f : ℕ) (heard : Heard) (s : ProxyData) (id : Id) (replies : List Reply) (p : Path) (o : Option Answer) → s.is_down ≡ false
+    → ProxyShown f heard (answered s id replies p o)
 answered_shows f heard s id replies p None up = proxy_silent f heard (with_standing s id (Open replies))
-answered_shows f heard s id replies p (Some a) up = record { shows = (record { up = up; client = id.client; decided = lookup_inserted s.standings id (Decided a p); to_client = refl }, tt) }
+answered_shows f heard s id replies p (Some a) up =
+    record { shows = (record { up = up; client = id.client; decided = lookup_inserted s.standings id (Decided a p); to_client = refl }, tt) }
 
-decided_shows : (f : ℕ) (heard : Heard) (s : ProxyData) (id : Id) (replies : List Reply) (o : Option Chosen) → s.is_down ≡ false → ProxyShown f heard (decided_as s id replies o)
+decided_shows : (f : ℕ) (heard : Heard) (s : ProxyData) (id : Id) (replies : List Reply) (o : Option Chosen) → s.is_down ≡ false
+    → ProxyShown f heard (decided_as s id replies o)
 decided_shows f heard s id replies None up = proxy_silent f heard (with_standing s id (Open replies))
 decided_shows f heard s id replies (Some chosen) up = answered_shows f heard s id replies chosen.path (answer_in chosen.reply) up
 
-noted_shows : (f : ℕ) (heard : Heard) (s : ProxyData) (id : Id) (r : Reply) (o : Option Standing) → s.is_down ≡ false → ProxyShown f heard (noted_in f s id r o)
+noted_shows : (f : ℕ) (heard : Heard) (s : ProxyData) (id : Id) (r : Reply) (o : Option Standing) → s.is_down ≡ false
+    → ProxyShown f heard (noted_in f s id r o)
 noted_shows f heard s id r None up = proxy_silent f heard s
 noted_shows f heard s id r (Some (Decided a p)) up = proxy_silent f heard s
 noted_shows f heard s id r (Some (Open replies)) up = decided_shows f heard s id (with_note replies r) (decision f (with_note replies r)) up
@@ -84,7 +91,8 @@ stamp_shows : (f : ℕ) (s : ProxyData) (c : ℕ) (b : RequestBody) → s.is_dow
 unfolding stamp_rule
 stamp_shows f s c b up = let id : Id = record { client = c; num = b.num } in stamped_shows f s id b.command (standing_of s id) up refl
 
-reply_shows : (f : ℕ) (heard : Heard) (s : ProxyData) (replica : ℕ) (id : Id) (delay : ℕ) (r : Reply) → s.is_down ≡ false → ProxyShown f heard (reply_rule f s replica id delay r)
+reply_shows : (f : ℕ) (heard : Heard) (s : ProxyData) (replica : ℕ) (id : Id) (delay : ℕ) (r : Reply) → s.is_down ≡ false
+    → ProxyShown f heard (reply_rule f s replica id delay r)
 unfolding reply_rule
 reply_shows f heard s replica id delay r up = noted_shows f heard (record s { samples = sampled s.samples replica delay }) id r (standing_of s id) up
 
@@ -99,12 +107,14 @@ proxy_message_shows f s from m up = proxy_silent f (Some (from, m)) s
 pub record ClientShown (proxies : ℕ) (script : List Request) (t : ClientData × List Out) : Type 0 where
   pub shows : AllByRecursion (λ (o : Out). ClientShows proxies script t.0 o.0 o.1) t.1
 
-opened_shows : (proxies me : ℕ) (script : List Request) (s : ClientData) (o : Option Request) → 1 ≤ proxies → if_due s.ticks (slice_get script s.sent) ≡ o → ClientShown proxies script (opened proxies me s o)
+opened_shows : (proxies me : ℕ) (script : List Request) (s : ClientData) (o : Option Request) → 1 ≤ proxies → if_due s.ticks (slice_get script s.sent) ≡ o
+    → ClientShown proxies script (opened proxies me s o)
 opened_shows proxies me script s None any e = record { shows = tt }
 opened_shows proxies me script s (Some r) any e =
     let at : s.sent + 1 - 1 ≡ s.sent = omega arith in
+    let own = ap (slice_get script) at ∙ if_due_is s.ticks (slice_get script s.sent) r e in
     record {
-      shows = (record { proxy = me % proxies; member = own_proxy proxies me any; receiver = refl; attempt = refl; request = r; own = ap (slice_get script) at ∙ if_due_is s.ticks (slice_get script s.sent) r e; read = refl }, tt);
+      shows = (record { proxy = me % proxies; member = own_proxy proxies me any; receiver = refl; attempt = refl; request = r; own = own; read = refl }, tt);
     }
 
 next_shows : (proxies me : ℕ) (script : List Request) (s : ClientData) → 1 ≤ proxies → ClientShown proxies script (open_next proxies me script s)
@@ -113,14 +123,17 @@ next_shows proxies me script s any = opened_shows proxies me script s (if_due s.
 again_shows : (proxies : ℕ) (script : List Request) (s : ClientData) (proxy : ℕ) (o : Option Request) → proxy < proxies → slice_get script (s.sent - 1) ≡ o
     → ClientShown proxies script (record s { attempt = Some (record { proxy = proxy; since = 0 }) }, asked_again proxy s.sent o)
 again_shows proxies script s proxy None member e = record { shows = tt }
-again_shows proxies script s proxy (Some r) member e = record { shows = (record { proxy = proxy; member = member; receiver = refl; attempt = refl; request = r; own = e; read = refl }, tt) }
+again_shows proxies script s proxy (Some r) member e =
+    record { shows = (record { proxy = proxy; member = member; receiver = refl; attempt = refl; request = r; own = e; read = refl }, tt) }
 
 waited_shows : (proxies : ℕ) (script : List Request) (s : ClientData) (a : Attempt) → 1 ≤ proxies → ClientShown proxies script (wait_on proxies script s a)
 waited_shows proxies script s a any =
     on_cond (ClientShown proxies script) (eqb (a.since + 1) patience) _ _
-    (λ _. again_shows proxies script s ((a.proxy + 1) % proxies) (slice_get script (s.sent - 1)) (own_proxy proxies (a.proxy + 1) any) refl) (λ _. record { shows = tt })
+    (λ _. again_shows proxies script s ((a.proxy + 1) % proxies) (slice_get script (s.sent - 1)) (own_proxy proxies (a.proxy + 1) any) refl)
+    (λ _. record { shows = tt })
 
-ticked_shows : (proxies me : ℕ) (script : List Request) (s : ClientData) (o : Option Attempt) → 1 ≤ proxies → ClientShown proxies script (ticked_at proxies me script s o)
+ticked_shows : (proxies me : ℕ) (script : List Request) (s : ClientData) (o : Option Attempt) → 1 ≤ proxies
+    → ClientShown proxies script (ticked_at proxies me script s o)
 ticked_shows proxies me script s None any = next_shows proxies me script s any
 ticked_shows proxies me script s (Some a) any = waited_shows proxies script s a any
 
@@ -128,11 +141,14 @@ pub wait_shows : (proxies me : ℕ) (script : List Request) (s : ClientData) →
 unfolding wait_rule
 wait_shows proxies me script s any = ticked_shows proxies me script (record s { ticks = min (s.ticks + 1) last_tick }) s.attempt any
 
-accept_shows : (proxies me : ℕ) (script : List Request) (s : ClientData) (b : AnswerBody) → 1 ≤ proxies → ClientShown proxies script (accept_rule proxies me script s b)
+accept_shows : (proxies me : ℕ) (script : List Request) (s : ClientData) (b : AnswerBody) → 1 ≤ proxies
+    → ClientShown proxies script (accept_rule proxies me script s b)
 unfolding accept_rule
 accept_shows proxies me script s b any =
-    on_cond (ClientShown proxies script) (is_awaited s b s.attempt) _ (s, []) (λ _. next_shows proxies me script (record s { accepted = s.accepted + 1; attempt = None }) any) (λ _. record { shows = tt })
+    on_cond (ClientShown proxies script) (is_awaited s b s.attempt) _ (s, [])
+    (λ _. next_shows proxies me script (record s { accepted = s.accepted + 1; attempt = None }) any) (λ _. record { shows = tt })
 
-pub client_message_shows : (proxies me : ℕ) (script : List Request) (s : ClientData) (from : Actor) (m : Message) → 1 ≤ proxies → ClientShown proxies script (client_message proxies me script s from m)
+pub client_message_shows : (proxies me : ℕ) (script : List Request) (s : ClientData) (from : Actor) (m : Message) → 1 ≤ proxies
+    → ClientShown proxies script (client_message proxies me script s from m)
 client_message_shows proxies me script s (Proxy p) (messages.Answer b) any = accept_shows proxies me script s b any
 client_message_shows proxies me script s _ _ any = record { shows = tt }

@@ -32,7 +32,8 @@ place_front (x ∷ xs) ys id i e =
       | inr away ↦ rw away (further (place_of xs id) (λ n. place_front xs ys id n) (rw away at e))
     ]
   where
-    further : (o : Option ℕ) → ((n : ℕ) → o ≡ Some n → place_of (xs ++ ys) id ≡ Some n) → option_map suc o ≡ Some i → option_map suc (place_of (xs ++ ys) id) ≡ Some i
+    further : (o : Option ℕ) → ((n : ℕ) → o ≡ Some n → place_of (xs ++ ys) id ≡ Some n) → option_map suc o ≡ Some i
+        → option_map suc (place_of (xs ++ ys) id) ≡ Some i
     further None found e = absurd cc
     further (Some n) found e = ap (λ (o : Option ℕ). option_map suc o) (found n refl) ∙ e
 
@@ -44,7 +45,8 @@ pub place_within : (es : List Entry) (id : Id) (i : ℕ) → place_of es id ≡ 
 place_within es id i e = (place_found es id i e).within
 
 pub digest_kept : (xs ys : List Entry) (place : ℕ) → place < length xs → IsPrefix xs ys → digest_at ys place ≡ digest_at xs place
-digest_kept xs ys place lt p = ap (λ (l : List Entry). digest_of_log (take (suc place) l)) p.whole ∙ ap digest_of_log (take-append-le (suc place) xs p.rest (omega (arith, lt)))
+digest_kept xs ys place lt p =
+    ap (λ (l : List Entry). digest_of_log (take (suc place) l)) p.whole ∙ ap digest_of_log (take-append-le (suc place) xs p.rest (omega (arith, lt)))
 
 -- ---- entries of a list
 
@@ -61,7 +63,9 @@ place_at_end es e own =
 
 holds_id : (es : List Entry) (e : Entry) → Has es e → has_id (keys_of es) (id_of e.key) ≡ true
 holds_id [] e h = absurd h
-holds_id (x ∷ es) e (inl same) = or_left (id_eq (id_of e.key) (id_of x.key)) (has_id (keys_of es) (id_of e.key)) (ap (λ (y : Entry). id_eq (id_of e.key) (id_of y.key)) same ∙ id_eq_self (id_of e.key))
+holds_id (x ∷ es) e (inl same) =
+    let here = ap (λ (y : Entry). id_eq (id_of e.key) (id_of y.key)) same ∙ id_eq_self (id_of e.key) in
+    or_left (id_eq (id_of e.key) (id_of x.key)) (has_id (keys_of es) (id_of e.key)) here
 holds_id (x ∷ es) e (inr h) = or_right (id_eq (id_of e.key) (id_of x.key)) (has_id (keys_of es) (id_of e.key)) (holds_id es e h)
 
 place_some : (o : Option ℕ) → is_some o ≡ true → (i : ℕ) × (o ≡ Some i)

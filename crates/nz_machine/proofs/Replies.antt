@@ -47,11 +47,13 @@ record Later (f me : ℕ) (before s t : ReplicaData) : Type 0 where
   view : s.view ≡ before.view
   led : leads f me before ≡ true → (is_normal t.status ≡ true) × (t.view ≡ before.view)
 
-answer_by : (b : Bool) (xs ys : List Answer) (place : ℕ) → IsPrefix xs ys → (b ≡ true → place < length xs) → cond b (slice_get xs place) None ≡ cond b (slice_get ys place) None
+answer_by : (b : Bool) (xs ys : List Answer) (place : ℕ) → IsPrefix xs ys → (b ≡ true → place < length xs)
+    → cond b (slice_get xs place) None ≡ cond b (slice_get ys place) None
 answer_by true xs ys place p lt = sym (get_kept xs ys place p (lt refl))
 answer_by false xs ys place p lt = refl
 
-fast_shows : (f me : ℕ) (heard : Heard) (before s t : ReplicaData) (id : Id) (place : ℕ) (o : Option Origin) → is_normal before.status ≡ true → Later f me before s t → place_of s.log.entries id ≡ Some place
+fast_shows : (f me : ℕ) (heard : Heard) (before s t : ReplicaData) (id : Id) (place : ℕ) (o : Option Origin) → is_normal before.status ≡ true
+    → Later f me before s t → place_of s.log.entries id ≡ Some place
     → (leads f me before ≡ true → place < length s.results) → lookup (id_eq id) s.origin ≡ o → AllShow f me heard before t (fast_replies f me s id place o)
 fast_shows f me heard before s t id place None normal l at answered known = tt
 fast_shows f me heard before s t id place (Some origin) normal l at answered known = (
@@ -63,7 +65,8 @@ fast_shows f me heard before s t id place (Some origin) normal l at answered kno
     stands = place_kept s.log.entries t.log.entries id place l.log at;
     digest = sym (digest_kept s.log.entries t.log.entries place (place_within s.log.entries id place at) l.log);
     led = l.led;
-    answer = ap (λ v. cond (eqb (leader_of f v) me) (slice_get s.results place) None) l.view ∙ answer_by (leads f me before) s.results t.results place l.results answered;
+    answer =
+        ap (λ v. cond (eqb (leader_of f v) me) (slice_get s.results place) None) l.view ∙ answer_by (leads f me before) s.results t.results place l.results answered;
     origin = origin;
     known = ap (λ (x : List (Id × Origin)). lookup (id_eq id) x) l.origin ∙ known;
     delay = refl;
@@ -72,7 +75,8 @@ fast_shows f me heard before s t id place (Some origin) normal l at answered kno
   tt,
 )
 
-pub slow_shows : (f me : ℕ) (heard : Heard) (before s : ReplicaData) (id : Id) (place : ℕ) (o : Option Origin) → is_normal s.status ≡ true → leads f me s ≡ false → place_of s.log.entries id ≡ Some place → place < s.log.synced
+pub slow_shows : (f me : ℕ) (heard : Heard) (before s : ReplicaData) (id : Id) (place : ℕ) (o : Option Origin) → is_normal s.status ≡ true
+    → leads f me s ≡ false → place_of s.log.entries id ≡ Some place → place < s.log.synced
     → lookup (id_eq id) s.origin ≡ o → AllShow f me heard before s (slow_replies s id o)
 slow_shows f me heard before s id place None normal follows at synced known = tt
 slow_shows f me heard before s id place (Some origin) normal follows at synced known =
@@ -80,7 +84,8 @@ slow_shows f me heard before s id place (Some origin) normal follows at synced k
 
 -- ---- requests
 
-pub request_shows : (f me : ℕ) (heard : Heard) (s : ReplicaData) (proxy : ℕ) (b : TimedBody) → HasAnswers f me s → Shown f me heard s (request_rule f me s proxy b)
+pub request_shows : (f me : ℕ) (heard : Heard) (s : ReplicaData) (proxy : ℕ) (b : TimedBody) → HasAnswers f me s
+    → Shown f me heard s (request_rule f me s proxy b)
 unfolding request_rule
 request_shows f me heard s proxy b a =
     on_cond (Shown f me heard s) (is_normal s.status) (requested f me own b (place_of s.log.entries b.id)) (s, [])
@@ -93,7 +98,10 @@ request_shows f me heard s proxy b a =
     replies normal place at =
         let origin = lookup (id_eq b.id) own.origin in
         on_cond (AllShow f me heard s own) (not (leads f me s) && nat_lt place s.log.synced) (slow_replies own b.id origin) (fast_replies f me own b.id place origin)
-        (λ t. slow_shows f me heard s own b.id place origin normal (not-true (leads f me s) (and_left (not (leads f me s)) (nat_lt place s.log.synced) t)) at (ltb-true place s.log.synced (and_right (not (leads f me s)) (nat_lt place s.log.synced) t)) refl)
+        (λ t.
+        let follows = not-true (leads f me s) (and_left (not (leads f me s)) (nat_lt place s.log.synced) t) in
+        let synced = ltb-true place s.log.synced (and_right (not (leads f me s)) (nat_lt place s.log.synced) t) in
+        slow_shows f me heard s own b.id place origin normal follows at synced refl)
         (λ _. fast_shows f me heard s own own b.id place origin normal
         (record { log = prefix_self s.log.entries; results = prefix_self s.results; vector = refl; origin = refl; view = refl; led = λ _. (normal, refl) })
         at (λ lead. let lt = place_within s.log.entries b.id place at in let n = a.count normal lead in omega (arith, lt, n)) refl)
@@ -137,20 +145,25 @@ releases_later f me before s t (e ∷ es) l =
     (λ _ l. released_later f me before s t e es (releases_later f me before next t es l)) (λ _ l. l) l
 
 -- once it is released, an entry stands last, and the ids are those of before
-released_own : (f me : ℕ) (s : ReplicaData) (e : Entry) (es : List Entry) → HaveOwnIds (keys_of (s.log.entries ++ e ∷ es)) → HaveOwnIds (keys_of ((released f me s e es).log.entries ++ es))
+released_own : (f me : ℕ) (s : ReplicaData) (e : Entry) (es : List Entry) → HaveOwnIds (keys_of (s.log.entries ++ e ∷ es))
+    → HaveOwnIds (keys_of ((released f me s e es).log.entries ++ es))
 released_own f me s e es own =
-    subst (λ (l : List Entry). HaveOwnIds (keys_of l)) (sym (append_assoc s.log.entries (e ∷ []) es) ∙ ap (λ (l : List Entry). l ++ es) (sym (appended_is (leads f me s) s.log e))) own
+    let grown = ap (λ (l : List Entry). l ++ es) (sym (appended_is (leads f me s) s.log e)) in
+    subst (λ (l : List Entry). HaveOwnIds (keys_of l)) (sym (append_assoc s.log.entries (e ∷ []) es) ∙ grown) own
 
 released_stands : (f me : ℕ) (s : ReplicaData) (e : Entry) (es : List Entry) → HaveOwnIds (keys_of ((released f me s e es).log.entries ++ es))
     → place_of (released f me s e es).log.entries (id_of e.key) ≡ Some (length (released f me s e es).log.entries - 1)
 released_stands f me s e es own =
     let is = appended_is (leads f me s) s.log e in
-    let front = own_front (keys_of (released f me s e es).log.entries) (keys_of es) (subst HaveOwnIds (keys_append (released f me s e es).log.entries es) own) in
+    let entries = (released f me s e es).log.entries in
+    let front = own_front (keys_of entries) (keys_of es) (subst HaveOwnIds (keys_append entries es) own) in
+    let last = place_at_end s.log.entries e (subst (λ (l : List Entry). HaveOwnIds (keys_of l)) is front) in
     let long = length-append s.log.entries (e ∷ []) in
     let at : length s.log.entries ≡ length (s.log.entries ++ e ∷ []) - 1 = omega (arith, long) in
-    subst (λ (l : List Entry). place_of l (id_of e.key) ≡ Some (length l - 1)) (sym is) (place_at_end s.log.entries e (subst (λ (l : List Entry). HaveOwnIds (keys_of l)) is front) ∙ ap Some at)
+    subst (λ (l : List Entry). place_of l (id_of e.key) ≡ Some (length l - 1)) (sym is) (last ∙ ap Some at)
 
-releases_show : (f me : ℕ) (heard : Heard) (before s t : ReplicaData) (es : List Entry) → is_normal before.status ≡ true → Later f me before (releases f me s es).0 t → HaveOwnIds (keys_of (s.log.entries ++ es))
+releases_show : (f me : ℕ) (heard : Heard) (before s t : ReplicaData) (es : List Entry) → is_normal before.status ≡ true
+    → Later f me before (releases f me s es).0 t → HaveOwnIds (keys_of (s.log.entries ++ es))
     → (leads f me before ≡ true → length s.results ≡ length s.log.entries) → AllShow f me heard before t (releases f me s es).1
 unfolding releases
 releases_show f me heard before s t [] normal l own answered = tt
@@ -187,7 +200,8 @@ releases_seat f me s (e ∷ es) = let rest = releases_seat f me (released f me s
 
 -- the state t in which the releases end
 at_end : (f me : ℕ) (before t : ReplicaData) → is_normal t.status ≡ true → t.view ≡ before.view → Later f me before t t
-at_end f me before t normal view = record { log = prefix_self t.log.entries; results = prefix_self t.results; vector = refl; origin = refl; view = view; led = λ _. (normal, view) }
+at_end f me before t normal view =
+    record { log = prefix_self t.log.entries; results = prefix_self t.results; vector = refl; origin = refl; view = view; led = λ _. (normal, view) }
 
 release_shows : (f me : ℕ) (heard : Heard) (s : ReplicaData) (clock : ℕ) → HasAnswers f me s → Shown f me heard s (release_rule f me s clock)
 unfolding release_rule
@@ -197,10 +211,12 @@ release_shows f me heard s clock a =
     on_cond (Shown f me heard s) (is_normal s.status) (releases f me now s.early) (now, [])
     (λ normal.
     let same = releases_seat f me now s.early in
-    record { shows = releases_show f me heard s now t s.early normal (at_end f me s t (ap (λ (x : Seat). is_normal x.0) same ∙ normal) (ap (λ (x : Seat). x.1) same)) a.own_ids (λ lead. a.count normal lead) })
+    let end = at_end f me s t (ap (λ (x : Seat). is_normal x.0) same ∙ normal) (ap (λ (x : Seat). x.1) same) in
+    record { shows = releases_show f me heard s now t s.early normal end a.own_ids (λ lead. a.count normal lead) })
     (λ _. silent f me heard s now)
 
 pub tick_shows : (f me : ℕ) (heard : Heard) (s : ReplicaData) (clock : ℕ) → HasAnswers f me s → Shown f me heard s (tick_rule f me s clock)
 tick_shows f me heard s clock a =
     let t = release_rule f me s clock in
-    record { shows = all_append (λ (o : Out). ReplicaShows f me heard s t.0 o.0 o.1) t.1 (told f me t.0) (release_shows f me heard s clock a).shows (told_shows f me heard s t.0).shows }
+    let Shows = λ (o : Out). ReplicaShows f me heard s t.0 o.0 o.1 in
+    record { shows = all_append Shows t.1 (told f me t.0) (release_shows f me heard s clock a).shows (told_shows f me heard s t.0).shows }

@@ -37,7 +37,8 @@ pub all_below : (P : ℕ → Type 0) (n : ℕ) → ((r : ℕ) → r < n → P r)
 all_below P zero each = tt
 all_below P (suc n) each = all_append P (numbers_below n) (n ∷ []) (all_below P n (λ r lt. each r (omega (arith, lt)))) (each n (omega arith), tt)
 
-all_kept : (P Q : ℕ → Type 0) (test : ℕ → Bool) (ns : List ℕ) → AllByRecursion P ns → ((n : ℕ) → P n → test n ≡ true → Q n) → AllByRecursion Q (filter test ns)
+all_kept : (P Q : ℕ → Type 0) (test : ℕ → Bool) (ns : List ℕ) → AllByRecursion P ns → ((n : ℕ) → P n → test n ≡ true → Q n)
+    → AllByRecursion Q (filter test ns)
 all_kept P Q test [] all each = tt
 all_kept P Q test (n ∷ ns) all each =
     let rest = all_kept P Q test ns all.1 each in
@@ -47,7 +48,9 @@ all_kept P Q test (n ∷ ns) all each =
 pub to_each : (f me : ℕ) (P : Out → Type 0) (make : ℕ → Out) → ((r : ℕ) → IsOther f me (Replica r) → P (make r)) → AllByRecursion P (map make (others f me))
 to_each f me P make each =
     all_map P make (others f me)
-    (all_kept (λ r. r < replica_count f) (λ r. P (make r)) (λ r. not (eqb r me)) (numbers_below (replica_count f)) (all_below (λ r. r < replica_count f) (replica_count f) (λ r lt. lt)) (λ r lt t. each r (other_is f me r lt (not-true (eqb r me) t))))
+    (all_kept (λ r. r < replica_count f) (λ r. P (make r)) (λ r. not (eqb r me)) (numbers_below (replica_count f))
+    (all_below (λ r. r < replica_count f) (replica_count f) (λ r lt. lt))
+    (λ r lt t. each r (other_is f me r lt (not-true (eqb r me) t))))
 
 -- ---- what the leader tells
 
@@ -59,7 +62,9 @@ told_shows f me heard before s =
     let tells : is_normal s.status ≡ true → leads f me s ≡ true → Shown f me heard before (s, map (log_mod_to s) (others f me)) =
     λ normal lead. record {
       shows = to_each f me (λ (o : Out). ReplicaShows f me heard before s o.0 o.1) (log_mod_to s)
-          (λ r other. record { normal = normal; led = lead; receiver = other; read = ap (λ n. told_from s (slice_index s.ack n)) (same_replica r other.replica other.is) });
+          (λ r other.
+          let read = ap (λ n. told_from s (slice_index s.ack n)) (same_replica r other.replica other.is) in
+          record { normal = normal; led = lead; receiver = other; read = read });
     } in
     let none = silent f me heard before s in
     grind (arith, tells, none)

@@ -34,13 +34,15 @@ commands_long (e ∷ es) = let ih = commands_long es in omega (arith, ih)
 -- what its facts give
 pub has_answers : (f me : ℕ) (s : ReplicaData) → HasFacts f me s → HasAnswers f me s
 has_answers f me s h =
-    let apart : HaveOwnIds (keys_of ((s.log.entries ++ s.early) ++ s.late)) = subst (λ (l : List Entry). HaveOwnIds (keys_of l)) (sym (append_assoc s.log.entries s.early s.late)) h.entries.arranged.own_ids in
+    let apart : HaveOwnIds (keys_of ((s.log.entries ++ s.early) ++ s.late)) = subst
+    (λ (l : List Entry). HaveOwnIds (keys_of l)) (sym (append_assoc s.log.entries s.early s.late)) h.entries.arranged.own_ids in
     record {
       own_ids = own_front (keys_of (s.log.entries ++ s.early)) (keys_of s.late) (subst HaveOwnIds (keys_append (s.log.entries ++ s.early) s.late) apart);
       count = λ normal lead. ap length (h.executed.led normal lead).results ∙ length-replies_from _ (commands s.log.entries) ∙ commands_long s.log.entries;
     }
 
-pub message_shows : (f me : ℕ) (s : ReplicaData) (from : Actor) (m : Message) → HasAnswers f me s → Shown f me (Some (from, m)) s (replica_message f me s from m)
+pub message_shows : (f me : ℕ) (s : ReplicaData) (from : Actor) (m : Message) → HasAnswers f me s
+    → Shown f me (Some (from, m)) s (replica_message f me s from m)
 message_shows f me s (Proxy p) (messages.Timed b) a = request_shows f me (Some (Proxy p, messages.Timed b)) s p b a
 message_shows f me s (Replica r) (messages.LogMod b) a = log_mod_shows f me s r b
 message_shows f me s (Replica r) (messages.Fetch b) a = fetch_shows f me s r b
@@ -63,17 +65,23 @@ pub record StepShows (g : Group) (a : Actor) (heard : Heard) (before : State a) 
 quiet : (g : Group) (a : Actor) (heard : Heard) (before s : State a) → StepShows g a heard before (s, [])
 quiet g a heard before s = record { shows = tt }
 
-pub message_step_shows : (g : Group) (a : Actor) (s : State a) (from : Actor) (m : Message) → MayShow g a s → StepShows g a (Some (from, m)) s (message_step g a s from m)
+pub message_step_shows : (g : Group) (a : Actor) (s : State a) (from : Actor) (m : Message) → MayShow g a s
+    → StepShows g a (Some (from, m)) s (message_step g a s from m)
 message_step_shows g (Replica r) s from m may =
-    on_cond (StepShows g (Replica r) (Some (from, m)) s) (is_down s.status) (s, []) (replica_message g.f r s from m) (λ _. quiet g (Replica r) (Some (from, m)) s s) (λ _. record { shows = (message_shows g.f r s from m may).shows })
+    on_cond (StepShows g (Replica r) (Some (from, m)) s) (is_down s.status) (s, []) (replica_message g.f r s from m)
+    (λ _. quiet g (Replica r) (Some (from, m)) s s) (λ _. record { shows = (message_shows g.f r s from m may).shows })
 message_step_shows g (Proxy p) s from m may =
-    on_cond (StepShows g (Proxy p) (Some (from, m)) s) s.is_down (s, []) (proxy_message g.f s from m) (λ _. quiet g (Proxy p) (Some (from, m)) s s) (λ up. record { shows = (proxy_message_shows g.f s from m up).shows })
+    on_cond (StepShows g (Proxy p) (Some (from, m)) s) s.is_down (s, []) (proxy_message g.f s from m) (λ _. quiet g (Proxy p) (Some (from, m)) s s)
+    (λ up. record { shows = (proxy_message_shows g.f s from m up).shows })
 message_step_shows g (Client c) s from m may = record { shows = (client_message_shows g.proxies c (script_of g c) s from m may).shows }
 
 pub tick_step_shows : (g : Group) (a : Actor) (s : State a) (clock : ℕ) → MayShow g a s → StepShows g a None s (tick_step g a s clock)
 tick_step_shows g (Replica r) s clock may =
-    on_cond (StepShows g (Replica r) None s) (is_down s.status) (s, []) (tick_rule g.f r s clock) (λ _. quiet g (Replica r) None s s) (λ _. record { shows = (tick_shows g.f r None s clock may).shows })
-tick_step_shows g (Proxy p) s clock may = on_cond (StepShows g (Proxy p) None s) s.is_down (s, []) (clock_rule s clock, []) (λ _. quiet g (Proxy p) None s s) (λ _. quiet g (Proxy p) None s (clock_rule s clock))
+    on_cond (StepShows g (Replica r) None s) (is_down s.status) (s, []) (tick_rule g.f r s clock) (λ _. quiet g (Replica r) None s s)
+    (λ _. record { shows = (tick_shows g.f r None s clock may).shows })
+tick_step_shows g (Proxy p) s clock may =
+    on_cond (StepShows g (Proxy p) None s) s.is_down (s, []) (clock_rule s clock, []) (λ _. quiet g (Proxy p) None s s)
+    (λ _. quiet g (Proxy p) None s (clock_rule s clock))
 tick_step_shows g (Client c) s clock may = record { shows = (wait_shows g.proxies c (script_of g c) s may).shows }
 
 pub alarm_step_shows : (g : Group) (a : Actor) (s : State a) → MayShow g a s → StepShows g a None s (alarm_step g a s)

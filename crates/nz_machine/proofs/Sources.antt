@@ -8,6 +8,8 @@ use Rattle.std.proofs.lemmas.Option.{none-some, same_Some}
 use Rattle.nz_base.specs.Actor.{actor_eq}
 use Rattle.nz_base.proofs.Booleans.{and_left, and_right, or_cases, or_left, or_right}
 use Rattle.nz_base.proofs.Names.{actor_eq_self, same_actor}
+use Rattle.nz_base.specs.Moments.{At}
+use Rattle.nz_base.proofs.Moments.{at_self}
 use Rattle.nz_store.specs.declared.command.Answer.{Answer}
 use Rattle.nz_store.specs.declared.command.Answer.TheVariants.{Done, Value, Absent, Differs}
 use Rattle.nz_machine.specs.declared.event.Parcel.{Parcel}
@@ -18,7 +20,6 @@ use Rattle.nz_machine.specs.Quorums.{answer_eq, reply_eq}
 use Rattle.nz_machine.specs.World.{sent_in, Has}
 use Rattle.nz_machine.specs.History.{parcel_eq, sends_it, older_or, source}
 use Rattle.nz_machine.proofs.Runs.{has_split}
-use Rattle.nz_machine.proofs.Moments.{At, at_self}
 
 -- ---- tests mean equality
 

@@ -3,7 +3,7 @@
 use Rattle.std.specs.Prelude.{ℕ, ◌-◌, Bool, not, ◌&&◌, ◌||◌, ◌==◌, nat_lt, nat_le, max, min, List, [], ◌∷◌, ◌++◌, length, map, take, drop, filter, Option, Some, None, if◌then◌else◌, slice_index, slice_set}
 use Rattle.std.specs.List.{list_any, flat_map}
 use Rattle.std.specs.Map.{lookup}
-use Rattle.nz_base.specs.Cluster.{replica_count, leader_of}
+use Rattle.nz_base.specs.Cluster.{replica_count}
 use Rattle.nz_base.specs.Key.{id_eq, id_of}
 use Rattle.nz_base.specs.Log.{keys_of, has_id, is_above_last}
 use Rattle.nz_base.specs.declared.actor.Actor.TheVariants.{Replica}
@@ -19,7 +19,7 @@ use Rattle.nz_msg.specs.declared.message.FetchReplyBody.{FetchReplyBody}
 use Rattle.nz_msg.specs.declared.message.SyncReportBody.{SyncReportBody}
 use Rattle.nz_msg.specs.declared.message.Message.TheVariants.{LogMod, Fetch, FetchReply, SyncReport}
 use Rattle.nz_machine.specs.State.{ReplicaData, Out}
-use Rattle.nz_machine.specs.Replicas.{leads, is_normal, most_entries, numbers_below, slow_replies}
+use Rattle.nz_machine.specs.Replicas.{leads_view, hears_leader, most_entries, numbers_below, slow_replies}
 use Rattle.nz_machine.specs.Requests.{is_full}
 use Rattle.nz_machine.specs.Vectors.{unless_stray}
 
@@ -41,7 +41,7 @@ log_mod_to s r =
 
 -- At a tick the leader in normal operation tells each of the others.
 abbrev pub told : ℕ → ℕ → ReplicaData → List Out
-told f me s = if is_normal s.status && leads f me s then map (log_mod_to s) (others f me) else []
+told f me s = if leads_view f me s then map (log_mod_to s) (others f me) else []
 
 -- ---- how a follower takes it
 
@@ -135,7 +135,7 @@ taken_from leader b s =
 -- A log modification of the leader of the own view. Those of later views are still to come.
 unfoldable pub log_mod_rule : ℕ → ℕ → ReplicaData → ℕ → LogModBody → ReplicaData × List Out
 log_mod_rule f me s sender b =
-    if is_normal s.status && ((b.view == s.view) && ((sender == leader_of f b.view) && not (leads f me s)))
+    if hears_leader f me s b.view sender
     then unless_stray me s sender b.vector (taken_from sender b)
     else (s, [])
 
@@ -147,7 +147,7 @@ is_asked ids e = list_any (λ id. id_eq id (id_of e.key)) ids
 -- The leader replies with the asked entries that its log has, in their order.
 unfoldable pub fetch_rule : ℕ → ℕ → ReplicaData → ℕ → FetchBody → ReplicaData × List Out
 fetch_rule f me s sender b =
-    if is_normal s.status && ((b.view == s.view) && leads f me s)
+    if leads_view f me s && (b.view == s.view)
     then (s, (Replica sender, FetchReply (record { view = s.view; entries = filter (is_asked b.ids) s.log.entries })) ∷ [])
     else (s, [])
 
@@ -161,7 +161,7 @@ kept_all s (e ∷ es) = kept_all (kept_late s e) es
 
 unfoldable pub fetch_reply_rule : ℕ → ℕ → ReplicaData → ℕ → FetchReplyBody → ReplicaData × List Out
 fetch_reply_rule f me s sender b =
-    if is_normal s.status && ((b.view == s.view) && ((sender == leader_of f b.view) && not (leads f me s)))
+    if hears_leader f me s b.view sender
     then (kept_all s b.entries, [])
     else (s, [])
 
@@ -180,6 +180,6 @@ with_commit f me s = record s { commit = max s.commit (reported f me s.ack) }
 -- The leader notes how far a replica's log agrees, and commits what f others report.
 unfoldable pub sync_report_rule : ℕ → ℕ → ReplicaData → ℕ → SyncReportBody → ReplicaData × List Out
 sync_report_rule f me s sender b =
-    if is_normal s.status && ((b.view == s.view) && (leads f me s && nat_le b.synced (length s.log.entries)))
+    if leads_view f me s && ((b.view == s.view) && nat_le b.synced (length s.log.entries))
     then (with_commit f me (with_ack s sender b.synced), [])
     else (s, [])

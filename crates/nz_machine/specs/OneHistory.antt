@@ -2,6 +2,7 @@
 use Rattle.std.specs.Prelude.{◌≡◌, ℕ, ◌<◌, ◌⊎◌, List, [], ◌∷◌, map, Some}
 use Rattle.nz_base.specs.Key.{id_of}
 use Rattle.nz_base.specs.Log.{keys_of, HaveOwnIds}
+use Rattle.nz_base.specs.Prefixes.{Comparable}
 use Rattle.nz_base.specs.declared.actor.Actor.{Actor}
 use Rattle.nz_base.specs.declared.key.Id.{Id}
 use Rattle.nz_base.specs.declared.key.Entry.{Entry}
@@ -12,13 +13,16 @@ use Rattle.nz_log.specs.Places.{place_of, entry_key}
 use Rattle.nz_msg.specs.declared.message.FastReplyBody.{FastReplyBody}
 use Rattle.nz_msg.specs.declared.message.Message.TheVariants.{FastReply}
 use Rattle.nz_msg.specs.declared.message.Path.{Path}
+use Rattle.nz_msg.specs.Messages.{Fits}
+use Rattle.nz_machine.specs.declared.event.Event.TheVariants.{Deliver}
+use Rattle.nz_machine.specs.declared.event.Parcel.{Parcel}
 use Rattle.nz_machine.specs.declared.event.Record.{Record}
 use Rattle.nz_machine.specs.State.{Group}
 use Rattle.nz_machine.specs.Replicas.{commands}
 use Rattle.nz_machine.specs.Step.{parcel}
 use Rattle.nz_machine.specs.World.{Has}
-use Rattle.nz_machine.specs.Events.{Told, Sent, Accepted}
-use Rattle.nz_machine.specs.History.{log_at, cut_after}
+use Rattle.nz_machine.specs.Events.{Told, Sent, Accepted, told_by}
+use Rattle.nz_machine.specs.History.{log_at, cut_after, accepted_prefix}
 
 -- x stands before y.
 abbrev pub Precedes : {X : Type 0} → List X → X → X → Type 0
@@ -48,12 +52,34 @@ pub record Lin (E : List Told) (H : List Entry) : Type 0 where
   pub in_order : (a b : Id) (answer : Answer) (path : Path) (command : List ℕ) → Precedes E (Accepted a answer path) (Sent b command)
       → (e : Entry) → Has H e → id_of e.key ≡ b → StandsBefore H a b
 
+-- ---- accepted prefixes
+
+-- The record, after the records J, accepts an answer, and P is its accepted prefix.
+pub record Accepts (g : Group) (P : List Entry) (r : Record) (J : List Record) : Type 0 where
+  pub id : Id
+  pub answer : Answer
+  pub path : Path
+  pub brought : Parcel
+  pub told : Has (told_by g r.actor r J) (Accepted id answer path)
+  pub event : r.event ≡ Deliver brought
+  pub prefix : accepted_prefix g id brought J ≡ Some P
+
+-- P is an accepted prefix of the run.
+abbrev pub IsAccepted : Group → List Entry → List Record → Type 0
+IsAccepted g P [] = ⊥
+IsAccepted g P (r ∷ J) = Accepts g P r J ⊎ IsAccepted g P J
+
+-- Of any two accepted prefixes of the run one begins with the other.
+pub record ArePaired (g : Group) (J : List Record) : Type 0 where
+  pub each : (P Q : List Entry) → IsAccepted g P J → IsAccepted g Q J → Comparable P Q
+
 -- ---- no collision
 
--- A record sends a fast reply over a log that has these keys up to the entry.
+-- A record sends a fast reply that a frame can carry, over a log that has these keys up to the entry.
 pub record RepliesOver (g : Group) (r : Record) (J : List Record) (keys : List EntryKey) : Type 0 where
   pub body : FastReplyBody
   pub to : Actor
+  pub fit : Fits (FastReply body)
   pub sent : Has r.sends (parcel r.actor (to, FastReply body))
   pub over : keys ≡ map entry_key (cut_after body.id (log_at g r.actor (r ∷ J)))
 

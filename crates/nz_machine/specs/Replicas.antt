@@ -1,5 +1,5 @@
 -- Words on a replica's state that its rules share.
-use Rattle.std.specs.Prelude.{ℕ, zero, suc, ◌-◌, ◌^◌, Bool, true, false, List, [], ◌∷◌, ◌++◌, replicate, map, Option, Some, None, ◌==◌, if◌then◌else◌, slice_get}
+use Rattle.std.specs.Prelude.{ℕ, zero, suc, ◌-◌, ◌^◌, Bool, true, false, ◌&&◌, not, List, [], ◌∷◌, ◌++◌, replicate, map, Option, Some, None, ◌==◌, if◌then◌else◌, slice_get}
 use Rattle.nz_base.specs.Cluster.{replica_count, leader_of}
 use Rattle.nz_base.specs.declared.actor.Actor.TheVariants.{Proxy}
 use Rattle.nz_base.specs.declared.key.Id.{Id}
@@ -43,9 +43,18 @@ is_down ViewChange = false
 is_down Rejoining = false
 is_down Down = true
 
--- Whether the replica with this number leads the view that it is in.
+-- Whether the replica with this number leads the view that it is in, in whatever mode.
 abbrev pub leads : ℕ → ℕ → ReplicaData → Bool
 leads f me s = leader_of f s.view == me
+
+-- Whether it leads its view in normal operation.
+abbrev pub leads_view : ℕ → ℕ → ReplicaData → Bool
+leads_view f me s = is_normal s.status && leads f me s
+
+-- Whether a follower in normal operation hears the leader of its view: the view that is named is its own, and
+-- the sender leads it.
+abbrev pub hears_leader : ℕ → ℕ → ReplicaData → ℕ → ℕ → Bool
+hears_leader f me s view sender = is_normal s.status && ((view == s.view) && ((sender == leader_of f view) && not (leads f me s)))
 
 -- ---- stages of a rule
 
@@ -110,3 +119,7 @@ first_replica f = record {
   origin = [];
   ack = replicate (replica_count f) 0;
 }
+
+-- The state of one that has forgotten all.
+abbrev pub crashed_replica : ℕ → ReplicaData
+crashed_replica f = record (first_replica f) { status = Down }

@@ -8,7 +8,8 @@ ghost use Rattle.nz_base.specs.declared.actor.Actor.TheVariants.{Replica as IsRe
 ghost use Rattle.nz_base.specs.declared.key.Entry.{Entry as AnEntry};
 ghost use Rattle.nz_msg.specs.Fields.{view as view_field, vector as vector_field, answer as answer_field};
 ghost use Rattle.nz_machine.specs.Facts.{FitsEntry, HasFacts};
-ghost use Rattle.nz_machine.specs.Replicas.{first_replica, is_normal, leads as leads_in, answer_at};
+ghost use Rattle.nz_machine.specs.Parts.{model_of};
+ghost use Rattle.nz_machine.specs.Replicas.{first_replica, crashed_replica, is_normal, is_down as is_down_in, leads as leads_in, leads_view as leads_view_in, hears_leader as hears_leader_in, answer_at};
 ghost use Rattle.nz_machine.specs.Requests.{with_origin, to_early as to_early_of, to_late as to_late_of};
 ghost use Rattle.nz_machine.specs.Releases.{at_clock, released, first_may};
 
@@ -32,36 +33,66 @@ const LONGEST_DELAY: u64 = 10_000;
 /// Clocks stop here, in clock units.
 const LAST_CLOCK: u64 = (1 << 62) - 1;
 
+/// The parts of a replica's state.
+#[derive(Drop)]
+pub struct Parts {
+    pub cluster: Cluster,
+    pub me: u8,
+    pub status: Status,
+    pub clock: u64,
+    pub view: u64,
+    pub log: HashedLog,
+    pub commit: u32,
+    pub results: Vec<Answer>,
+    /// The store after the log, at a leader.
+    pub store: Store,
+    pub vector: CrashVector,
+    pub early: Early,
+    pub late: Late,
+    pub origin: IndexMap<Id, Origin>,
+    pub ack: Vec<u32>,
+    pub alloc: Global,
+}
+
+/// Forgets all, where want of memory left the parts half made.
+fn forget(parts: &mut Parts)
+    requires { length parts.old.ack.items ≡ replica_count parts.old.cluster }
+    ensures { model_of parts.new ≡ record { f = parts.old.cluster; me = parts.old.me; state = crashed_replica parts.old.cluster } }
+{
+    let alloc = parts.alloc;
+    let cluster = parts.cluster;
+    // f is from 1 to 4, so there is a vector of this size.
+    let _f = cluster.f();
+    parts.status = Status::Down;
+    parts.clock = 0;
+    parts.view = 0;
+    parts.log = HashedLog::new(alloc);
+    parts.commit = 0;
+    parts.results = Vec::new(alloc);
+    parts.store = Store::new(alloc);
+    parts.vector = CrashVector::zero(cluster.n());
+    parts.early = Early::new(alloc);
+    parts.late = Late::new(alloc);
+    parts.origin = IndexMap::new(alloc);
+    parts.ack.as_mut_slice().fill(0);
+}
+
 /// The state of a replica. A clause sees its cluster, its number and its data; that the data has the
 /// facts of every replica is kept by the type.
 #[derive(Drop)]
 pub struct ReplicaState {
-    cluster: Cluster,
-    me: u8,
-    status: Status,
-    clock: u64,
-    view: u64,
-    log: HashedLog,
-    commit: u32,
-    results: Vec<Answer>,
-    /// The store after the log, at a leader.
-    store: Store,
-    vector: CrashVector,
-    early: Early,
-    late: Late,
-    origin: IndexMap<Id, Origin>,
-    ack: Vec<u32>,
-    alloc: Global,
+    parts: Parts,
 }
 
 impl Model for ReplicaState {
-    ghost use Rattle.nz_machine.specs.Facts.{ReplicaSeat, IsKept};
+    ghost use Rattle.nz_machine.specs.Facts.{ReplicaModel};
+    ghost use Rattle.nz_machine.specs.Parts.{ArePartsKept, model_of};
 
-    ghost Value = { ReplicaSeat };
+    ghost Value = { ReplicaModel };
 
-    ghost view = { λ s. record { f = s.cluster; me = s.me; state = record { status = s.status; clock = s.clock; view = s.view; log = s.log; commit = s.commit; results = s.results.items; vector = s.vector; early = s.early; late = s.late; origin = s.origin.entries; ack = s.ack.items } } };
+    ghost view = { λ s. model_of s.parts };
 
-    ghost invariant = { λ s. IsKept s.cluster s.me (record { status = s.status; clock = s.clock; view = s.view; log = s.log; commit = s.commit; results = s.results.items; vector = s.vector; early = s.early; late = s.late; origin = s.origin.entries; ack = s.ack.items }) s.store };
+    ghost invariant = { λ s. ArePartsKept s.parts };
 }
 
 impl ReplicaState {
@@ -72,21 +103,23 @@ impl ReplicaState {
     {
         let ack = vec![in alloc; 0; cluster.n() as usize]?;
         Ok(ReplicaState {
-            cluster,
-            me,
-            status: Status::Normal,
-            clock: 0,
-            view: 0,
-            log: HashedLog::new(alloc),
-            commit: 0,
-            results: Vec::new(alloc),
-            store: Store::new(alloc),
-            vector: CrashVector::zero(cluster.n()),
-            early: Early::new(alloc),
-            late: Late::new(alloc),
-            origin: IndexMap::new(alloc),
-            ack,
-            alloc,
+            parts: Parts {
+                cluster,
+                me,
+                status: Status::Normal,
+                clock: 0,
+                view: 0,
+                log: HashedLog::new(alloc),
+                commit: 0,
+                results: Vec::new(alloc),
+                store: Store::new(alloc),
+                vector: CrashVector::zero(cluster.n()),
+                early: Early::new(alloc),
+                late: Late::new(alloc),
+                origin: IndexMap::new(alloc),
+                ack,
+                alloc,
+            },
         })
     }
 
@@ -96,13 +129,13 @@ impl ReplicaState {
         ensures facts { HasFacts self.now.f self.now.me self.now.state }
     {
         // The type's invariant is known where a field is used.
-        let _member = &self.me;
+        let _member = &self.parts.me;
     }
 
     pub fn cluster(&self) -> Cluster
         ensures { result ≡ self.now.f }
     {
-        self.cluster
+        self.parts.cluster
     }
 
     /// The actor's name.
@@ -111,65 +144,89 @@ impl ReplicaState {
         ensures address { HasAddress result }
     {
         // f is at most 4, so the number is at most 8.
-        let _most = self.cluster.f();
-        Actor::Replica(self.me)
+        let _most = self.parts.cluster.f();
+        Actor::Replica(self.parts.me)
     }
 
     pub fn allocator(&self) -> Global {
-        self.alloc
+        self.parts.alloc
     }
 
     /// Whether the replica is in normal operation.
     pub fn is_normal(&self) -> bool
         ensures { result ≡ is_normal self.now.state.status }
     {
-        matches!(self.status, Status::Normal)
+        matches!(self.parts.status, Status::Normal)
     }
 
-    /// Whether the replica leads its view.
+    /// Whether the replica leads its view, in whatever mode.
     pub fn leads(&self) -> bool
         ensures { result ≡ leads_in self.now.f self.now.me self.now.state }
     {
-        self.cluster.leader(self.view) == self.me
+        self.parts.cluster.leader(self.parts.view) == self.parts.me
+    }
+
+    /// Whether it leads its view in normal operation.
+    pub fn leads_view(&self) -> bool
+        ensures { result ≡ leads_view_in self.now.f self.now.me self.now.state }
+    {
+        self.is_normal() && self.leads()
+    }
+
+    /// Whether it is a follower in normal operation, and hears the leader of its view.
+    pub fn hears_leader(&self, view: u64, sender: u8) -> bool
+        ensures { result ≡ hears_leader_in self.now.f self.now.me self.now.state view sender }
+    {
+        self.is_normal()
+            && view == self.parts.view
+            && sender == self.parts.cluster.leader(view)
+            && !self.leads()
+    }
+
+    /// Whether it is out of service.
+    pub fn is_down(&self) -> bool
+        ensures { result ≡ is_down_in self.now.state.status }
+    {
+        matches!(self.parts.status, Status::Down)
     }
 
     pub fn view(&self) -> u64
         ensures value { result ≡ self.now.state.view }
         ensures fits { view_field.fits result }
     {
-        self.view
+        self.parts.view
     }
 
     pub fn log(&self) -> &HashedLog
         ensures { result.now ≡ self.now.state.log }
     {
-        &self.log
+        &self.parts.log
     }
 
     pub fn commit(&self) -> u32
         ensures { result ≡ self.now.state.commit }
     {
-        self.commit
+        self.parts.commit
     }
 
     pub fn vector(&self) -> &CrashVector
         ensures value { result.now ≡ self.now.state.vector }
         ensures fits { vector_field.fits result.now }
     {
-        vector_fits(&self.vector);
-        &self.vector
+        vector_fits(&self.parts.vector);
+        &self.parts.vector
     }
 
     pub fn early(&self) -> &Early
         ensures { result.now ≡ self.now.state.early }
     {
-        &self.early
+        &self.parts.early
     }
 
     pub fn late(&self) -> &Late
         ensures { result.now ≡ self.now.state.late }
     {
-        &self.late
+        &self.parts.late
     }
 
     /// Where a request came from, if that is known.
@@ -177,7 +234,7 @@ impl ReplicaState {
         ensures value { result ≡ lookup (id_eq id) self.now.state.origin }
         ensures known { IfSome result (λ origin. origin.proxy ≤ 7) }
     {
-        self.origin.get(&id).copied()
+        self.parts.origin.get(&id).copied()
     }
 
     /// A copy of the leader's answer to the entry at a place. A follower has none.
@@ -188,9 +245,9 @@ impl ReplicaState {
         if !self.leads() {
             return Ok(None);
         }
-        match self.results.get(place as usize) {
+        match self.parts.results.get(place as usize) {
             None => Ok(None),
-            Some(answer) => Ok(Some(copy_answer(self.alloc, answer)?)),
+            Some(answer) => Ok(Some(copy_answer(self.parts.alloc, answer)?)),
         }
     }
 
@@ -198,7 +255,7 @@ impl ReplicaState {
     pub fn set_clock(&mut self, clock: u64)
         ensures { self.new ≡ record self.old { state = at_clock self.old.state clock } }
     {
-        self.clock = clock.min(LAST_CLOCK);
+        self.parts.clock = clock.min(LAST_CLOCK);
     }
 
     /// Keeps where a request came from.
@@ -206,8 +263,12 @@ impl ReplicaState {
         requires { proxy ≤ 7 }
         ensures { OnOk result (self.new ≡ record self.old { state = with_origin self.old.state proxy body.now }) }
     {
-        let delay = self.clock.saturating_sub(body.sent).min(LONGEST_DELAY) as u32;
-        self.origin.insert(body.id, Origin { proxy, delay })?;
+        let delay = self
+            .parts
+            .clock
+            .saturating_sub(body.sent)
+            .min(LONGEST_DELAY) as u32;
+        self.parts.origin.insert(body.id, Origin { proxy, delay })?;
         Ok(())
     }
 
@@ -219,8 +280,8 @@ impl ReplicaState {
         requires held { IsFalse (has_id (keys_of self.old.state.early) (id_of entry.key)) }
         ensures { OnOk result (self.new ≡ record self.old { state = to_early_of self.old.state entry }) }
     {
-        let last = last_key(&self.log);
-        put_early(&mut self.early, &mut self.late, last, entry)?;
+        let last = last_key(&self.parts.log);
+        put_early(&mut self.parts.early, &mut self.parts.late, last, entry)?;
         Ok(())
     }
 
@@ -231,7 +292,7 @@ impl ReplicaState {
         requires held { IsFalse (has_id (keys_of self.old.state.early) (id_of entry.key)) }
         ensures { OnOk result (self.new ≡ record self.old { state = to_late_of self.old.state entry }) }
     {
-        put_late(&mut self.late, entry)?;
+        put_late(&mut self.parts.late, entry)?;
         Ok(())
     }
 
@@ -239,9 +300,9 @@ impl ReplicaState {
     pub fn may_release(&self) -> bool
         ensures { result ≡ first_may self.now.state self.now.state.early }
     {
-        match self.early.first() {
+        match self.parts.early.first() {
             None => false,
-            Some(first) => first.deadline <= self.clock && self.log.len() < MAX_ENTRIES,
+            Some(first) => first.deadline <= self.parts.clock && self.parts.log.len() < MAX_ENTRIES,
         }
     }
 
@@ -254,25 +315,20 @@ impl ReplicaState {
         ensures grown { OnOk result (length self.new.state.log.entries ≡ length self.old.state.log.entries + 1) }
     {
         let leads = self.leads();
-        match self.early.take_due(self.clock) {
+        match self.parts.early.take_due(self.parts.clock) {
             None => unreachable!(),
             Some(entry) => {
                 let id = entry.key.id();
                 match take_in(
                     leads,
-                    &mut self.store,
-                    &mut self.results,
-                    &mut self.log,
+                    &mut self.parts.store,
+                    &mut self.parts.results,
+                    &mut self.parts.log,
                     entry,
                 ) {
                     Ok(()) => Ok(id),
                     Err(error) => {
-                        // What ran out of memory on the way holds nothing.
-                        self.status = Status::Down;
-                        self.commit = 0;
-                        self.log = HashedLog::new(self.alloc);
-                        self.early = Early::new(self.alloc);
-                        self.results = Vec::new(self.alloc);
+                        forget(&mut self.parts);
                         Err(error)
                     }
                 }

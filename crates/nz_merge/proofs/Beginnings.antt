@@ -1,8 +1,9 @@
 -- Lists of keys that begin with others.
-use Rattle.std.proofs.Common.{◌≡◌, true, List, [], ◌∷◌, ◌++◌, refl, sym, ap, ◌∙◌}
+use Rattle.std.proofs.Common.{◌≡◌, true, List, [], ◌∷◌, ◌++◌, refl, sym, ap, subst, ◌∙◌}
 use Rattle.nz_base.specs.declared.key.Key.{Key}
 use Rattle.nz_base.specs.Key.{key_eq}
 use Rattle.nz_base.specs.Log.{has_key}
+use Rattle.nz_base.specs.Prefixes.{IsPrefix}
 use Rattle.nz_base.proofs.Names.{key_eq_self, same_key}
 use Rattle.nz_base.proofs.Booleans.{and_left, and_right, and_both}
 use Rattle.nz_merge.specs.Merged.{begins_with}
@@ -22,3 +23,10 @@ rest_of [] (f ∷ front) h = absurd cc
 rest_of (k ∷ keys) (f ∷ front) h =
     let more = rest_of keys front (and_right (key_eq f k) (begins_with keys front) h) in
     (more.0, ap (λ (x : Key). x ∷ keys) (sym (same_key f k (and_left (key_eq f k) (begins_with keys front) h))) ∙ ap (λ (xs : List Key). f ∷ xs) more.1)
+
+-- the test says that the list is a prefix
+pub prefix_of_test : (front keys : List Key) → begins_with keys front ≡ true → IsPrefix front keys
+prefix_of_test front keys h = let more = rest_of keys front h in record { rest = more.0; whole = more.1 }
+
+pub test_of_prefix : (front keys : List Key) → IsPrefix front keys → begins_with keys front ≡ true
+test_of_prefix front keys p = subst (λ (xs : List Key). begins_with xs front ≡ true) (sym p.whole) (begins_append front p.rest)

@@ -12,3 +12,4 @@ pub mod Turns
 pub mod Fitting
 pub mod Senders
 pub mod Bases
+pub mod OwnSenders

@@ -2,7 +2,7 @@ ghost use Rattle.std.specs.Prelude.{◌≡◌, [], ◌∷◌, ◌++◌, ◌↔�
 ghost use Rattle.nz_base.specs.Log.{keys_of};
 ghost use Rattle.nz_merge.specs.Fit.{comes_first as first_of, are_log, are_fit};
 ghost use Rattle.nz_merge.specs.Merged.{AreFit};
-ghost use Rattle.nz_merge.specs.Sender.{has_sender};
+ghost use Rattle.nz_merge.specs.Sender.{has_sender, HaveOwnSenders};
 
 use nz_base::{Entry, EntryList, Key, NoMemory};
 use std::alloc::Global;
@@ -31,10 +31,13 @@ pub struct ViewChanges {
 impl Model for ViewChanges {
     ghost use Rattle.std.specs.Prelude.{List};
     ghost use Rattle.nz_merge.specs.declared.change.Change.{Change as AChange};
+    ghost use Rattle.nz_merge.specs.Sender.{HaveOwnSenders};
 
     ghost Value = { List AChange };
 
     ghost view = { λ s. s.changes.items };
+
+    ghost invariant = { λ s. HaveOwnSenders s.changes.items };
 }
 
 impl ViewChanges {
@@ -71,7 +74,8 @@ impl ViewChanges {
     }
 
     pub fn as_slice(&self) -> &[Change]
-        ensures { result.now ≡ self.now }
+        ensures value { result.now ≡ self.now }
+        ensures own { HaveOwnSenders result.now }
     {
         &self.changes
     }

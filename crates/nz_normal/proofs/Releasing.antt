@@ -8,13 +8,13 @@ use Rattle.nz_base.specs.declared.key.Entry.{Entry}
 use Rattle.nz_base.specs.Key.{id_eq, id_of}
 use Rattle.nz_machine.specs.declared.event.Parcel.{Parcel}
 use Rattle.nz_machine.specs.State.{ReplicaData, Out}
-use Rattle.nz_machine.specs.Facts.{ReplicaSeat}
+use Rattle.nz_machine.specs.Facts.{ReplicaModel}
 use Rattle.nz_machine.specs.Replicas.{is_normal, fast_replies}
 use Rattle.nz_machine.specs.Releases.{may_release, first_may, released, release_replies, releases}
 use Rattle.nz_machine.specs.Step.{parcel}
 
 -- what is left to release leads to the end
-pub record Releases (f me : ℕ) (end : ReplicaData × List Parcel) (seat : ReplicaSeat) (sends : List Parcel) : Type 0 where
+pub record Releases (f me : ℕ) (end : ReplicaData × List Parcel) (seat : ReplicaModel) (sends : List Parcel) : Type 0 where
   pub size : seat.f ≡ f
   pub number : seat.me ≡ me
   pub normal : is_normal seat.state.status ≡ true
@@ -22,7 +22,7 @@ pub record Releases (f me : ℕ) (end : ReplicaData × List Parcel) (seat : Repl
   pub all : sends ++ map (parcel (Replica me)) (releases f me seat.state seat.state.early).1 ≡ end.1
 
 -- the reply to what was released last
-pub replied : (seat new : ReplicaSeat) (id : Id) (place : ℕ) (e : Entry) (es : List Entry) (sends after : List Parcel) → seat.state.early ≡ e ∷ es
+pub replied : (seat new : ReplicaModel) (id : Id) (place : ℕ) (e : Entry) (es : List Entry) (sends after : List Parcel) → seat.state.early ≡ e ∷ es
     → ((e : Entry) (es : List Entry) → seat.state.early ≡ e ∷ es → (id ≡ id_of e.key) × (new ≡ record seat { state = released seat.f seat.me seat.state e es }))
     → length new.state.log.entries ≡ length seat.state.log.entries + 1 → place ≡ length seat.state.log.entries
     → after ≡ sends ++ map (parcel (Replica new.me)) (fast_replies new.f new.me new.state id place (lookup (id_eq id) new.state.origin))
@@ -31,7 +31,7 @@ replied seat new id place e es sends after is h grown at told =
     let last : place ≡ length new.state.log.entries - 1 = omega (arith, grown, at) in
     told ∙ ap (λ (n : ℕ). sends ++ map (parcel (Replica new.me)) (fast_replies new.f new.me new.state id n (lookup (id_eq id) new.state.origin))) last
     ∙ (λ i.
-    let seen : ReplicaSeat = (h e es is).1 i in
+    let seen : ReplicaModel = (h e es is).1 i in
     let own : Id = (h e es is).0 i in
     sends ++ map (parcel (Replica seen.me)) (fast_replies seen.f seen.me seen.state own (length seen.state.log.entries - 1) (lookup (id_eq own) seen.state.origin)))
 
@@ -49,7 +49,7 @@ unfolding releases
 stop_is f me s [] q = refl
 stop_is f me s (e ∷ es) q = ap (λ b. cond b (after_first f me s e es) (s, [])) q
 
-pub goes_on : (f me : ℕ) (end : ReplicaData × List Parcel) (seat new : ReplicaSeat) (sends after : List Parcel) (early : List Entry) → seat.state.early ≡ early → first_may seat.state early ≡ true
+pub goes_on : (f me : ℕ) (end : ReplicaData × List Parcel) (seat new : ReplicaModel) (sends after : List Parcel) (early : List Entry) → seat.state.early ≡ early → first_may seat.state early ≡ true
     → ((e : Entry) (es : List Entry) → seat.state.early ≡ e ∷ es → new ≡ record seat { state = released seat.f seat.me seat.state e es })
     → ((e : Entry) (es : List Entry) → seat.state.early ≡ e ∷ es → after ≡ sends ++ map (parcel (Replica seat.me)) (release_replies seat.f seat.me (released seat.f seat.me seat.state e es) e))
     → Releases f me end seat sends → Releases f me end new after
@@ -70,9 +70,9 @@ goes_on f me end seat new sends after (e ∷ es) is may h k r =
           ∙ ap (λ (x : List Parcel). sends ++ x) (sym (map-append (parcel (Replica me)) (release_replies f me next e) (releases f me next es).1))
           ∙ sym told ∙ r.all;
     } in
-    subst (λ (v : ReplicaSeat). Releases f me end v after) (sym new-is) done
+    subst (λ (v : ReplicaModel). Releases f me end v after) (sym new-is) done
 
-pub is_done : (f me : ℕ) (end : ReplicaData × List Parcel) (seat : ReplicaSeat) (sends : List Parcel) → first_may seat.state seat.state.early ≡ false → Releases f me end seat sends
+pub is_done : (f me : ℕ) (end : ReplicaData × List Parcel) (seat : ReplicaModel) (sends : List Parcel) → first_may seat.state seat.state.early ≡ false → Releases f me end seat sends
     → (seat ≡ record { f = f; me = me; state = end.0 }) × (sends ≡ end.1)
 is_done f me end seat sends over r =
     let one = stop_is f me seat.state seat.state.early over in
@@ -80,13 +80,13 @@ is_done f me end seat sends over r =
     let sends-is : sends ≡ end.1 = sym (ap (λ (t : ReplicaData × List Out). sends ++ map (parcel (Replica me)) t.1) one ∙ append-nil sends) ∙ r.all in
     (λ i. record { f = r.size i; me = r.number i; state = state-is i }, sends-is)
 
-pub begins : (seat : ReplicaSeat) (sends : List Parcel) → is_normal seat.state.status ≡ true
+pub begins : (seat : ReplicaModel) (sends : List Parcel) → is_normal seat.state.status ≡ true
     → Releases seat.f seat.me ((releases seat.f seat.me seat.state seat.state.early).0, sends ++ map (parcel (Replica seat.me)) (releases seat.f seat.me seat.state seat.state.early).1) seat sends
 begins seat sends normal = record { size = refl; number = refl; normal = normal; state = refl; all = refl }
 
 -- a release leaves fewer
-pub fewer : (seat new : ReplicaSeat) (early : List Entry) → seat.state.early ≡ early → first_may seat.state early ≡ true
+pub fewer : (seat new : ReplicaModel) (early : List Entry) → seat.state.early ≡ early → first_may seat.state early ≡ true
     → ((e : Entry) (es : List Entry) → seat.state.early ≡ e ∷ es → new ≡ record seat { state = released seat.f seat.me seat.state e es })
     → length new.state.early < length seat.state.early
 fewer seat new [] is may h = absurd cc
-fewer seat new (e ∷ es) is may h = omega (arith, ap length is, ap (λ (v : ReplicaSeat). length v.state.early) (h e es is))
+fewer seat new (e ∷ es) is may h = omega (arith, ap length is, ap (λ (v : ReplicaModel). length v.state.early) (h e es is))

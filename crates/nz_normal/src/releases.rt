@@ -5,6 +5,7 @@ ghost use Rattle.nz_base.specs.declared.actor.Actor.TheVariants.{Replica as IsRe
 ghost use Rattle.nz_base.specs.declared.key.Entry.{Entry};
 ghost use Rattle.nz_machine.specs.Replicas.{is_normal};
 ghost use Rattle.nz_machine.specs.Releases.{released, release_replies, first_may, releases, release_rule};
+ghost use Rattle.nz_machine.specs.Does.{Does};
 ghost use Rattle.nz_machine.specs.Step.{parcel};
 
 use nz_base::NoMemory;
@@ -27,8 +28,7 @@ fn release_first(state: &mut ReplicaState, sends: &mut Sends) -> Result<(), NoMe
 /// Releases early entries up to the first that may not be.
 fn release_due(state: &mut ReplicaState, sends: &mut Sends) -> Result<(), NoMemory>
     requires normal { IsTrue (is_normal state.old.state.status) }
-    ensures state { OnOk result (state.new ≡ record state.old { state = (releases state.old.f state.old.me state.old.state state.old.state.early).0 }) }
-    ensures sends { OnOk result (sends.new ≡ sends.old ++ map (parcel (IsReplica state.old.me)) (releases state.old.f state.old.me state.old.state state.old.state.early).1) }
+    ensures { let s = state.old in OnOk result (Does s state.new sends.old sends.new (releases s.f s.me s.state s.state.early)) }
 {
     'due: while state.may_release() {
         release_first(state, sends)?;
@@ -39,8 +39,7 @@ fn release_due(state: &mut ReplicaState, sends: &mut Sends) -> Result<(), NoMemo
 /// What a replica does when its clock reads so many clock units.
 #[tactic(auto, unfolding(nz_machine::specs::Releases::release_rule))]
 pub fn tick(state: &mut ReplicaState, clock: u64, sends: &mut Sends) -> Result<(), NoMemory>
-    ensures state { OnOk result (state.new ≡ record state.old { state = (release_rule state.old.f state.old.me state.old.state clock).0 }) }
-    ensures sends { OnOk result (sends.new ≡ sends.old ++ map (parcel (IsReplica state.old.me)) (release_rule state.old.f state.old.me state.old.state clock).1) }
+    ensures { let s = state.old in OnOk result (Does s state.new sends.old sends.new (release_rule s.f s.me s.state clock)) }
 {
     state.set_clock(clock);
     if state.is_normal() {

@@ -9,6 +9,7 @@ ghost use Rattle.nz_msg.specs.Messages.{timed};
 ghost use Rattle.nz_msg.specs.declared.message.Message.TheVariants.{Timed};
 ghost use Rattle.nz_machine.specs.Replicas.{key_at as key_of};
 ghost use Rattle.nz_machine.specs.Requests.{replies_at, entry_at as entry_of, next_deadline as deadline_behind, restamped, placed, unlogged as unlogged_of, request_rule};
+ghost use Rattle.nz_machine.specs.Does.{Does};
 ghost use Rattle.nz_machine.specs.Step.{parcel, replica_message};
 
 use nz_base::{Actor, Entry, Id, Key, NoMemory, TryCopy};
@@ -122,8 +123,7 @@ fn request(
 ) -> Result<(), NoMemory>
     requires proxy { proxy ≤ 7 }
     requires fits { timed.fits body.now }
-    ensures state { OnOk result (state.new ≡ record state.old { state = (request_rule state.old.f state.old.me state.old.state proxy body.now).0 }) }
-    ensures sends { OnOk result (sends.new ≡ sends.old ++ map (parcel (IsReplica state.old.me)) (request_rule state.old.f state.old.me state.old.state proxy body.now).1) }
+    ensures { let s = state.old in OnOk result (Does s state.new sends.old sends.new (request_rule s.f s.me s.state proxy body.now)) }
 {
     if !state.is_normal() {
         return Ok(());
@@ -144,8 +144,7 @@ pub fn on_timed(
 ) -> Result<(), NoMemory>
     requires from { HasAddress from }
     requires fits { timed.fits body.now }
-    ensures state { OnOk result (state.new ≡ record state.old { state = (replica_message state.old.f state.old.me state.old.state from (Timed body.now)).0 }) }
-    ensures sends { OnOk result (sends.new ≡ sends.old ++ map (parcel (IsReplica state.old.me)) (replica_message state.old.f state.old.me state.old.state from (Timed body.now)).1) }
+    ensures { let s = state.old in OnOk result (Does s state.new sends.old sends.new (replica_message s.f s.me s.state from (Timed body.now))) }
 {
     match from {
         Actor::Proxy(proxy) => request(state, proxy, body, sends),

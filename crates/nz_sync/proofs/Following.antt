@@ -20,7 +20,7 @@ use Rattle.nz_msg.specs.declared.message.LogModBody.{LogModBody}
 use Rattle.nz_machine.specs.declared.event.Parcel.{Parcel}
 use Rattle.nz_machine.specs.State.{ReplicaData, Out}
 use Rattle.nz_machine.specs.Replicas.{slow_replies}
-use Rattle.nz_machine.specs.Facts.{ReplicaSeat}
+use Rattle.nz_machine.specs.Facts.{ReplicaModel}
 use Rattle.nz_machine.specs.LogMods.{kept_late, kept_all, sync_keys, replies_since, missing_ids, fetch_from, sync_report_to, taken_in, taken_from}
 use Rattle.nz_machine.specs.Step.{parcel}
 use Rattle.nz_machine.proofs.Pieces.{all_drop}
@@ -82,7 +82,7 @@ all_sent f sends first second third a b c one two three =
     ∙ ap (λ (xs : List Parcel). sends ++ xs) (sym (map-append f a (b ++ c) ∙ ap (λ (xs : List Parcel). map f a ++ xs) (map-append f b c)))
 
 -- what is sent behind the taking of keys: replies, a fetch and a report
-pub taken_sends : (f me leader : ℕ) (b : LogModBody) (s : ReplicaData) (keys : List Key) (seat : ReplicaSeat) (ids : List Id) (synced : ℕ) (sends first second third : List Parcel)
+pub taken_sends : (f me leader : ℕ) (b : LogModBody) (s : ReplicaData) (keys : List Key) (seat : ReplicaModel) (ids : List Id) (synced : ℕ) (sends first second third : List Parcel)
     → taken_from leader b s ≡ taken_in s leader b.commit (sync_keys s keys)
     → seat ≡ record { f = f; me = me; state = (taken_in s leader b.commit (sync_keys s keys)).0 }
     → ids ≡ missing_ids seat.state (sync_keys s keys).1 → synced ≡ s.log.synced
@@ -95,7 +95,7 @@ taken_sends f me leader b s keys seat ids synced sends first second third whole 
     all_sent (parcel (Replica seat.me)) sends first second third (replies_since seat.state synced) (fetch_from leader seat.state ids) (sync_report_to leader seat.state ∷ []) one two three
     ∙ (λ i. sends ++ map (parcel (Replica seat.me)) (replies_since seat.state (count i) ++ (fetch_from leader seat.state (missing i) ++ sync_report_to leader seat.state ∷ [])))
     ∙ (λ i.
-    let now : ReplicaSeat = is i in
+    let now : ReplicaModel = is i in
     sends ++ map (parcel (Replica now.me)) (replies_since now.state s.log.synced ++ (fetch_from leader now.state (missing_ids now.state left) ++ sync_report_to leader now.state ∷ [])))
     ∙ ap (λ (t : ReplicaData × List Out). sends ++ map (parcel (Replica me)) t.1) (sym whole)
 
@@ -110,7 +110,7 @@ unfolding kept_all
 next_kept s es i e within is =
     ap (kept_all s) (drop-cons es i e within ∙ (λ j. sym is j ∷ drop (sym (add-one i) j) es))
 
-pub all_kept : (seat first : ReplicaSeat) (es : List Entry) (i : ℕ) → length es ≤ i → seat.f ≡ first.f → seat.me ≡ first.me → kept_all seat.state (drop i es) ≡ kept_all first.state es
+pub all_kept : (seat first : ReplicaModel) (es : List Entry) (i : ℕ) → length es ≤ i → seat.f ≡ first.f → seat.me ≡ first.me → kept_all seat.state (drop i es) ≡ kept_all first.state es
     → seat ≡ record first { state = kept_all first.state es }
 unfolding kept_all
 all_kept seat first es i past size number is =

@@ -9,9 +9,9 @@ ghost use Rattle.nz_msg.specs.Messages.{fetch, fetch_reply};
 ghost use Rattle.nz_msg.specs.declared.message.Message.TheVariants.{Fetch, FetchReply};
 ghost use Rattle.nz_machine.specs.Facts.{FitsEntry};
 ghost use Rattle.nz_machine.specs.LogMods.{is_asked as is_asked_of, fetch_rule, kept_late, kept_all, fetch_reply_rule};
+ghost use Rattle.nz_machine.specs.Does.{Does, DoesSilently};
 ghost use Rattle.nz_machine.specs.Step.{parcel, replica_message};
 
-use super::log_mods::is_led_by;
 use nz_base::{Actor, Entry, EntryList, Id, NoMemory, TryCopy};
 use nz_machine::{ReplicaState, Sends, send};
 use nz_msg::{FetchBody, FetchReplyBody, Message};
@@ -54,10 +54,9 @@ fn reply(
 ) -> Result<(), NoMemory>
     requires sender { sender ≤ 8 }
     requires fits { fetch.fits body.now }
-    ensures state { (fetch_rule state.now.f state.now.me state.now.state sender body.now).0 ≡ state.now.state }
-    ensures sends { OnOk result (sends.new ≡ sends.old ++ map (parcel (IsReplica state.now.me)) (fetch_rule state.now.f state.now.me state.now.state sender body.now).1) }
+    ensures { let s = state.now in OnOk result (Does s s sends.old sends.new (fetch_rule s.f s.me s.state sender body.now)) }
 {
-    if !state.is_normal() || body.view != state.view() || !state.leads() {
+    if !state.leads_view() || body.view != state.view() {
         return Ok(());
     }
     let message = Message::FetchReply(FetchReplyBody {
@@ -77,8 +76,7 @@ pub fn on_fetch(
 ) -> Result<(), NoMemory>
     requires from { HasAddress from }
     requires fits { fetch.fits body.now }
-    ensures state { (replica_message state.now.f state.now.me state.now.state from (Fetch body.now)).0 ≡ state.now.state }
-    ensures sends { OnOk result (sends.new ≡ sends.old ++ map (parcel (IsReplica state.now.me)) (replica_message state.now.f state.now.me state.now.state from (Fetch body.now)).1) }
+    ensures { let s = state.now in OnOk result (Does s s sends.old sends.new (replica_message s.f s.me s.state from (Fetch body.now))) }
 {
     match from {
         Actor::Replica(sender) => reply(state, sender, body, sends),
@@ -116,11 +114,10 @@ pub fn on_fetch_reply(
     body: &FetchReplyBody,
 ) -> Result<(), NoMemory>
     requires { fetch_reply.fits body.now }
-    ensures state { OnOk result (state.new ≡ record state.old { state = (replica_message state.old.f state.old.me state.old.state from (FetchReply body.now)).0 }) }
-    ensures sends { (replica_message state.old.f state.old.me state.old.state from (FetchReply body.now)).1 ≡ [] }
+    ensures { let s = state.old in OnOk result (DoesSilently s state.new (replica_message s.f s.me s.state from (FetchReply body.now))) }
 {
     match from {
-        Actor::Replica(sender) if is_led_by(state, body.view, sender) => {
+        Actor::Replica(sender) if state.hears_leader(body.view, sender) => {
             keep_each(state, body.entries.as_slice())
         }
         _ => Ok(()),

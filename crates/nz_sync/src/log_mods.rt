@@ -10,6 +10,7 @@ ghost use Rattle.nz_msg.specs.Messages.{log_mod};
 ghost use Rattle.nz_msg.specs.declared.message.Message.TheVariants.{LogMod};
 ghost use Rattle.nz_machine.specs.Replicas.{is_normal, leads};
 ghost use Rattle.nz_machine.specs.LogMods.{replies_since as replies_since_of, fetch_from, sync_report_to, taken_from, log_mod_rule};
+ghost use Rattle.nz_machine.specs.Does.{Does};
 ghost use Rattle.nz_machine.specs.Step.{parcel, replica_message, is_in_cluster};
 
 use nz_base::{Actor, IdList, NoMemory};
@@ -69,8 +70,7 @@ fn take_keys(
     requires follows { IsFalse (leads state.old.f state.old.me state.old.state) }
     requires fits { log_mod.fits body.now }
     requires within { IsFalse (nat_lt state.old.state.log.synced body.now.start) }
-    ensures state { OnOk result (state.new ≡ record state.old { state = (taken_from leader body.now state.old.state).0 }) }
-    ensures sends { OnOk result (sends.new ≡ sends.old ++ map (parcel (IsReplica state.old.me)) (taken_from leader body.now state.old.state).1) }
+    ensures { let s = state.old in OnOk result (Does s state.new sends.old sends.new (taken_from leader body.now s.state)) }
 {
     let synced = state.log().synced();
     let skipped = (synced - body.start).min(body.keys.len());
@@ -90,23 +90,12 @@ fn take(
     requires leader { leader ≤ 8 }
     requires follows { IsFalse (leads state.old.f state.old.me state.old.state) }
     requires fits { log_mod.fits body.now }
-    ensures state { OnOk result (state.new ≡ record state.old { state = (taken_from leader body.now state.old.state).0 }) }
-    ensures sends { OnOk result (sends.new ≡ sends.old ++ map (parcel (IsReplica state.old.me)) (taken_from leader body.now state.old.state).1) }
+    ensures { let s = state.old in OnOk result (Does s state.new sends.old sends.new (taken_from leader body.now s.state)) }
 {
     if state.log().synced() < body.start {
         return report(state, leader, sends);
     }
     take_keys(state, leader, body, sends)
-}
-
-/// Whether a follower in normal operation takes what this replica tells of the view.
-pub fn is_led_by(state: &ReplicaState, view: u64, sender: u8) -> bool
-    ensures { result ≡ (is_normal state.now.state.status && ((view == state.now.state.view) && ((sender == leader_of state.now.f view) && not (leads state.now.f state.now.me state.now.state)))) }
-{
-    state.is_normal()
-        && view == state.view()
-        && sender == state.cluster().leader(view)
-        && !state.leads()
 }
 
 #[tactic(auto, unfolding(nz_machine::specs::LogMods::log_mod_rule))]
@@ -120,11 +109,10 @@ fn log_mod(
     requires sender { sender < replica_count state.old.f }
     requires vector { length body.now.vector ≡ replica_count state.old.f }
     requires fits { log_mod.fits body.now }
-    ensures state { OnOk result (state.new ≡ record state.old { state = (log_mod_rule state.old.f state.old.me state.old.state sender body.now).0 }) }
-    ensures sends { OnOk result (sends.new ≡ sends.old ++ map (parcel (IsReplica state.old.me)) (log_mod_rule state.old.f state.old.me state.old.state sender body.now).1) }
+    ensures { let s = state.old in OnOk result (Does s state.new sends.old sends.new (log_mod_rule s.f s.me s.state sender body.now)) }
 {
     state.has_facts();
-    if !is_led_by(state, body.view, sender) || body.vector.is_stray(sender, state.vector()) {
+    if !state.hears_leader(body.view, sender) || body.vector.is_stray(sender, state.vector()) {
         return Ok(());
     }
     state.merge_vector(&body.vector);
@@ -142,8 +130,7 @@ pub fn on_log_mod(
     requires member { IsTrue (is_in_cluster state.old.f from) }
     requires vector { length body.now.vector ≡ replica_count state.old.f }
     requires fits { log_mod.fits body.now }
-    ensures state { OnOk result (state.new ≡ record state.old { state = (replica_message state.old.f state.old.me state.old.state from (LogMod body.now)).0 }) }
-    ensures sends { OnOk result (sends.new ≡ sends.old ++ map (parcel (IsReplica state.old.me)) (replica_message state.old.f state.old.me state.old.state from (LogMod body.now)).1) }
+    ensures { let s = state.old in OnOk result (Does s state.new sends.old sends.new (replica_message s.f s.me s.state from (LogMod body.now))) }
 {
     match from {
         Actor::Replica(sender) => log_mod(state, sender, body, sends),

@@ -4,6 +4,7 @@ ghost use Rattle.std.specs.Prelude.{◌≡◌, [], IsTrue};
 ghost use Rattle.nz_base.specs.declared.actor.Actor.TheVariants.{Replica as IsReplica};
 ghost use Rattle.nz_msg.specs.declared.message.Message.TheVariants.{SyncReport};
 ghost use Rattle.nz_machine.specs.LogMods.{sync_report_rule};
+ghost use Rattle.nz_machine.specs.Does.{DoesSilently};
 ghost use Rattle.nz_machine.specs.Step.{replica_message, is_in_cluster};
 
 use nz_base::Actor;
@@ -14,14 +15,12 @@ use nz_msg::SyncReportBody;
 #[tactic(auto, unfolding(nz_machine::specs::LogMods::sync_report_rule))]
 pub fn on_sync_report(state: &mut ReplicaState, from: Actor, body: &SyncReportBody)
     requires { IsTrue (is_in_cluster state.old.f from) }
-    ensures state { state.new ≡ record state.old { state = (replica_message state.old.f state.old.me state.old.state from (SyncReport body.now)).0 } }
-    ensures sends { (replica_message state.old.f state.old.me state.old.state from (SyncReport body.now)).1 ≡ [] }
+    ensures { let s = state.old in DoesSilently s state.new (replica_message s.f s.me s.state from (SyncReport body.now)) }
 {
     match from {
         Actor::Replica(sender)
-            if state.is_normal()
+            if state.leads_view()
                 && body.view == state.view()
-                && state.leads()
                 && body.synced <= state.log().len() => { state.note_report(sender, body.synced) }
         _ => (),
     }

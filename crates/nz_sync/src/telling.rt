@@ -63,7 +63,7 @@ fn tell_others(state: &ReplicaState, sends: &mut Sends) -> Result<(), NoMemory>
 pub fn tell(state: &ReplicaState, sends: &mut Sends) -> Result<(), NoMemory>
     ensures { OnOk result (sends.new ≡ sends.old ++ map (parcel (IsReplica state.now.me)) (told state.now.f state.now.me state.now.state)) }
 {
-    if state.is_normal() && state.leads() {
+    if state.leads_view() {
         tell_others(state, sends)?;
     }
     Ok(())

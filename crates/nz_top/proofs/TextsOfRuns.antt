@@ -1,5 +1,5 @@
 -- What is printed of a run can be read back from its text.
-use Rattle.std.proofs.Common.{◌≡◌, ℕ, zero, suc, ◌-◌, ◌<◌, ◌≤◌, List, [], ◌∷◌, length, Option, Some, None, refl, sym, subst, arith, inl, inr, ltb-true, length-append}
+use Rattle.std.proofs.Common.{◌≡◌, ℕ, zero, suc, ◌-◌, ◌<◌, ◌≤◌, List, [], ◌∷◌, length, Option, Some, None, refl, arith, inl, inr, ltb-true, length-append}
 use Rattle.std.specs.Prelude.{Ok, IsSome, nat_lt, slice_get}
 use Rattle.std.specs.List.{AllByRecursion, list_any}
 use Rattle.nz_base.specs.Key.{id_of}
@@ -23,17 +23,13 @@ use Rattle.nz_machine.specs.Events.{Told, Sent, Accepted, id_at, command_of_requ
 use Rattle.nz_machine.specs.History.{history}
 use Rattle.nz_machine.specs.OneHistory.{Precedes}
 use Rattle.nz_machine.specs.Journals.{answered, executed_from}
-use Rattle.nz_machine.proofs.Runs.{all_has, has_left, on_cond, group_of}
+use Rattle.nz_machine.proofs.Runs.{all_has, on_cond, group_of}
 use Rattle.nz_machine.proofs.Each.{all_append}
 use Rattle.nz_machine.proofs.Pieces.{all_map, all_flat_map}
 use Rattle.nz_machine.proofs.FitRuns.{FitsState, all_fit}
 use Rattle.nz_machine.proofs.FitClients.{client_of}
-use Rattle.nz_lin.proofs.Prefixes.{prefix_length}
-use Rattle.nz_lin.proofs.Leader.{leader_log}
-use Rattle.nz_lin.proofs.Asked.{own_command}
-use Rattle.nz_lin.proofs.FactsStay.{facts_stay}
 use Rattle.nz_lin.proofs.Counts.{are_once}
-use Rattle.nz_lin.proofs.Histories.{history_is}
+use Rattle.nz_lin.proofs.Histories.{history_is, history_sent, history_few}
 use Rattle.nz_text.specs.declared.printed.Event.{Event}
 use Rattle.nz_text.specs.declared.printed.Event.TheVariants.{Send, Accept}
 use Rattle.nz_text.specs.Fit.{FitsId, FitsEvent, FitsExecuted, FitsPrinted}
@@ -98,9 +94,9 @@ event_fits : (g : Group) (J : List Record) (t : Told) → World g J → Has (eve
 event_fits g J (Sent id command) w h = request_fits g J id command w h
 event_fits g J (Accepted id answer path) w h =
     let request = (are_once g J).in_order id answer path h in
-    let front = (history_is g J w).covers id answer path h in
-    let by = front.is.answered in
-    ((request_fits g J id request.0 w (first_has (events g J) (Sent id request.0) (Accepted id answer path) request.1)).0, reply_fits (commands front.front) by.place answer by.answered)
+    let covered = (history_is g J w).covers id answer path h in
+    let by = covered.given.from.answered in
+    ((request_fits g J id request.0 w (first_has (events g J) (Sent id request.0) (Accepted id answer path) request.1)).0, reply_fits (commands covered.prefix) by.place answer by.answered)
 
 all_by : {X : Type 0} (P : X → Type 0) (xs : List X) → ((x : X) → Has xs x → P x) → AllByRecursion P xs
 all_by P [] h = tt
@@ -124,11 +120,7 @@ abbrev IsRequest : Entry → Type 0
 IsRequest e = FitsId (id_of e.key) × IsSome (command_of e.command)
 
 requests : (g : Group) (J : List Record) → World g J → AllByRecursion IsRequest (history g J)
-requests g J w =
-    let front = (history_is g J w).prefix in
-    all_by IsRequest (history g J) (λ e h.
-    let in_log : Has (leader_log g J) e = subst (λ (l : List Entry). Has l e) (sym front.whole) (has_left (history g J) front.rest e h) in
-    request_fits g J (id_of e.key) e.command w (own_command g J 0 e w in_log))
+requests g J w = all_by IsRequest (history g J) (λ e h. request_fits g J (id_of e.key) e.command w (history_sent g J w e h))
 
 answered_fits : (H : List Entry) (place : ℕ) (e : Entry) (o : Option Answer) → reply (commands H) place ≡ o → IsRequest e → AllByRecursion FitsExecuted (answered e o)
 answered_fits H place e None is h = tt
@@ -156,14 +148,13 @@ few_executed H place (e ∷ es) =
 fits : (g : Group) (J : List Record) → World g J → FitsPrinted (printed g J)
 fits g J w =
     let own = events_fit g J w in
-    let short = prefix_length (history g J) (leader_log g J) (history_is g J w).prefix in
-    let few = (facts_stay g J 0 w).few in
+    let few = history_few g J w in
     let executed_few = few_executed (history g J) 0 (history g J) in
     record {
       events = own;
       unanswered = all_flat_map FitsId (open_in (events_in g J)) (events_in g J) (each_open (events_in g J) (events_in g J) own);
       history = executed_fit (history g J) 0 (history g J) (requests g J w);
-      few = omega (arith, short, few, executed_few);
+      few = omega (arith, few, executed_few);
     }
 
 pub texts_are_read : (g : Group) (J : List Record) → World g J → printed_in (text g J) ≡ Ok (printed g J)

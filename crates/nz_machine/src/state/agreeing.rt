@@ -9,15 +9,13 @@ ghost use Rattle.nz_machine.specs.Requests.{is_full};
 ghost use Rattle.nz_machine.specs.Vectors.{with_vector};
 ghost use Rattle.nz_machine.specs.LogMods.{is_held, with_ack, with_commit, sync_keys, overtaken, committed_to, missing_ids};
 
-use super::super::data::Status;
 use super::super::parts::vector_fits;
 use super::super::reporting::reported;
 use super::super::taking::sync_parts;
-use super::ReplicaState;
+use super::{ReplicaState, forget};
 use nz_base::{Id, IdList, Key, NoMemory};
-use nz_buffers::{Early, Late};
 use nz_cv::CrashVector;
-use nz_log::{HashedLog, MAX_ENTRIES};
+use nz_log::MAX_ENTRIES;
 
 impl ReplicaState {
     /// Takes in what a message's crash vector knows.
@@ -27,24 +25,24 @@ impl ReplicaState {
     {
         // Each of its counters has four bytes.
         vector_fits(vector);
-        self.vector.merge(vector, self.me);
+        self.parts.vector.merge(vector, self.parts.me);
     }
 
     /// Whether an entry with the id is in log, early or late.
     pub fn holds(&self, id: Id) -> bool
         ensures { result ≡ is_held self.now.state id }
     {
-        self.log.place_of(id).is_some()
-            || self.early.find(id).is_some()
-            || self.late.find(id).is_some()
+        self.parts.log.place_of(id).is_some()
+            || self.parts.early.find(id).is_some()
+            || self.parts.late.find(id).is_some()
     }
 
     /// Whether log, early and late together hold as many entries as a log may.
     pub fn is_full(&self) -> bool
         ensures { result ≡ is_full self.now.state }
     {
-        let waiting = self.early.len().saturating_add(self.late.len());
-        waiting.saturating_add(self.log.len() as usize) >= MAX_ENTRIES as usize
+        let waiting = self.parts.early.len().saturating_add(self.parts.late.len());
+        waiting.saturating_add(self.parts.log.len() as usize) >= MAX_ENTRIES as usize
     }
 
     /// How many entries of a replica's log agree with the leader's, as its reports say.
@@ -52,7 +50,7 @@ impl ReplicaState {
         requires { replica < replica_count self.now.f }
         ensures { result ≡ slice_index self.now.state.ack replica }
     {
-        self.ack[replica as usize]
+        self.parts.ack[replica as usize]
     }
 
     /// The ids of some keys that are found nowhere.
@@ -60,7 +58,7 @@ impl ReplicaState {
     pub fn missing(&self, keys: &[Key]) -> Result<IdList, NoMemory>
         ensures { IfOk result (λ ids. ids ≡ missing_ids self.now.state keys.now) }
     {
-        let mut ids = IdList::new(self.alloc);
+        let mut ids = IdList::new(self.parts.alloc);
         for key in keys {
             let id = key.id();
             if !self.holds(id) {
@@ -79,8 +77,12 @@ impl ReplicaState {
         ensures { self.new ≡ record self.old { state = with_commit self.old.f self.old.me (with_ack self.old.state sender synced) } }
     {
         let place = sender as usize;
-        self.ack[place] = self.ack[place].max(synced);
-        self.commit = self.commit.max(reported(self.cluster, self.me, &self.ack));
+        self.parts.ack[place] = self.parts.ack[place].max(synced);
+        self.parts.commit = self.parts.commit.max(reported(
+            self.parts.cluster,
+            self.parts.me,
+            &self.parts.ack,
+        ));
     }
 
     /// Takes keys of the leader's log, and commits what the leader committed. Gives the place of the first
@@ -93,23 +95,18 @@ impl ReplicaState {
         ensures missing { IfOk result (λ place. (sync_keys self.old.state keys.now).1 ≡ drop place keys.now) }
     {
         match sync_parts(
-            self.alloc,
-            &mut self.log,
-            &mut self.early,
-            &mut self.late,
+            self.parts.alloc,
+            &mut self.parts.log,
+            &mut self.parts.early,
+            &mut self.parts.late,
             keys,
         ) {
             Ok(place) => {
-                self.commit = self.commit.max(commit.min(self.log.synced()));
+                self.parts.commit = self.parts.commit.max(commit.min(self.parts.log.synced()));
                 Ok(place)
             }
             Err(error) => {
-                // What ran out of memory on the way holds nothing.
-                self.status = Status::Down;
-                self.commit = 0;
-                self.log = HashedLog::new(self.alloc);
-                self.early = Early::new(self.alloc);
-                self.late = Late::new(self.alloc);
+                forget(&mut self.parts);
                 Err(error)
             }
         }

@@ -3,8 +3,8 @@ use Rattle.std.specs.Prelude.{slice_set}
 use Rattle.std.proofs.lemmas.List.{get_or_default}
 use Rattle.std.proofs.lemmas.List.Edits.{map_over_more}
 use Rattle.nz_fabric.specs.declared.deliveries.Delivery.{Delivery}
-use Rattle.nz_fabric.specs.Coming.{last_tick, put_off}
-use Rattle.nz_fabric.proofs.Faulting.{held_is, over_all}
+use Rattle.nz_fabric.specs.Posting.{last_tick, put_off}
+use Rattle.nz_fabric.proofs.Numbering.{held_is, over_all}
 use Rattle.nz_fabric.proofs.deliveries.held.Goals as goal
 
 pub loop-place-preserved : goal.loop-place-preserved

@@ -1,5 +1,5 @@
 use Rattle.std.proofs.Common.{◌≡◌, ◌++◌, map, take, drop}
-use Rattle.nz_fabric.specs.Coming.{put_off}
+use Rattle.nz_fabric.specs.Posting.{put_off}
 use Rattle.nz_fabric.proofs.deliveries.held.Given as goal
 
 abbrev pub invariant-loop-place : goal.invariant-loop-place

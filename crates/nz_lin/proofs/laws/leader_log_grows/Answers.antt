@@ -1,5 +1,5 @@
-use Rattle.nz_lin.proofs.Leader.{log_only_grows}
+use Rattle.nz_lin.proofs.Leading.{lead_only_grows}
 use Rattle.nz_lin.proofs.laws.leader_log_grows.Goals as goal
 
 pub returns : goal.returns
-returns c = log_only_grows
+returns c = lead_only_grows

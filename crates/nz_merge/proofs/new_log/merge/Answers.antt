@@ -30,4 +30,4 @@ pub returns : goal.returns
 returns c =
     let none = rest_all deref c.loop-key.key-iterator c.next.new.self c.next.result c.in-None.is c.next.ensures.steps in
     ended _ _ c.loop-key.log _ c.loop-key.key-iterator none c.loop-key.invariant
-    ∙ same_merge _ c.args.cluster c.greatest_last-view.result _ c.args.changes.now (omega (arith, c.from-least.ensures, c.div_ceil.ensures, c.f.ensures.value)) c.as_slice-changes.ensures c.greatest_last-view.ensures
+    ∙ same_merge _ c.args.cluster c.greatest_last-view.result _ c.args.changes.now (omega (arith, c.from-least.ensures, c.div_ceil.ensures, c.f.ensures.value)) c.as_slice-changes.ensures.value c.greatest_last-view.ensures

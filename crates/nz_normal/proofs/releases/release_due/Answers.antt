@@ -10,8 +10,7 @@ due-preserved c =
     goes_on c.args.state.now.f c.args.state.now.me _ c.due.state c.release_first.new.state c.due.sends c.release_first.new.sends c.due.state.state.early refl (sym c.may_release.ensures ∙ c.due-test.true)
     c.in_ok-release_first.ensures.state c.in_ok-release_first.ensures.sends c.due.invariant
 
-pub returns-clause-state : goal.returns-clause-state
-returns-clause-state c = (is_done c.args.state.now.f c.args.state.now.me _ c.due.state c.due.sends (sym c.may_release.ensures ∙ c.due-test.false) c.due.invariant).0
-
-pub returns-clause-sends : goal.returns-clause-sends
-returns-clause-sends c = (is_done c.args.state.now.f c.args.state.now.me _ c.due.state c.due.sends (sym c.may_release.ensures ∙ c.due-test.false) c.due.invariant).1
+pub returns : goal.returns
+returns c =
+    let done = is_done c.args.state.now.f c.args.state.now.me _ c.due.state c.due.sends (sym c.may_release.ensures ∙ c.due-test.false) c.due.invariant in
+    record { state = done.0; sends = done.1 }

@@ -2,4 +2,4 @@ use Rattle.nz_fabric.proofs.Held.{held_start}
 use Rattle.nz_fabric.proofs.alone.Alone.new.Goals as goal
 
 pub invariant_of-result : goal.invariant_of-result
-invariant_of-result c = held_start c.args.scenario c.in_ok-ticks.ticks c.requires c.in_ok-ticks.ensures
+invariant_of-result c = held_start c.args.scenario c.new.result c.new-2.result.items _ c.requires c.new.ensures c.new-2.ensures.items

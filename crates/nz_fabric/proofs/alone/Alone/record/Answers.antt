@@ -6,7 +6,8 @@ use Rattle.nz_fabric.proofs.alone.Alone.record.Goals as goal
 
 pub invariant_of-self : goal.invariant_of-self
 invariant_of-self c =
-    let f = c.self.inside.ticks in
+    let f = c.self.inside in
+    let t = f.ticks in
     rw (c.push_reserved.ensures.items, c.push_reserved.ensures.capacity)
-    (held_record f.scenario f.tick f.before (vec_capacity f.records) f.records.items f.items.items f.next f.marked f.coming c.args.turn c.args.sends c.self.invariant
+    (held_record t.scenario t.tick f.before (vec_capacity f.records) f.records.items t.items.items t.next t.marked t.calendar c.args.turn c.args.sends c.self.invariant
     (subst (λ (s : State). IsOpen s c.args.turn) (sym c.self.view_is) c.requires))

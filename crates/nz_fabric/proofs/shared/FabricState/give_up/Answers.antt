@@ -8,6 +8,6 @@ invariant_of-self g c =
     let f = c.self.inside in
     let out = c.close.ensures in (
       c.self.invariant.0,
-      booked_given_up _ f.book.total c.sub.new.self.total (state_in f.ticks) f.running.items c.close.new.running.items f.ticks.before _ f.ticks.records.items f.ticks.coming _ c.close.result
+      booked_given_up _ f.book.total c.sub.new.self.total (state_in f.ticks f.before f.records.items) f.running.items c.close.new.running.items f.before _ f.records.items f.ticks.calendar _ c.close.result
           c.self.invariant.1 out.place (out.turn c.close.result) out.closed (omega (arith, c.sub.ensures.total, c.audit.ensures.total)),
     )

@@ -1,4 +1,6 @@
-use Rattle.std.proofs.Common.{◌≡◌, subst, sym, ℕ, List}
+use Rattle.std.proofs.Common.{◌≡◌, ◌∙◌, ap, subst, sym, ℕ, List}
+use Rattle.std.specs.Prelude.{reverse}
+use Rattle.nz_fabric.proofs.Held.{all_records}
 use Rattle.nz_base.specs.declared.scenario.Scenario.{Scenario}
 use Rattle.nz_machine.specs.declared.event.Record.{Record}
 use Rattle.nz_machine.specs.Schedule.{Scheduled, ScheduledTo}
@@ -9,10 +11,13 @@ use Rattle.nz_fabric.proofs.shared.FabricState.into_journal.Goals as goal
 
 pub returns-clause-scheduled : goal.returns-clause-scheduled
 returns-clause-scheduled g c =
-    let f = state_in c.self.inside.ticks in
+    let f = state_in c.self.inside.ticks c.self.inside.before c.self.inside.records.items in
     let k = c.self.invariant.1.accounted in
     let J = records_of f in
     let order : ScheduledTo f.scenario f.tick J = scheduled_now _ f c.self.inside.running.items k (subst IsOver (sym c.self.view_is) c.requires.over) in
     let last : f.tick ≡ f.scenario.ticks = subst (λ (f : Shared). f.run.tick ≡ f.run.scenario.ticks) (sym c.self.view_is) c.requires.last in
     let whole : Scheduled f.scenario J = subst (λ (n : ℕ). ScheduledTo f.scenario n J) last order in
-    subst (λ (J : List Record). Scheduled g.N.Name.scenario J) (sym c.into_journal.ensures.records) (subst (λ (s : Scenario). Scheduled s J) k.scenario whole)
+    subst (λ (J : List Record). Scheduled g.N.Name.scenario J) (sym (ap reverse c.from_vec.ensures ∙ sym (all_records c.self.inside.before c.self.inside.records.items))) (subst (λ (s : Scenario). Scheduled s J) k.scenario whole)
+
+pub returns-clause-records : goal.returns-clause-records
+returns-clause-records g c = ap reverse c.from_vec.ensures ∙ sym (all_records c.self.inside.before c.self.inside.records.items) ∙ ap (λ (f : Shared). records_of f.run) c.self.view_is

@@ -8,9 +8,10 @@ use Rattle.nz_fabric.proofs.shared.FabricState.new.Goals as goal
 
 pub invariant_of-state : goal.invariant_of-state
 invariant_of-state g c =
-    let t = c.in_ok-ticks.ticks in
+    let t = c.new.result in
+    let records = c.new-2.result in
     let total = c.open-book.result.0.total in (
       omega (arith, c.requires.name),
-      subst (λ (s : Scenario). IsBooked s total (state_in t) c.new-2.result.items t.before (vec_capacity t.records) t.records.items t.coming) c.requires.scenario
-          (booked_start c.args.scenario total t c.new-2.result.items c.requires.playable c.in_ok-ticks.ensures c.new-2.ensures.items c.open-book.ensures.total),
+      subst (λ (s : Scenario). IsBooked s total (state_in t 0 records.items) c.new-3.result.items 0 (vec_capacity records) records.items t.calendar) c.requires.scenario
+          (booked_start c.args.scenario total t records.items c.new-3.result.items (vec_capacity records) c.requires.playable c.new.ensures c.new-2.ensures.items c.new-3.ensures.items c.open-book.ensures.total),
     )

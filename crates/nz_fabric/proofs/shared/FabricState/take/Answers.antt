@@ -12,9 +12,9 @@ invariant_of-self-2 g c =
     let inv = c.self.invariant in
     let o : Running = record { number = c.len-2.result + c.len-3.result + 1; item = c.in_ok-item.item } in
     let next = inv.1.accounted.next in
-    let lt : t.next < length t.items.items = omega (arith, next, c.if-ticks-len.false, c.len.ensures) in (
+    let lt : t.next < length t.items.items = omega (arith, next, c.if-self-len.false, c.len.ensures) in (
       inv.0,
       rw (c.in_ok-push.ensures.items, c.reserve.ensures.items)
-          (booked_taken _ f.book.total c.add.new.self.total (state_in t) f.running.items o t.before (vec_capacity t.records) (vec_capacity c.reserve.new.self) t.records.items t.coming inv.1 lt c.in_ok-item.ensures
+          (booked_taken _ f.book.total c.add.new.self.total (state_in t f.before f.records.items) f.running.items o f.before (vec_capacity f.records) (vec_capacity c.reserve.new.self) f.records.items t.calendar inv.1 lt c.in_ok-item.ensures
           (omega (arith, c.if-taken.false, c.len-2.ensures, c.len-3.ensures)) (omega (arith, c.in_ok-reserve.ensures.ok, c.len-4.ensures)) c.add.ensures.total),
     )

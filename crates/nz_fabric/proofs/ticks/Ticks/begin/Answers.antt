@@ -1,20 +1,25 @@
-use Rattle.std.proofs.Common.{◌++◌, ◌∙◌, subst, ap, List, refl, arith}
-use Rattle.std.specs.Prelude.{drop}
-use Rattle.std.proofs.lemmas.List.{take_rest}
-use Rattle.nz_machine.specs.declared.event.Record.{Record}
-use Rattle.nz_fabric.specs.Coming.{posted_by, IsComing}
-use Rattle.nz_fabric.proofs.Held.{due_now, state_next}
+use Rattle.std.proofs.Common.{◌≡◌, ◌+◌, ◌++◌, ◌∙◌, [], List, map, refl, ap, arith, append_assoc}
+use Rattle.nz_machine.specs.declared.journal.Item.{Item}
+use Rattle.nz_machine.specs.Schedule.{calls, tick_item, actors_of, arrivals}
 use Rattle.nz_fabric.proofs.ticks.Ticks.begin.Goals as goal
 
 pub returns-clause-ok : goal.returns-clause-ok
-returns-clause-ok c =
+returns-clause-ok c = λ L h.
     let t = c.args.self.now in
-    let due = due_now t.scenario t.tick t.before t.records.items t.coming c.post_all.new.self c.due_items.new.coming c.in_ok-self.field-0.items c.requires.more c.requires.ticks c.requires.is_coming
-    (λ s now L h. subst (λ (rs : List Record). IsComing s now (L ++ posted_by rs) c.post_all.new.self) (take_rest c.deref.result.now t.before ∙ ap (drop t.before) c.deref.ensures.value) (c.in_ok-post_all.ensures s now L h))
-    c.in_ok-self.ensures.items c.in_ok-self.ensures.lines c.in_ok-self.ensures.left in
+    let s = t.scenario in
+    let next = t.tick + 1 in
+    let first = calls next 0 s.faults in
+    let clocks = map (tick_item s next) (actors_of s) in
+    let due : c.take.result ≡ arrivals s next [] L = c.take.ensures.due s L t.tick h (omega arith) (omega (arith, c.requires.more)) in
     record {
-      state = state_next t.scenario t.tick t.before c.len-self.result t.records.items t.items.items c.in_ok-self.field-0.items t.next t.marked (omega (arith, c.len-self.ensures)) c.requires.unmarked due.are_due;
-      records = refl;
-      before = omega (arith, c.len-self.ensures);
-      is_coming = due.is_coming;
+      scenario = refl;
+      tick = refl;
+      items =
+          c.append.ensures
+          ∙ ap (λ (is : List Item). is ++ c.take.result) (c.reserve.ensures.items ∙ c.in_ok-items.ensures)
+          ∙ ap (λ (is : List Item). (first ++ clocks) ++ is) due
+          ∙ append_assoc first clocks (arrivals s next [] L);
+      next = refl;
+      unmarked = refl;
+      stands = c.take.ensures.stands s L t.tick h (omega arith);
     }

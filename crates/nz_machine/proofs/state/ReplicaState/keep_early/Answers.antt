@@ -1,14 +1,14 @@
 use Rattle.std.proofs.Common.{IsTrue, IsFalse, sym, subst}
 use Rattle.nz_base.specs.Key.{id_of}
 use Rattle.nz_base.specs.Log.{keys_of, has_id, is_above_last}
-use Rattle.nz_machine.specs.Facts.{ReplicaSeat}
+use Rattle.nz_machine.specs.Facts.{ReplicaModel}
 use Rattle.nz_machine.proofs.Kept.{kept_early}
 use Rattle.nz_machine.proofs.state.ReplicaState.keep_early.Goals as goal
 
 pub invariant_of-self-2 : goal.invariant_of-self-2
 invariant_of-self-2 c =
     kept_early _ _ _ _ c.args.entry _ _ c.self.invariant c.requires.fit
-    (subst (λ (v : ReplicaSeat). IsTrue (is_above_last (keys_of v.state.log.entries) c.args.entry.key)) (sym c.self.view_is) c.requires.above)
-    (subst (λ (v : ReplicaSeat). IsFalse (has_id (keys_of v.state.log.entries) (id_of c.args.entry.key))) (sym c.self.view_is) c.requires.logged)
-    (subst (λ (v : ReplicaSeat). IsFalse (has_id (keys_of v.state.early) (id_of c.args.entry.key))) (sym c.self.view_is) c.requires.held)
+    (subst (λ (v : ReplicaModel). IsTrue (is_above_last (keys_of v.state.log.entries) c.args.entry.key)) (sym c.self.view_is) c.requires.above)
+    (subst (λ (v : ReplicaModel). IsFalse (has_id (keys_of v.state.log.entries) (id_of c.args.entry.key))) (sym c.self.view_is) c.requires.logged)
+    (subst (λ (v : ReplicaModel). IsFalse (has_id (keys_of v.state.early) (id_of c.args.entry.key))) (sym c.self.view_is) c.requires.held)
     c.in_ok-put_early.ensures.early c.in_ok-put_early.ensures.late

@@ -1,13 +1,13 @@
 use Rattle.std.proofs.Common.{IsFalse, sym, subst}
 use Rattle.nz_base.specs.Key.{id_of}
 use Rattle.nz_base.specs.Log.{keys_of, has_id}
-use Rattle.nz_machine.specs.Facts.{ReplicaSeat}
+use Rattle.nz_machine.specs.Facts.{ReplicaModel}
 use Rattle.nz_machine.proofs.Kept.{kept_late}
 use Rattle.nz_machine.proofs.state.ReplicaState.keep_late.Goals as goal
 
 pub invariant_of-self-2 : goal.invariant_of-self-2
 invariant_of-self-2 c =
     kept_late _ _ _ _ c.args.entry _ c.self.invariant c.requires.fit
-    (subst (λ (v : ReplicaSeat). IsFalse (has_id (keys_of v.state.log.entries) (id_of c.args.entry.key))) (sym c.self.view_is) c.requires.logged)
-    (subst (λ (v : ReplicaSeat). IsFalse (has_id (keys_of v.state.early) (id_of c.args.entry.key))) (sym c.self.view_is) c.requires.held)
+    (subst (λ (v : ReplicaModel). IsFalse (has_id (keys_of v.state.log.entries) (id_of c.args.entry.key))) (sym c.self.view_is) c.requires.logged)
+    (subst (λ (v : ReplicaModel). IsFalse (has_id (keys_of v.state.early) (id_of c.args.entry.key))) (sym c.self.view_is) c.requires.held)
     c.in_ok-put_late.ensures.ok

@@ -1,12 +1,12 @@
 use Rattle.std.proofs.Common.{◌≡◌, length, eq-eqb, sym, subst}
 use Rattle.nz_base.specs.Cluster.{replica_count}
-use Rattle.nz_machine.specs.Facts.{ReplicaSeat}
+use Rattle.nz_machine.specs.Facts.{ReplicaModel}
 use Rattle.nz_machine.proofs.Fields.{vector_counts}
 use Rattle.nz_machine.proofs.Synced.{kept_vector}
 use Rattle.nz_machine.proofs.state.ReplicaState.merge_vector.Goals as goal
 
 pub invariant_of-self : goal.invariant_of-self
 invariant_of-self c =
-    let long = subst (λ (v : ReplicaSeat). length c.args.vector.now ≡ replica_count v.f) (sym c.self.view_is) c.requires in
+    let long = subst (λ (v : ReplicaModel). length c.args.vector.now ≡ replica_count v.f) (sym c.self.view_is) c.requires in
     let counters = vector_counts _ c.args.vector.now c.vector_fits.ensures (eq-eqb (length c.args.vector.now) _ long) in
     kept_vector _ _ _ _ c.args.vector.now _ c.self.invariant counters c.merge.ensures

@@ -1,8 +1,8 @@
 use Rattle.std.proofs.Common.{◌≡◌, Bool, true, sym, ap, subst, ◌∙◌}
-use Rattle.nz_machine.specs.Facts.{ReplicaSeat}
+use Rattle.nz_machine.specs.Facts.{ReplicaModel}
 use Rattle.nz_machine.specs.Replicas.{leads}
 use Rattle.nz_machine.specs.Releases.{appended, executed, first_may}
-use Rattle.nz_machine.proofs.Kept.{first_may_stand, room_left, kept_release, kept_lost}
+use Rattle.nz_machine.proofs.Kept.{first_may_stand, room_left, kept_release, kept_crashed}
 use Rattle.nz_machine.proofs.state.ReplicaState.release.Goals as goal
 
 pub take_in-requires-clause-above : goal.take_in-requires-clause-above
@@ -14,12 +14,12 @@ take_in-requires-clause-fresh c = (first_may_stand _ _ _ _ c.in-Some.entry c.tak
 pub invariant_of-self : goal.invariant_of-self
 invariant_of-self c =
     let entry = c.in-Some.entry in
-    let first = subst (λ (v : ReplicaSeat). first_may v.state v.state.early ≡ true) (sym c.self.view_is) c.requires.first in
-    let leading = subst (λ (v : ReplicaSeat). c.leads-leads.result ≡ leads v.f v.me v.state) (sym c.self.view_is) c.leads-leads.ensures in
+    let first = subst (λ (v : ReplicaModel). first_may v.state v.state.early ≡ true) (sym c.self.view_is) c.requires.first in
+    let leading = subst (λ (v : ReplicaModel). c.leads-leads.result ≡ leads v.f v.me v.state) (sym c.self.view_is) c.leads-leads.ensures in
     kept_release _ _ _ _ entry c.take_due.new.self _ _ _ c.self.invariant c.in-Some.ensures.rest (room_left _ _ _ _ entry c.take_due.new.self c.self.invariant c.in-Some.ensures.rest first)
-    (c.in-Ok.ensures.log ∙ ap (λ (b : Bool). appended b c.self.inside.log entry) leading)
-    (c.in-Ok.ensures.results ∙ ap (λ (b : Bool). executed b c.self.inside.results.items c.self.inside.log.entries entry) leading)
+    (c.in-Ok.ensures.log ∙ ap (λ (b : Bool). appended b c.self.inside.parts.log entry) leading)
+    (c.in-Ok.ensures.results ∙ ap (λ (b : Bool). executed b c.self.inside.parts.results.items c.self.inside.parts.log.entries entry) leading)
     (λ normal lead. c.in-Ok.ensures.store (leading ∙ lead))
 
 pub invariant_of-self-in-Err : goal.invariant_of-self-in-Err
-invariant_of-self-in-Err c = kept_lost _ _ _ _ _ _ _ _ c.self.invariant c.new.ensures c.new-in-Err-2.ensures.items c.new-in-Err.ensures
+invariant_of-self-in-Err c = kept_crashed _ _ _ _ c.self.invariant.member c.forget.ensures

@@ -1,6 +1,7 @@
 use Rattle.std.proofs.Common.{◌≡◌, drop, max, min, IsFalse, sym, ap, subst, ◌∙◌, arith}
 use Rattle.nz_machine.specs.State.{ReplicaData}
-use Rattle.nz_machine.specs.Facts.{ReplicaSeat}
+use Rattle.nz_machine.specs.Facts.{ReplicaModel}
+use Rattle.nz_machine.specs.Parts.{data_of}
 use Rattle.nz_machine.specs.Replicas.{leads}
 use Rattle.nz_machine.specs.LogMods.{sync_keys, overtaken, committed_to}
 use Rattle.nz_machine.proofs.Synced.{kept_apart, kept_sync, sync_state}
@@ -11,59 +12,20 @@ sync_parts-requires-clause-apart c = kept_apart _ _ _ _ c.self.invariant
 
 pub invariant_of-self : goal.invariant_of-self
 invariant_of-self c =
-    let s : ReplicaData =
-    record {
-      status = c.self.inside.status;
-      clock = c.self.inside.clock;
-      view = c.self.inside.view;
-      log = c.self.inside.log;
-      commit = c.self.inside.commit;
-      results = c.self.inside.results.items;
-      vector = c.self.inside.vector;
-      early = c.self.inside.early;
-      late = c.self.inside.late;
-      origin = c.self.inside.origin.entries;
-      ack = c.self.inside.ack.items;
-    } in
-    let committed : c.max-self-inside.result ≡ max c.self.inside.commit (min c.args.commit c.sync_parts.new.log.synced) = omega arith in
-    kept_sync c.self.inside.cluster c.self.inside.me s c.self.inside.store c.args.keys.now c.args.commit c.sync_parts.new.log c.sync_parts.new.early c.sync_parts.new.late c.max-self-inside.result c.self.invariant
-    (subst (λ (v : ReplicaSeat). IsFalse (leads v.f v.me v.state)) (sym c.self.view_is) c.requires.follows) c.requires.fit (c.in-Ok.ensures.parts s) committed
+    let s : ReplicaData = data_of c.self.inside.parts in
+    let committed : c.max-self-inside.result ≡ max c.self.inside.parts.commit (min c.args.commit c.sync_parts.new.log.synced) = omega arith in
+    kept_sync c.self.inside.parts.cluster c.self.inside.parts.me s c.self.inside.parts.store c.args.keys.now c.args.commit c.sync_parts.new.log c.sync_parts.new.early c.sync_parts.new.late c.max-self-inside.result c.self.invariant
+    (subst (λ (v : ReplicaModel). IsFalse (leads v.f v.me v.state)) (sym c.self.view_is) c.requires.follows) c.requires.fit (c.in-Ok.ensures.parts s) committed
 
 pub returns-in-Ok-clause-state : goal.returns-in-Ok-clause-state
 returns-in-Ok-clause-state c =
-    let s : ReplicaData =
-    record {
-      status = c.self.inside.status;
-      clock = c.self.inside.clock;
-      view = c.self.inside.view;
-      log = c.self.inside.log;
-      commit = c.self.inside.commit;
-      results = c.self.inside.results.items;
-      vector = c.self.inside.vector;
-      early = c.self.inside.early;
-      late = c.self.inside.late;
-      origin = c.self.inside.origin.entries;
-      ack = c.self.inside.ack.items;
-    } in
-    let committed : c.max-self-inside.result ≡ max c.self.inside.commit (min c.args.commit c.sync_parts.new.log.synced) = omega arith in
+    let s : ReplicaData = data_of c.self.inside.parts in
+    let committed : c.max-self-inside.result ≡ max c.self.inside.parts.commit (min c.args.commit c.sync_parts.new.log.synced) = omega arith in
     let now = sync_state s c.args.keys.now c.args.commit c.sync_parts.new.log c.sync_parts.new.early c.sync_parts.new.late c.max-self-inside.result (c.in-Ok.ensures.parts s) committed in
-    ap (λ (t : ReplicaData). record { f = c.self.inside.cluster; me = c.self.inside.me; state = t }) now
-    ∙ ap (λ (v : ReplicaSeat). record { f = v.f; me = v.me; state = committed_to (overtaken (sync_keys v.state c.args.keys.now).0) c.args.commit }) c.self.view_is
+    ap (λ (t : ReplicaData). record { f = c.self.inside.parts.cluster; me = c.self.inside.parts.me; state = t }) now
+    ∙ ap (λ (v : ReplicaModel). record { f = v.f; me = v.me; state = committed_to (overtaken (sync_keys v.state c.args.keys.now).0) c.args.commit }) c.self.view_is
 
 pub returns-in-Ok-clause-missing : goal.returns-in-Ok-clause-missing
 returns-in-Ok-clause-missing c =
-    let s : ReplicaData =
-    record {
-      status = c.self.inside.status;
-      clock = c.self.inside.clock;
-      view = c.self.inside.view;
-      log = c.self.inside.log;
-      commit = c.self.inside.commit;
-      results = c.self.inside.results.items;
-      vector = c.self.inside.vector;
-      early = c.self.inside.early;
-      late = c.self.inside.late;
-      origin = c.self.inside.origin.entries;
-      ack = c.self.inside.ack.items;
-    } in
-    subst (λ (v : ReplicaSeat). (sync_keys v.state c.args.keys.now).1 ≡ drop c.in-Ok.place c.args.keys.now) c.self.view_is (c.in-Ok.ensures.missing s)
+    let s : ReplicaData = data_of c.self.inside.parts in
+    subst (λ (v : ReplicaModel). (sync_keys v.state c.args.keys.now).1 ≡ drop c.in-Ok.place c.args.keys.now) c.self.view_is (c.in-Ok.ensures.missing s)

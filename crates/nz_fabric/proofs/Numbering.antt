@@ -1,0 +1,177 @@
+-- The number of a parcel among those of its sender, receiver and kind, and what fault lines make of its deliveries.
+use Rattle.std.proofs.Common.{◌≡◌, ℕ, ◌+◌, ◌-◌, ◌<◌, ◌≤◌, eqb, min, Bool, true, false, cond, Option, Some, None, List, [], ◌∷◌, ◌++◌, length, map, refl, sym, ap, ◌∙◌, subst, arith, length-append, append-nil, take_all, length-take-le, get_or-drop}
+use Rattle.std.specs.Prelude.{◌^◌, ◌&&◌, filter, take, drop, get_or, unwrap_or, MatchOption}
+use Rattle.std.specs.Map.{lookup}
+use Rattle.std.proofs.lemmas.Bool.{eqb-true}
+use Rattle.std.proofs.lemmas.Bool.Decides.{nat_tests}
+use Rattle.std.proofs.lemmas.List.{drop_all, get_or-append_right, get_or-map, length-map, take_more, map-append}
+use Rattle.std.proofs.lemmas.List.Elements.{filter-append}
+use Rattle.nz_base.proofs.Booleans.{length-filter_le}
+use Rattle.std.proofs.lemmas.Option.{same_Some}
+use Rattle.nz_base.proofs.Names.{same_actor}
+use Rattle.nz_base.specs.Actor.{actor_eq}
+use Rattle.nz_base.specs.declared.actor.Actor.{Actor}
+use Rattle.nz_base.specs.declared.actor.Actor.TheVariants.{Replica, Proxy, Client}
+use Rattle.nz_base.specs.declared.scenario.Fault.{Fault}
+use Rattle.nz_base.specs.declared.scenario.Fault.TheVariants as faults
+use Rattle.nz_machine.specs.declared.event.Parcel.{Parcel}
+use Rattle.nz_machine.specs.Schedule.{Delivery as Planned, Posted, posted_in, later, held, repeated, cut_short, is_of, is_nth, has_kind, kind_of, faulted, faulted_by}
+use Rattle.nz_fabric.specs.declared.deliveries.Delivery.{Delivery}
+use Rattle.nz_fabric.specs.declared.course.Course.{Course}
+use Rattle.nz_fabric.specs.Calendars.{course, course_eq, count_of, parcels_of, row_number, IsCounted}
+use Rattle.nz_fabric.specs.Posting.{stored, put_off, HasNumber, strikes, struck}
+
+-- ---- what was held
+
+put_off_is : (by : ℕ) (d : Planned) → put_off by (stored d) ≡ stored (later by d)
+put_off_is by d = ap (λ (t : ℕ). let x : Delivery = record { tick = t; kept = d.kept } in x) (omega arith)
+
+pub held_is : (by : ℕ) (ds : List Planned) → map (put_off by) (map stored ds) ≡ map stored (held by ds)
+held_is by [] = refl
+held_is by (d ∷ ds) = let ih = held_is by ds in let this = put_off_is by d in cc
+
+-- ---- the parcel that a line strikes
+
+same_test : (b : Bool) (n m count : ℕ) → (b ≡ true → n ≡ m) → (eqb n count && b) ≡ (b && eqb m count)
+same_test true n m count h = rw (h refl) (and_true (eqb m count))
+  where
+    and_true : (b : Bool) → (b && true) ≡ b
+    and_true true = refl
+    and_true false = refl
+same_test false n m count h = and_false (eqb n count)
+  where
+    and_false : (b : Bool) → (b && false) ≡ false
+    and_false true = refl
+    and_false false = refl
+
+pub struck_by_number : (from to : Actor) (kind count number : ℕ) (earlier : List Parcel) (p : Parcel) → HasNumber earlier p number
+    → (eqb number count && is_of from to kind p) ≡ is_nth from to kind count earlier p
+struck_by_number from to kind count number earlier p h = same_test (is_of from to kind p) number (length (filter (is_of from to kind) earlier) + 1) count (h from to kind)
+
+-- ---- the number of a parcel
+
+both_true : (a b : Bool) → (a && b) ≡ true → (a ≡ true) × (b ≡ true)
+both_true true b h = (refl, h)
+both_true false b h = absurd (false_is_not_true h)
+  where
+    false_is_not_true : ¬ (false ≡ true)
+    false_is_not_true h = cc
+
+kind_is : (kind : ℕ) (k : Option ℕ) → has_kind kind k ≡ true → k ≡ Some kind
+kind_is kind None h = cc
+kind_is kind (Some k) h = ap Some (eqb-true k kind h)
+
+number_for : (earlier : List Parcel) (p : Parcel) (k : Option ℕ) (counts : List (Course × ℕ)) (number kind : ℕ) → k ≡ Some kind → count_of counts (course p.from p.to kind) ≡ length (filter (is_of p.from p.to kind) earlier) → length earlier < 2 ^ 64 - 1
+    → MatchOption k (number ≡ 0) (λ k. number ≡ min (count_of counts (course p.from p.to k) + 1) (2 ^ 64 - 1)) → number ≡ length (filter (is_of p.from p.to kind) earlier) + 1
+number_for earlier p None counts number kind e count few h = cc
+number_for earlier p (Some k) counts number kind e count few h =
+    let same : k ≡ kind = same_Some k kind e in
+    let now : number ≡ min (count_of counts (course p.from p.to kind) + 1) (2 ^ 64 - 1) = subst (λ (k : ℕ). number ≡ min (count_of counts (course p.from p.to k) + 1) (2 ^ 64 - 1)) same h in
+    let le = length-filter_le (is_of p.from p.to kind) earlier in
+    omega (arith, now, count, le, few)
+
+pub numbered : (earlier : List Parcel) (p : Parcel) (k : Option ℕ) (counts : List (Course × ℕ)) (number : ℕ) → k ≡ kind_of p.frame
+    → ((from to : Actor) (kind : ℕ) → count_of counts (course from to kind) ≡ length (filter (is_of from to kind) earlier)) → length earlier < 2 ^ 64 - 1
+    → MatchOption k (number ≡ 0) (λ k. number ≡ min (count_of counts (course p.from p.to k) + 1) (2 ^ 64 - 1)) → HasNumber earlier p number
+numbered earlier p k counts number own known few h = λ from to kind yes.
+    let a = both_true (actor_eq p.from from) _ yes in
+    let b = both_true (actor_eq p.to to) _ a.1 in
+    let is : k ≡ Some kind = own ∙ kind_is kind (kind_of p.frame) b.1 in
+    subst (λ (x : Actor). number ≡ length (filter (is_of x to kind) earlier) + 1) (same_actor p.from from a.0)
+    (subst (λ (x : Actor). number ≡ length (filter (is_of p.from x kind) earlier) + 1) (same_actor p.to to b.0) (number_for earlier p k counts number kind is (known p.from p.to kind) few h))
+
+-- ---- one parcel more
+
+one_if : (from to : Actor) (kind : ℕ) (earlier : List Parcel) (p : Parcel) (b : Bool) → is_of from to kind p ≡ b
+    → length (filter (is_of from to kind) (earlier ++ p ∷ [])) ≡ length (filter (is_of from to kind) earlier) + cond b 1 0
+one_if from to kind earlier p b e =
+    let f = is_of from to kind in
+    ap length (filter-append f earlier (p ∷ [])) ∙ length-append (filter f earlier) (filter f (p ∷ []))
+    ∙ ap (λ (xs : List Parcel). length (filter f earlier) + length xs) (ap (λ (c : Bool). cond c (p ∷ []) []) e) ∙ lone b p (length (filter f earlier))
+  where
+    lone : (b : Bool) (p : Parcel) (n : ℕ) → n + length (cond b (p ∷ []) []) ≡ n + cond b 1 0
+    lone true p n = refl
+    lone false p n = refl
+
+counted_by : (from to : Actor) (kind number now then : ℕ) (earlier : List Parcel) (p : Parcel) (b : Bool) → is_of from to kind p ≡ b → HasNumber earlier p number → now ≡ length (filter (is_of from to kind) earlier)
+    → then ≡ cond b number now → then ≡ length (filter (is_of from to kind) (earlier ++ p ∷ []))
+counted_by from to kind number now then earlier p true e h count step = step ∙ h from to kind e ∙ sym (one_if from to kind earlier p true e)
+counted_by from to kind number now then earlier p false e h count step = let one = one_if from to kind earlier p false e in omega (arith, one, step, count)
+
+-- each actor has a number of its own
+same_number : (a b : Actor) → eqb (row_number a) (row_number b) ≡ actor_eq a b
+same_number (Replica n) (Replica m) = grind (arith, nat_tests)
+same_number (Replica n) (Proxy m) = grind (arith, nat_tests)
+same_number (Replica n) (Client m) = grind (arith, nat_tests)
+same_number (Proxy n) (Replica m) = grind (arith, nat_tests)
+same_number (Proxy n) (Proxy m) = grind (arith, nat_tests)
+same_number (Proxy n) (Client m) = grind (arith, nat_tests)
+same_number (Client n) (Replica m) = grind (arith, nat_tests)
+same_number (Client n) (Proxy m) = grind (arith, nat_tests)
+same_number (Client n) (Client m) = grind (arith, nat_tests)
+
+counted_one : (before after : List (Course × ℕ)) (p : Parcel) (k : Option ℕ) (number : ℕ) (from to : Actor) (kind : ℕ) → k ≡ kind_of p.frame → IsCounted before after p k number
+    → count_of after (course from to kind) ≡ cond (is_of from to kind p) number (count_of before (course from to kind))
+counted_one before after p None number from to kind own h =
+    ap (λ (counts : List (Course × ℕ)). count_of counts (course from to kind)) h ∙ ap (λ (b : Bool). cond b number (count_of before (course from to kind))) (sym (none_of (actor_eq p.from from) (actor_eq p.to to) (has_kind kind (kind_of p.frame)) (ap (has_kind kind) (sym own))))
+  where
+    none_of : (a b c : Bool) → c ≡ false → (a && (b && c)) ≡ false
+    none_of true true c h = h
+    none_of true false c h = refl
+    none_of false b c h = refl
+counted_one before after p (Some k) number from to kind own h =
+    h (course from to kind)
+    ∙ ap (λ (b : Bool). cond (b && (eqb (row_number p.to) (row_number to) && eqb k kind)) number (count_of before (course from to kind))) (same_number p.from from)
+    ∙ ap (λ (b : Bool). cond (actor_eq p.from from && (b && eqb k kind)) number (count_of before (course from to kind))) (same_number p.to to)
+    ∙ ap (λ (o : Option ℕ). cond (actor_eq p.from from && (actor_eq p.to to && has_kind kind o)) number (count_of before (course from to kind))) own
+
+pub counted : (before after : List (Course × ℕ)) (L : List Posted) (tick : ℕ) (p : Parcel) (k : Option ℕ) (number : ℕ) → k ≡ kind_of p.frame → IsCounted before after p k number → HasNumber (parcels_of L) p number
+    → ((from to : Actor) (kind : ℕ) → count_of before (course from to kind) ≡ length (filter (is_of from to kind) (parcels_of L)))
+    → (from to : Actor) (kind : ℕ) → count_of after (course from to kind) ≡ length (filter (is_of from to kind) (parcels_of (L ++ posted_in tick p ∷ [])))
+counted before after L tick p k number own h is known from to kind =
+    counted_by from to kind number (count_of before (course from to kind)) (count_of after (course from to kind)) (parcels_of L) p (is_of from to kind p) refl is (known from to kind) (counted_one before after p k number from to kind own h)
+    ∙ ap (λ (ps : List Parcel). length (filter (is_of from to kind) ps)) (sym (map-append (λ (x : Posted). x.parcel) L (posted_in tick p ∷ [])))
+
+-- ---- one fault line more
+
+-- a line leaves the deliveries of a parcel that it does not strike
+pub faulted_is : (tick : ℕ) (earlier : List Parcel) (p : Parcel) (line : Fault) (ds : List Planned) (b : Bool) → strikes tick earlier p line ≡ b → faulted tick earlier p line ds ≡ cond b (struck p line ds) ds
+faulted_is tick earlier p (faults.Drop from to kind count) ds b e = ap (λ (b : Bool). cond b [] ds) e
+faulted_is tick earlier p (faults.Hold from to kind count by) ds b e = ap (λ (b : Bool). cond b (held by ds) ds) e
+faulted_is tick earlier p (faults.Twice from to kind count by) ds b e = ap (λ (b : Bool). cond b (repeated by ds) ds) e
+faulted_is tick earlier p (faults.Cut from to kind count keep) ds b e = ap (λ (b : Bool). cond b (cut_short keep (length p.frame) ds) ds) e
+faulted_is tick earlier p (faults.Block from to first last) ds b e = ap (λ (b : Bool). cond b [] ds) e
+faulted_is tick earlier p (faults.Crash a t) ds b e = ap (λ (b : Bool). cond b ds ds) e
+faulted_is tick earlier p (faults.Restart a t) ds b e = ap (λ (b : Bool). cond b ds ds) e
+faulted_is tick earlier p (faults.Alarm a t) ds b e = ap (λ (b : Bool). cond b ds ds) e
+
+faulted_by_push : (tick : ℕ) (earlier : List Parcel) (p : Parcel) (lines : List Fault) (line : Fault) (ds : List Planned)
+    → faulted_by tick earlier p (lines ++ line ∷ []) ds ≡ faulted tick earlier p line (faulted_by tick earlier p lines ds)
+faulted_by_push tick earlier p [] line ds = refl
+faulted_by_push tick earlier p (x ∷ lines) line ds = faulted_by_push tick earlier p lines line (faulted tick earlier p x ds)
+
+pub one_line : (tick : ℕ) (earlier : List Parcel) (p : Parcel) (faults : List Fault) (first : List Planned) (i : ℕ) (line : Fault) (now next : List Delivery)
+    → i < length faults → line ≡ get_or faults i line → now ≡ map stored (faulted_by tick earlier p (take i faults) first)
+    → ((ds : List Planned) → now ≡ map stored ds → next ≡ map stored (faulted tick earlier p line ds))
+    → next ≡ map stored (faulted_by tick earlier p (take (i + 1) faults) first)
+one_line tick earlier p faults first i line now next lt at so_far step =
+    let more : take (i + 1) faults ≡ take i faults ++ line ∷ [] = take_more faults i line lt ∙ ap (λ (x : Fault). take i faults ++ x ∷ []) (sym at) in
+    step (faulted_by tick earlier p (take i faults) first) so_far
+    ∙ ap (map stored) (sym (faulted_by_push tick earlier p (take i faults) line first) ∙ ap (λ (xs : List Fault). faulted_by tick earlier p xs first) (sym more))
+
+-- ---- loops
+
+-- when all places of a list are done
+pub over_all : {X : Type 0} (f : X → X) (xs ys : List X) (i : ℕ) → ys ≡ map f (take i xs) ++ drop i xs → length xs ≤ i → ys ≡ map f xs
+over_all f xs ys i e le = e ∙ ap (λ zs. map f zs ++ drop i xs) (take_all i xs le) ∙ ap (λ zs. map f xs ++ zs) (drop_all i xs le) ∙ append-nil (map f xs)
+
+-- ---- counts
+
+pub count_updated : (before after : List (Course × ℕ)) (c own : Course) (number : ℕ) (p : Parcel) (k : ℕ) → lookup (course_eq c) after ≡ cond (course_eq own c) (Some number) (lookup (course_eq c) before) → own ≡ course p.from p.to k
+    → count_of after c ≡ cond (course_eq (course p.from p.to k) c) number (count_of before c)
+count_updated before after c own number p k now is =
+    ap (λ (o : Option ℕ). unwrap_or o 0) now ∙ out (course_eq own c) (lookup (course_eq c) before) ∙ ap (λ (o : Course). cond (course_eq o c) number (count_of before c)) is
+  where
+    out : (b : Bool) (o : Option ℕ) → unwrap_or (cond b (Some number) o) 0 ≡ cond b number (unwrap_or o 0)
+    out true o = refl
+    out false o = refl

@@ -1,0 +1,23 @@
+use Rattle.std.proofs.Common.{◌≡◌, ◌∙◌, ◌++◌, [], ◌∷◌, ℕ, List, sym, ap, map, subst}
+use Rattle.std.proofs.lemmas.List.{map-append}
+use Rattle.std.specs.Prelude.{Vec}
+use Rattle.std.specs.Global.{Global}
+use Rattle.nz_machine.specs.declared.journal.Item.{Item}
+use Rattle.nz_fabric.specs.Calendars.{items_in}
+use Rattle.nz_fabric.specs.Posting.{days_of, HasRoomFor}
+use Rattle.nz_fabric.proofs.Dating.{one_empty, room_more}
+use Rattle.nz_fabric.proofs.calendar.open_days.Goals as goal
+
+pub days-preserved : goal.days-preserved
+days-preserved c =
+    let days = c.days.days.items in
+    let v = c.new.result in
+    let opened : days_of c.push.new.self.items ≡ days_of days ++ [] ∷ [] =
+    ap days_of c.in_ok-push.ensures.items ∙ map-append (λ (v : Vec Item Global). v.items) days (v ∷ []) ∙ ap (λ (x : List Item). days_of days ++ x ∷ []) c.new.ensures.items in
+    record {
+      same = λ t. ap (λ (D : List (List Item)). items_in D t) opened ∙ one_empty (days_of days) t ∙ c.days.invariant.same t;
+      rooms = λ n t h. subst (λ (days : List (Vec Item Global)). HasRoomFor n days t) (sym c.in_ok-push.ensures.items) (room_more n days v t (c.days.invariant.rooms n t h));
+    }
+
+pub returns-in_err-push-clause-rooms : goal.returns-in_err-push-clause-rooms
+returns-in_err-push-clause-rooms c = λ n t h. subst (λ (days : List (Vec Item Global)). HasRoomFor n days t) (sym c.in_err-push.ensures.items) (c.days.invariant.rooms n t h)

@@ -1,0 +1,12 @@
+use Rattle.std.proofs.Common.{◌≡◌, ◌-◌, ◌++◌, ℕ, length}
+use Rattle.nz_fabric.specs.Calendars.{items_in}
+use Rattle.nz_fabric.specs.Posting.{days_of, arriving, HasRooms, AreShort}
+use Rattle.nz_fabric.proofs.calendar.place_all.Given as goal
+
+abbrev pub invariant-loop-arrival : goal.invariant-loop-arrival
+invariant-loop-arrival l = record {
+  whole : l.yielded ++ l.arrival-iterator.rest.items ≡ l.fn.arrivals.items;
+  short : AreShort l.days.items;
+  rooms : HasRooms (length l.fn.arrivals.items - length l.yielded) l.days.items l.fn.arrivals.items;
+  placed : (t : ℕ) → items_in (days_of l.days.items) t ≡ items_in (days_of l.fn.days.items) t ++ arriving t l.yielded;
+}

@@ -1,0 +1,9 @@
+use Rattle.std.proofs.Common.{◌≡◌, ◌+◌, List, [], ◌∷◌, map, take}
+use Rattle.nz_machine.specs.declared.event.Parcel.{Parcel}
+use Rattle.nz_machine.specs.Schedule.{whole_in, faulted_by}
+use Rattle.nz_fabric.specs.Posting.{stored, HasNumber}
+use Rattle.nz_fabric.proofs.faults.deliveries_of.Given as goal
+
+abbrev pub invariant-loop-fault : goal.invariant-loop-fault
+invariant-loop-fault l = (earlier : List Parcel) → HasNumber earlier l.parcel l.number
+    → l.deliveries.items ≡ map stored (faulted_by l.tick earlier l.parcel (take l.fault-index l.faults) (whole_in (l.tick + 1) ∷ []))

@@ -1,0 +1,117 @@
+//! A calendar by itself.
+ghost use Rattle.std.specs.Prelude.{◌≡◌, ◌≤◌, length, IfOk};
+ghost use Rattle.std.specs.List.{AllByRecursion};
+ghost use Rattle.nz_machine.specs.Schedule.{IsPlayable};
+ghost use Rattle.nz_machine.specs.World.{IsAsked, request_count};
+
+use super::calendar::Calendar;
+use nz_base::{
+    Actor, Blob, Cluster, Fault, FaultList, Request, RequestList, Scenario, ScriptList, SkewList,
+};
+use nz_frame::Frame;
+use nz_machine::{Event, Item, Parcel};
+use nz_store::read_command;
+use std::alloc::Global;
+use std::test::*;
+
+/// Frames have this number for a request on its way to the replicas.
+const TIMED: u8 = 2;
+
+/// `put a 1`.
+fn script(alloc: Global) -> Result<RequestList, Fail>
+    ensures { IfOk result (λ script. (length script ≡ 1) × AllByRecursion IsAsked script) }
+{
+    let bytes = &[1, 1, b'a', 0, 1, b'1'];
+    if read_command(alloc, bytes)?.is_none() {
+        return Err("no command".into());
+    }
+    let mut script = RequestList::new(alloc);
+    script.push(Request {
+        wait: 0,
+        command: Blob::from_slice(alloc, bytes)?,
+    })?;
+    Ok(script)
+}
+
+fn scripts(alloc: Global) -> Result<ScriptList, Fail>
+    ensures { IfOk result (λ scripts. (length scripts ≡ 1) × ((request_count scripts ≡ 1) × AllByRecursion (λ script. AllByRecursion IsAsked script) scripts)) }
+{
+    let mut scripts = ScriptList::new(alloc);
+    scripts.push(script(alloc)?)?;
+    Ok(scripts)
+}
+
+/// One client with one request. What the proxy sends first to replica 0 comes a second time 20 ticks later, and to
+/// replica 1 it comes 5 ticks later.
+fn twice_and_held(alloc: Global) -> Result<Scenario, Fail>
+    ensures { IfOk result IsPlayable }
+{
+    let mut faults = FaultList::new(alloc);
+    faults.push(Fault::Twice {
+        from: Actor::Proxy(0),
+        to: Actor::Replica(0),
+        kind: TIMED,
+        count: 1,
+        by: 20,
+    })?;
+    faults.push(Fault::Hold {
+        from: Actor::Proxy(0),
+        to: Actor::Replica(1),
+        kind: TIMED,
+        count: 1,
+        by: 5,
+    })?;
+    Ok(Scenario {
+        cluster: Cluster::new(1).ok_or("1 is an f")?,
+        proxies: 1,
+        clients: 1,
+        ticks: 40,
+        skews: SkewList::new(alloc),
+        scripts: scripts(alloc)?,
+        faults,
+    })
+}
+
+/// A message of the kind from the proxy to a replica, in tick 2.
+fn send(alloc: Global, calendar: &mut Calendar, scenario: &Scenario, to: u8) -> Result<(), Fail>
+    requires playable { IsPlayable scenario.now }
+    requires to { to ≤ 8 }
+{
+    let (from, to) = (Actor::Proxy(0), Actor::Replica(to));
+    let frame = Frame::write(alloc, TIMED, from.address(), to.address(), &[])?;
+    if calendar.parcels() == u64::MAX {
+        return Err("too many parcels".into());
+    }
+    calendar.post(scenario, 2, &Parcel { from, to, frame })?;
+    Ok(())
+}
+
+/// Notes the tick and the replica of each delivery, which is to be whole.
+fn note(came: &mut Vec<(u32, u8)>, tick: u32, items: &[Item]) -> Result<(), Fail> {
+    for item in items {
+        match (&item.event, item.actor) {
+            (Event::Deliver(_), Actor::Replica(number)) => came.push((tick, number))?,
+            _ => return Err("no whole delivery to a replica".into()),
+        }
+    }
+    Ok(())
+}
+
+#[test]
+fn a_copy_and_a_held_delivery_come_in_their_ticks(rt: HostRuntime) -> Result<(), Fail> {
+    let alloc = rt.alloc();
+    let scenario = twice_and_held(alloc)?;
+    let mut calendar = Calendar::new(alloc);
+    let mut came = Vec::new(alloc);
+    for tick in 1..3 {
+        note(&mut came, tick, calendar.take(tick).as_slice())?;
+    }
+    for number in 0..3 {
+        send(alloc, &mut calendar, &scenario, number)?;
+    }
+    for tick in 3..41 {
+        note(&mut came, tick, calendar.take(tick).as_slice())?;
+    }
+    assert_eq!(rt; came.as_slice(), &[(3, 0), (3, 2), (8, 1), (23, 0)]);
+    Ok(())
+}

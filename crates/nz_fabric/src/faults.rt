@@ -1,0 +1,176 @@
+ghost use Rattle.std.specs.Prelude.{◌≡◌, ◌+◌, ◌&&◌, ◌==◌, ◌∷◌, [], List, map, IfOk, OnOk};
+ghost use Rattle.nz_machine.specs.declared.event.Parcel.{Parcel as Parcels};
+ghost use Rattle.nz_machine.specs.Schedule.{Delivery as Planned, is_of as is_of_kind, is_nth as is_nth_of_kind, is_named as is_named_by, is_blocked as is_blocked_by, kind_of as kind_in, whole_in, faulted as faulted_of, faulted_by};
+ghost use Rattle.nz_fabric.specs.Posting.{stored, strikes as strikes_of, struck, HasNumber};
+
+use crate::deliveries::{Delivery, cut_short, held, repeated};
+use nz_base::{Actor, Fault, NoMemory};
+use nz_machine::Parcel;
+use std::alloc::Global;
+
+/// Whether a parcel whose frame has this kind is of a kind from the one actor to the other.
+fn is_of(from: Actor, to: Actor, kind: u8, parcel: &Parcel, own: Option<u8>) -> bool
+    requires { own ≡ kind_in parcel.now.frame }
+    ensures { result ≡ is_of_kind from to kind parcel.now }
+{
+    own == Some(kind) && parcel.from.is(&from) && parcel.to.is(&to)
+}
+
+/// Whether a parcel is of this kind from the one actor to the other, and has the number of the line.
+fn is_numbered(
+    from: Actor,
+    to: Actor,
+    kind: u8,
+    count: u32,
+    parcel: &Parcel,
+    own: Option<u8>,
+    number: u64,
+) -> bool
+    requires { own ≡ kind_in parcel.now.frame }
+    ensures { result ≡ ((number == count) && is_of_kind from to kind parcel.now) }
+{
+    number == u64::from(count) && is_of(from, to, kind, parcel, own)
+}
+
+/// The same, by the parcels that were sent earlier.
+fn is_nth(
+    from: Actor,
+    to: Actor,
+    kind: u8,
+    count: u32,
+    parcel: &Parcel,
+    own: Option<u8>,
+    number: u64,
+) -> bool
+    requires { own ≡ kind_in parcel.now.frame }
+    ensures { (earlier : List Parcels) → HasNumber earlier parcel.now number → result ≡ is_nth_of_kind from to kind count earlier parcel.now }
+{
+    is_numbered(from, to, kind, count, parcel, own, number)
+}
+
+/// Whether an end of a block names the actor.
+fn is_named(end: Option<Actor>, actor: Actor) -> bool
+    ensures { result ≡ is_named_by end actor }
+{
+    match end {
+        None => true,
+        Some(named) => named.is(&actor),
+    }
+}
+
+/// Whether what is sent in a tick is blocked.
+fn is_blocked(
+    from: Option<Actor>,
+    to: Option<Actor>,
+    first: u32,
+    last: u32,
+    tick: u32,
+    parcel: &Parcel,
+) -> bool
+    ensures { result ≡ is_blocked_by from to first last tick parcel.now }
+{
+    is_named(from, parcel.from) && is_named(to, parcel.to) && first <= tick && tick <= last
+}
+
+/// Whether a fault line strikes a parcel that is sent in a tick, and is the one of this number among those of its
+/// sender, receiver and kind.
+fn strikes(fault: Fault, tick: u32, parcel: &Parcel, own: Option<u8>, number: u64) -> bool
+    requires { own ≡ kind_in parcel.now.frame }
+    ensures { (earlier : List Parcels) → HasNumber earlier parcel.now number → result ≡ strikes_of tick earlier parcel.now fault }
+{
+    match fault {
+        Fault::Drop {
+            from,
+            to,
+            kind,
+            count,
+        }
+        | Fault::Hold {
+            from,
+            to,
+            kind,
+            count,
+            ..
+        }
+        | Fault::Twice {
+            from,
+            to,
+            kind,
+            count,
+            ..
+        }
+        | Fault::Cut {
+            from,
+            to,
+            kind,
+            count,
+            ..
+        } => is_nth(from, to, kind, count, parcel, own, number),
+        Fault::Block {
+            from,
+            to,
+            first,
+            last,
+        } => is_blocked(from, to, first, last, tick, parcel),
+        Fault::Crash { .. } | Fault::Restart { .. } | Fault::Alarm { .. } => false,
+    }
+}
+
+/// What a fault line makes of the deliveries of a parcel that it strikes.
+fn strike(fault: Fault, parcel: &Parcel, deliveries: &mut Vec<Delivery>) -> Result<(), NoMemory>
+    ensures { (ds : List Planned) → deliveries.old.items ≡ map stored ds → OnOk result (deliveries.new.items ≡ map stored (struck parcel.now fault ds)) }
+{
+    match fault {
+        Fault::Drop { .. } | Fault::Block { .. } => deliveries.clear(),
+        Fault::Hold { by, .. } => held(by, deliveries.as_mut_slice()),
+        Fault::Twice { by, .. } => repeated(by, deliveries)?,
+        Fault::Cut { keep, .. } => {
+            cut_short(keep, parcel.frame.len(), deliveries.as_mut_slice());
+        }
+        Fault::Crash { .. } | Fault::Restart { .. } | Fault::Alarm { .. } => {}
+    }
+    Ok(())
+}
+
+/// What a fault line makes of the deliveries of a parcel that is sent in a tick.
+fn faulted(
+    fault: Fault,
+    tick: u32,
+    parcel: &Parcel,
+    own: Option<u8>,
+    number: u64,
+    deliveries: &mut Vec<Delivery>,
+) -> Result<(), NoMemory>
+    requires { own ≡ kind_in parcel.now.frame }
+    ensures { (earlier : List Parcels) (ds : List Planned) → HasNumber earlier parcel.now number → deliveries.old.items ≡ map stored ds
+        → OnOk result (deliveries.new.items ≡ map stored (faulted_of tick earlier parcel.now fault ds)) }
+{
+    if strikes(fault, tick, parcel, own, number) {
+        strike(fault, parcel, deliveries)?;
+    }
+    Ok(())
+}
+
+/// The deliveries of a parcel that is sent in a tick, as the fault lines leave them.
+pub fn deliveries_of(
+    alloc: Global,
+    faults: &[Fault],
+    tick: u32,
+    parcel: &Parcel,
+    own: Option<u8>,
+    number: u64,
+) -> Result<Vec<Delivery>, NoMemory>
+    requires { own ≡ kind_in parcel.now.frame }
+    ensures { (earlier : List Parcels) → HasNumber earlier parcel.now number
+        → IfOk result (λ v. v.items ≡ map stored (faulted_by tick earlier parcel.now faults.now (whole_in (tick + 1) ∷ []))) }
+{
+    let mut deliveries = Vec::new(alloc);
+    deliveries.push(Delivery {
+        tick: tick.saturating_add(1),
+        kept: None,
+    })?;
+    for fault in faults {
+        faulted(*fault, tick, parcel, own, number, &mut deliveries)?;
+    }
+    Ok(deliveries)
+}
