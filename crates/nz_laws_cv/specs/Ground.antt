@@ -23,7 +23,7 @@ module _ {R : Type 0} (N : Notions R) where
   -- At T the replica y told x's present incarnation its vector, for the counter that x claimed.
   pub record TellsVector (x : ℕ) (K : List R) (y : ℕ) (T : List R) : Type 0 where
     pub at : At K T
-    -- Who tells is Normal.
+    -- Who tells is up.
     pub up : N.IsUp y T
     -- It tells after the restart that began x's incarnation.
     pub inside : N.inc x T ≡ N.inc x K
@@ -35,11 +35,11 @@ module _ {R : Type 0} (N : Notions R) where
     pub at : At J T
     -- It was collected before the completing record.
     pub before : length T < length C
-    -- Who answers is Normal.
+    -- Who answers is up.
     pub up : N.IsUp y T
     -- It answers after the restart that began m's incarnation.
     pub inside : N.inc m T ≡ N.inc m C
-    -- It has the own counter of that incarnation.
+    -- It knows the own counter of that incarnation.
     pub counter : N.place m C m ≤ N.place y T m
     -- No answer has a greater view, and each was merged.
     pub view : N.view y T ≤ N.view m C
@@ -54,10 +54,10 @@ module _ {R : Type 0} (N : Notions R) where
     -- It used f + 1 answers of different senders.
     pub answers : IsHeldByMany N.f (N.Uses m C)
     pub answer : (y : ℕ) (T : List R) → N.Uses m C y T → IsUsed J m C y T
-    -- The answers are crash-consistent: none is a stray of another's sender.
+    -- The answers are crash-consistent: none knows a greater counter of a sender than that sender's own answer has.
     pub consistent : (y x : ℕ) (S T : List R) → N.Uses m C y S → N.Uses m C x T → N.place y S x ≤ N.place x T x
 
-  -- At Q the member y of the begin B of view w sent the report that B used. That of the leader is the begin.
+  -- At Q the member y of the begin B of view w sent the report that B used.
   pub record IsReport (J : List R) (w : ℕ) (B : List R) (y : ℕ) (Q : List R) : Type 0 where
     pub at : At B Q
     -- Who reports is up, in view w.
@@ -66,13 +66,16 @@ module _ {R : Type 0} (N : Notions R) where
     -- The report is no stray, and its vector was merged.
     pub fresh : N.place (N.leader w) B y ≤ N.place y Q y
     pub merged : (k : ℕ) → ¬ (N.leader w ≡ k) → N.place y Q k ≤ N.place (N.leader w) B k
+    -- The leader's own report is the begin.
     pub own : N.leader w ≡ y → Q ≡ B
 
-  -- At B the view w, which is not 0, begins: its leader becomes Normal in it, with f + 1 reports.
+  -- At B the view w, which is not 0, begins.
   pub record IsBegin (J : List R) (w : ℕ) (B : List R) : Type 0 where
     pub at : At J B
+    -- Its leader is Normal in it, and was not one record before.
     pub leads : IsIn N (N.leader w) w B
     pub turns : (r : R) (K : List R) → B ≡ r ∷ K → ¬ IsIn N (N.leader w) w K
+    -- It used reports of f + 1 different members.
     pub members : IsHeldByMany N.f (N.Reports w B)
     pub report : (y : ℕ) (Q : List R) → N.Reports w B y Q → IsReport J w B y Q
 
