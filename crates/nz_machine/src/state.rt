@@ -8,7 +8,7 @@ ghost use Rattle.nz_base.specs.declared.actor.Actor.TheVariants.{Replica as IsRe
 ghost use Rattle.nz_base.specs.declared.key.Entry.{Entry as AnEntry};
 ghost use Rattle.nz_msg.specs.Fields.{view as view_field, vector as vector_field, answer as answer_field};
 ghost use Rattle.nz_machine.specs.Facts.{FitsEntry, HasFacts};
-ghost use Rattle.nz_machine.specs.Parts.{model_of};
+ghost use Rattle.nz_machine.specs.Parts.{model_of, without_waiting};
 ghost use Rattle.nz_machine.specs.Replicas.{first_replica, crashed_replica, is_normal, is_down as is_down_in, leads as leads_in, leads_view as leads_view_in, hears_leader as hears_leader_in, answer_at};
 ghost use Rattle.nz_machine.specs.Requests.{with_origin, to_early as to_early_of, to_late as to_late_of};
 ghost use Rattle.nz_machine.specs.Releases.{at_clock, released, first_may};
@@ -54,11 +54,24 @@ pub struct Parts {
     pub alloc: Global,
 }
 
+/// Forgets the entries that wait, where requests came from, and what was reported.
+fn forget_waiting(parts: &mut Parts)
+    requires { length parts.old.ack.items ≡ replica_count parts.old.cluster }
+    ensures model { model_of parts.new ≡ without_waiting (model_of parts.old) }
+    ensures cluster { parts.new.cluster ≡ parts.old.cluster }
+{
+    parts.early = Early::new(parts.alloc);
+    parts.late = Late::new(parts.alloc);
+    parts.origin = IndexMap::new(parts.alloc);
+    parts.ack.as_mut_slice().fill(0);
+}
+
 /// Forgets all, where want of memory left the parts half made.
 fn forget(parts: &mut Parts)
     requires { length parts.old.ack.items ≡ replica_count parts.old.cluster }
     ensures { model_of parts.new ≡ record { f = parts.old.cluster; me = parts.old.me; state = crashed_replica parts.old.cluster } }
 {
+    forget_waiting(parts);
     let alloc = parts.alloc;
     let cluster = parts.cluster;
     // f is from 1 to 4, so there is a vector of this size.
@@ -71,10 +84,6 @@ fn forget(parts: &mut Parts)
     parts.results = Vec::new(alloc);
     parts.store = Store::new(alloc);
     parts.vector = CrashVector::zero(cluster.n());
-    parts.early = Early::new(alloc);
-    parts.late = Late::new(alloc);
-    parts.origin = IndexMap::new(alloc);
-    parts.ack.as_mut_slice().fill(0);
 }
 
 /// The state of a replica. A clause sees its cluster, its number and its data; that the data has the
