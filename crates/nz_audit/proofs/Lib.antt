@@ -1,5 +1,12 @@
-pub mod Leading
-pub mod Accepting
-pub mod Fronts
 pub mod Executions
+pub mod Replays
+pub mod Places
+pub mod Memories
+pub mod Standings
+pub mod Hearing
+pub mod Events
+pub mod Reached
+pub mod Tables
+pub mod Accepting
+pub mod Acting
 pub mod Found

@@ -1,1 +1,5 @@
+pub mod Sources
+pub mod Noting
+pub mod Memories
+pub mod Cores
 pub mod Readings

@@ -1,42 +1,83 @@
 -- What a reading of some records of a run has found.
-use Rattle.std.specs.Prelude.{◌≡◌, Bool, true, List, Option, Some, None}
+use Rattle.std.specs.Prelude.{◌≡◌, ℕ, ◌<◌, Bool, true, false, List, [], ◌∷◌, ◌++◌, length, take, Option, Some, None, nat_eq, if◌then◌else◌}
 use Rattle.std.specs.List.{list_any}
-use Rattle.indexmap.specs.IndexSet.{insert_key}
-use Rattle.nz_base.specs.Key.{id_eq, id_of}
-use Rattle.nz_base.specs.declared.actor.Actor.TheVariants.{Replica}
+use Rattle.indexmap.specs.IndexMap.{get}
+use Rattle.nz_base.specs.Key.{id_eq}
+use Rattle.nz_base.specs.Cluster.{replica_count}
+use Rattle.nz_base.specs.declared.actor.Actor.TheVariants.{Replica, Proxy}
 use Rattle.nz_base.specs.declared.key.Id.{Id}
 use Rattle.nz_base.specs.declared.key.Entry.{Entry}
+use Rattle.nz_machine.specs.declared.event.Parcel.{Parcel}
 use Rattle.nz_machine.specs.declared.event.Record.{Record}
-use Rattle.nz_machine.specs.declared.telling.Acceptance.{Acceptance}
+use Rattle.nz_machine.specs.declared.journal.Journal.{Journal}
+use Rattle.nz_machine.specs.Journals.{group_in}
 use Rattle.nz_machine.specs.State.{Group}
-use Rattle.nz_machine.specs.World.{state_after}
-use Rattle.nz_machine.specs.Events.{Told, events}
+use Rattle.nz_machine.specs.World.{state_after, World}
 use Rattle.nz_machine.specs.Telling.{AreAfter}
 use Rattle.nz_replica.specs.Seats.{ReplicaView}
-use Rattle.nz_lin.specs.LeadersLog.{accepts}
+use Rattle.nz_machine.specs.History.{parcel_eq, older_or, source, log_at, history}
+use Rattle.nz_audit.specs.declared.source.Source.{Source}
+use Rattle.nz_audit.specs.declared.noting.Noted.{Noted}
+use Rattle.nz_audit.specs.declared.proxy.ProxyNotes.{ProxyNotes}
+use Rattle.nz_audit.specs.declared.sending.ParcelKey.{ParcelKey}
 use Rattle.nz_audit.specs.declared.reading.Reading.{Reading}
+use Rattle.nz_audit.specs.Sources.{about, stands_for, kept_of}
+use Rattle.nz_audit.specs.Memories.{memory}
+use Rattle.nz_audit.specs.Cores.{IsCoreIfAny, run_up_to}
 
--- The entry's request is one of these.
-abbrev pub is_among : List Id → Entry → Bool
-is_among ids e = list_any (id_eq (id_of e.key)) ids
+-- It has not run out of memory.
+abbrev pub IsLive : Option ReplicaView → Type 0
+IsLive None = Unit {0}
+IsLive (Some core) = core.live ≡ true
 
--- The ids with that of an acceptance, if there is one.
-abbrev pub with_accepted : List Id → Option Acceptance → List Id
-with_accepted ids None = ids
-with_accepted ids (Some a) = insert_key id_eq ids a.id
+-- What is known of a request: nothing of a proxy that did nothing yet.
+abbrev pub known_to : Option ProxyNotes → Id → Option Noted
+known_to None id = None
+known_to (Some notes) id = get id_eq notes.known id
 
--- The core is replica 0 after the records, and has not run out of memory.
-pub record IsLeader (g : Group) (J : List Record) (leader : ReplicaView) : Type 0 where
-  pub live : leader.live ≡ true
-  pub cluster : g.f ≡ leader.f
-  pub number : leader.seat.me ≡ 0
-  pub state : leader.seat.state ≡ state_after g (Replica 0) J
+abbrev pub is_down_in : Option ProxyNotes → Bool
+is_down_in None = false
+is_down_in (Some notes) = notes.is_down
 
--- The ids are those of the accepted requests.
-pub record AreAccepted (E : List Told) (ids : List Id) : Type 0 where
-  pub exact : (id : Id) → list_any (id_eq id) ids ≡ list_any (accepts id) E
+-- It is what the proxy knows after the records.
+pub record IsProxy (g : Group) (J : List Record) (q : ℕ) (notes : Option ProxyNotes) : Type 0 where
+  pub down : is_down_in notes ≡ (state_after g (Proxy q) J).is_down
+  pub known : (id : Id) → known_to notes id ≡ memory g q id J
+
+-- The table has what each parcel that was sent stands for.
+pub record IsTable (g : Group) (J : List Record) (table : List (ParcelKey × Option Source)) : Type 0 where
+  pub exact : (p : Parcel) → kept_of table p ≡ stands_for g p (source p J) (about p)
+
+-- The run up to the first record that sent the parcel, where the last one sent these so far.
+abbrev pub source_with : Parcel → List Parcel → Record → List Record → Option (List Record)
+source_with p done r J = if list_any (parcel_eq p) done then older_or (source p J) (r ∷ J) else source p J
+
+-- The same table in the course of the last record.
+pub record IsTableWith (g : Group) (done : List Parcel) (r : Record) (J : List Record) (table : List (ParcelKey × Option Source)) : Type 0 where
+  pub exact : (p : Parcel) → kept_of table p ≡ stands_for g p (source_with p done r J) (about p)
+
+-- The entries are so many of the log of this replica after so many records.
+pub record LeadsTo (g : Group) (J : List Record) (entries : List Entry) (s : Source) : Type 0 where
+  pub later : List Record
+  pub run : List Record
+  pub at : J ≡ later ++ run
+  pub records : s.records ≡ length run
+  pub replica : s.replica < replica_count g.f
+  pub count : s.entries ≡ length entries
+  pub prefix : entries ≡ take s.entries (log_at g (Replica s.replica) run)
+
+abbrev pub LeadsToIfAny : Group → List Record → List Entry → Option Source → Type 0
+LeadsToIfAny g J entries None = entries ≡ []
+LeadsToIfAny g J entries (Some s) = LeadsTo g J entries s
 
 pub record IsRead (g : Group) (J : List Record) (reading : Reading) : Type 0 where
-  pub leader : IsLeader g J reading.leader
+  pub cores : (m : ℕ) → IsCoreIfAny g J m (get nat_eq reading.cores m)
+  pub proxies : (q : ℕ) → IsProxy g J q (get nat_eq reading.proxies q)
+  pub table : IsTable g J reading.sendings.kept.entries
   pub clients : AreAfter g J reading.clients
-  pub accepted : AreAccepted (events g J) reading.accepted.keys
+  pub best : LeadsToIfAny g J (history g J) reading.best
+
+-- The record follows these, as the last of so many of a journal.
+pub record IsNext (journal : Journal) (records : ℕ) (r : Record) (J : List Record) : Type 0 where
+  pub run : run_up_to journal records ≡ r ∷ J
+  pub world : World (group_in journal) (r ∷ J)

@@ -1,9 +1,14 @@
-//! The history of a run, read off its journal once.
+//! The history of a run, read off its journal.
 #![tactic(auto)]
 
 mod executing;
 mod history;
+mod noting;
+mod proxy;
 mod reading;
+mod replaying;
+mod sending;
+mod source;
 
 pub use history::history_of;
 

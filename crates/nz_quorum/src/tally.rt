@@ -1,7 +1,7 @@
 ghost use Rattle.std.specs.Prelude.{◌≡◌, ℕ, [], Some, IsSome, IfSome, OnOk, OnErr};
 ghost use Rattle.std.specs.Option.{option_map};
 ghost use Rattle.nz_base.specs.Cluster.{replica_count};
-ghost use Rattle.std.specs.List.{list_any};
+ghost use Rattle.std.specs.List.{list_any, position};
 ghost use Rattle.nz_machine.specs.Quorums.{Chosen, decision, answer_in, with_note, reply_eq};
 ghost use Rattle.nz_quorum.specs.Tallies.{TallyData, IsOfCluster};
 
@@ -63,13 +63,23 @@ impl Tally {
         self.replies.push(reply)
     }
 
-    fn is_noted(&self, reply: &Reply) -> bool
+    pub fn is_noted(&self, reply: &Reply) -> bool
         ensures { result ≡ list_any (reply_eq reply.now) self.now.replies }
     {
         self.replies
             .as_slice()
             .iter()
             .any(|other| same_reply(reply, other))
+    }
+
+    /// The place of the reply among those that were noted.
+    pub fn place_of(&self, reply: &Reply) -> Option<usize>
+        ensures { result ≡ position (reply_eq reply.now) self.now.replies }
+    {
+        self.replies
+            .as_slice()
+            .iter()
+            .position(|other| same_reply(reply, other))
     }
 
     /// What the replies decide: by a fast quorum where there is one, else by a slow one.

@@ -4,8 +4,7 @@ use Rattle.nz_store.specs.Entries.{Entries}
 use Rattle.nz_store.specs.Sequence.{store_after, apply_bytes}
 use Rattle.nz_machine.specs.Replicas.{commands}
 use Rattle.nz_machine.specs.Journals.{executed}
-use Rattle.nz_audit.proofs.Fronts.{take_one}
-use Rattle.nz_audit.proofs.Executions.{store_first, store_then, executed_more}
+use Rattle.nz_audit.proofs.Executions.{store_first, store_then, executed_more, take_one}
 use Rattle.nz_audit.proofs.executing.execute.Goals as goal
 
 pub loop-place-init : goal.loop-place-init

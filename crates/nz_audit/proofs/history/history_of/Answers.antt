@@ -1,15 +1,19 @@
-use Rattle.std.proofs.Common.{◌≡◌, List, IfOk, ap, subst, ◌∙◌}
+use Rattle.std.proofs.Common.{◌≡◌, List, IfOk, subst}
 use Rattle.nz_base.specs.declared.key.Entry.{Entry}
-use Rattle.nz_log.specs.Synced.{Log}
 use Rattle.nz_machine.specs.Journals.{group_in, run_in, executed}
-use Rattle.nz_lin.specs.LeadersLog.{up_to_last}
-use Rattle.nz_audit.specs.Readings.{is_among}
-use Rattle.nz_audit.proofs.Found.{found}
+use Rattle.nz_machine.specs.History.{history}
+use Rattle.nz_audit.specs.Readings.{LeadsTo, LeadsToIfAny}
+use Rattle.nz_audit.proofs.Found.{log_replayed, within_log}
 use Rattle.nz_audit.proofs.history.history_of.Goals as goal
 
-pub returns : goal.returns
-returns c =
+pub execute-requires : goal.execute-requires
+execute-requires c =
     let j = c.args.journal.now in
-    let reading = c.in_ok-reading.reading in
-    let whole = c.count_up_to_last-count.ensures.front ∙ ap (λ (l : Log). up_to_last (is_among reading.accepted.keys) l.entries) c.log-log.ensures ∙ found (group_in j) (run_in j) reading c.requires c.in_ok-reading.ensures in
-    subst (λ (es : List Entry). IfOk c.execute.result (λ history. history ≡ executed es)) whole c.execute.ensures
+    let h : LeadsTo (group_in j) (run_in j) (history (group_in j) (run_in j)) c.in-Some.source = subst (LeadsToIfAny (group_in j) (run_in j) (history (group_in j) (run_in j))) c.in-Some.is c.in_ok-longest.ensures in
+    within_log c.in-Some.source.entries c.log.result.now.entries (history (group_in j) (run_in j)) h.count (log_replayed j c.in-Some.source c.in_ok-replica-in-Some.replica c.log.result.now h c.in_ok-replica-in-Some.ensures c.log.ensures)
+
+pub returns-in_ok-replica-in-Some : goal.returns-in_ok-replica-in-Some
+returns-in_ok-replica-in-Some c =
+    let j = c.args.journal.now in
+    let h : LeadsTo (group_in j) (run_in j) (history (group_in j) (run_in j)) c.in-Some.source = subst (LeadsToIfAny (group_in j) (run_in j) (history (group_in j) (run_in j))) c.in-Some.is c.in_ok-longest.ensures in
+    subst (λ (es : List Entry). IfOk c.execute.result (λ x. x ≡ executed es)) (log_replayed j c.in-Some.source c.in_ok-replica-in-Some.replica c.log.result.now h c.in_ok-replica-in-Some.ensures c.log.ensures) c.execute.ensures

@@ -1,13 +1,18 @@
-use Rattle.std.proofs.Common.{[], sym, subst}
+use Rattle.std.proofs.Common.{[], Option, sym, ap, subst, refl}
+use Rattle.std.specs.Prelude.{nat_eq}
+use Rattle.std.specs.Map.{lookup}
+use Rattle.nz_replica.specs.Seats.{ReplicaView}
 use Rattle.nz_machine.specs.Schedule.{group_of}
-use Rattle.nz_audit.specs.Readings.{IsLeader}
-use Rattle.nz_audit.proofs.Leading.{leads_first}
-use Rattle.nz_audit.proofs.Accepting.{none_accepted}
+use Rattle.nz_audit.specs.Cores.{IsCoreIfAny}
+use Rattle.nz_audit.specs.Readings.{IsProxy, IsTable}
+use Rattle.nz_audit.proofs.Acting.{proxy_first, table_first}
 use Rattle.nz_audit.proofs.reading.Reading.new.Goals as goal
 
 pub returns : goal.returns
-returns c = record {
-  leader = subst (IsLeader (group_of c.args.scenario.now) []) (sym c.in_ok-new.ensures) (leads_first (group_of c.args.scenario.now));
-  clients = c.in_ok-new-2.ensures;
-  accepted = none_accepted c.new-3.result.keys c.new-3.ensures.empty;
+returns c = let g = group_of c.args.scenario.now in record {
+  cores = λ m. subst (IsCoreIfAny g [] m) (sym (ap (lookup (nat_eq m)) c.new.ensures.empty)) tt;
+  proxies = λ q. subst (IsProxy g [] q) (sym (ap (lookup (nat_eq q)) c.new-2.ensures.empty)) (proxy_first g q);
+  table = subst (IsTable g []) (sym c.new-3.ensures) (table_first g);
+  clients = c.in_ok-new.ensures;
+  best = refl;
 }

@@ -1,17 +1,27 @@
-use Rattle.std.proofs.Common.{◌∷◌, sym, subst}
-use Rattle.std.proofs.lemmas.Result.{on_ok_weaker}
-use Rattle.nz_machine.specs.Events.{events}
-use Rattle.nz_audit.specs.Readings.{AreAccepted}
-use Rattle.nz_audit.proofs.Accepting.{accepted_then}
+use Rattle.std.proofs.Common.{◌∷◌, List, refl, sym, ap, subst, ◌∙◌}
+use Rattle.nz_machine.specs.Journals.{group_in}
+use Rattle.nz_machine.specs.History.{history}
+use Rattle.nz_audit.specs.Cores.{run_up_to}
+use Rattle.nz_audit.specs.Sources.{first_longest}
+use Rattle.nz_audit.specs.Readings.{LeadsToIfAny}
+use Rattle.nz_audit.proofs.Accepting.{history_then}
+use Rattle.nz_audit.proofs.Acting.{sender_member}
+use Rattle.nz_audit.proofs.Found.{is_read, on_two}
 use Rattle.nz_audit.proofs.reading.Reading.read.Goals as goal
 
-pub returns-clause-read : goal.returns-clause-read
-returns-clause-read c = on_ok_weaker c.keep.result
-    (λ kept g J w h.
+pub keep_sendings-requires-clause-sender : goal.keep_sendings-requires-clause-sender
+keep_sendings-requires-clause-sender c = λ p among. let run = c.requires.run in let next = run.1 in sender_member (group_in c.args.journal.now) c.args.next.now run.0 p next.world among
+
+pub returns : goal.returns
+returns c =
+    let g = group_in c.args.journal.now in
     let r = c.args.next.now in
-    let telling = c.in_ok-telling.telling in
-    record {
-      leader = c.in_ok-lead.ensures.led g J h.leader;
-      clients = c.in_ok-telling.ensures.after g J w h.clients;
-      accepted = subst (AreAccepted (events g (r ∷ J))) (sym kept) (accepted_then g r J telling c.args.self.now.accepted.keys (c.in_ok-telling.ensures.told g J w h.clients) h.accepted);
-    }) c.keep.ensures
+    let run = c.requires.run in
+    let J = run.0 in
+    let next = run.1 in
+    let old = run.2 in
+    let w = next.world in
+    let best = subst (LeadsToIfAny g (r ∷ J) (history g (r ∷ J))) (sym (c.longer-self.ensures ∙ ap (first_longest c.args.self.now.best) c.in_ok-found.ensures))
+    (history_then g r J c.in_ok-telling.telling c.args.self.now.sendings.kept.entries c.args.self.now.best w (c.in_ok-telling.ensures.told g J w old.clients) old.table old.best) in
+    on_two c.keep_sendings.result (λ cores table. is_read g (run_up_to c.args.journal.now c.args.records) (r ∷ J) _ next.run cores (c.in_ok-act.ensures.proxies g J w refl old.table old.proxies) (table J next.run old.table)
+    (c.in_ok-telling.ensures.after g J w old.clients) best) c.keep_sendings.ensures.cores c.keep_sendings.ensures.table

@@ -1,0 +1,11 @@
+use Rattle.std.proofs.Common.{arith}
+use Rattle.nz_audit.specs.Cores.{run_up_to}
+use Rattle.nz_audit.proofs.Found.{is_next}
+use Rattle.nz_audit.proofs.reading.longest.Goals as goal
+
+pub read-requires-clause-run : goal.read-requires-clause-run
+read-requires-clause-run c =
+    let k = c.loop-place.place in
+    let lt = c.loop-place-test.true in
+    let len = c.len-place-end.ensures in
+    (run_up_to c.args.journal.now k, is_next c.args.journal.now k c.get.result.now c.requires (omega (arith, lt, len)) c.get.ensures, c.loop-place.invariant)

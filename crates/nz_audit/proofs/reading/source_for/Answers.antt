@@ -1,0 +1,14 @@
+use Rattle.std.proofs.Common.{◌∙◌, sym, ap}
+use Rattle.nz_base.specs.declared.actor.Actor.{Actor}
+use Rattle.nz_machine.specs.Journals.{group_in}
+use Rattle.nz_audit.specs.Cores.{run_up_to}
+use Rattle.nz_audit.specs.Sources.{source_sent}
+use Rattle.nz_audit.proofs.Acting.{decided_by}
+use Rattle.nz_audit.proofs.reading.source_for.Goals as goal
+
+pub returns-in-Proxy-clause-source : goal.returns-in-Proxy-clause-source
+returns-in-Proxy-clause-source c =
+    let g = group_in c.args.journal.now in
+    let J = run_up_to c.args.journal.now c.args.records in
+    let q = c.in-Proxy.proxy in
+    decided_by g q c.args.id J _ c.source_decided.result (c.requires.proxies q) c.source_decided.ensures ∙ sym (ap (λ (a : Actor). source_sent g c.args.id a J) c.in-Proxy.is)

@@ -1,0 +1,23 @@
+-- A replica's core after some records of a run.
+use Rattle.std.specs.Prelude.{◌≡◌, ℕ, true, List, take, reverse, Option, Some, None}
+use Rattle.nz_base.specs.declared.actor.Actor.TheVariants.{Replica}
+use Rattle.nz_machine.specs.declared.event.Record.{Record}
+use Rattle.nz_machine.specs.declared.journal.Journal.{Journal}
+use Rattle.nz_machine.specs.State.{Group}
+use Rattle.nz_machine.specs.World.{state_after}
+use Rattle.nz_replica.specs.Seats.{ReplicaView}
+
+-- The run up to so many records of a journal.
+abbrev pub run_up_to : Journal → ℕ → List Record
+run_up_to journal count = reverse (take count journal.records)
+
+-- The core is this replica after the records, and has not run out of memory.
+pub record IsCore (g : Group) (J : List Record) (me : ℕ) (core : ReplicaView) : Type 0 where
+  pub live : core.live ≡ true
+  pub cluster : g.f ≡ core.f
+  pub number : core.seat.me ≡ me
+  pub state : core.seat.state ≡ state_after g (Replica me) J
+
+abbrev pub IsCoreIfAny : Group → List Record → ℕ → Option ReplicaView → Type 0
+IsCoreIfAny g J me None = Unit {0}
+IsCoreIfAny g J me (Some core) = IsCore g J me core

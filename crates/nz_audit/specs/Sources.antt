@@ -1,0 +1,91 @@
+-- Where answers come from, in numbers, by the definition of the history.
+use Rattle.std.specs.Prelude.{ℕ, ◌≡◌, Bool, ◌&&◌, List, [], ◌∷◌, length, Option, Some, None, is_some, nat_lt, if◌then◌else◌}
+use Rattle.std.specs.Map.{lookup}
+use Rattle.std.specs.Option.{option_map, option_and_then, option_flatten}
+use Rattle.std.specs.Str.{bytes_eq}
+use Rattle.nz_base.specs.Actor.{actor_eq}
+use Rattle.nz_base.specs.declared.key.Id.{Id}
+use Rattle.nz_base.specs.declared.actor.Actor.{Actor}
+use Rattle.nz_base.specs.declared.actor.Actor.TheVariants.{Replica, Proxy, Client}
+use Rattle.nz_msg.specs.declared.envelope.Envelope.{Envelope}
+use Rattle.nz_msg.specs.declared.message.Message.{Message}
+use Rattle.nz_msg.specs.declared.message.Message.TheVariants.{FastReply, Answer}
+use Rattle.nz_machine.specs.declared.event.Event.{Event}
+use Rattle.nz_machine.specs.declared.event.Event.TheVariants.{Deliver, Cut, Tick, Alarm, Crash, Restart}
+use Rattle.nz_machine.specs.declared.event.Parcel.{Parcel}
+use Rattle.nz_machine.specs.declared.event.Record.{Record}
+use Rattle.nz_machine.specs.declared.telling.Acceptance.{Acceptance}
+use Rattle.nz_machine.specs.State.{Group}
+use Rattle.nz_machine.specs.Step.{heard}
+use Rattle.nz_machine.specs.Events.{id_at}
+use Rattle.nz_machine.specs.History.{ReplySource, source, source_of_sender, cut_after, log_at}
+use Rattle.nz_audit.specs.declared.source.Source.{Source}
+use Rattle.nz_audit.specs.declared.sending.ParcelKey.{ParcelKey}
+
+-- The one with more entries, else the first.
+abbrev pub first_longest : Option Source → Option Source → Option Source
+first_longest None next = next
+first_longest (Some best) None = Some best
+first_longest (Some best) (Some next) = if nat_lt best.entries next.entries then Some next else Some best
+
+-- ---- the source of an answer
+
+-- A replica that sent a reply to the request, and the run up to that record.
+abbrev pub numbers_of : Group → Id → Actor → List Record → Option Source
+numbers_of g id (Replica m) K = Some (record { replica = m; records = length K; entries = length (cut_after id (log_at g (Replica m) K)) })
+numbers_of g id (Proxy p) K = None
+numbers_of g id (Client c) K = None
+
+abbrev pub in_numbers : Group → Id → Option ReplySource → Option Source
+in_numbers g id at = option_and_then (λ (s : ReplySource). numbers_of g id s.sender s.run) at
+
+-- ---- what a parcel stands for
+
+-- The request that a message is about: a reply with an answer, or the answer for the client.
+abbrev pub about_message : Actor → Actor → Message → Option Id
+about_message (Replica m) (Proxy q) (FastReply b) = if is_some b.answer then Some b.id else None
+about_message (Proxy q) (Client c) (Answer b) = Some (id_at c b.num)
+about_message _ _ _ = None
+
+abbrev pub about_envelope : Option Envelope → Option Id
+about_envelope None = None
+about_envelope (Some e) = about_message e.from e.to e.message
+
+abbrev pub about : Parcel → Option Id
+about p = about_envelope (heard p.to p)
+
+-- The source that a parcel about the request stands for, sent first by this actor with the last of the records:
+-- a reply is one itself, and an answer stands for that of the reply that decided.
+abbrev pub source_sent : Group → Id → Actor → List Record → Option Source
+source_sent g id (Replica m) K = numbers_of g id (Replica m) K
+source_sent g id (Proxy q) K = in_numbers g id (source_of_sender g id (Proxy q) K)
+source_sent g id (Client c) K = None
+
+abbrev pub stands_for : Group → Parcel → Option (List Record) → Option Id → Option (Option Source)
+stands_for g p first None = None
+stands_for g p first (Some id) = option_map (source_sent g id p.from) first
+
+-- ---- the table of the parcels that were sent
+
+abbrev pub key_of : Parcel → ParcelKey
+key_of p = record { from = p.from; to = p.to; frame = p.frame }
+
+abbrev pub same_key : ParcelKey → ParcelKey → Bool
+same_key a b = actor_eq a.from b.from && (actor_eq a.to b.to && bytes_eq a.frame b.frame)
+
+abbrev pub kept_of : List (ParcelKey × Option Source) → Parcel → Option (Option Source)
+kept_of table p = lookup (same_key (key_of p)) table
+
+-- The source of what is delivered, by the table.
+abbrev pub source_delivered : List (ParcelKey × Option Source) → Event → Option Source
+source_delivered table (Deliver p) = option_flatten (kept_of table p)
+source_delivered table (Cut p kept) = None
+source_delivered table (Tick clock) = None
+source_delivered table Alarm = None
+source_delivered table Crash = None
+source_delivered table (Restart nonce) = None
+
+-- The same, where the event is an acceptance.
+abbrev pub source_told : List (ParcelKey × Option Source) → Option Acceptance → Event → Option Source
+source_told table None e = None
+source_told table (Some a) e = source_delivered table e

@@ -1,0 +1,89 @@
+//! What a proxy knows of one request, and which record each reply comes from.
+
+ghost use Rattle.std.specs.Prelude.{◌≡◌, OnOk};
+ghost use Rattle.std.specs.Option.{option_copied};
+ghost use Rattle.nz_quorum.specs.Tallies.{IsOfCluster};
+ghost use Rattle.nz_audit.specs.Noting.{first_notes, with_source, source_among, decided_source, noted_by, IsNotable};
+
+use super::source::Source;
+use nz_base::{Cluster, List, NoMemory};
+use nz_machine::Reply;
+use nz_quorum::Tally;
+use std::alloc::Global;
+
+/// The replies to an open request, and the source of each in the same order.
+#[derive(Drop)]
+pub struct Notes {
+    pub tally: Tally,
+    pub sources: List<Option<Source>>,
+}
+
+/// What a proxy knows of a request.
+#[derive(Drop)]
+pub enum Noted {
+    Open(Notes),
+    /// The source of the reply that decided.
+    Decided(Option<Source>),
+}
+
+impl Notes {
+    /// No replies.
+    pub fn new(alloc: Global, cluster: Cluster) -> Notes
+        ensures { result ≡ first_notes cluster }
+    {
+        Notes {
+            tally: Tally::new(alloc, cluster),
+            sources: List::new(alloc),
+        }
+    }
+
+    /// Notes the reply, once.
+    fn note(&mut self, reply: Reply, source: Option<Source>) -> Result<(), NoMemory>
+        requires { IsOfCluster self.old.tally.f reply }
+        ensures { OnOk result (self.new ≡ with_source self.old reply source) }
+    {
+        if !self.tally.is_noted(&reply) {
+            self.tally.note(reply)?;
+            self.sources.push(source)?;
+        }
+        Ok(())
+    }
+
+    /// The source of a noted reply.
+    fn source_of(&self, reply: &Reply) -> Option<Source>
+        ensures { result ≡ source_among self.now.sources self.now.tally.replies reply.now }
+    {
+        let place = self.tally.place_of(reply)?;
+        match self.sources.as_slice().get(place) {
+            Some(source) => *source,
+            None => None,
+        }
+    }
+
+    /// The source of the reply that decides, where one does.
+    fn decided(&self) -> Option<Option<Source>>
+        ensures { result ≡ decided_source self.now }
+    {
+        let decision = self.tally.decide()?;
+        Some(self.source_of(decision.reply))
+    }
+}
+
+impl Noted {
+    /// Notes a reply to an open request, and whether the replies decide now.
+    pub fn note(&mut self, reply: Reply, source: Option<Source>) -> Result<(), NoMemory>
+        requires { IsNotable self.old reply }
+        ensures { OnOk result (self.new ≡ noted_by reply source self.old) }
+    {
+        match self {
+            Noted::Decided(_) => Ok(()),
+            Noted::Open(notes) => {
+                notes.note(reply, source)?;
+                if let Some(source) = notes.decided() {
+                    *self = Noted::Decided(source);
+                }
+                Ok(())
+            }
+        }
+    }
+}

@@ -1,0 +1,166 @@
+//! What a proxy knows of all requests.
+
+ghost use Rattle.std.specs.Prelude.{◌≡◌, OnOk, None, false, IsTrue, if◌then◌else◌};
+ghost use Rattle.std.specs.Option.{option_map};
+ghost use Rattle.nz_base.specs.Key.{id_eq};
+ghost use Rattle.nz_base.specs.declared.key.Id.{Id as AnId};
+ghost use Rattle.nz_base.specs.declared.actor.Actor.TheVariants.{Proxy as IsProxy};
+ghost use Rattle.indexmap.specs.IndexMap.{get};
+ghost use Rattle.nz_machine.specs.Step.{received, is_in_cluster, is_sized, vector_of};
+ghost use Rattle.nz_quorum.specs.Tallies.{IsOfCluster};
+ghost use Rattle.nz_audit.specs.Noting.{opened, noted_by, after_message, after_envelope, after_event, down_after, IsSized};
+
+use super::noting::{Noted, Notes};
+use super::source::Source;
+use indexmap::IndexMap;
+use nz_base::{Actor, Cluster, Id, NoMemory};
+use nz_machine::{Event, Parcel, Reply, heard, is_counted};
+use nz_msg::{Envelope, Message};
+use std::alloc::Global;
+
+#[derive(Drop)]
+pub struct ProxyNotes {
+    pub is_down: bool,
+    pub known: IndexMap<Id, Noted>,
+}
+
+impl ProxyNotes {
+    /// Nothing is known.
+    pub fn new(alloc: Global) -> ProxyNotes
+        ensures up { result.is_down ≡ false }
+        ensures known { (id : AnId) → get id_eq result.known id ≡ None }
+    {
+        ProxyNotes {
+            is_down: false,
+            known: IndexMap::new(alloc),
+        }
+    }
+
+    /// Opens a request that is not known.
+    fn open(&mut self, alloc: Global, cluster: Cluster, id: Id) -> Result<(), NoMemory>
+        ensures down { self.new.is_down ≡ self.old.is_down }
+        ensures known { OnOk result ((x : AnId) → get id_eq self.new.known x ≡ (if id_eq id x then opened cluster (get id_eq self.old.known x) else get id_eq self.old.known x)) }
+    {
+        if !self.known.contains_key(&id) {
+            self.known
+                .insert(id, Noted::Open(Notes::new(alloc, cluster)))?;
+        }
+        Ok(())
+    }
+
+    /// Notes a reply to the request, if it is known.
+    fn note(
+        &mut self,
+        cluster: Cluster,
+        id: Id,
+        reply: Reply,
+        source: Option<Source>,
+    ) -> Result<(), NoMemory>
+        requires reply { IsOfCluster cluster reply }
+        requires sized { IsSized cluster (get id_eq self.old.known id) }
+        ensures down { self.new.is_down ≡ self.old.is_down }
+        ensures known { OnOk result ((x : AnId) → get id_eq self.new.known x ≡ (if id_eq id x then option_map (noted_by reply source) (get id_eq self.old.known x) else get id_eq self.old.known x)) }
+    {
+        match self.known.get_mut(&id) {
+            Some(noted) => noted.note(reply, source),
+            None => Ok(()),
+        }
+    }
+
+    /// Takes a message that counts, while the proxy is up.
+    fn take_message(
+        &mut self,
+        alloc: Global,
+        cluster: Cluster,
+        envelope: Envelope,
+        source: Option<Source>,
+    ) -> Result<(), NoMemory>
+        requires sender { IsTrue (is_in_cluster cluster envelope.from) }
+        requires vector { IsTrue (is_sized cluster (vector_of envelope.message)) }
+        requires sized { (x : AnId) → IsSized cluster (get id_eq self.old.known x) }
+        ensures down { self.new.is_down ≡ self.old.is_down }
+        ensures known { OnOk result ((x : AnId) → get id_eq self.new.known x ≡ after_message cluster source x envelope.from envelope.message (get id_eq self.old.known x)) }
+    {
+        match (envelope.from, envelope.message) {
+            (Actor::Client(client), Message::Request(body)) => {
+                let id = Id {
+                    client: u32::from(client),
+                    num: body.num,
+                };
+                self.open(alloc, cluster, id)
+            }
+            (Actor::Replica(replica), Message::FastReply(body)) => {
+                let reply = Reply::Fast {
+                    replica,
+                    view: body.view,
+                    digest: body.digest,
+                    vector: body.vector,
+                    answer: body.answer,
+                };
+                self.note(cluster, body.id, reply, source)
+            }
+            (Actor::Replica(replica), Message::SlowReply(body)) => {
+                let reply = Reply::Slow {
+                    replica,
+                    view: body.view,
+                };
+                self.note(cluster, body.id, reply, source)
+            }
+            _ => Ok(()),
+        }
+    }
+
+    fn hear(
+        &mut self,
+        alloc: Global,
+        cluster: Cluster,
+        me: u8,
+        parcel: &Parcel,
+        source: Option<Source>,
+    ) -> Result<(), NoMemory>
+        requires { (x : AnId) → IsSized cluster (get id_eq self.old.known x) }
+        ensures down { self.new.is_down ≡ self.old.is_down }
+        ensures known { OnOk result ((x : AnId) → get id_eq self.new.known x ≡ after_envelope cluster source self.old.is_down x (received cluster (IsProxy me) parcel.now) (get id_eq self.old.known x)) }
+    {
+        match heard(alloc, Actor::Proxy(me), parcel)? {
+            None => Ok(()),
+            Some(envelope) => {
+                if self.is_down || !is_counted(cluster, &envelope) {
+                    return Ok(());
+                }
+                self.take_message(alloc, cluster, envelope, source)
+            }
+        }
+    }
+
+    /// Takes an event; the source is that of the parcel that is delivered.
+    pub fn take(
+        &mut self,
+        alloc: Global,
+        cluster: Cluster,
+        me: u8,
+        event: &Event,
+        source: Option<Source>,
+    ) -> Result<(), NoMemory>
+        requires { (x : AnId) → IsSized cluster (get id_eq self.old.known x) }
+        ensures down { OnOk result (self.new.is_down ≡ down_after event.now self.old.is_down) }
+        ensures known { OnOk result ((x : AnId) → get id_eq self.new.known x ≡ after_event cluster me source self.old.is_down x event.now (get id_eq self.old.known x)) }
+    {
+        match event {
+            Event::Deliver(parcel) => self.hear(alloc, cluster, me, parcel, source),
+            Event::Crash => {
+                *self = ProxyNotes::new(alloc);
+                self.is_down = true;
+                Ok(())
+            }
+            Event::Restart(_) => {
+                if self.is_down {
+                    self.is_down = false;
+                    self.known = IndexMap::new(alloc);
+                }
+                Ok(())
+            }
+            Event::Cut(..) | Event::Tick(_) | Event::Alarm => Ok(()),
+        }
+    }
+}
