@@ -31,6 +31,7 @@ use Rattle.nz_machine.specs.Events.{Told, Sent, Accepted, id_at, command_at, rea
 use Rattle.nz_machine.specs.Telling.{acceptance_told, request_told, told_of}
 use Rattle.nz_machine.specs.History.{ReplySource, source, log_at, cut_at, cut_after, source_of_sender, accepted_source, prefix_at_source, accepted_prefix, entries_or, prefix_in, longer, history}
 use Rattle.nz_machine.proofs.Runs.{acts_itself, on_cond}
+use Rattle.nz_machine.proofs.Accepting.{client_accepts}
 use Rattle.nz_audit.specs.declared.source.Source.{Source}
 use Rattle.nz_audit.specs.declared.sending.ParcelKey.{ParcelKey}
 use Rattle.nz_audit.specs.Sources.{first_longest, numbers_of, in_numbers, about_message, about, source_sent, stands_for, kept_of, source_delivered, source_told}
@@ -87,28 +88,6 @@ leads_back g r J id p (Some at) w e =
 
 -- ---- which request an accepted answer is to
 
-record IsAnswerTo (s : ClientData) (from : Actor) (m : Message) : Type 0 where
-  proxy : ℕ
-  body : AnswerBody
-  sender : from ≡ Proxy proxy
-  message : m ≡ Answer body
-  num : body.num ≡ s.sent
-
-awaited_is : (s : ClientData) (b : AnswerBody) (o : Option Attempt) → is_awaited s b o ≡ true → b.num ≡ s.sent
-awaited_is s b None e = absurd cc
-awaited_is s b (Some a) e = eqb-true b.num s.sent e
-
-accept_is : (proxies me p : ℕ) (script : List Request) (s : ClientData) (b : AnswerBody) → s.accepted < (accept_rule proxies me script s b).0.accepted → IsAnswerTo s (Proxy p) (Answer b)
-unfolding accept_rule
-accept_is proxies me p script s b =
-    let free : ClientData = (record s { accepted = s.accepted + 1; attempt = None }) in
-    on_cond (λ (t : ClientData × List Out). s.accepted < t.0.accepted → IsAnswerTo s (Proxy p) (Answer b)) (is_awaited s b s.attempt) (open_next proxies me script free) (s, [])
-    (λ t _. record { proxy = p; body = b; sender = refl; message = refl; num = awaited_is s b s.attempt t }) (λ _ lt. absurd (omega (arith, lt)))
-
-message_accepts : (proxies me : ℕ) (script : List Request) (s : ClientData) (from : Actor) (m : Message) → s.accepted < (client_message proxies me script s from m).0.accepted → IsAnswerTo s from m
-message_accepts proxies me script s (Proxy p) (Answer b) lt = accept_is proxies me p script s b lt
-message_accepts proxies me script s _ _ lt = absurd (omega (arith, lt))
-
 -- the first event told is an acceptance
 abbrev Begins : List Told → Id → Type 0
 Begins (Accepted id answer path ∷ told) own = id ≡ own
@@ -140,7 +119,7 @@ client_told g c r J p (Some e) id by is heard h =
     let t = state_after g (Client c) (r ∷ J) in
     let b = answer_begins c (script_of g c) s t e.message id h in
     let after : t ≡ (envelope_step g (Client c) s (Some e)).0 = acts_itself g (Client c) r J by ∙ ap (λ (x : Event). (event_step g (Client c) s x).0) is ∙ ap (λ (x : Option Envelope). (envelope_step g (Client c) s x).0) heard in
-    let a = message_accepts g.proxies c (script_of g c) s e.from e.message (subst (λ (x : ClientData). s.accepted < x.accepted) after b.risen) in
+    let a = client_accepts g c s e (subst (λ (x : ClientData). s.accepted < x.accepted) after b.risen) in
     let of = is_received g.f (Client c) p e heard in
     let id_is : id_at c a.body.num ≡ id = ap (id_at c) a.num ∙ b.own in
     record {

@@ -5,7 +5,7 @@ use Rattle.indexmap.specs.IndexMap.{insert_entry}
 use Rattle.nz_base.specs.declared.key.Id.{Id}
 use Rattle.nz_base.specs.Key.{id_eq}
 use Rattle.nz_base.proofs.Booleans.{cases_bool}
-use Rattle.nz_base.proofs.Names.{id_eq_self, same_id, id_turn_away}
+use Rattle.nz_base.proofs.Names.{same_id, id_turn_away}
 use Rattle.nz_store.specs.declared.command.Answer.{Answer}
 use Rattle.nz_window.specs.Samples.{sampled}
 use Rattle.nz_msg.specs.declared.message.RequestBody.{RequestBody}
@@ -13,25 +13,8 @@ use Rattle.nz_machine.specs.declared.reply.Reply.{Reply}
 use Rattle.nz_machine.specs.State.{ProxyData, Standing, Open, Decided}
 use Rattle.nz_machine.specs.Quorums.{Chosen, decision, answer_in, with_note}
 use Rattle.nz_machine.specs.Proxies.{with_standing, standing_of, stamped, stamp_rule, answered, decided_as, noted_in, reply_rule}
-use Rattle.nz_machine.proofs.Runs.{on_cond}
+use Rattle.nz_machine.proofs.Lookups.{lookup_inserted, lookup_other}
 use Rattle.nz_audit.proofs.Memories.{standing_opened, settled_with, answer_chosen, standing_noted}
-
--- ---- tables
-
-found_put : {V : Type 0} (es : List (Id × V)) (id : Id) (v : V) → lookup (id_eq id) (insert_entry id_eq es id v) ≡ Some v
-found_put [] id v = ap (λ b. cond b (Some v) None) (id_eq_self id)
-found_put {V} (e ∷ es) id v =
-    on_cond (λ (t : List (Id × V)). lookup (id_eq id) t ≡ Some v) (id_eq id e.0) ((e.0, v) ∷ es) (e ∷ insert_entry id_eq es id v)
-    (λ t. ap (λ b. cond b (Some v) (lookup (id_eq id) es)) t)
-    (λ f. ap (λ b. cond b (Some e.1) (lookup (id_eq id) (insert_entry id_eq es id v))) f ∙ found_put es id v)
-
-found_other : {V : Type 0} (es : List (Id × V)) (x id : Id) (v : V) → id_eq x id ≡ false → lookup (id_eq x) (insert_entry id_eq es id v) ≡ lookup (id_eq x) es
-found_other [] x id v h = ap (λ b. cond b (Some v) None) h
-found_other {V} (e ∷ es) x id v h =
-    on_cond (λ (t : List (Id × V)). lookup (id_eq x) t ≡ lookup (id_eq x) (e ∷ es)) (id_eq id e.0) ((e.0, v) ∷ es) (e ∷ insert_entry id_eq es id v)
-    (λ t. let other : id_eq x e.0 ≡ false = ap (id_eq x) (sym (same_id id e.0 t)) ∙ h in
-    ap (λ b. cond b (Some v) (lookup (id_eq x) es)) other ∙ sym (ap (λ b. cond b (Some e.1) (lookup (id_eq x) es)) other))
-    (λ _. ap (cond (id_eq x e.0) (Some e.1)) (found_other es x id v h))
 
 -- a change at one request, seen at any
 at_each : (id x : Id) (s t : ProxyData) (f : Option Standing → Option Standing) → standing_of t id ≡ f (standing_of s id) → (id_eq x id ≡ false → standing_of t x ≡ standing_of s x)
@@ -45,12 +28,12 @@ at_each id x s t f here away =
 -- ---- a request of a client
 
 stamped_here : (f : ℕ) (s : ProxyData) (id : Id) (command : List ℕ) (o : Option Standing) → standing_of s id ≡ o → standing_of (stamped f s id command o).0 id ≡ standing_opened o
-stamped_here f s id command None e = found_put s.standings id (Open [])
+stamped_here f s id command None e = lookup_inserted s.standings id (Open [])
 stamped_here f s id command (Some (Open replies)) e = e
 stamped_here f s id command (Some (Decided a p)) e = e
 
 stamped_away : (f : ℕ) (s : ProxyData) (id x : Id) (command : List ℕ) (o : Option Standing) → id_eq x id ≡ false → standing_of (stamped f s id command o).0 x ≡ standing_of s x
-stamped_away f s id x command None h = found_other s.standings x id (Open []) h
+stamped_away f s id x command None h = lookup_other s.standings x id (Open []) h
 stamped_away f s id x command (Some (Open replies)) h = refl
 stamped_away f s id x command (Some (Decided a p)) h = refl
 
@@ -64,11 +47,11 @@ stamp_opens f s c b x =
 -- ---- a reply
 
 answered_here : (s : ProxyData) (id : Id) (replies : List Reply) (chosen : Chosen) (o : Option Answer) → standing_of (answered s id replies chosen.path o).0 id ≡ Some (settled_with replies (Some chosen) o)
-answered_here s id replies chosen None = found_put s.standings id (Open replies)
-answered_here s id replies chosen (Some a) = found_put s.standings id (Decided a chosen.path)
+answered_here s id replies chosen None = lookup_inserted s.standings id (Open replies)
+answered_here s id replies chosen (Some a) = lookup_inserted s.standings id (Decided a chosen.path)
 
 decided_here : (s : ProxyData) (id : Id) (replies : List Reply) (d : Option Chosen) → standing_of (decided_as s id replies d).0 id ≡ Some (settled_with replies d (answer_chosen d))
-decided_here s id replies None = found_put s.standings id (Open replies)
+decided_here s id replies None = lookup_inserted s.standings id (Open replies)
 decided_here s id replies (Some chosen) = answered_here s id replies chosen (answer_in chosen.reply)
 
 noted_here : (f : ℕ) (s : ProxyData) (id : Id) (reply : Reply) (o : Option Standing) → standing_of s id ≡ o → standing_of (noted_in f s id reply o).0 id ≡ standing_noted f reply o
@@ -77,11 +60,11 @@ noted_here f s id reply (Some (Decided a p)) e = e
 noted_here f s id reply (Some (Open replies)) e = decided_here s id (with_note replies reply) (decision f (with_note replies reply))
 
 answered_away : (s : ProxyData) (id x : Id) (replies : List Reply) (chosen : Chosen) (o : Option Answer) → id_eq x id ≡ false → standing_of (answered s id replies chosen.path o).0 x ≡ standing_of s x
-answered_away s id x replies chosen None h = found_other s.standings x id (Open replies) h
-answered_away s id x replies chosen (Some a) h = found_other s.standings x id (Decided a chosen.path) h
+answered_away s id x replies chosen None h = lookup_other s.standings x id (Open replies) h
+answered_away s id x replies chosen (Some a) h = lookup_other s.standings x id (Decided a chosen.path) h
 
 decided_away : (s : ProxyData) (id x : Id) (replies : List Reply) (d : Option Chosen) → id_eq x id ≡ false → standing_of (decided_as s id replies d).0 x ≡ standing_of s x
-decided_away s id x replies None h = found_other s.standings x id (Open replies) h
+decided_away s id x replies None h = lookup_other s.standings x id (Open replies) h
 decided_away s id x replies (Some chosen) h = answered_away s id x replies chosen (answer_in chosen.reply) h
 
 noted_away : (f : ℕ) (s : ProxyData) (id x : Id) (reply : Reply) (o : Option Standing) → id_eq x id ≡ false → standing_of (noted_in f s id reply o).0 x ≡ standing_of s x

@@ -25,7 +25,7 @@ use Rattle.nz_machine.specs.OneHistory.{Precedes}
 use Rattle.nz_machine.proofs.Runs.{may_act, has_left, has_right, has_split, on_cond}
 use Rattle.nz_lin.specs.Once.{AreOnce}
 use Rattle.nz_lin.proofs.Histories.{precedes_three}
-use Rattle.nz_lin.proofs.Clients.{client_accepts}
+use Rattle.nz_machine.proofs.Accepting.{client_accepts}
 use Rattle.nz_lin.proofs.Tells.{AcceptsAnswer, told_sent, told_accepted, not_sent, not_accepted, sent_once, not_sent_before, has_sent, count_rises}
 
 -- ---- counts of a client

@@ -40,7 +40,7 @@ use Rattle.nz_lin.proofs.FactsStay.{facts_stay}
 use Rattle.nz_lin.proofs.Answering.{IsGiven, given_later}
 use Rattle.nz_lin.proofs.Notes.{delivers}
 use Rattle.nz_lin.proofs.AnswersSent.{LeadsBack, answer_source}
-use Rattle.nz_lin.proofs.Clients.{IsAnswerTo, client_accepts}
+use Rattle.nz_machine.proofs.Accepting.{IsAnswerTo, client_accepts}
 use Rattle.nz_lin.proofs.Tells.{AcceptsAnswer, told_sent, told_accepted, not_sent_before}
 use Rattle.nz_lin.proofs.Asked.{WasSent, own_command}
 

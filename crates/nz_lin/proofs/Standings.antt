@@ -23,18 +23,7 @@ use Rattle.nz_machine.specs.Step.{proxy_message, received, envelope_step, event_
 use Rattle.nz_machine.specs.Events.{read_in}
 use Rattle.nz_machine.specs.History.{reply_in, reply_read}
 use Rattle.nz_machine.proofs.Runs.{on_cond}
-use Rattle.nz_machine.proofs.OthersShow.{lookup_inserted}
-
--- ---- tables
-
-lookup_other : {V : Type 0} (es : List (Id × V)) (x id : Id) (v : V) → id_eq x id ≡ false
-    → lookup (id_eq x) (insert_entry id_eq es id v) ≡ lookup (id_eq x) es
-lookup_other [] x id v h = ap (λ b. cond b (Some v) None) h
-lookup_other {V} (e ∷ es) x id v h =
-    on_cond (λ (t : List (Id × V)). lookup (id_eq x) t ≡ lookup (id_eq x) (e ∷ es)) (id_eq id e.0) ((e.0, v) ∷ es) (e ∷ insert_entry id_eq es id v)
-    (λ t. let other : id_eq x e.0 ≡ false = ap (id_eq x) (sym (same_id id e.0 t)) ∙ h in
-    ap (λ b. cond b (Some v) (lookup (id_eq x) es)) other ∙ sym (ap (λ b. cond b (Some e.1) (lookup (id_eq x) es)) other))
-    (λ _. ap (cond (id_eq x e.0) (Some e.1)) (lookup_other es x id v h))
+use Rattle.nz_machine.proofs.Lookups.{lookup_inserted, lookup_other}
 
 -- ---- moves of a standing
 

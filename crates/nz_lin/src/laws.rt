@@ -37,7 +37,7 @@ pub fn facts_stay()
     ensures { (g : Group) (J : List Record) (r : ℕ) → World g J → HasFacts g.f r (state_after g (Replica r) J) }
 {}
 
-/// Each message that was sent is read off its sender's state behind the record that first sent it.
+/// Each message that was sent is read off its sender's states before and after the record that first sent it.
 pub fn messages_are_snapshots()
     ensures { (g : Group) (J : List Record) (parcel : Parcel) → World g J → Has (sent_in J) parcel → IsSnapshot g J parcel }
 {}

@@ -28,17 +28,10 @@ use Rattle.nz_machine.specs.Step.{proxy_message, client_message}
 use Rattle.nz_machine.specs.Hearing.{Heard}
 use Rattle.nz_machine.specs.Shows.{ProxyShows, ClientShows}
 use Rattle.nz_machine.proofs.Runs.{on_cond}
+use Rattle.nz_machine.proofs.Lookups.{lookup_inserted}
 use Rattle.nz_machine.proofs.Pieces.{all_map}
 use Rattle.nz_machine.proofs.Shows.{all_below}
 use Rattle.nz_machine.proofs.FitClients.{if_due_is, own_proxy}
-
--- what was put into a table last is found
-pub lookup_inserted : {V : Type 0} (es : List (Id × V)) (id : Id) (v : V) → lookup (id_eq id) (insert_entry id_eq es id v) ≡ Some v
-lookup_inserted [] id v = ap (λ b. cond b (Some v) None) (id_eq_self id)
-lookup_inserted {V} (e ∷ es) id v =
-    on_cond (λ (t : List (Id × V)). lookup (id_eq id) t ≡ Some v) (id_eq id e.0) ((e.0, v) ∷ es) (e ∷ insert_entry id_eq es id v)
-    (λ t. ap (λ b. cond b (Some v) (lookup (id_eq id) es)) t)
-    (λ f. ap (λ b. cond b (Some e.1) (lookup (id_eq id) (insert_entry id_eq es id v))) f ∙ lookup_inserted es id v)
 
 -- ---- proxies
 

@@ -54,7 +54,7 @@ accepted_by c before after (Some e) = accepted_in c before after e.message
 abbrev pub sent_by : ℕ → List Request → ClientData → ClientData → List Told
 sent_by c script before after = if nat_lt before.sent after.sent then Sent (id_at c after.sent) (command_at script after.sent) ∷ [] else []
 
--- What a record tells, behind the records J: an acceptance first.
+-- What a record tells, after the records J: an acceptance first.
 abbrev pub told_by : Group → Actor → Record → List Record → List Told
 told_by g (Client c) r J =
     let before = state_after g (Client c) J in

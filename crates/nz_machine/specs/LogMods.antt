@@ -126,7 +126,7 @@ taken_in before leader commit (s, missing) =
     let after = committed_to (overtaken s) commit in
     (after, replies_since after before.log.synced ++ (fetch_from leader after (missing_ids after missing) ++ sync_report_to leader after ∷ []))
 
--- The first key belongs to the place start, so that of the first place that is not synced is so many behind it.
+-- The first key belongs to the place start, so that of the first place that is not synced comes so many after it.
 abbrev pub taken_from : ℕ → LogModBody → ReplicaData → ReplicaData × List Out
 taken_from leader b s =
     if nat_lt s.log.synced b.start then (s, sync_report_to leader s ∷ [])

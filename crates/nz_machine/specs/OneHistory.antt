@@ -1,4 +1,5 @@
--- One history: what it is that the clients' answers come from one store, and the premise on digests.
+-- One history: what it is that the clients' answers come from one store, the prefixes that were accepted, and the
+-- premise on digests.
 use Rattle.std.specs.Prelude.{◌≡◌, ℕ, ◌<◌, ◌⊎◌, List, [], ◌∷◌, map, Some}
 use Rattle.nz_base.specs.Key.{id_of}
 use Rattle.nz_base.specs.Log.{keys_of, HaveOwnIds}
@@ -44,7 +45,7 @@ pub record IsAnswered (H : List Entry) (id : Id) (answer : Answer) : Type 0 wher
   pub answered : reply (commands H) place ≡ Some answer
 
 -- The clients' events come from one store that executes the history, each request once; and what was sent
--- after an acceptance stands behind it.
+-- after an acceptance comes after it.
 pub record Lin (E : List Told) (H : List Entry) : Type 0 where
   pub once : HaveOwnIds (keys_of H)
   pub asked : (e : Entry) → Has H e → Has E (Sent (id_of e.key) e.command)

@@ -16,11 +16,11 @@ appended is_leader log e =
     let grown = record log { entries = log.entries ++ e ∷ [] } in
     if is_leader then record grown { synced = length grown.entries } else grown
 
--- The leader executes the entry behind the others, and keeps its answer.
+-- The leader executes the entry after the others, and keeps its answer.
 abbrev pub executed : Bool → List Answer → List Entry → Entry → List Answer
 executed is_leader results entries e = if is_leader then results ++ answer_after (commands entries) e.command ∷ [] else results
 
--- The entry is released; these are the early entries behind it.
+-- The entry is released; these are the early entries after it.
 abbrev pub released : ℕ → ℕ → ReplicaData → Entry → List Entry → ReplicaData
 released f me s e rest =
     record s {

@@ -46,12 +46,12 @@ to_late s e = if has_id (keys_of s.late) (id_of e.key) then s else record s { la
 abbrev pub entry_at : ℕ → TimedBody → Entry
 entry_at deadline b = record { key = key_at deadline b.id; command = b.command }
 
--- The deadline behind the last entry's.
+-- The deadline after the last entry's.
 abbrev pub next_deadline : Option Entry → ℕ
 next_deadline None = 1
 next_deadline (Some e) = e.key.deadline + 1
 
--- The leader gives the request the deadline behind the log's last, where that is a deadline.
+-- The leader gives the request the deadline after the log's last, where that is a deadline.
 abbrev pub restamped : ReplicaData → TimedBody → ReplicaData
 restamped s b =
     let deadline = next_deadline (last_entry s.log.entries) in

@@ -43,7 +43,7 @@ calls tick restarts (_ ∷ lines) = calls tick restarts lines
 
 -- ---- clocks
 
--- A clock that is so many units ahead, or behind. None reads less than 0.
+-- A clock that is so many units fast, or slow. None reads less than 0.
 abbrev pub shifted : ℕ → ℤ → ℕ
 shifted units (pos n) = units + n
 shifted units (negsuc n) = units - suc n
@@ -121,7 +121,7 @@ is_named (Some b) a = actor_eq b a
 abbrev pub is_blocked : Option Actor → Option Actor → ℕ → ℕ → ℕ → Parcel → Bool
 is_blocked from to first last tick p = is_named from p.from && (is_named to p.to && is_within first last tick)
 
--- What a fault line makes of the deliveries of a parcel that is sent in a tick behind earlier parcels.
+-- What a fault line makes of the deliveries of a parcel that is sent in a tick after earlier parcels.
 abbrev pub faulted : ℕ → List Parcel → Parcel → Fault → List Delivery → List Delivery
 faulted tick earlier p (faults.Drop from to kind count) ds = if is_nth from to kind count earlier p then [] else ds
 faulted tick earlier p (faults.Hold from to kind count by) ds = if is_nth from to kind count earlier p then held by ds else ds

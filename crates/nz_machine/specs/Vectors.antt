@@ -1,4 +1,5 @@
--- The vector rule (Michael et al., DISC 2017), which every rule with a crash vector begins with.
+-- The vector rule (Michael et al., DISC 2017), in each rule for a message with a crash vector, after that rule's own
+-- tests of status, view, sender and role.
 use Rattle.std.specs.Prelude.{ℕ, List, [], if◌then◌else◌}
 use Rattle.nz_cv.specs.Vectors.{is_stray, merged}
 use Rattle.nz_machine.specs.State.{ReplicaData, Out}

@@ -71,7 +71,7 @@ MayHappen J a Alarm = Unit {0}
 MayHappen J a Crash = Unit {0}
 MayHappen J a (Restart nonce) = AllByRecursion (λ r. ¬ Restarts a nonce r) J
 
--- The record may follow those behind it.
+-- The record may follow the earlier ones.
 pub record Follows (g : Group) (J : List Record) (r : Record) : Type 0 where
   pub member : IsMember g r.actor
   pub event : MayHappen J r.actor r.event

@@ -66,7 +66,7 @@ fn command_of(
     }
 }
 
-/// Puts the entries behind the others.
+/// Puts the entries after the others.
 fn keep_each(late: &mut Late, entries: EntryList) -> Result<(), NoMemory>
     requires { HaveOwnIds (keys_of (late.old ++ entries)) }
     ensures { OnOk result (late.new ≡ late.old ++ entries) }

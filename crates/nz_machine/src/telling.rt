@@ -31,7 +31,7 @@ pub struct Acceptance {
     pub path: Path,
 }
 
-/// What a record tells: an acceptance, and behind it a request that was sent for the first time.
+/// What a record tells: an acceptance, and after it a request that was sent for the first time.
 #[derive(Debug, Drop)]
 pub struct Telling {
     pub accepted: Option<Acceptance>,
