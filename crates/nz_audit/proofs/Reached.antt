@@ -14,15 +14,12 @@ use Rattle.nz_machine.specs.Quorums.{reply_eq}
 use Rattle.nz_machine.specs.World.{World, IsMember}
 use Rattle.nz_machine.specs.History.{ReplySource, older_or, source, standing_after, is_decided, decision_moment, replies_of, noting_moment, delivered, source_of, source_of_reply, source_at_decision, deciding_reply, source_of_sender, accepted_source}
 use Rattle.nz_machine.proofs.Runs.{sent_by}
-use Rattle.nz_machine.proofs.Moments.{At, at_self, at_world}
+use Rattle.nz_base.specs.Moments.{At}
+use Rattle.nz_base.proofs.Moments.{at_self, at_then}
+use Rattle.nz_machine.proofs.Moments.{at_world}
 use Rattle.nz_machine.proofs.Sources.{source_is}
 
 -- ---- moments
-
-at_trans : (J K M : List Record) → At J K → At K M → At J M
-at_trans [] K M h k = subst (λ (x : List Record). At x M) h k
-at_trans (r ∷ J) K M (inl h) k = subst (λ (x : List Record). At x M) h k
-at_trans (r ∷ J) K M (inr h) k = inr (at_trans J K M h k)
 
 -- the records after a moment
 pub at_later : (J K : List Record) → At J K → (later : List Record) × (J ≡ later ++ K)
@@ -77,7 +74,7 @@ reply_reached g q id K reply at w e =
     let p = and_then_some (source_of m.0) (delivered m.0) at m.1.1 in
     let moment = noting_at g q id reply K m.0 m.1.0 in
     let h = first_reached g m.0 p.0 at (at_world g K m.0 w moment) p.1.1 in
-    record { moment = at_trans K m.0 at.run moment h.moment; member = h.member }
+    record { moment = at_then K m.0 at.run moment h.moment; member = h.member }
 
 sender_reached : (g : Group) (id : Id) (a : Actor) (K : List Record) (at : ReplySource) → World g K → source_of_sender g id a K ≡ Some at → IsReached g K at
 sender_reached g id (Proxy q) K at w e =
@@ -85,7 +82,7 @@ sender_reached g id (Proxy q) K at w e =
     let moment = decision_at g q id K m.0 m.1.0 in
     let by = and_then_some (source_of_reply g q id m.0) (deciding_reply g q id m.0) at m.1.1 in
     let h = reply_reached g q id m.0 by.0 at (at_world g K m.0 w moment) by.1.1 in
-    record { moment = at_trans K m.0 at.run moment h.moment; member = h.member }
+    record { moment = at_then K m.0 at.run moment h.moment; member = h.member }
 sender_reached g id (Replica m) K at w e = absurd (none-some at e)
 sender_reached g id (Client c) K at w e = absurd (none-some at e)
 
@@ -95,4 +92,4 @@ accepted_reached g id p J at w e =
     let s = source_is p J m.0 m.1.0 in
     let moment : At J m.0 = subst (At J) (sym s.is) s.at in
     let h = sender_reached g id p.from m.0 at (at_world g J m.0 w moment) m.1.1 in
-    record { moment = at_trans J m.0 at.run moment h.moment; member = h.member }
+    record { moment = at_then J m.0 at.run moment h.moment; member = h.member }

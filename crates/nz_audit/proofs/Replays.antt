@@ -72,6 +72,14 @@ core_takes g r J k m old new before after by found is taken h = elim (cases_bool
       subst (IsCoreIfAny g (r ∷ J) k) (sym (is ∙ ap (λ b. cond b (Some new) before) other)) (any_stays g k r J before (ap (λ (a : Actor). actor_eq a (Replica k)) by ∙ other) h)
 ]
 
+pub core_put : (g : Group) (J : List Record) (k m : ℕ) (core : ReplicaView) (before after : Option ReplicaView) → after ≡ cond (eqb m k) (Some core) before
+    → IsCore g J m core → IsCoreIfAny g J k before → IsCoreIfAny g J k after
+core_put g J k m core before after is at h = elim (cases_bool (eqb m k)) [
+  | inl same ↦
+      subst (IsCoreIfAny g J k) (sym (is ∙ ap (λ b. cond b (Some core) before) same)) (subst (λ (x : ℕ). IsCore g J x core) (eqb-true m k same) at)
+  | inr other ↦ subst (IsCoreIfAny g J k) (sym (is ∙ ap (λ b. cond b (Some core) before) other)) h
+]
+
 pub core_absent : (g : Group) (r : Record) (J : List Record) (k m : ℕ) (before : Option ReplicaView) → r.actor ≡ Replica m → (m ≡ k → before ≡ None) → IsCoreIfAny g J k before → IsCoreIfAny g (r ∷ J) k before
 core_absent g r J k m before by none h = elim (cases_bool (eqb m k)) [
   | inl same ↦ subst (IsCoreIfAny g (r ∷ J) k) (sym (none (eqb-true m k same))) tt
