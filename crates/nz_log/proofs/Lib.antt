@@ -5,6 +5,7 @@ pub mod Keeping
 pub mod Lists
 pub mod Modifying
 pub mod Moving
+pub mod Paging
 pub mod Placing
 pub mod LedKeys
 pub mod Summing

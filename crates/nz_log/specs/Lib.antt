@@ -1,4 +1,5 @@
 pub mod Calls
 pub mod Keeping
+pub mod Paging
 pub mod Places
 pub mod Synced

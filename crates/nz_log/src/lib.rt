@@ -23,5 +23,8 @@ pub use log_rep::{Allocating, LogRep};
 /// The most entries that a log may have.
 pub const MAX_ENTRIES: u32 = 4096;
 
+/// The entries of a page of a log.
+const PAGE: usize = 256;
+
 #[cfg(test)]
 mod tests;

@@ -1,9 +1,10 @@
 //! The entries of a log.
-ghost use Rattle.std.specs.Prelude.{◌≡◌, ◌+◌, ◌≤◌, ◌<◌, [], ◌∷◌, ◌++◌, length, take, drop, OnOk, OnErr, IfOk, filter, slice_set, slice_index_or};
+ghost use Rattle.std.specs.Prelude.{◌≡◌, ◌+◌, ◌-◌, ◌≤◌, ◌<◌, [], ◌∷◌, ◌++◌, length, take, drop, OnOk, OnErr, IfOk, filter, slice_set, slice_index_or};
 ghost use Rattle.std.specs.Option.{option_copied};
 ghost use Rattle.nz_log.specs.Places.{last_entry};
 ghost use Rattle.nz_log.specs.Synced.{is_displaced};
 
+use super::PAGE;
 use nz_base::{Blob, Entry, EntryList, Key, List, NoMemory, TryCopy};
 use std::alloc::Global;
 use std::marker::Model;
@@ -12,16 +13,24 @@ use std::mem;
 /// Entries in order. A clause sees the list of them.
 #[derive(Debug, Drop)]
 pub struct Pages {
-    items: Vec<Entry>,
+    // Each has PAGE entries.
+    full: Vec<Vec<Entry>>,
+    // It has fewer.
+    last: Vec<Entry>,
+    len: usize,
 }
 
 impl Model for Pages {
-    ghost use Rattle.std.specs.Prelude.{List};
+    ghost use Rattle.std.specs.Prelude.{List, ◌++◌};
+    ghost use Rattle.std.specs.List.{flat_map};
     ghost use Rattle.nz_base.specs.declared.key.Entry.{Entry as AnEntry};
+    ghost use Rattle.nz_log.specs.Paging.{ArePages};
 
     ghost Value = { List AnEntry };
 
-    ghost view = { λ p. p.items.items };
+    ghost view = { λ p. flat_map (λ page. page.items) p.full.items ++ p.last.items };
+
+    ghost invariant = { λ p. ArePages (λ page. page.items) p.full.items p.last.items p.len };
 }
 
 impl Pages {
@@ -29,31 +38,41 @@ impl Pages {
         ensures { result ≡ [] }
     {
         Pages {
-            items: Vec::new(alloc),
+            full: Vec::new(alloc),
+            last: Vec::new(alloc),
+            len: 0,
         }
     }
 
     pub fn alloc(&self) -> Global {
-        *self.items.allocator()
+        *self.last.allocator()
     }
 
     pub fn len(&self) -> usize
         ensures { result ≡ length self.now }
     {
-        self.items.len()
+        self.len
     }
 
     pub fn get(&self, place: usize) -> &Entry
         requires { place < length self.now }
         ensures { result.now ≡ slice_index_or self.now place result.now }
     {
-        &self.items[place]
+        let page = place / PAGE;
+        if page < self.full.len() {
+            &self.full[page][place % PAGE]
+        } else {
+            &self.last[place % PAGE]
+        }
     }
 
     pub fn last(&self) -> Option<&Entry>
         ensures { option_copied result ≡ last_entry self.now }
     {
-        self.items.last()
+        match self.len().checked_sub(1) {
+            Some(place) => Some(self.get(place)),
+            None => None,
+        }
     }
 
     /// Puts the entry last.
@@ -61,7 +80,17 @@ impl Pages {
         ensures ok { OnOk result (self.new ≡ self.old ++ entry ∷ []) }
         ensures err { OnErr result (self.new ≡ self.old) }
     {
-        self.items.push(entry)?;
+        let alloc = self.alloc();
+        let len = self.len.checked_add(1).ok_or(NoMemory)?;
+        // A page has its room from its first entry on, so no entry moves as it grows.
+        self.last.reserve(PAGE - self.last.len())?;
+        self.full.reserve(1)?;
+        self.last.push_reserved(entry);
+        self.len = len;
+        if self.last.len() == PAGE {
+            let page = mem::replace(&mut self.last, Vec::new(alloc));
+            self.full.push_reserved(page);
+        }
         Ok(())
     }
 
@@ -71,14 +100,36 @@ impl Pages {
         ensures value { result ≡ slice_index_or self.old place result }
         ensures rest { self.new ≡ slice_set self.old place entry }
     {
-        mem::replace(&mut self.items[place], entry)
+        let page = place / PAGE;
+        if page < self.full.len() {
+            mem::replace(&mut self.full[page][place % PAGE], entry)
+        } else {
+            mem::replace(&mut self.last[place % PAGE], entry)
+        }
     }
 
     /// Keeps so many entries, from the first on.
     pub fn truncate(&mut self, len: usize)
         ensures { self.new ≡ take len self.old }
     {
-        self.items.truncate(len);
+        while self.len() > len {
+            self.pop();
+        }
+    }
+
+    // Takes the last entry out, if there is one.
+    fn pop(&mut self)
+        ensures { self.new ≡ take (length self.old - 1) self.old }
+    {
+        let end = self.last.len();
+        if end > 0 {
+            self.last.truncate(end - 1);
+            self.len -= 1;
+        } else if let Some(mut page) = self.full.pop() {
+            page.truncate(PAGE - 1);
+            self.last = page;
+            self.len -= 1;
+        }
     }
 
     /// Copies of the entries.
