@@ -112,6 +112,9 @@ fn a_copy_and_a_held_delivery_come_in_their_ticks(rt: HostRuntime) -> Result<(),
     for tick in 3..41 {
         note(&mut came, tick, calendar.take(tick).as_slice())?;
     }
-    assert_eq!(rt; came.as_slice(), [(3, 0), (3, 2), (8, 1), (23, 0)].as_slice());
+    assert_eq!(rt;
+        came.as_slice(),
+        [(3, 0), (3, 2), (8, 1), (23, 0)].as_slice()
+    );
     Ok(())
 }
