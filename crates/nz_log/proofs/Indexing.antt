@@ -1,14 +1,14 @@
 -- The index of a log, while its entries go to their places one after another.
-use Rattle.std.proofs.Common.{◌≡◌, ℕ, suc, ◌+◌, ◌<◌, ◌≤◌, take, drop, get_or, drop-cons, append_assoc, arith, true, false, Bool, not, ◌||◌, cond, List, [], ◌∷◌, ◌++◌, length, filter, Option, Some, None, is_some, refl, sym, ap, subst, ◌∙◌, inl, inr, ◌⊎◌, if◌then◌else◌}
+use Rattle.std.proofs.Common.{◌≡◌, ℕ, suc, ◌+◌, ◌<◌, ◌≤◌, take, drop, get_or, drop-cons, append_assoc, arith, true, false, List, [], ◌∷◌, ◌++◌, length, filter, Option, Some, None, is_some, refl, sym, ap, subst, ◌∙◌, inl, inr, if◌then◌else◌}
 use Rattle.std.specs.Option.{option_map}
 use Rattle.std.proofs.lemmas.List.{length-take-le}
 use Rattle.nz_base.specs.declared.key.Id.{Id}
 use Rattle.nz_base.specs.declared.key.Key.{Key}
 use Rattle.nz_base.specs.declared.key.Entry.{Entry}
 use Rattle.nz_base.specs.Key.{key_below, id_eq, id_of}
-use Rattle.nz_base.specs.Log.{keys_of, has_id, HaveOwnIds, IsLog}
+use Rattle.nz_base.specs.Log.{keys_of, has_id, HaveOwnIds}
 use Rattle.nz_base.proofs.Names.{same_id, id_turn, id_turn_away, id_eq_self}
-use Rattle.nz_base.proofs.Booleans.{cases_bool, or_cases, or_left, or_right, neither_left, neither_right, clash}
+use Rattle.nz_base.proofs.Booleans.{cases_bool, or_left, or_right, neither_left, neither_right, clash}
 use Rattle.nz_base.proofs.Logs.{has_id-append, keys_append}
 use Rattle.nz_log.specs.Places.{place_of}
 use Rattle.nz_log.specs.Synced.{stays_behind}

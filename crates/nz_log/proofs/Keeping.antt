@@ -1,9 +1,9 @@
 -- What is kept of a log: looked up, and after one more entry.
-use Rattle.std.proofs.Common.{◌≡◌, ℕ, zero, suc, ◌+◌, ◌-◌, ◌<◌, ◌≤◌, true, false, Bool, List, [], ◌∷◌, ◌++◌, length, take, drop, get_or, nat_lt, Option, Some, None, IfSome, is_some, refl, sym, ap, subst, ◌∙◌, inl, inr, ◌⊎◌, if◌then◌else◌, arith, length-append}
+use Rattle.std.proofs.Common.{◌≡◌, ℕ, zero, suc, ◌+◌, ◌-◌, ◌<◌, ◌≤◌, true, false, List, [], ◌∷◌, ◌++◌, length, take, drop, get_or, nat_lt, Option, Some, None, IfSome, is_some, refl, sym, ap, subst, ◌∙◌, inl, inr, if◌then◌else◌, arith}
 use Rattle.std.specs.Prelude.{slice_get}
 use Rattle.std.specs.Option.{option_map}
 use Rattle.std.specs.Map.{lookup}
-use Rattle.std.proofs.lemmas.Bool.{cases_lt, lt-ltb, ltb_from_iff}
+use Rattle.std.proofs.lemmas.Bool.{cases_lt, ltb_from_iff}
 use Rattle.std.proofs.lemmas.List.{length-take-le, get_or-take, take-append-drop}
 use Rattle.std.proofs.lemmas.Option.{slice_get_read}
 use Rattle.nz_base.specs.declared.key.Id.{Id}
@@ -15,7 +15,7 @@ use Rattle.nz_base.proofs.Names.{same_id, id_turn, id_turn_away}
 use Rattle.nz_base.proofs.Booleans.{cases_bool, neither_left}
 use Rattle.nz_base.proofs.Logs.{has_first, has_id-append, keys_append, front_below, above_last, above_some, own_id}
 use Rattle.std.proofs.Math.Seq.{take-append_seam}
-use Rattle.nz_log.specs.Places.{place_of, IsPlace}
+use Rattle.nz_log.specs.Places.{place_of}
 use Rattle.nz_log.specs.Synced.{Log, IsSound, synced_part, unsynced_part}
 use Rattle.nz_log.specs.Keeping.{IsKept, IsSummed, IsMidway, digest_with}
 use Rattle.nz_log.proofs.Placing.{place_found, place_held, held_at}

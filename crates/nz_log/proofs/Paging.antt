@@ -47,7 +47,8 @@ module _ {P : Type 0} (f : P → List Entry) where
       ∙ ap (λ (n : ℕ). get_or (flat_map f ps) n d) is
       ∙ joined_at ps (place / 256) (place % 256) e d all within small
 
-  place_in_last : (ps : List P) (last : List Entry) (place count : ℕ) → ArePages f ps last count → length ps ≤ place / 256 → place < length (flat_map f ps ++ last)
+  place_in_last : (ps : List P) (last : List Entry) (place count : ℕ)
+      → ArePages f ps last count → length ps ≤ place / 256 → place < length (flat_map f ps ++ last)
       → place ≡ length (flat_map f ps) + place % 256
   place_in_last ps last place count pages above within =
       let long = joined_length ps pages.each in
@@ -57,14 +58,16 @@ module _ {P : Type 0} (f : P → List Entry) where
       let small = small_part place in
       omega (arith, long, whole, room, is, small, above, within)
 
-  pub last_within : (ps : List P) (last : List Entry) (place count : ℕ) → ArePages f ps last count → length ps ≤ place / 256 → place < length (flat_map f ps ++ last)
+  pub last_within : (ps : List P) (last : List Entry) (place count : ℕ)
+      → ArePages f ps last count → length ps ≤ place / 256 → place < length (flat_map f ps ++ last)
       → place % 256 < length last
   last_within ps last place count pages above within =
       let whole : length (flat_map f ps ++ last) ≡ length (flat_map f ps) + length last = length-append (flat_map f ps) last in
       let far = place_in_last ps last place count pages above within in
       omega (arith, far, whole, within)
 
-  pub in_last : (ps : List P) (last : List Entry) (place count : ℕ) (d : Entry) → ArePages f ps last count → length ps ≤ place / 256 → place < length (flat_map f ps ++ last)
+  pub in_last : (ps : List P) (last : List Entry) (place count : ℕ) (d : Entry)
+      → ArePages f ps last count → length ps ≤ place / 256 → place < length (flat_map f ps ++ last)
       → get_or (flat_map f ps ++ last) place d ≡ get_or last (place % 256) d
   in_last ps last place count d pages above within =
       ap (λ (n : ℕ). get_or (flat_map f ps ++ last) n d) (place_in_last ps last place count pages above within)
@@ -103,7 +106,8 @@ module _ {P : Type 0} (f : P → List Entry) where
       ∙ ap (λ (n : ℕ). set (flat_map f ps) n e ++ last) (sym parts)
       ∙ sym (set-append_left (flat_map f ps) last place e (omega (arith, long, parts, small, within)))
 
-  pub set_in_last : (ps : List P) (last : List Entry) (place count : ℕ) (e : Entry) → ArePages f ps last count → length ps ≤ place / 256 → place < length (flat_map f ps ++ last)
+  pub set_in_last : (ps : List P) (last : List Entry) (place count : ℕ) (e : Entry)
+      → ArePages f ps last count → length ps ≤ place / 256 → place < length (flat_map f ps ++ last)
       → flat_map f ps ++ set last (place % 256) e ≡ set (flat_map f ps ++ last) place e
   set_in_last ps last place count e pages above within =
       let far = place_in_last ps last place count pages above within in

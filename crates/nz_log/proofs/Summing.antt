@@ -5,7 +5,6 @@ use Rattle.std.proofs.lemmas.List.{take-append-le, length-take-le, take_all, get
 use Rattle.std.proofs.Math.Seq.{get_or-append_seam}
 use Rattle.std.proofs.lemmas.Option.{get_or_from_slice_get, slice_get-get_or}
 use Rattle.std.proofs.lemmas.Bool.{cases_lt}
-use Rattle.nz_base.specs.declared.key.Key.{Key}
 use Rattle.nz_base.specs.declared.key.Entry.{Entry}
 use Rattle.nz_digest.specs.Digests.{digest_of_none}
 use Rattle.nz_log.specs.Places.{digest_of_log, digest_at}

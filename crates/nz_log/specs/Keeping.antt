@@ -1,5 +1,5 @@
 -- What a log keeps beside its entries: one digest at each place, and the place of each id.
-use Rattle.std.specs.Prelude.{◌≡◌, ℕ, ◌<◌, ◌⊎◌, true, false, List, ◌∷◌, [], ◌++◌, length, slice_index_or, Option, IsSome}
+use Rattle.std.specs.Prelude.{◌≡◌, ℕ, ◌<◌, ◌⊎◌, true, false, List, length, slice_index_or, Option, IsSome}
 use Rattle.std.specs.Map.{lookup}
 use Rattle.nz_base.specs.declared.key.Id.{Id}
 use Rattle.nz_base.specs.declared.key.Key.{Key}

@@ -1,7 +1,6 @@
-use Rattle.std.proofs.Common.{◌≡◌, sym, subst, ◌∙◌}
+use Rattle.std.proofs.Common.{sym, subst, ◌∙◌}
 use Rattle.std.proofs.lemmas.List.{take_all}
 use Rattle.nz_base.specs.Log.{IsLog}
-use Rattle.nz_log.specs.Calls.{may_follow}
 use Rattle.nz_log.proofs.Calling.{log_more, log_stops, log_passes}
 use Rattle.nz_log.proofs.calls.is_log.Goals as goal
 

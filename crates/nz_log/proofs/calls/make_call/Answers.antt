@@ -1,4 +1,4 @@
-use Rattle.std.proofs.Common.{◌≡◌, length, nat_le, sym, subst, ◌∙◌}
+use Rattle.std.proofs.Common.{length, nat_le, sym, subst, ◌∙◌}
 use Rattle.nz_base.specs.Log.{IsLog}
 use Rattle.nz_base.proofs.Booleans.{and_left}
 use Rattle.nz_log.specs.Calls.{may_be_log}

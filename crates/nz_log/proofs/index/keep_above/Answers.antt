@@ -1,10 +1,9 @@
-use Rattle.std.proofs.Common.{◌≡◌, ◌+◌, ◌≤◌, ◌<◌, ◌++◌, ◌∷◌, [], ℕ, List, false, length, take, drop, filter, Option, Some, None, if◌then◌else◌, sym, ap, subst, ◌∙◌, arith}
-use Rattle.indexmap.specs.IndexMap.{get, IndexMap}
+use Rattle.std.proofs.Common.{◌≡◌, ◌+◌, ◌≤◌, ◌<◌, ◌++◌, ◌∷◌, [], false, length, take, drop, filter, Some, None, if◌then◌else◌, sym, ap, ◌∙◌, arith}
+use Rattle.indexmap.specs.IndexMap.{get}
 use Rattle.nz_base.specs.declared.key.Id.{Id}
 use Rattle.nz_base.specs.declared.key.Entry.{Entry}
-use Rattle.nz_base.specs.Key.{key_below, id_eq, id_of}
+use Rattle.nz_base.specs.Key.{id_eq, id_of}
 use Rattle.nz_log.specs.Synced.{stays_behind}
-use Rattle.nz_log.specs.Keeping.{IsMidway}
 use Rattle.nz_log.proofs.Indexing.{IsAlong, along_stays, along_gone}
 use Rattle.nz_log.proofs.index.keep_above.Goals as goal
 use Rattle.nz_log.proofs.index.keep_above.Goals.{then-is_below, else-is_below}

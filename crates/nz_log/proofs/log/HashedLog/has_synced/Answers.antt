@@ -1,4 +1,4 @@
-use Rattle.std.proofs.Common.{◌≡◌, sym, ap, ◌∙◌}
+use Rattle.std.proofs.Common.{sym, ap, ◌∙◌}
 use Rattle.nz_base.specs.Log.{keys_of, has_id}
 use Rattle.nz_log.specs.Synced.{Log, synced_part}
 use Rattle.nz_log.proofs.Keeping.{held_before, none_before}

@@ -1,4 +1,4 @@
-use Rattle.std.proofs.Common.{◌≡◌, sym, ap, ◌∙◌}
+use Rattle.std.proofs.Common.{sym, ap, ◌∙◌}
 use Rattle.nz_base.specs.Log.{keys_of, is_above_last}
 use Rattle.nz_base.proofs.Logs.{above_none, above_some}
 use Rattle.nz_log.specs.Synced.{Log}

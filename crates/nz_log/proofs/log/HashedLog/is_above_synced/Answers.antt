@@ -1,4 +1,4 @@
-use Rattle.std.proofs.Common.{◌≡◌, ◌+◌, sym, ap, ◌∙◌, arith}
+use Rattle.std.proofs.Common.{◌≡◌, ◌+◌, ap, ◌∙◌, arith}
 use Rattle.nz_base.specs.Log.{keys_of, is_above_last}
 use Rattle.nz_log.specs.Synced.{Log, synced_part}
 use Rattle.nz_log.proofs.Keeping.{above_first}

@@ -1,4 +1,4 @@
-use Rattle.std.proofs.Common.{◌≡◌, ◌+◌, ◌<◌, ◌≤◌, ◌++◌, ◌∷◌, true, false, List, ℕ, length, take, drop, sym, ap, subst, ◌∙◌, arith, Some, if◌then◌else◌}
+use Rattle.std.proofs.Common.{◌≡◌, ◌+◌, ◌<◌, ◌≤◌, true, false, List, ℕ, length, take, drop, sym, ap, subst, ◌∙◌, arith, Some, if◌then◌else◌}
 use Rattle.std.specs.List.{filter}
 use Rattle.std.specs.Map.{lookup}
 use Rattle.std.specs.Vec.{vec_capacity, vec_len}
@@ -6,8 +6,8 @@ use Rattle.nz_base.specs.declared.key.Id.{Id}
 use Rattle.nz_base.specs.declared.key.Entry.{Entry}
 use Rattle.nz_base.specs.Key.{id_of, id_eq}
 use Rattle.nz_base.specs.Log.{keys_of, has_id, is_above_last}
-use Rattle.nz_log.specs.Synced.{Log, IsSound, synced_part, unsynced_part, stays_behind, modified}
-use Rattle.nz_log.specs.Keeping.{IsKept, IsSummed}
+use Rattle.nz_log.specs.Synced.{Log, IsSound, synced_part, stays_behind, modified}
+use Rattle.nz_log.specs.Keeping.{IsSummed}
 use Rattle.nz_log.proofs.Modifying.{kept_after, kept_long, modified_sound}
 use Rattle.nz_log.proofs.Keeping.{midway_put, sums_put}
 use Rattle.nz_log.proofs.log.HashedLog.modify.Goals as goal

@@ -1,4 +1,4 @@
-use Rattle.std.proofs.Common.{◌≡◌, ◌<◌, ◌≤◌, ℕ, ap, ◌∙◌, sym, arith, List, ◌∷◌, ◌++◌, [], take, drop, length, append_assoc}
+use Rattle.std.proofs.Common.{ap, ◌∙◌, sym, List, ◌∷◌, ◌++◌, [], take, drop, append_assoc}
 use Rattle.std.proofs.lemmas.List.{take-append-le, drop-append-le}
 use Rattle.nz_base.specs.declared.key.Entry.{Entry}
 use Rattle.nz_log.proofs.Moving.{last_away}

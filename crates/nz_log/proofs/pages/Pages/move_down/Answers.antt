@@ -1,4 +1,4 @@
-use Rattle.std.proofs.Common.{◌≡◌, ◌+◌, ℕ, ap, ◌∙◌, List, take, drop, set}
+use Rattle.std.proofs.Common.{◌+◌, ap, ◌∙◌, List, take, set}
 use Rattle.nz_base.specs.declared.key.Entry.{Entry}
 use Rattle.nz_log.proofs.Moving.{down_step}
 use Rattle.nz_log.proofs.pages.Pages.move_down.Goals as goal

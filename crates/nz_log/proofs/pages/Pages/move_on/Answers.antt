@@ -1,4 +1,4 @@
-use Rattle.std.proofs.Common.{◌≡◌, ◌+◌, ◌<◌, length, ℕ, ap, ◌∙◌, sym, arith, List, ◌∷◌, ◌++◌, take, drop, length-set}
+use Rattle.std.proofs.Common.{◌≡◌, ◌+◌, ◌<◌, length, ap, ◌∙◌, arith, List, ◌∷◌, ◌++◌, take, drop, length-set}
 use Rattle.nz_base.specs.declared.key.Entry.{Entry}
 use Rattle.nz_log.proofs.Moving.{hand_step}
 use Rattle.nz_log.proofs.pages.Pages.move_on.Goals as goal

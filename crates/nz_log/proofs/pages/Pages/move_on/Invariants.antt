@@ -1,4 +1,4 @@
-use Rattle.std.proofs.Common.{◌≡◌, ◌≤◌, ◌∷◌, ◌++◌, length, take, drop}
+use Rattle.std.proofs.Common.{◌≡◌, ◌∷◌, ◌++◌, length, take, drop}
 use Rattle.nz_log.proofs.pages.Pages.move_on.Given as goal
 
 abbrev pub invariant-loop-at : goal.invariant-loop-at

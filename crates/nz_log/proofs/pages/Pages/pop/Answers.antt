@@ -24,5 +24,6 @@ returns-in-Some c =
     let count : c.len-end.result ≡ c.self.inside.last.len = c.len-end.ensures in
     let none : c.len-end.result ≤ 0 = c.if-end-gt0.false in
     ap (λ (xs : List Entry). flat_map (λ page. page.items) c.pop.new.self.items ++ xs) c.truncate-in-Some.ensures.items
-    ∙ page_out (λ page. page.items) c.pop.new.self.items full c.in-Some.page last c.in-Some.ensures.items c.self.invariant.each (omega (arith, size, count, none))
+    ∙ page_out (λ page. page.items) c.pop.new.self.items full c.in-Some.page last c.in-Some.ensures.items c.self.invariant.each
+    (omega (arith, size, count, none))
     ∙ ap (λ (xs : List Entry). take (length xs - 1) xs) c.self.view_is

@@ -1,4 +1,4 @@
-use Rattle.std.proofs.Common.{◌≡◌, ℕ, ◌<◌, ◌≤◌, ◌/◌, ◌%◌, List, ◌++◌, length, get_or, set, sym, ap, subst, ◌∙◌, arith}
+use Rattle.std.proofs.Common.{◌≡◌, ◌<◌, ◌≤◌, ◌/◌, ◌%◌, List, ◌++◌, length, get_or, set, sym, ap, subst, ◌∙◌, arith}
 use Rattle.std.specs.List.{flat_map}
 use Rattle.std.specs.Vec.{with_item}
 use Rattle.nz_base.specs.declared.key.Entry.{Entry}
@@ -65,6 +65,8 @@ returns-else-page-len-clause-rest c =
     let count : c.len.result ≡ c.self.inside.full.len = c.len.ensures in
     let low : c.len.result ≤ place / 256 = c.if-page-len.false in
     let within = subst (λ (xs : List Entry). place < length xs) (sym c.self.view_is) c.requires in
-    ap (λ (x : Entry). flat_map (λ page. page.items) c.self.inside.full.items ++ set c.self.inside.last.items (place % 256) x) c.replace-else-page-len.ensures.after
-    ∙ set_in_last _ c.self.inside.full.items c.self.inside.last.items place c.self.inside.len c.args.entry c.self.invariant (omega (arith, size, count, low)) within
+    let full = c.self.inside.full.items in
+    let last = c.self.inside.last.items in
+    ap (λ (x : Entry). flat_map (λ page. page.items) full ++ set last (place % 256) x) c.replace-else-page-len.ensures.after
+    ∙ set_in_last _ full last place c.self.inside.len c.args.entry c.self.invariant (omega (arith, size, count, low)) within
     ∙ ap (λ (xs : List Entry). set xs place c.args.entry) c.self.view_is
