@@ -85,15 +85,12 @@ impl<N: Name, C: Core> ActorState<N, C> {
     {
         self.actor
     }
-}
 
-impl<N: Name, C: Core + Drop> ActorState<N, C> {
     /// The records, the oldest first.
-    pub fn into_lane(self) -> RecordList
-        ensures lane { reverse result ≡ self.steps }
-        ensures replay { IsReplay (group_of N.scenario) self.actor (reverse result) }
+    pub fn lane(&self) -> &[Record]
+        ensures lane { reverse result.now ≡ self.now.steps }
+        ensures replay { IsReplay (group_of N.scenario) self.now.actor (reverse result.now) }
     {
-        let ActorState { lane, .. } = self;
-        lane
+        self.lane.as_slice()
     }
 }

@@ -4,7 +4,6 @@ ghost use Rattle.std.specs.List.{AllByRecursion};
 ghost use Rattle.nz_machine.specs.Schedule.{IsPlayable};
 ghost use Rattle.nz_machine.specs.World.{IsAsked, request_count};
 
-use super::run;
 use super::shares::{Worker, deal};
 use super::stage::turn_at;
 use nz_actor::{ActorCell, ActorState};
@@ -71,22 +70,6 @@ fn three_deadlines(alloc: Global) -> Result<Scenario, Fail>
         scripts: scripts(alloc)?,
         faults: FaultList::new(alloc),
     })
-}
-
-#[test]
-fn many_workers(rt: HostRuntime) -> Result<(), Fail> {
-    let alloc = rt.alloc();
-    let scenario = three_deadlines(alloc)?;
-    let alone = run(&rt, alloc, &scenario, 1, &OpenGate::new())?;
-    for workers in [2, 4, 16] {
-        let journal = run(&rt, alloc, &scenario, workers, &OpenGate::new())?;
-        assert_eq!(rt;
-            journal.records.len(),
-            alone.records.len(),
-            "with {workers}"
-        );
-    }
-    Ok(())
 }
 
 /// A replica that looks for another one which is in a step at the same time.

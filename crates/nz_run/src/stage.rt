@@ -1,9 +1,9 @@
-ghost use Rattle.std.specs.Prelude.{◌≡◌, ◌+◌, ◌<◌, All, ℕ, IsTrue, reverse};
+ghost use Rattle.std.specs.Prelude.{◌≡◌, ◌+◌, ◌<◌, ◌↔◌, All, ℕ, IfOk, IsTrue, reverse};
 ghost use Rattle.nz_machine.specs.Schedule.{group_of, IsPlayable};
 ghost use Rattle.nz_fabric.specs.Dues.{named};
 ghost use Rattle.nz_fabric.specs.Replays.{IsReplay};
 ghost use Rattle.nz_actor.specs.Lanes.{of_actor};
-ghost use Rattle.nz_run.specs.Stages.{AllReplay, HasNotStepped};
+ghost use Rattle.nz_run.specs.Stages.{AllReplay, AreOwn, HasNotStepped, IsOwn};
 
 use crate::cast::Cast;
 use nz_actor::{ActorCell, ActorState, agrees};
@@ -86,27 +86,41 @@ fn settle_at<N: Name, C: Core>(
     }
 }
 
-/// Whether the first actors of a sort have the records that their cells have of them.
-fn all_agree<N: Name, C: Core + Drop>(
-    records: &[Record],
+/// The states, each out of its cell.
+fn states_of<N: Name, C: Core + Drop>(
+    alloc: Global,
     cells: Vec<ActorCell<N, C>>,
+) -> Result<Vec<ActorState<N, C>>, NoMemory> {
+    let mut states = Vec::new(alloc);
+    for cell in cells {
+        states.push(cell.into_state())?;
+    }
+    Ok(states)
+}
+
+/// Whether it is the state of this actor, with the records that the journal has of the actor.
+fn is_own<N: Name, C: Core>(records: &[Record], state: &ActorState<N, C>, actor: Actor) -> bool
+    ensures own { IsTrue result ↔ IsOwn records.now actor state.now }
+    ensures replay { IsTrue result → IsReplay (group_of N.scenario) actor (reverse (of_actor actor records.now)) }
+{
+    state.actor().is(&actor) && agrees(records, state.lane(), actor)
+}
+
+/// Whether these are the states of the first actors of a sort, with the records that the journal has of them.
+fn all_agree<N: Name, C: Core>(
+    records: &[Record],
+    states: &[ActorState<N, C>],
     sort: Sort,
     count: u8,
 ) -> bool
-    ensures { IsTrue result → (k : ℕ) → k < count → IsReplay (group_of N.scenario) (named sort k) (reverse (of_actor (named sort k) records.now)) }
+    ensures own { IsTrue result ↔ AreOwn records.now (named sort) count states.now }
+    ensures replay { IsTrue result → (k : ℕ) → k < count → IsReplay (group_of N.scenario) (named sort k) (reverse (of_actor (named sort k) records.now)) }
 {
-    let mut cells = cells;
-    'cells: for done in 0..count {
-        let actor = sort.actor(count - 1 - done);
-        let Some(cell) = cells.pop() else {
-            return false;
-        };
-        let state = cell.into_state();
-        if !state.actor().is(&actor) {
-            return false;
-        }
-        let lane = state.into_lane();
-        if !agrees(records, lane.as_slice(), actor) {
+    if states.len() != usize::from(count) {
+        return false;
+    }
+    'states: for place in 0..count {
+        if !is_own(records, &states[usize::from(place)], sort.actor(place)) {
             return false;
         }
     }
@@ -171,22 +185,35 @@ impl<N: Name> Stage<N> {
     }
 
     /// Whether each actor of the scenario has the records that the actor itself kept.
-    pub fn agrees(self, records: &[Record], scenario: &Scenario) -> bool
+    pub fn agrees(
+        self,
+        alloc: Global,
+        records: &[Record],
+        scenario: &Scenario,
+    ) -> Result<bool, NoMemory>
         requires scenario { scenario.now ≡ N.scenario }
         requires playable { IsPlayable scenario.now }
-        ensures { IsTrue result → AllReplay (group_of scenario.now) (reverse records.now) }
+        ensures { IfOk result (λ agree. IsTrue agree → AllReplay (group_of scenario.now) (reverse records.now)) }
     {
         let Stage {
             replicas,
             proxies,
             clients,
         } = self;
-        if !all_agree(records, replicas, Sort::Replicas, scenario.cluster.n()) {
-            return false;
+        let replicas = states_of(alloc, replicas)?;
+        let proxies = states_of(alloc, proxies)?;
+        let clients = states_of(alloc, clients)?;
+        if !all_agree(
+            records,
+            replicas.as_slice(),
+            Sort::Replicas,
+            scenario.cluster.n(),
+        ) {
+            return Ok(false);
         }
-        if !all_agree(records, proxies, Sort::Proxies, scenario.proxies) {
-            return false;
+        if !all_agree(records, proxies.as_slice(), Sort::Proxies, scenario.proxies) {
+            return Ok(false);
         }
-        all_agree(records, clients, Sort::Clients, scenario.clients)
+        Ok(all_agree(records, clients.as_slice(), Sort::Clients, scenario.clients))
     }
 }

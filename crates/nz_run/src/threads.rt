@@ -136,11 +136,8 @@ fn run_named<N: Name + Send + Sync, R: Threads + Wait + Sync, G: Gate + Sync>(
     let Some(journal) = play(rt, state, share, &mut workers, count, &mut stage, gate)? else {
         return Ok(None);
     };
-    if stage.agrees(journal.records.as_slice(), scenario) {
-        Ok(Some(journal))
-    } else {
-        Ok(None)
-    }
+    let agree = stage.agrees(alloc, journal.records.as_slice(), scenario)?;
+    if agree { Ok(Some(journal)) } else { Ok(None) }
 }
 
 /// The journal of a run by so many workers, whichever does what. It may be done anew on one thread, and is with
