@@ -140,6 +140,24 @@ fn knows_its_digest_at_each_place(rt: HostRuntime) -> Result<(), Fail> {
     Ok(())
 }
 
+// The log has two full pages and a part of a third one. Then an entry comes before all others.
+#[test]
+fn keeps_its_entries_over_pages(rt: HostRuntime) -> Result<(), Fail> {
+    let alloc = rt.alloc();
+    let mut log = HashedLog::new(alloc);
+    let mut expected = List::new(alloc);
+    expected.push(entry(alloc, (5, 1, 0))?)?;
+    for num in 0..600 {
+        let row = (u64::from(num) + 10, 0, num);
+        append(&mut log, entry(alloc, row)?)?;
+        expected.push(entry(alloc, row)?)?;
+    }
+    let displaced = modify(&mut log, entry(alloc, (5, 1, 0))?)?;
+    assert_eq!(rt; displaced, Some(List::new(alloc)));
+    assert_eq!(rt; log.entries()?, expected);
+    Ok(())
+}
+
 #[test]
 fn takes_a_list_in_place_of_its_entries(rt: HostRuntime) -> Result<(), Fail> {
     let alloc = rt.alloc();
