@@ -1,8 +1,8 @@
 -- Records that are scheduled, of which those of each actor are a replay, are a run.
-use Rattle.std.proofs.Common.{◌≡◌, ℕ, zero, suc, ◌+◌, ◌-◌, ◌<◌, ◌≤◌, inl, inr, eqb, cond, Bool, true, false, List, [], ◌∷◌, ◌++◌, map, refl, sym, ap, ◌∙◌, subst, arith, append-nil}
+use Rattle.std.proofs.Common.{◌≡◌, ℕ, zero, suc, ◌+◌, ◌<◌, ◌≤◌, eqb, cond, Bool, true, false, List, [], ◌∷◌, ◌++◌, map, refl, sym, ap, ◌∙◌, subst, arith, append-nil}
 use Rattle.std.specs.Prelude.{reverse, IsPermutation}
 use Rattle.std.specs.List.{AllByRecursion, sum_by}
-use Rattle.std.proofs.lemmas.Bool.{cases_lt, eqb-true}
+use Rattle.std.proofs.lemmas.Bool.{eqb-true}
 use Rattle.std.proofs.lemmas.Bool.Decides.{nat_tests}
 use Rattle.std.proofs.lemmas.Grind.{reverse_onto}
 use Rattle.std.proofs.lemmas.List.Elements.{filter-append}
@@ -196,11 +196,3 @@ all_replay s rs play replicas proxies clients (actors.Replica k) lt = subst (IsR
 all_replay s rs play replicas proxies clients (actors.Proxy k) lt = subst (IsReplay (group_of s) (actors.Proxy k)) (reverse_own (actors.Proxy k) rs) (proxies k lt)
 all_replay s rs play replicas proxies clients (actors.Client k) lt =
     subst (IsReplay (group_of s) (actors.Client k)) (reverse_own (actors.Client k) rs) (clients k (let scripts = play.scripts in omega (arith, lt, scripts)))
-
--- one actor more, from the last down
-pub one_lower : (P : ℕ → Type 0) (n d : ℕ) → ((k : ℕ) → n ≤ k + d → k < n → P k) → P (n - 1 - d) → (k : ℕ) → n ≤ k + (d + 1) → k < n → P k
-one_lower P n d old new k le lt =
-    elim (cases_lt (k + d) n) as (λ _. P k) [
-      | inl below ↦ (let e : n - 1 - d ≡ k = omega arith in subst P e new)
-      | inr above ↦ old k above lt
-    ]
