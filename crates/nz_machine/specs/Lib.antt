@@ -5,7 +5,11 @@ pub mod Releases
 pub mod Facts
 pub mod Parts
 pub mod Vectors
+pub mod Views
 pub mod LogMods
+pub mod Adopting
+pub mod Begins
+pub mod Rejoining
 pub mod Quorums
 pub mod Proxies
 pub mod Clients
@@ -17,6 +21,10 @@ pub mod Events
 pub mod History
 pub mod OneHistory
 pub mod Leading
+pub mod Incarnations
+pub mod Begun
+pub mod Knowledge
+pub mod Committed
 pub mod Schedule
 pub mod Journals
 pub mod Telling

@@ -1,9 +1,9 @@
--- The rules by which followers make their logs agree with the leader's: what the leader tells at a tick, how
--- a follower takes it, and how missing entries are fetched and sync points reported.
+-- The rules by which followers make their logs agree with the leader's: what the leader sends at a tick, how a
+-- follower takes it, and how missing entries are fetched and sync points reported.
 use Rattle.std.specs.Prelude.{ℕ, ◌-◌, Bool, not, ◌&&◌, ◌||◌, ◌==◌, nat_lt, nat_le, max, min, List, [], ◌∷◌, ◌++◌, length, map, take, drop, filter, Option, Some, None, if◌then◌else◌, slice_index, slice_set}
 use Rattle.std.specs.List.{list_any, flat_map}
 use Rattle.std.specs.Map.{lookup}
-use Rattle.nz_base.specs.Cluster.{replica_count}
+use Rattle.nz_base.specs.Cluster.{leader_of}
 use Rattle.nz_base.specs.Key.{id_eq, id_of}
 use Rattle.nz_base.specs.Log.{keys_of, has_id, is_above_last}
 use Rattle.nz_base.specs.declared.actor.Actor.TheVariants.{Replica}
@@ -19,29 +19,27 @@ use Rattle.nz_msg.specs.declared.message.FetchReplyBody.{FetchReplyBody}
 use Rattle.nz_msg.specs.declared.message.SyncReportBody.{SyncReportBody}
 use Rattle.nz_msg.specs.declared.message.Message.TheVariants.{LogMod, Fetch, FetchReply, SyncReport}
 use Rattle.nz_machine.specs.State.{ReplicaData, Out}
-use Rattle.nz_machine.specs.Replicas.{leads_view, hears_leader, most_entries, numbers_below, slow_replies}
+use Rattle.nz_machine.specs.Replicas.{is_up, leads_view, hears_leader, most_entries, others, slow_replies}
 use Rattle.nz_machine.specs.Requests.{is_full}
 use Rattle.nz_machine.specs.Vectors.{unless_stray}
+use Rattle.nz_machine.specs.Views.{enter_view}
 
 -- A log modification has at most this many keys, and a fetch at most this many ids.
 abbrev pub most_keys : ℕ
 most_keys = 64
 
--- The other replicas, in rising number.
-abbrev pub others : ℕ → ℕ → List ℕ
-others f me = filter (λ r. not (r == me)) (numbers_below (replica_count f))
-
--- ---- what the leader tells
+-- ---- what the leader sends
 
 -- The keys of the leader's log, from where the replica's log agrees with it.
 abbrev pub log_mod_to : ReplicaData → ℕ → Out
 log_mod_to s r =
     let start = slice_index s.ack r in
-    (Replica r, LogMod (record { view = s.view; vector = s.vector; commit = s.commit; start = start; keys = take most_keys (drop start (keys_of s.log.entries)) }))
+    let keys = take most_keys (drop start (keys_of s.log.entries)) in
+    (Replica r, LogMod (record { view = s.view; vector = s.vector; commit = s.commit; start = start; keys = keys }))
 
--- At a tick the leader in normal operation tells each of the others.
-abbrev pub told : ℕ → ℕ → ReplicaData → List Out
-told f me s = if leads_view f me s then map (log_mod_to s) (others f me) else []
+-- At a tick the leader in normal operation sends one to each of the others.
+abbrev pub log_mods_to_others : ℕ → ℕ → ReplicaData → List Out
+log_mods_to_others f me s = map (log_mod_to s) (others f me)
 
 -- ---- how a follower takes it
 
@@ -126,18 +124,27 @@ taken_in before leader commit (s, missing) =
     let after = committed_to (overtaken s) commit in
     (after, replies_since after before.log.synced ++ (fetch_from leader after (missing_ids after missing) ++ sync_report_to leader after ∷ []))
 
--- The first key belongs to the place start, so that of the first place that is not synced comes so many after it.
+-- The follower has heard from its leader.
+abbrev pub after_hearing : ReplicaData → ReplicaData
+after_hearing s = record s { quiet = 0 }
+
+-- The first key belongs to the place start: the keys before the first place that is not synced are passed over.
+-- Where a place between is missing, the follower only reports its sync point.
 abbrev pub taken_from : ℕ → LogModBody → ReplicaData → ReplicaData × List Out
 taken_from leader b s =
     if nat_lt s.log.synced b.start then (s, sync_report_to leader s ∷ [])
     else taken_in s leader b.commit (sync_keys s (drop (s.log.synced - b.start) b.keys))
 
--- A log modification of the leader of the own view. Those of later views are still to come.
+-- Whether the leader of a later view is heard.
+abbrev pub hears_later_leader : ℕ → ReplicaData → ℕ → ℕ → Bool
+hears_later_leader f s view sender = is_up s.status && (nat_lt s.view view && (sender == leader_of f view))
+
+-- One of a later view is a reason to enter it. One of the own view is taken.
 unfoldable pub log_mod_rule : ℕ → ℕ → ReplicaData → ℕ → LogModBody → ReplicaData × List Out
 log_mod_rule f me s sender b =
-    if hears_leader f me s b.view sender
-    then unless_stray me s sender b.vector (taken_from sender b)
-    else (s, [])
+    if hears_later_leader f s b.view sender then unless_stray me s sender b.vector (enter_view f me b.view)
+    else (if hears_leader f me s b.view sender then unless_stray me s sender b.vector (λ t. taken_from sender b (after_hearing t))
+    else (s, []))
 
 -- ---- fetches
 

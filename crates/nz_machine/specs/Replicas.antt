@@ -1,16 +1,18 @@
 -- Words on a replica's state that its rules share.
-use Rattle.std.specs.Prelude.{ℕ, zero, suc, ◌-◌, ◌^◌, Bool, true, false, ◌&&◌, not, List, [], ◌∷◌, ◌++◌, replicate, map, Option, Some, None, ◌==◌, if◌then◌else◌, slice_get}
+use Rattle.std.specs.Prelude.{ℕ, zero, suc, ◌-◌, ◌^◌, Bool, true, false, not, ◌&&◌, List, [], ◌∷◌, ◌++◌, replicate, map, filter, Option, Some, None, ◌==◌, if◌then◌else◌, slice_get}
 use Rattle.nz_base.specs.Cluster.{replica_count, leader_of}
-use Rattle.nz_base.specs.declared.actor.Actor.TheVariants.{Proxy}
+use Rattle.nz_base.specs.declared.actor.Actor.TheVariants.{Replica, Proxy}
 use Rattle.nz_base.specs.declared.key.Id.{Id}
 use Rattle.nz_base.specs.declared.key.Key.{Key}
 use Rattle.nz_base.specs.declared.key.Entry.{Entry}
 use Rattle.nz_store.specs.declared.command.Answer.{Answer}
 use Rattle.nz_log.specs.Places.{digest_at}
+use Rattle.nz_msg.specs.declared.message.Message.{Message}
 use Rattle.nz_msg.specs.declared.message.Message.TheVariants.{FastReply, SlowReply}
 use Rattle.nz_machine.specs.declared.data.Status.{Status}
 use Rattle.nz_machine.specs.declared.data.Status.TheVariants.{Normal, ViewChange, Rejoining, Down}
 use Rattle.nz_machine.specs.declared.data.Origin.{Origin}
+use Rattle.nz_machine.specs.declared.data.Phase.TheVariants as phases
 use Rattle.nz_machine.specs.State.{ReplicaData, Out}
 
 -- The numbers below n.
@@ -30,22 +32,42 @@ last_view = 2 ^ 62 - 1
 abbrev pub most_entries : ℕ
 most_entries = 4096
 
+-- ---- modes
+
+-- In normal operation.
 abbrev pub is_normal : Status → Bool
 is_normal Normal = true
-is_normal ViewChange = false
-is_normal Rejoining = false
-is_normal Down = false
+is_normal _ = false
 
--- Out of service: it ran out of memory, or has crashed and is not back.
+-- In a view change.
+abbrev pub is_changing : Status → Bool
+is_changing ViewChange = true
+is_changing _ = false
+
+-- In normal operation or in a view change, so neither down nor rejoining.
+abbrev pub is_up : Status → Bool
+is_up Normal = true
+is_up ViewChange = true
+is_up Rejoining = false
+is_up Down = false
+
+-- On the way back after a crash.
+abbrev pub is_rejoining : Status → Bool
+is_rejoining Rejoining = true
+is_rejoining _ = false
+
+-- Out of service: it has crashed or run out of memory, and is not back.
 abbrev pub is_down : Status → Bool
-is_down Normal = false
-is_down ViewChange = false
-is_down Rejoining = false
 is_down Down = true
+is_down _ = false
+
+-- The leader of the view that the replica is in, in whatever mode.
+abbrev pub leader : ℕ → ReplicaData → ℕ
+leader f s = leader_of f s.view
 
 -- Whether the replica with this number leads the view that it is in, in whatever mode.
 abbrev pub leads : ℕ → ℕ → ReplicaData → Bool
-leads f me s = leader_of f s.view == me
+leads f me s = leader f s == me
 
 -- Whether it leads its view in normal operation.
 abbrev pub leads_view : ℕ → ℕ → ReplicaData → Bool
@@ -64,7 +86,21 @@ infixl 10 ◌and_then◌
 abbrev pub ◌and_then◌ : ReplicaData × List Out → (ReplicaData → ReplicaData × List Out) → ReplicaData × List Out
 t and_then next = let u = next t.0 in (u.0, t.1 ++ u.1)
 
--- ---- the commands of entries
+-- ---- receivers
+
+-- The other replicas, in rising number.
+abbrev pub others : ℕ → ℕ → List ℕ
+others f me = filter (λ r. not (r == me)) (numbers_below (replica_count f))
+
+-- A message to each of the others.
+abbrev pub to_others : ℕ → ℕ → Message → List Out
+to_others f me m = map (λ r. (Replica r, m)) (others f me)
+
+-- A message to one replica.
+abbrev pub to_replica : ℕ → Message → List Out
+to_replica r m = (Replica r, m) ∷ []
+
+-- ---- replies
 
 -- The commands of some entries, in order.
 abbrev pub commands : List Entry → List (List ℕ)
@@ -72,8 +108,6 @@ commands entries = map (λ e. e.command) entries
 
 abbrev pub key_at : ℕ → Id → Key
 key_at deadline id = record { deadline = deadline; client = id.client; num = id.num }
-
--- ---- replies
 
 -- The leader has an answer to the entry at a place.
 abbrev pub answer_at : ℕ → ℕ → ReplicaData → ℕ → Option Answer
@@ -110,6 +144,7 @@ first_replica f = record {
   status = Normal;
   clock = 0;
   view = 0;
+  last = 0;
   log = record { entries = []; synced = 0 };
   commit = 0;
   results = [];
@@ -118,6 +153,10 @@ first_replica f = record {
   late = [];
   origin = [];
   ack = replicate (replica_count f) 0;
+  quiet = 0;
+  since = 0;
+  changes = [];
+  rejoin = record { nonce = 0; phase = phases.Vectors; claim = 0; wanted = 0; tellers = []; tells = [] };
 }
 
 -- The state of one that has forgotten all.

@@ -12,15 +12,20 @@ use Rattle.nz_log.specs.Synced.{Log}
 use Rattle.nz_machine.specs.declared.data.Status.{Status}
 use Rattle.nz_machine.specs.declared.data.Origin.{Origin}
 use Rattle.nz_machine.specs.declared.data.Attempt.{Attempt}
+use Rattle.nz_machine.specs.declared.data.Reported.{Reported}
+use Rattle.nz_machine.specs.declared.data.Rejoin.{Rejoin}
 use Rattle.nz_machine.specs.declared.reply.Reply.{Reply}
 
--- A replica: its log with the count of entries that agree with the leader's, how many entries are
--- committed, the answers of the entries (at the leader), its crash vector, the entries that wait, where
--- each request came from, and how far each replica's log agrees, as its reports say.
+-- A replica: its view, and the last view in which it was in normal operation; its log with the sync point, how
+-- many entries are committed, and the answers of the entries (at the leader); its crash vector; the entries that
+-- wait, and where each request came from; how far each replica's log agrees, as its reports say; the ticks since
+-- it heard from its leader, and those since it last began to wait for others; and what it collects to begin a
+-- view, and to rejoin.
 pub record ReplicaData : Type 0 where
   pub status : Status
   pub clock : ℕ
   pub view : ℕ
+  pub last : ℕ
   pub log : Log
   pub commit : ℕ
   pub results : List Answer
@@ -29,6 +34,10 @@ pub record ReplicaData : Type 0 where
   pub late : List Entry
   pub origin : List (Id × Origin)
   pub ack : List ℕ
+  pub quiet : ℕ
+  pub since : ℕ
+  pub changes : List Reported
+  pub rejoin : Rejoin
 
 -- What a proxy knows of a request: the replies so far, or what it decided, and how.
 pub data Standing : Type 0 where

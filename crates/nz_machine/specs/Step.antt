@@ -14,10 +14,16 @@ use Rattle.nz_machine.specs.declared.event.Event.{Event}
 use Rattle.nz_machine.specs.declared.event.Event.TheVariants.{Deliver, Cut, Tick, Alarm, Crash, Restart}
 use Rattle.nz_machine.specs.declared.event.Parcel.{Parcel}
 use Rattle.nz_machine.specs.State.{ReplicaData, ProxyData, ClientData, State, Group, Out}
-use Rattle.nz_machine.specs.Replicas.{first_replica, is_down, ◌and_then◌}
+use Rattle.nz_machine.specs.declared.data.Status.{Status}
+use Rattle.nz_machine.specs.declared.data.Status.TheVariants.{Normal, ViewChange, Rejoining, Down}
+use Rattle.nz_machine.specs.Replicas.{first_replica, is_down, leads, ◌and_then◌}
 use Rattle.nz_machine.specs.Requests.{request_rule}
 use Rattle.nz_machine.specs.Releases.{release_rule}
-use Rattle.nz_machine.specs.LogMods.{told, log_mod_rule, fetch_rule, fetch_reply_rule, sync_report_rule}
+use Rattle.nz_machine.specs.LogMods.{log_mods_to_others, log_mod_rule, fetch_rule, fetch_reply_rule, sync_report_rule}
+use Rattle.nz_machine.specs.Views.{alarm_rule, view_ask_rule, quiet_timer, change_timer}
+use Rattle.nz_machine.specs.Adopting.{start_view_rule}
+use Rattle.nz_machine.specs.Begins.{view_change_rule}
+use Rattle.nz_machine.specs.Rejoining.{crash_rule, restart_rule, vector_ask_rule, vector_tell_rule, rejoin_ask_rule, rejoin_tell_rule, state_ask_rule, state_tell_rule, rejoin_timer}
 use Rattle.nz_machine.specs.Proxies.{first_proxy, stamp_rule, reply_rule, of_fast, of_slow, clock_rule, crashed_proxy, restarted_proxy}
 use Rattle.nz_machine.specs.Clients.{first_client, wait_rule, accept_rule}
 
@@ -91,6 +97,15 @@ replica_message f me s (Replica r) (messages.LogMod b) = log_mod_rule f me s r b
 replica_message f me s (Replica r) (messages.Fetch b) = fetch_rule f me s r b
 replica_message f me s (Replica r) (messages.FetchReply b) = fetch_reply_rule f me s r b
 replica_message f me s (Replica r) (messages.SyncReport b) = sync_report_rule f me s r b
+replica_message f me s (Replica r) (messages.ViewAsk b) = view_ask_rule f me s b
+replica_message f me s (Replica r) (messages.ViewChange b) = view_change_rule f me s r b
+replica_message f me s (Replica r) (messages.StartView b) = start_view_rule f me s r b
+replica_message f me s (Replica r) (messages.VectorAsk b) = vector_ask_rule s r b
+replica_message f me s (Replica r) (messages.VectorTell b) = vector_tell_rule f me s r b
+replica_message f me s (Replica r) (messages.RejoinAsk b) = rejoin_ask_rule me s r b
+replica_message f me s (Replica r) (messages.RejoinTell b) = rejoin_tell_rule f me s r b
+replica_message f me s (Replica r) (messages.StateAsk b) = state_ask_rule f me s r b
+replica_message f me s (Replica r) (messages.StateTell b) = state_tell_rule f me s r b
 replica_message f me s _ _ = (s, [])
 
 abbrev pub proxy_message : ℕ → ProxyData → Actor → Message → ProxyData × List Out
@@ -113,9 +128,17 @@ abbrev pub envelope_step : Group → (a : Actor) → State a → Option Envelope
 envelope_step g a s None = (s, [])
 envelope_step g a s (Some e) = message_step g a s e.from e.message
 
--- At a tick a replica releases what is due. Then the leader tells the others what its log has.
+-- What a replica does at a tick after its releases, by its mode.
+abbrev pub mode_timer : Status → ℕ → ℕ → ReplicaData → ReplicaData × List Out
+mode_timer Normal f me s = if leads f me s then (s, log_mods_to_others f me s) else quiet_timer f me s
+mode_timer ViewChange f me s = change_timer f me s
+mode_timer Rejoining f me s = rejoin_timer f me s
+mode_timer Down f me s = (s, [])
+
+-- At a tick a replica sets its clock and releases what is due. Then the leader in normal operation tells the others
+-- what its log has, and any other replica counts the tick.
 abbrev pub tick_rule : ℕ → ℕ → ReplicaData → ℕ → ReplicaData × List Out
-tick_rule f me s clock = release_rule f me s clock and_then (λ t. (t, told f me t))
+tick_rule f me s clock = release_rule f me s clock and_then (λ t. mode_timer t.status f me t)
 
 -- A replica or a proxy that is down has no clock.
 abbrev pub tick_step : Group → (a : Actor) → State a → ℕ → State a × List Out
@@ -123,21 +146,21 @@ tick_step g (Replica r) s clock = if is_down s.status then (s, []) else tick_rul
 tick_step g (Proxy p) s clock = if s.is_down then (s, []) else (clock_rule s clock, [])
 tick_step g (Client c) s clock = wait_rule g.proxies c (script_of g c) s
 
--- Alarms are for replicas. What one does then is still to come.
+-- Alarms are for replicas.
 abbrev pub alarm_step : Group → (a : Actor) → State a → State a × List Out
-alarm_step g (Replica r) s = (s, [])
+alarm_step g (Replica r) s = alarm_rule g.f r s
 alarm_step g (Proxy p) s = (s, [])
 alarm_step g (Client c) s = (s, [])
 
--- Clients do not crash. What a replica forgets in a crash, and how it rejoins, is still to come.
+-- Clients do not crash.
 abbrev pub crash_step : Group → (a : Actor) → State a → State a × List Out
-crash_step g (Replica r) s = (s, [])
+crash_step g (Replica r) s = crash_rule g.f s
 crash_step g (Proxy p) s = (crashed_proxy g.f, [])
 crash_step g (Client c) s = (s, [])
 
 -- Clients do not restart.
 abbrev pub restart_step : Group → (a : Actor) → State a → ℕ → State a × List Out
-restart_step g (Replica r) s nonce = (s, [])
+restart_step g (Replica r) s nonce = restart_rule g.f r s nonce
 restart_step g (Proxy p) s nonce = (restarted_proxy g.f s, [])
 restart_step g (Client c) s nonce = (s, [])
 

@@ -1,5 +1,5 @@
 -- World runs. A run is a list of records, the newest first.
-use Rattle.std.specs.Prelude.{◌≡◌, ℕ, ◌+◌, ◌<◌, ◌≤◌, ◌⊎◌, List, [], ◌∷◌, ◌++◌, length, map, fold, IsSome, if◌then◌else◌}
+use Rattle.std.specs.Prelude.{◌≡◌, ℕ, ◌+◌, ◌^◌, ◌<◌, ◌≤◌, ◌⊎◌, List, [], ◌∷◌, ◌++◌, length, map, fold, IsSome, if◌then◌else◌}
 use Rattle.std.specs.List.{AllByRecursion}
 use Rattle.nz_base.specs.Actor.{actor_eq}
 use Rattle.nz_base.specs.Cluster.{replica_count}
@@ -62,14 +62,14 @@ abbrev pub Restarts : Actor → ℕ → Record → Type 0
 Restarts a nonce r = (r.actor ≡ a) × (r.event ≡ Restart nonce)
 
 -- What may happen to an actor: a parcel that was sent to it comes, whole or cut, maybe not for the first
--- time; its clock reads anything; it crashes; it restarts with a nonce that it has not had.
+-- time; its clock reads anything; it crashes; it restarts with a nonce of 64 bits that it has not had.
 abbrev pub MayHappen : List Record → Actor → Event → Type 0
 MayHappen J a (Deliver p) = (p.to ≡ a) × Has (sent_in J) p
 MayHappen J a (Cut p kept) = (p.to ≡ a) × Has (sent_in J) p
 MayHappen J a (Tick clock) = clock ≤ last_clock
 MayHappen J a Alarm = Unit {0}
 MayHappen J a Crash = Unit {0}
-MayHappen J a (Restart nonce) = AllByRecursion (λ r. ¬ Restarts a nonce r) J
+MayHappen J a (Restart nonce) = (nonce < 2 ^ 64) × AllByRecursion (λ r. ¬ Restarts a nonce r) J
 
 -- The record may follow the earlier ones.
 pub record Follows (g : Group) (J : List Record) (r : Record) : Type 0 where
