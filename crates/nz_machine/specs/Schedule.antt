@@ -215,9 +215,11 @@ NamesMember s (faults.Restart a t) = IsMember (group_of s) a
 NamesMember s (faults.Alarm a t) = IsMember (group_of s) a
 NamesMember s _ = Unit {0}
 
--- Its actors are a group, each client has a script, there are at most 20,000 ticks, and its faults are of its actors.
+-- Its actors are a group, each client has a script, there are at most 20,000 ticks and 1,000 fault lines, and its
+-- faults are of its actors.
 pub record IsPlayable (s : Scenario) : Type 0 where
   pub group : IsGroup (group_of s)
   pub scripts : length s.scripts ≡ s.clients
   pub ticks : s.ticks ≤ 20000
+  pub faults : length s.faults ≤ 1000
   pub members : AllByRecursion (NamesMember s) s.faults

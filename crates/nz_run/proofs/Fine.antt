@@ -1,9 +1,10 @@
 -- What is due may happen: it is of one who takes part, clocks are in range, and parcels that come were sent.
 use Rattle.std.proofs.Common.{◌≡◌, ℕ, ◌+◌, ◌<◌, ◌≤◌, eqb, cond, List, [], ◌∷◌, ◌++◌, length, map, Option, Some, None, refl, ap, ◌∙◌, arith, inl, inr}
-use Rattle.std.specs.Prelude.{filter}
+use Rattle.std.specs.Prelude.{◌^◌, filter}
 use Rattle.std.specs.List.{AllByRecursion}
 use Rattle.std.proofs.lemmas.Bool.{eqb-true}
 use Rattle.std.proofs.lemmas.Bool.Decides.{nat_tests}
+use Rattle.std.proofs.lemmas.Option.{none-some}
 use Rattle.nz_base.specs.Cluster.{replica_count}
 use Rattle.nz_base.specs.declared.actor.Actor.{Actor}
 use Rattle.nz_base.specs.declared.actor.Actor.TheVariants as actors
@@ -46,6 +47,23 @@ IsFine s tick J a (Tick clock) = IsMember (group_of s) a × (clock ≤ last_cloc
 IsFine s tick J a Alarm = IsMember (group_of s) a
 IsFine s tick J a Crash = IsMember (group_of s) a
 IsFine s tick J a (Restart nonce) = IsMember (group_of s) a × (restart_tick 0 s.faults nonce ≡ Some tick)
+
+-- the nonces of restart lines are 1, 2, 3 and so on
+restart_most : (before : ℕ) (lines : List Fault) (nonce t : ℕ) → restart_tick before lines nonce ≡ Some t → nonce ≤ before + length lines
+restart_most before [] nonce t e = absurd (none-some t e)
+restart_most before (faults.Drop from to kind count ∷ lines) nonce t e = let ih = restart_most before lines nonce t e in omega (arith, ih)
+restart_most before (faults.Hold from to kind count by ∷ lines) nonce t e = let ih = restart_most before lines nonce t e in omega (arith, ih)
+restart_most before (faults.Twice from to kind count by ∷ lines) nonce t e = let ih = restart_most before lines nonce t e in omega (arith, ih)
+restart_most before (faults.Cut from to kind count keep ∷ lines) nonce t e = let ih = restart_most before lines nonce t e in omega (arith, ih)
+restart_most before (faults.Block from to first last ∷ lines) nonce t e = let ih = restart_most before lines nonce t e in omega (arith, ih)
+restart_most before (faults.Crash a at ∷ lines) nonce t e = let ih = restart_most before lines nonce t e in omega (arith, ih)
+restart_most before (faults.Alarm a at ∷ lines) nonce t e = let ih = restart_most before lines nonce t e in omega (arith, ih)
+restart_most before (faults.Restart a at ∷ lines) nonce t e =
+    on_cond (λ (o : Option ℕ). o ≡ Some t → nonce ≤ before + length (faults.Restart a at ∷ lines)) (eqb nonce (before + 1)) (Some at) (restart_tick (before + 1) lines nonce)
+    (λ own _. let same = eqb-true nonce (before + 1) own in omega (arith, same)) (λ _ later. let ih = restart_most (before + 1) lines nonce t later in omega (arith, ih)) e
+
+pub few_restarts : (s : Scenario) (nonce t : ℕ) → IsPlayable s → restart_tick 0 s.faults nonce ≡ Some t → nonce < 2 ^ 64
+few_restarts s nonce t play e = let most = restart_most 0 s.faults nonce t e in let few = play.faults in omega (arith, most, few)
 
 -- ---- calls
 

@@ -149,14 +149,14 @@ replay_sends g a r J is h =
 
 -- ---- the run
 
-world_tick : (s : Scenario) (tick : ℕ) (older now : List Record) → World (group_of s) older → AllByRecursion (λ (r : Record). ItemIsFine s (suc tick) older (item_of r)) now → AreFresh now
+world_tick : (s : Scenario) (tick : ℕ) (older now : List Record) → IsPlayable s → World (group_of s) older → AllByRecursion (λ (r : Record). ItemIsFine s (suc tick) older (item_of r)) now → AreFresh now
     → ((n : ℕ) (r : Record) → ItemIsFine s (suc tick) older (item_of r) → r.event ≡ Restart n → AllByRecursion (IsNot n) older)
     → AllReplay (group_of s) (now ++ older) → World (group_of s) (now ++ older)
-world_tick s tick older [] w fine fresh past replay = w
-world_tick s tick older (r ∷ now) w fine fresh past replay =
+world_tick s tick older [] play w fine fresh past replay = w
+world_tick s tick older (r ∷ now) play w fine fresh past replay =
     let g = group_of s in
-    let ih = world_tick s tick older now w fine.1 fresh.1 past (λ a member. replay_back g a r (now ++ older) (replay a member)) in
-    let may = may_turn s (suc tick) older now r.actor r.event ih fine.0 (λ n is. all_append (IsNot n) now older (fresh.0 n is) (past n r fine.0 is)) in
+    let ih = world_tick s tick older now play w fine.1 fresh.1 past (λ a member. replay_back g a r (now ++ older) (replay a member)) in
+    let may = may_turn s (suc tick) older now r.actor r.event play ih fine.0 (λ n is. all_append (IsNot n) now older (fresh.0 n is) (past n r fine.0 is)) in
     (record { member = may.member; event = may.event; sends = replay_sends g r.actor r (now ++ older) refl (replay r.actor may.member) }, ih)
 
 pub world_now : (s : Scenario) (tick : ℕ) (J : List Record) → IsPlayable s → ScheduledTo s tick J → AllReplay (group_of s) J → World (group_of s) J
@@ -166,7 +166,7 @@ world_now s (suc tick) J play (now, (older, (t, before))) replay =
     let whole = subst (AllReplay g) t.whole replay in
     let w = world_now s tick older play before (all_back g now older whole) in
     subst (World g) (sym t.whole)
-    (world_tick s tick older now w (here_is_fine s tick now older play t.items) (tick_is_fresh s (suc tick) now older t.items)
+    (world_tick s tick older now play w (here_is_fine s tick now older play t.items) (tick_is_fresh s (suc tick) now older t.items)
     (λ n r fine is. finished_not s tick n older play before (subst (IsFine s (suc tick) older r.actor) is fine).1) whole)
 
 on_bool : (P : Bool → Type 0) (b : Bool) → P true → P false → P b

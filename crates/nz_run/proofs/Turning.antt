@@ -21,7 +21,7 @@ use Rattle.nz_fabric.specs.States.{State, records_of, IsBegun, IsKept, IsNext, I
 use Rattle.nz_run.specs.declared.cast.Cast.{Cast}
 use Rattle.nz_run.specs.Casts.{record_of, sends_of, IsCast, IsUnderWay}
 use Rattle.nz_run.proofs.Scheduling.{scheduled_in_order}
-use Rattle.nz_run.proofs.Fine.{IsFine, ItemIsFine, due_is_fine}
+use Rattle.nz_run.proofs.Fine.{IsFine, ItemIsFine, due_is_fine, few_restarts}
 use Rattle.nz_run.proofs.Fresh.{got, here_not, finished_not}
 
 sent_before : (now older : List Record) (p : Parcel) → Has (sent_in older) p → Has (sent_in (now ++ older)) p
@@ -53,26 +53,29 @@ pub record MayTurn (s : Scenario) (J : List Record) (a : Actor) (e : Event) : Ty
   pub member : IsMember (group_of s) a
   pub event : MayHappen J a e
 
-pub may_turn : (s : Scenario) (tick : ℕ) (finished here : List Record) (a : Actor) (e : Event) → World (group_of s) (here ++ finished) → IsFine s tick finished a e
+pub may_turn : (s : Scenario) (tick : ℕ) (finished here : List Record) (a : Actor) (e : Event) → IsPlayable s → World (group_of s) (here ++ finished) → IsFine s tick finished a e
     → ((nonce : ℕ) → e ≡ Restart nonce → AllByRecursion (IsNot nonce) (here ++ finished)) → MayTurn s (here ++ finished) a e
-may_turn s tick finished here a (Deliver p) w fine fresh =
+may_turn s tick finished here a (Deliver p) play w fine fresh =
     let sent = sent_before here finished p fine.1 in
     record { member = subst (IsMember (group_of s)) fine.0 (receiver_is_member (group_of s) (here ++ finished) p w sent); event = (fine.0, sent) }
-may_turn s tick finished here a (Cut p kept) w fine fresh =
+may_turn s tick finished here a (Cut p kept) play w fine fresh =
     let sent = sent_before here finished p fine.1 in
     record { member = subst (IsMember (group_of s)) fine.0 (receiver_is_member (group_of s) (here ++ finished) p w sent); event = (fine.0, sent) }
-may_turn s tick finished here a (Tick clock) w fine fresh = record { member = fine.0; event = fine.1 }
-may_turn s tick finished here a Alarm w fine fresh = record { member = fine; event = tt }
-may_turn s tick finished here a Crash w fine fresh = record { member = fine; event = tt }
-may_turn s tick finished here a (Restart nonce) w fine fresh = record {
+may_turn s tick finished here a (Tick clock) play w fine fresh = record { member = fine.0; event = fine.1 }
+may_turn s tick finished here a Alarm play w fine fresh = record { member = fine; event = tt }
+may_turn s tick finished here a Crash play w fine fresh = record { member = fine; event = tt }
+may_turn s tick finished here a (Restart nonce) play w fine fresh = record {
   member = fine.0;
-  event = all_imply (IsNot nonce) (λ (r : Record). ¬ Restarts a nonce r) (λ r h both. h both.1) (here ++ finished) (fresh nonce refl);
+  event = (
+    few_restarts s nonce tick play fine.1,
+    all_imply (IsNot nonce) (λ (r : Record). ¬ Restarts a nonce r) (λ r h both. h both.1) (here ++ finished) (fresh nonce refl),
+  );
 }
 
 pub next_may_turn : (f : State) (turn : Turn) → IsKept f → World (group_of f.scenario) (records_of f) → IsNext f turn → MayTurn f.scenario (records_of f) turn.actor turn.event
 next_may_turn f turn k w n =
     let t = is_turn f.scenario f.tick f.finished f.here f.items (item_in turn) k.playable k.begun k.in_order n.item in
-    may_turn f.scenario f.tick f.finished f.here turn.actor turn.event w t.fine t.fresh
+    may_turn f.scenario f.tick f.finished f.here turn.actor turn.event k.playable w t.fine t.fresh
 
 -- the record of the turn goes on with the run
 pub under_way_now : (f : State) (cast cast' : Cast) (turn : Turn) (sends : List Parcel) → IsKept f → IsUnderWay f cast → IsNext f turn

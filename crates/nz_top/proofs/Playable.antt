@@ -88,6 +88,7 @@ playable s h =
       };
       scripts = all;
       ticks = between_most 1 20000 s.ticks g.ticks;
+      faults = below_most (length s.faults) 1000 (both_of (nat_le (length s.faults) 1000) (nat_le (request_count s.scripts * length s.faults) 200000) few.1).0;
       members = all_names s s.faults all h.calls;
     }
 
