@@ -10,4 +10,4 @@ mod telling;
 pub use fetches::{on_fetch, on_fetch_reply};
 pub use log_mods::on_log_mod;
 pub use reports::on_sync_report;
-pub use telling::tell;
+pub use telling::tell_others;

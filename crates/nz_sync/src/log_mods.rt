@@ -8,8 +8,10 @@ ghost use Rattle.nz_base.specs.declared.actor.Actor.TheVariants.{Replica as IsRe
 ghost use Rattle.nz_msg.specs.Fields.{id as id_field};
 ghost use Rattle.nz_msg.specs.Messages.{log_mod};
 ghost use Rattle.nz_msg.specs.declared.message.Message.TheVariants.{LogMod};
-ghost use Rattle.nz_machine.specs.Replicas.{is_normal, leads};
-ghost use Rattle.nz_machine.specs.LogMods.{replies_since as replies_since_of, fetch_from, sync_report_to, taken_from, log_mod_rule};
+ghost use Rattle.nz_machine.specs.Replicas.{leads, hears_leader};
+ghost use Rattle.nz_machine.specs.Views.{enter_view};
+ghost use Rattle.nz_machine.specs.Vectors.{unless_stray};
+ghost use Rattle.nz_machine.specs.LogMods.{replies_since as replies_since_of, fetch_from, sync_report_to, taken_from, after_hearing, hears_later_leader as hears_later_leader_of, log_mod_rule};
 ghost use Rattle.nz_machine.specs.Does.{Does};
 ghost use Rattle.nz_machine.specs.Step.{parcel, replica_message, is_in_cluster};
 
@@ -98,6 +100,57 @@ fn take(
     take_keys(state, leader, body, sends)
 }
 
+/// Whether the leader of a later view is heard.
+fn hears_later_leader(state: &ReplicaState, view: u64, sender: u8) -> bool
+    ensures { result ≡ hears_later_leader_of state.now.f state.now.state view sender }
+{
+    state.is_up() && state.view() < view && sender == state.cluster().leader(view)
+}
+
+/// A log modification of a later view is a reason to enter it.
+fn enter(
+    state: &mut ReplicaState,
+    sender: u8,
+    body: &LogModBody,
+    sends: &mut Sends,
+) -> Result<(), NoMemory>
+    requires sender { sender < replica_count state.old.f }
+    requires vector { length body.now.vector ≡ replica_count state.old.f }
+    requires fits { log_mod.fits body.now }
+    requires later { IsTrue (hears_later_leader_of state.old.f state.old.state body.now.view sender) }
+    ensures { let s = state.old in OnOk result (Does s state.new sends.old sends.new (unless_stray s.me s.state sender body.now.vector (enter_view s.f s.me body.now.view))) }
+{
+    state.has_facts();
+    if body.vector.is_stray(sender, state.vector()) {
+        return Ok(());
+    }
+    state.merge_vector(&body.vector);
+    state.enter_view(body.view, sends)
+}
+
+/// A log modification of the leader is taken.
+fn follow(
+    state: &mut ReplicaState,
+    sender: u8,
+    body: &LogModBody,
+    sends: &mut Sends,
+) -> Result<(), NoMemory>
+    requires address { sender ≤ 8 }
+    requires sender { sender < replica_count state.old.f }
+    requires vector { length body.now.vector ≡ replica_count state.old.f }
+    requires fits { log_mod.fits body.now }
+    requires follows { IsTrue (hears_leader state.old.f state.old.me state.old.state body.now.view sender) }
+    ensures { let s = state.old in OnOk result (Does s state.new sends.old sends.new (unless_stray s.me s.state sender body.now.vector (λ t. taken_from sender body.now (after_hearing t)))) }
+{
+    state.has_facts();
+    if body.vector.is_stray(sender, state.vector()) {
+        return Ok(());
+    }
+    state.merge_vector(&body.vector);
+    state.hear_leader();
+    take(state, sender, body, sends)
+}
+
 #[tactic(auto, unfolding(nz_machine::specs::LogMods::log_mod_rule))]
 fn log_mod(
     state: &mut ReplicaState,
@@ -111,12 +164,13 @@ fn log_mod(
     requires fits { log_mod.fits body.now }
     ensures { let s = state.old in OnOk result (Does s state.new sends.old sends.new (log_mod_rule s.f s.me s.state sender body.now)) }
 {
-    state.has_facts();
-    if !state.hears_leader(body.view, sender) || body.vector.is_stray(sender, state.vector()) {
-        return Ok(());
+    if hears_later_leader(state, body.view, sender) {
+        return enter(state, sender, body, sends);
     }
-    state.merge_vector(&body.vector);
-    take(state, sender, body, sends)
+    if state.hears_leader(body.view, sender) {
+        return follow(state, sender, body, sends);
+    }
+    Ok(())
 }
 
 /// What a replica does with a log modification. It takes them from replicas alone.

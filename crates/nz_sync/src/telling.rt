@@ -5,7 +5,7 @@ ghost use Rattle.nz_base.specs.Cluster.{replica_count};
 ghost use Rattle.nz_base.specs.Log.{keys_of};
 ghost use Rattle.nz_base.specs.declared.actor.Actor.TheVariants.{Replica as IsReplica};
 ghost use Rattle.nz_msg.specs.Fields.{keys as keys_field};
-ghost use Rattle.nz_machine.specs.LogMods.{most_keys, log_mod_to, others, told};
+ghost use Rattle.nz_machine.specs.LogMods.{most_keys, log_mod_to, log_mods_to_others};
 ghost use Rattle.nz_machine.specs.Step.{parcel};
 
 use nz_base::{Actor, KeyList, NoMemory};
@@ -48,23 +48,14 @@ fn tell_one(state: &ReplicaState, replica: u8, sends: &mut Sends) -> Result<(), 
     send(state.allocator(), state.name(), to, &message, sends)
 }
 
-fn tell_others(state: &ReplicaState, sends: &mut Sends) -> Result<(), NoMemory>
-    ensures { OnOk result (sends.new ≡ sends.old ++ map (parcel (IsReplica state.now.me)) (map (log_mod_to state.now.state) (others state.now.f state.now.me))) }
+/// At a tick the leader in normal operation tells each of the others what its log has.
+pub fn tell_others(state: &ReplicaState, sends: &mut Sends) -> Result<(), NoMemory>
+    ensures { OnOk result (sends.new ≡ sends.old ++ map (parcel (IsReplica state.now.me)) (log_mods_to_others state.now.f state.now.me state.now.state)) }
 {
     for replica in 0..state.cluster().n() {
         if !Actor::Replica(replica).is(&state.name()) {
             tell_one(state, replica, sends)?;
         }
-    }
-    Ok(())
-}
-
-/// At a tick the leader in normal operation tells each of the others what its log has.
-pub fn tell(state: &ReplicaState, sends: &mut Sends) -> Result<(), NoMemory>
-    ensures { OnOk result (sends.new ≡ sends.old ++ map (parcel (IsReplica state.now.me)) (told state.now.f state.now.me state.now.state)) }
-{
-    if state.leads_view() {
-        tell_others(state, sends)?;
     }
     Ok(())
 }

@@ -1,0 +1,148 @@
+//! How the leader of a view collects view-changes, and begins the view.
+
+ghost use Rattle.std.specs.Prelude.{◌≡◌, ◌≢◌, ◌≤◌, ◌<◌, length, IsTrue, OnOk};
+ghost use Rattle.nz_base.specs.Actor.{HasAddress};
+ghost use Rattle.nz_base.specs.Cluster.{replica_count, leader_of};
+ghost use Rattle.nz_base.specs.declared.actor.Actor.TheVariants.{Replica as IsReplica};
+ghost use Rattle.nz_msg.specs.Messages.{view_change};
+ghost use Rattle.nz_msg.specs.declared.message.Message.TheVariants.{ViewChange};
+ghost use Rattle.nz_machine.specs.Replicas.{is_changing, is_up, leads, ◌and_then◌};
+ghost use Rattle.nz_machine.specs.Views.{enter_later as enter_later_of};
+ghost use Rattle.nz_machine.specs.Begins.{begin as begin_of, collect as collect_of, hear_report as hear_report_of, may_lead as may_lead_of, view_change_rule};
+ghost use Rattle.nz_machine.specs.Does.{Does};
+ghost use Rattle.nz_machine.specs.Step.{replica_message, is_in_cluster};
+
+use super::starts::enter_later;
+use nz_base::{Actor, NoMemory};
+use nz_machine::{ReplicaState, Sends};
+use nz_msg::ViewChangeBody;
+
+/// The view begins with the merged log, where a log has room for it, and the others are told.
+#[tactic(auto, unfolding(nz_machine::specs::Begins::begin))]
+fn begin(state: &mut ReplicaState, sends: &mut Sends) -> Result<(), NoMemory>
+    requires changing { IsTrue (is_changing state.old.state.status) }
+    requires leads { IsTrue (leads state.old.f state.old.me state.old.state) }
+    ensures { let s = state.old in OnOk result (Does s state.new sends.old sends.new (begin_of s.f s.me s.state)) }
+{
+    if !state.begin()? {
+        return Ok(());
+    }
+    let start = state.start_view()?;
+    state.send_to_others(&start, sends)
+}
+
+/// The report is collected. With exactly f of them beside its own the leader begins the view.
+fn collect(
+    state: &mut ReplicaState,
+    sender: u8,
+    body: &ViewChangeBody,
+    sends: &mut Sends,
+) -> Result<(), NoMemory>
+    requires sender { sender < replica_count state.old.f }
+    requires other { sender ≢ state.old.me }
+    requires vector { length body.now.vector ≡ replica_count state.old.f }
+    requires fits { view_change.fits body.now }
+    requires changing { IsTrue (is_changing state.old.state.status) }
+    requires leads { IsTrue (leads state.old.f state.old.me state.old.state) }
+    ensures { let s = state.old in OnOk result (Does s state.new sends.old sends.new (collect_of s.f s.me sender body.now s.state)) }
+{
+    if state.collect(sender, body)? != usize::from(state.cluster().f()) {
+        return Ok(());
+    }
+    begin(state, sends)
+}
+
+/// In the view change the report is collected. Where the view has begun already, its sender is told.
+fn hear_report(
+    state: &mut ReplicaState,
+    sender: u8,
+    body: &ViewChangeBody,
+    sends: &mut Sends,
+) -> Result<(), NoMemory>
+    requires address { sender ≤ 8 }
+    requires sender { sender < replica_count state.old.f }
+    requires other { sender ≢ state.old.me }
+    requires vector { length body.now.vector ≡ replica_count state.old.f }
+    requires fits { view_change.fits body.now }
+    requires leads { IsTrue (leads state.old.f state.old.me state.old.state) }
+    ensures { let s = state.old in OnOk result (Does s state.new sends.old sends.new (hear_report_of s.f s.me sender body.now s.state)) }
+{
+    if state.is_changing() {
+        return collect(state, sender, body, sends);
+    }
+    let start = state.start_view()?;
+    state.send_to(sender, &start, sends)
+}
+
+/// The view is entered if it is later, and the report is collected or answered.
+fn take_report(
+    state: &mut ReplicaState,
+    sender: u8,
+    body: &ViewChangeBody,
+    sends: &mut Sends,
+) -> Result<(), NoMemory>
+    requires address { sender ≤ 8 }
+    requires sender { sender < replica_count state.old.f }
+    requires other { sender ≢ state.old.me }
+    requires vector { length body.now.vector ≡ replica_count state.old.f }
+    requires fits { view_change.fits body.now }
+    requires up { IsTrue (is_up state.old.state.status) }
+    requires low { state.old.state.view ≤ body.now.view }
+    requires leads { leader_of state.old.f body.now.view ≡ state.old.me }
+    ensures { let s = state.old in OnOk result (Does s state.new sends.old sends.new (enter_later_of s.f s.me body.now.view s.state and_then hear_report_of s.f s.me sender body.now)) }
+{
+    enter_later(state, body.view, sends)?;
+    hear_report(state, sender, body, sends)
+}
+
+/// Whether the replica leads the view, and the view is its own or a later one.
+fn may_lead(state: &ReplicaState, view: u64) -> bool
+    ensures { result ≡ may_lead_of state.now.f state.now.me state.now.state view }
+{
+    state.is_up()
+        && Actor::Replica(state.cluster().leader(view)).is(&state.name())
+        && state.view() <= view
+}
+
+#[tactic(auto, unfolding(nz_machine::specs::Begins::view_change_rule))]
+fn view_change(
+    state: &mut ReplicaState,
+    sender: u8,
+    body: &ViewChangeBody,
+    sends: &mut Sends,
+) -> Result<(), NoMemory>
+    requires address { sender ≤ 8 }
+    requires sender { sender < replica_count state.old.f }
+    requires other { sender ≢ state.old.me }
+    requires vector { length body.now.vector ≡ replica_count state.old.f }
+    requires fits { view_change.fits body.now }
+    ensures { let s = state.old in OnOk result (Does s state.new sends.old sends.new (view_change_rule s.f s.me s.state sender body.now)) }
+{
+    state.has_facts();
+    if !may_lead(state, body.view) || body.vector.is_stray(sender, state.vector()) {
+        return Ok(());
+    }
+    state.merge_vector(&body.vector);
+    state.drop_strays();
+    take_report(state, sender, body, sends)
+}
+
+/// What a replica does with a view-change. It takes them from other replicas alone.
+pub fn on_view_change(
+    state: &mut ReplicaState,
+    from: Actor,
+    body: &ViewChangeBody,
+    sends: &mut Sends,
+) -> Result<(), NoMemory>
+    requires from { HasAddress from }
+    requires member { IsTrue (is_in_cluster state.old.f from) }
+    requires other { from ≢ IsReplica state.old.me }
+    requires vector { length body.now.vector ≡ replica_count state.old.f }
+    requires fits { view_change.fits body.now }
+    ensures { let s = state.old in OnOk result (Does s state.new sends.old sends.new (replica_message s.f s.me s.state from (ViewChange body.now))) }
+{
+    match from {
+        Actor::Replica(sender) => view_change(state, sender, body, sends),
+        Actor::Proxy(_) | Actor::Client(_) => Ok(()),
+    }
+}

@@ -1,0 +1,109 @@
+//! How a replica enters a view that another one is in, and starts one that another one leads.
+
+ghost use Rattle.std.specs.Prelude.{◌≡◌, ◌≢◌, ◌≤◌, ◌<◌, length, IsTrue, OnOk};
+ghost use Rattle.nz_base.specs.Cluster.{replica_count};
+ghost use Rattle.nz_base.specs.declared.actor.Actor.TheVariants.{Replica as IsReplica};
+ghost use Rattle.nz_msg.specs.Fields.{view as view_field};
+ghost use Rattle.nz_msg.specs.Messages.{view_ask, start_view};
+ghost use Rattle.nz_msg.specs.declared.message.Message.TheVariants.{ViewAsk, StartView};
+ghost use Rattle.nz_machine.specs.Views.{enter_later as enter_later_of, view_ask_rule};
+ghost use Rattle.nz_machine.specs.Adopting.{may_start as may_start_of, start_view_rule, after_start};
+ghost use Rattle.nz_machine.specs.Does.{Does, DoesSilently};
+ghost use Rattle.nz_machine.specs.Step.{replica_message, is_in_cluster};
+
+use nz_base::{Actor, NoMemory, TryCopy};
+use nz_machine::{ReplicaState, Sends};
+use nz_msg::{StartViewBody, ViewAskBody};
+
+/// The view is entered where it is later than the replica's own.
+pub fn enter_later(state: &mut ReplicaState, view: u64, sends: &mut Sends) -> Result<(), NoMemory>
+    requires { view_field.fits view }
+    ensures { let s = state.old in OnOk result (Does s state.new sends.old sends.new (enter_later_of s.f s.me view s.state)) }
+{
+    if view <= state.view() {
+        return Ok(());
+    }
+    state.enter_view(view, sends)
+}
+
+#[tactic(auto, unfolding(nz_machine::specs::Views::view_ask_rule))]
+fn view_ask(state: &mut ReplicaState, body: &ViewAskBody, sends: &mut Sends) -> Result<(), NoMemory>
+    requires { view_ask.fits body.now }
+    ensures { let s = state.old in OnOk result (Does s state.new sends.old sends.new (view_ask_rule s.f s.me s.state body.now)) }
+{
+    if !state.is_up() {
+        return Ok(());
+    }
+    enter_later(state, body.view, sends)
+}
+
+/// What a replica does with a view-ask. It takes them from replicas alone.
+pub fn on_view_ask(
+    state: &mut ReplicaState,
+    from: Actor,
+    body: &ViewAskBody,
+    sends: &mut Sends,
+) -> Result<(), NoMemory>
+    requires { view_ask.fits body.now }
+    ensures { let s = state.old in OnOk result (Does s state.new sends.old sends.new (replica_message s.f s.me s.state from (ViewAsk body.now))) }
+{
+    match from {
+        Actor::Replica(_) => view_ask(state, body, sends),
+        Actor::Proxy(_) | Actor::Client(_) => Ok(()),
+    }
+}
+
+/// Whether a view may start here: a later one, or the one of the view change.
+fn may_start(state: &ReplicaState, view: u64) -> bool
+    ensures { result ≡ may_start_of state.now.state view }
+{
+    state.is_up() && (state.view() < view || view == state.view() && state.is_changing())
+}
+
+/// The view starts with the leader's log.
+fn start(state: &mut ReplicaState, body: &StartViewBody) -> Result<(), NoMemory>
+    requires fits { start_view.fits body.now }
+    requires other { leader_of state.old.f body.now.view ≢ state.old.me }
+    ensures { OnOk result (state.new ≡ record state.old { state = after_start state.old.state body.now }) }
+{
+    let commit = state.commit().max(body.commit).min(body.entries.len());
+    let log = body.entries.copy(state.allocator())?;
+    state.start(body.view, log, commit)
+}
+
+#[tactic(auto, unfolding(nz_machine::specs::Adopting::start_view_rule))]
+fn start_view(state: &mut ReplicaState, sender: u8, body: &StartViewBody) -> Result<(), NoMemory>
+    requires sender { sender < replica_count state.old.f }
+    requires other { sender ≢ state.old.me }
+    requires vector { length body.now.vector ≡ replica_count state.old.f }
+    requires fits { start_view.fits body.now }
+    ensures { let s = state.old in OnOk result (DoesSilently s state.new (start_view_rule s.f s.me s.state sender body.now)) }
+{
+    state.has_facts();
+    if !may_start(state, body.view)
+        || sender != state.cluster().leader(body.view)
+        || body.vector.is_stray(sender, state.vector())
+    {
+        return Ok(());
+    }
+    state.merge_vector(&body.vector);
+    start(state, body)
+}
+
+/// What a replica does with a start-view. It takes them from other replicas alone, and sends nothing.
+pub fn on_start_view(
+    state: &mut ReplicaState,
+    from: Actor,
+    body: &StartViewBody,
+) -> Result<(), NoMemory>
+    requires member { IsTrue (is_in_cluster state.old.f from) }
+    requires other { from ≢ IsReplica state.old.me }
+    requires vector { length body.now.vector ≡ replica_count state.old.f }
+    requires fits { start_view.fits body.now }
+    ensures { let s = state.old in OnOk result (DoesSilently s state.new (replica_message s.f s.me s.state from (StartView body.now))) }
+{
+    match from {
+        Actor::Replica(sender) => start_view(state, sender, body),
+        Actor::Proxy(_) | Actor::Client(_) => Ok(()),
+    }
+}
