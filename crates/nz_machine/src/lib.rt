@@ -3,6 +3,7 @@
 #![tactic(auto)]
 
 mod answers;
+mod collecting;
 mod cores;
 mod counting;
 mod data;
@@ -23,7 +24,7 @@ mod telling;
 pub use answers::copy_answer;
 pub use cores::Core;
 pub use counting::is_counted;
-pub use data::{Attempt, Origin, Status};
+pub use data::{Attempt, Origin, Phase, Rejoin, Reported, Status, ToldView};
 pub use event::{Event, Parcel, Record, RecordList, Sends};
 pub use journal::{Executed, History, Item, ItemList, Journal};
 pub use kinds::kind_of;

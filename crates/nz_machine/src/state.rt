@@ -1,4 +1,4 @@
-ghost use Rattle.std.specs.Prelude.{◌≡◌, ◌<◌, ◌≤◌, ◌+◌, ◌∷◌, ◌++◌, List, length, IsTrue, IsFalse, IfOk, IfSome, IfNone, OnOk, OnErr};
+ghost use Rattle.std.specs.Prelude.{◌≡◌, ◌<◌, ◌≤◌, ◌+◌, ◌∷◌, ◌++◌, [], List, length, IsTrue, IsFalse, IfOk, IfSome, IfNone, OnOk, OnErr};
 ghost use Rattle.std.specs.Map.{lookup};
 ghost use Rattle.nz_base.specs.Actor.{HasAddress};
 ghost use Rattle.nz_base.specs.Cluster.{replica_count};
@@ -7,19 +7,24 @@ ghost use Rattle.nz_base.specs.Log.{keys_of, has_id, is_above_last};
 ghost use Rattle.nz_base.specs.declared.actor.Actor.TheVariants.{Replica as IsReplica};
 ghost use Rattle.nz_base.specs.declared.key.Entry.{Entry as AnEntry};
 ghost use Rattle.nz_msg.specs.Fields.{view as view_field, vector as vector_field, answer as answer_field};
+ghost use Rattle.nz_machine.specs.declared.data.Phase.TheVariants.{Vectors};
 ghost use Rattle.nz_machine.specs.Facts.{FitsEntry, HasFacts};
 ghost use Rattle.nz_machine.specs.Parts.{model_of, without_waiting};
-ghost use Rattle.nz_machine.specs.Replicas.{first_replica, crashed_replica, is_normal, is_down as is_down_in, leads as leads_in, leads_view as leads_view_in, hears_leader as hears_leader_in, answer_at};
+ghost use Rattle.nz_machine.specs.Replicas.{first_replica, crashed_replica, is_normal, is_changing, is_up, is_rejoining, is_down as is_down_in, leads as leads_in, leads_view as leads_view_in, hears_leader as hears_leader_in, answer_at};
 ghost use Rattle.nz_machine.specs.Requests.{with_origin, to_early as to_early_of, to_late as to_late_of};
 ghost use Rattle.nz_machine.specs.Releases.{at_clock, released, first_may};
 
 mod agreeing;
+mod beginning;
+mod messages;
+mod rejoining;
+mod viewing;
 
 use super::answers::copy_answer;
-use super::data::{Origin, Status};
+use super::data::{Origin, Phase, Rejoin, Reported, Status};
 use super::parts::{last_key, put_early, put_late, take_in, vector_fits};
 use indexmap::IndexMap;
-use nz_base::{Actor, Cluster, Entry, Id, NoMemory};
+use nz_base::{Actor, Cluster, Entry, Id, List, NoMemory};
 use nz_buffers::{Early, Late};
 use nz_cv::CrashVector;
 use nz_log::{HashedLog, MAX_ENTRIES};
@@ -41,6 +46,8 @@ pub struct Parts {
     pub status: Status,
     pub clock: u64,
     pub view: u64,
+    /// The last view in which the replica was in normal operation.
+    pub last: u64,
     pub log: HashedLog,
     pub commit: u32,
     pub results: Vec<Answer>,
@@ -51,10 +58,31 @@ pub struct Parts {
     pub late: Late,
     pub origin: IndexMap<Id, Origin>,
     pub ack: Vec<u32>,
+    /// Ticks since the replica heard from its leader.
+    pub quiet: u8,
+    /// Ticks since it last began to wait for others.
+    pub since: u8,
+    /// What the leader of a view collects to begin it.
+    pub changes: Vec<Reported>,
+    pub rejoin: Rejoin,
     pub alloc: Global,
 }
 
-/// Forgets the entries that wait, where requests came from, and what was reported.
+/// A rejoin that has not begun.
+fn first_rejoin(alloc: Global) -> Rejoin
+    ensures { result ≡ record { nonce = 0; phase = Vectors; claim = 0; wanted = 0; tellers = []; tells = [] } }
+{
+    Rejoin {
+        nonce: 0,
+        phase: Phase::Vectors,
+        claim: 0,
+        wanted: 0,
+        tellers: List::new(alloc),
+        tells: List::new(alloc),
+    }
+}
+
+/// Forgets the entries that wait, where requests came from, and what was reported or collected.
 fn forget_waiting(parts: &mut Parts)
     requires { length parts.old.ack.items ≡ replica_count parts.old.cluster }
     ensures model { model_of parts.new ≡ without_waiting (model_of parts.old) }
@@ -63,6 +91,7 @@ fn forget_waiting(parts: &mut Parts)
     parts.early = Early::new(parts.alloc);
     parts.late = Late::new(parts.alloc);
     parts.origin = IndexMap::new(parts.alloc);
+    parts.changes = Vec::new(parts.alloc);
     parts.ack.as_mut_slice().fill(0);
 }
 
@@ -79,11 +108,15 @@ fn forget(parts: &mut Parts)
     parts.status = Status::Down;
     parts.clock = 0;
     parts.view = 0;
+    parts.last = 0;
     parts.log = HashedLog::new(alloc);
     parts.commit = 0;
     parts.results = Vec::new(alloc);
     parts.store = Store::new(alloc);
     parts.vector = CrashVector::zero(cluster.n());
+    parts.quiet = 0;
+    parts.since = 0;
+    parts.rejoin = first_rejoin(alloc);
 }
 
 /// The state of a replica. A clause sees its cluster, its number and its data; that the data has the
@@ -118,6 +151,7 @@ impl ReplicaState {
                 status: Status::Normal,
                 clock: 0,
                 view: 0,
+                last: 0,
                 log: HashedLog::new(alloc),
                 commit: 0,
                 results: Vec::new(alloc),
@@ -127,6 +161,10 @@ impl ReplicaState {
                 late: Late::new(alloc),
                 origin: IndexMap::new(alloc),
                 ack,
+                quiet: 0,
+                since: 0,
+                changes: Vec::new(alloc),
+                rejoin: first_rejoin(alloc),
                 alloc,
             },
         })
@@ -190,6 +228,27 @@ impl ReplicaState {
             && view == self.parts.view
             && sender == self.parts.cluster.leader(view)
             && !self.leads()
+    }
+
+    /// Whether it is in a view change.
+    pub fn is_changing(&self) -> bool
+        ensures { result ≡ is_changing self.now.state.status }
+    {
+        matches!(self.parts.status, Status::ViewChange)
+    }
+
+    /// Whether it is in normal operation or in a view change.
+    pub fn is_up(&self) -> bool
+        ensures { result ≡ is_up self.now.state.status }
+    {
+        matches!(self.parts.status, Status::Normal | Status::ViewChange)
+    }
+
+    /// Whether it is on the way back after a crash.
+    pub fn is_rejoining(&self) -> bool
+        ensures { result ≡ is_rejoining self.now.state.status }
+    {
+        matches!(self.parts.status, Status::Rejoining)
     }
 
     /// Whether it is out of service.

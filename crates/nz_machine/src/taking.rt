@@ -67,7 +67,7 @@ fn command_of(
 }
 
 /// Puts the entries after the others.
-fn keep_each(late: &mut Late, entries: EntryList) -> Result<(), NoMemory>
+pub fn keep_each(late: &mut Late, entries: EntryList) -> Result<(), NoMemory>
     requires { HaveOwnIds (keys_of (late.old ++ entries)) }
     ensures { OnOk result (late.new ≡ late.old ++ entries) }
 {
@@ -163,7 +163,7 @@ fn take_keys(
 }
 
 /// Moves the early entries whose key is not above the log's last to late.
-fn pass_over(log: &HashedLog, early: &mut Early, late: &mut Late) -> Result<(), NoMemory>
+pub fn pass_over(log: &HashedLog, early: &mut Early, late: &mut Late) -> Result<(), NoMemory>
     requires { AreApart log.now early.old late.old }
     ensures early { OnOk result (early.new ≡ filter (λ (e : AnEntry). is_above_last (keys_of log.now.entries) e.key) early.old) }
     ensures late { OnOk result (late.new ≡ late.old ++ filter (λ (e : AnEntry). not (is_above_last (keys_of log.now.entries) e.key)) early.old) }

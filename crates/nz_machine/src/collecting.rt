@@ -1,0 +1,195 @@
+//! What a replica collects of the others, and what it does with a whole log.
+
+ghost use Rattle.std.specs.Prelude.{◌≡◌, ◌<◌, ◌≤◌, ◌∷◌, ◌++◌, [], ◌==◌, not, length, map, filter, slice_index, if◌then◌else◌, IfOk, OnOk, OnErr};
+ghost use Rattle.std.specs.List.{list_any};
+ghost use Rattle.nz_base.specs.Log.{IsLog};
+ghost use Rattle.nz_cv.specs.Vectors.{is_stray as is_stray_in};
+ghost use Rattle.nz_log.specs.Synced.{left_out};
+ghost use Rattle.nz_merge.specs.declared.change.Change.{Change as AChange};
+ghost use Rattle.nz_merge.specs.Merged.{greatest};
+ghost use Rattle.nz_merge.specs.Sender.{HaveOwnSenders};
+ghost use Rattle.nz_store.specs.Sequence.{store_after, replies};
+ghost use Rattle.nz_machine.specs.State.{ReplicaData};
+ghost use Rattle.nz_machine.specs.Facts.{AreApart};
+ghost use Rattle.nz_machine.specs.Replicas.{commands};
+ghost use Rattle.nz_machine.specs.Taking.{with_parts};
+ghost use Rattle.nz_machine.specs.Adopting.{with_log};
+ghost use Rattle.nz_machine.specs.declared.data.Reported.{Reported as AReported};
+ghost use Rattle.nz_machine.specs.declared.data.ToldView.{ToldView as AToldView};
+
+use super::data::{Reported, ToldView};
+use super::taking::{keep_each, pass_over};
+use nz_base::{Entry, EntryList, List, NoMemory, TryCopy};
+use nz_buffers::{Early, Late};
+use nz_cv::CrashVector;
+use nz_log::{HashedLog, MAX_ENTRIES};
+use nz_merge::{Change, ViewChanges};
+use nz_store::{Answer, Store};
+use std::alloc::Global;
+
+/// A counter of a vector; 0 where it has none.
+fn counter(vector: &CrashVector, place: u8) -> u32
+    ensures { result ≡ slice_index vector.now place }
+{
+    match vector.as_slice().get(place as usize) {
+        Some(counter) => *counter,
+        None => 0,
+    }
+}
+
+/// Whether a message of the sender with this vector is stray.
+fn is_stray(vector: &CrashVector, sender: u8, known: &CrashVector) -> bool
+    ensures { result ≡ is_stray_in vector.now sender known.now }
+{
+    counter(vector, sender) < counter(known, sender)
+}
+
+/// Collects the report in place of an earlier one of its sender.
+pub fn replace_report(changes: &mut Vec<Reported>, reported: Reported) -> Result<(), NoMemory>
+    ensures ok { OnOk result (changes.new.items ≡ filter (λ (r : AReported). not (r.change.sender == reported.change.sender)) changes.old.items ++ reported ∷ []) }
+    ensures err { OnErr result (changes.new.items ≡ changes.old.items) }
+{
+    // No report is lost where there is no memory for this one.
+    changes.reserve(1)?;
+    let sender = reported.change.sender;
+    changes.retain(|r| r.change.sender != sender);
+    changes.push_reserved(reported);
+    Ok(())
+}
+
+/// Drops the reports that the vector makes stray.
+pub fn drop_stray_reports(changes: &mut Vec<Reported>, known: &CrashVector)
+    ensures { changes.new.items ≡ filter (λ (r : AReported). not (is_stray_in r.vector r.change.sender known.now)) changes.old.items }
+{
+    changes.retain(|r| !is_stray(&r.vector, r.change.sender, known));
+}
+
+/// The views that were told without an earlier one of the sender, with this one, and without those that are stray.
+pub fn with_told(
+    alloc: Global,
+    tells: &[ToldView],
+    told: ToldView,
+    known: &CrashVector,
+) -> Result<List<ToldView>, NoMemory>
+    ensures { IfOk result (λ list. list ≡ filter (λ (t : AToldView). not (is_stray_in t.vector t.sender known.now)) (filter (λ (t : AToldView). not (t.sender == told.sender)) tells.now ++ told ∷ [])) }
+{
+    let mut list = List::new(alloc);
+    for other in tells {
+        if other.sender != told.sender && !is_stray(&other.vector, other.sender, known) {
+            list.push(*other)?;
+        }
+    }
+    if !is_stray(&told.vector, told.sender, known) {
+        list.push(told)?;
+    }
+    Ok(list)
+}
+
+/// The latest view that was told.
+pub fn latest(tells: &[ToldView]) -> u64
+    ensures { result ≡ greatest (map (λ (t : AToldView). t.view) tells.now) }
+{
+    let mut latest = 0;
+    for told in tells {
+        latest = latest.max(told.view);
+    }
+    latest
+}
+
+/// The tellers with one more, each once.
+pub fn note_teller(tellers: &mut List<u8>, sender: u8) -> Result<(), NoMemory>
+    ensures ok { OnOk result (tellers.new ≡ (if list_any (λ t. t == sender) tellers.old then tellers.old else tellers.old ++ sender ∷ [])) }
+    ensures err { OnErr result (tellers.new ≡ tellers.old) }
+{
+    if !tellers.as_slice().iter().any(|teller| *teller == sender) {
+        tellers.push(sender)?;
+    }
+    Ok(())
+}
+
+fn copy_change(alloc: Global, change: &Change) -> Result<Change, NoMemory>
+    ensures { IfOk result (λ copy. copy ≡ change.now) }
+{
+    Ok(Change {
+        sender: change.sender,
+        last: change.last,
+        synced: change.synced,
+        commit: change.commit,
+        log: change.log.copy(alloc)?,
+    })
+}
+
+/// The own report, and after it copies of the collected ones.
+pub fn all_changes(
+    alloc: Global,
+    own: Change,
+    reports: &[Reported],
+) -> Result<ViewChanges, NoMemory>
+    requires { HaveOwnSenders (own ∷ map (λ (r : AReported). r.change) reports.now) }
+    ensures { IfOk result (λ changes. changes ≡ own ∷ map (λ (r : AReported). r.change) reports.now) }
+{
+    let mut changes = ViewChanges::new(alloc);
+    changes.push(own)?;
+    for reported in reports {
+        changes.push(copy_change(alloc, &reported.change)?)?;
+    }
+    Ok(changes)
+}
+
+/// How many entries the reports know to be committed at most.
+pub fn greatest_commit(changes: &[Change]) -> u32
+    ensures { result ≡ greatest (map (λ (c : AChange). c.commit) changes.now) }
+{
+    let mut commit = 0;
+    for change in changes {
+        commit = commit.max(change.commit);
+    }
+    commit
+}
+
+/// The store that has executed the entries, and its answers to them.
+pub fn execute_all(alloc: Global, list: &[Entry]) -> Result<(Store, Vec<Answer>), NoMemory>
+    ensures store { IfOk result (λ made. made.0 ≡ store_after (commands list.now)) }
+    ensures answers { IfOk result (λ made. made.1.items ≡ replies (commands list.now)) }
+{
+    let mut store = Store::new(alloc);
+    let mut answers = Vec::new(alloc);
+    for entry in list {
+        match store.apply_bytes(entry.command.as_slice()) {
+            Ok(answer) => answers.push(answer)?,
+            Err(_) => return Err(NoMemory),
+        }
+    }
+    Ok((store, answers))
+}
+
+/// The ids of the list leave early and late.
+fn drop_ids(early: &mut Early, late: &mut Late, list: &[Entry])
+    ensures early { early.new ≡ left_out early.old list.now }
+    ensures late { late.new ≡ left_out late.old list.now }
+{
+    for entry in list {
+        let id = entry.key.id();
+        let _ = early.remove(id);
+        let _ = late.remove(id);
+    }
+}
+
+/// Puts the list in the place of the log, all of it synced. What it leaves out of the log goes to late, its
+/// ids leave early and late, and early entries that are not above its last go to late.
+pub fn adopt(
+    log: &mut HashedLog,
+    early: &mut Early,
+    late: &mut Late,
+    list: EntryList,
+) -> Result<(), NoMemory>
+    requires apart { AreApart log.old early.old late.old }
+    requires log { IsLog list }
+    requires few { length list ≤ MAX_ENTRIES }
+    ensures { (s : ReplicaData) → OnOk result (with_log (with_parts s log.old early.old late.old) list ≡ with_parts s log.new early.new late.new) }
+{
+    drop_ids(early, late, list.as_slice());
+    let left_out = log.replace_all(list)?;
+    keep_each(late, left_out)?;
+    pass_over(log, early, late)
+}

@@ -1,0 +1,93 @@
+//! What the leader of a view does to its state when it collects reports, and begins the view.
+
+ghost use Rattle.std.specs.Prelude.{◌≡◌, ◌<◌, ◌==◌, not, nat_lt, length, IsFalse, IfOk, OnOk};
+ghost use Rattle.nz_base.specs.Cluster.{replica_count};
+ghost use Rattle.nz_merge.specs.Merged.{merged};
+ghost use Rattle.nz_msg.specs.Messages.{view_change};
+ghost use Rattle.nz_machine.specs.Replicas.{most_entries};
+ghost use Rattle.nz_machine.specs.Begins.{with_report, without_strays, changes_of, begin as begin_of};
+
+use super::super::collecting::{
+    adopt, all_changes, drop_stray_reports, execute_all, greatest_commit, replace_report,
+};
+use super::super::data::{Reported, Status};
+use super::{ReplicaState, forget};
+use nz_base::{NoMemory, TryCopy};
+use nz_log::MAX_ENTRIES;
+use nz_merge::{Change, merge};
+use nz_msg::ViewChangeBody;
+
+impl ReplicaState {
+    /// Reports that the replica's vector makes stray are no longer collected.
+    pub fn drop_strays(&mut self)
+        ensures { self.new ≡ record self.old { state = without_strays self.old.state } }
+    {
+        drop_stray_reports(&mut self.parts.changes, &self.parts.vector);
+    }
+
+    /// Collects the report in place of an earlier one of its sender. Gives how many there are now.
+    pub fn collect(&mut self, sender: u8, body: &ViewChangeBody) -> Result<usize, NoMemory>
+        requires sender { sender < replica_count self.old.f }
+        requires other { IsFalse (sender == self.old.me) }
+        requires vector { length body.now.vector ≡ replica_count self.old.f }
+        requires fits { view_change.fits body.now }
+        ensures state { OnOk result (self.new ≡ record self.old { state = with_report self.old.state sender body.now }) }
+        ensures count { IfOk result (λ count. count ≡ length self.new.state.changes) }
+    {
+        let change = Change {
+            sender,
+            last: body.last,
+            synced: body.synced,
+            commit: body.commit,
+            log: body.entries.copy(self.parts.alloc)?,
+        };
+        let reported = Reported {
+            vector: body.vector,
+            change,
+        };
+        replace_report(&mut self.parts.changes, reported)?;
+        Ok(self.parts.changes.len())
+    }
+
+    /// The leader begins its view with the merged log. Whether a log has room for it.
+    pub fn begin(&mut self) -> Result<bool, NoMemory>
+        ensures state { OnOk result (self.new ≡ record self.old { state = (begin_of self.old.f self.old.me self.old.state).0 }) }
+        ensures begun { IfOk result (λ begun. begun ≡ not (nat_lt most_entries (length (merged self.old.f (changes_of self.old.me self.old.state))))) }
+    {
+        let own = Change {
+            sender: self.parts.me,
+            last: self.parts.last,
+            synced: self.parts.log.synced(),
+            commit: self.parts.commit,
+            log: self.parts.log.entries()?,
+        };
+        let changes = all_changes(self.parts.alloc, own, &self.parts.changes)?;
+        let log = merge(self.parts.alloc, self.parts.cluster, &changes)?;
+        if log.len() > MAX_ENTRIES {
+            return Ok(false);
+        }
+        let commit = greatest_commit(changes.as_slice()).min(log.len());
+        let (store, results) = execute_all(self.parts.alloc, log.as_slice())?;
+        match adopt(
+            &mut self.parts.log,
+            &mut self.parts.early,
+            &mut self.parts.late,
+            log,
+        ) {
+            Ok(()) => {
+                self.parts.status = Status::Normal;
+                self.parts.last = self.parts.view;
+                self.parts.commit = commit;
+                self.parts.quiet = 0;
+                self.parts.store = store;
+                self.parts.results = results;
+                self.parts.ack.as_mut_slice().fill(0);
+                Ok(true)
+            }
+            Err(error) => {
+                forget(&mut self.parts);
+                Err(error)
+            }
+        }
+    }
+}

@@ -1,0 +1,163 @@
+//! The messages by which replicas change views and rejoin, and how they are sent.
+
+ghost use Rattle.std.specs.Prelude.{◌≡◌, ◌≤◌, ◌++◌, map, IfOk, OnOk};
+ghost use Rattle.nz_base.specs.declared.actor.Actor.TheVariants.{Replica as IsReplica};
+ghost use Rattle.nz_msg.specs.Messages.{Fits};
+ghost use Rattle.nz_msg.specs.declared.message.Message.TheVariants.{VectorTell};
+ghost use Rattle.nz_machine.specs.Step.{parcel};
+ghost use Rattle.nz_machine.specs.Replicas.{to_others, to_replica};
+ghost use Rattle.nz_machine.specs.Views.{view_ask as view_ask_of, view_change as view_change_of, view_calls};
+ghost use Rattle.nz_machine.specs.Adopting.{start_view as start_view_of};
+ghost use Rattle.nz_machine.specs.Rejoining.{vector_ask as vector_ask_of, rejoin_ask as rejoin_ask_of, rejoin_tell as rejoin_tell_of, state_ask as state_ask_of, state_tell as state_tell_of};
+
+use super::super::event::Sends;
+use super::super::sending::send;
+use super::ReplicaState;
+use nz_base::{Actor, NoMemory};
+use nz_msg::{
+    Message, RejoinAskBody, RejoinTellBody, StartViewBody, StateAskBody, StateTellBody,
+    VectorAskBody, VectorTellBody, ViewAskBody, ViewChangeBody,
+};
+
+impl ReplicaState {
+    /// Sends the message to one replica.
+    pub fn send_to(&self, replica: u8, message: &Message, sends: &mut Sends) -> Result<(), NoMemory>
+        requires replica { replica ≤ 8 }
+        requires message { Fits message.now }
+        ensures { OnOk result (sends.new ≡ sends.old ++ map (parcel (IsReplica self.now.me)) (to_replica replica message.now)) }
+    {
+        let to = Actor::Replica(replica);
+        send(self.allocator(), self.name(), to, message, sends)
+    }
+
+    /// Sends the message to each of the others.
+    pub fn send_to_others(&self, message: &Message, sends: &mut Sends) -> Result<(), NoMemory>
+        requires { Fits message.now }
+        ensures { OnOk result (sends.new ≡ sends.old ++ map (parcel (IsReplica self.now.me)) (to_others self.now.f self.now.me message.now)) }
+    {
+        for replica in 0..self.parts.cluster.n() {
+            if replica != self.parts.me {
+                self.send_to(replica, message, sends)?;
+            }
+        }
+        Ok(())
+    }
+
+    /// The others are asked to enter the view.
+    pub fn view_ask(&self) -> Message
+        ensures value { result ≡ view_ask_of self.now.state }
+        ensures fits { Fits result }
+    {
+        Message::ViewAsk(ViewAskBody { view: self.view() })
+    }
+
+    /// What the replica reports to the leader of its view.
+    pub fn view_change(&self) -> Result<Message, NoMemory>
+        ensures value { IfOk result (λ message. message ≡ view_change_of self.now.state) }
+        ensures fits { IfOk result Fits }
+    {
+        Ok(Message::ViewChange(ViewChangeBody {
+            view: self.view(),
+            last: self.parts.last,
+            vector: *self.vector(),
+            synced: self.parts.log.synced(),
+            commit: self.parts.commit,
+            entries: self.parts.log.entries()?,
+        }))
+    }
+
+    /// The others are asked to enter the view, and its leader, if another, gets the report.
+    pub fn call_for_view(&self, sends: &mut Sends) -> Result<(), NoMemory>
+        ensures { OnOk result (sends.new ≡ sends.old ++ map (parcel (IsReplica self.now.me)) (view_calls self.now.f self.now.me self.now.state)) }
+    {
+        self.send_to_others(&self.view_ask(), sends)?;
+        if self.leads() {
+            return Ok(());
+        }
+        let report = self.view_change()?;
+        self.send_to(self.parts.cluster.leader(self.parts.view), &report, sends)
+    }
+
+    /// What the leader of a view sends to start it.
+    pub fn start_view(&self) -> Result<Message, NoMemory>
+        ensures value { IfOk result (λ message. message ≡ start_view_of self.now.state) }
+        ensures fits { IfOk result Fits }
+    {
+        Ok(Message::StartView(StartViewBody {
+            view: self.view(),
+            vector: *self.vector(),
+            commit: self.parts.commit,
+            entries: self.parts.log.entries()?,
+        }))
+    }
+
+    /// In the first phase of a rejoin the others are asked for their vectors.
+    pub fn vector_ask(&self) -> Message
+        ensures value { result ≡ vector_ask_of self.now.state }
+        ensures fits { Fits result }
+    {
+        Message::VectorAsk(VectorAskBody {
+            nonce: self.parts.rejoin.nonce,
+        })
+    }
+
+    /// The answer to a vector-ask, with its nonce.
+    pub fn vector_tell(&self, nonce: u64) -> Message
+        ensures value { result ≡ VectorTell (record { nonce = nonce; vector = self.now.state.vector }) }
+        ensures fits { Fits result }
+    {
+        Message::VectorTell(VectorTellBody {
+            nonce,
+            vector: *self.vector(),
+        })
+    }
+
+    /// In the second phase of a rejoin the others are asked for their views. They get the new counter with it.
+    pub fn rejoin_ask(&self) -> Message
+        ensures value { result ≡ rejoin_ask_of self.now.state }
+        ensures fits { Fits result }
+    {
+        Message::RejoinAsk(RejoinAskBody {
+            nonce: self.parts.rejoin.nonce,
+            vector: *self.vector(),
+        })
+    }
+
+    /// The answer to a rejoin-ask, with its nonce.
+    pub fn rejoin_tell(&self, nonce: u64) -> Message
+        ensures value { result ≡ rejoin_tell_of self.now.state nonce }
+        ensures fits { Fits result }
+    {
+        Message::RejoinTell(RejoinTellBody {
+            nonce,
+            view: self.view(),
+            vector: *self.vector(),
+        })
+    }
+
+    /// In the third phase of a rejoin the leader of the wanted view is asked.
+    pub fn state_ask(&self) -> Message
+        ensures value { result ≡ state_ask_of self.now.state }
+        ensures fits { Fits result }
+    {
+        Message::StateAsk(StateAskBody {
+            nonce: self.parts.rejoin.nonce,
+            view: self.parts.rejoin.wanted,
+            vector: *self.vector(),
+        })
+    }
+
+    /// The answer to a state-ask, with its nonce.
+    pub fn state_tell(&self, nonce: u64) -> Result<Message, NoMemory>
+        ensures value { IfOk result (λ message. message ≡ state_tell_of self.now.state nonce) }
+        ensures fits { IfOk result Fits }
+    {
+        Ok(Message::StateTell(StateTellBody {
+            nonce,
+            view: self.view(),
+            vector: *self.vector(),
+            commit: self.parts.commit,
+            entries: self.parts.log.entries()?,
+        }))
+    }
+}

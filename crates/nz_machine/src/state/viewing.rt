@@ -1,0 +1,106 @@
+//! What a replica does to its state when it leaves its view for a later one, and when it starts one.
+
+ghost use Rattle.std.specs.Prelude.{◌≡◌, ◌≤◌, ◌+◌, ◌==◌, nat_lt, min, length, IsTrue, IsFalse, OnOk};
+ghost use Rattle.std.specs.List.{AllByRecursion};
+ghost use Rattle.nz_base.specs.Cluster.{leader_of};
+ghost use Rattle.nz_base.specs.Log.{IsLog};
+ghost use Rattle.nz_machine.specs.Facts.{FitsEntry};
+ghost use Rattle.nz_machine.specs.Does.{Does};
+ghost use Rattle.nz_machine.specs.Parts.{since_counted};
+ghost use Rattle.nz_machine.specs.Replicas.{last_view, is_changing};
+ghost use Rattle.nz_machine.specs.LogMods.{after_hearing};
+ghost use Rattle.nz_machine.specs.Views.{most_quiet, enter_view as enter_view_of};
+ghost use Rattle.nz_machine.specs.Adopting.{normal_in};
+
+use super::super::collecting::adopt;
+use super::super::data::Status;
+use super::super::event::Sends;
+use super::{ReplicaState, forget};
+use nz_base::{EntryList, NoMemory};
+use nz_log::MAX_ENTRIES;
+
+/// After this many ticks without its leader, or in one view change, a replica enters the next view.
+const MOST_QUIET: u8 = 20;
+/// Views stop here.
+const LAST_VIEW: u64 = (1 << 62) - 1;
+
+impl ReplicaState {
+    /// Whether there is a view after this one.
+    pub fn has_next_view(&self) -> bool
+        ensures { result ≡ nat_lt self.now.state.view last_view }
+    {
+        self.parts.view < LAST_VIEW
+    }
+
+    /// The follower has heard from its leader.
+    pub fn hear_leader(&mut self)
+        ensures { self.new ≡ record self.old { state = after_hearing self.old.state } }
+    {
+        self.parts.quiet = 0;
+    }
+
+    /// The follower counts a tick without its leader. Whether it has waited long enough.
+    pub fn count_quiet(&mut self) -> bool
+        ensures state { let s = self.old.state in self.new ≡ record self.old { state = record s { quiet = min (s.quiet + 1) most_quiet } } }
+        ensures value { result ≡ (self.new.state.quiet == most_quiet) }
+    {
+        self.parts.quiet = (self.parts.quiet + 1).min(MOST_QUIET);
+        self.parts.quiet == MOST_QUIET
+    }
+
+    /// Counts a tick of the view change, and gives how many there are. After the last the count begins anew.
+    pub fn count_changing(&mut self) -> u8
+        requires { IsTrue (is_changing self.old.state.status) }
+        ensures state { self.new ≡ record self.old { state = since_counted most_quiet self.old.state } }
+        ensures value { result ≡ self.old.state.since + 1 }
+    {
+        let since = self.parts.since + 1;
+        self.parts.since = if since == MOST_QUIET { 0 } else { since };
+        since
+    }
+
+    /// A later view is entered, and everybody hears of it.
+    pub fn enter_view(&mut self, view: u64, sends: &mut Sends) -> Result<(), NoMemory>
+        requires later { self.old.state.view ≤ view }
+        requires last { view ≤ last_view }
+        ensures { let s = self.old in OnOk result (Does s self.new sends.old sends.new (enter_view_of s.f s.me view s.state)) }
+    {
+        self.parts.status = Status::ViewChange;
+        self.parts.view = view;
+        self.parts.changes = Vec::new(self.parts.alloc);
+        self.parts.since = 0;
+        self.parts.quiet = 0;
+        self.call_for_view(sends)
+    }
+
+    /// In normal operation in a view that another leads, with this log, of which so many entries are committed.
+    pub fn start(&mut self, view: u64, log: EntryList, commit: u32) -> Result<(), NoMemory>
+        requires view { view ≤ last_view }
+        requires follows { IsFalse (leader_of self.old.f view == self.old.me) }
+        requires log { IsLog log }
+        requires fit { AllByRecursion FitsEntry log }
+        requires few { length log ≤ MAX_ENTRIES }
+        requires commit { commit ≤ length log }
+        ensures { OnOk result (self.new ≡ record self.old { state = normal_in self.old.state view log commit }) }
+    {
+        match adopt(
+            &mut self.parts.log,
+            &mut self.parts.early,
+            &mut self.parts.late,
+            log,
+        ) {
+            Ok(()) => {
+                self.parts.status = Status::Normal;
+                self.parts.view = view;
+                self.parts.last = view;
+                self.parts.commit = commit;
+                self.parts.quiet = 0;
+                Ok(())
+            }
+            Err(error) => {
+                forget(&mut self.parts);
+                Err(error)
+            }
+        }
+    }
+}
