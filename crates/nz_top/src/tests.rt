@@ -4,6 +4,7 @@ ghost use Rattle.nz_machine.specs.Journals.{group_in, run_in};
 ghost use Rattle.nz_machine.specs.World.{World};
 
 mod collisions;
+mod losses;
 mod rows;
 mod workers;
 

@@ -1,6 +1,11 @@
 //! The scenarios of the repository's folder `scenarios`, with what the program prints on each. The outputs
 //! are worked out apart from the program.
 
+use super::losses::{
+    ALARM, EVERYBODY_LOST, LEADER_CUT_OFF, LEADER_LOST, LEADER_REJOINS, PARTITION, REJOINS_TWICE,
+    REPLICA_REJOINS,
+};
+
 /// A scenario: the word that it is called with, the input, and the output.
 #[derive(Clone, Copy)]
 pub struct Row {
@@ -103,14 +108,8 @@ clients 1\nticks 1\nclient c0\nend\ndone\n",
 1 c0 tick 1000 -> 0\ntext\nend\n",
 };
 
-/// Five replicas, of which the leader is heard by none of the others, and a proxy that reaches one of them.
-pub const FIVE_REPLICAS: &str =
-    "nezha 1\nf 2\nproxies 2\nclients 2\nticks 60\nskew p1 -2000\nclient c0\n\
-put a 1\nend\nclient c1\nput b 2\nend\ndrop p1 r0 timed 1\ndrop p1 r1 timed 1\ndrop p1 r2 timed 1\n\
-drop p1 r3 timed 1\nblock r0 r1 1 60\nblock r0 r2 1 60\nblock r0 r3 1 60\nblock r0 r4 1 60\ndone\n";
-
 /// All but the first, which the tests of sources and sinks play, and the stored run of crates/nezha.
-pub const ROWS: [Row; 10] = [
+pub const ROWS: [Row; 18] = [
     SEVEN_ANSWERS,
     EMPTY,
     THREE_EQUAL_DEADLINES,
@@ -121,4 +120,12 @@ pub const ROWS: [Row; 10] = [
     CUT_MESSAGES,
     PROXY_CRASHES,
     ONE_TICK,
+    ALARM,
+    LEADER_LOST,
+    LEADER_CUT_OFF,
+    LEADER_REJOINS,
+    REPLICA_REJOINS,
+    REJOINS_TWICE,
+    PARTITION,
+    EVERYBODY_LOST,
 ];

@@ -1,6 +1,7 @@
 //! Runs by several workers. Whichever worker did what, the text that was written says what the journal does.
 
-use super::rows::{FIVE_REPLICAS, THREE_EQUAL_DEADLINES};
+use super::losses::LEADER_CUT_OFF;
+use super::rows::THREE_EQUAL_DEADLINES;
 use super::{answer, answer_through, plain};
 use crate::Status;
 use nz_audit::history_of;
@@ -92,9 +93,9 @@ fn texts_of_runs_by_workers(rt: HostRuntime) -> Result<(), Fail> {
         (THREE_EQUAL_DEADLINES.input, "2", 3),
         (THREE_EQUAL_DEADLINES.input, "4", 3),
         (THREE_EQUAL_DEADLINES.input, "16", 3),
-        (FIVE_REPLICAS, "2", 2),
-        (FIVE_REPLICAS, "4", 2),
-        (FIVE_REPLICAS, "16", 2),
+        (LEADER_CUT_OFF.input, "2", 2),
+        (LEADER_CUT_OFF.input, "4", 2),
+        (LEADER_CUT_OFF.input, "16", 2),
     ];
     for (input, workers, sent) in table {
         let words = ["run", "--workers", workers];
