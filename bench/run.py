@@ -10,7 +10,8 @@ nothing: compare two runs on one quiet machine.
 
 With the path of a REFERENCE, another program with the same words, it first prints both side by side on the
 generated runs `gen 7 COUNT`, ours by one worker: the best of five times each, their ratio, the memory of both,
-and the exponents by which the times grow from one count to the next.
+and the exponents by which the times grow from one count to the next. Each line of a scenario then has the seconds of
+the reference and the ratio, too.
 """
 import math
 import os
@@ -60,6 +61,27 @@ def even(f, proxies, clients, requests, ticks):
     return scenario(f, proxies, clients, ticks, scripts)
 
 
+def storm(requests, ticks, period):
+    """Values of 256 bytes, and every so many ticks one of five replicas is alarmed."""
+    scripts = [[] for _ in range(16)]
+    for i in range(requests):
+        scripts[i % 16].append(f"put k{i % 97} {'v' * 250}{i:06}")
+    alarms = [f"alarm r{tick // period % 5} {tick}" for tick in range(period, ticks + 1, period)]
+    return scenario(2, 2, 16, ticks, scripts, alarms)
+
+
+def crashes(requests, ticks, count):
+    """One of five replicas after another crashes, and restarts three ticks later."""
+    scripts = [[] for _ in range(16)]
+    for i in range(requests):
+        scripts[i % 16].append(f"put k{i % 97} v{i}")
+    lines = []
+    for k in range(count):
+        tick = 20 + k * (ticks - 40) // count
+        lines += [f"crash r{k % 5} {tick}", f"restart r{k % 5} {tick + 3}"]
+    return scenario(2, 2, 16, ticks, scripts, lines)
+
+
 def cases():
     with open(f"{HERE}/../scenarios/put_then_get") as it:
         yield "put and get", 2, 40, it.read()
@@ -70,6 +92,11 @@ def cases():
     yield "nine replicas, 64 clients", 500, 2000, even(4, 8, 64, 500, 2000)
     yield "nine replicas, 64 clients", 1000, 2000, even(4, 8, 64, 1000, 2000)
     yield "nine replicas, full ticks", 2000, 500, even(4, 8, 64, 2000, 500)
+    yield "little to do", 100, 20000, even(1, 1, 4, 100, 20000)
+    for requests in (250, 500, 1000):
+        yield "an alarm every 20 ticks", requests, 2000, storm(requests, 2000, 20)
+    for count in (25, 50, 100):
+        yield f"{count} crashes", 500, 4000, crashes(500, 4000, count)
 
 
 def measure(program, words, text):
@@ -123,12 +150,18 @@ def main():
     workers = sys.argv[2] if len(sys.argv) > 2 else "1"
     if not os.access(program, os.X_OK):
         sys.exit(f"there is no program {program}: make it as the head of this file says")
-    if len(sys.argv) > 3:
-        side_by_side(program, os.path.abspath(sys.argv[3]))
-    print(f"{'scenario':28} {'requests':>8} {'ticks':>6} {'seconds':>9} {'MiB':>8} {'lines/s':>9} status")
+    reference = os.path.abspath(sys.argv[3]) if len(sys.argv) > 3 else None
+    if reference:
+        side_by_side(program, reference)
+    more = f" {'ref, s':>9} {'ratio':>7}" if reference else ""
+    print(f"{'scenario':28} {'requests':>8} {'ticks':>6} {'seconds':>9} {'MiB':>8} {'lines/s':>9} status{more}")
     for name, requests, ticks, text in cases():
         seconds, memory, lines, status = measure(program, ["run", "--workers", workers], text)
-        print(f"{name:28} {requests:8} {ticks:6} {seconds:9.3f} {memory:8.1f} {lines / seconds:9.0f} {status}")
+        line = f"{name:28} {requests:8} {ticks:6} {seconds:9.3f} {memory:8.1f} {lines / seconds:9.0f} {status:6}"
+        if reference:
+            other = measure(reference, ["run"], text)[0]
+            line += f" {other:9.3f} {seconds / other:7.1f}"
+        print(line)
 
 
 if __name__ == "__main__":
