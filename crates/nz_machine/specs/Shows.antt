@@ -8,6 +8,7 @@ use Rattle.nz_base.specs.declared.actor.Actor.{Actor}
 use Rattle.nz_base.specs.declared.actor.Actor.TheVariants.{Replica, Proxy, Client}
 use Rattle.nz_base.specs.declared.key.Key.{Key}
 use Rattle.nz_base.specs.declared.scenario.Request.{Request}
+use Rattle.nz_cv.specs.Vectors.{merged}
 use Rattle.nz_window.specs.Samples.{bound_of}
 use Rattle.nz_log.specs.Places.{place_of, digest_at}
 use Rattle.nz_msg.specs.declared.message.RequestBody.{RequestBody}
@@ -19,13 +20,24 @@ use Rattle.nz_msg.specs.declared.message.LogModBody.{LogModBody}
 use Rattle.nz_msg.specs.declared.message.FetchBody.{FetchBody}
 use Rattle.nz_msg.specs.declared.message.FetchReplyBody.{FetchReplyBody}
 use Rattle.nz_msg.specs.declared.message.SyncReportBody.{SyncReportBody}
+use Rattle.nz_msg.specs.declared.message.ViewAskBody.{ViewAskBody}
+use Rattle.nz_msg.specs.declared.message.ViewChangeBody.{ViewChangeBody}
+use Rattle.nz_msg.specs.declared.message.StartViewBody.{StartViewBody}
+use Rattle.nz_msg.specs.declared.message.VectorAskBody.{VectorAskBody}
+use Rattle.nz_msg.specs.declared.message.VectorTellBody.{VectorTellBody}
+use Rattle.nz_msg.specs.declared.message.RejoinAskBody.{RejoinAskBody}
+use Rattle.nz_msg.specs.declared.message.RejoinTellBody.{RejoinTellBody}
+use Rattle.nz_msg.specs.declared.message.StateAskBody.{StateAskBody}
+use Rattle.nz_msg.specs.declared.message.StateTellBody.{StateTellBody}
 use Rattle.nz_msg.specs.declared.message.Message.{Message}
 use Rattle.nz_msg.specs.declared.message.Message.TheVariants as messages
 use Rattle.nz_machine.specs.declared.data.Origin.{Origin}
+use Rattle.nz_machine.specs.declared.data.Phase.TheVariants as phases
 use Rattle.nz_machine.specs.declared.reply.Reply.{Reply}
 use Rattle.nz_machine.specs.State.{ReplicaData, ProxyData, ClientData, State, Open, Decided, Group}
-use Rattle.nz_machine.specs.Replicas.{is_normal, leads}
+use Rattle.nz_machine.specs.Replicas.{is_normal, is_changing, is_up, is_rejoining, leads}
 use Rattle.nz_machine.specs.LogMods.{most_keys, is_held, is_asked}
+use Rattle.nz_machine.specs.Rejoining.{is_phase}
 use Rattle.nz_machine.specs.Proxies.{margin, standing_of}
 use Rattle.nz_machine.specs.Step.{script_of}
 use Rattle.nz_machine.specs.Events.{id_at}
@@ -45,11 +57,14 @@ pub record IsRest (rest keys : List Key) : Type 0 where
   pub earlier : List Key
   pub whole : keys ≡ earlier ++ rest
 
--- A fast reply is of a view in which the replica was in normal operation before, and of a place of its log.
--- The leader of the view is in it still, and replies with its answer.
+-- A fast reply is of a view in which the replica was in normal operation before, and of a place of its log. After
+-- the record, which may have entered a later view, the replica is up, and this is its last view. The leader of the
+-- view is in it still, and replies with its answer.
 pub record ShowsFast (f me : ℕ) (before s : ReplicaData) (to : Actor) (b : FastReplyBody) : Type 0 where
   pub normal : is_normal before.status ≡ true
   pub view : b.view ≡ before.view
+  pub up : is_up s.status ≡ true
+  pub last : s.last ≡ before.view
   pub vector : b.vector ≡ s.vector
   pub place : ℕ
   pub stands : place_of s.log.entries b.id ≡ Some place
@@ -117,7 +132,84 @@ pub record ShowsReport (f me : ℕ) (s : ReplicaData) (to : Actor) (b : SyncRepo
   pub to_leader : to ≡ Replica (leader_of f s.view)
   pub read : b ≡ record { view = s.view; synced = s.log.synced }
 
--- A replica sends no others yet.
+-- ---- views
+
+-- A view-ask names the view that the replica is in after the record: it has entered it, or has begun it by now.
+pub record ShowsViewAsk (f me : ℕ) (s : ReplicaData) (to : Actor) (b : ViewAskBody) : Type 0 where
+  pub up : is_up s.status ≡ true
+  pub receiver : IsOther f me to
+  pub view : b.view ≡ s.view
+
+-- A view change is the state of a replica in a view change, for the view's leader.
+pub record ShowsViewChange (f me : ℕ) (s : ReplicaData) (to : Actor) (b : ViewChangeBody) : Type 0 where
+  pub changing : is_changing s.status ≡ true
+  pub follows : leads f me s ≡ false
+  pub receiver : IsOther f me to
+  pub to_leader : to ≡ Replica (leader_of f s.view)
+  pub read : b ≡ record { view = s.view; last = s.last; vector = s.vector; synced = s.log.synced; commit = s.commit; entries = s.log.entries }
+
+-- A start-view is the state of the view's leader.
+pub record ShowsStartView (f me : ℕ) (s : ReplicaData) (to : Actor) (b : StartViewBody) : Type 0 where
+  pub normal : is_normal s.status ≡ true
+  pub led : leads f me s ≡ true
+  pub receiver : IsOther f me to
+  pub read : b ≡ record { view = s.view; vector = s.vector; commit = s.commit; entries = s.log.entries }
+
+-- ---- rejoins
+
+-- An ask is of its phase.
+pub record ShowsVectorAsk (f me : ℕ) (s : ReplicaData) (to : Actor) (b : VectorAskBody) : Type 0 where
+  pub rejoining : is_rejoining s.status ≡ true
+  pub in_phase : is_phase s.rejoin.phase phases.Vectors ≡ true
+  pub receiver : IsOther f me to
+  pub read : b ≡ record { nonce = s.rejoin.nonce }
+
+pub record ShowsRejoinAsk (f me : ℕ) (s : ReplicaData) (to : Actor) (b : RejoinAskBody) : Type 0 where
+  pub rejoining : is_rejoining s.status ≡ true
+  pub in_phase : is_phase s.rejoin.phase phases.Views ≡ true
+  pub receiver : IsOther f me to
+  pub read : b ≡ record { nonce = s.rejoin.nonce; vector = s.vector }
+
+pub record ShowsStateAsk (f me : ℕ) (s : ReplicaData) (to : Actor) (b : StateAskBody) : Type 0 where
+  pub rejoining : is_rejoining s.status ≡ true
+  pub in_phase : is_phase s.rejoin.phase phases.Log ≡ true
+  pub receiver : IsOther f me to
+  pub to_leader : to ≡ Replica (leader_of f s.rejoin.wanted)
+  pub read : b ≡ record { nonce = s.rejoin.nonce; view = s.rejoin.wanted; vector = s.vector }
+
+-- A tell answers an ask that its record delivers, from its receiver and with its nonce.
+pub record ShowsVectorTell (f me : ℕ) (heard : Heard) (s : ReplicaData) (to : Actor) (b : VectorTellBody) : Type 0 where
+  pub normal : is_normal s.status ≡ true
+  pub asker : ℕ
+  pub ask : VectorAskBody
+  pub hears : heard ≡ Some (Replica asker, messages.VectorAsk ask)
+  pub receiver : to ≡ Replica asker
+  pub read : b ≡ record { nonce = ask.nonce; vector = s.vector }
+
+-- Of these two the vector of the ask is merged first.
+pub record ShowsRejoinTell (f me : ℕ) (heard : Heard) (before s : ReplicaData) (to : Actor) (b : RejoinTellBody) : Type 0 where
+  pub normal : is_normal s.status ≡ true
+  pub asker : ℕ
+  pub ask : RejoinAskBody
+  pub hears : heard ≡ Some (Replica asker, messages.RejoinAsk ask)
+  pub receiver : to ≡ Replica asker
+  pub taken : s.vector ≡ merged before.vector ask.vector me
+  pub read : b ≡ record { nonce = ask.nonce; view = s.view; vector = s.vector }
+
+pub record ShowsStateTell (f me : ℕ) (heard : Heard) (before s : ReplicaData) (to : Actor) (b : StateTellBody) : Type 0 where
+  pub normal : is_normal s.status ≡ true
+  pub led : leads f me s ≡ true
+  pub asker : ℕ
+  pub ask : StateAskBody
+  pub hears : heard ≡ Some (Replica asker, messages.StateAsk ask)
+  pub receiver : to ≡ Replica asker
+  pub later : ask.view ≤ s.view
+  pub taken : s.vector ≡ merged before.vector ask.vector me
+  pub read : b ≡ record { nonce = ask.nonce; view = s.view; vector = s.vector; commit = s.commit; entries = s.log.entries }
+
+-- ---- all kinds of a replica
+
+-- A replica sends no others.
 abbrev pub ReplicaShows : ℕ → ℕ → Heard → ReplicaData → ReplicaData → Actor → Message → Type 0
 ReplicaShows f me heard before s to (messages.FastReply b) = ShowsFast f me before s to b
 ReplicaShows f me heard before s to (messages.SlowReply b) = ShowsSlow f me s to b
@@ -125,6 +217,15 @@ ReplicaShows f me heard before s to (messages.LogMod b) = ShowsLogMod f me s to 
 ReplicaShows f me heard before s to (messages.Fetch b) = ShowsFetch f me heard s to b
 ReplicaShows f me heard before s to (messages.FetchReply b) = ShowsFetchReply f me heard s to b
 ReplicaShows f me heard before s to (messages.SyncReport b) = ShowsReport f me s to b
+ReplicaShows f me heard before s to (messages.ViewAsk b) = ShowsViewAsk f me s to b
+ReplicaShows f me heard before s to (messages.ViewChange b) = ShowsViewChange f me s to b
+ReplicaShows f me heard before s to (messages.StartView b) = ShowsStartView f me s to b
+ReplicaShows f me heard before s to (messages.VectorAsk b) = ShowsVectorAsk f me s to b
+ReplicaShows f me heard before s to (messages.VectorTell b) = ShowsVectorTell f me heard s to b
+ReplicaShows f me heard before s to (messages.RejoinAsk b) = ShowsRejoinAsk f me s to b
+ReplicaShows f me heard before s to (messages.RejoinTell b) = ShowsRejoinTell f me heard before s to b
+ReplicaShows f me heard before s to (messages.StateAsk b) = ShowsStateAsk f me s to b
+ReplicaShows f me heard before s to (messages.StateTell b) = ShowsStateTell f me heard before s to b
 ReplicaShows f me heard before s to _ = ⊥
 
 -- ---- a proxy: what it hears in the record, and its state s after
