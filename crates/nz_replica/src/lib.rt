@@ -1,4 +1,4 @@
-//! A replica: a core of the rules of requests, releases, log modifications, fetches and sync reports.
+//! A replica: the rules of all its messages, its clock, alarms, crashes and restarts as one core.
 #![tactic(auto)]
 
 mod replica;

@@ -4,9 +4,9 @@ ghost use Rattle.nz_base.specs.Cluster.{replica_count};
 ghost use Rattle.nz_base.specs.declared.actor.Actor.TheVariants.{Replica as IsReplica};
 ghost use Rattle.nz_msg.specs.Messages.{Fits};
 ghost use Rattle.nz_machine.specs.State.{Group};
-ghost use Rattle.nz_machine.specs.Replicas.{first_replica};
+ghost use Rattle.nz_machine.specs.Replicas.{first_replica, is_down as is_down_in, is_rejoining as is_rejoining_in};
 ghost use Rattle.nz_machine.specs.Does.{Does};
-ghost use Rattle.nz_machine.specs.Step.{event_step, envelope_step, replica_message, tick_rule, received, parcel, is_in_cluster, is_sized, vector_of};
+ghost use Rattle.nz_machine.specs.Step.{event_step, envelope_step, replica_message, mode_timer as mode_timer_in, tick_rule, received, parcel, is_in_cluster, is_sized, vector_of};
 ghost use Rattle.nz_replica.specs.Seats.{IsOf};
 
 use nz_base::{Actor, Cluster, NoMemory};
@@ -14,7 +14,12 @@ use nz_log::HashedLog;
 use nz_machine::{Core, Event, Parcel, ReplicaState, Sends, heard, is_counted};
 use nz_msg::{Envelope, Message};
 use nz_normal::{on_timed, tick};
-use nz_sync::{on_fetch, on_fetch_reply, on_log_mod, on_sync_report, tell};
+use nz_rejoin::{
+    on_rejoin_ask, on_rejoin_tell, on_state_ask, on_state_tell, on_vector_ask, on_vector_tell,
+    rejoin_timer, restart,
+};
+use nz_sync::{on_fetch, on_fetch_reply, on_log_mod, on_sync_report, tell_others};
+use nz_view::{change_timer, on_alarm, on_start_view, on_view_ask, on_view_change, quiet_timer};
 use std::alloc::Global;
 use std::marker::Model;
 
@@ -67,6 +72,20 @@ impl Replica {
     {
         self.state.commit()
     }
+
+    /// Whether it is out of service.
+    pub fn is_down(&self) -> bool
+        ensures { result ≡ is_down_in self.now.seat.state.status }
+    {
+        self.state.is_down()
+    }
+
+    /// Whether it is on the way back after a crash.
+    pub fn is_rejoining(&self) -> bool
+        ensures { result ≡ is_rejoining_in self.now.seat.state.status }
+    {
+        self.state.is_rejoining()
+    }
 }
 
 /// Which rule a message comes to.
@@ -86,7 +105,17 @@ fn handle(state: &mut ReplicaState, envelope: &Envelope, sends: &mut Sends) -> R
             on_sync_report(state, from, body);
             Ok(())
         }
-        _ => Ok(()),
+        Message::ViewAsk(body) => on_view_ask(state, from, body, sends),
+        Message::ViewChange(body) => on_view_change(state, from, body, sends),
+        Message::StartView(body) => on_start_view(state, from, body),
+        Message::VectorAsk(body) => on_vector_ask(state, from, body, sends),
+        Message::VectorTell(body) => on_vector_tell(state, from, body, sends),
+        Message::RejoinAsk(body) => on_rejoin_ask(state, from, body, sends),
+        Message::RejoinTell(body) => on_rejoin_tell(state, from, body, sends),
+        Message::StateAsk(body) => on_state_ask(state, from, body, sends),
+        Message::StateTell(body) => on_state_tell(state, from, body),
+        Message::Request(_) | Message::FastReply(_) | Message::SlowReply(_) | Message::Answer(_) =>
+            Ok(()),
     }
 }
 
@@ -104,12 +133,31 @@ fn deliver(state: &mut ReplicaState, p: &Parcel, sends: &mut Sends) -> Result<()
     }
 }
 
-/// Releases what is due, and tells the others.
-fn tick_and_tell(state: &mut ReplicaState, clock: u64, sends: &mut Sends) -> Result<(), NoMemory>
+/// What a replica does at a tick after its releases, by its mode.
+fn mode_timer(state: &mut ReplicaState, sends: &mut Sends) -> Result<(), NoMemory>
+    ensures { let s = state.old in OnOk result (Does s state.new sends.old sends.new (mode_timer_in s.state.status s.f s.me s.state)) }
+{
+    if state.is_normal() {
+        if state.leads() {
+            return tell_others(state, sends);
+        }
+        return quiet_timer(state, sends);
+    }
+    if state.is_changing() {
+        return change_timer(state, sends);
+    }
+    if state.is_rejoining() {
+        return rejoin_timer(state, sends);
+    }
+    Ok(())
+}
+
+/// Releases what is due, and then the mode's timer counts.
+fn tick_and_count(state: &mut ReplicaState, clock: u64, sends: &mut Sends) -> Result<(), NoMemory>
     ensures { let s = state.old in OnOk result (Does s state.new sends.old sends.new (tick_rule s.f s.me s.state clock)) }
 {
     tick(state, clock, sends)?;
-    tell(state, sends)
+    mode_timer(state, sends)
 }
 
 fn take(state: &mut ReplicaState, event: &Event, sends: &mut Sends) -> Result<(), NoMemory>
@@ -117,8 +165,14 @@ fn take(state: &mut ReplicaState, event: &Event, sends: &mut Sends) -> Result<()
 {
     match event {
         Event::Deliver(p) => deliver(state, p, sends),
-        Event::Tick(clock) if !state.is_down() => tick_and_tell(state, *clock, sends),
-        Event::Tick(_) | Event::Cut(..) | Event::Alarm | Event::Crash | Event::Restart(_) => Ok(()),
+        Event::Tick(clock) if !state.is_down() => tick_and_count(state, *clock, sends),
+        Event::Alarm => on_alarm(state, sends),
+        Event::Crash => {
+            state.crash();
+            Ok(())
+        }
+        Event::Restart(nonce) => restart(state, *nonce, sends),
+        Event::Tick(_) | Event::Cut(..) => Ok(()),
     }
 }
 

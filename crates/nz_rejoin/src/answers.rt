@@ -1,0 +1,130 @@
+//! The answers of a replica in normal operation to one that rejoins.
+
+ghost use Rattle.std.specs.Prelude.{◌≡◌, ◌<◌, length, IsTrue, OnOk};
+ghost use Rattle.nz_base.specs.Cluster.{replica_count};
+ghost use Rattle.nz_msg.specs.Messages.{vector_ask, rejoin_ask, state_ask};
+ghost use Rattle.nz_msg.specs.declared.message.Message.TheVariants.{VectorAsk, RejoinAsk, StateAsk};
+ghost use Rattle.nz_machine.specs.Rejoining.{vector_ask_rule, rejoin_ask_rule, state_ask_rule};
+ghost use Rattle.nz_machine.specs.Does.{Does};
+ghost use Rattle.nz_machine.specs.Step.{replica_message, is_in_cluster};
+
+use nz_base::{Actor, NoMemory};
+use nz_machine::{ReplicaState, Sends};
+use nz_msg::{RejoinAskBody, StateAskBody, VectorAskBody};
+
+/// A replica in normal operation tells its vector.
+#[tactic(auto, unfolding(nz_machine::specs::Rejoining::vector_ask_rule))]
+fn answer_vector_ask(
+    state: &ReplicaState,
+    sender: u8,
+    body: &VectorAskBody,
+    sends: &mut Sends,
+) -> Result<(), NoMemory>
+    requires sender { sender < replica_count state.now.f }
+    requires fits { vector_ask.fits body.now }
+    ensures { let s = state.now in OnOk result (Does s s sends.old sends.new (vector_ask_rule s.state sender body.now)) }
+{
+    if !state.is_normal() {
+        return Ok(());
+    }
+    state.send_to(sender, &state.vector_tell(body.nonce), sends)
+}
+
+/// What a replica does with a vector-ask. It changes nothing, and takes them from replicas alone.
+pub fn on_vector_ask(
+    state: &ReplicaState,
+    from: Actor,
+    body: &VectorAskBody,
+    sends: &mut Sends,
+) -> Result<(), NoMemory>
+    requires member { IsTrue (is_in_cluster state.now.f from) }
+    requires fits { vector_ask.fits body.now }
+    ensures { let s = state.now in OnOk result (Does s s sends.old sends.new (replica_message s.f s.me s.state from (VectorAsk body.now))) }
+{
+    match from {
+        Actor::Replica(sender) => answer_vector_ask(state, sender, body, sends),
+        Actor::Proxy(_) | Actor::Client(_) => Ok(()),
+    }
+}
+
+/// A replica in normal operation merges the vector of who rejoins, and tells its view with its own.
+#[tactic(auto, unfolding(nz_machine::specs::Rejoining::rejoin_ask_rule))]
+fn answer_rejoin_ask(
+    state: &mut ReplicaState,
+    sender: u8,
+    body: &RejoinAskBody,
+    sends: &mut Sends,
+) -> Result<(), NoMemory>
+    requires sender { sender < replica_count state.old.f }
+    requires vector { length body.now.vector ≡ replica_count state.old.f }
+    requires fits { rejoin_ask.fits body.now }
+    ensures { let s = state.old in OnOk result (Does s state.new sends.old sends.new (rejoin_ask_rule s.me s.state sender body.now)) }
+{
+    state.has_facts();
+    if !state.is_normal() || body.vector.is_stray(sender, state.vector()) {
+        return Ok(());
+    }
+    state.merge_vector(&body.vector);
+    state.send_to(sender, &state.rejoin_tell(body.nonce), sends)
+}
+
+/// What a replica does with a rejoin-ask. It takes them from replicas alone.
+pub fn on_rejoin_ask(
+    state: &mut ReplicaState,
+    from: Actor,
+    body: &RejoinAskBody,
+    sends: &mut Sends,
+) -> Result<(), NoMemory>
+    requires member { IsTrue (is_in_cluster state.old.f from) }
+    requires vector { length body.now.vector ≡ replica_count state.old.f }
+    requires fits { rejoin_ask.fits body.now }
+    ensures { let s = state.old in OnOk result (Does s state.new sends.old sends.new (replica_message s.f s.me s.state from (RejoinAsk body.now))) }
+{
+    match from {
+        Actor::Replica(sender) => answer_rejoin_ask(state, sender, body, sends),
+        Actor::Proxy(_) | Actor::Client(_) => Ok(()),
+    }
+}
+
+/// The leader tells its log, in the view that is asked for or a later one.
+#[tactic(auto, unfolding(nz_machine::specs::Rejoining::state_ask_rule))]
+fn answer_state_ask(
+    state: &mut ReplicaState,
+    sender: u8,
+    body: &StateAskBody,
+    sends: &mut Sends,
+) -> Result<(), NoMemory>
+    requires sender { sender < replica_count state.old.f }
+    requires vector { length body.now.vector ≡ replica_count state.old.f }
+    requires fits { state_ask.fits body.now }
+    ensures { let s = state.old in OnOk result (Does s state.new sends.old sends.new (state_ask_rule s.f s.me s.state sender body.now)) }
+{
+    state.has_facts();
+    if !state.leads_view()
+        || body.view > state.view()
+        || body.vector.is_stray(sender, state.vector())
+    {
+        return Ok(());
+    }
+    state.merge_vector(&body.vector);
+    let tell = state.state_tell(body.nonce)?;
+    state.send_to(sender, &tell, sends)
+}
+
+/// What a replica does with a state-ask. It takes them from replicas alone.
+pub fn on_state_ask(
+    state: &mut ReplicaState,
+    from: Actor,
+    body: &StateAskBody,
+    sends: &mut Sends,
+) -> Result<(), NoMemory>
+    requires member { IsTrue (is_in_cluster state.old.f from) }
+    requires vector { length body.now.vector ≡ replica_count state.old.f }
+    requires fits { state_ask.fits body.now }
+    ensures { let s = state.old in OnOk result (Does s state.new sends.old sends.new (replica_message s.f s.me s.state from (StateAsk body.now))) }
+{
+    match from {
+        Actor::Replica(sender) => answer_state_ask(state, sender, body, sends),
+        Actor::Proxy(_) | Actor::Client(_) => Ok(()),
+    }
+}

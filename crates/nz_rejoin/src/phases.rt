@@ -1,0 +1,192 @@
+//! The three phases of a rejoin: vectors, views, and the log.
+
+ghost use Rattle.std.specs.Prelude.{◌≡◌, ◌≢◌, ◌<◌, ◌≤◌, ◌==◌, ◌&&◌, nat_le, length, IsTrue, IsFalse, OnOk};
+ghost use Rattle.nz_base.specs.Cluster.{replica_count, leader_of};
+ghost use Rattle.nz_base.specs.declared.actor.Actor.TheVariants.{Replica as IsReplica};
+ghost use Rattle.nz_msg.specs.Messages.{vector_tell, rejoin_tell, state_tell};
+ghost use Rattle.nz_msg.specs.declared.message.Message.TheVariants.{VectorTell, RejoinTell, StateTell};
+ghost use Rattle.nz_machine.specs.declared.data.Phase.TheVariants as phases;
+ghost use Rattle.nz_machine.specs.Replicas.{last_view};
+ghost use Rattle.nz_machine.specs.Rejoining.{awaits, ask_views as ask_views_of, after_vectors, ask_log as ask_log_of, after_views, vector_tell_rule, rejoin_tell_rule, state_tell_rule};
+ghost use Rattle.nz_machine.specs.Does.{Does, DoesSilently};
+ghost use Rattle.nz_machine.specs.Step.{replica_message, is_in_cluster};
+
+use nz_base::{Actor, NoMemory, TryCopy};
+use nz_machine::{Phase, ReplicaState, Sends};
+use nz_msg::{RejoinTellBody, StateTellBody, VectorTellBody};
+
+// ---- the first phase: vectors
+
+/// The second phase starts with nothing collected: the others are asked for their views.
+pub(super) fn ask_views(state: &mut ReplicaState, sends: &mut Sends) -> Result<(), NoMemory>
+    ensures { let s = state.old in OnOk result (Does s state.new sends.old sends.new (ask_views_of s.f s.me s.state)) }
+{
+    state.start_views();
+    state.send_to_others(&state.rejoin_ask(), sends)
+}
+
+/// With enough tellers the second phase starts, unless there is no greater counter.
+fn after_teller(state: &mut ReplicaState, tellers: usize, sends: &mut Sends) -> Result<(), NoMemory>
+    requires { tellers ≡ length state.old.state.rejoin.tellers }
+    ensures { let s = state.old in OnOk result (Does s state.new sends.old sends.new (after_vectors s.f s.me s.state)) }
+{
+    if tellers >= usize::from(state.cluster().slow()) && state.take_new_counter() {
+        return ask_views(state, sends);
+    }
+    Ok(())
+}
+
+/// A vector is taken in the first phase, for this restart.
+#[tactic(auto, unfolding(nz_machine::specs::Rejoining::vector_tell_rule))]
+fn take_vector(
+    state: &mut ReplicaState,
+    sender: u8,
+    body: &VectorTellBody,
+    sends: &mut Sends,
+) -> Result<(), NoMemory>
+    requires sender { sender < replica_count state.old.f }
+    requires vector { length body.now.vector ≡ replica_count state.old.f }
+    requires fits { vector_tell.fits body.now }
+    ensures { let s = state.old in OnOk result (Does s state.new sends.old sends.new (vector_tell_rule s.f s.me s.state sender body.now)) }
+{
+    state.has_facts();
+    if !state.awaits(Phase::Vectors, body.nonce) || body.vector.is_stray(sender, state.vector()) {
+        return Ok(());
+    }
+    state.merge_vector(&body.vector);
+    let tellers = state.note_teller(sender, &body.vector)?;
+    after_teller(state, tellers, sends)
+}
+
+/// What a replica does with a vector-tell. It takes them from replicas alone.
+pub fn on_vector_tell(
+    state: &mut ReplicaState,
+    from: Actor,
+    body: &VectorTellBody,
+    sends: &mut Sends,
+) -> Result<(), NoMemory>
+    requires member { IsTrue (is_in_cluster state.old.f from) }
+    requires vector { length body.now.vector ≡ replica_count state.old.f }
+    requires fits { vector_tell.fits body.now }
+    ensures { let s = state.old in OnOk result (Does s state.new sends.old sends.new (replica_message s.f s.me s.state from (VectorTell body.now))) }
+{
+    match from {
+        Actor::Replica(sender) => take_vector(state, sender, body, sends),
+        Actor::Proxy(_) | Actor::Client(_) => Ok(()),
+    }
+}
+
+// ---- the second phase: views
+
+/// The third phase: the leader of the view is asked for its log.
+fn ask_log(state: &mut ReplicaState, view: u64, sends: &mut Sends) -> Result<(), NoMemory>
+    requires { view ≤ last_view }
+    ensures { let s = state.old in OnOk result (Does s state.new sends.old sends.new (ask_log_of s.f s.state view)) }
+{
+    state.start_log(view);
+    state.send_to(state.cluster().leader(view), &state.state_ask(), sends)
+}
+
+/// With enough views the third phase starts. A replica that led the latest one itself waits until there is a later.
+fn after_view(state: &mut ReplicaState, tells: usize, sends: &mut Sends) -> Result<(), NoMemory>
+    requires { tells ≡ length state.old.state.rejoin.tells }
+    ensures { let s = state.old in OnOk result (Does s state.new sends.old sends.new (after_views s.f s.me s.state)) }
+{
+    if tells < usize::from(state.cluster().slow()) {
+        return Ok(());
+    }
+    let view = state.latest_view();
+    if Actor::Replica(state.cluster().leader(view)).is(&state.name()) {
+        state.drop_views();
+        return Ok(());
+    }
+    ask_log(state, view, sends)
+}
+
+/// A view is taken in the second phase, for this restart.
+#[tactic(auto, unfolding(nz_machine::specs::Rejoining::rejoin_tell_rule))]
+fn take_view(
+    state: &mut ReplicaState,
+    sender: u8,
+    body: &RejoinTellBody,
+    sends: &mut Sends,
+) -> Result<(), NoMemory>
+    requires sender { sender < replica_count state.old.f }
+    requires vector { length body.now.vector ≡ replica_count state.old.f }
+    requires fits { rejoin_tell.fits body.now }
+    ensures { let s = state.old in OnOk result (Does s state.new sends.old sends.new (rejoin_tell_rule s.f s.me s.state sender body.now)) }
+{
+    state.has_facts();
+    if !state.awaits(Phase::Views, body.nonce) || body.vector.is_stray(sender, state.vector()) {
+        return Ok(());
+    }
+    state.merge_vector(&body.vector);
+    let tells = state.note_view(sender, body)?;
+    after_view(state, tells, sends)
+}
+
+/// What a replica does with a rejoin-tell. It takes them from replicas alone.
+pub fn on_rejoin_tell(
+    state: &mut ReplicaState,
+    from: Actor,
+    body: &RejoinTellBody,
+    sends: &mut Sends,
+) -> Result<(), NoMemory>
+    requires member { IsTrue (is_in_cluster state.old.f from) }
+    requires vector { length body.now.vector ≡ replica_count state.old.f }
+    requires fits { rejoin_tell.fits body.now }
+    ensures { let s = state.old in OnOk result (Does s state.new sends.old sends.new (replica_message s.f s.me s.state from (RejoinTell body.now))) }
+{
+    match from {
+        Actor::Replica(sender) => take_view(state, sender, body, sends),
+        Actor::Proxy(_) | Actor::Client(_) => Ok(()),
+    }
+}
+
+// ---- the third phase: the log
+
+/// Whether the log is told that the replica waits for: by the leader of the wanted view or a later one, for this
+/// restart.
+fn is_wanted(state: &ReplicaState, sender: u8, body: &StateTellBody) -> bool
+    ensures { let s = state.now in result ≡ (awaits phases.Log s.state body.now.nonce && (nat_le s.state.rejoin.wanted body.now.view && (sender == leader_of s.f body.now.view))) }
+{
+    state.awaits(Phase::Log, body.nonce)
+        && state.wanted() <= body.view
+        && sender == state.cluster().leader(body.view)
+}
+
+/// The replica takes the log, and is in normal operation again.
+#[tactic(auto, unfolding(nz_machine::specs::Rejoining::state_tell_rule))]
+fn take_log(state: &mut ReplicaState, sender: u8, body: &StateTellBody) -> Result<(), NoMemory>
+    requires sender { sender < replica_count state.old.f }
+    requires other { IsFalse (sender == state.old.me) }
+    requires vector { length body.now.vector ≡ replica_count state.old.f }
+    requires fits { state_tell.fits body.now }
+    ensures { let s = state.old in OnOk result (DoesSilently s state.new (state_tell_rule s.f s.me s.state sender body.now)) }
+{
+    state.has_facts();
+    if !is_wanted(state, sender, body) || body.vector.is_stray(sender, state.vector()) {
+        return Ok(());
+    }
+    let log = body.entries.copy(state.allocator())?;
+    state.merge_vector(&body.vector);
+    state.start(body.view, log, body.commit)
+}
+
+/// What a replica does with a state-tell. It takes them from replicas alone, and sends nothing.
+pub fn on_state_tell(
+    state: &mut ReplicaState,
+    from: Actor,
+    body: &StateTellBody,
+) -> Result<(), NoMemory>
+    requires member { IsTrue (is_in_cluster state.old.f from) }
+    requires other { from ≢ IsReplica state.old.me }
+    requires vector { length body.now.vector ≡ replica_count state.old.f }
+    requires fits { state_tell.fits body.now }
+    ensures { let s = state.old in OnOk result (DoesSilently s state.new (replica_message s.f s.me s.state from (StateTell body.now))) }
+{
+    match from {
+        Actor::Replica(sender) => take_log(state, sender, body),
+        Actor::Proxy(_) | Actor::Client(_) => Ok(()),
+    }
+}
