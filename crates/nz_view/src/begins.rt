@@ -1,6 +1,6 @@
 //! How the leader of a view collects view-changes, and begins the view.
 
-ghost use Rattle.std.specs.Prelude.{◌≡◌, ◌≢◌, ◌≤◌, ◌<◌, length, IsTrue, OnOk};
+ghost use Rattle.std.specs.Prelude.{◌≡◌, ◌≢◌, ◌≤◌, ◌<◌, ◌==◌, length, IsTrue, IsFalse, OnOk};
 ghost use Rattle.nz_base.specs.Actor.{HasAddress};
 ghost use Rattle.nz_base.specs.Cluster.{replica_count, leader_of};
 ghost use Rattle.nz_base.specs.declared.actor.Actor.TheVariants.{Replica as IsReplica};
@@ -39,7 +39,7 @@ fn collect(
     sends: &mut Sends,
 ) -> Result<(), NoMemory>
     requires sender { sender < replica_count state.old.f }
-    requires other { sender ≢ state.old.me }
+    requires other { IsFalse (sender == state.old.me) }
     requires vector { length body.now.vector ≡ replica_count state.old.f }
     requires fits { view_change.fits body.now }
     requires changing { IsTrue (is_changing state.old.state.status) }
@@ -61,7 +61,7 @@ fn hear_report(
 ) -> Result<(), NoMemory>
     requires address { sender ≤ 8 }
     requires sender { sender < replica_count state.old.f }
-    requires other { sender ≢ state.old.me }
+    requires other { IsFalse (sender == state.old.me) }
     requires vector { length body.now.vector ≡ replica_count state.old.f }
     requires fits { view_change.fits body.now }
     requires leads { IsTrue (leads state.old.f state.old.me state.old.state) }
@@ -83,7 +83,7 @@ fn take_report(
 ) -> Result<(), NoMemory>
     requires address { sender ≤ 8 }
     requires sender { sender < replica_count state.old.f }
-    requires other { sender ≢ state.old.me }
+    requires other { IsFalse (sender == state.old.me) }
     requires vector { length body.now.vector ≡ replica_count state.old.f }
     requires fits { view_change.fits body.now }
     requires up { IsTrue (is_up state.old.state.status) }
@@ -113,7 +113,7 @@ fn view_change(
 ) -> Result<(), NoMemory>
     requires address { sender ≤ 8 }
     requires sender { sender < replica_count state.old.f }
-    requires other { sender ≢ state.old.me }
+    requires other { IsFalse (sender == state.old.me) }
     requires vector { length body.now.vector ≡ replica_count state.old.f }
     requires fits { view_change.fits body.now }
     ensures { let s = state.old in OnOk result (Does s state.new sends.old sends.new (view_change_rule s.f s.me s.state sender body.now)) }

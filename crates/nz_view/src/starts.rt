@@ -1,7 +1,7 @@
 //! How a replica enters a view that another one is in, and starts one that another one leads.
 
-ghost use Rattle.std.specs.Prelude.{◌≡◌, ◌≢◌, ◌≤◌, ◌<◌, length, IsTrue, OnOk};
-ghost use Rattle.nz_base.specs.Cluster.{replica_count};
+ghost use Rattle.std.specs.Prelude.{◌≡◌, ◌≢◌, ◌<◌, ◌==◌, length, IsTrue, IsFalse, OnOk};
+ghost use Rattle.nz_base.specs.Cluster.{replica_count, leader_of};
 ghost use Rattle.nz_base.specs.declared.actor.Actor.TheVariants.{Replica as IsReplica};
 ghost use Rattle.nz_msg.specs.Fields.{view as view_field};
 ghost use Rattle.nz_msg.specs.Messages.{view_ask, start_view};
@@ -63,7 +63,7 @@ fn may_start(state: &ReplicaState, view: u64) -> bool
 /// The view starts with the leader's log.
 fn start(state: &mut ReplicaState, body: &StartViewBody) -> Result<(), NoMemory>
     requires fits { start_view.fits body.now }
-    requires other { leader_of state.old.f body.now.view ≢ state.old.me }
+    requires other { IsFalse (leader_of state.old.f body.now.view == state.old.me) }
     ensures { OnOk result (state.new ≡ record state.old { state = after_start state.old.state body.now }) }
 {
     let commit = state.commit().max(body.commit).min(body.entries.len());
@@ -74,7 +74,7 @@ fn start(state: &mut ReplicaState, body: &StartViewBody) -> Result<(), NoMemory>
 #[tactic(auto, unfolding(nz_machine::specs::Adopting::start_view_rule))]
 fn start_view(state: &mut ReplicaState, sender: u8, body: &StartViewBody) -> Result<(), NoMemory>
     requires sender { sender < replica_count state.old.f }
-    requires other { sender ≢ state.old.me }
+    requires other { IsFalse (sender == state.old.me) }
     requires vector { length body.now.vector ≡ replica_count state.old.f }
     requires fits { start_view.fits body.now }
     ensures { let s = state.old in OnOk result (DoesSilently s state.new (start_view_rule s.f s.me s.state sender body.now)) }

@@ -2,11 +2,16 @@
 
 ghost use Rattle.std.specs.Prelude.{◌≡◌, IsTrue, OnOk};
 ghost use Rattle.nz_machine.specs.Replicas.{is_changing, is_normal};
-ghost use Rattle.nz_machine.specs.Views.{most_quiet, ask_period, enter_next as enter_next_of, quiet_timer as quiet_timer_of, change_timer as change_timer_of, alarm_rule};
+ghost use Rattle.nz_machine.specs.Views.{enter_next as enter_next_of, quiet_timer as quiet_timer_of, change_timer as change_timer_of, alarm_rule};
 ghost use Rattle.nz_machine.specs.Does.{Does};
 
 use nz_base::NoMemory;
-use nz_machine::{ASK_PERIOD, MOST_QUIET, ReplicaState, Sends};
+use nz_machine::{ReplicaState, Sends};
+
+/// After this many ticks in one view change a replica enters the next view.
+const MOST_QUIET: u8 = 20;
+/// In a view change it asks again each time that so many ticks have passed.
+const ASK_PERIOD: u8 = 5;
 
 /// The next view is entered, where there is one.
 fn enter_next(state: &mut ReplicaState, sends: &mut Sends) -> Result<(), NoMemory>
