@@ -5,6 +5,7 @@ ghost use Rattle.std.specs.List.{AllByRecursion};
 ghost use Rattle.nz_base.specs.Actor.{HasAddress};
 ghost use Rattle.nz_base.specs.Cluster.{replica_count, leader_of};
 ghost use Rattle.nz_base.specs.declared.actor.Actor.TheVariants.{Replica as IsReplica};
+ghost use Rattle.nz_cv.specs.Vectors.{is_stray as is_stray_of};
 ghost use Rattle.nz_msg.specs.Fields.{id as id_field};
 ghost use Rattle.nz_msg.specs.Messages.{log_mod};
 ghost use Rattle.nz_msg.specs.declared.message.Message.TheVariants.{LogMod};
@@ -107,6 +108,16 @@ fn hears_later_leader(state: &ReplicaState, view: u64, sender: u8) -> bool
     state.is_up() && state.view() < view && sender == state.cluster().leader(view)
 }
 
+/// Whether its vector makes a log modification stray.
+fn is_stray(state: &ReplicaState, sender: u8, body: &LogModBody) -> bool
+    requires sender { sender < replica_count state.now.f }
+    requires vector { length body.now.vector ≡ replica_count state.now.f }
+    ensures { result ≡ is_stray_of body.now.vector sender state.now.state.vector }
+{
+    state.has_facts();
+    body.vector.is_stray(sender, state.vector())
+}
+
 /// A log modification of a later view is a reason to enter it.
 fn enter(
     state: &mut ReplicaState,
@@ -120,8 +131,7 @@ fn enter(
     requires later { IsTrue (hears_later_leader_of state.old.f state.old.state body.now.view sender) }
     ensures { let s = state.old in OnOk result (Does s state.new sends.old sends.new (unless_stray s.me s.state sender body.now.vector (enter_view s.f s.me body.now.view))) }
 {
-    state.has_facts();
-    if body.vector.is_stray(sender, state.vector()) {
+    if is_stray(state, sender, body) {
         return Ok(());
     }
     state.merge_vector(&body.vector);
@@ -142,8 +152,7 @@ fn follow(
     requires follows { IsTrue (hears_leader state.old.f state.old.me state.old.state body.now.view sender) }
     ensures { let s = state.old in OnOk result (Does s state.new sends.old sends.new (unless_stray s.me s.state sender body.now.vector (λ t. taken_from sender body.now (after_hearing t)))) }
 {
-    state.has_facts();
-    if body.vector.is_stray(sender, state.vector()) {
+    if is_stray(state, sender, body) {
         return Ok(());
     }
     state.merge_vector(&body.vector);
