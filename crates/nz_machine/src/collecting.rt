@@ -1,8 +1,7 @@
 //! What a replica collects of the others, and what it does with a whole log.
 
-ghost use Rattle.std.specs.Prelude.{◌≡◌, ◌<◌, ◌≤◌, ◌∷◌, ◌++◌, [], ◌==◌, not, length, map, filter, slice_index, if◌then◌else◌, IfOk, OnOk, OnErr};
+ghost use Rattle.std.specs.Prelude.{◌≡◌, ◌∷◌, ◌++◌, [], ◌==◌, not, length, map, filter, slice_index, if◌then◌else◌, IfOk, OnOk, OnErr};
 ghost use Rattle.std.specs.List.{list_any};
-ghost use Rattle.nz_base.specs.Log.{IsLog};
 ghost use Rattle.nz_cv.specs.Vectors.{is_stray as is_stray_in};
 ghost use Rattle.nz_log.specs.Synced.{left_out};
 ghost use Rattle.nz_merge.specs.declared.change.Change.{Change as AChange};
@@ -10,7 +9,7 @@ ghost use Rattle.nz_merge.specs.Merged.{greatest};
 ghost use Rattle.nz_merge.specs.Sender.{HaveOwnSenders};
 ghost use Rattle.nz_store.specs.Sequence.{store_after, replies};
 ghost use Rattle.nz_machine.specs.State.{ReplicaData};
-ghost use Rattle.nz_machine.specs.Facts.{AreApart};
+ghost use Rattle.nz_machine.specs.Facts.{AreApart, IsCarried};
 ghost use Rattle.nz_machine.specs.Replicas.{commands};
 ghost use Rattle.nz_machine.specs.Taking.{with_parts};
 ghost use Rattle.nz_machine.specs.Adopting.{with_log};
@@ -22,7 +21,7 @@ use super::taking::{keep_each, pass_over};
 use nz_base::{Entry, EntryList, List, NoMemory, TryCopy};
 use nz_buffers::{Early, Late};
 use nz_cv::CrashVector;
-use nz_log::{HashedLog, MAX_ENTRIES};
+use nz_log::HashedLog;
 use nz_merge::{Change, ViewChanges};
 use nz_store::{Answer, Store};
 use std::alloc::Global;
@@ -65,6 +64,7 @@ pub fn drop_stray_reports(changes: &mut Vec<Reported>, known: &CrashVector)
 }
 
 /// The views that were told without an earlier one of the sender, with this one, and without those that are stray.
+#[tactic(auto, using(crate::proofs::Collects::tells_replaced, crate::proofs::Collects::tells_stray, crate::proofs::Collects::tells_more))]
 pub fn with_told(
     alloc: Global,
     tells: &[ToldView],
@@ -120,6 +120,7 @@ fn copy_change(alloc: Global, change: &Change) -> Result<Change, NoMemory>
 }
 
 /// The own report, and after it copies of the collected ones.
+#[tactic(auto, using(crate::proofs::Collects::own_reported, crate::proofs::Collects::changes_more))]
 pub fn all_changes(
     alloc: Global,
     own: Change,
@@ -148,6 +149,7 @@ pub fn greatest_commit(changes: &[Change]) -> u32
 }
 
 /// The store that has executed the entries, and its answers to them.
+#[tactic(auto, using(crate::proofs::Collects::executed_more, crate::proofs::Collects::answered_more))]
 pub fn execute_all(alloc: Global, list: &[Entry]) -> Result<(Store, Vec<Answer>), NoMemory>
     ensures store { IfOk result (λ made. made.0 ≡ store_after (commands list.now)) }
     ensures answers { IfOk result (λ made. made.1.items ≡ replies (commands list.now)) }
@@ -164,6 +166,7 @@ pub fn execute_all(alloc: Global, list: &[Entry]) -> Result<(Store, Vec<Answer>)
 }
 
 /// The ids of the list leave early and late.
+#[tactic(auto, using(crate::proofs::Adopts::left_none, crate::proofs::Adopts::left_step))]
 fn drop_ids(early: &mut Early, late: &mut Late, list: &[Entry])
     ensures early { early.new ≡ left_out early.old list.now }
     ensures late { late.new ≡ left_out late.old list.now }
@@ -184,8 +187,7 @@ pub fn adopt(
     list: EntryList,
 ) -> Result<(), NoMemory>
     requires apart { AreApart log.old early.old late.old }
-    requires log { IsLog list }
-    requires few { length list ≤ MAX_ENTRIES }
+    requires list { IsCarried list }
     ensures { (s : ReplicaData) → OnOk result (with_log (with_parts s log.old early.old late.old) list ≡ with_parts s log.new early.new late.new) }
 {
     drop_ids(early, late, list.as_slice());

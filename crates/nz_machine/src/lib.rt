@@ -32,7 +32,7 @@ pub use laws::{due_entries_are_released, facts_are_kept, receivers_take_part};
 pub use receiving::heard;
 pub use reply::{Reply, ReplyList};
 pub use sending::send;
-pub use state::ReplicaState;
+pub use state::{MOST_QUIET, ReplicaState};
 pub use telling::{Acceptance, Clients, Progress, Telling};
 
 #[cfg(test)]

@@ -20,6 +20,8 @@ mod messages;
 mod rejoining;
 mod viewing;
 
+pub use viewing::MOST_QUIET;
+
 use super::answers::copy_answer;
 use super::data::{Origin, Phase, Rejoin, Reported, Status};
 use super::parts::{last_key, put_early, put_late, take_in, vector_fits};
@@ -177,6 +179,19 @@ impl ReplicaState {
     {
         // The type's invariant is known where a field is used.
         let _member = &self.parts.me;
+    }
+
+    /// The replica's number.
+    pub fn me(&self) -> u8
+        ensures { result ≡ self.now.me }
+    {
+        self.parts.me
+    }
+
+    pub fn status(&self) -> Status
+        ensures { result ≡ self.now.state.status }
+    {
+        self.parts.status
     }
 
     pub fn cluster(&self) -> Cluster

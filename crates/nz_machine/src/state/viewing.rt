@@ -1,10 +1,8 @@
 //! What a replica does to its state when it leaves its view for a later one, and when it starts one.
 
 ghost use Rattle.std.specs.Prelude.{◌≡◌, ◌≤◌, ◌+◌, ◌==◌, nat_lt, min, length, IsTrue, IsFalse, OnOk};
-ghost use Rattle.std.specs.List.{AllByRecursion};
 ghost use Rattle.nz_base.specs.Cluster.{leader_of};
-ghost use Rattle.nz_base.specs.Log.{IsLog};
-ghost use Rattle.nz_machine.specs.Facts.{FitsEntry};
+ghost use Rattle.nz_machine.specs.Facts.{IsCarried};
 ghost use Rattle.nz_machine.specs.Does.{Does};
 ghost use Rattle.nz_machine.specs.Parts.{since_counted};
 ghost use Rattle.nz_machine.specs.Replicas.{last_view, is_changing};
@@ -17,10 +15,9 @@ use super::super::data::Status;
 use super::super::event::Sends;
 use super::{ReplicaState, forget};
 use nz_base::{EntryList, NoMemory};
-use nz_log::MAX_ENTRIES;
 
 /// After this many ticks without its leader, or in one view change, a replica enters the next view.
-const MOST_QUIET: u8 = 20;
+pub const MOST_QUIET: u8 = 20;
 /// Views stop here.
 const LAST_VIEW: u64 = (1 << 62) - 1;
 
@@ -77,9 +74,7 @@ impl ReplicaState {
     pub fn start(&mut self, view: u64, log: EntryList, commit: u32) -> Result<(), NoMemory>
         requires view { view ≤ last_view }
         requires follows { IsFalse (leader_of self.old.f view == self.old.me) }
-        requires log { IsLog log }
-        requires fit { AllByRecursion FitsEntry log }
-        requires few { length log ≤ MAX_ENTRIES }
+        requires log { IsCarried log }
         requires commit { commit ≤ length log }
         ensures { OnOk result (self.new ≡ record self.old { state = normal_in self.old.state view log commit }) }
     {

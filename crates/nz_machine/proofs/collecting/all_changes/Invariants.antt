@@ -1,0 +1,5 @@
+use Rattle.std.proofs.Common.{◌≡◌, ◌∷◌, map, take}
+use Rattle.nz_machine.proofs.collecting.all_changes.Given as goal
+
+abbrev pub invariant-loop-reported : goal.invariant-loop-reported
+invariant-loop-reported l = l.changes ≡ l.fn.own ∷ map (λ r. r.change) (take l.reported-index l.reports)

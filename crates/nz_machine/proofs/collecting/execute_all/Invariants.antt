@@ -1,0 +1,10 @@
+use Rattle.std.proofs.Common.{◌≡◌, take}
+use Rattle.nz_store.specs.Sequence.{store_after, replies}
+use Rattle.nz_machine.specs.Replicas.{commands}
+use Rattle.nz_machine.proofs.collecting.execute_all.Given as goal
+
+abbrev pub invariant-loop-entry : goal.invariant-loop-entry
+invariant-loop-entry l = record {
+  store : l.store ≡ store_after (commands (take l.entry-index l.list));
+  answers : l.answers.items ≡ replies (commands (take l.entry-index l.list));
+}
