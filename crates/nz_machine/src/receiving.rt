@@ -1,4 +1,4 @@
-ghost use Rattle.std.specs.Prelude.{◌≡◌, IfOk, IfSome};
+ghost use Rattle.std.specs.Prelude.{◌≡◌, ◌≢◌, IfOk, IfSome};
 ghost use Rattle.nz_base.specs.Actor.{HasAddress};
 ghost use Rattle.nz_msg.specs.Messages.{Fits};
 ghost use Rattle.nz_machine.specs.Step.{heard as heard_of};
@@ -14,6 +14,7 @@ use std::alloc::Global;
 pub fn heard(alloc: Global, me: Actor, parcel: &Parcel) -> Result<Option<Envelope>, NoMemory>
     ensures value { IfOk result (λ envelope. envelope ≡ heard_of me parcel.now) }
     ensures address { IfOk result (λ envelope. IfSome envelope (λ e. HasAddress e.from)) }
+    ensures other { IfOk result (λ envelope. IfSome envelope (λ e. e.from ≢ me)) }
     ensures fits { IfOk result (λ envelope. IfSome envelope (λ e. Fits e.message)) }
 {
     match decode(alloc, parcel.frame.as_slice()) {

@@ -1,6 +1,7 @@
 //! The answers of a replica in normal operation to one that rejoins.
 
-ghost use Rattle.std.specs.Prelude.{◌≡◌, ◌<◌, length, IsTrue, OnOk};
+ghost use Rattle.std.specs.Prelude.{◌≡◌, ◌<◌, ◌≤◌, length, IsTrue, OnOk};
+ghost use Rattle.nz_base.specs.Actor.{HasAddress};
 ghost use Rattle.nz_base.specs.Cluster.{replica_count};
 ghost use Rattle.nz_msg.specs.Messages.{vector_ask, rejoin_ask, state_ask};
 ghost use Rattle.nz_msg.specs.declared.message.Message.TheVariants.{VectorAsk, RejoinAsk, StateAsk};
@@ -20,7 +21,7 @@ fn answer_vector_ask(
     body: &VectorAskBody,
     sends: &mut Sends,
 ) -> Result<(), NoMemory>
-    requires sender { sender < replica_count state.now.f }
+    requires sender { sender ≤ 8 }
     requires fits { vector_ask.fits body.now }
     ensures { let s = state.now in OnOk result (Does s s sends.old sends.new (vector_ask_rule s.state sender body.now)) }
 {
@@ -37,7 +38,7 @@ pub fn on_vector_ask(
     body: &VectorAskBody,
     sends: &mut Sends,
 ) -> Result<(), NoMemory>
-    requires member { IsTrue (is_in_cluster state.now.f from) }
+    requires from { HasAddress from }
     requires fits { vector_ask.fits body.now }
     ensures { let s = state.now in OnOk result (Does s s sends.old sends.new (replica_message s.f s.me s.state from (VectorAsk body.now))) }
 {
@@ -55,6 +56,7 @@ fn answer_rejoin_ask(
     body: &RejoinAskBody,
     sends: &mut Sends,
 ) -> Result<(), NoMemory>
+    requires address { sender ≤ 8 }
     requires sender { sender < replica_count state.old.f }
     requires vector { length body.now.vector ≡ replica_count state.old.f }
     requires fits { rejoin_ask.fits body.now }
@@ -75,6 +77,7 @@ pub fn on_rejoin_ask(
     body: &RejoinAskBody,
     sends: &mut Sends,
 ) -> Result<(), NoMemory>
+    requires from { HasAddress from }
     requires member { IsTrue (is_in_cluster state.old.f from) }
     requires vector { length body.now.vector ≡ replica_count state.old.f }
     requires fits { rejoin_ask.fits body.now }
@@ -94,6 +97,7 @@ fn answer_state_ask(
     body: &StateAskBody,
     sends: &mut Sends,
 ) -> Result<(), NoMemory>
+    requires address { sender ≤ 8 }
     requires sender { sender < replica_count state.old.f }
     requires vector { length body.now.vector ≡ replica_count state.old.f }
     requires fits { state_ask.fits body.now }
@@ -118,6 +122,7 @@ pub fn on_state_ask(
     body: &StateAskBody,
     sends: &mut Sends,
 ) -> Result<(), NoMemory>
+    requires from { HasAddress from }
     requires member { IsTrue (is_in_cluster state.old.f from) }
     requires vector { length body.now.vector ≡ replica_count state.old.f }
     requires fits { state_ask.fits body.now }

@@ -83,8 +83,11 @@ fn ask_log(state: &mut ReplicaState, view: u64, sends: &mut Sends) -> Result<(),
     requires { view ≤ last_view }
     ensures { let s = state.old in OnOk result (Does s state.new sends.old sends.new (ask_log_of s.f s.state view)) }
 {
+    // f is at most 4, so the number is at most 8.
+    let _most = state.cluster().f();
+    let leader = state.cluster().leader(view);
     state.start_log(view);
-    state.send_to(state.cluster().leader(view), &state.state_ask(), sends)
+    state.send_to(leader, &state.state_ask(), sends)
 }
 
 /// With enough views the third phase starts. A replica that led the latest one itself waits until there is a later.
@@ -168,8 +171,8 @@ fn take_log(state: &mut ReplicaState, sender: u8, body: &StateTellBody) -> Resul
     if !is_wanted(state, sender, body) || body.vector.is_stray(sender, state.vector()) {
         return Ok(());
     }
-    let log = body.entries.copy(state.allocator())?;
     state.merge_vector(&body.vector);
+    let log = body.entries.copy(state.allocator())?;
     state.start(body.view, log, body.commit)
 }
 

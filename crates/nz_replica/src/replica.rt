@@ -1,4 +1,4 @@
-ghost use Rattle.std.specs.Prelude.{◌≡◌, ◌<◌, ◌++◌, ◌&&◌, true, map, IsTrue, IfOk, OnOk};
+ghost use Rattle.std.specs.Prelude.{◌≡◌, ◌≢◌, ◌<◌, ◌&&◌, true, IsTrue, IfOk, OnOk};
 ghost use Rattle.nz_base.specs.Actor.{HasAddress};
 ghost use Rattle.nz_base.specs.Cluster.{replica_count};
 ghost use Rattle.nz_base.specs.declared.actor.Actor.TheVariants.{Replica as IsReplica};
@@ -91,6 +91,7 @@ impl Replica {
 /// Which rule a message comes to.
 fn handle(state: &mut ReplicaState, envelope: &Envelope, sends: &mut Sends) -> Result<(), NoMemory>
     requires from { HasAddress envelope.now.from }
+    requires other { envelope.now.from ≢ IsReplica state.old.me }
     requires fits { Fits envelope.now.message }
     requires counted { IsTrue (is_in_cluster state.old.f envelope.now.from && is_sized state.old.f (vector_of envelope.now.message)) }
     ensures { let s = state.old in OnOk result (Does s state.new sends.old sends.new (replica_message s.f s.me s.state envelope.now.from envelope.now.message)) }

@@ -575,10 +575,12 @@ const TIMED: Told = Timed(1, 100);
 
 const EMPTY: Told = LogMod(0, 0, &[]);
 
-// The same with five counters, and of view 3.
+// The same with five counters, of view 3, which replica 0 leads, and of view 4.
 const FIVE: Told = Plain(6, &[(8, 0), (1, 5), (8, 0), (8, 0), (8, 0), (4, 0), (1, 0)]);
 
 const VIEW_3: Told = Plain(6, &[(8, 3), (1, 3), (8, 0), (8, 0), (4, 0), (1, 0)]);
+
+const VIEW_4: Told = Plain(6, &[(8, 4), (1, 3), (8, 0), (8, 0), (4, 0), (1, 0)]);
 
 const FETCH: Told = Fetch(&[(8, 1)]);
 
@@ -602,7 +604,8 @@ const CASES: &[Case] = &[
     (1, (0, 1), (2, 1), 0, EMPTY, (0, 0, 0)),
     (0, (0, 0), (0, 0), 0, EMPTY, (0, 0, 0)),
     (1, (0, 1), (0, 1), 0, FIVE, (0, 0, 0)),
-    (1, (0, 1), (0, 1), 0, VIEW_3, (0, 0, 0)),
+    (1, (0, 1), (0, 1), 0, VIEW_3, (3, 0, 0)),
+    (1, (0, 1), (0, 1), 0, VIEW_4, (0, 0, 0)),
     (0, (2, 0), (2, 0), 0, FETCH, (1, 0, 0)),
     (0, (3, 0), (3, 0), 0, FETCH, (0, 0, 0)),
     (0, (16, 0), (16, 0), 0, FETCH, (0, 0, 0)),
@@ -636,5 +639,42 @@ fn frames_that_do_not_count(rt: HostRuntime) -> Result<(), Fail> {
     for (place, case) in cases().iter().enumerate() {
         assert_eq!(rt; outcome(rt.alloc(), case)?, case.5, "case {place}");
     }
+    Ok(())
+}
+
+// ---- crashes, restarts and alarms
+
+// Whether it is down, and whether it is on the way back.
+fn is_out(core: &Replica) -> (bool, bool) {
+    (core.is_down(), core.is_rejoining())
+}
+
+#[test]
+fn replica_that_is_down_hears_nothing(rt: HostRuntime) -> Result<(), Fail> {
+    let alloc = rt.alloc();
+    let mut core = replica(alloc, 1)?;
+    let _ = step(&mut core, &Event::Crash)?;
+    assert_eq!(rt; is_out(&core), (true, false));
+    let sends = take(alloc, &mut core, 1, &Hear(EMPTY), &[])?;
+    assert_eq!(rt; sends.len(), 0);
+    let sends = step(&mut core, &Event::Alarm)?;
+    assert_eq!(rt; sends.len(), 0);
+    Ok(())
+}
+
+#[test]
+fn replica_that_is_back_asks_for_vectors(rt: HostRuntime) -> Result<(), Fail> {
+    let alloc = rt.alloc();
+    let mut core = replica(alloc, 1)?;
+    // One that is up does not restart.
+    let sends = step(&mut core, &Event::Restart(1))?;
+    assert_eq!(rt; sends.len(), 0);
+    let _ = step(&mut core, &Event::Crash)?;
+    let sends = step(&mut core, &Event::Restart(2))?;
+    assert_eq!(rt; is_out(&core), (false, true));
+    let ask = Plain(13, &[(8, 2)]);
+    let wanted = frame(alloc, (13, 1, 2), &ask)?;
+    assert_eq!(rt; sends.len(), 2);
+    assert_eq!(rt; sends.get(1).frame.as_slice(), wanted.as_slice());
     Ok(())
 }
