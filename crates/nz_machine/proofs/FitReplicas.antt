@@ -1,5 +1,5 @@
 -- Each kind of message of a replica is one that frames can carry.
-use Rattle.std.proofs.Common.{◌≡◌, ℕ, zero, suc, ◌<◌, ◌≤◌, not, cond, true, List, [], ◌∷◌, ◌++◌, length, take, drop, map, Some, None, is_some, refl, sym, ap, subst, ◌∙◌, inl, inr, arith, length-append, length-take, take-append-drop}
+use Rattle.std.proofs.Common.{◌≡◌, ℕ, zero, suc, ◌<◌, ◌≤◌, ◌^◌, max, not, cond, true, List, [], ◌∷◌, ◌++◌, length, take, drop, map, Some, None, is_some, refl, sym, ap, subst, ◌∙◌, inl, inr, arith, length-append, length-take, take-append-drop}
 use Rattle.std.specs.Prelude.{IfSome, slice_index, slice_get}
 use Rattle.std.specs.List.{AllByRecursion, filter}
 use Rattle.std.specs.Map.{lookup}
@@ -26,6 +26,15 @@ use Rattle.nz_msg.specs.declared.message.LogModBody.{LogModBody}
 use Rattle.nz_msg.specs.declared.message.FetchBody.{FetchBody}
 use Rattle.nz_msg.specs.declared.message.FetchReplyBody.{FetchReplyBody}
 use Rattle.nz_msg.specs.declared.message.SyncReportBody.{SyncReportBody}
+use Rattle.nz_msg.specs.declared.message.ViewAskBody.{ViewAskBody}
+use Rattle.nz_msg.specs.declared.message.ViewChangeBody.{ViewChangeBody}
+use Rattle.nz_msg.specs.declared.message.StartViewBody.{StartViewBody}
+use Rattle.nz_msg.specs.declared.message.VectorAskBody.{VectorAskBody}
+use Rattle.nz_msg.specs.declared.message.VectorTellBody.{VectorTellBody}
+use Rattle.nz_msg.specs.declared.message.RejoinAskBody.{RejoinAskBody}
+use Rattle.nz_msg.specs.declared.message.RejoinTellBody.{RejoinTellBody}
+use Rattle.nz_msg.specs.declared.message.StateAskBody.{StateAskBody}
+use Rattle.nz_msg.specs.declared.message.StateTellBody.{StateTellBody}
 use Rattle.nz_msg.specs.declared.message.Message.{Message}
 use Rattle.nz_msg.specs.declared.message.Message.TheVariants as messages
 use Rattle.nz_machine.specs.declared.data.Origin.{Origin}
@@ -33,14 +42,17 @@ use Rattle.nz_machine.specs.State.{ReplicaData, Out}
 use Rattle.nz_machine.specs.Facts.{FitsEntry, IsKnown, HasFacts}
 use Rattle.nz_machine.specs.Replicas.{last_view, most_entries, numbers_below, leads}
 use Rattle.nz_machine.specs.LogMods.{most_keys, sync_keys, missing_ids, is_asked, is_held}
+use Rattle.nz_machine.specs.Views.{view_change}
+use Rattle.nz_machine.specs.Adopting.{start_view}
+use Rattle.nz_machine.specs.Rejoining.{vector_ask, rejoin_ask, state_ask, rejoin_tell, state_tell}
 use Rattle.nz_machine.specs.Hearing.{Heard}
-use Rattle.nz_machine.specs.Shows.{IsOther, IsRest, told_from, ShowsFast, ShowsSlow, ShowsLogMod, ShowsFetch, ShowsFetchReply, ShowsReport, ReplicaShows}
+use Rattle.nz_machine.specs.Shows.{IsOther, IsRest, told_from, ShowsFast, ShowsSlow, ShowsLogMod, ShowsFetch, ShowsFetchReply, ShowsReport, ShowsViewAsk, ShowsViewChange, ShowsStartView, ShowsVectorAsk, ShowsVectorTell, ShowsRejoinAsk, ShowsRejoinTell, ShowsStateAsk, ShowsStateTell, ReplicaShows}
 use Rattle.nz_machine.proofs.Runs.{FitsOut, on_cond}
 use Rattle.nz_machine.proofs.Each.{all_append, all_filter, all_imply}
 use Rattle.nz_machine.proofs.Apart.{own_rest}
 use Rattle.nz_machine.proofs.Pieces.{all_take, all_drop, all_map, all_get, all_index, lookup_each, few_either, one_of_id}
 use Rattle.nz_machine.proofs.Entries.{each_fits}
-use Rattle.nz_machine.proofs.Fields.{view_fits, ids_fit, vector_fits, AreInOrder, keys_fit, entries_fit, keys_of_fit, few_keys, few_ids}
+use Rattle.nz_machine.proofs.Fields.{view_fits, ids_fit, vector_fits, AreInOrder, keys_fit, entries_fit, log_fits, keys_of_fit, few_keys, few_ids}
 use Rattle.nz_machine.proofs.Following.{sync_rest}
 
 -- a cluster that frames can name, and one of its replicas
@@ -169,6 +181,51 @@ asked_fit s xs log all few =
     entries_fit (filter test s.log.entries) (omega (arith, asked, few)) order
     (all_filter FitsEntry test s.log.entries all)
 
+-- ---- whole states
+
+own_log : (f me : ℕ) (least : ℕ) (s : ReplicaData) → HasFacts f me s → least ≤ length s.log.entries → (entries least 4096).fits s.log.entries
+own_log f me least s h low = log_fits least s.log.entries low h.entries.few (led_log f me s h).order (each_fits f me s h).log
+
+-- what a replica sends of its whole state is in the ranges of frames
+pub view_change_fits : (f me : ℕ) (s : ReplicaData) → IsReplica f me → HasFacts f me s → Fits (view_change s)
+view_change_fits f me s c h =
+    let synced = h.entries.within in
+    let commit = h.commit in
+    let few = h.entries.few in
+    let last = h.mode.last in
+    let low = h.bounds.view in
+    let counts = vector_fits f s.vector c.least c.most h.tables.vector in
+    let log = own_log f me (max s.log.synced s.commit) s h (omega (arith, synced, commit)) in
+    (view_fits s.view low, (view_fits s.last (omega (arith, last, low)), (counts, ((omega (arith, synced, few), omega (arith, commit, synced, few)), log))))
+
+pub start_view_fits : (f me : ℕ) (s : ReplicaData) → IsReplica f me → HasFacts f me s → Fits (start_view s)
+start_view_fits f me s c h =
+    let synced = h.entries.within in
+    let commit = h.commit in
+    let few = h.entries.few in
+    let counts = vector_fits f s.vector c.least c.most h.tables.vector in
+    (view_fits s.view h.bounds.view, (counts, (omega (arith, commit, synced, few), own_log f me s.commit s h (omega (arith, synced, commit)))))
+
+pub state_tell_fits : (f me : ℕ) (s : ReplicaData) (nonce : ℕ) → IsReplica f me → HasFacts f me s → nonce < 2 ^ 64 → Fits (state_tell s nonce)
+state_tell_fits f me s nonce c h small =
+    let synced = h.entries.within in
+    let commit = h.commit in
+    let few = h.entries.few in
+    let counts = vector_fits f s.vector c.least c.most h.tables.vector in
+    (small, (view_fits s.view h.bounds.view, (counts, (omega (arith, commit, synced, few), own_log f me s.commit s h (omega (arith, synced, commit))))))
+
+pub rejoin_tell_fits : (f me : ℕ) (s : ReplicaData) (nonce : ℕ) → IsReplica f me → HasFacts f me s → nonce < 2 ^ 64 → Fits (rejoin_tell s nonce)
+rejoin_tell_fits f me s nonce c h small = (small, (view_fits s.view h.bounds.view, vector_fits f s.vector c.least c.most h.tables.vector))
+
+pub vector_ask_fits : (f me : ℕ) (s : ReplicaData) → HasFacts f me s → Fits (vector_ask s)
+vector_ask_fits f me s h = h.rejoin.nonce
+
+pub rejoin_ask_fits : (f me : ℕ) (s : ReplicaData) → IsReplica f me → HasFacts f me s → Fits (rejoin_ask s)
+rejoin_ask_fits f me s c h = (h.rejoin.nonce, vector_fits f s.vector c.least c.most h.tables.vector)
+
+pub state_ask_fits : (f me : ℕ) (s : ReplicaData) → IsReplica f me → HasFacts f me s → Fits (state_ask s)
+state_ask_fits f me s c h = (h.rejoin.nonce, (view_fits s.rejoin.wanted h.rejoin.wanted, vector_fits f s.vector c.least c.most h.tables.vector))
+
 -- ---- one lemma a kind
 
 -- what is heard was in a frame
@@ -294,6 +351,66 @@ report_fits f me s to b c h w =
       message = subst (λ (x : SyncReportBody). Fits (messages.SyncReport x)) (sym w.read) fit;
     }
 
+-- to another replica
+to_other : (f me : ℕ) (to : Actor) (m : Message) → IsReplica f me → IsOther f me to → Fits m → FitsOut (Replica me) (to, m)
+to_other f me to m c other fit = record { sender = own_address f me c; receiver = other_address f me to c other; message = fit }
+
+-- to who is heard
+to_asker : (f me asker : ℕ) (heard : Heard) (to : Actor) (ask m : Message) → IsReplica f me → HeardFits heard → heard ≡ Some (Replica asker, ask)
+    → to ≡ Replica asker → (Fits ask → Fits m) → FitsOut (Replica me) (to, m)
+to_asker f me asker heard to ask m c k hears receiver fit =
+    let known = subst HeardFits hears k in
+    record { sender = own_address f me c; receiver = subst HasAddress (sym receiver) known.0; message = fit known.1 }
+
+view_ask_shown : (f me : ℕ) (s : ReplicaData) (to : Actor) (b : ViewAskBody) → IsReplica f me → HasFacts f me s → ShowsViewAsk f me s to b
+    → FitsOut (Replica me) (to, messages.ViewAsk b)
+view_ask_shown f me s to b c h w = to_other f me to (messages.ViewAsk b) c w.receiver (subst view.fits (sym w.view) (view_fits s.view h.bounds.view))
+
+view_change_shown : (f me : ℕ) (s : ReplicaData) (to : Actor) (b : ViewChangeBody) → IsReplica f me → HasFacts f me s → ShowsViewChange f me s to b
+    → FitsOut (Replica me) (to, messages.ViewChange b)
+view_change_shown f me s to b c h w =
+    to_other f me to (messages.ViewChange b) c w.receiver (subst (λ (x : ViewChangeBody). Fits (messages.ViewChange x)) (sym w.read) (view_change_fits f me s c h))
+
+start_view_shown : (f me : ℕ) (s : ReplicaData) (to : Actor) (b : StartViewBody) → IsReplica f me → HasFacts f me s → ShowsStartView f me s to b
+    → FitsOut (Replica me) (to, messages.StartView b)
+start_view_shown f me s to b c h w =
+    to_other f me to (messages.StartView b) c w.receiver (subst (λ (x : StartViewBody). Fits (messages.StartView x)) (sym w.read) (start_view_fits f me s c h))
+
+vector_ask_shown : (f me : ℕ) (s : ReplicaData) (to : Actor) (b : VectorAskBody) → IsReplica f me → HasFacts f me s → ShowsVectorAsk f me s to b
+    → FitsOut (Replica me) (to, messages.VectorAsk b)
+vector_ask_shown f me s to b c h w =
+    to_other f me to (messages.VectorAsk b) c w.receiver (subst (λ (x : VectorAskBody). Fits (messages.VectorAsk x)) (sym w.read) (vector_ask_fits f me s h))
+
+rejoin_ask_shown : (f me : ℕ) (s : ReplicaData) (to : Actor) (b : RejoinAskBody) → IsReplica f me → HasFacts f me s → ShowsRejoinAsk f me s to b
+    → FitsOut (Replica me) (to, messages.RejoinAsk b)
+rejoin_ask_shown f me s to b c h w =
+    to_other f me to (messages.RejoinAsk b) c w.receiver (subst (λ (x : RejoinAskBody). Fits (messages.RejoinAsk x)) (sym w.read) (rejoin_ask_fits f me s c h))
+
+state_ask_shown : (f me : ℕ) (s : ReplicaData) (to : Actor) (b : StateAskBody) → IsReplica f me → HasFacts f me s → ShowsStateAsk f me s to b
+    → FitsOut (Replica me) (to, messages.StateAsk b)
+state_ask_shown f me s to b c h w =
+    to_other f me to (messages.StateAsk b) c w.receiver (subst (λ (x : StateAskBody). Fits (messages.StateAsk x)) (sym w.read) (state_ask_fits f me s c h))
+
+vector_tell_shown : (f me : ℕ) (heard : Heard) (s : ReplicaData) (to : Actor) (b : VectorTellBody) → IsReplica f me → HeardFits heard → HasFacts f me s
+    → ShowsVectorTell f me heard s to b → FitsOut (Replica me) (to, messages.VectorTell b)
+vector_tell_shown f me heard s to b c k h w =
+    to_asker f me w.asker heard to (messages.VectorAsk w.ask) (messages.VectorTell b) c k w.hears w.receiver
+    (λ asked.
+    let fit : Fits (messages.VectorTell (record { nonce = w.ask.nonce; vector = s.vector })) = (asked, vector_fits f s.vector c.least c.most h.tables.vector) in
+    subst (λ (x : VectorTellBody). Fits (messages.VectorTell x)) (sym w.read) fit)
+
+rejoin_tell_shown : (f me : ℕ) (heard : Heard) (before s : ReplicaData) (to : Actor) (b : RejoinTellBody) → IsReplica f me → HeardFits heard
+    → HasFacts f me s → ShowsRejoinTell f me heard before s to b → FitsOut (Replica me) (to, messages.RejoinTell b)
+rejoin_tell_shown f me heard before s to b c k h w =
+    to_asker f me w.asker heard to (messages.RejoinAsk w.ask) (messages.RejoinTell b) c k w.hears w.receiver
+    (λ asked. subst (λ (x : RejoinTellBody). Fits (messages.RejoinTell x)) (sym w.read) (rejoin_tell_fits f me s w.ask.nonce c h asked.0))
+
+state_tell_shown : (f me : ℕ) (heard : Heard) (before s : ReplicaData) (to : Actor) (b : StateTellBody) → IsReplica f me → HeardFits heard
+    → HasFacts f me s → ShowsStateTell f me heard before s to b → FitsOut (Replica me) (to, messages.StateTell b)
+state_tell_shown f me heard before s to b c k h w =
+    to_asker f me w.asker heard to (messages.StateAsk w.ask) (messages.StateTell b) c k w.hears w.receiver
+    (λ asked. subst (λ (x : StateTellBody). Fits (messages.StateTell x)) (sym w.read) (state_tell_fits f me s w.ask.nonce c h asked.0))
+
 -- what a replica shows fits
 pub shows_fit : (f me : ℕ) (heard : Heard) (before s : ReplicaData) (to : Actor) (m : Message) → IsReplica f me → HeardFits heard → HasFacts f me before
     → HasFacts f me s → ReplicaShows f me heard before s to m → FitsOut (Replica me) (to, m)
@@ -303,4 +420,13 @@ shows_fit f me heard before s to (messages.LogMod b) c k was h w = log_mod_fits 
 shows_fit f me heard before s to (messages.Fetch b) c k was h w = fetch_fits f me heard s to b c k h w
 shows_fit f me heard before s to (messages.FetchReply b) c k was h w = fetch_reply_fits f me heard s to b c k h w
 shows_fit f me heard before s to (messages.SyncReport b) c k was h w = report_fits f me s to b c h w
+shows_fit f me heard before s to (messages.ViewAsk b) c k was h w = view_ask_shown f me s to b c h w
+shows_fit f me heard before s to (messages.ViewChange b) c k was h w = view_change_shown f me s to b c h w
+shows_fit f me heard before s to (messages.StartView b) c k was h w = start_view_shown f me s to b c h w
+shows_fit f me heard before s to (messages.VectorAsk b) c k was h w = vector_ask_shown f me s to b c h w
+shows_fit f me heard before s to (messages.VectorTell b) c k was h w = vector_tell_shown f me heard s to b c k h w
+shows_fit f me heard before s to (messages.RejoinAsk b) c k was h w = rejoin_ask_shown f me s to b c h w
+shows_fit f me heard before s to (messages.RejoinTell b) c k was h w = rejoin_tell_shown f me heard before s to b c k h w
+shows_fit f me heard before s to (messages.StateAsk b) c k was h w = state_ask_shown f me s to b c h w
+shows_fit f me heard before s to (messages.StateTell b) c k was h w = state_tell_shown f me heard before s to b c k h w
 shows_fit f me heard before s to _ c k was h w = absurd w

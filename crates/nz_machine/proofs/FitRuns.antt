@@ -1,5 +1,5 @@
 -- In every run each parcel is of a message that a frame can carry, and each state fits.
-use Rattle.std.proofs.Common.{◌≡◌, ℕ, ◌<◌, ◌≤◌, Bool, true, false, List, [], ◌∷◌, refl, sym, ap, subst, ◌∙◌, arith, inl, inr}
+use Rattle.std.proofs.Common.{◌≡◌, ℕ, ◌<◌, ◌≤◌, ◌^◌, Bool, true, false, List, [], ◌∷◌, refl, sym, ap, subst, ◌∙◌, arith, inl, inr}
 use Rattle.nz_base.specs.Cluster.{replica_count}
 use Rattle.nz_base.specs.declared.actor.Actor.{Actor}
 use Rattle.nz_base.specs.declared.actor.Actor.TheVariants.{Replica, Proxy, Client}
@@ -12,7 +12,7 @@ use Rattle.nz_machine.specs.Facts.{HasFacts}
 use Rattle.nz_machine.specs.World.{state_after, IsGroup, IsMember, World}
 use Rattle.nz_machine.proofs.Runs.{FitsOut, Hears, Holds, Keeps, holds, on_cond, unless_down, group_of}
 use Rattle.nz_machine.proofs.FitReplicas.{IsReplica, AllFit}
-use Rattle.nz_machine.proofs.FitSteps.{ReplicaStep, message_fits, tick_fits}
+use Rattle.nz_machine.proofs.FitSteps.{ReplicaStep, message_fits, tick_fits, alarm_fits, crash_fits, restart_fits}
 use Rattle.nz_machine.proofs.Keeping.{first_has_facts}
 use Rattle.nz_machine.proofs.FitProxies.{IsProxy, FitsProxy, ProxyStep, first_proxy_fits, crashed_fits, proxy_message_fits, proxy_tick_fits}
 use Rattle.nz_machine.proofs.FitClients.{FitsClient, client_of, client_message_fits, client_tick_fits}
@@ -67,20 +67,23 @@ tick_step_fits g (Proxy p) s clock group member h =
     record { state = t.state; sends = t.sends }
 tick_step_fits g (Client c) s clock group member h = let t = client_tick_fits g.proxies c (script_of g c) s (client_of g c group member) h in record { state = t.state; sends = t.sends }
 
-alarm_fits : (g : Group) (a : Actor) (s : State a) → FitsState g a s → StepFits g a (alarm_step g a s)
-alarm_fits g (Replica r) s h = record { state = h; sends = tt }
-alarm_fits g (Proxy p) s h = record { state = h; sends = tt }
-alarm_fits g (Client c) s h = record { state = h; sends = tt }
+alarm_step_fits : (g : Group) (a : Actor) (s : State a) → IsGroup g → IsMember g a → FitsState g a s → StepFits g a (alarm_step g a s)
+alarm_step_fits g (Replica r) s group member h = let t = alarm_fits g.f r s (replica_of g r group member) h in record { state = t.state; sends = t.sends }
+alarm_step_fits g (Proxy p) s group member h = record { state = h; sends = tt }
+alarm_step_fits g (Client c) s group member h = record { state = h; sends = tt }
 
-crash_fits : (g : Group) (a : Actor) (s : State a) → FitsState g a s → StepFits g a (crash_step g a s)
-crash_fits g (Replica r) s h = record { state = h; sends = tt }
-crash_fits g (Proxy p) s h = record { state = crashed_fits g.f; sends = tt }
-crash_fits g (Client c) s h = record { state = h; sends = tt }
+crash_step_fits : (g : Group) (a : Actor) (s : State a) → IsGroup g → IsMember g a → FitsState g a s → StepFits g a (crash_step g a s)
+crash_step_fits g (Replica r) s group member h = let t = crash_fits g.f r s (replica_of g r group member) h in record { state = t.state; sends = t.sends }
+crash_step_fits g (Proxy p) s group member h = record { state = crashed_fits g.f; sends = tt }
+crash_step_fits g (Client c) s group member h = record { state = h; sends = tt }
 
-restart_fits : (g : Group) (a : Actor) (s : State a) (nonce : ℕ) → FitsState g a s → StepFits g a (restart_step g a s nonce)
-restart_fits g (Replica r) s nonce h = record { state = h; sends = tt }
-restart_fits g (Proxy p) s nonce h = record { state = on_cond (FitsProxy g.f) s.is_down (first_proxy g.f) s (λ _. first_proxy_fits g.f) (λ _. h); sends = tt }
-restart_fits g (Client c) s nonce h = record { state = h; sends = tt }
+restart_step_fits : (g : Group) (a : Actor) (s : State a) (nonce : ℕ) → IsGroup g → IsMember g a → nonce < 2 ^ 64 → FitsState g a s
+    → StepFits g a (restart_step g a s nonce)
+restart_step_fits g (Replica r) s nonce group member small h =
+    let t = restart_fits g.f r s nonce (replica_of g r group member) small h in record { state = t.state; sends = t.sends }
+restart_step_fits g (Proxy p) s nonce group member small h =
+    record { state = on_cond (FitsProxy g.f) s.is_down (first_proxy g.f) s (λ _. first_proxy_fits g.f) (λ _. h); sends = tt }
+restart_step_fits g (Client c) s nonce group member small h = record { state = h; sends = tt }
 
 pub fits_keep : (g : Group) → Keeps g (Fitted g) (FittedState g)
 fits_keep g = record {
@@ -90,9 +93,10 @@ fits_keep g = record {
   state_stays = λ J r w a s q. q;
   message = λ J r w from m hears p q now. let t = message_step_fits g r.actor (state_after g r.actor J) from m (group_of g J w.1) w.0.member hears p q in (t.state, t.sends);
   tick = λ J r w c le q now. let t = tick_step_fits g r.actor (state_after g r.actor J) c (group_of g J w.1) w.0.member q in (t.state, t.sends);
-  alarm = λ J r w q now. let t = alarm_fits g r.actor (state_after g r.actor J) q in (t.state, t.sends);
-  crash = λ J r w q now. let t = crash_fits g r.actor (state_after g r.actor J) q in (t.state, t.sends);
-  restart = λ J r w nonce q now. let t = restart_fits g r.actor (state_after g r.actor J) nonce q in (t.state, t.sends);
+  alarm = λ J r w q now. let t = alarm_step_fits g r.actor (state_after g r.actor J) (group_of g J w.1) w.0.member q in (t.state, t.sends);
+  crash = λ J r w q now. let t = crash_step_fits g r.actor (state_after g r.actor J) (group_of g J w.1) w.0.member q in (t.state, t.sends);
+  restart = λ J r w nonce small q now.
+      let t = restart_step_fits g r.actor (state_after g r.actor J) nonce (group_of g J w.1) w.0.member small q in (t.state, t.sends);
 }
 
 pub all_fit : (g : Group) (J : List Record) → World g J → Holds g (Fitted g) (FittedState g) J

@@ -19,9 +19,10 @@ use Rattle.nz_msg.specs.declared.message.FetchBody.{FetchBody}
 use Rattle.nz_msg.specs.declared.message.FetchReplyBody.{FetchReplyBody}
 use Rattle.nz_msg.specs.declared.message.SyncReportBody.{SyncReportBody}
 use Rattle.nz_msg.specs.declared.message.Message.TheVariants as messages
+use Rattle.nz_machine.specs.declared.data.Status.{Status}
 use Rattle.nz_machine.specs.State.{ReplicaData, Out}
 use Rattle.nz_machine.specs.Replicas.{is_normal, leads, slow_replies}
-use Rattle.nz_machine.specs.LogMods.{sync_report_to, found, if_found, synced_with, sync_keys, overtaken, committed_to, replies_since, is_held, missing_ids, fetch_from, taken_in, taken_from, log_mod_rule, fetch_rule, is_asked, kept_all, fetch_reply_rule, with_ack, with_commit, sync_report_rule}
+use Rattle.nz_machine.specs.LogMods.{sync_report_to, found, if_found, synced_with, sync_keys, overtaken, committed_to, replies_since, is_held, missing_ids, fetch_from, taken_in, taken_from, after_hearing, log_mod_rule, fetch_rule, is_asked, kept_all, fetch_reply_rule, with_ack, with_commit, sync_report_rule}
 use Rattle.nz_machine.specs.Vectors.{with_vector}
 use Rattle.nz_machine.specs.World.{Has}
 use Rattle.nz_machine.specs.Hearing.{Heard}
@@ -30,9 +31,16 @@ use Rattle.nz_machine.proofs.Runs.{on_cond}
 use Rattle.nz_machine.proofs.Each.{all_append}
 use Rattle.nz_machine.proofs.Placed.{place_kept, place_within, has_place}
 use Rattle.nz_machine.proofs.Shows.{AllShow, Shown, silent, other_is, leader_below}
-use Rattle.nz_machine.proofs.Replies.{Seat, seat, slow_shows}
+use Rattle.nz_machine.proofs.ViewsShow.{enter_shows}
+use Rattle.nz_machine.proofs.Replies.{slow_shows}
 
 -- ---- the state after
+
+abbrev Seat : Type 0
+Seat = Status × ℕ
+
+abbrev seat : ReplicaData → Seat
+seat s = (s.status, s.view)
 
 found_seat : (s : ReplicaData) (k : Key) (keys : List Key) → ((t : ReplicaData) → seat (sync_keys t keys).0 ≡ seat t) → (o : Option Entry)
     → seat (if_found o (s, k ∷ keys) (λ e. sync_keys (synced_with s (record { key = k; command = e.command })) keys)).0 ≡ seat s
@@ -192,9 +200,12 @@ log_mod_shows f me s sender b =
     let heard : Heard = Some (Replica sender, messages.LogMod b) in
     let own = with_vector me s b.vector in
     let stay = silent f me heard s s in
-    let take : is_normal s.status ≡ true → leads f me s ≡ false → b.view ≡ s.view → sender ≡ leader_of f b.view → Shown f me heard s (taken_from sender b own) =
-    λ normal follows view is. taken_shows f me sender s own b (record { normal = normal; follows = follows; is = is ∙ ap (leader_of f) view }) in
-    grind (arith, nat_tests, stay, take)
+    let enter = enter_shows f me heard s b.view own in
+    let take : is_normal s.status ≡ true → leads f me s ≡ false → b.view ≡ s.view → sender ≡ leader_of f b.view
+    → Shown f me heard s (taken_from sender b (after_hearing own)) =
+    λ normal follows view is.
+    taken_shows f me sender s (after_hearing own) b (record { normal = normal; follows = follows; is = is ∙ ap (leader_of f) view }) in
+    grind (arith, nat_tests, stay, enter, take)
 
 -- ---- what the leader answers, and what is not answered
 

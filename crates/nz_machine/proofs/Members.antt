@@ -30,7 +30,7 @@ use Rattle.nz_machine.proofs.Each.{all_imply}
 use Rattle.nz_machine.proofs.Pieces.{lookup_each, insert_each}
 use Rattle.nz_machine.proofs.Moves.{Phase, Move, NoteOrigin}
 use Rattle.nz_machine.proofs.MoveRules.{message_moves, release_moves}
-use Rattle.nz_machine.proofs.Snapshots.{StepShows, message_step_shows, tick_step_shows, alarm_step_shows, crash_step_shows, restart_step_shows}
+use Rattle.nz_machine.proofs.Snapshots.{StepShows, fair_to, message_step_shows, tick_step_shows, alarm_step_shows, crash_step_shows, restart_step_shows}
 use Rattle.nz_machine.proofs.FitRuns.{Fitted, FittedState, fits_keep}
 use Rattle.nz_machine.proofs.Sends.{may_show}
 
@@ -75,6 +75,15 @@ replica_for g me heard before s to (messages.LogMod b) k h w = subst (IsMember g
 replica_for g me heard before s to (messages.Fetch b) k h w = subst (IsMember g) (sym w.receiver.is) w.receiver.member
 replica_for g me heard before s to (messages.FetchReply b) k h w = subst (IsMember g) (sym w.receiver) (subst (HearsMember g) w.hears k)
 replica_for g me heard before s to (messages.SyncReport b) k h w = subst (IsMember g) (sym w.receiver.is) w.receiver.member
+replica_for g me heard before s to (messages.ViewAsk b) k h w = subst (IsMember g) (sym w.receiver.is) w.receiver.member
+replica_for g me heard before s to (messages.ViewChange b) k h w = subst (IsMember g) (sym w.receiver.is) w.receiver.member
+replica_for g me heard before s to (messages.StartView b) k h w = subst (IsMember g) (sym w.receiver.is) w.receiver.member
+replica_for g me heard before s to (messages.VectorAsk b) k h w = subst (IsMember g) (sym w.receiver.is) w.receiver.member
+replica_for g me heard before s to (messages.VectorTell b) k h w = subst (IsMember g) (sym w.receiver) (subst (HearsMember g) w.hears k)
+replica_for g me heard before s to (messages.RejoinAsk b) k h w = subst (IsMember g) (sym w.receiver.is) w.receiver.member
+replica_for g me heard before s to (messages.RejoinTell b) k h w = subst (IsMember g) (sym w.receiver) (subst (HearsMember g) w.hears k)
+replica_for g me heard before s to (messages.StateAsk b) k h w = subst (IsMember g) (sym w.receiver.is) w.receiver.member
+replica_for g me heard before s to (messages.StateTell b) k h w = subst (IsMember g) (sym w.receiver) (subst (HearsMember g) w.hears k)
 replica_for g me heard before s to _ k h w = absurd w
 
 proxy_for : (g : Group) (heard : Heard) (s : ProxyData) (to : Actor) (m : Message) → KnowsClients g s → ProxyShows g.f heard s to m → IsMember g to
@@ -220,23 +229,20 @@ members_keep g = record {
       let s = state_after g r.actor J in
       let may = may_show g r.actor s (group_of g J w.1) q in
       all_among g (r ∷ J) r.actor (Some (from, m)) s (message_step g r.actor s from m) w.0.member f.0 (takes g r.actor s from m f.0 h)
-      (message_step_shows g r.actor s from m may);
+      (message_step_shows g r.actor s from m (fair_to g r.actor from m hears) may);
   tick = λ J r w c le q h now.
       let s = state_after g r.actor J in
       let may = may_show g r.actor s (group_of g J w.1) q in
       all_among g (r ∷ J) r.actor None s (tick_step g r.actor s c) w.0.member tt (ticks g r.actor s c h) (tick_step_shows g r.actor s c may);
   alarm = λ J r w q h now.
       let s = state_after g r.actor J in
-      let may = may_show g r.actor s (group_of g J w.1) q in
-      all_among g (r ∷ J) r.actor None s (alarm_step g r.actor s) w.0.member tt (alarms g r.actor s h) (alarm_step_shows g r.actor s may);
+      all_among g (r ∷ J) r.actor None s (alarm_step g r.actor s) w.0.member tt (alarms g r.actor s h) (alarm_step_shows g r.actor s);
   crash = λ J r w q h now.
       let s = state_after g r.actor J in
-      let may = may_show g r.actor s (group_of g J w.1) q in
-      all_among g (r ∷ J) r.actor None s (crash_step g r.actor s) w.0.member tt (crashes g r.actor s h) (crash_step_shows g r.actor s may);
-  restart = λ J r w nonce q h now.
+      all_among g (r ∷ J) r.actor None s (crash_step g r.actor s) w.0.member tt (crashes g r.actor s h) (crash_step_shows g r.actor s);
+  restart = λ J r w nonce small q h now.
       let s = state_after g r.actor J in
-      let may = may_show g r.actor s (group_of g J w.1) q in
-      all_among g (r ∷ J) r.actor None s (restart_step g r.actor s nonce) w.0.member tt (restarts g r.actor s nonce h) (restart_step_shows g r.actor s nonce may);
+      all_among g (r ∷ J) r.actor None s (restart_step g r.actor s nonce) w.0.member tt (restarts g r.actor s nonce h) (restart_step_shows g r.actor s nonce);
 }
 
 -- whoever gets a parcel takes part

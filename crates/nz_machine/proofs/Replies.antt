@@ -1,6 +1,6 @@
 -- What the rules of requests and releases send is what the states before and after show.
 use Rattle.std.proofs.Common.{◌≡◌, ℕ, ◌+◌, ◌-◌, ◌<◌, ◌&&◌, not, eqb, Bool, true, false, cond, List, [], ◌∷◌, ◌++◌, length, Option, Some, None, refl, sym, ap, subst, ◌∙◌, arith, ltb-true, append_assoc, length-append}
-use Rattle.std.specs.Prelude.{slice_get, nat_lt}
+use Rattle.std.specs.Prelude.{slice_get, nat_lt, min}
 use Rattle.std.specs.Map.{lookup}
 use Rattle.std.proofs.lemmas.Bool.{not-true}
 use Rattle.nz_base.specs.Prefixes.{IsPrefix}
@@ -18,21 +18,27 @@ use Rattle.nz_log.specs.Synced.{Log}
 use Rattle.nz_msg.specs.declared.message.TimedBody.{TimedBody}
 use Rattle.nz_machine.specs.declared.data.Origin.{Origin}
 use Rattle.nz_machine.specs.declared.data.Status.{Status}
+use Rattle.nz_machine.specs.declared.data.Status.TheVariants.{Normal, ViewChange, Rejoining, Down}
 use Rattle.nz_machine.specs.State.{ReplicaData, Out}
-use Rattle.nz_machine.specs.Replicas.{is_normal, leads, fast_replies, slow_replies}
+use Rattle.nz_machine.specs.Replicas.{is_normal, is_changing, is_up, is_rejoining, leads, fast_replies, slow_replies}
 use Rattle.nz_machine.specs.Requests.{with_origin, replies_at, requested, unlogged, request_rule}
 use Rattle.nz_machine.specs.Releases.{appended, executed, released, release_replies, may_release, releases, at_clock, release_rule}
-use Rattle.nz_machine.specs.LogMods.{told}
-use Rattle.nz_machine.specs.Step.{tick_rule}
+use Rattle.nz_machine.specs.LogMods.{log_mods_to_others}
+use Rattle.nz_machine.specs.Views.{enter_view, most_quiet}
+use Rattle.nz_machine.specs.Step.{mode_timer, tick_rule}
 use Rattle.nz_machine.specs.Hearing.{Heard}
 use Rattle.nz_machine.specs.Shows.{ReplicaShows}
 use Rattle.nz_machine.proofs.Runs.{on_cond}
 use Rattle.nz_machine.proofs.Each.{all_append}
 use Rattle.nz_machine.proofs.Placed.{get_kept, place_kept, place_within, digest_kept, place_at_end}
-use Rattle.nz_machine.proofs.Shows.{AllShow, Shown, silent, told_shows}
+use Rattle.nz_machine.proofs.Shows.{AllShow, Shown, silent, log_mods_show}
+use Rattle.nz_machine.proofs.ViewsShow.{quiet_shows, change_shows}
+use Rattle.nz_machine.proofs.RejoinsShow.{rejoin_shows}
 
--- what is asked of the state before: no id stands twice in log and early, and a leader has an answer for each entry
+-- what is asked of the state before: no id stands twice in log and early, normal operation is in the last view, and a
+-- leader has an answer for each entry
 pub record HasAnswers (f me : ℕ) (s : ReplicaData) : Type 0 where
+  pub last : is_normal s.status ≡ true → s.last ≡ s.view
   pub own_ids : HaveOwnIds (keys_of (s.log.entries ++ s.early))
   pub count : is_normal s.status ≡ true → leads f me s ≡ true → length s.results ≡ length s.log.entries
 
@@ -45,6 +51,8 @@ record Later (f me : ℕ) (before s t : ReplicaData) : Type 0 where
   vector : s.vector ≡ t.vector
   origin : t.origin ≡ s.origin
   view : s.view ≡ before.view
+  last : t.last ≡ before.view
+  up : is_up t.status ≡ true
   led : leads f me before ≡ true → (is_normal t.status ≡ true) × (t.view ≡ before.view)
 
 answer_by : (b : Bool) (xs ys : List Answer) (place : ℕ) → IsPrefix xs ys → (b ≡ true → place < length xs)
@@ -60,6 +68,8 @@ fast_shows f me heard before s t id place (Some origin) normal l at answered kno
   record {
     normal = normal;
     view = l.view;
+    up = l.up;
+    last = l.last;
     vector = l.vector;
     place = place;
     stands = place_kept s.log.entries t.log.entries id place l.log at;
@@ -82,6 +92,12 @@ slow_shows f me heard before s id place None normal follows at synced known = tt
 slow_shows f me heard before s id place (Some origin) normal follows at synced known =
     (record { normal = normal; follows = follows; place = place; stands = at; synced = synced; origin = origin; known = known; receiver = refl; read = refl }, tt)
 
+pub normal_up : (a : Status) → is_normal a ≡ true → is_up a ≡ true
+normal_up Normal h = refl
+normal_up ViewChange h = absurd cc
+normal_up Rejoining h = absurd cc
+normal_up Down h = absurd cc
+
 -- ---- requests
 
 pub request_shows : (f me : ℕ) (heard : Heard) (s : ReplicaData) (proxy : ℕ) (b : TimedBody) → HasAnswers f me s
@@ -103,7 +119,7 @@ request_shows f me heard s proxy b a =
         let synced = ltb-true place s.log.synced (and_right (not (leads f me s)) (nat_lt place s.log.synced) t) in
         slow_shows f me heard s own b.id place origin normal follows at synced refl)
         (λ _. fast_shows f me heard s own own b.id place origin normal
-        (record { log = prefix_self s.log.entries; results = prefix_self s.results; vector = refl; origin = refl; view = refl; led = λ _. (normal, refl) })
+        (record { log = prefix_self s.log.entries; results = prefix_self s.results; vector = refl; origin = refl; view = refl; last = a.last normal; up = normal_up s.status normal; led = λ _. (normal, refl) })
         at (λ lead. let lt = place_within s.log.entries b.id place at in let n = a.count normal lead in omega (arith, lt, n)) refl)
 
     found : is_normal s.status ≡ true → (o : Option ℕ) → place_of s.log.entries b.id ≡ o → Shown f me heard s (requested f me own b o)
@@ -133,6 +149,8 @@ released_later f me before s t e es l =
       vector = l.vector;
       origin = l.origin;
       view = l.view;
+      last = l.last;
+      up = l.up;
       led = l.led;
     }
 
@@ -187,36 +205,76 @@ releases_show f me heard before s t (e ∷ es) normal l own answered =
 
 -- ---- ticks
 
-abbrev pub Seat : Type 0
-Seat = Status × ℕ
+-- what a replica does at a tick after its releases
+pub mode_shows : (f me : ℕ) (heard : Heard) (before s : ReplicaData) (a : Status) → s.status ≡ a → Shown f me heard before (mode_timer a f me s)
+mode_shows f me heard before s Normal is =
+    let lead : leads f me s ≡ true → Shown f me heard before (s, log_mods_to_others f me s) = λ lead. log_mods_show f me heard before s (ap is_normal is) lead in
+    let quiet = quiet_shows f me heard before s in
+    grind (arith, lead, quiet)
+mode_shows f me heard before s ViewChange is = change_shows f me heard before s (ap is_changing is)
+mode_shows f me heard before s Rejoining is = rejoin_shows f me heard before s (ap is_rejoining is)
+mode_shows f me heard before s Down is = silent f me heard before s
 
-abbrev pub seat : ReplicaData → Seat
-seat s = (s.status, s.view)
+abbrev Mode : Type 0
+Mode = Status × (ℕ × ℕ)
 
-releases_seat : (f me : ℕ) (s : ReplicaData) (es : List Entry) → seat (releases f me s es).0 ≡ seat s
+abbrev mode : ReplicaData → Mode
+mode s = (s.status, (s.view, s.last))
+
+releases_mode : (f me : ℕ) (s : ReplicaData) (es : List Entry) → mode (releases f me s es).0 ≡ mode s
 unfolding releases
-releases_seat f me s [] = refl
-releases_seat f me s (e ∷ es) = let rest = releases_seat f me (released f me s e es) es in grind (arith, rest)
+releases_mode f me s [] = refl
+releases_mode f me s (e ∷ es) = let rest = releases_mode f me (released f me s e es) es in grind (arith, rest)
 
--- the state t in which the releases end
-at_end : (f me : ℕ) (before t : ReplicaData) → is_normal t.status ≡ true → t.view ≡ before.view → Later f me before t t
-at_end f me before t normal view =
-    record { log = prefix_self t.log.entries; results = prefix_self t.results; vector = refl; origin = refl; view = view; led = λ _. (normal, view) }
+-- the state in which the releases end, and that after the timer
+timer_later : (f me : ℕ) (before t : ReplicaData) (a : Status) → t.status ≡ a → is_normal t.status ≡ true → t.view ≡ before.view → t.last ≡ before.view
+    → Later f me before t (mode_timer a f me t).0
+unfolding enter_view
+timer_later f me before t Normal is normal view last =
+    let stay : Later f me before t t = kept t refl refl refl refl last (normal_up t.status normal) (λ _. (normal, view)) in
+    let away : leads f me t ≡ false → leads f me before ≡ true → ⊥ = λ no yes. false_true (sym no ∙ ap (λ v. eqb (leader_of f v) me) view ∙ yes) in
+    let quiet = record t { quiet = min (t.quiet + 1) most_quiet } in
+    let wait : leads f me t ≡ false → Later f me before t quiet = λ no. kept quiet refl refl refl refl last (normal_up t.status normal) (λ yes. absurd (away no yes)) in
+    let entered = (enter_view f me (t.view + 1) quiet).0 in
+    let enter : leads f me t ≡ false → Later f me before t entered = λ no. kept entered refl refl refl refl last refl (λ yes. absurd (away no yes)) in
+    grind (arith, stay, wait, enter)
+  where
+    false_true : false ≡ true → ⊥
+    false_true e = absurd cc
 
-release_shows : (f me : ℕ) (heard : Heard) (s : ReplicaData) (clock : ℕ) → HasAnswers f me s → Shown f me heard s (release_rule f me s clock)
+    kept : (u : ReplicaData) → u.log ≡ t.log → u.results ≡ t.results → t.vector ≡ u.vector → u.origin ≡ t.origin → u.last ≡ before.view → is_up u.status ≡ true
+        → (leads f me before ≡ true → (is_normal u.status ≡ true) × (u.view ≡ before.view)) → Later f me before t u
+    kept u log results vector origin end up led = record {
+      log = subst (λ (l : Log). IsPrefix t.log.entries l.entries) (sym log) (prefix_self t.log.entries);
+      results = subst (λ (l : List Answer). IsPrefix t.results l) (sym results) (prefix_self t.results);
+      vector = vector;
+      origin = origin;
+      view = view;
+      last = end;
+      up = up;
+      led = led;
+    }
+timer_later f me before t ViewChange is normal view last = absurd cc
+timer_later f me before t Rejoining is normal view last = absurd cc
+timer_later f me before t Down is normal view last = absurd cc
+
+release_shows : (f me : ℕ) (heard : Heard) (s : ReplicaData) (clock : ℕ) → HasAnswers f me s
+    → let t = (release_rule f me s clock).0 in AllShow f me heard s (mode_timer t.status f me t).0 (release_rule f me s clock).1
 unfolding release_rule
 release_shows f me heard s clock a =
     let now = at_clock s clock in
-    let t = (releases f me now s.early).0 in
-    on_cond (Shown f me heard s) (is_normal s.status) (releases f me now s.early) (now, [])
+    on_cond (λ (x : ReplicaData × List Out). AllShow f me heard s (mode_timer x.0.status f me x.0).0 x.1) (is_normal s.status) (releases f me now s.early) (now, [])
     (λ normal.
-    let same = releases_seat f me now s.early in
-    let end = at_end f me s t (ap (λ (x : Seat). is_normal x.0) same ∙ normal) (ap (λ (x : Seat). x.1) same) in
-    record { shows = releases_show f me heard s now t s.early normal end a.own_ids (λ lead. a.count normal lead) })
-    (λ _. silent f me heard s now)
+    let same = releases_mode f me now s.early in
+    let t = (releases f me now s.early).0 in
+    let end = timer_later f me s t t.status refl (ap (λ (x : Mode). is_normal x.0) same ∙ normal) (ap (λ (x : Mode). x.1.0) same)
+    (ap (λ (x : Mode). x.1.1) same ∙ a.last normal) in
+    releases_show f me heard s now (mode_timer t.status f me t).0 s.early normal end a.own_ids (λ lead. a.count normal lead))
+    (λ _. tt)
 
 pub tick_shows : (f me : ℕ) (heard : Heard) (s : ReplicaData) (clock : ℕ) → HasAnswers f me s → Shown f me heard s (tick_rule f me s clock)
 tick_shows f me heard s clock a =
-    let t = release_rule f me s clock in
-    let Shows = λ (o : Out). ReplicaShows f me heard s t.0 o.0 o.1 in
-    record { shows = all_append Shows t.1 (told f me t.0) (release_shows f me heard s clock a).shows (told_shows f me heard s t.0).shows }
+    let r = release_rule f me s clock in
+    let u = mode_timer r.0.status f me r.0 in
+    let Shows = λ (o : Out). ReplicaShows f me heard s u.0 o.0 o.1 in
+    record { shows = all_append Shows r.1 u.1 (release_shows f me heard s clock a) (mode_shows f me heard s r.0 r.0.status refl).shows }

@@ -1,5 +1,5 @@
 -- What a record does to the states, and the theorem that what each step keeps holds of every run.
-use Rattle.std.proofs.Common.{◌≡◌, ℕ, ◌≤◌, Bool, true, false, cond, ◌&&◌, not, List, [], ◌∷◌, ◌++◌, map, Option, Some, None, Ok, refl, sym, ap, subst, ◌∙◌, inl, inr, ◌⊎◌}
+use Rattle.std.proofs.Common.{◌≡◌, ℕ, ◌≤◌, ◌<◌, ◌^◌, Bool, true, false, cond, ◌&&◌, not, List, [], ◌∷◌, ◌++◌, map, Option, Some, None, Ok, refl, sym, ap, subst, ◌∙◌, inl, inr, ◌⊎◌}
 use Rattle.std.specs.List.{AllByRecursion}
 use Rattle.nz_base.specs.declared.actor.Actor.{Actor}
 use Rattle.nz_base.specs.Actor.{actor_eq, HasAddress}
@@ -190,7 +190,7 @@ module _ (g : Group) (P : List Record → Actor → Out → Type 0) (Q : List Re
     pub crash : (J : List Record) (r : Record) → World g (r ∷ J) → Q J r.actor (state_after g r.actor J)
         → state_after g r.actor (r ∷ J) ≡ (crash_step g r.actor (state_after g r.actor J)).0
         → StepHas (r ∷ J) r.actor (crash_step g r.actor (state_after g r.actor J))
-    pub restart : (J : List Record) (r : Record) → World g (r ∷ J) → (nonce : ℕ) → Q J r.actor (state_after g r.actor J)
+    pub restart : (J : List Record) (r : Record) → World g (r ∷ J) → (nonce : ℕ) → nonce < 2 ^ 64 → Q J r.actor (state_after g r.actor J)
         → state_after g r.actor (r ∷ J) ≡ (restart_step g r.actor (state_after g r.actor J) nonce).0
         → StepHas (r ∷ J) r.actor (restart_step g r.actor (state_after g r.actor J) nonce)
 
@@ -241,7 +241,7 @@ module _ (g : Group) (P : List Record → Actor → Out → Type 0) (Q : List Re
   event_keeps k J r w h (Tick c) may now = k.tick J r w c may (h.states r.actor) now
   event_keeps k J r w h Alarm may now = k.alarm J r w (h.states r.actor) now
   event_keeps k J r w h Crash may now = k.crash J r w (h.states r.actor) now
-  event_keeps k J r w h (Restart n) may now = k.restart J r w n (h.states r.actor) now
+  event_keeps k J r w h (Restart n) may now = k.restart J r w n may.0 (h.states r.actor) now
 
   state_keeps : Keeps → (J : List Record) (r : Record) → World g (r ∷ J) → Holds J → Q (r ∷ J) r.actor (event_step g r.actor (state_after g r.actor J) r.event).0
       → (a : Actor) (b : Bool) → actor_eq r.actor a ≡ b → Q (r ∷ J) a (state_after g a (r ∷ J))
@@ -289,7 +289,7 @@ module _ (g : Group) (P : List Record → Actor → Out → Type 0) (Q : List Re
     pub crash : (J : List Record) (r : Record) → World g (r ∷ J) → Q J r.actor (state_after g r.actor J) → R J r.actor (state_after g r.actor J)
         → state_after g r.actor (r ∷ J) ≡ (crash_step g r.actor (state_after g r.actor J)).0
         → StepHas g F R (r ∷ J) r.actor (crash_step g r.actor (state_after g r.actor J))
-    pub restart : (J : List Record) (r : Record) → World g (r ∷ J) → (nonce : ℕ) → Q J r.actor (state_after g r.actor J) → R J r.actor (state_after g r.actor J)
+    pub restart : (J : List Record) (r : Record) → World g (r ∷ J) → (nonce : ℕ) → nonce < 2 ^ 64 → Q J r.actor (state_after g r.actor J) → R J r.actor (state_after g r.actor J)
         → state_after g r.actor (r ∷ J) ≡ (restart_step g r.actor (state_after g r.actor J) nonce).0
         → StepHas g F R (r ∷ J) r.actor (restart_step g r.actor (state_after g r.actor J) nonce)
 
@@ -316,5 +316,5 @@ module _ (g : Group) (P : List Record → Actor → Out → Type 0) (Q : List Re
     tick = λ J r w c le q now. both_steps (r ∷ J) r.actor _ (k.tick J r w c le q.0 now) (m.tick J r w c le q.0 q.1 now);
     alarm = λ J r w q now. both_steps (r ∷ J) r.actor _ (k.alarm J r w q.0 now) (m.alarm J r w q.0 q.1 now);
     crash = λ J r w q now. both_steps (r ∷ J) r.actor _ (k.crash J r w q.0 now) (m.crash J r w q.0 q.1 now);
-    restart = λ J r w n q now. both_steps (r ∷ J) r.actor _ (k.restart J r w n q.0 now) (m.restart J r w n q.0 q.1 now);
+    restart = λ J r w n small q now. both_steps (r ∷ J) r.actor _ (k.restart J r w n small q.0 now) (m.restart J r w n small q.0 q.1 now);
   }

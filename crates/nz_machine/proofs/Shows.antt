@@ -6,8 +6,8 @@ use Rattle.std.proofs.lemmas.Bool.{not-true}
 use Rattle.nz_base.specs.Cluster.{replica_count, leader_of}
 use Rattle.nz_base.specs.declared.actor.Actor.TheVariants.{Replica}
 use Rattle.nz_machine.specs.State.{ReplicaData, Out}
-use Rattle.nz_machine.specs.Replicas.{is_normal, leads, numbers_below}
-use Rattle.nz_machine.specs.LogMods.{others, log_mod_to, told}
+use Rattle.nz_machine.specs.Replicas.{is_normal, leads, numbers_below, others}
+use Rattle.nz_machine.specs.LogMods.{log_mod_to, log_mods_to_others}
 use Rattle.nz_machine.specs.Hearing.{Heard}
 use Rattle.nz_machine.specs.Shows.{IsOther, told_from, ReplicaShows}
 use Rattle.nz_machine.proofs.Runs.{on_cond}
@@ -57,14 +57,12 @@ to_each f me P make each =
 same_replica : (r q : ℕ) → Replica r ≡ Replica q → r ≡ q
 same_replica r q e = cc
 
-pub told_shows : (f me : ℕ) (heard : Heard) (before s : ReplicaData) → Shown f me heard before (s, told f me s)
-told_shows f me heard before s =
-    let tells : is_normal s.status ≡ true → leads f me s ≡ true → Shown f me heard before (s, map (log_mod_to s) (others f me)) =
-    λ normal lead. record {
+pub log_mods_show : (f me : ℕ) (heard : Heard) (before s : ReplicaData) → is_normal s.status ≡ true → leads f me s ≡ true
+    → Shown f me heard before (s, log_mods_to_others f me s)
+log_mods_show f me heard before s normal lead =
+    record {
       shows = to_each f me (λ (o : Out). ReplicaShows f me heard before s o.0 o.1) (log_mod_to s)
           (λ r other.
           let read = ap (λ n. told_from s (slice_index s.ack n)) (same_replica r other.replica other.is) in
           record { normal = normal; led = lead; receiver = other; read = read });
-    } in
-    let none = silent f me heard before s in
-    grind (arith, tells, none)
+    }
