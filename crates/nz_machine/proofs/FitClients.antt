@@ -14,10 +14,9 @@ use Rattle.nz_machine.specs.State.{ClientData, Group, Out}
 use Rattle.nz_machine.specs.Clients.{patience, last_tick, ask, if_due, opened, open_next, asked_again, wait_on, ticked_at, wait_rule, is_awaited, accept_rule}
 use Rattle.nz_machine.specs.Step.{script_of, client_message}
 use Rattle.nz_machine.specs.World.{IsAsked, IsGroup}
-use Rattle.nz_machine.proofs.Runs.{FitsOut, on_cond}
+use Rattle.nz_machine.proofs.Runs.{FitsOut, AllFit, on_cond}
 use Rattle.nz_machine.proofs.Pieces.{all_get, all_index}
 use Rattle.nz_machine.proofs.Fields.{command_fits}
-use Rattle.nz_machine.proofs.FitReplicas.{AllFit}
 
 -- a client that frames can name, with a script that is not too long, and the proxies
 pub record IsClient (proxies me : ℕ) (script : List Request) : Type 0 where

@@ -24,10 +24,10 @@ use Rattle.nz_machine.specs.Replicas.{last_clock, numbers_below}
 use Rattle.nz_machine.specs.Quorums.{Chosen, decision, answer_in, reply_eq, with_note}
 use Rattle.nz_machine.specs.Proxies.{with_standing, standing_of, answer_to, timed_to, timed_to_all, stamped, stamp_rule, answered, decided_as, noted_in, reply_rule, of_fast, of_slow, clock_rule, first_proxy, crashed_proxy}
 use Rattle.nz_machine.specs.Step.{proxy_message, is_sized, vector_of}
-use Rattle.nz_machine.proofs.Runs.{FitsOut, Hears, on_cond, all_has}
+use Rattle.nz_machine.proofs.Runs.{FitsOut, AllFit, Hears, on_cond, all_has}
 use Rattle.nz_machine.proofs.Each.{all_append, all_imply}
 use Rattle.nz_machine.proofs.Pieces.{all_map, lookup_each, insert_each}
-use Rattle.nz_machine.proofs.FitReplicas.{AllFit, numbers_are_below}
+use Rattle.nz_machine.proofs.FitReplicas.{numbers_are_below}
 use Rattle.nz_machine.proofs.Choices.{decision_is}
 
 pub record IsProxy (f me : ℕ) : Type 0 where

@@ -38,7 +38,7 @@ use Rattle.nz_msg.specs.declared.message.StateTellBody.{StateTellBody}
 use Rattle.nz_msg.specs.declared.message.Message.{Message}
 use Rattle.nz_msg.specs.declared.message.Message.TheVariants as messages
 use Rattle.nz_machine.specs.declared.data.Origin.{Origin}
-use Rattle.nz_machine.specs.State.{ReplicaData, Out}
+use Rattle.nz_machine.specs.State.{ReplicaData}
 use Rattle.nz_machine.specs.Facts.{FitsEntry, IsKnown, HasFacts}
 use Rattle.nz_machine.specs.Replicas.{last_view, most_entries, numbers_below, leads}
 use Rattle.nz_machine.specs.LogMods.{most_keys, sync_keys, missing_ids, is_asked, is_held}
@@ -60,9 +60,6 @@ pub record IsReplica (f me : ℕ) : Type 0 where
   pub least : 1 ≤ f
   pub most : f ≤ 4
   pub member : me < replica_count f
-
-abbrev pub AllFit : Actor → List Out → Type 0
-AllFit a os = AllByRecursion (FitsOut a) os
 
 pub numbers_are_below : (n most : ℕ) → n ≤ most → AllByRecursion (λ r. r < most) (numbers_below n)
 numbers_are_below zero most le = tt

@@ -10,8 +10,8 @@ use Rattle.nz_machine.specs.Proxies.{first_proxy, clock_rule}
 use Rattle.nz_machine.specs.Step.{first, script_of, proxy_message, replica_message, tick_rule, message_step, tick_step, alarm_step, crash_step, restart_step}
 use Rattle.nz_machine.specs.Facts.{HasFacts}
 use Rattle.nz_machine.specs.World.{state_after, IsGroup, IsMember, World}
-use Rattle.nz_machine.proofs.Runs.{FitsOut, Hears, Holds, Keeps, holds, on_cond, unless_down, group_of}
-use Rattle.nz_machine.proofs.FitReplicas.{IsReplica, AllFit}
+use Rattle.nz_machine.proofs.Runs.{FitsOut, AllFit, Hears, Holds, Keeps, holds, on_cond, unless_down, group_of}
+use Rattle.nz_machine.proofs.FitReplicas.{IsReplica}
 use Rattle.nz_machine.proofs.FitSteps.{ReplicaStep, message_fits, tick_fits, alarm_fits, crash_fits, restart_fits}
 use Rattle.nz_machine.proofs.Keeping.{first_has_facts}
 use Rattle.nz_machine.proofs.FitProxies.{IsProxy, FitsProxy, ProxyStep, first_proxy_fits, crashed_fits, proxy_message_fits, proxy_tick_fits}

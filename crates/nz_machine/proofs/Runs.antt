@@ -127,6 +127,9 @@ pub record FitsOut (a : Actor) (o : Out) : Type 0 where
   pub receiver : HasAddress o.0
   pub message : Fits o.1
 
+abbrev pub AllFit : Actor → List Out → Type 0
+AllFit a os = AllByRecursion (FitsOut a) os
+
 -- an actor takes the message: it is another's, and it counts in a cluster of this size
 pub record Hears (f : ℕ) (me from : Actor) (m : Message) : Type 0 where
   pub other : not (actor_eq from me) ≡ true
