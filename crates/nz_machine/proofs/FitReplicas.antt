@@ -48,10 +48,9 @@ use Rattle.nz_machine.specs.Rejoining.{vector_ask, rejoin_ask, state_ask, rejoin
 use Rattle.nz_machine.specs.Hearing.{Heard}
 use Rattle.nz_machine.specs.Shows.{IsOther, IsRest, told_from, ShowsFast, ShowsSlow, ShowsLogMod, ShowsFetch, ShowsFetchReply, ShowsReport, ShowsViewAsk, ShowsViewChange, ShowsStartView, ShowsVectorAsk, ShowsVectorTell, ShowsRejoinAsk, ShowsRejoinTell, ShowsStateAsk, ShowsStateTell, ReplicaShows}
 use Rattle.nz_machine.proofs.Runs.{FitsOut, on_cond}
-use Rattle.nz_machine.proofs.Each.{all_append, all_filter, all_imply}
+use Rattle.nz_machine.proofs.Each.{all_append, all_front, all_filter, all_imply}
 use Rattle.nz_machine.proofs.Apart.{own_rest}
 use Rattle.nz_machine.proofs.Pieces.{all_take, all_drop, all_map, all_get, all_index, lookup_each, few_either, one_of_id}
-use Rattle.nz_machine.proofs.Entries.{each_fits}
 use Rattle.nz_machine.proofs.Fields.{view_fits, ids_fit, vector_fits, AreInOrder, keys_fit, entries_fit, log_fits, keys_of_fit, few_keys, few_ids}
 use Rattle.nz_machine.proofs.Following.{sync_rest}
 
@@ -67,6 +66,10 @@ numbers_are_below (suc n) most le =
     all_append (λ r. r < most) (numbers_below n) (n ∷ []) (numbers_are_below n most (omega (arith, le))) (omega (arith, le), tt)
 
 -- ---- the keys of a log
+
+-- each entry of the log fits
+log_each : (f me : ℕ) (s : ReplicaData) → HasFacts f me s → AllByRecursion FitsEntry s.log.entries
+log_each f me s h = all_front FitsEntry s.log.entries (s.early ++ s.late) h.entries.arranged.fit
 
 -- the log of a replica
 pub record IsLedLog (s : ReplicaData) : Type 0 where
@@ -181,7 +184,7 @@ asked_fit s xs log all few =
 -- ---- whole states
 
 own_log : (f me : ℕ) (least : ℕ) (s : ReplicaData) → HasFacts f me s → least ≤ length s.log.entries → (entries least 4096).fits s.log.entries
-own_log f me least s h low = log_fits least s.log.entries low h.entries.few (led_log f me s h).order (each_fits f me s h).log
+own_log f me least s h low = log_fits least s.log.entries low h.entries.few (led_log f me s h).order (log_each f me s h)
 
 -- what a replica sends of its whole state is in the ranges of frames
 pub view_change_fits : (f me : ℕ) (s : ReplicaData) → IsReplica f me → HasFacts f me s → Fits (view_change s)
@@ -246,7 +249,7 @@ held_fits (e ∷ es) i all h =
     ]
 
 place_fits : (f me : ℕ) (s : ReplicaData) (i : Id) (place : ℕ) → HasFacts f me s → place_of s.log.entries i ≡ Some place → id.fits i
-place_fits f me s i place h at = held_fits s.log.entries i (each_fits f me s h).log (sym (place_held s.log.entries i) ∙ ap is_some at)
+place_fits f me s i place h at = held_fits s.log.entries i (log_each f me s h) (sym (place_held s.log.entries i) ∙ ap is_some at)
 
 origin_fits : (f me : ℕ) (s : ReplicaData) (i : Id) (origin : Origin) → HasFacts f me s → lookup (id_eq i) s.origin ≡ Some origin → IsKnown (i, origin)
 origin_fits f me s i origin h known = subst (λ o. IfSome o (λ v. IsKnown (i, v))) known (lookup_each IsKnown s.origin i h.tables.origins)
@@ -302,7 +305,7 @@ log_mod_fits f me s to b c h w =
     let commit = h.commit in
     let within = h.entries.within in
     let few = h.entries.few in
-    let keys_told = told_keys_fit s start (led_log f me s h) (each_fits f me s h).log in
+    let keys_told = told_keys_fit s start (led_log f me s h) (log_each f me s h) in
     let vector_told = vector_fits f s.vector c.least c.most h.tables.vector in
     let fit : Fits (messages.LogMod (told_from s start)) =
     (view_fits s.view h.bounds.view, (vector_told, (omega (arith, commit, within, few), (omega (arith, acked), keys_told)))) in
@@ -328,7 +331,7 @@ fetch_reply_fits : (f me : ℕ) (heard : Heard) (s : ReplicaData) (to : Actor) (
     → ShowsFetchReply f me heard s to b → FitsOut (Replica me) (to, messages.FetchReply b)
 fetch_reply_fits f me heard s to b c k h w =
     let ask = subst HeardFits w.hears k in
-    let asked = asked_fit s w.ask.ids (led_log f me s h) (each_fits f me s h).log (few_ids w.ask.ids ask.1.1) in
+    let asked = asked_fit s w.ask.ids (led_log f me s h) (log_each f me s h) (few_ids w.ask.ids ask.1.1) in
     record {
       sender = own_address f me c;
       receiver = subst HasAddress (sym w.receiver) ask.0;
