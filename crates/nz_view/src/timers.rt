@@ -6,10 +6,8 @@ ghost use Rattle.nz_machine.specs.Views.{enter_next as enter_next_of, quiet_time
 ghost use Rattle.nz_machine.specs.Does.{Does};
 
 use nz_base::NoMemory;
-use nz_machine::{ReplicaState, Sends};
+use nz_machine::{MOST_QUIET, ReplicaState, Sends};
 
-/// After this many ticks in one view change a replica enters the next view.
-const MOST_QUIET: u8 = 20;
 /// In a view change it asks again each time that so many ticks have passed.
 const ASK_PERIOD: u8 = 5;
 
