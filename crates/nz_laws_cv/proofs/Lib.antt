@@ -1,3 +1,7 @@
+pub mod Turns
+pub mod Appending
+pub mod TakenKeys
+pub mod TurnRules
 pub mod Meeting
 pub mod Completing
 pub mod Knowing

@@ -1,0 +1,62 @@
+-- What a tick releases: entries are appended to the log, and nothing else changes that turns speak of.
+use Rattle.std.proofs.Common.{◌≡◌, ℕ, Bool, true, false, List, [], ◌∷◌, ◌++◌, length, refl, sym, ap, ◌∙◌}
+use Rattle.nz_base.specs.declared.key.Entry.{Entry}
+use Rattle.nz_base.proofs.Prefixes.{prefix_self, prefix_more, prefix_then}
+use Rattle.nz_base.proofs.Booleans.{clash}
+use Rattle.nz_log.specs.Synced.{Log}
+use Rattle.nz_machine.specs.State.{ReplicaData, Out}
+use Rattle.nz_machine.specs.Replicas.{is_normal, leads}
+use Rattle.nz_machine.specs.Releases.{appended, released, releases, release_rule, may_release, at_clock}
+use Rattle.nz_machine.proofs.Runs.{on_cond}
+use Rattle.nz_laws_cv.proofs.Turns.{seat_of, holding, Appends}
+
+-- one entry more
+
+appends_none : (led : Bool) (log : Log) → Appends led log log
+appends_none led log = record { entries = prefix_self log.entries; leads = λ e h. h; follows = λ e. refl }
+
+one_more : (led : Bool) (log : Log) (e : Entry) → Appends led log (appended led log e)
+one_more true log e = record { entries = prefix_more log.entries (e ∷ []); leads = λ h k. refl; follows = λ h. absurd cc }
+one_more false log e = record { entries = prefix_more log.entries (e ∷ []); leads = λ h k. absurd cc; follows = λ h. refl }
+
+one_leads : (led : Bool) (log : Log) (e : Entry) → led ≡ true → (appended led log e).synced ≡ length (appended led log e).entries
+one_leads true log e h = refl
+one_leads false log e h = absurd cc
+
+appends_then : (led : Bool) (log : Log) (e : Entry) (c : Log) → Appends led (appended led log e) c → Appends led log c
+appends_then led log e c rest = record {
+  entries = prefix_then log.entries (appended led log e).entries c.entries (one_more led log e).entries rest.entries;
+  leads = λ h k. rest.leads h (one_leads led log e h);
+  follows = λ h. rest.follows h ∙ (one_more led log e).follows h;
+}
+
+-- what is released
+pub record IsRelease (f me : ℕ) (s t : ReplicaData) : Type 0 where
+  pub seat : seat_of t ≡ holding (seat_of s) t.log
+  pub log : Appends (leads f me s) s.log t.log
+
+pub releases_are : (f me : ℕ) (s : ReplicaData) (es : List Entry) → IsRelease f me s (releases f me s es).0
+unfolding releases
+releases_are f me s [] = record { seat = refl; log = appends_none (leads f me s) s.log }
+releases_are f me s (e ∷ es) =
+    on_cond (λ (t : ReplicaData × List Out). IsRelease f me s t.0) (may_release s e) _ (s, [])
+    (λ _. let rest = releases_are f me (released f me s e es) es in record {
+      seat = rest.seat;
+      log = appends_then (leads f me s) s.log e (releases f me (released f me s e es) es).0.log rest.log;
+    })
+    (λ _. record { seat = refl; log = appends_none (leads f me s) s.log })
+
+pub release_is : (f me : ℕ) (s : ReplicaData) (clock : ℕ) → IsRelease f me s (release_rule f me s clock).0
+unfolding release_rule
+release_is f me s clock =
+    on_cond (λ (t : ReplicaData × List Out). IsRelease f me s t.0) (is_normal s.status) (releases f me (at_clock s clock) s.early) (at_clock s clock, [])
+    (λ _. let all = releases_are f me (at_clock s clock) s.early in record { seat = all.seat; log = all.log })
+    (λ _. record { seat = refl; log = appends_none (leads f me s) s.log })
+
+-- out of normal operation nothing is released
+pub no_release : (f me : ℕ) (s : ReplicaData) (clock : ℕ) → is_normal s.status ≡ false → seat_of (release_rule f me s clock).0 ≡ seat_of s
+unfolding release_rule
+no_release f me s clock h =
+    on_cond (λ (t : ReplicaData × List Out). seat_of t.0 ≡ seat_of s) (is_normal s.status) (releases f me (at_clock s clock) s.early) (at_clock s clock, [])
+    (λ normal. clash (is_normal s.status) normal h)
+    (λ _. refl)

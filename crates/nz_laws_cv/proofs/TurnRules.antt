@@ -1,0 +1,396 @@
+-- Each rule of a replica is one turn.
+use Rattle.std.proofs.Common.{◌≡◌, ℕ, ◌+◌, ◌≤◌, ◌<◌, Bool, not, cond, ◌&&◌, eqb, true, false, List, [], ◌∷◌, length, max, Option, Some, None, refl, sym, ap, subst, ◌∙◌, inl, inr, ◌⊎◌, arith, eqb-true}
+use Rattle.std.specs.Prelude.{nat_lt, nat_le, min, map, drop, ◌-◌}
+use Rattle.std.proofs.lemmas.Bool.Decides.{nat_tests}
+use Rattle.nz_base.specs.Cluster.{leader_of, slow_size}
+use Rattle.nz_base.specs.declared.actor.Actor.{Actor}
+use Rattle.nz_base.specs.declared.actor.Actor.TheVariants.{Replica, Proxy}
+use Rattle.nz_base.specs.declared.key.Entry.{Entry}
+use Rattle.nz_base.proofs.Booleans.{and_left, and_right, clash}
+use Rattle.nz_cv.specs.Vectors.{is_stray, merged}
+use Rattle.nz_log.specs.Synced.{Log}
+use Rattle.nz_merge.specs.Merged.{merged as merged_changes, greatest}
+use Rattle.nz_merge.specs.declared.change.Change.{Change}
+use Rattle.nz_msg.specs.declared.envelope.Envelope.{Envelope}
+use Rattle.nz_msg.specs.declared.message.TimedBody.{TimedBody}
+use Rattle.nz_msg.specs.declared.message.LogModBody.{LogModBody}
+use Rattle.nz_msg.specs.declared.message.FetchBody.{FetchBody}
+use Rattle.nz_msg.specs.declared.message.FetchReplyBody.{FetchReplyBody}
+use Rattle.nz_msg.specs.declared.message.SyncReportBody.{SyncReportBody}
+use Rattle.nz_msg.specs.declared.message.ViewAskBody.{ViewAskBody}
+use Rattle.nz_msg.specs.declared.message.ViewChangeBody.{ViewChangeBody}
+use Rattle.nz_msg.specs.declared.message.StartViewBody.{StartViewBody}
+use Rattle.nz_msg.specs.declared.message.VectorAskBody.{VectorAskBody}
+use Rattle.nz_msg.specs.declared.message.VectorTellBody.{VectorTellBody}
+use Rattle.nz_msg.specs.declared.message.RejoinAskBody.{RejoinAskBody}
+use Rattle.nz_msg.specs.declared.message.RejoinTellBody.{RejoinTellBody}
+use Rattle.nz_msg.specs.declared.message.StateAskBody.{StateAskBody}
+use Rattle.nz_msg.specs.declared.message.StateTellBody.{StateTellBody}
+use Rattle.nz_msg.specs.declared.message.Message.{Message}
+use Rattle.nz_msg.specs.declared.message.Message.TheVariants as messages
+use Rattle.nz_machine.specs.declared.event.Event.{Event}
+use Rattle.nz_machine.specs.declared.event.Event.TheVariants.{Deliver, Cut, Tick, Alarm, Crash, Restart}
+use Rattle.nz_machine.specs.declared.data.Status.{Status}
+use Rattle.nz_machine.specs.declared.data.Status.TheVariants.{Normal, ViewChange, Rejoining, Down}
+use Rattle.nz_machine.specs.declared.data.Phase.{Phase}
+use Rattle.nz_machine.specs.declared.data.Phase.TheVariants as phases
+use Rattle.nz_machine.specs.declared.data.Reported.{Reported}
+use Rattle.nz_machine.specs.State.{ReplicaData, Out, Group}
+use Rattle.nz_machine.specs.Hearing.{Heard, heard_as, heard_at}
+use Rattle.nz_machine.specs.Replicas.{is_normal, is_changing, is_up, is_rejoining, is_down, leads, leads_view, hears_leader, most_entries}
+use Rattle.nz_machine.specs.Requests.{request_rule}
+use Rattle.nz_machine.specs.Releases.{release_rule}
+use Rattle.nz_machine.specs.LogMods.{after_hearing, hears_later_leader, sync_keys, taken_from, log_mod_rule, fetch_rule, kept_all, kept_late, fetch_reply_rule, sync_report_rule}
+use Rattle.nz_machine.specs.Vectors.{with_vector}
+use Rattle.nz_machine.specs.Views.{enter_view, alarm_rule, view_ask_rule, quiet_timer, change_timer, most_quiet}
+use Rattle.nz_machine.specs.Adopting.{normal_in, after_start, start_view_rule}
+use Rattle.nz_machine.specs.Begins.{changes_of, after_begin, with_report, without_strays, collect, begin, view_change_rule}
+use Rattle.nz_machine.specs.Rejoining.{crash_rule, restart_rule, restarted_replica, with_teller, ask_views, with_new_counter, with_tells, ask_log, ask_again, with_tell, latest_view, vector_ask_rule, vector_tell_rule, rejoin_ask_rule, rejoin_tell_rule, state_ask_rule, state_tell_rule, rejoin_timer, is_phase}
+use Rattle.nz_machine.specs.Step.{replica_message, message_step, tick_step, tick_rule, mode_timer, received, envelope_step, event_step}
+use Rattle.nz_machine.proofs.Runs.{on_cond, unless_down}
+use Rattle.nz_machine.proofs.Guards.{HearsLeader, hears_leader_parts}
+use Rattle.nz_laws_cv.proofs.Turns.{Seat, seat_of, merging, holding, committing, entering, starting, with_changes, fresh_changes, with_change, begun_log, begun_commit, more_tellers, Appends, Grown, Same, More, IsNew, MayLead, Base, Anew, Going, MayStart, Awaits, Turn, Stays, Release, Merge, Sync, Tally, Enter, Follow, Answer, Collect, Begin, Start, Fall, Wake, HearVector, Count, HearView, Forget, AskLog, Return, Back}
+use Rattle.nz_laws_cv.proofs.Appending.{IsRelease, release_is, no_release}
+use Rattle.nz_laws_cv.proofs.TakenKeys.{sync_seat, modifies}
+
+-- ---- rules that touch none of it
+
+pub request_seat : (f me : ℕ) (s : ReplicaData) (proxy : ℕ) (b : TimedBody) → seat_of (request_rule f me s proxy b).0 ≡ seat_of s
+unfolding request_rule
+request_seat f me s proxy b = grind arith
+
+pub fetch_seat : (f me : ℕ) (s : ReplicaData) (sender : ℕ) (b : FetchBody) → seat_of (fetch_rule f me s sender b).0 ≡ seat_of s
+unfolding fetch_rule
+fetch_seat f me s sender b = grind arith
+
+kept_late_seat : (s : ReplicaData) (e : Entry) → seat_of (kept_late s e) ≡ seat_of s
+kept_late_seat s e = grind arith
+
+kept_seat : (s : ReplicaData) (es : List Entry) → seat_of (kept_all s es) ≡ seat_of s
+unfolding kept_all
+kept_seat s [] = refl
+kept_seat s (e ∷ es) = kept_seat (kept_late s e) es ∙ kept_late_seat s e
+
+pub fetch_reply_seat : (f me : ℕ) (s : ReplicaData) (sender : ℕ) (b : FetchReplyBody) → seat_of (fetch_reply_rule f me s sender b).0 ≡ seat_of s
+unfolding fetch_reply_rule
+fetch_reply_seat f me s sender b = grind (arith, kept_seat)
+
+pub vector_ask_seat : (s : ReplicaData) (sender : ℕ) (b : VectorAskBody) → seat_of (vector_ask_rule s sender b).0 ≡ seat_of s
+unfolding vector_ask_rule
+vector_ask_seat s sender b = grind arith
+
+-- ---- modes
+
+pub up_kinds : (a : Status) → is_up a ≡ true → (is_normal a ≡ true) ⊎ (is_changing a ≡ true)
+up_kinds Normal up = inl refl
+up_kinds ViewChange up = inr refl
+up_kinds Rejoining up = absurd cc
+up_kinds Down up = absurd cc
+
+pub normal_up : (a : Status) → is_normal a ≡ true → is_up a ≡ true
+normal_up Normal h = refl
+normal_up ViewChange h = absurd cc
+normal_up Rejoining h = absurd cc
+normal_up Down h = absurd cc
+
+pub changing_up : (a : Status) → is_changing a ≡ true → is_up a ≡ true
+changing_up Normal h = absurd cc
+changing_up ViewChange h = refl
+changing_up Rejoining h = absurd cc
+changing_up Down h = absurd cc
+
+pub changing_is : (a : Status) → is_changing a ≡ true → a ≡ ViewChange
+changing_is Normal h = absurd cc
+changing_is ViewChange h = refl
+changing_is Rejoining h = absurd cc
+changing_is Down h = absurd cc
+
+-- ---- rules that turn
+
+same_changing : (me : ℕ) (s : ReplicaData) (u : List ℕ) (view : ℕ) → s.view ≡ view → is_changing s.status ≡ true
+    → seat_of (without_strays (with_vector me s u)) ≡ with_changes (entering (merging me (seat_of s) u) view) (fresh_changes s.changes (merged s.vector u me))
+same_changing me s u view same changing =
+    let is = changing_is s.status changing in
+    λ i. record {
+      status = is i;
+      view = same i;
+      last = s.last;
+      log = s.log;
+      commit = s.commit;
+      vector = merged s.vector u me;
+      changes = fresh_changes s.changes (merged s.vector u me);
+      rejoin = s.rejoin;
+    }
+
+same_turn : (f me : ℕ) (e : Event) (heard : Heard) (s t : Seat) → t ≡ s → Turn f me e heard s t
+same_turn f me e heard s t is = subst (λ (u : Seat). Turn f me e heard s u) (sym is) Stays
+
+-- the parts of the test that the leader of a later view is heard
+pub record HearsLater (f : ℕ) (s : ReplicaData) (view sender : ℕ) : Type 0 where
+  pub up : is_up s.status ≡ true
+  pub later : s.view < view
+  pub leader : sender ≡ leader_of f view
+
+hears_later_parts : (f : ℕ) (s : ReplicaData) (view sender : ℕ) → hears_later_leader f s view sender ≡ true → HearsLater f s view sender
+hears_later_parts f s view sender h = grind (arith, nat_tests, h)
+
+module _ (f me : ℕ) (e : Event) where
+  abbrev Turns : Heard → ReplicaData → ReplicaData → Type 0
+  Turns heard s t = Turn f me e heard (seat_of s) (seat_of t)
+
+  -- a log modification of the own view
+  own_turn : (s : ReplicaData) (sender : ℕ) (b : LogModBody) → is_stray b.vector sender s.vector ≡ false → HearsLeader f me s.status s.view sender b.view
+      → Turns (Some (Replica sender, messages.LogMod b)) s (taken_from sender b (after_hearing (with_vector me s b.vector))).0
+  own_turn s sender b new hears =
+      let heard : Heard = Some (Replica sender, messages.LogMod b) in
+      let is : IsNew heard (seat_of s) sender (messages.LogMod b) b.vector = record { is = refl; carries = refl; new = new } in
+      let t = after_hearing (with_vector me s b.vector) in
+      let u = (sync_keys t (drop (t.log.synced - b.start) b.keys)).0 in
+      on_cond (λ (x : ReplicaData × List Out). Turns heard s x.0) (nat_lt s.log.synced b.start) _ _
+      (λ _. Merge sender (messages.LogMod b) b.vector is hears.normal)
+      (λ within.
+      subst (λ (x : Seat). Turn f me e heard (seat_of s) (committing x (max x.commit (min b.commit x.log.synced)))) (sym (sync_seat t (drop (t.log.synced - b.start) b.keys)))
+      (Sync sender b is hears (grind (arith, nat_tests, within)) u.log (modifies t b (grind (arith, nat_tests, within)))))
+
+  pub log_mod_turn : (s : ReplicaData) (sender : ℕ) (b : LogModBody) → Turns (Some (Replica sender, messages.LogMod b)) s (log_mod_rule f me s sender b).0
+  unfolding log_mod_rule enter_view
+  log_mod_turn s sender b =
+      let heard : Heard = Some (Replica sender, messages.LogMod b) in
+      on_cond (λ (x : ReplicaData × List Out). Turns heard s x.0) (hears_later_leader f s b.view sender) _ _
+      (λ later.
+      let parts = hears_later_parts f s b.view sender later in
+      on_cond (λ (x : ReplicaData × List Out). Turns heard s x.0) (is_stray b.vector sender s.vector) _ _ (λ _. Stays)
+      (λ new. Follow sender (messages.LogMod b) b.vector (record { is = refl; carries = refl; new = new }) b.view parts.up parts.later))
+      (λ _.
+      on_cond (λ (x : ReplicaData × List Out). Turns heard s x.0) (hears_leader f me s b.view sender) _ _
+      (λ hears.
+      on_cond (λ (x : ReplicaData × List Out). Turns heard s x.0) (is_stray b.vector sender s.vector) _ _ (λ _. Stays)
+      (λ new. own_turn s sender b new (hears_leader_parts f me s b.view sender hears)))
+      (λ _. Stays))
+
+  pub sync_report_turn : (heard : Heard) (s : ReplicaData) (sender : ℕ) (b : SyncReportBody) → Turns heard s (sync_report_rule f me s sender b).0
+  unfolding sync_report_rule
+  sync_report_turn heard s sender b =
+      on_cond (λ (x : ReplicaData × List Out). Turns heard s x.0) (leads_view f me s && (eqb b.view s.view && nat_le b.synced (length s.log.entries))) _ (s, [])
+      (λ tested.
+      let led = and_left (leads_view f me s) _ tested in
+      Tally _ (and_left (is_normal s.status) (leads f me s) led) (and_right (is_normal s.status) (leads f me s) led) (omega arith))
+      (λ _. Stays)
+
+  pub view_ask_turn : (heard : Heard) (s : ReplicaData) (b : ViewAskBody) → Turns heard s (view_ask_rule f me s b).0
+  unfolding view_ask_rule enter_view
+  view_ask_turn heard s b =
+      let stay : Turns heard s s = Stays in
+      let enter : is_up s.status ≡ true → s.view < b.view → Turns heard s (enter_view f me b.view s).0 = λ up later. Enter b.view up later s.log Same in
+      grind (arith, nat_tests, stay, enter)
+
+  pub alarm_turn : (heard : Heard) (s : ReplicaData) → Turns heard s (alarm_rule f me s).0
+  unfolding alarm_rule enter_view
+  alarm_turn heard s =
+      let stay : Turns heard s s = Stays in
+      let enter : is_up s.status ≡ true → Turns heard s (enter_view f me (s.view + 1) s).0 = λ up. Enter (s.view + 1) up (omega arith) s.log Same in
+      grind (arith, nat_tests, stay, enter)
+
+  pub start_view_turn : (s : ReplicaData) (sender : ℕ) (b : StartViewBody) → Turns (Some (Replica sender, messages.StartView b)) s (start_view_rule f me s sender b).0
+  unfolding start_view_rule
+  start_view_turn s sender b =
+      let stay : Turns (Some (Replica sender, messages.StartView b)) s s = Stays in
+      let start : is_stray b.vector sender s.vector ≡ false → MayStart f (seat_of s) sender b.view → Turns (Some (Replica sender, messages.StartView b)) s (after_start (with_vector me s b.vector) b)
+      = λ new may. Start sender b (record { is = refl; carries = refl; new = new }) may in
+      grind (arith, nat_tests, stay, start)
+
+  -- the reports of a view that is entered or going on, with one more: it goes on, or begins
+  begin_turn : (s t : ReplicaData) (sender : ℕ) (b : ViewChangeBody) (base : List Reported) → IsNew (Some (Replica sender, messages.ViewChange b)) (seat_of s) sender (messages.ViewChange b) b.vector
+      → MayLead f me (seat_of s) b.view → Base (seat_of s) b.view (merged s.vector b.vector me) base
+      → seat_of t ≡ with_changes (entering (merging me (seat_of s) b.vector) b.view) base
+      → Turns (Some (Replica sender, messages.ViewChange b)) s (collect f me sender b t).0
+  unfolding begin
+  begin_turn s t sender b base new may on is =
+      let heard : Heard = Some (Replica sender, messages.ViewChange b) in
+      let going : Turns heard s (with_report t sender b) =
+      subst (λ (u : Seat). Turn f me e heard (seat_of s) (with_changes u (with_change u.changes sender b))) (sym is) (Collect sender b new may base on) in
+      let begun : length (with_change t.changes sender b) ≡ f
+      → Turns heard s (after_begin f (with_report t sender b) (merged_changes f (changes_of me (with_report t sender b))) (greatest (map (λ (c : Change). c.commit) (changes_of me (with_report t sender b))))) =
+      subst (λ (u : Seat). length (with_change u.changes sender b) ≡ f
+      → Turn f me e heard (seat_of s)
+      (with_changes (starting u u.view (begun_log f me u (with_change u.changes sender b)) (begun_commit f me u (with_change u.changes sender b))) (with_change u.changes sender b)))
+      (sym is) (λ full. Begin sender b new may base on full) in
+      let merged_log = merged_changes f (changes_of me (with_report t sender b)) in
+      on_cond (λ (x : ReplicaData × List Out). Turns heard s x.0) (eqb (length (with_change t.changes sender b)) f) (begin f me (with_report t sender b)) (with_report t sender b, [])
+      (λ full. on_cond (λ (x : ReplicaData × List Out). Turns heard s x.0) (nat_lt most_entries (length merged_log)) (with_report t sender b, []) _
+      (λ _. going) (λ _. begun (eqb-true _ _ full)))
+      (λ _. going)
+
+  pub view_change_turn : (s : ReplicaData) (sender : ℕ) (b : ViewChangeBody) → Turns (Some (Replica sender, messages.ViewChange b)) s (view_change_rule f me s sender b).0
+  unfolding view_change_rule enter_view
+  view_change_turn s sender b =
+      let stay : Turns (Some (Replica sender, messages.ViewChange b)) s s = Stays in
+      let anew : is_stray b.vector sender s.vector ≡ false → MayLead f me (seat_of s) b.view → s.view < b.view → Turns (Some (Replica sender, messages.ViewChange b)) s (collect f me sender b (enter_view f me b.view (without_strays (with_vector me s b.vector))).0).0
+      = λ new may later. begin_turn s (enter_view f me b.view (without_strays (with_vector me s b.vector))).0 sender b [] (record { is = refl; carries = refl; new = new }) may (Anew later) refl in
+      let going : is_stray b.vector sender s.vector ≡ false → MayLead f me (seat_of s) b.view → s.view ≡ b.view → is_changing s.status ≡ true → Turns (Some (Replica sender, messages.ViewChange b)) s (collect f me sender b (without_strays (with_vector me s b.vector))).0
+      = λ new may same changing. begin_turn s (without_strays (with_vector me s b.vector)) sender b (fresh_changes s.changes (merged s.vector b.vector me)) (record { is = refl; carries = refl; new = new }) may (Going same changing) (same_changing me s b.vector b.view same changing) in
+      let answer : is_stray b.vector sender s.vector ≡ false → is_normal s.status ≡ true → s.view ≡ b.view → Turns (Some (Replica sender, messages.ViewChange b)) s (without_strays (with_vector me s b.vector))
+      = λ new normal same. Answer sender b (record { is = refl; carries = refl; new = new }) normal same in
+      grind (arith, nat_tests, stay, anew, going, answer, up_kinds)
+
+  pub vector_tell_turn : (s : ReplicaData) (sender : ℕ) (b : VectorTellBody) → Turns (Some (Replica sender, messages.VectorTell b)) s (vector_tell_rule f me s sender b).0
+  unfolding vector_tell_rule
+  vector_tell_turn s sender b =
+      let stay : Turns (Some (Replica sender, messages.VectorTell b)) s s = Stays in
+      let hear : is_stray b.vector sender s.vector ≡ false → Awaits phases.Vectors (seat_of s) b.nonce → Turns (Some (Replica sender, messages.VectorTell b)) s (with_teller me (with_vector me s b.vector) sender b.vector)
+      = λ new ours. HearVector sender b (record { is = refl; carries = refl; new = new }) ours in
+      let count : is_stray b.vector sender s.vector ≡ false → Awaits phases.Vectors (seat_of s) b.nonce → slow_size f ≤ length (more_tellers s.rejoin.tellers sender)
+      → Turns (Some (Replica sender, messages.VectorTell b)) s (ask_views f me (with_new_counter me (with_teller me (with_vector me s b.vector) sender b.vector))).0
+      = λ new ours enough. Count sender b (record { is = refl; carries = refl; new = new }) ours enough in
+      grind (arith, nat_tests, stay, hear, count)
+
+  pub rejoin_ask_turn : (s : ReplicaData) (sender : ℕ) (b : RejoinAskBody) → Turns (Some (Replica sender, messages.RejoinAsk b)) s (rejoin_ask_rule me s sender b).0
+  unfolding rejoin_ask_rule
+  rejoin_ask_turn s sender b =
+      let stay : Turns (Some (Replica sender, messages.RejoinAsk b)) s s = Stays in
+      let merge : is_stray b.vector sender s.vector ≡ false → is_normal s.status ≡ true → Turns (Some (Replica sender, messages.RejoinAsk b)) s (with_vector me s b.vector)
+      = λ new normal. Merge sender (messages.RejoinAsk b) b.vector (record { is = refl; carries = refl; new = new }) normal in
+      grind (arith, nat_tests, stay, merge)
+
+  pub state_ask_turn : (s : ReplicaData) (sender : ℕ) (b : StateAskBody) → Turns (Some (Replica sender, messages.StateAsk b)) s (state_ask_rule f me s sender b).0
+  unfolding state_ask_rule
+  state_ask_turn s sender b =
+      let stay : Turns (Some (Replica sender, messages.StateAsk b)) s s = Stays in
+      let merge : is_stray b.vector sender s.vector ≡ false → is_normal s.status ≡ true → Turns (Some (Replica sender, messages.StateAsk b)) s (with_vector me s b.vector)
+      = λ new normal. Merge sender (messages.StateAsk b) b.vector (record { is = refl; carries = refl; new = new }) normal in
+      grind (arith, nat_tests, stay, merge)
+
+  pub rejoin_tell_turn : (s : ReplicaData) (sender : ℕ) (b : RejoinTellBody) → Turns (Some (Replica sender, messages.RejoinTell b)) s (rejoin_tell_rule f me s sender b).0
+  unfolding rejoin_tell_rule
+  rejoin_tell_turn s sender b =
+      let stay : Turns (Some (Replica sender, messages.RejoinTell b)) s s = Stays in
+      let t = with_tell (with_vector me s b.vector) sender b in
+      let hear : is_stray b.vector sender s.vector ≡ false → Awaits phases.Views (seat_of s) b.nonce → Turns (Some (Replica sender, messages.RejoinTell b)) s t
+      = λ new ours. HearView sender b (record { is = refl; carries = refl; new = new }) ours in
+      let forget : is_stray b.vector sender s.vector ≡ false → Awaits phases.Views (seat_of s) b.nonce → Turns (Some (Replica sender, messages.RejoinTell b)) s (with_tells t [])
+      = λ new ours. Forget sender b (record { is = refl; carries = refl; new = new }) ours in
+      let ask : is_stray b.vector sender s.vector ≡ false → Awaits phases.Views (seat_of s) b.nonce → slow_size f ≤ length t.rejoin.tells → Turns (Some (Replica sender, messages.RejoinTell b)) s (ask_log f t (latest_view t)).0
+      = λ new ours enough. AskLog sender b (record { is = refl; carries = refl; new = new }) ours t.rejoin.tells refl enough in
+      grind (arith, nat_tests, stay, hear, forget, ask)
+
+  pub state_tell_turn : (s : ReplicaData) (sender : ℕ) (b : StateTellBody) → Turns (Some (Replica sender, messages.StateTell b)) s (state_tell_rule f me s sender b).0
+  unfolding state_tell_rule
+  state_tell_turn s sender b =
+      let stay : Turns (Some (Replica sender, messages.StateTell b)) s s = Stays in
+      let return : is_stray b.vector sender s.vector ≡ false → Awaits phases.Log (seat_of s) b.nonce → s.rejoin.wanted ≤ b.view → sender ≡ leader_of f b.view
+      → Turns (Some (Replica sender, messages.StateTell b)) s (normal_in (with_vector me s b.vector) b.view b.entries b.commit)
+      = λ new ours late leader. Return sender b (record { is = refl; carries = refl; new = new }) ours late leader in
+      grind (arith, nat_tests, stay, return)
+
+  pub message_turn : (s : ReplicaData) (from : Actor) (m : Message) → Turns (Some (from, m)) s (replica_message f me s from m).0
+  message_turn s (Proxy p) (messages.Timed b) = same_turn f me e _ _ _ (request_seat f me s p b)
+  message_turn s (Replica r) (messages.LogMod b) = log_mod_turn s r b
+  message_turn s (Replica r) (messages.Fetch b) = same_turn f me e _ _ _ (fetch_seat f me s r b)
+  message_turn s (Replica r) (messages.FetchReply b) = same_turn f me e _ _ _ (fetch_reply_seat f me s r b)
+  message_turn s (Replica r) (messages.SyncReport b) = sync_report_turn _ s r b
+  message_turn s (Replica r) (messages.ViewAsk b) = view_ask_turn _ s b
+  message_turn s (Replica r) (messages.ViewChange b) = view_change_turn s r b
+  message_turn s (Replica r) (messages.StartView b) = start_view_turn s r b
+  message_turn s (Replica r) (messages.VectorAsk b) = same_turn f me e _ _ _ (vector_ask_seat s r b)
+  message_turn s (Replica r) (messages.VectorTell b) = vector_tell_turn s r b
+  message_turn s (Replica r) (messages.RejoinAsk b) = rejoin_ask_turn s r b
+  message_turn s (Replica r) (messages.RejoinTell b) = rejoin_tell_turn s r b
+  message_turn s (Replica r) (messages.StateAsk b) = state_ask_turn s r b
+  message_turn s (Replica r) (messages.StateTell b) = state_tell_turn s r b
+  message_turn s _ _ = Stays
+
+  -- ---- ticks, after what was released
+
+  -- a follower in normal operation
+  quiet_turn : (heard : Heard) (s : Seat) (t : ReplicaData) → seat_of t ≡ holding s t.log → is_normal s.status ≡ true → eqb (leader_of f s.view) me ≡ false → Appends false s.log t.log
+      → Turn f me e heard s (seat_of (quiet_timer f me t).0)
+  unfolding enter_view
+  quiet_turn heard s t is normal follows log =
+      let quiet = min (t.quiet + 1) most_quiet in
+      let released : Turn f me e heard s (holding s t.log) = Release t.log normal (subst (λ (led : Bool). Appends led s.log t.log) (sym follows) log) in
+      let stay : Turn f me e heard s (seat_of (record t { quiet = quiet })) = subst (λ (u : Seat). Turn f me e heard s u) (sym is) released in
+      let enter : Turn f me e heard s (seat_of (enter_view f me (t.view + 1) (record t { quiet = quiet })).0) =
+      subst (λ (u : Seat). Turn f me e heard s (entering u (u.view + 1))) (sym is)
+      (Enter (s.view + 1) (normal_up s.status normal) (omega arith) t.log (More t.log normal follows log)) in
+      grind (arith, nat_tests, stay, enter)
+
+  normal_turn : (heard : Heard) (s t : ReplicaData) → IsRelease f me s t → is_normal s.status ≡ true → Turns heard s (mode_timer Normal f me t).0
+  normal_turn heard s t is normal =
+      let view : t.view ≡ s.view = ap (λ (x : Seat). x.view) is.seat in
+      let leads_as : leads f me t ≡ leads f me s = ap (λ (v : ℕ). eqb (leader_of f v) me) view in
+      on_cond (λ (x : ReplicaData × List Out). Turns heard s x.0) (leads f me t) _ (quiet_timer f me t)
+      (λ _. subst (λ (u : Seat). Turn f me e heard (seat_of s) u) (sym is.seat) (Release t.log normal is.log))
+      (λ follows.
+      let others = sym leads_as ∙ follows in
+      quiet_turn heard (seat_of s) t is.seat normal others (subst (λ (led : Bool). Appends led s.log t.log) others is.log))
+
+  change_turn : (heard : Heard) (s : ReplicaData) → is_changing s.status ≡ true → Turns heard s (change_timer f me s).0
+  unfolding enter_view
+  change_turn heard s changing =
+      let later : Turns heard s (record s { since = s.since + 1 }) = Stays in
+      let anew : Turns heard s (record s { since = 0 }) = Stays in
+      let enter : Turns heard s (enter_view f me (s.view + 1) (record s { since = 0 })).0 = Enter (s.view + 1) (changing_up s.status changing) (omega arith) s.log Same in
+      grind (arith, nat_tests, later, anew, enter)
+
+  again_turn : (heard : Heard) (s : ReplicaData) (p : Phase) → is_rejoining s.status ≡ true → s.rejoin.phase ≡ p → Turns heard s (ask_again p f me s).0
+  again_turn heard s phases.Vectors rejoining is = Stays
+  again_turn heard s phases.Views rejoining is = Stays
+  again_turn heard s phases.Log rejoining is = Back rejoining (ap (λ (p : Phase). is_phase p phases.Log) is)
+
+  rejoin_turn : (heard : Heard) (s : ReplicaData) → is_rejoining s.status ≡ true → Turns heard s (rejoin_timer f me s).0
+  rejoin_turn heard s rejoining =
+      let stay : Turns heard s (record s { since = s.since + 1 }) = Stays in
+      let again : Turns heard s (ask_again s.rejoin.phase f me (record s { since = 0 })).0 = again_turn heard (record s { since = 0 }) s.rejoin.phase rejoining refl in
+      grind (arith, nat_tests, stay, again)
+
+  -- the timer of a mode: in normal operation after a release
+  mode_turn : (heard : Heard) (s t : ReplicaData) → IsRelease f me s t → (is_normal s.status ≡ false → seat_of t ≡ seat_of s) → (a : Status) → t.status ≡ a
+      → Turns heard s (mode_timer a f me t).0
+  mode_turn heard s t is calm Normal kind = normal_turn heard s t is (sym (ap (λ (x : Seat). is_normal x.status) is.seat) ∙ ap is_normal kind)
+  mode_turn heard s t is calm ViewChange kind =
+      subst (λ (u : Seat). Turn f me e heard u (seat_of (change_timer f me t).0)) (calm (sym (ap (λ (x : Seat). is_normal x.status) is.seat) ∙ ap is_normal kind))
+      (change_turn heard t (ap is_changing kind))
+  mode_turn heard s t is calm Rejoining kind =
+      subst (λ (u : Seat). Turn f me e heard u (seat_of (rejoin_timer f me t).0)) (calm (sym (ap (λ (x : Seat). is_normal x.status) is.seat) ∙ ap is_normal kind))
+      (rejoin_turn heard t (ap is_rejoining kind))
+  mode_turn heard s t is calm Down kind =
+      same_turn f me e heard (seat_of s) (seat_of t) (calm (sym (ap (λ (x : Seat). is_normal x.status) is.seat) ∙ ap is_normal kind))
+
+  pub tick_turn : (heard : Heard) (s : ReplicaData) (clock : ℕ) → Turns heard s (tick_rule f me s clock).0
+  tick_turn heard s clock =
+      let t = (release_rule f me s clock).0 in
+      mode_turn heard s t (release_is f me s clock) (λ calm. no_release f me s clock calm) t.status refl
+
+-- ---- any event
+
+crash_turn : (f me : ℕ) (s : ReplicaData) → Turn f me Crash None (seat_of s) (seat_of (crash_rule f s).0)
+unfolding crash_rule
+crash_turn f me s = Fall refl
+
+restart_turn : (f me nonce : ℕ) (s : ReplicaData) → Turn f me (Restart nonce) None (seat_of s) (seat_of (restart_rule f me s nonce).0)
+unfolding restart_rule
+restart_turn f me nonce s =
+    let stay : Turn f me (Restart nonce) None (seat_of s) (seat_of s) = Stays in
+    let wake : is_down s.status ≡ true → Turn f me (Restart nonce) None (seat_of s) (seat_of (restarted_replica f nonce)) = λ down. Wake nonce refl down in
+    grind (arith, stay, wake)
+
+envelope_turn : (g : Group) (me : ℕ) (e : Event) (s : ReplicaData) (x : Option Envelope)
+    → Turn g.f me e (heard_as x) (seat_of s) (seat_of (envelope_step g (Replica me) s x).0)
+envelope_turn g me e s None = Stays
+envelope_turn g me e s (Some x) =
+    unless_down (λ (t : ReplicaData × List Out). Turn g.f me e (Some (x.from, x.message)) (seat_of s) (seat_of t.0)) s (replica_message g.f me s x.from x.message)
+    Stays (message_turn g.f me e s x.from x.message)
+
+-- what a replica hears in an event
+abbrev pub heard_by : Group → ℕ → Event → Heard
+heard_by g me e = heard_at g (Replica me) e
+
+pub event_turn : (g : Group) (me : ℕ) (s : ReplicaData) (e : Event) → Turn g.f me e (heard_by g me e) (seat_of s) (seat_of (event_step g (Replica me) s e).0)
+event_turn g me s (Deliver p) = envelope_turn g me (Deliver p) s (received g.f (Replica me) p)
+event_turn g me s (Cut p kept) = Stays
+event_turn g me s (Tick clock) =
+    unless_down (λ (t : ReplicaData × List Out). Turn g.f me (Tick clock) None (seat_of s) (seat_of t.0)) s (tick_rule g.f me s clock)
+    Stays (tick_turn g.f me (Tick clock) None s clock)
+event_turn g me s Alarm = alarm_turn g.f me Alarm None s
+event_turn g me s Crash = crash_turn g.f me s
+event_turn g me s (Restart nonce) = restart_turn g.f me nonce s
