@@ -21,6 +21,8 @@ use Rattle.nz_machine.specs.State.{ReplicaData, ProxyData, State, Standing, Open
 use Rattle.nz_machine.specs.Replicas.{is_down}
 use Rattle.nz_machine.specs.Quorums.{Chosen, decision, answer_in, with_note}
 use Rattle.nz_machine.specs.Proxies.{with_standing, standing_of, stamped, stamp_rule, answered, decided_as, noted_in, reply_rule, first_proxy, clock_rule, of_fast, of_slow}
+use Rattle.nz_machine.specs.Views.{alarm_rule}
+use Rattle.nz_machine.specs.Rejoining.{crash_rule, restart_rule}
 use Rattle.nz_machine.specs.Step.{first, replica_message, proxy_message, message_step, tick_rule, tick_step, alarm_step, crash_step, restart_step}
 use Rattle.nz_machine.specs.World.{state_after, sent_in, Has, IsMember, World}
 use Rattle.nz_machine.specs.Hearing.{Heard}
@@ -28,8 +30,8 @@ use Rattle.nz_machine.specs.Shows.{ReplicaShows, ProxyShows, ClientShows, Shows}
 use Rattle.nz_machine.proofs.Runs.{sent_from, KeepsMore, keeps_both, holds, group_of, on_cond}
 use Rattle.nz_machine.proofs.Each.{all_imply}
 use Rattle.nz_machine.proofs.Pieces.{lookup_each, insert_each}
-use Rattle.nz_machine.proofs.Moves.{Phase, Move, NoteOrigin}
-use Rattle.nz_machine.proofs.MoveRules.{message_moves, release_moves}
+use Rattle.nz_machine.proofs.Moves.{Phase, Move, NoteOrigin, Closed}
+use Rattle.nz_machine.proofs.MoveRules.{message_moves, tick_moves, alarm_moves}
 use Rattle.nz_machine.proofs.Snapshots.{StepShows, fair_to, message_step_shows, tick_step_shows, alarm_step_shows, crash_step_shows, restart_step_shows}
 use Rattle.nz_machine.proofs.FitRuns.{Fitted, FittedState, fits_keep}
 use Rattle.nz_machine.proofs.Sends.{may_show}
@@ -113,8 +115,23 @@ replica_takes : (g : Group) (me : ℕ) (s : ReplicaData) (from : Actor) (m : Mes
     → KnowsProxies g (replica_message g.f me s from m).0
 replica_takes g me s from m member h = message_moves (λ p t. KnowsProxies g t) g.f me s from m (record { kept = origins_kept g me _ member }) h
 
+nothing_heard : (g : Group) (me : ℕ) → Closed g.f me None (λ p t. KnowsProxies g t)
+nothing_heard g me = record { kept = origins_kept g me None tt }
+
 replica_ticks : (g : Group) (me : ℕ) (s : ReplicaData) (clock : ℕ) → KnowsProxies g s → KnowsProxies g (tick_rule g.f me s clock).0
-replica_ticks g me s clock h = release_moves (λ p t. KnowsProxies g t) g.f me None (record { kept = origins_kept g me None tt }) s clock h
+replica_ticks g me s clock h = tick_moves (λ p t. KnowsProxies g t) g.f me None (nothing_heard g me) s clock h
+
+replica_alarms : (g : Group) (me : ℕ) (s : ReplicaData) → KnowsProxies g s → KnowsProxies g (alarm_rule g.f me s).0
+replica_alarms g me s h = alarm_moves (λ p t. KnowsProxies g t) g.f me None (nothing_heard g me) s h
+
+replica_crashes : (g : Group) (s : ReplicaData) → KnowsProxies g (crash_rule g.f s).0
+unfolding crash_rule
+replica_crashes g s = record { origins = tt }
+
+replica_restarts : (g : Group) (me : ℕ) (s : ReplicaData) (nonce : ℕ) → KnowsProxies g s → KnowsProxies g (restart_rule g.f me s nonce).0
+unfolding restart_rule
+replica_restarts g me s nonce h =
+    on_cond (λ (t : ReplicaData × List Out). KnowsProxies g t.0) (is_down s.status) _ (s, []) (λ _. record { origins = tt }) (λ _. h)
 
 -- ---- proxies: only a request makes a standing
 
@@ -184,17 +201,17 @@ ticks g (Proxy p) s clock h =
 ticks g (Client c) s clock h = tt
 
 alarms : (g : Group) (a : Actor) (s : State a) → Knows g a s → Knows g a (alarm_step g a s).0
-alarms g (Replica r) s h = h
+alarms g (Replica r) s h = replica_alarms g r s h
 alarms g (Proxy p) s h = h
 alarms g (Client c) s h = tt
 
 crashes : (g : Group) (a : Actor) (s : State a) → Knows g a s → Knows g a (crash_step g a s).0
-crashes g (Replica r) s h = h
+crashes g (Replica r) s h = replica_crashes g s
 crashes g (Proxy p) s h = record { standings = tt }
 crashes g (Client c) s h = tt
 
 restarts : (g : Group) (a : Actor) (s : State a) (nonce : ℕ) → Knows g a s → Knows g a (restart_step g a s nonce).0
-restarts g (Replica r) s nonce h = h
+restarts g (Replica r) s nonce h = replica_restarts g r s nonce h
 restarts g (Proxy p) s nonce h = on_cond (KnowsClients g) s.is_down (first_proxy g.f) s (λ _. record { standings = tt }) (λ _. h)
 restarts g (Client c) s nonce h = tt
 

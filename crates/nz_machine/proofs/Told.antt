@@ -104,13 +104,14 @@ right_by f a by o e fit heard = elim (received_is f a by o fit) [
       let own : Envelope = record { from = by; to = o.0; message = o.1 } in
       let same : own ≡ e = same_Some own e (sym y.is ∙ heard) in
       let read = is_read f a (parcel by o) e heard in
-      let to : o.0 ≡ a = ap (λ (x : Envelope). x.to) same ∙ same_actor e.to a read.to_me in
+      let mine : e.to ≡ a = same_actor e.to a read.to_me in
+      let to : o.0 ≡ a = ap (λ (x : Envelope). x.to) same ∙ mine in
       let from = ap (λ (x : Envelope). x.from) same in
       let message = ap (λ (x : Envelope). x.message) same in
-      let fits : FitsOut e.from (o.0, e.message) = subst (λ (x : Envelope). FitsOut x.from (x.to, x.message)) same fit in
+      let fits : FitsOut e.from (e.to, e.message) = subst (λ (x : Envelope). FitsOut x.from (x.to, x.message)) same fit in
       record {
         is = λ i. parcel (from i) (to i, message i);
-        fits = subst (λ (x : Actor). FitsOut e.from (x, e.message)) to (subst (λ (x : Actor). FitsOut e.from (x, e.message)) (sym (ap (λ (x : Envelope). x.to) same)) fits);
+        fits = subst (λ (x : Actor). FitsOut e.from (x, e.message)) mine fits;
       }
 ]
 

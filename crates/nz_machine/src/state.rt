@@ -20,8 +20,6 @@ mod messages;
 mod rejoining;
 mod viewing;
 
-pub use viewing::MOST_QUIET;
-
 use super::answers::copy_answer;
 use super::data::{Origin, Phase, Rejoin, Reported, Status};
 use super::parts::{last_key, put_early, put_late, take_in, vector_fits};
@@ -34,6 +32,7 @@ use nz_msg::TimedBody;
 use nz_store::{Answer, Store};
 use std::alloc::Global;
 use std::marker::Model;
+pub use viewing::MOST_QUIET;
 
 /// A delay counts up to this, in clock units.
 const LONGEST_DELAY: u64 = 10_000;
