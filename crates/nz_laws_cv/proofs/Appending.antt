@@ -1,5 +1,5 @@
 -- What a tick releases: entries are appended to the log, and nothing else changes that turns speak of.
-use Rattle.std.proofs.Common.{◌≡◌, ℕ, Bool, true, false, List, [], ◌∷◌, ◌++◌, length, refl, sym, ap, ◌∙◌}
+use Rattle.std.proofs.Common.{◌≡◌, ℕ, Bool, true, false, List, [], ◌∷◌, length, refl, ◌∙◌}
 use Rattle.nz_base.specs.declared.key.Entry.{Entry}
 use Rattle.nz_base.proofs.Prefixes.{prefix_self, prefix_more, prefix_then}
 use Rattle.nz_base.proofs.Booleans.{clash}

@@ -7,7 +7,7 @@ use Rattle.nz_base.specs.declared.key.Key.{Key}
 use Rattle.nz_base.specs.declared.key.Entry.{Entry}
 use Rattle.nz_base.specs.Key.{id_of}
 use Rattle.nz_base.specs.Log.{keys_of, has_id, is_above_last}
-use Rattle.nz_base.specs.Prefixes.{IsPrefix, Comparable}
+use Rattle.nz_base.specs.Prefixes.{IsPrefix}
 use Rattle.nz_base.proofs.Booleans.{and_left, and_right}
 use Rattle.nz_base.proofs.Prefixes.{prefix_self, prefix_then, prefix_take, prefix_length, take_front}
 use Rattle.nz_log.specs.Synced.{Log, IsSound, synced_part}

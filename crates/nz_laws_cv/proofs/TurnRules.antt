@@ -1,14 +1,13 @@
 -- Each rule of a replica is one turn.
-use Rattle.std.proofs.Common.{◌≡◌, ℕ, ◌+◌, ◌≤◌, ◌<◌, Bool, not, cond, ◌&&◌, eqb, true, false, List, [], ◌∷◌, length, max, Option, Some, None, refl, sym, ap, subst, ◌∙◌, inl, inr, ◌⊎◌, arith, eqb-true}
+use Rattle.std.proofs.Common.{◌≡◌, ℕ, ◌+◌, ◌≤◌, ◌<◌, Bool, ◌&&◌, eqb, true, false, List, [], ◌∷◌, length, max, Option, Some, None, refl, sym, ap, subst, ◌∙◌, inl, inr, ◌⊎◌, arith, eqb-true}
 use Rattle.std.specs.Prelude.{nat_lt, nat_le, min, map, drop, ◌-◌}
 use Rattle.std.proofs.lemmas.Bool.Decides.{nat_tests}
 use Rattle.nz_base.specs.Cluster.{leader_of, slow_size}
 use Rattle.nz_base.specs.declared.actor.Actor.{Actor}
 use Rattle.nz_base.specs.declared.actor.Actor.TheVariants.{Replica, Proxy}
 use Rattle.nz_base.specs.declared.key.Entry.{Entry}
-use Rattle.nz_base.proofs.Booleans.{and_left, and_right, clash}
+use Rattle.nz_base.proofs.Booleans.{and_left, and_right}
 use Rattle.nz_cv.specs.Vectors.{is_stray, merged}
-use Rattle.nz_log.specs.Synced.{Log}
 use Rattle.nz_merge.specs.Merged.{merged as merged_changes, greatest}
 use Rattle.nz_merge.specs.declared.change.Change.{Change}
 use Rattle.nz_msg.specs.declared.envelope.Envelope.{Envelope}
@@ -46,10 +45,10 @@ use Rattle.nz_machine.specs.Views.{enter_view, alarm_rule, view_ask_rule, quiet_
 use Rattle.nz_machine.specs.Adopting.{normal_in, after_start, start_view_rule}
 use Rattle.nz_machine.specs.Begins.{changes_of, after_begin, with_report, without_strays, collect, begin, view_change_rule}
 use Rattle.nz_machine.specs.Rejoining.{crash_rule, restart_rule, restarted_replica, with_teller, ask_views, with_new_counter, with_tells, ask_log, ask_again, with_tell, latest_view, vector_ask_rule, vector_tell_rule, rejoin_ask_rule, rejoin_tell_rule, state_ask_rule, state_tell_rule, rejoin_timer, is_phase}
-use Rattle.nz_machine.specs.Step.{replica_message, message_step, tick_step, tick_rule, mode_timer, received, envelope_step, event_step}
+use Rattle.nz_machine.specs.Step.{replica_message, tick_rule, mode_timer, received, envelope_step, event_step}
 use Rattle.nz_machine.proofs.Runs.{on_cond, unless_down}
 use Rattle.nz_machine.proofs.Guards.{HearsLeader, hears_leader_parts}
-use Rattle.nz_laws_cv.proofs.Turns.{Seat, seat_of, merging, holding, committing, entering, starting, with_changes, fresh_changes, with_change, begun_log, begun_commit, more_tellers, Appends, Grown, Same, More, IsNew, MayLead, Base, Anew, Going, MayStart, Awaits, Turn, Stays, Release, Merge, Sync, Tally, Enter, Follow, Answer, Collect, Begin, Start, Fall, Wake, HearVector, Count, HearView, Forget, AskLog, Return, Back}
+use Rattle.nz_laws_cv.proofs.Turns.{Seat, seat_of, merging, holding, committing, entering, starting, with_changes, fresh_changes, with_change, begun_log, begun_commit, more_tellers, Appends, Same, More, IsNew, MayLead, Base, Anew, Going, MayStart, Awaits, Turn, Stays, Release, Merge, Sync, Tally, Enter, Follow, Answer, Collect, Begin, Start, Fall, Wake, HearVector, Count, HearView, Forget, AskLog, Return, Back}
 use Rattle.nz_laws_cv.proofs.Appending.{IsRelease, release_is, no_release}
 use Rattle.nz_laws_cv.proofs.TakenKeys.{sync_seat, modifies}
 

@@ -1,5 +1,5 @@
--- All that a whole rule does to the fields that views, rejoins and logs are about: a turn is one of twenty, each with its exact outcome.
-use Rattle.std.proofs.Common.{◌≡◌, ℕ, ◌+◌, ◌≤◌, ◌<◌, true, false, not, List, [], ◌∷◌, ◌++◌, length, max, eqb, take, drop, Bool, Option, Some}
+-- All that a whole rule does to the fields that views, rejoins and logs are about: a turn, with its exact outcome.
+use Rattle.std.proofs.Common.{◌≡◌, ℕ, ◌+◌, ◌≤◌, ◌<◌, true, false, not, List, [], ◌∷◌, ◌++◌, length, max, eqb, take, drop, Bool, Some}
 use Rattle.std.specs.Prelude.{slice_index, slice_set, filter, map, min, if◌then◌else◌, ◌==◌}
 use Rattle.std.specs.List.{list_any}
 use Rattle.nz_base.specs.Cluster.{leader_of, slow_size}
