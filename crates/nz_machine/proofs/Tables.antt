@@ -6,7 +6,8 @@ use Rattle.nz_base.proofs.Booleans.{cases_bool}
 use Rattle.nz_cv.specs.Vectors.{greater_counters, merged}
 use Rattle.nz_window.specs.Samples.{placed, in_order}
 use Rattle.nz_machine.specs.Facts.{AreCounters}
-use Rattle.nz_machine.specs.LogMods.{others, reported}
+use Rattle.nz_machine.specs.Replicas.{others}
+use Rattle.nz_machine.specs.LogMods.{reported}
 use Rattle.nz_machine.proofs.Pieces.{all_index}
 
 -- ---- one number is replaced

@@ -1,5 +1,5 @@
 //! Laws of the rules, each the contract of a function with nothing to do.
-ghost use Rattle.std.specs.Prelude.{◌≡◌, ℕ, List, ◌+◌, ◌≤◌, ◌++◌, length, min, IsTrue};
+ghost use Rattle.std.specs.Prelude.{◌≡◌, ℕ, List, ◌+◌, ◌≤◌, ◌<◌, ◌^◌, ◌==◌, ◌++◌, length, min, IsTrue, IsFalse};
 ghost use Rattle.nz_buffers.specs.Buffers.{released as released_of, held_back};
 ghost use Rattle.nz_base.specs.Cluster.{replica_count};
 ghost use Rattle.nz_msg.specs.declared.message.TimedBody.{TimedBody};
@@ -7,7 +7,28 @@ ghost use Rattle.nz_msg.specs.declared.message.LogModBody.{LogModBody};
 ghost use Rattle.nz_msg.specs.declared.message.FetchBody.{FetchBody};
 ghost use Rattle.nz_msg.specs.declared.message.FetchReplyBody.{FetchReplyBody};
 ghost use Rattle.nz_msg.specs.declared.message.SyncReportBody.{SyncReportBody};
-ghost use Rattle.nz_msg.specs.Messages.{timed, log_mod, fetch_reply};
+ghost use Rattle.nz_msg.specs.declared.message.ViewAskBody.{ViewAskBody};
+ghost use Rattle.nz_msg.specs.declared.message.ViewChangeBody.{ViewChangeBody};
+ghost use Rattle.nz_msg.specs.declared.message.StartViewBody.{StartViewBody};
+ghost use Rattle.nz_msg.specs.declared.message.VectorAskBody.{VectorAskBody};
+ghost use Rattle.nz_msg.specs.declared.message.VectorTellBody.{VectorTellBody};
+ghost use Rattle.nz_msg.specs.declared.message.RejoinAskBody.{RejoinAskBody};
+ghost use Rattle.nz_msg.specs.declared.message.RejoinTellBody.{RejoinTellBody};
+ghost use Rattle.nz_msg.specs.declared.message.StateAskBody.{StateAskBody};
+ghost use Rattle.nz_msg.specs.declared.message.StateTellBody.{StateTellBody};
+ghost use Rattle.nz_msg.specs.Messages.{
+  timed,
+  log_mod,
+  fetch_reply,
+  view_ask,
+  view_change,
+  start_view,
+  vector_tell,
+  rejoin_ask,
+  rejoin_tell,
+  state_ask,
+  state_tell,
+};
 ghost use Rattle.nz_machine.specs.declared.event.Parcel.{Parcel};
 ghost use Rattle.nz_machine.specs.declared.event.Record.{Record};
 ghost use Rattle.nz_machine.specs.State.{ReplicaData, Group};
@@ -17,6 +38,20 @@ ghost use Rattle.nz_machine.specs.Replicas.{first_replica, last_clock, most_entr
 ghost use Rattle.nz_machine.specs.Requests.{request_rule};
 ghost use Rattle.nz_machine.specs.Releases.{release_rule};
 ghost use Rattle.nz_machine.specs.LogMods.{log_mod_rule, fetch_rule, fetch_reply_rule, sync_report_rule};
+ghost use Rattle.nz_machine.specs.Views.{alarm_rule, view_ask_rule};
+ghost use Rattle.nz_machine.specs.Adopting.{start_view_rule};
+ghost use Rattle.nz_machine.specs.Begins.{view_change_rule};
+ghost use Rattle.nz_machine.specs.Rejoining.{
+  crash_rule,
+  restart_rule,
+  vector_ask_rule,
+  vector_tell_rule,
+  rejoin_ask_rule,
+  rejoin_tell_rule,
+  state_ask_rule,
+  state_tell_rule,
+};
+ghost use Rattle.nz_machine.specs.Step.{tick_rule};
 
 /// A replica's state has the facts at the start, and each rule keeps them.
 pub fn facts_are_kept()
@@ -33,6 +68,34 @@ pub fn facts_are_kept()
         → fetch_reply.fits body → HasFacts f me (fetch_reply_rule f me s sender body).0 }
     ensures sync_report { (f me : ℕ) (s : ReplicaData) (sender : ℕ) (body : SyncReportBody) → HasFacts f me s
         → HasFacts f me (sync_report_rule f me s sender body).0 }
+    ensures tick { (f me : ℕ) (s : ReplicaData) (clock : ℕ) → HasFacts f me s → HasFacts f me (tick_rule f me s clock).0 }
+    ensures alarm { (f me : ℕ) (s : ReplicaData) → HasFacts f me s → HasFacts f me (alarm_rule f me s).0 }
+    ensures crash { (f me : ℕ) (s : ReplicaData) → HasFacts f me (crash_rule f s).0 }
+    ensures restart { (f me : ℕ) (s : ReplicaData) (nonce : ℕ) → nonce < 2 ^ 64 → HasFacts f me s
+        → HasFacts f me (restart_rule f me s nonce).0 }
+    ensures view_ask { (f me : ℕ) (s : ReplicaData) (body : ViewAskBody) → HasFacts f me s
+        → view_ask.fits body → HasFacts f me (view_ask_rule f me s body).0 }
+    ensures view_change { (f me : ℕ) (s : ReplicaData) (sender : ℕ) (body : ViewChangeBody) → HasFacts f me s
+        → sender < replica_count f → IsFalse (sender == me) → view_change.fits body → length body.vector ≡ replica_count f
+        → HasFacts f me (view_change_rule f me s sender body).0 }
+    ensures start_view { (f me : ℕ) (s : ReplicaData) (sender : ℕ) (body : StartViewBody) → HasFacts f me s
+        → IsFalse (sender == me) → start_view.fits body → length body.vector ≡ replica_count f
+        → HasFacts f me (start_view_rule f me s sender body).0 }
+    ensures vector_ask { (f me : ℕ) (s : ReplicaData) (sender : ℕ) (body : VectorAskBody) → HasFacts f me s
+        → HasFacts f me (vector_ask_rule s sender body).0 }
+    ensures vector_tell { (f me : ℕ) (s : ReplicaData) (sender : ℕ) (body : VectorTellBody) → HasFacts f me s
+        → sender < replica_count f → vector_tell.fits body → length body.vector ≡ replica_count f
+        → HasFacts f me (vector_tell_rule f me s sender body).0 }
+    ensures rejoin_ask { (f me : ℕ) (s : ReplicaData) (sender : ℕ) (body : RejoinAskBody) → HasFacts f me s
+        → rejoin_ask.fits body → length body.vector ≡ replica_count f → HasFacts f me (rejoin_ask_rule me s sender body).0 }
+    ensures rejoin_tell { (f me : ℕ) (s : ReplicaData) (sender : ℕ) (body : RejoinTellBody) → HasFacts f me s
+        → sender < replica_count f → rejoin_tell.fits body → length body.vector ≡ replica_count f
+        → HasFacts f me (rejoin_tell_rule f me s sender body).0 }
+    ensures state_ask { (f me : ℕ) (s : ReplicaData) (sender : ℕ) (body : StateAskBody) → HasFacts f me s
+        → state_ask.fits body → length body.vector ≡ replica_count f → HasFacts f me (state_ask_rule f me s sender body).0 }
+    ensures state_tell { (f me : ℕ) (s : ReplicaData) (sender : ℕ) (body : StateTellBody) → HasFacts f me s
+        → IsFalse (sender == me) → state_tell.fits body → length body.vector ≡ replica_count f
+        → HasFacts f me (state_tell_rule f me s sender body).0 }
 {}
 
 /// Where the log has room for what is due, that is what a replica in normal operation releases.

@@ -1,0 +1,90 @@
+-- Lists of what was collected, each item with the number of its sender, in which no sender stands twice.
+use Rattle.std.proofs.Common.{◌≡◌, ℕ, Bool, true, false, cond, ◌||◌, not, eqb, List, [], ◌∷◌, ◌++◌, map, refl, sym, ap, subst, ◌∙◌, inl, inr, arith}
+use Rattle.std.specs.List.{filter, list_any}
+use Rattle.nz_base.proofs.Booleans.{cases_bool, or_cases, or_left, or_right, neither_left, neither_right, clash}
+use Rattle.nz_math.specs.Count.{is_in, AreDistinct}
+use Rattle.nz_merge.specs.Sender.{has_sender, HaveOwnSenders}
+use Rattle.nz_merge.specs.declared.change.Change.{Change}
+use Rattle.nz_machine.specs.declared.data.Reported.{Reported}
+
+pub in_append : (xs ys : List ℕ) (x : ℕ) → is_in (xs ++ ys) x ≡ (is_in xs x || is_in ys x)
+in_append [] ys x = refl
+in_append (y ∷ xs) ys x = let rest = in_append xs ys x in grind (arith, rest)
+
+pub distinct_more : (xs : List ℕ) (y : ℕ) → AreDistinct xs → is_in xs y ≡ false → AreDistinct (xs ++ y ∷ [])
+distinct_more [] y d out = (refl, tt)
+distinct_more (x ∷ xs) y d out =
+    let apart : eqb x y ≡ false = neither_left (eqb x y) (is_in xs y) out in
+    let turned : eqb y x ≡ false = grind (arith, apart) in
+    let none : is_in (xs ++ y ∷ []) x ≡ false = in_append xs (y ∷ []) x ∙ (let a = d.0 in grind (arith, a, turned)) in
+    (none, distinct_more xs y d.1 (neither_right (eqb x y) (is_in xs y) out))
+
+pub any_in : (xs : List ℕ) (y : ℕ) → list_any (λ t. eqb t y) xs ≡ is_in xs y
+any_in [] y = refl
+any_in (x ∷ xs) y = ap (λ b. eqb x y || b) (any_in xs y)
+
+module _ {X : Type 0} (key : X → ℕ) where
+  cond_in : (x : X) (rest : List X) (y : ℕ) (b : Bool) → is_in (map key (cond b (x ∷ rest) rest)) y ≡ true → (eqb (key x) y || is_in (map key rest) y) ≡ true
+  cond_in x rest y true h = h
+  cond_in x rest y false h = or_right (eqb (key x) y) (is_in (map key rest) y) h
+
+  in_filter : (p : X → Bool) (xs : List X) (y : ℕ) → is_in (map key (filter p xs)) y ≡ true → is_in (map key xs) y ≡ true
+  in_filter p [] y h = h
+  in_filter p (x ∷ xs) y h = elim (or_cases (eqb (key x) y) (is_in (map key (filter p xs)) y) (cond_in x (filter p xs) y (p x) h)) [
+    | inl a ↦ or_left (eqb (key x) y) (is_in (map key xs) y) a
+    | inr b ↦ or_right (eqb (key x) y) (is_in (map key xs) y) (in_filter p xs y b)
+  ]
+
+  not_in_filter : (p : X → Bool) (xs : List X) (y : ℕ) → is_in (map key xs) y ≡ false → is_in (map key (filter p xs)) y ≡ false
+  not_in_filter p xs y out = elim (cases_bool (is_in (map key (filter p xs)) y)) [
+    | inl among ↦ clash (is_in (map key xs) y) (in_filter p xs y among) out
+    | inr none ↦ none
+  ]
+
+  distinct_cond : (x : X) (rest : List X) (b : Bool) → is_in (map key rest) (key x) ≡ false → AreDistinct (map key rest) → AreDistinct (map key (cond b (x ∷ rest) rest))
+  distinct_cond x rest true out d = (out, d)
+  distinct_cond x rest false out d = d
+
+  pub distinct_filter : (p : X → Bool) (xs : List X) → AreDistinct (map key xs) → AreDistinct (map key (filter p xs))
+  distinct_filter p [] d = d
+  distinct_filter p (x ∷ xs) d = distinct_cond x (filter p xs) (p x) (not_in_filter p xs (key x) d.0) (distinct_filter p xs d.1)
+
+  gone_cond : (x : X) (rest : List X) (y : ℕ) (b : Bool) → eqb (key x) y ≡ b → is_in (map key rest) y ≡ false → is_in (map key (cond (not b) (x ∷ rest) rest)) y ≡ false
+  gone_cond x rest y true e out = out
+  gone_cond x rest y false e out = ap (λ b. b || is_in (map key rest) y) e ∙ out
+
+  pub gone : (xs : List X) (y : ℕ) → is_in (map key (filter (λ t. not (eqb (key t) y)) xs)) y ≡ false
+  gone [] y = refl
+  gone (x ∷ xs) y = gone_cond x (filter (λ t. not (eqb (key t) y)) xs) y (eqb (key x) y) refl (gone xs y)
+
+  map_more : (xs : List X) (x : X) → map key (xs ++ x ∷ []) ≡ map key xs ++ key x ∷ []
+  map_more [] x = refl
+  map_more (z ∷ xs) x = ap (λ ys. key z ∷ ys) (map_more xs x)
+
+  pub distinct_add : (xs : List X) (x : X) → AreDistinct (map key xs) → is_in (map key xs) (key x) ≡ false → AreDistinct (map key (xs ++ x ∷ []))
+  distinct_add xs x d out = subst AreDistinct (sym (map_more xs x)) (distinct_more (map key xs) (key x) d out)
+
+  -- one more, in place of an earlier one of its sender
+  pub distinct_replace : (xs : List X) (x : X) → AreDistinct (map key xs) → AreDistinct (map key (filter (λ t. not (eqb (key t) (key x))) xs ++ x ∷ []))
+  distinct_replace xs x d = distinct_add (filter (λ t. not (eqb (key t) (key x))) xs) x (distinct_filter (λ t. not (eqb (key t) (key x))) xs d) (gone xs (key x))
+
+-- ---- reports
+
+abbrev pub sender_of : Reported → ℕ
+sender_of r = r.change.sender
+
+abbrev pub changes_in : List Reported → List Change
+changes_in rs = map (λ r. r.change) rs
+
+pub has_sender_in : (rs : List Reported) (y : ℕ) → has_sender (changes_in rs) y ≡ is_in (map sender_of rs) y
+has_sender_in [] y = refl
+has_sender_in (r ∷ rs) y = ap (λ b. eqb r.change.sender y || b) (has_sender_in rs y)
+
+-- the reports' senders differ, said in two ways
+pub distinct_senders : (rs : List Reported) → HaveOwnSenders (changes_in rs) → AreDistinct (map sender_of rs)
+distinct_senders [] own = tt
+distinct_senders (r ∷ rs) own = (sym (has_sender_in rs r.change.sender) ∙ own.0, distinct_senders rs own.1)
+
+pub own_senders : (rs : List Reported) → AreDistinct (map sender_of rs) → HaveOwnSenders (changes_in rs)
+own_senders [] own = tt
+own_senders (r ∷ rs) own = (has_sender_in rs r.change.sender ∙ own.0, own_senders rs own.1)
