@@ -100,12 +100,21 @@ begin_acts g w r K world h led not_led a b =
       full = ap (λ (s : Seat). length s.changes) b.is ∙ b.full;
     }
 
+-- who leads now and did not before begins the view by its turn
+pub begun_turn : (g : Group) (w : ℕ) (r : Record) (K : List Record) → is_led g w (r ∷ K) ≡ true → is_led g w K ≡ false
+    → IsBegun g.f (leader_of g.f w) r.event (heard_by g (leader_of g.f w) r.event) (seat_at g (leader_of g.f w) K) (seat_at g (leader_of g.f w) (r ∷ K))
+begun_turn g w r K led not_led =
+    let l = leader_of g.f w in
+    elim (steps g l r K) [
+      | Acts a turn ↦
+          let now = normal_in_is w (replica_at g l (r ∷ K)) led in
+          begun_by g w r K led not_led (arrives g.f l r.event (heard_by g l r.event) (seat_at g l K) (seat_at g l (r ∷ K)) turn now.0)
+      | Rests e same ↦ clash (is_led g w K) (sym (ap (λ (s : Seat). is_normal s.status && eqb s.view w) same) ∙ led) not_led
+    ]
+
 pub begin_of : (g : Group) (w : ℕ) (r : Record) (K : List Record) → World g (r ∷ K) → Shows g (r ∷ K) → is_led g w (r ∷ K) ≡ true → is_led g w K ≡ false → IsBeginOf g w r K
 begin_of g w r K world h led not_led = elim (steps g (leader_of g.f w) r K) [
-  | Acts a turn ↦
-      let now = normal_in_is w (replica_at g (leader_of g.f w) (r ∷ K)) led in
-      begin_acts g w r K world h led not_led a
-      (begun_by g w r K led not_led (arrives g.f (leader_of g.f w) r.event (heard_by g (leader_of g.f w) r.event) (seat_at g (leader_of g.f w) K) (seat_at g (leader_of g.f w) (r ∷ K)) turn now.0))
+  | Acts a turn ↦ begin_acts g w r K world h led not_led a (begun_turn g w r K led not_led)
   | Rests e same ↦ clash (is_led g w K) (sym (ap (λ (s : Seat). is_normal s.status && eqb s.view w) same) ∙ led) not_led
 ]
 

@@ -24,3 +24,4 @@ pub mod Grounds
 pub mod Beginnings
 pub mod Known
 pub mod Returning
+pub mod BegunLogs

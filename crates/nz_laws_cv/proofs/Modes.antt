@@ -170,7 +170,7 @@ module _ (f me : ℕ) (e : Event) (heard : Heard) (fit : HearsFit f me heard) wh
       → IsSound f (record s { status = ViewChange; view = w; log = log; vector = v; changes = changes })
   enters s v w log changes low size = record { sized = size; normal = λ h. absurd cc; changing = λ _. low; rejoining = λ h. absurd cc; rejoining_last = λ h. absurd cc }
 
-  collects_low : (s : Seat) (w : ℕ) (v : List ℕ) (base : _) → IsSound f s → is_up s.status ≡ true → Base s w v base → s.last < w
+  pub collects_low : (s : Seat) (w : ℕ) (v : List ℕ) (base : _) → IsSound f s → is_up s.status ≡ true → Base s w v base → s.last < w
   collects_low s w v _ h up (Anew later) = let low = last_low f s h up in omega (arith, low, later)
   collects_low s w v _ h up (Going same changing) = let low = h.changing changing in omega (arith, low, same)
 

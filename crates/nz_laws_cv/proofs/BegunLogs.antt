@@ -1,0 +1,82 @@
+-- With which log a view begins: the merge of the reports that its leader collected, each of which is its sender's state.
+use Rattle.std.proofs.Common.{◌≡◌, ℕ, ◌≤◌, ◌<◌, true, false, List, ◌∷◌, length, map, Some, refl, sym, ap, ◌∙◌, inr, arith}
+use Rattle.nz_base.specs.Cluster.{leader_of}
+use Rattle.nz_base.specs.Moments.{At}
+use Rattle.nz_merge.specs.declared.change.Change.{Change}
+use Rattle.nz_merge.specs.Merged.{merged}
+use Rattle.nz_machine.specs.declared.event.Record.{Record}
+use Rattle.nz_machine.specs.declared.data.Reported.{Reported}
+use Rattle.nz_machine.specs.State.{Group}
+use Rattle.nz_machine.specs.Replicas.{is_changing, is_up}
+use Rattle.nz_machine.specs.Begins.{own_change}
+use Rattle.nz_machine.specs.World.{Has, World}
+use Rattle.nz_machine.specs.Incarnations.{replica_at}
+use Rattle.nz_machine.specs.Leading.{leader_at, is_led}
+use Rattle.nz_machine.specs.Begun.{report_parcel, IsMemberOf}
+use Rattle.nz_machine.proofs.Sources.{has_source, source_is}
+use Rattle.nz_laws_cv.proofs.Turns.{Seat}
+use Rattle.nz_laws_cv.proofs.TurnRules.{heard_by}
+use Rattle.nz_laws_cv.proofs.Hearing.{hears_fit}
+use Rattle.nz_laws_cv.proofs.Steps.{seat_at}
+use Rattle.nz_laws_cv.proofs.Modes.{collects_low}
+use Rattle.nz_laws_cv.proofs.Passing.{sound_at}
+use Rattle.nz_laws_cv.proofs.Sent.{Shows}
+use Rattle.nz_laws_cv.proofs.Beginnings.{normal_in_is, begun_turn, begin_of}
+
+-- the leader's log after the record, and its state before
+pub record IsBegunLog (g : Group) (w : ℕ) (r : Record) (K : List Record) : Type 0 where
+  pub entries : (leader_at g w (r ∷ K)).log.entries
+      ≡ merged g.f (own_change (leader_of g.f w) (leader_at g w K) ∷ map (λ (x : Reported). x.change) (leader_at g w (r ∷ K)).changes)
+  pub synced : (leader_at g w (r ∷ K)).log.synced ≡ length (leader_at g w (r ∷ K)).log.entries
+  pub up : is_up (leader_at g w K).status ≡ true
+  pub view : (leader_at g w K).view ≤ w
+  pub last : (leader_at g w K).last < w
+
+pub begun_log_is : (g : Group) (w : ℕ) (r : Record) (K : List Record) → World g K → is_led g w (r ∷ K) ≡ true → is_led g w K ≡ false → IsBegunLog g w r K
+begun_log_is g w r K world led not_led =
+    let l = leader_of g.f w in
+    let b = begun_turn g w r K led not_led in
+    let view : b.body.view ≡ w = sym (ap (λ (s : Seat). s.view) b.is) ∙ (normal_in_is w (replica_at g l (r ∷ K)) led).1 in
+    let later = b.may.later in
+    let low = collects_low g.f l r.event (heard_by g l r.event) (hears_fit g l r.event) (seat_at g l K) b.body.view _ b.base (sound_at g K world l) b.may.up b.on in
+    record {
+      entries = ap (λ (s : Seat). s.log.entries) b.is
+          ∙ ap (λ (changes : List Reported). merged g.f (own_change l (replica_at g l K) ∷ map (λ (x : Reported). x.change) changes))
+          (sym (ap (λ (s : Seat). s.changes) b.is));
+      synced = ap (λ (s : Seat). s.log.synced) b.is ∙ sym (ap (λ (s : Seat). length s.log.entries) b.is);
+      up = b.may.up;
+      view = omega (arith, view, later);
+      last = omega (arith, view, low);
+    }
+
+-- a report is its sender's state at the moment at which it was sent
+pub record IsRead (g : Group) (w : ℕ) (B : List Record) (c : Change) : Type 0 where
+  pub moment : List Record
+  pub at : At B moment
+  pub member : IsMemberOf g w B c.sender moment
+  pub changing : is_changing (replica_at g c.sender moment).status ≡ true
+  pub view : (replica_at g c.sender moment).view ≡ w
+  pub last : (replica_at g c.sender moment).last ≡ c.last
+  pub synced : (replica_at g c.sender moment).log.synced ≡ c.synced
+  pub commit : (replica_at g c.sender moment).commit ≡ c.commit
+  pub entries : (replica_at g c.sender moment).log.entries ≡ c.log
+
+pub report_is_read : (g : Group) (w : ℕ) (r : Record) (K : List Record) → World g (r ∷ K) → Shows g (r ∷ K) → is_led g w (r ∷ K) ≡ true → is_led g w K ≡ false
+    → (x : Reported) → Has (leader_at g w (r ∷ K)).changes x → IsRead g w (r ∷ K) x.change
+report_is_read g w r K world shows led not_led x has =
+    let B = r ∷ K in
+    let sent = ((begin_of g w r K world shows led not_led).reports.each x has).sent in
+    let k = has_source (report_parcel g w x) B sent.has in
+    let s = source_is (report_parcel g w x) B k.0 k.1 in
+    let told = shows.view_change x.change.sender (leader_of g.f w) _ s.newest s.older s.at (record { has = s.sends; fits = sent.fits }) in
+    record {
+      moment = s.newest ∷ s.older;
+      at = s.at;
+      member = inr (record { report = x; used = has; sender = refl; source = k.1 ∙ ap Some s.is });
+      changing = told.changing;
+      view = told.view;
+      last = told.last;
+      synced = told.synced;
+      commit = told.commit;
+      entries = told.entries;
+    }
