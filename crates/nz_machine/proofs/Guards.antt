@@ -7,7 +7,7 @@ use Rattle.nz_machine.specs.declared.data.Status.{Status}
 use Rattle.nz_machine.specs.State.{ReplicaData}
 use Rattle.nz_machine.specs.declared.data.Phase.{Phase}
 use Rattle.nz_machine.specs.declared.data.Phase.TheVariants.{Log}
-use Rattle.nz_machine.specs.Replicas.{is_normal, is_changing, is_up, is_rejoining, leads, leads_view, hears_leader}
+use Rattle.nz_machine.specs.Replicas.{is_normal, is_up, is_rejoining, leads, leads_view, hears_leader}
 use Rattle.nz_machine.specs.LogMods.{hears_later_leader}
 use Rattle.nz_machine.specs.Adopting.{may_start}
 use Rattle.nz_machine.specs.Begins.{may_lead}

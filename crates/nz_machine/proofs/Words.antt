@@ -1,16 +1,15 @@
 -- The words of views, of adopting a log, and of a rejoin keep what a replica's state always has.
-use Rattle.std.proofs.Common.{◌≡◌, ℕ, ◌+◌, ◌<◌, ◌≤◌, ◌^◌, ◌&&◌, not, eqb, cond, Bool, true, false, List, [], ◌∷◌, ◌++◌, length, map, IsTrue, IsFalse, refl, sym, ap, subst, ◌∙◌, arith, append_assoc, append-nil}
-use Rattle.std.specs.Prelude.{◌==◌, if◌then◌else◌, max, slice_index}
+use Rattle.std.proofs.Common.{ℕ, ◌+◌, ◌<◌, ◌≤◌, ◌^◌, not, eqb, Bool, List, [], ◌∷◌, ◌++◌, length, map, IsTrue, IsFalse, refl, sym, subst, ◌∙◌, arith, append_assoc, append-nil}
+use Rattle.std.specs.Prelude.{◌==◌, if◌then◌else◌, slice_index}
 use Rattle.std.specs.List.{AllByRecursion, filter, list_any}
 use Rattle.std.proofs.lemmas.Bool.Decides.{nat_tests}
 use Rattle.std.proofs.lemmas.List.{length-set, length-replicate}
 use Rattle.nz_base.specs.Cluster.{replica_count, leader_of}
 use Rattle.nz_base.specs.declared.key.Entry.{Entry}
-use Rattle.nz_base.specs.Log.{IsLog}
 use Rattle.nz_base.proofs.Booleans.{clash}
 use Rattle.nz_cv.specs.Vectors.{is_stray}
 use Rattle.nz_math.specs.Count.{AreDistinct}
-use Rattle.nz_merge.specs.Merged.{IsFit, AreFit, greatest, merged as merged_changes}
+use Rattle.nz_merge.specs.Merged.{AreFit, greatest, merged as merged_changes}
 use Rattle.nz_merge.specs.Sender.{HaveOwnSenders}
 use Rattle.nz_merge.specs.declared.change.Change.{Change}
 use Rattle.nz_merge.proofs.Merging as merging
@@ -27,7 +26,7 @@ use Rattle.nz_machine.specs.Replicas.{last_view, most_entries, is_rejoining, com
 use Rattle.nz_machine.specs.Views.{most_quiet, in_view_change}
 use Rattle.nz_machine.specs.LogMods.{after_hearing}
 use Rattle.nz_machine.specs.Adopting.{with_log, normal_in}
-use Rattle.nz_machine.specs.Begins.{report_of, with_report, without_strays, own_change, changes_of, after_begin}
+use Rattle.nz_machine.specs.Begins.{report_of, with_report, without_strays, changes_of, after_begin}
 use Rattle.nz_machine.specs.Rejoining.{rejoin_period, last_counter, with_teller, with_new_counter, ask_views, with_tells, with_tell, latest_view, ask_log}
 use Rattle.nz_machine.proofs.Runs.{on_cond}
 use Rattle.nz_machine.proofs.Each.{all_append, all_front, all_filter, all_replicate}
@@ -36,7 +35,7 @@ use Rattle.nz_machine.proofs.Tables.{set_all}
 use Rattle.nz_machine.proofs.Stores.{answer_fits, replies_pushed}
 use Rattle.nz_machine.proofs.Syncing.{apart_held, arranged_overtaken}
 use Rattle.nz_machine.proofs.Adopting.{apart_adopted}
-use Rattle.nz_machine.proofs.Distinct.{distinct_more, distinct_filter, distinct_replace, any_in, sender_of, changes_in, has_sender_in, distinct_senders, own_senders}
+use Rattle.nz_machine.proofs.Distinct.{distinct_more, distinct_filter, distinct_replace, any_in, sender_of, changes_in, distinct_senders, own_senders}
 
 -- ---- the counts of ticks
 
