@@ -7,7 +7,7 @@ ghost use Rattle.nz_machine.specs.Does.{Does};
 ghost use Rattle.nz_machine.specs.Parts.{since_counted};
 ghost use Rattle.nz_machine.specs.Replicas.{last_view, is_changing};
 ghost use Rattle.nz_machine.specs.LogMods.{after_hearing};
-ghost use Rattle.nz_machine.specs.Views.{most_quiet, enter_view as enter_view_of};
+ghost use Rattle.nz_machine.specs.Views.{most_quiet, in_view_change, enter_view as enter_view_of};
 ghost use Rattle.nz_machine.specs.Adopting.{normal_in};
 
 use super::super::collecting::adopt;
@@ -56,17 +56,27 @@ impl ReplicaState {
         since
     }
 
-    /// A later view is entered, and everybody hears of it.
-    pub fn enter_view(&mut self, view: u64, sends: &mut Sends) -> Result<(), NoMemory>
+    /// The view change of a later view begins.
+    fn enter(&mut self, view: u64)
         requires later { self.old.state.view ≤ view }
         requires last { view ≤ last_view }
-        ensures { let s = self.old in OnOk result (Does s self.new sends.old sends.new (enter_view_of s.f s.me view s.state)) }
+        ensures { self.new ≡ record self.old { state = in_view_change self.old.state view } }
     {
         self.parts.status = Status::ViewChange;
         self.parts.view = view;
         self.parts.changes = Vec::new(self.parts.alloc);
         self.parts.since = 0;
         self.parts.quiet = 0;
+    }
+
+    /// A later view is entered, and everybody hears of it.
+    #[tactic(auto, unfolding(crate::specs::Views::enter_view))]
+    pub fn enter_view(&mut self, view: u64, sends: &mut Sends) -> Result<(), NoMemory>
+        requires later { self.old.state.view ≤ view }
+        requires last { view ≤ last_view }
+        ensures { let s = self.old in OnOk result (Does s self.new sends.old sends.new (enter_view_of s.f s.me view s.state)) }
+    {
+        self.enter(view);
         self.call_for_view(sends)
     }
 
