@@ -1,10 +1,12 @@
 -- The entries that a frame carries are a log.
-use Rattle.std.proofs.Common.{◌≡◌, ℕ, ◌≤◌, not, Bool, true, false, List, [], ◌∷◌, ◌++◌, length, refl, sym, subst, append_assoc, arith}
+use Rattle.std.proofs.Common.{◌≡◌, ℕ, ◌≤◌, ◌&&◌, not, Bool, true, false, List, [], ◌∷◌, ◌++◌, length, refl, sym, subst, append_assoc, arith}
+use Rattle.std.specs.List.{list_all}
 use Rattle.std.proofs.lemmas.Bool.Decides.{nat_tests}
 use Rattle.std.proofs.lemmas.List.{append-nil}
+use Rattle.nz_base.specs.declared.key.Id.{Id}
 use Rattle.nz_base.specs.declared.key.Key.{Key}
 use Rattle.nz_base.specs.declared.key.Entry.{Entry}
-use Rattle.nz_base.specs.Key.{id_of}
+use Rattle.nz_base.specs.Key.{id_eq, id_of, key_below}
 use Rattle.nz_base.specs.Log.{keys_of, has_id, is_above_last, IsLog}
 use Rattle.nz_base.proofs.Booleans.{and_left, and_right}
 use Rattle.nz_base.proofs.Names.{id_turn_away}
@@ -26,7 +28,10 @@ not_true false h = refl
 
 is_fresh : (before : List Entry) (k : Key) → may_follow (λ (e : Entry). e.key) before k ≡ true → has_id (keys_of before) (id_of k) ≡ false
 is_fresh [] k h = refl
-is_fresh (a ∷ before) k h = rw (id_turn_away (id_of a.key) (id_of k) (not_true _ (and_right _ _ (and_left _ _ h)))) (is_fresh before k (and_right _ _ h))
+is_fresh (a ∷ before) k h =
+    let own = and_left (key_below a.key k && not (id_eq (id_of a.key) (id_of k))) (may_follow (λ (e : Entry). e.key) before k) h in
+    let away = id_turn_away (id_of a.key) (id_of k) (not_true (id_eq (id_of a.key) (id_of k)) (and_right (key_below a.key k) (not (id_eq (id_of a.key) (id_of k))) own)) in
+    rw away (is_fresh before k (and_right (key_below a.key k && not (id_eq (id_of a.key) (id_of k))) (may_follow (λ (e : Entry). e.key) before k) h))
 
 log_each : (before xs : List Entry) → IsLog before → ItemsFit next_entry before xs → IsLog (before ++ xs)
 log_each before [] log all = subst IsLog (sym (append-nil before)) log
