@@ -7,6 +7,7 @@ ghost use Rattle.nz_msg.specs.Messages.{vector_tell, rejoin_tell, state_tell};
 ghost use Rattle.nz_msg.specs.declared.message.Message.TheVariants.{VectorTell, RejoinTell, StateTell};
 ghost use Rattle.nz_machine.specs.declared.data.Phase.TheVariants as phases;
 ghost use Rattle.nz_machine.specs.Replicas.{last_view};
+ghost use Rattle.nz_machine.specs.Adopting.{normal_in};
 ghost use Rattle.nz_machine.specs.Rejoining.{awaits, ask_views as ask_views_of, after_vectors, ask_log as ask_log_of, after_views, vector_tell_rule, rejoin_tell_rule, state_tell_rule};
 ghost use Rattle.nz_machine.specs.Does.{Does, DoesSilently};
 ghost use Rattle.nz_machine.specs.Step.{replica_message, is_in_cluster};
@@ -99,7 +100,7 @@ fn after_view(state: &mut ReplicaState, tells: usize, sends: &mut Sends) -> Resu
         return Ok(());
     }
     let view = state.latest_view();
-    if Actor::Replica(state.cluster().leader(view)).is(&state.name()) {
+    if state.cluster().leader(view) == state.me() {
         state.drop_views();
         return Ok(());
     }
@@ -158,7 +159,17 @@ fn is_wanted(state: &ReplicaState, sender: u8, body: &StateTellBody) -> bool
         && sender == state.cluster().leader(body.view)
 }
 
-/// The replica takes the log, and is in normal operation again.
+/// The replica is in normal operation again, with the leader's log.
+fn start(state: &mut ReplicaState, body: &StateTellBody) -> Result<(), NoMemory>
+    requires fits { state_tell.fits body.now }
+    requires other { IsFalse (leader_of state.old.f body.now.view == state.old.me) }
+    ensures { let b = body.now in OnOk result (state.new ≡ record state.old { state = normal_in state.old.state b.view b.entries b.commit }) }
+{
+    let log = body.entries.copy(state.allocator())?;
+    state.start(body.view, log, body.commit)
+}
+
+/// The log that the replica waits for is taken.
 #[tactic(auto, unfolding(nz_machine::specs::Rejoining::state_tell_rule))]
 fn take_log(state: &mut ReplicaState, sender: u8, body: &StateTellBody) -> Result<(), NoMemory>
     requires sender { sender < replica_count state.old.f }
@@ -172,8 +183,7 @@ fn take_log(state: &mut ReplicaState, sender: u8, body: &StateTellBody) -> Resul
         return Ok(());
     }
     state.merge_vector(&body.vector);
-    let log = body.entries.copy(state.allocator())?;
-    state.start(body.view, log, body.commit)
+    start(state, body)
 }
 
 /// What a replica does with a state-tell. It takes them from replicas alone, and sends nothing.
