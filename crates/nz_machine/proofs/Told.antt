@@ -1,8 +1,7 @@
 -- What is read of a parcel shows its sender's states at any record that sends it.
-use Rattle.std.proofs.Common.{◌≡◌, ℕ, ◌≤◌, ◌<◌, ◌≢◌, zero, suc, List, [], ◌∷◌, length, map, Option, Some, None, Result, Ok, refl, sym, ap, subst, ◌∙◌, inl, inr, ◌⊎◌, true, arith, eqb-true}
+use Rattle.std.proofs.Common.{◌≡◌, ℕ, ◌≤◌, ◌<◌, ◌≢◌, zero, suc, List, [], ◌∷◌, length, Option, Some, None, Result, Ok, refl, sym, ap, subst, ◌∙◌, inl, inr, ◌⊎◌, true, arith, eqb-true}
 use Rattle.std.specs.Prelude.{slice_index}
 use Rattle.std.proofs.lemmas.Option.{none-some, same_Some}
-use Rattle.nz_base.specs.Actor.{actor_eq, HasAddress}
 use Rattle.nz_base.specs.Cluster.{replica_count}
 use Rattle.nz_base.specs.Moments.{At}
 use Rattle.nz_base.specs.declared.actor.Actor.{Actor}
@@ -16,7 +15,6 @@ use Rattle.nz_msg.specs.declared.message.RejoinTellBody.{RejoinTellBody}
 use Rattle.nz_msg.specs.declared.message.StateTellBody.{StateTellBody}
 use Rattle.nz_msg.specs.declared.message.Message.{Message}
 use Rattle.nz_msg.specs.declared.message.Message.TheVariants as messages
-use Rattle.nz_msg.specs.Messages.{Fits}
 use Rattle.nz_msg.specs.Envelope.{decode_of}
 use Rattle.nz_msg.proofs.Envelopes.{decode-encode}
 use Rattle.nz_machine.specs.declared.event.Event.{Event}
@@ -30,7 +28,7 @@ use Rattle.nz_machine.specs.History.{source}
 use Rattle.nz_machine.specs.Hearing.{heard_as, heard_at}
 use Rattle.nz_machine.specs.Incarnations.{replica_at}
 use Rattle.nz_machine.specs.Shows.{Shows, ShowsRejoinTell, ShowsStateTell}
-use Rattle.nz_machine.proofs.Runs.{FitsOut, Sent, sent_from, received_is, sent_by, sends_have, all_has}
+use Rattle.nz_machine.proofs.Runs.{FitsOut, sent_from, received_is, sent_by, sends_have, all_has}
 use Rattle.nz_machine.proofs.Moments.{at_world}
 use Rattle.nz_machine.proofs.Sources.{has_source, source_is}
 use Rattle.nz_machine.proofs.Snapshots.{IsRead, is_read}

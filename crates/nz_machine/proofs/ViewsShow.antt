@@ -1,5 +1,5 @@
 -- What the rules of views send is what the states before and after show.
-use Rattle.std.proofs.Common.{◌≡◌, ℕ, ◌+◌, not, eqb, Bool, true, false, List, [], ◌∷◌, ◌++◌, length, map, refl, ap, arith}
+use Rattle.std.proofs.Common.{◌≡◌, ℕ, ◌+◌, eqb, true, false, List, [], ◌++◌, length, map, refl, arith}
 use Rattle.std.specs.Prelude.{nat_lt, min}
 use Rattle.std.proofs.lemmas.Bool.Decides.{nat_tests}
 use Rattle.nz_base.specs.Cluster.{leader_of}
