@@ -41,7 +41,8 @@ module _ {X : Type 0} (key : X → ℕ) where
     | inr none ↦ none
   ]
 
-  distinct_cond : (x : X) (rest : List X) (b : Bool) → is_in (map key rest) (key x) ≡ false → AreDistinct (map key rest) → AreDistinct (map key (cond b (x ∷ rest) rest))
+  distinct_cond : (x : X) (rest : List X) (b : Bool) → is_in (map key rest) (key x) ≡ false → AreDistinct (map key rest)
+      → AreDistinct (map key (cond b (x ∷ rest) rest))
   distinct_cond x rest true out d = (out, d)
   distinct_cond x rest false out d = d
 
@@ -49,7 +50,8 @@ module _ {X : Type 0} (key : X → ℕ) where
   distinct_filter p [] d = d
   distinct_filter p (x ∷ xs) d = distinct_cond x (filter p xs) (p x) (not_in_filter p xs (key x) d.0) (distinct_filter p xs d.1)
 
-  gone_cond : (x : X) (rest : List X) (y : ℕ) (b : Bool) → eqb (key x) y ≡ b → is_in (map key rest) y ≡ false → is_in (map key (cond (not b) (x ∷ rest) rest)) y ≡ false
+  gone_cond : (x : X) (rest : List X) (y : ℕ) (b : Bool) → eqb (key x) y ≡ b → is_in (map key rest) y ≡ false
+      → is_in (map key (cond (not b) (x ∷ rest) rest)) y ≡ false
   gone_cond x rest y true e out = out
   gone_cond x rest y false e out = ap (λ b. b || is_in (map key rest) y) e ∙ out
 

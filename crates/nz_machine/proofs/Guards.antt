@@ -26,7 +26,8 @@ pub record IsLeader (f me : ℕ) (status : Status) (view named : ℕ) : Type 0 w
   pub same : named ≡ view
   pub leads : eqb (leader_of f view) me ≡ true
 
-pub hears_leader_parts : (f me : ℕ) (s : ReplicaData) (named sender : ℕ) → hears_leader f me s named sender ≡ true → HearsLeader f me s.status s.view sender named
+pub hears_leader_parts : (f me : ℕ) (s : ReplicaData) (named sender : ℕ) → hears_leader f me s named sender ≡ true
+    → HearsLeader f me s.status s.view sender named
 hears_leader_parts f me s named sender hears = grind (arith, nat_tests)
 
 -- it leads its own view
@@ -63,7 +64,8 @@ pub record HearsStart (f : ℕ) (s : ReplicaData) (sender named : ℕ) : Type 0 
   pub may : may_start s named ≡ true
   pub leader : sender ≡ leader_of f named
 
-pub hears_start_parts : (f : ℕ) (s : ReplicaData) (sender named : ℕ) → (may_start s named && eqb sender (leader_of f named)) ≡ true → HearsStart f s sender named
+pub hears_start_parts : (f : ℕ) (s : ReplicaData) (sender named : ℕ) → (may_start s named && eqb sender (leader_of f named)) ≡ true
+    → HearsStart f s sender named
 hears_start_parts f s sender named hears = grind (arith, nat_tests)
 
 -- the replica rejoins, and waits in this phase
@@ -76,5 +78,6 @@ pub record HearsLog (f : ℕ) (s : ReplicaData) (sender named nonce : ℕ) : Typ
   pub later : s.rejoin.wanted ≤ named
   pub leader : sender ≡ leader_of f named
 
-pub hears_log_parts : (f : ℕ) (s : ReplicaData) (sender named nonce : ℕ) → (awaits Log s nonce && (nat_le s.rejoin.wanted named && eqb sender (leader_of f named))) ≡ true → HearsLog f s sender named nonce
+pub hears_log_parts : (f : ℕ) (s : ReplicaData) (sender named nonce : ℕ)
+    → (awaits Log s nonce && (nat_le s.rejoin.wanted named && eqb sender (leader_of f named))) ≡ true → HearsLog f s sender named nonce
 hears_log_parts f s sender named nonce hears = grind (arith, nat_tests)

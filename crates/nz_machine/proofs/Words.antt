@@ -54,7 +54,8 @@ quiet_keeps f me s n h low = record {
 pub hearing_keeps : (f me : ℕ) (s : ReplicaData) → HasFacts f me s → HasFacts f me (after_hearing s)
 hearing_keeps f me s h = quiet_keeps f me s 0 h (omega arith)
 
-pub since_keeps : (f me : ℕ) (s : ReplicaData) (n : ℕ) → HasFacts f me s → n < most_quiet → (IsTrue (is_rejoining s.status) → n < rejoin_period) → HasFacts f me (record s { since = n })
+pub since_keeps : (f me : ℕ) (s : ReplicaData) (n : ℕ) → HasFacts f me s → n < most_quiet → (IsTrue (is_rejoining s.status) → n < rejoin_period)
+    → HasFacts f me (record s { since = n })
 since_keeps f me s n h low rejoins = record {
   bounds = h.bounds;
   mode = record { last = h.mode.last; normal = h.mode.normal; quiet = h.mode.quiet; since = low; rejoining = rejoins };
@@ -89,13 +90,15 @@ enter_keeps f me s view h later low =
 -- ---- a list is adopted
 
 -- log, early and late with the list as the log
-pub adopted_held : (s : ReplicaData) (list : List Entry) → AreHeld s.log s.early s.late → IsCarried list → AreHeld (with_log s list).log (with_log s list).early (with_log s list).late
+pub adopted_held : (s : ReplicaData) (list : List Entry) → AreHeld s.log s.early s.late → IsCarried list
+    → AreHeld (with_log s list).log (with_log s list).early (with_log s list).late
 adopted_held s list h c =
     let whole : Log = record { entries = list; synced = length list } in
     let apart = apart_adopted s.log s.early s.late list (apart_held s.log s.early s.late h) c.log c.few c.fit in
     record { arranged = arranged_overtaken whole (left_out s.early list) (left_out (s.late ++ s.log.entries) list) apart; few = c.few; within = omega arith }
 
-pub start_keeps : (f me : ℕ) (s : ReplicaData) (view : ℕ) (list : List Entry) (commit : ℕ) → HasFacts f me s → view ≤ last_view → IsFalse (leader_of f view == me)
+pub start_keeps : (f me : ℕ) (s : ReplicaData) (view : ℕ) (list : List Entry) (commit : ℕ) → HasFacts f me s → view ≤ last_view
+    → IsFalse (leader_of f view == me)
     → IsCarried list → commit ≤ length list → HasFacts f me (normal_in s view list commit)
 start_keeps f me s view list commit h low away c committed = record {
   bounds = record { clock = h.bounds.clock; view = low };
@@ -108,7 +111,8 @@ start_keeps f me s view list commit h low away c committed = record {
   rejoin = h.rejoin;
 }
 
-replies_grow : (front rest : List Entry) → AllByRecursion answer.fits (replies (commands front)) → AllByRecursion answer.fits (replies (commands (front ++ rest)))
+replies_grow : (front rest : List Entry) → AllByRecursion answer.fits (replies (commands front))
+    → AllByRecursion answer.fits (replies (commands (front ++ rest)))
 replies_grow front [] all = subst (λ (l : List Entry). AllByRecursion answer.fits (replies (commands l))) (sym (append-nil front)) all
 replies_grow front (e ∷ rest) all =
     let more = subst (AllByRecursion answer.fits) (sym (replies_pushed front e)) (all_append answer.fits (replies (commands front)) _ all (answer_fits (commands front) e.command, tt)) in
@@ -140,7 +144,8 @@ begin_keeps f me s list commit h c = record {
 
 -- ---- reports
 
-pub collect_keeps : (f me : ℕ) (s : ReplicaData) (sender : ℕ) (b : ViewChangeBody) → HasFacts f me s → FitsReport f me (report_of sender b) → HasFacts f me (with_report s sender b)
+pub collect_keeps : (f me : ℕ) (s : ReplicaData) (sender : ℕ) (b : ViewChangeBody) → HasFacts f me s → FitsReport f me (report_of sender b)
+    → HasFacts f me (with_report s sender b)
 collect_keeps f me s sender b h fit =
     let report = report_of sender b in
     let others = filter (λ (r : Reported). not (eqb r.change.sender sender)) s.changes in
@@ -188,7 +193,8 @@ each_fit : (f me : ℕ) (rs : List Reported) → AllByRecursion (FitsReport f me
 each_fit f me [] all = tt
 each_fit f me (r ∷ rs) all = (record { log = all.0.entries.log; synced = all.0.synced }, each_fit f me rs all.1)
 
-each_entries : (f me : ℕ) (rs : List Reported) → AllByRecursion (FitsReport f me) rs → AllByRecursion (λ (c : Change). AllByRecursion FitsEntry c.log) (changes_in rs)
+each_entries : (f me : ℕ) (rs : List Reported) → AllByRecursion (FitsReport f me) rs
+    → AllByRecursion (λ (c : Change). AllByRecursion FitsEntry c.log) (changes_in rs)
 each_entries f me [] all = tt
 each_entries f me (r ∷ rs) all = (all.0.entries.fit, each_entries f me rs all.1)
 
@@ -203,7 +209,8 @@ not_mine f me (r ∷ rs) all = let own = all.0.other in let rest = not_mine f me
 pub changes_own : (f me : ℕ) (s : ReplicaData) → HasFacts f me s → HaveOwnSenders (changes_of me s)
 changes_own f me s h = (not_mine f me s.changes h.reports.each, h.reports.own_senders)
 
-pub merged_carried : (f me : ℕ) (s : ReplicaData) → HasFacts f me s → length (merged_changes f (changes_of me s)) ≤ most_entries → IsCarried (merged_changes f (changes_of me s))
+pub merged_carried : (f me : ℕ) (s : ReplicaData) → HasFacts f me s → length (merged_changes f (changes_of me s)) ≤ most_entries
+    → IsCarried (merged_changes f (changes_of me s))
 merged_carried f me s h few = record {
   log = merging.is_log f (changes_of me s) (changes_fit f me s h);
   fit = merging.entries FitsEntry f (changes_of me s) ((own_carried f me s h).fit, each_entries f me s.changes h.reports.each);
@@ -212,7 +219,8 @@ merged_carried f me s h few = record {
 
 -- ---- a rejoin
 
-pub teller_keeps : (f me : ℕ) (s : ReplicaData) (sender : ℕ) (vector : List ℕ) → HasFacts f me s → sender < replica_count f → AreCounters f vector → HasFacts f me (with_teller me s sender vector)
+pub teller_keeps : (f me : ℕ) (s : ReplicaData) (sender : ℕ) (vector : List ℕ) → HasFacts f me s → sender < replica_count f → AreCounters f vector
+    → HasFacts f me (with_teller me s sender vector)
 teller_keeps f me s sender vector h member counters =
     let r = s.rejoin in
     let k = h.rejoin in
@@ -260,7 +268,8 @@ counter_keeps f me s h below =
     }
 
 -- other views were told
-pub tells_keep : (f me : ℕ) (s : ReplicaData) (tells : List ToldView) → HasFacts f me s → AllByRecursion (FitsTold f) tells → AreDistinct (map (λ (t : ToldView). t.sender) tells) → HasFacts f me (with_tells s tells)
+pub tells_keep : (f me : ℕ) (s : ReplicaData) (tells : List ToldView) → HasFacts f me s → AllByRecursion (FitsTold f) tells
+    → AreDistinct (map (λ (t : ToldView). t.sender) tells) → HasFacts f me (with_tells s tells)
 tells_keep f me s tells h each own =
     let k = h.rejoin in
     record {
@@ -277,7 +286,8 @@ tells_keep f me s tells h each own =
 pub forget_keeps : (f me : ℕ) (s : ReplicaData) → HasFacts f me s → HasFacts f me (with_tells s [])
 forget_keeps f me s h = tells_keep f me s [] h tt tt
 
-pub tell_keeps : (f me : ℕ) (s : ReplicaData) (sender : ℕ) (b : RejoinTellBody) → HasFacts f me s → sender < replica_count f → b.view ≤ last_view → AreCounters f b.vector
+pub tell_keeps : (f me : ℕ) (s : ReplicaData) (sender : ℕ) (b : RejoinTellBody) → HasFacts f me s → sender < replica_count f → b.view ≤ last_view
+    → AreCounters f b.vector
     → HasFacts f me (with_tell s sender b)
 tell_keeps f me s sender b h member low counters =
     let told : ToldView = record { sender = sender; view = b.view; vector = b.vector } in
