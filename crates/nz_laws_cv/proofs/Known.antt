@@ -19,6 +19,7 @@ use Rattle.nz_machine.proofs.Moments.{at_world}
 use Rattle.nz_laws_cv.proofs.Modes.{up_no_rejoin, rejoin_not_down}
 use Rattle.nz_laws_cv.proofs.Passing.{inc_grows, goes_far}
 use Rattle.nz_laws_cv.proofs.Sent.{Shows}
+use Rattle.nz_laws_cv.proofs.Showing.{shows}
 use Rattle.nz_laws_cv.proofs.ViewNotions.{notions}
 use Rattle.nz_laws_cv.proofs.Grounds.{completing_is}
 use Rattle.nz_laws_cv.proofs.Beginnings.{normal_in_is, is_in_view, views_at, not_true}
@@ -101,3 +102,8 @@ views_of g J w h =
           v.was_normal m n K C at_k (record { normal = now.0; view = now.1 }) (record { at = at_c; is = c }) later;
       leader_is_one = λ n B K at_b at_k b led. leader_at_once g J w v n B K at_b at_k b led;
     }
+
+-- ---- of every run
+
+pub has_views : (g : Group) (J : List Record) → World g J → HasViews (notions g J) J
+has_views g J w = views_at g J w (shows g J w)

@@ -14,6 +14,7 @@ pub mod Modes
 pub mod Hearing
 pub mod Passing
 pub mod Sent
+pub mod Showing
 pub mod Lists
 pub mod Tellers
 pub mod Tells

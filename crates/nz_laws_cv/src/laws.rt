@@ -1,12 +1,29 @@
-//! The laws of knowledge and views, of every run that has the ground.
+//! The laws of knowledge and views: of every run of the machine, and of every abstract run that has the ground.
 
 ghost use Rattle.std.specs.Prelude.{ℕ, List, ◌∷◌};
 ghost use Rattle.nz_base.specs.Moments.{At};
+ghost use Rattle.nz_machine.specs.declared.event.Record.{Record};
+ghost use Rattle.nz_machine.specs.State.{Group};
+ghost use Rattle.nz_machine.specs.World.{World};
+ghost use Rattle.nz_machine.specs.Knowledge.{Knowledge};
+ghost use Rattle.nz_machine.specs.Begun.{Views};
 ghost use Rattle.nz_laws_cv.specs.Notions.{IsIn};
 ghost use Rattle.nz_laws_cv.specs.Ground.{Ground, StaysUp};
 ghost use Rattle.nz_laws_cv.specs.Views.{HasViews, IsQuiet};
 ghost use Rattle.nz_laws_cv.specs.Tests.{Tests, notions};
 ghost use Rattle.nz_laws_cv.specs.Example as example;
+
+/// In every run of the machine the own counters of a replica's completed rejoins rise, and the counter of
+/// a completed rejoin stays known to each replica whose answer it used, also after that one rejoins.
+pub fn knowledge()
+    ensures { (g : Group) (J : List Record) → World g J → Knowledge g J }
+{}
+
+/// In every run of the machine each view begins at most once, from reports of replicas that later rejoin
+/// in that view or above, and no later incarnation of its leader leads it.
+pub fn views()
+    ensures { (g : Group) (J : List Record) → World g J → Views g J }
+{}
 
 /// In a run with the ground, own counters rise from incarnation to incarnation, what was answered stays
 /// known, a rejoin ends in no lower view than those of before, and each view begins once and is led in

@@ -1,7 +1,10 @@
-//! What replicas that rejoin know, and the views that they take part in: laws over an abstract machine,
-//! from premises on single states and messages.
+//! What replicas that rejoin know, and the views that they take part in: laws over every run of the machine,
+//! by laws over an abstract machine, from premises on single states and messages.
 #![tactic(auto)]
 
 mod laws;
 
-pub use laws::{a_run_has_the_ground, leaders_do_not_rejoin, quiet_runs_have_views, views_follow};
+pub use laws::{
+    a_run_has_the_ground, knowledge, leaders_do_not_rejoin, quiet_runs_have_views, views,
+    views_follow,
+};
