@@ -3,4 +3,6 @@ pub mod Supports
 pub mod Premises
 pub mod Machines
 pub mod Does
+pub mod Instance
+pub mod Once
 pub mod Example

@@ -34,143 +34,15 @@ use Rattle.nz_machine.proofs.FitRuns.{Fitted, FittedState, fits_keep, all_fit}
 use Rattle.std.proofs.lemmas.Option.{none-some, same_Some}
 use Rattle.nz_machine.specs.Leading.{leader_at}
 use Rattle.nz_base.proofs.Prefixes.{prefix_length}
-use Rattle.nz_lin.proofs.Prefixes.{absent_by, own_prefix}
-use Rattle.nz_lin.proofs.Heard.{told_at}
-use Rattle.nz_lin.proofs.FactsStay.{facts_stay}
-use Rattle.nz_lin.proofs.Answering.{IsGiven, given_later}
-use Rattle.nz_lin.proofs.Notes.{delivers}
-use Rattle.nz_lin.proofs.AnswersSent.{LeadsBack, answer_source}
+use Rattle.nz_laws_commit.proofs.Places.{absent_by, own_prefix}
+use Rattle.nz_laws_commit.proofs.Heard.{told_at}
+use Rattle.nz_laws_commit.proofs.FactsStay.{facts_stay}
+use Rattle.nz_laws_commit.proofs.Answering.{IsGiven, given_later}
+use Rattle.nz_laws_commit.proofs.Notes.{delivers}
+use Rattle.nz_laws_commit.proofs.AnswersSent.{LeadsBack, answer_source}
 use Rattle.nz_machine.proofs.Accepting.{IsAnswerTo, client_accepts}
-use Rattle.nz_lin.proofs.Tells.{AcceptsAnswer, told_sent, told_accepted, not_sent_before}
-use Rattle.nz_lin.proofs.Asked.{WasSent, own_command}
-
--- ---- what a leader's log has, up to an entry
-
-events_later : (g : Group) (J K : List Record) → At J K → (x : Told) → Has (events g K) x → Has (events g J) x
-events_later g [] K at x h = subst (λ (L : List Record). Has (events g L) x) at h
-events_later g (r ∷ J) K (inl same) x h = subst (λ (L : List Record). Has (events g L) x) same h
-events_later g (r ∷ J) K (inr older) x h = has_left (events g J) (told_by g r.actor r J) x (events_later g J K older x h)
-
--- each entry was sent
-pub given_sent : (g : Group) (J : List Record) → World g J → (v : ℕ) (id : Id) (a : Answer) (P : List Entry) → IsGiven g J v id a P → (e : Entry)
-    → Has P e → WasSent (events g J) e
-given_sent g J w v id a P h e there =
-    let log = (leader_at g v h.moment).log.entries in
-    let in_log : Has log e = subst (λ (l : List Entry). Has l e) (sym h.from.prefix.whole) (has_left P h.from.prefix.rest e there) in
-    let sent = own_command g h.moment (leader_of g.f v) e (at_world g J h.moment w h.at) in_log in
-    events_later g J h.moment h.at (Sent (id_of e.key) e.command) sent
-
--- no id stands in it twice
-pub given_own : (g : Group) (J : List Record) → World g J → (v : ℕ) (id : Id) (a : Answer) (P : List Entry) → IsGiven g J v id a P
-    → HaveOwnIds (keys_of P)
-given_own g J w v id a P h =
-    let s = leader_at g v h.moment in
-    let facts = facts_stay g h.moment (leader_of g.f v) (at_world g J h.moment w h.at) in
-    let all = subst HaveOwnIds (keys_append s.log.entries (s.early ++ s.late)) facts.entries.arranged.own_ids in
-    own_prefix P s.log.entries h.from.prefix (own_front (keys_of s.log.entries) (keys_of (s.early ++ s.late)) all)
-
-pub given_few : (g : Group) (J : List Record) → World g J → (v : ℕ) (id : Id) (a : Answer) (P : List Entry) → IsGiven g J v id a P
-    → length P ≤ most_entries
-given_few g J w v id a P h =
-    let s = leader_at g v h.moment in
-    let few = (facts_stay g h.moment (leader_of g.f v) (at_world g J h.moment w h.at)).entries.few in
-    let short = prefix_length P s.log.entries h.from.prefix in
-    omega (arith, few, short)
-
--- ---- the prefix of an acceptance
-
-pub record Gives (g : Group) (r : Record) (J : List Record) (id : Id) (a : Answer) : Type 0 where
-  pub parcel : Parcel
-  pub event : r.event ≡ Deliver parcel
-  pub prefix : List Entry
-  pub found : accepted_prefix g id parcel J ≡ Some prefix
-  pub is : prefix_in g (told_by g r.actor r J) r.event J ≡ prefix
-  pub view : ℕ
-  pub given : IsGiven g J view id a prefix
-
-same_body : (x y : AnswerBody) → Answered x ≡ Answered y → x ≡ y
-same_body x y e = cc
-
--- what is read of a parcel is sent to the reader
-read_to : (g : Group) (J : List Record) (a : Actor) (p : Parcel) (e : Envelope) → World g J → MayHappen J a (Deliver p) → received g.f a p ≡ Some e
-    → e.to ≡ a
-read_to g J a p e w may heard = elim (delivered g (Fitted g) (FittedState g) (fits_keep g) J (all_fit g J w) a p may) [
-  | inl none ↦ absurd (none-some e (sym none ∙ heard))
-  | inr y ↦ sym (ap (λ (x : Envelope). x.to) (same_Some (record { from = y.from; to = a; message = y.message }) e (sym y.is ∙ heard)))
-]
-
-gives_by : (g : Group) (r : Record) (J : List Record) (id : Id) (a : Answer) (path : Path) → World g (r ∷ J) → (t : AcceptsAnswer g r J id a path)
-    → IsAnswerTo (state_after g (Client t.client) J) t.envelope.from t.envelope.message → Gives g r J id a
-gives_by g r J id a path w t to =
-    let c = t.client in
-    let e = t.envelope in
-    let d = delivers g (Client c) r.event e t.read in
-    let p = d.parcel in
-    let body : to.body ≡ t.body = same_body to.body t.body (sym to.message ∙ t.message) in
-    let num : t.body.num ≡ (state_after g (Client c) J).sent = sym (ap (λ (b : AnswerBody). b.num) body) ∙ to.num in
-    let by : MayHappen J (Client c) r.event = subst (λ (x : Actor). MayHappen J x r.event) t.by w.0.event in
-    let may : MayHappen J (Client c) (Deliver p) = subst (MayHappen J (Client c)) d.is by in
-    let s = has_source p J may.1 in
-    let told = told_at g J w.1 (Client c) p e d.heard s.0 s.1 in
-    let id_is : id_at c t.body.num ≡ id = ap (id_at c) num ∙ sym t.id_is in
-    let back : LeadsBack g J (id_at c t.body.num) t.body.answer p.from s.0 =
-    answer_source g J s.0 p e c t.body w.1 told (record { proxy = to.proxy; sender = to.sender; receiver = read_to g J (Client c) p e w.1 may d.heard; message = t.message }) in
-    let mine : LeadsBack g J id t.body.answer p.from s.0 = subst (λ (x : Id). LeadsBack g J x t.body.answer p.from s.0) id_is back in
-    let prefix = prefix_at_source g id mine.source in
-    let found : accepted_prefix g id p J ≡ Some prefix =
-    ap (λ (o : Option (List Record)). option_map (prefix_at_source g id) (option_and_then (source_of_sender g id p.from) o)) s.1
-    ∙ ap (option_map (prefix_at_source g id)) mine.is in
-    record {
-      parcel = p;
-      event = d.is;
-      prefix = prefix;
-      found = found;
-      is = ap (λ (l : List Told). prefix_in g l r.event J) t.told ∙ ap (λ (e : Event). prefix_in g (Accepted id a path ∷ t.rest) e J) d.is
-          ∙ ap entries_or found;
-      view = mine.view;
-      given = subst (λ (x : Answer). IsGiven g J mine.view id x prefix) (sym t.answer_is) mine.given;
-    }
-
-pub gives : (g : Group) (r : Record) (J : List Record) (id : Id) (a : Answer) (path : Path) → World g (r ∷ J) → AcceptsAnswer g r J id a path
-    → Gives g r J id a
-gives g r J id a path w t =
-    let c = t.client in
-    let before = state_after g (Client c) J in
-    let d = delivers g (Client c) r.event t.envelope t.read in
-    let step : state_after g (Client c) (r ∷ J) ≡ (envelope_step g (Client c) before (Some t.envelope)).0 =
-    acts_itself g (Client c) r J t.by ∙ ap (λ (e : Event). (event_step g (Client c) before e).0) d.is
-    ∙ ap (λ (o : Option Envelope). (envelope_step g (Client c) before o).0) d.heard in
-    let more : before.accepted < (envelope_step g (Client c) before (Some t.envelope)).0.accepted =
-    subst (λ (s : ClientData). before.accepted < s.accepted) step t.more in
-    gives_by g r J id a path w t (client_accepts g c before t.envelope more)
-
--- ---- accepted prefixes
-
--- the prefix is given from the log of a view's leader
-pub record IsGivenOnce (g : Group) (J : List Record) (P : List Entry) : Type 0 where
-  pub id : Id
-  pub answer : Answer
-  pub view : ℕ
-  pub given : IsGiven g J view id answer P
-
-same_parcel : (p q : Parcel) → Deliver p ≡ Deliver q → p ≡ q
-same_parcel p q e = cc
-
-pub accepted_given : (g : Group) (J : List Record) → World g J → (P : List Entry) → IsAccepted g P J → IsGivenOnce g J P
-accepted_given g [] w P h = absurd h
-accepted_given g (r ∷ J) w P (inl a) =
-    let t = gives g r J a.id a.answer a.path w (told_accepted g r J a.id a.answer a.path a.told) in
-    let parcel : t.parcel ≡ a.brought = same_parcel t.parcel a.brought (sym t.event ∙ a.event) in
-    let same : t.prefix ≡ P = same_Some t.prefix P (sym t.found ∙ ap (λ (p : Parcel). accepted_prefix g a.id p J) parcel ∙ a.prefix) in
-    record {
-      id = a.id;
-      answer = a.answer;
-      view = t.view;
-      given = given_later g (r ∷ J) J (inr (at_self J)) t.view a.id a.answer P (subst (IsGiven g J t.view a.id a.answer) same t.given);
-    }
-accepted_given g (r ∷ J) w P (inr b) =
-    let h = accepted_given g J w.1 P b in
-    record { id = h.id; answer = h.answer; view = h.view; given = given_later g (r ∷ J) J (inr (at_self J)) h.view h.id h.answer P h.given }
+use Rattle.nz_laws_commit.proofs.Tells.{AcceptsAnswer, told_sent, told_accepted, not_sent_before}
+use Rattle.nz_laws_commit.proofs.Asked.{WasSent, own_command}
 
 -- ---- the longest
 
@@ -236,7 +108,7 @@ covered_now g r J id a path w h =
     record {
       prefix = t.prefix;
       accepted = inl (record { id = id; answer = a; path = path; brought = t.parcel; told = h; event = t.event; prefix = t.found });
-      view = t.view;
+      view = view_of t.reply;
       given = t.given;
       short = omega (arith, long, ap length t.is);
     }
@@ -264,18 +136,6 @@ unfolding covered_at covered_old
 before_later g r J id a other h = record { covered = covered_at g r J id a (covered_old g r J id a h.covered); absent = h.absent }
 
 -- ---- lists of events
-
-precedes_has : {X : Type 0} (xs : List X) (x y : X) → Precedes xs x y → Has xs x × Has xs y
-precedes_has [] x y h = absurd h
-precedes_has (z ∷ zs) x y (inl h) = (inl h.0, inr h.1)
-precedes_has (z ∷ zs) x y (inr h) = let t = precedes_has zs x y h in (inr t.0, inr t.1)
-
--- both in the first list, both in the second, or one in each
-pub precedes_three : {X : Type 0} (xs ys : List X) (x y : X) → Precedes (xs ++ ys) x y → Precedes xs x y ⊎ ((Has xs x × Has ys y) ⊎ Precedes ys x y)
-precedes_three [] ys x y h = inr (inr h)
-precedes_three (z ∷ xs) ys x y (inl h) = elim (has_split xs ys y h.1) [ inl a ↦ inl (inl (h.0, a)) | inr b ↦ inr (inl (inl h.0, b)) ]
-precedes_three (z ∷ xs) ys x y (inr h) =
-    elim (precedes_three xs ys x y h) [ inl a ↦ inl (inr a) | inr (inl b) ↦ inr (inl (inr b.0, b.1)) | inr (inr c) ↦ inr (inr c) ]
 
 -- the second stands in the first list with the first, or in the second list
 precedes_split : {X : Type 0} (xs ys : List X) (x y : X) → Precedes (xs ++ ys) x y → Precedes xs x y ⊎ (Has (xs ++ ys) x × Has ys y)

@@ -1,22 +1,6 @@
 pub mod Decoded
-pub mod Views
-pub mod Prefixes
-pub mod Heard
-pub mod Leading
-pub mod Answering
-pub mod Standings
-pub mod Notes
-pub mod Decisions
-pub mod AnswersSent
-pub mod Clients
-pub mod Tells
-pub mod Asked
 pub mod Histories
 pub mod OneHistory
-pub mod Pairs
-pub mod Counts
-pub mod FactsStay
 pub mod Snapshots
 pub mod Replied
 mod PutAndGet
-pub mod SyncedPrefixes

@@ -12,7 +12,7 @@ use Rattle.nz_machine.specs.History.{history}
 use Rattle.nz_machine.specs.OneHistory.{StandsBefore, IsAnswered, Lin, IsAccepted, ArePaired}
 use Rattle.nz_base.specs.Prefixes.{IsPrefix}
 use Rattle.nz_base.proofs.Prefixes.{prefix_none, shorter_comparable}
-use Rattle.nz_lin.proofs.Prefixes.{place_more, place_in, answered_more, absent_place, has_place}
+use Rattle.nz_laws_commit.proofs.Places.{place_more, place_in, answered_more, absent_place, has_place}
 use Rattle.nz_lin.proofs.Histories.{IsCovered, IsBefore, IsHistory, history_is, history_sent, history_own}
 
 -- an accepted prefix is one of the history

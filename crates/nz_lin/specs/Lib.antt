@@ -1,4 +1,3 @@
 pub mod Laws
-pub mod Once
 pub mod Snapshots
 pub mod Replied

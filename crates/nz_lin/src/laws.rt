@@ -17,7 +17,7 @@ ghost use Rattle.nz_machine.specs.OneHistory.{Lin, NoCollision, ArePaired};
 ghost use Rattle.nz_lin.specs.Laws.{IsDecoded};
 ghost use Rattle.nz_machine.specs.Leading.{is_normal_in, leader_at, is_led, lead};
 ghost use Rattle.nz_base.specs.Prefixes.{IsPrefix};
-ghost use Rattle.nz_lin.specs.Once.{AreOnce};
+ghost use Rattle.nz_laws_commit.specs.Once.{AreOnce};
 ghost use Rattle.nz_lin.specs.Replied.{replied_lists, AreApart};
 ghost use Rattle.nz_lin.specs.Snapshots.{IsSnapshot};
 

@@ -1,4 +1,4 @@
-use Rattle.nz_lin.proofs.FactsStay.{facts_stay}
+use Rattle.nz_laws_commit.proofs.FactsStay.{facts_stay}
 use Rattle.nz_lin.proofs.laws.facts_stay.Goals as goal
 
 pub returns : goal.returns

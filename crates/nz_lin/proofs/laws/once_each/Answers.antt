@@ -1,4 +1,4 @@
-use Rattle.nz_lin.proofs.Counts.{are_once}
+use Rattle.nz_laws_commit.proofs.Counts.{are_once}
 use Rattle.nz_lin.proofs.laws.once_each.Goals as goal
 
 pub returns : goal.returns

@@ -1,4 +1,4 @@
-use Rattle.nz_lin.proofs.Asked.{own_command}
+use Rattle.nz_laws_commit.proofs.Asked.{own_command}
 use Rattle.nz_lin.proofs.laws.own_commands.Goals as goal
 
 pub returns : goal.returns

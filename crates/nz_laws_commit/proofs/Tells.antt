@@ -16,7 +16,7 @@ use Rattle.nz_machine.specs.Step.{script_of}
 use Rattle.nz_machine.specs.World.{state_after, Has}
 use Rattle.nz_machine.specs.Events.{Told, Sent, Accepted, id_at, command_at, read_in, accepted_in, accepted_by, sent_by, told_by, events}
 use Rattle.nz_machine.proofs.Runs.{may_act, has_left, has_right, has_split}
-use Rattle.nz_lin.proofs.Clients.{IsNumbered, client_turns}
+use Rattle.nz_laws_commit.proofs.Clients.{IsNumbered, client_turns}
 
 same_sent : (a b : Id) (x y : List ℕ) → Sent a x ≡ Sent b y → a ≡ b
 same_sent a b x y e = cc

@@ -1,6 +1,6 @@
 -- An answer parcel leads from its source to the source of the reply that gives the answer.
 use Rattle.std.proofs.Common.{◌≡◌, ℕ, List, ◌∷◌, Some, sym, ap, subst, ◌∙◌}
-use Rattle.std.specs.Option.{option_and_then}
+use Rattle.std.specs.Option.{option_map, option_and_then}
 use Rattle.nz_base.specs.declared.actor.Actor.{Actor}
 use Rattle.nz_base.specs.declared.actor.Actor.TheVariants.{Proxy, Client}
 use Rattle.nz_base.specs.declared.key.Id.{Id}
@@ -19,14 +19,17 @@ use Rattle.nz_machine.specs.World.{state_after, Has, World}
 use Rattle.nz_machine.specs.Events.{id_at}
 use Rattle.nz_machine.specs.History.{ReplySource, source_at_decision, source_of_sender, prefix_at_source}
 use Rattle.nz_machine.specs.Quorums.{view_of}
+use Rattle.nz_machine.specs.Committed.{view_at_decision, view_of_sender}
+use Rattle.nz_machine.specs.declared.reply.Reply.{Reply}
 use Rattle.nz_machine.proofs.Moments.{at_world}
 use Rattle.nz_base.proofs.Moments.{at_then}
 use Rattle.nz_machine.specs.Hearing.{heard_at}
 use Rattle.nz_machine.specs.Shows.{ShowsAnswer, Shows}
 use Rattle.nz_machine.proofs.Sends.{shown}
-use Rattle.nz_lin.proofs.Heard.{IsTold}
-use Rattle.nz_lin.proofs.Answering.{IsGiven, given_later}
-use Rattle.nz_lin.proofs.Decisions.{has_decided}
+use Rattle.nz_laws_commit.proofs.Heard.{IsTold}
+use Rattle.nz_laws_commit.proofs.Answering.{IsGiven, given_later}
+use Rattle.nz_laws_commit.proofs.Said.{IsBacked, backed_later}
+use Rattle.nz_laws_commit.proofs.Decisions.{has_decided}
 
 -- ---- the source of an answer
 
@@ -55,8 +58,10 @@ decided_at g r J q c b w by among =
 pub record LeadsBack (g : Group) (J : List Record) (id : Id) (a : Answer) (from : Actor) (K : List Record) : Type 0 where
   pub source : ReplySource
   pub is : source_of_sender g id from K ≡ Some source
-  pub view : ℕ
-  pub given : IsGiven g J view id a (prefix_at_source g id source)
+  pub reply : Reply
+  pub view : view_of_sender g id from K ≡ Some (view_of reply)
+  pub backed : IsBacked g J id reply source
+  pub given : IsGiven g J (view_of reply) id a (prefix_at_source g id source)
 
 pub answer_source : (g : Group) (J K : List Record) (p : Parcel) (e : Envelope) (c : ℕ) (b : AnswerBody) → World g J → IsTold g J K p e
     → IsAnswerOf e c b → LeadsBack g J (id_at c b.num) b.answer p.from K
@@ -71,9 +76,13 @@ answer_source g J K p e c b w t n =
     let answer = subst (λ (x : Message). Has outs (Client c, x)) n.message to_client in
     let d = decided_at g t.newest t.older q c b known by answer in
     let h = has_decided g moment known q id b.answer d.path d.stands in
+    let later = at_then J moment h.moment t.at h.at in
     record {
       source = h.source;
       is = ap (λ (x : Actor). source_of_sender g id x K) (t.from ∙ n.sender) ∙ ap (source_of_sender g id (Proxy q)) t.is ∙ ap (option_and_then (source_at_decision g q id)) h.is ∙ h.leads;
-      view = view_of h.reply;
-      given = given_later g J h.moment (at_then J moment h.moment t.at h.at) (view_of h.reply) id b.answer (prefix_at_source g id h.source) h.given;
+      reply = h.reply;
+      view = ap (λ (x : Actor). view_of_sender g id x K) (t.from ∙ n.sender) ∙ ap (view_of_sender g id (Proxy q)) t.is
+          ∙ ap (option_and_then (view_at_decision g q id)) h.is ∙ ap (option_map view_of) h.names;
+      backed = backed_later g J h.moment later id h.reply h.source h.backed;
+      given = given_later g J h.moment later (view_of h.reply) id b.answer (prefix_at_source g id h.source) h.given;
     }

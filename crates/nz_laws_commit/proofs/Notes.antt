@@ -31,9 +31,10 @@ use Rattle.nz_base.specs.Moments.{At}
 use Rattle.nz_base.proofs.Moments.{at_self}
 use Rattle.nz_machine.proofs.Moments.{at_world}
 use Rattle.nz_machine.proofs.Sources.{same_reply, has_source, source_stays}
-use Rattle.nz_lin.proofs.Heard.{told_at}
-use Rattle.nz_lin.proofs.Answering.{IsGiven, given_later, IsAnswering, reply_given}
-use Rattle.nz_lin.proofs.Standings.{Moves, Stays, Forgets, Opens, Notes, Decides, event_moves}
+use Rattle.nz_laws_commit.proofs.Heard.{IsTold, told_at}
+use Rattle.nz_laws_commit.proofs.Said.{IsSaid, said_later, said_by}
+use Rattle.nz_laws_commit.proofs.Answering.{IsGiven, given_later, IsAnswering, reply_given}
+use Rattle.nz_laws_commit.proofs.Standings.{Moves, Stays, Forgets, Opens, Notes, Decides, event_moves}
 
 -- the reply is among some
 abbrev pub IsNoted : Reply → List Reply → Type 0
@@ -161,15 +162,20 @@ has_moment g (r ∷ J) q id reply noted = elim (standing_moves g r J q id) [
 
 -- ---- its source
 
--- the source of a reply with an answer, and what the answer is given from
-pub record HasSource (g : Group) (J : List Record) (q : ℕ) (id : Id) (reply : Reply) (a : Answer) : Type 0 where
-  pub source : ReplySource
-  pub is : source_of_reply g q id J reply ≡ Some source
-  pub given : IsGiven g J (view_of reply) id a (prefix_at_source g id source)
+-- the source of a noted reply
+pub record IsBrought (g : Group) (J : List Record) (q : ℕ) (id : Id) (reply : Reply) : Type 0 where
+  pub parcel : Parcel
+  pub run : List Record
+  pub is : source_of_reply g q id J reply ≡ Some (record { sender = parcel.from; run = run })
+  pub said : IsSaid g J id reply parcel.from run
+  pub moment : List Record
+  pub at : At J moment
+  pub envelope : Envelope
+  pub told : IsTold g moment run parcel envelope
+  pub read : reply_in id envelope.from envelope.message ≡ Some reply
 
-pub noted_source : (g : Group) (J : List Record) (q : ℕ) (id : Id) (reply : Reply) (a : Answer) → World g J → HasMoment g q id reply J
-    → answer_in reply ≡ Some a → HasSource g J q id reply a
-noted_source g J q id reply a w h answer =
+pub noted_brought : (g : Group) (J : List Record) (q : ℕ) (id : Id) (reply : Reply) → World g J → HasMoment g q id reply J → IsBrought g J q id reply
+noted_brought g J q id reply w h =
     let b = h.brings in
     let moment = b.newest ∷ b.older in
     let known : World g moment = at_world g J moment w b.at in
@@ -181,12 +187,38 @@ noted_source g J q id reply a w h answer =
     let s = has_source p b.older may.1 in
     let found : source p moment ≡ Some s.0 = source_stays p b.newest b.older s.0 s.1 in
     let told = told_at g moment known (Proxy q) p e d.heard s.0 found in
-    let answering = answering_by id e e.from e.message reply a refl refl t.1.1 answer in
-    let at : ReplySource = (record { sender = p.from; run = s.0 }) in
     record {
-      source = at;
+      parcel = p;
+      run = s.0;
       is = ap (option_and_then (λ M. option_and_then (source_of M) (delivered M))) (h.is ∙ ap Some b.is)
           ∙ ap (λ (x : Event). option_and_then (source_of moment) (parcel_in x)) d.is
           ∙ ap (option_map (λ (K : List Record). record { sender = p.from; run = K })) found;
-      given = given_later g J moment b.at (view_of reply) id a (prefix_at_source g id at) (reply_given g moment s.0 p e (view_of reply) id a known told answering);
+      said = said_later g J moment id reply p.from s.0 b.at (said_by g moment s.0 p e e.from e.message id reply known told refl refl t.1.1);
+      moment = moment;
+      at = b.at;
+      envelope = e;
+      told = told;
+      read = t.1.1;
+    }
+
+-- the source of a reply with an answer, and what the answer is given from
+pub record HasSource (g : Group) (J : List Record) (q : ℕ) (id : Id) (reply : Reply) (a : Answer) : Type 0 where
+  pub source : ReplySource
+  pub is : source_of_reply g q id J reply ≡ Some source
+  pub said : IsSaid g J id reply source.sender source.run
+  pub given : IsGiven g J (view_of reply) id a (prefix_at_source g id source)
+
+pub noted_source : (g : Group) (J : List Record) (q : ℕ) (id : Id) (reply : Reply) (a : Answer) → World g J → HasMoment g q id reply J
+    → answer_in reply ≡ Some a → HasSource g J q id reply a
+noted_source g J q id reply a w h answer =
+    let b = noted_brought g J q id reply w h in
+    let e = b.envelope in
+    let known : World g b.moment = at_world g J b.moment w b.at in
+    let answering = answering_by id e e.from e.message reply a refl refl b.read answer in
+    let at : ReplySource = (record { sender = b.parcel.from; run = b.run }) in
+    record {
+      source = at;
+      is = b.is;
+      said = b.said;
+      given = given_later g J b.moment b.at (view_of reply) id a (prefix_at_source g id at) (reply_given g b.moment b.run b.parcel e (view_of reply) id a known b.told answering);
     }

@@ -1,5 +1,5 @@
 -- Each request is sent once, and accepted at most once and after that; and a client has at most one open.
-use Rattle.std.proofs.Common.{◌≡◌, ℕ, ◌+◌, ◌<◌, ◌≤◌, Bool, true, false, cond, eqb, min, nat_lt, List, [], ◌∷◌, ◌++◌, Option, Some, None, refl, sym, ap, subst, ◌∙◌, arith, inl, inr, lt-ltb}
+use Rattle.std.proofs.Common.{◌≡◌, ℕ, ◌+◌, ◌<◌, ◌≤◌, Bool, true, false, cond, eqb, min, nat_lt, List, [], ◌∷◌, ◌++◌, Option, Some, None, refl, sym, ap, subst, ◌∙◌, arith, inl, inr, ◌⊎◌, lt-ltb}
 use Rattle.std.specs.Prelude.{slice_get}
 use Rattle.std.proofs.lemmas.Bool.{cases_lt}
 use Rattle.nz_base.specs.declared.actor.Actor.{Actor}
@@ -23,10 +23,23 @@ use Rattle.nz_machine.specs.World.{state_after, Has}
 use Rattle.nz_machine.specs.Events.{Told, Sent, Accepted, id_at, command_at, read_in, accepted_in, accepted_by, sent_by, told_by, events}
 use Rattle.nz_machine.specs.OneHistory.{Precedes}
 use Rattle.nz_machine.proofs.Runs.{may_act, has_left, has_right, has_split, on_cond}
-use Rattle.nz_lin.specs.Once.{AreOnce}
-use Rattle.nz_lin.proofs.Histories.{precedes_three}
+use Rattle.nz_laws_commit.specs.Once.{AreOnce}
 use Rattle.nz_machine.proofs.Accepting.{client_accepts}
-use Rattle.nz_lin.proofs.Tells.{AcceptsAnswer, told_sent, told_accepted, not_sent, not_accepted, sent_once, not_sent_before, has_sent, count_rises}
+use Rattle.nz_laws_commit.proofs.Tells.{AcceptsAnswer, told_sent, told_accepted, not_sent, not_accepted, sent_once, not_sent_before, has_sent, count_rises}
+
+-- ---- lists of events
+
+pub precedes_has : {X : Type 0} (xs : List X) (x y : X) → Precedes xs x y → Has xs x × Has xs y
+precedes_has [] x y h = absurd h
+precedes_has (z ∷ zs) x y (inl h) = (inl h.0, inr h.1)
+precedes_has (z ∷ zs) x y (inr h) = let t = precedes_has zs x y h in (inr t.0, inr t.1)
+
+-- both in the first list, both in the second, or one in each
+pub precedes_three : {X : Type 0} (xs ys : List X) (x y : X) → Precedes (xs ++ ys) x y → Precedes xs x y ⊎ ((Has xs x × Has ys y) ⊎ Precedes ys x y)
+precedes_three [] ys x y h = inr (inr h)
+precedes_three (z ∷ xs) ys x y (inl h) = elim (has_split xs ys y h.1) [ inl a ↦ inl (inl (h.0, a)) | inr b ↦ inr (inl (inl h.0, b)) ]
+precedes_three (z ∷ xs) ys x y (inr h) =
+    elim (precedes_three xs ys x y h) [ inl a ↦ inl (inr a) | inr (inl b) ↦ inr (inl (inr b.0, b.1)) | inr (inr c) ↦ inr (inr c) ]
 
 -- ---- counts of a client
 

@@ -24,6 +24,8 @@ pub record IsTold (g : Group) (J K : List Record) (p : Parcel) (e : Envelope) : 
   pub sender : newest.actor ≡ e.from
   pub from : p.from ≡ e.from
   pub among : Has (event_step g newest.actor (state_after g newest.actor older) newest.event).1 (e.to, e.message)
+  pub sends : Has newest.sends (parcel newest.actor (e.to, e.message))
+  pub fit : FitsOut newest.actor (e.to, e.message)
 
 pub told_at : (g : Group) (J : List Record) → World g J → (a : Actor) (p : Parcel) (e : Envelope) → received g.f a p ≡ Some e → (K : List Record) → source p J ≡ Some K → IsTold g J K p e
 told_at g J w a p e heard K found =
@@ -46,5 +48,7 @@ told_at g J w a p e heard K found =
             sender = ap (λ (x : Envelope). x.from) same;
             from = ap (λ (x : Parcel). x.from) b.is ∙ ap (λ (x : Envelope). x.from) same;
             among = subst (λ (x : Envelope). Has outs (x.to, x.message)) same b.among;
+            sends = subst (λ (x : Envelope). Has s.newest.sends (parcel s.newest.actor (x.to, x.message))) same (subst (λ (q : Parcel). Has s.newest.sends q) b.is s.sends);
+            fit = subst (λ (x : Envelope). FitsOut s.newest.actor (x.to, x.message)) same fit;
           }
     ]

@@ -28,10 +28,10 @@ use Rattle.nz_machine.specs.Leading.{is_normal_in, leader_at, is_led}
 use Rattle.nz_machine.specs.Hearing.{heard_at}
 use Rattle.nz_machine.specs.Shows.{ShowsFast, Shows}
 use Rattle.nz_base.proofs.Moments.{at_then}
-use Rattle.nz_lin.proofs.Prefixes.{EndsAnswered, cut_answered}
-use Rattle.nz_lin.proofs.FactsStay.{facts_stay}
+use Rattle.nz_laws_commit.proofs.Places.{EndsAnswered, cut_answered}
+use Rattle.nz_laws_commit.proofs.FactsStay.{facts_stay}
 use Rattle.nz_machine.proofs.Sends.{shown}
-use Rattle.nz_lin.proofs.Heard.{IsTold}
+use Rattle.nz_laws_commit.proofs.Heard.{IsTold}
 
 -- ---- an answer of a leader
 

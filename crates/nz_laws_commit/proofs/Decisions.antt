@@ -19,9 +19,11 @@ use Rattle.nz_base.specs.Moments.{At}
 use Rattle.nz_base.proofs.Moments.{at_self}
 use Rattle.nz_machine.proofs.Sources.{reply_eq_self}
 use Rattle.nz_machine.proofs.Choices.{decision_is}
-use Rattle.nz_lin.proofs.Answering.{IsGiven}
-use Rattle.nz_lin.proofs.Standings.{Moves, Stays, Forgets, Opens, Notes, Decides}
-use Rattle.nz_lin.proofs.Notes.{IsNoted, moment_of, standing_moves, has_moment, noted_source}
+use Rattle.nz_laws_commit.proofs.Answering.{IsGiven}
+use Rattle.nz_laws_commit.proofs.Standings.{Moves, Stays, Forgets, Opens, Notes, Decides}
+use Rattle.nz_laws_commit.proofs.Said.{IsBacked}
+use Rattle.nz_laws_commit.proofs.Chosen.{chosen_quorum}
+use Rattle.nz_laws_commit.proofs.Notes.{IsNoted, moment_of, standing_moves, has_moment, noted_brought, noted_source}
 
 has_noted : (replies : List Reply) (r : Reply) → Has replies r → IsNoted r replies
 has_noted [] r h = absurd h
@@ -37,6 +39,7 @@ pub record HasDecided (g : Group) (J : List Record) (q : ℕ) (id : Id) (a : Ans
   pub names : deciding_reply g q id moment ≡ Some reply
   pub source : ReplySource
   pub leads : source_at_decision g q id moment ≡ Some source
+  pub backed : IsBacked g moment id reply source
   pub given : IsGiven g moment (view_of reply) id a (prefix_at_source g id source)
 
 undecided : (g : Group) (J : List Record) (q : ℕ) (id : Id) → is_decided (standing_after g q id J) ≡ false → decision_moment g q id J ≡ None
@@ -57,6 +60,7 @@ decided_later g r J q id a p now h = record {
   names = h.names;
   source = h.source;
   leads = h.leads;
+  backed = h.backed;
   given = h.given;
 }
 
@@ -78,6 +82,15 @@ decides g r J q id a p replies n chosen w by before heard d answer now =
       names = deciding;
       source = b.source;
       leads = ap (option_and_then (source_of_reply g q id (r ∷ J))) deciding ∙ b.is;
+      backed = record {
+        replies = with_note replies n;
+        quorum = chosen_quorum g.f (with_note replies n) chosen d;
+        said = λ x among.
+            let moment = moment_of g q id r J replies n x by before heard (has_moment g J q id x) (has_noted (with_note replies n) x among) in
+            let brought = noted_brought g (r ∷ J) q id x w moment in
+            record { from = brought.parcel.from; moment = brought.run; said = brought.said };
+        own = b.said;
+      };
       given = b.given;
     }
 
