@@ -1,11 +1,13 @@
 //! A log that is executed up to an entry, and which prefix is the longest.
 
+ghost use Rattle.std.specs.Prelude.{◌≡◌, length, IfOk};
+
 use super::executing::execute;
 use super::reading::entries_up_to;
 use super::replaying::replay_one;
 use super::source::{Source, longer};
 use nz_base::{Actor, Blob, Cluster, Id};
-use nz_machine::{Core, Event, Parcel, Record, Sends};
+use nz_machine::{Core, Event, History, Parcel, Record, Sends};
 use nz_msg::{Message, TimedBody, encode};
 use nz_replica::Replica;
 use nz_store::Answer;
@@ -59,38 +61,61 @@ fn quiet(alloc: Global, actor: Actor, event: Event) -> Record {
     }
 }
 
-// Three requests are released by replica 0 in the order of their deadlines, and not by replica 1.
-#[test]
-fn log_up_to_an_entry_is_executed(rt: HostRuntime) -> Result<(), Fail> {
-    let alloc = rt.alloc();
-    let Some(cluster) = Cluster::new(1) else {
-        return Err("no cluster".into());
-    };
-    let mut core = Replica::new(alloc, cluster, 0)?;
-    let records = vec![in alloc;
+// Three requests reach replica 0 in another order than that of their deadlines, one reaches replica 1, and a tick
+// passes.
+fn records(alloc: Global) -> Result<Vec<Record>, Fail> {
+    Ok(vec![in alloc;
         timed(alloc, 0, 12_600, 1, &GET_A)?,
         timed(alloc, 0, 12_500, 0, &PUT_A_1)?,
         timed(alloc, 0, 12_700, 2, &DEL_A)?,
         timed(alloc, 1, 12_500, 0, &PUT_A_1)?,
         quiet(alloc, Actor::Replica(0), Event::Tick(13_000)),
-    ]?;
-    for record in &records {
+    ]?)
+}
+
+// Replica 0 after them.
+fn replayed(alloc: Global) -> Result<Replica, Fail> {
+    let Some(cluster) = Cluster::new(1) else {
+        return Err("no cluster".into());
+    };
+    let mut core = Replica::new(alloc, cluster, 0)?;
+    for record in &records(alloc)? {
         if !core.is_live() {
             return Err("no memory".into());
         }
         replay_one(&mut core, 0, record)?;
     }
+    Ok(core)
+}
+
+#[test]
+fn entries_up_to_a_request_are_counted(rt: HostRuntime) -> Result<(), Fail> {
+    let core = replayed(rt.alloc())?;
     let log = core.log();
-    let count = entries_up_to(log, Id { client: 1, num: 1 });
-    assert_eq!(rt; (log.len(), count), (3, 2));
+    assert_eq!(rt; log.len(), 3);
+    assert_eq!(rt; entries_up_to(log, Id { client: 1, num: 1 }), 2);
     assert_eq!(rt; entries_up_to(log, Id { client: 1, num: 2 }), 0);
-    if count > log.len() {
-        return Err("too many entries".into());
+    Ok(())
+}
+
+// What the store answers to the first two entries.
+fn two_answers(alloc: Global) -> Result<History, Fail>
+    ensures { IfOk result (λ history. length history ≡ 2) }
+{
+    let core = replayed(alloc)?;
+    if core.log().len() < 2 {
+        return Err("too few entries".into());
     }
-    let history = execute(alloc, log, count)?;
+    let history = execute(alloc, core.log(), 2)?;
     if history.len() != 2 {
         return Err("too few answers".into());
     }
+    Ok(history)
+}
+
+#[test]
+fn log_up_to_an_entry_is_executed(rt: HostRuntime) -> Result<(), Fail> {
+    let history = two_answers(rt.alloc())?;
     let (put, get) = (history.get(0), history.get(1));
     assert_eq!(rt; (put.id.client, get.id.client), (0, 1));
     assert!(rt; matches!(&put.answer, Answer::Done));
