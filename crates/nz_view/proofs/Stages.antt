@@ -1,32 +1,51 @@
--- One stage of a rule after another.
-use Rattle.std.proofs.Common.{◌≡◌, List, ◌++◌, map, sym, ap, subst, ◌∙◌, append_assoc}
-use Rattle.std.proofs.lemmas.List.{map-append}
-use Rattle.nz_base.specs.declared.actor.Actor.TheVariants.{Replica}
+-- What the stages of a rule come to.
+use Rattle.std.proofs.Common.{◌≡◌, ℕ, ◌≤◌, Bool, true, false, ◌&&◌, ◌==◌, cond, List, [], refl, sym, ap, ◌∙◌, inl, inr, arith, eq-eqb}
+use Rattle.std.specs.Prelude.{nat_lt}
+use Rattle.std.proofs.lemmas.Bool.Decides.{nat_tests}
+use Rattle.nz_base.proofs.Booleans.{cases_bool}
+use Rattle.nz_base.specs.Cluster.{leader_of}
+use Rattle.nz_cv.specs.Vectors.{is_stray}
+use Rattle.nz_msg.specs.declared.message.StartViewBody.{StartViewBody}
 use Rattle.nz_machine.specs.declared.event.Parcel.{Parcel}
 use Rattle.nz_machine.specs.State.{ReplicaData, Out}
 use Rattle.nz_machine.specs.Facts.{ReplicaModel}
-use Rattle.nz_machine.specs.Replicas.{◌and_then◌}
-use Rattle.nz_machine.specs.Does.{Does}
-use Rattle.nz_machine.specs.Step.{parcel}
+use Rattle.nz_machine.specs.Replicas.{leads}
+use Rattle.nz_machine.specs.Vectors.{with_vector, unless_stray}
+use Rattle.nz_machine.specs.Views.{enter_view, enter_later}
+use Rattle.nz_machine.specs.Adopting.{may_start, after_start, start_view_rule}
+use Rattle.nz_machine.specs.Does.{Does, DoesSilently}
 
--- a rule that sends follows one that sends
-pub then_does : (old mid new : ReplicaModel) (before between after : List Parcel) (t : ReplicaData × List Out) (next : ReplicaData → ReplicaData × List Out)
-    → Does old mid before between t → Does mid new between after (next mid.state) → Does old new before after (t and_then next)
-then_does old mid new before between after t next one two =
-    let p = parcel (Replica old.me) in
-    let u = next t.0 in
+-- ---- a view that is entered where it is later
+
+later_view : (f me view : ℕ) (s : ReplicaData) → s.view ≤ view → (enter_later f me view s).0.view ≡ view
+unfolding enter_view
+later_view f me view s low =
+    elim (cases_bool (nat_lt s.view view)) [
+      | inl later ↦ ap (λ (b : Bool). (cond b (enter_view f me view s) (s, [])).0.view) later
+      | inr over ↦ ap (λ (b : Bool). (cond b (enter_view f me view s) (s, [])).0.view) over ∙ grind (arith, nat_tests, over, low)
+    ]
+
+-- who leads the view leads it then
+pub leads_later : (old new : ReplicaModel) (before after : List Parcel) (view : ℕ) → Does old new before after (enter_later old.f old.me view old.state) → old.state.view ≤ view
+    → leader_of old.f view ≡ old.me → leads new.f new.me new.state ≡ true
+leads_later old new before after view done low own =
+    ap (λ (m : ReplicaModel). leads m.f m.me m.state) done.state
+    ∙ ap (λ (v : ℕ). leader_of old.f v == old.me) (later_view old.f old.me view old.state low)
+    ∙ eq-eqb (leader_of old.f view) old.me own
+
+-- ---- a view that starts
+
+pub starts : (old mid new : ReplicaModel) (sender : ℕ) (b : StartViewBody) → may_start old.state b.view ≡ true → sender ≡ leader_of old.f b.view → is_stray b.vector sender old.state.vector ≡ false
+    → mid ≡ record old { state = with_vector old.me old.state b.vector } → new ≡ record mid { state = after_start mid.state b } → DoesSilently old new (start_view_rule old.f old.me old.state sender b)
+unfolding start_view_rule
+starts old mid new sender b may from fresh one two =
+    let s = old.state in
+    let end : ReplicaData × List Out = (after_start (with_vector old.me s b.vector) b, []) in
+    let both : (may_start s b.view && (sender == leader_of old.f b.view)) ≡ true = rw may (eq-eqb sender (leader_of old.f b.view) from) in
+    let rule : start_view_rule old.f old.me s sender b ≡ end =
+        ap (λ (x : Bool). cond x (unless_stray old.me s sender b.vector (λ t. (after_start t b, []))) (s, [])) both
+        ∙ ap (λ (x : Bool). cond x (s, []) end) fresh in
     record {
-      state = two.state ∙ ap (λ (m : ReplicaModel). record m { state = (next m.state).0 }) one.state;
-      sends = two.sends
-          ∙ ap (λ (m : ReplicaModel). between ++ map (parcel (Replica m.me)) (next m.state).1) one.state
-          ∙ ap (λ (xs : List Parcel). xs ++ map p u.1) one.sends
-          ∙ append_assoc before (map p t.1) (map p u.1)
-          ∙ ap (λ (xs : List Parcel). before ++ xs) (sym (map-append p t.1 u.1));
+      state = two ∙ ap (λ (m : ReplicaModel). record m { state = after_start m.state b }) one ∙ ap (λ (u : ReplicaData × List Out). record old { state = u.0 }) (sym rule);
+      silent = ap (λ (u : ReplicaData × List Out). u.1) rule;
     }
-
--- a rule of the state that another word leaves
-pub after_word : (old mid new : ReplicaModel) (before after : List Parcel) (s : ReplicaData) (rule : ReplicaModel → ReplicaData × List Out)
-    → mid ≡ record old { state = s } → Does mid new before after (rule mid) → Does old new before after (rule (record old { state = s }))
-after_word old mid new before after s rule is done =
-    let moved : Does (record old { state = s }) new before after (rule (record old { state = s })) = subst (λ (m : ReplicaModel). Does m new before after (rule m)) is done in
-    record { state = moved.state; sends = moved.sends }

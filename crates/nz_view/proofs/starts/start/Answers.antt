@@ -1,0 +1,7 @@
+use Rattle.std.proofs.Common.{sym, subst}
+use Rattle.nz_machine.specs.Facts.{IsCarried}
+use Rattle.nz_machine.proofs.Carried.{carried_of_fit}
+use Rattle.nz_view.proofs.starts.start.Goals as goal
+
+pub start-requires-clause-log : goal.start-requires-clause-log
+start-requires-clause-log c = subst IsCarried (sym c.in_ok-log.ensures) (carried_of_fit c.args.body.now.commit c.args.body.now.entries c.requires.fits.1.1.1)
