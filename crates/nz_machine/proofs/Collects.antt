@@ -1,8 +1,9 @@
 -- What is collected, one after the other as the code does.
-use Rattle.std.proofs.Common.{◌≡◌, ℕ, zero, suc, ◌+◌, ◌<◌, Bool, true, false, not, ◌||◌, ◌==◌, append_assoc, List, [], ◌∷◌, ◌++◌, length, map, take, drop, get_or, refl, sym, ap, subst, ◌∙◌, inl, inr, arith}
+use Rattle.std.proofs.Common.{◌≡◌, ℕ, zero, suc, ◌+◌, ◌<◌, ◌≤◌, true, false, not, ◌||◌, ◌==◌, append_assoc, List, [], ◌∷◌, ◌++◌, length, map, take, drop, get_or, refl, sym, ap, subst, ◌∙◌, inl, inr, arith}
+use Rattle.std.specs.Prelude.{Result, Ok, Err, OnOk}
 use Rattle.std.specs.List.{filter}
 use Rattle.std.proofs.lemmas.Bool.{eqb-true, eq-eqb}
-use Rattle.std.proofs.lemmas.List.{append-nil, map-append, take_more}
+use Rattle.std.proofs.lemmas.List.{append-nil, map-append, take_more, take_all}
 use Rattle.std.proofs.lemmas.List.Elements.{filter-append}
 use Rattle.nz_base.specs.declared.key.Entry.{Entry}
 use Rattle.nz_base.proofs.Booleans.{cases_bool, clash, neither_left, neither_right}
@@ -10,7 +11,7 @@ use Rattle.nz_cv.specs.Vectors.{is_stray}
 use Rattle.nz_merge.specs.declared.change.Change.{Change}
 use Rattle.nz_merge.specs.Sender.{has_sender, HaveOwnSenders}
 use Rattle.nz_store.specs.Entries.{Entries}
-use Rattle.nz_store.specs.Sequence.{apply_bytes, store_after, replies}
+use Rattle.nz_store.specs.Sequence.{apply_bytes, store_after, replies_from, replies}
 use Rattle.nz_store.specs.declared.command.Answer.{Answer}
 use Rattle.nz_machine.specs.declared.data.Reported.{Reported}
 use Rattle.nz_machine.specs.declared.data.ToldView.{ToldView}
@@ -48,6 +49,20 @@ pub tells_more : (known : List ℕ) (sender : ℕ) (tells : List ToldView) (i : 
 tells_more known sender tells i d within other fresh =
     ap (tells_kept known sender) (take_more tells i d within) ∙ tells_next known sender (take i tells) (get_or tells i d)
     ∙ (rw (other, fresh) refl)
+
+-- all of them, and the new one
+pub told_stray : (known : List ℕ) (tells : List ToldView) (told : ToldView) (place : ℕ) → length tells ≤ place → is_stray told.vector told.sender known ≡ true
+    → tells_kept known told.sender (take place tells) ≡ filter (λ (t : ToldView). not (is_stray t.vector t.sender known)) (filter (λ (t : ToldView). not (t.sender == told.sender)) tells ++ told ∷ [])
+told_stray known tells told place past stray =
+    ap (tells_kept known told.sender) (take_all place tells past)
+    ∙ sym (append-nil (tells_kept known told.sender tells))
+    ∙ sym (filter-append (λ (t : ToldView). not (is_stray t.vector t.sender known)) (filter (λ (t : ToldView). not (t.sender == told.sender)) tells) (told ∷ []) ∙ (rw stray refl))
+
+pub told_more : (known : List ℕ) (tells : List ToldView) (told : ToldView) (place : ℕ) → length tells ≤ place → is_stray told.vector told.sender known ≡ false
+    → tells_kept known told.sender (take place tells) ++ told ∷ [] ≡ filter (λ (t : ToldView). not (is_stray t.vector t.sender known)) (filter (λ (t : ToldView). not (t.sender == told.sender)) tells ++ told ∷ [])
+told_more known tells told place past fresh =
+    ap (λ (ts : List ToldView). tells_kept known told.sender ts ++ told ∷ []) (take_all place tells past)
+    ∙ sym (filter-append (λ (t : ToldView). not (is_stray t.vector t.sender known)) (filter (λ (t : ToldView). not (t.sender == told.sender)) tells) (told ∷ []) ∙ (rw fresh refl))
 
 -- ---- reports of different replicas
 
@@ -95,3 +110,13 @@ executed_more list i d within = ap (λ (xs : List Entry). store_after (commands 
 pub answered_more : (list : List Entry) (i : ℕ) (d : Entry) → i < length list
     → replies (commands (take (i + 1) list)) ≡ replies (commands (take i list)) ++ (apply_bytes (store_after (commands (take i list))) (get_or list i d).command).1 ∷ []
 answered_more list i d within = ap (λ (xs : List Entry). replies (commands xs)) (take_more list i d within) ∙ replies_pushed (take i list) (get_or list i d)
+
+-- ---- answers other than Ok
+
+pub both_ok : {X E : Type 0} (P Q R : Type 0) (r : Result X E) → OnOk r P → OnOk r Q → (P → Q → R) → OnOk r R
+both_ok P Q R (Ok x) p q both = both p q
+both_ok P Q R (Err e) p q both = tt
+
+pub no_replies : replies [] ≡ []
+unfolding replies_from
+no_replies = refl

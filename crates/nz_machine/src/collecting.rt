@@ -64,7 +64,7 @@ pub fn drop_stray_reports(changes: &mut Vec<Reported>, known: &CrashVector)
 }
 
 /// The views that were told without an earlier one of the sender, with this one, and without those that are stray.
-#[tactic(auto, using(crate::proofs::Collects::tells_replaced, crate::proofs::Collects::tells_stray, crate::proofs::Collects::tells_more))]
+#[tactic(auto, using(crate::proofs::Collects::tells_replaced, crate::proofs::Collects::tells_stray, crate::proofs::Collects::tells_more, crate::proofs::Collects::told_stray, crate::proofs::Collects::told_more))]
 pub fn with_told(
     alloc: Global,
     tells: &[ToldView],
@@ -79,9 +79,10 @@ pub fn with_told(
             list.push(*other)?;
         }
     }
-    if !is_stray(&told.vector, told.sender, known) {
-        list.push(told)?;
+    if is_stray(&told.vector, told.sender, known) {
+        return Ok(list);
     }
+    list.push(told)?;
     Ok(list)
 }
 
@@ -96,12 +97,18 @@ pub fn latest(tells: &[ToldView]) -> u64
     latest
 }
 
+fn has_told(tellers: &[u8], sender: u8) -> bool
+    ensures { result ≡ list_any (λ t. t == sender) tellers.now }
+{
+    tellers.iter().any(|teller| *teller == sender)
+}
+
 /// The tellers with one more, each once.
 pub fn note_teller(tellers: &mut List<u8>, sender: u8) -> Result<(), NoMemory>
     ensures ok { OnOk result (tellers.new ≡ (if list_any (λ t. t == sender) tellers.old then tellers.old else tellers.old ++ sender ∷ [])) }
     ensures err { OnErr result (tellers.new ≡ tellers.old) }
 {
-    if !tellers.as_slice().iter().any(|teller| *teller == sender) {
+    if !has_told(tellers.as_slice(), sender) {
         tellers.push(sender)?;
     }
     Ok(())

@@ -1,0 +1,8 @@
+use Rattle.std.proofs.Common.{◌≡◌, ◌∙◌, sym}
+use Rattle.nz_store.specs.Sequence.{store_after, replies, store_from, replies_from}
+use Rattle.nz_machine.proofs.Stores.{no_store}
+use Rattle.nz_machine.proofs.Collects.{no_replies}
+use Rattle.nz_machine.proofs.collecting.execute_all.Goals as goal
+
+pub loop-entry-init : goal.loop-entry-init
+loop-entry-init c = record { store = c.new-store.ensures ∙ sym no_store; answers = c.new-answers.ensures.items ∙ sym no_replies }
