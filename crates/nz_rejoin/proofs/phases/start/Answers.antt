@@ -1,0 +1,9 @@
+use Rattle.std.proofs.Common.{sym, subst}
+use Rattle.nz_machine.specs.Facts.{IsCarried}
+use Rattle.nz_machine.proofs.Carried.{carried_of_fit}
+use Rattle.nz_rejoin.proofs.phases.start.Goals as goal
+
+pub start-requires-clause-log : goal.start-requires-clause-log
+start-requires-clause-log c =
+    let b = c.args.body.now in
+    subst IsCarried (sym c.in_ok-log.ensures) (carried_of_fit b.commit b.entries c.requires.fits.1.1.1.1)
