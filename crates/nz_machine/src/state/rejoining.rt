@@ -10,6 +10,7 @@ ghost use Rattle.nz_machine.specs.Rejoining.{rejoin_period, last_counter, restar
 
 use super::super::collecting::{latest, note_teller, with_told};
 use super::super::data::{Phase, Status, ToldView};
+use super::super::parts::vector_fits;
 use super::{ReplicaState, forget};
 use nz_base::{List, NoMemory};
 use nz_cv::CrashVector;
@@ -74,6 +75,8 @@ impl ReplicaState {
         ensures state { OnOk result (self.new ≡ record self.old { state = with_teller self.old.me self.old.state sender vector.now }) }
         ensures count { IfOk result (λ count. count ≡ length self.new.state.rejoin.tellers) }
     {
+        // Each of its counters has four bytes.
+        vector_fits(vector);
         note_teller(&mut self.parts.rejoin.tellers, sender)?;
         let told = vector.get(self.parts.me);
         self.parts.rejoin.claim = self.parts.rejoin.claim.max(told);

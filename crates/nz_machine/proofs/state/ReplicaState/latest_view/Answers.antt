@@ -1,0 +1,11 @@
+use Rattle.std.proofs.Common.{◌≤◌, map, ap, ◌∙◌, sym, subst, List}
+use Rattle.nz_merge.specs.Merged.{greatest}
+use Rattle.nz_machine.specs.declared.data.ToldView.{ToldView}
+use Rattle.nz_machine.specs.Replicas.{last_view}
+use Rattle.nz_machine.proofs.Words.{latest_low}
+use Rattle.nz_machine.proofs.state.ReplicaState.latest_view.Goals as goal
+
+pub returns-clause-last : goal.returns-clause-last
+returns-clause-last c =
+    let is = c.latest.ensures ∙ ap (λ (ts : List ToldView). greatest (map (λ t. t.view) ts)) c.as_slice.ensures in
+    subst (λ n. n ≤ last_view) (sym is) (latest_low _ _ _ c.self.invariant.facts)
