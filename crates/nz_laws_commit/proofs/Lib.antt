@@ -24,3 +24,4 @@ pub mod Accepted
 pub mod Keyed
 pub mod Supporting
 pub mod Committing
+pub mod Following
