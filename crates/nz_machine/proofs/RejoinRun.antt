@@ -38,38 +38,38 @@ use Rattle.nz_machine.specs.Incarnations.{replica_at, incarnation, own_counter, 
 use Rattle.nz_machine.specs.Begun.{start}
 use Rattle.nz_machine.proofs.WorkedRuns.{first_entry, holding, group, play, arrive, kinds_sent, come, all_tick, opened, stamped, spread, released, replied, accepted, played, came, is_accepted, never_restarted}
 
-unfoldable alarmed : List Record
+unfoldable pub alarmed : List Record
 alarmed = play accepted (Replica 2) Alarm
 
 -- While r2 is down a tick changes nothing.
-unfoldable down : List Record
+unfoldable pub down : List Record
 down = play alarmed (Replica 2) Crash
 
-unfoldable deaf : List Record
+unfoldable pub deaf : List Record
 deaf = play down (Replica 2) (Tick 14000)
 
-unfoldable back : List Record
+unfoldable pub back : List Record
 back = play deaf (Replica 2) (Restart 7)
 
 -- The others tell their vectors: r2 has enough with the second.
-unfoldable told_once : List Record
+unfoldable pub told_once : List Record
 told_once = come 14 (Replica 0) (Replica 2) (come 13 (Replica 2) (Replica 1) (come 13 (Replica 2) (Replica 0) back))
 
-unfoldable counted : List Record
+unfoldable pub counted : List Record
 counted = come 14 (Replica 1) (Replica 2) told_once
 
 -- They tell their views, each when it is asked.
-unfoldable first_asked : List Record
+unfoldable pub first_asked : List Record
 first_asked = come 15 (Replica 2) (Replica 0) counted
 
-unfoldable second_asked : List Record
+unfoldable pub second_asked : List Record
 second_asked = come 15 (Replica 2) (Replica 1) first_asked
 
-unfoldable viewed : List Record
+unfoldable pub viewed : List Record
 viewed = come 16 (Replica 1) (Replica 2) (come 16 (Replica 0) (Replica 2) second_asked)
 
 -- r0 leads the latest view, and tells its log.
-unfoldable rejoined : List Record
+unfoldable pub rejoined : List Record
 rejoined = come 18 (Replica 0) (Replica 2) (come 17 (Replica 2) (Replica 0) viewed)
 
 -- The old view change comes to r1.
