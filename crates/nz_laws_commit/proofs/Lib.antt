@@ -24,4 +24,6 @@ pub mod Accepted
 pub mod Keyed
 pub mod Supporting
 pub mod Committing
+pub mod TurnDoes
+pub mod Begun
 pub mod Following

@@ -12,7 +12,8 @@ use Rattle.nz_machine.specs.World.{World}
 use Rattle.nz_machine.specs.Incarnations.{replica_at}
 use Rattle.nz_machine.specs.Leading.{is_normal_in, is_led}
 use Rattle.nz_machine.specs.Begun.{begins, report_parcel, IsReported, IsMemberOf}
-use Rattle.nz_math.specs.Count.{is_in}
+use Rattle.nz_math.specs.Count.{is_in, IsChoice}
+use Rattle.nz_math.specs.Quorum.{group_size, slow_quorum}
 use Rattle.nz_base.specs.Moments.{At}
 use Rattle.nz_laws_cv.specs.Notions.{IsHeldByMany}
 use Rattle.nz_laws_cv.specs.Ground.{IsReport, IsBegin, HasModes, Ground}
@@ -152,16 +153,23 @@ module _ (g : Group) (J : List Record) (w : ℕ) (r : Record) (K : List Record) 
       let from = has_source (letter t.item.change.sender l (report_message w t.item)) B (of.reports.each t.item t.has).sent.has in
       (from.0, inr (record { report = t.item; used = t.has; sender = t.is; source = from.1 }))
 
+  -- the members are different replicas
+  pub choice_is : IsChoice (group_size g.f) (l ∷ map reporter (replica_at g l B).changes)
+  choice_is = record {
+    distinct = (leader_out, of.reports.distinct);
+    below = λ y has. elim (or_cases (eqb l y) (is_in (map reporter (replica_at g l B).changes) y) has) [
+      | inl is ↦ let e = eqb-true l y is in let low = leader_low in omega (arith, e, low)
+      | inr among ↦ (others_below y among).0
+    ];
+  }
+
+  pub full_is : length (l ∷ map reporter (replica_at g l B).changes) ≡ slow_quorum g.f
+  full_is = let long = length_map reporter (replica_at g l B).changes in let full = of.full in omega (arith, long, full)
+
   pub members_are : IsHeldByMany g.f (IsMemberOf g w B)
   members_are = record {
     members = l ∷ map reporter (replica_at g l B).changes;
-    choice = record {
-      distinct = (leader_out, of.reports.distinct);
-      below = λ y has. elim (or_cases (eqb l y) (is_in (map reporter (replica_at g l B).changes) y) has) [
-        | inl is ↦ let e = eqb-true l y is in let low = leader_low in omega (arith, e, low)
-        | inr among ↦ (others_below y among).0
-      ];
-    };
+    choice = choice_is;
     enough = let long = length_map reporter (replica_at g l B).changes in let full = of.full in omega (arith, long, full);
     each = λ y has. elim (or_cases (eqb l y) (is_in (map reporter (replica_at g l B).changes) y) has) [
       | inl is ↦ (B, inl (sym (eqb-true l y is), refl))

@@ -1,0 +1,330 @@
+-- Each turn of a replica is one of the ways in which a record changes what the laws on logs read of its state.
+use Rattle.std.proofs.Common.{◌≡◌, ℕ, ◌<◌, eqb, true, false, List, ◌∷◌, length, take, drop, Some, refl, sym, ap, subst, ◌∙◌, inl, inr, arith, eqb-true, eq-eqb}
+use Rattle.nz_base.specs.Actor.{actor_eq}
+use Rattle.nz_base.specs.Cluster.{leader_of}
+use Rattle.nz_base.specs.Log.{keys_of}
+use Rattle.nz_base.specs.Moments.{At}
+use Rattle.nz_base.specs.Prefixes.{IsPrefix}
+use Rattle.nz_base.specs.declared.actor.Actor.TheVariants.{Replica}
+use Rattle.nz_base.specs.declared.key.Entry.{Entry}
+use Rattle.nz_base.proofs.Booleans.{cases_bool, clash}
+use Rattle.nz_base.proofs.Moments.{at_self}
+use Rattle.nz_base.proofs.Prefixes.{prefix_self, prefix_map}
+use Rattle.nz_log.specs.Synced.{Log}
+use Rattle.nz_log.specs.Synced as logs
+use Rattle.nz_msg.specs.declared.message.LogModBody.{LogModBody}
+use Rattle.nz_msg.specs.declared.message.StartViewBody.{StartViewBody}
+use Rattle.nz_msg.specs.declared.message.StateTellBody.{StateTellBody}
+use Rattle.nz_msg.specs.declared.message.Message.TheVariants as messages
+use Rattle.nz_machine.specs.declared.data.Status.{Status}
+use Rattle.nz_machine.specs.declared.data.Status.TheVariants as statuses
+use Rattle.nz_machine.specs.declared.event.Record.{Record}
+use Rattle.nz_machine.specs.State.{Group}
+use Rattle.nz_machine.specs.Facts.{HasFacts}
+use Rattle.nz_machine.specs.Replicas.{is_normal, is_up, is_rejoining}
+use Rattle.nz_machine.specs.LogMods.{most_keys}
+use Rattle.nz_machine.specs.Shows.{ShowsLogMod}
+use Rattle.nz_machine.specs.World.{World}
+use Rattle.nz_machine.specs.Incarnations.{replica_at, is_restart}
+use Rattle.nz_machine.proofs.FitRuns.{all_fit}
+use Rattle.nz_machine.proofs.Moments.{at_world}
+use Rattle.nz_machine.proofs.Sources.{has_source, source_is}
+use Rattle.nz_machine.proofs.Told.{was_sent, shown_by}
+use Rattle.nz_machine.proofs.Words.{own_carried}
+use Rattle.nz_laws_cv.proofs.Turns.{Seat, Grown, Same, More, Anew, Going, MayStart, Turn, Stays, Release, Merge, Sync, Tally, Enter, Follow, Answer, Collect, Begin, Start, Fall, Wake, HearVector, Count, HearView, Forget, AskLog, Return, Back}
+use Rattle.nz_laws_cv.proofs.TurnRules.{up_kinds, changing_is, heard_by}
+use Rattle.nz_laws_cv.proofs.Hearing.{hears_fit}
+use Rattle.nz_laws_cv.proofs.Steps.{seat_at, Acts, Rests, steps}
+use Rattle.nz_laws_cv.proofs.Modes.{IsSound, collects_low, up_no_rejoin}
+use Rattle.nz_laws_cv.proofs.Passing.{sound_at}
+use Rattle.nz_laws_cv.proofs.Sent as letters
+use Rattle.nz_laws_cv.proofs.Showing.{shows}
+use Rattle.nz_laws_cv.proofs.Collected.{StayedUp, Rejoined, was_up}
+use Rattle.nz_laws_cv.proofs.Grounds.{later_at}
+use Rattle.nz_laws_commit.specs.States.{IsUp, Down, LogState}
+use Rattle.nz_laws_commit.specs.Does.{IsUnchanged, Releases, Enters, VectorGrows, Syncs, BeginsView, AdoptsLog, Restarts, Does}
+use Rattle.nz_laws_commit.specs.Does as ways
+use Rattle.nz_laws_commit.specs.Instance.{status_of, states_of}
+use Rattle.nz_laws_commit.proofs.Instance.{normal_status, up_status, status_up, down_status, is_normal_at}
+
+-- ---- what the laws read of a seat
+
+abbrev pub log_seat : Seat → LogState
+log_seat s = record { status = status_of s.status; view = s.view; last = s.last; synced = s.log.synced; log = s.log.entries; vector = s.vector }
+
+up_not_down : (a : Status) → is_up a ≡ true → status_of a ≡ Down → ⊥
+up_not_down statuses.Normal up is = cc
+up_not_down statuses.ViewChange up is = cc
+up_not_down statuses.Rejoining up is = cc
+up_not_down statuses.Down up is = cc
+
+rejoining_not_down : (a : Status) → is_rejoining a ≡ true → status_of a ≡ Down → ⊥
+rejoining_not_down statuses.Normal e is = cc
+rejoining_not_down statuses.ViewChange e is = cc
+rejoining_not_down statuses.Rejoining e is = cc
+rejoining_not_down statuses.Down e is = cc
+
+differ : (a b : ℕ) → (a ≡ b → ⊥) → eqb a b ≡ false
+differ a b apart = elim (cases_bool (eqb a b)) [ inl e ↦ absurd (apart (eqb-true a b e)) | inr e ↦ e ]
+
+-- ---- what is known before the record
+
+-- the log is sound, and a leader has all of it synced
+pub record KnowsLog (f y : ℕ) (s : Seat) : Type 0 where
+  pub sound : logs.IsSound s.log
+  pub led : is_normal s.status ≡ true → eqb (leader_of f s.view) y ≡ true → s.log.synced ≡ length s.log.entries
+
+-- a log modification has the keys of its sender's log, in whose view it was in normal operation
+pub record IsToldMod (g : Group) (K : List Record) (sender : ℕ) (b : LogModBody) : Type 0 where
+  pub told : List Record
+  pub moment : At K told
+  pub normal : is_normal (replica_at g sender told).status ≡ true
+  pub view : (replica_at g sender told).view ≡ b.view
+  pub keys : b.keys ≡ take most_keys (drop b.start (keys_of (replica_at g sender told).log.entries))
+
+-- a whole log is its sender's
+pub record IsToldLog (g : Group) (K : List Record) (sender named : ℕ) (list : List Entry) : Type 0 where
+  pub told : List Record
+  pub moment : At K told
+  pub normal : is_normal (replica_at g sender told).status ≡ true
+  pub view : (replica_at g sender told).view ≡ named
+  pub entries : (replica_at g sender told).log.entries ≡ list
+
+-- ---- released entries
+
+grown_keys : (f y : ℕ) (s : Seat) (log : Log) → Grown f y s log → IsPrefix (keys_of s.log.entries) (keys_of log.entries)
+grown_keys f y s _ Same = prefix_self (keys_of s.log.entries)
+grown_keys f y s _ (More log normal follows more) = prefix_map (λ (e : Entry). e.key) s.log.entries log.entries more.entries
+
+grown_synced : (f y : ℕ) (s : Seat) (log : Log) → Grown f y s log → log.synced ≡ s.log.synced
+grown_synced f y s _ Same = refl
+grown_synced f y s _ (More log normal follows more) = more.follows refl
+
+-- ---- each turn
+
+module _ (g : Group) (y : ℕ) (r : Record) (K : List Record) (knows : KnowsLog g.f y (seat_at g y K)) (sound : IsSound g.f (seat_at g y K))
+    (mods : (sender : ℕ) (b : LogModBody) → heard_by g y r.event ≡ Some (Replica sender, messages.LogMod b) → IsToldMod g K sender b)
+    (starts : (sender : ℕ) (b : StartViewBody) → heard_by g y r.event ≡ Some (Replica sender, messages.StartView b) → IsToldLog g K sender b.view b.entries)
+    (tells : (sender : ℕ) (b : StateTellBody) → heard_by g y r.event ≡ Some (Replica sender, messages.StateTell b) → IsToldLog g K sender b.view b.entries)
+  where
+    abbrev s : Seat
+    s = seat_at g y K
+
+    abbrev DoesHere : Type 0
+    DoesHere = Does (states_of g) y r K
+
+    unchanged : (t : Seat) → seat_at g y (r ∷ K) ≡ t → IsUnchanged (log_seat s) (log_seat t) → DoesHere
+    unchanged t is h = ways.Stays (subst (λ (u : Seat). IsUnchanged (log_seat s) (log_seat u)) (sym is) h)
+
+    entered : (t : Seat) → seat_at g y (r ∷ K) ≡ t → Enters (log_seat s) (log_seat t) → DoesHere
+    entered t is h = ways.Entered (subst (λ (u : Seat). Enters (log_seat s) (log_seat u)) (sym is) h)
+
+    synced : (t : Seat) → seat_at g y (r ∷ K) ≡ t → Syncs (states_of g) y K (log_seat s) (log_seat t) → DoesHere
+    synced t is h = ways.Synced (subst (λ (u : Seat). Syncs (states_of g) y K (log_seat s) (log_seat u)) (sym is) h)
+
+    adopted : (t : Seat) → seat_at g y (r ∷ K) ≡ t → AdoptsLog (states_of g) y K (log_seat s) (log_seat t) → DoesHere
+    adopted t is h = ways.Adopted (subst (λ (u : Seat). AdoptsLog (states_of g) y K (log_seat s) (log_seat u)) (sym is) h)
+
+    told_by : (sender leader : ℕ) (b : LogModBody) → sender ≡ leader → IsToldMod g K sender b → IsToldMod g K leader b
+    told_by sender leader b is h = subst (λ (z : ℕ). IsToldMod g K z b) is h
+
+    start_low : (sender view : ℕ) → MayStart g.f s sender view → s.last < view
+    start_low sender view may = elim (up_kinds s.status may.up) [
+      | inl normal ↦ let low = may.turns normal in let same = sound.normal normal in omega (arith, low, same)
+      | inr changing ↦ let low = sound.changing changing in let later = may.later in omega (arith, low, later)
+    ]
+
+    pub turn_is : (t : Seat) → Turn g.f y r.event (heard_by g y r.event) s t → seat_at g y (r ∷ K) ≡ t → DoesHere
+    turn_is _ Stays is = unchanged _ is (record { status = refl; view = refl; last = refl; synced = refl; log = refl })
+    turn_is _ (Release log normal more) is =
+        ways.Released (subst (λ (u : Seat). Releases g.f y (log_seat s) (log_seat u)) (sym is) (record {
+          before = normal_status s.status normal;
+          after = normal_status s.status normal;
+          view = refl;
+          last = refl;
+          log = prefix_map (λ (e : Entry). e.key) s.log.entries log.entries more.entries;
+          leads = λ leads. let led = eq-eqb (leader_of g.f s.view) y leads in more.leads led (knows.led normal led);
+          follows = λ apart. more.follows (differ (leader_of g.f s.view) y apart);
+        }))
+    turn_is _ (Merge sender m u new normal) is = unchanged _ is (record { status = refl; view = refl; last = refl; synced = refl; log = refl })
+    turn_is _ (Sync sender b new hears le log changed) is =
+        let L = leader_of g.f s.view in
+        let leads : sender ≡ L = hears.leader ∙ ap (leader_of g.f) hears.same in
+        let told = told_by sender L b leads (mods sender b new.is) in
+        let early = keys_of (replica_at g L told.told).log.entries in
+        let taken = changed.taken knows.sound early told.keys in
+        synced _ is (record {
+          before = normal_status s.status hears.normal;
+          after = normal_status s.status hears.normal;
+          view = refl;
+          last = refl;
+          follows = λ leads. absurd (clash (eqb L y) (eq-eqb L y leads) hears.follows);
+          told = told.told;
+          moment = told.moment;
+          leader = is_normal_at g L s.view told.told told.normal (told.view ∙ hears.same);
+          synced = taken.synced;
+          entries = taken.entries;
+          modified = λ lead part prefix. record { part = taken.part lead part prefix; prefixes = λ P p either. taken.prefixes lead part prefix P p either };
+        })
+    turn_is _ (Tally commit normal led more) is = unchanged _ is (record { status = refl; view = refl; last = refl; synced = refl; log = refl })
+    turn_is _ (Enter w up later log grown) is =
+        entered _ is (record {
+          before = up_status s.status up;
+          after = refl;
+          view = later;
+          last = refl;
+          log = grown_keys g.f y s log grown;
+          synced =
+              grown_synced g.f y s log grown;
+        })
+    turn_is _ (Follow sender m u new w up later) is =
+        entered _ is (record {
+          before = up_status s.status up;
+          after = refl;
+          view = later;
+          last = refl;
+          log = prefix_self (keys_of s.log.entries);
+          synced =
+              refl;
+        })
+    turn_is _ (Answer sender b new normal same) is = unchanged _ is (record { status = refl; view = refl; last = refl; synced = refl; log = refl })
+    turn_is _ (Collect sender b new may _ (Anew later)) is =
+        entered _ is (record {
+          before = up_status s.status may.up;
+          after = refl;
+          view = later;
+          last = refl;
+          log =
+              prefix_self (keys_of s.log.entries);
+          synced = refl;
+        })
+    turn_is _ (Collect sender b new may _ (Going same changing)) is =
+        unchanged _ is (record { status = sym (ap status_of (changing_is s.status changing)); view = sym same; last = refl; synced = refl; log = refl })
+    turn_is _ (Begin sender b new may base on full) is =
+        ways.Began (subst (λ (u : Seat). BeginsView (states_of g) y (log_seat s) (log_seat u)) (sym is) (record {
+          before = up_status s.status may.up;
+          after = refl;
+          leads = may.leads;
+          view = may.later;
+          last = refl;
+          higher = collects_low g.f y r.event (heard_by g y r.event) (hears_fit g y r.event) s b.view _ base sound may.up on;
+          synced = refl;
+        }))
+    turn_is _ (Start sender b new may) is =
+        let told = subst (λ (z : ℕ). IsToldLog g K z b.view b.entries) may.leader (starts sender b new.is) in
+        adopted _ is (record {
+          before = λ down. up_not_down s.status may.up down;
+          after = refl;
+          last = refl;
+          view = λ _. may.later;
+          higher = λ _. start_low sender b.view may;
+          synced = refl;
+          told = told.told;
+          moment = told.moment;
+          leader = is_normal_at g (leader_of g.f b.view) b.view told.told told.normal told.view;
+          log = ap keys_of (sym told.entries);
+        })
+    turn_is _ (Fall e) is = ways.Fell (ap (λ (u : Seat). status_of u.status) is)
+    turn_is _ (Wake nonce e down) is =
+        ways.Rose (subst (λ (u : Seat). Restarts (states_of g) r (log_seat s) (log_seat u)) (sym is)
+        (record { before = down_status s.status down; after = refl; event = ap is_restart e }))
+    turn_is _ (HearVector sender b new ours) is = unchanged _ is (record { status = refl; view = refl; last = refl; synced = refl; log = refl })
+    turn_is _ (Count sender b new ours enough) is = unchanged _ is (record { status = refl; view = refl; last = refl; synced = refl; log = refl })
+    turn_is _ (HearView sender b new ours) is = unchanged _ is (record { status = refl; view = refl; last = refl; synced = refl; log = refl })
+    turn_is _ (Forget sender b new ours) is = unchanged _ is (record { status = refl; view = refl; last = refl; synced = refl; log = refl })
+    turn_is _ (AskLog sender b new ours heard_tells same enough) is =
+        unchanged _ is (record { status = refl; view = refl; last = refl; synced = refl; log = refl })
+    turn_is _ (Return sender b new ours late leader) is =
+        let told = subst (λ (z : ℕ). IsToldLog g K z b.view b.entries) leader (tells sender b new.is) in
+        adopted _ is (record {
+          before = λ down. rejoining_not_down s.status ours.rejoining down;
+          after = refl;
+          last = refl;
+          view = λ up. up_no_rejoin s.status (status_up s.status up) ours.rejoining;
+          higher = λ up. up_no_rejoin s.status (status_up s.status up) ours.rejoining;
+          synced = refl;
+          told = told.told;
+          moment = told.moment;
+          leader = is_normal_at g (leader_of g.f b.view) b.view told.told told.normal told.view;
+          log = ap keys_of (sym told.entries);
+        })
+    turn_is _ (Back rejoining phase) is = unchanged _ is (record { status = refl; view = refl; last = refl; synced = refl; log = refl })
+
+-- ---- what is known in every run
+
+knows_log : (g : Group) (y : ℕ) (K : List Record) → World g K → KnowsLog g.f y (seat_at g y K)
+knows_log g y K w =
+    let facts : HasFacts g.f y (replica_at g y K) = (all_fit g K w).states (Replica y) in
+    let carried = own_carried g.f y (replica_at g y K) facts in
+    record {
+      sound = record { ordered = carried.log; within = facts.entries.within; few = carried.few };
+      led = λ normal led. (facts.executed.led normal led).synced;
+    }
+
+told_mod : (g : Group) (y : ℕ) (r : Record) (K : List Record) → World g (r ∷ K) → r.actor ≡ Replica y → (sender : ℕ) (b : LogModBody)
+    → heard_by g y r.event ≡ Some (Replica sender, messages.LogMod b) → IsToldMod g K sender b
+told_mod g y r K w a sender b heard =
+    let was = was_sent g r K w (Replica y) (Replica sender) (messages.LogMod b) a heard in
+    let k = has_source (letters.letter sender y (messages.LogMod b)) K was.sent in
+    let s = source_is (letters.letter sender y (messages.LogMod b)) K k.0 k.1 in
+    let now = shown_by g K w.1 (Replica sender) s.newest s.older (Replica y) (messages.LogMod b) s.at was.fits s.sends in
+    let shows : ShowsLogMod g.f sender (replica_at g sender (s.newest ∷ s.older)) (Replica y) b = now.shows in
+    let same = sym shows.read in
+    let start = ap (λ (x : LogModBody). x.start) same in
+    record {
+      told = s.newest ∷ s.older;
+      moment = s.at;
+      normal = shows.normal;
+      view = ap (λ (x : LogModBody). x.view) same;
+      keys = sym (ap (λ (x : LogModBody). x.keys) same)
+          ∙ ap (λ (n : ℕ). take most_keys (drop n (keys_of (replica_at g sender (s.newest ∷ s.older)).log.entries))) start;
+    }
+
+told_start : (g : Group) (y : ℕ) (r : Record) (K : List Record) → World g (r ∷ K) → r.actor ≡ Replica y → (sender : ℕ) (b : StartViewBody)
+    → heard_by g y r.event ≡ Some (Replica sender, messages.StartView b) → IsToldLog g K sender b.view b.entries
+told_start g y r K w a sender b heard =
+    let h = shows g K w.1 in
+    let s = letters.sent_at sender y (messages.StartView b) K (letters.was_sent g y r K w h a sender (messages.StartView b) heard) in
+    let told = h.start_view sender y b s.record_of s.older s.at s.sends in
+    record { told = s.record_of ∷ s.older; moment = s.at; normal = told.normal; view = told.view; entries = told.entries }
+
+told_state : (g : Group) (y : ℕ) (r : Record) (K : List Record) → World g (r ∷ K) → r.actor ≡ Replica y → (sender : ℕ) (b : StateTellBody)
+    → heard_by g y r.event ≡ Some (Replica sender, messages.StateTell b) → IsToldLog g K sender b.view b.entries
+told_state g y r K w a sender b heard =
+    let h = shows g K w.1 in
+    let s = letters.sent_at sender y (messages.StateTell b) K (letters.was_sent g y r K w h a sender (messages.StateTell b) heard) in
+    let told = h.state_tell sender y b s.record_of s.older s.at s.sends in
+    record { told = s.record_of ∷ s.older; moment = s.at; normal = told.normal; view = told.view; entries = told.entries }
+
+-- ---- the premises on the rules
+
+turn_does : (g : Group) (y : ℕ) (r : Record) (K : List Record) → World g (r ∷ K) → r.actor ≡ Replica y
+    → Turn g.f y r.event (heard_by g y r.event) (seat_at g y K) (seat_at g y (r ∷ K)) → Does (states_of g) y r K
+turn_does g y r K w a turn =
+    turn_is g y r K (knows_log g y K w.1) (sound_at g K w.1 y) (told_mod g y r K w a) (told_start g y r K w a) (told_state g y r K w a)
+    (seat_at g y (r ∷ K)) turn refl
+
+-- each record of a replica
+pub record_does : (g : Group) (J : List Record) → World g J → (y : ℕ) (r : Record) (K : List Record) → At J (r ∷ K) → actor_eq r.actor (Replica y) ≡ true
+    → Does (states_of g) y r K
+record_does g J w y r K at by =
+    let now = at_world g J (r ∷ K) w at in
+    elim (steps g y r K) [
+      | Acts a turn ↦ turn_does g y r K now a turn
+      | Rests other same ↦ clash (actor_eq r.actor (Replica y)) by other
+    ]
+
+-- while a replica is up its vector grows
+pub vector_grows : (g : Group) (J : List Record) → World g J → (y : ℕ) (r : Record) (K : List Record) → At J (r ∷ K)
+    → IsUp (log_seat (seat_at g y K)).status → IsUp (log_seat (seat_at g y (r ∷ K))).status
+    → VectorGrows y (log_seat (seat_at g y K)) (log_seat (seat_at g y (r ∷ K)))
+vector_grows g J w y r K at before after =
+    let now = at_world g J (r ∷ K) w at in
+    let up = status_up (replica_at g y K).status before in
+    let still = status_up (replica_at g y (r ∷ K)).status after in
+    elim (was_up g y r K now still) [
+      | StayedUp was inc goes ↦
+          let grew = later_at g J w y K (r ∷ K) at (inr (at_self K)) (sym inc) up still in
+          record { vector = grew.places; own = grew.own }
+      | Rejoined rejoins normal inc goes ↦ up_no_rejoin (replica_at g y K).status up rejoins
+    ]
