@@ -1,4 +1,6 @@
 //! Runs by several workers. Whichever worker did what, the text that was written says what the journal does.
+ghost use Rattle.nz_machine.specs.Journals.{group_in, run_in};
+ghost use Rattle.nz_machine.specs.World.{World};
 
 use super::losses::LEADER_CUT_OFF;
 use super::rows::THREE_EQUAL_DEADLINES;
@@ -86,6 +88,26 @@ fn are_same(a: &[Executed], b: &[Executed]) -> bool {
     a.len() == b.len() && a.iter().zip(b.iter()).all(|(x, y)| is_same(x, y))
 }
 
+/// Whether the text says what the journal does, and each of so many requests is printed, accepted and executed.
+fn says(alloc: Global, text: &[u8], journal: &Journal, requests: u8) -> Result<bool, Fail>
+    requires { World (group_in journal.now) (run_in journal.now) }
+{
+    if text.len() > 4096 {
+        return Err("a short text".into());
+    }
+    let Ok(printed) = read_text(alloc, text) else {
+        return Err("a text".into());
+    };
+    let history = history_of(alloc, journal)?;
+    let events = are_events(alloc, journal, printed.events.as_slice())?;
+    let same = are_same(printed.history.as_slice(), history.as_slice());
+    let requests = u32::from(requests);
+    let counts = printed.unanswered.is_empty()
+        && printed.events.len() == 2 * requests
+        && history.len() == requests;
+    Ok(events && same && counts)
+}
+
 #[test]
 fn texts_of_runs_by_workers(rt: HostRuntime) -> Result<(), Fail> {
     // The input, the workers, and how many requests are sent.
@@ -97,27 +119,14 @@ fn texts_of_runs_by_workers(rt: HostRuntime) -> Result<(), Fail> {
         (LEADER_CUT_OFF.input, "4", 2),
         (LEADER_CUT_OFF.input, "16", 2),
     ];
-    for (input, workers, sent) in table {
+    for (input, workers, requests) in table {
         let words = ["run", "--workers", workers];
         let (outcome, out) = answer(&rt, rt.alloc(), &plain(&words, input.as_bytes()))?;
         assert_eq!(rt; outcome.status, Status::Done);
         let Some(journal) = &outcome.journal else {
             return Err("a run".into());
         };
-        let text = out.bytes();
-        if text.len() > 4096 {
-            return Err("a short text".into());
-        }
-        let Ok(printed) = read_text(rt.alloc(), text) else {
-            return Err("a text".into());
-        };
-        assert!(rt; are_events(rt.alloc(), journal, printed.events.as_slice())?);
-        assert_eq!(rt; printed.unanswered.len(), 0);
-        let history = history_of(rt.alloc(), journal)?;
-        assert!(rt; are_same(printed.history.as_slice(), history.as_slice()));
-        // Each request is printed, accepted and executed.
-        assert_eq!(rt; printed.events.len(), 2 * sent);
-        assert_eq!(rt; history.len(), sent);
+        assert!(rt; says(rt.alloc(), out.bytes(), journal, requests)?);
     }
     Ok(())
 }
