@@ -82,18 +82,22 @@ begun_by g w r K led not_led (Returns sender b is leader view) =
 
 -- with the reports that it has collected then
 pub record IsBeginOf (g : Group) (w : ℕ) (r : Record) (K : List Record) : Type 0 where
-  pub reports : AreReports g.f (leader_of g.f w) (Sent (r ∷ K) (leader_of g.f w)) w (replica_at g (leader_of g.f w) (r ∷ K)).vector (replica_at g (leader_of g.f w) (r ∷ K)).changes
+  pub reports : AreReports g.f (leader_of g.f w) (Sent (r ∷ K) (leader_of g.f w)) w (replica_at g (leader_of g.f w) (r ∷ K)).vector
+      (replica_at g (leader_of g.f w) (r ∷ K)).changes
   pub full : length (replica_at g (leader_of g.f w) (r ∷ K)).changes ≡ g.f
 
-begin_acts : (g : Group) (w : ℕ) (r : Record) (K : List Record) → World g (r ∷ K) → Shows g (r ∷ K) → is_led g w (r ∷ K) ≡ true → is_led g w K ≡ false → r.actor ≡ Replica (leader_of g.f w)
-    → IsBegun g.f (leader_of g.f w) r.event (heard_by g (leader_of g.f w) r.event) (seat_at g (leader_of g.f w) K) (seat_at g (leader_of g.f w) (r ∷ K)) → IsBeginOf g w r K
+begin_acts : (g : Group) (w : ℕ) (r : Record) (K : List Record) → World g (r ∷ K) → Shows g (r ∷ K) → is_led g w (r ∷ K) ≡ true → is_led g w K ≡ false
+    → r.actor ≡ Replica (leader_of g.f w)
+    → IsBegun g.f (leader_of g.f w) r.event (heard_by g (leader_of g.f w) r.event) (seat_at g (leader_of g.f w) K) (seat_at g (leader_of g.f w) (r ∷ K))
+    → IsBeginOf g w r K
 begin_acts g w r K world h led not_led a b =
     let l = leader_of g.f w in
     let before = shows_before g r K h in
     let old = (collected_later g l r K (seat_at g l K) (collected_at g l K world.1 before)).reports in
     let now = normal_in_is w (replica_at g l (r ∷ K)) led in
     let view : b.body.view ≡ w = sym (ap (λ (s : Seat). s.view) b.is) ∙ now.1 in
-    let all = collected g.f l (Sent (r ∷ K) l) r.event (heard_by g l r.event) (hears_fit g l r.event) (hears_sent g l r K world before a) (in_group g l r.actor a world.0.member)
+    let all = collected g.f l (Sent (r ∷ K) l) r.event (heard_by g l r.event) (hears_fit g l r.event) (hears_sent g l r K world before a)
+    (in_group g l r.actor a world.0.member)
     (seat_at g l K) b.sender b.body b.base (sound_at g K world.1 l) old b.new b.on in
     record {
       reports = subst (λ (v : ℕ). AreReports g.f l (Sent (r ∷ K) l) v (replica_at g l (r ∷ K)).vector (replica_at g l (r ∷ K)).changes) view
@@ -113,13 +117,15 @@ begun_turn g w r K led not_led =
       | Rests e same ↦ clash (is_led g w K) (sym (ap (λ (s : Seat). is_normal s.status && eqb s.view w) same) ∙ led) not_led
     ]
 
-pub begin_of : (g : Group) (w : ℕ) (r : Record) (K : List Record) → World g (r ∷ K) → Shows g (r ∷ K) → is_led g w (r ∷ K) ≡ true → is_led g w K ≡ false → IsBeginOf g w r K
+pub begin_of : (g : Group) (w : ℕ) (r : Record) (K : List Record) → World g (r ∷ K) → Shows g (r ∷ K) → is_led g w (r ∷ K) ≡ true → is_led g w K ≡ false
+    → IsBeginOf g w r K
 begin_of g w r K world h led not_led = elim (steps g (leader_of g.f w) r K) [
   | Acts a turn ↦ begin_acts g w r K world h led not_led a (begun_turn g w r K led not_led)
   | Rests e same ↦ clash (is_led g w K) (sym (ap (λ (s : Seat). is_normal s.status && eqb s.view w) same) ∙ led) not_led
 ]
 
-module _ (g : Group) (J : List Record) (w : ℕ) (r : Record) (K : List Record) (world : World g (r ∷ K)) (shows : Shows g (r ∷ K)) (led : is_led g w (r ∷ K) ≡ true) (not_led : is_led g w K ≡ false) where
+module _ (g : Group) (J : List Record) (w : ℕ) (r : Record) (K : List Record) (world : World g (r ∷ K)) (shows : Shows g (r ∷ K))
+    (led : is_led g w (r ∷ K) ≡ true) (not_led : is_led g w K ≡ false) where
   abbrev B : List Record
   B = r ∷ K
 
@@ -183,24 +189,27 @@ module _ (g : Group) (J : List Record) (w : ℕ) (r : Record) (K : List Record) 
       let s = source_is (report_parcel g w m.report) B Q m.source in
       let told = shows.view_change m.report.change.sender l _ s.newest s.older s.at (record { has = s.sends; fits = k.sent.fits }) in
       let low = k.fresh in
-      subst (λ (z : ℕ). IsReport (notions g J) J w B z Q) m.sender (subst (λ (x : List Record). IsReport (notions g J) J w B m.report.change.sender x) (sym s.is) (record {
+      subst (λ (z : ℕ). IsReport (notions g J) J w B z Q) m.sender
+      (subst (λ (x : List Record). IsReport (notions g J) J w B m.report.change.sender x) (sym s.is) (record {
         at = s.at;
         up = changing_up (replica_at g m.report.change.sender (s.newest ∷ s.older)).status told.changing;
         view = told.view;
         fresh = let same = ap (λ (v : List ℕ). slice_index v m.report.change.sender) told.vector in omega (arith, low, same);
-        merged = λ i other. let up = k.merged_in i (λ e. other (sym e)) in let same = ap (λ (v : List ℕ). slice_index v i) told.vector in omega (arith, up, same);
+        merged = λ i other. let up =
+            k.merged_in i (λ e. other (sym e)) in let same = ap (λ (v : List ℕ). slice_index v i) told.vector in omega (arith, up, same);
         own = λ e. absurd (k.other (sym e));
       }))
 
   own_is : (y : ℕ) (Q : List Record) → y ≡ l → Q ≡ B → IsReport (notions g J) J w B y Q
-  own_is y Q is_y is_q = subst (λ (z : ℕ). IsReport (notions g J) J w B z Q) (sym is_y) (subst (λ (x : List Record). IsReport (notions g J) J w B l x) (sym is_q) (record {
-    at = at_self B;
-    up = normal_up (replica_at g l B).status now.0;
-    view = now.1;
-    fresh = omega arith;
-    merged = λ i other. omega arith;
-    own = λ _. refl;
-  }))
+  own_is y Q is_y is_q =
+      subst (λ (z : ℕ). IsReport (notions g J) J w B z Q) (sym is_y) (subst (λ (x : List Record). IsReport (notions g J) J w B l x) (sym is_q) (record {
+        at = at_self B;
+        up = normal_up (replica_at g l B).status now.0;
+        view = now.1;
+        fresh = omega arith;
+        merged = λ i other. omega arith;
+        own = λ _. refl;
+      }))
 
   report_is : At J B → (y : ℕ) (Q : List Record) → IsMemberOf g w B y Q → IsReport (notions g J) J w B y Q
   report_is at y Q (inl own) = own_is y Q own.0 own.1
@@ -245,13 +254,17 @@ module _ (g : Group) (r : Record) (J : List Record) (world : World g (r ∷ J)) 
   older_one : (x v : ℕ) → is_normal (replica_at g x J).status ≡ true → (replica_at g x J).view ≡ v → 0 < v → IsBegunBefore g v (r ∷ J)
   older_one x v normal view some = begun_later g v (r ∷ J) J (inr (at_self J)) (old J (at_self J) x v normal view some)
 
-  at_source : (y v : ℕ) (s : Record) (L : List Record) → At J (s ∷ L) → is_normal (replica_at g y (s ∷ L)).status ≡ true → (replica_at g y (s ∷ L)).view ≡ v → 0 < v → IsBegunBefore g v (r ∷ J)
+  at_source : (y v : ℕ) (s : Record) (L : List Record) → At J (s ∷ L) → is_normal (replica_at g y (s ∷ L)).status ≡ true → (replica_at g y (s ∷ L)).view ≡ v
+      → 0 < v → IsBegunBefore g v (r ∷ J)
   at_source y v s L at normal view some = begun_later g v (r ∷ J) (s ∷ L) (inr at) (old (s ∷ L) at y v normal view some)
 
-  begins_now : (x v : ℕ) → leader_of g.f v ≡ x → is_normal (replica_at g x (r ∷ J)).status ≡ true → (replica_at g x (r ∷ J)).view ≡ v → 0 < v → (b : Bool) → is_led g v J ≡ b → IsBegunBefore g v (r ∷ J)
-  begins_now x v leads normal view some true was = let before = normal_in_is v (replica_at g (leader_of g.f v) J) was in older_one (leader_of g.f v) v before.0 before.1 some
+  begins_now : (x v : ℕ) → leader_of g.f v ≡ x → is_normal (replica_at g x (r ∷ J)).status ≡ true → (replica_at g x (r ∷ J)).view ≡ v → 0 < v → (b : Bool)
+      → is_led g v J ≡ b → IsBegunBefore g v (r ∷ J)
+  begins_now x v leads normal view some true was =
+      let before = normal_in_is v (replica_at g (leader_of g.f v) J) was in older_one (leader_of g.f v) v before.0 before.1 some
   begins_now x v leads normal view some false was =
-      let led : is_led g v (r ∷ J) ≡ true = subst (λ (z : ℕ). is_normal_in v (replica_at g z (r ∷ J)) ≡ true) (sym leads) (is_in_view v (replica_at g x (r ∷ J)) normal view) in
+      let led : is_led g v (r ∷ J) ≡ true =
+      subst (λ (z : ℕ). is_normal_in v (replica_at g z (r ∷ J)) ≡ true) (sym leads) (is_in_view v (replica_at g x (r ∷ J)) normal view) in
       record { moment = r ∷ J; at = at_self (r ∷ J); is = and_both (not (is_led g v J)) (is_led g v (r ∷ J)) (ap not was) led }
 
   arrived : (x v : ℕ) → r.actor ≡ Replica x → is_normal (replica_at g x (r ∷ J)).status ≡ true → (replica_at g x (r ∷ J)).view ≡ v → 0 < v
@@ -279,12 +292,15 @@ module _ (g : Group) (r : Record) (J : List Record) (world : World g (r ∷ J)) 
 
   all_begun : AreBegun g (r ∷ J)
   all_begun K (inl is) x v normal view some =
-      subst (IsBegunBefore g v) (sym is) (newest_begun x v (sym (ap (λ (L : List Record). is_normal (replica_at g x L).status) is) ∙ normal) (sym (ap (λ (L : List Record). (replica_at g x L).view) is) ∙ view) some)
+      subst (IsBegunBefore g v) (sym is)
+      (newest_begun x v (sym (ap (λ (L : List Record). is_normal (replica_at g x L).status) is) ∙ normal)
+      (sym (ap (λ (L : List Record). (replica_at g x L).view) is) ∙ view) some)
   all_begun K (inr at) x v normal view some = old K at x v normal view some
 
 pub are_begun : (g : Group) (J : List Record) → World g J → Shows g J → AreBegun g J
 are_begun g [] w h = λ K at x v normal view some.
-    absurd (let zero_view : (replica_at g x K).view ≡ 0 = ap (λ (L : List Record). (replica_at g x L).view) at ∙ ap (λ (s : Seat). s.view) (first_seat g x) in omega (arith, zero_view, view, some))
+    absurd (let zero_view : (replica_at g x K).view ≡ 0 =
+    ap (λ (L : List Record). (replica_at g x L).view) at ∙ ap (λ (s : Seat). s.view) (first_seat g x) in omega (arith, zero_view, view, some))
 are_begun g (r ∷ J) w h = all_begun g r J w h (are_begun g J w.1 (shows_before g r J h))
 
 -- ---- the ground
@@ -296,9 +312,11 @@ modes_at g J w h = record {
   grows = λ x K L at then. inc_grows g x L K (at_world g J L w at) then;
   stays = stays_at g J w;
   mode = λ x K at normal. (sound_at g K (at_world g J K w at) x).normal normal;
-  changing = λ x K at up. elim (up_kinds (replica_at g x K).status up) [ inl normal ↦ inl normal | inr changing ↦ inr ((sound_at g K (at_world g J K w at) x).changing changing) ];
+  changing = λ x K at up. elim (up_kinds (replica_at g x K).status up)
+      [ inl normal ↦ inl normal | inr changing ↦ inr ((sound_at g K (at_world g J K w at) x).changing changing) ];
   later = later_at g J w;
-  begun = λ x v K at i some. let b = are_begun g J w h K at x v i.normal i.view some in (b.moment, record { at = at_then J K b.moment at b.at; later = some; is = b.is }, b.at);
+  begun = λ x v K at i some. let b =
+      are_begun g J w h K at x v i.normal i.view some in (b.moment, record { at = at_then J K b.moment at b.at; later = some; is = b.is }, b.at);
 }
 
 pub ground : (g : Group) (J : List Record) → World g J → Shows g J → Ground (notions g J) J

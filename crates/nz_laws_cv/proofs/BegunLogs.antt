@@ -38,7 +38,8 @@ begun_log_is g w r K world led not_led =
     let b = begun_turn g w r K led not_led in
     let view : b.body.view ≡ w = sym (ap (λ (s : Seat). s.view) b.is) ∙ (normal_in_is w (replica_at g l (r ∷ K)) led).1 in
     let later = b.may.later in
-    let low = collects_low g.f l r.event (heard_by g l r.event) (hears_fit g l r.event) (seat_at g l K) b.body.view _ b.base (sound_at g K world l) b.may.up b.on in
+    let low = collects_low g.f l r.event (heard_by g l r.event) (hears_fit g l r.event) (seat_at g l K) b.body.view _ b.base (sound_at g K world l)
+    b.may.up b.on in
     record {
       entries = ap (λ (s : Seat). s.log.entries) b.is
           ∙ ap (λ (changes : List Reported). merged g.f (own_change l (replica_at g l K) ∷ map (λ (x : Reported). x.change) changes))

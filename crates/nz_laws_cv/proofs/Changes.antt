@@ -29,7 +29,16 @@ reporter r = r.change.sender
 
 -- what the sender reported
 abbrev pub report_message : ℕ → Reported → Message
-report_message view r = messages.ViewChange (record { view = view; last = r.change.last; vector = r.vector; synced = r.change.synced; commit = r.change.commit; entries = r.change.log })
+report_message view r =
+    messages.ViewChange (record {
+      view =
+          view;
+      last = r.change.last;
+      vector = r.vector;
+      synced = r.change.synced;
+      commit = r.change.commit;
+      entries = r.change.log;
+    })
 
 module _ (f me : ℕ) (Sent : ℕ → Message → Type 0) where
   pub record IsReported (view : ℕ) (v : List ℕ) (r : Reported) : Type 0 where
@@ -72,12 +81,14 @@ module _ (f me : ℕ) (Sent : ℕ → Message → Type 0) where
                 below = k.below;
                 other = k.other;
                 sent = k.sent;
-                merged_in = λ i other. let low = k.merged_in i other in let up = merges f me e heard fit s sender m u in_group sound new i in omega (arith, low, up);
+                merged_in = λ i other. let low =
+                    k.merged_in i other in let up = merges f me e heard fit s sender m u in_group sound new i in omega (arith, low, up);
                 fresh = not_stray r.vector v r.change.sender p.passes;
               };
         }
 
-    base_reports : (s : Seat) (sender : ℕ) (b : ViewChangeBody) (base : List Reported) → IsSound f s → HasReports s → IsNew heard s sender (messages.ViewChange b) b.vector → Base s b.view (merged s.vector b.vector me) base
+    base_reports : (s : Seat) (sender : ℕ) (b : ViewChangeBody) (base : List Reported) → IsSound f s → HasReports s
+        → IsNew heard s sender (messages.ViewChange b) b.vector → Base s b.view (merged s.vector b.vector me) base
         → AreReports b.view (merged s.vector b.vector me) base
     base_reports s sender b _ sound h new (Anew later) = no_reports b.view (merged s.vector b.vector me)
     base_reports s sender b _ sound h new (Going same changing) =
@@ -85,7 +96,8 @@ module _ (f me : ℕ) (Sent : ℕ → Message → Type 0) where
         (fresh_reports s sender (messages.ViewChange b) b.vector sound new (h.reports changing))
 
     -- the one that is heard: it was not stray, so what is merged has its sender's counter
-    new_report : (s : Seat) (sender : ℕ) (b : ViewChangeBody) → IsSound f s → IsNew heard s sender (messages.ViewChange b) b.vector → IsReported b.view (merged s.vector b.vector me) (report_of sender b)
+    new_report : (s : Seat) (sender : ℕ) (b : ViewChangeBody) → IsSound f s → IsNew heard s sender (messages.ViewChange b) b.vector
+        → IsReported b.view (merged s.vector b.vector me) (report_of sender b)
     new_report s sender b sound new = record {
       below = (fit.hears sender _ new.is).below;
       other = (fit.hears sender _ new.is).other;
@@ -100,7 +112,8 @@ module _ (f me : ℕ) (Sent : ℕ → Message → Type 0) where
           omega (arith, is, low);
     }
 
-    one_of : (view : ℕ) (v : List ℕ) (sender : ℕ) (b : ViewChangeBody) (base : List Reported) → AreReports view v base → IsReported view v (report_of sender b) → (r : Reported) → Has (with_change base sender b) r → IsReported view v r
+    one_of : (view : ℕ) (v : List ℕ) (sender : ℕ) (b : ViewChangeBody) (base : List Reported) → AreReports view v base
+        → IsReported view v (report_of sender b) → (r : Reported) → Has (with_change base sender b) r → IsReported view v r
     one_of view v sender b base h new r has = elim (has_split (filter (λ x. not (eqb x.change.sender sender)) base) (report_of sender b ∷ []) r has) [
       | inl old ↦ h.each r (filter_has (λ (x : Reported). not (eqb x.change.sender sender)) base r old).among
       | inr (inl is) ↦ subst (IsReported view v) is new
@@ -108,7 +121,8 @@ module _ (f me : ℕ) (Sent : ℕ → Message → Type 0) where
     ]
 
     -- the reports with the one that is heard
-    pub collected : (s : Seat) (sender : ℕ) (b : ViewChangeBody) (base : List Reported) → IsSound f s → HasReports s → IsNew heard s sender (messages.ViewChange b) b.vector → Base s b.view (merged s.vector b.vector me) base
+    pub collected : (s : Seat) (sender : ℕ) (b : ViewChangeBody) (base : List Reported) → IsSound f s → HasReports s
+        → IsNew heard s sender (messages.ViewChange b) b.vector → Base s b.view (merged s.vector b.vector me) base
         → AreReports b.view (merged s.vector b.vector me) (with_change base sender b)
     collected s sender b base sound h new on =
         let old = base_reports s sender b base sound h new on in
@@ -140,7 +154,8 @@ module _ (f me : ℕ) (Sent : ℕ → Message → Type 0) where
     reports_kept s _ sound (Back rejoining is) h = record { reports = λ c. up_no_rejoin s.status (changing_up s.status c) rejoining }
 
 -- what was sent stays sent
-pub are_reports_stay : (f me : ℕ) (P Q : ℕ → Message → Type 0) → ((y : ℕ) (m : Message) → P y m → Q y m) → (view : ℕ) (v : List ℕ) (changes : List Reported) → AreReports f me P view v changes → AreReports f me Q view v changes
+pub are_reports_stay : (f me : ℕ) (P Q : ℕ → Message → Type 0) → ((y : ℕ) (m : Message) → P y m → Q y m) → (view : ℕ) (v : List ℕ) (changes : List Reported)
+    → AreReports f me P view v changes → AreReports f me Q view v changes
 are_reports_stay f me P Q more view v changes h = record {
   distinct = h.distinct;
   each = λ r has. let k = h.each r has in record { below = k.below; other = k.other; sent = more _ _ k.sent; merged_in = k.merged_in; fresh = k.fresh };

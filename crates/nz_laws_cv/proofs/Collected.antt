@@ -49,7 +49,8 @@ collected_later g m r J s h = record {
   reports = reports_stay g.f m (Sent J m) (Sent (r ∷ J) m) (λ y message sent. sent_more r J y m message sent) s h.reports;
 }
 
-pub hears_sent : (g : Group) (m : ℕ) (r : Record) (J : List Record) → World g (r ∷ J) → Shows g J → r.actor ≡ Replica m → HearsSent (Sent (r ∷ J) m) m (heard_by g m r.event)
+pub hears_sent : (g : Group) (m : ℕ) (r : Record) (J : List Record) → World g (r ∷ J) → Shows g J → r.actor ≡ Replica m
+    → HearsSent (Sent (r ∷ J) m) m (heard_by g m r.event)
 hears_sent g m r J w h a = record { sent = λ y message is. sent_more r J y m message (was_sent g m r J w h a y message is) }
 
 first_collected : (g : Group) (m : ℕ) → HasCollected g m [] (seat_of (first_replica g.f))
@@ -67,9 +68,11 @@ collected_at g m (r ∷ J) w h =
           let mine = in_group g m r.actor a w.0.member in
           let sound = sound_at g J w.1 m in
           record {
-            tellers = tellers_kept g.f m (Sent (r ∷ J) m) r.event (heard_by g m r.event) fit sent mine (seat_at g m J) (seat_at g m (r ∷ J)) sound turn old.tellers;
+            tellers = tellers_kept g.f m (Sent (r ∷ J) m) r.event (heard_by g m r.event) fit sent mine (seat_at g m J) (seat_at g m (r ∷ J))
+                sound turn old.tellers;
             tells = tells_kept g.f m (Sent (r ∷ J) m) r.event (heard_by g m r.event) fit sent mine (seat_at g m J) (seat_at g m (r ∷ J)) sound turn old.tells;
-            reports = reports_kept g.f m (Sent (r ∷ J) m) r.event (heard_by g m r.event) fit sent mine (seat_at g m J) (seat_at g m (r ∷ J)) sound turn old.reports;
+            reports = reports_kept g.f m (Sent (r ∷ J) m) r.event (heard_by g m r.event) fit sent mine (seat_at g m J) (seat_at g m (r ∷ J))
+                sound turn old.reports;
           }
       | Rests e same ↦ subst (HasCollected g m (r ∷ J)) (sym same) old
     ]
@@ -125,8 +128,10 @@ module _ (f me : ℕ) (e : Event) (heard : Heard) where
   pub data Arrives (s t : Seat) : Type 0 where
     Was : is_normal s.status ≡ true → s.view ≡ t.view → Arrives s t
     Begins : IsBegun s t → Arrives s t
-    Starts : (sender : ℕ) (b : StartViewBody) → heard ≡ Some (Replica sender, messages.StartView b) → sender ≡ leader_of f b.view → t.view ≡ b.view → Arrives s t
-    Returns : (sender : ℕ) (b : StateTellBody) → heard ≡ Some (Replica sender, messages.StateTell b) → sender ≡ leader_of f b.view → t.view ≡ b.view → Arrives s t
+    Starts : (sender : ℕ) (b : StartViewBody) → heard ≡ Some (Replica sender, messages.StartView b) → sender ≡ leader_of f b.view → t.view ≡ b.view
+        → Arrives s t
+    Returns : (sender : ℕ) (b : StateTellBody) → heard ≡ Some (Replica sender, messages.StateTell b) → sender ≡ leader_of f b.view → t.view ≡ b.view
+        → Arrives s t
 
   pub arrives : (s t : Seat) → Turn f me e heard s t → is_normal t.status ≡ true → Arrives s t
   arrives s _ Stays n = Was n refl
@@ -138,7 +143,8 @@ module _ (f me : ℕ) (e : Event) (heard : Heard) where
   arrives s _ (Follow sender m u new w up later) n = absurd cc
   arrives s _ (Answer sender b new normal same) n = Was normal refl
   arrives s _ (Collect sender b new may base on) n = absurd cc
-  arrives s _ (Begin sender b new may base on full) n = Begins (record { sender = sender; body = b; new = new; may = may; base = base; on = on; full = full; is = refl })
+  arrives s _ (Begin sender b new may base on full) n =
+      Begins (record { sender = sender; body = b; new = new; may = may; base = base; on = on; full = full; is = refl })
   arrives s _ (Start sender b new may) n = Starts sender b new.is may.leader refl
   arrives s _ (Fall is) n = absurd cc
   arrives s _ (Wake nonce is down) n = absurd cc
@@ -151,7 +157,8 @@ module _ (f me : ℕ) (e : Event) (heard : Heard) where
   arrives s _ (Back rejoining is) n = normal_no_rejoin s.status n rejoining
 
 -- a record that completes a rejoin
-pub completing : (g : Group) (m : ℕ) (r : Record) (K : List Record) → is_rejoining (replica_at g m K).status ≡ true → is_normal (replica_at g m (r ∷ K)).status ≡ true
+pub completing : (g : Group) (m : ℕ) (r : Record) (K : List Record) → is_rejoining (replica_at g m K).status ≡ true
+    → is_normal (replica_at g m (r ∷ K)).status ≡ true
     → IsReturn g.f m r.event (heard_by g m r.event) (seat_at g m K) (seat_at g m (r ∷ K))
 completing g m r K rejoins normal = elim (steps g m r K) [
   | Acts a turn ↦ returns g.f m r.event (heard_by g m r.event) (seat_at g m K) (seat_at g m (r ∷ K)) turn rejoins normal
@@ -182,7 +189,8 @@ rejoins_later g m (r ∷ K) w rejoins = elim (passing g m r K w) [
 -- what a replica that is up was before
 pub data WasUp (g : Group) (m : ℕ) (r : Record) (K : List Record) : Type 0 where
   StayedUp : up_at g m K ≡ true → incarnation g m (r ∷ K) ≡ incarnation g m K → Goes m (seat_at g m K) (seat_at g m (r ∷ K)) → WasUp g m r K
-  Rejoined : rejoining_at g m K ≡ true → is_normal (replica_at g m (r ∷ K)).status ≡ true → incarnation g m (r ∷ K) ≡ incarnation g m K → Goes m (seat_at g m K) (seat_at g m (r ∷ K)) → WasUp g m r K
+  Rejoined : rejoining_at g m K ≡ true → is_normal (replica_at g m (r ∷ K)).status ≡ true → incarnation g m (r ∷ K) ≡ incarnation g m K
+      → Goes m (seat_at g m K) (seat_at g m (r ∷ K)) → WasUp g m r K
 
 pub was_up : (g : Group) (m : ℕ) (r : Record) (K : List Record) → World g (r ∷ K) → up_at g m (r ∷ K) ≡ true → WasUp g m r K
 was_up g m r K w up = elim (passing g m r K w) [

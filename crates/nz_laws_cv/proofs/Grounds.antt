@@ -40,7 +40,8 @@ use Rattle.nz_laws_cv.proofs.ViewNotions.{Completes, Uses, notions}
 
 -- ---- two moments of one incarnation
 
-pub later_at : (g : Group) (J : List Record) → World g J → (x : ℕ) (K L : List Record) → At J L → At L K → incarnation g x K ≡ incarnation g x L → up_at g x K ≡ true → up_at g x L ≡ true → IsLater (notions g J) x K L
+pub later_at : (g : Group) (J : List Record) → World g J → (x : ℕ) (K L : List Record) → At J L → At L K → incarnation g x K ≡ incarnation g x L
+    → up_at g x K ≡ true → up_at g x L ≡ true → IsLater (notions g J) x K L
 later_at g J w x K L at then same up_k up_l =
     let goes = goes_far g x L K (at_world g J L w at) then same (up_not_down (replica_at g x L).status up_l) in
     let own = goes.own_up up_k in
@@ -54,10 +55,12 @@ later_at g J w x K L at then same up_k up_l =
       own = own;
     }
 
-completes_is : (g : Group) (x : ℕ) (r : Record) (K : List Record) → rejoining_at g x K ≡ true → is_normal (replica_at g x (r ∷ K)).status ≡ true → completes g x (r ∷ K) ≡ true
+completes_is : (g : Group) (x : ℕ) (r : Record) (K : List Record) → rejoining_at g x K ≡ true → is_normal (replica_at g x (r ∷ K)).status ≡ true
+    → completes g x (r ∷ K) ≡ true
 completes_is g x r K before normal = and_both (rejoining_at g x K) (is_normal (replica_at g x (r ∷ K)).status) before normal
 
-pub stays_at : (g : Group) (J : List Record) → World g J → (x : ℕ) (r : Record) (K : List Record) → At J (r ∷ K) → up_at g x (r ∷ K) ≡ true → StaysUp (notions g J) x K (r ∷ K) ⊎ Completes g J x (r ∷ K)
+pub stays_at : (g : Group) (J : List Record) → World g J → (x : ℕ) (r : Record) (K : List Record) → At J (r ∷ K) → up_at g x (r ∷ K) ≡ true
+    → StaysUp (notions g J) x K (r ∷ K) ⊎ Completes g J x (r ∷ K)
 stays_at g J w x r K at up = elim (was_up g x r K (at_world g J (r ∷ K) w at) up) [
   | StayedUp before inc goes ↦ inl (record { up = before; same = sym inc })
   | Rejoined before normal inc goes ↦ inr (record { at = at; is = completes_is g x r K before normal })
@@ -93,7 +96,8 @@ told_vector g y m v K T w h up some fits from =
     let s = source_is (letter y m (messages.VectorTell (record { nonce = nonce_at g m K; vector = v }))) K T from in
     let tells = h.vector_tell y m _ s.newest s.older s.at (record { has = s.sends; fits = fits }) in
     let q = sent_at m y (messages.VectorAsk (record { nonce = nonce_at g m K })) s.older tells.asked in
-    let asks = h.vector_ask m y (record { nonce = nonce_at g m K }) q.record_of q.older (at_then K (s.newest ∷ s.older) (q.record_of ∷ q.older) s.at (inr q.at)) q.sends in
+    let asks = h.vector_ask m y (record { nonce = nonce_at g m K }) q.record_of q.older
+    (at_then K (s.newest ∷ s.older) (q.record_of ∷ q.older) s.at (inr q.at)) q.sends in
     let in_here = inside g m K (s.newest ∷ s.older) (q.record_of ∷ q.older) w s.at (inr q.at) up some asks.rejoining asks.nonce in
     subst (λ (x : List Record). ToldVector g y m v K x) (sym s.is) (record { at = s.at; normal = tells.normal; vector = tells.vector; inside = in_here.told })
 
@@ -115,7 +119,8 @@ told_view_of g m t K T w h up some fits from =
     let tells = h.rejoin_tell t.sender m _ s.newest s.older s.at (record { has = s.sends; fits = fits }) in
     let q = sent_at m t.sender (messages.RejoinAsk (record { nonce = nonce_at g m K; vector = tells.ask })) s.older tells.asked in
     let Q = q.record_of ∷ q.older in
-    let asks = h.rejoin_ask m t.sender (record { nonce = nonce_at g m K; vector = tells.ask }) q.record_of q.older (at_then K (s.newest ∷ s.older) Q s.at (inr q.at)) q.sends in
+    let asks = h.rejoin_ask m t.sender (record { nonce = nonce_at g m K; vector = tells.ask }) q.record_of q.older
+    (at_then K (s.newest ∷ s.older) Q s.at (inr q.at)) q.sends in
     let in_here = inside g m K (s.newest ∷ s.older) Q w s.at (inr q.at) up some asks.rejoining asks.nonce in
     let goes = goes_far g m K Q w (at_then K (s.newest ∷ s.older) Q s.at (inr q.at)) in_here.asked up in
     let own = goes.own (views_settled (seat_at g m Q) asks.in_phase) in
@@ -132,7 +137,8 @@ told_view_of g m t K T w h up some fits from =
 
 -- ---- the own counter was claimed
 
-pub claimed_at : (g : Group) (J : List Record) → World g J → Shows g J → (x : ℕ) (K : List Record) → At J K → up_at g x K ≡ true → 0 < incarnation g x K → IsHeldByMany g.f (TellsVector (notions g J) x K)
+pub claimed_at : (g : Group) (J : List Record) → World g J → Shows g J → (x : ℕ) (K : List Record) → At J K → up_at g x K ≡ true → 0 < incarnation g x K
+    → IsHeldByMany g.f (TellsVector (notions g J) x K)
 claimed_at g J w h x K at up some =
     let world = at_world g J K w at in
     let shows = shows_at g J K h at in
@@ -185,7 +191,8 @@ source_before p r K T has from =
     let k = has_source p K has in
     k.1 ∙ sym (source_stays p r K k.0 k.1) ∙ from
 
-module _ (g : Group) (J : List Record) (m : ℕ) (r : Record) (K : List Record) (world : World g (r ∷ K)) (shows : Shows g (r ∷ K)) (before : rejoining_at g m K ≡ true) (after : is_normal (replica_at g m (r ∷ K)).status ≡ true) where
+module _ (g : Group) (J : List Record) (m : ℕ) (r : Record) (K : List Record) (world : World g (r ∷ K)) (shows : Shows g (r ∷ K))
+    (before : rejoining_at g m K ≡ true) (after : is_normal (replica_at g m (r ∷ K)).status ≡ true) where
   abbrev C : List Record
   C = r ∷ K
 
@@ -220,7 +227,8 @@ module _ (g : Group) (J : List Record) (m : ℕ) (r : Record) (K : List Record) 
       let among = subst (λ (x : Rejoin). Has x.tells t) same_rejoin has in
       subst (λ (x : Rejoin). IsSent K t.sender m (tell_of x.nonce t)) (sym same_rejoin) ((old.each t among).sent)
 
-  told_at : (t : ToldView) (T : List Record) → Has (replica_at g m C).rejoin.tells t → source (letter t.sender m (tell_of (nonce_at g m C) t)) C ≡ Some T → ToldViewOf g m t C T
+  told_at : (t : ToldView) (T : List Record) → Has (replica_at g m C).rejoin.tells t → source (letter t.sender m (tell_of (nonce_at g m C) t)) C ≡ Some T
+      → ToldViewOf g m t C T
   told_at t T has from = told_view_of g m t C T world shows not_down some (tells.each t has).sent.fits from
 
   pub used_is : At J C → (y : ℕ) (T : List Record) → Uses g m C y T → IsUsed (notions g J) J m C y T
@@ -243,14 +251,21 @@ module _ (g : Group) (J : List Record) (m : ℕ) (r : Record) (K : List Record) 
         inside = told.inside;
         counter = counter;
         view = omega (arith, view, wanted, late, same_wanted, new_view);
-        merged = λ i other. let low = k.merged_in i (λ e. other (sym e)) in let same = ap (λ (v : List ℕ). slice_index v i) told.vector in omega (arith, low, same);
+        merged = λ i other. let low =
+            k.merged_in i (λ e. other (sym e)) in let same = ap (λ (v : List ℕ). slice_index v i) told.vector in omega (arith, low, same);
       })
 
-  pub consistent_is : (y x : ℕ) (S T : List Record) → Uses g m C y S → Uses g m C x T → slice_index (replica_at g y S).vector x ≤ slice_index (replica_at g x T).vector x
+  pub consistent_is : (y x : ℕ) (S T : List Record) → Uses g m C y S → Uses g m C x T
+      → slice_index (replica_at g y S).vector x ≤ slice_index (replica_at g x T).vector x
   consistent_is y x S T a b =
-      let low : slice_index a.told.vector x ≤ slice_index b.told.vector x = subst (λ (z : ℕ). slice_index a.told.vector z ≤ slice_index b.told.vector z) b.sender (tells.consistent a.told b.told a.used b.used) in
-      let left : slice_index (replica_at g y S).vector x ≡ slice_index a.told.vector x = ap (λ (z : ℕ). slice_index (replica_at g z S).vector x) (sym a.sender) ∙ ap (λ (v : List ℕ). slice_index v x) (told_at a.told S a.used a.from).vector in
-      let right : slice_index (replica_at g x T).vector x ≡ slice_index b.told.vector x = ap (λ (z : ℕ). slice_index (replica_at g z T).vector x) (sym b.sender) ∙ ap (λ (v : List ℕ). slice_index v x) (told_at b.told T b.used b.from).vector in
+      let low : slice_index a.told.vector x ≤ slice_index b.told.vector x =
+      subst (λ (z : ℕ). slice_index a.told.vector z ≤ slice_index b.told.vector z) b.sender (tells.consistent a.told b.told a.used b.used) in
+      let left : slice_index (replica_at g y S).vector x ≡ slice_index a.told.vector x =
+      ap (λ (z : ℕ). slice_index (replica_at g z S).vector x) (sym a.sender)
+      ∙ ap (λ (v : List ℕ). slice_index v x) (told_at a.told S a.used a.from).vector in
+      let right : slice_index (replica_at g x T).vector x ≡ slice_index b.told.vector x =
+      ap (λ (z : ℕ). slice_index (replica_at g z T).vector x) (sym b.sender)
+      ∙ ap (λ (v : List ℕ). slice_index v x) (told_at b.told T b.used b.from).vector in
       omega (arith, low, left, right)
 
   pub answers_are : IsHeldByMany g.f (Uses g m C)
@@ -258,7 +273,8 @@ module _ (g : Group) (J : List Record) (m : ℕ) (r : Record) (K : List Record) 
     members = map sender_of (replica_at g m C).rejoin.tells;
     choice = record {
       distinct = tells.distinct;
-      below = λ y has. let t = in_map sender_of (replica_at g m C).rejoin.tells y has in subst (λ (z : ℕ). z < replica_count g.f) t.is (tells.each t.item t.has).below;
+      below = λ y has. let t =
+          in_map sender_of (replica_at g m C).rejoin.tells y has in subst (λ (z : ℕ). z < replica_count g.f) t.is (tells.each t.item t.has).below;
     };
     enough = let long = length_map sender_of (replica_at g m C).rejoin.tells in let many = tells.enough in_log in omega (arith, long, many);
     each = λ y has.

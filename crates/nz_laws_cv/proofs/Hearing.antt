@@ -48,7 +48,8 @@ read_counts f x e false c k h = absurd (none-some e h)
 read_counts f x e true false k h = absurd (none-some e (sym (ap (λ (t : Bool). cond t (Some x) None) k) ∙ h))
 read_counts f x e true true k h = (refl, (same_Some x e (sym (ap (λ (t : Bool). cond t (Some x) None) k) ∙ h), refl))
 
-read_of : (f : ℕ) (me : Actor) (p : Parcel) (e : Envelope) (x : Result Envelope DecodeRefusal) → decode_of p.frame ≡ x → counted f (heard_if me p x) ≡ Some e → IsRead f me p e
+read_of : (f : ℕ) (me : Actor) (p : Parcel) (e : Envelope) (x : Result Envelope DecodeRefusal) → decode_of p.frame ≡ x
+    → counted f (heard_if me p x) ≡ Some e → IsRead f me p e
 read_of f me p e (Err refusal) d h = absurd (none-some e h)
 read_of f me p e (Ok x) d h =
     let t = read_counts f x e (is_for me p x) (counts f x) refl h in
@@ -80,13 +81,18 @@ hears_as f me sender p m h =
     let t = envelope_is (received f (Replica me) p) (Replica sender) m h in
     let e = t.envelope in
     let read = read_is f (Replica me) p e t.is in
-    let others : not (actor_eq e.from (Replica me)) ≡ true = and_right (actor_eq e.to (Replica me)) (not (actor_eq e.from (Replica me))) (and_right (actor_eq e.to p.to) (actor_eq e.to (Replica me) && not (actor_eq e.from (Replica me))) (and_right (actor_eq e.from p.from) (actor_eq e.to p.to && (actor_eq e.to (Replica me) && not (actor_eq e.from (Replica me)))) read.ours)) in
+    let others : not (actor_eq e.from (Replica me)) ≡ true =
+    and_right (actor_eq e.to (Replica me)) (not (actor_eq e.from (Replica me)))
+    (and_right (actor_eq e.to p.to) (actor_eq e.to (Replica me) && not (actor_eq e.from (Replica me)))
+    (and_right (actor_eq e.from p.from) (actor_eq e.to p.to && (actor_eq e.to (Replica me) && not (actor_eq e.from (Replica me)))) read.ours)) in
     let other : not (eqb sender me) ≡ true = ap (λ (a : Actor). not (actor_eq a (Replica me))) (sym t.from_is) ∙ others in
-    let member : nat_lt sender (replica_count f) ≡ true = ap (λ (a : Actor). is_in_cluster f a) (sym t.from_is) ∙ and_left (is_in_cluster f e.from) (is_sized f (vector_of e.message)) read.counts in
+    let member : nat_lt sender (replica_count f) ≡ true =
+    ap (λ (a : Actor). is_in_cluster f a) (sym t.from_is) ∙ and_left (is_in_cluster f e.from) (is_sized f (vector_of e.message)) read.counts in
     record {
       other = λ same. let yes = eq-eqb sender me same in cc;
       below = grind (arith, nat_tests, member);
-      sized = ap (λ (x : Message). is_sized f (vector_of x)) (sym t.message_is) ∙ and_right (is_in_cluster f e.from) (is_sized f (vector_of e.message)) read.counts;
+      sized = ap (λ (x : Message). is_sized f (vector_of x)) (sym t.message_is)
+          ∙ and_right (is_in_cluster f e.from) (is_sized f (vector_of e.message)) read.counts;
     }
 
 pub hears_fit : (g : Group) (me : ℕ) (e : Event) → HearsFit g.f me (heard_by g me e)
@@ -114,15 +120,27 @@ pub record IsLetter (p : Parcel) (me : ℕ) (from : Actor) (m : Message) : Type 
   pub is : p ≡ parcel from (Replica me, m)
   pub fits : FitsOut from (Replica me, m)
 
-pub spelled_is : (f me : ℕ) (p : Parcel) (from : Actor) (m : Message) → IsSpelled p → heard_as (received f (Replica me) p) ≡ Some (from, m) → IsLetter p me from m
+pub spelled_is : (f me : ℕ) (p : Parcel) (from : Actor) (m : Message) → IsSpelled p → heard_as (received f (Replica me) p) ≡ Some (from, m)
+    → IsLetter p me from m
 spelled_is f me p from m s h =
     let t = envelope_is (received f (Replica me) p) from m h in
     let e = t.envelope in
     let read = read_is f (Replica me) p e t.is in
-    let d : decode_of (encode_of s.by s.out.0 s.out.1) ≡ Ok (record { from = s.by; to = s.out.0; message = s.out.1 }) = decode-encode s.by s.out.0 s.out.1 s.fits.sender s.fits.receiver s.fits.message in
-    let same : record { from = s.by; to = s.out.0; message = s.out.1 } ≡ e = same_ok _ _ (decode_of (parcel s.by s.out).frame) (decode_of p.frame) d read.decodes (ap (λ (q : Parcel). decode_of q.frame) (sym s.is)) in
-    let to : e.to ≡ Replica me = same_actor e.to (Replica me) (and_left (actor_eq e.to (Replica me)) (not (actor_eq e.from (Replica me))) (and_right (actor_eq e.to p.to) (actor_eq e.to (Replica me) && not (actor_eq e.from (Replica me))) (and_right (actor_eq e.from p.from) (actor_eq e.to p.to && (actor_eq e.to (Replica me) && not (actor_eq e.from (Replica me)))) read.ours))) in
+    let d : decode_of (encode_of s.by s.out.0 s.out.1) ≡ Ok (record { from = s.by; to = s.out.0; message = s.out.1 }) =
+    decode-encode s.by s.out.0 s.out.1 s.fits.sender s.fits.receiver s.fits.message in
+    let same : record { from = s.by; to = s.out.0; message = s.out.1 } ≡ e =
+    same_ok _ _ (decode_of (parcel s.by s.out).frame) (decode_of p.frame) d read.decodes (ap (λ (q : Parcel). decode_of q.frame) (sym s.is)) in
+    let to : e.to ≡ Replica me =
+    same_actor e.to (Replica me)
+    (and_left (actor_eq e.to (Replica me)) (not (actor_eq e.from (Replica me)))
+    (and_right (actor_eq e.to p.to) (actor_eq e.to (Replica me) && not (actor_eq e.from (Replica me)))
+    (and_right (actor_eq e.from p.from) (actor_eq e.to p.to && (actor_eq e.to (Replica me) && not (actor_eq e.from (Replica me)))) read.ours))) in
     let by_from : s.by ≡ from = ap (λ (x : Envelope). x.from) same ∙ t.from_is in
     let to_me : s.out.0 ≡ Replica me = ap (λ (x : Envelope). x.to) same ∙ to in
     let is_m : s.out.1 ≡ m = ap (λ (x : Envelope). x.message) same ∙ t.message_is in
-    record { is = s.is ∙ (λ i. parcel (by_from i) (to_me i, is_m i)); fits = let out_is : s.out ≡ (Replica me, m) = λ i. (to_me i, is_m i) in subst (λ (x : Out). FitsOut from x) out_is (subst (λ (x : Actor). FitsOut x s.out) by_from s.fits) }
+    record {
+      is = s.is ∙ (λ i. parcel (by_from i) (to_me i, is_m i));
+      fits =
+          let out_is : s.out ≡ (Replica me, m) =
+          λ i. (to_me i, is_m i) in subst (λ (x : Out). FitsOut from x) out_is (subst (λ (x : Actor). FitsOut x s.out) by_from s.fits);
+    }

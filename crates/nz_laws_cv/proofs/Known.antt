@@ -34,7 +34,8 @@ lower a b c low high apart =
     omega (arith, lt, high)
 
 -- a later completion is of a later incarnation
-completes_later : (g : Group) (J : List Record) → World g J → (m : ℕ) (C D : List Record) → At J C → At J D → completes g m C ≡ true → completes g m D ≡ true → length C < length D → incarnation g m C < incarnation g m D
+completes_later : (g : Group) (J : List Record) → World g J → (m : ℕ) (C D : List Record) → At J C → At J D → completes g m C ≡ true
+    → completes g m D ≡ true → length C < length D → incarnation g m C < incarnation g m D
 completes_later g J w m C D at_c at_d c d shorter =
     let i = completing_is g m C c in
     let j = completing_is g m D d in
@@ -42,22 +43,26 @@ completes_later g J w m C D at_c at_d c d shorter =
     let long = ap length j.is in
     let before : At j.older C = at_order J C j.older at_c (at_tail J j.newest j.older at_j) (omega (arith, shorter, long)) in
     let world = at_world g J (j.newest ∷ j.older) w at_j in
-    let up : is_up (replica_at g m C).status ≡ true = normal_up (replica_at g m C).status (subst (λ (x : List Record). is_normal (replica_at g m x).status ≡ true) (sym i.is) i.after) in
+    let up : is_up (replica_at g m C).status ≡ true =
+    normal_up (replica_at g m C).status (subst (λ (x : List Record). is_normal (replica_at g m x).status ≡ true) (sym i.is) i.after) in
     let low = inc_grows g m j.older C world.1 before in
     let high = inc_grows g m (j.newest ∷ j.older) j.older world (inr (at_self j.older)) in
     let top = ap (incarnation g m) j.is in
     let apart : incarnation g m C ≡ incarnation g m j.older → ⊥ = λ same.
-    up_no_rejoin (replica_at g m j.older).status ((goes_far g m j.older C world.1 before same (rejoin_not_down (replica_at g m j.older).status j.before)).stays_up up) j.before in
+    up_no_rejoin (replica_at g m j.older).status
+    ((goes_far g m j.older C world.1 before same (rejoin_not_down (replica_at g m j.older).status j.before)).stays_up up) j.before in
     lower (incarnation g m C) (incarnation g m j.older) (incarnation g m D) low (omega (arith, high, top)) apart
 
 pub knowledge_at : (g : Group) (J : List Record) → World g J → Shows g J → Knowledge g J
 knowledge_at g J w h =
     let v = views_at g J w h in
     let up_at : (m : ℕ) (C : List Record) → completes g m C ≡ true → is_up (replica_at g m C).status ≡ true =
-    λ m C c. let i = completing_is g m C c in normal_up (replica_at g m C).status (subst (λ (x : List Record). is_normal (replica_at g m x).status ≡ true) (sym i.is) i.after) in
+    λ m C c. let i = completing_is g m C c in normal_up (replica_at g m C).status
+    (subst (λ (x : List Record). is_normal (replica_at g m x).status ≡ true) (sym i.is) i.after) in
     record {
       rise = λ m C D at_c at_d c d shorter. v.rise m C D at_c at_d (up_at m C c) (up_at m D d) (completes_later g J w m C D at_c at_d c d shorter);
-      known = λ m C S K t at_c at_k c has from up later. v.know m t.sender C S K (record { at = at_c; is = c }) (record { told = t; used = has; sender = refl; from = from }) at_k up later;
+      known = λ m C S K t at_c at_k c has from up later. v.know m t.sender C S K (record { at = at_c; is = c })
+          (record { told = t; used = has; sender = refl; from = from }) at_k up later;
     }
 
 -- no record begins view 0
@@ -77,11 +82,14 @@ module _ (g : Group) (J : List Record) (w : World g J) (v : HasViews (notions g 
   once_at zero B C at_b at_c b c = zero_once g J v B at_b b ∙ sym (zero_once g J v C at_c c)
   once_at (suc n) B C at_b at_c b c = v.once (suc n) B C (record { at = at_b; later = omega arith; is = b }) (record { at = at_c; later = omega arith; is = c })
 
-  reported_at : (n m : ℕ) (B S C : List Record) → At J B → At J C → begins g n B ≡ true → (notions g J).Reports n B m S → completes g m C ≡ true → incarnation g m S < incarnation g m C → n ≤ (replica_at g m C).view
+  reported_at : (n m : ℕ) (B S C : List Record) → At J B → At J C → begins g n B ≡ true → (notions g J).Reports n B m S → completes g m C ≡ true
+      → incarnation g m S < incarnation g m C → n ≤ (replica_at g m C).view
   reported_at zero m B S C at_b at_c b r c later = omega arith
-  reported_at (suc n) m B S C at_b at_c b r c later = v.member m (suc n) C B S (record { at = at_c; is = c }) (record { at = at_b; later = omega arith; is = b }) r later
+  reported_at (suc n) m B S C at_b at_c b r c later =
+      v.member m (suc n) C B S (record { at = at_c; is = c }) (record { at = at_b; later = omega arith; is = b }) r later
 
-  leader_at_once : (n : ℕ) (B K : List Record) → At J B → At J K → begins g n B ≡ true → is_led g n K ≡ true → incarnation g (leader_of g.f n) K ≤ incarnation g (leader_of g.f n) B
+  leader_at_once : (n : ℕ) (B K : List Record) → At J B → At J K → begins g n B ≡ true → is_led g n K ≡ true
+      → incarnation g (leader_of g.f n) K ≤ incarnation g (leader_of g.f n) B
   leader_at_once zero B K at_b at_k b led =
       let now = normal_in_is 0 (replica_at g (leader_of g.f 0) K) led in
       let none = v.leader_of_zero K at_k (record { normal = now.0; view = now.1 }) in

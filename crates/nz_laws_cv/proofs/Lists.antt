@@ -10,7 +10,8 @@ pub record Passes {X : Type 0} (p : X → Bool) (xs : List X) (x : X) : Type 0 w
   pub among : Has xs x
   pub passes : p x ≡ true
 
-kept_by : {X : Type 0} (p : X → Bool) (y : X) (rest : List X) (x : X) (b : Bool) → p y ≡ b → Has (cond b (y ∷ rest) rest) x → ((y ≡ x) × (b ≡ true)) ⊎ Has rest x
+kept_by : {X : Type 0} (p : X → Bool) (y : X) (rest : List X) (x : X) (b : Bool) → p y ≡ b → Has (cond b (y ∷ rest) rest) x
+    → ((y ≡ x) × (b ≡ true)) ⊎ Has rest x
 kept_by p y rest x true e (inl h) = inl (h, refl)
 kept_by p y rest x true e (inr h) = inr h
 kept_by p y rest x false e h = inr h
@@ -56,7 +57,8 @@ module _ {X : Type 0} (key : X → ℕ) where
     | inr none ↦ none
   ]
 
-  distinct_cond : (x : X) (rest : List X) (b : Bool) → is_in (map key rest) (key x) ≡ false → AreDistinct (map key rest) → AreDistinct (map key (cond b (x ∷ rest) rest))
+  distinct_cond : (x : X) (rest : List X) (b : Bool) → is_in (map key rest) (key x) ≡ false → AreDistinct (map key rest)
+      → AreDistinct (map key (cond b (x ∷ rest) rest))
   distinct_cond x rest true out d = (out, d)
   distinct_cond x rest false out d = d
 
@@ -64,7 +66,8 @@ module _ {X : Type 0} (key : X → ℕ) where
   distinct_filter p [] d = d
   distinct_filter p (x ∷ xs) d = distinct_cond x (filter p xs) (p x) (not_in_filter p xs (key x) d.0) (distinct_filter p xs d.1)
 
-  gone_cond : (x : X) (rest : List X) (y : ℕ) (b : Bool) → eqb (key x) y ≡ b → is_in (map key rest) y ≡ false → is_in (map key (cond (not b) (x ∷ rest) rest)) y ≡ false
+  gone_cond : (x : X) (rest : List X) (y : ℕ) (b : Bool) → eqb (key x) y ≡ b → is_in (map key rest) y ≡ false
+      → is_in (map key (cond (not b) (x ∷ rest) rest)) y ≡ false
   gone_cond x rest y true e out = out
   gone_cond x rest y false e out = ap (λ b. b || is_in (map key rest) y) e ∙ out
 
@@ -81,7 +84,8 @@ module _ {X : Type 0} (key : X → ℕ) where
 
   -- one more, in place of an earlier one of its sender
   pub distinct_replace : (xs : List X) (x : X) → AreDistinct (map key xs) → AreDistinct (map key (filter (λ t. not (eqb (key t) (key x))) xs ++ x ∷ []))
-  distinct_replace xs x d = distinct_add (filter (λ t. not (eqb (key t) (key x))) xs) x (distinct_filter (λ t. not (eqb (key t) (key x))) xs d) (gone xs (key x))
+  distinct_replace xs x d =
+      distinct_add (filter (λ t. not (eqb (key t) (key x))) xs) x (distinct_filter (λ t. not (eqb (key t) (key x))) xs d) (gone xs (key x))
 
   pub record IsFound (xs : List X) (y : ℕ) : Type 0 where
     pub item : X

@@ -94,7 +94,8 @@ pub crashed_sound : (f : ℕ) → IsSound f (seat_of (crashed_replica f))
 crashed_sound f = record { sized = length-replicate _ _; normal = λ _. refl; changing = λ h. absurd cc; rejoining = λ _. refl; rejoining_last = λ _. refl }
 
 pub restarted_sound : (f nonce : ℕ) → IsSound f (seat_of (restarted_replica f nonce))
-restarted_sound f nonce = record { sized = length-replicate _ _; normal = λ _. refl; changing = λ h. absurd cc; rejoining = λ _. refl; rejoining_last = λ _. refl }
+restarted_sound f nonce =
+    record { sized = length-replicate _ _; normal = λ _. refl; changing = λ h. absurd cc; rejoining = λ _. refl; rejoining_last = λ _. refl }
 
 pub last_low : (f : ℕ) (s : Seat) → IsSound f s → is_up s.status ≡ true → s.last ≤ s.view
 last_low f s h up = elim (up_kinds s.status up) [
@@ -106,7 +107,8 @@ size_is : (f : ℕ) (u : List ℕ) (o : Option (List ℕ)) → o ≡ Some u → 
 size_is f u None e h = absurd cc
 size_is f u (Some v) e h = ap length (sym (same_Some v u e)) ∙ eqb-true _ _ h
 
-pub new_size : (f me : ℕ) (heard : Heard) (s : Seat) (sender : ℕ) (m : Message) (u : List ℕ) → HearsFit f me heard → IsNew heard s sender m u → length u ≡ replica_count f
+pub new_size : (f me : ℕ) (heard : Heard) (s : Seat) (sender : ℕ) (m : Message) (u : List ℕ) → HearsFit f me heard → IsNew heard s sender m u
+    → length u ≡ replica_count f
 new_size f me heard s sender m u fit new = size_is f u (vector_of m) new.carries (fit.hears sender m new.is).sized
 
 -- ---- within an incarnation
@@ -128,7 +130,20 @@ pub record Goes (me : ℕ) (s t : Seat) : Type 0 where
   pub stays_up : is_up s.status ≡ true → is_up t.status ≡ true
 
 pub goes_same : (me : ℕ) (s t : Seat) → t ≡ s → Goes me s t
-goes_same me s t is = subst (λ (u : Seat). Goes me s u) (sym is) (record { down = refl; view = omega arith; last = omega arith; places = λ k _. omega arith; nonce = refl; settled = λ h. h; own = λ _. refl; own_up = λ _. refl; stays_up = λ h. h })
+goes_same me s t is =
+    subst (λ (u : Seat). Goes me s u) (sym is)
+    (record {
+      down = refl;
+      view =
+          omega arith;
+      last = omega arith;
+      places = λ k _. omega arith;
+      nonce = refl;
+      settled = λ h. h;
+      own = λ _. refl;
+      own_up = λ _. refl;
+      stays_up = λ h. h;
+    })
 
 pub goes_then : (me : ℕ) (s t u : Seat) → Goes me s t → Goes me t u → Goes me s u
 goes_then me s t u a b = record {
@@ -159,16 +174,20 @@ module _ (f me : ℕ) (e : Event) (heard : Heard) (fit : HearsFit f me heard) wh
       let own = h.sized in
       length-merged s.vector u me (omega (arith, size, own)) ∙ own
 
-  rejoins_on : (s : Seat) (p : Phase) (n : ℕ) (v : List ℕ) (r : _) → IsSound f s → Awaits p s n → length v ≡ replica_count f → IsSound f (record s { vector = v; rejoin = r })
-  rejoins_on s p n v r h ours size = record { sized = size; normal = h.normal; changing = h.changing; rejoining = h.rejoining; rejoining_last = h.rejoining_last }
+  rejoins_on : (s : Seat) (p : Phase) (n : ℕ) (v : List ℕ) (r : _) → IsSound f s → Awaits p s n → length v ≡ replica_count f
+      → IsSound f (record s { vector = v; rejoin = r })
+  rejoins_on s p n v r h ours size =
+      record { sized = size; normal = h.normal; changing = h.changing; rejoining = h.rejoining; rejoining_last = h.rejoining_last }
 
   starts : (s : Seat) (v : List ℕ) (w : ℕ) (log : Log) (commit : ℕ) (changes : List Reported) → length v ≡ replica_count f
       → IsSound f (record s { status = Normal; view = w; last = w; log = log; commit = commit; vector = v; changes = changes })
-  starts s v w log commit changes size = record { sized = size; normal = λ _. refl; changing = λ h. absurd cc; rejoining = λ h. absurd cc; rejoining_last = λ h. absurd cc }
+  starts s v w log commit changes size =
+      record { sized = size; normal = λ _. refl; changing = λ h. absurd cc; rejoining = λ h. absurd cc; rejoining_last = λ h. absurd cc }
 
   enters : (s : Seat) (v : List ℕ) (w : ℕ) (log : Log) (changes : List Reported) → s.last < w → length v ≡ replica_count f
       → IsSound f (record s { status = ViewChange; view = w; log = log; vector = v; changes = changes })
-  enters s v w log changes low size = record { sized = size; normal = λ h. absurd cc; changing = λ _. low; rejoining = λ h. absurd cc; rejoining_last = λ h. absurd cc }
+  enters s v w log changes low size =
+      record { sized = size; normal = λ h. absurd cc; changing = λ _. low; rejoining = λ h. absurd cc; rejoining_last = λ h. absurd cc }
 
   pub collects_low : (s : Seat) (w : ℕ) (v : List ℕ) (base : _) → IsSound f s → is_up s.status ≡ true → Base s w v base → s.last < w
   collects_low s w v _ h up (Anew later) = let low = last_low f s h up in omega (arith, low, later)
@@ -176,48 +195,75 @@ module _ (f me : ℕ) (e : Event) (heard : Heard) (fit : HearsFit f me heard) wh
 
   pub sound_kept : (s t : Seat) → Turn f me e heard s t → IsSound f s → IsSound f t
   sound_kept s _ Stays h = h
-  sound_kept s _ (Release log normal more) h = record { sized = h.sized; normal = h.normal; changing = h.changing; rejoining = h.rejoining; rejoining_last = h.rejoining_last }
-  sound_kept s _ (Sync sender b new hears le log changed) h = record { sized = merged_size s sender _ b.vector h new; normal = h.normal; changing = h.changing; rejoining = h.rejoining; rejoining_last = h.rejoining_last }
-  sound_kept s _ (Tally commit normal led more) h = record { sized = h.sized; normal = h.normal; changing = h.changing; rejoining = h.rejoining; rejoining_last = h.rejoining_last }
-  sound_kept s _ (Merge sender m u new normal) h = record { sized = merged_size s sender m u h new; normal = h.normal; changing = h.changing; rejoining = h.rejoining; rejoining_last = h.rejoining_last }
+  sound_kept s _ (Release log normal more) h =
+      record { sized = h.sized; normal = h.normal; changing = h.changing; rejoining = h.rejoining; rejoining_last = h.rejoining_last }
+  sound_kept s _ (Sync sender b new hears le log changed) h =
+      record {
+        sized = merged_size s sender _ b.vector h new;
+        normal =
+            h.normal;
+        changing = h.changing;
+        rejoining = h.rejoining;
+        rejoining_last = h.rejoining_last;
+      }
+  sound_kept s _ (Tally commit normal led more) h =
+      record { sized = h.sized; normal = h.normal; changing = h.changing; rejoining = h.rejoining; rejoining_last = h.rejoining_last }
+  sound_kept s _ (Merge sender m u new normal) h =
+      record { sized = merged_size s sender m u h new; normal = h.normal; changing = h.changing; rejoining = h.rejoining; rejoining_last = h.rejoining_last }
   sound_kept s _ (Enter w up later log grown) h = enters s s.vector w log [] (let low = last_low f s h up in omega (arith, low, later)) h.sized
-  sound_kept s _ (Follow sender m u new w up later) h = enters s (merged s.vector u me) w s.log [] (let low = last_low f s h up in omega (arith, low, later)) (merged_size s sender m u h new)
-  sound_kept s _ (Answer sender b new normal same) h = record { sized = merged_size s sender _ b.vector h new; normal = h.normal; changing = h.changing; rejoining = h.rejoining; rejoining_last = h.rejoining_last }
-  sound_kept s _ (Collect sender b new may base on) h = enters s _ b.view s.log _ (collects_low s b.view _ base h may.up on) (merged_size s sender _ b.vector h new)
+  sound_kept s _ (Follow sender m u new w up later) h =
+      enters s (merged s.vector u me) w s.log [] (let low = last_low f s h up in omega (arith, low, later)) (merged_size s sender m u h new)
+  sound_kept s _ (Answer sender b new normal same) h =
+      record {
+        sized = merged_size s sender _ b.vector h new;
+        normal =
+            h.normal;
+        changing = h.changing;
+        rejoining = h.rejoining;
+        rejoining_last = h.rejoining_last;
+      }
+  sound_kept s _ (Collect sender b new may base on) h =
+      enters s _ b.view s.log _ (collects_low s b.view _ base h may.up on) (merged_size s sender _ b.vector h new)
   sound_kept s _ (Begin sender b new may base on full) h = starts s _ b.view _ _ _ (merged_size s sender _ b.vector h new)
   sound_kept s _ (Start sender b new may) h = starts s _ b.view _ _ s.changes (merged_size s sender _ b.vector h new)
   sound_kept s _ (Fall is) h = crashed_sound f
   sound_kept s _ (Wake nonce is down) h = restarted_sound f nonce
   sound_kept s _ (HearVector sender b new ours) h = rejoins_on s _ _ _ _ h ours (merged_size s sender _ b.vector h new)
-  sound_kept s _ (Count sender b new ours enough) h = rejoins_on s _ _ _ _ h ours (length-set (merged s.vector b.vector me) me _ ∙ merged_size s sender _ b.vector h new)
+  sound_kept s _ (Count sender b new ours enough) h =
+      rejoins_on s _ _ _ _ h ours (length-set (merged s.vector b.vector me) me _ ∙ merged_size s sender _ b.vector h new)
   sound_kept s _ (HearView sender b new ours) h = rejoins_on s _ _ _ _ h ours (merged_size s sender _ b.vector h new)
   sound_kept s _ (Forget sender b new ours) h = rejoins_on s _ _ _ _ h ours (merged_size s sender _ b.vector h new)
   sound_kept s _ (AskLog sender b new ours tells is enough) h = rejoins_on s _ _ _ _ h ours (merged_size s sender _ b.vector h new)
   sound_kept s _ (Return sender b new ours late leader) h = starts s _ b.view _ _ s.changes (merged_size s sender _ b.vector h new)
-  sound_kept s _ (Back rejoining is) h = record { sized = h.sized; normal = h.normal; changing = h.changing; rejoining = h.rejoining; rejoining_last = h.rejoining_last }
+  sound_kept s _ (Back rejoining is) h =
+      record { sized = h.sized; normal = h.normal; changing = h.changing; rejoining = h.rejoining; rejoining_last = h.rejoining_last }
 
   -- ---- within an incarnation
 
-  pub merges : (s : Seat) (sender : ℕ) (m : Message) (u : List ℕ) → me < replica_count f → IsSound f s → IsNew heard s sender m u → (k : ℕ) → slice_index s.vector k ≤ slice_index (merged s.vector u me) k
+  pub merges : (s : Seat) (sender : ℕ) (m : Message) (u : List ℕ) → me < replica_count f → IsSound f s → IsNew heard s sender m u → (k : ℕ)
+      → slice_index s.vector k ≤ slice_index (merged s.vector u me) k
   merges s sender m u in_group h new k =
       let size = new_size f me heard s sender m u fit new in
       let own = h.sized in
       never_falls s.vector u me k (omega (arith, size, own)) (omega (arith, in_group, own))
 
-  pub merges_own : (s : Seat) (sender : ℕ) (m : Message) (u : List ℕ) → me < replica_count f → IsSound f s → IsNew heard s sender m u → slice_index s.vector me ≡ slice_index (merged s.vector u me) me
+  pub merges_own : (s : Seat) (sender : ℕ) (m : Message) (u : List ℕ) → me < replica_count f → IsSound f s → IsNew heard s sender m u
+      → slice_index s.vector me ≡ slice_index (merged s.vector u me) me
   merges_own s sender m u in_group h new =
       let size = new_size f me heard s sender m u fit new in
       let own = h.sized in
       sym (merged-own s.vector u me (omega (arith, size, own)) (omega (arith, in_group, own)))
 
-  pub merges_in : (s : Seat) (sender : ℕ) (m : Message) (u : List ℕ) → me < replica_count f → IsSound f s → IsNew heard s sender m u → (k : ℕ) → ¬ (k ≡ me) → slice_index u k ≤ slice_index (merged s.vector u me) k
+  pub merges_in : (s : Seat) (sender : ℕ) (m : Message) (u : List ℕ) → me < replica_count f → IsSound f s → IsNew heard s sender m u → (k : ℕ) → ¬ (k ≡ me)
+      → slice_index u k ≤ slice_index (merged s.vector u me) k
   merges_in s sender m u in_group h new k other =
       let size = new_size f me heard s sender m u fit new in
       let own = h.sized in
       takes_in s.vector u me k (omega (arith, size, own)) (omega (arith, in_group, own)) other
 
   -- up before and after, with this vector
-  goes_up : (s : Seat) (a : Status) (w l : ℕ) (log : Log) (commit : ℕ) (v : List ℕ) (changes : List Reported) → is_up s.status ≡ true → is_up a ≡ true → s.view ≤ w → s.last ≤ l
+  goes_up : (s : Seat) (a : Status) (w l : ℕ) (log : Log) (commit : ℕ) (v : List ℕ) (changes : List Reported) → is_up s.status ≡ true → is_up a ≡ true
+      → s.view ≤ w → s.last ≤ l
       → ((k : ℕ) → slice_index s.vector k ≤ slice_index v k) → slice_index s.vector me ≡ slice_index v me
       → Goes me s (record s { status = a; view = w; last = l; log = log; commit = commit; vector = v; changes = changes })
   goes_up s a w l log commit v changes up after view last places own = record {
@@ -233,7 +279,8 @@ module _ (f me : ℕ) (e : Event) (heard : Heard) (fit : HearsFit f me heard) wh
   }
 
   -- rejoining before and after
-  goes_back : (s : Seat) (v : List ℕ) (r : Rejoin) → is_rejoining s.status ≡ true → ((k : ℕ) → ¬ (k ≡ me) → slice_index s.vector k ≤ slice_index v k) → r.nonce ≡ s.rejoin.nonce
+  goes_back : (s : Seat) (v : List ℕ) (r : Rejoin) → is_rejoining s.status ≡ true → ((k : ℕ) → ¬ (k ≡ me) → slice_index s.vector k ≤ slice_index v k)
+      → r.nonce ≡ s.rejoin.nonce
       → (is_phase s.rejoin.phase phases.Vectors ≡ false → is_phase r.phase phases.Vectors ≡ false)
       → (is_phase s.rejoin.phase phases.Vectors ≡ false → slice_index s.vector me ≡ slice_index v me)
       → Goes me s (record s { vector = v; rejoin = r })
@@ -255,34 +302,57 @@ module _ (f me : ℕ) (e : Event) (heard : Heard) (fit : HearsFit f me heard) wh
   pub course : (s t : Seat) → me < replica_count f → IsSound f s → Turn f me e heard s t → Course f me e s t
   course s _ in_group h Stays = GoesOn (goes_same me s s refl) (λ x y. up_no_rejoin s.status y x)
   course s _ in_group h (Release log normal more) =
-      GoesOn (goes_up s s.status s.view s.last log s.commit s.vector s.changes (normal_up s.status normal) (normal_up s.status normal) (omega arith) (omega arith) (λ k. omega arith) refl) (λ x y. up_no_rejoin s.status y x)
+      GoesOn (goes_up s s.status s.view s.last log s.commit s.vector s.changes (normal_up s.status normal) (normal_up s.status normal) (omega arith)
+      (omega arith) (λ k. omega arith) refl) (λ x y. up_no_rejoin s.status y x)
   course s _ in_group h (Sync sender b new hears le log changed) =
-      GoesOn (goes_up s s.status s.view s.last log _ _ s.changes (normal_up s.status hears.normal) (normal_up s.status hears.normal) (omega arith) (omega arith) (merges s sender _ b.vector in_group h new) (merges_own s sender _ b.vector in_group h new)) (λ x y. up_no_rejoin s.status y x)
+      GoesOn (goes_up s s.status s.view s.last log _ _ s.changes (normal_up s.status hears.normal) (normal_up s.status hears.normal) (omega arith)
+      (omega arith) (merges s sender _ b.vector in_group h new) (merges_own s sender _ b.vector in_group h new)) (λ x y. up_no_rejoin s.status y x)
   course s _ in_group h (Tally commit normal led more) =
-      GoesOn (goes_up s s.status s.view s.last s.log commit s.vector s.changes (normal_up s.status normal) (normal_up s.status normal) (omega arith) (omega arith) (λ k. omega arith) refl) (λ x y. up_no_rejoin s.status y x)
-  course s _ in_group h (Merge sender m u new normal) = GoesOn (goes_up s s.status s.view s.last s.log s.commit _ s.changes (normal_up s.status normal) (normal_up s.status normal) (omega arith) (omega arith) (merges s sender m u in_group h new) (merges_own s sender m u in_group h new)) (λ x y. up_no_rejoin s.status y x)
-  course s _ in_group h (Enter w up later log grown) = GoesOn (goes_up s ViewChange w s.last log s.commit s.vector [] up refl (omega (arith, later)) (omega arith) (λ k. omega arith) refl) (λ x y. up_no_rejoin s.status up x)
-  course s _ in_group h (Follow sender m u new w up later) = GoesOn (goes_up s ViewChange w s.last s.log s.commit _ [] up refl (omega (arith, later)) (omega arith) (merges s sender m u in_group h new) (merges_own s sender m u in_group h new)) (λ x y. up_no_rejoin s.status up x)
-  course s _ in_group h (Answer sender b new normal same) = GoesOn (goes_up s s.status s.view s.last s.log s.commit _ _ (normal_up s.status normal) (normal_up s.status normal) (omega arith) (omega arith) (merges s sender _ b.vector in_group h new) (merges_own s sender _ b.vector in_group h new)) (λ x y. up_no_rejoin s.status y x)
-  course s _ in_group h (Collect sender b new may base on) = GoesOn (goes_up s ViewChange b.view s.last s.log s.commit _ _ may.up refl may.later (omega arith) (merges s sender _ b.vector in_group h new) (merges_own s sender _ b.vector in_group h new)) (λ x y. up_no_rejoin s.status may.up x)
+      GoesOn (goes_up s s.status s.view s.last s.log commit s.vector s.changes (normal_up s.status normal) (normal_up s.status normal) (omega arith)
+      (omega arith) (λ k. omega arith) refl) (λ x y. up_no_rejoin s.status y x)
+  course s _ in_group h (Merge sender m u new normal) =
+      GoesOn (goes_up s s.status s.view s.last s.log s.commit _ s.changes (normal_up s.status normal) (normal_up s.status normal) (omega arith)
+      (omega arith) (merges s sender m u in_group h new) (merges_own s sender m u in_group h new)) (λ x y. up_no_rejoin s.status y x)
+  course s _ in_group h (Enter w up later log grown) =
+      GoesOn (goes_up s ViewChange w s.last log s.commit s.vector [] up refl (omega (arith, later)) (omega arith) (λ k. omega arith) refl)
+      (λ x y. up_no_rejoin s.status up x)
+  course s _ in_group h (Follow sender m u new w up later) =
+      GoesOn (goes_up s ViewChange w s.last s.log s.commit _ [] up refl (omega (arith, later)) (omega arith) (merges s sender m u in_group h new)
+      (merges_own s sender m u in_group h new)) (λ x y. up_no_rejoin s.status up x)
+  course s _ in_group h (Answer sender b new normal same) =
+      GoesOn (goes_up s s.status s.view s.last s.log s.commit _ _ (normal_up s.status normal) (normal_up s.status normal) (omega arith) (omega arith)
+      (merges s sender _ b.vector in_group h new) (merges_own s sender _ b.vector in_group h new)) (λ x y. up_no_rejoin s.status y x)
+  course s _ in_group h (Collect sender b new may base on) =
+      GoesOn (goes_up s ViewChange b.view s.last s.log s.commit _ _ may.up refl may.later (omega arith) (merges s sender _ b.vector in_group h new)
+      (merges_own s sender _ b.vector in_group h new)) (λ x y. up_no_rejoin s.status may.up x)
   course s _ in_group h (Begin sender b new may base on full) =
-      GoesOn (goes_up s Normal b.view b.view _ _ _ _ may.up refl may.later (let low = last_low f s h may.up in let later = may.later in omega (arith, low, later)) (merges s sender _ b.vector in_group h new) (merges_own s sender _ b.vector in_group h new)) (λ x y. up_no_rejoin s.status may.up x)
+      GoesOn (goes_up s Normal b.view b.view _ _ _ _ may.up refl may.later
+      (let low = last_low f s h may.up in let later = may.later in omega (arith, low, later)) (merges s sender _ b.vector in_group h new)
+      (merges_own s sender _ b.vector in_group h new)) (λ x y. up_no_rejoin s.status may.up x)
   course s _ in_group h (Start sender b new may) =
-      GoesOn (goes_up s Normal b.view b.view _ _ _ _ may.up refl may.later (let low = last_low f s h may.up in let later = may.later in omega (arith, low, later)) (merges s sender _ b.vector in_group h new) (merges_own s sender _ b.vector in_group h new)) (λ x y. up_no_rejoin s.status may.up x)
+      GoesOn (goes_up s Normal b.view b.view _ _ _ _ may.up refl may.later
+      (let low = last_low f s h may.up in let later = may.later in omega (arith, low, later)) (merges s sender _ b.vector in_group h new)
+      (merges_own s sender _ b.vector in_group h new)) (λ x y. up_no_rejoin s.status may.up x)
   course s _ in_group h (Fall is) = Falls refl
   course s _ in_group h (Wake nonce is down) = Wakes nonce is down
   course s _ in_group h (HearVector sender b new ours) =
-      GoesOn (goes_back s _ _ ours.rejoining (λ k _. merges s sender _ b.vector in_group h new k) refl (λ x. x) (λ _. merges_own s sender _ b.vector in_group h new)) (λ x y. up_no_rejoin s.status y x)
+      GoesOn (goes_back s _ _ ours.rejoining (λ k _. merges s sender _ b.vector in_group h new k) refl (λ x. x)
+      (λ _. merges_own s sender _ b.vector in_group h new)) (λ x y. up_no_rejoin s.status y x)
   course s _ in_group h (Count sender b new ours enough) =
       GoesOn (goes_back s _ _ ours.rejoining
-      (λ k other. let up = merges s sender _ b.vector in_group h new k in let same = get_or-set_other (merged s.vector b.vector me) me k (max s.rejoin.claim (slice_index b.vector me) + 1) 0 other in omega (arith, up, same))
+      (λ k other. let up =
+      merges s sender _ b.vector in_group h new k in let same =
+      get_or-set_other (merged s.vector b.vector me) me k (max s.rejoin.claim (slice_index b.vector me) + 1) 0 other in omega (arith, up, same))
       refl (λ _. refl) (λ x. unsettled s b.nonce ours x)) (λ x y. up_no_rejoin s.status y x)
   course s _ in_group h (HearView sender b new ours) =
-      GoesOn (goes_back s _ _ ours.rejoining (λ k _. merges s sender _ b.vector in_group h new k) refl (λ x. x) (λ _. merges_own s sender _ b.vector in_group h new)) (λ x y. up_no_rejoin s.status y x)
+      GoesOn (goes_back s _ _ ours.rejoining (λ k _. merges s sender _ b.vector in_group h new k) refl (λ x. x)
+      (λ _. merges_own s sender _ b.vector in_group h new)) (λ x y. up_no_rejoin s.status y x)
   course s _ in_group h (Forget sender b new ours) =
-      GoesOn (goes_back s _ _ ours.rejoining (λ k _. merges s sender _ b.vector in_group h new k) refl (λ x. x) (λ _. merges_own s sender _ b.vector in_group h new)) (λ x y. up_no_rejoin s.status y x)
+      GoesOn (goes_back s _ _ ours.rejoining (λ k _. merges s sender _ b.vector in_group h new k) refl (λ x. x)
+      (λ _. merges_own s sender _ b.vector in_group h new)) (λ x y. up_no_rejoin s.status y x)
   course s _ in_group h (AskLog sender b new ours tells is enough) =
-      GoesOn (goes_back s _ _ ours.rejoining (λ k _. merges s sender _ b.vector in_group h new k) refl (λ _. refl) (λ _. merges_own s sender _ b.vector in_group h new)) (λ x y. up_no_rejoin s.status y x)
+      GoesOn (goes_back s _ _ ours.rejoining (λ k _. merges s sender _ b.vector in_group h new k) refl (λ _. refl)
+      (λ _. merges_own s sender _ b.vector in_group h new)) (λ x y. up_no_rejoin s.status y x)
   course s _ in_group h (Return sender b new ours late leader) = GoesOn (record {
     down = sym (rejoin_not_down s.status ours.rejoining);
     view = let zero_view = h.rejoining ours.rejoining in omega (arith, zero_view);
@@ -294,4 +364,5 @@ module _ (f me : ℕ) (e : Event) (heard : Heard) (fit : HearsFit f me heard) wh
     own_up = λ up. up_no_rejoin s.status up ours.rejoining;
     stays_up = λ _. refl;
   }) (λ _ _. refl)
-  course s _ in_group h (Back rejoining is) = GoesOn (goes_back s s.vector _ rejoining (λ k _. omega arith) refl (λ _. refl) (λ _. refl)) (λ x y. up_no_rejoin s.status y x)
+  course s _ in_group h (Back rejoining is) =
+      GoesOn (goes_back s s.vector _ rejoining (λ k _. omega arith) refl (λ _. refl) (λ _. refl)) (λ x y. up_no_rejoin s.status y x)

@@ -60,7 +60,8 @@ pub data Passing (g : Group) (m : ℕ) (r : Record) (J : List Record) : Type 0 w
   Woken : (nonce : ℕ) → r.actor ≡ Replica m → r.event ≡ Restart nonce → is_down (replica_at g m J).status ≡ true
       → seat_at g m (r ∷ J) ≡ seat_of (restarted_replica g.f nonce) → incarnation g m (r ∷ J) ≡ suc (incarnation g m J) → Passing g m r J
   Fallen : seat_at g m (r ∷ J) ≡ seat_of (crashed_replica g.f) → incarnation g m (r ∷ J) ≡ incarnation g m J → Passing g m r J
-  Gone : incarnation g m (r ∷ J) ≡ incarnation g m J → Goes m (seat_at g m J) (seat_at g m (r ∷ J)) → RejoinsNormal (seat_at g m J) (seat_at g m (r ∷ J)) → Passing g m r J
+  Gone : incarnation g m (r ∷ J) ≡ incarnation g m J → Goes m (seat_at g m J) (seat_at g m (r ∷ J)) → RejoinsNormal (seat_at g m J) (seat_at g m (r ∷ J))
+      → Passing g m r J
 
 restart_of : (e : Event) → is_restart e ≡ true → (nonce : ℕ) × (e ≡ Restart nonce)
 restart_of (Restart nonce) h = (nonce, refl)
@@ -74,12 +75,15 @@ woken_state : (f m nonce : ℕ) (s : ReplicaData) → is_down s.status ≡ true 
 unfolding restart_rule
 woken_state f m nonce s h = grind (arith, h)
 
-is_back : (g : Group) (m : ℕ) (r : Record) (J : List Record) (nonce : ℕ) → r.actor ≡ Replica m → r.event ≡ Restart nonce → is_down (replica_at g m J).status ≡ true → comes_back g m r J ≡ true
+is_back : (g : Group) (m : ℕ) (r : Record) (J : List Record) (nonce : ℕ) → r.actor ≡ Replica m → r.event ≡ Restart nonce
+    → is_down (replica_at g m J).status ≡ true → comes_back g m r J ≡ true
 is_back g m r J nonce a e down =
-    and_both (actor_eq r.actor (Replica m)) (is_restart r.event && is_down (replica_at g m J).status) (ap (λ (x : Actor). actor_eq x (Replica m)) a ∙ actor_eq_self (Replica m))
+    and_both (actor_eq r.actor (Replica m)) (is_restart r.event && is_down (replica_at g m J).status)
+    (ap (λ (x : Actor). actor_eq x (Replica m)) a ∙ actor_eq_self (Replica m))
     (and_both (is_restart r.event) (is_down (replica_at g m J).status) (ap is_restart e) down)
 
-goes_on : (g : Group) (m : ℕ) (r : Record) (J : List Record) → r.actor ≡ Replica m → comes_back g m r J ≡ false → Course g.f m r.event (seat_at g m J) (seat_at g m (r ∷ J)) → Passing g m r J
+goes_on : (g : Group) (m : ℕ) (r : Record) (J : List Record) → r.actor ≡ Replica m → comes_back g m r J ≡ false
+    → Course g.f m r.event (seat_at g m J) (seat_at g m (r ∷ J)) → Passing g m r J
 goes_on g m r J a b (Falls is) = Fallen is (inc_same g m r J b)
 goes_on g m r J a b (Wakes nonce e down) = clash (comes_back g m r J) (is_back g m r J nonce a e down) b
 goes_on g m r J a b (GoesOn goes normal) = Gone (inc_same g m r J b) goes normal
@@ -90,11 +94,16 @@ passing_by g m r J w true b =
     let mine = and_left (actor_eq r.actor (Replica m)) (is_restart r.event && is_down (replica_at g m J).status) b in
     let restart = restart_of r.event (and_left (is_restart r.event) (is_down (replica_at g m J).status) rest) in
     let down = and_right (is_restart r.event) (is_down (replica_at g m J).status) rest in
-    let state : replica_at g m (r ∷ J) ≡ restarted_replica g.f restart.0 = acts g (Replica m) r J mine ∙ ap (λ (e : Event). (event_step g (Replica m) (replica_at g m J) e).0) restart.1 ∙ woken_state g.f m restart.0 (replica_at g m J) down in
+    let state : replica_at g m (r ∷ J) ≡ restarted_replica g.f restart.0 =
+    acts g (Replica m) r J mine ∙ ap (λ (e : Event). (event_step g (Replica m) (replica_at g m J) e).0) restart.1
+    ∙ woken_state g.f m restart.0 (replica_at g m J) down in
     Woken restart.0 (same_actor r.actor (Replica m) mine) restart.1 down (ap seat_of state) (inc_back g m r J b)
 passing_by g m r J w false b = elim (steps g m r J) [
-  | Acts a turn ↦ goes_on g m r J a b (course g.f m r.event (heard_by g m r.event) (hears_fit g m r.event) (seat_at g m J) (seat_at g m (r ∷ J)) (in_group g m r.actor a w.0.member) (sound_at g J w.1 m) turn)
-  | Rests e same ↦ Gone (inc_same g m r J b) (goes_same m (seat_at g m J) (seat_at g m (r ∷ J)) same) (λ x y. up_no_rejoin (replica_at g m J).status (sym (ap (λ (s : Seat). is_up s.status) same) ∙ y) x)
+  | Acts a turn ↦ goes_on g m r J a b
+      (course g.f m r.event (heard_by g m r.event) (hears_fit g m r.event) (seat_at g m J) (seat_at g m (r ∷ J)) (in_group g m r.actor a w.0.member)
+      (sound_at g J w.1 m) turn)
+  | Rests e same ↦ Gone (inc_same g m r J b) (goes_same m (seat_at g m J) (seat_at g m (r ∷ J)) same)
+      (λ x y. up_no_rejoin (replica_at g m J).status (sym (ap (λ (s : Seat). is_up s.status) same) ∙ y) x)
 ]
 
 pub passing : (g : Group) (m : ℕ) (r : Record) (J : List Record) → World g (r ∷ J) → Passing g m r J
@@ -121,7 +130,8 @@ pub crashed_down : {X : Type 0} (g : Group) (m : ℕ) (K : List Record) → seat
 crashed_down g m K is up = clash (down_at g m K) (ap (λ (s : Seat). is_down s.status) is) up
 
 -- from a moment to a later one of the same incarnation, where it is not down
-pub goes_far : (g : Group) (m : ℕ) (L K : List Record) → World g L → At L K → incarnation g m K ≡ incarnation g m L → down_at g m L ≡ false → Goes m (seat_at g m K) (seat_at g m L)
+pub goes_far : (g : Group) (m : ℕ) (L K : List Record) → World g L → At L K → incarnation g m K ≡ incarnation g m L → down_at g m L ≡ false
+    → Goes m (seat_at g m K) (seat_at g m L)
 goes_far g m [] K w at same up = goes_same m (seat_at g m K) (seat_at g m []) (ap (seat_at g m) (sym at))
 goes_far g m (r ∷ L) K w (inl is) same up = goes_same m (seat_at g m K) (seat_at g m (r ∷ L)) (ap (seat_at g m) (sym is))
 goes_far g m (r ∷ L) K w (inr older) same up =
@@ -129,7 +139,8 @@ goes_far g m (r ∷ L) K w (inr older) same up =
     elim (passing g m r L w) [
       | Woken nonce a e down is inc ↦ absurd (omega (arith, inc, rest, same))
       | Fallen is inc ↦ crashed_down g m (r ∷ L) is up
-      | Gone inc goes normal ↦ goes_then m (seat_at g m K) (seat_at g m L) (seat_at g m (r ∷ L)) (goes_far g m L K w.1 older (same ∙ inc) (sym goes.down ∙ up)) goes
+      | Gone inc goes normal ↦
+          goes_then m (seat_at g m K) (seat_at g m L) (seat_at g m (r ∷ L)) (goes_far g m L K w.1 older (same ∙ inc) (sym goes.down ∙ up)) goes
     ]
 
 -- ---- nonces
@@ -159,13 +170,15 @@ has_at (s ∷ J) K r (inl same) h = subst (λ (x : List Record). Has x r) same h
 has_at (s ∷ J) K r (inr older) h = inr (has_at J K r older h)
 
 -- no nonce comes twice
-fresh_nonce : {X : Type 0} (g : Group) (m nonce : ℕ) (r : Record) (J : List Record) → World g (r ∷ J) → r.actor ≡ Replica m → r.event ≡ Restart nonce → (old : Record) → Has J old → Restarts (Replica m) nonce old → X
+fresh_nonce : {X : Type 0} (g : Group) (m nonce : ℕ) (r : Record) (J : List Record) → World g (r ∷ J) → r.actor ≡ Replica m → r.event ≡ Restart nonce
+    → (old : Record) → Has J old → Restarts (Replica m) nonce old → X
 fresh_nonce g m nonce r J w a e old has restarts =
     let may : MayHappen J r.actor (Restart nonce) = subst (λ (x : Event). MayHappen J r.actor x) e w.0.event in
     absurd (all_has (λ (x : Record). ¬ Restarts r.actor nonce x) J old may.1 has (restarts.0 ∙ sym a, restarts.1))
 
 -- equal nonces, equal incarnations
-pub same_nonce : (g : Group) (m : ℕ) (K Q : List Record) → World g K → At K Q → down_at g m K ≡ false → down_at g m Q ≡ false → 0 < incarnation g m K → 0 < incarnation g m Q
+pub same_nonce : (g : Group) (m : ℕ) (K Q : List Record) → World g K → At K Q → down_at g m K ≡ false → down_at g m Q ≡ false → 0 < incarnation g m K
+    → 0 < incarnation g m Q
     → nonce_at g m Q ≡ nonce_at g m K → incarnation g m Q ≡ incarnation g m K
 same_nonce g m [] Q w at up_k up_q some_k some_q same = ap (incarnation g m) at
 same_nonce g m (r ∷ K) Q w (inl is) up_k up_q some_k some_q same = ap (incarnation g m) is

@@ -34,7 +34,8 @@ pub record IsTakenFrom (g : Group) (m : ℕ) (C T : List Record) : Type 0 where
   pub inside : incarnation g m T ≡ incarnation g m C
   pub counter : slice_index (replica_at g m C).vector m ≤ slice_index (replica_at g (leader_of g.f (replica_at g m C).view) T).vector m
 
-returned : (g : Group) (m : ℕ) (r : Record) (K : List Record) → World g (r ∷ K) → Shows g (r ∷ K) → rejoining_at g m K ≡ true → is_normal (replica_at g m (r ∷ K)).status ≡ true → r.actor ≡ Replica m
+returned : (g : Group) (m : ℕ) (r : Record) (K : List Record) → World g (r ∷ K) → Shows g (r ∷ K) → rejoining_at g m K ≡ true
+    → is_normal (replica_at g m (r ∷ K)).status ≡ true → r.actor ≡ Replica m
     → IsReturn g.f m r.event (heard_by g m r.event) (seat_at g m K) (seat_at g m (r ∷ K)) → (T : List Record) × IsTakenFrom g m (r ∷ K) T
 returned g m r K w h rejoins normal a d =
     let C = r ∷ K in
@@ -70,15 +71,18 @@ returned g m r K w h rejoins normal a d =
         synced = synced ∙ sym (ap length entries);
         commit = subst (λ (z : ℕ). (replica_at g m C).commit ≡ (replica_at g z T).commit) leads (commit ∙ sym tells.commit);
         inside = in_here.told;
-        counter = subst (λ (z : ℕ). slice_index (replica_at g m C).vector m ≤ slice_index (replica_at g z T).vector m) leads (omega (arith, own, asked, merged_own));
+        counter = subst (λ (z : ℕ). slice_index (replica_at g m C).vector m ≤ slice_index (replica_at g z T).vector m) leads
+            (omega (arith, own, asked, merged_own));
       },
     )
 
-pub taken_from : (g : Group) (m : ℕ) (r : Record) (K : List Record) → World g (r ∷ K) → Shows g (r ∷ K) → completes g m (r ∷ K) ≡ true → (T : List Record) × IsTakenFrom g m (r ∷ K) T
+pub taken_from : (g : Group) (m : ℕ) (r : Record) (K : List Record) → World g (r ∷ K) → Shows g (r ∷ K) → completes g m (r ∷ K) ≡ true
+    → (T : List Record) × IsTakenFrom g m (r ∷ K) T
 taken_from g m r K w h c =
     let rejoins = and_left (rejoining_at g m K) (is_normal (replica_at g m (r ∷ K)).status) c in
     let normal = and_right (rejoining_at g m K) (is_normal (replica_at g m (r ∷ K)).status) c in
     elim (steps g m r K) [
-      | Acts a turn ↦ returned g m r K w h rejoins normal a (returns g.f m r.event (heard_by g m r.event) (seat_at g m K) (seat_at g m (r ∷ K)) turn rejoins normal)
+      | Acts a turn ↦ returned g m r K w h rejoins normal a
+          (returns g.f m r.event (heard_by g m r.event) (seat_at g m K) (seat_at g m (r ∷ K)) turn rejoins normal)
       | Rests e same ↦ normal_no_rejoin (replica_at g m K).status (sym (ap (λ (s : Seat). is_normal s.status) same) ∙ normal) rejoins
     ]

@@ -152,7 +152,8 @@ shows_before g r J h = shows_at g (r ∷ J) J h (inr (at_self J))
 
 -- ---- what is heard was sent
 
-sent_by_event : (g : Group) (m : ℕ) (J : List Record) (e : Event) → ((p : Parcel) → Has (sent_in J) p → IsSpelled p) → MayHappen J (Replica m) e → (y : ℕ) (message : Message) → heard_by g m e ≡ Some (Replica y, message) → IsSent J y m message
+sent_by_event : (g : Group) (m : ℕ) (J : List Record) (e : Event) → ((p : Parcel) → Has (sent_in J) p → IsSpelled p) → MayHappen J (Replica m) e
+    → (y : ℕ) (message : Message) → heard_by g m e ≡ Some (Replica y, message) → IsSent J y m message
 sent_by_event g m J (Deliver p) h may y message is =
     let t = spelled_is g.f m p (Replica y) message (h p may.1) is in
     record { has = subst (λ (q : Parcel). Has (sent_in J) q) t.is may.1; fits = t.fits }
@@ -162,10 +163,12 @@ sent_by_event g m J Alarm h may y message is = absurd (none-some _ is)
 sent_by_event g m J Crash h may y message is = absurd (none-some _ is)
 sent_by_event g m J (Restart nonce) h may y message is = absurd (none-some _ is)
 
-pub was_sent_by : (g : Group) (m : ℕ) (r : Record) (J : List Record) → World g (r ∷ J) → ((p : Parcel) → Has (sent_in J) p → IsSpelled p) → r.actor ≡ Replica m → (y : ℕ) (message : Message) → heard_by g m r.event ≡ Some (Replica y, message) → IsSent J y m message
+pub was_sent_by : (g : Group) (m : ℕ) (r : Record) (J : List Record) → World g (r ∷ J) → ((p : Parcel) → Has (sent_in J) p → IsSpelled p)
+    → r.actor ≡ Replica m → (y : ℕ) (message : Message) → heard_by g m r.event ≡ Some (Replica y, message) → IsSent J y m message
 was_sent_by g m r J w h a y message is = sent_by_event g m J r.event h (subst (λ (x : Actor). MayHappen J x r.event) a w.0.event) y message is
 
-pub was_sent : (g : Group) (m : ℕ) (r : Record) (J : List Record) → World g (r ∷ J) → Shows g J → r.actor ≡ Replica m → (y : ℕ) (message : Message) → heard_by g m r.event ≡ Some (Replica y, message) → IsSent J y m message
+pub was_sent : (g : Group) (m : ℕ) (r : Record) (J : List Record) → World g (r ∷ J) → Shows g J → r.actor ≡ Replica m → (y : ℕ) (message : Message)
+    → heard_by g m r.event ≡ Some (Replica y, message) → IsSent J y m message
 was_sent g m r J w h a y message is = was_sent_by g m r J w h.spelled a y message is
 
 pub sent_more : (r : Record) (J : List Record) (y m : ℕ) (message : Message) → IsSent J y m message → IsSent (r ∷ J) y m message

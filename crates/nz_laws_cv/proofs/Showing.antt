@@ -117,7 +117,8 @@ module _ (g : Group) (J : List Record) (w : World g J) where
         view = ap (λ (x : RejoinTellBody). x.view) same;
         vector = ap (λ (x : RejoinTellBody). x.vector) same;
         ask = h.ask.vector;
-        asked = subst (λ n. IsSent K m y (messages.RejoinAsk (record { nonce = n; vector = h.ask.vector }))) (ap (λ (x : RejoinTellBody). x.nonce) same) a.asked;
+        asked = subst (λ n. IsSent K m y (messages.RejoinAsk (record { nonce = n; vector = h.ask.vector }))) (ap (λ (x : RejoinTellBody). x.nonce) same)
+            a.asked;
         merged = record { places = λ k other. rejoin_tell_takes g y r K (Replica m) b earlier h k other };
       }
 

@@ -31,7 +31,9 @@ pub data Steps (g : Group) (m : ℕ) (r : Record) (J : List Record) : Type 0 whe
 
 steps_by : (g : Group) (m : ℕ) (r : Record) (J : List Record) (b : Bool) → actor_eq r.actor (Replica m) ≡ b → Steps g m r J
 steps_by g m r J true e =
-    Acts (same_actor r.actor (Replica m) e) (subst (λ (s : State (Replica m)). Turn g.f m r.event (heard_by g m r.event) (seat_at g m J) (seat_of s)) (sym (acts g (Replica m) r J e)) (event_turn g m (replica_at g m J) r.event))
+    Acts (same_actor r.actor (Replica m) e)
+    (subst (λ (s : State (Replica m)). Turn g.f m r.event (heard_by g m r.event) (seat_at g m J) (seat_of s)) (sym (acts g (Replica m) r J e))
+    (event_turn g m (replica_at g m J) r.event))
 steps_by g m r J false e = Rests e (ap seat_of (stays g (Replica m) r J e))
 
 pub steps : (g : Group) (m : ℕ) (r : Record) (J : List Record) → Steps g m r J

@@ -48,7 +48,8 @@ sync_same s (k ∷ ks) = by_test (may_sync s k) (found s (id_of k)) (λ t. sync_
   where
     by_test : (b : Bool) (o : Option Entry) → ((t : ReplicaData) → (sync_keys t ks).0 ≡ syncs (λ (x : ReplicaData). x.log) may_sync found synced_with t ks)
         → (cond b (if_found o (s, k ∷ ks) (λ e. sync_keys (synced_with s (record { key = k; command = e.command })) ks)) (s, [])).0
-        ≡ cond b (loops.if_found o s (λ e. syncs (λ (x : ReplicaData). x.log) may_sync found synced_with (synced_with s (record { key = k; command = e.command })) ks)) s
+        ≡ cond b (loops.if_found o s
+        (λ e. syncs (λ (x : ReplicaData). x.log) may_sync found synced_with (synced_with s (record { key = k; command = e.command })) ks)) s
     by_test false o rest = refl
     by_test true None rest = refl
     by_test true (Some e) rest = rest (synced_with s (record { key = k; command = e.command }))
@@ -87,7 +88,8 @@ taken s early start count sound le =
         let ahead_now = subst (λ (n : ℕ). IsPrefix (A ++ drop (n - start) (take count (drop start early))) lead) long ahead in
         keeps (λ (x : ReplicaData). x.log) may_sync found synced_with fits lead s (drop (s.log.synced - start) (take count (drop start early))) sound ahead_now
 
-    whole : Taken early s.log (syncs (λ (x : ReplicaData). x.log) may_sync found synced_with s (drop (s.log.synced - start) (take count (drop start early)))).log
+    whole : Taken early s.log
+        (syncs (λ (x : ReplicaData). x.log) may_sync found synced_with s (drop (s.log.synced - start) (take count (drop start early)))).log
     whole =
         let keys = drop (s.log.synced - start) (take count (drop start early)) in
         let t = syncs (λ (x : ReplicaData). x.log) may_sync found synced_with s keys in
@@ -101,7 +103,8 @@ taken s early start count sound le =
         (subst (λ (l : List Key). IsPrefix l (keys_of t.log.entries)) (sym (part_is t.log)) (prefix_take t.log.synced (keys_of t.log.entries))) in
         record {
           synced = omega (arith, long, long_after, more);
-          entries = sym (part_is s.log) ∙ sym (take-length A) ∙ ap (λ (n : ℕ). take n A) long ∙ take_front s.log.synced A (keys_of t.log.entries) within (omega (arith, long));
+          entries = sym (part_is s.log) ∙ sym (take-length A) ∙ ap (λ (n : ℕ). take n A) long
+              ∙ take_front s.log.synced A (keys_of t.log.entries) within (omega (arith, long));
           part = λ lead prefix told. let k = beside lead prefix told in subst (λ (l : List Key). IsPrefix l lead) (part_is t.log) k.synced;
           prefixes = λ lead prefix told. (beside lead prefix told).prefixes;
         }
@@ -110,5 +113,6 @@ taken s early start count sound le =
 pub modifies : (s : ReplicaData) (b : LogModBody) → b.start ≤ s.log.synced → Modifies b s.log (sync_keys s (drop (s.log.synced - b.start) b.keys)).0.log
 modifies s b le = record {
   taken = λ sound early is.
-      subst (λ (keys : List Key). Taken early s.log (sync_keys s (drop (s.log.synced - b.start) keys)).0.log) (sym is) (taken s early b.start most_keys sound le);
+      subst (λ (keys : List Key). Taken early s.log (sync_keys s (drop (s.log.synced - b.start) keys)).0.log) (sym is)
+      (taken s early b.start most_keys sound le);
 }

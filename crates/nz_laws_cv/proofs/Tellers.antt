@@ -97,7 +97,8 @@ module _ (f me : ℕ) (Sent : ℕ → Message → Type 0) where
   more_in xs y x h = more_in_by xs y x (list_any (λ t. eqb t y) xs) h
 
   -- the teller that is heard
-  hears_teller : (heard : Heard) (s : Seat) (sender : ℕ) (b : VectorTellBody) → HearsFit f me heard → HearsSent Sent me heard → IsNew heard s sender (messages.VectorTell b) b.vector → Awaits phases.Vectors s b.nonce
+  hears_teller : (heard : Heard) (s : Seat) (sender : ℕ) (b : VectorTellBody) → HearsFit f me heard → HearsSent Sent me heard
+      → IsNew heard s sender (messages.VectorTell b) b.vector → Awaits phases.Vectors s b.nonce
       → IsTeller s.rejoin.nonce (max s.rejoin.claim (slice_index b.vector me)) sender
   hears_teller heard s sender b fit sent new ours = record {
     below = (fit.hears sender _ new.is).below;
@@ -110,26 +111,41 @@ module _ (f me : ℕ) (Sent : ℕ → Message → Type 0) where
   more_told : (s : Seat) (sender : ℕ) (u : List ℕ) → HasTellers s → IsTeller s.rejoin.nonce (max s.rejoin.claim (slice_index u me)) sender
       → (y : ℕ) → is_in (more_tellers s.rejoin.tellers sender) y ≡ true → IsTeller s.rejoin.nonce (max s.rejoin.claim (slice_index u me)) y
   more_told s sender u h one y has = elim (more_in s.rejoin.tellers sender y has) [
-    | inl old ↦ let k = h.told y old in record { below = k.below; other = k.other; vector = k.vector; sent = k.sent; low = let low = k.low in omega (arith, low) }
+    | inl old ↦ let k = h.told y old in record {
+      below =
+          k.below;
+      other = k.other;
+      vector = k.vector;
+      sent = k.sent;
+      low = let low = k.low in omega (arith, low);
+    }
     | inr is ↦ subst (IsTeller s.rejoin.nonce (max s.rejoin.claim (slice_index u me))) is one
   ]
 
   module _ (e : Event) (heard : Heard) (fit : HearsFit f me heard) (sent : HearsSent Sent me heard) (in_group : me < replica_count f) where
-    own : (s : Seat) (sender : ℕ) (m : Message) (u : List ℕ) → IsSound f s → IsNew heard s sender m u → slice_index s.vector me ≡ slice_index (merged s.vector u me) me
+    own : (s : Seat) (sender : ℕ) (m : Message) (u : List ℕ) → IsSound f s → IsNew heard s sender m u
+        → slice_index s.vector me ≡ slice_index (merged s.vector u me) me
     own s sender m u sound new = merges_own f me e heard fit s sender m u in_group sound new
 
     pub tellers_kept : (s t : Seat) → IsSound f s → Turn f me e heard s t → HasTellers s → HasTellers t
     tellers_kept s _ sound Stays h = h
     tellers_kept s _ sound (Release log normal more) h = leaves s _ (record { tellers = refl; claim = refl; nonce = refl; settled = λ x. x; own = refl }) h
-    tellers_kept s _ sound (Sync sender b new hears le log changed) h = leaves s _ (record { tellers = refl; claim = refl; nonce = refl; settled = λ x. x; own = own s sender _ b.vector sound new }) h
+    tellers_kept s _ sound (Sync sender b new hears le log changed) h =
+        leaves s _ (record { tellers = refl; claim = refl; nonce = refl; settled = λ x. x; own = own s sender _ b.vector sound new }) h
     tellers_kept s _ sound (Tally commit normal led more) h = leaves s _ (record { tellers = refl; claim = refl; nonce = refl; settled = λ x. x; own = refl }) h
-    tellers_kept s _ sound (Merge sender m u new normal) h = leaves s _ (record { tellers = refl; claim = refl; nonce = refl; settled = λ x. x; own = own s sender m u sound new }) h
+    tellers_kept s _ sound (Merge sender m u new normal) h =
+        leaves s _ (record { tellers = refl; claim = refl; nonce = refl; settled = λ x. x; own = own s sender m u sound new }) h
     tellers_kept s _ sound (Enter w up later log grown) h = leaves s _ (record { tellers = refl; claim = refl; nonce = refl; settled = λ x. x; own = refl }) h
-    tellers_kept s _ sound (Follow sender m u new w up later) h = leaves s _ (record { tellers = refl; claim = refl; nonce = refl; settled = λ x. x; own = own s sender m u sound new }) h
-    tellers_kept s _ sound (Answer sender b new normal same) h = leaves s _ (record { tellers = refl; claim = refl; nonce = refl; settled = λ x. x; own = own s sender _ b.vector sound new }) h
-    tellers_kept s _ sound (Collect sender b new may base on) h = leaves s _ (record { tellers = refl; claim = refl; nonce = refl; settled = λ x. x; own = own s sender _ b.vector sound new }) h
-    tellers_kept s _ sound (Begin sender b new may base on full) h = leaves s _ (record { tellers = refl; claim = refl; nonce = refl; settled = λ x. x; own = own s sender _ b.vector sound new }) h
-    tellers_kept s _ sound (Start sender b new may) h = leaves s _ (record { tellers = refl; claim = refl; nonce = refl; settled = λ x. x; own = own s sender _ b.vector sound new }) h
+    tellers_kept s _ sound (Follow sender m u new w up later) h =
+        leaves s _ (record { tellers = refl; claim = refl; nonce = refl; settled = λ x. x; own = own s sender m u sound new }) h
+    tellers_kept s _ sound (Answer sender b new normal same) h =
+        leaves s _ (record { tellers = refl; claim = refl; nonce = refl; settled = λ x. x; own = own s sender _ b.vector sound new }) h
+    tellers_kept s _ sound (Collect sender b new may base on) h =
+        leaves s _ (record { tellers = refl; claim = refl; nonce = refl; settled = λ x. x; own = own s sender _ b.vector sound new }) h
+    tellers_kept s _ sound (Begin sender b new may base on full) h =
+        leaves s _ (record { tellers = refl; claim = refl; nonce = refl; settled = λ x. x; own = own s sender _ b.vector sound new }) h
+    tellers_kept s _ sound (Start sender b new may) h =
+        leaves s _ (record { tellers = refl; claim = refl; nonce = refl; settled = λ x. x; own = own s sender _ b.vector sound new }) h
     tellers_kept s _ sound (Fall is) h = crashed_tellers
     tellers_kept s _ sound (Wake nonce is down) h = restarted_tellers nonce
     tellers_kept s _ sound (HearVector sender b new ours) h = record {
@@ -145,11 +161,23 @@ module _ (f me : ℕ) (Sent : ℕ → Message → Type 0) where
       counter = λ _. get_or-set_same (merged s.vector b.vector me) me (max s.rejoin.claim (slice_index b.vector me) + 1) 0
           (let size = (sound_kept f me e heard fit s _ (HearVector sender b new ours) sound).sized in omega (arith, size, in_group));
     }
-    tellers_kept s _ sound (HearView sender b new ours) h = leaves s _ (record { tellers = refl; claim = refl; nonce = refl; settled = λ x. x; own = own s sender _ b.vector sound new }) h
-    tellers_kept s _ sound (Forget sender b new ours) h = leaves s _ (record { tellers = refl; claim = refl; nonce = refl; settled = λ x. x; own = own s sender _ b.vector sound new }) h
-    tellers_kept s _ sound (AskLog sender b new ours tells is enough) h = leaves s _ (record { tellers = refl; claim = refl; nonce = refl; settled = λ _. views_settled s ours.in_phase; own = own s sender _ b.vector sound new }) h
-    tellers_kept s _ sound (Return sender b new ours late leader) h = leaves s _ (record { tellers = refl; claim = refl; nonce = refl; settled = λ x. x; own = own s sender _ b.vector sound new }) h
-    tellers_kept s _ sound (Back rejoining is) h = leaves s _ (record { tellers = refl; claim = refl; nonce = refl; settled = λ _. log_settled s is; own = refl }) h
+    tellers_kept s _ sound (HearView sender b new ours) h =
+        leaves s _ (record { tellers = refl; claim = refl; nonce = refl; settled = λ x. x; own = own s sender _ b.vector sound new }) h
+    tellers_kept s _ sound (Forget sender b new ours) h =
+        leaves s _ (record { tellers = refl; claim = refl; nonce = refl; settled = λ x. x; own = own s sender _ b.vector sound new }) h
+    tellers_kept s _ sound (AskLog sender b new ours tells is enough) h =
+        leaves s _ (record {
+          tellers =
+              refl;
+          claim = refl;
+          nonce = refl;
+          settled = λ _. views_settled s ours.in_phase;
+          own = own s sender _ b.vector sound new;
+        }) h
+    tellers_kept s _ sound (Return sender b new ours late leader) h =
+        leaves s _ (record { tellers = refl; claim = refl; nonce = refl; settled = λ x. x; own = own s sender _ b.vector sound new }) h
+    tellers_kept s _ sound (Back rejoining is) h =
+        leaves s _ (record { tellers = refl; claim = refl; nonce = refl; settled = λ _. log_settled s is; own = refl }) h
 
 -- what was sent stays sent
 pub tellers_stay : (f me : ℕ) (P Q : ℕ → Message → Type 0) → ((y : ℕ) (m : Message) → P y m → Q y m) → (s : Seat) → HasTellers f me P s → HasTellers f me Q s

@@ -78,11 +78,19 @@ module _ (f me : ℕ) (Sent : ℕ → Message → Type 0) where
   first_tells = nothing (seat_of (first_replica f)) refl (λ h. cc)
 
   -- a rule of a replica that is up, or comes up
-  up_tells : (s : Seat) (a : Status) (w l : ℕ) (log : Log) (commit : ℕ) (v : List ℕ) (changes : List Reported) → (is_rejoining a ≡ true → ⊥) → ((k : ℕ) → slice_index s.vector k ≤ slice_index v k) → HasTells s
+  up_tells : (s : Seat) (a : Status) (w l : ℕ) (log : Log) (commit : ℕ) (v : List ℕ) (changes : List Reported) → (is_rejoining a ≡ true → ⊥)
+      → ((k : ℕ) → slice_index s.vector k ≤ slice_index v k) → HasTells s
       → HasTells (record s { status = a; view = w; last = l; log = log; commit = commit; vector = v; changes = changes })
   up_tells s a w l log commit v changes up grows h = record {
     distinct = h.distinct;
-    each = λ t has. let k = h.each t has in record { below = k.below; other = k.other; sent = k.sent; merged_in = λ i other. let p = k.merged_in i other in let q = grows i in omega (arith, p, q) };
+    each = λ t has. let k =
+        h.each t has in record {
+          below =
+              k.below;
+          other = k.other;
+          sent = k.sent;
+          merged_in = λ i other. let p = k.merged_in i other in let q = grows i in omega (arith, p, q);
+        };
     fresh = λ rejoins. absurd (up rejoins);
     consistent = h.consistent;
     enough = h.enough;
@@ -94,7 +102,8 @@ module _ (f me : ℕ) (Sent : ℕ → Message → Type 0) where
   not_stray u v y h = grind (arith, nat_tests, h)
 
   module _ (e : Event) (heard : Heard) (fit : HearsFit f me heard) (sent : HearsSent Sent me heard) (in_group : me < replica_count f) where
-    grows : (s : Seat) (sender : ℕ) (m : Message) (u : List ℕ) → IsSound f s → IsNew heard s sender m u → (k : ℕ) → slice_index s.vector k ≤ slice_index (merged s.vector u me) k
+    grows : (s : Seat) (sender : ℕ) (m : Message) (u : List ℕ) → IsSound f s → IsNew heard s sender m u → (k : ℕ)
+        → slice_index s.vector k ≤ slice_index (merged s.vector u me) k
     grows s sender m u sound new k = merges f me e heard fit s sender m u in_group sound new k
 
     -- the views after one more was told
@@ -103,34 +112,46 @@ module _ (f me : ℕ) (Sent : ℕ → Message → Type 0) where
       pub each : (t : ToldView) → Has tells t → IsToldView nonce v t
       pub fresh : (t : ToldView) → Has tells t → slice_index v t.sender ≤ slice_index t.vector t.sender
 
-    one_of : (s : Seat) (sender : ℕ) (b : RejoinTellBody) → IsSound f s → HasTells s → IsNew heard s sender (messages.RejoinTell b) b.vector → Awaits phases.Views s b.nonce
+    one_of : (s : Seat) (sender : ℕ) (b : RejoinTellBody) → IsSound f s → HasTells s → IsNew heard s sender (messages.RejoinTell b) b.vector
+        → Awaits phases.Views s b.nonce
         → (t : ToldView) → Has (more_tells s.rejoin.tells sender b) t → IsToldView s.rejoin.nonce (merged s.vector b.vector me) t
     one_of s sender b sound h new ours t has = elim (has_split (filter (λ x. not (eqb x.sender sender)) s.rejoin.tells) (told_view sender b ∷ []) t has) [
       | inl old ↦
           let k = h.each t (filter_has (λ (x : ToldView). not (eqb x.sender sender)) s.rejoin.tells t old).among in
-          record { below = k.below; other = k.other; sent = k.sent; merged_in = λ i other. let p = k.merged_in i other in let q = grows s sender _ b.vector sound new i in omega (arith, p, q) }
+          record {
+            below = k.below;
+            other =
+                k.other;
+            sent = k.sent;
+            merged_in =
+                λ i other. let p = k.merged_in i other in let q = grows s sender _ b.vector sound new i in omega (arith, p, q);
+          }
       | inr (inl is) ↦ subst (IsToldView s.rejoin.nonce (merged s.vector b.vector me)) is (record {
         below = (fit.hears sender _ new.is).below;
         other = (fit.hears sender _ new.is).other;
-        sent = subst (λ (n : ℕ). Sent sender (messages.RejoinTell (record { nonce = n; view = b.view; vector = b.vector }))) ours.same (sent.sent sender _ new.is);
+        sent = subst (λ (n : ℕ). Sent sender (messages.RejoinTell (record { nonce = n; view = b.view; vector = b.vector }))) ours.same
+            (sent.sent sender _ new.is);
         merged_in = λ i other. merges_in f me e heard fit s sender _ b.vector in_group sound new i other;
       })
       | inr (inr none) ↦ absurd none
     ]
 
-    heard_views : (s : Seat) (sender : ℕ) (b : RejoinTellBody) → IsSound f s → HasTells s → IsNew heard s sender (messages.RejoinTell b) b.vector → Awaits phases.Views s b.nonce
+    heard_views : (s : Seat) (sender : ℕ) (b : RejoinTellBody) → IsSound f s → HasTells s → IsNew heard s sender (messages.RejoinTell b) b.vector
+        → Awaits phases.Views s b.nonce
         → Heard_views s.rejoin.nonce (merged s.vector b.vector me) (fresh_tells (more_tells s.rejoin.tells sender b) (merged s.vector b.vector me))
     heard_views s sender b sound h new ours =
         let v = merged s.vector b.vector me in
         let test : ToldView → Bool = λ t. not (is_stray t.vector t.sender v) in
         record {
-          distinct = distinct_filter sender_of test (more_tells s.rejoin.tells sender b) (distinct_replace sender_of s.rejoin.tells (told_view sender b) h.distinct);
+          distinct = distinct_filter sender_of test (more_tells s.rejoin.tells sender b)
+              (distinct_replace sender_of s.rejoin.tells (told_view sender b) h.distinct);
           each = λ t has. one_of s sender b sound h new ours t (filter_has test (more_tells s.rejoin.tells sender b) t has).among;
           fresh = λ t has. not_stray t.vector v t.sender (filter_has test (more_tells s.rejoin.tells sender b) t has).passes;
         }
 
     -- they are crash-consistent
-    consistent_views : (nonce : ℕ) (v : List ℕ) (tells : List ToldView) → Heard_views nonce v tells → (t u : ToldView) → Has tells t → Has tells u → slice_index t.vector u.sender ≤ slice_index u.vector u.sender
+    consistent_views : (nonce : ℕ) (v : List ℕ) (tells : List ToldView) → Heard_views nonce v tells → (t u : ToldView) → Has tells t → Has tells u
+        → slice_index t.vector u.sender ≤ slice_index u.vector u.sender
     consistent_views nonce v tells h t u has_t has_u =
         let low = (h.each t has_t).merged_in u.sender (h.each u has_u).other in
         let high = h.fresh u has_u in
@@ -138,13 +159,18 @@ module _ (f me : ℕ) (Sent : ℕ → Message → Type 0) where
 
     pub tells_kept : (s t : Seat) → IsSound f s → Turn f me e heard s t → HasTells s → HasTells t
     tells_kept s _ sound Stays h = h
-    tells_kept s _ sound (Release log normal more) h = up_tells s s.status s.view s.last log s.commit s.vector s.changes (λ r. normal_no_rejoin s.status normal r) (λ k. omega arith) h
-    tells_kept s _ sound (Sync sender b new hears le log changed) h = up_tells s s.status s.view s.last log _ _ s.changes (λ r. normal_no_rejoin s.status hears.normal r) (grows s sender _ b.vector sound new) h
-    tells_kept s _ sound (Tally commit normal led more) h = up_tells s s.status s.view s.last s.log commit s.vector s.changes (λ r. normal_no_rejoin s.status normal r) (λ k. omega arith) h
-    tells_kept s _ sound (Merge sender m u new normal) h = up_tells s s.status s.view s.last s.log s.commit _ s.changes (λ r. normal_no_rejoin s.status normal r) (grows s sender m u sound new) h
+    tells_kept s _ sound (Release log normal more) h =
+        up_tells s s.status s.view s.last log s.commit s.vector s.changes (λ r. normal_no_rejoin s.status normal r) (λ k. omega arith) h
+    tells_kept s _ sound (Sync sender b new hears le log changed) h =
+        up_tells s s.status s.view s.last log _ _ s.changes (λ r. normal_no_rejoin s.status hears.normal r) (grows s sender _ b.vector sound new) h
+    tells_kept s _ sound (Tally commit normal led more) h =
+        up_tells s s.status s.view s.last s.log commit s.vector s.changes (λ r. normal_no_rejoin s.status normal r) (λ k. omega arith) h
+    tells_kept s _ sound (Merge sender m u new normal) h =
+        up_tells s s.status s.view s.last s.log s.commit _ s.changes (λ r. normal_no_rejoin s.status normal r) (grows s sender m u sound new) h
     tells_kept s _ sound (Enter w up later log grown) h = up_tells s _ w s.last log s.commit s.vector _ (λ r. cc) (λ k. omega arith) h
     tells_kept s _ sound (Follow sender m u new w up later) h = up_tells s _ w s.last s.log s.commit _ _ (λ r. cc) (grows s sender m u sound new) h
-    tells_kept s _ sound (Answer sender b new normal same) h = up_tells s s.status s.view s.last s.log s.commit _ _ (λ r. normal_no_rejoin s.status normal r) (grows s sender _ b.vector sound new) h
+    tells_kept s _ sound (Answer sender b new normal same) h =
+        up_tells s s.status s.view s.last s.log s.commit _ _ (λ r. normal_no_rejoin s.status normal r) (grows s sender _ b.vector sound new) h
     tells_kept s _ sound (Collect sender b new may base on) h = up_tells s _ b.view s.last s.log s.commit _ _ (λ r. cc) (grows s sender _ b.vector sound new) h
     tells_kept s _ sound (Begin sender b new may base on full) h = up_tells s _ b.view b.view _ _ _ _ (λ r. cc) (grows s sender _ b.vector sound new) h
     tells_kept s _ sound (Start sender b new may) h = up_tells s _ b.view b.view _ _ _ _ (λ r. cc) (grows s sender _ b.vector sound new) h

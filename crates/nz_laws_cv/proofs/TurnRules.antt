@@ -148,7 +148,8 @@ module _ (f me : ℕ) (e : Event) where
       on_cond (λ (x : ReplicaData × List Out). Turns heard s x.0) (nat_lt s.log.synced b.start) _ _
       (λ _. Merge sender (messages.LogMod b) b.vector is hears.normal)
       (λ within.
-      subst (λ (x : Seat). Turn f me e heard (seat_of s) (committing x (max x.commit (min b.commit x.log.synced)))) (sym (sync_seat t (drop (t.log.synced - b.start) b.keys)))
+      subst (λ (x : Seat). Turn f me e heard (seat_of s) (committing x (max x.commit (min b.commit x.log.synced))))
+      (sym (sync_seat t (drop (t.log.synced - b.start) b.keys)))
       (Sync sender b is hears (grind (arith, nat_tests, within)) u.log (modifies t b (grind (arith, nat_tests, within)))))
 
   pub log_mod_turn : (s : ReplicaData) (sender : ℕ) (b : LogModBody) → Turns (Some (Replica sender, messages.LogMod b)) s (log_mod_rule f me s sender b).0
@@ -190,16 +191,19 @@ module _ (f me : ℕ) (e : Event) where
       let enter : is_up s.status ≡ true → Turns heard s (enter_view f me (s.view + 1) s).0 = λ up. Enter (s.view + 1) up (omega arith) s.log Same in
       grind (arith, nat_tests, stay, enter)
 
-  pub start_view_turn : (s : ReplicaData) (sender : ℕ) (b : StartViewBody) → Turns (Some (Replica sender, messages.StartView b)) s (start_view_rule f me s sender b).0
+  pub start_view_turn : (s : ReplicaData) (sender : ℕ) (b : StartViewBody)
+      → Turns (Some (Replica sender, messages.StartView b)) s (start_view_rule f me s sender b).0
   unfolding start_view_rule
   start_view_turn s sender b =
       let stay : Turns (Some (Replica sender, messages.StartView b)) s s = Stays in
-      let start : is_stray b.vector sender s.vector ≡ false → MayStart f (seat_of s) sender b.view → Turns (Some (Replica sender, messages.StartView b)) s (after_start (with_vector me s b.vector) b)
+      let start : is_stray b.vector sender s.vector ≡ false → MayStart f (seat_of s) sender b.view
+      → Turns (Some (Replica sender, messages.StartView b)) s (after_start (with_vector me s b.vector) b)
       = λ new may. Start sender b (record { is = refl; carries = refl; new = new }) may in
       grind (arith, nat_tests, stay, start)
 
   -- the reports of a view that is entered or going on, with one more: it goes on, or begins
-  begin_turn : (s t : ReplicaData) (sender : ℕ) (b : ViewChangeBody) (base : List Reported) → IsNew (Some (Replica sender, messages.ViewChange b)) (seat_of s) sender (messages.ViewChange b) b.vector
+  begin_turn : (s t : ReplicaData) (sender : ℕ) (b : ViewChangeBody) (base : List Reported)
+      → IsNew (Some (Replica sender, messages.ViewChange b)) (seat_of s) sender (messages.ViewChange b) b.vector
       → MayLead f me (seat_of s) b.view → Base (seat_of s) b.view (merged s.vector b.vector me) base
       → seat_of t ≡ with_changes (entering (merging me (seat_of s) b.vector) b.view) base
       → Turns (Some (Replica sender, messages.ViewChange b)) s (collect f me sender b t).0
@@ -209,70 +213,92 @@ module _ (f me : ℕ) (e : Event) where
       let going : Turns heard s (with_report t sender b) =
       subst (λ (u : Seat). Turn f me e heard (seat_of s) (with_changes u (with_change u.changes sender b))) (sym is) (Collect sender b new may base on) in
       let begun : length (with_change t.changes sender b) ≡ f
-      → Turns heard s (after_begin f (with_report t sender b) (merged_changes f (changes_of me (with_report t sender b))) (greatest (map (λ (c : Change). c.commit) (changes_of me (with_report t sender b))))) =
+      → Turns heard s (after_begin f (with_report t sender b) (merged_changes f (changes_of me (with_report t sender b)))
+      (greatest (map (λ (c : Change). c.commit) (changes_of me (with_report t sender b))))) =
       subst (λ (u : Seat). length (with_change u.changes sender b) ≡ f
       → Turn f me e heard (seat_of s)
-      (with_changes (starting u u.view (begun_log f me u (with_change u.changes sender b)) (begun_commit f me u (with_change u.changes sender b))) (with_change u.changes sender b)))
+      (with_changes (starting u u.view (begun_log f me u (with_change u.changes sender b)) (begun_commit f me u (with_change u.changes sender b)))
+      (with_change u.changes sender b)))
       (sym is) (λ full. Begin sender b new may base on full) in
       let merged_log = merged_changes f (changes_of me (with_report t sender b)) in
-      on_cond (λ (x : ReplicaData × List Out). Turns heard s x.0) (eqb (length (with_change t.changes sender b)) f) (begin f me (with_report t sender b)) (with_report t sender b, [])
+      on_cond (λ (x : ReplicaData × List Out). Turns heard s x.0) (eqb (length (with_change t.changes sender b)) f) (begin f me (with_report t sender b))
+      (with_report t sender b, [])
       (λ full. on_cond (λ (x : ReplicaData × List Out). Turns heard s x.0) (nat_lt most_entries (length merged_log)) (with_report t sender b, []) _
       (λ _. going) (λ _. begun (eqb-true _ _ full)))
       (λ _. going)
 
-  pub view_change_turn : (s : ReplicaData) (sender : ℕ) (b : ViewChangeBody) → Turns (Some (Replica sender, messages.ViewChange b)) s (view_change_rule f me s sender b).0
+  pub view_change_turn : (s : ReplicaData) (sender : ℕ) (b : ViewChangeBody)
+      → Turns (Some (Replica sender, messages.ViewChange b)) s (view_change_rule f me s sender b).0
   unfolding view_change_rule enter_view
   view_change_turn s sender b =
       let stay : Turns (Some (Replica sender, messages.ViewChange b)) s s = Stays in
-      let anew : is_stray b.vector sender s.vector ≡ false → MayLead f me (seat_of s) b.view → s.view < b.view → Turns (Some (Replica sender, messages.ViewChange b)) s (collect f me sender b (enter_view f me b.view (without_strays (with_vector me s b.vector))).0).0
-      = λ new may later. begin_turn s (enter_view f me b.view (without_strays (with_vector me s b.vector))).0 sender b [] (record { is = refl; carries = refl; new = new }) may (Anew later) refl in
-      let going : is_stray b.vector sender s.vector ≡ false → MayLead f me (seat_of s) b.view → s.view ≡ b.view → is_changing s.status ≡ true → Turns (Some (Replica sender, messages.ViewChange b)) s (collect f me sender b (without_strays (with_vector me s b.vector))).0
-      = λ new may same changing. begin_turn s (without_strays (with_vector me s b.vector)) sender b (fresh_changes s.changes (merged s.vector b.vector me)) (record { is = refl; carries = refl; new = new }) may (Going same changing) (same_changing me s b.vector b.view same changing) in
-      let answer : is_stray b.vector sender s.vector ≡ false → is_normal s.status ≡ true → s.view ≡ b.view → Turns (Some (Replica sender, messages.ViewChange b)) s (without_strays (with_vector me s b.vector))
+      let anew : is_stray b.vector sender s.vector ≡ false → MayLead f me (seat_of s) b.view → s.view < b.view
+      → Turns (Some (Replica sender, messages.ViewChange b)) s
+      (collect f me sender b (enter_view f me b.view (without_strays (with_vector me s b.vector))).0).0
+      = λ new may later. begin_turn s (enter_view f me b.view (without_strays (with_vector me s b.vector))).0 sender b []
+      (record { is = refl; carries = refl; new = new }) may (Anew later) refl in
+      let going : is_stray b.vector sender s.vector ≡ false → MayLead f me (seat_of s) b.view → s.view ≡ b.view → is_changing s.status ≡ true
+      → Turns (Some (Replica sender, messages.ViewChange b)) s (collect f me sender b (without_strays (with_vector me s b.vector))).0
+      = λ new may same changing. begin_turn s (without_strays (with_vector me s b.vector)) sender b (fresh_changes s.changes (merged s.vector b.vector me))
+      (record { is = refl; carries = refl; new = new }) may (Going same changing) (same_changing me s b.vector b.view same changing) in
+      let answer : is_stray b.vector sender s.vector ≡ false → is_normal s.status ≡ true → s.view ≡ b.view
+      → Turns (Some (Replica sender, messages.ViewChange b)) s (without_strays (with_vector me s b.vector))
       = λ new normal same. Answer sender b (record { is = refl; carries = refl; new = new }) normal same in
       grind (arith, nat_tests, stay, anew, going, answer, up_kinds)
 
-  pub vector_tell_turn : (s : ReplicaData) (sender : ℕ) (b : VectorTellBody) → Turns (Some (Replica sender, messages.VectorTell b)) s (vector_tell_rule f me s sender b).0
+  pub vector_tell_turn : (s : ReplicaData) (sender : ℕ) (b : VectorTellBody)
+      → Turns (Some (Replica sender, messages.VectorTell b)) s (vector_tell_rule f me s sender b).0
   unfolding vector_tell_rule
   vector_tell_turn s sender b =
       let stay : Turns (Some (Replica sender, messages.VectorTell b)) s s = Stays in
-      let hear : is_stray b.vector sender s.vector ≡ false → Awaits phases.Vectors (seat_of s) b.nonce → Turns (Some (Replica sender, messages.VectorTell b)) s (with_teller me (with_vector me s b.vector) sender b.vector)
+      let hear : is_stray b.vector sender s.vector ≡ false → Awaits phases.Vectors (seat_of s) b.nonce
+      → Turns (Some (Replica sender, messages.VectorTell b)) s (with_teller me (with_vector me s b.vector) sender b.vector)
       = λ new ours. HearVector sender b (record { is = refl; carries = refl; new = new }) ours in
-      let count : is_stray b.vector sender s.vector ≡ false → Awaits phases.Vectors (seat_of s) b.nonce → slow_size f ≤ length (more_tellers s.rejoin.tellers sender)
-      → Turns (Some (Replica sender, messages.VectorTell b)) s (ask_views f me (with_new_counter me (with_teller me (with_vector me s b.vector) sender b.vector))).0
+      let count : is_stray b.vector sender s.vector ≡ false → Awaits phases.Vectors (seat_of s) b.nonce
+      → slow_size f ≤ length (more_tellers s.rejoin.tellers sender)
+      → Turns (Some (Replica sender, messages.VectorTell b)) s
+      (ask_views f me (with_new_counter me (with_teller me (with_vector me s b.vector) sender b.vector))).0
       = λ new ours enough. Count sender b (record { is = refl; carries = refl; new = new }) ours enough in
       grind (arith, nat_tests, stay, hear, count)
 
-  pub rejoin_ask_turn : (s : ReplicaData) (sender : ℕ) (b : RejoinAskBody) → Turns (Some (Replica sender, messages.RejoinAsk b)) s (rejoin_ask_rule me s sender b).0
+  pub rejoin_ask_turn : (s : ReplicaData) (sender : ℕ) (b : RejoinAskBody)
+      → Turns (Some (Replica sender, messages.RejoinAsk b)) s (rejoin_ask_rule me s sender b).0
   unfolding rejoin_ask_rule
   rejoin_ask_turn s sender b =
       let stay : Turns (Some (Replica sender, messages.RejoinAsk b)) s s = Stays in
-      let merge : is_stray b.vector sender s.vector ≡ false → is_normal s.status ≡ true → Turns (Some (Replica sender, messages.RejoinAsk b)) s (with_vector me s b.vector)
+      let merge : is_stray b.vector sender s.vector ≡ false → is_normal s.status ≡ true
+      → Turns (Some (Replica sender, messages.RejoinAsk b)) s (with_vector me s b.vector)
       = λ new normal. Merge sender (messages.RejoinAsk b) b.vector (record { is = refl; carries = refl; new = new }) normal in
       grind (arith, nat_tests, stay, merge)
 
-  pub state_ask_turn : (s : ReplicaData) (sender : ℕ) (b : StateAskBody) → Turns (Some (Replica sender, messages.StateAsk b)) s (state_ask_rule f me s sender b).0
+  pub state_ask_turn : (s : ReplicaData) (sender : ℕ) (b : StateAskBody)
+      → Turns (Some (Replica sender, messages.StateAsk b)) s (state_ask_rule f me s sender b).0
   unfolding state_ask_rule
   state_ask_turn s sender b =
       let stay : Turns (Some (Replica sender, messages.StateAsk b)) s s = Stays in
-      let merge : is_stray b.vector sender s.vector ≡ false → is_normal s.status ≡ true → Turns (Some (Replica sender, messages.StateAsk b)) s (with_vector me s b.vector)
+      let merge : is_stray b.vector sender s.vector ≡ false → is_normal s.status ≡ true
+      → Turns (Some (Replica sender, messages.StateAsk b)) s (with_vector me s b.vector)
       = λ new normal. Merge sender (messages.StateAsk b) b.vector (record { is = refl; carries = refl; new = new }) normal in
       grind (arith, nat_tests, stay, merge)
 
-  pub rejoin_tell_turn : (s : ReplicaData) (sender : ℕ) (b : RejoinTellBody) → Turns (Some (Replica sender, messages.RejoinTell b)) s (rejoin_tell_rule f me s sender b).0
+  pub rejoin_tell_turn : (s : ReplicaData) (sender : ℕ) (b : RejoinTellBody)
+      → Turns (Some (Replica sender, messages.RejoinTell b)) s (rejoin_tell_rule f me s sender b).0
   unfolding rejoin_tell_rule
   rejoin_tell_turn s sender b =
       let stay : Turns (Some (Replica sender, messages.RejoinTell b)) s s = Stays in
       let t = with_tell (with_vector me s b.vector) sender b in
       let hear : is_stray b.vector sender s.vector ≡ false → Awaits phases.Views (seat_of s) b.nonce → Turns (Some (Replica sender, messages.RejoinTell b)) s t
       = λ new ours. HearView sender b (record { is = refl; carries = refl; new = new }) ours in
-      let forget : is_stray b.vector sender s.vector ≡ false → Awaits phases.Views (seat_of s) b.nonce → Turns (Some (Replica sender, messages.RejoinTell b)) s (with_tells t [])
+      let forget : is_stray b.vector sender s.vector ≡ false → Awaits phases.Views (seat_of s) b.nonce
+      → Turns (Some (Replica sender, messages.RejoinTell b)) s (with_tells t [])
       = λ new ours. Forget sender b (record { is = refl; carries = refl; new = new }) ours in
-      let ask : is_stray b.vector sender s.vector ≡ false → Awaits phases.Views (seat_of s) b.nonce → slow_size f ≤ length t.rejoin.tells → Turns (Some (Replica sender, messages.RejoinTell b)) s (ask_log f t (latest_view t)).0
+      let ask : is_stray b.vector sender s.vector ≡ false → Awaits phases.Views (seat_of s) b.nonce → slow_size f ≤ length t.rejoin.tells
+      → Turns (Some (Replica sender, messages.RejoinTell b)) s (ask_log f t (latest_view t)).0
       = λ new ours enough. AskLog sender b (record { is = refl; carries = refl; new = new }) ours t.rejoin.tells refl enough in
       grind (arith, nat_tests, stay, hear, forget, ask)
 
-  pub state_tell_turn : (s : ReplicaData) (sender : ℕ) (b : StateTellBody) → Turns (Some (Replica sender, messages.StateTell b)) s (state_tell_rule f me s sender b).0
+  pub state_tell_turn : (s : ReplicaData) (sender : ℕ) (b : StateTellBody)
+      → Turns (Some (Replica sender, messages.StateTell b)) s (state_tell_rule f me s sender b).0
   unfolding state_tell_rule
   state_tell_turn s sender b =
       let stay : Turns (Some (Replica sender, messages.StateTell b)) s s = Stays in
@@ -301,7 +327,8 @@ module _ (f me : ℕ) (e : Event) where
   -- ---- ticks, after what was released
 
   -- a follower in normal operation
-  quiet_turn : (heard : Heard) (s : Seat) (t : ReplicaData) → seat_of t ≡ holding s t.log → is_normal s.status ≡ true → eqb (leader_of f s.view) me ≡ false → Appends false s.log t.log
+  quiet_turn : (heard : Heard) (s : Seat) (t : ReplicaData) → seat_of t ≡ holding s t.log → is_normal s.status ≡ true → eqb (leader_of f s.view) me ≡ false
+      → Appends false s.log t.log
       → Turn f me e heard s (seat_of (quiet_timer f me t).0)
   unfolding enter_view
   quiet_turn heard s t is normal follows log =
@@ -328,7 +355,8 @@ module _ (f me : ℕ) (e : Event) where
   change_turn heard s changing =
       let later : Turns heard s (record s { since = s.since + 1 }) = Stays in
       let anew : Turns heard s (record s { since = 0 }) = Stays in
-      let enter : Turns heard s (enter_view f me (s.view + 1) (record s { since = 0 })).0 = Enter (s.view + 1) (changing_up s.status changing) (omega arith) s.log Same in
+      let enter : Turns heard s (enter_view f me (s.view + 1) (record s { since = 0 })).0 =
+      Enter (s.view + 1) (changing_up s.status changing) (omega arith) s.log Same in
       grind (arith, nat_tests, later, anew, enter)
 
   again_turn : (heard : Heard) (s : ReplicaData) (p : Phase) → is_rejoining s.status ≡ true → s.rejoin.phase ≡ p → Turns heard s (ask_again p f me s).0
@@ -339,7 +367,8 @@ module _ (f me : ℕ) (e : Event) where
   rejoin_turn : (heard : Heard) (s : ReplicaData) → is_rejoining s.status ≡ true → Turns heard s (rejoin_timer f me s).0
   rejoin_turn heard s rejoining =
       let stay : Turns heard s (record s { since = s.since + 1 }) = Stays in
-      let again : Turns heard s (ask_again s.rejoin.phase f me (record s { since = 0 })).0 = again_turn heard (record s { since = 0 }) s.rejoin.phase rejoining refl in
+      let again : Turns heard s (ask_again s.rejoin.phase f me (record s { since = 0 })).0 =
+      again_turn heard (record s { since = 0 }) s.rejoin.phase rejoining refl in
       grind (arith, nat_tests, stay, again)
 
   -- the timer of a mode: in normal operation after a release
@@ -347,10 +376,12 @@ module _ (f me : ℕ) (e : Event) where
       → Turns heard s (mode_timer a f me t).0
   mode_turn heard s t is calm Normal kind = normal_turn heard s t is (sym (ap (λ (x : Seat). is_normal x.status) is.seat) ∙ ap is_normal kind)
   mode_turn heard s t is calm ViewChange kind =
-      subst (λ (u : Seat). Turn f me e heard u (seat_of (change_timer f me t).0)) (calm (sym (ap (λ (x : Seat). is_normal x.status) is.seat) ∙ ap is_normal kind))
+      subst (λ (u : Seat). Turn f me e heard u (seat_of (change_timer f me t).0))
+      (calm (sym (ap (λ (x : Seat). is_normal x.status) is.seat) ∙ ap is_normal kind))
       (change_turn heard t (ap is_changing kind))
   mode_turn heard s t is calm Rejoining kind =
-      subst (λ (u : Seat). Turn f me e heard u (seat_of (rejoin_timer f me t).0)) (calm (sym (ap (λ (x : Seat). is_normal x.status) is.seat) ∙ ap is_normal kind))
+      subst (λ (u : Seat). Turn f me e heard u (seat_of (rejoin_timer f me t).0))
+      (calm (sym (ap (λ (x : Seat). is_normal x.status) is.seat) ∙ ap is_normal kind))
       (rejoin_turn heard t (ap is_rejoining kind))
   mode_turn heard s t is calm Down kind =
       same_turn f me e heard (seat_of s) (seat_of t) (calm (sym (ap (λ (x : Seat). is_normal x.status) is.seat) ∙ ap is_normal kind))
@@ -377,7 +408,8 @@ envelope_turn : (g : Group) (me : ℕ) (e : Event) (s : ReplicaData) (x : Option
     → Turn g.f me e (heard_as x) (seat_of s) (seat_of (envelope_step g (Replica me) s x).0)
 envelope_turn g me e s None = Stays
 envelope_turn g me e s (Some x) =
-    unless_down (λ (t : ReplicaData × List Out). Turn g.f me e (Some (x.from, x.message)) (seat_of s) (seat_of t.0)) s (replica_message g.f me s x.from x.message)
+    unless_down (λ (t : ReplicaData × List Out). Turn g.f me e (Some (x.from, x.message)) (seat_of s) (seat_of t.0)) s
+    (replica_message g.f me s x.from x.message)
     Stays (message_turn g.f me e s x.from x.message)
 
 -- what a replica hears in an event

@@ -196,7 +196,8 @@ pub data Turn (f me : ℕ) (e : Event) (heard : Heard) (s : Seat) : Seat → Typ
   Release : (log : Log) → is_normal s.status ≡ true → Appends (eqb (leader_of f s.view) me) s.log log → Turn f me e heard s (holding s log)
   Merge : (sender : ℕ) (m : Message) (u : List ℕ) → IsNew heard s sender m u → is_normal s.status ≡ true → Turn f me e heard s (merging me s u)
   -- a log modification is taken
-  Sync : (sender : ℕ) (b : LogModBody) → IsNew heard s sender (messages.LogMod b) b.vector → HearsLeader f me s.status s.view sender b.view → b.start ≤ s.log.synced
+  Sync : (sender : ℕ) (b : LogModBody) → IsNew heard s sender (messages.LogMod b) b.vector → HearsLeader f me s.status s.view sender b.view
+      → b.start ≤ s.log.synced
       → (log : Log) → Modifies b s.log log → Turn f me e heard s (committing (holding (merging me s b.vector) log) (max s.commit (min b.commit log.synced)))
   -- a leader counts sync reports
   Tally : (commit : ℕ) → is_normal s.status ≡ true → eqb (leader_of f s.view) me ≡ true → s.commit ≤ commit → Turn f me e heard s (committing s commit)
