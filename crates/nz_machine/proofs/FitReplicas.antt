@@ -143,7 +143,8 @@ missing_few s keys h =
     record {
       few = omega (arith, few, fewer, same);
       all =
-          all_filter id.fits _ (map id_of keys) (all_map id.fits id_of keys (all_imply key.fits (λ (k : Key). id.fits (id_of k)) (λ k fits. fits.1) keys h.all));
+          all_filter id.fits _ (map id_of keys) (all_map id.fits id_of keys
+          (all_imply key.fits (λ (k : Key). id.fits (id_of k)) (λ k fits. fits.1) keys h.all));
     }
   where
     length_ids : (keys : List Key) → length (map id_of keys) ≡ length keys
@@ -369,7 +370,8 @@ view_ask_shown f me s to b c h w = to_other f me to (messages.ViewAsk b) c w.rec
 view_change_shown : (f me : ℕ) (s : ReplicaData) (to : Actor) (b : ViewChangeBody) → IsReplica f me → HasFacts f me s → ShowsViewChange f me s to b
     → FitsOut (Replica me) (to, messages.ViewChange b)
 view_change_shown f me s to b c h w =
-    to_other f me to (messages.ViewChange b) c w.receiver (subst (λ (x : ViewChangeBody). Fits (messages.ViewChange x)) (sym w.read) (view_change_fits f me s c h))
+    to_other f me to (messages.ViewChange b) c w.receiver (subst (λ (x : ViewChangeBody). Fits (messages.ViewChange x)) (sym w.read)
+    (view_change_fits f me s c h))
 
 start_view_shown : (f me : ℕ) (s : ReplicaData) (to : Actor) (b : StartViewBody) → IsReplica f me → HasFacts f me s → ShowsStartView f me s to b
     → FitsOut (Replica me) (to, messages.StartView b)

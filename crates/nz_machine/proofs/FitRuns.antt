@@ -45,27 +45,33 @@ record StepFits (g : Group) (a : Actor) (t : State a × List Out) : Type 0 where
   state : FitsState g a t.0
   sends : AllFit a t.1
 
-up_or_down : (g : Group) (p : ℕ) (s : ProxyData) (down : Bool) (t : ProxyData × List Out) → FitsProxy g.f s → ProxyStep g.f p t → ProxyStep g.f p (Rattle.std.proofs.Common.cond down (s, []) t)
+up_or_down : (g : Group) (p : ℕ) (s : ProxyData) (down : Bool) (t : ProxyData × List Out) → FitsProxy g.f s → ProxyStep g.f p t
+    → ProxyStep g.f p (Rattle.std.proofs.Common.cond down (s, []) t)
 up_or_down g p s true t h step = record { state = h; sends = tt }
 up_or_down g p s false t h step = step
 
-message_step_fits : (g : Group) (a : Actor) (s : State a) (from : Actor) (m : Message) → IsGroup g → IsMember g a → Hears g.f a from m → FitsOut from (a, m) → FitsState g a s → StepFits g a (message_step g a s from m)
+message_step_fits : (g : Group) (a : Actor) (s : State a) (from : Actor) (m : Message) → IsGroup g → IsMember g a → Hears g.f a from m
+    → FitsOut from (a, m) → FitsState g a s → StepFits g a (message_step g a s from m)
 message_step_fits g (Replica r) s from m group member hears fit h =
-    let t = unless_down (ReplicaStep g.f r) s (replica_message g.f r s from m) (record { state = h; sends = tt }) (message_fits g.f r s from m (replica_of g r group member) hears fit h) in
+    let t = unless_down (ReplicaStep g.f r) s (replica_message g.f r s from m) (record { state = h; sends = tt })
+    (message_fits g.f r s from m (replica_of g r group member) hears fit h) in
     record { state = t.state; sends = t.sends }
 message_step_fits g (Proxy p) s from m group member hears fit h =
     let t = up_or_down g p s s.is_down (proxy_message g.f s from m) h (proxy_message_fits g.f p s from m (proxy_of g p group member) hears fit h) in
     record { state = t.state; sends = t.sends }
-message_step_fits g (Client c) s from m group member hears fit h = let t = client_message_fits g.proxies c (script_of g c) s from m (client_of g c group member) h in record { state = t.state; sends = t.sends }
+message_step_fits g (Client c) s from m group member hears fit h =
+    let t = client_message_fits g.proxies c (script_of g c) s from m (client_of g c group member) h in record { state = t.state; sends = t.sends }
 
 tick_step_fits : (g : Group) (a : Actor) (s : State a) (clock : ℕ) → IsGroup g → IsMember g a → FitsState g a s → StepFits g a (tick_step g a s clock)
 tick_step_fits g (Replica r) s clock group member h =
-    let t = unless_down (ReplicaStep g.f r) s (tick_rule g.f r s clock) (record { state = h; sends = tt }) (tick_fits g.f r s clock (replica_of g r group member) h) in
+    let t = unless_down (ReplicaStep g.f r) s (tick_rule g.f r s clock) (record { state = h; sends = tt })
+    (tick_fits g.f r s clock (replica_of g r group member) h) in
     record { state = t.state; sends = t.sends }
 tick_step_fits g (Proxy p) s clock group member h =
     let t = up_or_down g p s s.is_down (clock_rule s clock, []) h (record { state = proxy_tick_fits g.f s clock h; sends = tt }) in
     record { state = t.state; sends = t.sends }
-tick_step_fits g (Client c) s clock group member h = let t = client_tick_fits g.proxies c (script_of g c) s (client_of g c group member) h in record { state = t.state; sends = t.sends }
+tick_step_fits g (Client c) s clock group member h =
+    let t = client_tick_fits g.proxies c (script_of g c) s (client_of g c group member) h in record { state = t.state; sends = t.sends }
 
 alarm_step_fits : (g : Group) (a : Actor) (s : State a) → IsGroup g → IsMember g a → FitsState g a s → StepFits g a (alarm_step g a s)
 alarm_step_fits g (Replica r) s group member h = let t = alarm_fits g.f r s (replica_of g r group member) h in record { state = t.state; sends = t.sends }
@@ -91,7 +97,8 @@ fits_keep g = record {
   start = λ a. start_fits g a;
   sent_stays = λ J r w a o p. p;
   state_stays = λ J r w a s q. q;
-  message = λ J r w from m hears p q now. let t = message_step_fits g r.actor (state_after g r.actor J) from m (group_of g J w.1) w.0.member hears p q in (t.state, t.sends);
+  message = λ J r w from m hears p q now. let t = message_step_fits g r.actor (state_after g r.actor J) from m
+  (group_of g J w.1) w.0.member hears p q in (t.state, t.sends);
   tick = λ J r w c le q now. let t = tick_step_fits g r.actor (state_after g r.actor J) c (group_of g J w.1) w.0.member q in (t.state, t.sends);
   alarm = λ J r w q now. let t = alarm_step_fits g r.actor (state_after g r.actor J) (group_of g J w.1) w.0.member q in (t.state, t.sends);
   crash = λ J r w q now. let t = crash_step_fits g r.actor (state_after g r.actor J) (group_of g J w.1) w.0.member q in (t.state, t.sends);

@@ -237,5 +237,6 @@ pub kept_missing : (s : ReplicaData) (ids : List Id) → AllByRecursion (λ (id 
 kept_missing s [] = tt
 kept_missing s (id ∷ ids) =
     let rest = kept_missing s ids in
-    on_cond (AllByRecursion (λ (x : Id). is_held s x ≡ false)) (not (is_held s id)) (id ∷ filter (λ x. not (is_held s x)) ids) (filter (λ x. not (is_held s x)) ids)
+    on_cond (AllByRecursion (λ (x : Id). is_held s x ≡ false)) (not (is_held s id)) (id ∷ filter (λ x. not (is_held s x)) ids)
+    (filter (λ x. not (is_held s x)) ids)
     (λ t. (not-true (is_held s id) t, rest)) (λ _. rest)

@@ -35,29 +35,37 @@ unfolding restart_rule
 restart_shows f me heard s nonce =
     let back = restarted_replica f nonce in
     on_cond (Shown f me heard s) (is_down s.status) (back, to_others f me (vector_ask back)) (s, [])
-    (λ _. record { shows = to_each f me (λ (o : Out). ReplicaShows f me heard s back o.0 o.1) (λ r. (Replica r, vector_ask back)) (λ r other. record { rejoining = refl; in_phase = refl; receiver = other; read = refl }) })
+    (λ _. record { shows = to_each f me (λ (o : Out). ReplicaShows f me heard s back o.0 o.1) (λ r. (Replica r, vector_ask back))
+    (λ r other. record { rejoining = refl; in_phase = refl; receiver = other; read = refl }) })
     (λ _. silent f me heard s s)
 
 ask_views_shows : (f me : ℕ) (heard : Heard) (before s : ReplicaData) → is_rejoining s.status ≡ true → Shown f me heard before (ask_views f me s)
 ask_views_shows f me heard before s rejoining =
     let t = (ask_views f me s).0 in
-    record { shows = to_each f me (λ (o : Out). ReplicaShows f me heard before t o.0 o.1) (λ r. (Replica r, rejoin_ask t)) (λ r other. record { rejoining = rejoining; in_phase = refl; receiver = other; read = refl }) }
+    record { shows = to_each f me (λ (o : Out). ReplicaShows f me heard before t o.0 o.1) (λ r. (Replica r, rejoin_ask t))
+    (λ r other. record { rejoining = rejoining; in_phase = refl; receiver = other; read = refl }) }
 
-again_shows : (f me : ℕ) (heard : Heard) (before s : ReplicaData) (p : Phase) → is_rejoining s.status ≡ true → s.rejoin.phase ≡ p → Shown f me heard before (ask_again p f me s)
+again_shows : (f me : ℕ) (heard : Heard) (before s : ReplicaData) (p : Phase) → is_rejoining s.status ≡ true → s.rejoin.phase ≡ p
+    → Shown f me heard before (ask_again p f me s)
 again_shows f me heard before s phases.Vectors rejoining is =
-    record { shows = to_each f me (λ (o : Out). ReplicaShows f me heard before s o.0 o.1) (λ r. (Replica r, vector_ask s)) (λ r other. record { rejoining = rejoining; in_phase = ap (λ (p : Phase). is_phase p phases.Vectors) is; receiver = other; read = refl }) }
+    record { shows = to_each f me (λ (o : Out). ReplicaShows f me heard before s o.0 o.1) (λ r. (Replica r, vector_ask s))
+    (λ r other. record { rejoining = rejoining; in_phase = ap (λ (p : Phase). is_phase p phases.Vectors) is; receiver = other; read = refl }) }
 again_shows f me heard before s phases.Views rejoining is =
-    record { shows = to_each f me (λ (o : Out). ReplicaShows f me heard before s o.0 o.1) (λ r. (Replica r, rejoin_ask s)) (λ r other. record { rejoining = rejoining; in_phase = ap (λ (p : Phase). is_phase p phases.Views) is; receiver = other; read = refl }) }
+    record { shows = to_each f me (λ (o : Out). ReplicaShows f me heard before s o.0 o.1) (λ r. (Replica r, rejoin_ask s))
+    (λ r other. record { rejoining = rejoining; in_phase = ap (λ (p : Phase). is_phase p phases.Views) is; receiver = other; read = refl }) }
 again_shows f me heard before s phases.Log rejoining is = ask_views_shows f me heard before s rejoining
 
-pub vector_ask_shows : (f me : ℕ) (s : ReplicaData) (sender : ℕ) (b : VectorAskBody) → Shown f me (Some (Replica sender, messages.VectorAsk b)) s (vector_ask_rule s sender b)
+pub vector_ask_shows : (f me : ℕ) (s : ReplicaData) (sender : ℕ) (b : VectorAskBody)
+    → Shown f me (Some (Replica sender, messages.VectorAsk b)) s (vector_ask_rule s sender b)
 unfolding vector_ask_rule
 vector_ask_shows f me s sender b =
     let heard : Heard = Some (Replica sender, messages.VectorAsk b) in
     on_cond (Shown f me heard s) (is_normal s.status) _ (s, [])
-    (λ normal. record { shows = (record { normal = normal; asker = sender; ask = b; hears = refl; receiver = refl; read = refl }, tt) }) (λ _. silent f me heard s s)
+    (λ normal. record { shows = (record { normal = normal; asker = sender; ask = b; hears = refl; receiver = refl; read = refl }, tt) })
+    (λ _. silent f me heard s s)
 
-pub rejoin_ask_shows : (f me : ℕ) (s : ReplicaData) (sender : ℕ) (b : RejoinAskBody) → Shown f me (Some (Replica sender, messages.RejoinAsk b)) s (rejoin_ask_rule me s sender b)
+pub rejoin_ask_shows : (f me : ℕ) (s : ReplicaData) (sender : ℕ) (b : RejoinAskBody)
+    → Shown f me (Some (Replica sender, messages.RejoinAsk b)) s (rejoin_ask_rule me s sender b)
 unfolding rejoin_ask_rule
 rejoin_ask_shows f me s sender b =
     let heard : Heard = Some (Replica sender, messages.RejoinAsk b) in
@@ -67,7 +75,8 @@ rejoin_ask_shows f me s sender b =
     = λ normal. record { shows = (record { normal = normal; asker = sender; ask = b; hears = refl; receiver = refl; taken = refl; read = refl }, tt) } in
     grind (arith, stay, tell)
 
-pub state_ask_shows : (f me : ℕ) (s : ReplicaData) (sender : ℕ) (b : StateAskBody) → Shown f me (Some (Replica sender, messages.StateAsk b)) s (state_ask_rule f me s sender b)
+pub state_ask_shows : (f me : ℕ) (s : ReplicaData) (sender : ℕ) (b : StateAskBody)
+    → Shown f me (Some (Replica sender, messages.StateAsk b)) s (state_ask_rule f me s sender b)
 unfolding state_ask_rule
 state_ask_shows f me s sender b =
     let heard : Heard = Some (Replica sender, messages.StateAsk b) in
@@ -83,12 +92,15 @@ vector_tell_shows f me heard s sender b =
     let told = with_teller me (with_vector me s b.vector) sender b.vector in
     let stay = silent f me heard s s in
     let hear = silent f me heard s told in
-    let ask : is_rejoining s.status ≡ true → Shown f me heard s (ask_views f me (with_new_counter me told)) = λ rejoining. ask_views_shows f me heard s (with_new_counter me told) rejoining in
+    let ask : is_rejoining s.status ≡ true → Shown f me heard s
+    (ask_views f me (with_new_counter me told)) = λ rejoining. ask_views_shows f me heard s (with_new_counter me told) rejoining in
     grind (arith, stay, hear, ask)
 
-ask_log_shows : (f me : ℕ) (heard : Heard) (before s : ReplicaData) (view : ℕ) → is_rejoining s.status ≡ true → eqb (leader_of f view) me ≡ false → Shown f me heard before (ask_log f s view)
+ask_log_shows : (f me : ℕ) (heard : Heard) (before s : ReplicaData) (view : ℕ) → is_rejoining s.status ≡ true → eqb (leader_of f view) me ≡ false
+    → Shown f me heard before (ask_log f s view)
 ask_log_shows f me heard before s view rejoining away =
-    record { shows = (record { rejoining = rejoining; in_phase = refl; receiver = other_is f me (leader_of f view) (leader_below f view) away; to_leader = refl; read = refl }, tt) }
+    record { shows = (record { rejoining = rejoining; in_phase = refl; receiver = other_is f me (leader_of f view)
+    (leader_below f view) away; to_leader = refl; read = refl }, tt) }
 
 pub rejoin_tell_shows : (f me : ℕ) (heard : Heard) (s : ReplicaData) (sender : ℕ) (b : RejoinTellBody) → Shown f me heard s (rejoin_tell_rule f me s sender b)
 unfolding rejoin_tell_rule
@@ -97,7 +109,8 @@ rejoin_tell_shows f me heard s sender b =
     let stay = silent f me heard s s in
     let hear = silent f me heard s told in
     let forget = silent f me heard s (with_tells told []) in
-    let ask : is_rejoining s.status ≡ true → eqb (leader_of f (latest_view told)) me ≡ false → Shown f me heard s (ask_log f told (latest_view told)) = λ rejoining away. ask_log_shows f me heard s told (latest_view told) rejoining away in
+    let ask : is_rejoining s.status ≡ true → eqb (leader_of f (latest_view told)) me ≡ false
+    → Shown f me heard s (ask_log f told (latest_view told)) = λ rejoining away. ask_log_shows f me heard s told (latest_view told) rejoining away in
     grind (arith, stay, hear, forget, ask)
 
 pub state_tell_silent : (f me : ℕ) (heard : Heard) (s : ReplicaData) (sender : ℕ) (b : StateTellBody) → Shown f me heard s (state_tell_rule f me s sender b)

@@ -76,7 +76,8 @@ fast_shows f me heard before s t id place (Some origin) normal l at answered kno
     digest = sym (digest_kept s.log.entries t.log.entries place (place_within s.log.entries id place at) l.log);
     led = l.led;
     answer =
-        ap (λ v. cond (eqb (leader_of f v) me) (slice_get s.results place) None) l.view ∙ answer_by (leads f me before) s.results t.results place l.results answered;
+        ap (λ v. cond (eqb (leader_of f v) me) (slice_get s.results place) None) l.view ∙ answer_by
+        (leads f me before) s.results t.results place l.results answered;
     origin = origin;
     known = ap (λ (x : List (Id × Origin)). lookup (id_eq id) x) l.origin ∙ known;
     delay = refl;
@@ -113,7 +114,8 @@ request_shows f me heard s proxy b a =
     replies : is_normal s.status ≡ true → (place : ℕ) → place_of s.log.entries b.id ≡ Some place → AllShow f me heard s own (replies_at f me own b.id place)
     replies normal place at =
         let origin = lookup (id_eq b.id) own.origin in
-        on_cond (AllShow f me heard s own) (not (leads f me s) && nat_lt place s.log.synced) (slow_replies own b.id origin) (fast_replies f me own b.id place origin)
+        on_cond (AllShow f me heard s own) (not (leads f me s) && nat_lt place s.log.synced) (slow_replies own b.id origin)
+        (fast_replies f me own b.id place origin)
         (λ t.
         let follows = not-true (leads f me s) (and_left (not (leads f me s)) (nat_lt place s.log.synced) t) in
         let synced = ltb-true place s.log.synced (and_right (not (leads f me s)) (nat_lt place s.log.synced) t) in
@@ -208,7 +210,8 @@ releases_show f me heard before s t (e ∷ es) normal l own answered =
 -- what a replica does at a tick after its releases
 pub mode_shows : (f me : ℕ) (heard : Heard) (before s : ReplicaData) (a : Status) → s.status ≡ a → Shown f me heard before (mode_timer a f me s)
 mode_shows f me heard before s Normal is =
-    let lead : leads f me s ≡ true → Shown f me heard before (s, log_mods_to_others f me s) = λ lead. log_mods_show f me heard before s (ap is_normal is) lead in
+    let lead : leads f me s ≡ true → Shown f me heard before (s, log_mods_to_others f me s) = λ lead. log_mods_show f me heard before s
+    (ap is_normal is) lead in
     let quiet = quiet_shows f me heard before s in
     grind (arith, lead, quiet)
 mode_shows f me heard before s ViewChange is = change_shows f me heard before s (ap is_changing is)
@@ -234,7 +237,8 @@ timer_later f me before t Normal is normal view last =
     let stay : Later f me before t t = kept t refl refl refl refl last (normal_up t.status normal) (λ _. (normal, view)) in
     let away : leads f me t ≡ false → leads f me before ≡ true → ⊥ = λ no yes. false_true (sym no ∙ ap (λ v. eqb (leader_of f v) me) view ∙ yes) in
     let quiet = record t { quiet = min (t.quiet + 1) most_quiet } in
-    let wait : leads f me t ≡ false → Later f me before t quiet = λ no. kept quiet refl refl refl refl last (normal_up t.status normal) (λ yes. absurd (away no yes)) in
+    let wait : leads f me t ≡ false → Later f me before t quiet = λ no. kept quiet refl refl refl refl last (normal_up t.status normal)
+    (λ yes. absurd (away no yes)) in
     let entered = (enter_view f me (t.view + 1) quiet).0 in
     let enter : leads f me t ≡ false → Later f me before t entered = λ no. kept entered refl refl refl refl last refl (λ yes. absurd (away no yes)) in
     grind (arith, stay, wait, enter)
@@ -263,7 +267,8 @@ release_shows : (f me : ℕ) (heard : Heard) (s : ReplicaData) (clock : ℕ) →
 unfolding release_rule
 release_shows f me heard s clock a =
     let now = at_clock s clock in
-    on_cond (λ (x : ReplicaData × List Out). AllShow f me heard s (mode_timer x.0.status f me x.0).0 x.1) (is_normal s.status) (releases f me now s.early) (now, [])
+    on_cond (λ (x : ReplicaData × List Out). AllShow f me heard s (mode_timer x.0.status f me x.0).0 x.1) (is_normal s.status)
+    (releases f me now s.early) (now, [])
     (λ normal.
     let same = releases_mode f me now s.early in
     let t = (releases f me now s.early).0 in

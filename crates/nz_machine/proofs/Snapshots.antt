@@ -57,7 +57,8 @@ IsFair f me (Replica r) = IsOther f me (Replica r)
 IsFair f me (Proxy p) = Unit {0}
 IsFair f me (Client c) = Unit {0}
 
-pub message_shows : (f me : ℕ) (s : ReplicaData) (from : Actor) (m : Message) → IsFair f me from → HasAnswers f me s → Shown f me (Some (from, m)) s (replica_message f me s from m)
+pub message_shows : (f me : ℕ) (s : ReplicaData) (from : Actor) (m : Message) → IsFair f me from → HasAnswers f me s
+    → Shown f me (Some (from, m)) s (replica_message f me s from m)
 message_shows f me s (Proxy p) (messages.Timed b) fair a = request_shows f me (Some (Proxy p, messages.Timed b)) s p b a
 message_shows f me s (Replica r) (messages.LogMod b) fair a = log_mod_shows f me s r b
 message_shows f me s (Replica r) (messages.Fetch b) fair a = fetch_shows f me s r b
@@ -89,7 +90,8 @@ some_if : (b : Bool) (d e : Envelope) → cond b (Some d) None ≡ Some e → (b
 some_if true d e h = (refl, cc)
 some_if false d e h = absurd cc
 
-read_by : (f : ℕ) (me : Actor) (p : Parcel) (d : Result Envelope DecodeRefusal) (e : Envelope) → decode_of p.frame ≡ d → counted f (heard_if me p d) ≡ Some e → IsRead f me p e
+read_by : (f : ℕ) (me : Actor) (p : Parcel) (d : Result Envelope DecodeRefusal) (e : Envelope) → decode_of p.frame ≡ d
+    → counted f (heard_if me p d) ≡ Some e → IsRead f me p e
 read_by f me p (Err x) e says h = absurd cc
 read_by f me p (Ok d) e says h = read_if (is_for me p d) refl h
   where
@@ -97,7 +99,8 @@ read_by f me p (Ok d) e says h = read_if (is_for me p d) refl h
     read_if false is h = absurd cc
     read_if true is h =
         let t = some_if (is_in_cluster f d.from && is_sized f (vector_of d.message)) d e h in
-        let rest = and_right (actor_eq d.to p.to) (actor_eq d.to me && not (actor_eq d.from me)) (and_right (actor_eq d.from p.from) (actor_eq d.to p.to && (actor_eq d.to me && not (actor_eq d.from me))) is) in
+        let rest = and_right (actor_eq d.to p.to) (actor_eq d.to me && not (actor_eq d.from me))
+        (and_right (actor_eq d.from p.from) (actor_eq d.to p.to && (actor_eq d.to me && not (actor_eq d.from me))) is) in
         subst (IsRead f me p) t.1 (record {
           decodes = says;
           same_from = and_left (actor_eq d.from p.from) (actor_eq d.to p.to && (actor_eq d.to me && not (actor_eq d.from me))) is;
@@ -118,7 +121,8 @@ fair_sender f me (Client c) other member = tt
 
 -- what is taken is from another, and a replica that sends it is of the cluster
 pub fair_hears : (f me : ℕ) (from : Actor) (m : Message) → Hears f (Replica me) from m → IsFair f me from
-fair_hears f me from m h = fair_sender f me from (not-true (actor_eq from (Replica me)) h.other) (and_left (is_in_cluster f from) (is_sized f (vector_of m)) h.counts)
+fair_hears f me from m h =
+    fair_sender f me from (not-true (actor_eq from (Replica me)) h.other) (and_left (is_in_cluster f from) (is_sized f (vector_of m)) h.counts)
 
 -- ---- any actor
 

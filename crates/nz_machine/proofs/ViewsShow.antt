@@ -26,13 +26,18 @@ use Rattle.nz_machine.proofs.Shows.{AllShow, Shown, silent, other_is, leader_bel
 
 -- ---- entering views
 
-asks_show : (f me : ℕ) (heard : Heard) (before s t : ReplicaData) → is_up t.status ≡ true → s.view ≡ t.view → AllShow f me heard before t (to_others f me (view_ask s))
-asks_show f me heard before s t up view = to_each f me (λ (o : Out). ReplicaShows f me heard before t o.0 o.1) (λ r. (Replica r, view_ask s)) (λ r other. record { up = up; receiver = other; view = view })
+asks_show : (f me : ℕ) (heard : Heard) (before s t : ReplicaData) → is_up t.status ≡ true → s.view ≡ t.view
+    → AllShow f me heard before t (to_others f me (view_ask s))
+asks_show f me heard before s t up view =
+    to_each f me (λ (o : Out). ReplicaShows f me heard before t o.0 o.1) (λ r. (Replica r, view_ask s))
+    (λ r other. record { up = up; receiver = other; view = view })
 
-report_shows : (f me : ℕ) (heard : Heard) (before s : ReplicaData) → is_changing s.status ≡ true → AllShow f me heard before s (to_leader f me s (view_change s))
+report_shows : (f me : ℕ) (heard : Heard) (before s : ReplicaData) → is_changing s.status ≡ true
+    → AllShow f me heard before s (to_leader f me s (view_change s))
 report_shows f me heard before s changing =
     on_cond (AllShow f me heard before s) (leads f me s) [] (to_replica (leader f s) (view_change s)) (λ _. tt)
-    (λ away. (record { changing = changing; follows = away; receiver = other_is f me (leader f s) (leader_below f s.view) away; to_leader = refl; read = refl }, tt))
+    (λ away. (record { changing = changing; follows = away; receiver = other_is f me (leader f s)
+    (leader_below f s.view) away; to_leader = refl; read = refl }, tt))
 
 changing_up : (a : Status) → is_changing a ≡ true → is_up a ≡ true
 changing_up ViewChange h = refl
@@ -80,12 +85,15 @@ begin_shows f me heard before s lead =
     let begun = after_begin f s log (greatest (map (λ (c : Change). c.commit) changes)) in
     on_cond (Shown f me heard before) (nat_lt most_entries (length log)) (s, []) (begun, to_others f me (start_view begun))
     (λ _. silent f me heard before s)
-    (λ _. record { shows = to_each f me (λ (o : Out). ReplicaShows f me heard before begun o.0 o.1) (λ r. (Replica r, start_view begun)) (λ r other. record { normal = refl; led = lead; receiver = other; read = refl }) })
+    (λ _. record { shows = to_each f me (λ (o : Out). ReplicaShows f me heard before begun o.0 o.1) (λ r. (Replica r, start_view begun))
+    (λ r other. record { normal = refl; led = lead; receiver = other; read = refl }) })
 
-collect_shows : (f me : ℕ) (heard : Heard) (before : ReplicaData) (sender : ℕ) (b : ViewChangeBody) (s : ReplicaData) → leads f me s ≡ true → Shown f me heard before (collect f me sender b s)
+collect_shows : (f me : ℕ) (heard : Heard) (before : ReplicaData) (sender : ℕ) (b : ViewChangeBody) (s : ReplicaData) → leads f me s ≡ true
+    → Shown f me heard before (collect f me sender b s)
 collect_shows f me heard before sender b s lead =
     let more = with_report s sender b in
-    on_cond (Shown f me heard before) (eqb (length more.changes) f) (begin f me more) (more, []) (λ _. begin_shows f me heard before more lead) (λ _. silent f me heard before more)
+    on_cond (Shown f me heard before) (eqb (length more.changes) f) (begin f me more) (more, []) (λ _. begin_shows f me heard before more lead)
+    (λ _. silent f me heard before more)
 
 -- the replica is still up in the view
 record IsIn (view : ℕ) (s : ReplicaData) : Type 0 where
@@ -102,10 +110,12 @@ begin_in f me s changing =
 collect_in : (f me sender : ℕ) (b : ViewChangeBody) (s : ReplicaData) → is_changing s.status ≡ true → IsIn s.view (collect f me sender b s).0
 collect_in f me sender b s changing =
     let more = with_report s sender b in
-    on_cond (λ (t : ReplicaData × List Out). IsIn s.view t.0) (eqb (length more.changes) f) (begin f me more) (more, []) (λ _. begin_in f me more changing) (λ _. record { up = changing_up s.status changing; same = refl })
+    on_cond (λ (t : ReplicaData × List Out). IsIn s.view t.0) (eqb (length more.changes) f) (begin f me more) (more, [])
+    (λ _. begin_in f me more changing) (λ _. record { up = changing_up s.status changing; same = refl })
 
 -- a view that is entered and collected for, or begun
-entered_shows : (f me : ℕ) (heard : Heard) (before : ReplicaData) (sender : ℕ) (b : ViewChangeBody) (s : ReplicaData) → leads f me s ≡ true → is_changing s.status ≡ true
+entered_shows : (f me : ℕ) (heard : Heard) (before : ReplicaData) (sender : ℕ) (b : ViewChangeBody) (s : ReplicaData) → leads f me s ≡ true
+    → is_changing s.status ≡ true
     → Shown f me heard before ((collect f me sender b s).0, view_calls f me s ++ (collect f me sender b s).1)
 entered_shows f me heard before sender b s lead changing =
     let end = (collect f me sender b s).0 in
@@ -125,18 +135,23 @@ up_kinds ViewChange up h = absurd cc
 up_kinds Rejoining up h = absurd cc
 up_kinds Down up h = absurd cc
 
-answer_shows : (f me : ℕ) (heard : Heard) (before : ReplicaData) (sender : ℕ) (s : ReplicaData) → IsOther f me (Replica sender) → leads f me s ≡ true → is_normal s.status ≡ true → Shown f me heard before (s, to_replica sender (start_view s))
+answer_shows : (f me : ℕ) (heard : Heard) (before : ReplicaData) (sender : ℕ) (s : ReplicaData) → IsOther f me (Replica sender)
+    → leads f me s ≡ true → is_normal s.status ≡ true → Shown f me heard before (s, to_replica sender (start_view s))
 answer_shows f me heard before sender s other lead normal = record { shows = (record { normal = normal; led = lead; receiver = other; read = refl }, tt) }
 
-pub view_change_shows : (f me : ℕ) (heard : Heard) (s : ReplicaData) (sender : ℕ) (b : ViewChangeBody) → IsOther f me (Replica sender) → Shown f me heard s (view_change_rule f me s sender b)
+pub view_change_shows : (f me : ℕ) (heard : Heard) (s : ReplicaData) (sender : ℕ) (b : ViewChangeBody) → IsOther f me (Replica sender)
+    → Shown f me heard s (view_change_rule f me s sender b)
 unfolding view_change_rule enter_view
 view_change_shows f me heard s sender b other =
     let kept = without_strays (with_vector me s b.vector) in
     let stay = silent f me heard s s in
-    let anew : eqb (leader_of f b.view) me ≡ true → Shown f me heard s ((collect f me sender b (in_view_change kept b.view)).0, view_calls f me (in_view_change kept b.view) ++ (collect f me sender b (in_view_change kept b.view)).1)
+    let anew : eqb (leader_of f b.view) me ≡ true → Shown f me heard s
+    ((collect f me sender b (in_view_change kept b.view)).0, view_calls f me (in_view_change kept b.view) ++
+    (collect f me sender b (in_view_change kept b.view)).1)
     = λ lead. entered_shows f me heard s sender b (in_view_change kept b.view) lead refl in
     let going : leads f me s ≡ true → Shown f me heard s (collect f me sender b kept) = λ lead. collect_shows f me heard s sender b kept lead in
-    let answer : leads f me s ≡ true → is_normal s.status ≡ true → Shown f me heard s (kept, to_replica sender (start_view kept)) = λ lead normal. answer_shows f me heard s sender kept other lead normal in
+    let answer : leads f me s ≡ true → is_normal s.status ≡ true
+    → Shown f me heard s (kept, to_replica sender (start_view kept)) = λ lead normal. answer_shows f me heard s sender kept other lead normal in
     grind (arith, nat_tests, stay, anew, going, answer, up_kinds)
 
 -- ---- timers
