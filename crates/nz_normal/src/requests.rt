@@ -8,7 +8,7 @@ ghost use Rattle.nz_log.specs.Places.{last_entry};
 ghost use Rattle.nz_msg.specs.Messages.{timed};
 ghost use Rattle.nz_msg.specs.declared.message.Message.TheVariants.{Timed};
 ghost use Rattle.nz_machine.specs.Replicas.{key_at as key_of};
-ghost use Rattle.nz_machine.specs.Requests.{replies_at, entry_at as entry_of, next_deadline as deadline_behind, restamped, placed, unlogged as unlogged_of, request_rule};
+ghost use Rattle.nz_machine.specs.Requests.{replies_at, entry_at as entry_of, next_deadline as deadline_after, restamped, placed, unlogged as unlogged_of, request_rule};
 ghost use Rattle.nz_machine.specs.Does.{Does};
 ghost use Rattle.nz_machine.specs.Step.{parcel, replica_message};
 
@@ -40,9 +40,9 @@ fn entry_at(alloc: Global, deadline: u64, body: &TimedBody) -> Result<Entry, NoM
     })
 }
 
-/// The deadline behind that of the log's last entry, if there is one.
+/// The deadline after that of the log's last entry, if there is one.
 fn next_deadline(log: &HashedLog) -> Option<u64>
-    ensures { result ≡ (let deadline = deadline_behind (last_entry log.now.entries) in if nat_lt deadline (2 ^ 63) then Some deadline else None) }
+    ensures { result ≡ (let deadline = deadline_after (last_entry log.now.entries) in if nat_lt deadline (2 ^ 63) then Some deadline else None) }
 {
     match log.last() {
         None => Some(1),

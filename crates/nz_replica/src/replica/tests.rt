@@ -63,26 +63,35 @@ fn put_items(bytes: &mut Vec<u8>, items: &[Place], size: usize) -> Result<(), No
     Ok(())
 }
 
+fn put_log_mod(
+    bytes: &mut Vec<u8>,
+    start: u64,
+    commit: u64,
+    keys: &[Place],
+) -> Result<(), NoMemory> {
+    let numbers = [(8, 0), (1, 3), (8, 0), (4, 0), (4, commit), (4, start)];
+    put(bytes, &numbers)?;
+    put(bytes, &[(1, keys.len() as u64)])?;
+    put_items(bytes, keys, 0)
+}
+
+fn put_fetch(bytes: &mut Vec<u8>, ids: &[Field]) -> Result<(), NoMemory> {
+    put(bytes, &[(8, 0), (1, ids.len() as u64)])?;
+    put(bytes, ids)
+}
+
+fn put_fetched(bytes: &mut Vec<u8>, entries: &[Place]) -> Result<(), NoMemory> {
+    put(bytes, &[(8, 0), (4, entries.len() as u64)])?;
+    put_items(bytes, entries, 5)
+}
+
 fn put_body(bytes: &mut Vec<u8>, told: &Told) -> Result<(), NoMemory> {
     match *told {
         Timed(num, deadline) => put(bytes, &[(8, 0), (8, deadline), (8, num), (5, command(num))]),
         Slow(num, delay) => put(bytes, &[(8, 0), (8, num), (4, delay)]),
-        LogMod(start, commit, keys) => {
-            put(
-                bytes,
-                &[(8, 0), (1, 3), (8, 0), (4, 0), (4, commit), (4, start)],
-            )?;
-            put(bytes, &[(1, keys.len() as u64)])?;
-            put_items(bytes, keys, 0)
-        }
-        Fetch(ids) => {
-            put(bytes, &[(8, 0), (1, ids.len() as u64)])?;
-            put(bytes, ids)
-        }
-        Fetched(entries) => {
-            put(bytes, &[(8, 0), (4, entries.len() as u64)])?;
-            put_items(bytes, entries, 5)
-        }
+        LogMod(start, commit, keys) => put_log_mod(bytes, start, commit, keys),
+        Fetch(ids) => put_fetch(bytes, ids),
+        Fetched(entries) => put_fetched(bytes, entries),
         Report(synced) => put(bytes, &[(8, 0), (4, synced)]),
         Plain(_, fields) => put(bytes, fields),
     }
@@ -336,7 +345,7 @@ fn three_replicas_of_which_one_fetches(rt: HostRuntime) -> Result<(), Fail> {
 
 // ---- log modifications
 
-/// What replica 1 heard before, the log modification, the log behind it, how many entries are synced,
+/// What replica 1 heard before, the log modification, the log after it, how many entries are synced,
 /// committed, early and late, and what is sent.
 type Row = (
     &'static [Input<'static>],
@@ -462,7 +471,7 @@ const ROWS: &[Row] = &[
         (1, 0, 0, 0),
         &[(1, Report(1))],
     ),
-    // Requests 3 and 5 are missing; request 2 is logged, but behind a missing one.
+    // Requests 3 and 5 are missing; request 2 is logged, but after a missing one.
     (
         LOGGED,
         LogMod(0, 4, &[(50, 1), (55, 3), (60, 2), (70, 5)]),
