@@ -9,21 +9,22 @@ use Rattle.nz_store.specs.Entries.{Entries}
 use Rattle.nz_store.specs.Sequence.{store_after, replies}
 use Rattle.nz_store.specs.declared.command.Answer.{Answer}
 use Rattle.nz_log.specs.Synced.{Log}
+use Rattle.nz_msg.specs.declared.message.ViewChangeBody.{ViewChangeBody}
 use Rattle.nz_merge.specs.Merged.{greatest, merged as merged_changes}
 use Rattle.nz_machine.specs.declared.data.Status.{Status}
 use Rattle.nz_machine.specs.declared.data.Status.TheVariants.{Normal, ViewChange, Rejoining, Down}
 use Rattle.nz_machine.specs.declared.data.Reported.{Reported}
 use Rattle.nz_machine.specs.State.{ReplicaData}
-use Rattle.nz_machine.specs.Facts.{IsCarried, HasFacts, IsKept}
+use Rattle.nz_machine.specs.Facts.{IsCarried, FitsReport, HasFacts, IsKept}
 use Rattle.nz_machine.specs.Replicas.{last_view, most_entries, commands, is_normal, is_changing, is_rejoining, leads}
 use Rattle.nz_machine.specs.Views.{most_quiet, in_view_change}
 use Rattle.nz_machine.specs.Parts.{since_counted}
 use Rattle.nz_machine.specs.Taking.{with_parts}
 use Rattle.nz_machine.specs.Adopting.{with_log, normal_in}
-use Rattle.nz_machine.specs.Begins.{changes_of, after_begin, begin}
+use Rattle.nz_machine.specs.Begins.{report_of, with_report, without_strays, changes_of, after_begin, begin}
 use Rattle.nz_machine.specs.Rejoining.{rejoin_period, restarted_replica}
 use Rattle.nz_machine.proofs.Keeping.{restarted_has_facts}
-use Rattle.nz_machine.proofs.Words.{quiet_keeps, since_keeps, counted_low, enter_keeps, start_keeps, begin_keeps, merged_carried}
+use Rattle.nz_machine.proofs.Words.{quiet_keeps, since_keeps, counted_low, enter_keeps, start_keeps, begin_keeps, collect_keeps, strays_keep}
 
 -- a state with the same mode, view and log
 pub kept_facts : (f me : ℕ) (s t : ReplicaData) (store : Entries) → IsKept f me s store → HasFacts f me t → t.status ≡ s.status → t.view ≡ s.view → t.log ≡ s.log → IsKept f me t store
@@ -123,3 +124,14 @@ kept_restarted f me nonce s store member small is = record {
   facts = subst (HasFacts f me) (sym is) (restarted_has_facts f me nonce small);
   store = λ n l. subst (λ (t : ReplicaData). IsTrue (is_normal t.status) → store ≡ store_after (commands s.log.entries)) (sym is) (λ (h : IsTrue (is_normal Rejoining)). absurd cc) n;
 }
+
+-- ---- reports
+
+pub kept_strays : (f me : ℕ) (s : ReplicaData) (store : Entries) (collected : List Reported) → IsKept f me s store → collected ≡ (without_strays s).changes → IsKept f me (record s { changes = collected }) store
+kept_strays f me s store collected k is =
+    kept_facts f me s (record s { changes = collected }) store k (subst (λ (cs : List Reported). HasFacts f me (record s { changes = cs })) (sym is) (strays_keep f me s k.facts)) refl refl refl
+
+pub kept_collect : (f me : ℕ) (s : ReplicaData) (store : Entries) (sender : ℕ) (b : ViewChangeBody) (collected : List Reported) → IsKept f me s store → FitsReport f me (report_of sender b)
+    → collected ≡ (with_report s sender b).changes → IsKept f me (record s { changes = collected }) store
+kept_collect f me s store sender b collected k fit is =
+    kept_facts f me s (record s { changes = collected }) store k (subst (λ (cs : List Reported). HasFacts f me (record s { changes = cs })) (sym is) (collect_keeps f me s sender b k.facts fit)) refl refl refl

@@ -1,6 +1,6 @@
 //! What a replica collects of the others, and what it does with a whole log.
 
-ghost use Rattle.std.specs.Prelude.{◌≡◌, ◌∷◌, ◌++◌, [], ◌==◌, not, length, map, filter, slice_index, if◌then◌else◌, IfOk, OnOk, OnErr};
+ghost use Rattle.std.specs.Prelude.{◌≡◌, ◌∷◌, ◌++◌, [], ◌==◌, not, length, map, filter, replicate, slice_index, if◌then◌else◌, IfOk, OnOk, OnErr};
 ghost use Rattle.std.specs.List.{list_any};
 ghost use Rattle.nz_cv.specs.Vectors.{is_stray as is_stray_in};
 ghost use Rattle.nz_log.specs.Synced.{left_out};
@@ -54,6 +54,13 @@ pub fn replace_report(changes: &mut Vec<Reported>, reported: Reported) -> Result
     changes.retain(|r| r.change.sender != sender);
     changes.push_reserved(reported);
     Ok(())
+}
+
+/// No replica has reported how far its log agrees.
+pub fn clear_reports(ack: &mut Vec<u32>)
+    ensures { ack.new.items ≡ replicate (length ack.old.items) 0 }
+{
+    ack.as_mut_slice().fill(0);
 }
 
 /// Drops the reports that the vector makes stray.

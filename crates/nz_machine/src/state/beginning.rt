@@ -2,19 +2,21 @@
 
 ghost use Rattle.std.specs.Prelude.{◌≡◌, ◌<◌, ◌==◌, not, nat_lt, length, IsFalse, IfOk, OnOk};
 ghost use Rattle.nz_base.specs.Cluster.{replica_count};
-ghost use Rattle.nz_merge.specs.Merged.{merged};
+ghost use Rattle.nz_merge.specs.Merged.{AreFit, merged};
 ghost use Rattle.nz_msg.specs.Messages.{view_change};
+ghost use Rattle.nz_machine.specs.Facts.{IsCarried};
 ghost use Rattle.nz_machine.specs.Replicas.{most_entries};
-ghost use Rattle.nz_machine.specs.Begins.{with_report, without_strays, changes_of, begin as begin_of};
+ghost use Rattle.nz_machine.specs.Begins.{with_report, without_strays, changes_of, after_begin, begin as begin_of};
 
 use super::super::collecting::{
-    adopt, all_changes, drop_stray_reports, execute_all, greatest_commit, replace_report,
+    adopt, all_changes, clear_reports, drop_stray_reports, execute_all, greatest_commit,
+    replace_report,
 };
 use super::super::data::{Reported, Status};
 use super::{ReplicaState, forget};
-use nz_base::{NoMemory, TryCopy};
+use nz_base::{EntryList, NoMemory, TryCopy};
 use nz_log::MAX_ENTRIES;
-use nz_merge::{Change, merge};
+use nz_merge::{Change, ViewChanges, merge};
 use nz_msg::ViewChangeBody;
 
 impl ReplicaState {
@@ -49,10 +51,10 @@ impl ReplicaState {
         Ok(self.parts.changes.len())
     }
 
-    /// The leader begins its view with the merged log. Whether a log has room for it.
-    pub fn begin(&mut self) -> Result<bool, NoMemory>
-        ensures state { OnOk result (self.new ≡ record self.old { state = (begin_of self.old.f self.old.me self.old.state).0 }) }
-        ensures begun { IfOk result (λ begun. begun ≡ not (nat_lt most_entries (length (merged self.old.f (changes_of self.old.me self.old.state))))) }
+    /// The reports that the view begins from: the replica's own, and the collected ones.
+    fn changes(&self) -> Result<ViewChanges, NoMemory>
+        ensures value { IfOk result (λ changes. changes ≡ changes_of self.now.me self.now.state) }
+        ensures fit { IfOk result AreFit }
     {
         let own = Change {
             sender: self.parts.me,
@@ -62,11 +64,15 @@ impl ReplicaState {
             log: self.parts.log.entries()?,
         };
         let changes = all_changes(self.parts.alloc, own, &self.parts.changes)?;
-        let log = merge(self.parts.alloc, self.parts.cluster, &changes)?;
-        if log.len() > MAX_ENTRIES {
-            return Ok(false);
-        }
-        let commit = greatest_commit(changes.as_slice()).min(log.len());
+        Ok(changes)
+    }
+
+    /// The view begins with the log, all of it executed, of which so many entries are committed if it has them.
+    fn begin_with(&mut self, log: EntryList, commit: u32) -> Result<(), NoMemory>
+        requires { IsCarried log }
+        ensures { OnOk result (self.new ≡ record self.old { state = after_begin self.old.f self.old.state log commit }) }
+    {
+        let commit = commit.min(log.len());
         let (store, results) = execute_all(self.parts.alloc, log.as_slice())?;
         match adopt(
             &mut self.parts.log,
@@ -81,13 +87,27 @@ impl ReplicaState {
                 self.parts.quiet = 0;
                 self.parts.store = store;
                 self.parts.results = results;
-                self.parts.ack.as_mut_slice().fill(0);
-                Ok(true)
+                clear_reports(&mut self.parts.ack);
+                Ok(())
             }
             Err(error) => {
                 forget(&mut self.parts);
                 Err(error)
             }
         }
+    }
+
+    /// The leader begins its view with the merged log. Whether a log has room for it.
+    pub fn begin(&mut self) -> Result<bool, NoMemory>
+        ensures state { OnOk result (self.new ≡ record self.old { state = (begin_of self.old.f self.old.me self.old.state).0 }) }
+        ensures begun { IfOk result (λ begun. begun ≡ not (nat_lt most_entries (length (merged self.old.f (changes_of self.old.me self.old.state))))) }
+    {
+        let changes = self.changes()?;
+        let log = merge(self.parts.alloc, self.parts.cluster, &changes)?;
+        if log.len() > MAX_ENTRIES {
+            return Ok(false);
+        }
+        self.begin_with(log, greatest_commit(changes.as_slice()))?;
+        Ok(true)
     }
 }

@@ -1,0 +1,26 @@
+use Rattle.std.proofs.Common.{◌≡◌, ◌<◌, ◌==◌, not, IsFalse, List, [], ◌∷◌, ◌++◌, length, eq-eqb, sym, ap, subst, ◌∙◌}
+use Rattle.std.specs.List.{filter}
+use Rattle.nz_base.specs.Cluster.{replica_count}
+use Rattle.nz_base.specs.declared.key.Entry.{Entry}
+use Rattle.nz_machine.specs.declared.data.Reported.{Reported}
+use Rattle.nz_machine.specs.State.{ReplicaData}
+use Rattle.nz_machine.specs.Facts.{ReplicaModel}
+use Rattle.nz_machine.specs.Parts.{data_of}
+use Rattle.nz_machine.proofs.Fields.{vector_counts}
+use Rattle.nz_machine.proofs.MoveFacts.{report_fits}
+use Rattle.nz_machine.proofs.Calls.{kept_collect}
+use Rattle.nz_machine.proofs.state.ReplicaState.collect.Goals as goal
+
+pub invariant_of-self-2 : goal.invariant_of-self-2
+invariant_of-self-2 c =
+    let s : ReplicaData = data_of c.self.inside.parts in
+    let b = c.args.body.now in
+    let sender = c.args.sender in
+    let long = subst (λ (v : ReplicaModel). length b.vector ≡ replica_count v.f) (sym c.self.view_is) c.requires.vector in
+    let counters = vector_counts _ b.vector c.requires.fits.1.1.0 (eq-eqb (length b.vector) _ long) in
+    let fit = report_fits c.self.inside.parts.cluster c.self.inside.parts.me sender b
+    (subst (λ (v : ReplicaModel). sender < replica_count v.f) (sym c.self.view_is) c.requires.sender)
+    (subst (λ (v : ReplicaModel). IsFalse (sender == v.me)) (sym c.self.view_is) c.requires.other) c.requires.fits counters in
+    kept_collect c.self.inside.parts.cluster c.self.inside.parts.me s c.self.inside.parts.store sender b c.replace_report.new.changes.items c.self.invariant fit
+    (c.in_ok-replace_report.ensures.ok
+    ∙ ap (λ (es : List Entry). filter (λ (r : Reported). not (r.change.sender == sender)) s.changes ++ record { vector = b.vector; change = record { sender = sender; last = b.last; synced = b.synced; commit = b.commit; log = es } } ∷ []) c.in_ok-copy.ensures)
