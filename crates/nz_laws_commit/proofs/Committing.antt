@@ -29,7 +29,7 @@ use Rattle.nz_laws_commit.specs.Supports.{Support}
 use Rattle.nz_laws_commit.specs.Instance.{states_of, logs_of}
 use Rattle.nz_laws_commit.proofs.RunLaws.{RunLaws}
 use Rattle.nz_laws_commit.proofs.OneView.{run_laws}
-use Rattle.nz_laws_commit.proofs.Prefixes.{in_later_starts, pairs}
+use Rattle.nz_laws_commit.proofs.LaterStarts.{in_later_starts, pairs}
 use Rattle.nz_laws_commit.proofs.FactsStay.{facts_stay}
 use Rattle.nz_laws_commit.proofs.Instance.{normal_in_is, normal_status, normal_up_status, led_log, led_leads, lead_is, start_is}
 use Rattle.nz_laws_commit.proofs.Keyed.{WereSent, keyed_prefix, keyed_comparable, start_sent, lead_sent}

@@ -2,7 +2,7 @@ pub mod RunLaws
 pub mod Closing
 pub mod OneView
 pub mod Reports
-pub mod Prefixes
+pub mod LaterStarts
 pub mod Deciding
 pub mod FourRecords
 pub mod Instance
@@ -27,3 +27,4 @@ pub mod Committing
 pub mod TurnDoes
 pub mod Begun
 pub mod Following
+pub mod Whole

@@ -1,16 +1,56 @@
-//! The laws of what is supported, of every run that follows the rules.
+//! The laws of what is supported, of every run that follows the rules, and that every run of the machine does.
 
-ghost use Rattle.std.specs.Prelude.{◌≡◌, ◌≤◌, ◌⊎◌, ℕ, Bool, List, [], ◌∷◌, length, Some, IsTrue};
+ghost use Rattle.std.specs.Prelude.{◌≡◌, ◌≤◌, ◌⊎◌, ℕ, Bool, List, [], ◌∷◌, ◌++◌, length, Some, IsTrue};
 ghost use Rattle.nz_base.specs.declared.key.Key.{Key};
 ghost use Rattle.nz_base.specs.Moments.{At};
 ghost use Rattle.nz_base.specs.Cluster.{leader_of};
-ghost use Rattle.nz_base.specs.Prefixes.{Comparable};
+ghost use Rattle.nz_base.specs.Prefixes.{IsPrefix, Comparable};
+ghost use Rattle.nz_base.specs.declared.actor.Actor.TheVariants.{Replica};
 ghost use Rattle.nz_math.specs.Count.{count_below};
 ghost use Rattle.nz_math.specs.Quorum.{group_size, slow_quorum, fast_quorum};
+ghost use Rattle.nz_store.specs.Sequence.{replies};
+ghost use Rattle.nz_log.specs.Synced.{synced_part};
+ghost use Rattle.nz_machine.specs.declared.event.Record.{Record};
+ghost use Rattle.nz_machine.specs.State.{Group};
+ghost use Rattle.nz_machine.specs.Replicas.{commands};
+ghost use Rattle.nz_machine.specs.World.{state_after, World};
+ghost use Rattle.nz_machine.specs.OneHistory.{NoCollision};
+ghost use Rattle.nz_machine.specs.Leading.{is_normal_in, leader_at, is_led, lead};
+ghost use Rattle.nz_machine.specs.Committed.{Prefixes};
 ghost use Rattle.nz_laws_commit.specs.Supports.{HadSynced, FastReplied, IsLedAt, Support, InLaterStarts};
 ghost use Rattle.nz_laws_commit.specs.Machines.{GroupStates, machine_of, start_of};
 ghost use Rattle.nz_laws_commit.specs.Does.{FollowsRules};
+ghost use Rattle.nz_laws_commit.specs.Instance.{states_of};
 ghost use Rattle.nz_laws_commit.specs.Example as example;
+
+/// In every run of the machine, whoever crashes and rejoins, what was accepted in a view is what each later
+/// view starts with, and of two accepted prefixes one begins with the other.
+pub fn prefixes()
+    ensures { (g : Group) (J : List Record) → World g J → NoCollision g J → Prefixes g J }
+{}
+
+/// Every run of the machine follows the rules that the laws of what is supported ask for.
+pub fn rules_are_followed()
+    ensures { (g : Group) (J : List Record) → World g J → FollowsRules (states_of g) J }
+{}
+
+/// The log that the leader of a view leads with only grows.
+pub fn leader_log_grows()
+    ensures { (g : Group) (newer J : List Record) (v : ℕ) → World g (newer ++ J) → IsPrefix (lead g v J) (lead g v (newer ++ J)) }
+{}
+
+/// The answers of a leader are those of one store that executes its log.
+pub fn leader_executes_its_log()
+    ensures { (g : Group) (J : List Record) (v : ℕ) → World g J → IsTrue (is_led g v J)
+        → (leader_at g v J).results ≡ replies (commands (lead g v J)) }
+{}
+
+/// The synced part of the log of a replica in normal operation is a prefix of the log that the leader of its
+/// view leads with.
+pub fn synced_parts_are_the_leaders()
+    ensures { (g : Group) (J : List Record) (r v : ℕ) → World g J → IsTrue (is_normal_in v (state_after g (Replica r) J))
+        → IsPrefix (synced_part (state_after g (Replica r) J).log) (lead g v J) }
+{}
 
 /// What is supported in a view is what each later view begins with, also where the support is complete
 /// only after that view has begun; and what is supported stays so as the run goes on.

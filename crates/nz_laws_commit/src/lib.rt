@@ -1,9 +1,10 @@
 //! What is supported in a view stays: each later view begins with it. Laws over an abstract machine, from
-//! premises on its rules, its begins and its rejoins.
+//! premises on its rules, its begins and its rejoins, which every run of the machine has.
 #![tactic(auto)]
 
 mod laws;
 
 pub use laws::{
-    a_run_follows_the_rules, quorums_support, supported_stays, supports_are_comparable,
+    a_run_follows_the_rules, leader_executes_its_log, leader_log_grows, prefixes, quorums_support,
+    rules_are_followed, supported_stays, supports_are_comparable, synced_parts_are_the_leaders,
 };

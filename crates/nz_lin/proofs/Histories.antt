@@ -23,6 +23,7 @@ use Rattle.nz_machine.specs.Step.{received, envelope_step, event_step}
 use Rattle.nz_machine.specs.World.{state_after, Has, MayHappen, World}
 use Rattle.nz_machine.specs.Events.{Told, Sent, Accepted, id_at, told_by, events}
 use Rattle.nz_machine.specs.History.{source_of_sender, prefix_at_source, accepted_prefix, entries_or, prefix_in, longer, history}
+use Rattle.nz_machine.specs.Quorums.{view_of}
 use Rattle.nz_machine.specs.OneHistory.{Precedes, IsAccepted}
 use Rattle.nz_machine.proofs.Runs.{acts_itself, delivered, has_left, has_right, has_split}
 use Rattle.nz_machine.specs.Replicas.{most_entries}
@@ -39,8 +40,9 @@ use Rattle.nz_laws_commit.proofs.Heard.{told_at}
 use Rattle.nz_laws_commit.proofs.FactsStay.{facts_stay}
 use Rattle.nz_laws_commit.proofs.Answering.{IsGiven, given_later}
 use Rattle.nz_laws_commit.proofs.Notes.{delivers}
-use Rattle.nz_laws_commit.proofs.AnswersSent.{LeadsBack, answer_source}
+use Rattle.nz_laws_commit.proofs.Accepted.{Gives, gives, accepted_given, given_sent, given_own, given_few}
 use Rattle.nz_machine.proofs.Accepting.{IsAnswerTo, client_accepts}
+use Rattle.nz_laws_commit.proofs.Counts.{precedes_has, precedes_three}
 use Rattle.nz_laws_commit.proofs.Tells.{AcceptsAnswer, told_sent, told_accepted, not_sent_before}
 use Rattle.nz_laws_commit.proofs.Asked.{WasSent, own_command}
 

@@ -1,4 +1,4 @@
--- Where accepted prefixes are paired, the accepted answers are those of one store that executes the history.
+-- Accepted prefixes are paired, so the accepted answers are those of one store that executes the history.
 use Rattle.std.proofs.Common.{◌≡◌, ◌≤◌, List, length, sym, subst, inl, inr, arith}
 use Rattle.nz_base.specs.declared.key.Id.{Id}
 use Rattle.nz_base.specs.declared.key.Entry.{Entry}
@@ -9,9 +9,10 @@ use Rattle.nz_machine.specs.State.{Group}
 use Rattle.nz_machine.specs.World.{Has, World}
 use Rattle.nz_machine.specs.Events.{events}
 use Rattle.nz_machine.specs.History.{history}
-use Rattle.nz_machine.specs.OneHistory.{StandsBefore, IsAnswered, Lin, IsAccepted, ArePaired}
+use Rattle.nz_machine.specs.OneHistory.{StandsBefore, IsAnswered, Lin, IsAccepted, ArePaired, NoCollision}
 use Rattle.nz_base.specs.Prefixes.{IsPrefix}
 use Rattle.nz_base.proofs.Prefixes.{prefix_none, shorter_comparable}
+use Rattle.nz_laws_commit.proofs.Whole.{prefixes}
 use Rattle.nz_laws_commit.proofs.Places.{place_more, place_in, answered_more, absent_place, has_place}
 use Rattle.nz_lin.proofs.Histories.{IsCovered, IsBefore, IsHistory, history_is, history_sent, history_own}
 
@@ -52,3 +53,6 @@ history_of_pairs g J w pairs =
       answered = λ id a path told. answered g J pairs h id a (h.covers id a path told);
       in_order = λ a b answer path command before. ordered g J pairs h a b answer (h.in_order a answer path b command before);
     }
+
+pub one_history : (g : Group) (J : List Record) → World g J → NoCollision g J → Lin (events g J) (history g J)
+one_history g J w apart = history_of_pairs g J w (prefixes g J w apart).paired

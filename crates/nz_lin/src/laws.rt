@@ -1,22 +1,16 @@
-ghost use Rattle.std.specs.Prelude.{◌≡◌, ℕ, List, ◌++◌, IsTrue};
+ghost use Rattle.std.specs.Prelude.{ℕ, List};
 ghost use Rattle.nz_base.specs.Key.{id_of};
 ghost use Rattle.nz_base.specs.declared.actor.Actor.TheVariants.{Replica};
 ghost use Rattle.nz_base.specs.declared.key.Entry.{Entry};
-ghost use Rattle.nz_store.specs.Sequence.{replies};
-ghost use Rattle.nz_log.specs.Synced.{synced_part};
-ghost use Rattle.nz_machine.specs.declared.data.Status.TheVariants.{Normal};
 ghost use Rattle.nz_machine.specs.declared.event.Parcel.{Parcel};
 ghost use Rattle.nz_machine.specs.declared.event.Record.{Record};
 ghost use Rattle.nz_machine.specs.State.{Group};
 ghost use Rattle.nz_machine.specs.Facts.{HasFacts};
-ghost use Rattle.nz_machine.specs.Replicas.{commands};
 ghost use Rattle.nz_machine.specs.World.{state_after, sent_in, Has, World};
 ghost use Rattle.nz_machine.specs.Events.{Sent, events};
 ghost use Rattle.nz_machine.specs.History.{log_at, history};
 ghost use Rattle.nz_machine.specs.OneHistory.{Lin, NoCollision, ArePaired};
 ghost use Rattle.nz_lin.specs.Laws.{IsDecoded};
-ghost use Rattle.nz_machine.specs.Leading.{is_normal_in, leader_at, is_led, lead};
-ghost use Rattle.nz_base.specs.Prefixes.{IsPrefix};
 ghost use Rattle.nz_laws_commit.specs.Once.{AreOnce};
 ghost use Rattle.nz_lin.specs.Replied.{replied_lists, AreApart};
 ghost use Rattle.nz_lin.specs.Snapshots.{IsSnapshot};
@@ -24,12 +18,6 @@ ghost use Rattle.nz_lin.specs.Snapshots.{IsSnapshot};
 /// Each parcel that was sent is decoded as one message, from its sender to its receiver.
 pub fn each_parcel_decodes()
     ensures { (g : Group) (J : List Record) (parcel : Parcel) → World g J → Has (sent_in J) parcel → IsDecoded parcel }
-{}
-
-/// Each replica stays in normal operation, and in view zero.
-pub fn views_stay()
-    ensures view { (g : Group) (J : List Record) (r : ℕ) → World g J → (state_after g (Replica r) J).view ≡ 0 }
-    ensures status { (g : Group) (J : List Record) (r : ℕ) → World g J → (state_after g (Replica r) J).status ≡ Normal }
 {}
 
 /// Each replica's state has its facts.
@@ -40,23 +28,6 @@ pub fn facts_stay()
 /// Each message that was sent is read off its sender's states before and after the record that first sent it.
 pub fn messages_are_snapshots()
     ensures { (g : Group) (J : List Record) (parcel : Parcel) → World g J → Has (sent_in J) parcel → IsSnapshot g J parcel }
-{}
-
-/// The log that the leader of a view leads with only grows.
-pub fn leader_log_grows()
-    ensures { (g : Group) (newer J : List Record) (v : ℕ) → World g (newer ++ J) → IsPrefix (lead g v J) (lead g v (newer ++ J)) }
-{}
-
-/// The answers of a leader are those of one store that executes its log.
-pub fn leader_executes_its_log()
-    ensures { (g : Group) (J : List Record) (v : ℕ) → World g J → IsTrue (is_led g v J)
-        → (leader_at g v J).results ≡ replies (commands (lead g v J)) }
-{}
-
-/// The synced part of a replica's log is a prefix of the log that the leader of its view leads with.
-pub fn synced_parts_are_the_leaders()
-    ensures { (g : Group) (J : List Record) (r v : ℕ) → World g J → IsTrue (is_normal_in v (state_after g (Replica r) J))
-        → IsPrefix (synced_part (state_after g (Replica r) J).log) (lead g v J) }
 {}
 
 /// Each entry in the log of a replica was sent by its client before, with this command.
@@ -83,13 +54,8 @@ pub fn history_of_paired_prefixes()
     ensures { (g : Group) (J : List Record) → World g J → ArePaired g J → Lin (events g J) (history g J) }
 {}
 
-/// In every run of any two accepted prefixes one begins with the other.
-pub fn accepted_prefixes_are_paired()
-    ensures { (g : Group) (J : List Record) → World g J → ArePaired g J }
-{}
-
-/// In every run, whatever was lost, repeated, reordered or cut, whatever clocks read and whichever proxies
-/// crash, the answers that clients accepted are those of one store that executes the history.
+/// In every run, whatever was lost, repeated, reordered or cut, whatever clocks read and whoever crashes and
+/// rejoins, the answers that clients accepted are those of one store that executes the history.
 pub fn one_history()
     ensures { (g : Group) (J : List Record) → World g J → NoCollision g J → Lin (events g J) (history g J) }
 {}

@@ -1,7 +1,7 @@
 use Rattle.nz_laws_commit.specs.Machines.{machine_of}
 use Rattle.nz_laws_commit.proofs.Deciding.{support_stays}
 use Rattle.nz_laws_commit.proofs.OneView.{run_laws}
-use Rattle.nz_laws_commit.proofs.Prefixes.{in_later_starts}
+use Rattle.nz_laws_commit.proofs.LaterStarts.{in_later_starts}
 use Rattle.nz_laws_commit.proofs.laws.supported_stays.Goals as goal
 
 pub returns-clause-starts : goal.returns-clause-starts

@@ -1,6 +1,6 @@
 use Rattle.nz_laws_commit.specs.Machines.{machine_of}
 use Rattle.nz_laws_commit.proofs.OneView.{run_laws}
-use Rattle.nz_laws_commit.proofs.Prefixes.{pairs}
+use Rattle.nz_laws_commit.proofs.LaterStarts.{pairs}
 use Rattle.nz_laws_commit.proofs.laws.supports_are_comparable.Goals as goal
 
 pub returns : goal.returns

@@ -1,4 +1,4 @@
-use Rattle.nz_lin.proofs.Pairs.{one_history}
+use Rattle.nz_lin.proofs.OneHistory.{one_history}
 use Rattle.nz_lin.proofs.laws.one_history.Goals as goal
 
 pub returns : goal.returns
