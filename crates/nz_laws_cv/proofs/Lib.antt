@@ -26,3 +26,4 @@ pub mod Beginnings
 pub mod Known
 pub mod Returning
 pub mod BegunLogs
+pub mod WorkedRejoin
