@@ -184,7 +184,7 @@ asked_fit s xs log all few =
 
 -- ---- whole states
 
-own_log : (f me : ℕ) (least : ℕ) (s : ReplicaData) → HasFacts f me s → least ≤ length s.log.entries → (entries least 4096).fits s.log.entries
+pub own_log : (f me : ℕ) (least : ℕ) (s : ReplicaData) → HasFacts f me s → least ≤ length s.log.entries → (entries least 4096).fits s.log.entries
 own_log f me least s h low = log_fits least s.log.entries low h.entries.few (led_log f me s h).order (log_each f me s h)
 
 -- what a replica sends of its whole state is in the ranges of frames

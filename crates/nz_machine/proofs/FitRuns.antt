@@ -98,7 +98,7 @@ fits_keep g = record {
   sent_stays = λ J r w a o p. p;
   state_stays = λ J r w a s q. q;
   message = λ J r w from m hears p q now. let t = message_step_fits g r.actor (state_after g r.actor J) from m
-  (group_of g J w.1) w.0.member hears p q in (t.state, t.sends);
+      (group_of g J w.1) w.0.member hears p q in (t.state, t.sends);
   tick = λ J r w c le q now. let t = tick_step_fits g r.actor (state_after g r.actor J) c (group_of g J w.1) w.0.member q in (t.state, t.sends);
   alarm = λ J r w q now. let t = alarm_step_fits g r.actor (state_after g r.actor J) (group_of g J w.1) w.0.member q in (t.state, t.sends);
   crash = λ J r w q now. let t = crash_step_fits g r.actor (state_after g r.actor J) (group_of g J w.1) w.0.member q in (t.state, t.sends);

@@ -35,24 +35,32 @@ unfolding restart_rule
 restart_shows f me heard s nonce =
     let back = restarted_replica f nonce in
     on_cond (Shown f me heard s) (is_down s.status) (back, to_others f me (vector_ask back)) (s, [])
-    (λ _. record { shows = to_each f me (λ (o : Out). ReplicaShows f me heard s back o.0 o.1) (λ r. (Replica r, vector_ask back))
-    (λ r other. record { rejoining = refl; in_phase = refl; receiver = other; read = refl }) })
+    (λ _. record {
+      shows = to_each f me (λ (o : Out). ReplicaShows f me heard s back o.0 o.1) (λ r. (Replica r, vector_ask back))
+          (λ r other. record { rejoining = refl; in_phase = refl; receiver = other; read = refl });
+    })
     (λ _. silent f me heard s s)
 
 ask_views_shows : (f me : ℕ) (heard : Heard) (before s : ReplicaData) → is_rejoining s.status ≡ true → Shown f me heard before (ask_views f me s)
 ask_views_shows f me heard before s rejoining =
     let t = (ask_views f me s).0 in
-    record { shows = to_each f me (λ (o : Out). ReplicaShows f me heard before t o.0 o.1) (λ r. (Replica r, rejoin_ask t))
-    (λ r other. record { rejoining = rejoining; in_phase = refl; receiver = other; read = refl }) }
+    record {
+      shows = to_each f me (λ (o : Out). ReplicaShows f me heard before t o.0 o.1) (λ r. (Replica r, rejoin_ask t))
+          (λ r other. record { rejoining = rejoining; in_phase = refl; receiver = other; read = refl });
+    }
 
 again_shows : (f me : ℕ) (heard : Heard) (before s : ReplicaData) (p : Phase) → is_rejoining s.status ≡ true → s.rejoin.phase ≡ p
     → Shown f me heard before (ask_again p f me s)
 again_shows f me heard before s phases.Vectors rejoining is =
-    record { shows = to_each f me (λ (o : Out). ReplicaShows f me heard before s o.0 o.1) (λ r. (Replica r, vector_ask s))
-    (λ r other. record { rejoining = rejoining; in_phase = ap (λ (p : Phase). is_phase p phases.Vectors) is; receiver = other; read = refl }) }
+    record {
+      shows = to_each f me (λ (o : Out). ReplicaShows f me heard before s o.0 o.1) (λ r. (Replica r, vector_ask s))
+          (λ r other. record { rejoining = rejoining; in_phase = ap (λ (p : Phase). is_phase p phases.Vectors) is; receiver = other; read = refl });
+    }
 again_shows f me heard before s phases.Views rejoining is =
-    record { shows = to_each f me (λ (o : Out). ReplicaShows f me heard before s o.0 o.1) (λ r. (Replica r, rejoin_ask s))
-    (λ r other. record { rejoining = rejoining; in_phase = ap (λ (p : Phase). is_phase p phases.Views) is; receiver = other; read = refl }) }
+    record {
+      shows = to_each f me (λ (o : Out). ReplicaShows f me heard before s o.0 o.1) (λ r. (Replica r, rejoin_ask s))
+          (λ r other. record { rejoining = rejoining; in_phase = ap (λ (p : Phase). is_phase p phases.Views) is; receiver = other; read = refl });
+    }
 again_shows f me heard before s phases.Log rejoining is = ask_views_shows f me heard before s rejoining
 
 pub vector_ask_shows : (f me : ℕ) (s : ReplicaData) (sender : ℕ) (b : VectorAskBody)
@@ -99,8 +107,19 @@ vector_tell_shows f me heard s sender b =
 ask_log_shows : (f me : ℕ) (heard : Heard) (before s : ReplicaData) (view : ℕ) → is_rejoining s.status ≡ true → eqb (leader_of f view) me ≡ false
     → Shown f me heard before (ask_log f s view)
 ask_log_shows f me heard before s view rejoining away =
-    record { shows = (record { rejoining = rejoining; in_phase = refl; receiver = other_is f me (leader_of f view)
-    (leader_below f view) away; to_leader = refl; read = refl }, tt) }
+    record {
+      shows = (
+        record {
+          rejoining = rejoining;
+          in_phase = refl;
+          receiver = other_is f me (leader_of f view)
+              (leader_below f view) away;
+          to_leader = refl;
+          read = refl;
+        },
+        tt,
+      );
+    }
 
 pub rejoin_tell_shows : (f me : ℕ) (heard : Heard) (s : ReplicaData) (sender : ℕ) (b : RejoinTellBody) → Shown f me heard s (rejoin_tell_rule f me s sender b)
 unfolding rejoin_tell_rule

@@ -36,8 +36,17 @@ report_shows : (f me : ℕ) (heard : Heard) (before s : ReplicaData) → is_chan
     → AllShow f me heard before s (to_leader f me s (view_change s))
 report_shows f me heard before s changing =
     on_cond (AllShow f me heard before s) (leads f me s) [] (to_replica (leader f s) (view_change s)) (λ _. tt)
-    (λ away. (record { changing = changing; follows = away; receiver = other_is f me (leader f s)
-    (leader_below f s.view) away; to_leader = refl; read = refl }, tt))
+    (λ away. (
+      record {
+        changing = changing;
+        follows = away;
+        receiver = other_is f me (leader f s)
+            (leader_below f s.view) away;
+        to_leader = refl;
+        read = refl;
+      },
+      tt,
+    ))
 
 changing_up : (a : Status) → is_changing a ≡ true → is_up a ≡ true
 changing_up ViewChange h = refl
@@ -85,8 +94,10 @@ begin_shows f me heard before s lead =
     let begun = after_begin f s log (greatest (map (λ (c : Change). c.commit) changes)) in
     on_cond (Shown f me heard before) (nat_lt most_entries (length log)) (s, []) (begun, to_others f me (start_view begun))
     (λ _. silent f me heard before s)
-    (λ _. record { shows = to_each f me (λ (o : Out). ReplicaShows f me heard before begun o.0 o.1) (λ r. (Replica r, start_view begun))
-    (λ r other. record { normal = refl; led = lead; receiver = other; read = refl }) })
+    (λ _. record {
+      shows = to_each f me (λ (o : Out). ReplicaShows f me heard before begun o.0 o.1) (λ r. (Replica r, start_view begun))
+          (λ r other. record { normal = refl; led = lead; receiver = other; read = refl });
+    })
 
 collect_shows : (f me : ℕ) (heard : Heard) (before : ReplicaData) (sender : ℕ) (b : ViewChangeBody) (s : ReplicaData) → leads f me s ≡ true
     → Shown f me heard before (collect f me sender b s)
@@ -145,9 +156,11 @@ unfolding view_change_rule enter_view
 view_change_shows f me heard s sender b other =
     let kept = without_strays (with_vector me s b.vector) in
     let stay = silent f me heard s s in
-    let anew : eqb (leader_of f b.view) me ≡ true → Shown f me heard s
-    ((collect f me sender b (in_view_change kept b.view)).0, view_calls f me (in_view_change kept b.view) ++
-    (collect f me sender b (in_view_change kept b.view)).1)
+    let anew : eqb (leader_of f b.view) me ≡ true → Shown f me heard s (
+      (collect f me sender b (in_view_change kept b.view)).0,
+      view_calls f me (in_view_change kept b.view) ++
+          (collect f me sender b (in_view_change kept b.view)).1,
+    )
     = λ lead. entered_shows f me heard s sender b (in_view_change kept b.view) lead refl in
     let going : leads f me s ≡ true → Shown f me heard s (collect f me sender b kept) = λ lead. collect_shows f me heard s sender b kept lead in
     let answer : leads f me s ≡ true → is_normal s.status ≡ true

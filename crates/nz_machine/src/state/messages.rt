@@ -35,6 +35,8 @@ impl ReplicaState {
         requires { Fits message.now }
         ensures { OnOk result (sends.new ≡ sends.old ++ map (parcel (IsReplica self.now.me)) (to_others self.now.f self.now.me message.now)) }
     {
+        // f is at most 4, so each number is at most 8.
+        let _most = self.parts.cluster.f();
         for replica in 0..self.parts.cluster.n() {
             if replica != self.parts.me {
                 self.send_to(replica, message, sends)?;
@@ -74,6 +76,8 @@ impl ReplicaState {
         if self.leads() {
             return Ok(());
         }
+        // f is at most 4, so the leader's number is at most 8.
+        let _most = self.parts.cluster.f();
         let report = self.view_change()?;
         self.send_to(self.parts.cluster.leader(self.parts.view), &report, sends)
     }
