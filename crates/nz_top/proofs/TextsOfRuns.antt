@@ -28,7 +28,7 @@ use Rattle.nz_machine.proofs.Each.{all_append}
 use Rattle.nz_machine.proofs.Pieces.{all_map, all_flat_map}
 use Rattle.nz_machine.proofs.FitRuns.{FitsState, all_fit}
 use Rattle.nz_machine.proofs.FitClients.{client_of}
-use Rattle.nz_lin.proofs.Counts.{are_once}
+use Rattle.nz_laws_commit.proofs.Counts.{are_once}
 use Rattle.nz_lin.proofs.Histories.{history_is, history_sent, history_few}
 use Rattle.nz_text.specs.declared.printed.Event.{Event}
 use Rattle.nz_text.specs.declared.printed.Event.TheVariants.{Send, Accept}

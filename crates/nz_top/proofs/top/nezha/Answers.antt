@@ -1,6 +1,6 @@
 use Rattle.std.proofs.lemmas.Option.{IfSome_then}
 use Rattle.nz_machine.specs.Journals.{group_in, run_in}
-use Rattle.nz_lin.proofs.Pairs.{one_history}
+use Rattle.nz_lin.proofs.OneHistory.{one_history}
 use Rattle.nz_top.proofs.Inputs.{line_told}
 use Rattle.nz_top.proofs.top.nezha.Goals as goal
 
