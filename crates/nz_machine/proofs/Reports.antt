@@ -11,8 +11,8 @@ use Rattle.std.proofs.lemmas.List.Sorted.{IsNonDecreasingBy-from_sort}
 use Rattle.nz_base.proofs.Booleans.{cases_bool}
 use Rattle.nz_window.specs.Samples.{in_order}
 use Rattle.nz_window.proofs.Order.{in_order-unique}
-use Rattle.nz_machine.specs.Replicas.{numbers_below}
-use Rattle.nz_machine.specs.LogMods.{others, reported}
+use Rattle.nz_machine.specs.Replicas.{numbers_below, others}
+use Rattle.nz_machine.specs.LogMods.{reported}
 
 abbrev pub gathered : ℕ → List ℕ → ℕ → List ℕ
 gathered me ack n = map (slice_index ack) (filter (λ r. not (r == me)) (numbers_below n))

@@ -10,6 +10,7 @@ invariant_of-result c =
       status = Normal;
       clock = 0;
       view = 0;
+      last = 0;
       log = c.new.ensures i;
       commit = 0;
       results = c.new-2.ensures.items i;
@@ -17,6 +18,10 @@ invariant_of-result c =
       early = c.new-4.ensures i;
       late = c.new-5.ensures i;
       origin = c.new-6.ensures.empty i;
+      quiet = 0;
+      since = 0;
+      changes = c.new-7.ensures.items i;
+      rejoin = c.first_rejoin.ensures i;
       ack = (c.in_ok-ack.ensures.items_if_clones_equal (λ y h. h) ∙ ap (λ n. replicate n 0) c.n.ensures) i;
     })
     c.new-3.ensures
