@@ -1,5 +1,5 @@
--- A view of the machine begins once, with the merge of the reports of different members.
-use Rattle.std.proofs.Common.{◌≡◌, ℕ, suc, ◌≤◌, ◌<◌, Bool, eqb, true, false, cond, List, [], ◌∷◌, length, map, Option, Some, None, refl, sym, ap, subst, ◌∙◌, inl, inr, ◌⊎◌, arith, eqb-true}
+-- A view of the machine begins with the merge of the reports of different members.
+use Rattle.std.proofs.Common.{◌≡◌, ℕ, suc, ◌≤◌, ◌<◌, true, false, List, [], ◌∷◌, length, map, Option, Some, None, refl, sym, ap, subst, ◌∙◌, inl, inr, arith}
 use Rattle.std.specs.List.{AllByRecursion}
 use Rattle.std.specs.Option.{option_map}
 use Rattle.std.proofs.lemmas.List.Elements.{All-from_recursion}
@@ -9,8 +9,7 @@ use Rattle.nz_base.specs.Log.{keys_of}
 use Rattle.nz_base.specs.Moments.{At}
 use Rattle.nz_base.specs.declared.key.Key.{Key}
 use Rattle.nz_base.specs.declared.key.Entry.{Entry}
-use Rattle.nz_base.proofs.Booleans.{cases_bool, and_both}
-use Rattle.nz_base.proofs.Moments.{at_self, at_shorter, at_then}
+use Rattle.nz_base.proofs.Moments.{at_then}
 use Rattle.nz_math.specs.Count.{IsChoice}
 use Rattle.nz_math.specs.Quorum.{group_size}
 use Rattle.nz_merge.specs.declared.change.Change.{Change}
@@ -18,94 +17,23 @@ use Rattle.nz_merge.specs.Sender.{senders}
 use Rattle.nz_machine.specs.declared.data.Reported.{Reported}
 use Rattle.nz_machine.specs.declared.event.Record.{Record}
 use Rattle.nz_machine.specs.State.{Group}
-use Rattle.nz_machine.specs.Replicas.{is_normal, is_rejoining}
 use Rattle.nz_machine.specs.Begins.{own_change}
 use Rattle.nz_machine.specs.World.{Has, World}
-use Rattle.nz_machine.specs.Incarnations.{replica_at, completes}
+use Rattle.nz_machine.specs.Incarnations.{replica_at}
 use Rattle.nz_machine.specs.Leading.{leader_at, is_led}
-use Rattle.nz_machine.specs.Begun.{begins, earlier_or, start, IsMemberOf}
+use Rattle.nz_machine.specs.Begun.{begins, start, IsMemberOf}
 use Rattle.nz_machine.proofs.Moments.{at_world}
 use Rattle.nz_laws_cv.proofs.TurnRules.{changing_up}
 use Rattle.nz_laws_cv.proofs.Passing.{sound_at}
 use Rattle.nz_laws_cv.proofs.Showing.{shows}
 use Rattle.nz_laws_cv.proofs.Changes.{reporter}
-use Rattle.nz_laws_cv.proofs.ViewNotions.{Begins, Completes}
 use Rattle.nz_laws_cv.proofs.Beginnings.{normal_in_is as leads_in, turning_is, choice_is, full_is}
 use Rattle.nz_laws_cv.proofs.BegunLogs.{IsBegunLog, begun_log_is, report_is_read}
 use Rattle.nz_laws_cv.proofs.Known.{has_views}
-use Rattle.nz_laws_commit.specs.Supports.{IsNormal}
-use Rattle.nz_laws_commit.specs.Machines.{start_of}
 use Rattle.nz_laws_commit.specs.Premises.{CompletesRejoin, IsMemberReport, IsMergeOfReports}
-use Rattle.nz_laws_commit.specs.Instance.{states_of, logs_of}
-use Rattle.nz_laws_commit.proofs.Instance.{normal_status, status_normal, up_status, status_rejoining, normal_up_status, inc_is, start_is, is_normal_at}
-
--- ---- where a view began
-
--- the moment at which the view began with the log
-pub record BeganWith (g : Group) (w : ℕ) (J : List Record) (S : List Entry) : Type 0 where
-  pub moment : List Record
-  pub at : At J moment
-  pub is : begins g w moment ≡ true
-  pub log : (leader_at g w moment).log.entries ≡ S
-
-first_or : (o : Option (List Entry)) (b : Bool) (log S : List Entry) → earlier_or o (cond b (Some log) None) ≡ Some S
-    → (o ≡ Some S) ⊎ ((b ≡ true) × (log ≡ S))
-first_or (Some T) b log S e = inl e
-first_or None true log S e = inr (refl, same_Some log S e)
-first_or None false log S e = absurd (none-some S e)
-
-none_first : (b : Bool) (S : List Entry) → b ≡ false → cond b (Some []) None ≡ Some S → ⊥
-none_first true S h e = cc
-none_first false S h e = none-some S e
-
-pub start_began : (g : Group) (w : ℕ) (J : List Record) (S : List Entry) → 0 < w → start g w J ≡ Some S → BeganWith g w J S
-unfolding start
-start_began g w [] S some e = elim (cases_bool (eqb w 0)) [
-  | inl first ↦ absurd (let is = eqb-true w 0 first in omega (arith, is, some))
-  | inr later ↦ absurd (none_first (eqb w 0) S later e)
-]
-start_began g w (r ∷ J) S some e =
-    elim (first_or (start g w J) (begins g w (r ∷ J)) (leader_at g w (r ∷ J)).log.entries S e) [
-      | inl before ↦ let old = start_began g w J S some before in record { moment = old.moment; at = inr old.at; is = old.is; log = old.log }
-      | inr now ↦ record { moment = r ∷ J; at = at_self (r ∷ J); is = now.0; log = now.1 }
-    ]
-
--- a view that begins now had not begun
-not_begun : (g : Group) (J : List Record) → World g J → (w : ℕ) (r : Record) (K : List Record) → At J (r ∷ K) → Begins g J w (r ∷ K)
-    → (o : Option (List Entry)) → start g w K ≡ o → start_of (states_of g) w K ≡ None
-not_begun g J world w r K at b None is = start_is g w K ∙ ap (λ (o : Option (List Entry)). option_map keys_of o) is
-not_begun g J world w r K at b (Some S) is =
-    let old = start_began g w K S b.later is in
-    let once = (has_views g J world).once w old.moment (r ∷ K) (record { at = at_older J r K old.moment at old.at; later = b.later; is = old.is }) b in
-    let short = at_shorter K old.moment old.at in
-    let long = ap length once in
-    absurd (omega (arith, short, long))
-  where
-    at_older : (J : List Record) (r : Record) (K L : List Record) → At J (r ∷ K) → At K L → At J L
-    at_older J r K L at older = at_then J (r ∷ K) L at (inr older)
-
--- a leader that is Normal in its view after a record begins it, or was so before
-pub begins_once_of : (g : Group) (J : List Record) → World g J → (v : ℕ) (r : Record) (K : List Record) → At J (r ∷ K)
-    → IsNormal (logs_of g) (leader_of g.f v) v (r ∷ K) → (start_of (states_of g) v K ≡ None) ⊎ IsNormal (logs_of g) (leader_of g.f v) v K
-begins_once_of g J world v r K at n =
-    let normal = status_normal (replica_at g (leader_of g.f v) (r ∷ K)).status n.status in
-    elim ((has_views g J world).begins_once v r K at (record { normal = normal; view = n.view })) [
-      | inl b ↦ inl (not_begun g J world v r K at b (start g v K) refl)
-      | inr was ↦ inr (is_normal_at g (leader_of g.f v) v K was.0.normal was.0.view)
-    ]
-
--- ---- completions
-
-completes_of : (g : Group) (J : List Record) (x : ℕ) (C : List Record) → At J C → CompletesRejoin (logs_of g) x C → Completes g J x C
-completes_of g J x C at c =
-    let before = status_rejoining (replica_at g x c.before).status c.rejoining in
-    let after : is_normal (replica_at g x (c.r ∷ c.before)).status ≡ true =
-    subst (λ (D : List Record). is_normal (replica_at g x D).status ≡ true) c.is (status_normal (replica_at g x C).status c.normal) in
-    record {
-      at = at;
-      is = subst (λ (D : List Record). completes g x D ≡ true) (sym c.is)
-          (and_both (is_rejoining (replica_at g x c.before).status) (is_normal (replica_at g x (c.r ∷ c.before)).status) before after);
-    }
+use Rattle.nz_laws_commit.specs.Instance.{logs_of}
+use Rattle.nz_laws_commit.proofs.Following.{start_began, completes_by}
+use Rattle.nz_laws_commit.proofs.Instance.{normal_status, up_status, normal_up_status, inc_is, start_is}
 
 -- ---- the reports
 
@@ -141,7 +69,7 @@ module _ (g : Group) (J : List Record) (world : World g J) (w : ℕ) (r : Record
     no_lower x Q C member at_c c lower =
         let early = inc_is g x Q in
         let late = inc_is g x C in
-        (has_views g J world).member x w C B Q (completes_of g J x C at_c c) (record { at = at; later = later; is = begun }) member
+        (has_views g J world).member x w C B Q (record { at = at_c; is = completes_by g J world x C c }) (record { at = at; later = later; is = begun }) member
         (omega (arith, lower, early, late))
 
     own_report : IsMemberReport (logs_of g) w (own_change l (leader_at g w K)) J
@@ -214,7 +142,7 @@ begins_of g J world w S later e = began (start g w J) refl (sym (start_is g w J)
     began None is e = absurd (none-some S (sym (ap (λ (o : Option (List Entry)). option_map keys_of o) is) ∙ e))
     began (Some T) is e =
         let keys : keys_of T ≡ S = same_Some (keys_of T) S (sym (ap (λ (o : Option (List Entry)). option_map keys_of o) is) ∙ e) in
-        let b = start_began g w J T later is in
+        let b = start_began g w T J later is in
         let i = turning_is g w b.moment later b.is in
         let at : At J (i.newest ∷ i.older) = subst (At J) i.is b.at in
         let begun : begins g w (i.newest ∷ i.older) ≡ true = subst (λ (x : List Record). begins g w x ≡ true) i.is b.is in

@@ -133,7 +133,7 @@ module _ (g : Group) (J : List Record) (w : World g J) where
       let i = completing_is g x C c.completes.is in
       rejoined_by x K i.newest i.older at i.before i.after (subst (λ (L : List Record). ComesFrom (notions g J) J x K L) i.is c)
 
-  completes_by : (x : ℕ) (C : List Record) → CompletesRejoin (logs_of g) x C → completes g x C ≡ true
+  pub completes_by : (x : ℕ) (C : List Record) → CompletesRejoin (logs_of g) x C → completes g x C ≡ true
   completes_by x C c =
       let now : is_normal (replica_at g x (c.r ∷ c.before)).status ≡ true =
       status_normal (replica_at g x (c.r ∷ c.before)).status (subst (λ (L : List Record). status_of (replica_at g x L).status ≡ Normal) c.is c.normal) in

@@ -25,6 +25,6 @@ pub mod Keyed
 pub mod Supporting
 pub mod Committing
 pub mod TurnDoes
-pub mod Begun
 pub mod Following
+pub mod Begun
 pub mod Whole

@@ -8,7 +8,6 @@ use Rattle.nz_base.specs.Prefixes.{IsPrefix}
 use Rattle.nz_base.specs.declared.actor.Actor.TheVariants.{Replica}
 use Rattle.nz_base.specs.declared.key.Entry.{Entry}
 use Rattle.nz_base.proofs.Booleans.{cases_bool, clash}
-use Rattle.nz_base.proofs.Moments.{at_self}
 use Rattle.nz_base.proofs.Prefixes.{prefix_self, prefix_map}
 use Rattle.nz_log.specs.Synced.{Log}
 use Rattle.nz_log.specs.Synced as logs
@@ -39,9 +38,7 @@ use Rattle.nz_laws_cv.proofs.Modes.{IsSound, collects_low, up_no_rejoin}
 use Rattle.nz_laws_cv.proofs.Passing.{sound_at}
 use Rattle.nz_laws_cv.proofs.Sent as letters
 use Rattle.nz_laws_cv.proofs.Showing.{shows}
-use Rattle.nz_laws_cv.proofs.Collected.{StayedUp, Rejoined, was_up}
-use Rattle.nz_laws_cv.proofs.Grounds.{later_at}
-use Rattle.nz_laws_commit.specs.States.{IsUp, Down, LogState}
+use Rattle.nz_laws_commit.specs.States.{Down, LogState}
 use Rattle.nz_laws_commit.specs.Does.{IsUnchanged, Releases, Enters, VectorGrows, Syncs, BeginsView, AdoptsLog, Restarts, Does}
 use Rattle.nz_laws_commit.specs.Does as ways
 use Rattle.nz_laws_commit.specs.Instance.{status_of, states_of}
@@ -312,19 +309,4 @@ record_does g J w y r K at by =
     elim (steps g y r K) [
       | Acts a turn ↦ turn_does g y r K now a turn
       | Rests other same ↦ clash (actor_eq r.actor (Replica y)) by other
-    ]
-
--- while a replica is up its vector grows
-pub vector_grows : (g : Group) (J : List Record) → World g J → (y : ℕ) (r : Record) (K : List Record) → At J (r ∷ K)
-    → IsUp (log_seat (seat_at g y K)).status → IsUp (log_seat (seat_at g y (r ∷ K))).status
-    → VectorGrows y (log_seat (seat_at g y K)) (log_seat (seat_at g y (r ∷ K)))
-vector_grows g J w y r K at before after =
-    let now = at_world g J (r ∷ K) w at in
-    let up = status_up (replica_at g y K).status before in
-    let still = status_up (replica_at g y (r ∷ K)).status after in
-    elim (was_up g y r K now still) [
-      | StayedUp was inc goes ↦
-          let grew = later_at g J w y K (r ∷ K) at (inr (at_self K)) (sym inc) up still in
-          record { vector = grew.places; own = grew.own }
-      | Rejoined rejoins normal inc goes ↦ up_no_rejoin (replica_at g y K).status up rejoins
     ]
