@@ -1,7 +1,6 @@
 -- What the code keeps of a replica, at the calls for views and rejoining.
-use Rattle.std.proofs.Common.{◌≡◌, ℕ, ◌+◌, ◌<◌, ◌≤◌, ◌^◌, true, false, List, [], ◌∷◌, ◌++◌, length, map, min, replicate, IsTrue, IsFalse, refl, sym, ap, subst, ◌∙◌, arith}
+use Rattle.std.proofs.Common.{◌≡◌, ℕ, ◌+◌, ◌<◌, ◌≤◌, ◌^◌, true, false, List, [], length, map, min, replicate, IsTrue, IsFalse, refl, sym, ap, subst, ◌∙◌, arith}
 use Rattle.std.specs.Prelude.{◌==◌, nat_lt, if◌then◌else◌}
-use Rattle.std.proofs.lemmas.Bool.Decides.{nat_tests}
 use Rattle.nz_base.specs.Cluster.{replica_count, leader_of}
 use Rattle.nz_base.specs.declared.key.Entry.{Entry}
 use Rattle.nz_base.proofs.Booleans.{clash}
@@ -16,9 +15,8 @@ use Rattle.nz_machine.specs.declared.data.Status.TheVariants.{Normal, ViewChange
 use Rattle.nz_machine.specs.declared.data.Reported.{Reported}
 use Rattle.nz_machine.specs.State.{ReplicaData}
 use Rattle.nz_machine.specs.Facts.{IsCarried, FitsReport, HasFacts, IsKept}
-use Rattle.nz_machine.specs.Replicas.{last_view, most_entries, commands, is_normal, is_changing, is_rejoining, leads}
-use Rattle.nz_machine.specs.Views.{most_quiet, in_view_change}
-use Rattle.nz_machine.specs.Parts.{since_counted}
+use Rattle.nz_machine.specs.Replicas.{last_view, most_entries, commands, is_normal, is_changing, is_rejoining}
+use Rattle.nz_machine.specs.Views.{most_quiet}
 use Rattle.nz_machine.specs.Taking.{with_parts}
 use Rattle.nz_machine.specs.Adopting.{with_log, normal_in}
 use Rattle.nz_machine.specs.Begins.{report_of, with_report, without_strays, changes_of, after_begin, begin}

@@ -1,5 +1,5 @@
 -- What is collected, one after the other as the code does.
-use Rattle.std.proofs.Common.{◌≡◌, ℕ, zero, suc, ◌+◌, ◌<◌, ◌≤◌, true, false, not, ◌||◌, ◌==◌, append_assoc, List, [], ◌∷◌, ◌++◌, length, map, take, drop, get_or, refl, sym, ap, subst, ◌∙◌, inl, inr, arith}
+use Rattle.std.proofs.Common.{◌≡◌, ℕ, zero, suc, ◌+◌, ◌<◌, ◌≤◌, true, false, not, ◌==◌, append_assoc, List, [], ◌∷◌, ◌++◌, length, map, take, get_or, refl, sym, ap, subst, ◌∙◌, inl, inr, arith}
 use Rattle.std.specs.Prelude.{Result, Ok, Err, OnOk}
 use Rattle.std.specs.List.{filter}
 use Rattle.std.proofs.lemmas.Bool.{eqb-true, eq-eqb}
@@ -10,9 +10,7 @@ use Rattle.nz_base.proofs.Booleans.{cases_bool, clash, neither_left, neither_rig
 use Rattle.nz_cv.specs.Vectors.{is_stray}
 use Rattle.nz_merge.specs.declared.change.Change.{Change}
 use Rattle.nz_merge.specs.Sender.{has_sender, HaveOwnSenders}
-use Rattle.nz_store.specs.Entries.{Entries}
 use Rattle.nz_store.specs.Sequence.{apply_bytes, store_after, replies_from, replies}
-use Rattle.nz_store.specs.declared.command.Answer.{Answer}
 use Rattle.nz_machine.specs.declared.data.Reported.{Reported}
 use Rattle.nz_machine.specs.declared.data.ToldView.{ToldView}
 use Rattle.nz_machine.specs.Replicas.{commands}

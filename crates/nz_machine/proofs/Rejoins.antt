@@ -1,9 +1,8 @@
 -- What the code keeps of a replica, at the calls by which it collects what others told.
-use Rattle.std.proofs.Common.{◌≡◌, ℕ, ◌-◌, ◌<◌, ◌≤◌, ◌^◌, max, subst, List, [], ◌∷◌, ◌++◌, length, refl, sym, eq-eqb}
+use Rattle.std.proofs.Common.{◌≡◌, ℕ, ◌-◌, ◌<◌, ◌^◌, max, subst, List, [], ◌∷◌, ◌++◌, length, refl, sym, eq-eqb}
 use Rattle.std.specs.Prelude.{◌==◌, if◌then◌else◌, slice_index}
-use Rattle.std.specs.List.{filter, list_any}
+use Rattle.std.specs.List.{list_any}
 use Rattle.nz_base.specs.Cluster.{replica_count}
-use Rattle.nz_cv.specs.Vectors.{is_stray}
 use Rattle.nz_store.specs.Entries.{Entries}
 use Rattle.nz_msg.specs.Messages.{rejoin_tell}
 use Rattle.nz_msg.specs.declared.message.RejoinTellBody.{RejoinTellBody}

@@ -2,7 +2,6 @@ use Rattle.std.proofs.Common.{◌++◌, List, sym, ap, subst, ◌∙◌}
 use Rattle.nz_base.specs.declared.key.Entry.{Entry}
 use Rattle.nz_base.specs.Log.{keys_of, HaveOwnIds}
 use Rattle.nz_log.specs.Synced.{left_out}
-use Rattle.nz_machine.specs.Facts.{AreApart}
 use Rattle.nz_machine.proofs.Adopting.{apart_adopted}
 use Rattle.nz_machine.proofs.Adopts.{own_left, left_both, adopted}
 use Rattle.nz_machine.proofs.Collects.{both_ok}

@@ -1,5 +1,4 @@
-use Rattle.std.proofs.Common.{◌≡◌, ◌∙◌, sym}
-use Rattle.nz_store.specs.Sequence.{store_after, replies, store_from, replies_from}
+use Rattle.std.proofs.Common.{◌∙◌, sym}
 use Rattle.nz_machine.proofs.Stores.{no_store}
 use Rattle.nz_machine.proofs.Collects.{no_replies}
 use Rattle.nz_machine.proofs.collecting.execute_all.Goals as goal

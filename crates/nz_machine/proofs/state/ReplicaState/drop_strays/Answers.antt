@@ -1,4 +1,3 @@
-use Rattle.std.proofs.Common.{List, sym, subst}
 use Rattle.nz_machine.proofs.Calls.{kept_strays}
 use Rattle.nz_machine.proofs.state.ReplicaState.drop_strays.Goals as goal
 
