@@ -1,5 +1,5 @@
 -- Each rule of a replica is one turn.
-use Rattle.std.proofs.Common.{◌≡◌, ℕ, ◌+◌, ◌≤◌, ◌<◌, Bool, ◌&&◌, eqb, true, false, List, [], ◌∷◌, length, max, Option, Some, None, refl, sym, ap, subst, ◌∙◌, inl, inr, ◌⊎◌, arith, eqb-true}
+use Rattle.std.proofs.Common.{◌≡◌, cond, ℕ, ◌+◌, ◌≤◌, ◌<◌, Bool, ◌&&◌, eqb, true, false, List, [], ◌∷◌, length, max, Option, Some, None, refl, sym, ap, subst, ◌∙◌, inl, inr, ◌⊎◌, arith, eqb-true}
 use Rattle.std.specs.Prelude.{nat_lt, nat_le, min, map, drop, ◌-◌}
 use Rattle.std.proofs.lemmas.Bool.Decides.{nat_tests}
 use Rattle.nz_base.specs.Cluster.{leader_of, slow_size}
@@ -40,7 +40,7 @@ use Rattle.nz_machine.specs.Replicas.{is_normal, is_changing, is_up, is_rejoinin
 use Rattle.nz_machine.specs.Requests.{request_rule}
 use Rattle.nz_machine.specs.Releases.{release_rule}
 use Rattle.nz_machine.specs.LogMods.{after_hearing, hears_later_leader, sync_keys, taken_from, log_mod_rule, fetch_rule, kept_all, kept_late, fetch_reply_rule, sync_report_rule}
-use Rattle.nz_machine.specs.Vectors.{with_vector}
+use Rattle.nz_machine.specs.Vectors.{with_vector, unless_stray}
 use Rattle.nz_machine.specs.Views.{enter_view, alarm_rule, view_ask_rule, quiet_timer, change_timer, most_quiet}
 use Rattle.nz_machine.specs.Adopting.{normal_in, after_start, start_view_rule}
 use Rattle.nz_machine.specs.Begins.{changes_of, after_begin, with_report, without_strays, collect, begin, view_change_rule}
@@ -156,15 +156,20 @@ module _ (f me : ℕ) (e : Event) where
   unfolding log_mod_rule enter_view
   log_mod_turn s sender b =
       let heard : Heard = Some (Replica sender, messages.LogMod b) in
-      on_cond (λ (x : ReplicaData × List Out). Turns heard s x.0) (hears_later_leader f s b.view sender) _ _
+      on_cond (λ (x : ReplicaData × List Out). Turns heard s x.0) (hears_later_leader f s b.view sender)
+      (unless_stray me s sender b.vector (enter_view f me b.view))
+      (cond (hears_leader f me s b.view sender) (unless_stray me s sender b.vector (λ (t : ReplicaData). taken_from sender b (after_hearing t))) (s, []))
       (λ later.
       let parts = hears_later_parts f s b.view sender later in
-      on_cond (λ (x : ReplicaData × List Out). Turns heard s x.0) (is_stray b.vector sender s.vector) _ _ (λ _. Stays)
+      on_cond (λ (x : ReplicaData × List Out). Turns heard s x.0) (is_stray b.vector sender s.vector)
+      (s, []) (enter_view f me b.view (with_vector me s b.vector)) (λ _. Stays)
       (λ new. Follow sender (messages.LogMod b) b.vector (record { is = refl; carries = refl; new = new }) b.view parts.up parts.later))
       (λ _.
-      on_cond (λ (x : ReplicaData × List Out). Turns heard s x.0) (hears_leader f me s b.view sender) _ _
+      on_cond (λ (x : ReplicaData × List Out). Turns heard s x.0) (hears_leader f me s b.view sender)
+      (unless_stray me s sender b.vector (λ (t : ReplicaData). taken_from sender b (after_hearing t))) (s, [])
       (λ hears.
-      on_cond (λ (x : ReplicaData × List Out). Turns heard s x.0) (is_stray b.vector sender s.vector) _ _ (λ _. Stays)
+      on_cond (λ (x : ReplicaData × List Out). Turns heard s x.0) (is_stray b.vector sender s.vector)
+      (s, []) (taken_from sender b (after_hearing (with_vector me s b.vector))) (λ _. Stays)
       (λ new. own_turn s sender b new (hears_leader_parts f me s b.view sender hears)))
       (λ _. Stays))
 
