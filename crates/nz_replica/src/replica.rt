@@ -161,6 +161,7 @@ fn tick_and_count(state: &mut ReplicaState, clock: u64, sends: &mut Sends) -> Re
     mode_timer(state, sends)
 }
 
+#[tactic(auto, unfolding(nz_machine::specs::Rejoining::crash_rule))]
 fn take(state: &mut ReplicaState, event: &Event, sends: &mut Sends) -> Result<(), NoMemory>
     ensures { let s = state.old in (g : Group) → IsOf g s → OnOk result (Does s state.new sends.old sends.new (event_step g (IsReplica s.me) s.state event.now)) }
 {
