@@ -1,5 +1,5 @@
 -- Each accepted answer is given from the log of the leader of the view in which it was decided.
-use Rattle.std.proofs.Common.{◌≡◌, ℕ, ◌<◌, ◌≤◌, Bool, true, false, cond, nat_lt, List, [], ◌∷◌, ◌++◌, length, Option, Some, refl, sym, ap, subst, ◌∙◌, arith, inl, inr, ◌⊎◌, ltb-true, ltb-false}
+use Rattle.std.proofs.Common.{◌≡◌, ℕ, ◌<◌, ◌≤◌, List, [], ◌∷◌, ◌++◌, length, Option, Some, refl, sym, ap, subst, ◌∙◌, arith, inl, inr}
 use Rattle.std.specs.Option.{option_map, option_and_then}
 use Rattle.nz_base.specs.Cluster.{leader_of}
 use Rattle.nz_base.specs.declared.actor.Actor.{Actor}
@@ -7,7 +7,7 @@ use Rattle.nz_base.specs.declared.actor.Actor.TheVariants.{Client}
 use Rattle.nz_base.specs.declared.key.Id.{Id}
 use Rattle.nz_base.specs.declared.key.Entry.{Entry}
 use Rattle.nz_base.specs.Key.{id_of}
-use Rattle.nz_base.specs.Log.{keys_of, has_id, HaveOwnIds}
+use Rattle.nz_base.specs.Log.{keys_of, HaveOwnIds}
 use Rattle.nz_base.proofs.Logs.{own_front, keys_append}
 use Rattle.nz_store.specs.declared.command.Answer.{Answer}
 use Rattle.nz_msg.specs.declared.message.AnswerBody.{AnswerBody}
@@ -27,7 +27,7 @@ use Rattle.nz_machine.specs.Quorums.{view_of}
 use Rattle.nz_machine.specs.Committed.{view_of_sender, accepted_view, AcceptsIn, IsAcceptedIn}
 use Rattle.nz_machine.specs.History.{ReplySource, source_of_sender, prefix_at_source, accepted_prefix, entries_or, prefix_in}
 use Rattle.nz_machine.specs.OneHistory.{IsAccepted}
-use Rattle.nz_machine.proofs.Runs.{acts_itself, delivered, has_left, has_right, has_split}
+use Rattle.nz_machine.proofs.Runs.{acts_itself, delivered, has_left}
 use Rattle.nz_machine.specs.Replicas.{most_entries}
 use Rattle.nz_base.specs.Moments.{At}
 use Rattle.nz_base.proofs.Moments.{at_self}
@@ -37,7 +37,7 @@ use Rattle.nz_machine.proofs.FitRuns.{Fitted, FittedState, fits_keep, all_fit}
 use Rattle.std.proofs.lemmas.Option.{none-some, same_Some}
 use Rattle.nz_machine.specs.Leading.{leader_at}
 use Rattle.nz_base.proofs.Prefixes.{prefix_length}
-use Rattle.nz_laws_commit.proofs.Places.{absent_by, own_prefix}
+use Rattle.nz_laws_commit.proofs.Places.{own_prefix}
 use Rattle.nz_laws_commit.proofs.Heard.{told_at}
 use Rattle.nz_laws_commit.proofs.FactsStay.{facts_stay}
 use Rattle.nz_laws_commit.proofs.Answering.{IsGiven, given_later}
@@ -45,7 +45,7 @@ use Rattle.nz_laws_commit.proofs.Notes.{delivers}
 use Rattle.nz_laws_commit.proofs.Said.{IsBacked, backed_later}
 use Rattle.nz_laws_commit.proofs.AnswersSent.{LeadsBack, answer_source}
 use Rattle.nz_machine.proofs.Accepting.{IsAnswerTo, client_accepts}
-use Rattle.nz_laws_commit.proofs.Tells.{AcceptsAnswer, told_sent, told_accepted, not_sent_before}
+use Rattle.nz_laws_commit.proofs.Tells.{AcceptsAnswer, told_accepted}
 use Rattle.nz_laws_commit.proofs.Asked.{WasSent, own_command}
 
 -- ---- what a leader's log has, up to an entry

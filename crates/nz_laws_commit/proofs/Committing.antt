@@ -1,37 +1,35 @@
 -- Of a run that follows the rules: accepted prefixes are in each later start and paired, and synced parts are the leaders'.
-use Rattle.std.proofs.Common.{◌≡◌, ℕ, zero, suc, ◌<◌, true, List, [], ◌∷◌, ◌++◌, take, Some, refl, sym, ap, subst, ◌∙◌, inl, inr}
+use Rattle.std.proofs.Common.{◌≡◌, ℕ, zero, suc, true, List, [], ◌∷◌, take, sym, ap, subst, ◌∙◌, inl, inr}
 use Rattle.std.specs.Option.{option_map}
 use Rattle.std.proofs.lemmas.List.{take-map}
-use Rattle.nz_base.specs.declared.actor.Actor.TheVariants.{Replica}
 use Rattle.nz_base.specs.declared.key.Key.{Key}
 use Rattle.nz_base.specs.declared.key.Entry.{Entry}
 use Rattle.nz_base.specs.Cluster.{leader_of}
 use Rattle.nz_base.specs.Key.{id_of}
 use Rattle.nz_base.specs.Log.{keys_of}
 use Rattle.nz_base.specs.Moments.{At}
-use Rattle.nz_base.specs.Prefixes.{IsPrefix, Comparable}
+use Rattle.nz_base.specs.Prefixes.{IsPrefix}
 use Rattle.nz_base.proofs.Moments.{at_self}
 use Rattle.nz_store.specs.Sequence.{replies}
 use Rattle.nz_log.specs.Synced.{synced_part}
 use Rattle.nz_machine.specs.declared.event.Record.{Record}
-use Rattle.nz_machine.specs.State.{ReplicaData, Group}
-use Rattle.nz_machine.specs.Replicas.{is_normal, leads, commands}
-use Rattle.nz_machine.specs.World.{state_after, Has, World}
+use Rattle.nz_machine.specs.State.{Group}
+use Rattle.nz_machine.specs.Replicas.{commands}
+use Rattle.nz_machine.specs.World.{Has, World}
 use Rattle.nz_machine.specs.Events.{Sent}
-use Rattle.nz_machine.specs.OneHistory.{IsAccepted, ArePaired, NoCollision}
+use Rattle.nz_machine.specs.OneHistory.{NoCollision}
 use Rattle.nz_machine.specs.Leading.{is_normal_in, leader_at, is_led, lead}
-use Rattle.nz_machine.specs.Begun.{start}
-use Rattle.nz_machine.specs.Committed.{IsAcceptedIn, Prefixes}
+use Rattle.nz_machine.specs.Committed.{Prefixes}
 use Rattle.nz_machine.specs.Incarnations.{replica_at}
 use Rattle.nz_machine.proofs.Moments.{at_world}
+use Rattle.nz_laws_cv.proofs.Beginnings.{normal_in_is}
 use Rattle.nz_laws_commit.specs.Does.{FollowsRules}
-use Rattle.nz_laws_commit.specs.Supports.{Support}
 use Rattle.nz_laws_commit.specs.Instance.{states_of, logs_of}
 use Rattle.nz_laws_commit.proofs.RunLaws.{RunLaws}
 use Rattle.nz_laws_commit.proofs.OneView.{run_laws}
 use Rattle.nz_laws_commit.proofs.LaterStarts.{in_later_starts, pairs}
 use Rattle.nz_laws_commit.proofs.FactsStay.{facts_stay}
-use Rattle.nz_laws_commit.proofs.Instance.{normal_in_is, normal_status, normal_up_status, led_log, led_leads, lead_is, start_is}
+use Rattle.nz_laws_commit.proofs.Instance.{normal_status, normal_up_status, led_log, led_leads, lead_is, start_is}
 use Rattle.nz_laws_commit.proofs.Keyed.{WereSent, keyed_prefix, keyed_comparable, start_sent, lead_sent}
 use Rattle.nz_laws_commit.proofs.Asked.{own_command}
 use Rattle.nz_laws_commit.proofs.Accepted.{events_later, given_sent, IsDecidedIn, decided_in, accepted_somewhere}

@@ -1,15 +1,14 @@
 -- What the laws on logs read of the machine, in the machine's own words: statuses, incarnations, leaders' logs and begins.
-use Rattle.std.proofs.Common.{◌≡◌, ℕ, suc, Bool, true, false, not, ◌&&◌, cond, eqb, List, [], ◌∷◌, Option, Some, None, refl, sym, ap, subst, ◌∙◌, inl, inr, ◌⊎◌, eqb-true, eq-eqb}
+use Rattle.std.proofs.Common.{◌≡◌, ℕ, suc, Bool, true, false, not, ◌&&◌, cond, eqb, List, [], ◌∷◌, Option, Some, None, refl, sym, ap, ◌∙◌, inl, inr, eq-eqb}
 use Rattle.std.specs.Option.{option_or, option_map}
-use Rattle.std.proofs.lemmas.Option.{none-some, same_Some}
+use Rattle.std.proofs.lemmas.Option.{none-some}
 use Rattle.nz_base.specs.Actor.{actor_eq}
 use Rattle.nz_base.specs.Cluster.{leader_of}
 use Rattle.nz_base.specs.Log.{keys_of}
 use Rattle.nz_base.specs.declared.actor.Actor.TheVariants.{Replica}
 use Rattle.nz_base.specs.declared.key.Key.{Key}
 use Rattle.nz_base.specs.declared.key.Entry.{Entry}
-use Rattle.nz_base.proofs.Booleans.{cases_bool, and_left, and_right, and_both, clash}
-use Rattle.nz_base.proofs.Names.{same_actor, actor_eq_self}
+use Rattle.nz_base.proofs.Booleans.{cases_bool, and_both, clash}
 use Rattle.nz_machine.specs.declared.data.Status.{Status}
 use Rattle.nz_machine.specs.declared.data.Status.TheVariants as statuses
 use Rattle.nz_machine.specs.declared.event.Record.{Record}
@@ -20,6 +19,7 @@ use Rattle.nz_machine.specs.Incarnations.{replica_at, is_restart, comes_back, in
 use Rattle.nz_machine.specs.Leading.{is_normal_in, leader_at, is_led, lead}
 use Rattle.nz_machine.specs.Begun.{begins, earlier_or, start}
 use Rattle.nz_machine.proofs.Runs.{stays}
+use Rattle.nz_laws_cv.proofs.Beginnings.{normal_in_is, is_in_view}
 use Rattle.nz_laws_commit.specs.States.{Normal, Rejoining, Down, IsUp}
 use Rattle.nz_laws_commit.specs.Machines.{leads_by, inc_of, lead_of, start_of}
 use Rattle.nz_laws_commit.specs.Machines as machines
@@ -90,12 +90,6 @@ down_test statuses.Rejoining = refl
 down_test statuses.Down = refl
 
 -- ---- in normal operation in a view
-
-pub normal_in_is : (v : ℕ) (s : ReplicaData) → is_normal_in v s ≡ true → (is_normal s.status ≡ true) × (s.view ≡ v)
-normal_in_is v s h = (and_left (is_normal s.status) (eqb s.view v) h, eqb-true s.view v (and_right (is_normal s.status) (eqb s.view v) h))
-
-pub is_in_view : (v : ℕ) (s : ReplicaData) → is_normal s.status ≡ true → s.view ≡ v → is_normal_in v s ≡ true
-is_in_view v s normal view = and_both (is_normal s.status) (eqb s.view v) normal (eq-eqb s.view v view)
 
 pub is_normal_at : (g : Group) (y v : ℕ) (K : List Record) → is_normal (replica_at g y K).status ≡ true → (replica_at g y K).view ≡ v
     → IsNormal (logs_of g) y v K

@@ -1,5 +1,5 @@
 -- Lists of entries, by their keys: in one run equal keys are of equal entries, and an id has one place among a leader's.
-use Rattle.std.proofs.Common.{◌≡◌, ℕ, zero, suc, ◌<◌, ◌≤◌, eqb, Bool, true, false, cond, List, [], ◌∷◌, ◌++◌, length, take, map, Option, Some, None, refl, sym, ap, subst, ◌∙◌, arith, inl, inr, ◌⊎◌}
+use Rattle.std.proofs.Common.{◌≡◌, ℕ, zero, suc, ◌<◌, eqb, Bool, true, false, cond, List, [], ◌∷◌, ◌++◌, take, Option, Some, None, refl, sym, ap, subst, ◌∙◌, arith, inl, inr, ◌⊎◌}
 use Rattle.std.specs.Prelude.{slice_get}
 use Rattle.std.proofs.lemmas.Option.{none-some, same_Some}
 use Rattle.nz_base.specs.Cluster.{leader_of}
@@ -150,18 +150,18 @@ get_longer [] rest i k e = absurd (none-some k (sym (none_there i) ∙ e))
 get_longer (x ∷ xs) rest zero k e = e
 get_longer (x ∷ xs) rest (suc i) k e = get_longer xs rest i k e
 
-get_front : (n i : ℕ) (ks : List Key) (k : Key) → i < n → slice_get ks i ≡ Some k → slice_get (take n ks) i ≡ Some k
-get_front zero i ks k low e = absurd (omega (arith, low))
-get_front (suc n) i [] k low e = e
-get_front (suc n) zero (x ∷ ks) k low e = e
-get_front (suc n) (suc i) (x ∷ ks) k low e = get_front n i ks k (omega (arith, low)) e
+get_taken : (n i : ℕ) (ks : List Key) (k : Key) → i < n → slice_get ks i ≡ Some k → slice_get (take n ks) i ≡ Some k
+get_taken zero i ks k low e = absurd (omega (arith, low))
+get_taken (suc n) i [] k low e = e
+get_taken (suc n) zero (x ∷ ks) k low e = e
+get_taken (suc n) (suc i) (x ∷ ks) k low e = get_taken n i ks k (omega (arith, low)) e
 
 pub at_longer : (xs ys : List Key) (id : Id) (i : ℕ) → IsPrefix xs ys → IsAt xs id i → IsAt ys id i
 at_longer xs ys id i p h =
     record { key = h.key; at = ap (λ (l : List Key). slice_get l i) p.whole ∙ get_longer xs p.rest i h.key h.at; own = h.own }
 
-pub at_front : (n : ℕ) (ks : List Key) (id : Id) (i : ℕ) → i < n → IsAt ks id i → IsAt (take n ks) id i
-at_front n ks id i low h = record { key = h.key; at = get_front n i ks h.key low h.at; own = h.own }
+pub at_taken : (n : ℕ) (ks : List Key) (id : Id) (i : ℕ) → i < n → IsAt ks id i → IsAt (take n ks) id i
+at_taken n ks id i low h = record { key = h.key; at = get_taken n i ks h.key low h.at; own = h.own }
 
 at_has : (ks : List Key) (id : Id) (i : ℕ) (k : Key) → slice_get ks i ≡ Some k → id_of k ≡ id → has_id ks id ≡ true
 at_has [] id i k e own = absurd (none-some k (sym (none_there i) ∙ e))

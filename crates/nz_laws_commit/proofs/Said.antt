@@ -21,7 +21,7 @@ use Rattle.nz_machine.specs.declared.event.Record.{Record}
 use Rattle.nz_machine.specs.declared.reply.Reply.{Reply}
 use Rattle.nz_machine.specs.State.{Group}
 use Rattle.nz_machine.specs.Proxies.{of_fast, of_slow}
-use Rattle.nz_machine.specs.Step.{parcel, event_step}
+use Rattle.nz_machine.specs.Step.{parcel}
 use Rattle.nz_machine.specs.World.{state_after, Has, World}
 use Rattle.nz_machine.specs.History.{log_at, cut_after, reply_in, ReplySource}
 use Rattle.nz_machine.specs.OneHistory.{RepliesOver, HasReplyOver}

@@ -1,5 +1,5 @@
 -- What a decision rests on supports the prefix that was accepted. The premise on digests is used here, and nowhere else.
-use Rattle.std.proofs.Common.{◌≡◌, ℕ, suc, ◌<◌, ◌≤◌, eqb, eqb-true, eq-eqb, Bool, true, false, ◌&&◌, is_some, List, [], ◌∷◌, length, take, map, Option, Some, None, refl, sym, ap, subst, ◌∙◌, arith, inl, inr, ◌⊎◌}
+use Rattle.std.proofs.Common.{◌≡◌, ℕ, suc, eqb, eqb-true, eq-eqb, true, ◌&&◌, is_some, List, [], ◌∷◌, length, take, map, Option, Some, None, refl, sym, ap, subst, ◌∙◌, arith, inl, inr, ◌⊎◌}
 use Rattle.std.specs.List.{list_any}
 use Rattle.std.specs.Str.{bytes_eq}
 use Rattle.std.proofs.lemmas.Bool.{leb-true}
@@ -8,7 +8,6 @@ use Rattle.std.proofs.lemmas.Slice.Eq.{bytes_eq-Decides}
 use Rattle.nz_base.specs.Actor.{actor_eq}
 use Rattle.nz_base.specs.Cluster.{replica_count, leader_of, slow_size, fast_size}
 use Rattle.nz_base.specs.Log.{keys_of, HaveOwnIds}
-use Rattle.nz_base.specs.Moments.{At}
 use Rattle.nz_base.specs.Prefixes.{IsPrefix}
 use Rattle.nz_base.specs.declared.actor.Actor.{Actor}
 use Rattle.nz_base.specs.declared.actor.Actor.TheVariants.{Replica}
@@ -22,24 +21,23 @@ use Rattle.nz_base.proofs.Prefixes.{prefix_then, prefix_take, prefix_map, prefix
 use Rattle.nz_math.specs.Count.{count_below}
 use Rattle.nz_store.specs.declared.command.Answer.{Answer}
 use Rattle.nz_digest.specs.Digests.{EntryKey, digest}
-use Rattle.nz_log.specs.Places.{place_of, entry_key, digest_at}
+use Rattle.nz_log.specs.Places.{place_of, entry_key}
 use Rattle.nz_machine.specs.declared.event.Record.{Record}
 use Rattle.nz_machine.specs.declared.reply.Reply.{Reply}
 use Rattle.nz_machine.specs.declared.reply.Reply.TheVariants.{Fast, Slow}
-use Rattle.nz_machine.specs.State.{ReplicaData, Group}
+use Rattle.nz_machine.specs.State.{Group}
 use Rattle.nz_machine.specs.Replicas.{is_normal, leads}
-use Rattle.nz_machine.specs.Quorums.{view_of, is_of_leader, is_slow_of, agrees_of, stands_slowly, stands_fast, has_slow_quorum, has_fast_quorum}
-use Rattle.nz_machine.specs.World.{Has, World}
+use Rattle.nz_machine.specs.Quorums.{view_of, is_of_leader, is_slow_of, agrees_of, stands_slowly, stands_fast}
+use Rattle.nz_machine.specs.World.{World}
 use Rattle.nz_machine.specs.History.{log_at, cut_at, cut_after, ReplySource, prefix_at_source}
 use Rattle.nz_machine.specs.OneHistory.{HasReplyOver, NoCollision}
 use Rattle.nz_machine.specs.Incarnations.{replica_at}
-use Rattle.nz_machine.specs.Leading.{lead}
 use Rattle.nz_laws_commit.specs.Supports.{IsNormal, IsUpIn, HadSynced, FastReplied, IsLedAt, Support, keys_at}
 use Rattle.nz_laws_commit.specs.Instance.{logs_of}
 use Rattle.nz_laws_commit.proofs.RunLaws.{RunLaws}
 use Rattle.nz_laws_commit.proofs.Deciding.{slowly, quickly}
 use Rattle.nz_laws_commit.proofs.Instance.{is_normal_at, up_status, normal_up_status, lead_is}
-use Rattle.nz_laws_commit.proofs.Keyed.{IsAt, place_key, at_longer, at_front, one_place, lead_own}
+use Rattle.nz_laws_commit.proofs.Keyed.{IsAt, place_key, at_longer, at_taken, one_place, lead_own}
 use Rattle.nz_laws_commit.proofs.Chosen.{HasQuorum, BySlow, ByFast, any_reply}
 use Rattle.nz_laws_commit.proofs.Said.{SaysFast, SaysSlow, IsSaid, Fastly, Slowly, WasSaid, IsBacked}
 use Rattle.nz_laws_commit.proofs.Accepted.{IsDecidedIn}
@@ -134,7 +132,7 @@ module _ (g : Group) (J : List Record) (w : World g J) (h : RunLaws (logs_of g) 
       let synced = h.synced_lead m v moment s.at up in
       let whole = prefix_then (take t.log.synced (keys_of t.log.entries)) ((logs_of g).lead v moment) ((logs_of g).lead v J) synced (h.lead_grows v moment J (at_self J) s.at) in
       let there : IsAt (keys_of t.log.entries) id s.shows.place = place_key t.log.entries id s.shows.place (ap (place_of t.log.entries) (sym s.same) ∙ s.shows.stands) in
-      let in_lead = at_longer (take t.log.synced (keys_of t.log.entries)) ((logs_of g).lead v J) id s.shows.place whole (at_front t.log.synced (keys_of t.log.entries) id s.shows.place s.shows.synced there) in
+      let in_lead = at_longer (take t.log.synced (keys_of t.log.entries)) ((logs_of g).lead v J) id s.shows.place whole (at_taken t.log.synced (keys_of t.log.entries) id s.shows.place s.shows.synced there) in
       let mine = at_longer (keys_of P) ((logs_of g).lead v J) id place part (place_key P id place stands) in
       let one = one_place ((logs_of g).lead v J) id place s.shows.place (subst HaveOwnIds (sym (lead_is g v J)) (lead_own g J w v)) mine in_lead in
       let long : length (keys_of P) ≡ length P = length-map P (λ (e : Entry). e.key) in
