@@ -1,12 +1,12 @@
 -- In every run the states of the replicas have what the laws on logs ask of them, but for what each record does and
 -- what each begin merges.
-use Rattle.std.proofs.Common.{◌≡◌, ℕ, ◌<◌, ◌≤◌, Bool, true, false, cond, eqb, ◌&&◌, List, [], ◌∷◌, length, Option, Some, None, refl, sym, ap, subst, ◌∙◌, arith, inl, inr, ◌⊎◌, eq-eqb, eqb-true}
+use Rattle.std.proofs.Common.{◌≡◌, ℕ, ◌<◌, Bool, true, false, cond, eqb, ◌&&◌, List, [], ◌∷◌, length, Option, Some, None, refl, sym, ap, subst, ◌∙◌, arith, inl, inr, ◌⊎◌, eq-eqb, eqb-true}
 use Rattle.std.specs.Option.{option_map}
 use Rattle.std.proofs.lemmas.Option.{none-some, same_Some}
 use Rattle.nz_base.specs.Actor.{actor_eq}
 use Rattle.nz_base.specs.Cluster.{leader_of}
 use Rattle.nz_base.specs.Log.{keys_of}
-use Rattle.nz_base.specs.Moments.{At, Before}
+use Rattle.nz_base.specs.Moments.{At}
 use Rattle.nz_base.specs.declared.actor.Actor.TheVariants.{Replica}
 use Rattle.nz_base.specs.declared.key.Key.{Key}
 use Rattle.nz_base.specs.declared.key.Entry.{Entry}
@@ -15,7 +15,7 @@ use Rattle.nz_base.proofs.Moments.{at_self, at_then, at_tail, at_shorter}
 use Rattle.nz_machine.specs.declared.event.Record.{Record}
 use Rattle.nz_machine.specs.State.{ReplicaData, Group}
 use Rattle.nz_machine.specs.Facts.{HasFacts}
-use Rattle.nz_machine.specs.Replicas.{is_normal, is_up, is_rejoining, is_down}
+use Rattle.nz_machine.specs.Replicas.{is_normal, is_rejoining, is_down}
 use Rattle.nz_machine.specs.World.{state_after, World}
 use Rattle.nz_machine.specs.Incarnations.{replica_at, is_restart, incarnation, completes}
 use Rattle.nz_machine.specs.Leading.{leader_at}
