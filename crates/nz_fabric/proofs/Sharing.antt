@@ -264,3 +264,11 @@ booked_marked s total scenario tick before room records items next marked runnin
   is_posted = posted;
   booked = h.booked;
 }
+
+-- there is more room
+pub booked_room : (s : Scenario) (total : ℕ) (scenario : Scenario) (tick before room room' : ℕ) (records records' : List Record) (items : List Item) (next : ℕ) (marked : Bool) (running : List Running) (c : Dates)
+    → IsBooked s total (state_of scenario tick before records items next marked) running before room records c → records' ≡ records → room ≤ room'
+    → IsBooked s total (state_of scenario tick before records' items next marked) running before room' records' c
+booked_room s total scenario tick before room room' records records' items next marked running c h same more =
+    subst (λ (rs : List Record). IsBooked s total (state_of scenario tick before rs items next marked) running before room' rs c) (sym same)
+    (record { accounted = h.accounted; within = h.within; few = h.few; reserved = (let r = h.reserved in omega (arith, r, more)); is_posted = h.is_posted; booked = h.booked })

@@ -1,5 +1,6 @@
 pub mod Calendars
 pub mod Posting
+pub mod Rows
 pub mod Dues
 pub mod States
 pub mod Shared

@@ -1,20 +1,21 @@
-ghost use Rattle.std.specs.Prelude.{◌≡◌, ◌⊎◌, ◌+◌, ◌<◌, ◌==◌, length, get_or, true, false, IfOk, IfSome, MatchBool, MatchOption, MatchResult};
+ghost use Rattle.std.specs.Prelude.{◌≡◌, ◌⊎◌, ◌+◌, ◌<◌, ◌==◌, ◌↔◌, length, reverse, get_or, true, false, IsTrue, IfOk, IfSome, MatchBool, MatchOption, MatchResult};
 ghost use Rattle.std.specs.List.{position};
 ghost use Rattle.nz_machine.specs.Journals.{run_in};
 ghost use Rattle.nz_machine.specs.Schedule.{group_of, IsPlayable, Scheduled};
 ghost use Rattle.nz_fabric.specs.declared.running.Running.{Running as Entry};
+ghost use Rattle.nz_fabric.specs.Rows.{of_actor};
 ghost use Rattle.nz_fabric.specs.Replays.{IsSentOn};
 ghost use Rattle.nz_fabric.specs.States.{records_of, with_mark};
 ghost use Rattle.nz_fabric.specs.Shared.{IsAccounted, IsNextOf, IsOver, after_shared, closed, place_of as place_in, shared, start_shared, with_given_up, with_opened, with_record};
 
 use crate::name::Name;
-use crate::posting::post_all;
+use crate::rows::Rows;
 use crate::running::Running;
 use crate::share::Share;
 use crate::ticks::Ticks;
 use crate::turn::Turn;
-use nz_base::{List, NoMemory, Scenario, TryCopy};
-use nz_machine::{Item, Journal, Record, Sends};
+use nz_base::{Actor, List, NoMemory, Scenario, TryCopy};
+use nz_machine::{Item, Journal, Record, RecordList, Sends};
 use std::alloc::Global;
 use std::marker::Model;
 use std::sync::ledger::{Blank, Book};
@@ -24,7 +25,7 @@ use std::sync::ledger::{Blank, Book};
 #[derive(Drop)]
 pub struct FabricState<N: Name> {
     ticks: Ticks,
-    records: Vec<Record>,
+    rows: Rows,
     /// How many records there were before this tick.
     before: usize,
     running: Vec<Running>,
@@ -32,15 +33,16 @@ pub struct FabricState<N: Name> {
 }
 
 impl<N: Name> Model for FabricState<N> {
-    ghost use Rattle.std.specs.Prelude.{◌≡◌, vec_capacity};
+    ghost use Rattle.std.specs.Prelude.{◌≡◌};
+    ghost use Rattle.nz_fabric.specs.Rows.{HaveRoom};
     ghost use Rattle.nz_fabric.specs.States.{state_in};
     ghost use Rattle.nz_fabric.specs.Shared.{Shared, IsBooked, shared};
 
     ghost Value = { Shared };
 
-    ghost view = { λ f. shared (state_in f.ticks f.before f.records.items) f.running.items };
+    ghost view = { λ f. shared (state_in f.ticks f.before f.rows.records) f.running.items };
 
-    ghost invariant = { λ f. (N.parts ≡ 16) × IsBooked N.scenario f.book.total (state_in f.ticks f.before f.records.items) f.running.items f.before (vec_capacity f.records) f.records.items f.ticks.calendar };
+    ghost invariant = { λ f. (N.parts ≡ 16) × IsBooked N.scenario f.book.total (state_in f.ticks f.before f.rows.records) f.running.items f.before f.rows.room f.rows.records f.ticks.calendar × HaveRoom f.running.items f.rows };
 }
 
 impl<N: Name> FabricState<N> {
@@ -55,10 +57,11 @@ impl<N: Name> FabricState<N> {
         requires playable { IsPlayable scenario }
         ensures { IfOk result (λ r. (r.0 ≡ start_shared scenario) × (r.1.parts ≡ 16) × (r.1.amount ≡ 0)) }
     {
+        let rows = Rows::new(alloc)?;
         let (book, held) = blank.open::<N>();
         let state = FabricState {
             ticks: Ticks::new(alloc, scenario),
-            records: Vec::new(alloc),
+            rows,
             before: 0,
             running: Vec::new(alloc),
             book,
@@ -85,7 +88,7 @@ impl<N: Name> FabricState<N> {
         if self.ticks.marked || self.ticks.next == self.ticks.items.len() {
             return Ok(None);
         }
-        let taken = self.records.len() + self.running.len();
+        let taken = self.rows.len() + self.running.len();
         if taken >= u32::MAX as usize {
             return Err(NoMemory);
         }
@@ -93,7 +96,7 @@ impl<N: Name> FabricState<N> {
         let actor = item.actor;
         let event = item.event.copy(self.ticks.alloc)?;
         let number = taken as u64 + 1;
-        self.records.reserve(self.running.len() + 1)?;
+        self.rows.reserve(actor, self.running.len() + 1)?;
         self.running.push(Running { number, item })?;
         self.ticks.next += 1;
         self.book.add(&mut share.held, 1);
@@ -116,7 +119,7 @@ impl<N: Name> FabricState<N> {
         self.book.audit(&mut share.held);
         let Running { number: _, item } = close(&mut self.running, number);
         let Item { actor, event } = item;
-        self.records.push_reserved(Record {
+        self.rows.push(Record {
             tick: self.ticks.tick,
             actor,
             event,
@@ -168,26 +171,38 @@ impl<N: Name> FabricState<N> {
             return Ok(false);
         }
         self.ticks.marked = true;
-        let sent = &self.records[self.before..];
-        post_all(&mut self.ticks.calendar, &self.ticks.scenario, sent)?;
+        let Ticks {
+            calendar,
+            scenario,
+            ..
+        } = &mut self.ticks;
+        self.rows.post_from(self.before, calendar, scenario)?;
         self.ticks.begin()?;
-        self.before = self.records.len();
+        self.before = self.rows.len();
         Ok(true)
     }
 
+    /// Whether the lane is the list of the actor's records in the journal.
+    pub fn same_row(&self, actor: Actor, lane: &RecordList) -> bool
+        ensures { IsTrue result ↔ (lane.now ≡ of_actor actor (reverse (records_of self.now.run))) }
+    {
+        self.rows.same_row(actor, lane.as_slice())
+    }
+
     /// The scenario and the records, once the last tick was done.
-    pub fn into_journal(self) -> Journal
+    pub fn into_journal(self) -> Result<Journal, NoMemory>
         requires over { IsOver self }
         requires last { self.run.tick ≡ self.run.scenario.ticks }
-        ensures scenario { result.scenario ≡ N.scenario }
-        ensures records { run_in result ≡ records_of self.run }
-        ensures scheduled { Scheduled N.scenario (run_in result) }
+        ensures scenario { IfOk result (λ journal. journal.scenario ≡ N.scenario) }
+        ensures records { IfOk result (λ journal. run_in journal ≡ records_of self.run) }
+        ensures scheduled { IfOk result (λ journal. Scheduled N.scenario (run_in journal)) }
     {
-        let FabricState { ticks, records, .. } = self;
-        Journal {
+        let FabricState { ticks, rows, .. } = self;
+        let records = rows.into_records(ticks.alloc)?;
+        Ok(Journal {
             scenario: ticks.scenario,
             records: List::from_vec(records),
-        }
+        })
     }
 }
 

@@ -103,7 +103,7 @@ fn play<N: Name + Send + Sync, R: Threads + Wait + Sync, G: Gate + Sync>(
     let mut share = share;
     'ticks: for _ in rt.forever() {
         if !state.next_tick()? {
-            return Ok(Some(state.into_journal()));
+            return Ok(Some(state.into_journal()?));
         }
         let Some((after, whole)) = play_tick(rt, state, share, workers, count, stage, gate)? else {
             return Ok(None);

@@ -16,56 +16,52 @@ pub invariant_of-self : goal.invariant_of-self
 invariant_of-self g c =
     let f = c.self.inside in
     let t = f.ticks in
-    let rs = f.records.items in
+    let rs = f.rows.records in
     let inv = c.self.invariant.1 in
     let unmarked : t.marked ≡ false = ap (λ (f : Shared). f.run.marked) c.self.view_is ∙ c.requires.unmarked in
     let L = posted (reverse (take f.before rs)) in
     let started : StandsFor t.scenario L t.tick t.calendar = posted_started (state_in t f.before rs) t.calendar unmarked inv.is_posted in
-    let rest = take_rest c.deref.result.now f.before ∙ ap (drop f.before) c.deref.ensures.value in
-    (c.self.invariant.0, booked_marked _ f.book.total t.scenario t.tick f.before (vec_capacity f.records) rs t.items.items t.next t.marked f.running.items t.calendar c.post_all.new.calendar inv (posted_some t.scenario t.tick f.before rs t.items.items t.next c.post_all.new.calendar (subst (λ (rs : List Record). HasPosted t.scenario L (posted_by rs) t.tick c.post_all.new.calendar) rest (c.in_err-post_all.ensures.err L t.tick started))))
+    (c.self.invariant.0, booked_marked _ f.book.total t.scenario t.tick f.before f.rows.room rs t.items.items t.next t.marked f.running.items t.calendar c.post_from.new.calendar inv (posted_some t.scenario t.tick f.before rs t.items.items t.next c.post_from.new.calendar (c.in_err-post_from.ensures.err L t.tick started)), c.self.invariant.2)
 
 pub invariant_of-self-in_err-begin : goal.invariant_of-self-in_err-begin
 invariant_of-self-in_err-begin g c =
     let f = c.self.inside in
     let t = f.ticks in
-    let rs = f.records.items in
+    let rs = f.rows.records in
     let inv = c.self.invariant.1 in
     let unmarked : t.marked ≡ false = ap (λ (f : Shared). f.run.marked) c.self.view_is ∙ c.requires.unmarked in
     let L = posted (reverse (take f.before rs)) in
     let started : StandsFor t.scenario L t.tick t.calendar = posted_started (state_in t f.before rs) t.calendar unmarked inv.is_posted in
-    let rest = take_rest c.deref.result.now f.before ∙ ap (drop f.before) c.deref.ensures.value in
-    let all : StandsFor t.scenario (L ++ posted_by (drop f.before rs)) t.tick c.post_all.new.calendar = subst (λ (rs : List Record). StandsFor t.scenario (L ++ posted_by rs) t.tick c.post_all.new.calendar) rest (c.in_ok-post_all.ensures.ok L t.tick started) in
-    (c.self.invariant.0, subst (λ (t : Ticks). IsBooked g.N.Name.scenario f.book.total (state_in t f.before rs) f.running.items f.before (vec_capacity f.records) rs t.calendar) (sym c.in_err-begin.ensures.err) (booked_marked _ f.book.total t.scenario t.tick f.before (vec_capacity f.records) rs t.items.items t.next t.marked f.running.items t.calendar c.post_all.new.calendar inv (posted_whole t.scenario t.tick f.before rs t.items.items t.next c.post_all.new.calendar all)))
+    let all : StandsFor t.scenario (L ++ posted_by (drop f.before rs)) t.tick c.post_from.new.calendar = c.in_ok-post_from.ensures.ok L t.tick started in
+    (c.self.invariant.0, subst (λ (t : Ticks). IsBooked g.N.Name.scenario f.book.total (state_in t f.before rs) f.running.items f.before f.rows.room rs t.calendar) (sym c.in_err-begin.ensures.err) (booked_marked _ f.book.total t.scenario t.tick f.before f.rows.room rs t.items.items t.next t.marked f.running.items t.calendar c.post_from.new.calendar inv (posted_whole t.scenario t.tick f.before rs t.items.items t.next c.post_from.new.calendar all)), c.self.invariant.2)
 
 pub invariant_of-self-2 : goal.invariant_of-self-2
 invariant_of-self-2 g c =
     let f = c.self.inside in
     let t = f.ticks in
-    let rs = f.records.items in
+    let rs = f.rows.records in
     let inv = c.self.invariant.1 in
     let unmarked : t.marked ≡ false = ap (λ (f : Shared). f.run.marked) c.self.view_is ∙ c.requires.unmarked in
     let L = posted (reverse (take f.before rs)) in
     let started : StandsFor t.scenario L t.tick t.calendar = posted_started (state_in t f.before rs) t.calendar unmarked inv.is_posted in
-    let rest = take_rest c.deref.result.now f.before ∙ ap (drop f.before) c.deref.ensures.value in
-    let all : StandsFor t.scenario (L ++ posted_by (drop f.before rs)) t.tick c.post_all.new.calendar = subst (λ (rs : List Record). StandsFor t.scenario (L ++ posted_by rs) t.tick c.post_all.new.calendar) rest (c.in_ok-post_all.ensures.ok L t.tick started) in
-    let begun = c.in_ok-begin.ensures.ok (posted (records_of (state_in t f.before rs))) (posted_now t.scenario t.tick f.before rs c.post_all.new.calendar all) in
+    let all : StandsFor t.scenario (L ++ posted_by (drop f.before rs)) t.tick c.post_from.new.calendar = c.in_ok-post_from.ensures.ok L t.tick started in
+    let begun = c.in_ok-begin.ensures.ok (posted (records_of (state_in t f.before rs))) (posted_now t.scenario t.tick f.before rs c.post_from.new.calendar all) in
     let long : c.len-self-inside.result ≡ length rs = omega (arith, c.len-self-inside.ensures) in
     let lt : t.tick < t.scenario.ticks = (let k = inv.accounted.in_run in let ne = c.if-self.false in omega (arith, k, ne)) in
     let over = subst IsOver (sym c.self.view_is) c.requires in
-    (c.self.invariant.0, booked_next _ f.book.total t.scenario t.tick f.before c.len-self-inside.result (vec_capacity f.records) rs t.items.items t.next t.marked f.running.items t.calendar c.begin.new.self inv over lt begun long)
+    (c.self.invariant.0, booked_next _ f.book.total t.scenario t.tick f.before c.len-self-inside.result f.rows.room rs t.items.items t.next t.marked f.running.items t.calendar c.begin.new.self inv over lt begun long, c.self.invariant.2)
 
 pub returns : goal.returns
 returns g c =
     let f = c.self.inside in
     let t = f.ticks in
-    let rs = f.records.items in
+    let rs = f.rows.records in
     let inv = c.self.invariant.1 in
     let unmarked : t.marked ≡ false = ap (λ (f : Shared). f.run.marked) c.self.view_is ∙ c.requires.unmarked in
     let L = posted (reverse (take f.before rs)) in
     let started : StandsFor t.scenario L t.tick t.calendar = posted_started (state_in t f.before rs) t.calendar unmarked inv.is_posted in
-    let rest = take_rest c.deref.result.now f.before ∙ ap (drop f.before) c.deref.ensures.value in
-    let all : StandsFor t.scenario (L ++ posted_by (drop f.before rs)) t.tick c.post_all.new.calendar = subst (λ (rs : List Record). StandsFor t.scenario (L ++ posted_by rs) t.tick c.post_all.new.calendar) rest (c.in_ok-post_all.ensures.ok L t.tick started) in
-    let begun = c.in_ok-begin.ensures.ok (posted (records_of (state_in t f.before rs))) (posted_now t.scenario t.tick f.before rs c.post_all.new.calendar all) in
+    let all : StandsFor t.scenario (L ++ posted_by (drop f.before rs)) t.tick c.post_from.new.calendar = c.in_ok-post_from.ensures.ok L t.tick started in
+    let begun = c.in_ok-begin.ensures.ok (posted (records_of (state_in t f.before rs))) (posted_now t.scenario t.tick f.before rs c.post_from.new.calendar all) in
     let long : c.len-self-inside.result ≡ length rs = omega (arith, c.len-self-inside.ensures) in
     let lt : t.tick < t.scenario.ticks = (let k = inv.accounted.in_run in let ne = c.if-self.false in omega (arith, k, ne)) in
     let over = subst IsOver (sym c.self.view_is) c.requires in

@@ -1,0 +1,57 @@
+-- The records of a run in one row for each actor, and the order in which they were recorded.
+use Rattle.std.specs.Prelude.{◌≡◌, ℕ, ◌+◌, ◌-◌, ◌<◌, ◌≤◌, List, [], ◌∷◌, length, map, filter, get_or, Vec, vec_capacity, if◌then◌else◌}
+use Rattle.std.specs.Global.{Global}
+use Rattle.std.specs.List.{AllByRecursion, sum_by}
+use Rattle.nz_base.specs.Actor.{actor_eq}
+use Rattle.nz_base.specs.declared.actor.Actor.{Actor}
+use Rattle.nz_base.specs.declared.actor.Actor.TheVariants.{Replica}
+use Rattle.nz_machine.specs.declared.event.Event.TheVariants.{Alarm}
+use Rattle.nz_machine.specs.declared.event.Record.{Record}
+use Rattle.nz_fabric.specs.Calendars.{row_number}
+use Rattle.nz_fabric.specs.declared.rows.Place.{Place}
+use Rattle.nz_fabric.specs.declared.running.Running.{Running}
+
+-- The records of an actor among others.
+abbrev pub of_actor : Actor → List Record → List Record
+of_actor a records = filter (λ r. actor_eq r.actor a) records
+
+-- The records in the order of recording, how many of them there is room for, and for how many more there is room in
+-- each row.
+pub record Filed : Type 0 where
+  pub records : List Record
+  pub room : ℕ
+  pub spares : List ℕ
+
+abbrev pub row_in : List (List Record) → Actor → List Record
+row_in rows a = get_or rows (row_number a) []
+
+-- For how many more records of an actor there is room.
+abbrev pub spare_of : Filed → Actor → ℕ
+spare_of f a = get_or f.spares (row_number a) 0
+
+abbrev pub no_record : Record
+no_record = record { tick = 0; actor = Replica 0; event = Alarm; sends = [] }
+
+-- The record at a place.
+abbrev pub record_at : List (List Record) → Place → Record
+record_at rows p = get_or (row_in rows p.actor) p.at no_record
+
+abbrev pub rows_of : List (Vec Record Global) → List (List Record)
+rows_of rows = map (λ v. v.items) rows
+
+abbrev pub spare_in : Vec Record Global → ℕ
+spare_in v = vec_capacity v - length v.items
+
+-- Each place is in its row, and each row is the list of its actor's records.
+pub record AreRows (order : List Place) (rows : List (List Record)) : Type 0 where
+  pub many : length rows ≡ 768
+  pub placed : AllByRecursion (λ p. p.at < length (row_in rows p.actor)) order
+  pub own : (a : Actor) → row_in rows a ≡ of_actor a (map (record_at rows) order)
+
+-- How many of the open turns are the actor's.
+abbrev pub turns_of : Actor → List Running → ℕ
+turns_of a running = sum_by (λ o. if actor_eq o.item.actor a then 1 else 0) running
+
+-- Each open turn has its place in its actor's row.
+abbrev pub HaveRoom : List Running → Filed → Type 0
+HaveRoom running f = (a : Actor) → turns_of a running ≤ spare_of f a
