@@ -1,50 +1,28 @@
 -- The history of a run is one of its accepted prefixes, and each accepted answer has a prefix that is not longer.
-use Rattle.std.proofs.Common.{◌≡◌, ℕ, ◌<◌, ◌≤◌, Bool, true, false, cond, nat_lt, List, [], ◌∷◌, ◌++◌, length, Option, Some, refl, sym, ap, subst, ◌∙◌, arith, inl, inr, ◌⊎◌, ltb-true, ltb-false}
-use Rattle.std.specs.Option.{option_map, option_and_then}
-use Rattle.nz_base.specs.Cluster.{leader_of}
-use Rattle.nz_base.specs.declared.actor.Actor.{Actor}
-use Rattle.nz_base.specs.declared.actor.Actor.TheVariants.{Client}
+use Rattle.std.proofs.Common.{◌≡◌, ℕ, ◌≤◌, Bool, true, false, cond, nat_lt, List, [], ◌∷◌, ◌++◌, length, Some, refl, sym, ap, subst, ◌∙◌, arith, inl, inr, ◌⊎◌, ltb-true, ltb-false}
 use Rattle.nz_base.specs.declared.key.Id.{Id}
 use Rattle.nz_base.specs.declared.key.Entry.{Entry}
-use Rattle.nz_base.specs.Key.{id_of}
 use Rattle.nz_base.specs.Log.{keys_of, has_id, HaveOwnIds}
-use Rattle.nz_base.proofs.Logs.{own_front, keys_append}
 use Rattle.nz_store.specs.declared.command.Answer.{Answer}
-use Rattle.nz_msg.specs.declared.message.AnswerBody.{AnswerBody}
 use Rattle.nz_msg.specs.declared.message.Path.{Path}
-use Rattle.nz_msg.specs.declared.message.Message.TheVariants.{Answer as Answered}
-use Rattle.nz_msg.specs.declared.envelope.Envelope.{Envelope}
 use Rattle.nz_machine.specs.declared.event.Event.{Event}
 use Rattle.nz_machine.specs.declared.event.Event.TheVariants.{Deliver}
-use Rattle.nz_machine.specs.declared.event.Parcel.{Parcel}
 use Rattle.nz_machine.specs.declared.event.Record.{Record}
-use Rattle.nz_machine.specs.State.{ClientData, Group}
-use Rattle.nz_machine.specs.Step.{received, envelope_step, event_step}
-use Rattle.nz_machine.specs.World.{state_after, Has, MayHappen, World}
-use Rattle.nz_machine.specs.Events.{Told, Sent, Accepted, id_at, told_by, events}
-use Rattle.nz_machine.specs.History.{source_of_sender, prefix_at_source, accepted_prefix, entries_or, prefix_in, longer, history}
+use Rattle.nz_machine.specs.State.{Group}
+use Rattle.nz_machine.specs.World.{Has, World}
+use Rattle.nz_machine.specs.Events.{Told, Sent, Accepted, told_by, events}
+use Rattle.nz_machine.specs.History.{prefix_in, longer, history}
 use Rattle.nz_machine.specs.Quorums.{view_of}
 use Rattle.nz_machine.specs.OneHistory.{Precedes, IsAccepted}
-use Rattle.nz_machine.proofs.Runs.{acts_itself, delivered, has_left, has_right, has_split}
+use Rattle.nz_machine.proofs.Runs.{has_left, has_right, has_split}
 use Rattle.nz_machine.specs.Replicas.{most_entries}
-use Rattle.nz_base.specs.Moments.{At}
 use Rattle.nz_base.proofs.Moments.{at_self}
-use Rattle.nz_machine.proofs.Moments.{at_world}
-use Rattle.nz_machine.proofs.Sources.{has_source}
-use Rattle.nz_machine.proofs.FitRuns.{Fitted, FittedState, fits_keep, all_fit}
-use Rattle.std.proofs.lemmas.Option.{none-some, same_Some}
-use Rattle.nz_machine.specs.Leading.{leader_at}
-use Rattle.nz_base.proofs.Prefixes.{prefix_length}
-use Rattle.nz_laws_commit.proofs.Places.{absent_by, own_prefix}
-use Rattle.nz_laws_commit.proofs.Heard.{told_at}
-use Rattle.nz_laws_commit.proofs.FactsStay.{facts_stay}
+use Rattle.nz_laws_commit.proofs.Places.{absent_by}
 use Rattle.nz_laws_commit.proofs.Answering.{IsGiven, given_later}
-use Rattle.nz_laws_commit.proofs.Notes.{delivers}
-use Rattle.nz_laws_commit.proofs.Accepted.{Gives, gives, accepted_given, given_sent, given_own, given_few}
-use Rattle.nz_machine.proofs.Accepting.{IsAnswerTo, client_accepts}
+use Rattle.nz_laws_commit.proofs.Accepted.{gives, accepted_given, given_sent, given_own, given_few}
 use Rattle.nz_laws_commit.proofs.Counts.{precedes_has, precedes_three}
-use Rattle.nz_laws_commit.proofs.Tells.{AcceptsAnswer, told_sent, told_accepted, not_sent_before}
-use Rattle.nz_laws_commit.proofs.Asked.{WasSent, own_command}
+use Rattle.nz_laws_commit.proofs.Tells.{told_sent, told_accepted, not_sent_before}
+use Rattle.nz_laws_commit.proofs.Asked.{WasSent}
 
 -- ---- the longest
 
