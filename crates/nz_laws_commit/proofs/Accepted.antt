@@ -122,7 +122,8 @@ gives_by g r J id a path w t to =
     let told = told_at g J w.1 (Client c) p e d.heard s.0 s.1 in
     let id_is : id_at c t.body.num ≡ id = ap (id_at c) num ∙ sym t.id_is in
     let back : LeadsBack g J (id_at c t.body.num) t.body.answer p.from s.0 =
-    answer_source g J s.0 p e c t.body w.1 told (record { proxy = to.proxy; sender = to.sender; receiver = read_to g J (Client c) p e w.1 may d.heard; message = t.message }) in
+    answer_source g J s.0 p e c t.body w.1 told
+    (record { proxy = to.proxy; sender = to.sender; receiver = read_to g J (Client c) p e w.1 may d.heard; message = t.message }) in
     let mine : LeadsBack g J id t.body.answer p.from s.0 = subst (λ (x : Id). LeadsBack g J x t.body.answer p.from s.0) id_is back in
     let prefix = prefix_at_source g id mine.source in
     let found : accepted_prefix g id p J ≡ Some prefix =

@@ -118,4 +118,5 @@ reply_given g J K p e v id a w t n =
       led = own.led;
       from = cut_answered (leader_at g b.view moment).log.entries id a answered;
     } in
-    subst (λ (x : ℕ). IsGiven g J x id a (cut_after id (log_at g p.from K))) n.view (subst (λ (l : List Entry). IsGiven g J b.view id a (cut_after id l)) (sym log) given)
+    subst (λ (x : ℕ). IsGiven g J x id a (cut_after id (log_at g p.from K))) n.view
+    (subst (λ (l : List Entry). IsGiven g J b.view id a (cut_after id l)) (sym log) given)

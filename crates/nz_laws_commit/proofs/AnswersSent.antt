@@ -46,14 +46,17 @@ pub record IsAnswerOf (e : Envelope) (c : ℕ) (b : AnswerBody) : Type 0 where
   pub message : e.message ≡ messages.Answer b
 
 shown_decided : (s : ProxyData) (c : ℕ) (b : AnswerBody) → ShowsAnswer s (Client c) b → IsDecidedAs s (id_at c b.num) b.answer
-shown_decided s c b h = let same : h.client ≡ c = (let to = h.to_client in cc) in record { path = b.path; stands = ap (λ (k : ℕ). standing_of s (id_at k b.num)) (sym same) ∙ h.decided }
+shown_decided s c b h = let same : h.client ≡ c =
+    (let to = h.to_client in cc) in record { path = b.path; stands = ap (λ (k : ℕ). standing_of s (id_at k b.num)) (sym same) ∙ h.decided }
 
 -- a proxy sends only answers that it has decided
 decided_at : (g : Group) (r : Record) (J : List Record) (q c : ℕ) (b : AnswerBody) → World g (r ∷ J) → r.actor ≡ Proxy q
     → Has (event_step g r.actor (state_after g r.actor J) r.event).1 (Client c, messages.Answer b)
     → IsDecidedAs (state_after g (Proxy q) (r ∷ J)) (id_at c b.num) b.answer
 decided_at g r J q c b w by among =
-    shown_decided (state_after g (Proxy q) (r ∷ J)) c b (subst (λ (x : Actor). Shows g x (heard_at g x r.event) (state_after g x J) (state_after g x (r ∷ J)) (Client c) (messages.Answer b)) by (shown g r J (Client c, messages.Answer b) w among))
+    shown_decided (state_after g (Proxy q) (r ∷ J)) c b
+    (subst (λ (x : Actor). Shows g x (heard_at g x r.event) (state_after g x J) (state_after g x (r ∷ J)) (Client c) (messages.Answer b)) by
+    (shown g r J (Client c, messages.Answer b) w among))
 
 pub record LeadsBack (g : Group) (J : List Record) (id : Id) (a : Answer) (from : Actor) (K : List Record) : Type 0 where
   pub source : ReplySource
@@ -79,7 +82,8 @@ answer_source g J K p e c b w t n =
     let later = at_then J moment h.moment t.at h.at in
     record {
       source = h.source;
-      is = ap (λ (x : Actor). source_of_sender g id x K) (t.from ∙ n.sender) ∙ ap (source_of_sender g id (Proxy q)) t.is ∙ ap (option_and_then (source_at_decision g q id)) h.is ∙ h.leads;
+      is = ap (λ (x : Actor). source_of_sender g id x K) (t.from ∙ n.sender) ∙ ap (source_of_sender g id (Proxy q)) t.is
+          ∙ ap (option_and_then (source_at_decision g q id)) h.is ∙ h.leads;
       reply = h.reply;
       view = ap (λ (x : Actor). view_of_sender g id x K) (t.from ∙ n.sender) ∙ ap (view_of_sender g id (Proxy q)) t.is
           ∙ ap (option_and_then (view_at_decision g q id)) h.is ∙ ap (option_map view_of) h.names;

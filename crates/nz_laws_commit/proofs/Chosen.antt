@@ -35,8 +35,10 @@ least_passes p (x ∷ replies) r e = kept_passes p x (filter p replies) r (p x) 
 
 quorum_by : (f : ℕ) (replies : List Reply) (chosen : Chosen) (fast slow : Option Reply) → fast_lead f replies ≡ fast → slow_lead f replies ≡ slow
     → fast_or fast (slow_or_none slow) ≡ Some chosen → HasQuorum f replies chosen.reply
-quorum_by f replies chosen (Some r) slow p q e = ByFast (ap (has_fast_quorum f replies) (sym (ap (λ (c : Chosen). c.reply) (same_Some _ chosen e))) ∙ least_passes (has_fast_quorum f replies) replies r p)
-quorum_by f replies chosen None (Some r) p q e = BySlow (ap (has_slow_quorum f replies) (sym (ap (λ (c : Chosen). c.reply) (same_Some _ chosen e))) ∙ least_passes (has_slow_quorum f replies) replies r q)
+quorum_by f replies chosen (Some r) slow p q e = ByFast
+    (ap (has_fast_quorum f replies) (sym (ap (λ (c : Chosen). c.reply) (same_Some _ chosen e))) ∙ least_passes (has_fast_quorum f replies) replies r p)
+quorum_by f replies chosen None (Some r) p q e = BySlow
+    (ap (has_slow_quorum f replies) (sym (ap (λ (c : Chosen). c.reply) (same_Some _ chosen e))) ∙ least_passes (has_slow_quorum f replies) replies r q)
 quorum_by f replies chosen None None p q e = absurd (none-some chosen e)
 
 pub chosen_quorum : (f : ℕ) (replies : List Reply) (chosen : Chosen) → decision f replies ≡ Some chosen → HasQuorum f replies chosen.reply

@@ -48,7 +48,15 @@ opened_turns proxies me script s (Some r) e = record {
   more = omega arith;
   one = omega arith;
   numbered = omega arith;
-  sends = (record { some = omega arith; sent_before = omega arith; own = own_command script (s.sent + 1) s.sent r (omega arith) (if_due_is s.ticks (slice_get script s.sent) r e) }, tt);
+  sends = (
+    record {
+      some = omega arith;
+      sent_before = omega arith;
+      own = own_command script (s.sent + 1) s.sent r (omega arith)
+          (if_due_is s.ticks (slice_get script s.sent) r e);
+    },
+    tt,
+  );
 }
 
 next_turns : (proxies me : ℕ) (script : List Request) (s : ClientData) → Turns script s (open_next proxies me script s)
@@ -62,7 +70,13 @@ again_asked proxy num script (Some r) some e = (record { some = some; sent_befor
 wait_turns : (proxies : ℕ) (script : List Request) (s : ClientData) (a : Attempt) → 0 < s.sent → Turns script s (wait_on proxies script s a)
 wait_turns proxies script s a some =
     on_cond (Turns script s) (eqb (a.since + 1) patience) _ _
-    (λ _. record { more = omega arith; one = omega arith; numbered = some; sends = again_asked ((a.proxy + 1) % proxies) s.sent script (slice_get script (s.sent - 1)) some refl })
+    (λ _. record {
+      more = omega arith;
+      one = omega arith;
+      numbered = some;
+      sends = again_asked ((a.proxy + 1) % proxies) s.sent script
+          (slice_get script (s.sent - 1)) some refl;
+    })
     (λ _. record { more = omega arith; one = omega arith; numbered = some; sends = tt })
 
 ticked_turns : (proxies me : ℕ) (script : List Request) (s : ClientData) (o : Option Attempt) → IsNumbered o s.sent
@@ -87,7 +101,8 @@ unfolding accept_rule
 accept_turns proxies me script s b h =
     let free : ClientData = (record s { accepted = s.accepted + 1; attempt = None }) in
     let t = next_turns proxies me script free in
-    on_cond (Turns script s) (is_awaited s b s.attempt) (open_next proxies me script free) (s, []) (λ _. record { more = t.more; one = t.one; numbered = t.numbered; sends = t.sends }) (λ _. nothing script s h)
+    on_cond (Turns script s) (is_awaited s b s.attempt) (open_next proxies me script free) (s, [])
+    (λ _. record { more = t.more; one = t.one; numbered = t.numbered; sends = t.sends }) (λ _. nothing script s h)
 
 pub message_turns : (proxies me : ℕ) (script : List Request) (s : ClientData) (from : Actor) (m : Message) → IsNumbered s.attempt s.sent
     → Turns script s (client_message proxies me script s from m)

@@ -71,7 +71,8 @@ module _ (g : Group) (J : List Record) (w : World g J) (rules : FollowsRules (st
           let y = accepted_somewhere g J w Q q in
           let a = decided_in g J w x.0 P x.1 in
           let b = decided_in g J w y.0 Q y.1 in
-          let either = pairs (logs_of g) J laws x.0 y.0 (keys_of P) (keys_of Q) (accepted_supported g J w laws apart x.0 P a) (accepted_supported g J w laws apart y.0 Q b) in
+          let either = pairs (logs_of g) J laws x.0 y.0 (keys_of P) (keys_of Q) (accepted_supported g J w laws apart x.0 P a)
+          (accepted_supported g J w laws apart y.0 Q b) in
           keyed_comparable g J P Q (decided_sent g J x.0 P w a) (decided_sent g J y.0 Q w b) either;
     };
   }
@@ -82,7 +83,8 @@ module _ (g : Group) (J : List Record) (w : World g J) (rules : FollowsRules (st
   pub lead_grown : (v : ℕ) (K : List Record) → At J K → IsPrefix (lead g v K) (lead g v J)
   lead_grown v K at =
       let keys = laws.lead_grows v K J (at_self J) at in
-      let own = subst (λ (ks : List Key). IsPrefix ks (keys_of (lead g v J))) (lead_is g v K) (subst (λ (ks : List Key). IsPrefix ((logs_of g).lead v K) ks) (lead_is g v J) keys) in
+      let own = subst (λ (ks : List Key). IsPrefix ks (keys_of (lead g v J))) (lead_is g v K)
+      (subst (λ (ks : List Key). IsPrefix ((logs_of g).lead v K) ks) (lead_is g v J) keys) in
       keyed_prefix g J (lead g v K) (lead g v J)
       (λ e h. events_later g J K at (Sent (id_of e.key) e.command) (lead_sent g K (at_world g J K w at) v e h)) (lead_sent g J w v) own
 

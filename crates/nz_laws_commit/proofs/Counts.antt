@@ -62,7 +62,13 @@ record Counts (s t : ClientData) : Type 0 where
 
 free_counts : (s t : ClientData) → IsFree s t → Counts s t
 free_counts s t h =
-    let same = h.same in record { counted = h.counted; more = omega (arith, same); one = omega (arith, same); open_before = λ lt. absurd (omega (arith, lt, same)) }
+    let same = h.same in record {
+      counted = h.counted;
+      more = omega (arith, same);
+      one = omega (arith, same);
+      open_before = λ lt. absurd
+          (omega (arith, lt, same));
+    }
 
 opened_free : (proxies me : ℕ) (s : ClientData) (o : Option Request) → s.accepted ≡ s.sent → IsFree s (opened proxies me s o).0
 opened_free proxies me s None e = record { counted = e; same = refl }
@@ -70,7 +76,8 @@ opened_free proxies me s (Some r) e = record { counted = omega (arith, e); same 
 
 waited_free : (proxies : ℕ) (script : List Request) (s : ClientData) (a : Attempt) → s.accepted + 1 ≡ s.sent → IsFree s (wait_on proxies script s a).0
 waited_free proxies script s a e =
-    on_cond (λ (t : ClientData × List Out). IsFree s t.0) (eqb (a.since + 1) patience) _ _ (λ _. record { counted = e; same = refl }) (λ _. record { counted = e; same = refl })
+    on_cond (λ (t : ClientData × List Out). IsFree s t.0) (eqb (a.since + 1) patience) _ _ (λ _. record { counted = e; same = refl })
+    (λ _. record { counted = e; same = refl })
 
 ticked_free : (proxies me : ℕ) (script : List Request) (s : ClientData) (o : Option Attempt) → Counted o s.sent s.accepted
     → IsFree s (ticked_at proxies me script s o).0
@@ -122,14 +129,16 @@ counted : (g : Group) (c : ℕ) (J : List Record)
 unfolding state_after
 counted g c [] = refl
 counted g c (r ∷ J) = elim (may_act g (Client c) r J).cases [
-  | inl a ↦ subst (λ (s : ClientData). Counted s.attempt s.sent s.accepted) (sym a.1) (event_counts g c (state_after g (Client c) J) r.event (counted g c J)).counted
+  | inl a ↦ subst (λ (s : ClientData). Counted s.attempt s.sent s.accepted) (sym a.1)
+      (event_counts g c (state_after g (Client c) J) r.event (counted g c J)).counted
   | inr s ↦ subst (λ (s : ClientData). Counted s.attempt s.sent s.accepted) (sym s) (counted g c J)
 ]
 
 counts : (g : Group) (c : ℕ) (r : Record) (J : List Record) → Counts (state_after g (Client c) J) (state_after g (Client c) (r ∷ J))
 counts g c r J = elim (may_act g (Client c) r J).cases [
   | inl a ↦ subst (Counts (state_after g (Client c) J)) (sym a.1) (event_counts g c (state_after g (Client c) J) r.event (counted g c J))
-  | inr s ↦ subst (Counts (state_after g (Client c) J)) (sym s) (free_counts (state_after g (Client c) J) (state_after g (Client c) J) (record { counted = counted g c J; same = refl }))
+  | inr s ↦ subst (Counts (state_after g (Client c) J)) (sym s)
+      (free_counts (state_after g (Client c) J) (state_after g (Client c) J) (record { counted = counted g c J; same = refl }))
 ]
 
 -- ---- what was accepted is counted
@@ -264,12 +273,17 @@ accepted_told c before after o lt h =
 -- the open request is accepted
 accepted_now : (g : Group) (c : ℕ) (r : Record) (J : List Record)
     → (state_after g (Client c) J).accepted < (state_after g (Client c) (r ∷ J)).accepted
-    → (r.actor ≡ Client c) × WasAccepted (accepted_by c (state_after g (Client c) J) (state_after g (Client c) (r ∷ J)) (read_in g (Client c) r.event)) (id_at c (state_after g (Client c) J).sent)
+    → (r.actor ≡ Client c) × WasAccepted (accepted_by c (state_after g (Client c) J) (state_after g (Client c) (r ∷ J)) (read_in g (Client c) r.event))
+    (id_at c (state_after g (Client c) J).sent)
 accepted_now g c r J lt =
     let before = state_after g (Client c) J in
     let after = state_after g (Client c) (r ∷ J) in
     elim (may_act g (Client c) r J).cases [
-      | inl a ↦ (a.0, accepted_told c before after (read_in g (Client c) r.event) lt (event_answer g c before r.event (counted g c J) (subst (λ (s : ClientData). before.accepted < s.accepted) a.1 lt)))
+      | inl a ↦ (
+        a.0,
+        accepted_told c before after (read_in g (Client c) r.event) lt
+            (event_answer g c before r.event (counted g c J) (subst (λ (s : ClientData). before.accepted < s.accepted) a.1 lt)),
+      )
       | inr s ↦ absurd (let same = ap (λ (x : ClientData). x.accepted) s in omega (arith, lt, same))
     ]
 
@@ -299,8 +313,14 @@ has_taken g c (r ∷ J) = record {
             let same : before.sent ≡ n = omega (arith, open_one, most, lt, le) in
             let told : Has (told_by g r.actor r J) (Accepted (id_at c n) t.1.answer t.1.path) =
             subst (λ (x : Actor). Has (told_by g x r J) (Accepted (id_at c n) t.1.answer t.1.path)) (sym t.0)
-            (has_left own sends (Accepted (id_at c n) t.1.answer t.1.path) (subst (λ (m : ℕ). Has own (Accepted (id_at c m) t.1.answer t.1.path)) same t.1.told)) in
-            record { answer = t.1.answer; path = t.1.path; told = has_right (events g J) (told_by g r.actor r J) (Accepted (id_at c n) t.1.answer t.1.path) told }
+            (has_left own sends (Accepted (id_at c n) t.1.answer t.1.path)
+            (subst (λ (m : ℕ). Has own (Accepted (id_at c m) t.1.answer t.1.path)) same t.1.told)) in
+            record {
+              answer = t.1.answer;
+              path = t.1.path;
+              told = has_right (events g J) (told_by g r.actor r J)
+                  (Accepted (id_at c n) t.1.answer t.1.path) told;
+            }
         | inr old ↦ later_accepted (events g J) (told_by g r.actor r J) (id_at c n) ((has_taken g c J).each n some old)
       ];
 }
@@ -345,7 +365,12 @@ closed_now g r J c num b y by some low more told =
           record { answer = t.1.answer; path = t.1.path; before = precedes_right (events g J) (told_by g r.actor r J) x (Sent b y) both }
       | inr old ↦
           let t = (has_taken g c J).each num some old in
-          record { answer = t.answer; path = t.path; before = precedes_across (events g J) (told_by g r.actor r J) (Accepted (id_at c num) t.answer t.path) (Sent b y) t.told told }
+          record {
+            answer = t.answer;
+            path = t.path;
+            before = precedes_across (events g J) (told_by g r.actor r J) (Accepted (id_at c num) t.answer t.path)
+                (Sent b y) t.told told;
+          }
     ]
 
 closed_before : (g : Group) (r : Record) (J : List Record) (a b : Id) (x y : List ℕ) → a.client ≡ b.client → Has (events g J) (Sent a x)
@@ -365,7 +390,8 @@ sent_twice : (g : Group) (r : Record) (J : List Record) (id : Id) (x y : List �
 sent_twice g r J id x y old h = elim (precedes_three (events g J) (told_by g r.actor r J) (Sent id x) (Sent id y) h) [
   | inl k ↦ old.sent id x y k
   | inr (inl k) ↦ not_sent_before g r J id x (told_sent g r J id y k.1) k.0
-  | inr (inr k) ↦ let t = pair_told g r.actor r J (Sent id x) (Sent id y) k in not_sent t.client (state_after g (Client t.client) J) (state_after g (Client t.client) (r ∷ J)) (read_in g (Client t.client) r.event) id x t.first
+  | inr (inr k) ↦ let t = pair_told g r.actor r J (Sent id x) (Sent id y) k in not_sent t.client (state_after g (Client t.client) J)
+      (state_after g (Client t.client) (r ∷ J)) (read_in g (Client t.client) r.event) id x t.first
 ]
 
 accepted_twice : (g : Group) (r : Record) (J : List Record) (id : Id) (a b : Answer) (p q : Path) → AreOnce (events g J)
@@ -373,7 +399,8 @@ accepted_twice : (g : Group) (r : Record) (J : List Record) (id : Id) (a b : Ans
 accepted_twice g r J id a b p q old h = elim (precedes_three (events g J) (told_by g r.actor r J) (Accepted id a p) (Accepted id b q) h) [
   | inl k ↦ old.accepted id a b p q k
   | inr (inl k) ↦ not_accepted_before g r J id a b p q (told_accepted g r J id b q k.1) k.0
-  | inr (inr k) ↦ let t = pair_told g r.actor r J (Accepted id a p) (Accepted id b q) k in not_accepted g t.client (state_after g (Client t.client) J) (state_after g (Client t.client) (r ∷ J)) id b q t.second
+  | inr (inr k) ↦ let t = pair_told g r.actor r J (Accepted id a p) (Accepted id b q) k in not_accepted g t.client (state_after g (Client t.client) J)
+      (state_after g (Client t.client) (r ∷ J)) id b q t.second
 ]
 
 sent_first : (g : Group) (r : Record) (J : List Record) (id : Id) (a : Answer) (p : Path) → AcceptsAnswer g r J id a p
@@ -400,7 +427,8 @@ open_twice : (g : Group) (r : Record) (J : List Record) (a b : Id) (x y : List �
 open_twice g r J a b x y old same h = elim (precedes_three (events g J) (told_by g r.actor r J) (Sent a x) (Sent b y) h) [
   | inl k ↦ let t = old.one_open a b x y same k in (t.0, t.1, precedes_left (events g J) (told_by g r.actor r J) (Accepted a t.0 t.1) (Sent b y) t.2)
   | inr (inl k) ↦ let t = closed_before g r J a b x y same k.0 k.1 in (t.answer, t.path, t.before)
-  | inr (inr k) ↦ let t = pair_told g r.actor r J (Sent a x) (Sent b y) k in absurd (not_sent t.client (state_after g (Client t.client) J) (state_after g (Client t.client) (r ∷ J)) (read_in g (Client t.client) r.event) a x t.first)
+  | inr (inr k) ↦ let t = pair_told g r.actor r J (Sent a x) (Sent b y) k in absurd
+      (not_sent t.client (state_after g (Client t.client) J) (state_after g (Client t.client) (r ∷ J)) (read_in g (Client t.client) r.event) a x t.first)
 ]
 
 pub are_once : (g : Group) (J : List Record) → AreOnce (events g J)

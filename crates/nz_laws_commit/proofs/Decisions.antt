@@ -66,14 +66,16 @@ decided_later g r J q id a p now h = record {
 
 decides : (g : Group) (r : Record) (J : List Record) (q : ℕ) (id : Id) (a : Answer) (p : Path) (replies : List Reply) (n : Reply) (chosen : Chosen)
     → World g (r ∷ J) → r.actor ≡ Proxy q → standing_after g q id J ≡ Some (Open replies) → reply_read id (read_in g (Proxy q) r.event) ≡ Some n
-    → decision g.f (with_note replies n) ≡ Some chosen → answer_in chosen.reply ≡ Some a → standing_after g q id (r ∷ J) ≡ Some (Decided a p) → HasDecided g (r ∷ J) q id a
+    → decision g.f (with_note replies n) ≡ Some chosen → answer_in chosen.reply ≡ Some a → standing_after g q id (r ∷ J) ≡ Some (Decided a p)
+    → HasDecided g (r ∷ J) q id a
 decides g r J q id a p replies n chosen w by before heard d answer now =
     let noted = has_noted (with_note replies n) chosen.reply (decision_is g.f (with_note replies n) chosen d).among in
     let m = moment_of g q id r J replies n chosen.reply by before heard (has_moment g J q id chosen.reply) noted in
     let b = noted_source g (r ∷ J) q id chosen.reply a w m answer in
     let stood : replies_at_last g q id (r ∷ J) ≡ with_note replies n =
     ap (λ (t : Option Standing). with_reply (replies_of t) (reply_read id (read_in g (Proxy q) r.event))) before ∙ ap (with_reply replies) heard in
-    let deciding : deciding_reply g q id (r ∷ J) ≡ Some chosen.reply = ap (λ (ys : List Reply). option_map (λ (c : Chosen). c.reply) (decision g.f ys)) stood ∙ ap (option_map (λ (c : Chosen). c.reply)) d in
+    let deciding : deciding_reply g q id (r ∷ J) ≡ Some chosen.reply = ap (λ (ys : List Reply). option_map (λ (c : Chosen). c.reply) (decision g.f ys)) stood
+    ∙ ap (option_map (λ (c : Chosen). c.reply)) d in
     record {
       moment = r ∷ J;
       is = decided_now g r J q id a p now ∙ ap (λ (o : Option (List Record)). older_or o (r ∷ J)) (undecided g J q id (ap is_decided before));
@@ -106,7 +108,8 @@ after_moves : (g : Group) (r : Record) (J : List Record) (q : ℕ) (id : Id) (a 
 after_moves g r J q id a p w by (Stays e) old now = decided_later g r J q id a p now (old (sym e ∙ now))
 after_moves g r J q id a p w by (Forgets after) old now = absurd (none-some (Decided a p) (sym after ∙ now))
 after_moves g r J q id a p w by (Opens before after) old now = absurd (open_decided [] a p (standing_after g q id (r ∷ J)) after now)
-after_moves g r J q id a p w by (Notes replies n before heard after) old now = absurd (open_decided (with_note replies n) a p (standing_after g q id (r ∷ J)) after now)
+after_moves g r J q id a p w by (Notes replies n before heard after) old now = absurd
+    (open_decided (with_note replies n) a p (standing_after g q id (r ∷ J)) after now)
 after_moves g r J q id a p w by (Decides replies n chosen c before heard d is after) old now =
     decides g r J q id a p replies n chosen w by before heard d (is ∙ ap Some (decided_same c a chosen.path p (sym after ∙ now))) now
 

@@ -138,7 +138,8 @@ module _ (g : Group) (J : List Record) (w : World g J) where
       let now : is_normal (replica_at g x (c.r ∷ c.before)).status ≡ true =
       status_normal (replica_at g x (c.r ∷ c.before)).status (subst (λ (L : List Record). status_of (replica_at g x L).status ≡ Normal) c.is c.normal) in
       subst (λ (L : List Record). completes g x L ≡ true) (sym c.is)
-      (and_both (is_rejoining (replica_at g x c.before).status) (is_normal (replica_at g x (c.r ∷ c.before)).status) (status_rejoining (replica_at g x c.before).status c.rejoining) now)
+      (and_both (is_rejoining (replica_at g x c.before).status) (is_normal (replica_at g x (c.r ∷ c.before)).status)
+      (status_rejoining (replica_at g x c.before).status c.rejoining) now)
 
   -- ---- begins
 
@@ -166,7 +167,8 @@ module _ (g : Group) (J : List Record) (w : World g J) where
       → IsUp (status_of (replica_at g y (r ∷ K)).status) → VectorGrows y (log_state (replica_at g y K)) (log_state (replica_at g y (r ∷ K)))
   grown_vector y r K at up after =
       let before = status_up (replica_at g y K).status up in
-      let still = never_all (actor_eq r.actor (Replica y)) (is_restart r.event) (is_down (replica_at g y K).status) (up_not_down (replica_at g y K).status before) in
+      let still = never_all (actor_eq r.actor (Replica y)) (is_restart r.event) (is_down (replica_at g y K).status)
+      (up_not_down (replica_at g y K).status before) in
       let same : incarnation g y K ≡ incarnation g y (r ∷ K) = sym (inc_same g y r K still) in
       let h = later_at g J w y K (r ∷ K) at (inr (at_self K)) same before (status_up (replica_at g y (r ∷ K)).status after) in
       record { vector = h.places; own = h.own }

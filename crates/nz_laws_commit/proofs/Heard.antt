@@ -27,13 +27,15 @@ pub record IsTold (g : Group) (J K : List Record) (p : Parcel) (e : Envelope) : 
   pub sends : Has newest.sends (parcel newest.actor (e.to, e.message))
   pub fit : FitsOut newest.actor (e.to, e.message)
 
-pub told_at : (g : Group) (J : List Record) → World g J → (a : Actor) (p : Parcel) (e : Envelope) → received g.f a p ≡ Some e → (K : List Record) → source p J ≡ Some K → IsTold g J K p e
+pub told_at : (g : Group) (J : List Record) → World g J → (a : Actor) (p : Parcel) (e : Envelope) → received g.f a p ≡ Some e → (K : List Record)
+    → source p J ≡ Some K → IsTold g J K p e
 told_at g J w a p e heard K found =
     let s = source_is p J K found in
     let now : World g (s.newest ∷ s.older) = at_world g J (s.newest ∷ s.older) w s.at in
     let b = sent_by g s.newest s.older p now s.sends in
     let outs = (event_step g s.newest.actor (state_after g s.newest.actor s.older) s.newest.event).1 in
-    let fit : FitsOut s.newest.actor b.out = all_has (FitsOut s.newest.actor) outs b.out (sends_have g (Fitted g) (FittedState g) (fits_keep g) s.older s.newest now) b.among in
+    let fit : FitsOut s.newest.actor b.out = all_has (FitsOut s.newest.actor) outs b.out
+    (sends_have g (Fitted g) (FittedState g) (fits_keep g) s.older s.newest now) b.among in
     let own : Envelope = record { from = s.newest.actor; to = b.out.0; message = b.out.1 } in
     let here : received g.f a (parcel s.newest.actor b.out) ≡ Some e = ap (received g.f a) (sym b.is) ∙ heard in
     elim (received_is g.f a s.newest.actor b.out fit) [
@@ -48,7 +50,8 @@ told_at g J w a p e heard K found =
             sender = ap (λ (x : Envelope). x.from) same;
             from = ap (λ (x : Parcel). x.from) b.is ∙ ap (λ (x : Envelope). x.from) same;
             among = subst (λ (x : Envelope). Has outs (x.to, x.message)) same b.among;
-            sends = subst (λ (x : Envelope). Has s.newest.sends (parcel s.newest.actor (x.to, x.message))) same (subst (λ (q : Parcel). Has s.newest.sends q) b.is s.sends);
+            sends = subst (λ (x : Envelope). Has s.newest.sends (parcel s.newest.actor (x.to, x.message))) same
+                (subst (λ (q : Parcel). Has s.newest.sends q) b.is s.sends);
             fit = subst (λ (x : Envelope). FitsOut s.newest.actor (x.to, x.message)) same fit;
           }
     ]

@@ -181,7 +181,11 @@ lead_is g v (r ∷ K) = elim (cases_bool (actor_eq r.actor (Replica (leader_of g
 -- a view that is led has begun
 pub led_begun : (g : Group) (v : ℕ) (K : List Record) → is_led g v K ≡ true → (S : List Entry) × (start g v K ≡ Some S)
 unfolding start state_after
-led_begun g v [] led = ([], let zero_view : eqb v 0 ≡ true = eq-eqb v 0 (sym (normal_in_is v (leader_at g v []) led).1) in ap (λ (b : Bool). cond b (Some []) None) zero_view)
+led_begun g v [] led = (
+  [],
+  let zero_view : eqb v 0 ≡ true = eq-eqb v 0 (sym (normal_in_is v (leader_at g v []) led).1) in ap
+      (λ (b : Bool). cond b (Some []) None) zero_view,
+)
 led_begun g v (r ∷ K) led = elim (cases_bool (is_led g v K)) [
   | inl before ↦
       let old = led_begun g v K before in
@@ -224,5 +228,6 @@ start_is g v (r ∷ K) =
     by_start None is true led = let begun = led_begun g v K led in absurd (none-some begun.0 (sym is ∙ begun.1))
     by_start None is false led =
         let acts = actor_eq r.actor (Replica (leader_of g.f v)) in
-        ap (λ (b : Bool). cond b (Some (keys_of (leader_at g v (r ∷ K)).log.entries)) None) (leads_is g v r K ∙ led_test g v r K acts (is_led g v (r ∷ K)) refl refl led)
+        ap (λ (b : Bool). cond b (Some (keys_of (leader_at g v (r ∷ K)).log.entries)) None)
+        (leads_is g v r K ∙ led_test g v r K acts (is_led g v (r ∷ K)) refl refl led)
         ∙ some_keys (is_led g v (r ∷ K)) (leader_at g v (r ∷ K)).log.entries

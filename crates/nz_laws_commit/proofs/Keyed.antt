@@ -117,7 +117,8 @@ leader_own : (g : Group) (J : List Record) → World g J → (v : ℕ) → HaveO
 leader_own g J w v =
     let s = leader_at g v J in
     let facts = facts_stay g J (leader_of g.f v) w in
-    own_front (keys_of s.log.entries) (keys_of (s.early ++ s.late)) (subst HaveOwnIds (keys_append s.log.entries (s.early ++ s.late)) facts.entries.arranged.own_ids)
+    own_front (keys_of s.log.entries) (keys_of (s.early ++ s.late))
+    (subst HaveOwnIds (keys_append s.log.entries (s.early ++ s.late)) facts.entries.arranged.own_ids)
 
 pub lead_own : (g : Group) (J : List Record) → World g J → (v : ℕ) → HaveOwnIds (keys_of (lead g v J))
 unfolding lead

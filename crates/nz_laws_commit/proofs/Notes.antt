@@ -112,10 +112,11 @@ now g q id reply r J none by heard = record {
 with_note_cases : (replies : List Reply) (n reply : Reply) (b : Bool) → IsNoted reply (cond b replies (replies ++ n ∷ []))
     → IsNoted reply replies ⊎ (n ≡ reply)
 with_note_cases replies n reply true h = inl h
-with_note_cases replies n reply false h = elim (or_cases (list_any (reply_eq reply) replies) (list_any (reply_eq reply) (n ∷ [])) (sym (list_any-append (reply_eq reply) replies (n ∷ [])) ∙ h)) [
-  | inl a ↦ inl a
-  | inr b ↦ elim (or_cases (reply_eq reply n) false b) [ inl same ↦ inr (sym (same_reply reply n same)) | inr none ↦ absurd cc ]
-]
+with_note_cases replies n reply false h = elim
+    (or_cases (list_any (reply_eq reply) replies) (list_any (reply_eq reply) (n ∷ [])) (sym (list_any-append (reply_eq reply) replies (n ∷ [])) ∙ h)) [
+      | inl a ↦ inl a
+      | inr b ↦ elim (or_cases (reply_eq reply n) false b) [ inl same ↦ inr (sym (same_reply reply n same)) | inr none ↦ absurd cc ]
+    ]
 
 -- a reply that stands once the record was handled, over an open request
 pub moment_of : (g : Group) (q : ℕ) (id : Id) (r : Record) (J : List Record) (replies : List Reply) (n reply : Reply) → r.actor ≡ Proxy q
@@ -133,22 +134,30 @@ moment_of g q id r J replies n reply by before heard old noted =
 
 -- what is known before and after a record
 pub standing_moves : (g : Group) (r : Record) (J : List Record) (q : ℕ) (id : Id)
-    → ((r.actor ≡ Proxy q) × Moves g.f (reply_read id (read_in g (Proxy q) r.event)) (standing_after g q id J) (standing_after g q id (r ∷ J))) ⊎ (standing_after g q id (r ∷ J) ≡ standing_after g q id J)
+    → ((r.actor ≡ Proxy q) × Moves g.f (reply_read id (read_in g (Proxy q) r.event)) (standing_after g q id J) (standing_after g q id (r ∷ J))) ⊎
+    (standing_after g q id (r ∷ J) ≡ standing_after g q id J)
 standing_moves g r J q id = elim (may_act g (Proxy q) r J).cases [
-  | inl a ↦ inl (a.0, subst (λ (s : ProxyData). Moves g.f (reply_read id (read_in g (Proxy q) r.event)) (standing_after g q id J) (standing_of s id)) (sym a.1) (event_moves g q (state_after g (Proxy q) J) id r.event))
+  | inl a ↦ inl (
+    a.0,
+    subst (λ (s : ProxyData). Moves g.f (reply_read id (read_in g (Proxy q) r.event)) (standing_after g q id J) (standing_of s id))
+        (sym a.1) (event_moves g q (state_after g (Proxy q) J) id r.event),
+  )
   | inr s ↦ inr (ap (λ (t : ProxyData). standing_of t id) s)
 ]
 
 after_moves : (g : Group) (r : Record) (J : List Record) (q : ℕ) (id : Id) (reply : Reply) → r.actor ≡ Proxy q
     → Moves g.f (reply_read id (read_in g (Proxy q) r.event)) (standing_after g q id J) (standing_after g q id (r ∷ J))
-    → (IsNoted reply (replies_of (standing_after g q id J)) → HasMoment g q id reply J) → IsNoted reply (replies_of (standing_after g q id (r ∷ J))) → HasMoment g q id reply (r ∷ J)
+    → (IsNoted reply (replies_of (standing_after g q id J)) → HasMoment g q id reply J) → IsNoted reply (replies_of (standing_after g q id (r ∷ J)))
+    → HasMoment g q id reply (r ∷ J)
 after_moves g r J q id reply by (Stays e) old noted =
     let there = subst (λ (o : Option Standing). IsNoted reply (replies_of o)) e noted in later g q id reply r J there (old there)
 after_moves g r J q id reply by (Forgets after) old noted = absurd (let t = subst (λ (o : Option Standing). IsNoted reply (replies_of o)) after noted in cc)
-after_moves g r J q id reply by (Opens before after) old noted = absurd (let t = subst (λ (o : Option Standing). IsNoted reply (replies_of o)) after noted in cc)
+after_moves g r J q id reply by (Opens before after) old noted = absurd
+    (let t = subst (λ (o : Option Standing). IsNoted reply (replies_of o)) after noted in cc)
 after_moves g r J q id reply by (Notes replies n before heard after) old noted =
     moment_of g q id r J replies n reply by before heard old (subst (λ (o : Option Standing). IsNoted reply (replies_of o)) after noted)
-after_moves g r J q id reply by (Decides replies n chosen a before heard d is after) old noted = absurd (let t = subst (λ (o : Option Standing). IsNoted reply (replies_of o)) after noted in cc)
+after_moves g r J q id reply by (Decides replies n chosen a before heard d is after) old noted = absurd
+    (let t = subst (λ (o : Option Standing). IsNoted reply (replies_of o)) after noted in cc)
 
 -- each noted reply has its moment
 pub has_moment : (g : Group) (J : List Record) (q : ℕ) (id : Id) (reply : Reply) → IsNoted reply (replies_of (standing_after g q id J))
@@ -220,5 +229,6 @@ noted_source g J q id reply a w h answer =
       source = at;
       is = b.is;
       said = b.said;
-      given = given_later g J b.moment b.at (view_of reply) id a (prefix_at_source g id at) (reply_given g b.moment b.run b.parcel e (view_of reply) id a known b.told answering);
+      given = given_later g J b.moment b.at (view_of reply) id a (prefix_at_source g id at)
+          (reply_given g b.moment b.run b.parcel e (view_of reply) id a known b.told answering);
     }

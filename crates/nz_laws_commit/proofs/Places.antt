@@ -60,7 +60,11 @@ pub record IsIn (id : Id) (xs : List Entry) (i : ℕ) : Type 0 where
 place_by : (id : Id) (x : Entry) (xs : List Entry) (i j : ℕ) → id_eq id (id_of x.key) ≡ false → suc j ≡ i → IsIn id xs j → IsIn id (x ∷ xs) i
 place_by id x xs i j away same h =
     let within = h.within in
-    subst (IsIn id (x ∷ xs)) same (record { within = omega (arith, within); taken = place_there (id_eq id (id_of x.key)) (place_of (take (suc j) xs) id) (suc j) j away h.taken refl })
+    subst (IsIn id (x ∷ xs)) same (record {
+      within = omega (arith, within);
+      taken = place_there (id_eq id (id_of x.key)) (place_of (take (suc j) xs) id)
+          (suc j) j away h.taken refl;
+    })
 
 pub place_in : (id : Id) (xs : List Entry) (i : ℕ) → place_of xs id ≡ Some i → IsIn id xs i
 place_in id [] i e = absurd (none-some i e)
@@ -87,7 +91,8 @@ absent_append : (id : Id) (xs rest : List Entry) (i : ℕ) → has_id (keys_of x
 absent_append id [] rest i h e = omega arith
 absent_append id (x ∷ xs) rest i h e = elim (place_cases (id_eq id (id_of x.key)) (place_of (xs ++ rest) id) i e) [
   | inl k ↦ absurd (let away = neither_left (id_eq id (id_of x.key)) (has_id (keys_of xs) id) h in let both : true ≡ false = sym k.0 ∙ away in cc)
-  | inr k ↦ let ih = absent_append id xs rest k.1.0 (neither_right (id_eq id (id_of x.key)) (has_id (keys_of xs) id) h) k.1.1.0 in let same = k.1.1.1 in omega (arith, ih, same)
+  | inr k ↦ let ih = absent_append id xs rest k.1.0
+      (neither_right (id_eq id (id_of x.key)) (has_id (keys_of xs) id) h) k.1.1.0 in let same = k.1.1.1 in omega (arith, ih, same)
 ]
 
 -- it is after the prefix

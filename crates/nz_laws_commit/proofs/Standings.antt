@@ -42,7 +42,8 @@ moves_by : (f : ℕ) (s : ProxyData) (x id : Id) (v : Standing) (heard : Option 
     → (x ≡ id → Moves f heard (standing_of s x) (Some v)) → Moves f heard (standing_of s x) (standing_of (with_standing s id v) x)
 moves_by f s x id v heard true e h =
     let same = same_id x id e in
-    let found : standing_of (with_standing s id v) x ≡ Some v = ap (λ (y : Id). lookup (id_eq y) (insert_entry id_eq s.standings id v)) same ∙ lookup_inserted s.standings id v in
+    let found : standing_of (with_standing s id v) x ≡ Some v = ap (λ (y : Id). lookup (id_eq y) (insert_entry id_eq s.standings id v)) same
+    ∙ lookup_inserted s.standings id v in
     subst (Moves f heard (standing_of s x)) (sym found) (h same)
 moves_by f s x id v heard false e h = Stays (lookup_other s.standings x id v e)
 
@@ -59,13 +60,16 @@ stamped_moves f s x id command heard (Some (Decided a p)) e = Stays refl
 answered_moves : (f : ℕ) (s : ProxyData) (x id : Id) (replies : List Reply) (r : Reply) (chosen : Chosen) (heard : Option Reply) (o : Option Answer)
     → standing_of s id ≡ Some (Open replies) → (x ≡ id → heard ≡ Some r) → decision f (with_note replies r) ≡ Some chosen → answer_in chosen.reply ≡ o
     → Moves f heard (standing_of s x) (standing_of (answered s id (with_note replies r) chosen.path o).0 x)
-answered_moves f s x id replies r chosen heard None e h d is = standing_moves f s x id (Open (with_note replies r)) heard (λ same. Notes replies r (ap (standing_of s) same ∙ e) (h same) refl)
-answered_moves f s x id replies r chosen heard (Some a) e h d is = standing_moves f s x id (Decided a chosen.path) heard (λ same. Decides replies r chosen a (ap (standing_of s) same ∙ e) (h same) d is refl)
+answered_moves f s x id replies r chosen heard None e h d is = standing_moves f s x id (Open (with_note replies r)) heard
+    (λ same. Notes replies r (ap (standing_of s) same ∙ e) (h same) refl)
+answered_moves f s x id replies r chosen heard (Some a) e h d is = standing_moves f s x id (Decided a chosen.path) heard
+    (λ same. Decides replies r chosen a (ap (standing_of s) same ∙ e) (h same) d is refl)
 
 decided_moves : (f : ℕ) (s : ProxyData) (x id : Id) (replies : List Reply) (r : Reply) (heard : Option Reply) (o : Option Chosen)
     → standing_of s id ≡ Some (Open replies) → (x ≡ id → heard ≡ Some r) → decision f (with_note replies r) ≡ o
     → Moves f heard (standing_of s x) (standing_of (decided_as s id (with_note replies r) o).0 x)
-decided_moves f s x id replies r heard None e h d = standing_moves f s x id (Open (with_note replies r)) heard (λ same. Notes replies r (ap (standing_of s) same ∙ e) (h same) refl)
+decided_moves f s x id replies r heard None e h d = standing_moves f s x id (Open (with_note replies r)) heard
+    (λ same. Notes replies r (ap (standing_of s) same ∙ e) (h same) refl)
 decided_moves f s x id replies r heard (Some chosen) e h d = answered_moves f s x id replies r chosen heard (answer_in chosen.reply) e h d refl
 
 noted_moves : (f : ℕ) (s : ProxyData) (x id : Id) (r : Reply) (heard : Option Reply) (o : Option Standing) → standing_of s id ≡ o
@@ -88,15 +92,18 @@ message_moves : (f : ℕ) (s : ProxyData) (x : Id) (from : Actor) (m : Message)
     → Moves f (reply_in x from m) (standing_of s x) (standing_of (proxy_message f s from m).0 x)
 message_moves f s x (Client c) (messages.Request b) = stamp_moves f s x c b None
 message_moves f s x (Replica r) (messages.FastReply b) =
-    reply_moves f s x r b.id b.delay (of_fast r b) (reply_in x (Replica r) (messages.FastReply b)) (λ same. ap (λ t. cond t (Some (of_fast r b)) None) (ap (id_eq b.id) same ∙ id_eq_self b.id))
+    reply_moves f s x r b.id b.delay (of_fast r b) (reply_in x (Replica r) (messages.FastReply b))
+    (λ same. ap (λ t. cond t (Some (of_fast r b)) None) (ap (id_eq b.id) same ∙ id_eq_self b.id))
 message_moves f s x (Replica r) (messages.SlowReply b) =
-    reply_moves f s x r b.id b.delay (of_slow r b) (reply_in x (Replica r) (messages.SlowReply b)) (λ same. ap (λ t. cond t (Some (of_slow r b)) None) (ap (id_eq b.id) same ∙ id_eq_self b.id))
+    reply_moves f s x r b.id b.delay (of_slow r b) (reply_in x (Replica r) (messages.SlowReply b))
+    (λ same. ap (λ t. cond t (Some (of_slow r b)) None) (ap (id_eq b.id) same ∙ id_eq_self b.id))
 message_moves f s x _ _ = Stays refl
 
 -- a proxy that is down hears nothing
 up_moves : (f : ℕ) (heard : Option Reply) (s : ProxyData) (x : Id) (t : ProxyData × List Out) → Moves f heard (standing_of s x) (standing_of t.0 x)
     → Moves f heard (standing_of s x) (standing_of (cond s.is_down (s, []) t).0 x)
-up_moves f heard s x t h = on_cond (λ (u : ProxyData × List Out). Moves f heard (standing_of s x) (standing_of u.0 x)) s.is_down (s, []) t (λ _. Stays refl) (λ _. h)
+up_moves f heard s x t h = on_cond (λ (u : ProxyData × List Out). Moves f heard (standing_of s x) (standing_of u.0 x)) s.is_down (s, []) t (λ _. Stays refl)
+    (λ _. h)
 
 envelope_moves : (g : Group) (q : ℕ) (s : ProxyData) (x : Id) (o : Option Envelope)
     → Moves g.f (reply_read x o) (standing_of s x) (standing_of (envelope_step g (Proxy q) s o).0 x)
@@ -111,4 +118,5 @@ event_moves g q s x (Cut p kept) = Stays refl
 event_moves g q s x (Tick clock) = up_moves g.f None s x (clock_rule s clock, []) (Stays refl)
 event_moves g q s x Alarm = Stays refl
 event_moves g q s x Crash = Forgets refl
-event_moves g q s x (Restart nonce) = on_cond (λ (t : ProxyData). Moves g.f None (standing_of s x) (standing_of t x)) s.is_down (first_proxy g.f) s (λ _. Forgets refl) (λ _. Stays refl)
+event_moves g q s x (Restart nonce) = on_cond (λ (t : ProxyData). Moves g.f None (standing_of s x) (standing_of t x)) s.is_down (first_proxy g.f) s
+    (λ _. Forgets refl) (λ _. Stays refl)

@@ -50,7 +50,8 @@ record SameFast (r v : ℕ) (d u : List ℕ) (m w : ℕ) (e x : List ℕ) : Type
   digest : d ≡ e
   vector : u ≡ x
 
-same_fast : (r v : ℕ) (d u : List ℕ) (a : Option Answer) (m w : ℕ) (e x : List ℕ) (b : Option Answer) → Fast r v d u a ≡ Fast m w e x b → SameFast r v d u m w e x
+same_fast : (r v : ℕ) (d u : List ℕ) (a : Option Answer) (m w : ℕ) (e x : List ℕ) (b : Option Answer) → Fast r v d u a ≡ Fast m w e x b
+    → SameFast r v d u m w e x
 same_fast r v d u a m w e x b is = record { replica = cc; view = cc; digest = cc; vector = cc }
 
 same_slow : (r v m w : ℕ) → Slow r v ≡ Slow m w → (r ≡ m) × (v ≡ w)
@@ -114,7 +115,8 @@ agrees view digest vector y (Fast r v d u a) h =
     let digests = same_bytes d digest (and_left (bytes_eq d digest) (bytes_eq u vector) more) in
     let vectors = same_bytes u vector (and_right (bytes_eq d digest) (bytes_eq u vector) more) in
     inr (a, λ i. Fast (replica i) (views i) (digests i) (vectors i) a)
-agrees view digest vector y (Slow r v) h = inl (λ i. Slow (eqb-true r y (and_left (eqb r y) (eqb v view) h) i) (eqb-true v view (and_right (eqb r y) (eqb v view) h) i))
+agrees view digest vector y (Slow r v) h = inl
+    (λ i. Slow (eqb-true r y (and_left (eqb r y) (eqb v view) h) i) (eqb-true v view (and_right (eqb r y) (eqb v view) h) i))
 
 -- ---- the support
 
@@ -130,9 +132,12 @@ module _ (g : Group) (J : List Record) (w : World g J) (h : RunLaws (logs_of g) 
       let normal = is_normal_at g m v moment s.shows.normal view in
       let up : IsUpIn (logs_of g) m v moment = record { up = normal_up_status t.status s.shows.normal; last = h.modes m moment s.at normal.status ∙ view } in
       let synced = h.synced_lead m v moment s.at up in
-      let whole = prefix_then (take t.log.synced (keys_of t.log.entries)) ((logs_of g).lead v moment) ((logs_of g).lead v J) synced (h.lead_grows v moment J (at_self J) s.at) in
-      let there : IsAt (keys_of t.log.entries) id s.shows.place = place_key t.log.entries id s.shows.place (ap (place_of t.log.entries) (sym s.same) ∙ s.shows.stands) in
-      let in_lead = at_longer (take t.log.synced (keys_of t.log.entries)) ((logs_of g).lead v J) id s.shows.place whole (at_taken t.log.synced (keys_of t.log.entries) id s.shows.place s.shows.synced there) in
+      let whole = prefix_then (take t.log.synced (keys_of t.log.entries)) ((logs_of g).lead v moment) ((logs_of g).lead v J) synced
+      (h.lead_grows v moment J (at_self J) s.at) in
+      let there : IsAt (keys_of t.log.entries) id s.shows.place = place_key t.log.entries id s.shows.place
+      (ap (place_of t.log.entries) (sym s.same) ∙ s.shows.stands) in
+      let in_lead = at_longer (take t.log.synced (keys_of t.log.entries)) ((logs_of g).lead v J) id s.shows.place whole
+      (at_taken t.log.synced (keys_of t.log.entries) id s.shows.place s.shows.synced there) in
       let mine = at_longer (keys_of P) ((logs_of g).lead v J) id place part (place_key P id place stands) in
       let one = one_place ((logs_of g).lead v J) id place s.shows.place (subst HaveOwnIds (sym (lead_is g v J)) (lead_own g J w v)) mine in_lead in
       let long : length (keys_of P) ≡ length P = length-map P (λ (e : Entry). e.key) in
@@ -203,7 +208,8 @@ module _ (g : Group) (J : List Record) (w : World g J) (h : RunLaws (logs_of g) 
     prefix_is = at_source ∙ ap (λ (x : Actor). cut_after id (log_at g x source.run)) by ∙ ap (λ (L : List Record). cut_after id (log_at g (Replica m) L)) s.is
 
     own_holds : IsPrefix (keys_of P) (keys_of (replica_at g m moment).log.entries)
-    own_holds = subst (λ (l : List Entry). IsPrefix (keys_of l) (keys_of (replica_at g m moment).log.entries)) (sym prefix_is) (cut_keys id (replica_at g m moment).log.entries)
+    own_holds = subst (λ (l : List Entry). IsPrefix (keys_of l) (keys_of (replica_at g m moment).log.entries)) (sym prefix_is)
+        (cut_keys id (replica_at g m moment).log.entries)
 
     led : IsLedAt (logs_of g) v (keys_of P) moment J
     led = record {
@@ -222,7 +228,8 @@ module _ (g : Group) (J : List Record) (w : World g J) (h : RunLaws (logs_of g) 
     over = subst (λ (l : List Entry). HasReplyOver g J (map entry_key l)) (sym prefix_is) s.over
 
     digest_is : d ≡ digest (map entry_key P)
-    digest_is = same.digest ∙ said_digest g J id m (Fast (leader_of g.f v) v d u a) source.run s ∙ ap (λ (l : List Entry). digest (map entry_key l)) (sym prefix_is)
+    digest_is = same.digest ∙ said_digest g J id m (Fast (leader_of g.f v) v d u a) source.run s
+        ∙ ap (λ (l : List Entry). digest (map entry_key l)) (sym prefix_is)
 
     vector_is : u ≡ (replica_at g (leader_of g.f v) moment).vector
     vector_is = subst (λ (z : ℕ). u ≡ (replica_at g z moment).vector) (sym same.replica) (same.vector ∙ s.shows.vector)
@@ -259,12 +266,14 @@ module _ (g : Group) (J : List Record) (w : World g J) (h : RunLaws (logs_of g) 
         let many = count_below (replica_count g.f) (stands_fast g.f backed.replies (Fast (leader_of g.f v) v d u a)) in
         quickly (logs_of g) J h v (keys_of P) moment led (stands_fast g.f backed.replies (Fast (leader_of g.f v) v d u a))
         (leb-true (fast_size g.f) many (and_right leads _ q))
-        (λ y test. subst (λ (x : List ℕ). (y ≡ leader_of g.f v) ⊎ (HadSynced (logs_of g) v y (length (keys_of P)) J ⊎ FastReplied (logs_of g) v y (keys_of P) x J)) vector_is (each_fast y test))
+        (λ y test. subst (λ (x : List ℕ). (y ≡ leader_of g.f v) ⊎
+        (HadSynced (logs_of g) v y (length (keys_of P)) J ⊎ FastReplied (logs_of g) v y (keys_of P) x J)) vector_is (each_fast y test))
 
     supported : Support (logs_of g) v (keys_of P) J
     supported = by_quorum backed.quorum
 
-  by_source : (v : ℕ) (P : List Entry) (id : Id) (place : ℕ) → place_of P id ≡ Some place → length P ≡ suc place → (d u : List ℕ) (a : Option Answer) (source : ReplySource)
+  by_source : (v : ℕ) (P : List Entry) (id : Id) (place : ℕ) → place_of P id ≡ Some place → length P ≡ suc place
+      → (d u : List ℕ) (a : Option Answer) (source : ReplySource)
       → P ≡ prefix_at_source g id source → (backed : IsBacked g J id (Fast (leader_of g.f v) v d u a) source) → Support (logs_of g) v (keys_of P) J
   by_source v P id place stands ends d u a source at_source backed = by_said backed.own
     where
@@ -277,7 +286,8 @@ module _ (g : Group) (J : List Record) (w : World g J) (h : RunLaws (logs_of g) 
   leads_quorum replies reply (ByFast q) = and_left (is_of_leader g.f reply) _ q
 
   by_reply : (v : ℕ) (P : List Entry) (id : Id) (place : ℕ) → place_of P id ≡ Some place → length P ≡ suc place → (reply : Reply) (source : ReplySource)
-      → view_of reply ≡ v → P ≡ prefix_at_source g id source → IsBacked g J id reply source → is_of_leader g.f reply ≡ true → Support (logs_of g) v (keys_of P) J
+      → view_of reply ≡ v → P ≡ prefix_at_source g id source → IsBacked g J id reply source → is_of_leader g.f reply ≡ true
+      → Support (logs_of g) v (keys_of P) J
   by_reply v P id place stands ends (Slow r n) source view at_source backed leads = absurd cc
   by_reply v P id place stands ends (Fast r n d u a) source view at_source backed leads =
       let leader : r ≡ leader_of g.f v = eqb-true r (leader_of g.f n) (and_left (eqb r (leader_of g.f n)) (is_some a) leads) ∙ ap (leader_of g.f) view in

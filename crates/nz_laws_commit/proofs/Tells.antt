@@ -63,7 +63,8 @@ record IsAcceptance (c : ℕ) (before after : ClientData) (o : Option Envelope) 
 
 in_message : (c : ℕ) (before after : ClientData) (m : Message) (x : Told) → Has (accepted_in c before after m) x
     → (b : AnswerBody) × ((m ≡ Answered b) × ((nat_lt before.accepted after.accepted ≡ true) × (Accepted (id_at c before.sent) b.answer b.path ≡ x)))
-in_message c before after (Answered b) x h = let t = one_told (nat_lt before.accepted after.accepted) (Accepted (id_at c before.sent) b.answer b.path) x h in (b, (refl, (t.0, t.1)))
+in_message c before after (Answered b) x h = let t = one_told (nat_lt before.accepted after.accepted) (Accepted (id_at c before.sent) b.answer b.path) x h in
+    (b, (refl, (t.0, t.1)))
 in_message c before after _ x h = absurd h
 
 acceptance : (c : ℕ) (before after : ClientData) (o : Option Envelope) (x : Told) → Has (accepted_by c before after o) x
@@ -77,7 +78,8 @@ acceptance c before after (Some e) x h =
       message = t.1.0;
       more = ltb-true before.accepted after.accepted t.1.1.0;
       is = t.1.1.1;
-      alone = ap (accepted_in c before after) t.1.0 ∙ ap (λ b. cond b (Accepted (id_at c before.sent) t.0.answer t.0.path ∷ []) []) t.1.1.0 ∙ ap (λ (y : Told). y ∷ []) t.1.1.1;
+      alone = ap (accepted_in c before after) t.1.0 ∙ ap (λ b. cond b (Accepted (id_at c before.sent) t.0.answer t.0.path ∷ []) []) t.1.1.0
+          ∙ ap (λ (y : Told). y ∷ []) t.1.1.1;
     }
 acceptance c before after None x h = absurd h
 
@@ -88,7 +90,8 @@ not_sent c before after o id command h = let t = acceptance c before after o (Se
 pub not_accepted : (g : Group) (c : ℕ) (before after : ClientData) (id : Id) (answer : Answer) (path : Path)
     → Has (sent_by c (script_of g c) before after) (Accepted id answer path) → ⊥
 not_accepted g c before after id answer path h =
-    let t = one_told (nat_lt before.sent after.sent) (Sent (id_at c after.sent) (command_at (script_of g c) after.sent)) (Accepted id answer path) h in let k = t.1 in absurd cc
+    let t = one_told (nat_lt before.sent after.sent) (Sent (id_at c after.sent) (command_at (script_of g c) after.sent))
+    (Accepted id answer path) h in let k = t.1 in absurd cc
 
 told_sent_by : (g : Group) (a : Actor) (r : Record) (J : List Record) (id : Id) (command : List ℕ) → r.actor ≡ a
     → Has (told_by g a r J) (Sent id command) → Sends g r J id
@@ -99,7 +102,13 @@ told_sent_by g (Client c) r J id command by h =
       | inl x ↦ absurd (not_sent c before after (read_in g (Client c) r.event) id command x)
       | inr x ↦
           let t = one_told (nat_lt before.sent after.sent) (Sent (id_at c after.sent) (command_at (script_of g c) after.sent)) (Sent id command) x in
-          record { client = c; by = by; more = ltb-true before.sent after.sent t.0; id_is = sym (same_sent (id_at c after.sent) id (command_at (script_of g c) after.sent) command t.1) }
+          record {
+            client = c;
+            by = by;
+            more = ltb-true before.sent after.sent t.0;
+            id_is = sym
+                (same_sent (id_at c after.sent) id (command_at (script_of g c) after.sent) command t.1);
+          }
     ]
 told_sent_by g (Replica m) r J id command by h = absurd h
 told_sent_by g (Proxy p) r J id command by h = absurd h
@@ -159,7 +168,8 @@ pub count_rises : (g : Group) (c : ℕ) (r : Record) (J : List Record) → Rises
 count_rises g c r J =
     let before = state_after g (Client c) J in
     elim (may_act g (Client c) r J).cases [
-      | inl a ↦ let t = client_turns g c before r.event (numbered g c J) in subst (λ (s : ClientData). Rises before.sent s.sent) (sym a.1) (record { more = t.more; one = t.one })
+      | inl a ↦ let t = client_turns g c before r.event (numbered g c J) in subst (λ (s : ClientData). Rises before.sent s.sent) (sym a.1)
+          (record { more = t.more; one = t.one })
       | inr s ↦ subst (λ (s : ClientData). Rises before.sent s.sent) (sym s) (record { more = omega arith; one = omega arith })
     ]
 
@@ -193,7 +203,8 @@ own_told g c r J by lt =
     let after = state_after g (Client c) (r ∷ J) in
     let x : Told = Sent (id_at c after.sent) (command_at (script_of g c) after.sent) in
     let here : Has (sent_by c (script_of g c) before after) x = subst (λ b. Has (cond b (x ∷ []) []) x) (sym (lt-ltb before.sent after.sent lt)) (inl refl) in
-    subst (λ (y : Actor). Has (told_by g y r J) x) (sym by) (has_right (accepted_by c before after (read_in g (Client c) r.event)) (sent_by c (script_of g c) before after) x here)
+    subst (λ (y : Actor). Has (told_by g y r J) x) (sym by)
+    (has_right (accepted_by c before after (read_in g (Client c) r.event)) (sent_by c (script_of g c) before after) x here)
 
 last_sent : (g : Group) (c : ℕ) (r : Record) (J : List Record) (n : ℕ) → HasSent c g (state_after g (Client c) J).sent (events g J) → 0 < n
     → n ≤ (state_after g (Client c) (r ∷ J)).sent → (state_after g (Client c) J).sent < n
@@ -203,7 +214,8 @@ last_sent g c r J n h some le lt = elim (may_act g (Client c) r J).cases [
       let k = count_rises g c r J in
       let same : (state_after g (Client c) (r ∷ J)).sent ≡ n = omega (arith, k.one, le, lt) in
       subst (λ (m : ℕ). Has (told_by g r.actor r J) (Sent (id_at c m) (command_at (script_of g c) m))) same (own_told g c r J a.0 (omega (arith, same, lt)))
-  | inr s ↦ let k : (state_after g (Client c) (r ∷ J)).sent ≡ (state_after g (Client c) J).sent = ap (λ (x : ClientData). x.sent) s in absurd (omega (arith, k, le, lt))
+  | inr s ↦ let k : (state_after g (Client c) (r ∷ J)).sent ≡ (state_after g (Client c) J).sent = ap (λ (x : ClientData). x.sent) s in absurd
+      (omega (arith, k, le, lt))
 ]
 
 pub has_sent : (g : Group) (c : ℕ) (J : List Record) → HasSent c g (state_after g (Client c) J).sent (events g J)
@@ -211,7 +223,8 @@ unfolding state_after
 has_sent g c [] = record { each = λ n some le. absurd (omega (arith, some, le)) }
 has_sent g c (r ∷ J) = record {
   each = λ n some le. elim (cases_lt (state_after g (Client c) J).sent n) [
-    | inl lt ↦ has_right (events g J) (told_by g r.actor r J) (Sent (id_at c n) (command_at (script_of g c) n)) (last_sent g c r J n (has_sent g c J) some le lt)
+    | inl lt ↦ has_right (events g J) (told_by g r.actor r J) (Sent (id_at c n) (command_at (script_of g c) n))
+        (last_sent g c r J n (has_sent g c J) some le lt)
     | inr old ↦ has_left (events g J) (told_by g r.actor r J) (Sent (id_at c n) (command_at (script_of g c) n)) ((has_sent g c J).each n some old)
   ];
 }

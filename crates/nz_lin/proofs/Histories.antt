@@ -95,14 +95,22 @@ covered_now g r J id a path w h =
 
 covered_at : (g : Group) (r : Record) (J : List Record) (id : Id) (a : Answer) → IsCoveredBy g r J id a → IsCovered g (r ∷ J) id a
 covered_at g r J id a h =
-    record { prefix = h.prefix; accepted = h.accepted; view = h.view; given = given_later g (r ∷ J) J (inr (at_self J)) h.view id a h.prefix h.given; short = h.short }
+    record {
+      prefix = h.prefix;
+      accepted = h.accepted;
+      view = h.view;
+      given = given_later g (r ∷ J) J
+          (inr (at_self J)) h.view id a h.prefix h.given;
+      short = h.short;
+    }
 
 -- a request that is sent now is in no log of before
 absent_now : (g : Group) (r : Record) (J : List Record) (other : Id) (command : List ℕ) (v : ℕ) (id : Id) (a : Answer) (P : List Entry) → World g J
     → Has (told_by g r.actor r J) (Sent other command) → IsGiven g J v id a P → has_id (keys_of P) other ≡ false
 absent_now g r J other command v id a P w h given =
     let new = told_sent g r J other command h in
-    absent_by other P (λ e within same. not_sent_before g r J other e.command new (subst (λ (i : Id). Has (events g J) (Sent i e.command)) same (given_sent g J w v id a P given e within)))
+    absent_by other P (λ e within same. not_sent_before g r J other e.command new
+    (subst (λ (i : Id). Has (events g J) (Sent i e.command)) same (given_sent g J w v id a P given e within)))
 
 before_now : (g : Group) (r : Record) (J : List Record) (id : Id) (a : Answer) (other : Id) (command : List ℕ) → World g (r ∷ J)
     → Has (told_by g r.actor r J) (Sent other command) → IsCoveredBy g r J id a → IsBefore g (r ∷ J) id a other
