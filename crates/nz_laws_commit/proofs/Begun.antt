@@ -2,6 +2,7 @@
 use Rattle.std.proofs.Common.{◌≡◌, ℕ, suc, ◌≤◌, ◌<◌, true, false, List, [], ◌∷◌, length, map, Option, Some, None, refl, sym, ap, subst, ◌∙◌, inl, inr, arith}
 use Rattle.std.specs.List.{AllByRecursion}
 use Rattle.std.specs.Option.{option_map}
+use Rattle.std.proofs.lemmas.List.{length-map}
 use Rattle.std.proofs.lemmas.List.Elements.{All-from_recursion}
 use Rattle.std.proofs.lemmas.Option.{none-some, same_Some}
 use Rattle.nz_base.specs.Cluster.{leader_of}
@@ -120,7 +121,7 @@ module _ (g : Group) (J : List Record) (world : World g J) (w : ℕ) (r : Record
         let members : senders changes ≡ l ∷ map reporter (leader_at g w B).changes = ap (λ (ns : List ℕ). l ∷ ns) (senders_are (leader_at g w B).changes) in
         let full = full_is g J w r K here (shows g B here) led not_led in
         let same = ap length members in
-        let long = length_senders changes in
+        let long = length-map changes (λ (c : Change). c.sender) in
         record {
           changes = changes;
           merged = sym is ∙ ap keys_of log.entries;
@@ -129,10 +130,6 @@ module _ (g : Group) (J : List Record) (world : World g J) (w : ℕ) (r : Record
           reports = All-from_recursion (λ (c : Change). IsMemberReport (logs_of g) w c J) changes
               (own_report, all_reports (λ (c : Change). IsMemberReport (logs_of g) w c J) (leader_at g w B).changes other_report);
         }
-      where
-        length_senders : (cs : List Change) → length (senders cs) ≡ length cs
-        length_senders [] = refl
-        length_senders (c ∷ cs) = ap suc (length_senders cs)
 
 -- a view above 0 began with merged reports
 pub begins_of : (g : Group) (J : List Record) → World g J → (w : ℕ) (S : List Key) → 0 < w → (logs_of g).start w J ≡ Some S → IsMergeOfReports (logs_of g) w S J

@@ -281,7 +281,7 @@ told_start : (g : Group) (y : ℕ) (r : Record) (K : List Record) → World g (r
     → heard_by g y r.event ≡ Some (Replica sender, messages.StartView b) → IsToldLog g K sender b.view b.entries
 told_start g y r K w a sender b heard =
     let h = shows g K w.1 in
-    let s = letters.sent_at sender y (messages.StartView b) K (letters.was_sent g y r K w h a sender (messages.StartView b) heard) in
+    let s = letters.sent_at sender y (messages.StartView b) K (letters.was_sent g y r K w a sender (messages.StartView b) heard) in
     let told = h.start_view sender y b s.record_of s.older s.at s.sends in
     record { told = s.record_of ∷ s.older; moment = s.at; normal = told.normal; view = told.view; entries = told.entries }
 
@@ -289,7 +289,7 @@ told_state : (g : Group) (y : ℕ) (r : Record) (K : List Record) → World g (r
     → heard_by g y r.event ≡ Some (Replica sender, messages.StateTell b) → IsToldLog g K sender b.view b.entries
 told_state g y r K w a sender b heard =
     let h = shows g K w.1 in
-    let s = letters.sent_at sender y (messages.StateTell b) K (letters.was_sent g y r K w h a sender (messages.StateTell b) heard) in
+    let s = letters.sent_at sender y (messages.StateTell b) K (letters.was_sent g y r K w a sender (messages.StateTell b) heard) in
     let told = h.state_tell sender y b s.record_of s.older s.at s.sends in
     record { told = s.record_of ∷ s.older; moment = s.at; normal = told.normal; view = told.view; entries = told.entries }
 

@@ -1,6 +1,7 @@
 -- Begins: from whose reports, and that who is Normal in a view above 0 finds it begun.
 use Rattle.std.proofs.Common.{◌≡◌, ℕ, ◌<◌, Bool, true, false, ◌&&◌, not, eqb, List, [], ◌∷◌, length, map, refl, sym, ap, subst, ◌∙◌, inl, inr, arith, eqb-true, eq-eqb}
 use Rattle.std.specs.Prelude.{slice_index}
+use Rattle.std.proofs.lemmas.List.{length-map}
 use Rattle.nz_base.specs.Cluster.{replica_count, leader_of}
 use Rattle.nz_base.specs.declared.actor.Actor.TheVariants.{Replica}
 use Rattle.nz_base.proofs.Booleans.{and_left, and_right, and_both, clash, cases_bool, or_cases}
@@ -28,7 +29,7 @@ use Rattle.nz_machine.proofs.Moments.{at_world}
 use Rattle.nz_laws_cv.proofs.Passing.{sound_at, in_group, inc_grows, inc_first, first_seat}
 use Rattle.nz_laws_cv.proofs.Sent.{letter, Shows, shows_at, shows_before, sent_at, was_sent}
 use Rattle.nz_machine.proofs.Sources.{source_is, has_source}
-use Rattle.nz_laws_cv.proofs.Lists.{in_map, length_map}
+use Rattle.nz_laws_cv.proofs.Lists.{in_map}
 use Rattle.nz_laws_cv.proofs.Changes.{AreReports, collected, reporter, report_message}
 use Rattle.nz_laws_cv.proofs.Collected.{Sent, HasCollected, collected_later, collected_at, hears_sent, IsBegun, Arrives, Was, Starts, Returns, arrives, up_at, own_zero}
 use Rattle.nz_laws_cv.proofs.Collected as arrivals
@@ -96,7 +97,7 @@ begin_acts g w r K world h led not_led a b =
     let old = (collected_later g l r K (seat_at g l K) (collected_at g l K world.1 before)).reports in
     let now = normal_in_is w (replica_at g l (r ∷ K)) led in
     let view : b.body.view ≡ w = sym (ap (λ (s : Seat). s.view) b.is) ∙ now.1 in
-    let all = collected g.f l (Sent (r ∷ K) l) r.event (heard_by g l r.event) (hears_fit g l r.event) (hears_sent g l r K world before a)
+    let all = collected g.f l (Sent (r ∷ K) l) r.event (heard_by g l r.event) (hears_fit g l r.event) (hears_sent g l r K world a)
     (in_group g l r.actor a world.0.member)
     (seat_at g l K) b.sender b.body b.base (sound_at g K world.1 l) old b.new b.on in
     record {
@@ -170,13 +171,13 @@ module _ (g : Group) (J : List Record) (w : ℕ) (r : Record) (K : List Record) 
   }
 
   pub full_is : length (l ∷ map reporter (replica_at g l B).changes) ≡ slow_quorum g.f
-  full_is = let long = length_map reporter (replica_at g l B).changes in let full = of.full in omega (arith, long, full)
+  full_is = let long = length-map (replica_at g l B).changes reporter in let full = of.full in omega (arith, long, full)
 
   pub members_are : IsHeldByMany g.f (IsMemberOf g w B)
   members_are = record {
     members = l ∷ map reporter (replica_at g l B).changes;
     choice = choice_is;
-    enough = let long = length_map reporter (replica_at g l B).changes in let full = of.full in omega (arith, long, full);
+    enough = let full = full_is in omega (arith, full);
     each = λ y has. elim (or_cases (eqb l y) (is_in (map reporter (replica_at g l B).changes) y) has) [
       | inl is ↦ (B, inl (sym (eqb-true l y is), refl))
       | inr among ↦ member y among
@@ -274,12 +275,12 @@ module _ (g : Group) (r : Record) (J : List Record) (world : World g (r ∷ J)) 
       let is : b.body.view ≡ v = sym (ap (λ (s : Seat). s.view) b.is) ∙ view in
       begins_now x v (sym (ap (leader_of g.f) is) ∙ b.may.leads) normal view some (is_led g v J) refl
   arrived x v a normal view some (Starts sender b is leader same) =
-      let sent = was_sent g x r J world (shows_before g r J shows) a sender (messages.StartView b) is in
+      let sent = was_sent g x r J world a sender (messages.StartView b) is in
       let s = sent_at sender x (messages.StartView b) J sent in
       let told = (shows_before g r J shows).start_view sender x b s.record_of s.older s.at s.sends in
       at_source sender v s.record_of s.older s.at told.normal (told.view ∙ sym same ∙ view) some
   arrived x v a normal view some (Returns sender b is leader same) =
-      let sent = was_sent g x r J world (shows_before g r J shows) a sender (messages.StateTell b) is in
+      let sent = was_sent g x r J world a sender (messages.StateTell b) is in
       let s = sent_at sender x (messages.StateTell b) J sent in
       let told = (shows_before g r J shows).state_tell sender x b s.record_of s.older s.at s.sends in
       at_source sender v s.record_of s.older s.at told.normal (told.view ∙ sym same ∙ view) some

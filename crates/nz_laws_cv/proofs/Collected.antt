@@ -49,9 +49,9 @@ collected_later g m r J s h = record {
   reports = reports_stay g.f m (Sent J m) (Sent (r ∷ J) m) (λ y message sent. sent_more r J y m message sent) s h.reports;
 }
 
-pub hears_sent : (g : Group) (m : ℕ) (r : Record) (J : List Record) → World g (r ∷ J) → Shows g J → r.actor ≡ Replica m
+pub hears_sent : (g : Group) (m : ℕ) (r : Record) (J : List Record) → World g (r ∷ J) → r.actor ≡ Replica m
     → HearsSent (Sent (r ∷ J) m) m (heard_by g m r.event)
-hears_sent g m r J w h a = record { sent = λ y message is. sent_more r J y m message (was_sent g m r J w h a y message is) }
+hears_sent g m r J w a = record { sent = λ y message is. sent_more r J y m message (was_sent g m r J w a y message is) }
 
 first_collected : (g : Group) (m : ℕ) → HasCollected g m [] (seat_of (first_replica g.f))
 first_collected g m = record { tellers = first_tellers g.f m (Sent [] m); tells = first_tells g.f m (Sent [] m); reports = record { reports = λ c. absurd cc } }
@@ -64,7 +64,7 @@ collected_at g m (r ∷ J) w h =
     elim (steps g m r J) [
       | Acts a turn ↦
           let fit = hears_fit g m r.event in
-          let sent = hears_sent g m r J w before a in
+          let sent = hears_sent g m r J w a in
           let mine = in_group g m r.actor a w.0.member in
           let sound = sound_at g J w.1 m in
           record {

@@ -1,6 +1,7 @@
 -- The ground of knowledge and views, for every run of the machine whose messages show their senders' states.
 use Rattle.std.proofs.Common.{◌≡◌, ℕ, ◌≤◌, ◌<◌, true, false, List, [], ◌∷◌, length, map, Some, refl, sym, ap, subst, ◌∙◌, inl, inr, ◌⊎◌, arith}
 use Rattle.std.specs.Prelude.{slice_index}
+use Rattle.std.proofs.lemmas.List.{length-map}
 use Rattle.std.proofs.lemmas.Bool.{cases_eq}
 use Rattle.nz_base.specs.Cluster.{replica_count, leader_of}
 use Rattle.nz_base.specs.declared.actor.Actor.TheVariants.{Replica}
@@ -32,7 +33,7 @@ use Rattle.nz_laws_cv.proofs.Modes.{up_not_down, rejoin_not_down}
 use Rattle.nz_laws_cv.proofs.Passing.{inc_grows, goes_far, same_nonce, nonce_at, down_at}
 use Rattle.nz_laws_cv.proofs.Sent.{letter, Shows, shows_at, IsSent, sent_at}
 use Rattle.nz_machine.proofs.Sources.{source_is, has_source, source_stays}
-use Rattle.nz_laws_cv.proofs.Lists.{in_map, length_map}
+use Rattle.nz_laws_cv.proofs.Lists.{in_map}
 use Rattle.nz_laws_cv.proofs.Tellers.{views_settled}
 use Rattle.nz_laws_cv.proofs.Tells.{HasTells, sender_of, tell_of}
 use Rattle.nz_laws_cv.proofs.Collected.{Sent, collected_at, IsReturn, completing, up_at, rejoining_at, rejoins_later, StayedUp, Rejoined, was_up, settled_later}
@@ -276,7 +277,7 @@ module _ (g : Group) (J : List Record) (m : ℕ) (r : Record) (K : List Record) 
       below = λ y has. let t =
           in_map sender_of (replica_at g m C).rejoin.tells y has in subst (λ (z : ℕ). z < replica_count g.f) t.is (tells.each t.item t.has).below;
     };
-    enough = let long = length_map sender_of (replica_at g m C).rejoin.tells in let many = tells.enough in_log in omega (arith, long, many);
+    enough = let long = length-map (replica_at g m C).rejoin.tells sender_of in let many = tells.enough in_log in omega (arith, long, many);
     each = λ y has.
         let t = in_map sender_of (replica_at g m C).rejoin.tells y has in
         let T = has_source (letter t.item.sender m (tell_of (nonce_at g m C) t.item)) C (tells.each t.item t.has).sent.has in

@@ -1,5 +1,5 @@
 -- Lists of what was collected, each item with the number of its sender.
-use Rattle.std.proofs.Common.{◌≡◌, ℕ, suc, ◌≤◌, Bool, true, false, cond, ◌||◌, not, eqb, List, [], ◌∷◌, ◌++◌, map, length, refl, sym, ap, subst, ◌∙◌, inl, inr, ◌⊎◌, arith, eqb-true}
+use Rattle.std.proofs.Common.{◌≡◌, ℕ, ◌≤◌, Bool, true, false, cond, ◌||◌, not, eqb, List, [], ◌∷◌, ◌++◌, map, refl, sym, ap, subst, ◌∙◌, inl, inr, ◌⊎◌, arith, eqb-true}
 use Rattle.std.specs.List.{filter, list_any}
 use Rattle.nz_base.proofs.Booleans.{cases_bool, or_cases, or_left, or_right, neither_left, neither_right, clash}
 use Rattle.nz_merge.specs.Merged.{greatest}
@@ -103,7 +103,3 @@ module _ {X : Type 0} (key : X → ℕ) where
   above_each [] x h = absurd h
   above_each (y ∷ xs) x (inl e) = let same = ap key e in omega (arith, same)
   above_each (y ∷ xs) x (inr h) = let rest = above_each xs x h in omega (arith, rest)
-
-pub length_map : {X : Type 0} (key : X → ℕ) (xs : List X) → length (map key xs) ≡ length xs
-length_map key [] = refl
-length_map key (x ∷ xs) = ap suc (length_map key xs)

@@ -40,7 +40,7 @@ returned : (g : Group) (m : ℕ) (r : Record) (K : List Record) → World g (r �
 returned g m r K w h rejoins normal a d =
     let C = r ∷ K in
     let before = shows_before g r K h in
-    let sent = was_sent g m r K w before a d.sender (messages.StateTell d.body) d.new.is in
+    let sent = was_sent g m r K w a d.sender (messages.StateTell d.body) d.new.is in
     let s = sent_at d.sender m (messages.StateTell d.body) K sent in
     let T = s.record_of ∷ s.older in
     let tells = before.state_tell d.sender m d.body s.record_of s.older s.at s.sends in

@@ -1,9 +1,7 @@
 -- What a message that a record sends shows of its sender's state after that record, in the words of these laws.
-use Rattle.std.proofs.Common.{◌≡◌, ℕ, ◌≤◌, true, List, ◌∷◌, Some, subst, inr}
+use Rattle.std.proofs.Common.{◌≡◌, ℕ, ◌≤◌, true, List, ◌∷◌, Some, inr}
 use Rattle.std.specs.Prelude.{slice_index}
-use Rattle.std.proofs.lemmas.Option.{none-some}
 use Rattle.nz_base.specs.Cluster.{leader_of}
-use Rattle.nz_base.specs.declared.actor.Actor.{Actor}
 use Rattle.nz_base.specs.declared.actor.Actor.TheVariants.{Replica}
 use Rattle.nz_msg.specs.declared.message.ViewChangeBody.{ViewChangeBody}
 use Rattle.nz_msg.specs.declared.message.StartViewBody.{StartViewBody}
@@ -16,22 +14,19 @@ use Rattle.nz_msg.specs.declared.message.StateTellBody.{StateTellBody}
 use Rattle.nz_msg.specs.declared.message.Message.{Message}
 use Rattle.nz_msg.specs.declared.message.Message.TheVariants as messages
 use Rattle.nz_machine.specs.declared.event.Parcel.{Parcel}
-use Rattle.nz_machine.specs.declared.event.Event.{Event}
-use Rattle.nz_machine.specs.declared.event.Event.TheVariants.{Deliver, Cut, Tick, Alarm, Crash, Restart}
 use Rattle.nz_machine.specs.declared.event.Record.{Record}
 use Rattle.nz_machine.specs.State.{Group}
 use Rattle.nz_machine.specs.declared.data.Phase.TheVariants as phases
 use Rattle.nz_machine.specs.Replicas.{is_normal, is_changing, is_rejoining}
 use Rattle.nz_machine.specs.Rejoining.{is_phase}
 use Rattle.nz_machine.specs.Step.{parcel}
-use Rattle.nz_machine.specs.World.{Has, sent_in, World, MayHappen}
+use Rattle.nz_machine.specs.World.{Has, sent_in, World}
 use Rattle.nz_machine.specs.Incarnations.{replica_at}
 use Rattle.nz_base.specs.Moments.{At}
 use Rattle.nz_laws_cv.proofs.TurnRules.{heard_by}
 use Rattle.nz_machine.proofs.Runs.{FitsOut, has_right}
-use Rattle.nz_laws_cv.proofs.Hearing.{IsSpelled, spelled_is}
+use Rattle.nz_machine.proofs.Told as told
 use Rattle.nz_base.proofs.Moments.{at_self, at_then}
-use Rattle.nz_laws_cv.proofs.Steps.{sent_later}
 use Rattle.nz_machine.proofs.Sources.{source_is, has_source}
 
 -- a parcel between two replicas
@@ -121,10 +116,9 @@ pub record StartsView (g : Group) (y : ℕ) (b : StartViewBody) (K : List Record
   pub commit : (replica_at g y K).commit ≡ b.commit
   pub entries : (replica_at g y K).log.entries ≡ b.entries
 
--- ---- the premise
+-- ---- all kinds
 
 pub record Shows (g : Group) (J : List Record) : Type 0 where
-  pub spelled : (p : Parcel) → Has (sent_in J) p → IsSpelled p
   pub vector_ask : (y m : ℕ) (b : VectorAskBody) (r : Record) (K : List Record) → At J (r ∷ K) → Sends r y m (messages.VectorAsk b) → AsksVector g y b (r ∷ K)
   pub rejoin_ask : (y m : ℕ) (b : RejoinAskBody) (r : Record) (K : List Record) → At J (r ∷ K) → Sends r y m (messages.RejoinAsk b) → AsksView g y b (r ∷ K)
   pub state_ask : (y m : ℕ) (b : StateAskBody) (r : Record) (K : List Record) → At J (r ∷ K) → Sends r y m (messages.StateAsk b) → AsksLog g y b (r ∷ K)
@@ -136,7 +130,6 @@ pub record Shows (g : Group) (J : List Record) : Type 0 where
 
 pub shows_at : (g : Group) (J K : List Record) → Shows g J → At J K → Shows g K
 shows_at g J K h at = record {
-  spelled = λ p has. h.spelled p (sent_later p J K at has);
   vector_ask = λ y m b r L there. h.vector_ask y m b r L (at_then J K (r ∷ L) at there);
   rejoin_ask = λ y m b r L there. h.rejoin_ask y m b r L (at_then J K (r ∷ L) at there);
   state_ask = λ y m b r L there. h.state_ask y m b r L (at_then J K (r ∷ L) at there);
@@ -152,24 +145,9 @@ shows_before g r J h = shows_at g (r ∷ J) J h (inr (at_self J))
 
 -- ---- what is heard was sent
 
-sent_by_event : (g : Group) (m : ℕ) (J : List Record) (e : Event) → ((p : Parcel) → Has (sent_in J) p → IsSpelled p) → MayHappen J (Replica m) e
-    → (y : ℕ) (message : Message) → heard_by g m e ≡ Some (Replica y, message) → IsSent J y m message
-sent_by_event g m J (Deliver p) h may y message is =
-    let t = spelled_is g.f m p (Replica y) message (h p may.1) is in
-    record { has = subst (λ (q : Parcel). Has (sent_in J) q) t.is may.1; fits = t.fits }
-sent_by_event g m J (Cut p kept) h may y message is = absurd (none-some _ is)
-sent_by_event g m J (Tick clock) h may y message is = absurd (none-some _ is)
-sent_by_event g m J Alarm h may y message is = absurd (none-some _ is)
-sent_by_event g m J Crash h may y message is = absurd (none-some _ is)
-sent_by_event g m J (Restart nonce) h may y message is = absurd (none-some _ is)
-
-pub was_sent_by : (g : Group) (m : ℕ) (r : Record) (J : List Record) → World g (r ∷ J) → ((p : Parcel) → Has (sent_in J) p → IsSpelled p)
-    → r.actor ≡ Replica m → (y : ℕ) (message : Message) → heard_by g m r.event ≡ Some (Replica y, message) → IsSent J y m message
-was_sent_by g m r J w h a y message is = sent_by_event g m J r.event h (subst (λ (x : Actor). MayHappen J x r.event) a w.0.event) y message is
-
-pub was_sent : (g : Group) (m : ℕ) (r : Record) (J : List Record) → World g (r ∷ J) → Shows g J → r.actor ≡ Replica m → (y : ℕ) (message : Message)
+pub was_sent : (g : Group) (m : ℕ) (r : Record) (J : List Record) → World g (r ∷ J) → r.actor ≡ Replica m → (y : ℕ) (message : Message)
     → heard_by g m r.event ≡ Some (Replica y, message) → IsSent J y m message
-was_sent g m r J w h a y message is = was_sent_by g m r J w h.spelled a y message is
+was_sent g m r J w a y message is = let s = told.was_sent g r J w (Replica m) (Replica y) message a is in record { has = s.sent; fits = s.fits }
 
 pub sent_more : (r : Record) (J : List Record) (y m : ℕ) (message : Message) → IsSent J y m message → IsSent (r ∷ J) y m message
 sent_more r J y m message s = record { has = has_right r.sends (sent_in J) _ s.has; fits = s.fits }

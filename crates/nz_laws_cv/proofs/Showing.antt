@@ -15,27 +15,18 @@ use Rattle.nz_msg.specs.declared.message.StateAskBody.{StateAskBody}
 use Rattle.nz_msg.specs.declared.message.StateTellBody.{StateTellBody}
 use Rattle.nz_msg.specs.declared.message.Message.{Message}
 use Rattle.nz_msg.specs.declared.message.Message.TheVariants as messages
-use Rattle.nz_machine.specs.declared.event.Parcel.{Parcel}
 use Rattle.nz_machine.specs.declared.event.Record.{Record}
 use Rattle.nz_machine.specs.State.{Group}
-use Rattle.nz_machine.specs.World.{sent_in, Has, World}
+use Rattle.nz_machine.specs.World.{World}
 use Rattle.nz_machine.specs.Hearing.{heard_at}
 use Rattle.nz_machine.specs.Incarnations.{replica_at}
 use Rattle.nz_machine.specs.Shows.{ShowsVectorAsk, ShowsRejoinAsk, ShowsStateAsk, ShowsVectorTell, ShowsRejoinTell, ShowsStateTell, ShowsViewChange, ShowsStartView}
-use Rattle.nz_machine.proofs.Runs.{sent_from}
 use Rattle.nz_machine.proofs.Moments.{at_world}
-use Rattle.nz_machine.proofs.FitRuns.{Fitted, all_fit}
 use Rattle.nz_machine.proofs.Told.{IsShown, shown_by, delivers, was_sent, rejoin_tell_takes, state_tell_takes}
-use Rattle.nz_laws_cv.proofs.Hearing.{IsSpelled}
 use Rattle.nz_laws_cv.proofs.Sent.{IsSent, Sends, AsksVector, AsksView, AsksLog, TellsVector, TellsView, TellsLog, Reports, StartsView, Shows}
 
 same_replica : (r q : ℕ) → Replica r ≡ Replica q → r ≡ q
 same_replica r q e = cc
-
-pub are_spelled : (g : Group) (J : List Record) (p : Parcel) → World g J → Has (sent_in J) p → IsSpelled p
-are_spelled g J p w has =
-    let s = sent_from (Fitted g J) J p (all_fit g J w).sends has in
-    record { by = s.by; out = s.out; is = s.is; fits = s.has }
 
 -- an ask that was heard was sent by the receiver of the answer, another replica
 record WasAsked (K : List Record) (m y : ℕ) (ask : Message) : Type 0 where
@@ -176,7 +167,6 @@ module _ (g : Group) (J : List Record) (w : World g J) where
 
 pub shows : (g : Group) (J : List Record) → World g J → Shows g J
 shows g J w = record {
-  spelled = λ p has. are_spelled g J p w has;
   vector_ask = asks_vector g J w;
   rejoin_ask = asks_view g J w;
   state_ask = asks_log g J w;
