@@ -43,8 +43,8 @@ starts old mid new sender b may from fresh one two =
     let end : ReplicaData × List Out = (after_start (with_vector old.me s b.vector) b, []) in
     let both : (may_start s b.view && (sender == leader_of old.f b.view)) ≡ true = rw may (eq-eqb sender (leader_of old.f b.view) from) in
     let rule : start_view_rule old.f old.me s sender b ≡ end =
-        ap (λ (x : Bool). cond x (unless_stray old.me s sender b.vector (λ t. (after_start t b, []))) (s, [])) both
-        ∙ ap (λ (x : Bool). cond x (s, []) end) fresh in
+    ap (λ (x : Bool). cond x (unless_stray old.me s sender b.vector (λ t. (after_start t b, []))) (s, [])) both
+    ∙ ap (λ (x : Bool). cond x (s, []) end) fresh in
     record {
       state = two ∙ ap (λ (m : ReplicaModel). record m { state = after_start m.state b }) one ∙ ap (λ (u : ReplicaData × List Out). record old { state = u.0 }) (sym rule);
       silent = ap (λ (u : ReplicaData × List Out). u.1) rule;
