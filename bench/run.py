@@ -5,8 +5,9 @@
     bench/run.py [PROGRAM [WORKERS [REFERENCE]]]
 
 prints a line for each scenario: how many requests and ticks it has, how long the run took by so many workers
-(1 if left out), how much memory it took at most, and how many lines of output it made in a second. It judges
-nothing: compare two runs on one quiet machine.
+(1 if left out), how much memory it took at most, and how many lines of output it made in a second. Several numbers of
+workers, as 1,2,4,8, give the seconds by each, and their ratios to the first. It judges nothing: compare two runs on one
+quiet machine.
 
 With the path of a REFERENCE, another program with the same words, it first prints both side by side on the
 generated runs `gen 7 COUNT`, ours by one worker: the best of five times each, their ratio, the memory of both,
@@ -82,6 +83,18 @@ def crashes(requests, ticks, count):
     return scenario(2, 2, 16, ticks, scripts, lines)
 
 
+def faulty(requests, ticks, count):
+    """As many fault lines as there may be, which strike early and late parcels of five replicas and two proxies."""
+    scripts = [[] for _ in range(16)]
+    for i in range(requests):
+        scripts[i % 16].append(f"put k{i % 97} v{i}")
+    lines = []
+    for j in range(count):
+        to, nth = f"p{j % 2} r{j % 5} timed", 1 + j * requests // count
+        lines.append([f"drop {to} {nth}", f"hold {to} {nth} {1 + j % 9}", f"twice {to} {nth} {j % 7}"][j % 3])
+    return scenario(2, 2, 16, ticks, scripts, lines)
+
+
 def cases():
     with open(f"{HERE}/../scenarios/put_then_get") as it:
         yield "put and get", 2, 40, it.read()
@@ -93,6 +106,7 @@ def cases():
     yield "nine replicas, 64 clients", 1000, 2000, even(4, 8, 64, 1000, 2000)
     yield "nine replicas, full ticks", 2000, 500, even(4, 8, 64, 2000, 500)
     yield "little to do", 100, 20000, even(1, 1, 4, 100, 20000)
+    yield "1,000 fault lines", 200, 1000, faulty(200, 1000, 1000)
     for requests in (250, 500, 1000):
         yield "an alarm every 20 ticks", requests, 2000, storm(requests, 2000, 20)
     for count in (25, 50, 100):
@@ -147,17 +161,21 @@ def side_by_side(program, reference):
 
 def main():
     program = os.path.abspath(sys.argv[1] if len(sys.argv) > 1 else f"{HERE}/../crates/nezha/out/nezha")
-    workers = sys.argv[2] if len(sys.argv) > 2 else "1"
+    counts = (sys.argv[2] if len(sys.argv) > 2 else "1").split(",")
     if not os.access(program, os.X_OK):
         sys.exit(f"there is no program {program}: make it as the head of this file says")
     reference = os.path.abspath(sys.argv[3]) if len(sys.argv) > 3 else None
     if reference:
         side_by_side(program, reference)
-    more = f" {'ref, s':>9} {'ratio':>7}" if reference else ""
+    more = "".join(f" {'by ' + count + ', s':>9} {'ratio':>7}" for count in counts[1:])
+    more += f" {'ref, s':>9} {'ratio':>7}" if reference else ""
     print(f"{'scenario':28} {'requests':>8} {'ticks':>6} {'seconds':>9} {'MiB':>8} {'lines/s':>9} status{more}")
     for name, requests, ticks, text in cases():
-        seconds, memory, lines, status = measure(program, ["run", "--workers", workers], text)
+        seconds, memory, lines, status = measure(program, ["run", "--workers", counts[0]], text)
         line = f"{name:28} {requests:8} {ticks:6} {seconds:9.3f} {memory:8.1f} {lines / seconds:9.0f} {status:6}"
+        for count in counts[1:]:
+            other = measure(program, ["run", "--workers", count], text)[0]
+            line += f" {other:9.3f} {other / seconds:7.1f}"
         if reference:
             other = measure(reference, ["run"], text)[0]
             line += f" {other:9.3f} {seconds / other:7.1f}"

@@ -1,6 +1,5 @@
 -- What contracts see of an actor's state, and what it keeps.
-use Rattle.std.specs.Prelude.{◌≡◌, Bool, true, List, filter}
-use Rattle.nz_base.specs.Actor.{actor_eq}
+use Rattle.std.specs.Prelude.{◌≡◌, Bool, true, List}
 use Rattle.nz_base.specs.declared.actor.Actor.{Actor}
 use Rattle.nz_machine.specs.declared.event.Record.{Record}
 use Rattle.nz_machine.specs.State.{Group}
@@ -13,10 +12,6 @@ pub record Lane : Type 0 where
   pub actor : Actor
   pub live : Bool
   pub steps : List Record
-
--- The records of an actor among others.
-abbrev pub of_actor : Actor → List Record → List Record
-of_actor a records = filter (λ r. actor_eq r.actor a) records
 
 -- The core stands where the records lead the actor.
 pub record IsThere (g : Group) (a : Actor) (steps : List Record) (meaning : Node) (live : Bool) : Type 0 where

@@ -2,9 +2,7 @@
 #![tactic(auto)]
 
 mod cell;
-mod compare;
 mod state;
 
 pub use cell::ActorCell;
-pub use compare::agrees;
 pub use state::ActorState;

@@ -87,10 +87,10 @@ impl<N: Name, C: Core> ActorState<N, C> {
     }
 
     /// The records, the oldest first.
-    pub fn lane(&self) -> &[Record]
+    pub fn lane(&self) -> &RecordList
         ensures lane { reverse result.now ≡ self.now.steps }
         ensures replay { IsReplay (group_of N.scenario) self.now.actor (reverse result.now) }
     {
-        self.lane.as_slice()
+        &self.lane
     }
 }

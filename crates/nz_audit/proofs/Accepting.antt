@@ -1,5 +1,5 @@
 -- An acceptance leads to its prefix, and the longest of them to the history.
-use Rattle.std.proofs.Common.{◌≡◌, ℕ, suc, ◌+◌, ◌<◌, ◌≤◌, Bool, true, false, cond, ltb, ◌||◌, List, [], ◌∷◌, ◌++◌, length, take, zero, Option, Some, None, refl, sym, ap, subst, ◌∙◌, inl, inr, ◌⊎◌, arith, eqb-true, lt-ltb, ltb-true}
+use Rattle.std.proofs.Common.{◌≡◌, ℕ, suc, ◌+◌, ◌-◌, ◌<◌, ◌≤◌, Bool, true, false, cond, ltb, ◌||◌, List, [], ◌∷◌, ◌++◌, length, take, zero, Option, Some, None, refl, sym, ap, subst, ◌∙◌, inl, inr, ◌⊎◌, arith, eqb-true, lt-ltb, ltb-true}
 use Rattle.std.specs.Prelude.{nat_lt}
 use Rattle.std.specs.Option.{option_map, option_and_then, option_flatten}
 use Rattle.std.proofs.lemmas.Option.{none-some, same_Some}
@@ -16,7 +16,6 @@ use Rattle.nz_msg.specs.declared.envelope.Envelope.{Envelope}
 use Rattle.nz_msg.specs.declared.message.AnswerBody.{AnswerBody}
 use Rattle.nz_msg.specs.declared.message.Message.{Message}
 use Rattle.nz_msg.specs.declared.message.Message.TheVariants.{Answer}
-use Rattle.nz_machine.specs.declared.data.Attempt.{Attempt}
 use Rattle.nz_machine.specs.declared.event.Event.{Event}
 use Rattle.nz_machine.specs.declared.event.Event.TheVariants.{Deliver, Cut, Tick, Alarm, Crash, Restart}
 use Rattle.nz_machine.specs.declared.event.Parcel.{Parcel}
@@ -24,11 +23,10 @@ use Rattle.nz_machine.specs.declared.event.Record.{Record}
 use Rattle.nz_machine.specs.declared.telling.Acceptance.{Acceptance}
 use Rattle.nz_machine.specs.declared.telling.Telling.{Telling}
 use Rattle.nz_machine.specs.State.{ClientData, State, Group, Out}
-use Rattle.nz_machine.specs.Clients.{open_next, is_awaited, accept_rule}
 use Rattle.nz_machine.specs.Step.{received, client_message, envelope_step, event_step, script_of}
 use Rattle.nz_machine.specs.World.{state_after, World, IsMember}
-use Rattle.nz_machine.specs.Events.{Told, Sent, Accepted, id_at, command_at, read_in, accepted_in, accepted_by, sent_by, told_by}
-use Rattle.nz_machine.specs.Telling.{acceptance_told, request_told, told_of}
+use Rattle.nz_machine.specs.Events.{Told, Sent, Accepted, id_at, command_at, read_in, accepted_in, accepted_by, sent_after, sent_by, told_by}
+use Rattle.nz_machine.specs.Telling.{acceptance_told, requests_told, told_of}
 use Rattle.nz_machine.specs.History.{ReplySource, source, log_at, cut_at, cut_after, source_of_sender, accepted_source, prefix_at_source, accepted_prefix, entries_or, prefix_in, longer, history}
 use Rattle.nz_machine.proofs.Runs.{acts_itself, on_cond}
 use Rattle.nz_machine.proofs.Accepting.{client_accepts}
@@ -93,17 +91,25 @@ abbrev Begins : List Told → Id → Type 0
 Begins (Accepted id answer path ∷ told) own = id ≡ own
 Begins _ own = ⊥
 
+sent_after_begins : (c : ℕ) (script : List Request) (num more : ℕ) (id : Id) → Begins (sent_after c script num more) id → ⊥
+sent_after_begins c script num zero id h = h
+sent_after_begins c script num (suc more) id h = h
+
 sent_begins : (c : ℕ) (script : List Request) (s t : ClientData) (id : Id) → Begins (sent_by c script s t) id → ⊥
-sent_begins c script s t id = on_cond (λ (l : List Told). Begins l id → ⊥) (nat_lt s.sent t.sent) (Sent (id_at c t.sent) (command_at script t.sent) ∷ []) [] (λ _ h. h) (λ _ h. h)
+sent_begins c script s t id h = sent_after_begins c script s.sent (t.sent - s.sent) id h
 
 record IsAcceptedAs (c : ℕ) (s t : ClientData) (m : Message) (id : Id) : Type 0 where
   risen : s.accepted < t.accepted
-  own : id_at c s.sent ≡ id
+  body : AnswerBody
+  message : m ≡ Answer body
+  own : id_at c body.num ≡ id
 
-answer_begins : (c : ℕ) (script : List Request) (s t : ClientData) (m : Message) (id : Id) → Begins (accepted_in c s t m ++ sent_by c script s t) id → IsAcceptedAs c s t m id
+answer_begins : (c : ℕ) (script : List Request) (s t : ClientData) (m : Message) (id : Id) → Begins (accepted_in c s t m ++ sent_by c script s t) id
+    → IsAcceptedAs c s t m id
 answer_begins c script s t (Answer b) id =
-    on_cond (λ (l : List Told). Begins (l ++ sent_by c script s t) id → IsAcceptedAs c s t (Answer b) id) (nat_lt s.accepted t.accepted) (Accepted (id_at c s.sent) b.answer b.path ∷ []) []
-    (λ lt h. record { risen = ltb-true s.accepted t.accepted lt; own = h }) (λ _ h. absurd (sent_begins c script s t id h))
+    on_cond (λ (l : List Told). Begins (l ++ sent_by c script s t) id → IsAcceptedAs c s t (Answer b) id) (nat_lt s.accepted t.accepted)
+    (Accepted (id_at c b.num) b.answer b.path ∷ []) []
+    (λ lt h. record { risen = ltb-true s.accepted t.accepted lt; body = b; message = refl; own = h }) (λ _ h. absurd (sent_begins c script s t id h))
 answer_begins c script s t _ id = λ h. absurd (sent_begins c script s t id h)
 
 record IsTold (p : Parcel) (id : Id) : Type 0 where
@@ -121,11 +127,10 @@ client_told g c r J p (Some e) id by is heard h =
     let after : t ≡ (envelope_step g (Client c) s (Some e)).0 = acts_itself g (Client c) r J by ∙ ap (λ (x : Event). (event_step g (Client c) s x).0) is ∙ ap (λ (x : Option Envelope). (envelope_step g (Client c) s x).0) heard in
     let a = client_accepts g c s e (subst (λ (x : ClientData). s.accepted < x.accepted) after b.risen) in
     let of = is_received g.f (Client c) p e heard in
-    let id_is : id_at c a.body.num ≡ id = ap (id_at c) a.num ∙ b.own in
     record {
       proxy = a.proxy;
       from = sym of.from ∙ a.sender;
-      about = about_heard (Client c) p e of ∙ ap (λ (x : Actor). about_message x (Client c) e.message) a.sender ∙ ap (about_message (Proxy a.proxy) (Client c)) a.message ∙ ap Some id_is;
+      about = about_heard (Client c) p e of ∙ ap (λ (x : Actor). about_message x (Client c) e.message) a.sender ∙ ap (about_message (Proxy a.proxy) (Client c)) b.message ∙ ap Some b.own;
     }
 
 told_by_actor : (g : Group) (a : Actor) (r : Record) (J : List Record) (p : Parcel) (id : Id) → r.actor ≡ a → r.event ≡ Deliver p → Begins (told_by g a r J) id → IsTold p id
@@ -145,9 +150,9 @@ source_is_accepted : (g : Group) (J : List Record) (p : Parcel) (id : Id) (table
 source_is_accepted g J p id table h told =
     ap option_flatten (h.exact p) ∙ ap (λ (o : Option Id). option_flatten (stands_for g p (source p J) o)) told.about ∙ answer_stands_for g id p told.proxy (source p J) told.from
 
-no_prefix : (g : Group) (sent : Option Id) (e : Event) (J : List Record) → prefix_in g (request_told g sent) e J ≡ []
-no_prefix g None e J = refl
-no_prefix g (Some id) e J = refl
+no_prefix : (g : Group) (sent : List Id) (e : Event) (J : List Record) → prefix_in g (requests_told g sent) e J ≡ []
+no_prefix g [] e J = refl
+no_prefix g (id ∷ ids) e J = refl
 
 accepts_at : (g : Group) (r : Record) (J : List Record) (a : Acceptance) (rest : List Told) (table : List (ParcelKey × Option Source)) (e : Event) → World g (r ∷ J) → r.event ≡ e → Accepted a.id a.answer a.path ∷ rest ≡ told_by g r.actor r J → IsTable g J table
     → LeadsToIfAny g (r ∷ J) (prefix_in g (Accepted a.id a.answer a.path ∷ rest) e J) (source_delivered table e)
@@ -160,10 +165,10 @@ accepts_at g r J a rest table Alarm w is told h = refl
 accepts_at g r J a rest table Crash w is told h = refl
 accepts_at g r J a rest table (Restart nonce) w is told h = refl
 
-tells_at : (g : Group) (r : Record) (J : List Record) (accepted : Option Acceptance) (sent : Option Id) (table : List (ParcelKey × Option Source)) → World g (r ∷ J) → acceptance_told accepted ++ request_told g sent ≡ told_by g r.actor r J → IsTable g J table
-    → LeadsToIfAny g (r ∷ J) (prefix_in g (acceptance_told accepted ++ request_told g sent) r.event J) (source_told table accepted r.event)
+tells_at : (g : Group) (r : Record) (J : List Record) (accepted : Option Acceptance) (sent : List Id) (table : List (ParcelKey × Option Source)) → World g (r ∷ J) → acceptance_told accepted ++ requests_told g sent ≡ told_by g r.actor r J → IsTable g J table
+    → LeadsToIfAny g (r ∷ J) (prefix_in g (acceptance_told accepted ++ requests_told g sent) r.event J) (source_told table accepted r.event)
 tells_at g r J None sent table w told h = no_prefix g sent r.event J
-tells_at g r J (Some a) sent table w told h = accepts_at g r J a (request_told g sent) table r.event w refl told h
+tells_at g r J (Some a) sent table w told h = accepts_at g r J a (requests_told g sent) table r.event w refl told h
 
 pub history_then : (g : Group) (r : Record) (J : List Record) (t : Telling) (table : List (ParcelKey × Option Source)) (best : Option Source) → World g (r ∷ J) → told_of g t ≡ told_by g r.actor r J → IsTable g J table → LeadsToIfAny g J (history g J) best
     → LeadsToIfAny g (r ∷ J) (history g (r ∷ J)) (first_longest best (source_told table t.accepted r.event))

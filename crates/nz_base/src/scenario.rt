@@ -94,6 +94,8 @@ pub struct Scenario {
     pub cluster: Cluster,
     pub proxies: u8,
     pub clients: u8,
+    /// How many requests a client may have open at once, 1 to 16.
+    pub window: u8,
     pub ticks: u32,
     pub skews: SkewList,
     pub scripts: ScriptList,
@@ -127,6 +129,7 @@ impl TryCopy for Scenario {
             cluster: self.cluster,
             proxies: self.proxies,
             clients: self.clients,
+            window: self.window,
             ticks: self.ticks,
             skews: self.skews.copy(alloc)?,
             scripts: self.scripts.copy(alloc)?,

@@ -35,6 +35,7 @@ fn sample(alloc: Global) -> Result<Scenario, NoMemory> {
         cluster: Cluster::new(1).ok_or(NoMemory)?,
         proxies: 1,
         clients: 2,
+        window: 4,
         ticks: 40,
         skews,
         scripts,

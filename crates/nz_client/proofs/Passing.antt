@@ -12,15 +12,15 @@ use Rattle.nz_machine.specs.Step.{is_in_cluster, is_sized, vector_of, heard, rec
 use Rattle.nz_client.specs.Seats.{ClientSeat, IsOf}
 
 -- what is passed over changes nothing
-pub idle : (g : Group) (me : ℕ) (s : ClientData) (e : Envelope) (b : Bool) → client_message g.proxies me (script_of g me) s e.from e.message ≡ (s, [])
-    → envelope_step g (Client me) s (if b then Some e else None) ≡ client_message g.proxies me (script_of g me) s e.from e.message
+pub idle : (g : Group) (me : ℕ) (s : ClientData) (e : Envelope) (b : Bool) → client_message g.window g.proxies me (script_of g me) s e.from e.message ≡ (s, [])
+    → envelope_step g (Client me) s (if b then Some e else None) ≡ client_message g.window g.proxies me (script_of g me) s e.from e.message
 idle g me s e true same = refl
 idle g me s e false same = sym same
 
 -- a client takes what it hears as if it were of the cluster's size
 pub takes_all : (g : Group) (me : ℕ) (s : ClientData) (from to : Actor) (m : Message)
     → envelope_step g (Client me) s (counted g.f (Some (record { from = from; to = to; message = m })))
-    ≡ client_message g.proxies me (script_of g me) s from m
+    ≡ client_message g.window g.proxies me (script_of g me) s from m
 takes_all g me s (Replica r) to m = idle g me s _ _ refl
 takes_all g me s (Client c) to m = idle g me s _ _ refl
 takes_all g me s (Proxy p) to (Answer b) = refl
@@ -45,9 +45,10 @@ takes_all g me s (Proxy p) to (StateTell b) = idle g me s _ _ refl
 -- what a client does with a parcel that it hears
 pub delivered : (g : Group) (seat : ClientSeat) (p : Parcel) (e : Envelope) → IsOf g seat → heard (Client seat.me) p ≡ Some e
     → envelope_step g (Client seat.me) seat.state (received g.f (Client seat.me) p)
-    ≡ client_message seat.proxies seat.me seat.script seat.state e.from e.message
+    ≡ client_message seat.window seat.proxies seat.me seat.script seat.state e.from e.message
 delivered g seat p e is h =
     ap (λ (o : Option Envelope). envelope_step g (Client seat.me) seat.state (counted g.f o)) h
     ∙ takes_all g seat.me seat.state e.from e.to e.message
-    ∙ ap (λ (n : ℕ). client_message n seat.me (script_of g seat.me) seat.state e.from e.message) (sym is.proxies)
-    ∙ ap (λ (script : List Wish). client_message seat.proxies seat.me script seat.state e.from e.message) (sym is.script)
+    ∙ ap (λ (n : ℕ). client_message n g.proxies seat.me (script_of g seat.me) seat.state e.from e.message) (sym is.window)
+    ∙ ap (λ (n : ℕ). client_message seat.window n seat.me (script_of g seat.me) seat.state e.from e.message) (sym is.proxies)
+    ∙ ap (λ (script : List Wish). client_message seat.window seat.proxies seat.me script seat.state e.from e.message) (sym is.script)

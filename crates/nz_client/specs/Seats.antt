@@ -1,5 +1,5 @@
 -- What a contract sees of a client, and what the code keeps.
-use Rattle.std.specs.Prelude.{ℕ, Bool, ◌≡◌, ◌<◌, ◌≤◌, ◌+◌, ◌^◌, List, length, Option, Some, None}
+use Rattle.std.specs.Prelude.{ℕ, Bool, ◌≡◌, ◌<◌, ◌≤◌, ◌+◌, ◌^◌, List, [], ◌∷◌, length, Option, Some, None}
 use Rattle.std.specs.List.{AllByRecursion}
 use Rattle.nz_base.specs.declared.scenario.Request.{Request}
 use Rattle.nz_msg.specs.Fields.{command}
@@ -8,21 +8,18 @@ use Rattle.nz_machine.specs.State.{ClientData, Group}
 use Rattle.nz_machine.specs.Clients.{patience}
 use Rattle.nz_machine.specs.Step.{script_of}
 
--- The client's number, how many proxies there are, its requests, and its state.
+-- The client's number, how many proxies there are, how many requests it may have open, its requests, and its state.
 pub record ClientSeat : Type 0 where
   pub me : ℕ
   pub proxies : ℕ
+  pub window : ℕ
   pub script : List Request
   pub state : ClientData
 
--- No request is open, or one is.
-abbrev pub open_count : Option Attempt → ℕ
-open_count None = 0
-open_count (Some a) = 1
-
-abbrev pub IsOfProxies : ℕ → Option Attempt → Type 0
-IsOfProxies proxies None = Unit {0}
-IsOfProxies proxies (Some a) = (a.proxy < proxies) × (a.since < patience)
+-- An open request was sent to one of the proxies, and waits not too long.
+pub record IsOfProxies (proxies : ℕ) (a : Attempt) : Type 0 where
+  pub proxy : a.proxy < proxies
+  pub since : a.since < patience
 
 -- A request that a frame can carry.
 pub record IsSendable (request : Request) : Type 0 where
@@ -32,30 +29,34 @@ abbrev pub AreSendable : List Request → Type 0
 AreSendable script = AllByRecursion IsSendable script
 
 -- What the code keeps of a client's parts.
-pub record IsInTurn (me proxies : ℕ) (script : List Request) (sent accepted : ℕ) (attempt : Option Attempt) : Type 0 where
+pub record IsInTurn (me proxies window : ℕ) (script : List Request) (sent accepted : ℕ) (attempts : List Attempt) : Type 0 where
   pub named : me ≤ 63
   pub some_proxies : 1 ≤ proxies
   pub few_proxies : proxies ≤ 8
+  pub narrow : window ≤ 16
   pub sendable : AreSendable script
   pub short : length script < 2 ^ 32
   pub in_script : sent ≤ length script
-  pub in_turn : accepted + open_count attempt ≡ sent
-  pub of_proxies : IsOfProxies proxies attempt
+  pub in_turn : accepted + length attempts ≤ sent
+  pub few : length attempts ≤ window
+  pub of_proxies : AllByRecursion (IsOfProxies proxies) attempts
 
--- The number of the open request, if one is: the one that was sent last.
-abbrev pub open_num : ClientData → Option Attempt → Option ℕ
-open_num s None = None
-open_num s (Some a) = Some s.sent
+-- The least number of an open request, if one is: they are in rising number.
+abbrev pub least_open : List Attempt → Option ℕ
+least_open [] = None
+least_open (a ∷ attempts) = Some a.num
 
 -- The client is of this group.
 pub record IsOf (g : Group) (seat : ClientSeat) : Type 0 where
   pub proxies : seat.proxies ≡ g.proxies
+  pub window : seat.window ≡ g.window
   pub script : seat.script ≡ script_of g seat.me
 
 -- One client, maybe in another state.
 pub record IsSame (a b : ClientSeat) : Type 0 where
   pub me : b.me ≡ a.me
   pub proxies : b.proxies ≡ a.proxies
+  pub window : b.window ≡ a.window
   pub script : b.script ≡ a.script
 
 -- What a contract sees of a client as a core: whether no step has run out of memory, too.

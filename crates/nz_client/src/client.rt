@@ -2,9 +2,9 @@ ghost use Rattle.std.specs.Prelude.{◌≡◌, ◌≤◌, ◌++◌, ◌↔◌, t
 ghost use Rattle.nz_base.specs.declared.actor.Actor.TheVariants.{Client as IsClient};
 ghost use Rattle.nz_msg.specs.Fields.{command};
 ghost use Rattle.nz_machine.specs.State.{Group};
-ghost use Rattle.nz_machine.specs.Clients.{first_client};
+ghost use Rattle.nz_machine.specs.Clients.{first_client, is_open as is_open_in};
 ghost use Rattle.nz_machine.specs.Step.{node_step, envelope_step, client_message, received, parcel};
-ghost use Rattle.nz_client.specs.Seats.{AreSendable, IsOf, IsSame, open_num};
+ghost use Rattle.nz_client.specs.Seats.{AreSendable, IsOf, IsSame, least_open};
 
 use crate::state::{ClientState, accept_rule, wait_rule};
 use nz_base::{Actor, NoMemory, RequestList};
@@ -32,8 +32,8 @@ fn is_command(bytes: &[u8]) -> bool
     1 <= bytes.len() && bytes.len() <= MAX_COMMAND
 }
 
-/// A client, which sends the requests of its script one by one: each when its wait is over and the one
-/// before it was accepted, and again through the next proxy while no answer comes.
+/// A client, which sends the requests of its script in their order: each when its wait is over and fewer are
+/// open than its window has places, and again through the next proxy while no answer comes.
 #[derive(Drop)]
 pub struct Client {
     state: ClientState,
@@ -50,24 +50,33 @@ impl Model for Client {
 
 impl Client {
     /// A client in its first state, with its requests.
-    pub fn new(alloc: Global, me: u8, proxies: u8, script: RequestList) -> Client
+    pub fn new(alloc: Global, me: u8, proxies: u8, window: u8, script: RequestList) -> Client
         requires named { me ≤ 63 }
         requires least { 1 ≤ proxies }
         requires most { proxies ≤ 8 }
+        requires some { 1 ≤ window }
+        requires narrow { window ≤ 16 }
         requires sendable { AreSendable script }
-        ensures { result ≡ record { seat = record { me = me; proxies = proxies; script = script; state = first_client }; live = true } }
+        ensures { result ≡ record { seat = record { me = me; proxies = proxies; window = window; script = script; state = first_client }; live = true } }
     {
         Client {
-            state: ClientState::new(alloc, me, proxies, script),
+            state: ClientState::new(alloc, me, proxies, window, script),
             live: true,
         }
     }
 
-    /// The number of the open request, if one is.
+    /// The least number of an open request, if one is.
     pub fn open(&self) -> Option<u32>
-        ensures { result ≡ open_num self.now.seat.state self.now.seat.state.attempt }
+        ensures { result ≡ least_open self.now.seat.state.attempts }
     {
         self.state.open()
+    }
+
+    /// Whether the request of this number is open.
+    pub fn is_open(&self, num: u32) -> bool
+        ensures { result ≡ is_open_in num self.now.seat.state.attempts }
+    {
+        self.state.is_open(num)
     }
 
     /// How many requests were accepted.
@@ -80,8 +89,8 @@ impl Client {
 
 fn handle(state: &mut ClientState, envelope: &Envelope, sends: &mut Sends) -> Result<(), NoMemory>
     ensures same { IsSame state.old state.new }
-    ensures state { OnOk result (state.new ≡ record state.old { state = (client_message state.old.proxies state.old.me state.old.script state.old.state envelope.now.from envelope.now.message).0 }) }
-    ensures sends { OnOk result (sends.new ≡ sends.old ++ map (parcel (IsClient state.old.me)) (client_message state.old.proxies state.old.me state.old.script state.old.state envelope.now.from envelope.now.message).1) }
+    ensures state { OnOk result (state.new ≡ record state.old { state = (client_message state.old.window state.old.proxies state.old.me state.old.script state.old.state envelope.now.from envelope.now.message).0 }) }
+    ensures sends { OnOk result (sends.new ≡ sends.old ++ map (parcel (IsClient state.old.me)) (client_message state.old.window state.old.proxies state.old.me state.old.script state.old.state envelope.now.from envelope.now.message).1) }
 {
     match (envelope.from, &envelope.message) {
         (Actor::Proxy(_), Message::Answer(body)) => accept_rule(state, body, sends),

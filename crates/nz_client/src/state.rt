@@ -1,10 +1,11 @@
-ghost use Rattle.std.specs.Prelude.{◌≡◌, ◌+◌, ◌-◌, ◌%◌, ◌<◌, ◌≤◌, ◌++◌, ◌∷◌, [], map, length, OnOk, IsTrue, IsSome, IfSome, OnSome, None, Some, min, slice_get};
+ghost use Rattle.std.specs.Prelude.{◌≡◌, ◌+◌, ◌-◌, ◌%◌, ◌<◌, ◌≤◌, ◌++◌, ◌∷◌, ◌==◌, [], map, length, OnOk, IsTrue, IfSome, min, slice_get};
+ghost use Rattle.std.specs.List.{AllByRecursion};
 ghost use Rattle.std.specs.Option.{option_copied};
 ghost use Rattle.nz_base.specs.Actor.{HasAddress};
 ghost use Rattle.nz_base.specs.declared.actor.Actor.TheVariants.{Client as IsClient};
-ghost use Rattle.nz_machine.specs.Clients.{first_client, patience, last_tick, if_due, open_next as open_next_of, wait_on as wait_on_of, asked_again as asked_again_of, wait_rule as wait_rule_of, accept_rule as accept_rule_of, is_awaited as is_awaited_of, ask as ask_of};
+ghost use Rattle.nz_machine.specs.Clients.{first_client, patience, if_due, opened, open_next as open_next_of, fill_window as fill_window_of, is_overdue as is_overdue_of, waited as waited_of, retry as retry_of, retries as retries_of, all_waited, asked_again as asked_again_of, is_open as is_open_in, without, accepted as accepted_of, wait_rule as wait_rule_of, accept_rule as accept_rule_of, ask as ask_of};
 ghost use Rattle.nz_machine.specs.Step.{parcel};
-ghost use Rattle.nz_client.specs.Seats.{IsSendable, AreSendable, IsSame, open_num};
+ghost use Rattle.nz_client.specs.Seats.{IsSendable, AreSendable, IsOfProxies, IsSame, least_open};
 
 use nz_base::{Actor, NoMemory, Request, RequestList, TryCopy};
 use nz_machine::{Attempt, Sends, send};
@@ -20,11 +21,13 @@ const PATIENCE: u32 = 30;
 pub struct ClientState {
     me: u8,
     proxies: u8,
+    window: u8,
     script: RequestList,
     ticks: u32,
     sent: u32,
     accepted: u32,
-    attempt: Option<Attempt>,
+    /// The open requests, in rising number.
+    attempts: Vec<Attempt>,
     alloc: Global,
 }
 
@@ -34,30 +37,32 @@ impl Model for ClientState {
 
     ghost Value = { ClientSeat };
 
-    ghost view = { λ s. record { me = s.me; proxies = s.proxies; script = s.script; state = record { ticks = s.ticks; sent = s.sent; accepted = s.accepted; attempt = s.attempt } } };
+    ghost view = { λ s. record { me = s.me; proxies = s.proxies; window = s.window; script = s.script; state = record { ticks = s.ticks; sent = s.sent; accepted = s.accepted; attempts = s.attempts.items } } };
 
-    ghost invariant = { λ s. IsInTurn s.me s.proxies s.script s.sent s.accepted s.attempt };
+    ghost invariant = { λ s. IsInTurn s.me s.proxies s.window s.script s.sent s.accepted s.attempts.items };
 }
 
 impl ClientState {
     /// A client in its first state, with its requests.
-    pub fn new(alloc: Global, me: u8, proxies: u8, script: RequestList) -> ClientState
+    pub fn new(alloc: Global, me: u8, proxies: u8, window: u8, script: RequestList) -> ClientState
         requires named { me ≤ 63 }
         requires least { 1 ≤ proxies }
         requires most { proxies ≤ 8 }
+        requires narrow { window ≤ 16 }
         requires sendable { AreSendable script }
-        ensures { result ≡ record { me = me; proxies = proxies; script = script; state = first_client } }
+        ensures { result ≡ record { me = me; proxies = proxies; window = window; script = script; state = first_client } }
     {
         // A list is no longer than a u32 counts.
         let _ = script.len();
         ClientState {
             me,
             proxies,
+            window,
             script,
             ticks: 0,
             sent: 0,
             accepted: 0,
-            attempt: None,
+            attempts: Vec::new(alloc),
             alloc,
         }
     }
@@ -74,14 +79,21 @@ impl ClientState {
         self.alloc
     }
 
-    /// The number of the open request, if one is.
+    /// The least number of an open request, if one is.
     pub fn open(&self) -> Option<u32>
-        ensures { result ≡ open_num self.now.state self.now.state.attempt }
+        ensures { result ≡ least_open self.now.state.attempts }
     {
-        match self.attempt {
-            None => None,
-            Some(_) => Some(self.sent),
+        match self.attempts.as_slice() {
+            [] => None,
+            [first, ..] => Some(first.num),
         }
+    }
+
+    /// Whether the request of this number is open.
+    pub fn is_open(&self, num: u32) -> bool
+        ensures { result ≡ is_open_in num self.now.state.attempts }
+    {
+        self.attempts.iter().any(|attempt| attempt.num == num)
     }
 
     /// How many requests were accepted.
@@ -139,21 +151,25 @@ fn own_proxy(state: &ClientState) -> u8
 }
 
 /// Counts the next request as sent, to the client's own proxy.
-fn open(state: &mut ClientState)
-    requires closed { state.old.state.attempt ≡ None }
+fn open(state: &mut ClientState) -> Result<(), NoMemory>
+    requires free { length state.old.state.attempts < state.old.window }
     requires there { state.old.state.sent < length state.old.script }
-    ensures { state.new ≡ record state.old { state = record state.old.state { sent = state.old.state.sent + 1; attempt = Some (record { proxy = state.old.me % state.old.proxies; since = 0 }) } } }
+    ensures same { IsSame state.old state.new }
+    ensures state { OnOk result (state.new ≡ record state.old { state = record state.old.state { sent = state.old.state.sent + 1; attempts = state.old.state.attempts ++ record { num = state.old.state.sent + 1; proxy = state.old.me % state.old.proxies; since = 0 } ∷ [] } }) }
 {
-    state.sent += 1;
-    state.attempt = Some(Attempt {
+    let attempt = Attempt {
+        num: state.sent + 1,
         proxy: state.me % state.proxies,
         since: 0,
-    });
+    };
+    state.attempts.push(attempt)?;
+    state.sent += 1;
+    Ok(())
 }
 
-/// With no request open, the next one is sent if it is due.
+/// The next request is opened if it is due.
 fn open_next(state: &mut ClientState, sends: &mut Sends) -> Result<(), NoMemory>
-    requires { state.old.state.attempt ≡ None }
+    requires { length state.old.state.attempts < state.old.window }
     ensures same { IsSame state.old state.new }
     ensures state { OnOk result (state.new ≡ record state.old { state = (open_next_of state.old.proxies state.old.me state.old.script state.old.state).0 }) }
     ensures sends { OnOk result (sends.new ≡ sends.old ++ map (parcel (IsClient state.old.me)) (open_next_of state.old.proxies state.old.me state.old.script state.old.state).1) }
@@ -163,115 +179,153 @@ fn open_next(state: &mut ClientState, sends: &mut Sends) -> Result<(), NoMemory>
         Some(request) => {
             let proxy = own_proxy(state);
             ask(state, proxy, state.sent + 1, request, sends)?;
-            open(state);
-            Ok(())
+            open(state)
         }
     }
 }
 
-/// Sends the open request again.
-fn ask_again(state: &ClientState, proxy: u8, sends: &mut Sends) -> Result<(), NoMemory>
-    requires sent { 1 ≤ state.now.state.sent }
-    requires proxy { proxy ≤ 7 }
-    ensures { OnOk result (sends.new ≡ sends.old ++ map (parcel (IsClient state.now.me)) (asked_again_of proxy state.now.state.sent (slice_get state.now.script (state.now.state.sent - 1)))) }
+/// How many requests more may be open.
+fn free_places(state: &ClientState) -> u8
+    ensures free { result ≡ state.now.window - length state.now.state.attempts }
+    ensures few { length state.now.state.attempts ≤ state.now.window }
 {
-    match request_at(state, state.sent - 1) {
-        None => Ok(()),
-        Some(request) => ask(state, proxy, state.sent, request, sends),
-    }
+    state.window - state.attempts.len() as u8
 }
 
-/// The proxy behind this one.
-fn next_proxy(state: &ClientState, proxy: u8) -> u8
-    requires { proxy < state.now.proxies }
-    ensures next { result ≡ (proxy + 1) % state.now.proxies }
-    ensures known { result < state.now.proxies }
-    ensures named { result ≤ 7 }
-{
-    let proxies = state.proxies;
-    (proxy + 1) % proxies
-}
-
-fn set_attempt(state: &mut ClientState, attempt: Attempt)
-    requires open { IsSome state.old.state.attempt }
-    requires proxy { attempt.proxy < state.old.proxies }
-    requires since { attempt.since < patience }
-    ensures { state.new ≡ record state.old { state = record state.old.state { attempt = Some attempt } } }
-{
-    state.attempt = Some(attempt);
-}
-
-/// A request waits for its answer one tick more, and is sent again when it waited long enough.
-fn wait_on(state: &mut ClientState, attempt: Attempt, sends: &mut Sends) -> Result<(), NoMemory>
-    requires open { state.old.state.attempt ≡ Some attempt }
-    requires proxy { attempt.proxy < state.old.proxies }
-    requires since { attempt.since < patience }
-    requires sent { 1 ≤ state.old.state.sent }
+/// Each free place of the window takes the next request, if it is due.
+fn fill_window(state: &mut ClientState, sends: &mut Sends) -> Result<(), NoMemory>
     ensures same { IsSame state.old state.new }
-    ensures state { OnOk result (state.new ≡ record state.old { state = (wait_on_of state.old.proxies state.old.script state.old.state attempt).0 }) }
-    ensures sends { OnOk result (sends.new ≡ sends.old ++ map (parcel (IsClient state.old.me)) (wait_on_of state.old.proxies state.old.script state.old.state attempt).1) }
+    ensures state { OnOk result (state.new ≡ record state.old { state = (fill_window_of state.old.window state.old.proxies state.old.me state.old.script state.old.state).0 }) }
+    ensures sends { OnOk result (sends.new ≡ sends.old ++ map (parcel (IsClient state.old.me)) (fill_window_of state.old.window state.old.proxies state.old.me state.old.script state.old.state).1) }
 {
-    let since = attempt.since + 1;
-    if since == PATIENCE {
-        let proxy = next_proxy(state, attempt.proxy);
-        ask_again(state, proxy, sends)?;
-        set_attempt(state, Attempt { proxy, since: 0 });
-    } else {
-        set_attempt(
-            state,
-            Attempt {
-                proxy: attempt.proxy,
-                since,
-            },
-        );
+    for _ in 0..free_places(state) {
+        open_next(state, sends)?;
     }
     Ok(())
 }
 
-fn count_tick(state: &mut ClientState)
-    ensures { state.new ≡ record state.old { state = record state.old.state { ticks = min (state.old.state.ticks + 1) last_tick } } }
+/// Sends the request of this number again.
+fn ask_again(state: &ClientState, proxy: u8, num: u32, sends: &mut Sends) -> Result<(), NoMemory>
+    requires { proxy ≤ 7 }
+    ensures { OnOk result (sends.new ≡ sends.old ++ map (parcel (IsClient state.now.me)) (asked_again_of proxy num (slice_get state.now.script (num - 1)))) }
 {
-    state.ticks = state.ticks.saturating_add(1);
+    match request_at(state, num.saturating_sub(1)) {
+        None => Ok(()),
+        Some(request) => ask(state, proxy, num, request, sends),
+    }
 }
 
-/// The open request, if one is.
-fn attempt_of(state: &ClientState) -> Option<Attempt>
-    ensures attempt { result ≡ state.now.state.attempt }
-    ensures proxy { IfSome result (λ a. a.proxy < state.now.proxies) }
-    ensures since { IfSome result (λ a. a.since < patience) }
-    ensures sent { OnSome result (1 ≤ state.now.state.sent) }
+/// The proxy after this one.
+fn next_proxy(proxies: u8, proxy: u8) -> u8
+    requires below { proxy < proxies }
+    requires most { proxies ≤ 8 }
+    ensures next { result ≡ (proxy + 1) % proxies }
+    ensures known { result < proxies }
 {
-    state.attempt
+    (proxy + 1) % proxies
+}
+
+/// Whether the open request has waited long enough at the next tick.
+fn is_overdue(attempt: Attempt) -> bool
+    requires { attempt.since < patience }
+    ensures { result ≡ is_overdue_of attempt }
+{
+    attempt.since + 1 == PATIENCE
+}
+
+/// Sends an open request again where it has waited long enough.
+fn retry(state: &ClientState, attempt: Attempt, sends: &mut Sends) -> Result<(), NoMemory>
+    requires { IsOfProxies state.now.proxies attempt }
+    ensures { OnOk result (sends.new ≡ sends.old ++ map (parcel (IsClient state.now.me)) (retry_of state.now.proxies state.now.script attempt)) }
+{
+    if is_overdue(attempt) {
+        let proxy = next_proxy(state.proxies, attempt.proxy);
+        ask_again(state, proxy, attempt.num, sends)
+    } else {
+        Ok(())
+    }
+}
+
+/// Sends again what has waited long enough, in rising number.
+fn retry_all(state: &ClientState, sends: &mut Sends) -> Result<(), NoMemory>
+    ensures { OnOk result (sends.new ≡ sends.old ++ map (parcel (IsClient state.now.me)) (retries_of state.now.proxies state.now.script state.now.state.attempts)) }
+{
+    for attempt in &state.attempts {
+        retry(state, *attempt, sends)?;
+    }
+    Ok(())
+}
+
+/// An open request waits one tick more.
+fn waited(attempt: Attempt, proxies: u8) -> Attempt
+    requires most { proxies ≤ 8 }
+    requires of_proxies { IsOfProxies proxies attempt }
+    ensures waited { result ≡ waited_of proxies attempt }
+    ensures of_proxies { IsOfProxies proxies result }
+{
+    let num = attempt.num;
+    if is_overdue(attempt) {
+        let proxy = next_proxy(proxies, attempt.proxy);
+        Attempt {
+            num,
+            proxy,
+            since: 0,
+        }
+    } else {
+        Attempt {
+            num,
+            proxy: attempt.proxy,
+            since: attempt.since + 1,
+        }
+    }
+}
+
+/// Each open request waits one tick more.
+fn wait_each(attempts: &mut [Attempt], proxies: u8)
+    requires most { proxies ≤ 8 }
+    requires of_proxies { AllByRecursion (IsOfProxies proxies) attempts.old }
+    ensures waited { attempts.new ≡ map (waited_of proxies) attempts.old }
+    ensures of_proxies { AllByRecursion (IsOfProxies proxies) attempts.new }
+{
+    for attempt in attempts.iter_mut() {
+        *attempt = waited(*attempt, proxies);
+    }
+}
+
+/// The count of ticks rises, and each open request waits.
+fn wait_all(state: &mut ClientState)
+    ensures { state.new ≡ record state.old { state = all_waited state.old.proxies state.old.state } }
+{
+    let proxies = state.proxies;
+    wait_each(state.attempts.as_mut_slice(), proxies);
+    state.ticks = state.ticks.saturating_add(1);
 }
 
 /// The rule for a tick.
 #[tactic(auto, unfolding(nz_machine::specs::Clients::wait_rule))]
 pub fn wait_rule(state: &mut ClientState, sends: &mut Sends) -> Result<(), NoMemory>
     ensures same { IsSame state.old state.new }
-    ensures state { OnOk result (state.new ≡ record state.old { state = (wait_rule_of state.old.proxies state.old.me state.old.script state.old.state).0 }) }
-    ensures sends { OnOk result (sends.new ≡ sends.old ++ map (parcel (IsClient state.old.me)) (wait_rule_of state.old.proxies state.old.me state.old.script state.old.state).1) }
+    ensures state { OnOk result (state.new ≡ record state.old { state = (wait_rule_of state.old.window state.old.proxies state.old.me state.old.script state.old.state).0 }) }
+    ensures sends { OnOk result (sends.new ≡ sends.old ++ map (parcel (IsClient state.old.me)) (wait_rule_of state.old.window state.old.proxies state.old.me state.old.script state.old.state).1) }
 {
-    count_tick(state);
-    match attempt_of(state) {
-        None => open_next(state, sends),
-        Some(attempt) => wait_on(state, attempt, sends),
-    }
+    retry_all(state, sends)?;
+    wait_all(state);
+    fill_window(state, sends)
 }
 
-/// Whether the answer is to the open request.
-fn is_awaited(state: &ClientState, body: &AnswerBody) -> bool
-    ensures awaited { result ≡ is_awaited_of state.now.state body.now state.now.state.attempt }
-    ensures open { IsTrue result → IsSome state.now.state.attempt }
+fn drop_attempt(attempts: &mut Vec<Attempt>, num: u32)
+    ensures { attempts.new.items ≡ without num attempts.old.items }
 {
-    state.attempt.is_some() && body.num == state.sent
+    attempts.retain(|attempt| attempt.num != num);
 }
 
-fn accept(state: &mut ClientState)
-    requires { IsSome state.old.state.attempt }
-    ensures { state.new ≡ record state.old { state = record state.old.state { accepted = state.old.state.accepted + 1; attempt = None } } }
+/// The request of this number is accepted, and no longer open.
+fn accept(state: &mut ClientState, num: u32)
+    requires { IsTrue (is_open_in num state.old.state.attempts) }
+    ensures { state.new ≡ record state.old { state = accepted_of num state.old.state } }
 {
+    drop_attempt(&mut state.attempts, num);
     state.accepted += 1;
-    state.attempt = None;
 }
 
 /// The rule for an answer of a proxy.
@@ -282,12 +336,12 @@ pub fn accept_rule(
     sends: &mut Sends,
 ) -> Result<(), NoMemory>
     ensures same { IsSame state.old state.new }
-    ensures state { OnOk result (state.new ≡ record state.old { state = (accept_rule_of state.old.proxies state.old.me state.old.script state.old.state body.now).0 }) }
-    ensures sends { OnOk result (sends.new ≡ sends.old ++ map (parcel (IsClient state.old.me)) (accept_rule_of state.old.proxies state.old.me state.old.script state.old.state body.now).1) }
+    ensures state { OnOk result (state.new ≡ record state.old { state = (accept_rule_of state.old.window state.old.proxies state.old.me state.old.script state.old.state body.now).0 }) }
+    ensures sends { OnOk result (sends.new ≡ sends.old ++ map (parcel (IsClient state.old.me)) (accept_rule_of state.old.window state.old.proxies state.old.me state.old.script state.old.state body.now).1) }
 {
-    if !is_awaited(state, body) {
+    if !state.is_open(body.num) {
         return Ok(());
     }
-    accept(state);
-    open_next(state, sends)
+    accept(state, body.num);
+    fill_window(state, sends)
 }

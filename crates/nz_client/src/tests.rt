@@ -92,7 +92,7 @@ fn client(alloc: Global, waits: &[u32]) -> Result<Client, Fail> {
     if !are_sendable(&script) {
         return Err("no script".into());
     }
-    Ok(Client::new(alloc, 1, 3, script))
+    Ok(Client::new(alloc, 1, 3, 1, script))
 }
 
 #[test]

@@ -1,6 +1,6 @@
 -- The rows of a run's records.
-use Rattle.std.proofs.Common.{◌≡◌, ◌≢◌, ℕ, zero, suc, ◌+◌, ◌*◌, ◌<◌, ◌≤◌, Bool, true, false, cond, List, [], ◌∷◌, ◌++◌, length, map, refl, sym, ap, ◌∙◌, subst, arith, append-nil, append_assoc, inl, inr, length-append}
-use Rattle.std.specs.Prelude.{filter, get_or, reverse, slice_set, Vec, vec_capacity}
+use Rattle.std.proofs.Common.{◌≡◌, ◌≢◌, ℕ, zero, suc, ◌+◌, ◌-◌, ◌<◌, ◌≤◌, Bool, true, false, cond, List, [], ◌∷◌, ◌++◌, length, map, refl, sym, ap, ◌∙◌, subst, arith, append-nil, append_assoc, inl, inr, length-append, get_or-drop, length-drop}
+use Rattle.std.specs.Prelude.{drop, get_or, reverse, slice_set, Vec, vec_capacity}
 use Rattle.std.specs.Global.{Global}
 use Rattle.std.specs.List.{AllByRecursion, remove}
 use Rattle.std.proofs.lemmas.List.{map-append, map-set, get_or-set_same, get_or-set_other, length-set, get_or-map, get_or_append_left, get_or_default, length-map, reverse-append, reverse-reverse}
@@ -10,7 +10,6 @@ use Rattle.std.proofs.lemmas.List.Sorted.{IsPermutation-remove, sum_by-IsPermuta
 use Rattle.std.proofs.lemmas.List.Sums.{sum_by-append, sum_by-cons}
 use Rattle.std.proofs.Math.Seq.{get_or-append_seam}
 use Rattle.std.proofs.lemmas.Bool.{cases_eq}
-use Rattle.std.proofs.lemmas.Grind.{reverse_onto}
 use Rattle.nz_base.proofs.Names.{actor_eq_self, same_actor}
 use Rattle.nz_base.specs.Actor.{actor_eq}
 use Rattle.nz_base.specs.declared.actor.Actor.{Actor}
@@ -395,6 +394,40 @@ filed order rows r at old v h lt was long items =
 -- what is read at a place twice is the same
 pub one_read : (rows : List (Vec Record Global)) (i : ℕ) (v w : Vec Record Global) → i < length rows → v ≡ get_or rows i v → w ≡ get_or rows i w → v ≡ w
 one_read rows i v w lt at at' = at ∙ sym (get_or_default rows i w v lt) ∙ sym at'
+
+-- the record is the last of all, and one place of its row is used
+pub record IsPushed (order order' : List Place) (rows : List (Vec Record Global)) (i : ℕ) (r : Record) (v : Vec Record Global) : Type 0 where
+  pub rows_are : AreRows order' (rows_of (slice_set rows i v))
+  pub records : map (record_at (rows_of (slice_set rows i v))) order' ≡ map (record_at (rows_of rows)) order ++ r ∷ []
+  pub spares : (a : Actor) → get_or (map spare_in rows) (row_number a) 0 ≤ get_or (map spare_in (slice_set rows i v)) (row_number a) 0 + cond (actor_eq r.actor a) 1 0
+
+pub pushed : (order order' : List Place) (rows : List (Vec Record Global)) (i at : ℕ) (r : Record) (old read v : Vec Record Global) → AreRows order (rows_of rows) → i ≡ row_number r.actor → i < 768 → old ≡ get_or rows i old
+    → read ≡ get_or rows i read → at ≡ length read.items → v.items ≡ old.items ++ r ∷ [] → vec_capacity v ≡ vec_capacity old → order' ≡ order ++ record { actor = r.actor; at = at } ∷ [] → IsPushed order order' rows i r v
+pushed order order' rows i at r old read v h n within was was' long items capacity last =
+    let many = wide order rows h in
+    let lt : row_number r.actor < length rows = omega (arith, many, n, within) in
+    let old_at = was ∙ ap (λ (k : ℕ). get_or rows k old) n in
+    let same = ap (λ (v : Vec Record Global). length v.items) (one_read rows i read old (omega (arith, lt, n)) was' was) in
+    let done = filed order rows r at old v h lt old_at (long ∙ same) items in
+    let longer = ap length items in
+    let more = length-append old.items (r ∷ []) in
+    let used = spares_used rows r.actor in
+    subst (λ (o : List Place). IsPushed order o rows i r v) (sym last)
+    (subst (λ (k : ℕ). IsPushed order (order ++ record { actor = r.actor; at = at } ∷ []) rows k r v) (sym n)
+    (record { rows_are = done.rows_are; records = done.records; spares = λ a. used a old v lt old_at (omega (arith, longer, more, capacity)) }))
+
+-- a record from some place on, among those from there on
+pub record IsFrom (before place : ℕ) (records : List Record) (r : Record) : Type 0 where
+  pub within : place - before < length (drop before records)
+  pub at : r ≡ get_or (drop before records) (place - before) r
+
+pub read_from : (before place : ℕ) (records : List Record) (r : Record) → before ≤ place → place < length records → r ≡ get_or records place r → IsFrom before place records r
+read_from before place records r le lt at =
+    let long = length-drop before records in
+    record {
+      within = omega (arith, le, lt, long);
+      at = at ∙ sym (get_or-drop before records (place - before) r ∙ ap (λ (n : ℕ). get_or records n r) (omega (arith, le)));
+    }
 
 -- the last record of a row is taken
 pub left_popped : (J : List Record) (order whole : List Place) (p : Place) (rows : List (Vec Record Global)) (taken taken' : List Record) (i : ℕ) (old v : Vec Record Global) (r : Record) → i ≡ row_number p.actor → i < 768 → whole ≡ order ++ p ∷ [] → old ≡ get_or rows i old

@@ -9,7 +9,7 @@ use Rattle.nz_base.specs.declared.scenario.Scenario.{Scenario}
 use Rattle.nz_machine.specs.declared.event.Parcel.{Parcel}
 use Rattle.nz_machine.specs.declared.event.Record.{Record}
 use Rattle.nz_machine.specs.declared.journal.Item.{Item}
-use Rattle.nz_machine.specs.Schedule.{Posted, posted, posted_in, item_of, calls, tick_item, actors_of, arrivals, due, InOrderTo, IsPlayable}
+use Rattle.nz_machine.specs.Schedule.{Posted, posted, posted_in, item_of, due, InOrderTo, IsPlayable}
 use Rattle.nz_fabric.specs.declared.turn.Turn.{Turn}
 use Rattle.nz_fabric.specs.declared.ticks.Ticks.{Ticks}
 use Rattle.nz_fabric.specs.Calendars.{Dates, StandsFor, HasPosted, posted_by}
@@ -173,23 +173,55 @@ whole_here : (before : ℕ) (records : List Record) → reverse (reverse (drop b
 whole_here before records = reverse-reverse (drop before records)
 
 -- before it begins the next tick, the calendar has what the finished ticks sent
-pub posted_started : (f : State) (c : Dates) → f.marked ≡ false → IsPosted f c → StandsFor f.scenario (posted f.finished) f.tick c
+posted_started : (f : State) (c : Dates) → f.marked ≡ false → IsPosted f c → StandsFor f.scenario (posted f.finished) f.tick c
 posted_started f c e h = subst (λ (L : List Posted). StandsFor f.scenario L f.tick c) (ap (λ (L : List Posted). posted f.finished ++ L) (h.none e) ∙ append-nil (posted f.finished)) h.stands
 
 -- then it has what this tick sent
-pub posted_now : (s : Scenario) (tick before : ℕ) (records : List Record) (c : Dates) → StandsFor s (posted (reverse (take before records)) ++ posted_by (drop before records)) tick c
+posted_now : (s : Scenario) (tick before : ℕ) (records : List Record) (c : Dates) → StandsFor s (posted (reverse (take before records)) ++ posted_by (drop before records)) tick c
     → StandsFor s (posted (reverse (drop before records) ++ reverse (take before records))) tick c
 posted_now s tick before records c h = subst (λ (L : List Posted). StandsFor s L tick c) (sym (posted_reverse (drop before records) (reverse (take before records)))) h
 
-pub posted_some : (s : Scenario) (tick before : ℕ) (records : List Record) (items : List Item) (next : ℕ) (c : Dates) → HasPosted s (posted (reverse (take before records))) (posted_by (drop before records)) tick c
+posted_some : (s : Scenario) (tick before : ℕ) (records : List Record) (items : List Item) (next : ℕ) (c : Dates) → HasPosted s (posted (reverse (take before records))) (posted_by (drop before records)) tick c
     → IsPosted (state_of s tick before records items next true) c
 posted_some s tick before records items next c h =
     record { sent = h.sent; rest = h.rest; prefix = ap posted_by (whole_here before records) ∙ h.prefix; stands = h.stands; none = λ e. cc }
 
-pub posted_whole : (s : Scenario) (tick before : ℕ) (records : List Record) (items : List Item) (next : ℕ) (c : Dates) → StandsFor s (posted (reverse (take before records)) ++ posted_by (drop before records)) tick c
+posted_whole : (s : Scenario) (tick before : ℕ) (records : List Record) (items : List Item) (next : ℕ) (c : Dates) → StandsFor s (posted (reverse (take before records)) ++ posted_by (drop before records)) tick c
     → IsPosted (state_of s tick before records items next true) c
 posted_whole s tick before records items next c h =
     posted_some s tick before records items next c (record { sent = posted_by (drop before records); rest = []; prefix = sym (append-nil (posted_by (drop before records))); stands = h })
+
+-- what posting does: after it the calendar has these too, or a prefix of them
+abbrev pub PostsAll : Scenario → Dates → Dates → List Posted → Type 0
+PostsAll s old new sent = (L : List Posted) (now : ℕ) → StandsFor s L now old → StandsFor s (L ++ sent) now new
+
+abbrev pub PostsSome : Scenario → Dates → Dates → List Posted → Type 0
+PostsSome s old new sent = (L : List Posted) (now : ℕ) → StandsFor s L now old → HasPosted s L sent now new
+
+-- the tick is over, and what it sent was posted in part
+pub over_some : (t : Ticks) (before : ℕ) (records sent : List Record) (c : Dates) → t.marked ≡ false → IsPosted (state_in t before records) t.calendar → sent ≡ drop before records
+    → PostsSome t.scenario t.calendar c (posted_by sent) → IsPosted (state_of t.scenario t.tick before records t.items.items t.next true) c
+over_some t before records sent c unmarked posts e some =
+    let L = posted (reverse (take before records)) in
+    posted_some t.scenario t.tick before records t.items.items t.next c
+    (subst (λ (rs : List Record). HasPosted t.scenario L (posted_by rs) t.tick c) e (some L t.tick (posted_started (state_in t before records) t.calendar unmarked posts)))
+
+-- the same, in whole
+over_now : (t : Ticks) (before : ℕ) (records sent : List Record) (c : Dates) → t.marked ≡ false → IsPosted (state_in t before records) t.calendar → sent ≡ drop before records
+    → PostsAll t.scenario t.calendar c (posted_by sent) → StandsFor t.scenario (posted (reverse (take before records)) ++ posted_by (drop before records)) t.tick c
+over_now t before records sent c unmarked posts e all =
+    let L = posted (reverse (take before records)) in
+    subst (λ (rs : List Record). StandsFor t.scenario (L ++ posted_by rs) t.tick c) e (all L t.tick (posted_started (state_in t before records) t.calendar unmarked posts))
+
+pub over_whole : (t : Ticks) (before : ℕ) (records sent : List Record) (c : Dates) → t.marked ≡ false → IsPosted (state_in t before records) t.calendar → sent ≡ drop before records
+    → PostsAll t.scenario t.calendar c (posted_by sent) → IsPosted (state_of t.scenario t.tick before records t.items.items t.next true) c
+over_whole t before records sent c unmarked posts e all = posted_whole t.scenario t.tick before records t.items.items t.next c (over_now t before records sent c unmarked posts e all)
+
+-- and the next tick began
+pub over_begun : (t : Ticks) (before : ℕ) (records sent : List Record) (c : Dates) (new : Ticks) → t.marked ≡ false → IsPosted (state_in t before records) t.calendar → sent ≡ drop before records
+    → PostsAll t.scenario t.calendar c (posted_by sent) → ((L : List Posted) → StandsFor t.scenario L t.tick c → HasBegun t.scenario t.tick L new) → HasBegun t.scenario t.tick (posted (records_of (state_in t before records))) new
+over_begun t before records sent c new unmarked posts e all begins =
+    begins (posted (records_of (state_in t before records))) (posted_now t.scenario t.tick before records c (over_now t before records sent c unmarked posts e all))
 
 pub posted_next : (f : State) (c : Dates) → StandsFor f.scenario (posted (records_of f)) (f.tick + 1) c → IsPosted (after_tick f) c
 posted_next f c h = record { sent = []; rest = []; prefix = refl; stands = subst (λ (L : List Posted). StandsFor f.scenario L (f.tick + 1) c) (sym (append-nil (posted (records_of f)))) h; none = λ _. refl }

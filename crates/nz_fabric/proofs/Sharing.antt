@@ -1,6 +1,6 @@
 -- What a fabric of threads keeps.
 use Rattle.std.proofs.Common.{◌≡◌, ℕ, zero, suc, ◌+◌, ◌^◌, ◌<◌, ◌≤◌, Bool, true, List, [], ◌∷◌, ◌++◌, length, map, Some, refl, sym, ap, ◌∙◌, subst, arith, length-append, append_assoc, take_all}
-use Rattle.std.specs.Prelude.{take, reverse, slice_get, get_or, vec_capacity, IsPermutation}
+use Rattle.std.specs.Prelude.{take, reverse, slice_get, get_or, IsPermutation}
 use Rattle.std.specs.List.{AllByRecursion, remove}
 use Rattle.std.proofs.lemmas.List.{map-append, length-map}
 use Rattle.std.proofs.lemmas.List.Sorted.{IsPermutation-refl, IsPermutation-sym, IsPermutation-cons, IsPermutation-to_front, IsPermutation-map, IsPermutation-append_left, IsPermutation-append_right, IsPermutation-trans, IsPermutation-middle, IsPermutation-reverse, IsPermutation-remove, length_permutation}
@@ -11,7 +11,7 @@ use Rattle.nz_machine.specs.declared.journal.Item.{Item}
 use Rattle.nz_machine.specs.Schedule.{item_of, posted, ScheduledTo, IsPlayable}
 use Rattle.nz_fabric.specs.declared.running.Running.{Running}
 use Rattle.nz_fabric.specs.declared.ticks.Ticks.{Ticks}
-use Rattle.nz_fabric.specs.States.{State, records_of, start, IsNew, recorded, with_recorded, with_taken, with_mark, after_tick, IsBegunAs, IsPosted, state_of, state_in, HasBegun}
+use Rattle.nz_fabric.specs.States.{State, records_of, IsNew, recorded, with_recorded, with_taken, with_mark, after_tick, IsBegunAs, IsPosted, state_of, state_in, HasBegun}
 use Rattle.nz_fabric.specs.Calendars.{Dates}
 use Rattle.nz_fabric.specs.Shared.{shared, item_running, turn_of, IsOver, IsAccounted, IsBooked}
 use Rattle.nz_fabric.proofs.Held.{take_got, no_records, begun_next, state_record, next_is, posted_start, posted_grow, posted_next}

@@ -1,8 +1,6 @@
 -- What a calendar says of what was sent: how many parcels, how many of each sender, receiver and kind, and what is
 -- to come in each tick.
-use Rattle.std.specs.Prelude.{◌≡◌, ℕ, ◌+◌, ◌*◌, ◌<◌, ◌≤◌, ◌^◌, ◌==◌, ◌&&◌, nat_le, Bool, true, false, Option, MatchOption, if◌then◌else◌, List, [], ◌∷◌, ◌++◌, length, map, filter, get_or, unwrap_or, Vec, vec_capacity}
-use Rattle.std.specs.Global.{Global}
-use Rattle.std.specs.List.{AllByRecursion}
+use Rattle.std.specs.Prelude.{◌≡◌, ℕ, ◌+◌, ◌*◌, ◌<◌, ◌≤◌, ◌==◌, ◌&&◌, Bool, Option, MatchOption, if◌then◌else◌, List, [], ◌∷◌, ◌++◌, length, map, filter, get_or, unwrap_or}
 use Rattle.std.specs.Map.{lookup}
 use Rattle.nz_base.specs.declared.actor.Actor.{Actor}
 use Rattle.nz_base.specs.declared.actor.Actor.TheVariants.{Replica, Proxy, Client}

@@ -1,5 +1,5 @@
 -- Words of the code that posts a parcel.
-use Rattle.std.specs.Prelude.{◌≡◌, ℕ, ◌+◌, ◌-◌, ◌<◌, ◌≤◌, ◌^◌, ◌==◌, nat_le, min, Bool, true, false, List, [], ◌∷◌, length, map, filter, get_or, Vec, vec_capacity}
+use Rattle.std.specs.Prelude.{◌≡◌, ℕ, ◌+◌, ◌-◌, ◌<◌, ◌≤◌, ◌^◌, ◌==◌, nat_le, min, Bool, true, false, List, [], length, map, filter, get_or, Vec, vec_capacity}
 use Rattle.std.specs.Global.{Global}
 use Rattle.std.specs.List.{AllByRecursion}
 use Rattle.nz_base.specs.declared.actor.Actor.{Actor}

@@ -28,7 +28,7 @@ pub record Holding : Type 0 where
 
 -- A scenario without actors.
 abbrev pub no_scenario : Scenario
-no_scenario = record { cluster = 1; proxies = 0; clients = 0; ticks = 0; skews = []; scripts = []; faults = [] }
+no_scenario = record { cluster = 1; proxies = 0; clients = 0; window = 0; ticks = 0; skews = []; scripts = []; faults = [] }
 
 -- Before the first tick nothing is due.
 abbrev pub start_shared : Scenario → Shared
@@ -82,6 +82,12 @@ with_given_up number f = shared (with_mark f.run) (closed number f.running)
 pub record IsOver (f : Shared) : Type 0 where
   pub unmarked : f.run.marked ≡ false
   pub none : f.running ≡ []
+  pub all : f.run.next ≡ length f.run.items
+
+-- All that is due in the tick was taken, and some of it is still to be recorded.
+pub record MustWait (f : Shared) : Type 0 where
+  pub unmarked : f.run.marked ≡ false
+  pub some : 0 < length f.running
   pub all : f.run.next ≡ length f.run.items
 
 -- The next tick begins.

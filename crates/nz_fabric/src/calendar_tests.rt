@@ -65,6 +65,7 @@ fn twice_and_held(alloc: Global) -> Result<Scenario, Fail>
         cluster: Cluster::new(1).ok_or("1 is an f")?,
         proxies: 1,
         clients: 1,
+        window: 1,
         ticks: 40,
         skews: SkewList::new(alloc),
         scripts: scripts(alloc)?,

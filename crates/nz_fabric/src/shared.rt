@@ -6,7 +6,7 @@ ghost use Rattle.nz_fabric.specs.declared.running.Running.{Running as Entry};
 ghost use Rattle.nz_fabric.specs.Rows.{of_actor};
 ghost use Rattle.nz_fabric.specs.Replays.{IsSentOn};
 ghost use Rattle.nz_fabric.specs.States.{records_of, with_mark};
-ghost use Rattle.nz_fabric.specs.Shared.{IsAccounted, IsNextOf, IsOver, after_shared, closed, place_of as place_in, shared, start_shared, with_given_up, with_opened, with_record};
+ghost use Rattle.nz_fabric.specs.Shared.{IsAccounted, IsNextOf, IsOver, MustWait, after_shared, closed, place_of as place_in, shared, start_shared, with_given_up, with_opened, with_record};
 
 use crate::name::Name;
 use crate::rows::Rows;
@@ -146,6 +146,27 @@ impl<N: Name> FabricState<N> {
         ensures { result ≡ self.now.run.marked }
     {
         self.ticks.marked
+    }
+
+    /// Whether all that is due in the tick was recorded.
+    pub fn is_over(&self) -> bool
+        ensures { IsTrue result ↔ IsOver self.now }
+    {
+        !self.ticks.marked && self.running.is_empty() && self.ticks.next == self.ticks.items.len()
+    }
+
+    /// How many items are due in the tick.
+    pub fn due(&self) -> usize
+        ensures { result ≡ length self.now.run.items }
+    {
+        self.ticks.items.len()
+    }
+
+    /// Whether there is nothing to take before an open turn is done.
+    pub fn must_wait(&self) -> bool
+        ensures { IsTrue result ↔ MustWait self.now }
+    {
+        !self.ticks.marked && !self.running.is_empty() && self.ticks.next == self.ticks.items.len()
     }
 
     /// Nothing changes. The amount of the whole share is the number of open turns.

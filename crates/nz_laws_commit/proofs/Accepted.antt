@@ -96,9 +96,6 @@ pub record Gives (g : Group) (r : Record) (J : List Record) (id : Id) (a : Answe
   pub backed : IsBacked g J id reply source
   pub given : IsGiven g J (view_of reply) id a prefix
 
-same_body : (x y : AnswerBody) → Answered x ≡ Answered y → x ≡ y
-same_body x y e = cc
-
 -- what is read of a parcel is sent to the reader
 read_to : (g : Group) (J : List Record) (a : Actor) (p : Parcel) (e : Envelope) → World g J → MayHappen J a (Deliver p) → received g.f a p ≡ Some e
     → e.to ≡ a
@@ -114,13 +111,11 @@ gives_by g r J id a path w t to =
     let e = t.envelope in
     let d = delivers g (Client c) r.event e t.read in
     let p = d.parcel in
-    let body : to.body ≡ t.body = same_body to.body t.body (sym to.message ∙ t.message) in
-    let num : t.body.num ≡ (state_after g (Client c) J).sent = sym (ap (λ (b : AnswerBody). b.num) body) ∙ to.num in
     let by : MayHappen J (Client c) r.event = subst (λ (x : Actor). MayHappen J x r.event) t.by w.0.event in
     let may : MayHappen J (Client c) (Deliver p) = subst (MayHappen J (Client c)) d.is by in
     let s = has_source p J may.1 in
     let told = told_at g J w.1 (Client c) p e d.heard s.0 s.1 in
-    let id_is : id_at c t.body.num ≡ id = ap (id_at c) num ∙ sym t.id_is in
+    let id_is : id_at c t.body.num ≡ id = sym t.id_is in
     let back : LeadsBack g J (id_at c t.body.num) t.body.answer p.from s.0 =
     answer_source g J s.0 p e c t.body w.1 told
     (record { proxy = to.proxy; sender = to.sender; receiver = read_to g J (Client c) p e w.1 may d.heard; message = t.message }) in

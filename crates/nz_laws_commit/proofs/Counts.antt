@@ -1,7 +1,7 @@
--- Each request is sent once, and accepted at most once and after that; and a client has at most one open.
-use Rattle.std.proofs.Common.{◌≡◌, ℕ, ◌+◌, ◌<◌, ◌≤◌, Bool, true, false, cond, eqb, min, nat_lt, List, [], ◌∷◌, ◌++◌, Option, Some, None, refl, sym, ap, subst, ◌∙◌, arith, inl, inr, ◌⊎◌, lt-ltb}
-use Rattle.std.specs.Prelude.{slice_get}
-use Rattle.std.proofs.lemmas.Bool.{cases_lt}
+-- Each request is sent once, and accepted at most once and after that.
+use Rattle.std.proofs.Common.{◌≡◌, ℕ, zero, suc, ◌+◌, ◌-◌, ◌<◌, ◌≤◌, Bool, true, false, cond, nat_lt, List, [], ◌∷◌, ◌++◌, Option, Some, None, refl, sym, ap, subst, ◌∙◌, arith, inl, inr, ◌⊎◌}
+use Rattle.std.proofs.lemmas.Bool.{false≢true}
+use Rattle.std.proofs.lemmas.Option.{none-some}
 use Rattle.nz_base.specs.declared.actor.Actor.{Actor}
 use Rattle.nz_base.specs.declared.actor.Actor.TheVariants.{Replica, Proxy, Client}
 use Rattle.nz_base.specs.declared.key.Id.{Id}
@@ -12,20 +12,20 @@ use Rattle.nz_msg.specs.declared.message.Path.{Path}
 use Rattle.nz_msg.specs.declared.message.Message.{Message}
 use Rattle.nz_msg.specs.declared.message.Message.TheVariants.{Answer as Answered}
 use Rattle.nz_msg.specs.declared.envelope.Envelope.{Envelope}
-use Rattle.nz_machine.specs.declared.data.Attempt.{Attempt}
 use Rattle.nz_machine.specs.declared.event.Event.{Event}
-use Rattle.nz_machine.specs.declared.event.Event.TheVariants.{Deliver, Tick}
+use Rattle.nz_machine.specs.declared.event.Event.TheVariants.{Deliver, Cut, Tick, Alarm, Crash, Restart}
 use Rattle.nz_machine.specs.declared.event.Record.{Record}
-use Rattle.nz_machine.specs.State.{ClientData, Group, Out}
-use Rattle.nz_machine.specs.Clients.{patience, last_tick, if_due, opened, open_next, wait_on, ticked_at, wait_rule, is_awaited, accept_rule}
+use Rattle.nz_machine.specs.State.{ClientData, Group}
+use Rattle.nz_machine.specs.Clients.{is_open}
 use Rattle.nz_machine.specs.Step.{script_of, client_message, received, envelope_step, event_step}
 use Rattle.nz_machine.specs.World.{state_after, Has}
-use Rattle.nz_machine.specs.Events.{Told, Sent, Accepted, id_at, command_at, read_in, accepted_in, accepted_by, sent_by, told_by, events}
+use Rattle.nz_machine.specs.Events.{Told, Sent, Accepted, id_at, command_at, read_in, accepted_in, accepted_by, sent_after, sent_by, told_by, events}
 use Rattle.nz_machine.specs.OneHistory.{Precedes}
-use Rattle.nz_machine.proofs.Runs.{may_act, has_left, has_right, has_split, on_cond}
+use Rattle.nz_machine.proofs.Runs.{acts_itself, has_left, has_right, has_split}
+use Rattle.nz_machine.proofs.InTurn.{InTurn, open_within, answer_takes}
 use Rattle.nz_laws_commit.specs.Once.{AreOnce}
-use Rattle.nz_machine.proofs.Accepting.{client_accepts}
-use Rattle.nz_laws_commit.proofs.Tells.{AcceptsAnswer, told_sent, told_accepted, not_sent, not_accepted, sent_once, not_sent_before, has_sent, count_rises}
+use Rattle.nz_laws_commit.proofs.Tells.{AcceptsAnswer, told_sent, told_accepted, same_sent, not_sent, not_accepted, is_after, not_sent_before, has_sent, in_turn, turns}
+use Rattle.nz_laws_commit.proofs.Opened.{few_open}
 
 -- ---- lists of events
 
@@ -41,129 +41,6 @@ precedes_three (z ∷ xs) ys x y (inl h) = elim (has_split xs ys y h.1) [ inl a 
 precedes_three (z ∷ xs) ys x y (inr h) =
     elim (precedes_three xs ys x y h) [ inl a ↦ inl (inr a) | inr (inl b) ↦ inr (inl (inr b.0, b.1)) | inr (inr c) ↦ inr (inr c) ]
 
--- ---- counts of a client
-
--- with a request open all others are accepted, else all
-abbrev Counted : Option Attempt → ℕ → ℕ → Type 0
-Counted None sent accepted = accepted ≡ sent
-Counted (Some a) sent accepted = accepted + 1 ≡ sent
-
--- a step in which nothing is accepted
-record IsFree (s t : ClientData) : Type 0 where
-  counted : Counted t.attempt t.sent t.accepted
-  same : t.accepted ≡ s.accepted
-
--- a step, in which the open request may be accepted
-record Counts (s t : ClientData) : Type 0 where
-  counted : Counted t.attempt t.sent t.accepted
-  more : s.accepted ≤ t.accepted
-  one : t.accepted ≤ s.accepted + 1
-  open_before : s.accepted < t.accepted → s.accepted + 1 ≡ s.sent
-
-free_counts : (s t : ClientData) → IsFree s t → Counts s t
-free_counts s t h =
-    let same = h.same in record {
-      counted = h.counted;
-      more = omega (arith, same);
-      one = omega (arith, same);
-      open_before = λ lt. absurd
-          (omega (arith, lt, same));
-    }
-
-opened_free : (proxies me : ℕ) (s : ClientData) (o : Option Request) → s.accepted ≡ s.sent → IsFree s (opened proxies me s o).0
-opened_free proxies me s None e = record { counted = e; same = refl }
-opened_free proxies me s (Some r) e = record { counted = omega (arith, e); same = refl }
-
-waited_free : (proxies : ℕ) (script : List Request) (s : ClientData) (a : Attempt) → s.accepted + 1 ≡ s.sent → IsFree s (wait_on proxies script s a).0
-waited_free proxies script s a e =
-    on_cond (λ (t : ClientData × List Out). IsFree s t.0) (eqb (a.since + 1) patience) _ _ (λ _. record { counted = e; same = refl })
-    (λ _. record { counted = e; same = refl })
-
-ticked_free : (proxies me : ℕ) (script : List Request) (s : ClientData) (o : Option Attempt) → Counted o s.sent s.accepted
-    → IsFree s (ticked_at proxies me script s o).0
-ticked_free proxies me script s None h = opened_free proxies me s (if_due s.ticks (slice_get script s.sent)) h
-ticked_free proxies me script s (Some a) h = waited_free proxies script s a h
-
-tick_counts : (proxies me : ℕ) (script : List Request) (s : ClientData) → Counted s.attempt s.sent s.accepted
-    → Counts s (wait_rule proxies me script s).0
-unfolding wait_rule
-tick_counts proxies me script s h =
-    let t = ticked_free proxies me script (record s { ticks = min (s.ticks + 1) last_tick }) s.attempt h in
-    free_counts s _ (record { counted = t.counted; same = t.same })
-
-awaited_open : (s : ClientData) (b : AnswerBody) (o : Option Attempt) → Counted o s.sent s.accepted → is_awaited s b o ≡ true
-    → s.accepted + 1 ≡ s.sent
-awaited_open s b None h e = absurd cc
-awaited_open s b (Some a) h e = h
-
-accept_counts : (proxies me : ℕ) (script : List Request) (s : ClientData) (b : AnswerBody) → Counted s.attempt s.sent s.accepted
-    → Counts s (accept_rule proxies me script s b).0
-unfolding accept_rule
-accept_counts proxies me script s b h =
-    let free : ClientData = (record s { accepted = s.accepted + 1; attempt = None }) in
-    on_cond (λ (t : ClientData × List Out). Counts s t.0) (is_awaited s b s.attempt) (open_next proxies me script free) (s, [])
-    (λ awaited.
-    let own = awaited_open s b s.attempt h awaited in
-    let t = opened_free proxies me free (if_due s.ticks (slice_get script s.sent)) own in
-    let same = t.same in
-    record { counted = t.counted; more = omega (arith, same); one = omega (arith, same); open_before = λ _. own })
-    (λ _. free_counts s s (record { counted = h; same = refl }))
-
-message_counts : (proxies me : ℕ) (script : List Request) (s : ClientData) (from : Actor) (m : Message) → Counted s.attempt s.sent s.accepted
-    → Counts s (client_message proxies me script s from m).0
-message_counts proxies me script s (Proxy p) (Answered b) h = accept_counts proxies me script s b h
-message_counts proxies me script s _ _ h = free_counts s s (record { counted = h; same = refl })
-
-envelope_counts : (g : Group) (c : ℕ) (s : ClientData) (o : Option Envelope) → Counted s.attempt s.sent s.accepted
-    → Counts s (envelope_step g (Client c) s o).0
-envelope_counts g c s None h = free_counts s s (record { counted = h; same = refl })
-envelope_counts g c s (Some e) h = message_counts g.proxies c (script_of g c) s e.from e.message h
-
-event_counts : (g : Group) (c : ℕ) (s : ClientData) (e : Event) → Counted s.attempt s.sent s.accepted → Counts s (event_step g (Client c) s e).0
-event_counts g c s (Deliver p) h = envelope_counts g c s (received g.f (Client c) p) h
-event_counts g c s (Tick clock) h = tick_counts g.proxies c (script_of g c) s h
-event_counts g c s _ h = free_counts s s (record { counted = h; same = refl })
-
-counted : (g : Group) (c : ℕ) (J : List Record)
-    → Counted (state_after g (Client c) J).attempt (state_after g (Client c) J).sent (state_after g (Client c) J).accepted
-unfolding state_after
-counted g c [] = refl
-counted g c (r ∷ J) = elim (may_act g (Client c) r J).cases [
-  | inl a ↦ subst (λ (s : ClientData). Counted s.attempt s.sent s.accepted) (sym a.1)
-      (event_counts g c (state_after g (Client c) J) r.event (counted g c J)).counted
-  | inr s ↦ subst (λ (s : ClientData). Counted s.attempt s.sent s.accepted) (sym s) (counted g c J)
-]
-
-counts : (g : Group) (c : ℕ) (r : Record) (J : List Record) → Counts (state_after g (Client c) J) (state_after g (Client c) (r ∷ J))
-counts g c r J = elim (may_act g (Client c) r J).cases [
-  | inl a ↦ subst (Counts (state_after g (Client c) J)) (sym a.1) (event_counts g c (state_after g (Client c) J) r.event (counted g c J))
-  | inr s ↦ subst (Counts (state_after g (Client c) J)) (sym s)
-      (free_counts (state_after g (Client c) J) (state_after g (Client c) J) (record { counted = counted g c J; same = refl }))
-]
-
--- ---- what was accepted is counted
-
-accepted_count : (g : Group) (J : List Record) (id : Id) (a : Answer) (p : Path) → Has (events g J) (Accepted id a p)
-    → id.num ≤ (state_after g (Client id.client) J).accepted
-accepted_count g [] id a p h = absurd h
-accepted_count g (r ∷ J) id a p h = elim (has_split (events g J) (told_by g r.actor r J) (Accepted id a p) h) [
-  | inl x ↦ let old = accepted_count g J id a p x in let k = (counts g id.client r J).more in omega (arith, old, k)
-  | inr x ↦
-      let t = told_accepted g r J id a p x in
-      let more = t.more in
-      let own = (counts g t.client r J).open_before more in
-      subst (λ (i : Id). i.num ≤ (state_after g (Client i.client) (r ∷ J)).accepted) (sym t.id_is) (omega (arith, own, more))
-]
-
-not_accepted_before : (g : Group) (r : Record) (J : List Record) (id : Id) (a b : Answer) (p q : Path) → AcceptsAnswer g r J id b q
-    → Has (events g J) (Accepted id a p) → ⊥
-not_accepted_before g r J id a b p q t h =
-    let old = subst (λ (i : Id). i.num ≤ (state_after g (Client i.client) J).accepted) t.id_is (accepted_count g J id a p h) in
-    let own = (counts g t.client r J).open_before t.more in
-    absurd (omega (arith, own, old))
-
--- ---- lists of events
-
 precedes_left : {X : Type 0} (xs ys : List X) (x y : X) → Precedes xs x y → Precedes (xs ++ ys) x y
 precedes_left [] ys x y h = absurd h
 precedes_left (z ∷ xs) ys x y (inl h) = inl (h.0, has_left xs ys y h.1)
@@ -174,13 +51,91 @@ precedes_across [] ys x y h k = absurd h
 precedes_across (z ∷ xs) ys x y (inl e) k = inl (e, has_right xs ys y k)
 precedes_across (z ∷ xs) ys x y (inr h) k = inr (precedes_across xs ys x y h k)
 
+-- ---- an accepted request was open, and is closed
+
+record Shuts (before after : ClientData) (num : ℕ) : Type 0 where
+  was_open : is_open num before.attempts ≡ true
+  closed : is_open num after.attempts ≡ false
+
+message_shuts : (window proxies me : ℕ) (script : List Request) (s : ClientData) (from : Actor) (b : AnswerBody) → InTurn window script s
+    → s.accepted < (client_message window proxies me script s from (Answered b)).0.accepted
+    → Shuts s (client_message window proxies me script s from (Answered b)).0 b.num
+message_shuts window proxies me script s (Proxy p) b h lt = let t = answer_takes window proxies me script s b h in record { was_open = t.held lt; closed = t.shut lt }
+message_shuts window proxies me script s (Replica r) b h lt = absurd (omega (arith, lt))
+message_shuts window proxies me script s (Client c) b h lt = absurd (omega (arith, lt))
+
+envelope_shuts : (g : Group) (c : ℕ) (s : ClientData) (e : Envelope) (b : AnswerBody) → e.message ≡ Answered b → InTurn g.window (script_of g c) s
+    → s.accepted < (envelope_step g (Client c) s (Some e)).0.accepted → Shuts s (envelope_step g (Client c) s (Some e)).0 b.num
+envelope_shuts g c s e b is h =
+    let step = λ (m : Message). client_message g.window g.proxies c (script_of g c) s e.from m in
+    subst (λ (m : Message). s.accepted < (step m).0.accepted → Shuts s (step m).0 b.num) (sym is)
+    (message_shuts g.window g.proxies c (script_of g c) s e.from b h)
+
+event_shuts : (g : Group) (c : ℕ) (s : ClientData) (event : Event) (e : Envelope) (b : AnswerBody) → read_in g (Client c) event ≡ Some e → e.message ≡ Answered b
+    → InTurn g.window (script_of g c) s → s.accepted < (event_step g (Client c) s event).0.accepted → Shuts s (event_step g (Client c) s event).0 b.num
+event_shuts g c s (Deliver p) e b read is h =
+    subst (λ (o : Option Envelope). s.accepted < (envelope_step g (Client c) s o).0.accepted → Shuts s (envelope_step g (Client c) s o).0 b.num) (sym read)
+    (envelope_shuts g c s e b is h)
+event_shuts g c s (Cut p kept) e b read is h = absurd (none-some e read)
+event_shuts g c s (Tick clock) e b read is h = absurd (none-some e read)
+event_shuts g c s Alarm e b read is h = absurd (none-some e read)
+event_shuts g c s Crash e b read is h = absurd (none-some e read)
+event_shuts g c s (Restart nonce) e b read is h = absurd (none-some e read)
+
+accept_shuts : (g : Group) (r : Record) (J : List Record) (id : Id) (a : Answer) (p : Path) → (t : AcceptsAnswer g r J id a p)
+    → Shuts (state_after g (Client t.client) J) (state_after g (Client t.client) (r ∷ J)) t.body.num
+accept_shuts g r J id a p t =
+    let c = t.client in
+    let before = state_after g (Client c) J in
+    subst (λ (s : ClientData). before.accepted < s.accepted → Shuts before s t.body.num) (sym (acts_itself g (Client c) r J t.by))
+    (event_shuts g c before r.event t.envelope t.body t.read t.message (in_turn g c J)) t.more
+
+-- its number is one of those that were sent
+accept_within : (g : Group) (r : Record) (J : List Record) (id : Id) (a : Answer) (p : Path) → (t : AcceptsAnswer g r J id a p)
+    → (0 < t.body.num) × (t.body.num ≤ (state_after g (Client t.client) J).sent)
+accept_within g r J id a p t =
+    let s = state_after g (Client t.client) J in
+    open_within t.body.num 0 s.attempts s.sent (in_turn g t.client J).rising (accept_shuts g r J id a p t).was_open
+
+-- ---- what was accepted stays closed
+
+record IsClosed (num : ℕ) (s : ClientData) : Type 0 where
+  sent : num ≤ s.sent
+  closed : is_open num s.attempts ≡ false
+
+accepted_closed : (g : Group) (J : List Record) (id : Id) (a : Answer) (p : Path) → Has (events g J) (Accepted id a p)
+    → IsClosed id.num (state_after g (Client id.client) J)
+accepted_closed g [] id a p h = absurd h
+accepted_closed g (r ∷ J) id a p h = elim (has_split (events g J) (told_by g r.actor r J) (Accepted id a p) h) [
+  | inl x ↦
+      let old = accepted_closed g J id a p x in
+      let k = turns g id.client r J in
+      let before = old.sent in
+      let more = k.more in
+      record { sent = omega (arith, before, more); closed = k.closed id.num old.sent old.closed }
+  | inr x ↦
+      let t = told_accepted g r J id a p x in
+      let within = (accept_within g r J id a p t).1 in
+      let more = (turns g t.client r J).more in
+      subst (λ (i : Id). IsClosed i.num (state_after g (Client i.client) (r ∷ J))) (sym t.id_is)
+      (record { sent = omega (arith, within, more); closed = (accept_shuts g r J id a p t).closed })
+]
+
+not_accepted_before : (g : Group) (r : Record) (J : List Record) (id : Id) (a b : Answer) (p q : Path) → AcceptsAnswer g r J id b q
+    → Has (events g J) (Accepted id a p) → ⊥
+not_accepted_before g r J id a b p q t h =
+    let old = subst (λ (i : Id). IsClosed i.num (state_after g (Client i.client) J)) t.id_is (accepted_closed g J id a p h) in
+    false≢true (sym old.closed ∙ (accept_shuts g r J id b q t).was_open)
+
+-- ---- the events of one record
+
 alone : (b : Bool) (z x y : Told) → Precedes (cond b (z ∷ []) []) x y → ⊥
 alone true z x y (inl h) = h.1
 alone true z x y (inr h) = h
 alone false z x y h = h
 
 accepted_alone : (c : ℕ) (before after : ClientData) (m : Message) (x y : Told) → Precedes (accepted_in c before after m) x y → ⊥
-accepted_alone c before after (Answered b) x y h = alone (nat_lt before.accepted after.accepted) (Accepted (id_at c before.sent) b.answer b.path) x y h
+accepted_alone c before after (Answered b) x y h = alone (nat_lt before.accepted after.accepted) (Accepted (id_at c b.num) b.answer b.path) x y h
 accepted_alone c before after _ x y h = h
 
 one_accepted : (c : ℕ) (before after : ClientData) (o : Option Envelope) (x y : Told) → Precedes (accepted_by c before after o) x y → ⊥
@@ -194,225 +149,76 @@ record IsPair (g : Group) (a : Actor) (r : Record) (J : List Record) (x y : Told
   first : Has (accepted_by client (state_after g (Client client) J) (state_after g (Client client) (r ∷ J)) (read_in g (Client client) r.event)) x
   second : Has (sent_by client (script_of g client) (state_after g (Client client) J) (state_after g (Client client) (r ∷ J))) y
 
-pair_told : (g : Group) (a : Actor) (r : Record) (J : List Record) (x y : Told) → Precedes (told_by g a r J) x y → IsPair g a r J x y
+-- or one request after another
+record AreSent (g : Group) (a : Actor) (r : Record) (J : List Record) (x y : Told) : Type 0 where
+  client : ℕ
+  by : a ≡ Client client
+  both : Precedes (sent_by client (script_of g client) (state_after g (Client client) J) (state_after g (Client client) (r ∷ J))) x y
+
+pair_told : (g : Group) (a : Actor) (r : Record) (J : List Record) (x y : Told) → Precedes (told_by g a r J) x y → IsPair g a r J x y ⊎ AreSent g a r J x y
 pair_told g (Client c) r J x y h =
     let before = state_after g (Client c) J in
     let after = state_after g (Client c) (r ∷ J) in
     elim (precedes_three (accepted_by c before after (read_in g (Client c) r.event)) (sent_by c (script_of g c) before after) x y h) [
       | inl k ↦ absurd (one_accepted c before after (read_in g (Client c) r.event) x y k)
-      | inr (inl k) ↦ record { client = c; by = refl; first = k.0; second = k.1 }
-      | inr (inr k) ↦ absurd (alone (nat_lt before.sent after.sent) (Sent (id_at c after.sent) (command_at (script_of g c) after.sent)) x y k)
+      | inr (inl k) ↦ inl (record { client = c; by = refl; first = k.0; second = k.1 })
+      | inr (inr k) ↦ inr (record { client = c; by = refl; both = k })
     ]
 pair_told g (Replica m) r J x y h = absurd h
 pair_told g (Proxy p) r J x y h = absurd h
 
-precedes_right : {X : Type 0} (xs ys : List X) (x y : X) → Precedes ys x y → Precedes (xs ++ ys) x y
-precedes_right [] ys x y h = h
-precedes_right (z ∷ xs) ys x y h = inr (precedes_right xs ys x y h)
-
--- ---- at most one request is open
-
-below_sent : (o : Option Attempt) (sent accepted : ℕ) → Counted o sent accepted → accepted ≤ sent
-below_sent None sent accepted e = omega (arith, e)
-below_sent (Some a) sent accepted e = omega (arith, e)
-
-all_before : (o p : Option Attempt) (s t : ClientData) → Counted o s.sent s.accepted → Counted p t.sent t.accepted → Counts s t → s.sent < t.sent
-    → t.sent ≤ s.sent + 1 → t.accepted ≡ s.sent
-all_before o (Some a) s t before after h more one = omega (arith, after, more, one)
-all_before o None s t before after h more one =
-    let low = below_sent o s.sent s.accepted before in
-    let most = h.one in
-    let rises : s.accepted < t.accepted = omega (arith, after, low, more) in
-    let own = h.open_before rises in
-    absurd (omega (arith, own, most, after, more))
-
--- when a request is sent, all before it are accepted
-filled : (g : Group) (c : ℕ) (r : Record) (J : List Record) → (state_after g (Client c) J).sent < (state_after g (Client c) (r ∷ J)).sent
-    → (state_after g (Client c) (r ∷ J)).accepted ≡ (state_after g (Client c) J).sent
-filled g c r J more =
-    let s = state_after g (Client c) J in
-    let t = state_after g (Client c) (r ∷ J) in
-    all_before s.attempt t.attempt s t (counted g c J) (counted g c (r ∷ J)) (counts g c r J) more (count_rises g c r J).one
-
-record ReadsAnswer (o : Option Envelope) : Type 0 where
-  envelope : Envelope
-  read : o ≡ Some envelope
-  body : AnswerBody
-  message : envelope.message ≡ Answered body
-
-envelope_answer : (g : Group) (c : ℕ) (s : ClientData) (o : Option Envelope) → s.accepted < (envelope_step g (Client c) s o).0.accepted
-    → ReadsAnswer o
-envelope_answer g c s None lt = absurd (omega (arith, lt))
-envelope_answer g c s (Some e) lt = let t = client_accepts g c s e lt in record { envelope = e; read = refl; body = t.body; message = t.message }
-
-event_answer : (g : Group) (c : ℕ) (s : ClientData) (e : Event) → Counted s.attempt s.sent s.accepted
-    → s.accepted < (event_step g (Client c) s e).0.accepted → ReadsAnswer (read_in g (Client c) e)
-unfolding wait_rule
-event_answer g c s (Deliver p) h lt = envelope_answer g c s (received g.f (Client c) p) lt
-event_answer g c s (Tick clock) h lt =
-    let same = (ticked_free g.proxies c (script_of g c) (record s { ticks = min (s.ticks + 1) last_tick }) s.attempt h).same in
-    absurd (omega (arith, lt, same))
-event_answer g c s _ h lt = absurd (omega (arith, lt))
-
--- an acceptance of the request is among the events
-record WasAccepted (E : List Told) (id : Id) : Type 0 where
-  answer : Answer
-  path : Path
-  told : Has E (Accepted id answer path)
-
-accepted_told : (c : ℕ) (before after : ClientData) (o : Option Envelope) → before.accepted < after.accepted → ReadsAnswer o
-    → WasAccepted (accepted_by c before after o) (id_at c before.sent)
-accepted_told c before after o lt h =
-    let b = h.body in
-    let x : Told = Accepted (id_at c before.sent) b.answer b.path in
-    let here : Has (accepted_in c before after (Answered b)) x =
-    subst (λ t. Has (cond t (x ∷ []) []) x) (sym (lt-ltb before.accepted after.accepted lt)) (inl refl) in
-    let there : Has (accepted_by c before after (Some h.envelope)) x = subst (λ (m : Message). Has (accepted_in c before after m) x) (sym h.message) here in
-    record { answer = b.answer; path = b.path; told = subst (λ (y : Option Envelope). Has (accepted_by c before after y) x) (sym h.read) there }
-
--- the open request is accepted
-accepted_now : (g : Group) (c : ℕ) (r : Record) (J : List Record)
-    → (state_after g (Client c) J).accepted < (state_after g (Client c) (r ∷ J)).accepted
-    → (r.actor ≡ Client c) × WasAccepted (accepted_by c (state_after g (Client c) J) (state_after g (Client c) (r ∷ J)) (read_in g (Client c) r.event))
-    (id_at c (state_after g (Client c) J).sent)
-accepted_now g c r J lt =
-    let before = state_after g (Client c) J in
-    let after = state_after g (Client c) (r ∷ J) in
-    elim (may_act g (Client c) r J).cases [
-      | inl a ↦ (
-        a.0,
-        accepted_told c before after (read_in g (Client c) r.event) lt
-            (event_answer g c before r.event (counted g c J) (subst (λ (s : ClientData). before.accepted < s.accepted) a.1 lt)),
-      )
-      | inr s ↦ absurd (let same = ap (λ (x : ClientData). x.accepted) s in omega (arith, lt, same))
-    ]
-
--- the requests of a client that were accepted
-record HasTaken (g : Group) (c accepted : ℕ) (E : List Told) : Type 0 where
-  each : (n : ℕ) → 0 < n → n ≤ accepted → WasAccepted E (id_at c n)
-
-later_accepted : (E more : List Told) (id : Id) → WasAccepted E id → WasAccepted (E ++ more) id
-later_accepted E more id h = record { answer = h.answer; path = h.path; told = has_left E more (Accepted id h.answer h.path) h.told }
-
-has_taken : (g : Group) (c : ℕ) (J : List Record) → HasTaken g c (state_after g (Client c) J).accepted (events g J)
-unfolding state_after
-has_taken g c [] = record { each = λ n some le. absurd (omega (arith, some, le)) }
-has_taken g c (r ∷ J) = record {
-  each = λ n some le.
-      let before = state_after g (Client c) J in
-      let after = state_after g (Client c) (r ∷ J) in
-      let own = accepted_by c before after (read_in g (Client c) r.event) in
-      let sends = sent_by c (script_of g c) before after in
-      elim (cases_lt before.accepted n) [
-        | inl lt ↦
-            let rises : before.accepted < after.accepted = omega (arith, lt, le) in
-            let t = accepted_now g c r J rises in
-            let k = counts g c r J in
-            let open_one = k.open_before rises in
-            let most = k.one in
-            let same : before.sent ≡ n = omega (arith, open_one, most, lt, le) in
-            let told : Has (told_by g r.actor r J) (Accepted (id_at c n) t.1.answer t.1.path) =
-            subst (λ (x : Actor). Has (told_by g x r J) (Accepted (id_at c n) t.1.answer t.1.path)) (sym t.0)
-            (has_left own sends (Accepted (id_at c n) t.1.answer t.1.path)
-            (subst (λ (m : ℕ). Has own (Accepted (id_at c m) t.1.answer t.1.path)) same t.1.told)) in
-            record {
-              answer = t.1.answer;
-              path = t.1.path;
-              told = has_right (events g J) (told_by g r.actor r J)
-                  (Accepted (id_at c n) t.1.answer t.1.path) told;
-            }
-        | inr old ↦ later_accepted (events g J) (told_by g r.actor r J) (id_at c n) ((has_taken g c J).each n some old)
-      ];
-}
-
-sent_some : (g : Group) (J : List Record) (id : Id) (command : List ℕ) → Has (events g J) (Sent id command) → 0 < id.num
-sent_some g [] id command h = absurd h
-sent_some g (r ∷ J) id command h = elim (has_split (events g J) (told_by g r.actor r J) (Sent id command) h) [
-  | inl x ↦ sent_some g J id command x
-  | inr x ↦ let t = told_sent g r J id command x in let more = t.more in let num = ap (λ (i : Id). i.num) t.id_is in omega (arith, more, num)
-]
-
--- an acceptance of one request stands before another
-record IsClosed (E : List Told) (id other : Id) (command : List ℕ) : Type 0 where
-  answer : Answer
-  path : Path
-  before : Precedes E (Accepted id answer path) (Sent other command)
-
-closed_now : (g : Group) (r : Record) (J : List Record) (c num : ℕ) (b : Id) (y : List ℕ) → r.actor ≡ Client c → 0 < num
-    → num ≤ (state_after g (Client c) J).sent → (state_after g (Client c) J).sent < (state_after g (Client c) (r ∷ J)).sent
-    → Has (told_by g r.actor r J) (Sent b y) → IsClosed (events g (r ∷ J)) (id_at c num) b y
-closed_now g r J c num b y by some low more told =
-    let before = state_after g (Client c) J in
-    let after = state_after g (Client c) (r ∷ J) in
-    let own = accepted_by c before after (read_in g (Client c) r.event) in
-    let sends = sent_by c (script_of g c) before after in
-    let full = filled g c r J more in
-    elim (cases_lt before.accepted num) [
-      | inl lt ↦
-          let rises : before.accepted < after.accepted = omega (arith, lt, low, full) in
-          let t = accepted_now g c r J rises in
-          let k = counts g c r J in
-          let open_one = k.open_before rises in
-          let same : before.sent ≡ num = omega (arith, open_one, lt, low) in
-          let x : Told = Accepted (id_at c num) t.1.answer t.1.path in
-          let first : Has own x = subst (λ (m : ℕ). Has own (Accepted (id_at c m) t.1.answer t.1.path)) same t.1.told in
-          let second : Has sends (Sent b y) = elim (has_split own sends (Sent b y) (subst (λ (a : Actor). Has (told_by g a r J) (Sent b y)) by told)) [
-            | inl k ↦ absurd (not_sent c before after (read_in g (Client c) r.event) b y k)
-            | inr k ↦ k
-          ] in
-          let both : Precedes (told_by g r.actor r J) x (Sent b y) =
-          subst (λ (a : Actor). Precedes (told_by g a r J) x (Sent b y)) (sym by) (precedes_across own sends x (Sent b y) first second) in
-          record { answer = t.1.answer; path = t.1.path; before = precedes_right (events g J) (told_by g r.actor r J) x (Sent b y) both }
-      | inr old ↦
-          let t = (has_taken g c J).each num some old in
-          record {
-            answer = t.answer;
-            path = t.path;
-            before = precedes_across (events g J) (told_by g r.actor r J) (Accepted (id_at c num) t.answer t.path)
-                (Sent b y) t.told told;
-          }
-    ]
-
-closed_before : (g : Group) (r : Record) (J : List Record) (a b : Id) (x y : List ℕ) → a.client ≡ b.client → Has (events g J) (Sent a x)
-    → Has (told_by g r.actor r J) (Sent b y) → IsClosed (events g (r ∷ J)) a b y
-closed_before g r J a b x y same old told =
-    let t = told_sent g r J b y told in
-    let c = t.client in
-    let client : a.client ≡ c = same ∙ ap (λ (i : Id). i.client) t.id_is in
-    let id_is : a ≡ id_at c a.num = λ i. record { client = client i; num = a.num } in
-    let low : a.num ≤ (state_after g (Client c) J).sent = subst (λ (k : ℕ). a.num ≤ (state_after g (Client k) J).sent) client (sent_once g J a x old) in
-    subst (λ (i : Id). IsClosed (events g (r ∷ J)) i b y) (sym id_is) (closed_now g r J c a.num b y t.by (sent_some g J a x old) low t.more told)
+-- the requests of one record have rising numbers
+sent_rising : (c : ℕ) (script : List Request) (n more : ℕ) (a b : Id) (x y : List ℕ) → Precedes (sent_after c script n more) (Sent a x) (Sent b y) → a.num < b.num
+sent_rising c script n zero a b x y h = absurd h
+sent_rising c script n (suc more) a b x y (inl h) =
+    let t = is_after c script (n + 1) more (Sent b y) h.1 in
+    let first = ap (λ (i : Id). i.num) (same_sent (id_at c (n + 1)) a (command_at script (n + 1)) x h.0) in
+    let second = ap (λ (i : Id). i.num) (same_sent (id_at c t.num) b (command_at script t.num) y t.is) in
+    let above = t.above in
+    omega (arith, first, second, above)
+sent_rising c script n (suc more) a b x y (inr h) = sent_rising c script (n + 1) more a b x y h
 
 -- ---- runs
 
-sent_twice : (g : Group) (r : Record) (J : List Record) (id : Id) (x y : List ℕ) → AreOnce (events g J)
+sent_twice : (g : Group) (r : Record) (J : List Record) (id : Id) (x y : List ℕ) → AreOnce g.window (events g J)
     → Precedes (events g (r ∷ J)) (Sent id x) (Sent id y) → ⊥
 sent_twice g r J id x y old h = elim (precedes_three (events g J) (told_by g r.actor r J) (Sent id x) (Sent id y) h) [
   | inl k ↦ old.sent id x y k
   | inr (inl k) ↦ not_sent_before g r J id x (told_sent g r J id y k.1) k.0
-  | inr (inr k) ↦ let t = pair_told g r.actor r J (Sent id x) (Sent id y) k in not_sent t.client (state_after g (Client t.client) J)
-      (state_after g (Client t.client) (r ∷ J)) (read_in g (Client t.client) r.event) id x t.first
+  | inr (inr k) ↦ elim (pair_told g r.actor r J (Sent id x) (Sent id y) k) [
+    | inl t ↦ not_sent t.client (state_after g (Client t.client) J) (state_after g (Client t.client) (r ∷ J)) (read_in g (Client t.client) r.event) id x t.first
+    | inr t ↦
+        let s = state_after g (Client t.client) J in
+        let more = (state_after g (Client t.client) (r ∷ J)).sent - s.sent in
+        let lt = sent_rising t.client (script_of g t.client) s.sent more id id x y t.both in
+        absurd (omega (arith, lt))
+  ]
 ]
 
-accepted_twice : (g : Group) (r : Record) (J : List Record) (id : Id) (a b : Answer) (p q : Path) → AreOnce (events g J)
+accepted_twice : (g : Group) (r : Record) (J : List Record) (id : Id) (a b : Answer) (p q : Path) → AreOnce g.window (events g J)
     → Precedes (events g (r ∷ J)) (Accepted id a p) (Accepted id b q) → ⊥
 accepted_twice g r J id a b p q old h = elim (precedes_three (events g J) (told_by g r.actor r J) (Accepted id a p) (Accepted id b q) h) [
   | inl k ↦ old.accepted id a b p q k
   | inr (inl k) ↦ not_accepted_before g r J id a b p q (told_accepted g r J id b q k.1) k.0
-  | inr (inr k) ↦ let t = pair_told g r.actor r J (Accepted id a p) (Accepted id b q) k in not_accepted g t.client (state_after g (Client t.client) J)
-      (state_after g (Client t.client) (r ∷ J)) id b q t.second
+  | inr (inr k) ↦ elim (pair_told g r.actor r J (Accepted id a p) (Accepted id b q) k) [
+    | inl t ↦ not_accepted g t.client (state_after g (Client t.client) J) (state_after g (Client t.client) (r ∷ J)) id b q t.second
+    | inr t ↦
+        let s = state_after g (Client t.client) J in
+        let u = state_after g (Client t.client) (r ∷ J) in
+        not_accepted g t.client s u id b q (precedes_has (sent_by t.client (script_of g t.client) s u) (Accepted id a p) (Accepted id b q) t.both).1
+  ]
 ]
 
 sent_first : (g : Group) (r : Record) (J : List Record) (id : Id) (a : Answer) (p : Path) → AcceptsAnswer g r J id a p
     → (command : List ℕ) × Has (events g J) (Sent id command)
 sent_first g r J id a p t =
     let c = t.client in
-    let own = (counts g c r J).open_before t.more in
-    let n = (state_after g (Client c) J).sent in
-    let sent = (has_sent g c J).each n (omega (arith, own)) (omega arith) in
+    let within = accept_within g r J id a p t in
+    let n = t.body.num in
+    let sent = (has_sent g c J).each n within.0 within.1 in
     (command_at (script_of g c) n, subst (λ (i : Id). Has (events g J) (Sent i (command_at (script_of g c) n))) (sym t.id_is) sent)
 
-accepted_after : (g : Group) (r : Record) (J : List Record) (id : Id) (a : Answer) (p : Path) → AreOnce (events g J)
+accepted_after : (g : Group) (r : Record) (J : List Record) (id : Id) (a : Answer) (p : Path) → AreOnce g.window (events g J)
     → Has (events g (r ∷ J)) (Accepted id a p) → (command : List ℕ) × Precedes (events g (r ∷ J)) (Sent id command) (Accepted id a p)
 accepted_after g r J id a p old h =
     let more = told_by g r.actor r J in
@@ -421,23 +227,13 @@ accepted_after g r J id a p old h =
       | inr k ↦ let t = sent_first g r J id a p (told_accepted g r J id a p k) in (t.0, precedes_across (events g J) more (Sent id t.0) (Accepted id a p) t.1 k)
     ]
 
-open_twice : (g : Group) (r : Record) (J : List Record) (a b : Id) (x y : List ℕ) → AreOnce (events g J) → a.client ≡ b.client
-    → Precedes (events g (r ∷ J)) (Sent a x) (Sent b y)
-    → (answer : Answer) × (path : Path) × Precedes (events g (r ∷ J)) (Accepted a answer path) (Sent b y)
-open_twice g r J a b x y old same h = elim (precedes_three (events g J) (told_by g r.actor r J) (Sent a x) (Sent b y) h) [
-  | inl k ↦ let t = old.one_open a b x y same k in (t.0, t.1, precedes_left (events g J) (told_by g r.actor r J) (Accepted a t.0 t.1) (Sent b y) t.2)
-  | inr (inl k) ↦ let t = closed_before g r J a b x y same k.0 k.1 in (t.answer, t.path, t.before)
-  | inr (inr k) ↦ let t = pair_told g r.actor r J (Sent a x) (Sent b y) k in absurd
-      (not_sent t.client (state_after g (Client t.client) J) (state_after g (Client t.client) (r ∷ J)) (read_in g (Client t.client) r.event) a x t.first)
-]
-
-pub are_once : (g : Group) (J : List Record) → AreOnce (events g J)
-are_once g [] = record { sent = λ id x y h. h; accepted = λ id a b p q h. h; in_order = λ id a p h. absurd h; one_open = λ a b x y same h. absurd h }
+pub are_once : (g : Group) (J : List Record) → AreOnce g.window (events g J)
+are_once g [] = record { sent = λ id x y h. h; accepted = λ id a b p q h. h; in_order = λ id a p h. absurd h; few_open = few_open g [] }
 are_once g (r ∷ J) =
     let old = are_once g J in
     record {
       sent = λ id x y h. sent_twice g r J id x y old h;
       accepted = λ id a b p q h. accepted_twice g r J id a b p q old h;
       in_order = λ id a p h. accepted_after g r J id a p old h;
-      one_open = λ a b x y same h. open_twice g r J a b x y old same h;
+      few_open = few_open g (r ∷ J);
     }

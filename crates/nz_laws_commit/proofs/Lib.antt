@@ -18,6 +18,7 @@ pub mod Decisions
 pub mod AnswersSent
 pub mod Clients
 pub mod Tells
+pub mod Opened
 pub mod Counts
 pub mod Asked
 pub mod Accepted

@@ -21,7 +21,8 @@ use Rattle.nz_laws_cv.proofs.TurnRules.{changing_up}
 use Rattle.nz_laws_cv.proofs.Hearing.{HearsFit}
 use Rattle.nz_machine.proofs.Runs.{has_split}
 use Rattle.nz_laws_cv.proofs.Modes.{IsSound, merges, merges_in, new_size, normal_no_change, up_no_rejoin}
-use Rattle.nz_laws_cv.proofs.Lists.{filter_has, distinct_filter, distinct_replace}
+use Rattle.nz_machine.proofs.Distinct.{distinct_filter, distinct_replace}
+use Rattle.nz_laws_cv.proofs.Lists.{filter_has}
 use Rattle.nz_laws_cv.proofs.Tellers.{HearsSent}
 
 abbrev pub reporter : Reported → ℕ

@@ -19,7 +19,7 @@ use Rattle.nz_math.specs.Count.{is_in, AreDistinct}
 use Rattle.nz_laws_cv.proofs.Turns.{Seat, seat_of, more_tellers, IsNew, Awaits, Turn, Stays, Release, Merge, Sync, Tally, Enter, Follow, Answer, Collect, Begin, Start, Fall, Wake, HearVector, Count, HearView, Forget, AskLog, Return, Back}
 use Rattle.nz_laws_cv.proofs.Hearing.{HearsFit}
 use Rattle.nz_laws_cv.proofs.Modes.{IsSound, Settled, is_phase_is, merges_own, sound_kept}
-use Rattle.nz_laws_cv.proofs.Lists.{any_in, distinct_more, in_append}
+use Rattle.nz_machine.proofs.Distinct.{any_in, distinct_more, in_append}
 
 -- what is heard was sent
 pub record HearsSent (Sent : ℕ → Message → Type 0) (me : ℕ) (heard : Heard) : Type 0 where

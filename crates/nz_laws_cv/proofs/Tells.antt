@@ -24,7 +24,8 @@ use Rattle.nz_laws_cv.proofs.Turns.{Seat, seat_of, told_view, more_tells, fresh_
 use Rattle.nz_laws_cv.proofs.Hearing.{HearsFit}
 use Rattle.nz_machine.proofs.Runs.{has_split}
 use Rattle.nz_laws_cv.proofs.Modes.{IsSound, is_phase_is, merges, merges_in, normal_no_rejoin}
-use Rattle.nz_laws_cv.proofs.Lists.{filter_has, distinct_filter, distinct_replace, above_each}
+use Rattle.nz_machine.proofs.Distinct.{distinct_filter, distinct_replace}
+use Rattle.nz_laws_cv.proofs.Lists.{filter_has, above_each}
 use Rattle.nz_laws_cv.proofs.Tellers.{HearsSent}
 
 -- what a replica told, with its number

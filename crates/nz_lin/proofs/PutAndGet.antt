@@ -65,7 +65,7 @@ second_entry : Entry
 second_entry = record { key = record { deadline = 17500; client = 0; num = 2 }; command = get }
 
 group : Group
-group = record { f = 1; proxies = 1; scripts = (record { wait = 0; command = put } ∷ record { wait = 0; command = get } ∷ []) ∷ [] }
+group = record { f = 1; proxies = 1; window = 1; scripts = (record { wait = 0; command = put } ∷ record { wait = 0; command = get } ∷ []) ∷ [] }
 
 -- the run with one more record, whose sends are those of the step
 play : List Record → Actor → Event → List Record
@@ -158,7 +158,7 @@ all_ticked clock J w le =
 is_run : World group ended
 unfolding group play arrive come ticked put get first second first_entry second_entry asked stamped told released decided once again_stamped again_told again_released again_decided ended state_after encode_of decode_of frame refusal number_bytes number_at run_at limited_at optional_at items_put items_at body_at heard wait_rule accept_rule clock_rule stamp_rule reply_rule request_rule release_rule releases decision count_below key_bytes first_words schedule rounds compress hash_after digest_bytes sha1 apply apply_bytes store_from replies_from key_at value_at choice_at command_of command_body_at command_there
 is_run =
-    let start : IsGroup group = record { least_f = omega arith; most_f = omega arith; least_proxies = omega arith; most_proxies = omega arith; least_clients = omega arith; most_clients = omega arith; few_requests = omega arith; commands = ((record { command = refl }, (record { command = refl }, tt)), tt) } in
+    let start : IsGroup group = record { least_f = omega arith; most_f = omega arith; least_proxies = omega arith; most_proxies = omega arith; least_window = omega arith; most_window = omega arith; least_clients = omega arith; most_clients = omega arith; few_requests = omega arith; commands = ((record { command = refl }, (record { command = refl }, tt)), tt) } in
     let at_asked = played [] (Client 0) (Tick 1000) start (omega arith) (omega arith) in
     let at_stamped = came 0 (play asked (Proxy 0) (Tick 2000)) (played asked (Proxy 0) (Tick 2000) at_asked (omega arith) (omega arith)) (omega arith) in
     let here = ticked 3000 stamped in

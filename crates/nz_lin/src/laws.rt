@@ -36,10 +36,10 @@ pub fn own_commands()
         → Has (events g J) (Sent (id_of e.key) e.command) }
 {}
 
-/// In every run each request is sent once, and accepted at most once and after that; and a client has at most
-/// one request open.
+/// In every run each request is sent once, and accepted at most once and after that; and a client has at most as
+/// many requests open as its window.
 pub fn once_each()
-    ensures { (g : Group) (J : List Record) → World g J → AreOnce (events g J) }
+    ensures { (g : Group) (J : List Record) → World g J → AreOnce g.window (events g J) }
 {}
 
 /// The premise on digests holds of a run where no two different ones of the lists that its parcels say have one

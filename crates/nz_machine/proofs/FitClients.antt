@@ -1,8 +1,7 @@
 -- A client sends only messages that frames can carry.
-use Rattle.std.proofs.Common.{◌≡◌, ℕ, zero, suc, ◌+◌, ◌-◌, ◌%◌, ◌<◌, ◌≤◌, eqb, Bool, true, false, cond, List, [], ◌∷◌, length, map, min, Option, Some, None, refl, ap, subst, arith}
-use Rattle.std.specs.Prelude.{IfSome, slice_get, slice_index_or, fold, nat_le}
+use Rattle.std.proofs.Common.{◌≡◌, ℕ, zero, suc, ◌+◌, ◌-◌, ◌%◌, ◌<◌, ◌≤◌, List, [], ◌∷◌, length, map, Option, Some, None, refl, subst, arith}
+use Rattle.std.specs.Prelude.{IfSome, slice_get, slice_index_or, fold}
 use Rattle.std.specs.List.{AllByRecursion}
-use Rattle.std.proofs.lemmas.Option.{none-some, same_Some}
 use Rattle.nz_base.specs.declared.actor.Actor.{Actor}
 use Rattle.nz_base.specs.declared.actor.Actor.TheVariants.{Proxy, Client}
 use Rattle.nz_base.specs.declared.scenario.Request.{Request}
@@ -11,12 +10,14 @@ use Rattle.nz_msg.specs.declared.message.Message.{Message}
 use Rattle.nz_msg.specs.declared.message.Message.TheVariants as messages
 use Rattle.nz_machine.specs.declared.data.Attempt.{Attempt}
 use Rattle.nz_machine.specs.State.{ClientData, Group, Out}
-use Rattle.nz_machine.specs.Clients.{patience, last_tick, ask, if_due, opened, open_next, asked_again, wait_on, ticked_at, wait_rule, is_awaited, accept_rule}
+use Rattle.nz_machine.specs.Clients.{ask, if_due, opened, open_next, fill_places, fill_window, is_overdue, all_waited, asked_again, retry, retries, wait_rule, is_open, accepted, accept_rule}
 use Rattle.nz_machine.specs.Step.{script_of, client_message}
 use Rattle.nz_machine.specs.World.{IsAsked, IsGroup}
 use Rattle.nz_machine.proofs.Runs.{FitsOut, AllFit, on_cond}
+use Rattle.nz_machine.proofs.Each.{all_append}
 use Rattle.nz_machine.proofs.Pieces.{all_get, all_index}
 use Rattle.nz_machine.proofs.Fields.{command_fits}
+use Rattle.nz_machine.proofs.InTurn.{Rises, rises_most, InTurn, if_due_is, due_within, tick_fills, message_turns}
 
 -- a client that frames can name, with a script that is not too long, and the proxies
 pub record IsClient (proxies me : ℕ) (script : List Request) : Type 0 where
@@ -26,34 +27,14 @@ pub record IsClient (proxies me : ℕ) (script : List Request) : Type 0 where
   pub short : length script ≤ 2000
   pub commands : AllByRecursion IsAsked script
 
--- a client has sent requests of its script
-pub record FitsClient (script : List Request) (s : ClientData) : Type 0 where
-  pub sent : s.sent ≤ length script
-
-pub record ClientStep (script : List Request) (me : ℕ) (t : ClientData × List Out) : Type 0 where
-  pub state : FitsClient script t.0
+pub record ClientStep (window : ℕ) (script : List Request) (me : ℕ) (t : ClientData × List Out) : Type 0 where
+  pub state : InTurn window script t.0
   pub sends : AllFit (Client me) t.1
-
-nothing : (script : List Request) (me : ℕ) (s : ClientData) → FitsClient script s → ClientStep script me (s, [])
-nothing script me s h = record { state = h; sends = tt }
 
 ask_fits : (proxies me : ℕ) (script : List Request) (proxy num : ℕ) (r : Request) → IsClient proxies me script → proxy < proxies → num ≤ 2000 → IsAsked r → FitsOut (Client me) (ask proxy num r)
 ask_fits proxies me script proxy num r c below few asked =
     let most = c.few in
     record { sender = c.address; receiver = omega (arith, below, most); message = (omega (arith, few), command_fits r.command asked.command) }
-
-get_within : {X : Type 0} (xs : List X) (i : ℕ) (x : X) → slice_get xs i ≡ Some x → i < length xs
-get_within [] i x e = absurd (none-some x e)
-get_within (y ∷ xs) zero x e = omega arith
-get_within (y ∷ xs) (suc i) x e = let ih = get_within xs i x e in omega (arith, ih)
-
-due_is : (b : Bool) (request r : Request) → cond b (Some request) None ≡ Some r → request ≡ r
-due_is true request r e = same_Some request r e
-due_is false request r e = absurd (none-some r e)
-
-pub if_due_is : (ticks : ℕ) (o : Option Request) (r : Request) → if_due ticks o ≡ Some r → o ≡ Some r
-if_due_is ticks None r e = absurd (none-some r e)
-if_due_is ticks (Some request) r e = ap Some (due_is (nat_le request.wait ticks) request r e)
 
 get_asked : (script : List Request) (i : ℕ) (r : Request) → AllByRecursion IsAsked script → slice_get script i ≡ Some r → IsAsked r
 get_asked script i r all e = subst (λ (o : Option Request). IfSome o IsAsked) e (all_get IsAsked script i all)
@@ -61,47 +42,78 @@ get_asked script i r all e = subst (λ (o : Option Request). IfSome o IsAsked) e
 pub own_proxy : (proxies n : ℕ) → 1 ≤ proxies → n % proxies < proxies
 own_proxy proxies n some = omega (arith, some)
 
-opened_step : (proxies me : ℕ) (script : List Request) (s : ClientData) (o : Option Request) → IsClient proxies me script → if_due s.ticks (slice_get script s.sent) ≡ o → FitsClient script s → ClientStep script me (opened proxies me s o)
-opened_step proxies me script s None c e h = record { state = record { sent = h.sent }; sends = tt }
-opened_step proxies me script s (Some r) c e h =
-    let at = if_due_is s.ticks (slice_get script s.sent) r e in
-    let within = get_within script s.sent r at in
-    let short = c.short in
-    record {
-      state = record { sent = omega (arith, within) };
-      sends = (ask_fits proxies me script (me % proxies) (s.sent + 1) r c (own_proxy proxies me c.some) (omega (arith, within, short)) (get_asked script s.sent r c.commands at), tt);
-    }
+-- ---- new requests
 
-next_step : (proxies me : ℕ) (script : List Request) (s : ClientData) → IsClient proxies me script → FitsClient script s → ClientStep script me (open_next proxies me script s)
-next_step proxies me script s c h = opened_step proxies me script s (if_due s.ticks (slice_get script s.sent)) c refl h
+opened_fit : (proxies me : ℕ) (script : List Request) (s : ClientData) (o : Option Request) → IsClient proxies me script → if_due s.ticks (slice_get script s.sent) ≡ o
+    → AllFit (Client me) (opened proxies me s o).1
+opened_fit proxies me script s None c e = tt
+opened_fit proxies me script s (Some r) c e =
+    let within = due_within s.ticks script s.sent r e in
+    let short = c.short in (
+      ask_fits proxies me script (me % proxies) (s.sent + 1) r c (own_proxy proxies me c.some) (omega (arith, within, short))
+          (get_asked script s.sent r c.commands (if_due_is s.ticks (slice_get script s.sent) r e)),
+      tt,
+    )
+
+places_fit : (free proxies me : ℕ) (script : List Request) (s : ClientData) → IsClient proxies me script → AllFit (Client me) (fill_places free proxies me script s).1
+places_fit zero proxies me script s c = tt
+places_fit (suc free) proxies me script s c =
+    let t = open_next proxies me script s in
+    all_append (FitsOut (Client me)) t.1 (fill_places free proxies me script t.0).1 (opened_fit proxies me script s (if_due s.ticks (slice_get script s.sent)) c refl)
+    (places_fit free proxies me script t.0 c)
+
+-- ---- retries
 
 again_fits : (proxies me : ℕ) (script : List Request) (proxy num i : ℕ) (o : Option Request) → IsClient proxies me script → proxy < proxies → num ≤ length script → slice_get script i ≡ o → AllFit (Client me) (asked_again proxy num o)
 again_fits proxies me script proxy num i None c below few e = tt
 again_fits proxies me script proxy num i (Some r) c below few e = let short = c.short in (ask_fits proxies me script proxy num r c below (omega (arith, few, short)) (get_asked script i r c.commands e), tt)
 
-wait_on_step : (proxies me : ℕ) (script : List Request) (s : ClientData) (a : Attempt) → IsClient proxies me script → FitsClient script s → ClientStep script me (wait_on proxies script s a)
-wait_on_step proxies me script s a c h =
-    on_cond (ClientStep script me) (eqb (a.since + 1) patience) _ _
-    (λ _. record { state = record { sent = h.sent }; sends = again_fits proxies me script ((a.proxy + 1) % proxies) s.sent (s.sent - 1) (slice_get script (s.sent - 1)) c (own_proxy proxies (a.proxy + 1) c.some) h.sent refl })
-    (λ _. record { state = record { sent = h.sent }; sends = tt })
+retry_fits : (proxies me : ℕ) (script : List Request) (a : Attempt) → IsClient proxies me script → a.num ≤ length script → AllFit (Client me) (retry proxies script a)
+retry_fits proxies me script a c few =
+    on_cond (AllFit (Client me)) (is_overdue a) _ []
+    (λ _. again_fits proxies me script ((a.proxy + 1) % proxies) a.num (a.num - 1) (slice_get script (a.num - 1)) c (own_proxy proxies (a.proxy + 1) c.some) few refl)
+    (λ _. tt)
 
-ticked_step : (proxies me : ℕ) (script : List Request) (s : ClientData) (o : Option Attempt) → IsClient proxies me script → FitsClient script s → ClientStep script me (ticked_at proxies me script s o)
-ticked_step proxies me script s None c h = next_step proxies me script s c h
-ticked_step proxies me script s (Some a) c h = wait_on_step proxies me script s a c h
+retries_fit : (proxies me : ℕ) (script : List Request) (low : ℕ) (xs : List Attempt) (high : ℕ) → IsClient proxies me script → Rises low xs high → high ≤ length script
+    → AllFit (Client me) (retries proxies script xs)
+retries_fit proxies me script low [] high c h few = tt
+retries_fit proxies me script low (a ∷ xs) high c h few =
+    let most = rises_most a.num xs high h.1 in
+    all_append (FitsOut (Client me)) (retry proxies script a) (retries proxies script xs) (retry_fits proxies me script a c (omega (arith, most, few)))
+    (retries_fit proxies me script a.num xs high c h.1 few)
 
-pub client_tick_fits : (proxies me : ℕ) (script : List Request) (s : ClientData) → IsClient proxies me script → FitsClient script s → ClientStep script me (wait_rule proxies me script s)
+-- ---- the rules
+
+tick_sends : (window proxies me : ℕ) (script : List Request) (s : ClientData) → IsClient proxies me script → InTurn window script s
+    → AllFit (Client me) (wait_rule window proxies me script s).1
 unfolding wait_rule
-client_tick_fits proxies me script s c h = ticked_step proxies me script (record s { ticks = min (s.ticks + 1) last_tick }) s.attempt c (record { sent = h.sent })
+tick_sends window proxies me script s c h =
+    let now = all_waited proxies s in
+    all_append (FitsOut (Client me)) (retries proxies script s.attempts) (fill_window window proxies me script now).1
+    (retries_fit proxies me script 0 s.attempts s.sent c h.rising h.sent) (places_fit (window - length now.attempts) proxies me script now c)
 
-accept_step : (proxies me : ℕ) (script : List Request) (s : ClientData) (b : AnswerBody) → IsClient proxies me script → FitsClient script s → ClientStep script me (accept_rule proxies me script s b)
+pub client_tick_fits : (window proxies me : ℕ) (script : List Request) (s : ClientData) → IsClient proxies me script → InTurn window script s
+    → ClientStep window script me (wait_rule window proxies me script s)
+client_tick_fits window proxies me script s c h =
+    record { state = (tick_fills window proxies me script s h).in_turn; sends = tick_sends window proxies me script s c h }
+
+accept_sends : (window proxies me : ℕ) (script : List Request) (s : ClientData) (b : AnswerBody) → IsClient proxies me script
+    → AllFit (Client me) (accept_rule window proxies me script s b).1
 unfolding accept_rule
-accept_step proxies me script s b c h =
-    on_cond (ClientStep script me) (is_awaited s b s.attempt) (open_next proxies me script (record s { accepted = s.accepted + 1; attempt = None })) (s, [])
-    (λ _. next_step proxies me script (record s { accepted = s.accepted + 1; attempt = None }) c (record { sent = h.sent })) (λ _. nothing script me s h)
+accept_sends window proxies me script s b c =
+    let now = accepted b.num s in
+    on_cond (λ (t : ClientData × List Out). AllFit (Client me) t.1) (is_open b.num s.attempts) (fill_window window proxies me script now) (s, [])
+    (λ _. places_fit (window - length now.attempts) proxies me script now c) (λ _. tt)
 
-pub client_message_fits : (proxies me : ℕ) (script : List Request) (s : ClientData) (from : Actor) (m : Message) → IsClient proxies me script → FitsClient script s → ClientStep script me (client_message proxies me script s from m)
-client_message_fits proxies me script s (Proxy p) (messages.Answer b) c h = accept_step proxies me script s b c h
-client_message_fits proxies me script s _ _ c h = nothing script me s h
+message_sends : (window proxies me : ℕ) (script : List Request) (s : ClientData) (from : Actor) (m : Message) → IsClient proxies me script
+    → AllFit (Client me) (client_message window proxies me script s from m).1
+message_sends window proxies me script s (Proxy p) (messages.Answer b) c = accept_sends window proxies me script s b c
+message_sends window proxies me script s _ _ c = tt
+
+pub client_message_fits : (window proxies me : ℕ) (script : List Request) (s : ClientData) (from : Actor) (m : Message) → IsClient proxies me script → InTurn window script s
+    → ClientStep window script me (client_message window proxies me script s from m)
+client_message_fits window proxies me script s from m c h =
+    record { state = (message_turns window proxies me script s from m h).in_turn; sends = message_sends window proxies me script s from m c }
 
 -- ---- the scripts of a group
 

@@ -15,13 +15,14 @@ use Rattle.nz_machine.proofs.FitReplicas.{IsReplica}
 use Rattle.nz_machine.proofs.FitSteps.{ReplicaStep, message_fits, tick_fits, alarm_fits, crash_fits, restart_fits}
 use Rattle.nz_machine.proofs.Keeping.{first_has_facts}
 use Rattle.nz_machine.proofs.FitProxies.{IsProxy, FitsProxy, ProxyStep, first_proxy_fits, crashed_fits, proxy_message_fits, proxy_tick_fits}
-use Rattle.nz_machine.proofs.FitClients.{FitsClient, client_of, client_message_fits, client_tick_fits}
+use Rattle.nz_machine.proofs.InTurn.{InTurn, first_in_turn}
+use Rattle.nz_machine.proofs.FitClients.{client_of, client_message_fits, client_tick_fits}
 
 -- an actor's state fits
 abbrev pub FitsState : Group → (a : Actor) → State a → Type 0
 FitsState g (Replica r) s = HasFacts g.f r s
 FitsState g (Proxy p) s = FitsProxy g.f s
-FitsState g (Client c) s = FitsClient (script_of g c) s
+FitsState g (Client c) s = InTurn g.window (script_of g c) s
 
 abbrev pub Fitted : Group → List Record → Actor → Out → Type 0
 Fitted g J a o = FitsOut a o
@@ -38,7 +39,7 @@ proxy_of g p h member = let most = h.most_proxies in record { least = h.least_f;
 start_fits : (g : Group) (a : Actor) → FitsState g a (first g a)
 start_fits g (Replica r) = first_has_facts g.f r
 start_fits g (Proxy p) = first_proxy_fits g.f
-start_fits g (Client c) = record { sent = omega arith }
+start_fits g (Client c) = first_in_turn g.window (script_of g c)
 
 -- a step of an actor fits
 record StepFits (g : Group) (a : Actor) (t : State a × List Out) : Type 0 where
@@ -60,7 +61,7 @@ message_step_fits g (Proxy p) s from m group member hears fit h =
     let t = up_or_down g p s s.is_down (proxy_message g.f s from m) h (proxy_message_fits g.f p s from m (proxy_of g p group member) hears fit h) in
     record { state = t.state; sends = t.sends }
 message_step_fits g (Client c) s from m group member hears fit h =
-    let t = client_message_fits g.proxies c (script_of g c) s from m (client_of g c group member) h in record { state = t.state; sends = t.sends }
+    let t = client_message_fits g.window g.proxies c (script_of g c) s from m (client_of g c group member) h in record { state = t.state; sends = t.sends }
 
 tick_step_fits : (g : Group) (a : Actor) (s : State a) (clock : ℕ) → IsGroup g → IsMember g a → FitsState g a s → StepFits g a (tick_step g a s clock)
 tick_step_fits g (Replica r) s clock group member h =
@@ -71,7 +72,7 @@ tick_step_fits g (Proxy p) s clock group member h =
     let t = up_or_down g p s s.is_down (clock_rule s clock, []) h (record { state = proxy_tick_fits g.f s clock h; sends = tt }) in
     record { state = t.state; sends = t.sends }
 tick_step_fits g (Client c) s clock group member h =
-    let t = client_tick_fits g.proxies c (script_of g c) s (client_of g c group member) h in record { state = t.state; sends = t.sends }
+    let t = client_tick_fits g.window g.proxies c (script_of g c) s (client_of g c group member) h in record { state = t.state; sends = t.sends }
 
 alarm_step_fits : (g : Group) (a : Actor) (s : State a) → IsGroup g → IsMember g a → FitsState g a s → StepFits g a (alarm_step g a s)
 alarm_step_fits g (Replica r) s group member h = let t = alarm_fits g.f r s (replica_of g r group member) h in record { state = t.state; sends = t.sends }

@@ -1,9 +1,10 @@
 -- What the guards of a replica's rules say of its state.
-use Rattle.std.proofs.Common.{◌≡◌, ℕ, ◌<◌, ◌≤◌, ◌&&◌, eqb, true, false, arith}
+use Rattle.std.proofs.Common.{◌≡◌, ℕ, ◌<◌, ◌≤◌, ◌&&◌, eqb, true, false, refl, arith}
 use Rattle.std.specs.Prelude.{nat_le}
 use Rattle.std.proofs.lemmas.Bool.Decides.{nat_tests}
 use Rattle.nz_base.specs.Cluster.{leader_of}
 use Rattle.nz_machine.specs.declared.data.Status.{Status}
+use Rattle.nz_machine.specs.declared.data.Status.TheVariants.{Normal, ViewChange, Rejoining, Down}
 use Rattle.nz_machine.specs.State.{ReplicaData}
 use Rattle.nz_machine.specs.declared.data.Phase.{Phase}
 use Rattle.nz_machine.specs.declared.data.Phase.TheVariants.{Log}
@@ -12,6 +13,13 @@ use Rattle.nz_machine.specs.LogMods.{hears_later_leader}
 use Rattle.nz_machine.specs.Adopting.{may_start}
 use Rattle.nz_machine.specs.Begins.{may_lead}
 use Rattle.nz_machine.specs.Rejoining.{awaits}
+
+-- a replica in normal operation is up
+pub normal_up : (a : Status) → is_normal a ≡ true → is_up a ≡ true
+normal_up Normal h = refl
+normal_up ViewChange h = absurd cc
+normal_up Rejoining h = absurd cc
+normal_up Down h = absurd cc
 
 -- the replica follows the sender, in the view that it names
 pub record HearsLeader (f me : ℕ) (status : Status) (view sender named : ℕ) : Type 0 where

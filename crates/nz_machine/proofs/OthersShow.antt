@@ -1,5 +1,5 @@
 -- What a proxy and a client send is what the states after show.
-use Rattle.std.proofs.Common.{◌≡◌, ℕ, ◌+◌, ◌-◌, ◌%◌, ◌<◌, ◌≤◌, false, eqb, min, List, [], Option, Some, None, refl, ap, ◌∙◌, arith}
+use Rattle.std.proofs.Common.{◌≡◌, ℕ, zero, suc, ◌+◌, ◌-◌, ◌%◌, ◌<◌, ◌≤◌, Bool, false, cond, List, [], ◌∷◌, length, map, Option, Some, None, refl, ap, subst, ◌∙◌, inl, inr, arith}
 use Rattle.std.specs.Prelude.{slice_get}
 use Rattle.std.specs.List.{AllByRecursion}
 use Rattle.std.specs.Map.{lookup}
@@ -22,15 +22,18 @@ use Rattle.nz_machine.specs.declared.reply.Reply.{Reply}
 use Rattle.nz_machine.specs.State.{ProxyData, ClientData, Standing, Open, Decided, Out}
 use Rattle.nz_machine.specs.Quorums.{Chosen, decision, answer_in, with_note}
 use Rattle.nz_machine.specs.Proxies.{standing_of, with_standing, timed_to, timed_to_all, stamped, stamp_rule, answered, decided_as, noted_in, reply_rule, of_fast, of_slow}
-use Rattle.nz_machine.specs.Clients.{patience, last_tick, if_due, opened, open_next, asked_again, wait_on, ticked_at, wait_rule, is_awaited, accept_rule}
+use Rattle.nz_machine.specs.Clients.{if_due, opened, open_next, fill_places, fill_window, is_overdue, waited, all_waited, asked_again, retry, retries, wait_rule, is_open, accepted, accept_rule}
 use Rattle.nz_machine.specs.Step.{proxy_message, client_message}
 use Rattle.nz_machine.specs.Hearing.{Heard}
 use Rattle.nz_machine.specs.Shows.{ProxyShows, ClientShows}
-use Rattle.nz_machine.proofs.Runs.{on_cond}
+use Rattle.nz_machine.specs.World.{Has}
+use Rattle.nz_machine.proofs.Runs.{on_cond, has_left, has_right}
+use Rattle.nz_machine.proofs.Each.{all_append, all_imply}
 use Rattle.nz_machine.proofs.Lookups.{lookup_inserted}
 use Rattle.nz_machine.proofs.Pieces.{all_map}
 use Rattle.nz_machine.proofs.Shows.{all_below}
-use Rattle.nz_machine.proofs.FitClients.{if_due_is, own_proxy}
+use Rattle.nz_machine.proofs.InTurn.{if_due_is}
+use Rattle.nz_machine.proofs.FitClients.{own_proxy}
 
 -- ---- proxies
 
@@ -99,48 +102,91 @@ proxy_message_shows f s from m up = proxy_silent f (Some (from, m)) s
 pub record ClientShown (proxies : ℕ) (script : List Request) (t : ClientData × List Out) : Type 0 where
   pub shows : AllByRecursion (λ (o : Out). ClientShows proxies script t.0 o.0 o.1) t.1
 
+abbrev AllShow : ℕ → List Request → ClientData → List Out → Type 0
+AllShow proxies script t outs = AllByRecursion (λ (o : Out). ClientShows proxies script t o.0 o.1) outs
+
+-- each open request of the one state is one of the other
+abbrev Keeps : ClientData → ClientData → Type 0
+Keeps s t = (a : Attempt) → Has s.attempts a → Has t.attempts a
+
+shows_later : (proxies : ℕ) (script : List Request) (s t : ClientData) → Keeps s t → (o : Out) → ClientShows proxies script s o.0 o.1 → ClientShows proxies script t o.0 o.1
+shows_later proxies script s t keeps (to, messages.Request b) w =
+    record { proxy = w.proxy; member = w.member; receiver = w.receiver; attempt = keeps _ w.attempt; request = w.request; own = w.own; command = w.command }
+shows_later proxies script s t keeps (to, _) w = absurd w
+
+all_later : (proxies : ℕ) (script : List Request) (s t : ClientData) (outs : List Out) → Keeps s t → AllShow proxies script s outs → AllShow proxies script t outs
+all_later proxies script s t outs keeps all =
+    all_imply (λ (o : Out). ClientShows proxies script s o.0 o.1) (λ (o : Out). ClientShows proxies script t o.0 o.1) (shows_later proxies script s t keeps) outs all
+
+opened_keeps : (proxies me : ℕ) (s : ClientData) (o : Option Request) → Keeps s (opened proxies me s o).0
+opened_keeps proxies me s None a h = h
+opened_keeps proxies me s (Some r) a h = has_left s.attempts (record { num = s.sent + 1; proxy = me % proxies; since = 0 } ∷ []) a h
+
+places_keep : (free proxies me : ℕ) (script : List Request) (s : ClientData) → Keeps s (fill_places free proxies me script s).0
+places_keep zero proxies me script s a h = h
+places_keep (suc free) proxies me script s a h =
+    places_keep free proxies me script (open_next proxies me script s).0 a (opened_keeps proxies me s (if_due s.ticks (slice_get script s.sent)) a h)
+
 opened_shows : (proxies me : ℕ) (script : List Request) (s : ClientData) (o : Option Request) → 1 ≤ proxies → if_due s.ticks (slice_get script s.sent) ≡ o
-    → ClientShown proxies script (opened proxies me s o)
-opened_shows proxies me script s None any e = record { shows = tt }
+    → AllShow proxies script (opened proxies me s o).0 (opened proxies me s o).1
+opened_shows proxies me script s None any e = tt
 opened_shows proxies me script s (Some r) any e =
     let at : s.sent + 1 - 1 ≡ s.sent = omega arith in
     let own = ap (slice_get script) at ∙ if_due_is s.ticks (slice_get script s.sent) r e in
+    let a : Attempt = record { num = s.sent + 1; proxy = me % proxies; since = 0 } in
+    (record { proxy = me % proxies; member = own_proxy proxies me any; receiver = refl; attempt = has_right s.attempts (a ∷ []) a (inl refl); request = r; own = own; command = refl }, tt)
+
+places_show : (free proxies me : ℕ) (script : List Request) (s : ClientData) → 1 ≤ proxies
+    → AllShow proxies script (fill_places free proxies me script s).0 (fill_places free proxies me script s).1
+places_show zero proxies me script s any = tt
+places_show (suc free) proxies me script s any =
+    let t = open_next proxies me script s in
+    let u = fill_places free proxies me script t.0 in
+    all_append (λ (o : Out). ClientShows proxies script u.0 o.0 o.1) t.1 u.1
+    (all_later proxies script t.0 u.0 t.1 (places_keep free proxies me script t.0) (opened_shows proxies me script s (if_due s.ticks (slice_get script s.sent)) any refl))
+    (places_show free proxies me script t.0 any)
+
+again_shows : (proxies : ℕ) (script : List Request) (t : ClientData) (proxy num : ℕ) (o : Option Request) → proxy < proxies → slice_get script (num - 1) ≡ o
+    → Has t.attempts (record { num = num; proxy = proxy; since = 0 }) → AllShow proxies script t (asked_again proxy num o)
+again_shows proxies script t proxy num None member e h = tt
+again_shows proxies script t proxy num (Some r) member e h =
+    (record { proxy = proxy; member = member; receiver = refl; attempt = h; request = r; own = e; command = refl }, tt)
+
+retry_shows : (proxies : ℕ) (script : List Request) (t : ClientData) (a : Attempt) → 1 ≤ proxies → Has t.attempts (waited proxies a) → AllShow proxies script t (retry proxies script a)
+retry_shows proxies script t a any h =
+    on_cond (AllShow proxies script t) (is_overdue a) _ []
+    (λ late. again_shows proxies script t ((a.proxy + 1) % proxies) a.num (slice_get script (a.num - 1)) (own_proxy proxies (a.proxy + 1) any) refl
+    (subst (λ (b : Bool). Has t.attempts (cond b (record { num = a.num; proxy = (a.proxy + 1) % proxies; since = 0 }) (record { num = a.num; proxy = a.proxy; since = a.since + 1 }))) late h))
+    (λ _. tt)
+
+retries_show : (proxies : ℕ) (script : List Request) (t : ClientData) (xs : List Attempt) → 1 ≤ proxies
+    → ((a : Attempt) → Has (map (waited proxies) xs) a → Has t.attempts a) → AllShow proxies script t (retries proxies script xs)
+retries_show proxies script t [] any keeps = tt
+retries_show proxies script t (a ∷ xs) any keeps =
+    all_append (λ (o : Out). ClientShows proxies script t o.0 o.1) (retry proxies script a) (retries proxies script xs)
+    (retry_shows proxies script t a any (keeps (waited proxies a) (inl refl)))
+    (retries_show proxies script t xs any (λ b h. keeps b (inr h)))
+
+pub wait_shows : (window proxies me : ℕ) (script : List Request) (s : ClientData) → 1 ≤ proxies → ClientShown proxies script (wait_rule window proxies me script s)
+unfolding wait_rule
+wait_shows window proxies me script s any =
+    let now = all_waited proxies s in
+    let t = fill_window window proxies me script now in
+    let free = window - length now.attempts in
     record {
-      shows = (record { proxy = me % proxies; member = own_proxy proxies me any; receiver = refl; attempt = refl; request = r; own = own; read = refl }, tt);
+      shows = all_append (λ (o : Out). ClientShows proxies script t.0 o.0 o.1) (retries proxies script s.attempts) t.1
+          (retries_show proxies script t.0 s.attempts any (places_keep free proxies me script now)) (places_show free proxies me script now any);
     }
 
-next_shows : (proxies me : ℕ) (script : List Request) (s : ClientData) → 1 ≤ proxies → ClientShown proxies script (open_next proxies me script s)
-next_shows proxies me script s any = opened_shows proxies me script s (if_due s.ticks (slice_get script s.sent)) any refl
-
-again_shows : (proxies : ℕ) (script : List Request) (s : ClientData) (proxy : ℕ) (o : Option Request) → proxy < proxies → slice_get script (s.sent - 1) ≡ o
-    → ClientShown proxies script (record s { attempt = Some (record { proxy = proxy; since = 0 }) }, asked_again proxy s.sent o)
-again_shows proxies script s proxy None member e = record { shows = tt }
-again_shows proxies script s proxy (Some r) member e =
-    record { shows = (record { proxy = proxy; member = member; receiver = refl; attempt = refl; request = r; own = e; read = refl }, tt) }
-
-waited_shows : (proxies : ℕ) (script : List Request) (s : ClientData) (a : Attempt) → 1 ≤ proxies → ClientShown proxies script (wait_on proxies script s a)
-waited_shows proxies script s a any =
-    on_cond (ClientShown proxies script) (eqb (a.since + 1) patience) _ _
-    (λ _. again_shows proxies script s ((a.proxy + 1) % proxies) (slice_get script (s.sent - 1)) (own_proxy proxies (a.proxy + 1) any) refl)
-    (λ _. record { shows = tt })
-
-ticked_shows : (proxies me : ℕ) (script : List Request) (s : ClientData) (o : Option Attempt) → 1 ≤ proxies
-    → ClientShown proxies script (ticked_at proxies me script s o)
-ticked_shows proxies me script s None any = next_shows proxies me script s any
-ticked_shows proxies me script s (Some a) any = waited_shows proxies script s a any
-
-pub wait_shows : (proxies me : ℕ) (script : List Request) (s : ClientData) → 1 ≤ proxies → ClientShown proxies script (wait_rule proxies me script s)
-unfolding wait_rule
-wait_shows proxies me script s any = ticked_shows proxies me script (record s { ticks = min (s.ticks + 1) last_tick }) s.attempt any
-
-accept_shows : (proxies me : ℕ) (script : List Request) (s : ClientData) (b : AnswerBody) → 1 ≤ proxies
-    → ClientShown proxies script (accept_rule proxies me script s b)
+accept_shows : (window proxies me : ℕ) (script : List Request) (s : ClientData) (b : AnswerBody) → 1 ≤ proxies
+    → ClientShown proxies script (accept_rule window proxies me script s b)
 unfolding accept_rule
-accept_shows proxies me script s b any =
-    on_cond (ClientShown proxies script) (is_awaited s b s.attempt) _ (s, [])
-    (λ _. next_shows proxies me script (record s { accepted = s.accepted + 1; attempt = None }) any) (λ _. record { shows = tt })
+accept_shows window proxies me script s b any =
+    let now = accepted b.num s in
+    on_cond (ClientShown proxies script) (is_open b.num s.attempts) (fill_window window proxies me script now) (s, [])
+    (λ _. record { shows = places_show (window - length now.attempts) proxies me script now any }) (λ _. record { shows = tt })
 
-pub client_message_shows : (proxies me : ℕ) (script : List Request) (s : ClientData) (from : Actor) (m : Message) → 1 ≤ proxies
-    → ClientShown proxies script (client_message proxies me script s from m)
-client_message_shows proxies me script s (Proxy p) (messages.Answer b) any = accept_shows proxies me script s b any
-client_message_shows proxies me script s _ _ any = record { shows = tt }
+pub client_message_shows : (window proxies me : ℕ) (script : List Request) (s : ClientData) (from : Actor) (m : Message) → 1 ≤ proxies
+    → ClientShown proxies script (client_message window proxies me script s from m)
+client_message_shows window proxies me script s (Proxy p) (messages.Answer b) any = accept_shows window proxies me script s b any
+client_message_shows window proxies me script s _ _ any = record { shows = tt }

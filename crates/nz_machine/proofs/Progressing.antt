@@ -1,32 +1,36 @@
 -- What a client's record shows is what it tells.
-use Rattle.std.proofs.Common.{◌≡◌, ℕ, zero, suc, ◌+◌, ◌-◌, ◌<◌, ◌≤◌, ◌^◌, ◌≢◌, Bool, true, false, cond, eqb, eqb-true, nat_lt, min, ◌&&◌, not, List, [], ◌∷◌, ◌++◌, length, map, set, replicate, Option, Some, None, refl, sym, ap, subst, ◌∙◌, arith, lt-ltb}
-use Rattle.std.specs.Prelude.{slice_get, is_some}
+use Rattle.std.proofs.Common.{◌≡◌, ℕ, zero, suc, ◌+◌, ◌-◌, ◌%◌, ◌<◌, ◌≤◌, ◌≢◌, Bool, true, false, cond, eqb, eqb-true, nat_lt, ◌&&◌, ◌||◌, not, List, [], ◌∷◌, ◌++◌, length, map, set, replicate, Option, Some, None, refl, sym, ap, subst, ◌∙◌, arith, lt-ltb}
+use Rattle.std.specs.Prelude.{slice_get, filter}
+use Rattle.std.specs.List.{AllByRecursion, list_any}
 use Rattle.std.proofs.lemmas.Bool.{le-ltb, eq-eqb, false≢true}
-use Rattle.std.proofs.lemmas.List.{length-set, length-replicate}
-use Rattle.std.proofs.lemmas.Option.{slice_get_within, same_Some}
+use Rattle.std.proofs.lemmas.List.{length-set, length-replicate, map-append}
+use Rattle.std.proofs.lemmas.Option.{same_Some}
 use Rattle.nz_base.specs.Actor.{actor_eq}
 use Rattle.nz_base.specs.declared.actor.Actor.{Actor}
 use Rattle.nz_base.specs.declared.actor.Actor.TheVariants.{Replica, Proxy, Client}
+use Rattle.nz_base.specs.declared.key.Id.{Id}
 use Rattle.nz_base.specs.declared.scenario.Request.{Request}
 use Rattle.nz_msg.specs.declared.envelope.Envelope.{Envelope}
 use Rattle.nz_msg.specs.declared.message.AnswerBody.{AnswerBody}
 use Rattle.nz_msg.specs.declared.message.Message.{Message}
 use Rattle.nz_msg.specs.declared.message.Message.TheVariants.{Answer as Answered}
+use Rattle.nz_msg.proofs.Envelopes.{decode-encode}
 use Rattle.nz_machine.specs.declared.data.Attempt.{Attempt}
 use Rattle.nz_machine.specs.declared.event.Event.{Event}
 use Rattle.nz_machine.specs.declared.event.Event.TheVariants.{Deliver, Tick}
 use Rattle.nz_machine.specs.declared.event.Parcel.{Parcel}
 use Rattle.nz_machine.specs.declared.event.Record.{Record}
 use Rattle.nz_machine.specs.declared.telling.Acceptance.{Acceptance}
-use Rattle.nz_machine.specs.declared.telling.Progress.{Progress}
 use Rattle.nz_machine.specs.State.{ClientData, Group, Out}
-use Rattle.nz_machine.specs.Clients.{patience, last_tick, if_due, opened, open_next, wait_on, ticked_at, wait_rule, is_awaited, accept_rule}
+use Rattle.nz_machine.specs.Clients.{if_due, opened, fill_places, fill_window, is_overdue, waited, all_waited, asked_again, retry, retries, wait_rule, is_open, without, accepted, accept_rule}
 use Rattle.nz_machine.specs.Step.{script_of, heard, counted, is_in_cluster, is_sized, vector_of, client_message, envelope_step, event_step, node_step, parcel}
-use Rattle.nz_machine.specs.Events.{Told, Sent, Accepted, id_at, command_of_request, command_at, read_in, accepted_in, accepted_by, sent_by, told_by}
-use Rattle.nz_machine.specs.Telling.{acceptance_told, request_told, told_of, progress_of, answer_in, answer_heard, answer_of, with_answer, opens, with_request, request_in, shown, AreAfter, IsOther}
+use Rattle.nz_machine.specs.Events.{Told, Sent, Accepted, id_at, command_of_request, command_at, read_in, accepted_in, accepted_by, sent_after, sent_by, told_by}
+use Rattle.nz_machine.specs.Telling.{Progress, first_progress, acceptance_told, request_told, requests_told, told_of, progress_of, answer_in, answer_heard, answer_of, with_answer, num_in, num_read, num_of, new_in, with_num, new_among, with_all, shown, AreAfter, IsOther}
 use Rattle.nz_machine.specs.World.{state_after, IsMember, World}
-use Rattle.nz_machine.proofs.Runs.{acts_itself, stays, on_cond, group_of}
-use Rattle.nz_machine.proofs.FitClients.{if_due_is, client_of}
+use Rattle.nz_machine.proofs.Runs.{FitsOut, AllFit, acts_itself, stays, on_cond, sends_have}
+use Rattle.nz_machine.proofs.Each.{all_append}
+use Rattle.nz_machine.proofs.InTurn.{Rises, rises_most, InTurn, waited_num}
+use Rattle.nz_machine.proofs.FitRuns.{Fitted, FittedState, fits_keep, all_fit}
 
 abbrev pub own_parcels : ℕ → List Out → List Parcel
 own_parcels c outs = map (parcel (Client c)) outs
@@ -39,159 +43,249 @@ own_command script num place r e at = sym (ap (λ (k : ℕ). command_of_request 
 same_count : (n : ℕ) (x : List Told) → [] ≡ cond (nat_lt n n) x []
 same_count n x = sym (ap (λ (b : Bool). cond b x []) (le-ltb n n (omega arith)))
 
--- what is told of a request that the sends open, by the script
-abbrev pub next_told : List Request → ℕ → Progress → List Parcel → List Told
-next_told script c p sends = cond (opens p sends) (Sent (id_at c (with_request p true).sent) (command_at script (with_request p true).sent) ∷ []) []
+-- ---- the numbers of what is sent
 
--- what is seen of a step, with the answer that it is of, is what the step did
-record IsSeen (script : List Request) (c : ℕ) (p : Progress) (s : ClientData) (answer : Option Acceptance) (accepts : List Told) (t : ClientData × List Out) : Type 0 where
-  accepted : acceptance_told answer ≡ accepts
-  sent : next_told script c (with_answer p answer) (own_parcels c t.1) ≡ sent_by c script s t.0
-  after : with_request (with_answer p answer) (opens (with_answer p answer) (own_parcels c t.1)) ≡ progress_of t.0
+abbrev nums : List Out → List (Option ℕ)
+nums outs = map (λ (o : Out). num_in o.1) outs
 
--- with no request open, the next one may be sent
-record Opens (script : List Request) (c : ℕ) (s : ClientData) (t : ClientData × List Out) : Type 0 where
-  sent : next_told script c (record { sent = s.sent; waits = false }) (own_parcels c t.1) ≡ sent_by c script s t.0
-  after : with_request (record { sent = s.sent; waits = false }) (opens (record { sent = s.sent; waits = false }) (own_parcels c t.1)) ≡ progress_of t.0
-  accepted : t.0.accepted ≡ s.accepted
+own_num : (c : ℕ) (o : Out) → FitsOut (Client c) o → num_of (parcel (Client c) o) ≡ num_in o.1
+unfolding num_of
+own_num c o fit = ap num_read (decode-encode (Client c) o.0 o.1 fit.sender fit.receiver fit.message)
 
-next_number : (n : ℕ) → n < 2000 → min (n + 1) (2 ^ 32 - 1) ≡ n + 1
-next_number n lt = omega arith
+own_nums : (c : ℕ) (outs : List Out) → AllFit (Client c) outs → map num_of (own_parcels c outs) ≡ nums outs
+own_nums c [] h = refl
+own_nums c (o ∷ outs) h =
+    ap (λ (n : Option ℕ). n ∷ map num_of (own_parcels c outs)) (own_num c o h.0) ∙ ap (λ (l : List (Option ℕ)). num_in o.1 ∷ l) (own_nums c outs h.1)
 
-opened_opens : (proxies c : ℕ) (script : List Request) (s : ClientData) (o : Option Request) → length script ≤ 2000 → if_due s.ticks (slice_get script s.sent) ≡ o → Opens script c s (opened proxies c s o)
-opened_opens proxies c script s None few e = record { sent = same_count s.sent (Sent (id_at c s.sent) (command_at script s.sent) ∷ []); after = refl; accepted = refl }
-opened_opens proxies c script s (Some r) few e =
-    let at = if_due_is s.ticks (slice_get script s.sent) r e in
-    let within = slice_get_within script s.sent r at in
-    let next = next_number s.sent (omega (arith, within, few)) in
+-- ---- what the steps of a client tell
+
+-- what is seen of new requests is what was opened
+record Opens (g : Group) (c : ℕ) (s : ClientData) (t : ClientData × List Out) : Type 0 where
+  sent : requests_told g (new_among c (progress_of s) (nums t.1)) ≡ sent_by c (script_of g c) s t.0
+  after : with_all (progress_of s) (nums t.1) ≡ progress_of t.0
+  more : s.sent ≤ t.0.sent
+  same : t.0.accepted ≡ s.accepted
+
+none_after : (c : ℕ) (script : List Request) (n : ℕ) → [] ≡ sent_after c script n (n - n)
+none_after c script n = let none : 0 ≡ n - n = omega arith in ap (sent_after c script n) none
+
+nothing_opens : (g : Group) (c : ℕ) (s : ClientData) → Opens g c s (s, [])
+nothing_opens g c s = record { sent = none_after c (script_of g c) s.sent; after = refl; more = omega arith; same = refl }
+
+one_more : (c : ℕ) (script : List Request) (n most : ℕ) → n + 1 ≤ most
+    → Sent (id_at c (n + 1)) (command_at script (n + 1)) ∷ sent_after c script (n + 1) (most - (n + 1)) ≡ sent_after c script n (most - n)
+one_more c script n most le = let count : suc (most - (n + 1)) ≡ most - n = omega (arith, le) in ap (sent_after c script n) count
+
+-- the request after the last one is new
+next_is_new : (c : ℕ) (proxy : ℕ) (s t : ClientData) → t.sent ≡ s.sent + 1 → t.attempts ≡ s.attempts ++ record { num = s.sent + 1; proxy = proxy; since = 0 } ∷ []
+    → (new_in c (progress_of s) (Some (s.sent + 1)) ≡ id_at c (s.sent + 1) ∷ []) × (with_num (progress_of s) (Some (s.sent + 1)) ≡ progress_of t)
+next_is_new c proxy s t sent attempts =
+    let more = lt-ltb s.sent (s.sent + 1) (omega arith) in
+    let p = progress_of s in
+    let n = s.sent + 1 in
+    let a : Attempt = record { num = n; proxy = proxy; since = 0 } in
+    let num_in_attempt = λ (x : Attempt). x.num in (
+      ap (λ (b : Bool). cond b (id_at c n ∷ []) []) more,
+      ap (λ (b : Bool). cond b (record { sent = n; waiting = p.waiting ++ n ∷ [] }) p) more
+          ∙ (λ i. record { sent = sym sent i; waiting = sym (map-append num_in_attempt s.attempts (a ∷ [])) i })
+          ∙ ap (λ (l : List Attempt). record { sent = t.sent; waiting = map num_in_attempt l }) (sym attempts),
+    )
+
+next_opens : (g : Group) (c free : ℕ) (s : ClientData) (o : Option Request)
+    → ((t : ClientData) → Opens g c t (fill_places free g.proxies c (script_of g c) t))
+    → let t = opened g.proxies c s o in let u = fill_places free g.proxies c (script_of g c) t.0 in Opens g c s (u.0, t.1 ++ u.1)
+next_opens g c free s None rest = rest s
+next_opens g c free s (Some r) rest =
+    let t = opened g.proxies c s (Some r) in
+    let u = fill_places free g.proxies c (script_of g c) t.0 in
+    let k = rest t.0 in
+    let n = s.sent + 1 in
+    let new = next_is_new c (c % g.proxies) s t.0 refl refl in
+    let more = k.more in
     record {
-      sent = ap (λ (n : ℕ). Sent (id_at c n) (command_at script n) ∷ []) next
-          ∙ sym (ap (λ (b : Bool). cond b (Sent (id_at c (s.sent + 1)) (command_at script (s.sent + 1)) ∷ []) []) (lt-ltb s.sent (s.sent + 1) (omega arith)));
-      after = ap (λ (n : ℕ). record { sent = n; waits = true }) next;
-      accepted = refl;
+      sent = ap (λ (l : List Id). requests_told g (l ++ new_among c (with_num (progress_of s) (Some n)) (nums u.1))) new.0
+          ∙ ap (λ (p : Progress). request_told g (id_at c n) ∷ requests_told g (new_among c p (nums u.1))) new.1
+          ∙ ap (λ (l : List Told). request_told g (id_at c n) ∷ l) k.sent ∙ one_more c (script_of g c) s.sent u.0.sent more;
+      after = ap (λ (p : Progress). with_all p (nums u.1)) new.1 ∙ k.after;
+      more = omega (arith, more);
+      same = k.same;
     }
 
-next_opens : (proxies c : ℕ) (script : List Request) (s : ClientData) → length script ≤ 2000 → Opens script c s (open_next proxies c script s)
-next_opens proxies c script s few = opened_opens proxies c script s (if_due s.ticks (slice_get script s.sent)) few refl
+places_open : (g : Group) (c free : ℕ) (s : ClientData) → Opens g c s (fill_places free g.proxies c (script_of g c) s)
+places_open g c zero s = nothing_opens g c s
+places_open g c (suc free) s = next_opens g c free s (if_due s.ticks (slice_get (script_of g c) s.sent)) (places_open g c free)
+
+window_opens : (g : Group) (c : ℕ) (s : ClientData) → Opens g c s (fill_window g.window g.proxies c (script_of g c) s)
+window_opens g c s = places_open g c (g.window - length s.attempts) s
+
+-- ---- retries
+
+-- a number is of no new request
+abbrev IsOld : ℕ → Option ℕ → Type 0
+IsOld sent None = Unit {0}
+IsOld sent (Some num) = num ≤ sent
+
+abbrev AreOld : ℕ → List Out → Type 0
+AreOld sent outs = AllByRecursion (λ (o : Out). IsOld sent (num_in o.1)) outs
+
+old_num : (c : ℕ) (p : Progress) (o : Option ℕ) → IsOld p.sent o → (new_in c p o ≡ []) × (with_num p o ≡ p)
+old_num c p None h = (refl, refl)
+old_num c p (Some num) h =
+    let old = le-ltb p.sent num h in
+    (ap (λ (b : Bool). cond b (id_at c num ∷ []) []) old, ap (λ (b : Bool). cond b (record { sent = num; waiting = p.waiting ++ num ∷ [] }) p) old)
+
+old_told : (c : ℕ) (p : Progress) (outs : List Out) (rest : List (Option ℕ)) → AreOld p.sent outs
+    → (new_among c p (nums outs ++ rest) ≡ new_among c p rest) × (with_all p (nums outs ++ rest) ≡ with_all p rest)
+old_told c p [] rest h = (refl, refl)
+old_told c p (o ∷ outs) rest h =
+    let first = old_num c p (num_in o.1) h.0 in
+    let ih = old_told c p outs rest h.1 in (
+      ap (λ (l : List Id). l ++ new_among c (with_num p (num_in o.1)) (nums outs ++ rest)) first.0
+          ∙ ap (λ (q : Progress). new_among c q (nums outs ++ rest)) first.1 ∙ ih.0,
+      ap (λ (q : Progress). with_all q (nums outs ++ rest)) first.1 ∙ ih.1,
+    )
+
+again_old : (sent proxy num : ℕ) (o : Option Request) → num ≤ sent → AreOld sent (asked_again proxy num o)
+again_old sent proxy num None le = tt
+again_old sent proxy num (Some r) le = (le, tt)
+
+retries_old : (proxies : ℕ) (script : List Request) (low : ℕ) (xs : List Attempt) (high : ℕ) → Rises low xs high → AreOld high (retries proxies script xs)
+retries_old proxies script low [] high h = tt
+retries_old proxies script low (a ∷ xs) high h =
+    all_append (λ (o : Out). IsOld high (num_in o.1)) (retry proxies script a) (retries proxies script xs)
+    (on_cond (AreOld high) (is_overdue a) _ [] (λ _. again_old high ((a.proxy + 1) % proxies) a.num (slice_get script (a.num - 1)) (rises_most a.num xs high h.1)) (λ _. tt))
+    (retries_old proxies script a.num xs high h.1)
+
+nums_waited : (proxies : ℕ) (xs : List Attempt) → map (λ (a : Attempt). a.num) (map (waited proxies) xs) ≡ map (λ (a : Attempt). a.num) xs
+nums_waited proxies [] = refl
+nums_waited proxies (a ∷ xs) =
+    ap (λ (n : ℕ). n ∷ map (λ (x : Attempt). x.num) (map (waited proxies) xs)) (waited_num proxies a) ∙ ap (λ (l : List ℕ). a.num ∷ l) (nums_waited proxies xs)
 
 -- ---- a tick
 
-wait_seen : (proxies c : ℕ) (script : List Request) (s : ClientData) (a : Attempt) → IsSeen script c (record { sent = s.sent; waits = true }) s None [] (wait_on proxies script s a)
-wait_seen proxies c script s a =
-    let none = same_count s.sent (Sent (id_at c s.sent) (command_at script s.sent) ∷ []) in
-    on_cond (IsSeen script c (record { sent = s.sent; waits = true }) s None []) (eqb (a.since + 1) patience) _ _
-    (λ _. record { accepted = refl; sent = none; after = refl })
-    (λ _. record { accepted = refl; sent = none; after = refl })
+-- what is seen of a step, with the answer that it is of, is what the step did
+record IsSeen (g : Group) (c : ℕ) (s : ClientData) (answer : Option Acceptance) (accepts : List Told) (t : ClientData × List Out) : Type 0 where
+  accepts_it : acceptance_told answer ≡ accepts
+  sent : requests_told g (new_among c (with_answer (progress_of s) answer) (nums t.1)) ≡ sent_by c (script_of g c) s t.0
+  after : with_all (with_answer (progress_of s) answer) (nums t.1) ≡ progress_of t.0
 
-ticked_seen : (proxies c : ℕ) (script : List Request) (s : ClientData) (o : Option Attempt) → length script ≤ 2000 → IsSeen script c (record { sent = s.sent; waits = is_some o }) s None [] (ticked_at proxies c script s o)
-ticked_seen proxies c script s None few = let h = next_opens proxies c script s few in record { accepted = refl; sent = h.sent; after = h.after }
-ticked_seen proxies c script s (Some a) few = wait_seen proxies c script s a
+nothing_seen : (g : Group) (c : ℕ) (s : ClientData) → IsSeen g c s None [] (s, [])
+nothing_seen g c s = record { accepts_it = refl; sent = none_after c (script_of g c) s.sent; after = refl }
 
-tick_seen : (proxies c : ℕ) (script : List Request) (s : ClientData) → length script ≤ 2000 → IsSeen script c (progress_of s) s None [] (wait_rule proxies c script s)
+tick_seen : (g : Group) (c : ℕ) (s : ClientData) → InTurn g.window (script_of g c) s → IsSeen g c s None [] (wait_rule g.window g.proxies c (script_of g c) s)
 unfolding wait_rule
-tick_seen proxies c script s few =
-    let h = ticked_seen proxies c script (record s { ticks = min (s.ticks + 1) last_tick }) s.attempt few in
-    record { accepted = refl; sent = h.sent; after = h.after }
+tick_seen g c s h =
+    let now = all_waited g.proxies s in
+    let again = retries g.proxies (script_of g c) s.attempts in
+    let u = fill_window g.window g.proxies c (script_of g c) now in
+    let k = window_opens g c now in
+    let p = progress_of s in
+    let is : progress_of now ≡ p = ap (λ (l : List ℕ). record { sent = s.sent; waiting = l }) (nums_waited g.proxies s.attempts) in
+    let parts : nums (again ++ u.1) ≡ nums again ++ nums u.1 = map-append (λ (o : Out). num_in o.1) again u.1 in
+    let old = old_told c p again (nums u.1) (retries_old g.proxies (script_of g c) 0 s.attempts s.sent h.rising) in
+    record {
+      accepts_it = refl;
+      sent = ap (λ (l : List (Option ℕ)). requests_told g (new_among c p l)) parts ∙ ap (requests_told g) old.0
+          ∙ ap (λ (q : Progress). requests_told g (new_among c q (nums u.1))) (sym is) ∙ k.sent;
+      after = ap (with_all p) parts ∙ old.1 ∙ ap (λ (q : Progress). with_all q (nums u.1)) (sym is) ∙ k.after;
+    }
 
 -- ---- a delivery
 
-no_request : (p : Progress) (b : Bool) → p.waits ≡ b → opens p [] ≡ false
-no_request p true e = ap (λ (x : Bool). not x && false) e
-no_request p false e = ap (λ (x : Bool). not x && false) e
+any_nums : (num : ℕ) (xs : List Attempt) → list_any (λ n. eqb n num) (map (λ (a : Attempt). a.num) xs) ≡ is_open num xs
+any_nums num [] = refl
+any_nums num (a ∷ xs) = ap (λ (b : Bool). eqb a.num num || b) (any_nums num xs)
 
-nothing_seen : (script : List Request) (c : ℕ) (s : ClientData) → IsSeen script c (progress_of s) s None [] (s, [])
-nothing_seen script c s =
-    let none = no_request (progress_of s) (is_some s.attempt) refl in
-    let next = with_request (progress_of s) true in
+nums_without : (num : ℕ) (xs : List Attempt) → filter (λ n. not (eqb n num)) (map (λ (a : Attempt). a.num) xs) ≡ map (λ (a : Attempt). a.num) (without num xs)
+nums_without num [] = refl
+nums_without num (a ∷ xs) = nums_kept num a xs (not (eqb a.num num)) (nums_without num xs)
+  where
+    nums_kept : (n : ℕ) (x : Attempt) (ys : List Attempt) (b : Bool) → filter (λ m. not (eqb m n)) (map (λ (y : Attempt). y.num) ys) ≡ map (λ (y : Attempt). y.num) (without n ys)
+        → cond b (x.num ∷ filter (λ m. not (eqb m n)) (map (λ (y : Attempt). y.num) ys)) (filter (λ m. not (eqb m n)) (map (λ (y : Attempt). y.num) ys))
+        ≡ map (λ (y : Attempt). y.num) (cond b (x ∷ without n ys) (without n ys))
+    nums_kept n x ys true rest = ap (λ (l : List ℕ). x.num ∷ l) rest
+    nums_kept n x ys false rest = rest
+
+abbrev pub acceptance : ℕ → AnswerBody → Acceptance
+acceptance c b = record { id = id_at c b.num; answer = b.answer; path = b.path }
+
+-- the answer is to an open request, or not
+awaited_seen : (g : Group) (c : ℕ) (s : ClientData) (b : AnswerBody) (is : Bool)
+    → let t = cond is (fill_window g.window g.proxies c (script_of g c) (accepted b.num s)) (s, []) in
+    IsSeen g c s (cond is (Some (acceptance c b)) None) (accepted_in c s t.0 (Answered b)) t
+awaited_seen g c s b true =
+    let now = accepted b.num s in
+    let t = fill_window g.window g.proxies c (script_of g c) now in
+    let k = window_opens g c now in
+    let same = k.same in
+    let p : with_answer (progress_of s) (Some (acceptance c b)) ≡ progress_of now = ap (λ (l : List ℕ). record { sent = s.sent; waiting = l }) (nums_without b.num s.attempts) in
     record {
-      accepted = refl;
-      sent = ap (λ (b : Bool). cond b (Sent (id_at c next.sent) (command_at script next.sent) ∷ []) []) none ∙ same_count s.sent (Sent (id_at c s.sent) (command_at script s.sent) ∷ []);
-      after = ap (with_request (progress_of s)) none;
+      accepts_it = sym (ap (λ (x : Bool). cond x (Accepted (id_at c b.num) b.answer b.path ∷ []) []) (lt-ltb s.accepted t.0.accepted (omega (arith, same))));
+      sent = ap (λ (q : Progress). requests_told g (new_among c q (nums t.1))) p ∙ k.sent;
+      after = ap (λ (q : Progress). with_all q (nums t.1)) p ∙ k.after;
     }
-
-abbrev pub acceptance : ℕ → ClientData → AnswerBody → Acceptance
-acceptance c s b = record { id = id_at c s.sent; answer = b.answer; path = b.path }
-
--- the answer is to the open request, or not
-awaited_seen : (proxies c : ℕ) (script : List Request) (s : ClientData) (b : AnswerBody) (is : Bool) → length script ≤ 2000 → progress_of s ≡ record { sent = s.sent; waits = true }
-    → let t = cond is (open_next proxies c script (record s { accepted = s.accepted + 1; attempt = None })) (s, []) in
-    IsSeen script c (record { sent = s.sent; waits = true }) s (cond is (Some (acceptance c s b)) None) (accepted_in c s t.0 (Answered b)) t
-awaited_seen proxies c script s b true few e =
-    let free : ClientData = (record s { accepted = s.accepted + 1; attempt = None }) in
-    let t = open_next proxies c script free in
-    let h = next_opens proxies c script free few in
-    record {
-      accepted = sym (ap (λ (x : Bool). cond x (Accepted (id_at c s.sent) b.answer b.path ∷ []) []) (lt-ltb s.accepted t.0.accepted (omega (arith, h.accepted))));
-      sent = h.sent;
-      after = h.after;
-    }
-awaited_seen proxies c script s b false few e = record {
-  accepted = same_count s.accepted (Accepted (id_at c s.sent) b.answer b.path ∷ []);
-  sent = same_count s.sent (Sent (id_at c s.sent) (command_at script s.sent) ∷ []);
-  after = sym e;
+awaited_seen g c s b false = record {
+  accepts_it = same_count s.accepted (Accepted (id_at c b.num) b.answer b.path ∷ []);
+  sent = none_after c (script_of g c) s.sent;
+  after = refl;
 }
 
-accept_seen_at : (proxies c : ℕ) (script : List Request) (s : ClientData) (q : ℕ) (b : AnswerBody) (o : Option Attempt) → length script ≤ 2000 → s.attempt ≡ o
-    → let t = cond (is_awaited s b o) (open_next proxies c script (record s { accepted = s.accepted + 1; attempt = None })) (s, []) in
-    IsSeen script c (record { sent = s.sent; waits = is_some o }) s (answer_in c (record { sent = s.sent; waits = is_some o }) (Proxy q) (Answered b)) (accepted_in c s t.0 (Answered b)) t
-accept_seen_at proxies c script s q b None few e = record {
-  accepted = same_count s.accepted (Accepted (id_at c s.sent) b.answer b.path ∷ []);
-  sent = same_count s.sent (Sent (id_at c s.sent) (command_at script s.sent) ∷ []);
-  after = ap (λ (x : Option Attempt). record { sent = s.sent; waits = is_some x }) (sym e);
-}
-accept_seen_at proxies c script s q b (Some a) few e = awaited_seen proxies c script s b (eqb b.num s.sent) few (ap (λ (x : Option Attempt). record { sent = s.sent; waits = is_some x }) e)
-
-accept_seen : (proxies c : ℕ) (script : List Request) (s : ClientData) (q : ℕ) (b : AnswerBody) → length script ≤ 2000
-    → IsSeen script c (progress_of s) s (answer_in c (progress_of s) (Proxy q) (Answered b)) (accepted_in c s (accept_rule proxies c script s b).0 (Answered b)) (accept_rule proxies c script s b)
+accept_seen : (g : Group) (c : ℕ) (s : ClientData) (q : ℕ) (b : AnswerBody)
+    → let t = accept_rule g.window g.proxies c (script_of g c) s b in IsSeen g c s (answer_in c (progress_of s) (Proxy q) (Answered b)) (accepted_in c s t.0 (Answered b)) t
 unfolding accept_rule
-accept_seen proxies c script s q b few = accept_seen_at proxies c script s q b s.attempt few refl
+accept_seen g c s q b =
+    let t = cond (is_open b.num s.attempts) (fill_window g.window g.proxies c (script_of g c) (accepted b.num s)) (s, []) in
+    subst (λ (x : Bool). IsSeen g c s (cond x (Some (acceptance c b)) None) (accepted_in c s t.0 (Answered b)) t) (sym (any_nums b.num s.attempts))
+    (awaited_seen g c s b (is_open b.num s.attempts))
 
 -- a message that changes nothing is not accepted
 none_accepted : (c : ℕ) (s : ClientData) (m : Message) → [] ≡ accepted_in c s s m
-none_accepted c s (Answered b) = same_count s.accepted (Accepted (id_at c s.sent) b.answer b.path ∷ [])
+none_accepted c s (Answered b) = same_count s.accepted (Accepted (id_at c b.num) b.answer b.path ∷ [])
 none_accepted c s _ = refl
 
-ignored_seen : (script : List Request) (c : ℕ) (s : ClientData) (m : Message) → IsSeen script c (progress_of s) s None (accepted_in c s s m) (s, [])
-ignored_seen script c s m = let h = nothing_seen script c s in record { accepted = none_accepted c s m; sent = h.sent; after = h.after }
+ignored_seen : (g : Group) (c : ℕ) (s : ClientData) (m : Message) → IsSeen g c s None (accepted_in c s s m) (s, [])
+ignored_seen g c s m = let h = nothing_seen g c s in record { accepts_it = none_accepted c s m; sent = h.sent; after = h.after }
 
-message_seen : (proxies c : ℕ) (script : List Request) (s : ClientData) (from : Actor) (m : Message) → length script ≤ 2000
-    → IsSeen script c (progress_of s) s (answer_in c (progress_of s) from m) (accepted_in c s (client_message proxies c script s from m).0 m) (client_message proxies c script s from m)
-message_seen proxies c script s (Proxy q) (Answered b) few = accept_seen proxies c script s q b few
-message_seen proxies c script s from m few = ignored_seen script c s m
+message_seen : (g : Group) (c : ℕ) (s : ClientData) (from : Actor) (m : Message)
+    → let t = client_message g.window g.proxies c (script_of g c) s from m in IsSeen g c s (answer_in c (progress_of s) from m) (accepted_in c s t.0 m) t
+message_seen g c s (Proxy q) (Answered b) = accept_seen g c s q b
+message_seen g c s from m = ignored_seen g c s m
 
 -- a message that is not counted is no answer of a proxy
-stray_seen : (f c : ℕ) (script : List Request) (s : ClientData) (from : Actor) (m : Message) → (is_in_cluster f from && is_sized f (vector_of m)) ≡ false
-    → IsSeen script c (progress_of s) s (answer_in c (progress_of s) from m) [] (s, [])
-stray_seen f c script s (Proxy q) (Answered b) e = absurd cc
-stray_seen f c script s from m e = nothing_seen script c s
+stray_seen : (g : Group) (c : ℕ) (s : ClientData) (from : Actor) (m : Message) → (is_in_cluster g.f from && is_sized g.f (vector_of m)) ≡ false
+    → IsSeen g c s (answer_in c (progress_of s) from m) [] (s, [])
+stray_seen g c s (Proxy q) (Answered b) e = absurd cc
+stray_seen g c s from m e = nothing_seen g c s
 
-counted_seen : (g : Group) (c : ℕ) (s : ClientData) (e : Envelope) (b : Bool) → length (script_of g c) ≤ 2000 → (is_in_cluster g.f e.from && is_sized g.f (vector_of e.message)) ≡ b
+counted_seen : (g : Group) (c : ℕ) (s : ClientData) (e : Envelope) (b : Bool) → (is_in_cluster g.f e.from && is_sized g.f (vector_of e.message)) ≡ b
     → let o = cond b (Some e) None in let t = envelope_step g (Client c) s o in
-    IsSeen (script_of g c) c (progress_of s) s (answer_in c (progress_of s) e.from e.message) (accepted_by c s t.0 o) t
-counted_seen g c s e true few is = message_seen g.proxies c (script_of g c) s e.from e.message few
-counted_seen g c s e false few is = stray_seen g.f c (script_of g c) s e.from e.message is
+    IsSeen g c s (answer_in c (progress_of s) e.from e.message) (accepted_by c s t.0 o) t
+counted_seen g c s e true is = message_seen g c s e.from e.message
+counted_seen g c s e false is = stray_seen g c s e.from e.message is
 
-envelope_seen : (g : Group) (c : ℕ) (s : ClientData) (o : Option Envelope) → length (script_of g c) ≤ 2000
-    → let t = envelope_step g (Client c) s (counted g.f o) in IsSeen (script_of g c) c (progress_of s) s (answer_heard c (progress_of s) o) (accepted_by c s t.0 (counted g.f o)) t
-envelope_seen g c s None few = nothing_seen (script_of g c) c s
-envelope_seen g c s (Some e) few = counted_seen g c s e (is_in_cluster g.f e.from && is_sized g.f (vector_of e.message)) few refl
+envelope_seen : (g : Group) (c : ℕ) (s : ClientData) (o : Option Envelope)
+    → let t = envelope_step g (Client c) s (counted g.f o) in IsSeen g c s (answer_heard c (progress_of s) o) (accepted_by c s t.0 (counted g.f o)) t
+envelope_seen g c s None = nothing_seen g c s
+envelope_seen g c s (Some e) = counted_seen g c s e (is_in_cluster g.f e.from && is_sized g.f (vector_of e.message)) refl
 
 -- ---- records
 
-event_seen : (g : Group) (c : ℕ) (s : ClientData) (e : Event) → length (script_of g c) ≤ 2000
-    → let t = event_step g (Client c) s e in IsSeen (script_of g c) c (progress_of s) s (answer_of c (progress_of s) e) (accepted_by c s t.0 (read_in g (Client c) e)) t
-event_seen g c s (Deliver p) few = envelope_seen g c s (heard (Client c) p) few
-event_seen g c s (Tick clock) few = tick_seen g.proxies c (script_of g c) s few
-event_seen g c s _ few = nothing_seen (script_of g c) c s
+event_seen : (g : Group) (c : ℕ) (s : ClientData) (e : Event) → InTurn g.window (script_of g c) s
+    → let t = event_step g (Client c) s e in IsSeen g c s (answer_of c (progress_of s) e) (accepted_by c s t.0 (read_in g (Client c) e)) t
+event_seen g c s (Deliver p) h = envelope_seen g c s (heard (Client c) p)
+event_seen g c s (Tick clock) h = tick_seen g c s h
+event_seen g c s _ h = nothing_seen g c s
 
 -- what a record of the client shows
 pub record ShowsAll (g : Group) (c : ℕ) (r : Record) (J : List Record) (p : Progress) : Type 0 where
   pub told : told_of g (shown c p r.event r.sends).0 ≡ told_by g r.actor r J
   pub after : (shown c p r.event r.sends).1 ≡ progress_of (state_after g (Client c) (r ∷ J))
 
-request_is : (g : Group) (c : ℕ) (p : Progress) (b : Bool) → request_told g (request_in c (with_request p b) b) ≡ cond b (Sent (id_at c (with_request p true).sent) (command_at (script_of g c) (with_request p true).sent) ∷ []) []
-request_is g c p true = refl
-request_is g c p false = refl
+-- all that the client sends fits
+own_fit : (g : Group) (c : ℕ) (r : Record) (J : List Record) → World g (r ∷ J) → r.actor ≡ Client c
+    → AllFit (Client c) (event_step g (Client c) (state_after g (Client c) J) r.event).1
+own_fit g c r J w by =
+    subst (λ (a : Actor). AllFit a (event_step g a (state_after g a J) r.event).1) by (sends_have g (Fitted g) (FittedState g) (fits_keep g) J r w)
 
 pub record_shows : (g : Group) (c : ℕ) (r : Record) (J : List Record) → World g (r ∷ J) → r.actor ≡ Client c → ShowsAll g c r J (progress_of (state_after g (Client c) J))
 record_shows g c r J w by =
@@ -199,30 +293,29 @@ record_shows g c r J w by =
     let p = progress_of s in
     let q = with_answer p (answer_of c p r.event) in
     let t = event_step g (Client c) s r.event in
-    let member = subst (λ (a : Actor). IsMember g a) by w.0.member in
-    let few = (client_of g c (group_of g J w.1) member).short in
-    let h = event_seen g c s r.event few in
+    let h = event_seen g c s r.event ((all_fit g J w.1).states (Client c)) in
     let sends : r.sends ≡ own_parcels c t.1 = w.0.sends ∙ ap (λ (a : Actor). (node_step g a (state_after g a J) r.event).1) by in
+    let numbers : map num_of r.sends ≡ nums t.1 = ap (map num_of) sends ∙ own_nums c t.1 (own_fit g c r J w by) in
     let now : state_after g (Client c) (r ∷ J) ≡ t.0 = acts_itself g (Client c) r J by in
     let read = read_in g (Client c) r.event in
     let seen = λ (x : ClientData). accepted_by c s x read ++ sent_by c (script_of g c) s x in
     record {
-      told = ap (λ (l : List Told). acceptance_told (answer_of c p r.event) ++ l) (request_is g c q (opens q r.sends))
-          ∙ ap (λ (l : List Told). l ++ next_told (script_of g c) c q r.sends) h.accepted ∙ ap (λ (ps : List Parcel). accepted_by c s t.0 read ++ next_told (script_of g c) c q ps) sends
+      told = ap (λ (l : List (Option ℕ)). acceptance_told (answer_of c p r.event) ++ requests_told g (new_among c q l)) numbers
+          ∙ ap (λ (l : List Told). l ++ requests_told g (new_among c q (nums t.1))) h.accepts_it
           ∙ ap (λ (l : List Told). accepted_by c s t.0 read ++ l) h.sent ∙ sym (ap seen now) ∙ sym (ap (λ (a : Actor). told_by g a r J) by);
-      after = ap (λ (ps : List Parcel). with_request q (opens q ps)) sends ∙ h.after ∙ sym (ap progress_of now);
+      after = ap (with_all q) numbers ∙ h.after ∙ sym (ap progress_of now);
     }
 
 -- ---- all clients
 
-first_progress : (scripts : List (List Request)) (c : ℕ) (p : Progress) → c < length scripts → slice_get (replicate (length scripts) p) c ≡ Some p
-first_progress [] c p lt = absurd (omega (arith, lt))
-first_progress (x ∷ scripts) zero p lt = refl
-first_progress (x ∷ scripts) (suc c) p lt = first_progress scripts c p (omega (arith, lt))
+first_progresses : (scripts : List (List Request)) (c : ℕ) (p : Progress) → c < length scripts → slice_get (replicate (length scripts) p) c ≡ Some p
+first_progresses [] c p lt = absurd (omega (arith, lt))
+first_progresses (x ∷ scripts) zero p lt = refl
+first_progresses (x ∷ scripts) (suc c) p lt = first_progresses scripts c p (omega (arith, lt))
 
-pub first_after : (g : Group) → AreAfter g [] (replicate (length g.scripts) (record { sent = 0; waits = false }))
+pub first_after : (g : Group) → AreAfter g [] (replicate (length g.scripts) first_progress)
 unfolding state_after
-first_after g = record { count = length-replicate (length g.scripts) (record { sent = 0; waits = false }); each = λ c lt. first_progress g.scripts c (record { sent = 0; waits = false }) lt }
+first_after g = record { count = length-replicate (length g.scripts) first_progress; each = λ c lt. first_progresses g.scripts c first_progress lt }
 
 -- a client's progress is the one that is kept
 kept_progress : (g : Group) (J : List Record) (clients : List Progress) (c : ℕ) (p : Progress) → AreAfter g J clients → c < length clients → slice_get clients c ≡ Some p → p ≡ progress_of (state_after g (Client c) J)

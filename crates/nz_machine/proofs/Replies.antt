@@ -34,6 +34,7 @@ use Rattle.nz_machine.proofs.Placed.{get_kept, place_kept, place_within, digest_
 use Rattle.nz_machine.proofs.Shows.{AllShow, Shown, silent, log_mods_show}
 use Rattle.nz_machine.proofs.ViewsShow.{quiet_shows, change_shows}
 use Rattle.nz_machine.proofs.RejoinsShow.{rejoin_shows}
+use Rattle.nz_machine.proofs.Guards.{normal_up}
 
 -- what is asked of the state before: no id stands twice in log and early, normal operation is in the last view, and a
 -- leader has an answer for each entry
@@ -92,12 +93,6 @@ pub slow_shows : (f me : ℕ) (heard : Heard) (before s : ReplicaData) (id : Id)
 slow_shows f me heard before s id place None normal follows at synced known = tt
 slow_shows f me heard before s id place (Some origin) normal follows at synced known =
     (record { normal = normal; follows = follows; place = place; stands = at; synced = synced; origin = origin; known = known; receiver = refl; read = refl }, tt)
-
-pub normal_up : (a : Status) → is_normal a ≡ true → is_up a ≡ true
-normal_up Normal h = refl
-normal_up ViewChange h = absurd cc
-normal_up Rejoining h = absurd cc
-normal_up Down h = absurd cc
 
 -- ---- requests
 

@@ -158,7 +158,7 @@ message_step_shows g (Replica r) s from m fair may =
 message_step_shows g (Proxy p) s from m fair may =
     on_cond (StepShows g (Proxy p) (Some (from, m)) s) s.is_down (s, []) (proxy_message g.f s from m) (λ _. quiet g (Proxy p) (Some (from, m)) s s)
     (λ up. record { shows = (proxy_message_shows g.f s from m up).shows })
-message_step_shows g (Client c) s from m fair may = record { shows = (client_message_shows g.proxies c (script_of g c) s from m may).shows }
+message_step_shows g (Client c) s from m fair may = record { shows = (client_message_shows g.window g.proxies c (script_of g c) s from m may).shows }
 
 pub tick_step_shows : (g : Group) (a : Actor) (s : State a) (clock : ℕ) → MayShow g a s → StepShows g a None s (tick_step g a s clock)
 tick_step_shows g (Replica r) s clock may =
@@ -167,7 +167,7 @@ tick_step_shows g (Replica r) s clock may =
 tick_step_shows g (Proxy p) s clock may =
     on_cond (StepShows g (Proxy p) None s) s.is_down (s, []) (clock_rule s clock, []) (λ _. quiet g (Proxy p) None s s)
     (λ _. quiet g (Proxy p) None s (clock_rule s clock))
-tick_step_shows g (Client c) s clock may = record { shows = (wait_shows g.proxies c (script_of g c) s may).shows }
+tick_step_shows g (Client c) s clock may = record { shows = (wait_shows g.window g.proxies c (script_of g c) s may).shows }
 
 pub alarm_step_shows : (g : Group) (a : Actor) (s : State a) → StepShows g a None s (alarm_step g a s)
 alarm_step_shows g (Replica r) s = record { shows = (alarm_shows g.f r None s).shows }

@@ -19,9 +19,10 @@ use Rattle.nz_msg.specs.Fields.{answer}
 use Rattle.nz_msg.specs.declared.message.ViewChangeBody.{ViewChangeBody}
 use Rattle.nz_msg.specs.declared.message.RejoinTellBody.{RejoinTellBody}
 use Rattle.nz_machine.specs.declared.data.Reported.{Reported}
+use Rattle.nz_machine.specs.declared.data.Rejoin.{Rejoin}
 use Rattle.nz_machine.specs.declared.data.ToldView.{ToldView}
 use Rattle.nz_machine.specs.State.{ReplicaData}
-use Rattle.nz_machine.specs.Facts.{FitsEntry, AreCounters, IsCarried, FitsReport, FitsTold, AreHeld, HasFacts}
+use Rattle.nz_machine.specs.Facts.{FitsEntry, AreCounters, IsCarried, FitsReport, FitsTold, AreHeld, IsRejoin, HasFacts}
 use Rattle.nz_machine.specs.Replicas.{last_view, most_entries, is_rejoining, commands}
 use Rattle.nz_machine.specs.Views.{most_quiet, in_view_change}
 use Rattle.nz_machine.specs.LogMods.{after_hearing}
@@ -82,7 +83,7 @@ enter_keeps f me s view h later low =
       entries = h.entries;
       commit = h.commit;
       tables = h.tables;
-      executed = record { answers = h.executed.answers; led = λ n _. absurd cc };
+      executed = record { answers = h.executed.answers; led = λ n _. absurd cc; forgotten = λ away. absurd cc };
       reports = record { each = tt; own_senders = tt };
       rejoin = h.rejoin;
     }
@@ -106,7 +107,7 @@ start_keeps f me s view list commit h low away c committed = record {
   entries = adopted_held s list h.entries c;
   commit = committed;
   tables = h.tables;
-  executed = record { answers = h.executed.answers; led = λ n lead. clash (leader_of f view == me) lead away };
+  executed = record { answers = h.executed.answers; led = λ n lead. clash (leader_of f view == me) lead away; forgotten = λ down. absurd cc };
   reports = h.reports;
   rejoin = h.rejoin;
 }
@@ -137,6 +138,7 @@ begin_keeps f me s list commit h c = record {
   executed = record {
     answers = replies_fit list;
     led = λ _ _. record { synced = refl; results = refl; acks = all_replicate (λ n. n ≤ length list) (replica_count f) 0 (omega arith) };
+    forgotten = λ down. absurd cc;
   };
   reports = h.reports;
   rejoin = h.rejoin;
@@ -219,6 +221,28 @@ merged_carried f me s h few = record {
 
 -- ---- a rejoin
 
+-- the rejoin is another, and the wait goes on or begins anew
+rejoin_keeps : (f me : ℕ) (s : ReplicaData) (r : Rejoin) (ticks : ℕ) → HasFacts f me s → ticks ≤ s.since → IsRejoin f r
+    → HasFacts f me (record s { since = ticks; rejoin = r })
+rejoin_keeps f me s r ticks h low own =
+    let before = h.mode.since in
+    record {
+      bounds = h.bounds;
+      mode = record {
+        last = h.mode.last;
+        normal = h.mode.normal;
+        quiet = h.mode.quiet;
+        since = omega (arith, before, low);
+        rejoining = λ rejoins. let most = h.mode.rejoining rejoins in omega (arith, most, low);
+      };
+      entries = h.entries;
+      commit = h.commit;
+      tables = h.tables;
+      executed = h.executed;
+      reports = h.reports;
+      rejoin = own;
+    }
+
 pub teller_keeps : (f me : ℕ) (s : ReplicaData) (sender : ℕ) (vector : List ℕ) → HasFacts f me s → sender < replica_count f → AreCounters f vector
     → HasFacts f me (with_teller me s sender vector)
 teller_keeps f me s sender vector h member counters =
@@ -227,24 +251,15 @@ teller_keeps f me s sender vector h member counters =
     let claim = k.claim in
     let told : slice_index vector me < 2 ^ 32 = all_index (λ n. n < 2 ^ 32) vector me 0 counters.small (omega arith) in
     let known = list_any (λ t. eqb t sender) r.tellers in
-    record {
-      bounds = h.bounds;
-      mode = h.mode;
-      entries = h.entries;
-      commit = h.commit;
-      tables = h.tables;
-      executed = h.executed;
-      reports = h.reports;
-      rejoin = record {
-        nonce = k.nonce;
-        claim = omega (arith, claim, told);
-        wanted = k.wanted;
-        tellers = on_cond (AllByRecursion (λ n. n < replica_count f)) known r.tellers (r.tellers ++ sender ∷ []) (λ _. k.tellers) (λ _. all_append (λ n. n < replica_count f) r.tellers (sender ∷ []) k.tellers (member, tt));
-        own_tellers = on_cond AreDistinct known r.tellers (r.tellers ++ sender ∷ []) (λ _. k.own_tellers) (λ new. distinct_more r.tellers sender k.own_tellers (sym (any_in r.tellers sender) ∙ new));
-        tells = k.tells;
-        own_tells = k.own_tells;
-      };
-    }
+    rejoin_keeps f me s (with_teller me s sender vector).rejoin s.since h (omega arith) (record {
+      nonce = k.nonce;
+      claim = omega (arith, claim, told);
+      wanted = k.wanted;
+      tellers = on_cond (AllByRecursion (λ n. n < replica_count f)) known r.tellers (r.tellers ++ sender ∷ []) (λ _. k.tellers) (λ _. all_append (λ n. n < replica_count f) r.tellers (sender ∷ []) k.tellers (member, tt));
+      own_tellers = on_cond AreDistinct known r.tellers (r.tellers ++ sender ∷ []) (λ _. k.own_tellers) (λ new. distinct_more r.tellers sender k.own_tellers (sym (any_in r.tellers sender) ∙ new));
+      tells = k.tells;
+      own_tells = k.own_tells;
+    })
 
 pub counter_keeps : (f me : ℕ) (s : ReplicaData) → HasFacts f me s → IsFalse (s.rejoin.claim == last_counter) → HasFacts f me (with_new_counter me s)
 counter_keeps f me s h below =
@@ -272,16 +287,8 @@ pub tells_keep : (f me : ℕ) (s : ReplicaData) (tells : List ToldView) → HasF
     → AreDistinct (map (λ (t : ToldView). t.sender) tells) → HasFacts f me (with_tells s tells)
 tells_keep f me s tells h each own =
     let k = h.rejoin in
-    record {
-      bounds = h.bounds;
-      mode = h.mode;
-      entries = h.entries;
-      commit = h.commit;
-      tables = h.tables;
-      executed = h.executed;
-      reports = h.reports;
-      rejoin = record { nonce = k.nonce; claim = k.claim; wanted = k.wanted; tellers = k.tellers; own_tellers = k.own_tellers; tells = each; own_tells = own };
-    }
+    rejoin_keeps f me s (with_tells s tells).rejoin s.since h (omega arith)
+    (record { nonce = k.nonce; claim = k.claim; wanted = k.wanted; tellers = k.tellers; own_tellers = k.own_tellers; tells = each; own_tells = own })
 
 pub forget_keeps : (f me : ℕ) (s : ReplicaData) → HasFacts f me s → HasFacts f me (with_tells s [])
 forget_keeps f me s h = tells_keep f me s [] h tt tt
@@ -303,31 +310,15 @@ tell_keeps f me s sender b h member low counters =
 pub ask_views_keeps : (f me : ℕ) (s : ReplicaData) → HasFacts f me s → HasFacts f me (ask_views f me s).0
 ask_views_keeps f me s h =
     let k = h.rejoin in
-    record {
-      bounds = h.bounds;
-      mode = record { last = h.mode.last; normal = h.mode.normal; quiet = h.mode.quiet; since = omega arith; rejoining = λ _. omega arith };
-      entries = h.entries;
-      commit = h.commit;
-      tables = h.tables;
-      executed = h.executed;
-      reports = h.reports;
-      rejoin = record { nonce = k.nonce; claim = k.claim; wanted = k.wanted; tellers = k.tellers; own_tellers = k.own_tellers; tells = tt; own_tells = tt };
-    }
+    rejoin_keeps f me s (ask_views f me s).0.rejoin 0 h (omega arith)
+    (record { nonce = k.nonce; claim = k.claim; wanted = k.wanted; tellers = k.tellers; own_tellers = k.own_tellers; tells = tt; own_tells = tt })
 
 -- the leader of the view is asked for its log
 pub ask_log_keeps : (f me : ℕ) (s : ReplicaData) (view : ℕ) → HasFacts f me s → view ≤ last_view → HasFacts f me (ask_log f s view).0
 ask_log_keeps f me s view h low =
     let k = h.rejoin in
-    record {
-      bounds = h.bounds;
-      mode = record { last = h.mode.last; normal = h.mode.normal; quiet = h.mode.quiet; since = omega arith; rejoining = λ _. omega arith };
-      entries = h.entries;
-      commit = h.commit;
-      tables = h.tables;
-      executed = h.executed;
-      reports = h.reports;
-      rejoin = record { nonce = k.nonce; claim = k.claim; wanted = low; tellers = k.tellers; own_tellers = k.own_tellers; tells = k.tells; own_tells = k.own_tells };
-    }
+    rejoin_keeps f me s (ask_log f s view).0.rejoin 0 h (omega arith)
+    (record { nonce = k.nonce; claim = k.claim; wanted = low; tellers = k.tellers; own_tellers = k.own_tellers; tells = k.tells; own_tells = k.own_tells })
 
 greatest_low : (f : ℕ) (ts : List ToldView) → AllByRecursion (FitsTold f) ts → greatest (map (λ t. t.view) ts) ≤ last_view
 greatest_low f [] all = omega arith

@@ -53,7 +53,7 @@ abbrev pub first_entry : Entry
 first_entry = record { key = record { deadline = 12500; client = 0; num = 1 }; command = put }
 
 abbrev pub group : Group
-group = record { f = 1; proxies = 1; scripts = (record { wait = 0; command = put } ∷ []) ∷ [] }
+group = record { f = 1; proxies = 1; window = 1; scripts = (record { wait = 0; command = put } ∷ []) ∷ [] }
 
 -- A follower after its release: the entry is in the log and not synced, and its request came from the proxy.
 abbrev pub holding : ReplicaData
@@ -168,7 +168,7 @@ never_restarted (r ∷ J) a nonce e =
 
 start_group : IsGroup group
 unfolding command_of command_there value_at key_at command_body_at
-start_group = record { least_f = omega arith; most_f = omega arith; least_proxies = omega arith; most_proxies = omega arith; least_clients = omega arith; most_clients = omega arith; few_requests = omega arith; commands = ((record { command = refl }, tt), tt) }
+start_group = record { least_f = omega arith; most_f = omega arith; least_proxies = omega arith; most_proxies = omega arith; least_window = omega arith; most_window = omega arith; least_clients = omega arith; most_clients = omega arith; few_requests = omega arith; commands = ((record { command = refl }, tt), tt) }
 
 pub is_accepted : World group accepted
 unfolding accepted replied released spread stamped opened play arrive come all_tick state_after encode_of decode_of frame refusal number_bytes number_at run_at limited_at optional_at items_put items_at body_at heard clock_rule wait_rule accept_rule stamp_rule reply_rule decision count_below key_bytes first_words schedule rounds compress hash_after digest_bytes sha1 apply apply_bytes store_from replies_from key_at value_at choice_at command_of command_body_at command_there request_rule release_rule releases sync_keys log_mod_rule fetch_rule kept_all fetch_reply_rule sync_report_rule enter_view alarm_rule view_ask_rule start_view_rule begin view_change_rule crash_rule restart_rule vector_ask_rule vector_tell_rule rejoin_ask_rule rejoin_tell_rule state_ask_rule state_tell_rule merged later

@@ -1,5 +1,6 @@
 -- The rules of a client.
-use Rattle.std.specs.Prelude.{ℕ, ◌+◌, ◌-◌, ◌%◌, ◌^◌, Bool, false, List, [], ◌∷◌, Option, Some, None, nat_le, min, ◌==◌, if◌then◌else◌, slice_get}
+use Rattle.std.specs.Prelude.{ℕ, zero, suc, ◌+◌, ◌-◌, ◌%◌, ◌^◌, Bool, not, List, [], ◌∷◌, ◌++◌, length, map, filter, flat_map, Option, Some, None, nat_le, min, ◌==◌, if◌then◌else◌, slice_get}
+use Rattle.std.specs.List.{list_any}
 use Rattle.nz_base.specs.declared.actor.Actor.TheVariants.{Proxy}
 use Rattle.nz_base.specs.declared.scenario.Request.{Request}
 use Rattle.nz_msg.specs.declared.message.AnswerBody.{AnswerBody}
@@ -7,57 +8,93 @@ use Rattle.nz_msg.specs.declared.message.Message.TheVariants.{Request as Asked}
 use Rattle.nz_machine.specs.declared.data.Attempt.{Attempt}
 use Rattle.nz_machine.specs.State.{ClientData, Out}
 
--- an open request is sent again when so many ticks have passed
+-- An open request is sent again when so many ticks have passed.
 abbrev pub patience : ℕ
 patience = 30
 
--- the count of ticks stops here
+-- The count of ticks stops here.
 abbrev pub last_tick : ℕ
 last_tick = 2 ^ 32 - 1
 
--- the request of this number, counted from 1, to a proxy
+-- The request of this number, counted from 1, to a proxy.
 abbrev pub ask : ℕ → ℕ → Request → Out
 ask proxy num request = (Proxy proxy, Asked (record { num = num; command = request.command }))
 
--- the request, if it may be sent at this count of ticks
+-- ---- a new request
+
+-- The request, if it may be sent at this count of ticks.
 abbrev pub if_due : ℕ → Option Request → Option Request
 if_due ticks None = None
 if_due ticks (Some request) = if nat_le request.wait ticks then Some request else None
 
--- the first attempt goes to the client's own proxy, each further one to the next
+-- A request is opened after all open ones, and goes to the client's own proxy.
 abbrev pub opened : ℕ → ℕ → ClientData → Option Request → ClientData × List Out
-opened proxies me s None = (record s { attempt = None }, [])
+opened proxies me s None = (s, [])
 opened proxies me s (Some request) =
-    (record s { sent = s.sent + 1; attempt = Some (record { proxy = me % proxies; since = 0 }) }, ask (me % proxies) (s.sent + 1) request ∷ [])
+    (record s { sent = s.sent + 1; attempts = s.attempts ++ record { num = s.sent + 1; proxy = me % proxies; since = 0 } ∷ [] }, ask (me % proxies) (s.sent + 1) request ∷ [])
 
--- with no request open, the next one is sent if it is due
+-- The next request is opened if it is due.
 abbrev pub open_next : ℕ → ℕ → List Request → ClientData → ClientData × List Out
 open_next proxies me script s = opened proxies me s (if_due s.ticks (slice_get script s.sent))
+
+-- Each free place takes the next request, if it is due.
+abbrev pub fill_places : ℕ → ℕ → ℕ → List Request → ClientData → ClientData × List Out
+fill_places zero proxies me script s = (s, [])
+fill_places (suc free) proxies me script s =
+    let t = open_next proxies me script s in
+    let u = fill_places free proxies me script t.0 in
+    (u.0, t.1 ++ u.1)
+
+-- The window has a place for each open request, and the others are free.
+abbrev pub fill_window : ℕ → ℕ → ℕ → List Request → ClientData → ClientData × List Out
+fill_window window proxies me script s = fill_places (window - length s.attempts) proxies me script s
+
+-- ---- an open request
+
+-- The open request has waited long enough at the next tick.
+abbrev pub is_overdue : Attempt → Bool
+is_overdue a = a.since + 1 == patience
+
+-- It waits one tick more, or is sent again: the first attempt went to the client's own proxy, each further one goes to the next.
+abbrev pub waited : ℕ → Attempt → Attempt
+waited proxies a = if is_overdue a then record { num = a.num; proxy = (a.proxy + 1) % proxies; since = 0 } else record { num = a.num; proxy = a.proxy; since = a.since + 1 }
 
 abbrev pub asked_again : ℕ → ℕ → Option Request → List Out
 asked_again proxy num None = []
 asked_again proxy num (Some request) = ask proxy num request ∷ []
 
-abbrev pub wait_on : ℕ → List Request → ClientData → Attempt → ClientData × List Out
-wait_on proxies script s a =
-    if a.since + 1 == patience
-    then (record s { attempt = Some (record { proxy = (a.proxy + 1) % proxies; since = 0 }) }, asked_again ((a.proxy + 1) % proxies) s.sent (slice_get script (s.sent - 1)))
-    else (record s { attempt = Some (record { proxy = a.proxy; since = a.since + 1 }) }, [])
+abbrev pub retry : ℕ → List Request → Attempt → List Out
+retry proxies script a = if is_overdue a then asked_again ((a.proxy + 1) % proxies) a.num (slice_get script (a.num - 1)) else []
 
-abbrev pub ticked_at : ℕ → ℕ → List Request → ClientData → Option Attempt → ClientData × List Out
-ticked_at proxies me script s None = open_next proxies me script s
-ticked_at proxies me script s (Some a) = wait_on proxies script s a
+-- What is sent again of the open requests, in rising number.
+abbrev pub retries : ℕ → List Request → List Attempt → List Out
+retries proxies script attempts = flat_map (retry proxies script) attempts
 
-unfoldable pub wait_rule : ℕ → ℕ → List Request → ClientData → ClientData × List Out
-wait_rule proxies me script s = let now = record s { ticks = min (s.ticks + 1) last_tick } in ticked_at proxies me script now now.attempt
+abbrev pub all_waited : ℕ → ClientData → ClientData
+all_waited proxies s = record s { ticks = min (s.ticks + 1) last_tick; attempts = map (waited proxies) s.attempts }
 
--- the answer is to the open request
-abbrev pub is_awaited : ClientData → AnswerBody → Option Attempt → Bool
-is_awaited s b None = false
-is_awaited s b (Some a) = b.num == s.sent
+-- At a tick each open request waits, and some are sent again. Then the free places of the window are filled.
+unfoldable pub wait_rule : ℕ → ℕ → ℕ → List Request → ClientData → ClientData × List Out
+wait_rule window proxies me script s =
+    let t = fill_window window proxies me script (all_waited proxies s) in
+    (t.0, retries proxies script s.attempts ++ t.1)
 
-unfoldable pub accept_rule : ℕ → ℕ → List Request → ClientData → AnswerBody → ClientData × List Out
-accept_rule proxies me script s b = if is_awaited s b s.attempt then open_next proxies me script (record s { accepted = s.accepted + 1; attempt = None }) else (s, [])
+-- ---- an answer
+
+-- The request of this number is open.
+abbrev pub is_open : ℕ → List Attempt → Bool
+is_open num attempts = list_any (λ (a : Attempt). a.num == num) attempts
+
+-- The open requests without that of this number.
+abbrev pub without : ℕ → List Attempt → List Attempt
+without num attempts = filter (λ (a : Attempt). not (a.num == num)) attempts
+
+abbrev pub accepted : ℕ → ClientData → ClientData
+accepted num s = record s { accepted = s.accepted + 1; attempts = without num s.attempts }
+
+-- An answer to an open request is accepted, and the free places of the window are filled.
+unfoldable pub accept_rule : ℕ → ℕ → ℕ → List Request → ClientData → AnswerBody → ClientData × List Out
+accept_rule window proxies me script s b = if is_open b.num s.attempts then fill_window window proxies me script (accepted b.num s) else (s, [])
 
 abbrev pub first_client : ClientData
-first_client = record { ticks = 0; sent = 0; accepted = 0; attempt = None }
+first_client = record { ticks = 0; sent = 0; accepted = 0; attempts = [] }

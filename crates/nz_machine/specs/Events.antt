@@ -1,5 +1,5 @@
 -- What the clients of a run see.
-use Rattle.std.specs.Prelude.{ℕ, ◌-◌, List, [], ◌∷◌, ◌++◌, Option, Some, None, nat_lt, if◌then◌else◌, slice_get}
+use Rattle.std.specs.Prelude.{ℕ, zero, suc, ◌+◌, ◌-◌, List, [], ◌∷◌, ◌++◌, Option, Some, None, nat_lt, if◌then◌else◌, slice_get}
 use Rattle.nz_base.specs.declared.actor.Actor.{Actor}
 use Rattle.nz_base.specs.declared.actor.Actor.TheVariants.{Replica, Proxy, Client}
 use Rattle.nz_base.specs.declared.key.Id.{Id}
@@ -41,18 +41,23 @@ read_in g a Alarm = None
 read_in g a Crash = None
 read_in g a (Restart nonce) = None
 
--- The count of acceptances rose: the answer was accepted, to the request that was open.
+-- The count of acceptances rose: the answer was accepted.
 abbrev pub accepted_in : ℕ → ClientData → ClientData → Message → List Told
-accepted_in c before after (Answer b) = if nat_lt before.accepted after.accepted then Accepted (id_at c before.sent) b.answer b.path ∷ [] else []
+accepted_in c before after (Answer b) = if nat_lt before.accepted after.accepted then Accepted (id_at c b.num) b.answer b.path ∷ [] else []
 accepted_in c before after _ = []
 
 abbrev pub accepted_by : ℕ → ClientData → ClientData → Option Envelope → List Told
 accepted_by c before after None = []
 accepted_by c before after (Some e) = accepted_in c before after e.message
 
--- The count of requests rose: one more was sent.
+-- So many requests, the ones after that of this number.
+abbrev pub sent_after : ℕ → List Request → ℕ → ℕ → List Told
+sent_after c script num zero = []
+sent_after c script num (suc more) = Sent (id_at c (num + 1)) (command_at script (num + 1)) ∷ sent_after c script (num + 1) more
+
+-- The count of requests rose: so many more were sent, in rising number.
 abbrev pub sent_by : ℕ → List Request → ClientData → ClientData → List Told
-sent_by c script before after = if nat_lt before.sent after.sent then Sent (id_at c after.sent) (command_at script after.sent) ∷ [] else []
+sent_by c script before after = sent_after c script before.sent (after.sent - before.sent)
 
 -- What a record tells, after the records J: an acceptance first.
 abbrev pub told_by : Group → Actor → Record → List Record → List Told

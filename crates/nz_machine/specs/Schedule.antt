@@ -22,7 +22,7 @@ use Rattle.nz_machine.specs.World.{IsGroup, IsMember}
 
 -- Who runs in a scenario.
 abbrev pub group_of : Scenario → Group
-group_of s = record { f = s.cluster; proxies = s.proxies; scripts = s.scripts }
+group_of s = record { f = s.cluster; proxies = s.proxies; window = s.window; scripts = s.scripts }
 
 abbrev pub item : Actor → Event → Item
 item a e = record { actor = a; event = e }

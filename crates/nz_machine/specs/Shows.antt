@@ -40,6 +40,7 @@ use Rattle.nz_machine.specs.LogMods.{most_keys, is_held, is_asked}
 use Rattle.nz_machine.specs.Rejoining.{is_phase}
 use Rattle.nz_machine.specs.Proxies.{margin, standing_of}
 use Rattle.nz_machine.specs.Step.{script_of}
+use Rattle.nz_machine.specs.World.{Has}
 use Rattle.nz_machine.specs.Events.{id_at}
 use Rattle.nz_machine.specs.Hearing.{Heard}
 
@@ -257,15 +258,15 @@ ProxyShows f heard s to _ = ⊥
 
 -- ---- a client: its state s after the record
 
--- A request is the open one, of its script, sent just now to one of the proxies.
+-- A request is an open one, of its script, sent just now to one of the proxies.
 pub record ShowsRequest (proxies : ℕ) (script : List Request) (s : ClientData) (to : Actor) (b : RequestBody) : Type 0 where
   pub proxy : ℕ
   pub member : proxy < proxies
   pub receiver : to ≡ Proxy proxy
-  pub attempt : s.attempt ≡ Some (record { proxy = proxy; since = 0 })
+  pub attempt : Has s.attempts (record { num = b.num; proxy = proxy; since = 0 })
   pub request : Request
-  pub own : slice_get script (s.sent - 1) ≡ Some request
-  pub read : b ≡ record { num = s.sent; command = request.command }
+  pub own : slice_get script (b.num - 1) ≡ Some request
+  pub command : b.command ≡ request.command
 
 abbrev pub ClientShows : ℕ → List Request → ClientData → Actor → Message → Type 0
 ClientShows proxies script s to (messages.Request b) = ShowsRequest proxies script s to b

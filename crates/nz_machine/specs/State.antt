@@ -1,5 +1,5 @@
 -- The state of each kind of actor as plain data, and what a run begins with.
-use Rattle.std.specs.Prelude.{ℕ, Bool, List, Option}
+use Rattle.std.specs.Prelude.{ℕ, Bool, List}
 use Rattle.nz_base.specs.declared.actor.Actor.{Actor}
 use Rattle.nz_base.specs.declared.actor.Actor.TheVariants.{Replica, Proxy, Client}
 use Rattle.nz_base.specs.declared.key.Id.{Id}
@@ -51,12 +51,12 @@ pub record ProxyData : Type 0 where
   pub samples : List (List ℕ)
   pub standings : List (Id × Standing)
 
--- A client: its ticks, how many requests it sent and how many were accepted, and the open request.
+-- A client: its ticks, how many requests it sent and how many were accepted, and its open requests, in rising number.
 pub record ClientData : Type 0 where
   pub ticks : ℕ
   pub sent : ℕ
   pub accepted : ℕ
-  pub attempt : Option Attempt
+  pub attempts : List Attempt
 
 -- An actor's state, by its kind.
 abbrev pub State : Actor → Type 0
@@ -64,11 +64,12 @@ State (Replica r) = ReplicaData
 State (Proxy p) = ProxyData
 State (Client c) = ClientData
 
--- What a run begins with: how many replicas may be out of order, how many proxies there are, and each
--- client's requests.
+-- What a run begins with: how many replicas may be out of order, how many proxies there are, how many requests
+-- a client may have open at once, and each client's requests.
 pub record Group : Type 0 where
   pub f : ℕ
   pub proxies : ℕ
+  pub window : ℕ
   pub scripts : List (List Request)
 
 -- What a rule sends: who gets it, and the message.

@@ -114,15 +114,15 @@ proxy_message f s (Replica r) (messages.FastReply b) = reply_rule f s r b.id b.d
 proxy_message f s (Replica r) (messages.SlowReply b) = reply_rule f s r b.id b.delay (of_slow r b)
 proxy_message f s _ _ = (s, [])
 
-abbrev pub client_message : ℕ → ℕ → List Request → ClientData → Actor → Message → ClientData × List Out
-client_message proxies me script s (Proxy p) (messages.Answer b) = accept_rule proxies me script s b
-client_message proxies me script s _ _ = (s, [])
+abbrev pub client_message : ℕ → ℕ → ℕ → List Request → ClientData → Actor → Message → ClientData × List Out
+client_message window proxies me script s (Proxy p) (messages.Answer b) = accept_rule window proxies me script s b
+client_message window proxies me script s _ _ = (s, [])
 
 -- A replica or a proxy that is down hears nothing.
 abbrev pub message_step : Group → (a : Actor) → State a → Actor → Message → State a × List Out
 message_step g (Replica r) s from m = if is_down s.status then (s, []) else replica_message g.f r s from m
 message_step g (Proxy p) s from m = if s.is_down then (s, []) else proxy_message g.f s from m
-message_step g (Client c) s from m = client_message g.proxies c (script_of g c) s from m
+message_step g (Client c) s from m = client_message g.window g.proxies c (script_of g c) s from m
 
 abbrev pub envelope_step : Group → (a : Actor) → State a → Option Envelope → State a × List Out
 envelope_step g a s None = (s, [])
@@ -144,7 +144,7 @@ tick_rule f me s clock = release_rule f me s clock and_then (λ t. mode_timer t.
 abbrev pub tick_step : Group → (a : Actor) → State a → ℕ → State a × List Out
 tick_step g (Replica r) s clock = if is_down s.status then (s, []) else tick_rule g.f r s clock
 tick_step g (Proxy p) s clock = if s.is_down then (s, []) else (clock_rule s clock, [])
-tick_step g (Client c) s clock = wait_rule g.proxies c (script_of g c) s
+tick_step g (Client c) s clock = wait_rule g.window g.proxies c (script_of g c) s
 
 -- Alarms are for replicas.
 abbrev pub alarm_step : Group → (a : Actor) → State a → State a × List Out

@@ -1,16 +1,19 @@
 -- What the records of a run show of its clients: how far each is, and what a record tells.
-use Rattle.std.specs.Prelude.{◌≡◌, ℕ, ◌+◌, ◌-◌, ◌<◌, ◌≤◌, ◌^◌, min, Bool, true, false, not, ◌&&◌, ◌==◌, if◌then◌else◌, is_some, List, [], ◌∷◌, ◌++◌, length, Option, Some, None, slice_get}
+use Rattle.std.specs.Prelude.{◌≡◌, ℕ, ◌<◌, ◌≤◌, not, ◌==◌, nat_lt, if◌then◌else◌, List, [], ◌∷◌, ◌++◌, length, map, filter, Option, Some, None, Result, Ok, Err, slice_get}
+use Rattle.std.specs.List.{list_any}
 use Rattle.nz_base.specs.declared.actor.Actor.{Actor}
 use Rattle.nz_base.specs.declared.actor.Actor.TheVariants.{Proxy, Client}
 use Rattle.nz_base.specs.declared.key.Id.{Id}
 use Rattle.nz_msg.specs.declared.envelope.Envelope.{Envelope}
+use Rattle.nz_msg.specs.declared.refusal.DecodeRefusal.{DecodeRefusal}
 use Rattle.nz_msg.specs.declared.message.Message.{Message}
-use Rattle.nz_msg.specs.declared.message.Message.TheVariants.{Answer}
+use Rattle.nz_msg.specs.declared.message.Message.TheVariants.{Answer, Request}
+use Rattle.nz_msg.specs.Envelope.{decode_of}
+use Rattle.nz_machine.specs.declared.data.Attempt.{Attempt}
 use Rattle.nz_machine.specs.declared.event.Event.{Event}
 use Rattle.nz_machine.specs.declared.event.Event.TheVariants.{Deliver, Cut, Tick, Alarm, Crash, Restart}
 use Rattle.nz_machine.specs.declared.event.Parcel.{Parcel}
 use Rattle.nz_machine.specs.declared.event.Record.{Record}
-use Rattle.nz_machine.specs.declared.telling.Progress.{Progress}
 use Rattle.nz_machine.specs.declared.telling.Acceptance.{Acceptance}
 use Rattle.nz_machine.specs.declared.telling.Telling.{Telling}
 use Rattle.nz_machine.specs.State.{ClientData, Group}
@@ -25,18 +28,28 @@ acceptance_told None = []
 acceptance_told (Some a) = Accepted a.id a.answer a.path ∷ []
 
 -- The command of a request is that of its client's script.
-abbrev pub request_told : Group → Option Id → List Told
-request_told g None = []
-request_told g (Some id) = Sent id (command_at (script_of g id.client) id.num) ∷ []
+abbrev pub request_told : Group → Id → Told
+request_told g id = Sent id (command_at (script_of g id.client) id.num)
+
+abbrev pub requests_told : Group → List Id → List Told
+requests_told g ids = map (request_told g) ids
 
 -- The events of a telling: the acceptance first.
 abbrev pub told_of : Group → Telling → List Told
-told_of g t = acceptance_told t.accepted ++ request_told g t.sent
+told_of g t = acceptance_told t.accepted ++ requests_told g t.sent
 
 -- ---- how far the clients are
 
+-- How far a client is: the number of the request that it sent last, or 0, and the numbers of the open ones.
+pub record Progress : Type 0 where
+  pub sent : ℕ
+  pub waiting : List ℕ
+
+abbrev pub first_progress : Progress
+first_progress = record { sent = 0; waiting = [] }
+
 abbrev pub progress_of : ClientData → Progress
-progress_of s = record { sent = s.sent; waits = is_some s.attempt }
+progress_of s = record { sent = s.sent; waiting = map (λ (a : Attempt). a.num) s.attempts }
 
 -- Each client of the group is as far as it is after the records.
 pub record AreAfter (g : Group) (J : List Record) (clients : List Progress) : Type 0 where
@@ -50,9 +63,9 @@ IsOther count _ = Unit {0}
 
 -- ---- what one record shows of its client
 
--- A proxy's answer with the number of the open request.
+-- A proxy's answer with the number of an open request.
 abbrev pub answer_in : ℕ → Progress → Actor → Message → Option Acceptance
-answer_in c p (Proxy q) (Answer b) = if p.waits && (b.num == p.sent) then Some (record { id = id_at c p.sent; answer = b.answer; path = b.path }) else None
+answer_in c p (Proxy q) (Answer b) = if list_any (λ num. num == b.num) p.waiting then Some (record { id = id_at c b.num; answer = b.answer; path = b.path }) else None
 answer_in c p _ _ = None
 
 abbrev pub answer_heard : ℕ → Progress → Option Envelope → Option Acceptance
@@ -68,29 +81,45 @@ answer_of c p Alarm = None
 answer_of c p Crash = None
 answer_of c p (Restart nonce) = None
 
+-- What is accepted is no longer open.
 abbrev pub with_answer : Progress → Option Acceptance → Progress
 with_answer p None = p
-with_answer p (Some a) = record p { waits = false }
+with_answer p (Some a) = record p { waiting = filter (λ num. not (num == a.id.num)) p.waiting }
 
-abbrev pub are_any : List Parcel → Bool
-are_any [] = false
-are_any (parcel ∷ parcels) = true
+abbrev pub num_in : Message → Option ℕ
+num_in (Request b) = Some b.num
+num_in _ = None
 
--- With no request open, sends open the next one.
-abbrev pub opens : Progress → List Parcel → Bool
-opens p sends = not p.waits && are_any sends
+abbrev pub num_read : Result Envelope DecodeRefusal → Option ℕ
+num_read (Err refusal) = None
+num_read (Ok e) = num_in e.message
 
-abbrev pub with_request : Progress → Bool → Progress
-with_request p opened = if opened then record { sent = min (p.sent + 1) (2 ^ 32 - 1); waits = true } else p
+-- The number of the request that a parcel has, if it has one.
+unfoldable pub num_of : Parcel → Option ℕ
+num_of parcel = num_read (decode_of parcel.frame)
 
-abbrev pub request_in : ℕ → Progress → Bool → Option Id
-request_in c p opened = if opened then Some (id_at c p.sent) else None
+-- A request is new exactly where its number is above those of all that were sent.
+abbrev pub new_in : ℕ → Progress → Option ℕ → List Id
+new_in c p None = []
+new_in c p (Some num) = if nat_lt p.sent num then id_at c num ∷ [] else []
+
+abbrev pub with_num : Progress → Option ℕ → Progress
+with_num p None = p
+with_num p (Some num) = if nat_lt p.sent num then record { sent = num; waiting = p.waiting ++ num ∷ [] } else p
+
+-- The new requests among those with these numbers, in their order.
+abbrev pub new_among : ℕ → Progress → List (Option ℕ) → List Id
+new_among c p [] = []
+new_among c p (num ∷ nums) = new_in c p num ++ new_among c (with_num p num) nums
+
+abbrev pub with_all : Progress → List (Option ℕ) → Progress
+with_all p [] = p
+with_all p (num ∷ nums) = with_all (with_num p num) nums
 
 -- What the record of a client tells, and how far the client is then.
 abbrev pub shown : ℕ → Progress → Event → List Parcel → Telling × Progress
 shown c p e sends =
     let accepted = answer_of c p e in
     let free = with_answer p accepted in
-    let opened = opens free sends in
-    let after = with_request free opened in
-    (record { accepted = accepted; sent = request_in c after opened }, after)
+    let nums = map num_of sends in
+    (record { accepted = accepted; sent = new_among c free nums }, with_all free nums)

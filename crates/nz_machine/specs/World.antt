@@ -23,12 +23,15 @@ pub record IsAsked (request : Request) : Type 0 where
 abbrev pub request_count : List (List Request) → ℕ
 request_count scripts = fold (λ n m. n + m) 0 (map length scripts)
 
--- A cluster of 3, 5, 7 or 9 replicas, 1 to 8 proxies, and 1 to 64 clients with at most 2,000 requests, each a command.
+-- A cluster of 3, 5, 7 or 9 replicas, 1 to 8 proxies, a window of 1 to 16, and 1 to 64 clients with at most 2,000
+-- requests, each a command.
 pub record IsGroup (g : Group) : Type 0 where
   pub least_f : 1 ≤ g.f
   pub most_f : g.f ≤ 4
   pub least_proxies : 1 ≤ g.proxies
   pub most_proxies : g.proxies ≤ 8
+  pub least_window : 1 ≤ g.window
+  pub most_window : g.window ≤ 16
   pub least_clients : 1 ≤ length g.scripts
   pub most_clients : length g.scripts ≤ 64
   pub few_requests : request_count g.scripts ≤ 2000

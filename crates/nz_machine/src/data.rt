@@ -20,9 +20,10 @@ pub struct Origin {
     pub delay: u32,
 }
 
-/// An open request of a client: to which proxy it was sent last, and how many ticks ago.
+/// An open request of a client: its number, to which proxy it was sent last, and how many ticks ago.
 #[derive(Clone, Copy, Debug, PartialEq, Eq)]
 pub struct Attempt {
+    pub num: u32,
     pub proxy: u8,
     pub since: u32,
 }

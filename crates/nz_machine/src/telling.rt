@@ -1,26 +1,35 @@
 //! The events of clients, read off the records of a run.
-ghost use Rattle.std.specs.Prelude.{◌≡◌, ◌<◌, ◌∷◌, [], ℕ, List, length, IfOk, OnOk, IfSome, IfNone};
+ghost use Rattle.std.specs.Prelude.{◌≡◌, ◌<◌, ◌∷◌, ◌++◌, [], ℕ, List, length, map, IfOk, OnOk, IfSome, IfNone, ◌==◌, not, filter};
+ghost use Rattle.std.specs.List.{list_any};
 ghost use Rattle.nz_base.specs.declared.actor.Actor.TheVariants.{Client as IsClient};
 ghost use Rattle.nz_machine.specs.Events.{id_at, told_by};
 ghost use Rattle.nz_machine.specs.Schedule.{group_of};
 ghost use Rattle.nz_machine.specs.State.{Group};
-ghost use Rattle.nz_machine.specs.Telling.{told_of, AreAfter, IsOther, answer_heard, answer_of as answer_in_event, with_answer as freed_by, are_any as some_are, opens as open_next, with_request as with_next, request_in, shown};
+ghost use Rattle.nz_machine.specs.Telling.{told_of, first_progress, AreAfter, IsOther, answer_heard, answer_of as answer_in_event, with_answer, num_of as num_in_parcel, new_in, with_num, new_among, with_all, shown};
 ghost use Rattle.nz_machine.specs.World.{World};
 ghost use Rattle.nz_machine.specs.declared.event.Record.{Record as ARecord};
 
-use super::event::{Event, Parcel, Record, Sends};
+use super::event::{Event, Parcel, Record};
 use super::receiving::heard;
-use nz_base::{Actor, Id, NoMemory, Scenario};
-use nz_msg::{Envelope, Message, Path};
+use nz_base::{Actor, Id, IdList, NoMemory, Scenario};
+use nz_msg::{DecodeRefusal, Envelope, Message, Path, decode};
 use nz_store::Answer;
 use std::alloc::Global;
 use std::marker::Model;
 
-/// How far a client is: the number of the request that it sent last, or 0, and whether that one is open.
-#[derive(Clone, Copy, Debug)]
+/// How far a client is: the number of the request that it sent last, or 0, and the numbers of the open ones.
+#[derive(Debug, Drop)]
 pub struct Progress {
-    pub sent: u32,
-    pub waits: bool,
+    sent: u32,
+    waiting: Vec<u32>,
+}
+
+impl Model for Progress {
+    ghost use Rattle.nz_machine.specs.Telling.{Progress as AProgress};
+
+    ghost Value = { AProgress };
+
+    ghost view = { λ p. record { sent = p.sent; waiting = p.waiting.items } };
 }
 
 /// An answer that a client accepted.
@@ -31,12 +40,12 @@ pub struct Acceptance {
     pub path: Path,
 }
 
-/// What a record tells: an acceptance, and after it a request that was sent for the first time.
+/// What a record tells: an acceptance, and after it the requests that were sent for the first time.
 #[derive(Debug, Drop)]
 pub struct Telling {
     pub accepted: Option<Acceptance>,
-    /// Its command is that of the client's script.
-    pub sent: Option<Id>,
+    /// In rising number. Their commands are those of the client's script.
+    pub sent: IdList,
 }
 
 /// How far each client of a run is.
@@ -47,35 +56,47 @@ pub struct Clients {
 
 impl Model for Clients {
     ghost use Rattle.std.specs.Prelude.{List};
-    ghost use Rattle.nz_machine.specs.declared.telling.Progress.{Progress as AProgress};
+    ghost use Rattle.nz_machine.specs.Telling.{Progress as AProgress};
 
     ghost Value = { List AProgress };
 
     ghost view = { λ c. c.progress.items };
 }
 
+fn id_of(client: u8, num: u32) -> Id
+    ensures { result ≡ id_at client num }
+{
+    Id {
+        client: u32::from(client),
+        num,
+    }
+}
+
 impl Progress {
-    /// The request that was sent last.
-    fn id(self, client: u8) -> Id
-        ensures { result ≡ id_at client self.sent }
+    /// Before the first record.
+    fn new(alloc: Global) -> Progress
+        ensures { result ≡ first_progress }
     {
-        Id {
-            client: u32::from(client),
-            num: self.sent,
+        Progress {
+            sent: 0,
+            waiting: Vec::new(alloc),
         }
     }
 
-    /// The acceptance of the answer that was heard, where it is to the open request.
-    fn accept(self, client: u8, envelope: Option<Envelope>) -> Option<Acceptance>
-        ensures { result ≡ answer_heard client self envelope }
+    /// The acceptance of the answer that was heard, where it is to an open request.
+    fn accept(&self, client: u8, envelope: Option<Envelope>) -> Option<Acceptance>
+        ensures { result ≡ answer_heard client self.now envelope }
     {
         let Some(envelope) = envelope else {
             return None;
         };
         match (envelope.from, envelope.message) {
-            (Actor::Proxy(_), Message::Answer(body)) if self.waits && body.num == self.sent => {
+            (Actor::Proxy(_), Message::Answer(body)) => {
+                if !self.is_waiting(body.num) {
+                    return None;
+                }
                 Some(Acceptance {
-                    id: self.id(client),
+                    id: id_of(client, body.num),
                     answer: body.answer,
                     path: body.path,
                 })
@@ -84,60 +105,84 @@ impl Progress {
         }
     }
 
-    fn with_answer(self, accepted: &Option<Acceptance>) -> Progress
-        ensures { result ≡ freed_by self accepted.now }
+    fn is_waiting(&self, num: u32) -> bool
+        ensures { result ≡ list_any (λ n. n == num) self.now.waiting }
     {
-        match accepted {
-            None => self,
-            Some(_) => Progress {
-                sent: self.sent,
-                waits: false,
-            },
+        self.waiting.iter().any(|waiting| *waiting == num)
+    }
+
+    /// What is accepted is no longer open.
+    fn note_answer(&mut self, accepted: &Option<Acceptance>)
+        ensures { self.new ≡ with_answer self.old accepted.now }
+    {
+        if let Some(acceptance) = accepted {
+            drop_num(&mut self.waiting, acceptance.id.num);
         }
     }
 
-    fn opens(self, sends: &Sends) -> bool
-        ensures { result ≡ open_next self sends.now }
+    /// A request with this number was sent, which may be new.
+    fn note_num(&mut self, client: u8, num: Option<u32>, ids: &mut IdList) -> Result<(), NoMemory>
+        ensures after { OnOk result (self.new ≡ with_num self.old num) }
+        ensures new { OnOk result (ids.new ≡ ids.old ++ new_in client self.old num) }
     {
-        !self.waits && are_any(sends.as_slice())
-    }
-
-    fn with_request(self, opened: bool) -> Progress
-        ensures { result ≡ with_next self opened }
-    {
-        if opened {
-            Progress {
-                sent: self.sent.saturating_add(1),
-                waits: true,
-            }
-        } else {
-            self
+        let Some(num) = num else {
+            return Ok(());
+        };
+        if num <= self.sent {
+            return Ok(());
         }
+        ids.push(id_of(client, num))?;
+        self.waiting.push(num)?;
+        self.sent = num;
+        Ok(())
     }
 
-    fn request(self, client: u8, opened: bool) -> Option<Id>
-        ensures { result ≡ request_in client self opened }
+    /// The new requests among those that were sent.
+    fn note_sends(
+        &mut self,
+        alloc: Global,
+        client: u8,
+        sends: &[Parcel],
+    ) -> Result<IdList, NoMemory>
+        ensures after { OnOk result (self.new ≡ with_all self.old (map num_in_parcel sends.now)) }
+        ensures new { IfOk result (λ ids. ids ≡ new_among client self.old (map num_in_parcel sends.now)) }
     {
-        if opened { Some(self.id(client)) } else { None }
+        let mut ids = IdList::new(alloc);
+        for parcel in sends {
+            self.note_num(client, num_of(alloc, parcel)?, &mut ids)?;
+        }
+        Ok(ids)
     }
 }
 
-fn are_any(sends: &[Parcel]) -> bool
-    ensures { result ≡ some_are sends.now }
+fn drop_num(nums: &mut Vec<u32>, num: u32)
+    ensures { nums.new.items ≡ filter (λ n. not (n == num)) nums.old.items }
 {
-    match sends {
-        [] => false,
-        _ => true,
+    nums.retain(|other| *other != num);
+}
+
+/// The number of the request that a parcel has, if it has one.
+#[tactic(auto, unfolding(crate::specs::Telling::num_of))]
+fn num_of(alloc: Global, parcel: &Parcel) -> Result<Option<u32>, NoMemory>
+    ensures { IfOk result (λ num. num ≡ num_in_parcel parcel.now) }
+{
+    match decode(alloc, parcel.frame.as_slice()) {
+        Err(DecodeRefusal::NoMemory) => Err(NoMemory),
+        Err(_) => Ok(None),
+        Ok(envelope) => match envelope.message {
+            Message::Request(body) => Ok(Some(body.num)),
+            _ => Ok(None),
+        },
     }
 }
 
 fn answer_of(
     alloc: Global,
     client: u8,
-    progress: Progress,
+    progress: &Progress,
     event: &Event,
 ) -> Result<Option<Acceptance>, NoMemory>
-    ensures { IfOk result (λ accepted. accepted ≡ answer_in_event client progress event.now) }
+    ensures { IfOk result (λ accepted. accepted ≡ answer_in_event client progress.now event.now) }
 {
     match event {
         Event::Deliver(parcel) => {
@@ -150,21 +195,20 @@ fn answer_of(
     }
 }
 
-/// What a record of the client tells, and how far the client is then.
+/// What a record of the client tells.
 fn read(
     alloc: Global,
     client: u8,
-    before: Progress,
+    progress: &mut Progress,
     next: &Record,
-) -> Result<(Telling, Progress), NoMemory>
-    ensures { IfOk result (λ x. x ≡ shown client before next.now.event next.now.sends) }
+) -> Result<Telling, NoMemory>
+    ensures told { IfOk result (λ telling. telling ≡ (shown client progress.old next.now.event next.now.sends).0) }
+    ensures after { OnOk result (progress.new ≡ (shown client progress.old next.now.event next.now.sends).1) }
 {
-    let accepted = answer_of(alloc, client, before, &next.event)?;
-    let free = before.with_answer(&accepted);
-    let opened = free.opens(&next.sends);
-    let after = free.with_request(opened);
-    let sent = after.request(client, opened);
-    Ok((Telling { accepted, sent }, after))
+    let accepted = answer_of(alloc, client, progress, &next.event)?;
+    progress.note_answer(&accepted);
+    let sent = progress.note_sends(alloc, client, next.sends.as_slice())?;
+    Ok(Telling { accepted, sent })
 }
 
 impl Clients {
@@ -172,13 +216,11 @@ impl Clients {
     pub fn new(alloc: Global, scenario: &Scenario) -> Result<Clients, NoMemory>
         ensures { IfOk result (λ clients. AreAfter (group_of scenario.now) [] clients) }
     {
-        let first = Progress {
-            sent: 0,
-            waits: false,
-        };
-        Ok(Clients {
-            progress: vec![in alloc; first; scenario.scripts.len() as usize]?,
-        })
+        let mut progress = Vec::new(alloc);
+        for _ in 0..scenario.scripts.len() {
+            progress.push(Progress::new(alloc))?;
+        }
+        Ok(Clients { progress })
     }
 
     /// The number of the actor, where it is one of these clients.
@@ -207,9 +249,7 @@ impl Clients {
         ensures after { OnOk result ((g : Group) (J : List ARecord) → World g (next.now ∷ J) → AreAfter g J self.old → AreAfter g (next.now ∷ J) self.new) }
     {
         let place = client as usize;
-        let (telling, after) = read(alloc, client, self.progress[place], next)?;
-        self.progress[place] = after;
-        Ok(telling)
+        read(alloc, client, &mut self.progress[place], next)
     }
 
     /// What the next record of a run tells, of which the earlier ones were read.
@@ -221,7 +261,7 @@ impl Clients {
             Some(client) => self.tell_own(alloc, client, next),
             None => Ok(Telling {
                 accepted: None,
-                sent: None,
+                sent: IdList::new(alloc),
             }),
         }
     }

@@ -3,9 +3,9 @@
 use super::*;
 use bytes::Bytes;
 use nz_base::{
-    Actor, Cluster, FaultList, NoMemory, RequestList, Scenario, ScriptList, SkewList, TryCopy,
+    Actor, Blob, Cluster, FaultList, NoMemory, RequestList, Scenario, ScriptList, SkewList, TryCopy,
 };
-use nz_msg::{AnswerBody, Message, Path, ViewAskBody, encode};
+use nz_msg::{AnswerBody, Message, Path, RequestBody, ViewAskBody, encode};
 use nz_store::Answer;
 use std::alloc::Global;
 use std::test::Fail;
@@ -71,11 +71,26 @@ fn copies_an_event_of_each_sort(rt: HostRuntime) -> Result<(), Fail> {
     Ok(())
 }
 
-// A record of client 0 in tick 1, with so many sends.
-fn record(alloc: Global, event: Event, count: u32) -> Result<Record, NoMemory> {
+// The client's request of this number, to proxy 0.
+fn request(alloc: Global, num: u32) -> Result<Parcel, Fail> {
+    let command = Blob::from_slice(alloc, &[2, 1, b'a'])?;
+    let message = Message::Request(RequestBody { num, command });
+    if !message.is_valid() {
+        return Err("no message".into());
+    }
+    let (from, to) = (Actor::Client(0), Actor::Proxy(0));
+    Ok(Parcel {
+        from,
+        to,
+        frame: encode(alloc, from, to, &message)?,
+    })
+}
+
+// A record of client 0 in tick 1, which sends the requests of these numbers.
+fn record(alloc: Global, event: Event, nums: &[u32]) -> Result<Record, Fail> {
     let mut sends = Sends::new(alloc);
-    for _ in 0..count {
-        sends.push(parcel(alloc, 1, 0, &[])?)?;
+    for num in nums {
+        sends.push(request(alloc, *num)?)?;
     }
     Ok(Record {
         tick: 1,
@@ -114,6 +129,7 @@ fn clients(alloc: Global) -> Result<Clients, Fail> {
         cluster,
         proxies: 1,
         clients: 1,
+        window: 2,
         ticks: 40,
         skews: SkewList::new(alloc),
         scripts,
@@ -126,22 +142,28 @@ fn clients(alloc: Global) -> Result<Clients, Fail> {
 fn tells_what_the_records_of_a_client_show(rt: HostRuntime) -> Result<(), Fail> {
     let alloc = rt.alloc();
     let mut clients = clients(alloc)?;
-    // What happens, how many parcels the client sends, and the numbers of the request that it accepts an
-    // answer to and of the one that it sends.
-    let table = [
-        (Event::Tick(1_000), 0, None, None),
-        (Event::Tick(2_000), 1, None, Some(1)),
-        (Event::Tick(3_000), 1, None, None),
-        (answer(alloc, 2)?, 0, None, None),
-        (answer(alloc, 1)?, 1, Some(1), Some(2)),
-        (answer(alloc, 1)?, 0, None, None),
-        (answer(alloc, 2)?, 0, Some(2), None),
-        (Event::Alarm, 0, None, None),
-        (Event::Tick(4_000), 1, None, Some(3)),
+    // What happens, the numbers of the requests that the client sends, that of the request that it accepts an
+    // answer to, and those of the requests that it sends for the first time.
+    let table: [(Event, &[u32], Option<u32>, &[u32]); 9] = [
+        (Event::Tick(1_000), &[], None, &[]),
+        (Event::Tick(2_000), &[1, 2], None, &[1, 2]),
+        (Event::Tick(3_000), &[1], None, &[]),
+        (answer(alloc, 3)?, &[], None, &[]),
+        (answer(alloc, 2)?, &[3], Some(2), &[3]),
+        (answer(alloc, 2)?, &[], None, &[]),
+        (answer(alloc, 1)?, &[], Some(1), &[]),
+        (Event::Alarm, &[], None, &[]),
+        (Event::Tick(4_000), &[3, 4], None, &[4]),
     ];
-    for (event, count, accepted, sent) in table {
-        let telling = clients.tell(alloc, &record(alloc, event, count)?)?;
-        assert_eq!(rt; telling.sent.map(|id| id.num), sent);
+    for (event, sends, accepted, opened) in table {
+        let telling = clients.tell(alloc, &record(alloc, event, sends)?)?;
+        assert_eq!(rt; telling.sent.as_slice().len(), opened.len());
+        for (place, num) in opened.iter().enumerate() {
+            let Some(id) = telling.sent.as_slice().get(place) else {
+                return Err("a request is missing".into());
+            };
+            assert_eq!(rt; id.num, *num);
+        }
         match (telling.accepted, accepted) {
             (None, None) => {}
             (Some(acceptance), Some(num)) => {

@@ -2,6 +2,7 @@ pub mod Codecs
 pub mod Fields
 pub mod Messages
 pub mod Envelopes
+pub mod Follows
 pub mod Loops
 pub mod Writes
 pub mod Valid

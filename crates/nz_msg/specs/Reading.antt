@@ -1,5 +1,9 @@
 -- What a reader of the code gives, against the same on lists.
-use Rattle.std.specs.Prelude.{◌≡◌, ℕ, ◌-◌, ◌≤◌, Result, Ok, Err}
+use Rattle.std.specs.Prelude.{◌≡◌, ℕ, ◌-◌, ◌≤◌, List, map, Result, Ok, Err}
+use Rattle.nz_base.specs.declared.key.Id.{Id}
+use Rattle.nz_base.specs.declared.key.Entry.{Entry}
+use Rattle.nz_base.specs.Key.{id_of}
+use Rattle.nz_base.specs.Log.{keys_of, AreRising}
 use Rattle.nz_msg.specs.declared.fault.Fault.{Fault}
 use Rattle.nz_msg.specs.declared.fault.Fault.TheVariants as faults
 use Rattle.nz_msg.specs.declared.refusal.DecodeRefusal.{DecodeRefusal}
@@ -23,3 +27,8 @@ IsPlaced size (faults.Bad left) = left ≤ size
 abbrev pub placed : ℕ → Fault → DecodeRefusal
 placed size faults.NoMemory = refusals.NoMemory
 placed size (faults.Bad left) = refusals.BadBody (size - left)
+
+-- these are the ids of entries in the order of their keys
+pub record AreNoted (entries : List Entry) (ids : List Id) : Type 0 where
+  pub rising : AreRising (keys_of entries)
+  pub ids_are : ids ≡ map (λ e. id_of e.key) entries

@@ -45,3 +45,11 @@ impl From<nz_store::NoMemory> for Fault {
         Fault::NoMemory
     }
 }
+
+impl<T: Drop> From<AllocFailed<T>> for Fault {
+    ghost from_gives = { λ _ fault. fault ≡ NoMemory };
+
+    fn from(_: AllocFailed<T>) -> Fault {
+        Fault::NoMemory
+    }
+}

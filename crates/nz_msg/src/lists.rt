@@ -1,16 +1,17 @@
 //! Reading of lists, whose count stands before them.
 
-ghost use Rattle.std.specs.Prelude.{◌≡◌, ◌<◌, ◌≤◌, ◌/◌, [], ◌&&◌, not, take, length, min, IfOk};
+ghost use Rattle.std.specs.Prelude.{◌≡◌, ◌<◌, ◌≤◌, ◌/◌, [], ◌&&◌, not, take, length, min, IfOk, IsTrue};
 ghost use Rattle.std.specs.List.{list_all};
 ghost use Rattle.nz_base.specs.Key.{key_below, id_of, id_eq};
 ghost use Rattle.nz_cv.specs.Vectors.{IsClusterSize};
 ghost use Rattle.nz_msg.specs.Codec.{items_at, limited, number};
 ghost use Rattle.nz_msg.specs.Fields.{u32, id, is_cluster_size as is_cluster_size_test, vector, may_follow as may_follow_by, next_key_by, next_key, next_entry, ids, keys, entries};
-ghost use Rattle.nz_msg.specs.Reading.{Gives};
+ghost use Rattle.nz_msg.specs.Reading.{Gives, AreNoted};
 
 use super::fault::Fault;
 use super::reading::{command_at, id_at, key_at, u8_at, u8_within, u32_at, u32_within};
-use nz_base::{Entry, EntryList, IdList, Key, KeyList};
+use indexmap::IndexSet;
+use nz_base::{Entry, EntryList, Id, IdList, Key, KeyList};
 use nz_cv::CrashVector;
 use std::alloc::Global;
 
@@ -135,12 +136,29 @@ fn next_key_at<'a>(before: &[Key], bytes: &'a [u8]) -> Result<(Key, &'a [u8]), F
     Ok((key, rest))
 }
 
+// Whether an entry with this key may come next: the last entry has the greatest key so far.
+fn may_be_next(before: &[Entry], ids: &IndexSet<Id>, key: &Key) -> bool
+    requires { AreNoted before.now ids.now.keys }
+    ensures { result ≡ may_follow_by (λ e. e.key) before.now key.now }
+{
+    match before.last() {
+        Some(last) => last.key.is_below(key) && !ids.contains(&key.id()),
+        None => true,
+    }
+}
+
 #[tactic(auto, unfolding(crate::specs::Codec::limited_at))]
-fn next_entry_key_at<'a>(before: &[Entry], bytes: &'a [u8]) -> Result<(Key, &'a [u8]), Fault>
-    ensures { Gives (λ x. (x.0, x.1.now)) result ((next_key_by (λ e. e.key) before.now).get bytes.now) }
+fn next_entry_key_at<'a>(
+    before: &[Entry],
+    ids: &IndexSet<Id>,
+    bytes: &'a [u8],
+) -> Result<(Key, &'a [u8]), Fault>
+    requires { AreNoted before.now ids.now.keys }
+    ensures value { Gives (λ x. (x.0, x.1.now)) result ((next_key_by (λ e. e.key) before.now).get bytes.now) }
+    ensures follows { IfOk result (λ x. IsTrue (may_follow_by (λ e. e.key) before.now x.0)) }
 {
     let (key, rest) = key_at(bytes)?;
-    if !may_follow_entries(before, &key) {
+    if !may_be_next(before, ids, &key) {
         return Err(Fault::at(bytes));
     }
     Ok((key, rest))
@@ -149,11 +167,14 @@ fn next_entry_key_at<'a>(before: &[Entry], bytes: &'a [u8]) -> Result<(Key, &'a 
 fn next_entry_at<'a>(
     alloc: Global,
     before: &[Entry],
+    ids: &IndexSet<Id>,
     bytes: &'a [u8],
 ) -> Result<(Entry, &'a [u8]), Fault>
-    ensures { Gives (λ x. (x.0, x.1.now)) result ((next_entry before.now).get bytes.now) }
+    requires { AreNoted before.now ids.now.keys }
+    ensures value { Gives (λ x. (x.0, x.1.now)) result ((next_entry before.now).get bytes.now) }
+    ensures follows { IfOk result (λ x. IsTrue (may_follow_by (λ e. e.key) before.now x.0.key)) }
 {
-    let (key, rest) = next_entry_key_at(before, bytes)?;
+    let (key, rest) = next_entry_key_at(before, ids, bytes)?;
     let (command, rest) = command_at(alloc, rest)?;
     Ok((Entry { key, command }, rest))
 }
@@ -181,10 +202,13 @@ pub fn keys_at(alloc: Global, bytes: &[u8]) -> Result<(KeyList, &[u8]), Fault>
 fn list_of_entries(alloc: Global, count: u32, bytes: &[u8]) -> Result<(EntryList, &[u8]), Fault>
     ensures { Gives (λ x. (x.0, x.1.now)) result (items_at next_entry [] count bytes.now) }
 {
-    let mut entries = EntryList::with_capacity(alloc, room_for(count, ENTRY_SIZE, bytes))?;
+    let room = room_for(count, ENTRY_SIZE, bytes);
+    let mut entries = EntryList::with_capacity(alloc, room)?;
+    let mut ids = IndexSet::with_capacity(alloc, room as usize)?;
     let mut rest = bytes;
     for _ in 0..count {
-        let (entry, after) = next_entry_at(alloc, entries.as_slice(), rest)?;
+        let (entry, after) = next_entry_at(alloc, entries.as_slice(), &ids, rest)?;
+        ids.insert(entry.key.id())?;
         entries.push(entry)?;
         rest = after;
     }

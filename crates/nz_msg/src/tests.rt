@@ -218,3 +218,37 @@ fn bodies_and_their_first_fault(rt: HostRuntime) -> Result<(), Fail> {
     }
     Ok(())
 }
+
+// Up to the first entry: a state-tell of 2,000 entries.
+const LONG_LOG: &str =
+    "0000a43b0112000100020000000000000004000000000000000a0300000000000000000000000500000000000007d0";
+
+fn long_log() -> &'static str {
+    LONG_LOG
+}
+
+// The frame of 2,000 entries of 21 bytes, the last of which is the last client's request by this number.
+fn log_of(alloc: Global, last: u32) -> Result<Vec<u8>, NoMemory> {
+    let mut bytes = bytes_of(alloc, long_log())?;
+    for place in 0..2000u32 {
+        let num = if place == 1999 { last } else { place + 1 };
+        bytes.extend_from_slice(&u64::from(place + 1).to_be_bytes())?;
+        bytes.extend_from_slice(&(place % 16).to_be_bytes())?;
+        bytes.extend_from_slice(&num.to_be_bytes())?;
+        bytes.extend_from_slice(&[0, 3, 2, 1, 97])?;
+    }
+    Ok(bytes)
+}
+
+// An id that is repeated stands in the last entry, 42,026 bytes from the start.
+#[test]
+fn a_long_log(rt: HostRuntime) -> Result<(), Fail> {
+    let alloc = rt.alloc();
+    let bytes = log_of(alloc, 2000)?;
+    let same = again(alloc, &bytes).ok_or("the frame is decoded")?;
+    assert_eq!(rt; same.as_slice(), bytes.as_slice());
+    let repeated = log_of(alloc, 16)?;
+    let place = 42_026;
+    assert!(rt; is_refused(alloc, &repeated, DecodeRefusal::BadBody { place }));
+    Ok(())
+}

@@ -24,7 +24,7 @@ pub record IsKept (f me clock : ℕ) (samples : List (List ℕ)) (entries : List
 
 -- A group with this cluster. No rule of a proxy asks for more of it.
 abbrev pub group_of : ℕ → Group
-group_of f = record { f = f; proxies = 0; scripts = [] }
+group_of f = record { f = f; proxies = 0; window = 0; scripts = [] }
 
 -- One proxy, maybe in another state.
 pub record IsSame (a b : ProxySeat) : Type 0 where

@@ -27,7 +27,7 @@ cast_begins s cast play replicas proxies clients =
       proxies = all_begin proxy_node (λ (p : ProxyView). p.live) ProxyFits g actors.Proxy (new_proxy s.cluster) s.proxies cast.proxies.items proxies
           (λ k lt. record { stands = ap (λ (x : _). let n : Node = record { actor = actors.Proxy k; state = x } in n) (begin_at g (actors.Proxy k)); lives = refl; is_of = refl });
       clients = all_begin client_node (λ (c : ClientView). c.live) ClientFits g actors.Client (new_client s) s.clients cast.clients.items clients
-          (λ k lt. record { stands = ap (λ (x : _). let n : Node = record { actor = actors.Client k; state = x } in n) (begin_at g (actors.Client k)); lives = refl; is_of = record { proxies = refl; script = refl } });
+          (λ k lt. record { stands = ap (λ (x : _). let n : Node = record { actor = actors.Client k; state = x } in n) (begin_at g (actors.Client k)); lives = refl; is_of = record { proxies = refl; window = refl; script = refl } });
       replica_count = long_begin (new_replica s.cluster) (replica_count s.cluster) cast.replicas.items replicas;
       proxy_count = long_begin (new_proxy s.cluster) s.proxies cast.proxies.items proxies;
       client_count = long_begin (new_client s) s.clients cast.clients.items clients ∙ sym play.scripts;

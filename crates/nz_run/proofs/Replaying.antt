@@ -5,6 +5,7 @@ use Rattle.std.specs.List.{AllByRecursion, sum_by}
 use Rattle.std.proofs.lemmas.Bool.{eqb-true}
 use Rattle.std.proofs.lemmas.Bool.Decides.{nat_tests}
 use Rattle.std.proofs.lemmas.Grind.{reverse_onto}
+use Rattle.std.proofs.lemmas.List.{reverse-reverse}
 use Rattle.std.proofs.lemmas.List.Elements.{filter-append}
 use Rattle.std.proofs.lemmas.List.Sums.{sum_by-append}
 use Rattle.std.proofs.lemmas.List.Sorted.{IsPermutation-map, IsPermutation-reverse, sum_by-IsPermutation}
@@ -24,7 +25,7 @@ use Rattle.nz_machine.specs.World.{state_after, World}
 use Rattle.nz_machine.specs.Schedule.{group_of, item_of, due, ScheduledTo, IsPlayable}
 use Rattle.nz_machine.proofs.Runs.{acts, stays, on_cond}
 use Rattle.nz_fabric.specs.Replays.{IsReplay}
-use Rattle.nz_actor.specs.Lanes.{of_actor}
+use Rattle.nz_fabric.specs.Rows.{of_actor}
 use Rattle.nz_machine.proofs.Each.{all_append}
 use Rattle.nz_run.specs.Stages.{AllReplay}
 use Rattle.nz_run.proofs.Fine.{IsFine, ItemIsFine}
@@ -179,7 +180,7 @@ reverse_by a r own turned e =
     (reverse_onto own r [] ∙ ap (λ (L : List Record). L ++ r ∷ []) e) (e ∙ sym (append-nil turned))
 
 -- the records of an actor, the newest first
-pub reverse_own : (a : Actor) (rs : List Record) → reverse (of_actor a rs) ≡ of_actor a (reverse rs)
+reverse_own : (a : Actor) (rs : List Record) → reverse (of_actor a rs) ≡ of_actor a (reverse rs)
 reverse_own a [] = refl
 reverse_own a (r ∷ rs) =
     let own = of_actor a rs in
@@ -187,12 +188,18 @@ reverse_own a (r ∷ rs) =
     let ih = reverse_own a rs in
     reverse_by a r own (of_actor a (reverse rs)) ih ∙ sym turned ∙ ap (of_actor a) (sym (reverse_onto rs r []))
 
+-- a lane, the oldest first or the newest first
+pub own_newest : (a : Actor) (J lane : List Record) → (lane ≡ of_actor a (reverse J) → reverse lane ≡ of_actor a J) × (reverse lane ≡ of_actor a J → lane ≡ of_actor a (reverse J))
+own_newest a J lane =
+    let turned : reverse (of_actor a (reverse J)) ≡ of_actor a J = reverse_own a (reverse J) ∙ ap (of_actor a) (reverse-reverse J) in (
+      (λ e. ap reverse {x = lane} {y = of_actor a (reverse J)} e ∙ turned),
+      (λ e. sym (reverse-reverse lane) ∙ ap reverse {x = reverse lane} {y = reverse (of_actor a (reverse J))} (e ∙ sym turned) ∙ reverse-reverse (of_actor a (reverse J))),
+    )
+
 -- each sort's actors are all
-pub all_replay : (s : Scenario) (rs : List Record) → IsPlayable s
-    → ((k : ℕ) → k < replica_count s.cluster → IsReplay (group_of s) (actors.Replica k) (reverse (of_actor (actors.Replica k) rs)))
-    → ((k : ℕ) → k < s.proxies → IsReplay (group_of s) (actors.Proxy k) (reverse (of_actor (actors.Proxy k) rs)))
-    → ((k : ℕ) → k < s.clients → IsReplay (group_of s) (actors.Client k) (reverse (of_actor (actors.Client k) rs))) → AllReplay (group_of s) (reverse rs)
-all_replay s rs play replicas proxies clients (actors.Replica k) lt = subst (IsReplay (group_of s) (actors.Replica k)) (reverse_own (actors.Replica k) rs) (replicas k lt)
-all_replay s rs play replicas proxies clients (actors.Proxy k) lt = subst (IsReplay (group_of s) (actors.Proxy k)) (reverse_own (actors.Proxy k) rs) (proxies k lt)
-all_replay s rs play replicas proxies clients (actors.Client k) lt =
-    subst (IsReplay (group_of s) (actors.Client k)) (reverse_own (actors.Client k) rs) (clients k (let scripts = play.scripts in omega (arith, lt, scripts)))
+pub all_replay : (s : Scenario) (J : List Record) → IsPlayable s → ((k : ℕ) → k < replica_count s.cluster → IsReplay (group_of s) (actors.Replica k) (of_actor (actors.Replica k) J))
+    → ((k : ℕ) → k < s.proxies → IsReplay (group_of s) (actors.Proxy k) (of_actor (actors.Proxy k) J)) → ((k : ℕ) → k < s.clients → IsReplay (group_of s) (actors.Client k) (of_actor (actors.Client k) J))
+    → AllReplay (group_of s) J
+all_replay s J play replicas proxies clients (actors.Replica k) lt = replicas k lt
+all_replay s J play replicas proxies clients (actors.Proxy k) lt = proxies k lt
+all_replay s J play replicas proxies clients (actors.Client k) lt = clients k (let scripts = play.scripts in omega (arith, lt, scripts))

@@ -66,7 +66,7 @@ abbrev pub new_proxy : ℕ → ℕ → ProxyView
 new_proxy f me = record { seat = record { f = f; me = me; state = first_proxy f }; live = true }
 
 abbrev pub new_client : Scenario → ℕ → ClientView
-new_client s me = record { seat = record { me = me; proxies = s.proxies; script = script_of (group_of s) me; state = first_client }; live = true }
+new_client s me = record { seat = record { me = me; proxies = s.proxies; window = s.window; script = script_of (group_of s) me; state = first_client }; live = true }
 
 -- Every actor of the group has its core.
 pub record IsCast (g : Group) (J : List Record) (cast : Cast) : Type 0 where

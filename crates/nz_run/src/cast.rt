@@ -51,7 +51,7 @@ fn make_client(alloc: Global, scenario: &Scenario, me: u8) -> Result<Client, NoM
     ensures { IfOk result (λ client. client ≡ new_client scenario.now me) }
 {
     let script = scenario.scripts.get(u32::from(me)).copy(alloc)?;
-    Ok(Client::new(alloc, me, scenario.proxies, script))
+    Ok(Client::new(alloc, me, scenario.proxies, scenario.window, script))
 }
 
 fn make_clients(alloc: Global, scenario: &Scenario) -> Result<Vec<Client>, NoMemory>

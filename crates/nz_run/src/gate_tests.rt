@@ -65,6 +65,7 @@ fn three_deadlines(alloc: Global) -> Result<Scenario, Fail>
         cluster: Cluster::new(1).ok_or("1 is an f")?,
         proxies: 1,
         clients: 3,
+        window: 1,
         ticks: 30,
         skews: SkewList::new(alloc),
         scripts: scripts(alloc)?,

@@ -17,7 +17,6 @@ pub fn deal<N: Name>(whole: Share<N>, workers: &mut Vec<Worker<N>>, count: u8)
     ensures len { vec_len workers.new ≡ count }
     ensures idle { All (λ w. w.share.amount ≡ 0) workers.new.items }
     ensures parts { sum_by (λ w. w.share.parts) workers.new.items ≡ 16 }
-    ensures capacity { vec_capacity workers.new ≡ vec_capacity workers.old }
 {
     let mut rest = whole;
     'dealt: for number in 1..count {
@@ -31,12 +30,12 @@ pub fn deal<N: Name>(whole: Share<N>, workers: &mut Vec<Worker<N>>, count: u8)
 }
 
 /// Puts the shares together again.
-pub fn gather<N: Name>(workers: &mut Vec<Worker<N>>) -> Share<N>
-    requires idle { All (λ w. w.share.amount ≡ 0) workers.old.items }
-    requires parts { sum_by (λ w. w.share.parts) workers.old.items ≡ 16 }
-    ensures whole { (result.parts ≡ 16) × (result.amount ≡ 0) }
-    ensures empty { (workers.new.items ≡ []) × (vec_capacity workers.new ≡ vec_capacity workers.old) }
+pub fn gather<N: Name>(workers: Vec<Worker<N>>) -> Share<N>
+    requires idle { All (λ w. w.share.amount ≡ 0) workers.items }
+    requires parts { sum_by (λ w. w.share.parts) workers.items ≡ 16 }
+    ensures { (result.parts ≡ 16) × (result.amount ≡ 0) }
 {
+    let mut workers = workers;
     let Some(first) = workers.pop() else {
         unreachable!();
     };

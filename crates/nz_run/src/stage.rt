@@ -1,17 +1,18 @@
-ghost use Rattle.std.specs.Prelude.{◌≡◌, ◌+◌, ◌<◌, ◌↔◌, All, ℕ, IfOk, IsTrue, reverse};
+ghost use Rattle.std.specs.Prelude.{◌≡◌, ◌+◌, ◌<◌, ◌↔◌, All, ℕ, IfOk, IsTrue};
 ghost use Rattle.nz_machine.specs.Schedule.{group_of, IsPlayable};
 ghost use Rattle.nz_fabric.specs.Dues.{named};
 ghost use Rattle.nz_fabric.specs.Replays.{IsReplay};
-ghost use Rattle.nz_actor.specs.Lanes.{of_actor};
+ghost use Rattle.nz_fabric.specs.Rows.{of_actor};
+ghost use Rattle.nz_fabric.specs.States.{records_of};
 ghost use Rattle.nz_run.specs.Stages.{AllReplay, AreOwn, HasNotStepped, IsOwn};
 
 use crate::cast::Cast;
-use nz_actor::{ActorCell, ActorState, agrees};
+use nz_actor::{ActorCell, ActorState};
 use nz_base::{Actor, NoMemory, Scenario};
 use nz_client::Client;
 use nz_edge::Gate;
 use nz_fabric::{Fabric, FabricState, Name, Share, Sort, Turn};
-use nz_machine::{Core, Record};
+use nz_machine::Core;
 use nz_proxy::Proxy;
 use nz_replica::Replica;
 use std::alloc::Global;
@@ -86,45 +87,60 @@ fn settle_at<N: Name, C: Core>(
     }
 }
 
-/// The states, each out of its cell.
-fn states_of<N: Name, C: Core + Drop>(
+/// The states, while no other thread has the cells.
+fn states_of<'a, N: Name, C: Core>(
     alloc: Global,
-    cells: Vec<ActorCell<N, C>>,
-) -> Result<Vec<ActorState<N, C>>, NoMemory> {
+    cells: &'a mut [ActorCell<N, C>],
+) -> Result<Vec<&'a ActorState<N, C>>, NoMemory> {
     let mut states = Vec::new(alloc);
     for cell in cells {
-        states.push(cell.into_state())?;
+        let state: &'a ActorState<N, C> = cell.state();
+        states.push(state)?;
     }
     Ok(states)
 }
 
 /// Whether it is the state of this actor, with the records that the journal has of the actor.
-fn is_own<N: Name, C: Core>(records: &[Record], state: &ActorState<N, C>, actor: Actor) -> bool
-    ensures own { IsTrue result ↔ IsOwn records.now actor state.now }
-    ensures replay { IsTrue result → IsReplay (group_of N.scenario) actor (reverse (of_actor actor records.now)) }
+fn is_own<N: Name, C: Core>(fabric: &FabricState<N>, state: &ActorState<N, C>, actor: Actor) -> bool
+    ensures own { IsTrue result ↔ IsOwn (records_of fabric.now.run) actor state.now }
+    ensures replay { IsTrue result → IsReplay (group_of N.scenario) actor (of_actor actor (records_of fabric.now.run)) }
 {
-    state.actor().is(&actor) && agrees(records, state.lane(), actor)
+    state.actor().is(&actor) && fabric.same_row(actor, state.lane())
 }
 
-/// Whether these are the states of the first actors of a sort, with the records that the journal has of them.
+/// Whether these are the states of the actors of a sort, with the records that the journal has of them.
 fn all_agree<N: Name, C: Core>(
-    records: &[Record],
-    states: &[ActorState<N, C>],
+    fabric: &FabricState<N>,
+    states: &[&ActorState<N, C>],
     sort: Sort,
     count: u8,
 ) -> bool
-    ensures own { IsTrue result ↔ AreOwn records.now (named sort) count states.now }
-    ensures replay { IsTrue result → (k : ℕ) → k < count → IsReplay (group_of N.scenario) (named sort k) (reverse (of_actor (named sort k) records.now)) }
+    ensures own { IsTrue result ↔ AreOwn (λ s. s.now) (records_of fabric.now.run) (named sort) count states.now }
+    ensures replay { IsTrue result → (k : ℕ) → k < count → IsReplay (group_of N.scenario) (named sort k) (of_actor (named sort k) (records_of fabric.now.run)) }
 {
     if states.len() != usize::from(count) {
         return false;
     }
     'states: for place in 0..count {
-        if !is_own(records, &states[usize::from(place)], sort.actor(place)) {
+        if !is_own(fabric, states[usize::from(place)], sort.actor(place)) {
             return false;
         }
     }
     true
+}
+
+/// The same, of the states under their locks.
+fn cells_agree<N: Name, C: Core>(
+    alloc: Global,
+    fabric: &FabricState<N>,
+    cells: &mut [ActorCell<N, C>],
+    sort: Sort,
+    count: u8,
+) -> Result<bool, NoMemory>
+    ensures { IfOk result (λ agree. IsTrue agree → (k : ℕ) → k < count → IsReplay (group_of N.scenario) (named sort k) (of_actor (named sort k) (records_of fabric.now.run))) }
+{
+    let states = states_of(alloc, cells)?;
+    Ok(all_agree(fabric, states.as_slice(), sort, count))
 }
 
 impl<N: Name> Stage<N> {
@@ -186,34 +202,30 @@ impl<N: Name> Stage<N> {
 
     /// Whether each actor of the scenario has the records that the actor itself kept.
     pub fn agrees(
-        self,
+        &mut self,
         alloc: Global,
-        records: &[Record],
+        fabric: &FabricState<N>,
         scenario: &Scenario,
     ) -> Result<bool, NoMemory>
         requires scenario { scenario.now ≡ N.scenario }
         requires playable { IsPlayable scenario.now }
-        ensures { IfOk result (λ agree. IsTrue agree → AllReplay (group_of scenario.now) (reverse records.now)) }
+        ensures { IfOk result (λ agree. IsTrue agree → AllReplay (group_of scenario.now) (records_of fabric.now.run)) }
     {
-        let Stage {
+        let replicas = self.replicas.as_mut_slice();
+        if !cells_agree(
+            alloc,
+            fabric,
             replicas,
-            proxies,
-            clients,
-        } = self;
-        let replicas = states_of(alloc, replicas)?;
-        let proxies = states_of(alloc, proxies)?;
-        let clients = states_of(alloc, clients)?;
-        if !all_agree(
-            records,
-            replicas.as_slice(),
             Sort::Replicas,
             scenario.cluster.n(),
-        ) {
+        )? {
             return Ok(false);
         }
-        if !all_agree(records, proxies.as_slice(), Sort::Proxies, scenario.proxies) {
+        let proxies = self.proxies.as_mut_slice();
+        if !cells_agree(alloc, fabric, proxies, Sort::Proxies, scenario.proxies)? {
             return Ok(false);
         }
-        Ok(all_agree(records, clients.as_slice(), Sort::Clients, scenario.clients))
+        let clients = self.clients.as_mut_slice();
+        cells_agree(alloc, fabric, clients, Sort::Clients, scenario.clients)
     }
 }

@@ -1,13 +1,13 @@
-ghost use Rattle.std.specs.Prelude.{◌≡◌, ◌⊎◌, ◌<◌, ◌≤◌, [], length, true, vec_capacity, IfOk, IfSome, OnOk};
+ghost use Rattle.std.specs.Prelude.{◌≡◌, ◌⊎◌, ◌<◌, ◌≤◌, length, true, IfOk, IfSome, OnOk};
 ghost use Rattle.nz_machine.specs.Journals.{group_in, run_in};
 ghost use Rattle.nz_machine.specs.Schedule.{InOrder, IsPlayable, Scheduled};
 ghost use Rattle.nz_machine.specs.World.{World};
 ghost use Rattle.nz_fabric.specs.Shared.{IsOver};
 
 use crate::alone::run_alone;
-use crate::shares::{Worker, deal, gather};
+use crate::shares::{deal, gather};
 use crate::stage::Stage;
-use crate::workers::round;
+use crate::workers::work_all;
 use nz_base::{NoMemory, Scenario, TryCopy};
 use nz_edge::Gate;
 use nz_fabric::{Fabric, FabricState, Name, Share};
@@ -36,80 +36,49 @@ fn finish<N: Name>(
     Ok(())
 }
 
-/// All workers at once. The whole share comes back, with no turn on it.
+/// All workers, through all ticks. The whole share comes back, with no turn on it.
 fn at_once<N: Name + Send + Sync, R: Threads + Wait + Sync, G: Gate + Sync>(
     rt: &R,
+    alloc: Global,
     state: FabricState<N>,
     share: Share<N>,
-    workers: &mut Vec<Worker<N>>,
     count: u8,
     stage: &Stage<N>,
     gate: &G,
-) -> (FabricState<N>, Share<N>)
+) -> Result<(FabricState<N>, Share<N>), NoMemory>
     requires share { (share.parts ≡ 16) × (share.amount ≡ 0) }
     requires count { (0 < count) × (count ≤ 16) }
-    requires room { (workers.old.items ≡ []) × (16 ≤ vec_capacity workers.old) }
-    ensures share { (result.1.parts ≡ 16) × (result.1.amount ≡ 0) }
-    ensures room { (workers.new.items ≡ []) × (16 ≤ vec_capacity workers.new) }
+    ensures { IfOk result (λ r. (r.1.parts ≡ 16) × (r.1.amount ≡ 0)) }
 {
-    deal(share, workers, count);
+    let mut workers = Vec::new(alloc);
+    workers.reserve(16)?;
+    deal(share, &mut workers, count);
     let fabric = Fabric::new(state);
-    round(rt, workers.as_mut_slice(), stage, &fabric, gate);
+    work_all(rt, workers.as_mut_slice(), stage, &fabric, gate);
     let share = gather(workers);
-    (fabric.into_state(), share)
+    Ok((fabric.into_state(), share))
 }
 
-/// What is due in a tick. `None` where a turn was given up.
-fn play_tick<N: Name + Send + Sync, R: Threads + Wait + Sync, G: Gate + Sync>(
+/// Does what the workers left. `None` where a turn was given up.
+fn finish_all<N: Name, R: Wait>(
     rt: &R,
     state: FabricState<N>,
     share: Share<N>,
-    workers: &mut Vec<Worker<N>>,
-    count: u8,
     stage: &mut Stage<N>,
-    gate: &G,
-) -> Result<Option<(FabricState<N>, Share<N>)>, NoMemory>
+) -> Result<Option<FabricState<N>>, NoMemory>
     requires share { (share.parts ≡ 16) × (share.amount ≡ 0) }
-    requires count { (0 < count) × (count ≤ 16) }
-    requires room { (workers.old.items ≡ []) × (16 ≤ vec_capacity workers.old) }
-    ensures over { IfOk result (λ o. IfSome o (λ r. IsOver r.0 × (r.1.parts ≡ 16) × (r.1.amount ≡ 0))) }
-    ensures room { (workers.new.items ≡ []) × (16 ≤ vec_capacity workers.new) }
-{
-    let (mut state, mut share) = at_once(rt, state, share, workers, count, stage, gate);
-    finish(&mut state, &mut share, stage)?;
-    if state.is_marked() {
-        return Ok(None);
-    }
-    Ok(Some((state, share)))
-}
-
-/// All ticks. `None` where a turn was given up.
-fn play<N: Name + Send + Sync, R: Threads + Wait + Sync, G: Gate + Sync>(
-    rt: &R,
-    state: FabricState<N>,
-    share: Share<N>,
-    workers: &mut Vec<Worker<N>>,
-    count: u8,
-    stage: &mut Stage<N>,
-    gate: &G,
-) -> Result<Option<Journal>, NoMemory>
-    requires over { IsOver state }
-    requires share { (share.parts ≡ 16) × (share.amount ≡ 0) }
-    requires count { (0 < count) × (count ≤ 16) }
-    requires room { (workers.old.items ≡ []) × (16 ≤ vec_capacity workers.old) }
-    ensures { IfOk result (λ o. IfSome o (λ journal. (journal.scenario ≡ N.scenario) × Scheduled N.scenario (run_in journal))) }
+    ensures { IfOk result (λ o. IfSome o (λ state. IsOver state × (state.run.tick ≡ state.run.scenario.ticks))) }
 {
     let mut state = state;
     let mut share = share;
     'ticks: for _ in rt.forever() {
-        if !state.next_tick()? {
-            return Ok(Some(state.into_journal()?));
-        }
-        let Some((after, whole)) = play_tick(rt, state, share, workers, count, stage, gate)? else {
+        finish(&mut state, &mut share, stage)?;
+        if state.is_marked() {
             return Ok(None);
-        };
-        state = after;
-        share = whole;
+        }
+        if !state.next_tick()? {
+            return Ok(Some(state));
+        }
     }
     unreachable!()
 }
@@ -131,13 +100,14 @@ fn run_named<N: Name + Send + Sync, R: Threads + Wait + Sync, G: Gate + Sync>(
 {
     let (state, share) = FabricState::<N>::new(alloc, blank, scenario.copy(alloc)?)?;
     let mut stage = Stage::<N>::new(alloc, scenario)?;
-    let mut workers = Vec::new(alloc);
-    workers.reserve(16)?;
-    let Some(journal) = play(rt, state, share, &mut workers, count, &mut stage, gate)? else {
+    let (state, share) = at_once(rt, alloc, state, share, count, &stage, gate)?;
+    let Some(state) = finish_all(rt, state, share, &mut stage)? else {
         return Ok(None);
     };
-    let agree = stage.agrees(alloc, journal.records.as_slice(), scenario)?;
-    if agree { Ok(Some(journal)) } else { Ok(None) }
+    if !stage.agrees(alloc, &state, scenario)? {
+        return Ok(None);
+    }
+    Ok(Some(state.into_journal()?))
 }
 
 /// The journal of a run by so many workers, whichever does what. It may be done anew on one thread, and is with

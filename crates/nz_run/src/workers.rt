@@ -8,7 +8,7 @@ use std::sync::Wait;
 use std::thread;
 use std::thread::Threads;
 
-/// Takes turns until none is left.
+/// Takes turns, tick after tick, until no further one is given.
 fn work<N: Name, R: Wait, G: Gate>(
     rt: &R,
     worker: &mut Worker<N>,
@@ -20,15 +20,24 @@ fn work<N: Name, R: Wait, G: Gate>(
     ensures { (worker.new.share.amount ≡ 0) × (worker.new.share.parts ≡ worker.old.share.parts) }
 {
     'turns: for _ in rt.forever() {
-        let Ok(Some(turn)) = fabric.lock(rt).take(&mut worker.share) else {
-            break;
-        };
-        stage.turn(rt, turn, worker.number, gate, fabric, &mut worker.share);
+        let taken = fabric.lock(rt).take(&mut worker.share);
+        match taken {
+            Ok(Some(turn)) => {
+                stage.turn(rt, turn, worker.number, gate, fabric, &mut worker.share)
+            }
+            Ok(None) => {
+                if !fabric.go_on(rt) {
+                    break;
+                }
+            }
+            Err(_) => break,
+        }
     }
+    fabric.wake_all();
 }
 
 /// All workers, each on a thread of its own.
-pub fn round<N: Name + Send + Sync, R: Threads + Wait + Sync, G: Gate + Sync>(
+pub fn work_all<N: Name + Send + Sync, R: Threads + Wait + Sync, G: Gate + Sync>(
     rt: &R,
     workers: &mut [Worker<N>],
     stage: &Stage<N>,

@@ -90,6 +90,7 @@ first_word (verb.Head head.Faulty) = record { word = record { some = omega arith
 first_word (verb.Head head.Proxies) = record { word = record { some = omega arith; graphic = refl }; again = refl; begins = λ t. refl }
 first_word (verb.Head head.Clients) = record { word = record { some = omega arith; graphic = refl }; again = refl; begins = λ t. refl }
 first_word (verb.Head head.Ticks) = record { word = record { some = omega arith; graphic = refl }; again = refl; begins = λ t. refl }
+first_word (verb.Head head.Window) = record { word = record { some = omega arith; graphic = refl }; again = refl; begins = λ t. refl }
 first_word verb.Skew = record { word = record { some = omega arith; graphic = refl }; again = refl; begins = λ t. refl }
 first_word verb.Client = record { word = record { some = omega arith; graphic = refl }; again = refl; begins = λ t. refl }
 first_word (verb.Ask ask.Put) = record { word = record { some = omega arith; graphic = refl }; again = refl; begins = λ t. refl }
@@ -157,10 +158,10 @@ pub tail_again : (ls : List Line) → tail_in (text_of_lines ls) ≡ []
 tail_again [] = refl
 tail_again (l ∷ ls) = tail-line (line_text l) (text_of_lines ls) ∙ tail_again ls
 
-ended : (n : ℕ) (d : Draft) → rank_of d.place ≡ 8 → ending false [] n d ≡ Ok (scenario_of d)
+ended : (n : ℕ) (d : Draft) → rank_of d.place ≡ 9 → ending false [] n d ≡ Ok (scenario_of d)
 ended n d e = rw e refl
 
-pub reading_again : (n : ℕ) (d : Draft) (ls : List Line) → AreTaken d ls → rank_of (after_lines d ls).place ≡ 8 → reading false [] n d (map line_text ls) ≡ Ok (scenario_of (after_lines d ls))
+pub reading_again : (n : ℕ) (d : Draft) (ls : List Line) → AreTaken d ls → rank_of (after_lines d ls).place ≡ 9 → reading false [] n d (map line_text ls) ≡ Ok (scenario_of (after_lines d ls))
 reading_again n d [] h e = ended n d e
 reading_again n d (l ∷ ls) h e =
     ap (behind n (λ next. reading false [] (n + 1) next (map line_text ls))) (step_again d l.verb l.words h.0 h.1)

@@ -12,12 +12,12 @@ use Rattle.nz_script.specs.Shapes.{rank_of}
 use Rattle.nz_script.specs.Lines.{a_line}
 use Rattle.nz_script.specs.Drafts.{start, scenario_of, has_room_for_requests, has_room_for_faults}
 use Rattle.nz_script.specs.Reading.{reading, scenario}
-use Rattle.nz_script.specs.Texts.{head_lines, skew_line, scripts_lines, fault_line, lines_of, text_of_lines, text_of}
+use Rattle.nz_script.specs.Texts.{version_of, head_lines, skew_line, scripts_lines, fault_line, lines_of, text_of_lines, text_of}
 use Rattle.nz_script.specs.Valid.{group_of, is_sound, has_group, has_skews, are_apart, are_requests, request_count, has_few, has_faults, is_short, is_valid, IsValid}
 use Rattle.nz_script.proofs.Passing.{both_of}
 use Rattle.nz_script.proofs.Again.{lines_again, tail_again, reading_again}
-use Rattle.nz_script.proofs.Sections.{a_draft, no_fault, below_most, group_parts, group_small, head_taken, head_after, skews_taken, IsTakenTo}
-use Rattle.nz_script.proofs.Blocks.{then_taken, closed, other_count, same_count, scripts_taken}
+use Rattle.nz_script.proofs.Sections.{a_draft, no_fault, below_most, group_parts, group_small, head_taken, skews_taken, IsTakenTo, then_taken}
+use Rattle.nz_script.proofs.Blocks.{closed, other_count, same_count, scripts_taken}
 use Rattle.nz_script.proofs.Mishaps.{mishaps, faults_taken}
 
 -- the parts of the test
@@ -40,37 +40,38 @@ valid_parts s e =
 
 -- all that was read of a scenario
 abbrev whole : Scenario → Draft
-whole s = a_draft place.Behind (group_of s) s.ticks s.skews s.scripts [] 0 (request_count s.scripts) s.faults
+whole s = a_draft place.Behind (version_of s.window) (group_of s) s.ticks s.skews s.scripts [] 0 (request_count s.scripts) s.faults
 
 lines_taken : (s : Scenario) → IsValidIn s → IsTakenTo start (lines_of s) (whole s)
-lines_taken s v =
+lines_taken s ok =
+    let v = version_of s.window in
     let g = group_of s in
-    let h = group_parts s v.group in
+    let h = group_parts s ok.group in
     let small = group_small s h in
     let r = request_count s.scripts in
-    let k = both_of (list_all (λ k. is_sound (group_of s) (skew_line k)) s.skews) (are_apart s.skews) v.skews in
-    let f = both_of (has_room_for_requests r s.ticks) (has_room_for_faults r (length s.faults)) v.few in
+    let k = both_of (list_all (λ k. is_sound (group_of s) (skew_line k)) s.skews) (are_apart s.skews) ok.skews in
+    let f = both_of (has_room_for_requests r s.ticks) (has_room_for_faults r (length s.faults)) ok.few in
     let some : 0 < s.clients = omega (arith, below_most 1 s.clients (both_of (nat_le 1 s.clients) (nat_le s.clients 64) h.clients).0) in
     let scripts : length s.scripts ≡ s.clients = eqb-true (length s.scripts) s.clients h.scripts in
-    let first : a_draft place.Between g s.ticks s.skews [] [] 0 0 [] ≡ closed g s.ticks s.skews 0 [] 0
-    = sym (ap (λ (b : Bool). a_draft (cond b place.Mishaps place.Between) g s.ticks s.skews [] [] 0 0 []) (other_count 0 s.clients some)) in
+    let first : a_draft place.Between v g s.ticks s.skews [] [] 0 0 [] ≡ closed v g s.ticks s.skews 0 [] 0
+    = sym (ap (λ (b : Bool). a_draft (cond b place.Mishaps place.Between) v g s.ticks s.skews [] [] 0 0 []) (other_count 0 s.clients some)) in
     let none : 0 + r ≡ r = omega arith in
-    let last : closed g s.ticks s.skews s.clients s.scripts (0 + r) ≡ mishaps g s.ticks s.skews s.scripts r []
-    = ap (λ (n : ℕ). closed g s.ticks s.skews s.clients s.scripts n) none ∙ ap (λ (b : Bool). a_draft (cond b place.Mishaps place.Between) g s.ticks s.skews s.scripts [] 0 r []) (same_count s.clients) in
-    let blocks = scripts_taken g s.ticks s.skews [] s.scripts 0 small (omega (arith, scripts)) v.requests (ap (λ (n : ℕ). has_room_for_requests n s.ticks) none ∙ f.0) in
-    let heads : IsTakenTo start (head_lines s) (a_draft place.Between g s.ticks [] [] [] 0 0 []) = record { taken = head_taken s h; after = head_after s h } in
-    let skews = skews_taken g s.ticks [] s.skews small k.0 k.1 in
-    let bodies : IsTakenTo (a_draft place.Between g s.ticks s.skews [] [] 0 0 []) (scripts_lines 0 s.scripts) (mishaps g s.ticks s.skews s.scripts r [])
-    = subst (λ (d : Draft). IsTakenTo d (scripts_lines 0 s.scripts) (mishaps g s.ticks s.skews s.scripts r [])) (sym first)
-    (subst (λ (d : Draft). IsTakenTo (closed g s.ticks s.skews 0 [] 0) (scripts_lines 0 s.scripts) d) last blocks) in
+    let last : closed v g s.ticks s.skews s.clients s.scripts (0 + r) ≡ mishaps v g s.ticks s.skews s.scripts r []
+    = ap (λ (n : ℕ). closed v g s.ticks s.skews s.clients s.scripts n) none ∙ ap (λ (b : Bool). a_draft (cond b place.Mishaps place.Between) v g s.ticks s.skews s.scripts [] 0 r []) (same_count s.clients) in
+    let blocks = scripts_taken v g s.ticks s.skews [] s.scripts 0 small (omega (arith, scripts)) ok.requests (ap (λ (n : ℕ). has_room_for_requests n s.ticks) none ∙ f.0) in
+    let heads = head_taken s h in
+    let skews = skews_taken v g s.ticks [] s.skews small k.0 k.1 in
+    let bodies : IsTakenTo (a_draft place.Between v g s.ticks s.skews [] [] 0 0 []) (scripts_lines 0 s.scripts) (mishaps v g s.ticks s.skews s.scripts r [])
+    = subst (λ (d : Draft). IsTakenTo d (scripts_lines 0 s.scripts) (mishaps v g s.ticks s.skews s.scripts r [])) (sym first)
+    (subst (λ (d : Draft). IsTakenTo (closed v g s.ticks s.skews 0 [] 0) (scripts_lines 0 s.scripts) d) last blocks) in
     let all : 0 + length s.faults ≡ length s.faults = omega arith in
-    let faults = faults_taken g s.ticks s.skews s.scripts r [] s.faults small v.faults (ap (has_room_for_faults r) all ∙ f.1) in
-    let done : IsTakenTo (mishaps g s.ticks s.skews s.scripts r s.faults) (a_line verb.Done [] ∷ []) (whole s)
-    = record { taken = (tt, no_fault (mishaps g s.ticks s.skews s.scripts r s.faults) (a_line verb.Done []) refl refl refl, tt); after = refl } in
-    then_taken start (a_draft place.Between g s.ticks [] [] [] 0 0 []) (whole s) (head_lines s) (map skew_line s.skews ++ (scripts_lines 0 s.scripts ++ (map fault_line s.faults ++ a_line verb.Done [] ∷ []))) heads
-    (then_taken (a_draft place.Between g s.ticks [] [] [] 0 0 []) (a_draft place.Between g s.ticks s.skews [] [] 0 0 []) (whole s) (map skew_line s.skews) (scripts_lines 0 s.scripts ++ (map fault_line s.faults ++ a_line verb.Done [] ∷ [])) skews
-    (then_taken (a_draft place.Between g s.ticks s.skews [] [] 0 0 []) (mishaps g s.ticks s.skews s.scripts r []) (whole s) (scripts_lines 0 s.scripts) (map fault_line s.faults ++ a_line verb.Done [] ∷ []) bodies
-    (then_taken (mishaps g s.ticks s.skews s.scripts r []) (mishaps g s.ticks s.skews s.scripts r s.faults) (whole s) (map fault_line s.faults) (a_line verb.Done [] ∷ []) faults done)))
+    let faults = faults_taken v g s.ticks s.skews s.scripts r [] s.faults small ok.faults (ap (has_room_for_faults r) all ∙ f.1) in
+    let done : IsTakenTo (mishaps v g s.ticks s.skews s.scripts r s.faults) (a_line verb.Done [] ∷ []) (whole s)
+    = record { taken = (tt, no_fault (mishaps v g s.ticks s.skews s.scripts r s.faults) (a_line verb.Done []) refl refl refl refl, tt); after = refl } in
+    then_taken start (a_draft place.Between v g s.ticks [] [] [] 0 0 []) (whole s) (head_lines s) (map skew_line s.skews ++ (scripts_lines 0 s.scripts ++ (map fault_line s.faults ++ a_line verb.Done [] ∷ []))) heads
+    (then_taken (a_draft place.Between v g s.ticks [] [] [] 0 0 []) (a_draft place.Between v g s.ticks s.skews [] [] 0 0 []) (whole s) (map skew_line s.skews) (scripts_lines 0 s.scripts ++ (map fault_line s.faults ++ a_line verb.Done [] ∷ [])) skews
+    (then_taken (a_draft place.Between v g s.ticks s.skews [] [] 0 0 []) (mishaps v g s.ticks s.skews s.scripts r []) (whole s) (scripts_lines 0 s.scripts) (map fault_line s.faults ++ a_line verb.Done [] ∷ []) bodies
+    (then_taken (mishaps v g s.ticks s.skews s.scripts r []) (mishaps v g s.ticks s.skews s.scripts r s.faults) (whole s) (map fault_line s.faults) (a_line verb.Done [] ∷ []) faults done)))
 
 not_longer : (n m : ℕ) → n ≤ m → nat_lt m n ≡ false
 not_longer n m h = grind (arith, h)

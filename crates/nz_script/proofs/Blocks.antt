@@ -29,21 +29,14 @@ use Rattle.nz_script.specs.Texts.{number_line, command_line, choice_of, wait_lin
 use Rattle.nz_script.specs.Valid.{is_request, are_requests, request_count}
 use Rattle.nz_script.proofs.Passing.{both, both_of}
 use Rattle.nz_script.proofs.Readable.{IsReadAs, number_read, client_read, key_read, value_read, choice_read, nothing_read}
-use Rattle.nz_script.proofs.Again.{AreTaken, after_lines, taken-append, after-append}
-use Rattle.nz_script.proofs.Sections.{a_draft, kept, no_fault, is_most, below_most, IsTakenTo, IsSmall}
+use Rattle.nz_script.proofs.Sections.{a_draft, kept, no_fault, is_most, below_most, IsTakenTo, then_taken, IsSmall}
 
 -- a block that is open
-abbrev pub open_block : Group → ℕ → List Skew → List (List Request) → List Request → ℕ → ℕ → Draft
-open_block g t ks ss b w r = a_draft place.Block g t ks ss b w r []
+abbrev pub open_block : ℕ → Group → ℕ → List Skew → List (List Request) → List Request → ℕ → ℕ → Draft
+open_block v g t ks ss b w r = a_draft place.Block v g t ks ss b w r []
 
 abbrev pub a_request : ℕ → Command → Request
 a_request w c = record { wait = w; command = spelling c }
-
-pub then_taken : (d e f : Draft) (a b : List Line) → IsTakenTo d a e → IsTakenTo e b f → IsTakenTo d (a ++ b) f
-then_taken d e f a b h k = record {
-  taken = taken-append d a b h.taken (subst (λ (x : Draft). AreTaken x b) (sym h.after) k.taken);
-  after = after-append d a b ∙ ap (λ (x : Draft). after_lines x b) h.after ∙ k.after;
-}
 
 pub choice_again : (choice : Option (List ℕ)) → choice_as (Some (choice_of choice)) ≡ choice
 choice_again None = refl
@@ -65,58 +58,58 @@ choice_within None e = refl
 choice_within (Some v) e = e
 
 -- a command's line, behind its wait
-pub command_taken : (g : Group) (t : ℕ) (ks : List Skew) (ss : List (List Request)) (b : List Request) (w r : ℕ) (c : Command) → has_spelling c ≡ true → has_room_for_requests (r + 1) t ≡ true
-    → IsTakenTo (open_block g t ks ss b w r) (command_line c ∷ []) (open_block g t ks ss (b ++ a_request w c ∷ []) 0 (r + 1))
-command_taken g t ks ss b w r (command.Put key value) e room =
+pub command_taken : (v : ℕ) (g : Group) (t : ℕ) (ks : List Skew) (ss : List (List Request)) (b : List Request) (w r : ℕ) (c : Command) → has_spelling c ≡ true → has_room_for_requests (r + 1) t ≡ true
+    → IsTakenTo (open_block v g t ks ss b w r) (command_line c ∷ []) (open_block v g t ks ss (b ++ a_request w c ∷ []) 0 (r + 1))
+command_taken v g t ks ss b w r (command.Put key value) e room =
     let p = both_of (is_key_text key) (is_value_text value) e in
-    record { taken = ((key_read key p.0, (value_read value p.1, tt)), no_fault (open_block g t ks ss b w r) (command_line (command.Put key value)) refl refl (command_limits _ _ (both _ _ p.0 (both _ _ p.1 refl)) room), tt); after = refl }
-command_taken g t ks ss b w r (command.Get key) e room =
-    record { taken = ((key_read key e, tt), no_fault (open_block g t ks ss b w r) (command_line (command.Get key)) refl refl (command_limits _ _ (both _ _ e refl) room), tt); after = refl }
-command_taken g t ks ss b w r (command.Del key) e room =
-    record { taken = ((key_read key e, tt), no_fault (open_block g t ks ss b w r) (command_line (command.Del key)) refl refl (command_limits _ _ (both _ _ e refl) room), tt); after = refl }
-command_taken g t ks ss b w r (command.Cas key old new) e room =
+    record { taken = ((key_read key p.0, (value_read value p.1, tt)), no_fault (open_block v g t ks ss b w r) (command_line (command.Put key value)) refl refl refl (command_limits _ _ (both _ _ p.0 (both _ _ p.1 refl)) room), tt); after = refl }
+command_taken v g t ks ss b w r (command.Get key) e room =
+    record { taken = ((key_read key e, tt), no_fault (open_block v g t ks ss b w r) (command_line (command.Get key)) refl refl refl (command_limits _ _ (both _ _ e refl) room), tt); after = refl }
+command_taken v g t ks ss b w r (command.Del key) e room =
+    record { taken = ((key_read key e, tt), no_fault (open_block v g t ks ss b w r) (command_line (command.Del key)) refl refl refl (command_limits _ _ (both _ _ e refl) room), tt); after = refl }
+command_taken v g t ks ss b w r (command.Cas key old new) e room =
     let p = both_of (is_key_text key && is_choice_text old) (is_choice_text new) e in
     let q = both_of (is_key_text key) (is_choice_text old) p.0 in
     record {
       taken = (
         (key_read key q.0, (choice_is_read old q.1, (choice_is_read new p.1, tt))),
-        no_fault (open_block g t ks ss b w r) (command_line (command.Cas key old new)) refl
+        no_fault (open_block v g t ks ss b w r) (command_line (command.Cas key old new)) refl refl
             (both _ _ (both _ _ (known_choice g old) (both _ _ (known_choice g new) refl)) refl)
             (command_limits _ _ (both _ _ q.0 (both _ _ (choice_within old q.1) (both _ _ (choice_within new p.1) refl))) room),
         tt,
       );
       after =
-          ap (λ (o : Option (List ℕ)). open_block g t ks ss (b ++ a_request w (command.Cas key o (choice_as (Some (choice_of new)))) ∷ []) 0 (r + 1)) (choice_again old)
-          ∙ ap (λ (o : Option (List ℕ)). open_block g t ks ss (b ++ a_request w (command.Cas key old o) ∷ []) 0 (r + 1)) (choice_again new);
+          ap (λ (o : Option (List ℕ)). open_block v g t ks ss (b ++ a_request w (command.Cas key o (choice_as (Some (choice_of new)))) ∷ []) 0 (r + 1)) (choice_again old)
+          ∙ ap (λ (o : Option (List ℕ)). open_block v g t ks ss (b ++ a_request w (command.Cas key old o) ∷ []) 0 (r + 1)) (choice_again new);
     }
 
 -- ---- a request, a block, all blocks
 
-wait_line_taken : (g : Group) (t : ℕ) (ks : List Skew) (ss : List (List Request)) (b : List Request) (r n : ℕ) (zero_wait : Bool) → (n == 0) ≡ zero_wait → n ≤ 20000
-    → IsTakenTo (open_block g t ks ss b 0 r) (cond zero_wait [] (number_line verb.Wait n ∷ [])) (open_block g t ks ss b n r)
-wait_line_taken g t ks ss b r n true e h = record { taken = tt; after = ap (λ (w : ℕ). open_block g t ks ss b w r) (sym (eqb-true n 0 e)) }
-wait_line_taken g t ks ss b r n false e h =
+wait_line_taken : (v : ℕ) (g : Group) (t : ℕ) (ks : List Skew) (ss : List (List Request)) (b : List Request) (r n : ℕ) (zero_wait : Bool) → (n == 0) ≡ zero_wait → n ≤ 20000
+    → IsTakenTo (open_block v g t ks ss b 0 r) (cond zero_wait [] (number_line verb.Wait n ∷ [])) (open_block v g t ks ss b n r)
+wait_line_taken v g t ks ss b r n true e h = record { taken = tt; after = ap (λ (w : ℕ). open_block v g t ks ss b w r) (sym (eqb-true n 0 e)) }
+wait_line_taken v g t ks ss b r n false e h =
     let low : 1 ≤ n = omega (arith, eqb-false n 0 e) in
     record {
-      taken = ((number_read 1 20000 n (omega (arith, h)), tt), no_fault (open_block g t ks ss b 0 r) (number_line verb.Wait n) refl refl (command_limits _ true (both _ _ (both _ _ (is_most 1 n low) (is_most n 20000 h)) refl) refl), tt);
-      after = ap (λ (w : ℕ). open_block g t ks ss b w r) (kept n 4294967295 (omega (arith, h)));
+      taken = ((number_read 1 20000 n (omega (arith, h)), tt), no_fault (open_block v g t ks ss b 0 r) (number_line verb.Wait n) refl refl refl (command_limits _ true (both _ _ (both _ _ (is_most 1 n low) (is_most n 20000 h)) refl) refl), tt);
+      after = ap (λ (w : ℕ). open_block v g t ks ss b w r) (kept n 4294967295 (omega (arith, h)));
     }
 
-command_lines_taken : (g : Group) (t : ℕ) (ks : List Skew) (ss : List (List Request)) (b : List Request) (w r : ℕ) (bytes : List ℕ) (o : Option Command) → command_of bytes ≡ o → is_some o ≡ true
-    → has_room_for_requests (r + 1) t ≡ true → IsTakenTo (open_block g t ks ss b w r) (lines_of_command o) (open_block g t ks ss (b ++ (record { wait = w; command = bytes }) ∷ []) 0 (r + 1))
-command_lines_taken g t ks ss b w r bytes None e some room = absurd (false≢true some)
-command_lines_taken g t ks ss b w r bytes (Some c) e some room =
+command_lines_taken : (v : ℕ) (g : Group) (t : ℕ) (ks : List Skew) (ss : List (List Request)) (b : List Request) (w r : ℕ) (bytes : List ℕ) (o : Option Command) → command_of bytes ≡ o → is_some o ≡ true
+    → has_room_for_requests (r + 1) t ≡ true → IsTakenTo (open_block v g t ks ss b w r) (lines_of_command o) (open_block v g t ks ss (b ++ (record { wait = w; command = bytes }) ∷ []) 0 (r + 1))
+command_lines_taken v g t ks ss b w r bytes None e some room = absurd (false≢true some)
+command_lines_taken v g t ks ss b w r bytes (Some c) e some room =
     let spelled = spells_from_reading bytes c e in
-    let h = command_taken g t ks ss b w r c ((tells_valid c).1 spelled.valid) room in
-    record { taken = h.taken; after = h.after ∙ ap (λ (x : List ℕ). open_block g t ks ss (b ++ (record { wait = w; command = x }) ∷ []) 0 (r + 1)) (sym spelled.whole) }
+    let h = command_taken v g t ks ss b w r c ((tells_valid c).1 spelled.valid) room in
+    record { taken = h.taken; after = h.after ∙ ap (λ (x : List ℕ). open_block v g t ks ss (b ++ (record { wait = w; command = x }) ∷ []) 0 (r + 1)) (sym spelled.whole) }
 
-request_taken : (g : Group) (t : ℕ) (ks : List Skew) (ss : List (List Request)) (b : List Request) (r : ℕ) (q : Request) → is_request q ≡ true → has_room_for_requests (r + 1) t ≡ true
-    → IsTakenTo (open_block g t ks ss b 0 r) (request_lines q) (open_block g t ks ss (b ++ q ∷ []) 0 (r + 1))
-request_taken g t ks ss b r q e room =
+request_taken : (v : ℕ) (g : Group) (t : ℕ) (ks : List Skew) (ss : List (List Request)) (b : List Request) (r : ℕ) (q : Request) → is_request q ≡ true → has_room_for_requests (r + 1) t ≡ true
+    → IsTakenTo (open_block v g t ks ss b 0 r) (request_lines q) (open_block v g t ks ss (b ++ q ∷ []) 0 (r + 1))
+request_taken v g t ks ss b r q e room =
     let p = both_of (nat_le q.wait 20000) (is_some (command_of q.command)) e in
-    then_taken (open_block g t ks ss b 0 r) (open_block g t ks ss b q.wait r) (open_block g t ks ss (b ++ q ∷ []) 0 (r + 1)) (wait_lines q.wait) (lines_of_command (command_of q.command))
-    (wait_line_taken g t ks ss b r q.wait (q.wait == 0) refl (below_most q.wait 20000 p.0))
-    (command_lines_taken g t ks ss b q.wait r q.command (command_of q.command) refl p.1 room)
+    then_taken (open_block v g t ks ss b 0 r) (open_block v g t ks ss b q.wait r) (open_block v g t ks ss (b ++ q ∷ []) 0 (r + 1)) (wait_lines q.wait) (lines_of_command (command_of q.command))
+    (wait_line_taken v g t ks ss b r q.wait (q.wait == 0) refl (below_most q.wait 20000 p.0))
+    (command_lines_taken v g t ks ss b q.wait r q.command (command_of q.command) refl p.1 room)
 
 -- fewer requests have room where more have it
 pub room_less : (a b t : ℕ) → a ≤ b → has_room_for_requests b t ≡ true → has_room_for_requests a t ≡ true
@@ -125,27 +118,27 @@ room_less a b t h e =
     both _ _ (is_most a 2000 (omega (arith, h, below_most b 2000 p.0))) (is_most (a * t) 2000000 (omega (arith, mul-le-mul_right t h, below_most (b * t) 2000000 p.1)))
 
 -- the draft behind a block that is whole
-abbrev pub closed : Group → ℕ → List Skew → ℕ → List (List Request) → ℕ → Draft
-closed g t ks n ss r = a_draft (cond (n == g.clients) place.Mishaps place.Between) g t ks ss [] 0 r []
+abbrev pub closed : ℕ → Group → ℕ → List Skew → ℕ → List (List Request) → ℕ → Draft
+closed v g t ks n ss r = a_draft (cond (n == g.clients) place.Mishaps place.Between) v g t ks ss [] 0 r []
 
-script_taken : (g : Group) (t : ℕ) (ks : List Skew) (ss : List (List Request)) (b : List Request) (r : ℕ) (qs : List Request) → are_requests qs ≡ true → has_room_for_requests (r + length qs) t ≡ true
-    → IsTakenTo (open_block g t ks ss b 0 r) (script_lines qs) (closed g t ks (length ss + 1) (ss ++ (b ++ qs) ∷ []) (r + length qs))
-script_taken g t ks ss b r [] e room =
+script_taken : (v : ℕ) (g : Group) (t : ℕ) (ks : List Skew) (ss : List (List Request)) (b : List Request) (r : ℕ) (qs : List Request) → are_requests qs ≡ true → has_room_for_requests (r + length qs) t ≡ true
+    → IsTakenTo (open_block v g t ks ss b 0 r) (script_lines qs) (closed v g t ks (length ss + 1) (ss ++ (b ++ qs) ∷ []) (r + length qs))
+script_taken v g t ks ss b r [] e room =
     let none : r ≡ r + 0 = omega arith in
     record {
-      taken = (tt, no_fault (open_block g t ks ss b 0 r) (a_line verb.End []) refl refl refl, tt);
-      after = ap (λ (x : List Request). closed g t ks (length ss + 1) (ss ++ x ∷ []) r) (sym (append-nil b)) ∙ ap (λ (n : ℕ). closed g t ks (length ss + 1) (ss ++ (b ++ []) ∷ []) n) none;
+      taken = (tt, no_fault (open_block v g t ks ss b 0 r) (a_line verb.End []) refl refl refl refl, tt);
+      after = ap (λ (x : List Request). closed v g t ks (length ss + 1) (ss ++ x ∷ []) r) (sym (append-nil b)) ∙ ap (λ (n : ℕ). closed v g t ks (length ss + 1) (ss ++ (b ++ []) ∷ []) n) none;
     }
-script_taken g t ks ss b r (q ∷ qs) e room =
+script_taken v g t ks ss b r (q ∷ qs) e room =
     let p = both_of (is_request q) (list_all is_request qs) e in
-    let one = request_taken g t ks ss b r q p.0 (room_less (r + 1) (r + length (q ∷ qs)) t (omega arith) room) in
+    let one = request_taken v g t ks ss b r q p.0 (room_less (r + 1) (r + length (q ∷ qs)) t (omega arith) room) in
     let count : r + 1 + length qs ≡ r + length (q ∷ qs) = omega arith in
-    let more = script_taken g t ks ss (b ++ q ∷ []) (r + 1) qs p.1 (ap (λ (n : ℕ). has_room_for_requests n t) count ∙ room) in
-    let all = then_taken (open_block g t ks ss b 0 r) (open_block g t ks ss (b ++ q ∷ []) 0 (r + 1)) _ (request_lines q) (script_lines qs) one more in
+    let more = script_taken v g t ks ss (b ++ q ∷ []) (r + 1) qs p.1 (ap (λ (n : ℕ). has_room_for_requests n t) count ∙ room) in
+    let all = then_taken (open_block v g t ks ss b 0 r) (open_block v g t ks ss (b ++ q ∷ []) 0 (r + 1)) _ (request_lines q) (script_lines qs) one more in
     record {
       taken = all.taken;
-      after = all.after ∙ ap (λ (x : List Request). closed g t ks (length ss + 1) (ss ++ x ∷ []) (r + 1 + length qs)) (append_assoc b (q ∷ []) qs)
-          ∙ ap (λ (n : ℕ). closed g t ks (length ss + 1) (ss ++ (b ++ q ∷ qs) ∷ []) n) count;
+      after = all.after ∙ ap (λ (x : List Request). closed v g t ks (length ss + 1) (ss ++ x ∷ []) (r + 1 + length qs)) (append_assoc b (q ∷ []) qs)
+          ∙ ap (λ (n : ℕ). closed v g t ks (length ss + 1) (ss ++ (b ++ q ∷ qs) ∷ []) n) count;
     }
 
 pub other_count : (n m : ℕ) → n < m → (n == m) ≡ false
@@ -161,14 +154,14 @@ or_true : (b c : Bool) → c ≡ true → (b || c) ≡ true
 or_true true c e = refl
 or_true false c e = e
 
-client_taken : (g : Group) (t : ℕ) (ks : List Skew) (ss : List (List Request)) (r : ℕ) → IsSmall g → length ss < g.clients
-    → IsTakenTo (closed g t ks (length ss) ss r) (a_line verb.Client (word.Named (actor.Client (length ss)) ∷ []) ∷ []) (open_block g t ks ss [] 0 r)
-client_taken g t ks ss r small h =
-    let here : closed g t ks (length ss) ss r ≡ a_draft place.Between g t ks ss [] 0 r [] = ap (λ (b : Bool). a_draft (cond b place.Mishaps place.Between) g t ks ss [] 0 r []) (other_count (length ss) g.clients h) in
-    subst (λ (d : Draft). IsTakenTo d (a_line verb.Client (word.Named (actor.Client (length ss)) ∷ []) ∷ []) (open_block g t ks ss [] 0 r)) (sym here) (record {
+client_taken : (v : ℕ) (g : Group) (t : ℕ) (ks : List Skew) (ss : List (List Request)) (r : ℕ) → IsSmall g → length ss < g.clients
+    → IsTakenTo (closed v g t ks (length ss) ss r) (a_line verb.Client (word.Named (actor.Client (length ss)) ∷ []) ∷ []) (open_block v g t ks ss [] 0 r)
+client_taken v g t ks ss r small h =
+    let here : closed v g t ks (length ss) ss r ≡ a_draft place.Between v g t ks ss [] 0 r [] = ap (λ (b : Bool). a_draft (cond b place.Mishaps place.Between) v g t ks ss [] 0 r []) (other_count (length ss) g.clients h) in
+    subst (λ (d : Draft). IsTakenTo d (a_line verb.Client (word.Named (actor.Client (length ss)) ∷ []) ∷ []) (open_block v g t ks ss [] 0 r)) (sym here) (record {
       taken = (
         (client_read (actor.Client (length ss)) (omega (arith, h, small.clients)), tt),
-        no_fault (a_draft place.Between g t ks ss [] 0 r []) (a_line verb.Client (word.Named (actor.Client (length ss)) ∷ []))
+        no_fault (a_draft place.Between v g t ks ss [] 0 r []) (a_line verb.Client (word.Named (actor.Client (length ss)) ∷ [])) refl
             (or_true (not (nat_lt (length ss) g.clients)) (length ss == length ss) (same_count (length ss)))
             (both _ _ (both _ _ (is_below (length ss) g.clients h) refl) refl) refl,
         tt,
@@ -176,26 +169,26 @@ client_taken g t ks ss r small h =
       after = refl;
     })
 
-pub scripts_taken : (g : Group) (t : ℕ) (ks : List Skew) (done rest : List (List Request)) (r : ℕ) → IsSmall g → length done + length rest ≡ g.clients → list_all are_requests rest ≡ true
+pub scripts_taken : (v : ℕ) (g : Group) (t : ℕ) (ks : List Skew) (done rest : List (List Request)) (r : ℕ) → IsSmall g → length done + length rest ≡ g.clients → list_all are_requests rest ≡ true
     → has_room_for_requests (r + request_count rest) t ≡ true
-    → IsTakenTo (closed g t ks (length done) done r) (scripts_lines (length done) rest) (closed g t ks g.clients (done ++ rest) (r + request_count rest))
-scripts_taken g t ks done [] r small count e room =
+    → IsTakenTo (closed v g t ks (length done) done r) (scripts_lines (length done) rest) (closed v g t ks g.clients (done ++ rest) (r + request_count rest))
+scripts_taken v g t ks done [] r small count e room =
     let all : length done ≡ g.clients = omega (arith, count) in
     let none : r ≡ r + 0 = omega arith in
-    record { taken = tt; after = ap (λ (n : ℕ). closed g t ks n done r) all ∙ ap (λ (x : List (List Request)). closed g t ks g.clients x r) (sym (append-nil done)) ∙ ap (λ (n : ℕ). closed g t ks g.clients (done ++ []) n) none }
-scripts_taken g t ks done (x ∷ rest) r small count e room =
+    record { taken = tt; after = ap (λ (n : ℕ). closed v g t ks n done r) all ∙ ap (λ (x : List (List Request)). closed v g t ks g.clients x r) (sym (append-nil done)) ∙ ap (λ (n : ℕ). closed v g t ks g.clients (done ++ []) n) none }
+scripts_taken v g t ks done (x ∷ rest) r small count e room =
     let p = both_of (are_requests x) (list_all are_requests rest) e in
     let head : request_count (x ∷ rest) ≡ length x + request_count rest = sum_by-cons length x rest in
     let sum : r + length x + request_count rest ≡ r + request_count (x ∷ rest) = omega (arith, head) in
     let next : length (done ++ x ∷ []) ≡ length done + 1 = length-append done (x ∷ []) in
-    let first = client_taken g t ks done r small (omega (arith, count)) in
-    let block = script_taken g t ks done [] r x p.0 (room_less (r + length x) (r + request_count (x ∷ rest)) t (omega (arith, head)) room) in
-    let more = scripts_taken g t ks (done ++ x ∷ []) rest (r + length x) small (omega (arith, next, count)) p.1 (ap (λ (n : ℕ). has_room_for_requests n t) sum ∙ room) in
-    let turned = subst (λ (n : ℕ). IsTakenTo (closed g t ks n (done ++ x ∷ []) (r + length x)) (scripts_lines n rest) (closed g t ks g.clients ((done ++ x ∷ []) ++ rest) (r + length x + request_count rest))) next more in
-    let all = then_taken (closed g t ks (length done) done r) (open_block g t ks done [] 0 r) _ (a_line verb.Client (word.Named (actor.Client (length done)) ∷ []) ∷ []) (script_lines x ++ scripts_lines (length done + 1) rest) first
-    (then_taken (open_block g t ks done [] 0 r) (closed g t ks (length done + 1) (done ++ x ∷ []) (r + length x)) _ (script_lines x) (scripts_lines (length done + 1) rest) block turned) in
+    let first = client_taken v g t ks done r small (omega (arith, count)) in
+    let block = script_taken v g t ks done [] r x p.0 (room_less (r + length x) (r + request_count (x ∷ rest)) t (omega (arith, head)) room) in
+    let more = scripts_taken v g t ks (done ++ x ∷ []) rest (r + length x) small (omega (arith, next, count)) p.1 (ap (λ (n : ℕ). has_room_for_requests n t) sum ∙ room) in
+    let turned = subst (λ (n : ℕ). IsTakenTo (closed v g t ks n (done ++ x ∷ []) (r + length x)) (scripts_lines n rest) (closed v g t ks g.clients ((done ++ x ∷ []) ++ rest) (r + length x + request_count rest))) next more in
+    let all = then_taken (closed v g t ks (length done) done r) (open_block v g t ks done [] 0 r) _ (a_line verb.Client (word.Named (actor.Client (length done)) ∷ []) ∷ []) (script_lines x ++ scripts_lines (length done + 1) rest) first
+    (then_taken (open_block v g t ks done [] 0 r) (closed v g t ks (length done + 1) (done ++ x ∷ []) (r + length x)) _ (script_lines x) (scripts_lines (length done + 1) rest) block turned) in
     record {
       taken = all.taken;
-      after = all.after ∙ ap (λ (y : List (List Request)). closed g t ks g.clients y (r + length x + request_count rest)) (append_assoc done (x ∷ []) rest)
-          ∙ ap (λ (n : ℕ). closed g t ks g.clients (done ++ x ∷ rest) n) sum;
+      after = all.after ∙ ap (λ (y : List (List Request)). closed v g t ks g.clients y (r + length x + request_count rest)) (append_assoc done (x ∷ []) rest)
+          ∙ ap (λ (n : ℕ). closed v g t ks g.clients (done ++ x ∷ rest) n) sum;
     }

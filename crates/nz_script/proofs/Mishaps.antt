@@ -19,7 +19,7 @@ use Rattle.nz_script.specs.declared.group.Group.{Group}
 use Rattle.nz_script.specs.declared.draft.Draft.{Draft}
 use Rattle.nz_script.specs.Shapes.{forms_of}
 use Rattle.nz_script.specs.Forms.{actors_as}
-use Rattle.nz_script.specs.Drafts.{in_order, is_new_skew, has_room, knows, is_server, is_replica, is_known, all_known, all_within, is_span, fault_in, has_room_for_faults, with_words}
+use Rattle.nz_script.specs.Drafts.{version_has, in_order, is_new_skew, has_room, knows, is_server, is_replica, is_known, all_known, all_within, is_span, fault_in, has_room_for_faults, with_words}
 use Rattle.nz_script.specs.Texts.{actors_of, fault_line}
 use Rattle.nz_script.specs.Valid.{is_sound}
 use Rattle.nz_script.proofs.Passing.{both, both_of}
@@ -143,18 +143,28 @@ fault_read g (fault.Alarm a t) small e h =
     record { reads = (replica_read a (known_small g a small (rest (is_replica a) (knows g a) p)), (reads_number 1 20000 t c, tt)); again = ap (λ (m : ℕ). fault.Alarm a m) (number_again t c) }
 
 -- the draft behind the blocks
-abbrev pub mishaps : Group → ℕ → List Skew → List (List Request) → ℕ → List Fault → Draft
-mishaps g t ks ss r fs = a_draft place.Mishaps g t ks ss [] 0 r fs
+abbrev pub mishaps : ℕ → Group → ℕ → List Skew → List (List Request) → ℕ → List Fault → Draft
+mishaps v g t ks ss r fs = a_draft place.Mishaps v g t ks ss [] 0 r fs
 
-ordered : (g : Group) (t : ℕ) (ks : List Skew) (ss : List (List Request)) (r : ℕ) (fs : List Fault) (f : Fault) → in_order (mishaps g t ks ss r fs) (fault_line f) ≡ true
-ordered g t ks ss r fs (fault.Drop a b k n) = refl
-ordered g t ks ss r fs (fault.Hold a b k n x) = refl
-ordered g t ks ss r fs (fault.Twice a b k n x) = refl
-ordered g t ks ss r fs (fault.Cut a b k n x) = refl
-ordered g t ks ss r fs (fault.Block a b x y) = refl
-ordered g t ks ss r fs (fault.Crash a x) = refl
-ordered g t ks ss r fs (fault.Restart a x) = refl
-ordered g t ks ss r fs (fault.Alarm a x) = refl
+ordered : (v : ℕ) (g : Group) (t : ℕ) (ks : List Skew) (ss : List (List Request)) (r : ℕ) (fs : List Fault) (f : Fault) → in_order (mishaps v g t ks ss r fs) (fault_line f) ≡ true
+ordered v g t ks ss r fs (fault.Drop a b k n) = refl
+ordered v g t ks ss r fs (fault.Hold a b k n x) = refl
+ordered v g t ks ss r fs (fault.Twice a b k n x) = refl
+ordered v g t ks ss r fs (fault.Cut a b k n x) = refl
+ordered v g t ks ss r fs (fault.Block a b x y) = refl
+ordered v g t ks ss r fs (fault.Crash a x) = refl
+ordered v g t ks ss r fs (fault.Restart a x) = refl
+ordered v g t ks ss r fs (fault.Alarm a x) = refl
+
+any_version : (v : ℕ) (f : Fault) → version_has v (fault_line f).verb ≡ true
+any_version v (fault.Drop a b k n) = refl
+any_version v (fault.Hold a b k n x) = refl
+any_version v (fault.Twice a b k n x) = refl
+any_version v (fault.Cut a b k n x) = refl
+any_version v (fault.Block a b x y) = refl
+any_version v (fault.Crash a x) = refl
+any_version v (fault.Restart a x) = refl
+any_version v (fault.Alarm a x) = refl
 
 no_skew : (d : Draft) (f : Fault) → is_new_skew d (fault_line f).verb (fault_line f).words ≡ true
 no_skew d (fault.Drop a b k n) = refl
@@ -176,40 +186,40 @@ room_of d (fault.Crash a x) = refl
 room_of d (fault.Restart a x) = refl
 room_of d (fault.Alarm a x) = refl
 
-with_fault : (g : Group) (t : ℕ) (ks : List Skew) (ss : List (List Request)) (r : ℕ) (fs : List Fault) (f : Fault) → with_words (mishaps g t ks ss r fs) (fault_line f).verb (fault_line f).words ≡ mishaps g t ks ss r (fs ++ fault_in (mishap_of f) (fault_line f).words ∷ [])
-with_fault g t ks ss r fs (fault.Drop a b k n) = refl
-with_fault g t ks ss r fs (fault.Hold a b k n x) = refl
-with_fault g t ks ss r fs (fault.Twice a b k n x) = refl
-with_fault g t ks ss r fs (fault.Cut a b k n x) = refl
-with_fault g t ks ss r fs (fault.Block a b x y) = refl
-with_fault g t ks ss r fs (fault.Crash a x) = refl
-with_fault g t ks ss r fs (fault.Restart a x) = refl
-with_fault g t ks ss r fs (fault.Alarm a x) = refl
+with_fault : (v : ℕ) (g : Group) (t : ℕ) (ks : List Skew) (ss : List (List Request)) (r : ℕ) (fs : List Fault) (f : Fault) → with_words (mishaps v g t ks ss r fs) (fault_line f).verb (fault_line f).words ≡ mishaps v g t ks ss r (fs ++ fault_in (mishap_of f) (fault_line f).words ∷ [])
+with_fault v g t ks ss r fs (fault.Drop a b k n) = refl
+with_fault v g t ks ss r fs (fault.Hold a b k n x) = refl
+with_fault v g t ks ss r fs (fault.Twice a b k n x) = refl
+with_fault v g t ks ss r fs (fault.Cut a b k n x) = refl
+with_fault v g t ks ss r fs (fault.Block a b x y) = refl
+with_fault v g t ks ss r fs (fault.Crash a x) = refl
+with_fault v g t ks ss r fs (fault.Restart a x) = refl
+with_fault v g t ks ss r fs (fault.Alarm a x) = refl
 
 fewer_faults : (r a b : ℕ) → a ≤ b → has_room_for_faults r b ≡ true → has_room_for_faults r a ≡ true
 fewer_faults r a b h e =
     let p = both_of (nat_le b 1000) (nat_le (r * b) 200000) e in
     both _ _ (is_most a 1000 (omega (arith, h, below_most b 1000 p.0))) (is_most (r * a) 200000 (omega (arith, mul-le-mul_left r h, below_most (r * b) 200000 p.1)))
 
-pub faults_taken : (g : Group) (t : ℕ) (ks : List Skew) (ss : List (List Request)) (r : ℕ) (done fs : List Fault) → IsSmall g → list_all (λ f. is_sound g (fault_line f)) fs ≡ true
-    → has_room_for_faults r (length done + length fs) ≡ true → IsTakenTo (mishaps g t ks ss r done) (map fault_line fs) (mishaps g t ks ss r (done ++ fs))
-faults_taken g t ks ss r done [] small e room = record { taken = tt; after = ap (mishaps g t ks ss r) (sym (append-nil done)) }
-faults_taken g t ks ss r done (f ∷ fs) small e room =
+pub faults_taken : (v : ℕ) (g : Group) (t : ℕ) (ks : List Skew) (ss : List (List Request)) (r : ℕ) (done fs : List Fault) → IsSmall g → list_all (λ f. is_sound g (fault_line f)) fs ≡ true
+    → has_room_for_faults r (length done + length fs) ≡ true → IsTakenTo (mishaps v g t ks ss r done) (map fault_line fs) (mishaps v g t ks ss r (done ++ fs))
+faults_taken v g t ks ss r done [] small e room = record { taken = tt; after = ap (mishaps v g t ks ss r) (sym (append-nil done)) }
+faults_taken v g t ks ss r done (f ∷ fs) small e room =
     let p = both_of (is_sound g (fault_line f)) (list_all (λ f. is_sound g (fault_line f)) fs) e in
     let q = both_of (known g f) (within f && is_span (fault_line f).verb (fault_line f).words) p.0 in
     let w = both_of (within f) (is_span (fault_line f).verb (fault_line f).words) q.1 in
     let x = fault_read g f small q.0 w.0 in
-    let step : with_words (mishaps g t ks ss r done) (fault_line f).verb (fault_line f).words ≡ mishaps g t ks ss r (done ++ f ∷ [])
-    = with_fault g t ks ss r done f ∙ ap (λ (y : Fault). mishaps g t ks ss r (done ++ y ∷ [])) x.again in
+    let step : with_words (mishaps v g t ks ss r done) (fault_line f).verb (fault_line f).words ≡ mishaps v g t ks ss r (done ++ f ∷ [])
+    = with_fault v g t ks ss r done f ∙ ap (λ (y : Fault). mishaps v g t ks ss r (done ++ y ∷ [])) x.again in
     let next : length (done ++ f ∷ []) ≡ length done + 1 = length-append done (f ∷ []) in
     let sum : length (done ++ f ∷ []) + length fs ≡ length done + length (f ∷ fs) = omega (arith, next) in
-    let more = faults_taken g t ks ss r (done ++ f ∷ []) fs small p.1 (ap (has_room_for_faults r) sum ∙ room) in
+    let more = faults_taken v g t ks ss r (done ++ f ∷ []) fs small p.1 (ap (has_room_for_faults r) sum ∙ room) in
     record {
       taken = (
         x.reads,
-        no_fault (mishaps g t ks ss r done) (fault_line f) (ordered g t ks ss r done f) (both _ _ q.0 (no_skew (mishaps g t ks ss r done) f))
-            (both _ _ q.1 (room_of (mishaps g t ks ss r done) f ∙ fewer_faults r (length done + 1) (length done + length (f ∷ fs)) (omega arith) room)),
+        no_fault (mishaps v g t ks ss r done) (fault_line f) (any_version v f) (ordered v g t ks ss r done f) (both _ _ q.0 (no_skew (mishaps v g t ks ss r done) f))
+            (both _ _ q.1 (room_of (mishaps v g t ks ss r done) f ∙ fewer_faults r (length done + 1) (length done + length (f ∷ fs)) (omega arith) room)),
         subst (λ (d : Draft). AreTaken d (map fault_line fs)) (sym step) more.taken,
       );
-      after = ap (λ (d : Draft). after_lines d (map fault_line fs)) step ∙ more.after ∙ ap (mishaps g t ks ss r) (append_assoc done (f ∷ []) fs);
+      after = ap (λ (d : Draft). after_lines d (map fault_line fs)) step ∙ more.after ∙ ap (mishaps v g t ks ss r) (append_assoc done (f ∷ []) fs);
     }

@@ -74,15 +74,16 @@ spelled Cas (k ∷ old ∷ new ∷ more) e =
 pub command_is_valid : (ask : Ask) (words : List Word) → all_within (ask_shape_of ask).2 words ≡ true → IsValid (command_in ask words)
 command_is_valid ask words e = (tells_valid (command_in ask words)).0 (spelled ask words e)
 
-third_passed : (a b c : Bool) → cond (not a) (Some kind.Order) (cond (not b) (Some kind.Name) (cond (not c) (Some kind.Limit) None)) ≡ None → c ≡ true
-third_passed a b true e = refl
-third_passed true true false e = absurd cc
-third_passed true false false e = absurd cc
-third_passed false b false e = absurd cc
+last_passed : (k a b c : Bool) → cond (not k) (Some kind.Syntax) (cond (not a) (Some kind.Order) (cond (not b) (Some kind.Name) (cond (not c) (Some kind.Limit) None))) ≡ None → c ≡ true
+last_passed k a b true e = refl
+last_passed true true true false e = absurd cc
+last_passed true true false false e = absurd cc
+last_passed true false b false e = absurd cc
+last_passed false a b false e = absurd cc
 
 -- a line with nothing wrong is within the limits
 pub passed : (d : Draft) (line : Line) → fault_of d line ≡ None → within_limits d line ≡ true
-passed d line e = third_passed _ _ _ e
+passed d line e = last_passed _ _ _ _ e
 
 pub passed_forms : (d : Draft) (line : Line) → fault_of d line ≡ None → all_within (forms_of line.verb) line.words ≡ true
 passed_forms d line e = (both_of (all_within (forms_of line.verb) line.words) (is_span line.verb line.words) (both_of (all_within (forms_of line.verb) line.words && is_span line.verb line.words) (has_room d line.verb) (passed d line e)).0).0

@@ -37,7 +37,7 @@ use Rattle.nz_script.specs.declared.draft.Draft.{Draft}
 use Rattle.nz_script.specs.Shapes.{rank_of, forms_of, place_of, tick}
 use Rattle.nz_script.specs.Forms.{number_as, number_in, byte_in, actor_as, actor_in}
 use Rattle.nz_script.specs.Lines.{line_of}
-use Rattle.nz_script.specs.Drafts.{in_order, names_known, within_limits, knows, suits, is_known, all_known, is_new_skew, all_within, has_number, has_room, has_room_for_requests, has_room_for_faults, is_in_turn, command_in, fault_in, with_words, start, scenario_of}
+use Rattle.nz_script.specs.Drafts.{version_has, in_order, names_known, within_limits, knows, suits, is_known, all_known, is_new_skew, all_within, has_number, has_room, has_room_for_requests, has_room_for_faults, is_in_turn, command_in, fault_in, with_words, start, scenario_of}
 use Rattle.nz_script.specs.Reading.{fault_of, taken, taken_if_shaped, is_passed_over, step, most_bytes, behind, reading, scenario}
 use Rattle.nz_script.specs.Bytes.{lines_in, tail_in}
 use Rattle.nz_script.specs.Valid.{is_request, are_requests, request_count, calls_known, IsRunnable}
@@ -51,6 +51,7 @@ record IsHead (g : Group) (ticks : ℕ) : Type 0 where
   cluster : is_between 1 4 g.cluster ≡ true
   proxies : is_between 1 8 g.proxies ≡ true
   clients : is_between 1 64 g.clients ≡ true
+  window : is_between 1 16 g.window ≡ true
   span : is_between 1 20000 ticks ≡ true
 
 record HasRequests (scripts : List (List Request)) (block : List Request) (wait requests ticks : ℕ) : Type 0 where
@@ -66,12 +67,12 @@ record HasFaults (g : Group) (requests : ℕ) (faults : List Fault) : Type 0 whe
 
 -- What is not there yet at a place, and whether each client has its script.
 record IsAt (rank : ℕ) (g : Group) (scripts : List (List Request)) (block : List Request) (requests : ℕ) (faults : List Fault) : Type 0 where
-  no_scripts : rank < 5 → scripts ≡ []
-  no_block : rank < 5 → block ≡ []
-  no_requests : rank < 5 → requests ≡ 0
-  no_faults : rank < 7 → faults ≡ []
-  unended : rank < 7 → length scripts < g.clients
-  full : 7 ≤ rank → length scripts ≡ g.clients
+  no_scripts : rank < 6 → scripts ≡ []
+  no_block : rank < 6 → block ≡ []
+  no_requests : rank < 6 → requests ≡ 0
+  no_faults : rank < 8 → faults ≡ []
+  unended : rank < 8 → length scripts < g.clients
+  full : 8 ≤ rank → length scripts ≡ g.clients
 
 record IsSound (d : Draft) : Type 0 where
   head : IsHead d.group d.ticks
@@ -81,7 +82,7 @@ record IsSound (d : Draft) : Type 0 where
 
 sound_at_start : IsSound start
 sound_at_start = record {
-  head = record { cluster = refl; proxies = refl; clients = refl; span = refl };
+  head = record { cluster = refl; proxies = refl; clients = refl; window = refl; span = refl };
   requests = record { counted = refl; whole = refl; begun = refl; waits = refl; room = refl };
   faults = record { room = refl; calls = refl };
   place = record { no_scripts = λ _. refl; no_block = λ _. refl; no_requests = λ _. refl; no_faults = λ _. refl; unended = λ _. omega arith; full = λ h. absurd (omega (arith, h)) };
@@ -89,17 +90,19 @@ sound_at_start = record {
 
 -- ---- what the tests of a line show
 
-first_passed : (a b c : Bool) → cond (not a) (Some kind.Order) (cond (not b) (Some kind.Name) (cond (not c) (Some kind.Limit) None)) ≡ None → a ≡ true
-first_passed true b c e = refl
-first_passed false b c e = absurd cc
+order_passed : (k a b c : Bool) → cond (not k) (Some kind.Syntax) (cond (not a) (Some kind.Order) (cond (not b) (Some kind.Name) (cond (not c) (Some kind.Limit) None))) ≡ None → a ≡ true
+order_passed true true b c e = refl
+order_passed true false b c e = absurd cc
+order_passed false a b c e = absurd cc
 
-second_passed : (a b c : Bool) → cond (not a) (Some kind.Order) (cond (not b) (Some kind.Name) (cond (not c) (Some kind.Limit) None)) ≡ None → b ≡ true
-second_passed true true c e = refl
-second_passed true false c e = absurd cc
-second_passed false b c e = absurd cc
+names_passed : (k a b c : Bool) → cond (not k) (Some kind.Syntax) (cond (not a) (Some kind.Order) (cond (not b) (Some kind.Name) (cond (not c) (Some kind.Limit) None))) ≡ None → b ≡ true
+names_passed true true true c e = refl
+names_passed true true false c e = absurd cc
+names_passed true false b c e = absurd cc
+names_passed false a b c e = absurd cc
 
 stands : (d : Draft) (l : Line) → fault_of d l ≡ None → rank_of d.place ≡ rank_of (place_of l.verb)
-stands d l e = eqb-true (rank_of d.place) (rank_of (place_of l.verb)) (both_of (rank_of d.place == rank_of (place_of l.verb)) (is_in_turn d l.verb l.words) (first_passed (in_order d l) (names_known d l) (within_limits d l) e)).0
+stands d l e = eqb-true (rank_of d.place) (rank_of (place_of l.verb)) (both_of (rank_of d.place == rank_of (place_of l.verb)) (is_in_turn d l.verb l.words) (order_passed (version_has d.version l.verb) (in_order d l) (names_known d l) (within_limits d l) e)).0
 
 number_fits : (low high most : ℕ) (w : Word) (more : Bool) → high ≤ most → (has_number low high w && more) ≡ true → is_between low high (number_as most (Some w)) ≡ true
 number_fits low high most (word.Number n) more h e =
@@ -133,7 +136,7 @@ blank_calls : (g : Group) (faults : List Fault) → faults ≡ [] → list_all (
 blank_calls g faults e = ap (λ (fs : List Fault). list_all (calls_known g) fs) e
 
 -- in the head nothing but the head is read
-at_head : (rank next : ℕ) (g h : Group) (scripts : List (List Request)) (block : List Request) (requests : ℕ) (faults : List Fault) → rank < 5 → next < 6 → 1 ≤ h.clients
+at_head : (rank next : ℕ) (g h : Group) (scripts : List (List Request)) (block : List Request) (requests : ℕ) (faults : List Fault) → rank < 6 → next < 7 → 1 ≤ h.clients
     → IsAt rank g scripts block requests faults → IsAt next h scripts block requests faults
 at_head rank next g h scripts block requests faults low small some p = record {
   no_scripts = λ _. p.no_scripts low;
@@ -144,7 +147,7 @@ at_head rank next g h scripts block requests faults low small some p = record {
   full = λ high. absurd (omega (arith, small, high));
 }
 
-low_rank : (d : Draft) (n : ℕ) → rank_of d.place ≡ n → n < 5 → rank_of d.place < 5
+low_rank : (d : Draft) (n : ℕ) → rank_of d.place ≡ n → n < 6 → rank_of d.place < 6
 low_rank d n e h = omega (arith, e, h)
 
 least : (low high n : ℕ) → is_between low high n ≡ true → low ≤ n
@@ -152,6 +155,15 @@ least low high n e = below_most low n (both_of (nat_le low n) (nat_le n high) e)
 
 blank_room : (r t u : ℕ) → r ≡ 0 → has_room_for_requests r t ≡ true → has_room_for_requests r u ≡ true
 blank_room r t u e h = ap (λ (n : ℕ). has_room_for_requests n u) e ∙ both _ _ refl (is_most (0 * u) 2000000 (omega arith))
+
+behind_ticks : (two : Bool) → rank_of (cond two place.Window place.Between) < 7
+behind_ticks true = omega arith
+behind_ticks false = omega arith
+
+any_window : (n : ℕ) → is_between 2 16 n ≡ true → is_between 1 16 n ≡ true
+any_window n e =
+    let p = both_of (nat_le 2 n) (nat_le n 16) e in
+    both _ _ (is_most 1 n (omega (arith, below_most 2 n p.0))) p.1
 
 head_kept : (d : Draft) (h : Head) (words : List Word) → IsSound d → rank_of d.place ≡ rank_of (place_of (verb.Head h)) → in_head h words ≡ true → IsSound (with_words d (verb.Head h) words)
 head_kept d head.Version words p e fits = record {
@@ -164,7 +176,7 @@ head_kept d head.Faulty words p e fits =
     let low = low_rank d 1 e (omega arith) in
     let g : Group = record d.group { cluster = byte_in 0 words } in
     record {
-      head = record { cluster = byte_fits 1 4 words (omega arith) fits; proxies = p.head.proxies; clients = p.head.clients; span = p.head.span };
+      head = record { cluster = byte_fits 1 4 words (omega arith) fits; proxies = p.head.proxies; clients = p.head.clients; window = p.head.window; span = p.head.span };
       requests = p.requests;
       faults = record { room = p.faults.room; calls = blank_calls g d.faults (p.place.no_faults (omega (arith, low))) };
       place = at_head (rank_of d.place) 2 d.group g d.scripts d.block d.requests d.faults low (omega arith) (least 1 64 d.group.clients p.head.clients) p.place;
@@ -173,7 +185,7 @@ head_kept d head.Proxies words p e fits =
     let low = low_rank d 2 e (omega arith) in
     let g : Group = record d.group { proxies = byte_in 0 words } in
     record {
-      head = record { cluster = p.head.cluster; proxies = byte_fits 1 8 words (omega arith) fits; clients = p.head.clients; span = p.head.span };
+      head = record { cluster = p.head.cluster; proxies = byte_fits 1 8 words (omega arith) fits; clients = p.head.clients; window = p.head.window; span = p.head.span };
       requests = p.requests;
       faults = record { room = p.faults.room; calls = blank_calls g d.faults (p.place.no_faults (omega (arith, low))) };
       place = at_head (rank_of d.place) 3 d.group g d.scripts d.block d.requests d.faults low (omega arith) (least 1 64 d.group.clients p.head.clients) p.place;
@@ -183,7 +195,7 @@ head_kept d head.Clients words p e fits =
     let g : Group = record d.group { clients = byte_in 0 words } in
     let clients = byte_fits 1 64 words (omega arith) fits in
     record {
-      head = record { cluster = p.head.cluster; proxies = p.head.proxies; clients = clients; span = p.head.span };
+      head = record { cluster = p.head.cluster; proxies = p.head.proxies; clients = clients; window = p.head.window; span = p.head.span };
       requests = p.requests;
       faults = record { room = p.faults.room; calls = blank_calls g d.faults (p.place.no_faults (omega (arith, low))) };
       place = at_head (rank_of d.place) 4 d.group g d.scripts d.block d.requests d.faults low (omega arith) (least 1 64 (byte_in 0 words) clients) p.place;
@@ -191,16 +203,25 @@ head_kept d head.Clients words p e fits =
 head_kept d head.Ticks words p e fits =
     let low = low_rank d 4 e (omega arith) in
     record {
-      head = record { cluster = p.head.cluster; proxies = p.head.proxies; clients = p.head.clients; span = ticks_fit words fits };
+      head = record { cluster = p.head.cluster; proxies = p.head.proxies; clients = p.head.clients; window = p.head.window; span = ticks_fit words fits };
       requests = record { counted = p.requests.counted; whole = p.requests.whole; begun = p.requests.begun; waits = p.requests.waits; room = blank_room d.requests d.ticks (number_in 0 words) (p.place.no_requests low) p.requests.room };
       faults = p.faults;
-      place = at_head (rank_of d.place) 5 d.group d.group d.scripts d.block d.requests d.faults low (omega arith) (least 1 64 d.group.clients p.head.clients) p.place;
+      place = at_head (rank_of d.place) (rank_of (cond (d.version == 2) place.Window place.Between)) d.group d.group d.scripts d.block d.requests d.faults low (behind_ticks (d.version == 2)) (least 1 64 d.group.clients p.head.clients) p.place;
+    }
+head_kept d head.Window words p e fits =
+    let low = low_rank d 5 e (omega arith) in
+    let g : Group = record d.group { window = byte_in 0 words } in
+    record {
+      head = record { cluster = p.head.cluster; proxies = p.head.proxies; clients = p.head.clients; window = any_window (byte_in 0 words) (byte_fits 2 16 words (omega arith) fits); span = p.head.span };
+      requests = p.requests;
+      faults = record { room = p.faults.room; calls = blank_calls g d.faults (p.place.no_faults (omega (arith, low))) };
+      place = at_head (rank_of d.place) 6 d.group g d.scripts d.block d.requests d.faults low (omega arith) (least 1 64 d.group.clients p.head.clients) p.place;
     }
 
 -- ---- the lines of a block
 
 -- behind the head, where the same has been read
-moved : (rank next : ℕ) (g : Group) (scripts : List (List Request)) (block : List Request) (requests : ℕ) (faults : List Fault) → 5 ≤ next → (next < 7 → rank < 7) → (7 ≤ next → 7 ≤ rank)
+moved : (rank next : ℕ) (g : Group) (scripts : List (List Request)) (block : List Request) (requests : ℕ) (faults : List Fault) → 6 ≤ next → (next < 8 → rank < 8) → (8 ≤ next → 8 ≤ rank)
     → IsAt rank g scripts block requests faults → IsAt next g scripts block requests faults
 moved rank next g scripts block requests faults high lasts full p = record {
   no_scripts = λ low. absurd (omega (arith, low, high));
@@ -212,7 +233,7 @@ moved rank next g scripts block requests faults high lasts full p = record {
 }
 
 -- in a block, with one request more
-asked : (rank : ℕ) (g : Group) (scripts : List (List Request)) (block more : List Request) (requests next : ℕ) (faults : List Fault) → rank ≡ 6
+asked : (rank : ℕ) (g : Group) (scripts : List (List Request)) (block more : List Request) (requests next : ℕ) (faults : List Fault) → rank ≡ 7
     → IsAt rank g scripts block requests faults → IsAt rank g scripts more next faults
 asked rank g scripts block more requests next faults e p = record {
   no_scripts = λ low. absurd (omega (arith, low, e));
@@ -232,7 +253,7 @@ no_faults_room r faults e = ap (λ (fs : List Fault). has_room_for_faults r (len
 one_more : (scripts : List (List Request)) (block : List Request) (q : Request) (requests : ℕ) → sum_by length scripts + length block ≡ requests → sum_by length scripts + length (block ++ q ∷ []) ≡ requests + 1
 one_more scripts block q requests e = omega (arith, e, length-append block (q ∷ []))
 
-ask_kept : (d : Draft) (a : Ask) (words : List Word) → IsSound d → rank_of d.place ≡ 6 → all_within (forms_of (verb.Ask a)) words ≡ true → has_room d (verb.Ask a) ≡ true → IsSound (with_words d (verb.Ask a) words)
+ask_kept : (d : Draft) (a : Ask) (words : List Word) → IsSound d → rank_of d.place ≡ 7 → all_within (forms_of (verb.Ask a)) words ≡ true → has_room d (verb.Ask a) ≡ true → IsSound (with_words d (verb.Ask a) words)
 ask_kept d a words p e fits room =
     let c = command_in a words in
     let q : Request = record { wait = d.wait; command = spelling c } in
@@ -285,7 +306,7 @@ closed g scripts block requests faults false e lasts none = record {
   full = λ high. absurd (omega (arith, high));
 }
 
-end_kept : (d : Draft) (words : List Word) → IsSound d → rank_of d.place ≡ 6 → IsSound (with_words d verb.End words)
+end_kept : (d : Draft) (words : List Word) → IsSound d → rank_of d.place ≡ 7 → IsSound (with_words d verb.End words)
 end_kept d words p e = record {
   head = p.head;
   requests = record {
@@ -330,7 +351,7 @@ fault_known g mishap.Crash words e = called_known g form.Server tick words e
 fault_known g mishap.Restart words e = called_known g form.Server tick words e
 fault_known g mishap.Alarm words e = called_known g form.Replica tick words e
 
-faulted : (rank : ℕ) (g : Group) (scripts : List (List Request)) (block : List Request) (requests : ℕ) (faults more : List Fault) → rank ≡ 7
+faulted : (rank : ℕ) (g : Group) (scripts : List (List Request)) (block : List Request) (requests : ℕ) (faults more : List Fault) → rank ≡ 8
     → IsAt rank g scripts block requests faults → IsAt rank g scripts block requests more
 faulted rank g scripts block requests faults more e p = record {
   no_scripts = p.no_scripts;
@@ -341,7 +362,7 @@ faulted rank g scripts block requests faults more e p = record {
   full = p.full;
 }
 
-mishap_kept : (d : Draft) (m : Mishap) (words : List Word) → IsSound d → rank_of d.place ≡ 7 → all_known d.group (forms_of (verb.Mishap m)) words ≡ true → has_room d (verb.Mishap m) ≡ true
+mishap_kept : (d : Draft) (m : Mishap) (words : List Word) → IsSound d → rank_of d.place ≡ 8 → all_known d.group (forms_of (verb.Mishap m)) words ≡ true → has_room d (verb.Mishap m) ≡ true
     → IsSound (with_words d (verb.Mishap m) words)
 mishap_kept d m words p e known room =
     let f = fault_in m words in
@@ -357,13 +378,13 @@ mishap_kept d m words p e known room =
 
 -- ---- every line
 
-ask_rank : (a : Ask) → rank_of (place_of (verb.Ask a)) ≡ 6
+ask_rank : (a : Ask) → rank_of (place_of (verb.Ask a)) ≡ 7
 ask_rank Put = refl
 ask_rank Get = refl
 ask_rank Del = refl
 ask_rank Cas = refl
 
-mishap_rank : (m : Mishap) → rank_of (place_of (verb.Mishap m)) ≡ 7
+mishap_rank : (m : Mishap) → rank_of (place_of (verb.Mishap m)) ≡ 8
 mishap_rank mishap.Drop = refl
 mishap_rank mishap.Hold = refl
 mishap_rank mishap.Twice = refl
@@ -382,7 +403,7 @@ kept d verb.Client words p e =
       head = p.head;
       requests = p.requests;
       faults = p.faults;
-      place = moved (rank_of d.place) 6 d.group d.scripts d.block d.requests d.faults (omega arith) (λ _. omega (arith, at)) (λ big. absurd (omega (arith, big))) p.place;
+      place = moved (rank_of d.place) 7 d.group d.scripts d.block d.requests d.faults (omega arith) (λ _. omega (arith, at)) (λ big. absurd (omega (arith, big))) p.place;
     }
 kept d (verb.Ask a) words p e =
     let line : Line = record { verb = verb.Ask a; words = words } in
@@ -392,14 +413,14 @@ kept d verb.End words p e = end_kept d words p (stands d (record { verb = verb.E
 kept d (verb.Mishap m) words p e =
     let line : Line = record { verb = verb.Mishap m; words = words } in
     mishap_kept d m words p (stands d line e ∙ mishap_rank m)
-    (both_of (all_known d.group (forms_of (verb.Mishap m)) words) (is_new_skew d (verb.Mishap m) words) (second_passed (in_order d line) (names_known d line) (within_limits d line) e)).0 (passed_room d line e)
+    (both_of (all_known d.group (forms_of (verb.Mishap m)) words) (is_new_skew d (verb.Mishap m) words) (names_passed (version_has d.version line.verb) (in_order d line) (names_known d line) (within_limits d line) e)).0 (passed_room d line e)
 kept d verb.Done words p e =
     let at = stands d (record { verb = verb.Done; words = words }) e in
     record {
       head = p.head;
       requests = p.requests;
       faults = p.faults;
-      place = moved (rank_of d.place) 8 d.group d.scripts d.block d.requests d.faults (omega arith) (λ low. absurd (omega (arith, low))) (λ _. omega (arith, at)) p.place;
+      place = moved (rank_of d.place) 9 d.group d.scripts d.block d.requests d.faults (omega arith) (λ low. absurd (omega (arith, low))) (λ _. omega (arith, at)) p.place;
     }
 
 -- ---- every text
@@ -432,11 +453,11 @@ fault_room_of_fewer a b n h e =
 is_same : (n m : ℕ) → n ≡ m → (n == m) ≡ true
 is_same n m e = grind (arith, e)
 
-runnable : (d : Draft) → IsSound d → rank_of d.place ≡ 8 → IsRunnable (scenario_of d)
+runnable : (d : Draft) → IsSound d → rank_of d.place ≡ 9 → IsRunnable (scenario_of d)
 runnable d p e =
     let few : request_count d.scripts ≤ d.requests = omega (arith, p.requests.counted) in
     record {
-      group = both _ _ (both _ _ (both _ _ p.head.cluster p.head.proxies) (both _ _ p.head.clients p.head.span)) (is_same (length d.scripts) d.group.clients (p.place.full (omega (arith, e))));
+      group = both _ _ (both _ _ (both _ _ p.head.cluster p.head.proxies) (both _ _ p.head.clients p.head.span)) (both _ _ p.head.window (is_same (length d.scripts) d.group.clients (p.place.full (omega (arith, e)))));
       requests = p.requests.whole;
       few = both _ _ (room_less (request_count d.scripts) d.requests d.ticks few p.requests.room) (fault_room_of_fewer (request_count d.scripts) d.requests (length d.faults) few p.faults.room);
       calls = p.faults.calls;
@@ -446,11 +467,11 @@ abbrev scenario_in : Scenario → Result Scenario ScriptFault → Scenario
 scenario_in s (Ok found) = found
 scenario_in s (Err fault) = s
 
-ended : (n : ℕ) (d : Draft) (s : Scenario) (long whole ends : Bool) → (rank_of d.place == 8) ≡ ends → IsSound d
+ended : (n : ℕ) (d : Draft) (s : Scenario) (long whole ends : Bool) → (rank_of d.place == 9) ≡ ends → IsSound d
     → cond long (Err (Refusal n kind.Limit)) (cond (not whole) (Err (Refusal n kind.Syntax)) (cond ends (Ok (scenario_of d)) (Err (Refusal n kind.Order)))) ≡ Ok s → IsRunnable s
 ended n d s true whole ends at p e = absurd cc
 ended n d s false false ends at p e = absurd cc
-ended n d s false true true at p e = subst IsRunnable (ap (scenario_in s) e) (runnable d p (eqb-true (rank_of d.place) 8 at))
+ended n d s false true true at p e = subst IsRunnable (ap (scenario_in s) e) (runnable d p (eqb-true (rank_of d.place) 9 at))
 ended n d s false true false at p e = absurd cc
 
 next_runnable : (n : ℕ) (s : Scenario) (further : Draft → Result Scenario ScriptFault) (answer : Result Draft Kind) → ((next : Draft) → answer ≡ Ok next → further next ≡ Ok s → IsRunnable s) → behind n further answer ≡ Ok s → IsRunnable s
@@ -458,7 +479,7 @@ next_runnable n s further (Ok next) later e = later next refl e
 next_runnable n s further (Err kind) later e = absurd cc
 
 reading_runnable : (long : Bool) (tail : List ℕ) (n : ℕ) (d : Draft) (lines : List (List ℕ)) (s : Scenario) → IsSound d → reading long tail n d lines ≡ Ok s → IsRunnable s
-reading_runnable long tail n d [] s p e = ended n d s long (length tail == 0) (rank_of d.place == 8) refl p e
+reading_runnable long tail n d [] s p e = ended n d s long (length tail == 0) (rank_of d.place == 9) refl p e
 reading_runnable long tail n d (line ∷ lines) s p e =
     next_runnable n s (λ next. reading long tail (n + 1) next lines) (step d line) (λ next h f. reading_runnable long tail (n + 1) next lines s (step_kept d next line p h) f) e
 

@@ -1,4 +1,4 @@
--- What has been read of a scenario, the three tests of a line against it, and what a line adds.
+-- What has been read of a scenario, the tests of a line against it, and what a line adds.
 use Rattle.std.specs.Prelude.{ℕ, ◌+◌, ◌*◌, Bool, true, false, not, ◌&&◌, ◌||◌, nat_le, nat_lt, ◌==◌, if◌then◌else◌, List, [], ◌∷◌, ◌++◌, length, Some, None}
 use Rattle.std.specs.List.{list_any}
 use Rattle.nz_base.specs.declared.actor.Actor.{Actor}
@@ -31,6 +31,13 @@ use Rattle.nz_script.specs.declared.group.Group.{Group}
 use Rattle.nz_script.specs.declared.draft.Draft.{Draft}
 use Rattle.nz_script.specs.Shapes.{rank_of, place_of, forms_of}
 use Rattle.nz_script.specs.Forms.{number_in, byte_in, units_in, actor_in, actors_in, kind_in, text_in, choice_in}
+
+-- ---- version
+
+-- a text of this version has lines of this sort: `window` is a word of version 2 alone
+abbrev pub version_has : ℕ → Verb → Bool
+version_has version (verb.Head head.Window) = version == 2
+version_has version _ = true
 
 -- ---- order
 
@@ -180,11 +187,12 @@ fault_in mishap.Restart words = fault.Restart (actor_in 0 words) (number_in 1 wo
 fault_in mishap.Alarm words = fault.Alarm (actor_in 0 words) (number_in 1 words)
 
 abbrev pub with_head : Draft → Head → List Word → Draft
-with_head d head.Version words = record d { place = place.Faulty }
+with_head d head.Version words = record d { place = place.Faulty; version = byte_in 0 words }
 with_head d head.Faulty words = record d { place = place.Proxies; group = record d.group { cluster = byte_in 0 words } }
 with_head d head.Proxies words = record d { place = place.Clients; group = record d.group { proxies = byte_in 0 words } }
 with_head d head.Clients words = record d { place = place.Ticks; group = record d.group { clients = byte_in 0 words } }
-with_head d head.Ticks words = record d { place = place.Between; ticks = number_in 0 words }
+with_head d head.Ticks words = record d { place = if d.version == 2 then place.Window else place.Between; ticks = number_in 0 words }
+with_head d head.Window words = record d { place = place.Between; group = record d.group { window = byte_in 0 words } }
 
 abbrev pub skew_in : List Word → Skew
 skew_in words = record { actor = actor_in 0 words; units = units_in 1 words }
@@ -213,11 +221,12 @@ with_words d verb.End words = with_script d
 with_words d (verb.Mishap m) words = record d { faults = d.faults ++ fault_in m words ∷ [] }
 with_words d verb.Done words = record d { place = place.Behind }
 
--- before the first line; the numbers of the head are not read before they are set
+-- before the first line: the window is 1 where no line tells it, and the other numbers of the head are set before they are used
 abbrev pub start : Draft
 start = record {
   place = place.Version;
-  group = record { cluster = 1; proxies = 1; clients = 1 };
+  version = 1;
+  group = record { cluster = 1; proxies = 1; clients = 1; window = 1 };
   ticks = 1;
   skews = [];
   scripts = [];
@@ -232,6 +241,7 @@ scenario_of d = record {
   cluster = d.group.cluster;
   proxies = d.group.proxies;
   clients = d.group.clients;
+  window = d.group.window;
   ticks = d.ticks;
   skews = d.skews;
   scripts = d.scripts;

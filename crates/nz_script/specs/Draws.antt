@@ -67,12 +67,13 @@ abbrev pub faults_for : ℕ → ℕ → ℕ → ℕ → List Fault
 faults_for count x j zero = []
 faults_for count x j (suc n) = fault_for count x j ∷ faults_for count (next (next x)) (j + 1) n
 
--- f is 2, and there are 2 proxies, 16 clients, 1,000 ticks, and a fault for each 50 requests
+-- f is 2, and there are 2 proxies, 16 clients with one request open at a time, 1,000 ticks, and a fault for each 50 requests
 abbrev pub generated : ℕ → ℕ → Scenario
 generated seed count = record {
   cluster = 2;
   proxies = 2;
   clients = 16;
+  window = 1;
   ticks = 1000;
   skews = [];
   scripts = scripts_for 0 16 (requests_for seed 0 count);

@@ -10,19 +10,20 @@ use Rattle.nz_script.specs.declared.draft.Draft.{Draft}
 use Rattle.nz_script.specs.Bytes.{lines_in, tail_in}
 use Rattle.nz_script.specs.Shapes.{rank_of}
 use Rattle.nz_script.specs.Lines.{line_of}
-use Rattle.nz_script.specs.Drafts.{in_order, names_known, within_limits, with_words, start, scenario_of}
+use Rattle.nz_script.specs.Drafts.{version_has, in_order, names_known, within_limits, with_words, start, scenario_of}
 
 -- an empty line, or one that begins with `#`
 abbrev pub is_passed_over : List ℕ → Bool
 is_passed_over [] = true
 is_passed_over (byte ∷ bytes) = byte == 35
 
--- what is wrong with a line that has its shape: the first test that fails
+-- what is wrong with a line that has its shape: it is none of this version, or the first test that fails
 abbrev pub fault_of : Draft → Line → Option Kind
 fault_of d line =
-    if not (in_order d line) then Some Order
+    if not (version_has d.version line.verb) then Some Syntax
+    else (if not (in_order d line) then Some Order
     else (if not (names_known d line) then Some Name
-    else (if not (within_limits d line) then Some Limit else None))
+    else (if not (within_limits d line) then Some Limit else None)))
 
 abbrev pub taken : Draft → Line → Option Kind → Result Draft Kind
 taken d line (Some kind) = Err kind
@@ -51,7 +52,7 @@ abbrev pub ending : Bool → List ℕ → ℕ → Draft → Result Scenario Scri
 ending long tail n d =
     if long then Err (Refusal n Limit)
     else (if not (length tail == 0) then Err (Refusal n Syntax)
-    else (if rank_of d.place == 8 then Ok (scenario_of d) else Err (Refusal n Order)))
+    else (if rank_of d.place == 9 then Ok (scenario_of d) else Err (Refusal n Order)))
 
 -- the answer to the lines behind, where nothing is wrong with line n
 abbrev pub behind : ℕ → (Draft → Result Scenario ScriptFault) → Result Draft Kind → Result Scenario ScriptFault

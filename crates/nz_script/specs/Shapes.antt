@@ -21,10 +21,11 @@ rank_of place.Faulty = 1
 rank_of place.Proxies = 2
 rank_of place.Clients = 3
 rank_of place.Ticks = 4
-rank_of place.Between = 5
-rank_of place.Block = 6
-rank_of place.Mishaps = 7
-rank_of place.Behind = 8
+rank_of place.Window = 5
+rank_of place.Between = 6
+rank_of place.Block = 7
+rank_of place.Mishaps = 8
+rank_of place.Behind = 9
 
 -- a tick, or a number of ticks
 abbrev pub tick : Form
@@ -36,11 +37,12 @@ count = form.Number 1 1000000
 
 -- the first word, the place and the further words of the lines of the head
 abbrev pub head_shape_of : Head → List ℕ × Place × List Form
-head_shape_of head.Version = (codes "nezha", place.Version, form.Number 1 1 ∷ [])
+head_shape_of head.Version = (codes "nezha", place.Version, form.Number 1 2 ∷ [])
 head_shape_of head.Faulty = (codes "f", place.Faulty, form.Number 1 4 ∷ [])
 head_shape_of head.Proxies = (codes "proxies", place.Proxies, form.Number 1 8 ∷ [])
 head_shape_of head.Clients = (codes "clients", place.Clients, form.Number 1 64 ∷ [])
 head_shape_of head.Ticks = (codes "ticks", place.Ticks, tick ∷ [])
+head_shape_of head.Window = (codes "window", place.Window, form.Number 2 16 ∷ [])
 
 -- those of the commands
 abbrev pub ask_shape_of : Ask → List ℕ × Place × List Form
@@ -83,7 +85,7 @@ forms_of v = (shape_of v).2
 -- all sorts of lines
 abbrev pub verbs : List Verb
 verbs =
-    verb.Head head.Version ∷ verb.Head head.Faulty ∷ verb.Head head.Proxies ∷ verb.Head head.Clients ∷ verb.Head head.Ticks ∷
+    verb.Head head.Version ∷ verb.Head head.Faulty ∷ verb.Head head.Proxies ∷ verb.Head head.Clients ∷ verb.Head head.Ticks ∷ verb.Head head.Window ∷
     verb.Skew ∷ verb.Client ∷ verb.Ask Put ∷ verb.Ask Get ∷ verb.Ask Del ∷ verb.Ask Cas ∷ verb.Wait ∷ verb.End ∷
     verb.Mishap mishap.Drop ∷ verb.Mishap mishap.Hold ∷ verb.Mishap mishap.Twice ∷ verb.Mishap mishap.Cut ∷ verb.Mishap mishap.Block ∷
     verb.Mishap mishap.Crash ∷ verb.Mishap mishap.Restart ∷ verb.Mishap mishap.Alarm ∷ verb.Done ∷ []

@@ -66,13 +66,21 @@ text_of_lines (line ∷ lines) = line_text line ++ newline ∷ text_of_lines lin
 abbrev pub number_line : Verb → ℕ → Line
 number_line v n = a_line v (word.Number n ∷ [])
 
+-- a window of 1 is that of version 1, which has no line for it
+abbrev pub version_of : ℕ → ℕ
+version_of window = if window == 1 then 1 else 2
+
+-- version 2 says its window
+abbrev pub window_lines : ℕ → List Line
+window_lines window = if window == 1 then [] else number_line (verb.Head head.Window) window ∷ []
+
 abbrev pub head_lines : Scenario → List Line
 head_lines s =
-    number_line (verb.Head head.Version) 1 ∷
+    number_line (verb.Head head.Version) (version_of s.window) ∷
     number_line (verb.Head head.Faulty) s.cluster ∷
     number_line (verb.Head head.Proxies) s.proxies ∷
     number_line (verb.Head head.Clients) s.clients ∷
-    number_line (verb.Head head.Ticks) s.ticks ∷ []
+    number_line (verb.Head head.Ticks) s.ticks ∷ window_lines s.window
 
 abbrev pub units_of : ℤ → Word
 units_of (pos n) = word.Units false n

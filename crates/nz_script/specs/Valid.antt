@@ -15,15 +15,15 @@ use Rattle.nz_script.specs.Drafts.{knows, all_known, all_within, is_span, has_sk
 use Rattle.nz_script.specs.Texts.{skew_line, fault_line, text_of}
 
 abbrev pub group_of : Scenario → Group
-group_of s = record { cluster = s.cluster; proxies = s.proxies; clients = s.clients }
+group_of s = record { cluster = s.cluster; proxies = s.proxies; clients = s.clients; window = s.window }
 
 -- the actors of the line are of the group and of their sorts, and its numbers are in the ranges of the table
 abbrev pub is_sound : Group → Line → Bool
 is_sound g line = all_known g (forms_of line.verb) line.words && (all_within (forms_of line.verb) line.words && is_span line.verb line.words)
 
--- f is 1 to 4, there are 1 to 8 proxies and 1 to 64 clients with a script each, and 1 to 20,000 ticks
+-- f is 1 to 4, there are 1 to 8 proxies and 1 to 64 clients with a script each, 1 to 20,000 ticks, and a window of 1 to 16
 abbrev pub has_group : Scenario → Bool
-has_group s = ((is_within 1 4 s.cluster && is_within 1 8 s.proxies) && (is_within 1 64 s.clients && is_within 1 20000 s.ticks)) && (length s.scripts == s.clients)
+has_group s = ((is_within 1 4 s.cluster && is_within 1 8 s.proxies) && (is_within 1 64 s.clients && is_within 1 20000 s.ticks)) && (is_within 1 16 s.window && (length s.scripts == s.clients))
 
 -- no clock has two skews
 abbrev pub are_apart : List Skew → Bool

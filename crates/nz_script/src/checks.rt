@@ -3,14 +3,14 @@ ghost use Rattle.nz_base.specs.Actor.{actor_eq};
 ghost use Rattle.nz_store.specs.Reading.{is_key_text, is_value_text};
 ghost use Rattle.nz_store.specs.Grammar.{is_graphic};
 ghost use Rattle.std.specs.List.{list_all};
-ghost use Rattle.nz_script.specs.Drafts.{is_turn as turn_is, is_in_turn as line_is_in_turn, in_order as order_is_kept, suits as form_suits, is_known as word_is_known, all_known, has_skew as skew_is_there, is_new_skew as skew_is_new, names_known as names_are_known, has_number as number_is, has_units as units_are, has_value as value_is, has_key as key_is, has_choice as choice_is, is_within as word_is_within, all_within, has_room_for_requests, has_room_for_faults, has_room as room_is_left, is_span as span_is, within_limits as limits_are_kept};
+ghost use Rattle.nz_script.specs.Drafts.{version_has as has_version, is_turn as turn_is, is_in_turn as line_is_in_turn, in_order as order_is_kept, suits as form_suits, is_known as word_is_known, all_known, has_skew as skew_is_there, is_new_skew as skew_is_new, names_known as names_are_known, has_number as number_is, has_units as units_are, has_value as value_is, has_key as key_is, has_choice as choice_is, is_within as word_is_within, all_within, has_room_for_requests, has_room_for_faults, has_room as room_is_left, is_span as span_is, within_limits as limits_are_kept};
 ghost use Rattle.nz_script.specs.Reading.{fault_of as first_fault};
 
 use super::draft::Draft;
 use super::faults::Kind;
 use super::group::{Group, knows};
 use super::line::Line;
-use super::shape::{Form, Mishap, Verb};
+use super::shape::{Form, Head, Mishap, Verb};
 use super::word::{Word, actor_at, number_at};
 use nz_base::{Actor, Skew};
 
@@ -21,6 +21,16 @@ const MOST_TURNS: u64 = 2_000_000;
 const MOST_FAULTS: u64 = 1_000;
 /// Requests times faults.
 const MOST_CHANCES: u64 = 200_000;
+
+/// Whether a text of this version has lines of this sort. In version 1 the word `window` is unknown.
+fn version_has(version: u8, verb: Verb) -> bool
+    ensures { result ≡ has_version version verb }
+{
+    match verb {
+        Verb::Head(Head::Window) => version == 2,
+        _ => true,
+    }
+}
 
 fn is_turn(draft: &Draft, words: &[Word]) -> bool
     ensures { result ≡ turn_is draft.now words.now }
@@ -250,6 +260,9 @@ fn is_within_limits(draft: &Draft, line: &Line) -> bool
 pub fn fault_of(draft: &Draft, line: &Line) -> Option<Kind>
     ensures { result ≡ first_fault draft.now line.now }
 {
+    if !version_has(draft.version, line.verb) {
+        return Some(Kind::Syntax);
+    }
     if !is_in_order(draft, line) {
         return Some(Kind::Order);
     }

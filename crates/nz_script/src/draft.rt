@@ -19,6 +19,8 @@ use std::alloc::Global;
 #[derive(Debug, Drop)]
 pub struct Draft {
     pub place: Place,
+    /// That of the language, 1 or 2.
+    pub version: u8,
     pub group: Group,
     pub ticks: u32,
     pub skews: SkewList,
@@ -133,10 +135,12 @@ impl Draft {
     {
         Draft {
             place: Place::Version,
+            version: 1,
             group: Group {
                 cluster: cluster_of(1),
                 proxies: 1,
                 clients: 1,
+                window: 1,
             },
             ticks: 1,
             skews: SkewList::new(alloc),
@@ -153,7 +157,10 @@ impl Draft {
         ensures { self.new ≡ with_head self.old head words.now }
     {
         match head {
-            Head::Version => self.place = Place::Faulty,
+            Head::Version => {
+                self.place = Place::Faulty;
+                self.version = byte_at(words, 0);
+            }
             Head::Faulty => {
                 self.place = Place::Proxies;
                 self.group.cluster = cluster_of(byte_at(words, 0));
@@ -167,8 +174,16 @@ impl Draft {
                 self.group.clients = byte_at(words, 0);
             }
             Head::Ticks => {
-                self.place = Place::Between;
                 self.ticks = number_at(words, 0);
+                self.place = if self.version == 2 {
+                    Place::Window
+                } else {
+                    Place::Between
+                };
+            }
+            Head::Window => {
+                self.place = Place::Between;
+                self.group.window = byte_at(words, 0);
             }
         }
     }
@@ -229,6 +244,7 @@ impl Draft {
     {
         let Draft {
             place: _,
+            version: _,
             group,
             ticks,
             skews,
@@ -242,6 +258,7 @@ impl Draft {
             cluster: group.cluster,
             proxies: group.proxies,
             clients: group.clients,
+            window: group.window,
             ticks,
             skews,
             scripts,

@@ -157,6 +157,7 @@ pub fn generate(alloc: Global, seed: u64, count: u32) -> Result<Scenario, NoMemo
         cluster,
         proxies: 2,
         clients: 16,
+        window: 1,
         ticks: 1000,
         skews: SkewList::new(alloc),
         scripts: scripts_of(alloc, requests.as_slice())?,

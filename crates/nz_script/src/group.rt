@@ -3,12 +3,13 @@ ghost use Rattle.nz_script.specs.Drafts.{knows as knows_actor};
 
 use nz_base::{Actor, Cluster};
 
-/// Who takes part.
+/// Who takes part, and how many requests a client may have open at once.
 #[derive(Clone, Copy, Debug)]
 pub struct Group {
     pub cluster: Cluster,
     pub proxies: u8,
     pub clients: u8,
+    pub window: u8,
 }
 
 /// Whether the actor is of the group.

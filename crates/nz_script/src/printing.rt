@@ -2,7 +2,7 @@ ghost use Rattle.std.specs.Prelude.{◌≡◌, ◌++◌, ◌∷◌, [], IfOk, On
 ghost use Rattle.std.specs.Fmt.{decimal};
 ghost use Rattle.nz_store.specs.Reading.{command_of};
 ghost use Rattle.nz_script.specs.Lines.{a_line};
-ghost use Rattle.nz_script.specs.Texts.{actor_text, word_text, words_text, line_text, text_of_lines, number_line, head_lines, units_of as units_word_of, skew_line, choice_of as choice_word_of, actors_of as actors_word_of, command_line, wait_lines, lines_of_command, request_lines, script_lines, scripts_lines, fault_line, text_of};
+ghost use Rattle.nz_script.specs.Texts.{actor_text, word_text, words_text, line_text, text_of_lines, number_line, version_of as version_for, window_lines, head_lines, units_of as units_word_of, skew_line, choice_of as choice_word_of, actors_of as actors_word_of, command_line, wait_lines, lines_of_command, request_lines, script_lines, scripts_lines, fault_line, text_of};
 ghost use Rattle.nz_script.specs.declared.shape.Verb.TheVariants as verb;
 ghost use Rattle.nz_script.specs.declared.word.Word.TheVariants as word;
 ghost use Rattle.nz_script.specs.Valid.{IsValid};
@@ -103,10 +103,27 @@ fn put_number_line(
     put_line(alloc, out, verb, &[Word::Number(u64::from(number))])
 }
 
+/// Version 1 is that of the texts where each client has at most one request open.
+pub fn version_of(window: u8) -> u32
+    ensures { result ≡ version_for window }
+{
+    if window == 1 { 1 } else { 2 }
+}
+
+fn put_window(alloc: Global, out: &mut Vec<u8>, window: u8) -> Result<(), NoMemory>
+    ensures { OnOk result (out.new.items ≡ out.old.items ++ text_of_lines (window_lines window)) }
+{
+    if window == 1 {
+        return Ok(());
+    }
+    put_number_line(alloc, out, Verb::Head(Head::Window), u32::from(window))
+}
+
 fn put_head(alloc: Global, out: &mut Vec<u8>, scenario: &Scenario) -> Result<(), NoMemory>
     ensures { OnOk result (out.new.items ≡ out.old.items ++ text_of_lines (head_lines scenario.now)) }
 {
-    put_number_line(alloc, out, Verb::Head(Head::Version), 1)?;
+    let version = version_of(scenario.window);
+    put_number_line(alloc, out, Verb::Head(Head::Version), version)?;
     put_number_line(
         alloc,
         out,
@@ -125,7 +142,8 @@ fn put_head(alloc: Global, out: &mut Vec<u8>, scenario: &Scenario) -> Result<(),
         Verb::Head(Head::Clients),
         u32::from(scenario.clients),
     )?;
-    put_number_line(alloc, out, Verb::Head(Head::Ticks), scenario.ticks)
+    put_number_line(alloc, out, Verb::Head(Head::Ticks), scenario.ticks)?;
+    put_window(alloc, out, scenario.window)
 }
 
 pub fn units_of(units: i64) -> Word

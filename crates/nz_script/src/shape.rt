@@ -9,6 +9,8 @@ pub enum Place {
     Proxies,
     Clients,
     Ticks,
+    /// The line that version 2 has, and version 1 has not.
+    Window,
     /// Skews at first, then the clients' blocks.
     Between,
     Block,
@@ -16,7 +18,7 @@ pub enum Place {
     Behind,
 }
 
-/// The first five lines.
+/// The first five lines, and the sixth of version 2.
 #[derive(Clone, Copy, Debug)]
 pub enum Head {
     Version,
@@ -24,6 +26,7 @@ pub enum Head {
     Proxies,
     Clients,
     Ticks,
+    Window,
 }
 
 /// What a client asks of the store.
@@ -83,12 +86,13 @@ pub enum Form {
     Choice,
 }
 
-const VERBS: [Verb; 22] = [
+const VERBS: [Verb; 23] = [
     Verb::Head(Head::Version),
     Verb::Head(Head::Faulty),
     Verb::Head(Head::Proxies),
     Verb::Head(Head::Clients),
     Verb::Head(Head::Ticks),
+    Verb::Head(Head::Window),
     Verb::Skew,
     Verb::Client,
     Verb::Ask(Ask::Put),
@@ -118,10 +122,11 @@ impl Place {
             Place::Proxies => 2,
             Place::Clients => 3,
             Place::Ticks => 4,
-            Place::Between => 5,
-            Place::Block => 6,
-            Place::Mishaps => 7,
-            Place::Behind => 8,
+            Place::Window => 5,
+            Place::Between => 6,
+            Place::Block => 7,
+            Place::Mishaps => 8,
+            Place::Behind => 9,
         }
     }
 
@@ -168,7 +173,9 @@ const PROXIES: Form = Form::Number { least: 1, most: 8 };
 
 const CLIENTS: Form = Form::Number { least: 1, most: 64 };
 
-const VERSION: Form = Form::Number { least: 1, most: 1 };
+const WINDOW: Form = Form::Number { least: 2, most: 16 };
+
+const VERSION: Form = Form::Number { least: 1, most: 2 };
 
 /// The first words of the lines, where these may stand, and the forms of the words that follow.
 fn head_shape(head: Head) -> Shape
@@ -182,6 +189,7 @@ fn head_shape(head: Head) -> Shape
         Head::Proxies => row(b"proxies", Place::Proxies, &[PROXIES]),
         Head::Clients => row(b"clients", Place::Clients, &[CLIENTS]),
         Head::Ticks => row(b"ticks", Place::Ticks, &[TICK]),
+        Head::Window => row(b"window", Place::Window, &[WINDOW]),
     }
 }
 

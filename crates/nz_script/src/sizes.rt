@@ -2,11 +2,11 @@ ghost use Rattle.std.specs.Prelude.{◌≡◌, ◌≤◌, ◌∷◌, [], length,
 ghost use Rattle.std.specs.Fmt.{decimal};
 ghost use Rattle.nz_store.specs.Reading.{command_of};
 ghost use Rattle.nz_script.specs.Lines.{a_line};
-ghost use Rattle.nz_script.specs.Texts.{actor_text, word_text, words_text, text_of_lines, head_lines, number_line, skew_line, wait_lines, lines_of_command, request_lines, script_lines, scripts_lines, fault_line, text_of};
+ghost use Rattle.nz_script.specs.Texts.{actor_text, word_text, words_text, text_of_lines, window_lines, head_lines, number_line, skew_line, wait_lines, lines_of_command, request_lines, script_lines, scripts_lines, fault_line, text_of};
 ghost use Rattle.nz_script.specs.Sizes.{room_after};
 
 use super::message::name_of;
-use super::printing::{fault_parts, units_of};
+use super::printing::{fault_parts, units_of, version_of};
 use super::shape::{Head, Verb};
 use super::spelled::spelled_len;
 use super::word::Word;
@@ -99,10 +99,20 @@ fn number_room(room: u32, verb: Verb, number: u32) -> Option<u32>
     line_room(room, verb, &[Word::Number(u64::from(number))])
 }
 
+fn window_room(room: u32, window: u8) -> Option<u32>
+    ensures { result ≡ room_after room (length (text_of_lines (window_lines window))) }
+{
+    if window == 1 {
+        return Some(room);
+    }
+    number_room(room, Verb::Head(Head::Window), u32::from(window))
+}
+
 fn head_room(room: u32, scenario: &Scenario) -> Option<u32>
     ensures { result ≡ room_after room (length (text_of_lines (head_lines scenario.now))) }
 {
-    let room = number_room(room, Verb::Head(Head::Version), 1)?;
+    let version = version_of(scenario.window);
+    let room = number_room(room, Verb::Head(Head::Version), version)?;
     let room = number_room(
         room,
         Verb::Head(Head::Faulty),
@@ -110,7 +120,8 @@ fn head_room(room: u32, scenario: &Scenario) -> Option<u32>
     )?;
     let room = number_room(room, Verb::Head(Head::Proxies), u32::from(scenario.proxies))?;
     let room = number_room(room, Verb::Head(Head::Clients), u32::from(scenario.clients))?;
-    number_room(room, Verb::Head(Head::Ticks), scenario.ticks)
+    let room = number_room(room, Verb::Head(Head::Ticks), scenario.ticks)?;
+    window_room(room, scenario.window)
 }
 
 fn skews_room(room: u32, skews: &[Skew]) -> Option<u32>

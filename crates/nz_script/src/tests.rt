@@ -188,6 +188,18 @@ restart r2 4\n\
 alarm r0 5\n\
 done\n";
 
+const WINDOWED: &[u8] = b"nezha 2\n\
+f 1\n\
+proxies 1\n\
+clients 1\n\
+ticks 40\n\
+window 2\n\
+client c0\n\
+put a 1\n\
+get a\n\
+end\n\
+done\n";
+
 /// Whether the scenario is valid and has this text.
 fn has_text(alloc: Global, scenario: &Scenario, text: &[u8]) -> Result<bool, Fail> {
     if !scenario.is_valid() {
@@ -198,7 +210,12 @@ fn has_text(alloc: Global, scenario: &Scenario, text: &[u8]) -> Result<bool, Fai
 
 #[test]
 fn texts_come_back(rt: HostRuntime) -> Result<(), Fail> {
-    for (text, printed) in [(SKEWED, SKEWED), (FIVE, FIVE), (LOOSE, STRICT)] {
+    for (text, printed) in [
+        (SKEWED, SKEWED),
+        (FIVE, FIVE),
+        (LOOSE, STRICT),
+        (WINDOWED, WINDOWED),
+    ] {
         let scenario = read(rt.alloc(), text)?;
         assert!(rt; has_text(rt.alloc(), &scenario, printed)?);
     }
@@ -219,9 +236,10 @@ fn refusal(line: u32, kind: Kind) -> Result<Scenario, ScriptFault> {
 #[test]
 fn first_bad_lines(rt: HostRuntime) -> Result<(), Fail> {
     let head = b"nezha 1\nf 1\nproxies 1\nclients 1\nticks 10\nclient c0\n";
-    let whole: [(&[u8], u32, Kind); 5] = [
+    let whole: [(&[u8], u32, Kind); 6] = [
         (b"nezha 1\nf 0\nand anything else", 2, Kind::Limit),
-        (b"nezha 2\n", 1, Kind::Limit),
+        (b"nezha 2\n", 2, Kind::Order),
+        (b"nezha 3\n", 1, Kind::Limit),
         (b"nezha 1\nf 01\n", 2, Kind::Syntax),
         (
             b"nezha 1\nf 1\nproxies 1\nclients 65\nticks 10\n",
@@ -253,6 +271,27 @@ fn first_bad_lines(rt: HostRuntime) -> Result<(), Fail> {
     ];
     for (rest, line, kind) in behind_head {
         let mut text = head.to_vec(rt.alloc())?;
+        text.extend_from_slice(rest)?;
+        assert_eq!(rt; read(rt.alloc(), &text), refusal(line, kind));
+    }
+    Ok(())
+}
+
+/// What may follow the first five lines of each version.
+#[test]
+fn sixth_lines(rt: HostRuntime) -> Result<(), Fail> {
+    let cases: [(&[u8], &[u8], u32, Kind); 7] = [
+        (b"nezha 2\n", b"window 17\n", 6, Kind::Limit),
+        (b"nezha 2\n", b"window 1\n", 6, Kind::Limit),
+        (b"nezha 2\n", b"window two\n", 6, Kind::Syntax),
+        (b"nezha 2\n", b"client c0\n", 6, Kind::Order),
+        (b"nezha 2\n", b"", 6, Kind::Order),
+        (b"nezha 2\n", b"window 16\nwindow 16\n", 7, Kind::Order),
+        (b"nezha 1\n", b"window 2\n", 6, Kind::Syntax),
+    ];
+    for (version, rest, line, kind) in cases {
+        let mut text = version.to_vec(rt.alloc())?;
+        text.extend_from_slice(b"f 1\nproxies 1\nclients 1\nticks 10\n")?;
         text.extend_from_slice(rest)?;
         assert_eq!(rt; read(rt.alloc(), &text), refusal(line, kind));
     }

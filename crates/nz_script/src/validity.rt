@@ -32,6 +32,7 @@ fn group_of(scenario: &Scenario) -> Group
         cluster: scenario.cluster,
         proxies: scenario.proxies,
         clients: scenario.clients,
+        window: scenario.window,
     }
 }
 
@@ -48,7 +49,8 @@ fn has_group(scenario: &Scenario) -> bool
         && is_between(1, 8, u32::from(scenario.proxies));
     let many = is_between(1, 64, u32::from(scenario.clients))
         && is_between(1, 20_000, scenario.ticks);
-    few && many && scenario.scripts.len() == u32::from(scenario.clients)
+    let open = is_between(1, 16, u32::from(scenario.window));
+    few && many && (open && scenario.scripts.len() == u32::from(scenario.clients))
 }
 
 /// Whether the actors of the line are there and its numbers in range.

@@ -9,7 +9,7 @@ ghost use Rattle.nz_cv.specs.Vectors.{is_stray as is_stray_of};
 ghost use Rattle.nz_msg.specs.Fields.{id as id_field};
 ghost use Rattle.nz_msg.specs.Messages.{log_mod};
 ghost use Rattle.nz_msg.specs.declared.message.Message.TheVariants.{LogMod};
-ghost use Rattle.nz_machine.specs.Replicas.{leads, hears_leader};
+ghost use Rattle.nz_machine.specs.Replicas.{is_normal, leads, hears_leader};
 ghost use Rattle.nz_machine.specs.Views.{enter_view};
 ghost use Rattle.nz_machine.specs.Vectors.{unless_stray};
 ghost use Rattle.nz_machine.specs.LogMods.{replies_since as replies_since_of, fetch_from, sync_report_to, taken_from, after_hearing, hears_later_leader as hears_later_leader_of, log_mod_rule};
@@ -70,6 +70,7 @@ fn take_keys(
     sends: &mut Sends,
 ) -> Result<(), NoMemory>
     requires leader { leader ≤ 8 }
+    requires normal { IsTrue (is_normal state.old.state.status) }
     requires follows { IsFalse (leads state.old.f state.old.me state.old.state) }
     requires fits { log_mod.fits body.now }
     requires within { IsFalse (nat_lt state.old.state.log.synced body.now.start) }
@@ -91,6 +92,7 @@ fn take(
     sends: &mut Sends,
 ) -> Result<(), NoMemory>
     requires leader { leader ≤ 8 }
+    requires normal { IsTrue (is_normal state.old.state.status) }
     requires follows { IsFalse (leads state.old.f state.old.me state.old.state) }
     requires fits { log_mod.fits body.now }
     ensures { let s = state.old in OnOk result (Does s state.new sends.old sends.new (taken_from leader body.now s.state)) }

@@ -1,5 +1,5 @@
 //! What a run's records tell, as events, and which requests are open behind them.
-ghost use Rattle.std.specs.Prelude.{◌≡◌, ◌++◌, List, map, IfOk, OnOk};
+ghost use Rattle.std.specs.Prelude.{◌≡◌, ◌++◌, ◌∷◌, [], List, map, IfOk, OnOk};
 ghost use Rattle.std.specs.List.{list_any};
 ghost use Rattle.std.specs.HashSet.{contains};
 ghost use Rattle.nz_base.specs.Key.{id_eq};
@@ -8,7 +8,7 @@ ghost use Rattle.nz_machine.specs.Events.{command_at as command_in};
 ghost use Rattle.nz_machine.specs.Journals.{group_in, run_in};
 ghost use Rattle.nz_machine.specs.Schedule.{group_of};
 ghost use Rattle.nz_machine.specs.Step.{script_of};
-ghost use Rattle.nz_machine.specs.Telling.{acceptance_told, request_told, told_of};
+ghost use Rattle.nz_machine.specs.Telling.{acceptance_told, request_told, requests_told, told_of};
 ghost use Rattle.nz_machine.specs.World.{World};
 ghost use Rattle.nz_text.specs.declared.printed.Event.{Event as AnEvent};
 ghost use Rattle.nz_text.specs.Text.{event_of, accepts_it, open_in, unanswered_in, events_in};
@@ -54,21 +54,30 @@ fn add_acceptance(accepted: Option<Acceptance>, events: &mut EventList) -> Resul
 fn add_request(
     alloc: Global,
     scenario: &Scenario,
-    sent: Option<Id>,
+    id: Id,
     events: &mut EventList,
 ) -> Result<(), NoMemory>
-    ensures { OnOk result (events.new ≡ events.old ++ map event_of (request_told (group_of scenario.now) sent)) }
+    ensures { OnOk result (events.new ≡ events.old ++ event_of (request_told (group_of scenario.now) id) ∷ []) }
 {
-    match sent {
-        None => Ok(()),
-        Some(id) => {
-            let command = command_at(script_at(scenario, id.client), id.num);
-            events.push(Event::Send {
-                id,
-                command: Blob::from_slice(alloc, command)?,
-            })
-        }
+    let command = command_at(script_at(scenario, id.client), id.num);
+    events.push(Event::Send {
+        id,
+        command: Blob::from_slice(alloc, command)?,
+    })
+}
+
+fn add_requests(
+    alloc: Global,
+    scenario: &Scenario,
+    sent: &[Id],
+    events: &mut EventList,
+) -> Result<(), NoMemory>
+    ensures { OnOk result (events.new ≡ events.old ++ map event_of (requests_told (group_of scenario.now) sent.now)) }
+{
+    for id in sent {
+        add_request(alloc, scenario, *id, events)?;
     }
+    Ok(())
 }
 
 fn add(
@@ -80,7 +89,7 @@ fn add(
     ensures { OnOk result (events.new ≡ events.old ++ map event_of (told_of (group_of scenario.now) telling)) }
 {
     add_acceptance(telling.accepted, events)?;
-    add_request(alloc, scenario, telling.sent, events)
+    add_requests(alloc, scenario, telling.sent.as_slice(), events)
 }
 
 /// The events of the journal's run.

@@ -153,6 +153,7 @@ fn journal(alloc: Global) -> Result<Journal, Fail> {
         cluster,
         proxies: 1,
         clients: 1,
+        window: 1,
         ticks: 3,
         skews: SkewList::new(alloc),
         scripts: ScriptList::new(alloc),

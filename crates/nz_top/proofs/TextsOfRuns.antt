@@ -1,5 +1,5 @@
 -- What is printed of a run can be read back from its text.
-use Rattle.std.proofs.Common.{◌≡◌, ℕ, zero, suc, ◌-◌, ◌<◌, ◌≤◌, List, [], ◌∷◌, length, Option, Some, None, refl, arith, inl, inr, ltb-true, length-append}
+use Rattle.std.proofs.Common.{◌≡◌, ℕ, zero, suc, ◌+◌, ◌-◌, ◌<◌, ◌≤◌, List, [], ◌∷◌, length, Option, Some, None, refl, arith, inl, inr, length-append}
 use Rattle.std.specs.Prelude.{Ok, IsSome, nat_lt, slice_get}
 use Rattle.std.specs.List.{AllByRecursion, list_any}
 use Rattle.nz_base.specs.Key.{id_of}
@@ -19,7 +19,7 @@ use Rattle.nz_machine.specs.State.{ClientData, Group}
 use Rattle.nz_machine.specs.Replicas.{commands}
 use Rattle.nz_machine.specs.Step.{script_of}
 use Rattle.nz_machine.specs.World.{state_after, Has, IsAsked, IsGroup, IsMember, World}
-use Rattle.nz_machine.specs.Events.{Told, Sent, Accepted, id_at, command_of_request, command_at, read_in, accepted_in, accepted_by, sent_by, told_by, events}
+use Rattle.nz_machine.specs.Events.{Told, Sent, Accepted, id_at, command_of_request, read_in, accepted_in, accepted_by, sent_after, sent_by, told_by, events}
 use Rattle.nz_machine.specs.History.{history}
 use Rattle.nz_machine.specs.OneHistory.{Precedes}
 use Rattle.nz_machine.specs.Journals.{answered, executed_from}
@@ -51,12 +51,18 @@ command_fits (r ∷ script) zero lt all = all.0.command
 command_fits (r ∷ script) (suc i) lt all = command_fits script i (omega (arith, lt)) all.1
 
 accepted_fit : (c : ℕ) (before after : ClientData) (m : Message) → AllByRecursion FitsSent (accepted_in c before after m)
-accepted_fit c before after (Answered b) = on_cond (AllByRecursion FitsSent) (nat_lt before.accepted after.accepted) (Accepted (id_at c before.sent) b.answer b.path ∷ []) [] (λ _. (tt, tt)) (λ _. tt)
+accepted_fit c before after (Answered b) = on_cond (AllByRecursion FitsSent) (nat_lt before.accepted after.accepted) (Accepted (id_at c b.num) b.answer b.path ∷ []) [] (λ _. (tt, tt)) (λ _. tt)
 accepted_fit c before after _ = tt
 
 read_fit : (c : ℕ) (before after : ClientData) (o : Option Envelope) → AllByRecursion FitsSent (accepted_by c before after o)
 read_fit c before after None = tt
 read_fit c before after (Some e) = accepted_fit c before after e.message
+
+sent_fits : (c : ℕ) (script : List Request) (num more : ℕ) → c ≤ 63 → length script ≤ 2000 → AllByRecursion IsAsked script → more ≤ length script - num
+    → AllByRecursion FitsSent (sent_after c script num more)
+sent_fits c script num zero address short all few = tt
+sent_fits c script num (suc more) address short all few =
+    ((record { client = omega (arith, address); num = omega (arith, short, few) }, command_fits script (num + 1 - 1) (omega (arith, few)) all), sent_fits c script (num + 1) more address short all (omega (arith, few)))
 
 told_fits : (g : Group) (a : Actor) (r : Record) (J : List Record) → IsGroup g → IsMember g a → FitsState g a (state_after g a (r ∷ J)) → AllByRecursion FitsSent (told_by g a r J)
 told_fits g (Replica m) r J group member h = tt
@@ -67,14 +73,8 @@ told_fits g (Client c) r J group member h =
     let script = script_of g c in
     let client = client_of g c group member in
     let sent = h.sent in
-    let short = client.short in
-    let address = client.address in
     all_append FitsSent (accepted_by c before after (read_in g (Client c) r.event)) (sent_by c script before after) (read_fit c before after (read_in g (Client c) r.event))
-    (on_cond (AllByRecursion FitsSent) (nat_lt before.sent after.sent) (Sent (id_at c after.sent) (command_at script after.sent) ∷ []) []
-    (λ more.
-    let lt = ltb-true before.sent after.sent more in
-    ((record { client = omega (arith, address); num = omega (arith, sent, short) }, command_fits script (after.sent - 1) (omega (arith, lt, sent)) client.commands), tt))
-    (λ _. tt))
+    (sent_fits c script before.sent (after.sent - before.sent) client.address client.short client.commands (omega (arith, sent)))
 
 sent_fit : (g : Group) (J : List Record) → World g J → AllByRecursion FitsSent (events g J)
 sent_fit g [] w = tt

@@ -4,6 +4,11 @@ ghost use Rattle.nz_machine.specs.Journals.{group_in, run_in};
 ghost use Rattle.nz_machine.specs.World.{World};
 
 mod collisions;
+mod crashes;
+mod cuts;
+mod frames;
+mod hostile;
+mod limits;
 mod losses;
 mod rows;
 mod workers;
@@ -26,6 +31,8 @@ struct Call<'a> {
     failing_reads: &'a [u32],
     write_piece: usize,
     failing_writes: &'a [u32],
+    /// How many bytes of output are taken.
+    room: usize,
 }
 
 fn plain<'a>(words: &'a [&'a str], input: &'a [u8]) -> Call<'a>
@@ -39,6 +46,7 @@ fn plain<'a>(words: &'a [&'a str], input: &'a [u8]) -> Call<'a>
         failing_reads: &[],
         write_piece: 4096,
         failing_writes: &[],
+        room: 4096,
     }
 }
 
@@ -60,7 +68,7 @@ fn answer_through<R: Threads + Wait + Sync, G: Gate + Sync>(
         CallList::from_slice(alloc, call.failing_reads)?,
     );
     let failing_writes = CallList::from_slice(alloc, call.failing_writes)?;
-    let mut out = MemSink::new(alloc, 4096, call.write_piece, failing_writes)?;
+    let mut out = MemSink::new(alloc, call.room, call.write_piece, failing_writes)?;
     let outcome = nezha(rt, alloc, &words, &mut source, &mut out, gate);
     Ok((outcome, out))
 }
@@ -97,6 +105,14 @@ fn a_line_of_each_refusal(rt: HostRuntime) -> Result<(), Fail> {
         (
             "nezha 1\nf 1\nproxies 1\nclients 1\nticks 10\nclient c1\n",
             "refused line 6: name\n",
+        ),
+        (
+            "nezha 2\nf 1\nproxies 1\nclients 1\nticks 40\nwindow 17\n",
+            "refused line 6: limit\n",
+        ),
+        (
+            "nezha 2\nf 1\nproxies 1\nclients 1\nticks 40\nclient c0\n",
+            "refused line 6: order\n",
         ),
     ];
     for (input, line) in table {

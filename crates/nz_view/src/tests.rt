@@ -6,6 +6,8 @@ ghost use Rattle.nz_base.specs.declared.actor.Actor.TheVariants.{Replica as IsRe
 ghost use Rattle.nz_msg.specs.Messages.{Fits};
 ghost use Rattle.nz_machine.specs.Step.{is_in_cluster, is_sized, vector_of};
 
+mod long;
+
 use super::*;
 use nz_base::{Actor, Blob, Cluster, Entry, EntryList, Key, List, NoMemory};
 use nz_cv::CrashVector;

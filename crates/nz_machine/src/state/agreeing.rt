@@ -88,6 +88,7 @@ impl ReplicaState {
     /// Takes keys of the leader's log, and commits what the leader committed. Gives the place of the first
     /// key that is missing, or their count.
     fn take(&mut self, keys: &[Key], commit: u32) -> Result<usize, NoMemory>
+        requires normal { IsTrue (is_normal self.old.state.status) }
         requires follows { IsFalse (leads_in self.old.f self.old.me self.old.state) }
         requires fit { AllByRecursion key_field.fits keys.now }
         ensures within { IfOk result (λ place. place ≤ length keys.now) }
@@ -115,6 +116,7 @@ impl ReplicaState {
     /// Takes keys of the leader's log, of which the first belongs to the first place that is not synced,
     /// and commits what the leader committed. Gives the ids that are missing.
     pub fn sync(&mut self, keys: &[Key], commit: u32) -> Result<IdList, NoMemory>
+        requires normal { IsTrue (is_normal self.old.state.status) }
         requires follows { IsFalse (leads_in self.old.f self.old.me self.old.state) }
         requires fit { AllByRecursion key_field.fits keys.now }
         ensures state { OnOk result (self.new ≡ record self.old { state = committed_to (overtaken (sync_keys self.old.state keys.now).0) commit }) }

@@ -100,6 +100,24 @@ restart p0 20\ndone\n",
     output: "send c0 1 put a 1\naccept c0 1 done slow\nat 1 c0 1 put a 1 gives done\nend\n",
 };
 
+const WINDOW: Row = Row {
+    word: "run",
+    input: "# a client with two requests open at once\nnezha 2\nf 1\nproxies 1\nclients 1\nticks 40\n\
+window 2\nclient c0\nput a 1\nget a\nend\ndone\n",
+    output: "send c0 1 put a 1\nsend c0 2 get a\naccept c0 1 done fast\naccept c0 2 value 1 fast\n\
+at 1 c0 1 put a 1 gives done\nat 2 c0 2 get a gives value 1\nend\n",
+};
+
+const WINDOW_LOST_ANSWER: Row = Row {
+    word: "run",
+    input: "# of three requests that are open at once, the first one's answer is lost: it alone is sent again\n\
+nezha 2\nf 1\nproxies 1\nclients 1\nticks 40\nwindow 3\nclient c0\nput a 1\nput a 2\nget a\n\
+end\ndrop p0 c0 answer 1\ndone\n",
+    output: "send c0 1 put a 1\nsend c0 2 put a 2\nsend c0 3 get a\naccept c0 2 done fast\n\
+accept c0 3 value 2 fast\naccept c0 1 done fast\nat 1 c0 1 put a 1 gives done\n\
+at 2 c0 2 put a 2 gives done\nat 3 c0 3 get a gives value 2\nend\n",
+};
+
 const ONE_TICK: Row = Row {
     word: "trace",
     input: "# one tick of a cluster that has nothing to do, to be traced\nnezha 1\nf 1\nproxies 1\n\
@@ -109,7 +127,7 @@ clients 1\nticks 1\nclient c0\nend\ndone\n",
 };
 
 /// All but the first, which the tests of sources and sinks play, and the stored run of crates/nezha.
-pub const ROWS: [Row; 18] = [
+pub const ROWS: [Row; 20] = [
     SEVEN_ANSWERS,
     EMPTY,
     THREE_EQUAL_DEADLINES,
@@ -119,6 +137,8 @@ pub const ROWS: [Row; 18] = [
     HELD_COPIES,
     CUT_MESSAGES,
     PROXY_CRASHES,
+    WINDOW,
+    WINDOW_LOST_ANSWER,
     ONE_TICK,
     ALARM,
     LEADER_LOST,

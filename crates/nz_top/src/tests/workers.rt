@@ -17,7 +17,7 @@ use std::sync::atomic::{AtomicU64, Ordering};
 use std::test::Fail;
 
 /// The kind of the answer, and its value, or no bytes.
-fn parts(answer: &Answer) -> (u8, &[u8]) {
+pub fn parts(answer: &Answer) -> (u8, &[u8]) {
     match answer {
         Answer::Done => (0, &[]),
         Answer::Value(value) => (1, value.as_slice()),
@@ -56,6 +56,15 @@ fn is_sending(event: Option<&Event>, journal: &Journal, sent: Id) -> bool {
     }
 }
 
+/// Whether the events begin with those of these requests.
+fn are_sendings(events: &[Event], journal: &Journal, sent: &[Id]) -> bool {
+    events.len() >= sent.len()
+        && events
+            .iter()
+            .zip(sent.iter())
+            .all(|(event, id)| is_sending(Some(event), journal, *id))
+}
+
 /// Whether these are the events of the journal, in their order.
 fn are_events(alloc: Global, journal: &Journal, events: &[Event]) -> Result<bool, NoMemory> {
     let mut clients = Clients::new(alloc, &journal.scenario)?;
@@ -68,12 +77,11 @@ fn are_events(alloc: Global, journal: &Journal, events: &[Event]) -> Result<bool
             }
             place = place.saturating_add(1);
         }
-        if let Some(sent) = &telling.sent {
-            if !is_sending(events.get(place), journal, *sent) {
-                return Ok(false);
-            }
-            place = place.saturating_add(1);
+        let sent = telling.sent.as_slice();
+        if !are_sendings(&events[place.min(events.len())..], journal, sent) {
+            return Ok(false);
         }
+        place = place.saturating_add(sent.len());
     }
     Ok(place == events.len())
 }

@@ -1,4 +1,4 @@
-use Rattle.std.proofs.Common.{◌≡◌, ◌∙◌, length}
+use Rattle.std.proofs.Common.{◌∙◌, length}
 use Rattle.nz_fabric.proofs.Dating.{rooms_more}
 use Rattle.nz_fabric.proofs.calendar.reserve_all.Goals as goal
 

@@ -1,6 +1,5 @@
 use Rattle.std.proofs.Common.{◌≡◌, ap, ◌∙◌, ℕ, arith, Option}
 use Rattle.std.specs.Prelude.{unwrap_or}
-use Rattle.nz_fabric.specs.declared.course.Course.{Course}
 use Rattle.nz_fabric.specs.Calendars.{course, count_of}
 use Rattle.nz_fabric.proofs.course.number_of.Goals as goal
 

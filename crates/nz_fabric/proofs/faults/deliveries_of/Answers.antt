@@ -1,4 +1,4 @@
-use Rattle.std.proofs.Common.{◌+◌, ◌∷◌, [], sym}
+use Rattle.std.proofs.Common.{◌+◌, ◌∷◌, []}
 use Rattle.std.proofs.lemmas.List.{get_or_default}
 use Rattle.nz_machine.specs.Schedule.{whole_in}
 use Rattle.nz_fabric.proofs.Numbering.{one_line}

@@ -1,4 +1,4 @@
-use Rattle.std.proofs.Common.{◌≡◌, ◌≤◌, ◌-◌, [], ℕ, map}
+use Rattle.std.proofs.Common.{◌≡◌, ◌≤◌, ◌-◌, [], ℕ}
 use Rattle.std.specs.Prelude.{get_or, vec_len, vec_capacity}
 use Rattle.nz_fabric.specs.Rows.{rows_of}
 use Rattle.nz_fabric.proofs.rows.no_rows.Given as goal

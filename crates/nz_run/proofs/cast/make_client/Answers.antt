@@ -12,5 +12,5 @@ pub returns : goal.returns
 returns c =
     let s = c.args.scenario.now in
     c.new.ensures
-    ∙ ap (λ (script : List Request). let v : ClientView = record { seat = record { me = c.args.me; proxies = s.proxies; script = script; state = first_client }; live = Rattle.std.proofs.Common.true } in v)
+    ∙ ap (λ (script : List Request). let v : ClientView = record { seat = record { me = c.args.me; proxies = s.proxies; window = s.window; script = script; state = first_client }; live = Rattle.std.proofs.Common.true } in v)
     (c.in_ok-script.ensures ∙ sym (got_or s.scripts c.from.result c.get.result.now [] c.get.ensures) ∙ ap (λ n. Rattle.std.proofs.Common.get_or s.scripts n []) c.from.ensures)

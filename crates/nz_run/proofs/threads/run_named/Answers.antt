@@ -1,7 +1,5 @@
-use Rattle.std.proofs.Common.{◌≡◌, ◌∙◌, List, sym, subst}
-use Rattle.std.specs.Prelude.{reverse}
+use Rattle.std.proofs.Common.{◌≡◌, ◌∙◌, sym, subst}
 use Rattle.nz_base.specs.declared.scenario.Scenario.{Scenario}
-use Rattle.nz_machine.specs.declared.event.Record.{Record}
 use Rattle.nz_machine.specs.Journals.{run_in}
 use Rattle.nz_machine.specs.Schedule.{group_of, Scheduled}
 use Rattle.nz_machine.specs.World.{World}
@@ -9,13 +7,13 @@ use Rattle.nz_run.specs.Stages.{AllReplay}
 use Rattle.nz_run.proofs.Replaying.{world_now}
 use Rattle.nz_run.proofs.threads.run_named.Goals as goal
 
-pub returns-then-agree : goal.returns-then-agree
-returns-then-agree g c =
-    let j = c.in-Some.journal in
-    let known = rw c.in-Some.is at c.in_ok-journal.ensures in
-    let name = c.requires.scenario in
+pub returns : goal.returns
+returns g c =
+    let j = c.in_ok-into_journal.field-0 in
+    let known = c.in_ok-into_journal.ensures in
+    let name = sym c.requires.scenario in
     let s = c.args.scenario.now in
-    let same : j.scenario ≡ s = known.0 ∙ sym name in
-    let scheduled : Scheduled s (run_in j) = subst (λ (t : Scenario). Scheduled t (run_in j)) (sym name) known.1 in
-    let replay : AllReplay (group_of s) (run_in j) = subst (λ (rs : List Record). AllReplay (group_of s) (reverse rs)) c.as_slice.ensures (c.in_ok-agree.ensures c.if-agree.true) in
+    let same : j.scenario ≡ s = known.scenario ∙ name in
+    let scheduled : Scheduled s (run_in j) = subst (λ (t : Scenario). Scheduled t (run_in j)) name known.scheduled in
+    let replay : AllReplay (group_of s) (run_in j) = subst (AllReplay (group_of s)) (sym known.records) (c.in_ok-agrees.ensures c.if-not-branch.false) in
     (same, (scheduled, subst (λ (t : Scenario). World (group_of t) (run_in j)) (sym same) (world_now s s.ticks (run_in j) c.requires.playable scheduled replay)))

@@ -1,12 +1,9 @@
-use Rattle.std.proofs.Common.{◌≡◌, ◌<◌, ◌++◌, ◌∙◌, false, List, length, sym, ap, subst, arith}
-use Rattle.std.specs.Prelude.{take, drop, reverse, vec_capacity}
+use Rattle.std.proofs.Common.{◌≡◌, ◌<◌, ◌∙◌, false, length, sym, ap, subst, arith}
+use Rattle.std.specs.Prelude.{drop, vec_capacity}
 use Rattle.std.proofs.lemmas.List.{take_rest}
-use Rattle.nz_machine.specs.declared.event.Record.{Record}
-use Rattle.nz_machine.specs.Schedule.{posted}
-use Rattle.nz_fabric.specs.Calendars.{StandsFor, HasPosted, posted_by}
 use Rattle.nz_fabric.specs.declared.ticks.Ticks.{Ticks}
-use Rattle.nz_fabric.specs.States.{State, IsDone, IsHeld, after_tick, records_of, state_in}
-use Rattle.nz_fabric.proofs.Held.{posted_started, posted_some, posted_whole, posted_now, next_is, held_marked, held_next}
+use Rattle.nz_fabric.specs.States.{State, IsDone, IsHeld, after_tick, state_in}
+use Rattle.nz_fabric.proofs.Held.{over_some, over_whole, over_begun, next_is, held_marked, held_next}
 use Rattle.nz_fabric.proofs.alone.Alone.next_tick.Goals as goal
 
 pub invariant_of-self : goal.invariant_of-self
@@ -16,10 +13,9 @@ invariant_of-self c =
     let rs = f.records.items in
     let inv = c.self.invariant in
     let unmarked : t.marked ≡ false = ap (λ (f : State). f.marked) c.self.view_is ∙ c.requires.quiet.unmarked in
-    let L = posted (reverse (take f.before rs)) in
-    let started : StandsFor t.scenario L t.tick t.calendar = posted_started (state_in t f.before rs) t.calendar unmarked inv.is_posted in
     let rest = take_rest c.deref.result.now f.before ∙ ap (drop f.before) c.deref.ensures.value in
-    held_marked t.scenario t.tick f.before (vec_capacity f.records) rs t.items.items t.next t.marked t.calendar c.post_all.new.calendar inv (posted_some t.scenario t.tick f.before rs t.items.items t.next c.post_all.new.calendar (subst (λ (rs : List Record). HasPosted t.scenario L (posted_by rs) t.tick c.post_all.new.calendar) rest (c.in_err-post_all.ensures.err L t.tick started)))
+    let now = c.post_all.new.calendar in
+    held_marked t.scenario t.tick f.before (vec_capacity f.records) rs t.items.items t.next t.marked t.calendar now inv (over_some t f.before rs _ now unmarked inv.is_posted rest c.in_err-post_all.ensures.err)
 
 pub invariant_of-self-in_err-begin : goal.invariant_of-self-in_err-begin
 invariant_of-self-in_err-begin c =
@@ -28,11 +24,10 @@ invariant_of-self-in_err-begin c =
     let rs = f.records.items in
     let inv = c.self.invariant in
     let unmarked : t.marked ≡ false = ap (λ (f : State). f.marked) c.self.view_is ∙ c.requires.quiet.unmarked in
-    let L = posted (reverse (take f.before rs)) in
-    let started : StandsFor t.scenario L t.tick t.calendar = posted_started (state_in t f.before rs) t.calendar unmarked inv.is_posted in
     let rest = take_rest c.deref.result.now f.before ∙ ap (drop f.before) c.deref.ensures.value in
-    let all : StandsFor t.scenario (L ++ posted_by (drop f.before rs)) t.tick c.post_all.new.calendar = subst (λ (rs : List Record). StandsFor t.scenario (L ++ posted_by rs) t.tick c.post_all.new.calendar) rest (c.in_ok-post_all.ensures.ok L t.tick started) in
-    subst (λ (t : Ticks). IsHeld (state_in t f.before rs) f.before (vec_capacity f.records) rs t.calendar) (sym c.in_err-begin.ensures.err) (held_marked t.scenario t.tick f.before (vec_capacity f.records) rs t.items.items t.next t.marked t.calendar c.post_all.new.calendar inv (posted_whole t.scenario t.tick f.before rs t.items.items t.next c.post_all.new.calendar all))
+    let now = c.post_all.new.calendar in
+    subst (λ (t : Ticks). IsHeld (state_in t f.before rs) f.before (vec_capacity f.records) rs t.calendar) (sym c.in_err-begin.ensures.err)
+    (held_marked t.scenario t.tick f.before (vec_capacity f.records) rs t.items.items t.next t.marked t.calendar now inv (over_whole t f.before rs _ now unmarked inv.is_posted rest c.in_ok-post_all.ensures.ok))
 
 pub invariant_of-self-2 : goal.invariant_of-self-2
 invariant_of-self-2 c =
@@ -41,11 +36,8 @@ invariant_of-self-2 c =
     let rs = f.records.items in
     let inv = c.self.invariant in
     let unmarked : t.marked ≡ false = ap (λ (f : State). f.marked) c.self.view_is ∙ c.requires.quiet.unmarked in
-    let L = posted (reverse (take f.before rs)) in
-    let started : StandsFor t.scenario L t.tick t.calendar = posted_started (state_in t f.before rs) t.calendar unmarked inv.is_posted in
     let rest = take_rest c.deref.result.now f.before ∙ ap (drop f.before) c.deref.ensures.value in
-    let all : StandsFor t.scenario (L ++ posted_by (drop f.before rs)) t.tick c.post_all.new.calendar = subst (λ (rs : List Record). StandsFor t.scenario (L ++ posted_by rs) t.tick c.post_all.new.calendar) rest (c.in_ok-post_all.ensures.ok L t.tick started) in
-    let begun = c.in_ok-begin.ensures.ok (posted (records_of (state_in t f.before rs))) (posted_now t.scenario t.tick f.before rs c.post_all.new.calendar all) in
+    let begun = over_begun t f.before rs _ c.post_all.new.calendar c.begin.new.self unmarked inv.is_posted rest c.in_ok-post_all.ensures.ok c.in_ok-begin.ensures.ok in
     let long : c.len-self-inside.result ≡ length rs = omega (arith, c.len-self-inside.ensures) in
     let lt : t.tick < t.scenario.ticks = (let k = inv.kept.in_run in let ne = c.if-self.false in omega (arith, k, ne)) in
     held_next t.scenario t.tick f.before c.len-self-inside.result (vec_capacity f.records) rs t.items.items t.next t.marked t.calendar c.begin.new.self inv (subst IsDone (sym c.self.view_is) c.requires) lt begun long
@@ -57,11 +49,8 @@ returns c =
     let rs = f.records.items in
     let inv = c.self.invariant in
     let unmarked : t.marked ≡ false = ap (λ (f : State). f.marked) c.self.view_is ∙ c.requires.quiet.unmarked in
-    let L = posted (reverse (take f.before rs)) in
-    let started : StandsFor t.scenario L t.tick t.calendar = posted_started (state_in t f.before rs) t.calendar unmarked inv.is_posted in
     let rest = take_rest c.deref.result.now f.before ∙ ap (drop f.before) c.deref.ensures.value in
-    let all : StandsFor t.scenario (L ++ posted_by (drop f.before rs)) t.tick c.post_all.new.calendar = subst (λ (rs : List Record). StandsFor t.scenario (L ++ posted_by rs) t.tick c.post_all.new.calendar) rest (c.in_ok-post_all.ensures.ok L t.tick started) in
-    let begun = c.in_ok-begin.ensures.ok (posted (records_of (state_in t f.before rs))) (posted_now t.scenario t.tick f.before rs c.post_all.new.calendar all) in
+    let begun = over_begun t f.before rs _ c.post_all.new.calendar c.begin.new.self unmarked inv.is_posted rest c.in_ok-post_all.ensures.ok c.in_ok-begin.ensures.ok in
     let long : c.len-self-inside.result ≡ length rs = omega (arith, c.len-self-inside.ensures) in
     let lt : t.tick < t.scenario.ticks = (let k = inv.kept.in_run in let ne = c.if-self.false in omega (arith, k, ne)) in
     (next_is t.scenario t.tick f.before c.len-self-inside.result rs t.items.items t.next t.marked c.begin.new.self begun long unmarked ∙ ap after_tick c.self.view_is, subst (λ (f : State). f.tick < f.scenario.ticks) c.self.view_is lt)

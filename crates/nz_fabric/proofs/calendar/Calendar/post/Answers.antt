@@ -3,9 +3,8 @@ use Rattle.std.proofs.lemmas.List.{length-map}
 use Rattle.nz_base.specs.declared.scenario.Fault.{Fault}
 use Rattle.nz_machine.specs.Schedule.{Posted, kind_of, whole_in, faulted_by}
 use Rattle.nz_fabric.specs.declared.deliveries.Delivery.{Delivery}
-use Rattle.nz_fabric.specs.declared.calendar.Arrival.{Arrival}
 use Rattle.nz_machine.specs.declared.journal.Item.{Item}
-use Rattle.nz_fabric.specs.Calendars.{Dates, StandsFor, parcels_of, items_in}
+use Rattle.nz_fabric.specs.Calendars.{Dates, StandsFor, parcels_of}
 use Rattle.nz_fabric.specs.Posting.{stored, arrival_of, arriving, up_to, days_of}
 use Rattle.nz_fabric.proofs.Numbering.{numbered}
 use Rattle.nz_fabric.proofs.Dating.{posted_one}

@@ -1,9 +1,8 @@
-use Rattle.std.proofs.Common.{◌≡◌, ◌<◌, ◌∙◌, ◌^◌, [], ℕ, List, length, sym, ap, subst, arith}
+use Rattle.std.proofs.Common.{◌≡◌, ◌<◌, ◌∙◌, ◌^◌, [], List, length, sym, ap, subst, arith}
 use Rattle.std.specs.Prelude.{Vec}
 use Rattle.std.specs.Global.{Global}
 use Rattle.nz_machine.specs.declared.journal.Item.{Item}
 use Rattle.nz_fabric.specs.Calendars.{Dates, items_in}
-use Rattle.nz_fabric.specs.Posting.{days_of}
 use Rattle.nz_fabric.proofs.Dating.{day_is, set_short, taken_later, stands_by, stands_later}
 use Rattle.nz_fabric.proofs.calendar.Calendar.take.Goals as goal
 

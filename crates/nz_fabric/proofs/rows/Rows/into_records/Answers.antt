@@ -1,4 +1,4 @@
-use Rattle.std.proofs.Common.{◌≡◌, ◌∙◌, [], ℕ, List, length, map, sym, ap, subst, arith}
+use Rattle.std.proofs.Common.{◌∙◌, List, length, map, sym, ap, subst, arith}
 use Rattle.nz_machine.specs.declared.event.Record.{Record}
 use Rattle.nz_fabric.specs.Rows.{Filed, record_at, rows_of}
 use Rattle.nz_fabric.proofs.Filing.{AreLeft, left_start, left_popped, left_some}

@@ -1,4 +1,4 @@
-use Rattle.std.proofs.Common.{◌≡◌, ◌≤◌, ◌+◌}
+use Rattle.std.proofs.Common.{◌≤◌, ◌+◌}
 use Rattle.std.specs.Prelude.{vec_len, vec_capacity}
 use Rattle.nz_fabric.specs.Rows.{rows_of}
 use Rattle.nz_fabric.proofs.Filing.{AreLeft}

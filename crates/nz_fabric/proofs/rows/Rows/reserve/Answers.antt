@@ -1,6 +1,5 @@
-use Rattle.std.proofs.Common.{◌≡◌, ◌≤◌, ◌<◌, ◌+◌, ◌++◌, ◌∙◌, ◌∷◌, [], ℕ, List, length, map, sym, ap, subst, arith}
-use Rattle.std.specs.Prelude.{Vec, get_or, slice_set}
-use Rattle.std.specs.Global.{Global}
+use Rattle.std.proofs.Common.{◌≤◌, ◌∙◌, ℕ, List, length, map, sym, ap, subst, arith}
+use Rattle.std.specs.Prelude.{get_or, slice_set}
 use Rattle.nz_machine.specs.declared.event.Record.{Record}
 use Rattle.nz_fabric.specs.declared.rows.Place.{Place}
 use Rattle.nz_fabric.specs.Calendars.{row_number}

@@ -1,8 +1,8 @@
-use Rattle.std.proofs.Common.{◌≡◌, drop, max, min, IsFalse, sym, ap, subst, ◌∙◌, arith}
+use Rattle.std.proofs.Common.{◌≡◌, true, drop, max, min, IsFalse, sym, ap, subst, ◌∙◌, arith}
 use Rattle.nz_machine.specs.State.{ReplicaData}
 use Rattle.nz_machine.specs.Facts.{ReplicaModel}
 use Rattle.nz_machine.specs.Parts.{data_of}
-use Rattle.nz_machine.specs.Replicas.{leads}
+use Rattle.nz_machine.specs.Replicas.{is_normal, leads}
 use Rattle.nz_machine.specs.LogMods.{sync_keys, overtaken, committed_to}
 use Rattle.nz_machine.proofs.Synced.{kept_apart, kept_sync, sync_state}
 use Rattle.nz_machine.proofs.state.ReplicaState.take.Goals as goal
@@ -15,6 +15,7 @@ invariant_of-self c =
     let s : ReplicaData = data_of c.self.inside.parts in
     let committed : c.max-self-inside.result ≡ max c.self.inside.parts.commit (min c.args.commit c.sync_parts.new.log.synced) = omega arith in
     kept_sync c.self.inside.parts.cluster c.self.inside.parts.me s c.self.inside.parts.store c.args.keys.now c.args.commit c.sync_parts.new.log c.sync_parts.new.early c.sync_parts.new.late c.max-self-inside.result c.self.invariant
+    (subst (λ (v : ReplicaModel). is_normal v.state.status ≡ true) (sym c.self.view_is) c.requires.normal)
     (subst (λ (v : ReplicaModel). IsFalse (leads v.f v.me v.state)) (sym c.self.view_is) c.requires.follows) c.requires.fit (c.in-Ok.ensures.parts s) committed
 
 pub returns-in-Ok-clause-state : goal.returns-in-Ok-clause-state

@@ -1,11 +1,20 @@
-use Rattle.std.proofs.Common.{subst, sym, ap, ◌∙◌, ℕ, false, List, [], replicate}
-use Rattle.nz_machine.specs.declared.telling.Progress.{Progress}
+use Rattle.std.proofs.Common.{◌++◌, ◌∷◌, [], List, replicate, ap, subst, sym, ◌∙◌, ◌≡◌, arith, length}
+use Rattle.std.proofs.lemmas.List.{replicate_more}
 use Rattle.nz_machine.specs.Schedule.{group_of}
-use Rattle.nz_machine.specs.Telling.{AreAfter}
+use Rattle.nz_machine.specs.Telling.{Progress, first_progress, AreAfter}
 use Rattle.nz_machine.proofs.Progressing.{first_after}
 use Rattle.nz_machine.proofs.telling.Clients.new.Goals as goal
 
+pub loop-preserved : goal.loop-preserved
+loop-preserved c =
+    c.in_ok-push.ensures.items ∙ ap (λ (ps : List Progress). ps ++ c.new.result ∷ []) c.loop.invariant ∙ ap (λ (p : Progress). replicate c.loop.counter first_progress ++ p ∷ []) c.new.ensures
+    ∙ replicate_more c.loop.counter first_progress
+
 pub returns : goal.returns
 returns c =
-    let first : Progress = record { sent = 0; waits = false } in
-    subst (λ (xs : List Progress). AreAfter (group_of c.args.scenario.now) [] xs) (sym (c.in_ok-vec.ensures.items_if_clones_equal (λ y e. e) ∙ ap (λ (n : ℕ). replicate n first) c.len.ensures)) (first_after (group_of c.args.scenario.now))
+    let test = c.loop-test.false in
+    let most = c.loop.auto.counter-end in
+    let is = c.len-end.ensures in
+    let g = group_of c.args.scenario.now in
+    let count : c.loop.counter ≡ length g.scripts = omega (arith, test, most, is) in
+    subst (λ (ps : List Progress). AreAfter g [] ps) (sym (c.loop.invariant ∙ ap (λ n. replicate n first_progress) count)) (first_after g)

@@ -1,8 +1,12 @@
+use Rattle.std.proofs.Common.{List, ap, ◌∙◌}
+use Rattle.nz_base.specs.declared.key.Id.{Id}
+use Rattle.nz_machine.specs.Telling.{requests_told}
 use Rattle.nz_machine.proofs.Progressing.{other_told, other_after}
 use Rattle.nz_machine.proofs.telling.Clients.tell.Goals as goal
 
 pub returns-in-None-clause-told : goal.returns-in-None-clause-told
-returns-in-None-clause-told c = λ g J w h. other_told g c.args.next.now J c.args.self.now w c.in-None.ensures.other h
+returns-in-None-clause-told c = λ g J w h.
+    ap (λ (ids : List Id). requests_told g ids) c.new.ensures ∙ other_told g c.args.next.now J c.args.self.now w c.in-None.ensures.other h
 
 pub returns-in-None-clause-after : goal.returns-in-None-clause-after
 returns-in-None-clause-after c = λ g J w h. other_after g c.args.next.now J c.args.self.now w c.in-None.ensures.other h

@@ -1,0 +1,30 @@
+use Rattle.std.proofs.Common.{◌≡◌, ℕ, ◌+◌, ◌≤◌, true, List, length, sym, ap, subst, arith}
+use Rattle.std.specs.List.{AllByRecursion}
+use Rattle.nz_machine.specs.declared.data.Attempt.{Attempt}
+use Rattle.nz_machine.specs.Clients.{is_open}
+use Rattle.nz_client.specs.Seats.{ClientSeat, IsOfProxies}
+use Rattle.nz_client.proofs.Windows.{less_open, all_without}
+use Rattle.nz_client.proofs.state.accept.Goals as goal
+
+pub invariant_of-state : goal.invariant_of-state
+invariant_of-state c =
+    let k = c.state.invariant in
+    let xs : List Attempt = c.state.inside.attempts.items in
+    let awaited : is_open c.args.num xs ≡ true = subst (λ (seat : ClientSeat). is_open c.args.num seat.state.attempts ≡ true) (sym c.state.view_is) c.requires in
+    let less = less_open c.args.num xs awaited in
+    let in_turn = k.in_turn in
+    let few = k.few in
+    let long = ap length c.drop_attempt.ensures in
+    record {
+      named = k.named;
+      some_proxies = k.some_proxies;
+      few_proxies = k.few_proxies;
+      narrow = k.narrow;
+      sendable = k.sendable;
+      short = k.short;
+      in_script = k.in_script;
+      in_turn = omega (arith, less, in_turn, long);
+      few = omega (arith, less, few, long);
+      of_proxies = subst (λ (l : List Attempt). AllByRecursion (IsOfProxies c.state.inside.proxies) l) (sym c.drop_attempt.ensures)
+          (all_without (IsOfProxies c.state.inside.proxies) c.args.num xs k.of_proxies);
+    }
