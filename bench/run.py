@@ -13,6 +13,11 @@ With the path of a REFERENCE, another program with the same words, it first prin
 generated runs `gen 7 COUNT`, ours by one worker: the best of five times each, their ratio, the memory of both,
 and the exponents by which the times grow from one count to the next. Each line of a scenario then has the seconds of
 the reference and the ratio, too.
+
+    bench/run.py --table PROGRAM REFERENCE
+
+prints the table of README.md: for each run the processor's seconds and the memory of both, the best of five, by one
+worker; with each the exponent by which its time grows to twice the requests (or ticks), where it has a smaller twin.
 """
 import math
 import os
@@ -24,9 +29,10 @@ HERE = os.path.dirname(os.path.abspath(__file__))
 MASK = (1 << 64) - 1
 
 
-def scenario(f, proxies, clients, ticks, scripts, faults=()):
+def scenario(f, proxies, clients, ticks, scripts, faults=(), window=1):
     """The text of a scenario: a list of lines for each client."""
-    lines = ["nezha 1", f"f {f}", f"proxies {proxies}", f"clients {clients}", f"ticks {ticks}"]
+    lines = ["nezha 1" if window == 1 else "nezha 2", f"f {f}", f"proxies {proxies}", f"clients {clients}", f"ticks {ticks}"]
+    lines += [f"window {window}"] * (window > 1)
     for client in range(clients):
         lines += [f"client c{client}", *scripts[client], "end"]
     return "\n".join([*lines, *faults, "done"]) + "\n"
@@ -53,13 +59,13 @@ def drawn(seed, count, ticks=1000):
     return scenario(2, 2, 16, ticks, scripts, faults)
 
 
-def even(f, proxies, clients, requests, ticks):
+def even(f, proxies, clients, requests, ticks, window=1):
     """Puts and gets in turn, as many for each client."""
     scripts = [[] for _ in range(clients)]
     for i in range(requests):
         command = f"put k{i % 97} v{i}" if i % 2 == 0 else f"get k{i % 97}"
         scripts[i % clients].append(command)
-    return scenario(f, proxies, clients, ticks, scripts)
+    return scenario(f, proxies, clients, ticks, scripts, window=window)
 
 
 def storm(requests, ticks, period):
@@ -159,7 +165,52 @@ def side_by_side(program, reference):
     print()
 
 
+def table_rows():
+    """Each run of the table, and the same with half as much to do."""
+    with open(f"{HERE}/../scenarios/put_then_get") as it:
+        yield "a put and a get", it.read(), None
+    yield "`gen 7 2000`", drawn(7, 2000), drawn(7, 1000)
+    yield "nine replicas, 64 clients, 1,000 requests, 2,000 ticks", even(4, 8, 64, 1000, 2000), even(4, 8, 64, 500, 2000)
+    yield "100 requests in 20,000 ticks", even(1, 1, 4, 100, 20000), even(1, 1, 4, 100, 10000)
+    yield "1,000 fault lines, 200 requests", faulty(200, 1000, 1000), faulty(200, 1000, 500)
+    yield "1,990 requests of 256 bytes, 100 alarms", storm(1990, 1000, 10), storm(995, 1000, 10)
+    yield "500 requests, 100 crashes and restarts", crashes(500, 4000, 100), crashes(500, 4000, 50)
+    yield "64 clients, window 16, 2,000 requests", even(2, 2, 64, 2000, 1000, 16), even(2, 2, 64, 1000, 1000, 16)
+
+
+def least(program, text):
+    """The least seconds of a processor in five runs, and the most memory of any in MiB."""
+    runs = [spent(program, text) for _ in range(5)]
+    return min(run[0] for run in runs), max(run[1] for run in runs)
+
+
+def spent(program, text):
+    with tempfile.TemporaryFile() as given:
+        given.write(text.encode())
+        given.seek(0)
+        child = os.fork()
+        if child == 0:
+            os.dup2(given.fileno(), 0)
+            os.dup2(os.open(os.devnull, os.O_WRONLY), 1)
+            os.execv(program, [program, "run"])
+        _, status, used = os.wait4(child, 0)
+        if os.waitstatus_to_exitcode(status) != 0:
+            sys.exit(f"{program} ended with status {os.waitstatus_to_exitcode(status)}")
+        return used.ru_utime + used.ru_stime, used.ru_maxrss / 1024
+
+
+def table(program, reference):
+    print("| run | seconds | the other program | times | growth | MiB | the other program |")
+    print("|---|---|---|---|---|---|---|")
+    for name, text, half in table_rows():
+        (ours, memory), (theirs, other_memory) = least(program, text), least(reference, text)
+        growth = f"{math.log2(ours / least(program, half)[0]):.1f}" if half else "-"
+        print(f"| {name} | {ours:.3f} | {theirs:.3f} | {ours / theirs:.0f} | {growth} | {memory:.0f} | {other_memory:.0f} |", flush=True)
+
+
 def main():
+    if sys.argv[1:2] == ["--table"]:
+        return table(*map(os.path.abspath, sys.argv[2:4]))
     program = os.path.abspath(sys.argv[1] if len(sys.argv) > 1 else f"{HERE}/../crates/nezha/out/nezha")
     counts = (sys.argv[2] if len(sys.argv) > 2 else "1").split(",")
     if not os.access(program, os.X_OK):

@@ -9,7 +9,7 @@ use super::address::{is_address, is_kind};
 use super::error::NoMemory;
 use super::refusal::FrameRefusal;
 use byteorder::{BigEndian, ByteOrder};
-use bytes::{Bytes, BytesMut};
+use bytes::Bytes;
 use std::alloc::Global;
 
 /// The version that every frame states.
@@ -124,10 +124,10 @@ impl Frame {
         ensures { IfOk result (λ b. b ≡ frame kind from to body.now) }
     {
         let header = header(kind, from, to, HEAD + body.len() as u32);
-        let mut bytes = BytesMut::with_capacity(alloc, header.len() + body.len())?;
+        let mut bytes = Vec::with_capacity(alloc, header.len() + body.len())?;
         bytes.extend_from_slice(&header)?;
         bytes.extend_from_slice(body)?;
-        Ok(bytes.freeze()?)
+        Ok(Bytes::from_vec(bytes)?)
     }
 
     /// The parts of the frame that the bytes are. What is read borrows the bytes.
