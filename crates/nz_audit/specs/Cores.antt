@@ -18,6 +18,7 @@ pub record IsCore (g : Group) (J : List Record) (me : ℕ) (core : ReplicaView) 
   pub number : core.seat.me ≡ me
   pub state : core.seat.state ≡ state_after g (Replica me) J
 
+-- The same of a replica that may not be followed.
 abbrev pub IsCoreIfAny : Group → List Record → ℕ → Option ReplicaView → Type 0
 IsCoreIfAny g J me None = Unit {0}
 IsCoreIfAny g J me (Some core) = IsCore g J me core

@@ -35,6 +35,7 @@ abbrev pub known_to : Option ProxyNotes → Id → Option Noted
 known_to None id = None
 known_to (Some notes) id = get id_eq notes.known id
 
+-- Whether the notes say that the proxy is down.
 abbrev pub is_down_in : Option ProxyNotes → Bool
 is_down_in None = false
 is_down_in (Some notes) = notes.is_down
@@ -66,10 +67,12 @@ pub record LeadsTo (g : Group) (J : List Record) (entries : List Entry) (s : Sou
   pub count : s.entries ≡ length entries
   pub prefix : entries ≡ take s.entries (log_at g (Replica s.replica) run)
 
+-- The same of a source that may be missing: then there are no entries.
 abbrev pub LeadsToIfAny : Group → List Record → List Entry → Option Source → Type 0
 LeadsToIfAny g J entries None = entries ≡ []
 LeadsToIfAny g J entries (Some s) = LeadsTo g J entries s
 
+-- What a reading knows after the records of a run.
 pub record IsRead (g : Group) (J : List Record) (reading : Reading) : Type 0 where
   pub cores : (m : ℕ) → IsCoreIfAny g J m (get nat_eq reading.cores m)
   pub proxies : (q : ℕ) → IsProxy g J q (get nat_eq reading.proxies q)

@@ -18,6 +18,7 @@ pub record Shared : Type 0 where
   pub run : State
   pub running : List Running
 
+-- A run with its open turns.
 abbrev pub shared : State → List Running → Shared
 shared run running = record { run = run; running = running }
 
@@ -34,9 +35,11 @@ no_scenario = record { cluster = 1; proxies = 0; clients = 0; window = 0; ticks 
 abbrev pub start_shared : Scenario → Shared
 start_shared s = shared (start s) []
 
+-- The item of an open turn.
 abbrev pub item_running : Running → Item
 item_running o = o.item
 
+-- A turn as it is kept while it is open.
 abbrev pub running_as : Turn → Running
 running_as turn = record { number = turn.number; item = item_in turn }
 
@@ -55,6 +58,7 @@ with_opened turn f = shared (with_taken f.run) (f.running ++ running_as turn ∷
 abbrev pub place_of : ℕ → List Running → ℕ
 place_of number running = unwrap_or (position (λ o. o.number == number) running) 0
 
+-- What is read where no turn is open.
 abbrev pub no_turn : Running
 no_turn = record { number = 0; item = item (Replica 0) Alarm }
 

@@ -17,6 +17,7 @@ end_of bytes = 4 + stated bytes
 abbrev pub sender : List ℕ → ℕ
 sender bytes = big_number 2 (drop 6 bytes)
 
+-- The receiver's address in a frame.
 abbrev pub receiver : List ℕ → ℕ
 receiver bytes = big_number 2 (drop 8 bytes)
 
@@ -25,9 +26,11 @@ pub record Test : Type 0 where
   pub holds : Bool
   pub refusal : FrameRefusal
 
+-- A test with its outcome, and the refusal where it fails.
 abbrev pub test : Bool → FrameRefusal → Test
 test holds refusal = record { holds = holds; refusal = refusal }
 
+-- The refusal of the first test that fails, if one does.
 abbrev pub first_failed : List Test → Option FrameRefusal
 first_failed [] = None
 first_failed (t ∷ ts) = if t.holds then first_failed ts else Some t.refusal

@@ -22,6 +22,7 @@ pub record IsFirstPlace (log : List Entry) (id : Id) (place : ℕ) : Type 0 wher
   pub at : IsPlace log id place
   pub front : has_id (keys_of (take place log)) id ≡ false
 
+-- The last entry, if there is one.
 abbrev pub last_entry : List Entry → Option Entry
 last_entry log = slice_get log (length log - 1)
 
@@ -29,6 +30,7 @@ last_entry log = slice_get log (length log - 1)
 abbrev pub entry_key : Entry → EntryKey
 entry_key e = record { deadline = e.key.deadline; client = e.key.client; num = e.key.num }
 
+-- The digest of all entries.
 abbrev pub digest_of_log : List Entry → List ℕ
 digest_of_log log = digest (map entry_key log)
 

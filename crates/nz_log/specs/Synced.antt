@@ -19,9 +19,11 @@ pub record IsSound (log : Log) : Type 0 where
 
 -- ---- an entry put at the end of the synced part
 
+-- The synced entries: the first ones of the log.
 abbrev pub synced_part : Log → List Entry
 synced_part log = take log.synced log.entries
 
+-- The entries after the synced ones.
 abbrev pub unsynced_part : Log → List Entry
 unsynced_part log = drop log.synced log.entries
 

@@ -21,9 +21,11 @@ pub data Told : Type 0 where
   Sent : (id : Id) (command : List ℕ) → Told
   Accepted : (id : Id) (answer : AnAnswer) (path : Path) → Told
 
+-- The id of a client's request.
 abbrev pub id_at : ℕ → ℕ → Id
 id_at client num = record { client = client; num = num }
 
+-- The command of a request, empty where there is none.
 abbrev pub command_of_request : Option Request → List ℕ
 command_of_request None = []
 command_of_request (Some request) = request.command
@@ -46,6 +48,7 @@ abbrev pub accepted_in : ℕ → ClientData → ClientData → Message → List 
 accepted_in c before after (Answer b) = if nat_lt before.accepted after.accepted then Accepted (id_at c b.num) b.answer b.path ∷ [] else []
 accepted_in c before after _ = []
 
+-- What a client accepted, where it read an envelope.
 abbrev pub accepted_by : ℕ → ClientData → ClientData → Option Envelope → List Told
 accepted_by c before after None = []
 accepted_by c before after (Some e) = accepted_in c before after e.message

@@ -84,6 +84,7 @@ pub record RepliesOver (g : Group) (r : Record) (J : List Record) (keys : List E
   pub sent : Has r.sends (parcel r.actor (to, FastReply body))
   pub over : keys ≡ map entry_key (cut_after body.id (log_at g r.actor (r ∷ J)))
 
+-- Some record of the run sends a fast reply over these keys.
 abbrev pub HasReplyOver : Group → List Record → List EntryKey → Type 0
 HasReplyOver g [] keys = ⊥
 HasReplyOver g (r ∷ J) keys = RepliesOver g r J keys ⊎ HasReplyOver g J keys

@@ -1,6 +1,7 @@
 -- Sets of numbers below a limit, each by its membership test, and how many members they have.
 use Rattle.std.specs.Prelude.{ℕ, zero, suc, ◌+◌, ◌<◌, ◌≤◌, Bool, true, false, not, ◌&&◌, ◌||◌, ◌==◌, List, [], ◌∷◌, ◌++◌, IsTrue, IsFalse, if◌then◌else◌}
 
+-- 1 for true, 0 for false.
 abbrev pub one_if : Bool → ℕ
 one_if b = if b then 1 else 0
 
@@ -17,6 +18,7 @@ both p q x = p x && q x
 abbrev pub everyone : ℕ → Bool
 everyone x = true
 
+-- Every number but one.
 abbrev pub all_but : ℕ → ℕ → Bool
 all_but m x = not (m == x)
 

@@ -17,9 +17,11 @@ pub record Codec (A : Type 0) : Type 1 where
 
 -- ---- numbers and runs of bytes
 
+-- The bytes of a number, in so many bytes.
 unfoldable pub number_bytes : ℕ → ℕ → List ℕ
 number_bytes size n = big_bytes size n
 
+-- A number of so many bytes, and the bytes after it.
 unfoldable pub number_at : ℕ → List ℕ → Result (ℕ × List ℕ) ℕ
 number_at size bytes = if nat_lt (length bytes) size then Err (length bytes) else Ok (big_number size bytes, drop size bytes)
 
@@ -27,6 +29,7 @@ number_at size bytes = if nat_lt (length bytes) size then Err (length bytes) els
 abbrev pub number : ℕ → Codec ℕ
 number size = record { put = λ n rest. number_bytes size n ++ rest; get = number_at size; fits = λ n. n < 256 ^ size }
 
+-- The first n bytes, and the bytes after them.
 unfoldable pub run_at : ℕ → List ℕ → Result (List ℕ × List ℕ) ℕ
 run_at n bytes = if nat_lt (length bytes) n then Err (length bytes) else Ok (take n bytes, drop n bytes)
 
@@ -40,6 +43,7 @@ nothing = record { put = λ xs rest. rest; get = λ bytes. Ok ([], bytes); fits 
 
 -- ---- fields made of others
 
+-- What is read, where it passes the test. Else the fault is at its first byte.
 unfoldable pub limited_at : {A : Type 0} → (A → Bool) → (List ℕ → Result (A × List ℕ) ℕ) → List ℕ → Result (A × List ℕ) ℕ
 limited_at ok get bytes = do
   x ← get bytes
@@ -75,11 +79,13 @@ as_made make parts c = record {
   fits = λ b. c.fits (parts b);
 }
 
+-- A flag of one byte, 0 or 1, and a value after 1.
 unfoldable pub optional_at : {A : Type 0} → (List ℕ → Result (A × List ℕ) ℕ) → List ℕ → Result (Option A × List ℕ) ℕ
 optional_at get bytes = do
   flag ← limited_at (is_in_range 0 1) (number_at 1) bytes
   if flag.0 == 0 then Ok (None, flag.1) else (get flag.1 >>= λ a. Ok (Some a.0, a.1))
 
+-- None as the byte 0, a value after the byte 1.
 abbrev pub optional_put : {A : Type 0} → (A → List ℕ → List ℕ) → Option A → List ℕ → List ℕ
 optional_put put None rest = number_bytes 1 0 ++ rest
 optional_put put (Some a) rest = number_bytes 1 1 ++ put a rest
@@ -90,10 +96,12 @@ optional c = record { put = optional_put c.put; get = optional_at c.get; fits = 
 
 -- ---- lists
 
+-- The items in turn, each spelled by what came before it, and then the rest.
 unfoldable pub items_put : {A : Type 0} → (List A → Codec A) → List A → List A → List ℕ → List ℕ
 items_put item before [] rest = rest
 items_put item before (x ∷ xs) rest = (item before).put x (items_put item (before ++ x ∷ []) xs rest)
 
+-- So many items in turn, each read by what came before it.
 unfoldable pub items_at : {A : Type 0} → (List A → Codec A) → List A → ℕ → List ℕ → Result (List A × List ℕ) ℕ
 items_at item before zero bytes = Ok ([], bytes)
 items_at item before (suc n) bytes = do
@@ -101,6 +109,7 @@ items_at item before (suc n) bytes = do
   others ← items_at item (before ++ first.0 ∷ []) n first.1
   Ok (first.0 ∷ others.0, others.1)
 
+-- Each item can be spelled after those before it.
 abbrev pub ItemsFit : {A : Type 0} → (List A → Codec A) → List A → List A → Type 0
 ItemsFit item before [] = Unit {0}
 ItemsFit item before (x ∷ xs) = (item before).fits x × ItemsFit item (before ++ x ∷ []) xs

@@ -16,6 +16,7 @@ use Rattle.nz_msg.specs.Codec.{Codec, number, run, nothing, limited, number_with
 abbrev pub u32 : Codec ℕ
 u32 = number 4
 
+-- A number of 8 bytes.
 abbrev pub u64 : Codec ℕ
 u64 = number 8
 
@@ -39,6 +40,7 @@ key = as_made (λ p. record { deadline = p.0; client = p.1.0; num = p.1.1 }) (λ
 abbrev pub command : Codec (List ℕ)
 command = counted (number_within 2 1 552) run
 
+-- A digest of 20 bytes.
 abbrev pub digest : Codec (List ℕ)
 digest = run 20
 
@@ -63,16 +65,20 @@ answer_parts (Value v) = (2, v)
 answer_parts Absent = (3, [])
 answer_parts Differs = (4, [])
 
+-- The answer of a tag and a value: 1 done, 2 value, 3 absent, 4 differs.
 abbrev pub answer_of : ℕ × List ℕ → Answer
 answer_of p = if p.0 == 1 then Done else (if p.0 == 2 then Value p.1 else (if p.0 == 3 then Absent else Differs))
 
+-- A value, or nothing.
 abbrev pub value_if : Bool → Codec (List ℕ)
 value_if true = value
 value_if false = nothing
 
+-- What follows the tag of an answer: a value after the tag 2 alone.
 abbrev pub answer_value : ℕ → Codec (List ℕ)
 answer_value tag = value_if (tag == 2)
 
+-- An answer: a tag of one byte, 1 to 4, and what follows it.
 abbrev pub answer : Codec Answer
 answer = as_made answer_of answer_parts (number_within 1 1 4 leading answer_value)
 
@@ -81,6 +87,7 @@ abbrev pub path_number : Path → ℕ
 path_number Fast = 1
 path_number Slow = 2
 
+-- A path: one byte, 1 fast and 2 slow.
 abbrev pub path : Codec Path
 path = as_made (λ n. if n == 1 then Fast else Slow) path_number (number_within 1 1 2)
 

@@ -9,6 +9,7 @@ use Rattle.nz_msg.specs.declared.fault.Fault.TheVariants as faults
 use Rattle.nz_msg.specs.declared.refusal.DecodeRefusal.{DecodeRefusal}
 use Rattle.nz_msg.specs.declared.refusal.DecodeRefusal.TheVariants as refusals
 
+-- What a reader found is the fault, and want of memory may come anywhere.
 abbrev pub Fails : {Y : Type 0} → Fault → Result Y ℕ → Type 0
 Fails faults.NoMemory read = Unit {0}
 Fails (faults.Bad left) read = read ≡ Err left

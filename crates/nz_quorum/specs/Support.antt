@@ -7,6 +7,7 @@ use Rattle.nz_machine.specs.declared.reply.Reply.{Reply}
 use Rattle.nz_machine.specs.declared.reply.Reply.TheVariants.{Fast, Slow}
 use Rattle.nz_machine.specs.Quorums.{of_lesser_view}
 
+-- Whether the path is fast.
 abbrev pub is_fast : Path → Bool
 is_fast paths.Fast = true
 is_fast paths.Slow = false

@@ -19,6 +19,7 @@ minus = 45
 abbrev pub Lacks : ℕ → List ℕ → Type 0
 Lacks byte bytes = AllByRecursion (λ b. b ≢ byte) bytes
 
+-- The byte put before the first piece, if there is one.
 abbrev pub with_front : ℕ → Option (List ℕ × List ℕ) → Option (List ℕ × List ℕ)
 with_front x None = None
 with_front x (Some parts) = Some (x ∷ parts.0, parts.1)

@@ -16,6 +16,7 @@ fits_first [] more = Some ([], more)
 fits_first (form ∷ forms) [] = None
 fits_first (form ∷ forms) (bytes ∷ more) = word_of form bytes >>= λ word. fits_first forms more >>= λ x. Some (word ∷ x.0, x.1)
 
+-- The command word that a first word is, if it is one.
 abbrev pub asked : Verb → Option Ask
 asked (verb.Ask ask) = Some ask
 asked _ = None

@@ -65,14 +65,17 @@ knows g (Replica r) = nat_lt r (replica_count g.cluster)
 knows g (Proxy p) = nat_lt p g.proxies
 knows g (Client c) = nat_lt c g.clients
 
+-- Whether the actor is a replica or a proxy.
 abbrev pub is_server : Actor → Bool
 is_server (Client c) = false
 is_server _ = true
 
+-- Whether the actor is a replica.
 abbrev pub is_replica : Actor → Bool
 is_replica (Replica r) = true
 is_replica _ = false
 
+-- Whether the actor is a client.
 abbrev pub is_client : Actor → Bool
 is_client (Client c) = true
 is_client _ = false
@@ -91,6 +94,7 @@ is_known g f (word.Kind None) = false
 is_known g f (word.Kind (Some kind)) = is_between 1 18 kind
 is_known g f _ = true
 
+-- Whether the actors and kinds in the words, each of its form, are there.
 abbrev pub all_known : Group → List Form → List Word → Bool
 all_known g [] words = true
 all_known g (f ∷ forms) [] = true
@@ -111,22 +115,27 @@ names_known d line = all_known d.group (forms_of line.verb) line.words && is_new
 
 -- ---- limits
 
+-- Whether the word is a number from the least to the most.
 abbrev pub has_number : ℕ → ℕ → Word → Bool
 has_number least most (word.Number n) = nat_le least n && nat_le n most
 has_number least most _ = false
 
+-- Whether the word is a skew of at most 2^62 units, either way.
 abbrev pub has_units : Word → Bool
 has_units (word.Units back n) = nat_le n 4611686018427387904
 has_units _ = false
 
+-- Whether the word is a key.
 abbrev pub has_key : Word → Bool
 has_key (word.Text text) = is_key_text text
 has_key _ = false
 
+-- Whether the word is a value.
 abbrev pub has_value : Word → Bool
 has_value (word.Text text) = is_value_text text
 has_value _ = false
 
+-- Whether the word is a value, or `-` for none.
 abbrev pub has_choice : Word → Bool
 has_choice word.Nothing = true
 has_choice w = has_value w
@@ -140,6 +149,7 @@ is_within form.Value w = has_value w
 is_within form.Choice w = has_choice w
 is_within _ w = true
 
+-- Whether the words, each of its form, are within their limits.
 abbrev pub all_within : List Form → List Word → Bool
 all_within [] words = true
 all_within (f ∷ forms) [] = false
@@ -170,12 +180,14 @@ within_limits d line = (all_within (forms_of line.verb) line.words && is_span li
 
 -- ---- what a line adds
 
+-- The command that the words spell, by its first word.
 abbrev pub command_in : Ask → List Word → Command
 command_in Put words = command.Put (text_in 0 words) (text_in 1 words)
 command_in Get words = command.Get (text_in 0 words)
 command_in Del words = command.Del (text_in 0 words)
 command_in Cas words = command.Cas (text_in 0 words) (choice_in 1 words) (choice_in 2 words)
 
+-- The fault that the words spell, by its first word.
 abbrev pub fault_in : Mishap → List Word → Fault
 fault_in mishap.Drop words = fault.Drop (actor_in 0 words) (actor_in 1 words) (kind_in 2 words) (number_in 3 words)
 fault_in mishap.Hold words = fault.Hold (actor_in 0 words) (actor_in 1 words) (kind_in 2 words) (number_in 3 words) (number_in 4 words)
@@ -186,6 +198,7 @@ fault_in mishap.Crash words = fault.Crash (actor_in 0 words) (number_in 1 words)
 fault_in mishap.Restart words = fault.Restart (actor_in 0 words) (number_in 1 words)
 fault_in mishap.Alarm words = fault.Alarm (actor_in 0 words) (number_in 1 words)
 
+-- The draft after a line of the head: its number is noted, and the next line is expected.
 abbrev pub with_head : Draft → Head → List Word → Draft
 with_head d head.Version words = record d { place = place.Faulty; version = byte_in 0 words }
 with_head d head.Faulty words = record d { place = place.Proxies; group = record d.group { cluster = byte_in 0 words } }
@@ -194,6 +207,7 @@ with_head d head.Clients words = record d { place = place.Ticks; group = record 
 with_head d head.Ticks words = record d { place = if d.version == 2 then place.Window else place.Between; ticks = number_in 0 words }
 with_head d head.Window words = record d { place = place.Between; group = record d.group { window = byte_in 0 words } }
 
+-- The skew that the words spell.
 abbrev pub skew_in : List Word → Skew
 skew_in words = record { actor = actor_in 0 words; units = units_in 1 words }
 
@@ -236,6 +250,7 @@ start = record {
   faults = [];
 }
 
+-- The scenario that a draft has come to.
 abbrev pub scenario_of : Draft → Scenario
 scenario_of d = record {
   cluster = d.group.cluster;

@@ -25,13 +25,16 @@ row_of RejoinTell = (16, codes "rejoin-tell")
 row_of StateAsk = (17, codes "state-ask")
 row_of StateTell = (18, codes "state-tell")
 
+-- All kinds of messages, by number.
 abbrev pub messages : List Message
 messages = Request ∷ Timed ∷ FastReply ∷ SlowReply ∷ Answer ∷ LogMod ∷ Fetch ∷ FetchReply ∷ SyncReport ∷ ViewAsk ∷ ViewChange ∷ StartView ∷ VectorAsk ∷ VectorTell ∷ RejoinAsk ∷ RejoinTell ∷ StateAsk ∷ StateTell ∷ []
 
+-- The number of the kind with this name, among some kinds.
 abbrev pub kind_in : List Message → List ℕ → Option ℕ
 kind_in [] name = None
 kind_in (message ∷ others) name = if bytes_eq (row_of message).1 name then Some (row_of message).0 else kind_in others name
 
+-- The name of the kind with this number, among some kinds.
 abbrev pub name_in : List Message → ℕ → List ℕ
 name_in [] kind = []
 name_in (message ∷ others) kind = if (row_of message).0 == kind then (row_of message).1 else name_in others kind

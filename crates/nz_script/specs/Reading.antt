@@ -25,10 +25,12 @@ fault_of d line =
     else (if not (names_known d line) then Some Name
     else (if not (within_limits d line) then Some Limit else None)))
 
+-- The draft with a line, unless the line is at fault.
 abbrev pub taken : Draft → Line → Option Kind → Result Draft Kind
 taken d line (Some kind) = Err kind
 taken d line None = Ok (with_words d line.verb line.words)
 
+-- The same of a line that may have no shape.
 abbrev pub taken_if_shaped : Draft → Option Line → Result Draft Kind
 taken_if_shaped d None = Err Syntax
 taken_if_shaped d (Some line) = taken d line (fault_of d line)

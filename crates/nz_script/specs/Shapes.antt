@@ -73,12 +73,15 @@ shape_of verb.End = (codes "end", place.Block, [])
 shape_of (verb.Mishap m) = mishap_shape_of m
 shape_of verb.Done = (codes "done", place.Mishaps, [])
 
+-- The first word of a line.
 abbrev pub word_of : Verb → List ℕ
 word_of v = (shape_of v).0
 
+-- Where the line may come.
 abbrev pub place_of : Verb → Place
 place_of v = (shape_of v).1
 
+-- The forms of its other words.
 abbrev pub forms_of : Verb → List Form
 forms_of v = (shape_of v).2
 
@@ -90,6 +93,7 @@ verbs =
     verb.Mishap mishap.Drop ∷ verb.Mishap mishap.Hold ∷ verb.Mishap mishap.Twice ∷ verb.Mishap mishap.Cut ∷ verb.Mishap mishap.Block ∷
     verb.Mishap mishap.Crash ∷ verb.Mishap mishap.Restart ∷ verb.Mishap mishap.Alarm ∷ verb.Done ∷ []
 
+-- The sort of line with this first word, among some sorts.
 abbrev pub verb_in : List Verb → List ℕ → Option Verb
 verb_in [] word = None
 verb_in (verb ∷ others) word = if bytes_eq (word_of verb) word then Some verb else verb_in others word

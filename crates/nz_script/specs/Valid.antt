@@ -14,6 +14,7 @@ use Rattle.nz_script.specs.Shapes.{forms_of}
 use Rattle.nz_script.specs.Drafts.{knows, all_known, all_within, is_span, has_skew, has_room_for_requests, has_room_for_faults}
 use Rattle.nz_script.specs.Texts.{skew_line, fault_line, text_of}
 
+-- Who takes part in a scenario.
 abbrev pub group_of : Scenario → Group
 group_of s = record { cluster = s.cluster; proxies = s.proxies; clients = s.clients; window = s.window }
 
@@ -30,6 +31,7 @@ abbrev pub are_apart : List Skew → Bool
 are_apart [] = true
 are_apart (s ∷ skews) = not (has_skew skews s.actor) && are_apart skews
 
+-- Whether each skew's line is sound, and no actor has two.
 abbrev pub has_skews : Scenario → Bool
 has_skews s = list_all (λ k. is_sound (group_of s) (skew_line k)) s.skews && are_apart s.skews
 
@@ -37,6 +39,7 @@ has_skews s = list_all (λ k. is_sound (group_of s) (skew_line k)) s.skews && ar
 abbrev pub is_request : Request → Bool
 is_request r = nat_le r.wait 20000 && is_some (command_of r.command)
 
+-- Whether all requests of a script are commands that may wait so long.
 abbrev pub are_requests : List Request → Bool
 are_requests script = list_all is_request script
 
@@ -48,6 +51,7 @@ request_count scripts = sum_by length scripts
 abbrev pub has_few : Scenario → Bool
 has_few s = has_room_for_requests (request_count s.scripts) s.ticks && has_room_for_faults (request_count s.scripts) (length s.faults)
 
+-- Whether each fault's line is sound.
 abbrev pub has_faults : Scenario → Bool
 has_faults s = list_all (λ f. is_sound (group_of s) (fault_line f)) s.faults
 
@@ -59,6 +63,7 @@ is_short s = nat_le (length (text_of s)) 1048576
 abbrev pub is_valid : Scenario → Bool
 is_valid s = ((has_group s && has_skews s) && (list_all are_requests s.scripts && has_few s)) && (has_faults s && is_short s)
 
+-- The scenario is one that a text can have.
 abbrev pub IsValid : Scenario → Type 0
 IsValid s = IsTrue (is_valid s)
 

@@ -7,6 +7,7 @@ use Rattle.std.specs.Str.{bytes_eq}
 use Rattle.std.specs.Map.{lookup, keys_of}
 use Rattle.std.specs.BTreeMap.{insert_entry}
 
+-- The pairs of a key and its value, in the order of the keys' bytes.
 abbrev pub Entries : Type 0
 Entries = List (List ℕ × List ℕ)
 

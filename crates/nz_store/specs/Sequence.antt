@@ -68,5 +68,6 @@ unfoldable pub replies_from : Entries → List (List ℕ) → List Answer
 replies_from store [] = []
 replies_from store (bytes ∷ list) = let next = apply_bytes store bytes in next.1 ∷ replies_from next.0 list
 
+-- The answers to the commands, from the empty store on.
 abbrev pub replies : List (List ℕ) → List Answer
 replies list = replies_from empty list

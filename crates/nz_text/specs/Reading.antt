@@ -94,12 +94,15 @@ executed_of id words = command_first words >>= λ c. given c.1 >>= λ answer. So
 abbrev pub sent : List (List ℕ) → Option Line
 sent words = id_first words >>= λ i. send_of i.0 i.1
 
+-- An `accept` line of these words.
 abbrev pub accepted : List (List ℕ) → Option Line
 accepted words = id_first words >>= λ i. accept_of i.0 i.1
 
+-- An `open` line of these words.
 abbrev pub opened : List (List ℕ) → Option Line
 opened words = id_first words >>= λ i. alone (line.Open i.0) i.1
 
+-- An `at` line of these words.
 unfoldable pub placed : List (List ℕ) → Option Line
 placed [] = None
 placed (place ∷ words) = number_of place >>= λ n. id_first words >>= λ i. executed_of i.0 i.1 >>= λ x. Some (line.At n x)

@@ -77,6 +77,7 @@ pub record WritesLine (line : List ℕ) (before after : Option (List ℕ)) (coun
   pub front : TakesFront before after line
   pub whole : Rose counted counts ⊎ Gains before after line
 
+-- The name of a refusal's kind.
 abbrev pub kind_name : Kind → List ℕ
 kind_name Syntax = codes "syntax"
 kind_name Order = codes "order"
@@ -100,6 +101,7 @@ printed_by (Run workers) j = text (group_in j) (run_in j)
 printed_by (Gen seed count) j = summary (group_in j) (run_in j)
 printed_by (Trace workers) j = trace (run_in j) ++ (codes "text\n" ++ text (group_in j) (run_in j))
 
+-- What the command prints of a journal, nothing where there is no command.
 abbrev pub printed : Option Command → Journal → List ℕ
 printed None j = []
 printed (Some command) j = printed_by command j

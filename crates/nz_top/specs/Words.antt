@@ -23,10 +23,12 @@ workers_at word = if bytes_eq (take 10 word) (codes "--workers=") then workers_i
 abbrev pub named : List ℕ → ℕ → Option Command
 named word workers = if bytes_eq word (codes "run") then Some (Run workers) else (if bytes_eq word (codes "trace") then Some (Trace workers) else None)
 
+-- The command of a first word and a number of workers.
 abbrev pub played : List ℕ → Option ℕ → Option Command
 played word None = None
 played word (Some workers) = named word workers
 
+-- The command `gen`, of a seed and a count.
 abbrev pub drawn : Option ℕ → Option ℕ → Option Command
 drawn (Some seed) (Some count) = Some (Gen seed count)
 drawn _ _ = None
