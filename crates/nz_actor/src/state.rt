@@ -10,7 +10,7 @@ use nz_machine::{Core, Record, RecordList, Sends};
 use std::alloc::Global;
 use std::marker::{Model, PhantomData};
 
-/// An actor's core, and the records of its steps. While it is live the core stands where they lead.
+/// An actor's core, and the records of its steps. While it is live the core has the state that they lead to.
 #[derive(Drop)]
 pub struct ActorState<N: Name, C: Core> {
     alloc: Global,

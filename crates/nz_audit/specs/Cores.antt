@@ -7,7 +7,7 @@ use Rattle.nz_machine.specs.State.{Group}
 use Rattle.nz_machine.specs.World.{state_after}
 use Rattle.nz_replica.specs.Seats.{ReplicaView}
 
--- The run up to so many records of a journal.
+-- The run up to this many records of a journal.
 abbrev pub run_up_to : Journal → ℕ → List Record
 run_up_to journal count = reverse (take count journal.records)
 

@@ -57,7 +57,7 @@ source_with p done r J = if list_any (parcel_eq p) done then older_or (source p 
 pub record IsTableWith (g : Group) (done : List Parcel) (r : Record) (J : List Record) (table : List (ParcelKey × Option Source)) : Type 0 where
   pub exact : (p : Parcel) → kept_of table p ≡ stands_for g p (source_with p done r J) (about p)
 
--- The entries are so many of the log of this replica after so many records.
+-- The entries are the first of the log of this replica after some records: as many of each as the source says.
 pub record LeadsTo (g : Group) (J : List Record) (entries : List Entry) (s : Source) : Type 0 where
   pub later : List Record
   pub run : List Record
@@ -80,7 +80,7 @@ pub record IsRead (g : Group) (J : List Record) (reading : Reading) : Type 0 whe
   pub clients : AreAfter g J reading.clients
   pub best : LeadsToIfAny g J (history g J) reading.best
 
--- The record follows these, as the last of so many of a journal.
+-- The record follows these, and is the one of this count in a journal.
 pub record IsNext (journal : Journal) (records : ℕ) (r : Record) (J : List Record) : Type 0 where
   pub run : run_up_to journal records ≡ r ∷ J
   pub world : World (group_in journal) (r ∷ J)

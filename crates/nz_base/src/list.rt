@@ -33,7 +33,7 @@ impl<T> List<T> {
         }
     }
 
-    /// An empty list with room for so many items.
+    /// An empty list with room for this many items.
     pub fn with_capacity(alloc: Global, count: u32) -> Result<List<T>, NoMemory>
         ensures { IfOk result (λ list. list ≡ []) }
     {

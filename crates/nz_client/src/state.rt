@@ -13,7 +13,7 @@ use nz_msg::{AnswerBody, Message, RequestBody};
 use std::alloc::Global;
 use std::marker::Model;
 
-/// An open request is sent again when so many ticks have passed.
+/// An open request is sent again when this many ticks have passed.
 const PATIENCE: u32 = 30;
 
 /// The state of a client.

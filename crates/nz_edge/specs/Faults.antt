@@ -9,6 +9,6 @@ most_counted = 2 ^ 64 - 1
 abbrev pub raised : ℕ → ℕ
 raised count = min (count + 1) most_counted
 
--- a count rose, or stands at the most that it says
+-- a count rose, or is at its limit
 abbrev pub Rose : ℕ → ℕ → Type 0
 Rose before after = (before < after) ⊎ (most_counted ≤ after)

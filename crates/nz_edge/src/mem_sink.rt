@@ -9,7 +9,7 @@ use nz_base::NoMemory;
 use std::alloc::Global;
 use std::marker::Model;
 
-/// A sink that keeps what it takes in memory, and fails at the calls that it was told.
+/// A sink that keeps what it takes in memory, and fails at the calls that it was given.
 #[derive(Debug, Drop)]
 pub struct MemSink {
     bytes: Vec<u8>,

@@ -7,7 +7,7 @@ use super::source::{Failed, Source};
 use nz_base::Blob;
 use std::marker::Model;
 
-/// A source over bytes in memory, which fails at the calls that it was told.
+/// A source over bytes in memory, which fails at the calls that it was given.
 #[derive(Debug, Drop)]
 pub struct MemSource {
     bytes: Blob,

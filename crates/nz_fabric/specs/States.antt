@@ -76,7 +76,7 @@ abbrev pub after_tick : State → State
 after_tick f =
     record f { tick = f.tick + 1; finished = records_of f; here = []; items = due f.scenario (f.tick + 1) (records_of f); next = 0 }
 
--- The finished ticks are ordered in this way, and these items are due behind them.
+-- The finished ticks are ordered in this way, and these items are due after them.
 abbrev pub IsBegunAs : (Scenario → ℕ → List Record → Type 0) → Scenario → ℕ → List Record → List Item → Type 0
 IsBegunAs Ordered s zero finished items = (finished ≡ []) × (items ≡ [])
 IsBegunAs Ordered s (suc tick) finished items = Ordered s tick finished × (items ≡ due s (suc tick) finished)
@@ -96,7 +96,7 @@ pub record IsKept (f : State) : Type 0 where
   pub least : length f.here ≤ f.next
   pub most : f.next ≤ length f.here + 1
 
--- The value of the code's fabric. All records are one list, the oldest first, with so many before this tick.
+-- The value of the code's fabric. All records are one list, the oldest first, with this many before this tick.
 abbrev pub state_of : Scenario → ℕ → ℕ → List Record → List Item → ℕ → Bool → State
 state_of s tick before records items next marked = record {
   scenario = s;

@@ -44,7 +44,7 @@ impl Alone {
         })
     }
 
-    /// What the type keeps.
+    /// The invariant of this type, for the caller's proof. Does nothing.
     pub fn kept(&self)
         ensures { IsKept self.now }
     {

@@ -90,7 +90,7 @@ fn open_days(alloc: Global, tick: u32, days: &mut Vec<Vec<Item>>) -> Result<(), 
     Ok(())
 }
 
-/// Makes room for so many items in the day of a tick.
+/// Makes room for this many items in the day of a tick.
 fn reserve(
     alloc: Global,
     days: &mut Vec<Vec<Item>>,

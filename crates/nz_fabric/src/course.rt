@@ -48,7 +48,7 @@ pub fn number_of(counts: &IndexMap<Course, u64>, parcel: &Parcel, kind: Option<u
     }
 }
 
-/// So many parcels of its sender, receiver and kind there are with this one.
+/// How many parcels of its sender, receiver and kind there are with this one.
 pub fn count_up_to(
     counts: &mut IndexMap<Course, u64>,
     parcel: &Parcel,

@@ -32,7 +32,7 @@ pub fn repeated(by: u32, deliveries: &mut Vec<Delivery>) -> Result<(), NoMemory>
     Ok(())
 }
 
-/// Of the first delivery so many bytes come, and never all of them.
+/// Of the first delivery this many bytes come, and never all of them.
 pub fn cut_short(keep: u32, len: usize, deliveries: &mut [Delivery])
     ensures { (ds : List Planned) → deliveries.old ≡ map stored ds → deliveries.new ≡ map stored (cut_short_of keep len ds) }
 {

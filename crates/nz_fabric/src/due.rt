@@ -49,7 +49,7 @@ fn push_if(
     Ok(())
 }
 
-/// What a fault line asks of an actor in a tick, behind so many restart lines.
+/// What a fault line asks of an actor in a tick, after this many restart lines.
 fn push_call(
     items: &mut Vec<Item>,
     restarts: &mut u64,

@@ -1,7 +1,8 @@
 use std::marker::Brand;
 use std::sync::ledger::Ledger;
 
-/// Which run it is. The call that begins a run picks it.
+/// A type that names one run, so that values under locks are known to belong to it. The call that begins a run picks
+/// it.
 pub trait Name: Ledger {
     ghost use Rattle.nz_base.specs.declared.scenario.Scenario.{Scenario};
 

@@ -80,7 +80,7 @@ impl Rows {
         self.order.len()
     }
 
-    /// Makes room for so many records of an actor.
+    /// Makes room for this many records of an actor.
     pub fn reserve(&mut self, actor: Actor, count: usize) -> Result<(), NoMemory>
         ensures records { self.new.records ≡ self.old.records }
         ensures room { self.old.room ≤ self.new.room }

@@ -35,8 +35,8 @@ abbrev pub first_failed : List Test → Option FrameRefusal
 first_failed [] = None
 first_failed (t ∷ ts) = if t.holds then first_failed ts else Some t.refusal
 
--- The tests in their order. A place is a number of 32 bits: the bytes behind a length below 6 may be
--- more than it counts.
+-- The tests in their order. A place is a number of 32 bits: the bytes after a length below 6 may be more than it
+-- counts.
 abbrev pub tests : List ℕ → List Test
 tests bytes =
     test (nat_le 4 (length bytes)) (Short (length bytes))

@@ -27,7 +27,7 @@ synced_part log = take log.synced log.entries
 abbrev pub unsynced_part : Log → List Entry
 unsynced_part log = drop log.synced log.entries
 
--- Whether an entry stays behind one with this key: its key is above, and its id is another.
+-- Whether an entry stays after one with this key: its key is above, and its id is another.
 abbrev pub stays_behind : Key → Entry → Bool
 stays_behind key x = key_below key x.key && not (id_eq (id_of key) (id_of x.key))
 

@@ -8,7 +8,7 @@ use Rattle.nz_msg.specs.declared.message.Message.TheVariants.{Request as Asked}
 use Rattle.nz_machine.specs.declared.data.Attempt.{Attempt}
 use Rattle.nz_machine.specs.State.{ClientData, Out}
 
--- An open request is sent again when so many ticks have passed.
+-- An open request is sent again when this many ticks have passed.
 abbrev pub patience : ℕ
 patience = 30
 

@@ -53,16 +53,16 @@ abbrev pub accepted_by : ℕ → ClientData → ClientData → Option Envelope �
 accepted_by c before after None = []
 accepted_by c before after (Some e) = accepted_in c before after e.message
 
--- So many requests, the ones after that of this number.
+-- The given number of requests, those after the one with this number.
 abbrev pub sent_after : ℕ → List Request → ℕ → ℕ → List Told
 sent_after c script num zero = []
 sent_after c script num (suc more) = Sent (id_at c (num + 1)) (command_at script (num + 1)) ∷ sent_after c script (num + 1) more
 
--- The count of requests rose: so many more were sent, in rising number.
+-- The count of requests rose: as many more were sent, in rising number.
 abbrev pub sent_by : ℕ → List Request → ClientData → ClientData → List Told
 sent_by c script before after = sent_after c script before.sent (after.sent - before.sent)
 
--- What a record tells, after the records J: an acceptance first.
+-- What a record says, after the records J: an acceptance first.
 abbrev pub told_by : Group → Actor → Record → List Record → List Told
 told_by g (Client c) r J =
     let before = state_after g (Client c) J in

@@ -39,7 +39,7 @@ abbrev pub older_or : Option (List Record) → List Record → Option (List Reco
 older_or (Some K) now = Some K
 older_or None now = Some now
 
--- The run up to the first record among whose sends the parcel stands, with that record.
+-- The run up to the first record that sends the parcel, with that record.
 abbrev pub source : Parcel → List Record → Option (List Record)
 source p [] = None
 source p (r ∷ J) = if sends_it p r then older_or (source p J) (r ∷ J) else source p J
@@ -83,7 +83,7 @@ abbrev pub with_reply : List Reply → Option Reply → List Reply
 with_reply replies None = replies
 with_reply replies (Some reply) = with_note replies reply
 
--- The replies that stood when the last record of the run was handled.
+-- The replies noted for the request, the last record's included.
 abbrev pub replies_at_last : Group → ℕ → Id → List Record → List Reply
 replies_at_last g p id [] = []
 replies_at_last g p id (r ∷ J) = with_reply (replies_of (standing_after g p id J)) (reply_read id (read_in g (Proxy p) r.event))

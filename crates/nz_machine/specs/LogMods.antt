@@ -121,8 +121,8 @@ abbrev pub fetch_from : ℕ → ReplicaData → List Id → List Out
 fetch_from leader s [] = []
 fetch_from leader s (id ∷ ids) = (Replica leader, Fetch (record { view = s.view; ids = id ∷ ids })) ∷ []
 
--- What follows once the keys were taken: the state before, the leader, what it committed, and the state after
--- with the keys from the first missing one on.
+-- The end of the rule, after `sync_keys`. Its arguments are the state before, the leader, its commit, and the result
+-- of `sync_keys`.
 abbrev pub taken_in : ReplicaData → ℕ → ℕ → ReplicaData × List Key → ReplicaData × List Out
 taken_in before leader commit (s, missing) =
     let after = committed_to (overtaken s) commit in

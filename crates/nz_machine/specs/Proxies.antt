@@ -19,7 +19,7 @@ use Rattle.nz_machine.specs.State.{ProxyData, Standing, Open, Decided, Out}
 use Rattle.nz_machine.specs.Replicas.{last_clock, numbers_below}
 use Rattle.nz_machine.specs.Quorums.{Chosen, decision, answer_in, with_note}
 
--- Behind the bound on the delay, in clock units.
+-- Added to the bound on the delay, in clock units.
 abbrev pub margin : ℕ
 margin = 500
 

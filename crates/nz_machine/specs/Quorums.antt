@@ -32,12 +32,12 @@ abbrev pub agrees_of : ℕ → List ℕ → List ℕ → ℕ → Reply → Bool
 agrees_of view digest vector replica (Fast r v d u answer) = (r == replica) && ((v == view) && (bytes_eq d digest && bytes_eq u vector))
 agrees_of view digest vector replica (Slow r v) = (r == replica) && (v == view)
 
--- Whether a replica stands with this reply of a leader in a slow quorum: it is the leader, or replied slowly.
+-- Whether a replica supports this reply of a leader in a slow quorum: it is the leader, or replied slowly.
 abbrev pub stands_slowly : ℕ → List Reply → Reply → ℕ → Bool
 stands_slowly f replies (Fast r view digest vector answer) replica = (replica == leader_of f view) || list_any (is_slow_of view replica) replies
 stands_slowly f replies (Slow r view) replica = false
 
--- Whether a replica stands with it in a fast quorum: it is the leader, or agrees.
+-- Whether a replica supports it in a fast quorum: it is the leader, or agrees.
 abbrev pub stands_fast : ℕ → List Reply → Reply → ℕ → Bool
 stands_fast f replies (Fast r view digest vector answer) replica = (replica == leader_of f view) || list_any (agrees_of view digest vector replica) replies
 stands_fast f replies (Slow r view) replica = false

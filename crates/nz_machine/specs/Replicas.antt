@@ -1,4 +1,4 @@
--- Words on a replica's state that its rules share.
+-- Definitions that several rules of a replica use.
 use Rattle.std.specs.Prelude.{ℕ, zero, suc, ◌-◌, ◌^◌, Bool, true, false, not, ◌&&◌, List, [], ◌∷◌, ◌++◌, replicate, map, filter, Option, Some, None, ◌==◌, if◌then◌else◌, slice_get}
 use Rattle.nz_base.specs.Cluster.{replica_count, leader_of}
 use Rattle.nz_base.specs.declared.actor.Actor.TheVariants.{Replica, Proxy}

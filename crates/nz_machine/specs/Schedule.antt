@@ -45,7 +45,7 @@ calls tick restarts (_ ∷ lines) = calls tick restarts lines
 
 -- ---- clocks
 
--- A clock that is so many units fast, or slow. None reads less than 0.
+-- The units of a clock that is fast or slow by this many. None reads less than 0.
 abbrev pub shifted : ℕ → ℤ → ℕ
 shifted units (pos n) = units + n
 shifted units (negsuc n) = units - suc n
@@ -91,7 +91,7 @@ abbrev pub repeated : ℕ → List Delivery → List Delivery
 repeated by [] = []
 repeated by (d ∷ ds) = d ∷ (ds ++ whole_in (d.tick + by) ∷ [])
 
--- Of the first delivery so many bytes come, and never all of them.
+-- Of the first delivery this many bytes come, and never all of them.
 abbrev pub cut_short : ℕ → ℕ → List Delivery → List Delivery
 cut_short keep len [] = []
 cut_short keep len (d ∷ ds) = record d { kept = Some (min keep (len - 1)) } ∷ ds
@@ -145,7 +145,7 @@ faulted_by tick earlier p (line ∷ lines) ds = faulted_by tick earlier p lines 
 abbrev pub deliveries : Scenario → ℕ → List Parcel → Parcel → List Delivery
 deliveries s tick earlier p = faulted_by tick earlier p s.faults (whole_in (tick + 1) ∷ [])
 
--- A parcel comes whole, or so many bytes of it.
+-- A parcel comes whole, or this many bytes of it.
 abbrev pub coming : Parcel → Option ℕ → Event
 coming p None = Deliver p
 coming p (Some kept) = Cut p kept
@@ -188,7 +188,7 @@ due s tick J = calls tick 0 s.faults ++ (map (tick_item s tick) (actors_of s) ++
 abbrev pub item_of : Record → Item
 item_of r = item r.actor r.event
 
--- The records of a tick, the newest first, stand before those of the ticks before, and are what is due in its order.
+-- The records of a tick, the newest first, come before those of earlier ticks. They are what is due, in its order.
 pub record IsTick (s : Scenario) (tick : ℕ) (now older J : List Record) : Type 0 where
   pub whole : J ≡ now ++ older
   pub here : AllByRecursion (λ r. r.tick ≡ tick) now
@@ -205,7 +205,7 @@ abbrev pub InOrderTo : Scenario → ℕ → List Record → Type 0
 InOrderTo s zero J = J ≡ []
 InOrderTo s (suc tick) J = (now : List Record) × ((older : List Record) × (IsTick s (suc tick) now older J × InOrderTo s tick older))
 
--- The same, but those of a tick stand in any order.
+-- The same, but those of a tick are in any order.
 abbrev pub ScheduledTo : Scenario → ℕ → List Record → Type 0
 ScheduledTo s zero J = J ≡ []
 ScheduledTo s (suc tick) J = (now : List Record) × ((older : List Record) × (IsTickInSomeOrder s (suc tick) now older J × ScheduledTo s tick older))

@@ -1,4 +1,4 @@
--- One step of an actor: which rule an event comes to.
+-- One step of an actor: which rule handles an event.
 use Rattle.std.specs.Prelude.{ℕ, Bool, true, ◌&&◌, not, ◌==◌, List, [], length, map, Option, Some, None, Result, Ok, Err, nat_lt, if◌then◌else◌, slice_index_or}
 use Rattle.nz_base.specs.Actor.{actor_eq}
 use Rattle.nz_base.specs.Cluster.{replica_count}

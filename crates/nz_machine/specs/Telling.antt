@@ -1,4 +1,4 @@
--- What the records of a run show of its clients: how far each is, and what a record tells.
+-- What the records of a run show of its clients: how far each is, and what a record says.
 use Rattle.std.specs.Prelude.{◌≡◌, ℕ, ◌<◌, ◌≤◌, not, ◌==◌, nat_lt, if◌then◌else◌, List, [], ◌∷◌, ◌++◌, length, map, filter, Option, Some, None, Result, Ok, Err, slice_get}
 use Rattle.std.specs.List.{list_any}
 use Rattle.nz_base.specs.declared.actor.Actor.{Actor}
@@ -60,7 +60,7 @@ pub record AreAfter (g : Group) (J : List Record) (clients : List Progress) : Ty
   pub count : length clients ≡ length g.scripts
   pub each : (c : ℕ) → c < length g.scripts → slice_get clients c ≡ Some (progress_of (state_after g (Client c) J))
 
--- The actor is none of so many clients.
+-- The actor is none of this many clients.
 abbrev pub IsOther : ℕ → Actor → Type 0
 IsOther count (Client c) = count ≤ c
 IsOther count _ = Unit {0}
@@ -125,7 +125,7 @@ abbrev pub with_all : Progress → List (Option ℕ) → Progress
 with_all p [] = p
 with_all p (num ∷ nums) = with_all (with_num p num) nums
 
--- What the record of a client tells, and how far the client is then.
+-- What the record of a client says, and how far the client is then.
 abbrev pub shown : ℕ → Progress → Event → List Parcel → Telling × Progress
 shown c p e sends =
     let accepted = answer_of c p e in

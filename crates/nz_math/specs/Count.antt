@@ -26,12 +26,12 @@ all_but m x = not (m == x)
 abbrev pub IsWithin : ℕ → (ℕ → Bool) → (ℕ → Bool) → Type 0
 IsWithin n p among = (x : ℕ) → x < n → IsTrue (p x) → IsTrue (among x)
 
--- Whether a number stands in a list.
+-- Whether a number is in a list.
 abbrev pub is_in : List ℕ → ℕ → Bool
 is_in [] x = false
 is_in (y ∷ ys) x = (y == x) || is_in ys x
 
--- No number stands in the list twice.
+-- No number is in the list twice.
 abbrev pub AreDistinct : List ℕ → Type 0
 AreDistinct [] = Unit {0}
 AreDistinct (x ∷ xs) = IsFalse (is_in xs x) × AreDistinct xs

@@ -5,7 +5,7 @@ use Rattle.nz_base.specs.Key.{key_below, id_eq, id_of}
 use Rattle.nz_base.specs.Log.{keys_of}
 use Rattle.nz_merge.specs.declared.change.Change.{Change}
 
--- Whether a key may stand before these.
+-- Whether a key may come before these.
 abbrev pub comes_first : Key → List Key → Bool
 comes_first key [] = true
 comes_first key (k ∷ keys) = (key_below key k && not (id_eq (id_of key) (id_of k))) && comes_first key keys

@@ -82,13 +82,13 @@ in_order keys = put_all_in_order [] keys
 abbrev pub all_keys : List Change → List Key
 all_keys changes = in_order (flat_map (λ c. keys_of c.log) changes)
 
--- Whether a key is taken behind those that were taken: enough logs hold it, it is above the last of
--- them, and its id is not among theirs.
+-- Whether a key is taken after those that were taken: enough logs hold it, it is above the last of them, and its id
+-- is not among theirs.
 abbrev pub is_taken : ℕ → List Change → List Key → Key → Bool
 is_taken limit changes taken key =
     nat_le limit (length (holders changes key)) && (is_above_last taken key && not (has_id taken (id_of key)))
 
--- The keys that are taken behind others, when these are gone through in turn.
+-- The keys that are taken after others, when these are gone through in turn.
 unfoldable pub later : ℕ → List Change → List Key → List Key → List Key
 later limit changes taken [] = []
 later limit changes taken (key ∷ keys) =

@@ -3,13 +3,13 @@ use Rattle.std.specs.Prelude.{◌≡◌, ℕ, zero, suc, ◌<◌, ◌^◌, Bool,
 use Rattle.std.specs.Int.{is_in_range}
 use Rattle.byteorder.specs.Endian.{big_bytes, big_number}
 
--- What is read is a value with the bytes behind it, or how many bytes stand from the fault on to the end.
+-- What is read is a value with the bytes after it, or how many bytes there are from the fault to the end.
 infixl 10 ◌>>=◌
 abbrev pub ◌>>=◌ : {A B : Type 0} → Result A ℕ → (A → Result B ℕ) → Result B ℕ
 (Ok x) >>= f = f x
 (Err left) >>= f = Err left
 
--- put a rest: the bytes of a in front of the rest. get bytes: what stands in front. fits: what can be spelled.
+-- put a rest: the bytes of a, and then the rest. get bytes: what comes first. fits: what can be spelled.
 pub record Codec (A : Type 0) : Type 1 where
   pub put : A → List ℕ → List ℕ
   pub get : List ℕ → Result (A × List ℕ) ℕ
@@ -17,15 +17,15 @@ pub record Codec (A : Type 0) : Type 1 where
 
 -- ---- numbers and runs of bytes
 
--- The bytes of a number, in so many bytes.
+-- The bytes of a number, in this many bytes.
 unfoldable pub number_bytes : ℕ → ℕ → List ℕ
 number_bytes size n = big_bytes size n
 
--- A number of so many bytes, and the bytes after it.
+-- A number of this many bytes, and the bytes after it.
 unfoldable pub number_at : ℕ → List ℕ → Result (ℕ × List ℕ) ℕ
 number_at size bytes = if nat_lt (length bytes) size then Err (length bytes) else Ok (big_number size bytes, drop size bytes)
 
--- a number in so many bytes, the highest first
+-- a number in this many bytes, the highest first
 abbrev pub number : ℕ → Codec ℕ
 number size = record { put = λ n rest. number_bytes size n ++ rest; get = number_at size; fits = λ n. n < 256 ^ size }
 
@@ -33,7 +33,7 @@ number size = record { put = λ n rest. number_bytes size n ++ rest; get = numbe
 unfoldable pub run_at : ℕ → List ℕ → Result (List ℕ × List ℕ) ℕ
 run_at n bytes = if nat_lt (length bytes) n then Err (length bytes) else Ok (take n bytes, drop n bytes)
 
--- so many bytes of any value
+-- this many bytes of any value
 abbrev pub run : ℕ → Codec (List ℕ)
 run n = record { put = λ bytes rest. bytes ++ rest; get = run_at n; fits = λ bytes. length bytes ≡ n }
 
@@ -53,7 +53,7 @@ limited_at ok get bytes = do
 abbrev pub limited : {A : Type 0} → (A → Bool) → Codec A → Codec A
 limited ok c = record { put = c.put; get = limited_at ok c.get; fits = λ a. c.fits a × IsTrue (ok a) }
 
--- a number of so many bytes, from least to most
+-- a number of this many bytes, from least to most
 abbrev pub number_within : ℕ → ℕ → ℕ → Codec ℕ
 number_within size least most = limited (is_in_range least most) (number size)
 
@@ -71,7 +71,7 @@ infixr 20 ◌then◌
 abbrev pub ◌then◌ : {A B : Type 0} → Codec A → Codec B → Codec (A × B)
 c then d = c leading (λ _. d)
 
--- the same bytes, for values that stand for those of c
+-- the same bytes, for values that represent those of c
 abbrev pub as_made : {A B : Type 0} → (A → B) → (B → A) → Codec A → Codec B
 as_made make parts c = record {
   put = λ b. c.put (parts b);
@@ -101,7 +101,7 @@ unfoldable pub items_put : {A : Type 0} → (List A → Codec A) → List A → 
 items_put item before [] rest = rest
 items_put item before (x ∷ xs) rest = (item before).put x (items_put item (before ++ x ∷ []) xs rest)
 
--- So many items in turn, each read by what came before it.
+-- This many items in turn, each read by what came before it.
 unfoldable pub items_at : {A : Type 0} → (List A → Codec A) → List A → ℕ → List ℕ → Result (List A × List ℕ) ℕ
 items_at item before zero bytes = Ok ([], bytes)
 items_at item before (suc n) bytes = do
@@ -114,11 +114,11 @@ abbrev pub ItemsFit : {A : Type 0} → (List A → Codec A) → List A → List 
 ItemsFit item before [] = Unit {0}
 ItemsFit item before (x ∷ xs) = (item before).fits x × ItemsFit item (before ++ x ∷ []) xs
 
--- so many items, each of which may depend on those before it
+-- this many items, each of which may depend on those before it
 abbrev pub items : {A : Type 0} → (List A → Codec A) → ℕ → Codec (List A)
 items item n = record { put = items_put item []; get = items_at item [] n; fits = λ xs. (length xs ≡ n) × ItemsFit item [] xs }
 
--- a list whose length stands before it
+-- a list with its length before it
 abbrev pub counted : {A : Type 0} → Codec ℕ → (ℕ → Codec (List A)) → Codec (List A)
 counted count list = record {
   put = λ xs rest. count.put (length xs) ((list (length xs)).put xs rest);

@@ -35,7 +35,7 @@ abbrev pub unless_refused : Option FrameRefusal → Result Envelope DecodeRefusa
 unless_refused (Some r) envelope = Err (Frame r)
 unless_refused None envelope = envelope
 
--- the envelope of what was read. A fault so many bytes before the end is at the place that is left of all.
+-- the envelope of what was read. A fault this many bytes before the end is at the place that is left of all.
 abbrev pub enveloped : ℕ → Result Actor DecodeRefusal → Result Actor DecodeRefusal → Result Message ℕ → Result Envelope DecodeRefusal
 enveloped size (Err r) to message = Err r
 enveloped size (Ok from) (Err r) message = Err r

@@ -36,7 +36,7 @@ id = as_made (λ p. record { client = p.0; num = p.1 }) (λ i. (i.client, i.num)
 abbrev pub key : Codec Key
 key = as_made (λ p. record { deadline = p.0; client = p.1.0; num = p.1.1 }) (λ k. (k.deadline, (k.client, k.num))) (deadline then u32 then u32)
 
--- 1 to 552 bytes behind a length of two bytes
+-- 1 to 552 bytes after a length of two bytes
 abbrev pub command : Codec (List ℕ)
 command = counted (number_within 2 1 552) run
 
@@ -54,7 +54,7 @@ vector = counted (limited is_cluster_size (number 1)) (items (λ _. u32))
 
 -- ---- answers
 
--- 1 to 256 bytes behind a length of two bytes
+-- 1 to 256 bytes after a length of two bytes
 abbrev pub value : Codec (List ℕ)
 value = counted (number_within 2 1 256) run
 
@@ -93,30 +93,30 @@ path = as_made (λ n. if n == 1 then Fast else Slow) path_number (number_within 
 
 -- ---- lists
 
--- a key comes behind those of all these items, and its id is none of theirs
+-- a key comes after those of all these items, and its id is none of theirs
 abbrev pub may_follow : {A : Type 0} → (A → Key) → List A → Key → Bool
 may_follow key_of before key = list_all (λ a. key_below (key_of a) key && not (id_eq (id_of (key_of a)) (id_of key))) before
 
--- the key of the item behind these
+-- the key of the item after these
 abbrev pub next_key_by : {A : Type 0} → (A → Key) → List A → Codec Key
 next_key_by key_of before = limited (may_follow key_of before) key
 
--- the key behind these
+-- the key after these
 abbrev pub next_key : List Key → Codec Key
 next_key before = next_key_by (λ k. k) before
 
--- the entry behind these
+-- the entry after these
 abbrev pub next_entry : List Entry → Codec Entry
 next_entry before = as_made (λ p. record { key = p.0; command = p.1 }) (λ e. (e.key, e.command)) (next_key_by (λ e. e.key) before then command)
 
--- 1 to 64 ids behind their count of one byte
+-- 1 to 64 ids after their count of one byte
 abbrev pub ids : Codec (List Id)
 ids = counted (number_within 1 1 64) (items (λ _. id))
 
--- at most 64 keys behind their count of one byte
+-- at most 64 keys after their count of one byte
 abbrev pub keys : Codec (List Key)
 keys = counted (number_within 1 0 64) (items next_key)
 
--- from least to most entries behind their count of four bytes
+-- from least to most entries after their count of four bytes
 abbrev pub entries : ℕ → ℕ → Codec (List Entry)
 entries least most = counted (number_within 4 least most) (items next_entry)

@@ -186,7 +186,7 @@ pub record IsBody (kind : ℕ) (bytes : List ℕ) (message : Message) : Type 0 w
 
 -- ---- reading
 
--- a body, and nothing behind it
+-- a body, and nothing after it
 abbrev pub whole : {A : Type 0} → Codec A → (A → Message) → List ℕ → Result Message ℕ
 whole c make bytes = c.get bytes >>= λ x. if length x.1 == 0 then Ok (make x.0) else Err (length x.1)
 

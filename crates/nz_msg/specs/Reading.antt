@@ -24,7 +24,7 @@ abbrev pub IsPlaced : ℕ → Fault → Type 0
 IsPlaced size faults.NoMemory = Unit {0}
 IsPlaced size (faults.Bad left) = left ≤ size
 
--- the refusal of so many bytes for a fault in them
+-- the refusal of this many bytes for a fault in them
 abbrev pub placed : ℕ → Fault → DecodeRefusal
 placed size faults.NoMemory = refusals.NoMemory
 placed size (faults.Bad left) = refusals.BadBody (size - left)

@@ -45,7 +45,7 @@ fn actor_of(address: u16) -> Actor
     }
 }
 
-// The refusal of so many bytes for a fault in them.
+// The refusal of this many bytes for a fault in them.
 fn placed(fault: Fault, size: usize) -> DecodeRefusal
     requires fault { IsPlaced size fault }
     requires size { size < 2 ^ 32 }

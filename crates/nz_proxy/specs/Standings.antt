@@ -44,7 +44,7 @@ abbrev pub noted : Standing → Reply → Standing
 noted (kept.Open tally) reply = let t = with_reply tally reply in settled t (decision t.f t.replies)
 noted (kept.Decided answer path) reply = kept.Decided answer path
 
--- ---- what the client is told then
+-- ---- what then goes to the client
 
 -- The answer that goes to the client, if there is one.
 abbrev pub told_by : Path → Option Answer → Option (Answer × Path)

@@ -29,7 +29,7 @@ use std::marker::Model;
 /// Clocks stop here.
 const LAST_CLOCK: u64 = (1 << 62) - 1;
 
-/// Behind the bound on the delay, in clock units.
+/// Added to the bound on the delay, in clock units.
 const MARGIN: u64 = 500;
 
 /// The state of a proxy.

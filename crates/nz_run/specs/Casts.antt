@@ -1,4 +1,4 @@
--- The cores of a run, each of which stands where the records lead its actor.
+-- The cores of a run, each with the state that the records lead its actor to.
 use Rattle.std.specs.Prelude.{◌≡◌, ℕ, ◌<◌, Bool, true, List, length, get_or}
 use Rattle.nz_base.specs.Cluster.{replica_count}
 use Rattle.nz_base.specs.declared.actor.Actor.{Actor}
@@ -20,7 +20,7 @@ use Rattle.nz_proxy.specs.Seats.{ProxyView}
 use Rattle.nz_client.specs.Seats.{ClientView, IsOf}
 use Rattle.nz_run.specs.declared.cast.Cast.{Cast}
 
--- The actor's core: it stands where the records lead the actor, and no step of it ran out of memory.
+-- The actor's core: its state is the actor's after the records, and it is live.
 pub record IsAt (g : Group) (J : List Record) (a : Actor) (meaning : Node) (live : Bool) (fits : Type 0) : Type 0 where
   pub stands : meaning ≡ record { actor = a; state = state_after g a J }
   pub lives : live ≡ true
@@ -35,7 +35,7 @@ AreAt {C} meaning live fits g named J cores =
 abbrev pub record_of : ℕ → Actor → Event → List Parcel → Record
 record_of tick a e sends = record { tick = tick; actor = a; event = e; sends = sends }
 
--- What an actor sends at an event behind the records.
+-- What an actor sends at an event after the records.
 abbrev pub sends_of : Group → List Record → Actor → Event → List Parcel
 sends_of g J a e = (node_step g a (state_after g a J) e).1
 
@@ -86,7 +86,7 @@ pub record IsCast (g : Group) (J : List Record) (cast : Cast) : Type 0 where
   pub proxy_count : length cast.proxies.items ≡ g.proxies
   pub client_count : length cast.clients.items ≡ length g.scripts
 
--- The records so far are a run of the world, and the cores stand where they lead.
+-- The records so far are a run of the world, and the cores have the states that they lead to.
 pub record IsUnderWay (f : State) (cast : Cast) : Type 0 where
   pub world : World (group_of f.scenario) (records_of f)
   pub is_cast : IsCast (group_of f.scenario) (records_of f) cast

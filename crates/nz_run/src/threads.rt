@@ -110,8 +110,8 @@ fn run_named<N: Name + Send + Sync, R: Threads + Wait + Sync, G: Gate + Sync>(
     Ok(Some(state.into_journal()?))
 }
 
-/// The journal of a run by so many workers, whichever does what. It may be done anew on one thread, and is with
-/// one worker. May wait.
+/// The journal of a run by this many workers, whichever does what. It may be done anew on one thread, and is with one
+/// worker. May wait.
 pub fn run<R: Threads + Wait + Sync, G: Gate + Sync>(
     rt: &R,
     alloc: Global,

@@ -7,7 +7,7 @@ use Rattle.std.specs.List.{list_any, list_all, AllByRecursion}
 abbrev pub space : ℕ
 space = 32
 
--- the byte behind each line
+-- the newline after each line
 abbrev pub newline : ℕ
 newline = 10
 
@@ -24,12 +24,12 @@ abbrev pub with_front : ℕ → Option (List ℕ × List ℕ) → Option (List �
 with_front x None = None
 with_front x (Some parts) = Some (x ∷ parts.0, parts.1)
 
--- what stands before and behind the first such byte
+-- what is before and after the first such byte
 abbrev pub cut : ℕ → List ℕ → Option (List ℕ × List ℕ)
 cut at [] = None
 cut at (x ∷ xs) = if x == at then Some ([], xs) else with_front x (cut at xs)
 
--- the byte put in front of the first piece, if there is one
+-- the byte put before the first piece, if there is one
 abbrev pub onto_first : ℕ → List (List ℕ) → List (List ℕ)
 onto_first x [] = []
 onto_first x (piece ∷ pieces) = (x ∷ piece) ∷ pieces
@@ -39,7 +39,7 @@ abbrev pub lines_in : List ℕ → List (List ℕ)
 lines_in [] = []
 lines_in (x ∷ xs) = if x == newline then [] ∷ lines_in xs else onto_first x (lines_in xs)
 
--- what stands behind the last newline
+-- what follows the last newline
 abbrev pub tail_in : List ℕ → List ℕ
 tail_in [] = []
 tail_in (x ∷ xs) = if list_any (λ b. b == newline) (x ∷ xs) then tail_in xs else x ∷ xs
@@ -49,12 +49,12 @@ abbrev pub is_word_end : List ℕ → Bool
 is_word_end [] = true
 is_word_end (x ∷ xs) = x == space
 
--- what stands between the spaces of a line
+-- what is between the spaces of a line
 abbrev pub words_in : List ℕ → List (List ℕ)
 words_in [] = []
 words_in (x ∷ xs) = if x == space then words_in xs else (if is_word_end xs then (x ∷ []) ∷ words_in xs else onto_first x (words_in xs))
 
--- a space, or a byte that can stand in a word
+-- a space, or a byte that can be in a word
 abbrev pub is_printed : ℕ → Bool
 is_printed byte = nat_le 0x20 byte && nat_le byte 0x7e
 

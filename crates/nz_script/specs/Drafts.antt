@@ -41,19 +41,19 @@ version_has version _ = true
 
 -- ---- order
 
--- a client's line stands in its turn, or names nobody whose turn could come
+-- a client's line comes in its turn, or names nobody whose turn could come
 abbrev pub is_turn : Draft → List Word → Bool
 is_turn d [] = true
 is_turn d (word.Named (Client c) ∷ words) = not (nat_lt c d.group.clients) || (c == length d.scripts)
 is_turn d (_ ∷ words) = true
 
--- skews stand before all blocks, and the blocks in the order of the clients
+-- skews come before all blocks, and the blocks in the order of the clients
 abbrev pub is_in_turn : Draft → Verb → List Word → Bool
 is_in_turn d verb.Skew words = length d.scripts == 0
 is_in_turn d verb.Client words = is_turn d words
 is_in_turn d _ words = true
 
--- the line stands in its place
+-- the line is in its place
 abbrev pub in_order : Draft → Line → Bool
 in_order d line = (rank_of d.place == rank_of (place_of line.verb)) && is_in_turn d line.verb line.words
 
@@ -80,7 +80,7 @@ abbrev pub is_client : Actor → Bool
 is_client (Client c) = true
 is_client _ = false
 
--- the actor is of the sort that is to stand here
+-- the actor is of the sort that is expected here
 abbrev pub suits : Form → Actor → Bool
 suits form.Server a = is_server a
 suits form.Replica a = is_replica a
@@ -215,7 +215,7 @@ skew_in words = record { actor = actor_in 0 words; units = units_in 1 words }
 abbrev pub with_request : Draft → Command → Draft
 with_request d c = record d { block = d.block ++ (record { wait = d.wait; command = spelling c }) ∷ []; wait = 0; requests = d.requests + 1 }
 
--- the block is whole, and a wait without a request behind it is forgotten
+-- the block is whole, and a wait without a request after it is forgotten
 abbrev pub with_script : Draft → Draft
 with_script d = record d {
   place = if length d.scripts + 1 == d.group.clients then place.Mishaps else place.Between;

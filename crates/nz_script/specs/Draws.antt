@@ -18,7 +18,7 @@ next x = (x * 6364136223846793005 + 1442695040888963407) % 2 ^ 64
 abbrev pub drawn : ℕ → ℕ
 drawn x = x / 2 ^ 33
 
--- the state after so many pairs of draws
+-- the state after this many pairs of draws
 abbrev pub after : ℕ → ℕ → ℕ
 after zero x = x
 after (suc n) x = after n (next (next x))
@@ -39,7 +39,7 @@ command_for a b i =
     else (if a == 2 then command.Del (key_of b)
     else command.Cas (key_of b) None (Some (value_of i))))
 
--- request i, of the two draws behind this state
+-- request i, of the two draws after this state
 abbrev pub request_for : ℕ → ℕ → Request
 request_for x i = record { wait = 0; command = spelling (command_for (drawn (next x) % 4) (drawn (next (next x)) % 16) i) }
 

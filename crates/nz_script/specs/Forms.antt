@@ -16,7 +16,7 @@ abbrev pub ◌>>=◌ : {A B : Type 0} → Option A → (A → Option B) → Opti
 (Some x) >>= f = f x
 None >>= f = None
 
--- the sort that a letter stands for, and the number
+-- the sort that a letter names, and the number
 abbrev pub lettered : ℕ → ℕ → Option Actor
 lettered letter n =
     if letter == 114 then Some (actor.Replica n)
@@ -55,7 +55,7 @@ value_word word = if bytes_eq word (codes "-") then None else Some (Text word)
 abbrev pub choice_word : List ℕ → Word
 choice_word word = if bytes_eq word (codes "-") then Nothing else Text word
 
--- what a word means where a word of this form is to stand
+-- what a word means where a word of this form is expected
 abbrev pub word_of : Form → List ℕ → Option Word
 word_of (form.Number least most) word = number_word word
 word_of form.Units word = units_word word
@@ -69,7 +69,7 @@ word_of form.Key word = Some (Text word)
 word_of form.Value word = value_word word
 word_of form.Choice word = Some (choice_word word)
 
--- what stands at a place of a line, and a first of its sort where nothing of that sort does
+-- what is at a place of a line, and a first of its sort where nothing of that sort is
 
 -- The number that a word is, at most the most.
 abbrev pub number_as : ℕ → Option Word → ℕ

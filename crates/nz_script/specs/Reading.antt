@@ -48,20 +48,20 @@ outcome (Some kind) d = Err kind
 abbrev pub most_bytes : ℕ
 most_bytes = 1048576
 
--- behind the last newline: an input that goes on past the most bytes is at its limit in this line, a line without
--- its newline is no line, and a text that ends before its last line lacks this one
+-- after the last newline: an input that goes on past the most bytes is at its limit in this line, a line without its
+-- newline is no line, and a text that ends before its last line lacks this one
 abbrev pub ending : Bool → List ℕ → ℕ → Draft → Result Scenario ScriptFault
 ending long tail n d =
     if long then Err (Refusal n Limit)
     else (if not (length tail == 0) then Err (Refusal n Syntax)
     else (if rank_of d.place == 9 then Ok (scenario_of d) else Err (Refusal n Order)))
 
--- the answer to the lines behind, where nothing is wrong with line n
+-- the answer to the lines after, where nothing is wrong with line n
 abbrev pub behind : ℕ → (Draft → Result Scenario ScriptFault) → Result Draft Kind → Result Scenario ScriptFault
 behind n further (Err kind) = Err (Refusal n kind)
 behind n further (Ok next) = further next
 
--- the lines from line n on, and what stands behind the last newline
+-- the lines from line n on, and what follows the last newline
 abbrev pub reading : Bool → List ℕ → ℕ → Draft → List (List ℕ) → Result Scenario ScriptFault
 reading long tail n d [] = ending long tail n d
 reading long tail n d (line ∷ lines) = behind n (λ next. reading long tail (n + 1) next lines) (step d line)

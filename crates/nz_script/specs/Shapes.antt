@@ -1,4 +1,4 @@
--- The table of lines: by their first word, where they may stand and what follows.
+-- The table of lines: by their first word, where they may come and what follows.
 use Rattle.std.specs.Prelude.{ℕ, if◌then◌else◌, List, [], ◌∷◌, Option, Some, None, codes}
 use Rattle.std.specs.Str.{bytes_eq}
 use Rattle.nz_script.specs.declared.shape.Place.{Place}

@@ -3,7 +3,7 @@
 pub enum Kind {
     /// It has not the shape of any line.
     Syntax,
-    /// It does not stand in its place.
+    /// It is not in its place.
     Order,
     /// It names somebody or something that is not there.
     Name,

@@ -45,7 +45,7 @@ fn step(alloc: Global, draft: &mut Draft, bytes: &[u8]) -> Result<Option<Kind>, 
     }
 }
 
-/// What is answered at the end of the text, in the line behind the last newline.
+/// What is answered at the end of the text, in the line after the last newline.
 fn ending(long: bool, tail: &[u8], line: u32, draft: Draft) -> Result<Scenario, ScriptFault>
     ensures { result ≡ ending_of long tail.now line draft }
 {
@@ -92,7 +92,7 @@ fn read_text(
     Ok(ending(long, rest, line, draft))
 }
 
-/// The bytes, cut behind so many.
+/// The first bytes, this many.
 fn front(bytes: &[u8], most: usize) -> &[u8]
     ensures value { result.now ≡ take most bytes.now }
     ensures short { length result.now ≤ most }

@@ -32,6 +32,6 @@ abbrev pub with_choice : Entries → List ℕ → Option (List ℕ) → Entries
 with_choice entries key (Some value) = with_value entries key value
 with_choice entries key None = without entries key
 
--- each key stands once, in the order of their bytes
+-- each key is there once, in the order of their bytes
 abbrev pub IsMap : Entries → Type 0
 IsMap entries = IsStrictlySortedBy (slice_cmp nat_cmp) (keys_of entries)

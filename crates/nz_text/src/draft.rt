@@ -106,7 +106,7 @@ impl Draft {
         }
     }
 
-    /// Takes a line in, if the bytes are one that may stand here.
+    /// Takes a line in, if the bytes are one that may come here.
     #[tactic(auto, unfolding(crate::specs::Reading::step))]
     pub fn step(&mut self, alloc: Global, bytes: &[u8]) -> Result<bool, NoMemory>
         ensures { IfOk result (λ good. step_by self.old bytes.now ≡ outcome good self.new) }

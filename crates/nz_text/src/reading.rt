@@ -10,7 +10,7 @@ use nz_base::NoMemory;
 use nz_script::cut_at;
 use std::alloc::Global;
 
-/// The answer at the end of the text, in the line behind the last newline.
+/// The answer at the end of the text, in the line after the last newline.
 fn ending(tail: &[u8], line: u32, draft: Draft) -> Result<Printed, TextFault>
     ensures { result ≡ ending_by tail.now line draft }
 {

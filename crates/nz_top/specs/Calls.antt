@@ -24,20 +24,20 @@ use Rattle.nz_top.specs.declared.words.Command.TheVariants.{Run, Trace, Gen}
 use Rattle.nz_top.specs.Moves.{input, TakesFront}
 use Rattle.nz_top.specs.Words.{reads}
 
--- the source tells its bytes, and what is looked at of them is the text of this scenario
+-- the source exposes its bytes, and those that are looked at are the text of this scenario
 abbrev pub ReadsAs : Option (List ℕ) → Scenario → Type 0
 ReadsAs left s = IfSome left (λ bytes. scenario (input bytes) ≡ Ok s)
 
--- the source tells its bytes, and in what is looked at of them this line is the first bad one, with what is wrong in it
+-- the source exposes its bytes, and of those looked at this line is the first bad one, with what is wrong in it
 abbrev pub RefusedAt : Option (List ℕ) → ℕ → Kind → Type 0
 RefusedAt left line kind = IfSome left (λ bytes. scenario (input bytes) ≡ Err (Refusal line kind))
 
--- the source tells its bytes, and what is looked at of them is the text of some scenario
+-- the source exposes its bytes, and those that are looked at are the text of some scenario
 abbrev pub IsReadable : Option (List ℕ) → Type 0
 IsReadable None = ⊥
 IsReadable (Some bytes) = (s : Scenario) × (scenario (input bytes) ≡ Ok s)
 
--- the source tells its bytes, and what is looked at of them has a bad line
+-- the source exposes its bytes, and those that are looked at have a bad line
 abbrev pub IsRefused : Option (List ℕ) → Type 0
 IsRefused None = ⊥
 IsRefused (Some bytes) = (line : ℕ) × ((kind : Kind) × (scenario (input bytes) ≡ Err (Refusal line kind)))
@@ -72,7 +72,7 @@ Explains command left counted counts (no_scenario.Refused line kind) = IsTrue (r
 Explains command left counted counts no_scenario.Fault = IsTrue (reads command) × Rose counted counts
 Explains command left counted counts no_scenario.NoMemory = Unit {0}
 
--- the line is written whole, but for a front of it where the sink counted a fault
+-- the line is written whole, or a prefix of it where the sink counted a fault
 pub record WritesLine (line : List ℕ) (before after : Option (List ℕ)) (counted counts : ℕ) : Type 0 where
   pub front : TakesFront before after line
   pub whole : Rose counted counts ⊎ Gains before after line
@@ -84,11 +84,11 @@ kind_name Order = codes "order"
 kind_name Name = codes "name"
 kind_name Limit = codes "limit"
 
--- the line that tells a bad line of the input
+-- the line that reports a bad line of the input
 unfoldable pub refusal_line : ℕ → Kind → List ℕ
 refusal_line line kind = codes "refused line " ++ (decimal line ++ (codes ": " ++ (kind_name kind ++ codes "\n")))
 
--- the input's first bad line is told
+-- the first bad line of the input is reported
 pub record TellsBadLine (left before after : Option (List ℕ)) (counted counts : ℕ) : Type 0 where
   pub line : ℕ
   pub kind : Kind

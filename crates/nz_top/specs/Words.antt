@@ -33,7 +33,7 @@ abbrev pub drawn : Option ℕ → Option ℕ → Option Command
 drawn (Some seed) (Some count) = Some (Gen seed count)
 drawn _ _ = None
 
--- `gen SEED COUNT` plays the scenario that the seed draws, with so many requests, and prints its summary
+-- `gen SEED COUNT` plays the scenario that the seed draws, with this many requests, and prints its summary
 abbrev pub of_three : List ℕ → List ℕ → List ℕ → Option Command
 of_three word second third =
     if bytes_eq word (codes "gen") then drawn (number_of second) (up_to 2000 (number_of third))
