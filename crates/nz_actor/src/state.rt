@@ -1,3 +1,5 @@
+//! An actor's core with the records of its steps.
+
 ghost use Rattle.std.specs.Prelude.{◌≡◌, ◌↔◌, ◌∷◌, [], true, false, reverse, IfOk, OnErr, IsTrue};
 ghost use Rattle.nz_machine.specs.Schedule.{group_of};
 ghost use Rattle.nz_machine.specs.Step.{first_node};

@@ -1,3 +1,5 @@
+//! Steps of a client, with what it sends.
+
 use super::*;
 use nz_base::{Actor, Blob, NoMemory, Request, RequestList};
 use nz_machine::{Core, Event, Parcel, Sends};

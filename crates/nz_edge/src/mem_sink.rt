@@ -1,3 +1,5 @@
+//! A sink in memory.
+
 ghost use Rattle.std.specs.Prelude.{◌≡◌, ◌<◌, ◌≤◌, ◌↔◌, ◌++◌, ◌-◌, ◌⊎◌, [], Some, length, take, min, IsErr, IfOk, OnOk, OnErr, Contains};
 ghost use Rattle.nz_edge.specs.Faults.{Rose, raised};
 ghost use Rattle.nz_edge.specs.Told.{Gains};

@@ -1,3 +1,5 @@
+//! A source in memory.
+
 ghost use Rattle.std.specs.Prelude.{◌≡◌, ◌<◌, ◌≤◌, ◌↔◌, ◌++◌, [], Some, length, take, drop, min, IsErr, IfOk, IfSome, OnErr, Contains};
 ghost use Rattle.nz_edge.specs.Faults.{Rose, raised};
 ghost use Rattle.nz_edge.specs.Told.{Loses};

@@ -1,3 +1,5 @@
+//! Standard input as a source, and standard output as a sink.
+
 ghost use Rattle.std.specs.Prelude.{◌≡◌, None};
 
 use super::sink::Sink;

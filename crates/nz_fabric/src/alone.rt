@@ -1,3 +1,5 @@
+//! The network of a run on one thread.
+
 ghost use Rattle.std.specs.Prelude.{◌≡◌, ◌⊎◌, ◌<◌, ◌++◌, ◌∷◌, length, true, false, Some, OnErr, IfOk, MatchResult, MatchOption, MatchBool};
 ghost use Rattle.nz_machine.specs.Journals.{run_in};
 ghost use Rattle.nz_machine.specs.Schedule.{InOrder, IsPlayable};

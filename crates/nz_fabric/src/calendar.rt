@@ -1,3 +1,5 @@
+//! The calendar of coming deliveries.
+
 ghost use Rattle.std.specs.Prelude.{◌≡◌, ◌+◌, ◌-◌, ◌<◌, ◌≤◌, ◌^◌, ◌∷◌, ◌++◌, [], ℕ, List, length, map, get_or, min, Option, IfOk, OnOk, OnErr, MatchOption, if◌then◌else◌};
 ghost use Rattle.nz_base.specs.declared.scenario.Scenario.{Scenario as Scenarios};
 ghost use Rattle.nz_machine.specs.Schedule.{IsPlayable, Posted, posted_in, arrivals};

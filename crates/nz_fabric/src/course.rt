@@ -1,3 +1,5 @@
+//! Counts of parcels by sender, receiver and kind.
+
 ghost use Rattle.std.specs.Prelude.{◌≡◌, ◌+◌, ◌-◌, ◌^◌, ◌<◌, min, MatchOption, OnOk, OnErr};
 ghost use Rattle.nz_fabric.specs.Calendars.{course, count_of, row_number, IsCounted};
 

@@ -1,3 +1,5 @@
+//! What one fault line makes of the deliveries of a parcel.
+
 ghost use Rattle.std.specs.Prelude.{◌≡◌, List, map, OnOk};
 ghost use Rattle.nz_machine.specs.Schedule.{Delivery as Planned, held as held_of, repeated as repeated_of, cut_short as cut_short_of};
 ghost use Rattle.nz_fabric.specs.Posting.{stored};

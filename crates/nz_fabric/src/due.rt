@@ -1,3 +1,5 @@
+//! What is due in a tick before what arrives: fault lines and clocks.
+
 ghost use Rattle.std.specs.Prelude.{◌≡◌, ◌<◌, ◌+◌, ◌-◌, ◌^◌, ◌==◌, ◌∷◌, ◌++◌, [], map, IfOk, OnOk};
 ghost use Rattle.nz_machine.specs.Replicas.{numbers_below};
 ghost use Rattle.nz_machine.specs.Schedule.{item, if_in, calls, skew_of, clock_at as clock_in, actors_of, tick_item};

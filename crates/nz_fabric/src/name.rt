@@ -1,3 +1,5 @@
+//! The name of a run, as a type.
+
 use std::marker::Brand;
 use std::sync::ledger::Ledger;
 

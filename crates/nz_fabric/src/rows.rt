@@ -1,3 +1,5 @@
+//! The records of a run, one row for each actor.
+
 ghost use Rattle.std.specs.Prelude.{◌≡◌, ◌↔◌, ◌+◌, ◌<◌, ◌≤◌, ◌∷◌, ◌++◌, [], ℕ, List, length, map, drop, get_or, vec_capacity, IsTrue, IfOk, OnOk, OnErr, if◌then◌else◌};
 ghost use Rattle.nz_base.specs.Actor.{actor_eq};
 ghost use Rattle.nz_base.specs.declared.actor.Actor.{Actor as Actors};

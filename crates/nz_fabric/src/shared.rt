@@ -1,3 +1,5 @@
+//! The network of a run on several threads, under its lock.
+
 ghost use Rattle.std.specs.Prelude.{◌≡◌, ◌⊎◌, ◌+◌, ◌<◌, ◌==◌, ◌↔◌, length, reverse, get_or, true, false, IsTrue, IfOk, IfSome, MatchBool, MatchOption, MatchResult};
 ghost use Rattle.std.specs.List.{position};
 ghost use Rattle.nz_machine.specs.Journals.{run_in};

@@ -1,3 +1,5 @@
+//! Why bytes are no frame.
+
 /// Why bytes are no frame. A place is counted in bytes from the first one.
 #[derive(Clone, Copy, Debug, PartialEq, Eq)]
 pub enum FrameRefusal {

@@ -1,3 +1,5 @@
+//! Both logs, call by call.
+
 use super::*;
 use nz_base::{Blob, Entry, EntryList, Id, Key, List, NoMemory};
 use nz_digest::Digest;

@@ -1,3 +1,5 @@
+//! Whether a message counts in a cluster.
+
 ghost use Rattle.std.specs.Prelude.{◌≡◌, ◌&&◌};
 ghost use Rattle.std.specs.Option.{option_copied};
 ghost use Rattle.nz_machine.specs.Step.{is_in_cluster, is_sized, vector_of as vector_in};

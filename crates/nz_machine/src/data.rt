@@ -1,3 +1,5 @@
+//! The data of actors' states.
+
 use nz_base::List;
 use nz_cv::CrashVector;
 use nz_merge::Change;

@@ -1,3 +1,5 @@
+//! Parcels, events and records.
+
 use bytes::Bytes;
 use nz_base::{Actor, List, NoMemory, TryCopy};
 use std::alloc::Global;

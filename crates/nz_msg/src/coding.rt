@@ -1,3 +1,5 @@
+//! Messages as frames, both ways.
+
 ghost use Rattle.std.specs.Prelude.{◌≡◌, ◌<◌, ◌^◌, ◌⊎◌, Ok, Err, Some, IfOk, IfErr};
 ghost use Rattle.nz_base.specs.Actor.{HasAddress, actor_at};
 ghost use Rattle.nz_frame.specs.Address.{IsAddress};

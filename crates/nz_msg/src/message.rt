@@ -1,3 +1,5 @@
+//! The eighteen messages.
+
 use nz_base::{Blob, EntryList, Id, IdList, KeyList};
 use nz_cv::CrashVector;
 use nz_digest::Digest;

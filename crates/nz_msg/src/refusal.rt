@@ -1,3 +1,5 @@
+//! Why bytes are no message.
+
 use nz_frame::FrameRefusal;
 
 /// Why bytes were not decoded. A place is counted in bytes from the first one.

@@ -1,3 +1,5 @@
+//! The state of a proxy, and its rules.
+
 ghost use Rattle.std.specs.Prelude.{◌≡◌, ◌+◌, ◌-◌, ◌^◌, ◌<◌, ◌≤◌, ◌++◌, ◌∷◌, List, [], map, length, OnOk, IfOk, IsSome, IfSome, true, false};
 ghost use Rattle.std.specs.Option.{option_map};
 ghost use Rattle.nz_base.specs.Actor.{HasAddress};

@@ -1,3 +1,5 @@
+//! Steps of a proxy, with what it sends.
+
 use super::*;
 use nz_base::{Actor, Blob, Cluster, Id};
 use nz_cv::CrashVector;

@@ -1,3 +1,5 @@
+//! A run by several workers.
+
 ghost use Rattle.std.specs.Prelude.{◌≡◌, ◌⊎◌, ◌<◌, ◌≤◌, length, true, IfOk, IfSome, OnOk};
 ghost use Rattle.nz_machine.specs.Journals.{group_in, run_in};
 ghost use Rattle.nz_machine.specs.Schedule.{InOrder, IsPlayable, Scheduled};

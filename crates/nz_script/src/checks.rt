@@ -1,3 +1,5 @@
+//! The tests of a line that has its shape.
+
 ghost use Rattle.std.specs.Prelude.{◌≡◌, ◌<◌, ◌^◌};
 ghost use Rattle.nz_base.specs.Actor.{actor_eq};
 ghost use Rattle.nz_store.specs.Reading.{is_key_text, is_value_text};

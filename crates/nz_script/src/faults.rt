@@ -1,3 +1,5 @@
+//! Why a text is no scenario.
+
 /// What is wrong with a line. The first of the four that is, in this order, is its kind.
 #[derive(Clone, Copy, Debug, PartialEq, Eq)]
 pub enum Kind {

@@ -1,3 +1,5 @@
+//! Texts, read line by line.
+
 ghost use Rattle.std.specs.Prelude.{◌≡◌, ◌≢◌, ◌≤◌, ℕ, Bool, List, length, nat_lt, take, IfOk, IfErr, OnErr, Option, Some, None, Result, Ok, Err};
 ghost use Rattle.nz_script.specs.Bytes.{lines_in, tail_in};
 ghost use Rattle.nz_script.specs.Reading.{is_passed_over as line_is_passed_over, step as step_of, outcome, ending as ending_of, reading, scenario};

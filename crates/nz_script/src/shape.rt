@@ -1,3 +1,5 @@
+//! The table of lines.
+
 ghost use Rattle.std.specs.Prelude.{◌≡◌, ◌==◌};
 ghost use Rattle.nz_script.specs.Shapes.{word_of, place_of, forms_of, head_shape_of, ask_shape_of, mishap_shape_of, rank_of, verb_of as verb_for, verb_in as verb_among};
 

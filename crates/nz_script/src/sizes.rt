@@ -1,3 +1,5 @@
+//! Whether the text of a scenario is short enough, part by part.
+
 ghost use Rattle.std.specs.Prelude.{◌≡◌, ◌≤◌, ◌∷◌, [], length, map, Some, None};
 ghost use Rattle.std.specs.Fmt.{decimal};
 ghost use Rattle.nz_store.specs.Reading.{command_of};

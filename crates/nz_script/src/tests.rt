@@ -1,3 +1,5 @@
+//! Texts, drawn scenarios, and first bad lines.
+
 use super::*;
 use nz_base::Scenario;
 use std::alloc::Global;

@@ -1,3 +1,5 @@
+//! What was read of a text so far.
+
 ghost use Rattle.std.specs.Prelude.{◌≡◌, IfOk};
 ghost use Rattle.nz_text.specs.declared.line.Line.TheVariants as line;
 ghost use Rattle.nz_text.specs.Reading.{rank_of, start, with_line, step as step_by, outcome};

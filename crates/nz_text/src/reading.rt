@@ -1,3 +1,5 @@
+//! Texts, read line by line.
+
 ghost use Rattle.std.specs.Prelude.{◌≡◌, ◌≢◌, ◌<◌, length, IfOk, IfErr, Ok, Err};
 ghost use Rattle.nz_script.specs.Bytes.{lines_in, tail_in};
 ghost use Rattle.nz_text.specs.Reading.{start, ending as ending_by, reading, printed_in};
