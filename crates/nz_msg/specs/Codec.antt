@@ -25,7 +25,7 @@ number_bytes size n = big_bytes size n
 unfoldable pub number_at : ℕ → List ℕ → Result (ℕ × List ℕ) ℕ
 number_at size bytes = if nat_lt (length bytes) size then Err (length bytes) else Ok (big_number size bytes, drop size bytes)
 
--- a number in this many bytes, the highest first
+-- A number in this many bytes, the highest first.
 abbrev pub number : ℕ → Codec ℕ
 number size = record { put = λ n rest. number_bytes size n ++ rest; get = number_at size; fits = λ n. n < 256 ^ size }
 
@@ -33,11 +33,11 @@ number size = record { put = λ n rest. number_bytes size n ++ rest; get = numbe
 unfoldable pub run_at : ℕ → List ℕ → Result (List ℕ × List ℕ) ℕ
 run_at n bytes = if nat_lt (length bytes) n then Err (length bytes) else Ok (take n bytes, drop n bytes)
 
--- this many bytes of any value
+-- This many bytes of any value.
 abbrev pub run : ℕ → Codec (List ℕ)
 run n = record { put = λ bytes rest. bytes ++ rest; get = run_at n; fits = λ bytes. length bytes ≡ n }
 
--- no bytes
+-- No bytes.
 abbrev pub nothing : Codec (List ℕ)
 nothing = record { put = λ xs rest. rest; get = λ bytes. Ok ([], bytes); fits = λ xs. xs ≡ [] }
 
@@ -49,15 +49,15 @@ limited_at ok get bytes = do
   x ← get bytes
   if ok x.0 then Ok x else Err (length bytes)
 
--- only these values: another one is out of range at its first byte
+-- Only these values: another one is out of range at its first byte.
 abbrev pub limited : {A : Type 0} → (A → Bool) → Codec A → Codec A
 limited ok c = record { put = c.put; get = limited_at ok c.get; fits = λ a. c.fits a × IsTrue (ok a) }
 
--- a number of this many bytes, from least to most
+-- A number of this many bytes, from least to most.
 abbrev pub number_within : ℕ → ℕ → ℕ → Codec ℕ
 number_within size least most = limited (is_in_range least most) (number size)
 
--- one field, and then one that depends on it
+-- One field, and then one that depends on it.
 infixr 20 ◌leading◌
 abbrev pub ◌leading◌ : {A B : Type 0} → Codec A → (A → Codec B) → Codec (A × B)
 c leading d = record {
@@ -66,12 +66,12 @@ c leading d = record {
   fits = λ p. c.fits p.0 × (d p.0).fits p.1;
 }
 
--- one field, and then another
+-- One field, and then another.
 infixr 20 ◌then◌
 abbrev pub ◌then◌ : {A B : Type 0} → Codec A → Codec B → Codec (A × B)
 c then d = c leading (λ _. d)
 
--- the same bytes, for values that represent those of c
+-- The same bytes, for values that represent those of c.
 abbrev pub as_made : {A B : Type 0} → (A → B) → (B → A) → Codec A → Codec B
 as_made make parts c = record {
   put = λ b. c.put (parts b);
@@ -90,7 +90,7 @@ abbrev pub optional_put : {A : Type 0} → (A → List ℕ → List ℕ) → Opt
 optional_put put None rest = number_bytes 1 0 ++ rest
 optional_put put (Some a) rest = number_bytes 1 1 ++ put a rest
 
--- a byte 0, or a byte 1 and a value
+-- A byte 0, or a byte 1 and a value.
 abbrev pub optional : {A : Type 0} → Codec A → Codec (Option A)
 optional c = record { put = optional_put c.put; get = optional_at c.get; fits = λ o. IfSome o c.fits }
 
@@ -114,11 +114,11 @@ abbrev pub ItemsFit : {A : Type 0} → (List A → Codec A) → List A → List 
 ItemsFit item before [] = Unit {0}
 ItemsFit item before (x ∷ xs) = (item before).fits x × ItemsFit item (before ++ x ∷ []) xs
 
--- this many items, each of which may depend on those before it
+-- This many items, each of which may depend on those before it.
 abbrev pub items : {A : Type 0} → (List A → Codec A) → ℕ → Codec (List A)
 items item n = record { put = items_put item []; get = items_at item [] n; fits = λ xs. (length xs ≡ n) × ItemsFit item [] xs }
 
--- a list with its length before it
+-- A list with its length before it.
 abbrev pub counted : {A : Type 0} → Codec ℕ → (ℕ → Codec (List A)) → Codec (List A)
 counted count list = record {
   put = λ xs rest. count.put (length xs) ((list (length xs)).put xs rest);

@@ -73,7 +73,7 @@ sync_report = as_made (λ p. record { view = p.0; synced = p.1 }) (λ b. (b.view
 abbrev pub view_ask : Codec ViewAskBody
 view_ask = as_made (λ p. record { view = p }) (λ b. b.view) view
 
--- there are at least as many entries as are synced or committed
+-- There are at least as many entries as are synced or committed.
 abbrev pub view_change : Codec ViewChangeBody
 view_change =
     as_made (λ p. record { view = p.0; last = p.1.0; vector = p.1.1.0; synced = p.1.1.1.0.0; commit = p.1.1.1.0.1; entries = p.1.1.1.1 })
@@ -136,7 +136,7 @@ kind_of (RejoinTell b) = 16
 kind_of (StateAsk b) = 17
 kind_of (StateTell b) = 18
 
--- each field is in its range
+-- Each field is in its range.
 abbrev pub Fits : Message → Type 0
 Fits (Request b) = request.fits b
 Fits (Timed b) = timed.fits b
@@ -178,7 +178,7 @@ body_of (RejoinTell b) = rejoin_tell.put b []
 body_of (StateAsk b) = state_ask.put b []
 body_of (StateTell b) = state_tell.put b []
 
--- the bytes are the body of this message of the kind
+-- The bytes are the body of this message of the kind.
 pub record IsBody (kind : ℕ) (bytes : List ℕ) (message : Message) : Type 0 where
   pub same_kind : kind_of message ≡ kind
   pub fit : Fits message
@@ -186,7 +186,7 @@ pub record IsBody (kind : ℕ) (bytes : List ℕ) (message : Message) : Type 0 w
 
 -- ---- reading
 
--- a body, and nothing after it
+-- A body, and nothing after it.
 abbrev pub whole : {A : Type 0} → Codec A → (A → Message) → List ℕ → Result Message ℕ
 whole c make bytes = c.get bytes >>= λ x. if length x.1 == 0 then Ok (make x.0) else Err (length x.1)
 

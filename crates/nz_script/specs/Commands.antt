@@ -10,7 +10,7 @@ use Rattle.nz_script.specs.Shapes.{verb_of, ask_shape_of}
 use Rattle.nz_script.specs.Forms.{word_of, ◌>>=◌}
 use Rattle.nz_script.specs.Drafts.{all_within, command_in}
 
--- what the first words mean, where each has its form, and the words after them
+-- What the first words mean, where each has its form, and the words after them.
 abbrev pub fits_first : List Form → List (List ℕ) → Option (List Word × List (List ℕ))
 fits_first [] more = Some ([], more)
 fits_first (form ∷ forms) [] = None
@@ -21,11 +21,11 @@ abbrev pub asked : Verb → Option Ask
 asked (verb.Ask ask) = Some ask
 asked _ = None
 
--- a command of this sort, with its key and its values in range, and the words after it
+-- A command of this sort, with its key and its values in range, and the words after it.
 abbrev pub command_of_sort : Ask → List (List ℕ) → Option (Command × List (List ℕ))
 command_of_sort ask words = fits_first (ask_shape_of ask).2 words >>= λ x. if all_within (ask_shape_of ask).2 x.0 then Some (command_in ask x.0, x.1) else None
 
--- the command whose words come first, and the words after it
+-- The command whose words come first, and the words after it.
 unfoldable pub command_first : List (List ℕ) → Option (Command × List (List ℕ))
 command_first [] = None
 command_first (first ∷ more) = verb_of first >>= λ verb. asked verb >>= λ ask. command_of_sort ask more

@@ -34,32 +34,32 @@ use Rattle.nz_script.specs.Forms.{number_in, byte_in, units_in, actor_in, actors
 
 -- ---- version
 
--- a text of this version has lines of this sort: `window` is a word of version 2 alone
+-- A text of this version has lines of this sort: `window` is a word of version 2 alone.
 abbrev pub version_has : ℕ → Verb → Bool
 version_has version (verb.Head head.Window) = version == 2
 version_has version _ = true
 
 -- ---- order
 
--- a client's line comes in its turn, or names nobody whose turn could come
+-- A client's line comes in its turn, or names nobody whose turn could come.
 abbrev pub is_turn : Draft → List Word → Bool
 is_turn d [] = true
 is_turn d (word.Named (Client c) ∷ words) = not (nat_lt c d.group.clients) || (c == length d.scripts)
 is_turn d (_ ∷ words) = true
 
--- skews come before all blocks, and the blocks in the order of the clients
+-- Skews come before all blocks, and the blocks in the order of the clients.
 abbrev pub is_in_turn : Draft → Verb → List Word → Bool
 is_in_turn d verb.Skew words = length d.scripts == 0
 is_in_turn d verb.Client words = is_turn d words
 is_in_turn d _ words = true
 
--- the line is in its place
+-- The line is in its place.
 abbrev pub in_order : Draft → Line → Bool
 in_order d line = (rank_of d.place == rank_of (place_of line.verb)) && is_in_turn d line.verb line.words
 
 -- ---- names
 
--- the actor is of the cluster
+-- The actor is of the cluster.
 abbrev pub knows : Group → Actor → Bool
 knows g (Replica r) = nat_lt r (replica_count g.cluster)
 knows g (Proxy p) = nat_lt p g.proxies
@@ -80,14 +80,14 @@ abbrev pub is_client : Actor → Bool
 is_client (Client c) = true
 is_client _ = false
 
--- the actor is of the sort that is expected here
+-- The actor is of the sort that is expected here.
 abbrev pub suits : Form → Actor → Bool
 suits form.Server a = is_server a
 suits form.Replica a = is_replica a
 suits form.Client a = is_client a
 suits _ a = true
 
--- what the word names is there
+-- What the word names is there.
 abbrev pub is_known : Group → Form → Word → Bool
 is_known g f (word.Named a) = suits f a && knows g a
 is_known g f (word.Kind None) = false
@@ -100,16 +100,16 @@ all_known g [] words = true
 all_known g (f ∷ forms) [] = true
 all_known g (f ∷ forms) (w ∷ words) = is_known g f w && all_known g forms words
 
--- the actor's clock has a skew already
+-- The actor's clock has a skew already.
 abbrev pub has_skew : List Skew → Actor → Bool
 has_skew skews a = list_any (λ s. actor_eq s.actor a) skews
 
--- a skew is the first of its actor
+-- A skew is the first of its actor.
 abbrev pub is_new_skew : Draft → Verb → List Word → Bool
 is_new_skew d verb.Skew words = not (has_skew d.skews (actor_in 0 words))
 is_new_skew d _ words = true
 
--- its actors are those of the cluster and of their sorts, its kinds are there, and a skew is the actor's first
+-- Its actors are those of the cluster and of their sorts, its kinds are there, and a skew is the actor's first.
 abbrev pub names_known : Draft → Line → Bool
 names_known d line = all_known d.group (forms_of line.verb) line.words && is_new_skew d line.verb line.words
 
@@ -140,7 +140,7 @@ abbrev pub has_choice : Word → Bool
 has_choice word.Nothing = true
 has_choice w = has_value w
 
--- the number or the length is in the range of the form
+-- The number or the length is in the range of the form.
 abbrev pub is_within : Form → Word → Bool
 is_within (form.Number least most) w = has_number least most w
 is_within form.Units w = has_units w
@@ -155,26 +155,26 @@ all_within [] words = true
 all_within (f ∷ forms) [] = false
 all_within (f ∷ forms) (w ∷ words) = is_within f w && all_within forms words
 
--- 2,000 requests and 2,000,000 requests times ticks
+-- 2,000 requests and 2,000,000 requests times ticks.
 abbrev pub has_room_for_requests : ℕ → ℕ → Bool
 has_room_for_requests requests ticks = nat_le requests 2000 && nat_le (requests * ticks) 2000000
 
--- 1,000 faults and 200,000 requests times faults
+-- 1,000 faults and 200,000 requests times faults.
 abbrev pub has_room_for_faults : ℕ → ℕ → Bool
 has_room_for_faults requests faults = nat_le faults 1000 && nat_le (requests * faults) 200000
 
--- with this line there are not too many of its sort
+-- With this line there are not too many of its sort.
 abbrev pub has_room : Draft → Verb → Bool
 has_room d (verb.Ask a) = has_room_for_requests (d.requests + 1) d.ticks
 has_room d (verb.Mishap m) = has_room_for_faults d.requests (length d.faults + 1)
 has_room d _ = true
 
--- the ticks of a block are in order
+-- The ticks of a block are in order.
 abbrev pub is_span : Verb → List Word → Bool
 is_span (verb.Mishap mishap.Block) words = nat_le (number_in 2 words) (number_in 3 words)
 is_span _ words = true
 
--- its numbers and lengths are in range, and so are the sums and the products with it
+-- Its numbers and lengths are in range, and so are the sums and the products with it.
 abbrev pub within_limits : Draft → Line → Bool
 within_limits d line = (all_within (forms_of line.verb) line.words && is_span line.verb line.words) && has_room d line.verb
 
@@ -211,11 +211,11 @@ with_head d head.Window words = record d { place = place.Between; group = record
 abbrev pub skew_in : List Word → Skew
 skew_in words = record { actor = actor_in 0 words; units = units_in 1 words }
 
--- the wait that was read last holds for this request alone
+-- The wait that was read last holds for this request alone.
 abbrev pub with_request : Draft → Command → Draft
 with_request d c = record d { block = d.block ++ (record { wait = d.wait; command = spelling c }) ∷ []; wait = 0; requests = d.requests + 1 }
 
--- the block is whole, and a wait without a request after it is forgotten
+-- The block is whole, and a wait without a request after it is forgotten.
 abbrev pub with_script : Draft → Draft
 with_script d = record d {
   place = if length d.scripts + 1 == d.group.clients then place.Mishaps else place.Between;
@@ -224,7 +224,7 @@ with_script d = record d {
   wait = 0;
 }
 
--- what has been read with this line
+-- What has been read with this line.
 abbrev pub with_words : Draft → Verb → List Word → Draft
 with_words d (verb.Head h) words = with_head d h words
 with_words d verb.Skew words = record d { skews = d.skews ++ skew_in words ∷ [] }
@@ -235,7 +235,8 @@ with_words d verb.End words = with_script d
 with_words d (verb.Mishap m) words = record d { faults = d.faults ++ fault_in m words ∷ [] }
 with_words d verb.Done words = record d { place = place.Behind }
 
--- before the first line: the window is 1 where no line tells it, and the other numbers of the head are set before they are used
+-- Before the first line: the window is 1 where no line tells it, and the other numbers of the head are set before
+-- they are used.
 abbrev pub start : Draft
 start = record {
   place = place.Version;

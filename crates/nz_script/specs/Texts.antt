@@ -26,7 +26,7 @@ use Rattle.nz_script.specs.Lines.{a_line}
 
 -- ---- how a line is spelled
 
--- a letter and the number
+-- A letter and the number.
 abbrev pub actor_text : Actor → List ℕ
 actor_text (Replica r) = 114 ∷ decimal r
 actor_text (Proxy p) = 112 ∷ decimal p
@@ -51,7 +51,7 @@ word_text (word.Kind kind) = kind_text kind
 word_text (word.Text text) = text
 word_text word.Nothing = codes "-"
 
--- each word with one space before it
+-- Each word with one space before it.
 abbrev pub words_text : List Word → List ℕ
 words_text [] = []
 words_text (w ∷ words) = space ∷ (word_text w ++ words_text words)
@@ -60,7 +60,7 @@ words_text (w ∷ words) = space ∷ (word_text w ++ words_text words)
 abbrev pub line_text : Line → List ℕ
 line_text line = word_of line.verb ++ words_text line.words
 
--- each line with its newline
+-- Each line with its newline.
 abbrev pub text_of_lines : List Line → List ℕ
 text_of_lines [] = []
 text_of_lines (line ∷ lines) = line_text line ++ newline ∷ text_of_lines lines
@@ -71,11 +71,11 @@ text_of_lines (line ∷ lines) = line_text line ++ newline ∷ text_of_lines lin
 abbrev pub number_line : Verb → ℕ → Line
 number_line v n = a_line v (word.Number n ∷ [])
 
--- a window of 1 is that of version 1, which has no line for it
+-- A window of 1 is that of version 1, which has no line for it.
 abbrev pub version_of : ℕ → ℕ
 version_of window = if window == 1 then 1 else 2
 
--- version 2 says its window
+-- Version 2 says its window.
 abbrev pub window_lines : ℕ → List Line
 window_lines window = if window == 1 then [] else number_line (verb.Head head.Window) window ∷ []
 
@@ -109,7 +109,7 @@ command_line (command.Get key) = a_line (verb.Ask Get) (word.Text key ∷ [])
 command_line (command.Del key) = a_line (verb.Ask Del) (word.Text key ∷ [])
 command_line (command.Cas key old new) = a_line (verb.Ask Cas) (word.Text key ∷ choice_of old ∷ choice_of new ∷ [])
 
--- a wait is written exactly where it is above 0
+-- A wait is written exactly where it is above 0.
 abbrev pub wait_lines : ℕ → List Line
 wait_lines n = if n == 0 then [] else number_line verb.Wait n ∷ []
 
@@ -127,7 +127,7 @@ abbrev pub script_lines : List Request → List Line
 script_lines [] = a_line verb.End [] ∷ []
 script_lines (r ∷ requests) = request_lines r ++ script_lines requests
 
--- the blocks of the clients from this one on
+-- The blocks of the clients from this one on.
 abbrev pub scripts_lines : ℕ → List (List Request) → List Line
 scripts_lines client [] = []
 scripts_lines client (script ∷ scripts) = a_line verb.Client (word.Named (Client client) ∷ []) ∷ (script_lines script ++ scripts_lines (client + 1) scripts)
@@ -148,10 +148,10 @@ fault_line (fault.Crash a tick) = a_line (verb.Mishap mishap.Crash) (word.Named 
 fault_line (fault.Restart a tick) = a_line (verb.Mishap mishap.Restart) (word.Named a ∷ word.Number tick ∷ [])
 fault_line (fault.Alarm a tick) = a_line (verb.Mishap mishap.Alarm) (word.Named a ∷ word.Number tick ∷ [])
 
--- the head, the skews, the blocks of the clients, the faults, and the last line
+-- The head, the skews, the blocks of the clients, the faults, and the last line.
 abbrev pub lines_of : Scenario → List Line
 lines_of s = head_lines s ++ (map skew_line s.skews ++ (scripts_lines 0 s.scripts ++ (map fault_line s.faults ++ a_line verb.Done [] ∷ [])))
 
--- the text of a scenario
+-- The text of a scenario.
 unfoldable pub text_of : Scenario → List ℕ
 text_of s = text_of_lines (lines_of s)
