@@ -26,7 +26,7 @@ lane_start g meaning live fits a is_of is lives own = record {
   there = λ _. record { lives = lives; stands = is ∙ begin_at g meaning.actor ∙ ap (λ (b : Actor). node_of g b []) (sym own) };
 }
 
--- the live core runs as the actor does behind its records
+-- the live core runs as the actor does after its records
 runs_as : (g : Group) (lane : Lane) (old : Node) (before : Bool) (fits : Type 0) (e : Event) (ran : Node × List Parcel) → IsLane g old before fits lane → lane.live ≡ true → node_run g old e ≡ ran
     → node_run g (node_of g lane.actor lane.steps) e ≡ ran
 runs_as g lane old before fits e ran k live step = ap (λ (n : Node). node_run g n e) (sym (k.there live).stands) ∙ step

@@ -13,7 +13,7 @@ pub record Lane : Type 0 where
   pub live : Bool
   pub steps : List Record
 
--- The core stands where the records lead the actor.
+-- The core has the state that the records lead the actor to.
 pub record IsThere (g : Group) (a : Actor) (steps : List Record) (meaning : Node) (live : Bool) : Type 0 where
   pub lives : live ≡ true
   pub stands : meaning ≡ record { actor = a; state = state_after g a steps }

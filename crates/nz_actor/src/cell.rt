@@ -1,3 +1,5 @@
+//! The lock around an actor, and how a turn is done under it.
+
 ghost use Rattle.std.specs.Prelude.{◌≡◌, ◌+◌, ◌<◌};
 
 use crate::state::ActorState;

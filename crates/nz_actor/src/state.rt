@@ -1,3 +1,5 @@
+//! An actor's core with the records of its steps.
+
 ghost use Rattle.std.specs.Prelude.{◌≡◌, ◌↔◌, ◌∷◌, [], true, false, reverse, IfOk, OnErr, IsTrue};
 ghost use Rattle.nz_machine.specs.Schedule.{group_of};
 ghost use Rattle.nz_machine.specs.Step.{first_node};
@@ -10,7 +12,7 @@ use nz_machine::{Core, Record, RecordList, Sends};
 use std::alloc::Global;
 use std::marker::{Model, PhantomData};
 
-/// An actor's core, and the records of its steps. While it is live the core stands where they lead.
+/// An actor's core, and the records of its steps. While it is live the core has the state that they lead to.
 #[derive(Drop)]
 pub struct ActorState<N: Name, C: Core> {
     alloc: Global,

@@ -7,7 +7,7 @@ use Rattle.nz_machine.specs.State.{Group}
 use Rattle.nz_machine.specs.World.{state_after}
 use Rattle.nz_replica.specs.Seats.{ReplicaView}
 
--- The run up to so many records of a journal.
+-- The run up to this many records of a journal.
 abbrev pub run_up_to : Journal → ℕ → List Record
 run_up_to journal count = reverse (take count journal.records)
 
@@ -18,6 +18,7 @@ pub record IsCore (g : Group) (J : List Record) (me : ℕ) (core : ReplicaView) 
   pub number : core.seat.me ≡ me
   pub state : core.seat.state ≡ state_after g (Replica me) J
 
+-- The same of a replica that may not be followed.
 abbrev pub IsCoreIfAny : Group → List Record → ℕ → Option ReplicaView → Type 0
 IsCoreIfAny g J me None = Unit {0}
 IsCoreIfAny g J me (Some core) = IsCore g J me core

@@ -32,6 +32,7 @@ with_source notes reply source =
     if list_any (reply_eq reply) notes.tally.replies then notes
     else (record { tally = record notes.tally { replies = notes.tally.replies ++ reply ∷ [] }; sources = notes.sources ++ source ∷ [] })
 
+-- The source in a place, if there is one.
 abbrev pub source_at : List (Option Source) → Option ℕ → Option Source
 source_at sources None = None
 source_at sources (Some place) = option_flatten (slice_get sources place)
@@ -44,6 +45,7 @@ source_among sources replies reply = source_at sources (position (reply_eq reply
 abbrev pub decided_source : Notes → Option (Option Source)
 decided_source notes = option_map (λ (chosen : Chosen). source_among notes.sources notes.tally.replies chosen.reply) (decision notes.tally.f notes.tally.replies)
 
+-- The notes, or the source of the decision that they give.
 abbrev pub settled_by : Notes → Option (Option Source) → Noted
 settled_by notes None = Open notes
 settled_by notes (Some source) = Decided source
@@ -66,10 +68,12 @@ IsSized f (Some (Decided source)) = Unit {0}
 
 -- ---- what becomes of it in an event; the source is that of the parcel that is delivered
 
+-- What is kept once the request was asked for.
 abbrev pub opened : ℕ → Option Noted → Option Noted
 opened f None = Some (Open (first_notes f))
 opened f (Some noted) = Some noted
 
+-- What is kept of a request after a message.
 abbrev pub after_message : ℕ → Option Source → Id → Actor → Message → Option Noted → Option Noted
 after_message f source id (Client c) (Request b) known = if id_eq (record { client = c; num = b.num }) id then opened f known else known
 after_message f source id (Replica r) (FastReply b) known = if id_eq b.id id then option_map (noted_by (of_fast r b) source) known else known
@@ -81,6 +85,7 @@ abbrev pub after_envelope : ℕ → Option Source → Bool → Id → Option Env
 after_envelope f source down id None known = known
 after_envelope f source down id (Some e) known = if down then known else after_message f source id e.from e.message known
 
+-- What is kept of a request after an event.
 abbrev pub after_event : ℕ → ℕ → Option Source → Bool → Id → Event → Option Noted → Option Noted
 after_event f me source down id (Deliver p) known = after_envelope f source down id (received f (Proxy me) p) known
 after_event f me source down id (Cut p kept) known = known
@@ -89,6 +94,7 @@ after_event f me source down id Alarm known = known
 after_event f me source down id Crash known = None
 after_event f me source down id (Restart nonce) known = if down then None else known
 
+-- Whether the proxy is down after an event.
 abbrev pub down_after : Event → Bool → Bool
 down_after (Deliver p) down = down
 down_after (Cut p kept) down = down

@@ -35,6 +35,7 @@ abbrev pub known_to : Option ProxyNotes → Id → Option Noted
 known_to None id = None
 known_to (Some notes) id = get id_eq notes.known id
 
+-- Whether the notes say that the proxy is down.
 abbrev pub is_down_in : Option ProxyNotes → Bool
 is_down_in None = false
 is_down_in (Some notes) = notes.is_down
@@ -56,7 +57,7 @@ source_with p done r J = if list_any (parcel_eq p) done then older_or (source p 
 pub record IsTableWith (g : Group) (done : List Parcel) (r : Record) (J : List Record) (table : List (ParcelKey × Option Source)) : Type 0 where
   pub exact : (p : Parcel) → kept_of table p ≡ stands_for g p (source_with p done r J) (about p)
 
--- The entries are so many of the log of this replica after so many records.
+-- The entries are the first of the log of this replica after some records: as many of each as the source says.
 pub record LeadsTo (g : Group) (J : List Record) (entries : List Entry) (s : Source) : Type 0 where
   pub later : List Record
   pub run : List Record
@@ -66,10 +67,12 @@ pub record LeadsTo (g : Group) (J : List Record) (entries : List Entry) (s : Sou
   pub count : s.entries ≡ length entries
   pub prefix : entries ≡ take s.entries (log_at g (Replica s.replica) run)
 
+-- The same of a source that may be missing: then there are no entries.
 abbrev pub LeadsToIfAny : Group → List Record → List Entry → Option Source → Type 0
 LeadsToIfAny g J entries None = entries ≡ []
 LeadsToIfAny g J entries (Some s) = LeadsTo g J entries s
 
+-- What a reading knows after the records of a run.
 pub record IsRead (g : Group) (J : List Record) (reading : Reading) : Type 0 where
   pub cores : (m : ℕ) → IsCoreIfAny g J m (get nat_eq reading.cores m)
   pub proxies : (q : ℕ) → IsProxy g J q (get nat_eq reading.proxies q)
@@ -77,7 +80,7 @@ pub record IsRead (g : Group) (J : List Record) (reading : Reading) : Type 0 whe
   pub clients : AreAfter g J reading.clients
   pub best : LeadsToIfAny g J (history g J) reading.best
 
--- The record follows these, as the last of so many of a journal.
+-- The record follows these, and is the one of this count in a journal.
 pub record IsNext (journal : Journal) (records : ℕ) (r : Record) (J : List Record) : Type 0 where
   pub run : run_up_to journal records ≡ r ∷ J
   pub world : World (group_in journal) (r ∷ J)

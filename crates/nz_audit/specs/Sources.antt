@@ -36,6 +36,7 @@ numbers_of g id (Replica m) K = Some (record { replica = m; records = length K; 
 numbers_of g id (Proxy p) K = None
 numbers_of g id (Client c) K = None
 
+-- A source as three numbers.
 abbrev pub in_numbers : Group → Id → Option ReplySource → Option Source
 in_numbers g id at = option_and_then (λ (s : ReplySource). numbers_of g id s.sender s.run) at
 
@@ -47,10 +48,12 @@ about_message (Replica m) (Proxy q) (FastReply b) = if is_some b.answer then Som
 about_message (Proxy q) (Client c) (Answer b) = Some (id_at c b.num)
 about_message _ _ _ = None
 
+-- The request that a reply with an answer, or an answer, is about.
 abbrev pub about_envelope : Option Envelope → Option Id
 about_envelope None = None
 about_envelope (Some e) = about_message e.from e.to e.message
 
+-- The same of a parcel.
 abbrev pub about : Parcel → Option Id
 about p = about_envelope (heard p.to p)
 
@@ -61,18 +64,22 @@ source_sent g id (Replica m) K = numbers_of g id (Replica m) K
 source_sent g id (Proxy q) K = in_numbers g id (source_of_sender g id (Proxy q) K)
 source_sent g id (Client c) K = None
 
+-- The source that a parcel was first sent with, where it is about a request.
 abbrev pub stands_for : Group → Parcel → Option (List Record) → Option Id → Option (Option Source)
 stands_for g p first None = None
 stands_for g p first (Some id) = option_map (source_sent g id p.from) first
 
 -- ---- the table of the parcels that were sent
 
+-- What a parcel is found by.
 abbrev pub key_of : Parcel → ParcelKey
 key_of p = record { from = p.from; to = p.to; frame = p.frame }
 
+-- Whether two parcels are equal.
 abbrev pub same_key : ParcelKey → ParcelKey → Bool
 same_key a b = actor_eq a.from b.from && (actor_eq a.to b.to && bytes_eq a.frame b.frame)
 
+-- What the table has of a parcel.
 abbrev pub kept_of : List (ParcelKey × Option Source) → Parcel → Option (Option Source)
 kept_of table p = lookup (same_key (key_of p)) table
 

@@ -9,7 +9,7 @@ use nz_machine::{Executed, History};
 use nz_store::Store;
 use std::alloc::Global;
 
-/// So many entries of the log, executed from an empty store on.
+/// This many entries of the log, executed from an empty store on.
 pub fn execute(alloc: Global, log: &HashedLog, count: u32) -> Result<History, NoMemory>
     requires { count ≤ length log.now.entries }
     ensures { IfOk result (λ history. history ≡ executed (take count log.now.entries)) }

@@ -57,7 +57,7 @@ fn replica_takes(cores: &mut Cores, number: u8, next: &Record) -> Result<(), NoM
     }
 }
 
-/// Follows the replica from now on, of which so many records were read.
+/// Follows the replica from now on, of which this many records were read.
 fn follow(
     cores: &mut Cores,
     alloc: Global,
@@ -89,7 +89,7 @@ pub fn entries_up_to(log: &HashedLog, id: Id) -> u32
     }
 }
 
-/// The same of the replica's log after so many records.
+/// The same of the replica's log after this many records.
 fn entries_of(
     cores: &mut Cores,
     alloc: Global,
@@ -147,7 +147,7 @@ fn proxy_takes(
     }
 }
 
-/// The source that a parcel about the request stands for, which this actor sends first with the last of so many records.
+/// The source of a parcel about the request, which this actor first sends with the record of this count.
 fn source_for(
     cores: &mut Cores,
     proxies: &Proxies,
@@ -178,7 +178,7 @@ fn source_for(
     }
 }
 
-/// Keeps what a parcel about the request stands for, which the last of so many records sends, where it was not sent before.
+/// Keeps the source of a parcel about the request, which the record of this count sends, where it was not sent before.
 fn keep_about(
     cores: &mut Cores,
     proxies: &Proxies,
@@ -205,7 +205,7 @@ fn keep_about(
     sendings.keep(parcel, source)
 }
 
-/// Keeps what a parcel stands for that the last of so many records sends.
+/// Keeps the source of a parcel that the record of this count sends.
 fn keep_sending(
     cores: &mut Cores,
     proxies: &Proxies,
@@ -231,7 +231,7 @@ fn keep_sending(
     }
 }
 
-/// Keeps what the parcels stand for that a record sends, which is the last of so many.
+/// Keeps the sources of the parcels that a record sends, which is the one of this count.
 fn keep_sendings(
     cores: &mut Cores,
     proxies: &Proxies,
@@ -321,7 +321,7 @@ impl Reading {
         })
     }
 
-    /// Takes a record, which is the last of so many.
+    /// Takes a record, which is the one of this count.
     pub fn read(
         &mut self,
         alloc: Global,

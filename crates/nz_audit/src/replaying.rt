@@ -24,7 +24,7 @@ pub fn replay_one(core: &mut Replica, number: u8, next: &Record) -> Result<(), N
     Ok(())
 }
 
-/// The replica after so many records of the journal.
+/// The replica after this many records of the journal.
 pub fn replay(
     alloc: Global,
     journal: &Journal,

@@ -1,3 +1,5 @@
+//! Where an accepted answer comes from, in three numbers.
+
 ghost use Rattle.std.specs.Prelude.{◌≡◌};
 ghost use Rattle.nz_audit.specs.Sources.{first_longest};
 

@@ -1,4 +1,4 @@
--- Keys stand in one line.
+-- Keys are in one line.
 use Rattle.std.proofs.Common.{◌≡◌, true, false, arith}
 use Rattle.std.proofs.lemmas.Bool.Decides.{nat_tests}
 use Rattle.nz_base.specs.declared.key.Key.{Key}

@@ -46,7 +46,7 @@ pub rising_back : (xs ys : List Key) → AreRising (xs ++ ys) → AreRising ys
 rising_back [] ys r = r
 rising_back (x ∷ xs) ys r = rising_back xs ys r.1
 
--- those of a front come before those of the rest
+-- those of a prefix come before those of the rest
 pub front_below : (xs ys : List Key) (a b : Key) → AreRising (xs ++ ys) → has_key xs a ≡ true → has_key ys b ≡ true → key_below a b ≡ true
 front_below [] ys a b r ha hb = absurd cc
 front_below (x ∷ xs) ys a b r ha hb =
@@ -76,7 +76,7 @@ above_last [] key h = refl
 above_last (k ∷ []) key h = h k (has_first k [])
 above_last (k ∷ l ∷ keys) key h = above_last (l ∷ keys) key (λ x there. h x (has_later k (l ∷ keys) x there))
 
--- a front, a key above it, and a back above the key
+-- a prefix, a key above it, and a rest above the key
 pub rising_join : (xs : List Key) (k : Key) (ys : List Key) → AreRising xs → AreRising ys
     → ((x : Key) → has_key xs x ≡ true → key_below x k ≡ true) → ((y : Key) → has_key ys y ≡ true → key_below k y ≡ true)
     → AreRising (xs ++ k ∷ ys)
@@ -115,7 +115,7 @@ own_id (x ∷ xs) k ys own =
           clash (has_id (xs ++ k ∷ ys) (id_of x)) there own.0
     ]
 
--- a front, a key whose id is elsewhere nowhere, and a back
+-- a prefix, a key whose id is nowhere else, and a rest
 pub own_join : (xs : List Key) (k : Key) (ys : List Key) → HaveOwnIds (xs ++ ys) → has_id xs (id_of k) ≡ false → has_id ys (id_of k) ≡ false → HaveOwnIds (xs ++ k ∷ ys)
 own_join [] k ys own front back = (back, own)
 own_join (x ∷ xs) k ys own front back =

@@ -1,22 +1,22 @@
 -- The sizes of a cluster, by the number f of replicas that may be out of order.
 use Rattle.std.specs.Prelude.{ℕ, ◌+◌, ◌*◌, ◌/◌, ◌%◌}
 
--- how many replicas there are: 2f + 1
+-- How many replicas there are: 2f + 1.
 abbrev pub replica_count : ℕ → ℕ
 replica_count f = 2 * f + 1
 
--- half of f, rounded up
+-- Half of f, rounded up.
 abbrev pub half_up : ℕ → ℕ
 half_up f = (f + 1) / 2
 
--- a fast quorum: f, half of f rounded up, and one
+-- A fast quorum: f, half of f rounded up, and one.
 abbrev pub fast_size : ℕ → ℕ
 fast_size f = f + half_up f + 1
 
--- a slow quorum: f and one
+-- A slow quorum: f and one.
 abbrev pub slow_size : ℕ → ℕ
 slow_size f = f + 1
 
--- the replica that leads in a view: they take turns
+-- The replica that leads in a view: they take turns.
 abbrev pub leader_of : ℕ → ℕ → ℕ
 leader_of f view = view % replica_count f

@@ -6,34 +6,34 @@ use Rattle.nz_base.specs.declared.key.Id.{Id}
 use Rattle.nz_base.specs.declared.key.Entry.{Entry}
 use Rattle.nz_base.specs.Key.{key_below, key_eq, id_eq, id_of}
 
--- the keys of a log, in its order
+-- The keys of a log, in its order.
 abbrev pub keys_of : List Entry → List Key
 keys_of log = map (λ e. e.key) log
 
--- whether a key stands in a list
+-- Whether a key is in a list.
 abbrev pub has_key : List Key → Key → Bool
 has_key keys key = list_any (key_eq key) keys
 
--- whether a key of a list has the id
+-- Whether a key of a list has the id.
 abbrev pub has_id : List Key → Id → Bool
 has_id keys id = list_any (λ k. id_eq id (id_of k)) keys
 
--- each key comes before those behind it
+-- Each key comes before those after it.
 abbrev pub AreRising : List Key → Type 0
 AreRising [] = Unit {0}
 AreRising (k ∷ ks) = ((x : Key) → IsTrue (has_key ks x) → IsTrue (key_below k x)) × AreRising ks
 
--- no id stands in the list twice
+-- No id is in the list twice.
 abbrev pub HaveOwnIds : List Key → Type 0
 HaveOwnIds [] = Unit {0}
 HaveOwnIds (k ∷ ks) = IsFalse (has_id ks (id_of k)) × HaveOwnIds ks
 
--- the keys of a log rise, and each request stands in it once
+-- The keys of a log rise, and each request is in it once.
 pub record IsLog (log : List Entry) : Type 0 where
   pub rising : AreRising (keys_of log)
   pub own_ids : HaveOwnIds (keys_of log)
 
--- whether a key is above the last of some keys
+-- Whether a key is above the last of some keys.
 abbrev pub is_above_last : List Key → Key → Bool
 is_above_last [] key = true
 is_above_last (k ∷ []) key = key_below k key

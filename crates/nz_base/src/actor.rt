@@ -1,3 +1,5 @@
+//! Replicas, proxies and clients, their order and their addresses.
+
 ghost use Rattle.std.specs.Prelude.{◌≡◌, ◌≢◌, ◌↔◌, IsTrue, IfSome, IfNone};
 
 /// One that takes part in a run, by its number from 0. They are ordered: replicas, proxies,

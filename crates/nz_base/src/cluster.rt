@@ -1,3 +1,5 @@
+//! The size of a cluster, its quorums and its leaders.
+
 ghost use Rattle.std.specs.Prelude.{◌≡◌, ◌<◌, ◌≤◌, ◌↔◌, IsSome, IfSome};
 ghost use Rattle.nz_base.specs.Cluster.{replica_count, fast_size, slow_size, leader_of};
 

@@ -1,3 +1,5 @@
+//! Ids, keys and entries, and the order of keys.
+
 ghost use Rattle.std.specs.Prelude.{◌≡◌, ◌↔◌, IsTrue};
 
 use super::blob::Blob;

@@ -8,7 +8,7 @@ ghost use Rattle.nz_base.specs.Key.{KeyBelow, key_below};
 
 use super::actor::Actor;
 
-/// Keys stand in one line: none is below itself, and of two that differ one is below the other.
+/// Keys are in one line: none is below itself, and of two that differ one is below the other.
 pub fn keys_are_in_line()
     ensures test { (a b : Key) → IsTrue (key_below a b) ↔ KeyBelow a b }
     ensures irreflexive { (a : Key) → ¬ (KeyBelow a a) }

@@ -1,3 +1,5 @@
+//! Lists that take memory only where they say so.
+
 ghost use Rattle.std.specs.Prelude.{◌≡◌, ◌+◌, ◌<◌, ◌^◌, ◌∷◌, ◌++◌, [], length, Some, IfOk, OnOk, OnErr, slice_get, ◌↔◌, IsTrue};
 ghost use Rattle.std.specs.Cmp.Lexicographic.{pointwise, lists_per, lists_equiv};
 
@@ -33,7 +35,7 @@ impl<T> List<T> {
         }
     }
 
-    /// An empty list with room for so many items.
+    /// An empty list with room for this many items.
     pub fn with_capacity(alloc: Global, count: u32) -> Result<List<T>, NoMemory>
         ensures { IfOk result (λ list. list ≡ []) }
     {

@@ -1,3 +1,5 @@
+//! Want of memory, and copies that may meet it.
+
 ghost use Rattle.std.specs.Prelude.{◌≡◌, IfOk};
 
 use super::actor::Actor;

@@ -1,3 +1,5 @@
+//! The data of a scenario.
+
 use super::actor::Actor;
 use super::blob::Blob;
 use super::cluster::Cluster;

@@ -23,7 +23,7 @@ use Rattle.nz_buffers.specs.Keeping.{IsAtItsKey, IsAtItsId, IsKept, AreByIds}
 use Rattle.nz_buffers.proofs.Inserting.{log_insert}
 use Rattle.nz_buffers.proofs.Removing.{without_none, find_none, find_held}
 
--- ---- a test of keys that tells an id
+-- ---- a test of keys that finds an id
 
 -- The test passes a key where the entry has the id.
 abbrev pub Tells : {K : Type 0} → (K → Bool) → Id → K × Entry → Type 0

@@ -24,7 +24,7 @@ pub find_none : (es : List Entry) (i : Id) → has_id (keys_of es) i ≡ false �
 find_none [] i h = refl
 find_none (e ∷ es) i h = rw (neither_left (id_eq i (id_of e.key)) (has_id (keys_of es) i) h) (find_none es i (neither_right (id_eq i (id_of e.key)) (has_id (keys_of es) i) h))
 
--- in front of the entry none has its id, and behind it none has either
+-- before the entry none has its id, and after it none has either
 taken_split : (front : List Entry) (e : Entry) (back : List Entry) (i : Id) → has_id (keys_of front) i ≡ false → id_eq i (id_of e.key) ≡ true → has_id (keys_of back) i ≡ false
     → (find_id (front ++ e ∷ back) i ≡ Some e) × (without (front ++ e ∷ back) i ≡ front ++ back)
 taken_split [] e back i away here behind = (rw here refl, rw here (without_none back i behind))
@@ -33,7 +33,7 @@ taken_split (f ∷ front) e back i away here behind =
     let apart = neither_left (id_eq i (id_of f.key)) (has_id (keys_of front) i) away in
     (rw apart rest.0, rw apart (ap (λ (xs : List Entry). f ∷ xs) rest.1))
 
--- the ids behind an entry differ from its own
+-- the ids after an entry differ from its own
 behind_own : (front : List Key) (k : Key) (back : List Key) → HaveOwnIds (front ++ k ∷ back) → has_id back (id_of k) ≡ false
 behind_own [] k back own = own.0
 behind_own (f ∷ front) k back own = behind_own front k back own.1
@@ -41,7 +41,7 @@ behind_own (f ∷ front) k back own = behind_own front k back own.1
 split_at : (es : List Entry) (place : ℕ) (d : Entry) → place < length es → take place es ++ get_or es place d ∷ drop (suc place) es ≡ es
 split_at es place d h = ap (λ (xs : List Entry). take place es ++ xs) (sym (drop-cons es place d h)) ∙ take-append-drop place es
 
--- the entry that stands at the place is the one with the id, and the rest are the others
+-- the entry that is at the place is the one with the id, and the rest are the others
 pub taken_at : (es : List Entry) (i : Id) (place : ℕ) (d : Entry) → HaveOwnIds (keys_of es) → IsPlace es i place
     → (find_id es i ≡ Some (get_or es place d)) × (without es i ≡ remove es place)
 taken_at es i place d own at =
@@ -64,7 +64,7 @@ find_held (e ∷ es) i =
       | inr away ↦ rw away (find_held es i)
     ]
 
--- the same of an entry behind a reference
+-- the same of an entry that is lent
 pub found_held : (found : Option (Bor Entry)) (es : List Entry) (i : Id) → option_copied found ≡ find_id es i → IsSome found ↔ IsTrue (has_id (keys_of es) i)
 found_held found es i same = (λ some. sym (find_held es i) ∙ ap is_some (sym same) ∙ copied found ∙ some, λ held. sym (copied found) ∙ ap is_some same ∙ find_held es i ∙ held)
   where

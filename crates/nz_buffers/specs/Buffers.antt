@@ -13,7 +13,7 @@ find_id entries id = find (λ e. id_eq id (id_of e.key)) entries
 abbrev pub without : List Entry → Id → List Entry
 without entries id = filter (λ e. not (id_eq id (id_of e.key))) entries
 
--- The entries with one more, which stands before the first whose key is above its key.
+-- The entries with one more, which comes before the first whose key is above its key.
 abbrev pub insert_by_key : List Entry → Entry → List Entry
 insert_by_key [] e = e ∷ []
 insert_by_key (f ∷ fs) e = if key_below e.key f.key then e ∷ f ∷ fs else f ∷ insert_by_key fs e

@@ -1,3 +1,5 @@
+//! The early buffer, as an ordered map with an index.
+
 ghost use Rattle.std.specs.Prelude.{◌≡◌, ◌++◌, ◌<◌, [], ◌↔◌, if◌then◌else◌, true, Some, None, length, IsTrue, IsFalse, IsSome, IsOk, IfOk, OnOk, OnErr, not};
 ghost use Rattle.std.specs.Option.{option_copied, option_to_list};
 ghost use Rattle.indexmap.specs.IndexMap.{get, spare};

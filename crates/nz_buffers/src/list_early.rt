@@ -1,3 +1,5 @@
+//! The early buffer as a plain list.
+
 ghost use Rattle.std.specs.Prelude.{◌≡◌, [], IfOk};
 
 use super::early::{Offer, is_past_last};

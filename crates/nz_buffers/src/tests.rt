@@ -1,3 +1,5 @@
+//! Both buffers, call by call.
+
 use super::*;
 use nz_base::{Blob, Entry, Id, Key, NoMemory};
 use std::alloc::Global;

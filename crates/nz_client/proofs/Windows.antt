@@ -119,7 +119,7 @@ all_retried me proxies script xs i before now past h =
 
 -- ---- the free places, one at a time
 
--- after so many of the free places, the others leave what all of them do
+-- after this many of the free places, the others leave what all of them do
 pub record IsFilling (s t : ClientSeat) (free done : ℕ) (before now : List Parcel) : Type 0 where
   pub me : t.me ≡ s.me
   pub proxies : t.proxies ≡ s.proxies

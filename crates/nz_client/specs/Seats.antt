@@ -25,6 +25,7 @@ pub record IsOfProxies (proxies : ℕ) (a : Attempt) : Type 0 where
 pub record IsSendable (request : Request) : Type 0 where
   pub command : command.fits request.command
 
+-- Frames can carry each request of the script.
 abbrev pub AreSendable : List Request → Type 0
 AreSendable script = AllByRecursion IsSendable script
 

@@ -1,3 +1,5 @@
+//! A client as a core.
+
 ghost use Rattle.std.specs.Prelude.{◌≡◌, ◌≤◌, ◌++◌, ◌↔◌, true, map, OnOk, IsTrue};
 ghost use Rattle.nz_base.specs.declared.actor.Actor.TheVariants.{Client as IsClient};
 ghost use Rattle.nz_msg.specs.Fields.{command};

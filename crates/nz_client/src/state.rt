@@ -1,3 +1,5 @@
+//! The state of a client, and its rules.
+
 ghost use Rattle.std.specs.Prelude.{◌≡◌, ◌+◌, ◌-◌, ◌%◌, ◌<◌, ◌≤◌, ◌++◌, ◌∷◌, ◌==◌, [], map, length, OnOk, IsTrue, IfSome, min, slice_get};
 ghost use Rattle.std.specs.List.{AllByRecursion};
 ghost use Rattle.std.specs.Option.{option_copied};
@@ -13,7 +15,7 @@ use nz_msg::{AnswerBody, Message, RequestBody};
 use std::alloc::Global;
 use std::marker::Model;
 
-/// An open request is sent again when so many ticks have passed.
+/// An open request is sent again when this many ticks have passed.
 const PATIENCE: u32 = 30;
 
 /// The state of a client.

@@ -1,3 +1,5 @@
+//! Steps of a client, with what it sends.
+
 use super::*;
 use nz_base::{Actor, Blob, NoMemory, Request, RequestList};
 use nz_machine::{Core, Event, Parcel, Sends};
@@ -99,7 +101,7 @@ fn client(alloc: Global, waits: &[u32]) -> Result<Client, Fail> {
 fn asks_again_through_the_next_proxy(rt: HostRuntime) -> Result<(), Fail> {
     let alloc = rt.alloc();
     let mut client = client(alloc, &[2])?;
-    // The request waits for the second tick, and is sent again each thirtieth tick behind.
+    // The request waits for the second tick, and is sent again each thirtieth tick after.
     for tick in 1..=92u32 {
         let sent = step(alloc, &mut client, &Event::Tick(0))?;
         let proxy = match tick {
@@ -125,7 +127,7 @@ fn asks_again_through_the_next_proxy(rt: HostRuntime) -> Result<(), Fail> {
 fn takes_one_answer_to_each_request(rt: HostRuntime) -> Result<(), Fail> {
     let alloc = rt.alloc();
     let mut client = client(alloc, &[0, 0, 3])?;
-    // What happens, the request that is sent, the one that is open behind it, and how many were accepted.
+    // What happens, the request that is sent, the one that is open after it, and how many were accepted.
     let table = [
         (Case::Tick, Some(1), Some(1), 0),
         (Case::Answered(2), None, Some(1), 0),

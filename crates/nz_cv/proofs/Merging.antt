@@ -68,7 +68,7 @@ take-merged size u v own nine_u nine_v most h =
     ∙ (let a : get_or (take size u) k 0 ≡ get_or u k 0 = get_or-take size u k 0 below in
     let b : get_or (take size v) k 0 ≡ get_or v k 0 = get_or-take size v k 0 below in cc))
 
--- behind the last replica a merge leaves the zeros
+-- after the last replica a merge leaves the zeros
 pub merged-laid_out : (u v : List ℕ) (size own : ℕ) → IsLaidOut u size → IsLaidOut v size → own < size → IsLaidOut (merged u v own) size
 merged-laid_out u v size own left right h =
     let same : length u ≡ length v = left.nine ∙ sym right.nine in

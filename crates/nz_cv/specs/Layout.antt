@@ -6,17 +6,17 @@ use Rattle.std.proofs.lemmas.Bool.{cases_lt}
 use Rattle.std.proofs.lemmas.Grind.{common_steps}
 use Rattle.nz_cv.specs.Vectors.{IsClusterSize}
 
--- nine counters, of which those from size on are 0
+-- Nine counters, of which those from size on are 0.
 pub record IsLaidOut (counters : List ℕ) (size : ℕ) : Type 0 where
   pub nine : length counters ≡ 9
   pub cluster : IsClusterSize size
   pub zeros : (k : ℕ) → size ≤ k → slice_index counters k ≡ 0
 
--- the nine counters of a vector
+-- The nine counters of a vector.
 abbrev pub with_zeros : List ℕ → List ℕ
 with_zeros vector = vector ++ replicate (9 - length vector) 0
 
--- where the counters from size on are zeros, a vector gives all nine back
+-- Where the counters from size on are zeros, a vector gives all nine back.
 pub with_zeros-take : (counters : List ℕ) (size : ℕ) → IsLaidOut counters size → with_zeros (take size counters) ≡ counters
 with_zeros-take counters size laid_out =
     let shown : length (take size counters) ≡ size = length-take-le size counters (omega arith) in
@@ -25,6 +25,6 @@ with_zeros-take counters size laid_out =
     (λ (above : size ≤ i). rw (get_or-append_right (take size counters) (replicate (9 - length (take size counters)) 0) size i 0 shown above) (grind (arith, common_steps, laid_out.zeros i above)))
     (cases_lt i size))
 
--- a vector's length is the size that it is laid out for
+-- A vector's length is the size that it is laid out for.
 pub length-vector : (counters : List ℕ) (size : ℕ) → IsLaidOut counters size → length (take size counters) ≡ size
 length-vector counters size laid_out = length-take-le size counters (omega arith)

@@ -9,7 +9,7 @@ pub gains_in_turn : (a b c : Option (List ℕ)) (xs ys : List ℕ) → Gains a b
 gains_in_turn None b c xs ys h k = search (rules, common_steps)
 gains_in_turn (Some taken) b c xs ys h k = search (rules, common_steps)
 
--- the first n bytes, written over the front of others, are what is lost
+-- the first n bytes, written over the first of others, are what is lost
 pub loses_front : (bytes others : List ℕ) (at n : ℕ) → n ≤ length (drop at bytes) → Loses (Some (drop at bytes)) (Some (drop (at + n) bytes)) (take n (take n (drop at bytes) ++ others))
 loses_front bytes others at n h =
     let xs = drop at bytes in

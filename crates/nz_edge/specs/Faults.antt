@@ -1,14 +1,14 @@
 -- Counts of faults, which stop at 2^64 - 1.
 use Rattle.std.specs.Prelude.{ℕ, ◌+◌, ◌-◌, ◌^◌, ◌<◌, ◌≤◌, ◌⊎◌, min}
 
--- the most that a count says
+-- The most that a count says.
 abbrev pub most_counted : ℕ
 most_counted = 2 ^ 64 - 1
 
--- a count after one more
+-- A count after one more.
 abbrev pub raised : ℕ → ℕ
 raised count = min (count + 1) most_counted
 
--- a count rose, or stands at the most that it says
+-- A count rose, or is at its limit.
 abbrev pub Rose : ℕ → ℕ → Type 0
 Rose before after = (before < after) ⊎ (most_counted ≤ after)

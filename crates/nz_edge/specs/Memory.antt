@@ -1,8 +1,8 @@
 -- What clauses see of a source and a sink in memory.
 use Rattle.std.specs.Prelude.{ℕ, List}
 
--- the bytes left, the most that one call gives, the numbers of the calls that fail, and how many
--- calls were made and faults counted
+-- The bytes left, the most that one call gives, the numbers of the calls that fail, and how many
+-- calls were made and faults counted.
 pub record SourceState : Type 0 where
   pub rest : List ℕ
   pub piece : ℕ
@@ -10,8 +10,8 @@ pub record SourceState : Type 0 where
   pub made : ℕ
   pub faulted : ℕ
 
--- the bytes taken, how many there is room for in all, the most that one write takes, the numbers of
--- the calls that fail, and how many calls were made and faults counted
+-- The bytes taken, how many there is room for in all, the most that one write takes, the numbers of
+-- the calls that fail, and how many calls were made and faults counted.
 pub record SinkState : Type 0 where
   pub bytes : List ℕ
   pub room : ℕ

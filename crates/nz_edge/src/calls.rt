@@ -1,3 +1,5 @@
+//! Which calls of a source or a sink in memory fail.
+
 ghost use Rattle.std.specs.Prelude.{◌≡◌, ◌↔◌, IsTrue, Contains};
 ghost use Rattle.nz_edge.specs.Faults.{raised};
 

@@ -1,3 +1,5 @@
+//! Gates that workers pass.
+
 /// Where a worker stops by before each turn. Nothing is promised of it.
 pub trait Gate {
     /// The worker, from 0, is about to do the turn of this number, from 1.

@@ -1,3 +1,5 @@
+//! A sink in memory.
+
 ghost use Rattle.std.specs.Prelude.{◌≡◌, ◌<◌, ◌≤◌, ◌↔◌, ◌++◌, ◌-◌, ◌⊎◌, [], Some, length, take, min, IsErr, IfOk, OnOk, OnErr, Contains};
 ghost use Rattle.nz_edge.specs.Faults.{Rose, raised};
 ghost use Rattle.nz_edge.specs.Told.{Gains};
@@ -9,7 +11,7 @@ use nz_base::NoMemory;
 use std::alloc::Global;
 use std::marker::Model;
 
-/// A sink that keeps what it takes in memory, and fails at the calls that it was told.
+/// A sink that keeps what it takes in memory, and fails at the calls that it was given.
 #[derive(Debug, Drop)]
 pub struct MemSink {
     bytes: Vec<u8>,

@@ -1,3 +1,5 @@
+//! A source in memory.
+
 ghost use Rattle.std.specs.Prelude.{◌≡◌, ◌<◌, ◌≤◌, ◌↔◌, ◌++◌, [], Some, length, take, drop, min, IsErr, IfOk, IfSome, OnErr, Contains};
 ghost use Rattle.nz_edge.specs.Faults.{Rose, raised};
 ghost use Rattle.nz_edge.specs.Told.{Loses};
@@ -7,7 +9,7 @@ use super::source::{Failed, Source};
 use nz_base::Blob;
 use std::marker::Model;
 
-/// A source over bytes in memory, which fails at the calls that it was told.
+/// A source over bytes in memory, which fails at the calls that it was given.
 #[derive(Debug, Drop)]
 pub struct MemSource {
     bytes: Blob,

@@ -1,3 +1,5 @@
+//! What a sink of bytes promises.
+
 ghost use Rattle.std.specs.Prelude.{◌≡◌, ◌<◌, ◌≤◌, ℕ, List, Option, length, take, IfOk, OnErr};
 ghost use Rattle.nz_edge.specs.Faults.{Rose};
 ghost use Rattle.nz_edge.specs.Told.{Gains};
@@ -6,13 +8,13 @@ use super::source::Failed;
 
 /// Where output goes.
 pub trait Sink {
-    /// The bytes taken so far, where the sink tells them.
+    /// The bytes taken so far, where the sink exposes them.
     ghost taken: { Self → Option (List ℕ) };
 
     /// How many faults the sink has counted.
     ghost faults: { Self → ℕ };
 
-    /// Takes bytes from the front of `piece`, and says how many.
+    /// Takes bytes from the beginning of `piece`, and says how many.
     fn write(&mut self, piece: &[u8]) -> Result<usize, Failed>
         requires { 0 < length piece.now }
         ensures least { IfOk result (λ count. 1 ≤ count) }

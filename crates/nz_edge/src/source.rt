@@ -1,3 +1,5 @@
+//! What a source of bytes promises.
+
 ghost use Rattle.std.specs.Prelude.{◌≡◌, ◌<◌, ◌≤◌, ℕ, List, [], Option, length, take, IfOk, IfSome, OnErr};
 ghost use Rattle.nz_edge.specs.Faults.{Rose};
 ghost use Rattle.nz_edge.specs.Told.{Loses};
@@ -8,13 +10,13 @@ pub struct Failed;
 
 /// Where input comes from.
 pub trait Source {
-    /// The bytes that are left to give, where the source tells them.
+    /// The bytes that are left to give, where the source exposes them.
     ghost left: { Self → Option (List ℕ) };
 
     /// How many faults the source has counted.
     ghost faults: { Self → ℕ };
 
-    /// Gives the next bytes into the front of `into`, and how many they are. None is the end of the input.
+    /// Gives the next bytes into the beginning of `into`, and how many they are. None is the end of the input.
     fn read(&mut self, into: &mut [u8]) -> Result<usize, Failed>
         requires { 0 < length into.old }
         ensures within { IfOk result (λ count. count ≤ length into.new) }

@@ -1,3 +1,5 @@
+//! Standard input as a source, and standard output as a sink.
+
 ghost use Rattle.std.specs.Prelude.{◌≡◌, None};
 
 use super::sink::Sink;
@@ -5,7 +7,7 @@ use super::source::{Failed, Source};
 use std::io::{Read, Stdin, Stdout, Write};
 use std::marker::Model;
 
-/// Standard input. It tells nothing of its bytes. A clause sees the count of its faults.
+/// Standard input. It does not expose its bytes. A clause sees the count of its faults.
 #[derive(Drop)]
 pub struct StdSource {
     input: Stdin,
@@ -44,7 +46,7 @@ impl Source for StdSource {
     }
 }
 
-/// Standard output. It tells nothing of its bytes. A clause sees the count of its faults.
+/// Standard output. It does not expose its bytes. A clause sees the count of its faults.
 #[derive(Drop)]
 pub struct StdSink {
     output: Stdout,

@@ -23,6 +23,7 @@ row_number (Replica n) = 3 * n
 row_number (Proxy n) = 3 * n + 1
 row_number (Client n) = 3 * n + 2
 
+-- The counter of a sender, a receiver and a kind.
 abbrev pub course : Actor → Actor → ℕ → Course
 course from to kind = record { from = row_number from; to = row_number to; kind = kind }
 
@@ -43,6 +44,7 @@ IsCounted before after p k number =
 abbrev pub items_in : List (List Item) → ℕ → List Item
 items_in days tick = get_or days tick []
 
+-- The parcels alone.
 abbrev pub parcels_of : List Posted → List Parcel
 parcels_of L = map (λ x. x.parcel) L
 

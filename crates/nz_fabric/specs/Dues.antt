@@ -1,4 +1,4 @@
--- Words of the code that lists what is due.
+-- Helper definitions of due.rt, which lists what is due in a tick.
 use Rattle.std.specs.Prelude.{ℕ, ◌+◌, List, [], ◌∷◌}
 use Rattle.nz_base.specs.declared.actor.Actor.{Actor}
 use Rattle.nz_base.specs.declared.actor.Actor.TheVariants as actors

@@ -1,4 +1,4 @@
--- Words of the code that posts a parcel.
+-- Helper definitions of posting.rt, which posts a parcel.
 use Rattle.std.specs.Prelude.{◌≡◌, ℕ, ◌+◌, ◌-◌, ◌<◌, ◌≤◌, ◌^◌, ◌==◌, nat_le, min, Bool, true, false, List, [], length, map, filter, get_or, Vec, vec_capacity}
 use Rattle.std.specs.Global.{Global}
 use Rattle.std.specs.List.{AllByRecursion}
@@ -62,7 +62,7 @@ up_to last arrivals = filter (λ a. nat_le a.tick last) arrivals
 abbrev pub days_of : List (Vec Item Global) → List (List Item)
 days_of days = map (λ v. v.items) days
 
--- The day of a tick has room for so many items more.
+-- The day of a tick has room for this many items more.
 pub record HasRoomFor (count : ℕ) (days : List (Vec Item Global)) (tick : ℕ) : Type 0 where
   pub within : tick < length days
   pub reserved : (d : Vec Item Global) → length (get_or days tick d).items + count ≤ vec_capacity (get_or days tick d)

@@ -22,6 +22,7 @@ pub record Filed : Type 0 where
   pub room : ℕ
   pub spares : List ℕ
 
+-- The row of an actor.
 abbrev pub row_in : List (List Record) → Actor → List Record
 row_in rows a = get_or rows (row_number a) []
 
@@ -29,6 +30,7 @@ row_in rows a = get_or rows (row_number a) []
 abbrev pub spare_of : Filed → Actor → ℕ
 spare_of f a = get_or f.spares (row_number a) 0
 
+-- What a place without a record is read as.
 abbrev pub no_record : Record
 no_record = record { tick = 0; actor = Replica 0; event = Alarm; sends = [] }
 
@@ -36,9 +38,11 @@ no_record = record { tick = 0; actor = Replica 0; event = Alarm; sends = [] }
 abbrev pub record_at : List (List Record) → Place → Record
 record_at rows p = get_or (row_in rows p.actor) p.at no_record
 
+-- The rows as plain lists.
 abbrev pub rows_of : List (Vec Record Global) → List (List Record)
 rows_of rows = map (λ v. v.items) rows
 
+-- How many more records a row has room for.
 abbrev pub spare_in : Vec Record Global → ℕ
 spare_in v = vec_capacity v - length v.items
 

@@ -18,10 +18,11 @@ pub record Shared : Type 0 where
   pub run : State
   pub running : List Running
 
+-- A run with its open turns.
 abbrev pub shared : State → List Running → Shared
 shared run running = record { run = run; running = running }
 
--- So many of the ledger's parts, with so many open turns on them.
+-- This many of the ledger's parts, with this many open turns on them.
 pub record Holding : Type 0 where
   pub parts : ℕ
   pub amount : ℕ
@@ -34,9 +35,11 @@ no_scenario = record { cluster = 1; proxies = 0; clients = 0; window = 0; ticks 
 abbrev pub start_shared : Scenario → Shared
 start_shared s = shared (start s) []
 
+-- The item of an open turn.
 abbrev pub item_running : Running → Item
 item_running o = o.item
 
+-- A turn as it is kept while it is open.
 abbrev pub running_as : Turn → Running
 running_as turn = record { number = turn.number; item = item_in turn }
 
@@ -51,10 +54,11 @@ pub record IsNextOf (f : Shared) (turn : Turn) : Type 0 where
 abbrev pub with_opened : Turn → Shared → Shared
 with_opened turn f = shared (with_taken f.run) (f.running ++ running_as turn ∷ [])
 
--- The place of the open turn for which a number stands: that of the number, or else the least.
+-- The place of the open turn that a number names: that of the number, or else the least.
 abbrev pub place_of : ℕ → List Running → ℕ
 place_of number running = unwrap_or (position (λ o. o.number == number) running) 0
 
+-- What is read where no turn is open.
 abbrev pub no_turn : Running
 no_turn = record { number = 0; item = item (Replica 0) Alarm }
 
@@ -62,7 +66,7 @@ no_turn = record { number = 0; item = item (Replica 0) Alarm }
 abbrev pub turn_of : ℕ → Running → Turn
 turn_of tick o = record { number = o.number; tick = tick; actor = o.item.actor; event = o.item.event }
 
--- The open turn for which a number stands.
+-- The open turn that a number names.
 abbrev pub turn_for : ℕ → ℕ → List Running → Turn
 turn_for tick number running = turn_of tick (get_or running (place_of number running) no_turn)
 
@@ -70,7 +74,7 @@ turn_for tick number running = turn_of tick (get_or running (place_of number run
 abbrev pub closed : ℕ → List Running → List Running
 closed number running = remove running (place_of number running)
 
--- The open turn for which the number stands is recorded with these sends.
+-- The open turn that the number names is recorded with these sends.
 abbrev pub with_record : ℕ → List Parcel → Shared → Shared
 with_record number sends f = shared (with_recorded (turn_for f.run.tick number f.running) sends f.run) (closed number f.running)
 

@@ -29,6 +29,7 @@ records_of f = f.here ++ f.finished
 abbrev pub start : Scenario → State
 start s = record { scenario = s; tick = 0; finished = []; here = []; items = []; next = 0; marked = false }
 
+-- The item of a turn.
 abbrev pub item_in : Turn → Item
 item_in turn = item turn.actor turn.event
 
@@ -58,12 +59,15 @@ pub record IsDone (f : State) : Type 0 where
   pub quiet : IsQuiet f
   pub all : f.next ≡ length f.items
 
+-- The next item was taken.
 abbrev pub with_taken : State → State
 with_taken f = record f { next = f.next + 1 }
 
+-- The turn was recorded, with what was sent.
 abbrev pub with_recorded : Turn → List Parcel → State → State
 with_recorded turn sends f = record f { here = recorded turn sends ∷ f.here }
 
+-- No journal will come of the run.
 abbrev pub with_mark : State → State
 with_mark f = record f { marked = true }
 
@@ -72,7 +76,7 @@ abbrev pub after_tick : State → State
 after_tick f =
     record f { tick = f.tick + 1; finished = records_of f; here = []; items = due f.scenario (f.tick + 1) (records_of f); next = 0 }
 
--- The finished ticks are ordered in this way, and these items are due behind them.
+-- The finished ticks are ordered in this way, and these items are due after them.
 abbrev pub IsBegunAs : (Scenario → ℕ → List Record → Type 0) → Scenario → ℕ → List Record → List Item → Type 0
 IsBegunAs Ordered s zero finished items = (finished ≡ []) × (items ≡ [])
 IsBegunAs Ordered s (suc tick) finished items = Ordered s tick finished × (items ≡ due s (suc tick) finished)
@@ -92,7 +96,7 @@ pub record IsKept (f : State) : Type 0 where
   pub least : length f.here ≤ f.next
   pub most : f.next ≤ length f.here + 1
 
--- The value of the code's fabric. All records are one list, the oldest first, with so many before this tick.
+-- The value of the code's fabric. All records are one list, the oldest first, with this many before this tick.
 abbrev pub state_of : Scenario → ℕ → ℕ → List Record → List Item → ℕ → Bool → State
 state_of s tick before records items next marked = record {
   scenario = s;
@@ -125,6 +129,7 @@ pub record IsHeld (f : State) (before room : ℕ) (records : List Record) (c : D
   pub has_room : f.marked ≡ false → HasRoom f before room
   pub is_posted : IsPosted f c
 
+-- The state of a network whose finished ticks and records of the tick are these.
 abbrev pub state_in : Ticks → ℕ → List Record → State
 state_in t before records = state_of t.scenario t.tick before records t.items.items t.next t.marked
 

@@ -1,3 +1,5 @@
+//! The network of a run on one thread.
+
 ghost use Rattle.std.specs.Prelude.{◌≡◌, ◌⊎◌, ◌<◌, ◌++◌, ◌∷◌, length, true, false, Some, OnErr, IfOk, MatchResult, MatchOption, MatchBool};
 ghost use Rattle.nz_machine.specs.Journals.{run_in};
 ghost use Rattle.nz_machine.specs.Schedule.{InOrder, IsPlayable};
@@ -44,7 +46,7 @@ impl Alone {
         })
     }
 
-    /// What the type keeps.
+    /// The invariant of this type, for the caller's proof. Does nothing.
     pub fn kept(&self)
         ensures { IsKept self.now }
     {

@@ -1,3 +1,5 @@
+//! The calendar of coming deliveries.
+
 ghost use Rattle.std.specs.Prelude.{◌≡◌, ◌+◌, ◌-◌, ◌<◌, ◌≤◌, ◌^◌, ◌∷◌, ◌++◌, [], ℕ, List, length, map, get_or, min, Option, IfOk, OnOk, OnErr, MatchOption, if◌then◌else◌};
 ghost use Rattle.nz_base.specs.declared.scenario.Scenario.{Scenario as Scenarios};
 ghost use Rattle.nz_machine.specs.Schedule.{IsPlayable, Posted, posted_in, arrivals};
@@ -90,7 +92,7 @@ fn open_days(alloc: Global, tick: u32, days: &mut Vec<Vec<Item>>) -> Result<(), 
     Ok(())
 }
 
-/// Makes room for so many items in the day of a tick.
+/// Makes room for this many items in the day of a tick.
 fn reserve(
     alloc: Global,
     days: &mut Vec<Vec<Item>>,

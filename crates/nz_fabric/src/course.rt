@@ -1,3 +1,5 @@
+//! Counts of parcels by sender, receiver and kind.
+
 ghost use Rattle.std.specs.Prelude.{◌≡◌, ◌+◌, ◌-◌, ◌^◌, ◌<◌, min, MatchOption, OnOk, OnErr};
 ghost use Rattle.nz_fabric.specs.Calendars.{course, count_of, row_number, IsCounted};
 
@@ -48,7 +50,7 @@ pub fn number_of(counts: &IndexMap<Course, u64>, parcel: &Parcel, kind: Option<u
     }
 }
 
-/// So many parcels of its sender, receiver and kind there are with this one.
+/// How many parcels of its sender, receiver and kind there are with this one.
 pub fn count_up_to(
     counts: &mut IndexMap<Course, u64>,
     parcel: &Parcel,

@@ -1,3 +1,5 @@
+//! What one fault line makes of the deliveries of a parcel.
+
 ghost use Rattle.std.specs.Prelude.{◌≡◌, List, map, OnOk};
 ghost use Rattle.nz_machine.specs.Schedule.{Delivery as Planned, held as held_of, repeated as repeated_of, cut_short as cut_short_of};
 ghost use Rattle.nz_fabric.specs.Posting.{stored};
@@ -32,7 +34,7 @@ pub fn repeated(by: u32, deliveries: &mut Vec<Delivery>) -> Result<(), NoMemory>
     Ok(())
 }
 
-/// Of the first delivery so many bytes come, and never all of them.
+/// Of the first delivery this many bytes come, and never all of them.
 pub fn cut_short(keep: u32, len: usize, deliveries: &mut [Delivery])
     ensures { (ds : List Planned) → deliveries.old ≡ map stored ds → deliveries.new ≡ map stored (cut_short_of keep len ds) }
 {

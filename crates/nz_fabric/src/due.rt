@@ -1,3 +1,5 @@
+//! What is due in a tick before what arrives: fault lines and clocks.
+
 ghost use Rattle.std.specs.Prelude.{◌≡◌, ◌<◌, ◌+◌, ◌-◌, ◌^◌, ◌==◌, ◌∷◌, ◌++◌, [], map, IfOk, OnOk};
 ghost use Rattle.nz_machine.specs.Replicas.{numbers_below};
 ghost use Rattle.nz_machine.specs.Schedule.{item, if_in, calls, skew_of, clock_at as clock_in, actors_of, tick_item};
@@ -49,7 +51,7 @@ fn push_if(
     Ok(())
 }
 
-/// What a fault line asks of an actor in a tick, behind so many restart lines.
+/// What a fault line asks of an actor in a tick, after this many restart lines.
 fn push_call(
     items: &mut Vec<Item>,
     restarts: &mut u64,

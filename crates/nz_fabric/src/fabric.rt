@@ -1,3 +1,5 @@
+//! The lock around the network of several threads.
+
 use crate::name::Name;
 use crate::shared::FabricState;
 use std::sync::{Condvar, Mutex, MutexGuard, Wait};

@@ -1,3 +1,5 @@
+//! The deliveries of a parcel, by all fault lines.
+
 ghost use Rattle.std.specs.Prelude.{◌≡◌, ◌+◌, ◌&&◌, ◌==◌, ◌∷◌, [], List, map, IfOk, OnOk};
 ghost use Rattle.nz_machine.specs.declared.event.Parcel.{Parcel as Parcels};
 ghost use Rattle.nz_machine.specs.Schedule.{Delivery as Planned, is_of as is_of_kind, is_nth as is_nth_of_kind, is_named as is_named_by, is_blocked as is_blocked_by, kind_of as kind_in, whole_in, faulted as faulted_of, faulted_by};

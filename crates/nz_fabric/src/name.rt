@@ -1,7 +1,10 @@
+//! The name of a run, as a type.
+
 use std::marker::Brand;
 use std::sync::ledger::Ledger;
 
-/// Which run it is. The call that begins a run picks it.
+/// A type that names one run, so that values under locks are known to belong to it. The call that begins a run picks
+/// it.
 pub trait Name: Ledger {
     ghost use Rattle.nz_base.specs.declared.scenario.Scenario.{Scenario};
 

@@ -1,3 +1,5 @@
+//! How what was sent in a tick is put into the calendar.
+
 ghost use Rattle.std.specs.Prelude.{◌≡◌, ◌++◌, ℕ, List, map, OnOk, OnErr};
 ghost use Rattle.nz_machine.specs.Schedule.{IsPlayable, Posted, posted_in};
 ghost use Rattle.nz_fabric.specs.Calendars.{StandsFor, HasPosted, posted_by};

@@ -1,3 +1,5 @@
+//! The records of a run, one row for each actor.
+
 ghost use Rattle.std.specs.Prelude.{◌≡◌, ◌↔◌, ◌+◌, ◌<◌, ◌≤◌, ◌∷◌, ◌++◌, [], ℕ, List, length, map, drop, get_or, vec_capacity, IsTrue, IfOk, OnOk, OnErr, if◌then◌else◌};
 ghost use Rattle.nz_base.specs.Actor.{actor_eq};
 ghost use Rattle.nz_base.specs.declared.actor.Actor.{Actor as Actors};
@@ -80,7 +82,7 @@ impl Rows {
         self.order.len()
     }
 
-    /// Makes room for so many records of an actor.
+    /// Makes room for this many records of an actor.
     pub fn reserve(&mut self, actor: Actor, count: usize) -> Result<(), NoMemory>
         ensures records { self.new.records ≡ self.old.records }
         ensures room { self.old.room ≤ self.new.room }

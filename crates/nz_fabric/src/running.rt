@@ -1,3 +1,5 @@
+//! Turns that are open.
+
 use nz_machine::Item;
 
 /// A turn that was taken, and neither recorded nor given up.

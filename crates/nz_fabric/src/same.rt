@@ -1,3 +1,5 @@
+//! Whether two lists of records are the same.
+
 ghost use Rattle.std.specs.Prelude.{◌≡◌, ◌↔◌, IsTrue};
 
 use nz_machine::{Event, Parcel, Record};

@@ -1,3 +1,5 @@
+//! Shares of the ledger that counts open turns.
+
 ghost use Rattle.std.specs.Prelude.{◌≡◌, ◌+◌, ◌<◌};
 
 use crate::name::Name;

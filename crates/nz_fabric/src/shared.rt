@@ -1,3 +1,5 @@
+//! The network of a run on several threads, under its lock.
+
 ghost use Rattle.std.specs.Prelude.{◌≡◌, ◌⊎◌, ◌+◌, ◌<◌, ◌==◌, ◌↔◌, length, reverse, get_or, true, false, IsTrue, IfOk, IfSome, MatchBool, MatchOption, MatchResult};
 ghost use Rattle.std.specs.List.{position};
 ghost use Rattle.nz_machine.specs.Journals.{run_in};
@@ -21,7 +23,7 @@ use std::marker::Model;
 use std::sync::ledger::{Blank, Book};
 
 /// The network of a run on several threads: what is due, the turns that are open, and the journal, in which the
-/// records of a tick stand in any order.
+/// records of a tick are in any order.
 #[derive(Drop)]
 pub struct FabricState<N: Name> {
     ticks: Ticks,
@@ -69,7 +71,7 @@ impl<N: Name> FabricState<N> {
         Ok((state, Share { held }))
     }
 
-    /// What the type keeps.
+    /// The invariant of this type, for the caller's proof. Does nothing.
     pub fn kept(&self)
         ensures { IsAccounted N.scenario self.now }
     {
@@ -227,7 +229,7 @@ impl<N: Name> FabricState<N> {
     }
 }
 
-/// Takes out the open turn for which a number stands.
+/// Takes out the open turn that a number names.
 fn close(running: &mut Vec<Running>, number: u64) -> Running
     requires { 0 < length running.old.items }
     ensures place { place_in number running.old.items < length running.old.items }

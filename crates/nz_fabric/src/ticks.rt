@@ -1,3 +1,5 @@
+//! What the networks of one thread and of several have in common: the tick and its items.
+
 ghost use Rattle.std.specs.Prelude.{◌≡◌, ◌<◌, ◌≤◌, ◌+◌, ◌++◌, vec_capacity, List, length, map, slice_get, Some, IfOk, OnOk, OnErr};
 ghost use Rattle.nz_machine.specs.Schedule.{Posted};
 ghost use Rattle.nz_fabric.specs.Calendars.{StandsFor};

@@ -1,3 +1,5 @@
+//! A turn: a due item that was taken.
+
 ghost use Rattle.std.specs.Prelude.{◌≡◌};
 
 use nz_base::Actor;

@@ -6,6 +6,7 @@ use Rattle.std.specs.Int.{is_in_range}
 abbrev pub is_kind : ℕ → Bool
 is_kind kind = is_in_range 1 18 kind
 
+-- The number is a kind of message.
 abbrev pub IsKind : ℕ → Type 0
 IsKind kind = IsTrue (is_kind kind)
 
@@ -13,5 +14,6 @@ IsKind kind = IsTrue (is_kind kind)
 abbrev pub is_address : ℕ → Bool
 is_address a = is_in_range 0 8 a || (is_in_range 16 23 a || is_in_range 64 127 a)
 
+-- The number is somebody's address.
 abbrev pub IsAddress : ℕ → Type 0
 IsAddress a = IsTrue (is_address a)

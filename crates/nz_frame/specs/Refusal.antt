@@ -17,6 +17,7 @@ end_of bytes = 4 + stated bytes
 abbrev pub sender : List ℕ → ℕ
 sender bytes = big_number 2 (drop 6 bytes)
 
+-- The receiver's address in a frame.
 abbrev pub receiver : List ℕ → ℕ
 receiver bytes = big_number 2 (drop 8 bytes)
 
@@ -25,15 +26,17 @@ pub record Test : Type 0 where
   pub holds : Bool
   pub refusal : FrameRefusal
 
+-- A test with its outcome, and the refusal where it fails.
 abbrev pub test : Bool → FrameRefusal → Test
 test holds refusal = record { holds = holds; refusal = refusal }
 
+-- The refusal of the first test that fails, if one does.
 abbrev pub first_failed : List Test → Option FrameRefusal
 first_failed [] = None
 first_failed (t ∷ ts) = if t.holds then first_failed ts else Some t.refusal
 
--- The tests in their order. A place is a number of 32 bits: the bytes behind a length below 6 may be
--- more than it counts.
+-- The tests in their order. A place is a number of 32 bits: the bytes after a length below 6 may be more than it
+-- counts.
 abbrev pub tests : List ℕ → List Test
 tests bytes =
     test (nat_le 4 (length bytes)) (Short (length bytes))

@@ -1,3 +1,5 @@
+//! Which numbers are kinds, and which are addresses.
+
 ghost use Rattle.std.specs.Prelude.{◌↔◌, IsTrue};
 ghost use Rattle.nz_frame.specs.Address.{IsKind, IsAddress};
 

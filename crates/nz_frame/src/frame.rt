@@ -1,3 +1,5 @@
+//! Frames, written and read.
+
 ghost use Rattle.std.specs.Prelude.{◌≡◌, ◌+◌, ◌≤◌, ◌<◌, ◌^◌, ◌∷◌, ◌++◌, ◌↔◌, ℕ, List, length, drop, IsOkAnd, IfOk, IfErr, OnOk, OnErr, IsFalse, IfSome, IsSome, Some, None};
 ghost use Rattle.byteorder.specs.Endian.{big_bytes, big_number};
 ghost use Rattle.nz_frame.specs.Address.{is_address as is_address_test, IsKind, IsAddress};

@@ -37,7 +37,7 @@ pub fn cut_is_short()
         → refusal bytes ≡ Some (Short (length bytes)) }
 {}
 
-/// Bytes behind a frame are refused at its end.
+/// Bytes after a frame are refused at its end.
 pub fn more_is_trailing()
     ensures { (bytes rest : List ℕ) (kind from to : ℕ) (body : List ℕ)
         → IsFrame bytes kind from to body → 0 < length rest

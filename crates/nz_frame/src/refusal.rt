@@ -1,8 +1,10 @@
+//! Why bytes are no frame.
+
 /// Why bytes are no frame. A place is counted in bytes from the first one.
 #[derive(Clone, Copy, Debug, PartialEq, Eq)]
 pub enum FrameRefusal {
-    /// The bytes end before the frame does, or the length leaves no room for the header. The place is
-    /// the number of bytes given, or 2^32 - 1 where more are given behind such a length.
+    /// The bytes end before the frame does, or the length leaves no room for the header. The place is the number of
+    /// bytes given, or 2^32 - 1 where more are given after such a length.
     Short { place: u32 },
     /// The length is above 16,777,216.
     TooLong { place: u32 },

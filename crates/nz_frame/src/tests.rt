@@ -1,3 +1,5 @@
+//! Frames, their prefixes, and refusals with their places.
+
 use super::*;
 use std::test::*;
 

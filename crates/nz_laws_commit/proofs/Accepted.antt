@@ -64,7 +64,7 @@ given_sent g J w v id a P h e there =
     let sent = own_command g h.moment (leader_of g.f v) e (at_world g J h.moment w h.at) in_log in
     events_later g J h.moment h.at (Sent (id_of e.key) e.command) sent
 
--- no id stands in it twice
+-- no id is in it twice
 pub given_own : (g : Group) (J : List Record) → World g J → (v : ℕ) (id : Id) (a : Answer) (P : List Entry) → IsGiven g J v id a P
     → HaveOwnIds (keys_of P)
 given_own g J w v id a P h =

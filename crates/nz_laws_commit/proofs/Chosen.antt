@@ -45,7 +45,7 @@ pub chosen_quorum : (f : ℕ) (replies : List Reply) (chosen : Chosen) → decis
 unfolding decision
 chosen_quorum f replies chosen e = quorum_by f replies chosen (fast_lead f replies) (slow_lead f replies) refl refl e
 
--- a reply that passes a test stands among some where the test finds one
+-- a reply that passes a test is among some where the test finds one
 pub any_reply : (p : Reply → Bool) (replies : List Reply) → list_any p replies ≡ true → (x : Reply) × (Has replies x × (p x ≡ true))
 any_reply p [] h = absurd cc
 any_reply p (x ∷ replies) h = elim (or_cases (p x) (list_any p replies) h) [

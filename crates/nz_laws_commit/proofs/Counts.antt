@@ -142,7 +142,7 @@ one_accepted : (c : ℕ) (before after : ClientData) (o : Option Envelope) (x y 
 one_accepted c before after None x y h = h
 one_accepted c before after (Some e) x y h = accepted_alone c before after e.message x y h
 
--- a record tells an acceptance, and then a request
+-- a record has an acceptance, and then a request
 record IsPair (g : Group) (a : Actor) (r : Record) (J : List Record) (x y : Told) : Type 0 where
   client : ℕ
   by : a ≡ Client client

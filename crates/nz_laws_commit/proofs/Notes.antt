@@ -118,7 +118,7 @@ with_note_cases replies n reply false h = elim
       | inr b ↦ elim (or_cases (reply_eq reply n) false b) [ inl same ↦ inr (sym (same_reply reply n same)) | inr none ↦ absurd cc ]
     ]
 
--- a reply that stands once the record was handled, over an open request
+-- a reply that is noted once the record was handled, over an open request
 pub moment_of : (g : Group) (q : ℕ) (id : Id) (r : Record) (J : List Record) (replies : List Reply) (n reply : Reply) → r.actor ≡ Proxy q
     → standing_after g q id J ≡ Some (Open replies) → reply_read id (read_in g (Proxy q) r.event) ≡ Some n
     → (IsNoted reply (replies_of (standing_after g q id J)) → HasMoment g q id reply J) → IsNoted reply (with_note replies n) → HasMoment g q id reply (r ∷ J)

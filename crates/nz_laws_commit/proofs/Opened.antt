@@ -41,7 +41,7 @@ accepted_append c (Sent id command ∷ E) F = accepted_append c E F
 accepted_append c (Accepted id answer path ∷ E) F =
     ap (λ (n : ℕ). cond (eqb id.client c) (suc n) n) (accepted_append c E F) ∙ plus_one (eqb id.client c) (count_accepted c E) (count_accepted c F)
 
--- so many are sent after a number, at most all by the client
+-- this many are sent after a number, at most all by the client
 few_after : (c k : ℕ) (script : List Request) (n more : ℕ) → count_sent c (sent_after k script n more) ≤ more
 few_after c k script n zero = omega arith
 few_after c k script n (suc more) =
@@ -93,7 +93,7 @@ one_accepted c before after o lt h =
     ap (λ (y : Option Envelope). count_accepted c (accepted_by c before after y)) h.read ∙ ap (λ (m : Message). count_accepted c (accepted_in c before after m)) h.message
     ∙ ap (λ (t : Bool). count_accepted c (cond t (x ∷ []) [])) (lt-ltb before.accepted after.accepted lt) ∙ ap (λ (t : Bool). cond t 1 0) (eq-eqb c c refl)
 
--- ---- what a record tells of a client: an acceptance, and then requests
+-- ---- what a record says of a client: an acceptance, and then requests
 
 record Parts (g : Group) (c : ℕ) (r : Record) (J : List Record) : Type 0 where
   first : List Told

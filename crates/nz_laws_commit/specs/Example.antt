@@ -14,6 +14,7 @@ pub data Step : Type 0 where
 abbrev pub key : Key
 key = record { deadline = 5; client = 1; num = 1 }
 
+-- The entry of the example's key.
 abbrev pub entry : Entry
 entry = record { key = key; command = [] }
 
@@ -62,6 +63,7 @@ state y (r ∷ K) = after r y (state y K)
 abbrev pub early : List Step
 early = Third ∷ Second ∷ First ∷ []
 
+-- The whole run of the example.
 abbrev pub run : List Step
 run = Fourth ∷ early
 

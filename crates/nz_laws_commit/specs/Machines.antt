@@ -6,12 +6,14 @@ use Rattle.nz_base.specs.Log.{keys_of}
 use Rattle.nz_base.specs.Cluster.{leader_of}
 use Rattle.nz_laws_commit.specs.States.{Status, Normal, ViewChange, Rejoining, Down, LogState, Machine}
 
+-- In normal operation.
 abbrev pub is_normal : Status → Bool
 is_normal Normal = true
 is_normal ViewChange = false
 is_normal Rejoining = false
 is_normal Down = false
 
+-- Out of service.
 abbrev pub is_down : Status → Bool
 is_down Normal = false
 is_down ViewChange = false

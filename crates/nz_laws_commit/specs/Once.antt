@@ -19,6 +19,7 @@ count_accepted c [] = 0
 count_accepted c (Sent id command ∷ E) = count_accepted c E
 count_accepted c (Accepted id answer path ∷ E) = if id.client == c then suc (count_accepted c E) else count_accepted c E
 
+-- In these events each request is sent once and accepted at most once, after its sending, and windows are kept.
 pub record AreOnce (window : ℕ) (E : List Told) : Type 0 where
   pub sent : (id : Id) (x y : List ℕ) → ¬ Precedes E (Sent id x) (Sent id y)
   pub accepted : (id : Id) (a b : Answer) (p q : Path) → ¬ Precedes E (Accepted id a p) (Accepted id b q)

@@ -3,6 +3,7 @@ use Rattle.std.specs.Prelude.{ℕ, Bool, List, Option, slice_index_or}
 use Rattle.nz_base.specs.declared.key.Key.{Key}
 use Rattle.nz_base.specs.declared.key.Entry.{Entry}
 
+-- The mode of a replica.
 pub data Status : Type 0 where
   Normal ViewChange Rejoining Down : Status
 

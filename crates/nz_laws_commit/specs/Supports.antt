@@ -28,7 +28,7 @@ module _ {R : Type 0} (M : Machine R) where
     pub up : IsUp (M.state x K).status
     pub last : (M.state x K).last ≡ v
 
-  -- The replica was Normal in the view with so many entries synced.
+  -- The replica was Normal in the view with this many entries synced.
   pub record HadSynced (v y count : ℕ) (J : List R) : Type 0 where
     pub K : List R
     pub moment : At J K
@@ -53,15 +53,15 @@ module _ {R : Type 0} (M : Machine R) where
     pub normal : IsNormal (view_leader v) v K
     pub holds : IsPrefix P (keys_at (view_leader v) K)
 
-  -- f + 1 replicas had so many entries synced.
+  -- f + 1 replicas had this many entries synced.
   pub record SlowSupport (v : ℕ) (P : List Key) (J : List R) : Type 0 where
     pub members : List ℕ
     pub choice : IsChoice (group_size M.f) members
     pub enough : slow_quorum M.f ≤ length members
     pub each : (y : ℕ) → IsTrue (is_in members y) → HadSynced v y (length P) J
 
-  -- The leader had a log as long with some vector, and each of a fast quorum had so many entries synced or could send a
-  -- fast-reply for the keys with this vector.
+  -- The leader had a log as long with some vector, and each of a fast quorum had this many entries synced or could
+  -- send a fast-reply for the keys with this vector.
   pub record FastSupport (v : ℕ) (P : List Key) (J : List R) : Type 0 where
     pub u : List ℕ
     pub K : List R

@@ -5,7 +5,7 @@
 use Rattle.std.specs.Prelude.{ℕ, zero, suc, ◌-◌, Bool, true, false, ◌&&◌, ◌||◌, ◌==◌, nat_le, nat_lt, List, [], ◌∷◌, length}
 use Rattle.nz_laws_cv.specs.Tests.{Tests}
 
--- The first records, so many, the newest first.
+-- The first records, this many of them, the newest first.
 abbrev pub first_records : ℕ → List ℕ
 first_records zero = []
 first_records (suc n) = n ∷ first_records n
@@ -14,7 +14,7 @@ first_records (suc n) = n ∷ first_records n
 abbrev pub run : List ℕ
 run = first_records 12
 
--- Whether a replica is up after so many records: replica 1 is down or rejoins from its crash to its completion.
+-- Whether a replica is up after this many records: replica 1 is down or rejoins from its crash to its completion.
 abbrev pub is_up_after : ℕ → ℕ → Bool
 is_up_after zero n = true
 is_up_after (suc zero) n = (n == 0) || nat_le 9 n
@@ -27,7 +27,7 @@ is_normal_after (suc zero) n = (n == 0) || nat_le 9 n
 is_normal_after (suc (suc zero)) n = nat_lt n 11
 is_normal_after (suc (suc (suc x))) n = true
 
--- A number that is 0, and 1 from so many records on.
+-- A number that is 0 before this many records, and 1 from then on.
 abbrev pub one_from : ℕ → ℕ → ℕ
 one_from start n = (suc n - start) - (n - start)
 
@@ -63,7 +63,7 @@ place_after x zero n = 0
 place_after x (suc zero) n = one_from (knows_from x) n
 place_after x (suc (suc k)) n = 0
 
--- Whether these are the first records, so many.
+-- Whether these are the first records, this many of them.
 abbrev pub are_first : ℕ → List ℕ → Bool
 are_first zero [] = true
 are_first zero (r ∷ K) = false

@@ -125,7 +125,7 @@ before_later g r J id a other h = record { covered = covered_at g r J id a (cove
 
 -- ---- lists of events
 
--- the second stands in the first list with the first, or in the second list
+-- the second is in the first list with the first, or in the second list
 precedes_split : {X : Type 0} (xs ys : List X) (x y : X) → Precedes (xs ++ ys) x y → Precedes xs x y ⊎ (Has (xs ++ ys) x × Has ys y)
 precedes_split xs ys x y h = elim (precedes_three xs ys x y h) [
   | inl a ↦ inl a
@@ -185,7 +185,7 @@ history_sent g J w e there = elim (history_is g J w).ends [
   | inr l ↦ let h = accepted_given g J w (history g J) l in given_sent g J w h.view h.id h.answer (history g J) h.given e there
 ]
 
--- no id stands in it twice
+-- no id is in it twice
 pub history_own : (g : Group) (J : List Record) → World g J → HaveOwnIds (keys_of (history g J))
 history_own g J w = elim (history_is g J w).ends [
   | inl none ↦ subst (λ (H : List Entry). HaveOwnIds (keys_of H)) (sym none) tt

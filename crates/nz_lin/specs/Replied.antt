@@ -19,6 +19,7 @@ abbrev pub list_over : List Entry → Message → List (List EntryKey)
 list_over log (FastReply b) = map entry_key (cut_after b.id log) ∷ []
 list_over log _ = []
 
+-- The list of keys that a decoded frame replies over, if it is a fast reply.
 abbrev pub list_read : List Entry → Result Envelope DecodeRefusal → List (List EntryKey)
 list_read log (Ok e) = list_over log e.message
 list_read log (Err refusal) = []

@@ -1,3 +1,5 @@
+//! The laws over all runs, up to one history.
+
 ghost use Rattle.std.specs.Prelude.{ℕ, List};
 ghost use Rattle.nz_base.specs.Key.{id_of};
 ghost use Rattle.nz_base.specs.declared.actor.Actor.TheVariants.{Replica};

@@ -11,7 +11,7 @@ use Rattle.nz_base.proofs.Booleans.{cases_bool, or_cases, and_left, and_right, n
 use Rattle.nz_base.proofs.Logs.{has_id-append, keys_append, above_each, rising_join, rising_front, rising_back, own_join, has_id_filter, rising_filter, own_filter}
 use Rattle.nz_log.specs.Synced.{stays_behind}
 
--- what stays behind a key is above it, and of other ids
+-- what stays after a key is above it, and of other ids
 stay_above : (key : Key) (es : List Entry) (y : Key) → has_key (keys_of (filter (stays_behind key) es)) y ≡ true → key_below key y ≡ true
 stay_above key [] y h = absurd cc
 stay_above key (e ∷ es) y h =
@@ -42,7 +42,7 @@ own_back (x ∷ xs) p ys own =
     ∙ (rw (neither_left (has_id (keys_of xs) i) (has_id (keys_of ys) i) parted) (has_id_filter p ys i (neither_right (has_id (keys_of xs) i) (has_id (keys_of ys) i) parted))) in
     (new, own_back xs p ys own.1)
 
--- an entry behind a front, before what stays
+-- an entry after a prefix, before what stays
 pub log_put : (front : List Entry) (e : Entry) (back : List Entry) → IsLog (front ++ back) → is_above_last (keys_of front) e.key ≡ true → has_id (keys_of front) (id_of e.key) ≡ false
     → IsLog (front ++ e ∷ filter (stays_behind e.key) back)
 log_put front e back log above fresh =

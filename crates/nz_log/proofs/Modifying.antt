@@ -13,7 +13,7 @@ use Rattle.nz_base.proofs.Logs.{has_append, has_front, has_back, keys_append, lo
 use Rattle.nz_log.specs.Synced.{Log, IsSound, synced_part, unsynced_part, stays_behind, is_displaced, modified, displaced}
 use Rattle.nz_log.proofs.Lists.{log_put}
 
--- an entry is put in at a place, and of what then stands behind it some goes
+-- an entry is put in at a place, and of what then follows it some goes
 pub put_parts : (es : List Entry) (place : ℕ) (e : Entry) (p : Entry → Bool) → place ≤ length es
     → take (place + 1) (insert es place e) ++ filter p (drop (place + 1) (insert es place e)) ≡ take place es ++ e ∷ filter p (drop place es)
 put_parts es place e p within =

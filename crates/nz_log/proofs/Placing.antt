@@ -58,7 +58,7 @@ place_found (e ∷ es) i place h =
         let within : n < length es = at.within in
         subst (λ (m : ℕ). IsPlace (e ∷ es) i m) (some_same (suc n) place h) (record { within = omega arith; here = at.here })
 
--- what stands at a place is among the keys
+-- what is at a place is among the keys
 pub held_at : (es : List Entry) (i : Id) (place : ℕ) → IsPlace es i place → has_id (keys_of es) i ≡ true
 held_at [] i place at = absurd (let none : place < 0 = at.within in omega arith)
 held_at (e ∷ es) i zero at = or_left (id_eq i (id_of e.key)) (has_id (keys_of es) i) (at.here e)
@@ -77,7 +77,7 @@ place_only (e ∷ es) i (suc place) own at =
       | inl here ↦ clash (has_id (keys_of es) (id_of e.key)) (subst (λ (j : Id). has_id (keys_of es) j ≡ true) (same_id i (id_of e.key) here) (held_at es i place rest)) own.0
     ]
 
--- a search tells whether the id is held
+-- a search shows whether the id is held
 pub search_tells : (found : Option ℕ) (es : List Entry) (i : Id) → IfSome found (λ place. IsFirstPlace es i place) → IfNone found (has_id (keys_of es) i ≡ false) → is_some found ≡ has_id (keys_of es) i
 search_tells None es i at away = sym away
 search_tells (Some place) es i at away = sym (held_at es i place at.at)

@@ -19,6 +19,7 @@ use Rattle.nz_log.specs.Synced.{Log, synced_part, modified, displaced, left_out}
 abbrev pub may_follow : List Entry → Key → Bool
 may_follow es key = is_above_last (keys_of es) key && not (has_id (keys_of es) (id_of key))
 
+-- Whether the log may have one more entry.
 abbrev pub has_room : Log → Bool
 has_room log = nat_lt (length log.entries) MAX_ENTRIES
 
@@ -42,6 +43,7 @@ may_replace list = may_be_log list && nat_le (length list) MAX_ENTRIES
 
 -- ---- one call
 
+-- What a call answers: what it removed, nothing, or that it was skipped.
 abbrev pub answer_to : Log → LogCall → LogAnswer
 answer_to log (Append e) = if may_follow log.entries e.key && has_room log then Nothing else Skipped
 answer_to log SyncAll = Nothing
@@ -61,10 +63,12 @@ after_call log (DigestAt place) = log
 
 -- ---- a list of calls
 
+-- The answers to calls in turn.
 abbrev pub answers_to : Log → List LogCall → List LogAnswer
 answers_to log [] = []
 answers_to log (call ∷ calls) = answer_to log call ∷ answers_to (after_call log call) calls
 
+-- The log after calls in turn.
 abbrev pub after_calls : Log → List LogCall → Log
 after_calls log [] = log
 after_calls log (call ∷ calls) = after_calls (after_call log call) calls

@@ -1,4 +1,4 @@
--- What stands where in a log, and the digest of what stands so far.
+-- What is where in a log, and the digest of the entries up to a place.
 use Rattle.std.specs.Prelude.{◌≡◌, ℕ, suc, ◌-◌, ◌<◌, true, false, List, [], ◌∷◌, length, map, take, slice_get, slice_index_or, Option, Some, None, if◌then◌else◌}
 use Rattle.std.specs.Option.{option_map}
 use Rattle.nz_base.specs.declared.key.Id.{Id}
@@ -22,6 +22,7 @@ pub record IsFirstPlace (log : List Entry) (id : Id) (place : ℕ) : Type 0 wher
   pub at : IsPlace log id place
   pub front : has_id (keys_of (take place log)) id ≡ false
 
+-- The last entry, if there is one.
 abbrev pub last_entry : List Entry → Option Entry
 last_entry log = slice_get log (length log - 1)
 
@@ -29,6 +30,7 @@ last_entry log = slice_get log (length log - 1)
 abbrev pub entry_key : Entry → EntryKey
 entry_key e = record { deadline = e.key.deadline; client = e.key.client; num = e.key.num }
 
+-- The digest of all entries.
 abbrev pub digest_of_log : List Entry → List ℕ
 digest_of_log log = digest (map entry_key log)
 

@@ -19,13 +19,15 @@ pub record IsSound (log : Log) : Type 0 where
 
 -- ---- an entry put at the end of the synced part
 
+-- The synced entries: the first ones of the log.
 abbrev pub synced_part : Log → List Entry
 synced_part log = take log.synced log.entries
 
+-- The entries after the synced ones.
 abbrev pub unsynced_part : Log → List Entry
 unsynced_part log = drop log.synced log.entries
 
--- Whether an entry stays behind one with this key: its key is above, and its id is another.
+-- Whether an entry stays after one with this key: its key is above, and its id is another.
 abbrev pub stays_behind : Key → Entry → Bool
 stays_behind key x = key_below key x.key && not (id_eq (id_of key) (id_of x.key))
 

@@ -110,7 +110,7 @@ fn has_synced<L: LogRep>(log: &L, id: Id) -> bool
     }
 }
 
-// Whether a key is above that of the last of so many entries, or there is none.
+// Whether a key is above that of the last of this many entries, or there is none.
 fn is_above_first<L: LogRep>(log: &L, count: u32, key: &Key) -> bool
     requires { count ≤ length (L.log log.now).entries }
     ensures { result ≡ is_above_last (keys_of (take count (L.log log.now).entries)) key.now }

@@ -28,7 +28,7 @@ pub fn modified_is_log()
         → IsSound (modified log entry) }
 {}
 
-/// A modification keeps the synced part, and puts one entry behind it.
+/// A modification keeps the synced part, and puts one entry after it.
 pub fn synced_part_stays()
     ensures { (log : Log) (entry : AnEntry) → IsSound log
         → synced_part (modified log entry) ≡ synced_part log ++ entry ∷ [] }
@@ -43,7 +43,7 @@ pub fn no_entry_is_lost()
         ⊎ IsTrue (has_key (keys_of (displaced log entry)) key) }
 {}
 
-/// What is above the last entry is what may stand behind it.
+/// Before appending it is enough to compare with the last entry.
 pub fn last_entry_is_the_greatest()
     ensures none { (log : List AnEntry) (key : AKey) → last_entry log ≡ None
         → IsTrue (is_above_last (keys_of log) key) }

@@ -1,3 +1,5 @@
+//! A log as a plain list.
+
 ghost use Rattle.std.specs.Prelude.{◌≡◌, []};
 
 use super::log_rep::{Allocating, LogRep};

@@ -108,7 +108,7 @@ impl Pages {
         }
     }
 
-    /// Keeps so many entries, from the first on.
+    /// Keeps this many entries, from the first on.
     pub fn truncate(&mut self, len: usize)
         ensures { self.new ≡ take len self.old }
     {

@@ -82,7 +82,7 @@ pub fn copy_left_out(
     Ok(list)
 }
 
-// Removes the entries from a place on that do not stay behind one with this key.
+// Removes the entries from a place on that do not stay after one with this key.
 fn remove_behind(entries: &mut Vec<Entry>, from: usize, key: Key)
     requires { from ≤ vec_len entries.old }
     ensures { entries.new.items ≡ take from entries.old.items
@@ -99,7 +99,7 @@ fn remove_behind(entries: &mut Vec<Entry>, from: usize, key: Key)
     }
 }
 
-/// Puts the entry at a place, and keeps of those from there on what stays behind it.
+/// Puts the entry at a place, and keeps of those from there on what stays after it.
 pub fn put_at(entries: &mut Vec<Entry>, place: usize, entry: Entry) -> Result<(), NoMemory>
     requires within { place ≤ vec_len entries.old }
     requires few { vec_len entries.old < MAX_ENTRIES }

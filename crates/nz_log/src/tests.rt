@@ -1,3 +1,5 @@
+//! Both logs, call by call.
+
 use super::*;
 use nz_base::{Blob, Entry, EntryList, Id, Key, List, NoMemory};
 use nz_digest::Digest;
@@ -26,7 +28,7 @@ fn list_of(alloc: Global, rows: &[Row]) -> Result<EntryList, NoMemory> {
     Ok(list)
 }
 
-// Appends an entry where it may stand.
+// Appends an entry where it may come.
 fn append(log: &mut HashedLog, entry: Entry) -> Result<(), NoMemory> {
     if log.len() < MAX_ENTRIES
         && log.is_above(&entry.key)
@@ -63,8 +65,7 @@ fn modify(log: &mut HashedLog, entry: Entry) -> Result<Option<EntryList>, NoMemo
 #[test]
 fn modifies(rt: HostRuntime) -> Result<(), Fail> {
     let alloc = rt.alloc();
-    // The synced entries, the others, the new one, what then stands behind the synced ones, and
-    // what lost its place.
+    // The synced entries, the others, the new one, what then is after the synced ones, and what lost its place.
     let table: [(&[Row], &[Row], Row, &[Row], &[Row]); 7] = [
         (
             &[(10, 0, 1)],

@@ -1,4 +1,4 @@
--- Keys of several lists that rise one behind the other, and ids that stand in one of them alone.
+-- Keys of several lists that rise one after the other, and ids that are in one of them alone.
 use Rattle.std.proofs.Common.{◌≡◌, true, false, ◌||◌, List, [], ◌∷◌, ◌++◌, refl, sym, subst, ◌∙◌, inl, inr, ◌⊎◌}
 use Rattle.nz_base.specs.declared.key.Id.{Id}
 use Rattle.nz_base.specs.declared.key.Key.{Key}
@@ -24,7 +24,7 @@ rising_both (x ∷ xs) ys front back below = (
 
 -- ---- ids
 
--- an id of a front stands in no back
+-- an id of a prefix is not in the rest
 pub own_apart : (xs ys : List Key) (i : Id) → HaveOwnIds (xs ++ ys) → has_id xs i ≡ true → has_id ys i ≡ false
 own_apart [] ys i own there = absurd cc
 own_apart (x ∷ xs) ys i own there =

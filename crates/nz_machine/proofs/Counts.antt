@@ -1,4 +1,4 @@
--- How often an id stands in a list of entries: each id stands in it once, where none stands in it twice.
+-- How often an id is in a list of entries: each id is in it once, where none is in it twice.
 use Rattle.std.proofs.Common.{◌≡◌, ℕ, ◌+◌, ◌≤◌, Bool, true, false, cond, List, [], ◌∷◌, ◌++◌, refl, sym, ap, subst, ◌∙◌, inl, inr, arith}
 use Rattle.std.specs.List.{filter}
 use Rattle.nz_base.specs.declared.key.Id.{Id}
@@ -51,7 +51,7 @@ times_never i p never (x ∷ xs) =
       | inr gone ↦ rw gone (times_never i p never xs)
     ]
 
--- ---- ids that stand once
+-- ---- ids that are there once
 
 pub times_none : (i : Id) (xs : List Entry) → has_id (keys_of xs) i ≡ false → times i xs ≡ 0
 times_none i [] none = refl

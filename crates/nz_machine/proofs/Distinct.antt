@@ -1,4 +1,4 @@
--- Lists of what was collected, each item with the number of its sender, in which no sender stands twice.
+-- Lists of what was collected, each item with the number of its sender, in which no sender is there twice.
 use Rattle.std.proofs.Common.{◌≡◌, ℕ, Bool, true, false, cond, ◌||◌, not, eqb, List, [], ◌∷◌, ◌++◌, map, refl, sym, ap, subst, ◌∙◌, inl, inr, arith}
 use Rattle.std.specs.List.{filter, list_any}
 use Rattle.nz_base.proofs.Booleans.{cases_bool, or_cases, or_left, or_right, neither_left, neither_right, clash}

@@ -99,7 +99,7 @@ entries_each before (x ∷ xs) rising own all =
 pub entries_fit : (xs : List Entry) → length xs ≤ 64 → AreInOrder (keys_of xs) → AllByRecursion FitsEntry xs → (entries 0 64).fits xs
 entries_fit xs few order all = ((omega (arith, few), within_count 0 64 (length xs) (omega arith) few), (refl, entries_each [] xs order.rising order.own_ids all))
 
--- a whole log, with at least so many entries
+-- a whole log, with at least this many entries
 pub log_fits : (least : ℕ) (xs : List Entry) → least ≤ length xs → length xs ≤ 4096 → AreInOrder (keys_of xs) → AllByRecursion FitsEntry xs
     → (entries least 4096).fits xs
 log_fits least xs low few order all =

@@ -109,7 +109,7 @@ length_taken zero xs = omega arith
 length_taken (suc n) [] = omega arith
 length_taken (suc n) (x ∷ xs) = let ih = length_taken n xs in omega (arith, ih)
 
--- an entry of the synced part stands at a synced place
+-- an entry of the synced part is at a synced place
 record IsSynced (s : ReplicaData) (id : Id) : Type 0 where
   place : ℕ
   stands : place_of s.log.entries id ≡ Some place

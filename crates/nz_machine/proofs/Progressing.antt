@@ -57,7 +57,7 @@ own_nums c [] h = refl
 own_nums c (o ∷ outs) h =
     ap (λ (n : Option ℕ). n ∷ map num_of (own_parcels c outs)) (own_num c o h.0) ∙ ap (λ (l : List (Option ℕ)). num_in o.1 ∷ l) (own_nums c outs h.1)
 
--- ---- what the steps of a client tell
+-- ---- what the steps of a client say
 
 -- what is seen of new requests is what was opened
 record Opens (g : Group) (c : ℕ) (s : ClientData) (t : ClientData × List Out) : Type 0 where

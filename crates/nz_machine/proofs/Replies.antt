@@ -36,8 +36,8 @@ use Rattle.nz_machine.proofs.ViewsShow.{quiet_shows, change_shows}
 use Rattle.nz_machine.proofs.RejoinsShow.{rejoin_shows}
 use Rattle.nz_machine.proofs.Guards.{normal_up}
 
--- what is asked of the state before: no id stands twice in log and early, normal operation is in the last view, and a
--- leader has an answer for each entry
+-- what is asked of the state before: no id is there twice in log and early, normal operation is in the last view, and
+-- a leader has an answer for each entry
 pub record HasAnswers (f me : ℕ) (s : ReplicaData) : Type 0 where
   pub last : is_normal s.status ≡ true → s.last ≡ s.view
   pub own_ids : HaveOwnIds (keys_of (s.log.entries ++ s.early))
@@ -159,7 +159,7 @@ releases_later f me before s t (e ∷ es) l =
     on_cond (λ (x : ReplicaData × List Out). Later f me before x.0 t → Later f me before s t) (may_release s e) _ (s, [])
     (λ _ l. released_later f me before s t e es (releases_later f me before next t es l)) (λ _ l. l) l
 
--- once it is released, an entry stands last, and the ids are those of before
+-- once it is released, an entry is last, and the ids are those of before
 released_own : (f me : ℕ) (s : ReplicaData) (e : Entry) (es : List Entry) → HaveOwnIds (keys_of (s.log.entries ++ e ∷ es))
     → HaveOwnIds (keys_of ((released f me s e es).log.entries ++ es))
 released_own f me s e es own =

@@ -52,7 +52,7 @@ to_each f me P make each =
     (all_below (λ r. r < replica_count f) (replica_count f) (λ r lt. lt))
     (λ r lt t. each r (other_is f me r lt (not-true (eqb r me) t))))
 
--- ---- what the leader tells
+-- ---- what the leader sends of its log
 
 same_replica : (r q : ℕ) → Replica r ≡ Replica q → r ≡ q
 same_replica r q e = cc

@@ -64,7 +64,7 @@ all_at n xs (i ∷ places) all = (at_most n xs i all, all_at n xs places all)
 pub reported_low : (f me n : ℕ) (ack : List ℕ) → AllByRecursion (λ y. y ≤ n) ack → reported f me ack ≤ n
 reported_low f me n ack all = at_most n _ f (all_in_order n _ (all_at n ack (others f me) all))
 
--- a report of at most so many is noted
+-- a report of at most this many is noted
 pub noted_low : (n : ℕ) (ack : List ℕ) (sender synced : ℕ) → synced ≤ n → AllByRecursion (λ y. y ≤ n) ack → AllByRecursion (λ y. y ≤ n) (slice_set ack sender (max (slice_index ack sender) synced))
 noted_low n ack sender synced low all =
     let before = at_most n ack sender all in

@@ -118,7 +118,7 @@ first_below last es e rest is first =
       | inl above ↦ absurd (let none : None ≡ Some e = rw above at one in cc)
     ]
 
--- early entries above the key, and what late comes to: the loop's invariant
+-- early entries above the key, and what late becomes: the loop's invariant
 pub record AreMoving (last : Key) (early late first_early first_late : List Entry) : Type 0 where
   pub waiting : AreRising (keys_of early)
   pub own : HaveOwnIds (keys_of (early ++ late))

@@ -22,7 +22,7 @@ with_log s list =
       late = left_out (s.late ++ s.log.entries) list;
     })
 
--- In normal operation in a view, with this log, of which so many entries are committed.
+-- In normal operation in a view, with this log, of which this many entries are committed.
 abbrev pub normal_in : ReplicaData → ℕ → List Entry → ℕ → ReplicaData
 normal_in s view log commit = record (with_log s log) { status = Normal; view = view; last = view; commit = commit; quiet = 0 }
 

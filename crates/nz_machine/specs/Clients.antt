@@ -8,7 +8,7 @@ use Rattle.nz_msg.specs.declared.message.Message.TheVariants.{Request as Asked}
 use Rattle.nz_machine.specs.declared.data.Attempt.{Attempt}
 use Rattle.nz_machine.specs.State.{ClientData, Out}
 
--- An open request is sent again when so many ticks have passed.
+-- An open request is sent again when this many ticks have passed.
 abbrev pub patience : ℕ
 patience = 30
 
@@ -59,10 +59,12 @@ is_overdue a = a.since + 1 == patience
 abbrev pub waited : ℕ → Attempt → Attempt
 waited proxies a = if is_overdue a then record { num = a.num; proxy = (a.proxy + 1) % proxies; since = 0 } else record { num = a.num; proxy = a.proxy; since = a.since + 1 }
 
+-- The request of this number again, to the proxy, if the script has it.
 abbrev pub asked_again : ℕ → ℕ → Option Request → List Out
 asked_again proxy num None = []
 asked_again proxy num (Some request) = ask proxy num request ∷ []
 
+-- What is sent again of an open request: nothing until it is overdue, and then the request to the next proxy.
 abbrev pub retry : ℕ → List Request → Attempt → List Out
 retry proxies script a = if is_overdue a then asked_again ((a.proxy + 1) % proxies) a.num (slice_get script (a.num - 1)) else []
 
@@ -70,6 +72,7 @@ retry proxies script a = if is_overdue a then asked_again ((a.proxy + 1) % proxi
 abbrev pub retries : ℕ → List Request → List Attempt → List Out
 retries proxies script attempts = flat_map (retry proxies script) attempts
 
+-- The state after a tick: the count of ticks rises, and each open request waits one tick more or begins anew.
 abbrev pub all_waited : ℕ → ClientData → ClientData
 all_waited proxies s = record s { ticks = min (s.ticks + 1) last_tick; attempts = map (waited proxies) s.attempts }
 
@@ -89,6 +92,7 @@ is_open num attempts = list_any (λ (a : Attempt). a.num == num) attempts
 abbrev pub without : ℕ → List Attempt → List Attempt
 without num attempts = filter (λ (a : Attempt). not (a.num == num)) attempts
 
+-- The request is accepted, and no longer open.
 abbrev pub accepted : ℕ → ClientData → ClientData
 accepted num s = record s { accepted = s.accepted + 1; attempts = without num s.attempts }
 
@@ -96,5 +100,6 @@ accepted num s = record s { accepted = s.accepted + 1; attempts = without num s.
 unfoldable pub accept_rule : ℕ → ℕ → ℕ → List Request → ClientData → AnswerBody → ClientData × List Out
 accept_rule window proxies me script s b = if is_open b.num s.attempts then fill_window window proxies me script (accepted b.num s) else (s, [])
 
+-- The state at the start.
 abbrev pub first_client : ClientData
 first_client = record { ticks = 0; sent = 0; accepted = 0; attempts = [] }

@@ -21,9 +21,11 @@ pub data Told : Type 0 where
   Sent : (id : Id) (command : List ℕ) → Told
   Accepted : (id : Id) (answer : AnAnswer) (path : Path) → Told
 
+-- The id of a client's request.
 abbrev pub id_at : ℕ → ℕ → Id
 id_at client num = record { client = client; num = num }
 
+-- The command of a request, empty where there is none.
 abbrev pub command_of_request : Option Request → List ℕ
 command_of_request None = []
 command_of_request (Some request) = request.command
@@ -46,20 +48,21 @@ abbrev pub accepted_in : ℕ → ClientData → ClientData → Message → List 
 accepted_in c before after (Answer b) = if nat_lt before.accepted after.accepted then Accepted (id_at c b.num) b.answer b.path ∷ [] else []
 accepted_in c before after _ = []
 
+-- What a client accepted, where it read an envelope.
 abbrev pub accepted_by : ℕ → ClientData → ClientData → Option Envelope → List Told
 accepted_by c before after None = []
 accepted_by c before after (Some e) = accepted_in c before after e.message
 
--- So many requests, the ones after that of this number.
+-- The given number of requests, those after the one with this number.
 abbrev pub sent_after : ℕ → List Request → ℕ → ℕ → List Told
 sent_after c script num zero = []
 sent_after c script num (suc more) = Sent (id_at c (num + 1)) (command_at script (num + 1)) ∷ sent_after c script (num + 1) more
 
--- The count of requests rose: so many more were sent, in rising number.
+-- The count of requests rose: as many more were sent, in rising number.
 abbrev pub sent_by : ℕ → List Request → ClientData → ClientData → List Told
 sent_by c script before after = sent_after c script before.sent (after.sent - before.sent)
 
--- What a record tells, after the records J: an acceptance first.
+-- What a record says, after the records J: an acceptance first.
 abbrev pub told_by : Group → Actor → Record → List Record → List Told
 told_by g (Client c) r J =
     let before = state_after g (Client c) J in

@@ -11,6 +11,7 @@ use Rattle.nz_machine.specs.Events.{read_in}
 abbrev pub Heard : Type 0
 Heard = Option (Actor × Message)
 
+-- What an envelope says: its sender and its message.
 abbrev pub heard_as : Option Envelope → Heard
 heard_as None = None
 heard_as (Some e) = Some (e.from, e.message)

@@ -26,9 +26,11 @@ use Rattle.nz_machine.specs.Events.{Told, Accepted, read_in, told_by}
 
 -- ---- where a parcel comes from
 
+-- Whether two parcels are equal: sender, receiver and bytes.
 abbrev pub parcel_eq : Parcel → Parcel → Bool
 parcel_eq p q = actor_eq p.from q.from && (actor_eq p.to q.to && bytes_eq p.frame q.frame)
 
+-- Whether the record sends the parcel.
 abbrev pub sends_it : Parcel → Record → Bool
 sends_it p r = list_any (parcel_eq p) r.sends
 
@@ -37,7 +39,7 @@ abbrev pub older_or : Option (List Record) → List Record → Option (List Reco
 older_or (Some K) now = Some K
 older_or None now = Some now
 
--- The run up to the first record among whose sends the parcel stands, with that record.
+-- The run up to the first record that sends the parcel, with that record.
 abbrev pub source : Parcel → List Record → Option (List Record)
 source p [] = None
 source p (r ∷ J) = if sends_it p r then older_or (source p J) (r ∷ J) else source p J
@@ -48,6 +50,7 @@ source p (r ∷ J) = if sends_it p r then older_or (source p J) (r ∷ J) else s
 abbrev pub standing_after : Group → ℕ → Id → List Record → Option Standing
 standing_after g p id J = standing_of (state_after g (Proxy p) J) id
 
+-- Whether the proxy has decided the request.
 abbrev pub is_decided : Option Standing → Bool
 is_decided (Some (Decided answer path)) = true
 is_decided (Some (Open replies)) = false
@@ -58,6 +61,7 @@ abbrev pub decision_moment : Group → ℕ → Id → List Record → Option (Li
 decision_moment g p id [] = None
 decision_moment g p id (r ∷ J) = if is_decided (standing_after g p id (r ∷ J)) then older_or (decision_moment g p id J) (r ∷ J) else None
 
+-- The replies that are noted while a request is open.
 abbrev pub replies_of : Option Standing → List Reply
 replies_of (Some (Open replies)) = replies
 replies_of (Some (Decided answer path)) = []
@@ -69,15 +73,17 @@ reply_in id (Replica r) (FastReply b) = if id_eq b.id id then Some (of_fast r b)
 reply_in id (Replica r) (SlowReply b) = if id_eq b.id id then Some (of_slow r b) else None
 reply_in id _ _ = None
 
+-- The reply to this request in what a proxy reads.
 abbrev pub reply_read : Id → Option Envelope → Option Reply
 reply_read id None = None
 reply_read id (Some e) = reply_in id e.from e.message
 
+-- The replies with one more noted, if there is one.
 abbrev pub with_reply : List Reply → Option Reply → List Reply
 with_reply replies None = replies
 with_reply replies (Some reply) = with_note replies reply
 
--- The replies that stood when the last record of the run was handled.
+-- The replies noted for the request, the last record's included.
 abbrev pub replies_at_last : Group → ℕ → Id → List Record → List Reply
 replies_at_last g p id [] = []
 replies_at_last g p id (r ∷ J) = with_reply (replies_of (standing_after g p id J)) (reply_read id (read_in g (Proxy p) r.event))
@@ -94,6 +100,7 @@ noting_moment g p id reply (r ∷ J) =
 
 -- ---- the accepted prefix
 
+-- The parcel that an event delivers whole.
 abbrev pub parcel_in : Event → Option Parcel
 parcel_in (Deliver p) = Some p
 parcel_in (Cut p kept) = None
@@ -107,11 +114,13 @@ abbrev pub delivered : List Record → Option Parcel
 delivered [] = None
 delivered (r ∷ J) = parcel_in r.event
 
+-- The log of a replica after the records. Other actors have none.
 abbrev pub log_at : Group → Actor → List Record → List Entry
 log_at g (Replica m) J = (state_after g (Replica m) J).log.entries
 log_at g (Proxy p) J = []
 log_at g (Client c) J = []
 
+-- The entries up to and with the one at a place, none where there is no place.
 abbrev pub cut_at : Option ℕ → List Entry → List Entry
 cut_at None log = []
 cut_at (Some place) log = take (suc place) log
@@ -155,6 +164,7 @@ prefix_at_source g id at = cut_after id (log_at g at.sender at.run)
 abbrev pub accepted_prefix : Group → Id → Parcel → List Record → Option (List Entry)
 accepted_prefix g id p J = option_map (prefix_at_source g id) (accepted_source g id p J)
 
+-- The entries, none where there are none.
 abbrev pub entries_or : Option (List Entry) → List Entry
 entries_or None = []
 entries_or (Some es) = es
@@ -164,6 +174,7 @@ abbrev pub prefix_in : Group → List Told → Event → List Record → List En
 prefix_in g (Accepted id answer path ∷ told) (Deliver p) J = entries_or (accepted_prefix g id p J)
 prefix_in g _ _ J = []
 
+-- The longer of two lists, the old one where they are equally long.
 abbrev pub longer : List Entry → List Entry → List Entry
 longer old new = if nat_lt (length old) (length new) then new else old
 

@@ -31,6 +31,7 @@ abbrev pub executed_from : List Entry → ℕ → List Entry → List Executed
 executed_from H place [] = []
 executed_from H place (e ∷ es) = answered e (reply (commands H) place) ++ executed_from H (suc place) es
 
+-- All entries of the history, each with its answer.
 abbrev pub executed : List Entry → List Executed
 executed H = executed_from H 0 H
 

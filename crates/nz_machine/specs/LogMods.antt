@@ -43,6 +43,7 @@ log_mods_to_others f me s = map (log_mod_to s) (others f me)
 
 -- ---- how a follower takes it
 
+-- How many entries are synced, for the leader.
 abbrev pub sync_report_to : ℕ → ReplicaData → Out
 sync_report_to leader s = (Replica leader, SyncReport (record { view = s.view; synced = s.log.synced }))
 
@@ -76,6 +77,7 @@ synced_with s e =
       late = without (s.late ++ displaced s.log e) (id_of e.key);
     }
 
+-- What follows where the entry was found, and what is answered where it was not.
 abbrev pub if_found : Option Entry → ReplicaData × List Key → (Entry → ReplicaData × List Key) → ReplicaData × List Key
 if_found None missing next = missing
 if_found (Some e) missing next = next e
@@ -93,6 +95,7 @@ sync_keys s (key ∷ keys) =
 abbrev pub is_early_yet : ReplicaData → Entry → Bool
 is_early_yet s e = is_above_last (keys_of s.log.entries) e.key
 
+-- Early entries that are not above the log's last go to late.
 abbrev pub overtaken : ReplicaData → ReplicaData
 overtaken s =
     record s {
@@ -113,12 +116,13 @@ replies_since s count =
 abbrev pub missing_ids : ReplicaData → List Key → List Id
 missing_ids s keys = filter (λ id. not (is_held s id)) (map id_of keys)
 
+-- A fetch of the ids from the leader, if there are any.
 abbrev pub fetch_from : ℕ → ReplicaData → List Id → List Out
 fetch_from leader s [] = []
 fetch_from leader s (id ∷ ids) = (Replica leader, Fetch (record { view = s.view; ids = id ∷ ids })) ∷ []
 
--- What follows once the keys were taken: the state before, the leader, what it committed, and the state after
--- with the keys from the first missing one on.
+-- The end of the rule, after `sync_keys`. Its arguments are the state before, the leader, its commit, and the result
+-- of `sync_keys`.
 abbrev pub taken_in : ReplicaData → ℕ → ℕ → ReplicaData × List Key → ReplicaData × List Out
 taken_in before leader commit (s, missing) =
     let after = committed_to (overtaken s) commit in
@@ -148,6 +152,7 @@ log_mod_rule f me s sender b =
 
 -- ---- fetches
 
+-- Whether a fetch asks for the entry.
 abbrev pub is_asked : List Id → Entry → Bool
 is_asked ids e = list_any (λ id. id_eq id (id_of e.key)) ids
 
@@ -162,10 +167,12 @@ fetch_rule f me s sender b =
 abbrev pub kept_late : ReplicaData → Entry → ReplicaData
 kept_late s e = if is_held s (id_of e.key) || is_full s then s else record s { late = s.late ++ e ∷ [] }
 
+-- The entries in turn, each kept in late where it may be.
 unfoldable pub kept_all : ReplicaData → List Entry → ReplicaData
 kept_all s [] = s
 kept_all s (e ∷ es) = kept_all (kept_late s e) es
 
+-- A follower keeps in late what its leader sends.
 unfoldable pub fetch_reply_rule : ℕ → ℕ → ReplicaData → ℕ → FetchReplyBody → ReplicaData × List Out
 fetch_reply_rule f me s sender b =
     if hears_leader f me s b.view sender
@@ -174,6 +181,7 @@ fetch_reply_rule f me s sender b =
 
 -- ---- sync reports
 
+-- The replica's report is noted, where it is greater than the one before.
 abbrev pub with_ack : ReplicaData → ℕ → ℕ → ReplicaData
 with_ack s sender synced = record s { ack = slice_set s.ack sender (max (slice_index s.ack sender) synced) }
 
@@ -181,6 +189,7 @@ with_ack s sender synced = record s { ack = slice_set s.ack sender (max (slice_i
 abbrev pub reported : ℕ → ℕ → List ℕ → ℕ
 reported f me ack = slice_index (in_order (map (slice_index ack) (others f me))) f
 
+-- The commit rises to what f others report.
 abbrev pub with_commit : ℕ → ℕ → ReplicaData → ReplicaData
 with_commit f me s = record s { commit = max s.commit (reported f me s.ack) }
 

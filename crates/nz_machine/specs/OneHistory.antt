@@ -25,12 +25,12 @@ use Rattle.nz_machine.specs.World.{Has}
 use Rattle.nz_machine.specs.Events.{Told, Sent, Accepted, told_by}
 use Rattle.nz_machine.specs.History.{log_at, cut_after, accepted_prefix}
 
--- x stands before y.
+-- x comes before y.
 abbrev pub Precedes : {X : Type 0} → List X → X → X → Type 0
 Precedes [] x y = ⊥
 Precedes (z ∷ zs) x y = ((z ≡ x) × Has zs y) ⊎ Precedes zs x y
 
--- The entry of a stands before that of b.
+-- The entry of a comes before that of b.
 pub record StandsBefore (H : List Entry) (a b : Id) : Type 0 where
   pub first : ℕ
   pub second : ℕ
@@ -84,6 +84,7 @@ pub record RepliesOver (g : Group) (r : Record) (J : List Record) (keys : List E
   pub sent : Has r.sends (parcel r.actor (to, FastReply body))
   pub over : keys ≡ map entry_key (cut_after body.id (log_at g r.actor (r ∷ J)))
 
+-- Some record of the run sends a fast reply over these keys.
 abbrev pub HasReplyOver : Group → List Record → List EntryKey → Type 0
 HasReplyOver g [] keys = ⊥
 HasReplyOver g (r ∷ J) keys = RepliesOver g r J keys ⊎ HasReplyOver g J keys

@@ -19,16 +19,19 @@ use Rattle.nz_machine.specs.State.{ProxyData, Standing, Open, Decided, Out}
 use Rattle.nz_machine.specs.Replicas.{last_clock, numbers_below}
 use Rattle.nz_machine.specs.Quorums.{Chosen, decision, answer_in, with_note}
 
--- Behind the bound on the delay, in clock units.
+-- Added to the bound on the delay, in clock units.
 abbrev pub margin : ℕ
 margin = 500
 
+-- What is known of the request is this.
 abbrev pub with_standing : ProxyData → Id → Standing → ProxyData
 with_standing s id standing = record s { standings = insert_entry id_eq s.standings id standing }
 
+-- What is known of a request.
 abbrev pub standing_of : ProxyData → Id → Option Standing
 standing_of s id = lookup (id_eq id) s.standings
 
+-- The answer to a request, for its client.
 abbrev pub answer_to : Id → Answer → Path → Out
 answer_to id answer path = (Client id.client, Answered (record { num = id.num; answer = answer; path = path }))
 
@@ -38,14 +41,17 @@ answer_to id answer path = (Client id.client, Answered (record { num = id.num; a
 abbrev pub timed_to : ProxyData → Id → List ℕ → ℕ → Out
 timed_to s id command replica = (Replica replica, Timed (record { sent = s.clock; deadline = s.clock + bound_of s.samples + margin; id = id; command = command }))
 
+-- The stamped request, to each replica.
 abbrev pub timed_to_all : ℕ → ProxyData → Id → List ℕ → List Out
 timed_to_all f s id command = map (timed_to s id command) (numbers_below (replica_count f))
 
+-- An unknown request is opened and stamped, and an open one is stamped again. A decided one is answered again.
 abbrev pub stamped : ℕ → ProxyData → Id → List ℕ → Option Standing → ProxyData × List Out
 stamped f s id command None = (with_standing s id (Open []), timed_to_all f s id command)
 stamped f s id command (Some (Open replies)) = (s, timed_to_all f s id command)
 stamped f s id command (Some (Decided answer path)) = (s, answer_to id answer path ∷ [])
 
+-- A client asks: its request is stamped, or answered again.
 unfoldable pub stamp_rule : ℕ → ProxyData → ℕ → RequestBody → ProxyData × List Out
 stamp_rule f s client b = let id : Id = record { client = client; num = b.num } in stamped f s id b.command (standing_of s id)
 
@@ -56,6 +62,7 @@ abbrev pub answered : ProxyData → Id → List Reply → Path → Option Answer
 answered s id replies path None = (with_standing s id (Open replies), [])
 answered s id replies path (Some answer) = (with_standing s id (Decided answer path), answer_to id answer path ∷ [])
 
+-- The replies are kept, or the decision that they give.
 abbrev pub decided_as : ProxyData → Id → List Reply → Option Chosen → ProxyData × List Out
 decided_as s id replies None = (with_standing s id (Open replies), [])
 decided_as s id replies (Some chosen) = answered s id replies chosen.path (answer_in chosen.reply)
@@ -70,17 +77,21 @@ noted_in f s id reply (Some (Open replies)) = let noted = with_note replies repl
 unfoldable pub reply_rule : ℕ → ProxyData → ℕ → Id → ℕ → Reply → ProxyData × List Out
 reply_rule f s replica id delay reply = noted_in f (record s { samples = sampled s.samples replica delay }) id reply (standing_of s id)
 
+-- A fast reply as it is noted.
 abbrev pub of_fast : ℕ → FastReplyBody → Reply
 of_fast replica b = Fast replica b.view b.digest b.vector b.answer
 
+-- A slow reply as it is noted.
 abbrev pub of_slow : ℕ → SlowReplyBody → Reply
 of_slow replica b = Slow replica b.view
 
 -- ---- ticks, crashes and restarts
 
+-- The clock becomes the reading.
 unfoldable pub clock_rule : ProxyData → ℕ → ProxyData
 clock_rule s clock = record s { clock = min clock last_clock }
 
+-- The state at the start.
 abbrev pub first_proxy : ℕ → ProxyData
 first_proxy f = record { is_down = false; clock = 0; samples = replicate (replica_count f) []; standings = [] }
 
@@ -88,5 +99,6 @@ first_proxy f = record { is_down = false; clock = 0; samples = replicate (replic
 abbrev pub crashed_proxy : ℕ → ProxyData
 crashed_proxy f = record (first_proxy f) { is_down = true }
 
+-- A proxy that is down comes back as it was at the start. Any other stays as it is.
 abbrev pub restarted_proxy : ℕ → ProxyData → ProxyData
 restarted_proxy f s = if s.is_down then first_proxy f else s

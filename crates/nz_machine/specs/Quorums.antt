@@ -12,6 +12,7 @@ use Rattle.nz_msg.specs.declared.message.Path.TheVariants as paths
 use Rattle.nz_machine.specs.declared.reply.Reply.{Reply}
 use Rattle.nz_machine.specs.declared.reply.Reply.TheVariants.{Fast, Slow}
 
+-- The view of a reply.
 abbrev pub view_of : Reply → ℕ
 view_of (Fast replica view digest vector answer) = view
 view_of (Slow replica view) = view
@@ -31,12 +32,12 @@ abbrev pub agrees_of : ℕ → List ℕ → List ℕ → ℕ → Reply → Bool
 agrees_of view digest vector replica (Fast r v d u answer) = (r == replica) && ((v == view) && (bytes_eq d digest && bytes_eq u vector))
 agrees_of view digest vector replica (Slow r v) = (r == replica) && (v == view)
 
--- Whether a replica stands with this reply of a leader in a slow quorum: it is the leader, or replied slowly.
+-- Whether a replica supports this reply of a leader in a slow quorum: it is the leader, or replied slowly.
 abbrev pub stands_slowly : ℕ → List Reply → Reply → ℕ → Bool
 stands_slowly f replies (Fast r view digest vector answer) replica = (replica == leader_of f view) || list_any (is_slow_of view replica) replies
 stands_slowly f replies (Slow r view) replica = false
 
--- Whether a replica stands with it in a fast quorum: it is the leader, or agrees.
+-- Whether a replica supports it in a fast quorum: it is the leader, or agrees.
 abbrev pub stands_fast : ℕ → List Reply → Reply → ℕ → Bool
 stands_fast f replies (Fast r view digest vector answer) replica = (replica == leader_of f view) || list_any (agrees_of view digest vector replica) replies
 stands_fast f replies (Slow r view) replica = false
@@ -61,9 +62,11 @@ abbrev pub first_of_least_view : List Reply → Option Reply
 first_of_least_view [] = None
 first_of_least_view (reply ∷ replies) = Some (of_lesser_view reply (first_of_least_view replies))
 
+-- The leader's reply that decides fast: the first of the least view that has a fast quorum.
 abbrev pub fast_lead : ℕ → List Reply → Option Reply
 fast_lead f replies = first_of_least_view (filter (has_fast_quorum f replies) replies)
 
+-- The same of slow quorums.
 abbrev pub slow_lead : ℕ → List Reply → Option Reply
 slow_lead f replies = first_of_least_view (filter (has_slow_quorum f replies) replies)
 
@@ -72,10 +75,12 @@ pub record Chosen : Type 0 where
   pub path : Path
   pub reply : Reply
 
+-- The slow decision by this reply, if there is one.
 abbrev pub slow_or_none : Option Reply → Option Chosen
 slow_or_none None = None
 slow_or_none (Some reply) = Some (record { path = paths.Slow; reply = reply })
 
+-- The fast decision by the first reply, if there is one, else the other decision.
 abbrev pub fast_or : Option Reply → Option Chosen → Option Chosen
 fast_or None slow = slow
 fast_or (Some reply) slow = Some (record { path = paths.Fast; reply = reply })
@@ -91,6 +96,7 @@ answer_in (Slow replica view) = None
 
 -- ---- noting
 
+-- Whether two answers are equal.
 abbrev pub answer_eq : Answer → Answer → Bool
 answer_eq Done Done = true
 answer_eq (Value x) (Value y) = bytes_eq x y
@@ -98,6 +104,7 @@ answer_eq Absent Absent = true
 answer_eq Differs Differs = true
 answer_eq _ _ = false
 
+-- Whether two replies are equal, in all their fields.
 abbrev pub reply_eq : Reply → Reply → Bool
 reply_eq (Fast r v d u a) (Fast s w e x b) = (r == s) && ((v == w) && (bytes_eq d e && (bytes_eq u x && option_eq answer_eq a b)))
 reply_eq (Slow r v) (Slow s w) = (r == s) && (v == w)

@@ -76,7 +76,7 @@ state_ask_rule f me s sender b =
     then unless_stray me s sender b.vector (λ t. (t, to_replica sender (state_tell t b.nonce)))
     else (s, [])
 
--- ---- where a rejoin stands
+-- ---- how far a rejoin is
 
 -- Whether two phases are the same.
 abbrev pub is_phase : Phase → Phase → Bool
@@ -89,7 +89,7 @@ is_phase _ _ = false
 abbrev pub awaits : Phase → ReplicaData → ℕ → Bool
 awaits phase s nonce = is_rejoining s.status && (is_phase s.rejoin.phase phase && (nonce == s.rejoin.nonce))
 
--- Whether so many make a quorum: f + 1 at least.
+-- Whether this many make a quorum: f + 1 at least.
 abbrev pub is_enough : ℕ → ℕ → Bool
 is_enough f count = nat_le (slow_size f) count
 

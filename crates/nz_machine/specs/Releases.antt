@@ -29,6 +29,7 @@ released f me s e rest =
       early = rest;
     }
 
+-- Whether the log may have one more entry.
 abbrev pub has_room : ReplicaData → Bool
 has_room s = nat_lt (length s.log.entries) most_entries
 
@@ -54,9 +55,11 @@ releases f me s (e ∷ es) =
     (rest.0, release_replies f me next e ++ rest.1))
     else (s, [])
 
+-- The clock becomes the reading, and stops at its limit.
 abbrev pub at_clock : ReplicaData → ℕ → ReplicaData
 at_clock s clock = record s { clock = min clock last_clock }
 
+-- The clock is set, and in normal operation what is due is released.
 unfoldable pub release_rule : ℕ → ℕ → ReplicaData → ℕ → ReplicaData × List Out
 release_rule f me s clock =
     let now = at_clock s clock in

@@ -1,4 +1,4 @@
--- Words on a replica's state that its rules share.
+-- Definitions that several rules of a replica use.
 use Rattle.std.specs.Prelude.{ℕ, zero, suc, ◌-◌, ◌^◌, Bool, true, false, not, ◌&&◌, List, [], ◌∷◌, ◌++◌, replicate, map, filter, Option, Some, None, ◌==◌, if◌then◌else◌, slice_get}
 use Rattle.nz_base.specs.Cluster.{replica_count, leader_of}
 use Rattle.nz_base.specs.declared.actor.Actor.TheVariants.{Replica, Proxy}
@@ -106,6 +106,7 @@ to_replica r m = (Replica r, m) ∷ []
 abbrev pub commands : List Entry → List (List ℕ)
 commands entries = map (λ e. e.command) entries
 
+-- The key of a request with this deadline.
 abbrev pub key_at : ℕ → Id → Key
 key_at deadline id = record { deadline = deadline; client = id.client; num = id.num }
 
@@ -113,6 +114,7 @@ key_at deadline id = record { deadline = deadline; client = id.client; num = id.
 abbrev pub answer_at : ℕ → ℕ → ReplicaData → ℕ → Option Answer
 answer_at f me s place = if leads f me s then slice_get s.results place else None
 
+-- A fast reply for the entry at a place: the digest of the log up to there, and at the leader the answer.
 abbrev pub fast_reply : ℕ → ℕ → ReplicaData → Id → ℕ → Origin → Out
 fast_reply f me s id place origin = (
   Proxy origin.proxy,
@@ -126,6 +128,7 @@ fast_reply f me s id place origin = (
   }),
 )
 
+-- A slow reply to a request.
 abbrev pub slow_reply : ReplicaData → Id → Origin → Out
 slow_reply s id origin = (Proxy origin.proxy, SlowReply (record { view = s.view; id = id; delay = origin.delay }))
 
@@ -134,6 +137,7 @@ abbrev pub fast_replies : ℕ → ℕ → ReplicaData → Id → ℕ → Option 
 fast_replies f me s id place None = []
 fast_replies f me s id place (Some origin) = fast_reply f me s id place origin ∷ []
 
+-- A slow reply to where the request came from, if that is known.
 abbrev pub slow_replies : ReplicaData → Id → Option Origin → List Out
 slow_replies s id None = []
 slow_replies s id (Some origin) = slow_reply s id origin ∷ []

@@ -19,9 +19,11 @@ longest_delay = 10000
 
 -- ---- where the request came from
 
+-- Where a request came from: the proxy, and how long it was on its way.
 abbrev pub origin_of : ReplicaData → ℕ → TimedBody → Origin
 origin_of s proxy b = record { proxy = proxy; delay = min (s.clock - b.sent) longest_delay }
 
+-- The request's origin is noted, in place of an earlier one.
 abbrev pub with_origin : ReplicaData → ℕ → TimedBody → ReplicaData
 with_origin s proxy b = record s { origin = insert_entry id_eq s.origin b.id (origin_of s proxy b) }
 
@@ -43,6 +45,7 @@ to_early s e = record s { early = insert_by_key s.early e; late = without s.late
 abbrev pub to_late : ReplicaData → Entry → ReplicaData
 to_late s e = if has_id (keys_of s.late) (id_of e.key) then s else record s { late = s.late ++ e ∷ [] }
 
+-- The request as an entry with this deadline.
 abbrev pub entry_at : ℕ → TimedBody → Entry
 entry_at deadline b = record { key = key_at deadline b.id; command = b.command }
 
@@ -67,15 +70,18 @@ placed f me s b =
 abbrev pub is_full : ReplicaData → Bool
 is_full s = nat_le most_entries (length s.log.entries + length s.early + length s.late)
 
+-- A request that is early already, or finds no room, changes nothing. Any other is placed.
 abbrev pub unlogged : ℕ → ℕ → ReplicaData → TimedBody → ReplicaData
 unlogged f me s b = if has_id (keys_of s.early) b.id then s else (if is_full s then s else placed f me s b)
 
 -- ---- the rule
 
+-- A request that the log has, at this place, is replied to. Any other goes to a buffer.
 abbrev pub requested : ℕ → ℕ → ReplicaData → TimedBody → Option ℕ → ReplicaData × List Out
 requested f me s b (Some place) = (s, replies_at f me s b.id place)
 requested f me s b None = (unlogged f me s b, [])
 
+-- In normal operation the origin is noted, and the request is replied to or goes to a buffer.
 unfoldable pub request_rule : ℕ → ℕ → ReplicaData → ℕ → TimedBody → ReplicaData × List Out
 request_rule f me s proxy b =
     if is_normal s.status then requested f me (with_origin s proxy b) b (place_of s.log.entries b.id)

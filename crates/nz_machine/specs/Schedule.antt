@@ -24,11 +24,13 @@ use Rattle.nz_machine.specs.World.{IsGroup, IsMember}
 abbrev pub group_of : Scenario → Group
 group_of s = record { f = s.cluster; proxies = s.proxies; window = s.window; scripts = s.scripts }
 
+-- An event of an actor.
 abbrev pub item : Actor → Event → Item
 item a e = record { actor = a; event = e }
 
 -- ---- crashes, restarts and alarms
 
+-- The item, if its tick is this one.
 abbrev pub if_in : ℕ → ℕ → Item → List Item
 if_in tick t i = if t == tick then i ∷ [] else []
 
@@ -43,7 +45,7 @@ calls tick restarts (_ ∷ lines) = calls tick restarts lines
 
 -- ---- clocks
 
--- A clock that is so many units fast, or slow. None reads less than 0.
+-- The units of a clock that is fast or slow by this many. None reads less than 0.
 abbrev pub shifted : ℕ → ℤ → ℕ
 shifted units (pos n) = units + n
 shifted units (negsuc n) = units - suc n
@@ -61,6 +63,7 @@ clock_at s tick a = min (shifted (1000 * tick) (skew_of a s.skews)) last_clock
 abbrev pub actors_of : Scenario → List Actor
 actors_of s = map Replica (numbers_below (replica_count s.cluster)) ++ (map Proxy (numbers_below s.proxies) ++ map Client (numbers_below s.clients))
 
+-- The clock of an actor in a tick.
 abbrev pub tick_item : Scenario → ℕ → Actor → Item
 tick_item s tick a = item a (Tick (clock_at s tick a))
 
@@ -71,6 +74,7 @@ pub record Delivery : Type 0 where
   pub tick : ℕ
   pub kept : Option ℕ
 
+-- The whole parcel comes in this tick.
 abbrev pub whole_in : ℕ → Delivery
 whole_in tick = record { tick = tick; kept = None }
 
@@ -87,11 +91,12 @@ abbrev pub repeated : ℕ → List Delivery → List Delivery
 repeated by [] = []
 repeated by (d ∷ ds) = d ∷ (ds ++ whole_in (d.tick + by) ∷ [])
 
--- Of the first delivery so many bytes come, and never all of them.
+-- Of the first delivery this many bytes come, and never all of them.
 abbrev pub cut_short : ℕ → ℕ → List Delivery → List Delivery
 cut_short keep len [] = []
 cut_short keep len (d ∷ ds) = record d { kept = Some (min keep (len - 1)) } ∷ ds
 
+-- The kind in a frame that is not refused.
 abbrev pub kind_if : List ℕ → Option FrameRefusal → Option ℕ
 kind_if frame None = Some (slice_index frame 5)
 kind_if frame (Some refusal) = None
@@ -100,6 +105,7 @@ kind_if frame (Some refusal) = None
 abbrev pub kind_of : List ℕ → Option ℕ
 kind_of frame = kind_if frame (refusal frame)
 
+-- Whether a kind is the one that a fault line names.
 abbrev pub has_kind : ℕ → Option ℕ → Bool
 has_kind kind None = false
 has_kind kind (Some k) = k == kind
@@ -139,10 +145,12 @@ faulted_by tick earlier p (line ∷ lines) ds = faulted_by tick earlier p lines 
 abbrev pub deliveries : Scenario → ℕ → List Parcel → Parcel → List Delivery
 deliveries s tick earlier p = faulted_by tick earlier p s.faults (whole_in (tick + 1) ∷ [])
 
+-- A parcel comes whole, or this many bytes of it.
 abbrev pub coming : Parcel → Option ℕ → Event
 coming p None = Deliver p
 coming p (Some kept) = Cut p kept
 
+-- The delivery as an event of the receiver.
 abbrev pub delivery_item : Parcel → Delivery → Item
 delivery_item p d = item p.to (coming p d.kept)
 
@@ -155,6 +163,7 @@ pub record Posted : Type 0 where
   pub tick : ℕ
   pub parcel : Parcel
 
+-- The parcel, sent in this tick.
 abbrev pub posted_in : ℕ → Parcel → Posted
 posted_in tick p = record { tick = tick; parcel = p }
 
@@ -175,10 +184,11 @@ arrivals s tick earlier (x ∷ xs) = due_of tick x.parcel (deliveries s x.tick e
 abbrev pub due : Scenario → ℕ → List Record → List Item
 due s tick J = calls tick 0 s.faults ++ (map (tick_item s tick) (actors_of s) ++ arrivals s tick [] (posted J))
 
+-- What a record is of: its actor and its event.
 abbrev pub item_of : Record → Item
 item_of r = item r.actor r.event
 
--- The records of a tick, the newest first, stand before those of the ticks before, and are what is due in its order.
+-- The records of a tick, the newest first, come before those of earlier ticks. They are what is due, in its order.
 pub record IsTick (s : Scenario) (tick : ℕ) (now older J : List Record) : Type 0 where
   pub whole : J ≡ now ++ older
   pub here : AllByRecursion (λ r. r.tick ≡ tick) now
@@ -195,14 +205,16 @@ abbrev pub InOrderTo : Scenario → ℕ → List Record → Type 0
 InOrderTo s zero J = J ≡ []
 InOrderTo s (suc tick) J = (now : List Record) × ((older : List Record) × (IsTick s (suc tick) now older J × InOrderTo s tick older))
 
--- The same, but those of a tick stand in any order.
+-- The same, but those of a tick are in any order.
 abbrev pub ScheduledTo : Scenario → ℕ → List Record → Type 0
 ScheduledTo s zero J = J ≡ []
 ScheduledTo s (suc tick) J = (now : List Record) × ((older : List Record) × (IsTickInSomeOrder s (suc tick) now older J × ScheduledTo s tick older))
 
+-- The run has all ticks of the scenario, each in its order.
 abbrev pub InOrder : Scenario → List Record → Type 0
 InOrder s J = InOrderTo s s.ticks J
 
+-- The run has all ticks of the scenario, each in some order.
 abbrev pub Scheduled : Scenario → List Record → Type 0
 Scheduled s J = ScheduledTo s s.ticks J
 

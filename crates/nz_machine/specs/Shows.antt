@@ -165,12 +165,14 @@ pub record ShowsVectorAsk (f me : ℕ) (s : ReplicaData) (to : Actor) (b : Vecto
   pub receiver : IsOther f me to
   pub read : b ≡ record { nonce = s.rejoin.nonce }
 
+-- A rejoin-ask: the replica rejoins, in the second phase, with its nonce and its vector.
 pub record ShowsRejoinAsk (f me : ℕ) (s : ReplicaData) (to : Actor) (b : RejoinAskBody) : Type 0 where
   pub rejoining : is_rejoining s.status ≡ true
   pub in_phase : is_phase s.rejoin.phase phases.Views ≡ true
   pub receiver : IsOther f me to
   pub read : b ≡ record { nonce = s.rejoin.nonce; vector = s.vector }
 
+-- A state-ask: the replica rejoins, in the third phase, and asks the leader of the view that it wants.
 pub record ShowsStateAsk (f me : ℕ) (s : ReplicaData) (to : Actor) (b : StateAskBody) : Type 0 where
   pub rejoining : is_rejoining s.status ≡ true
   pub in_phase : is_phase s.rejoin.phase phases.Log ≡ true
@@ -197,6 +199,7 @@ pub record ShowsRejoinTell (f me : ℕ) (heard : Heard) (before s : ReplicaData)
   pub taken : s.vector ≡ merged before.vector ask.vector me
   pub read : b ≡ record { nonce = ask.nonce; view = s.view; vector = s.vector }
 
+-- A state-tell: the leader of its view answers the state-ask that it just heard, with its commit and log.
 pub record ShowsStateTell (f me : ℕ) (heard : Heard) (before s : ReplicaData) (to : Actor) (b : StateTellBody) : Type 0 where
   pub normal : is_normal s.status ≡ true
   pub led : leads f me s ≡ true
@@ -251,6 +254,7 @@ pub record ShowsAnswer (s : ProxyData) (to : Actor) (b : AnswerBody) : Type 0 wh
   pub decided : standing_of s (id_at client b.num) ≡ Some (Decided b.answer b.path)
   pub to_client : to ≡ Client client
 
+-- What a proxy's message shows, by its kind.
 abbrev pub ProxyShows : ℕ → Heard → ProxyData → Actor → Message → Type 0
 ProxyShows f heard s to (messages.Timed b) = ShowsTimed f heard s to b
 ProxyShows f heard s to (messages.Answer b) = ShowsAnswer s to b
@@ -268,6 +272,7 @@ pub record ShowsRequest (proxies : ℕ) (script : List Request) (s : ClientData)
   pub own : slice_get script (b.num - 1) ≡ Some request
   pub command : b.command ≡ request.command
 
+-- What a client's message shows: only requests are sent.
 abbrev pub ClientShows : ℕ → List Request → ClientData → Actor → Message → Type 0
 ClientShows proxies script s to (messages.Request b) = ShowsRequest proxies script s to b
 ClientShows proxies script s to _ = ⊥

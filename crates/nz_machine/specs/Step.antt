@@ -1,4 +1,4 @@
--- One step of an actor: which rule an event comes to.
+-- One step of an actor: which rule handles an event.
 use Rattle.std.specs.Prelude.{ℕ, Bool, true, ◌&&◌, not, ◌==◌, List, [], length, map, Option, Some, None, Result, Ok, Err, nat_lt, if◌then◌else◌, slice_index_or}
 use Rattle.nz_base.specs.Actor.{actor_eq}
 use Rattle.nz_base.specs.Cluster.{replica_count}
@@ -27,9 +27,11 @@ use Rattle.nz_machine.specs.Rejoining.{crash_rule, restart_rule, vector_ask_rule
 use Rattle.nz_machine.specs.Proxies.{first_proxy, stamp_rule, reply_rule, of_fast, of_slow, clock_rule, crashed_proxy, restarted_proxy}
 use Rattle.nz_machine.specs.Clients.{first_client, wait_rule, accept_rule}
 
+-- The requests of a client.
 abbrev pub script_of : Group → ℕ → List Request
 script_of g c = slice_index_or g.scripts c []
 
+-- What an actor starts with.
 abbrev pub first : Group → (a : Actor) → State a
 first g (Replica r) = first_replica g.f
 first g (Proxy p) = first_proxy g.f
@@ -73,6 +75,7 @@ is_sized f (Some vector) = length vector == replica_count f
 abbrev pub is_for : Actor → Parcel → Envelope → Bool
 is_for me p e = actor_eq e.from p.from && (actor_eq e.to p.to && (actor_eq e.to me && not (actor_eq e.from me)))
 
+-- What was decoded, if it is for this actor.
 abbrev pub heard_if : Actor → Parcel → Result Envelope DecodeRefusal → Option Envelope
 heard_if me p (Err refusal) = None
 heard_if me p (Ok e) = if is_for me p e then Some e else None
@@ -86,11 +89,13 @@ abbrev pub counted : ℕ → Option Envelope → Option Envelope
 counted f None = None
 counted f (Some e) = if is_in_cluster f e.from && is_sized f (vector_of e.message) then Some e else None
 
+-- What this actor reads of a parcel, where it counts.
 abbrev pub received : ℕ → Actor → Parcel → Option Envelope
 received f me p = counted f (heard me p)
 
 -- ---- which rule
 
+-- The rule of a replica for a message, by its kind and the kind of its sender. Any other changes nothing.
 abbrev pub replica_message : ℕ → ℕ → ReplicaData → Actor → Message → ReplicaData × List Out
 replica_message f me s (Proxy p) (messages.Timed b) = request_rule f me s p b
 replica_message f me s (Replica r) (messages.LogMod b) = log_mod_rule f me s r b
@@ -108,12 +113,14 @@ replica_message f me s (Replica r) (messages.StateAsk b) = state_ask_rule f me s
 replica_message f me s (Replica r) (messages.StateTell b) = state_tell_rule f me s r b
 replica_message f me s _ _ = (s, [])
 
+-- The rule of a proxy for a message.
 abbrev pub proxy_message : ℕ → ProxyData → Actor → Message → ProxyData × List Out
 proxy_message f s (Client c) (messages.Request b) = stamp_rule f s c b
 proxy_message f s (Replica r) (messages.FastReply b) = reply_rule f s r b.id b.delay (of_fast r b)
 proxy_message f s (Replica r) (messages.SlowReply b) = reply_rule f s r b.id b.delay (of_slow r b)
 proxy_message f s _ _ = (s, [])
 
+-- The rule of a client for a message: it hears answers.
 abbrev pub client_message : ℕ → ℕ → ℕ → List Request → ClientData → Actor → Message → ClientData × List Out
 client_message window proxies me script s (Proxy p) (messages.Answer b) = accept_rule window proxies me script s b
 client_message window proxies me script s _ _ = (s, [])
@@ -124,6 +131,7 @@ message_step g (Replica r) s from m = if is_down s.status then (s, []) else repl
 message_step g (Proxy p) s from m = if s.is_down then (s, []) else proxy_message g.f s from m
 message_step g (Client c) s from m = client_message g.window g.proxies c (script_of g c) s from m
 
+-- The step on what was read. Where nothing was, nothing changes.
 abbrev pub envelope_step : Group → (a : Actor) → State a → Option Envelope → State a × List Out
 envelope_step g a s None = (s, [])
 envelope_step g a s (Some e) = message_step g a s e.from e.message
@@ -173,6 +181,7 @@ event_step g a s Alarm = alarm_step g a s
 event_step g a s Crash = crash_step g a s
 event_step g a s (Restart nonce) = restart_step g a s nonce
 
+-- A message as a parcel: its frame on the way to the receiver.
 abbrev pub parcel : Actor → Out → Parcel
 parcel from o = record { from = from; to = o.0; frame = encode_of from o.0 o.1 }
 
@@ -182,12 +191,15 @@ node_step g a s e = let t = event_step g a s e in (t.0, map (parcel a) t.1)
 
 -- ---- an actor with its state
 
+-- An actor and its state.
 pub record Node : Type 0 where
   pub actor : Actor
   pub state : State actor
 
+-- The node after an event, and the parcels that it sends.
 abbrev pub node_run : Group → Node → Event → Node × List Parcel
 node_run g n e = let t = node_step g n.actor n.state e in (record { actor = n.actor; state = t.0 }, t.1)
 
+-- The node of an actor at the start.
 abbrev pub first_node : Group → Actor → Node
 first_node g a = record { actor = a; state = first g a }

@@ -1,4 +1,4 @@
--- What the code says of the taking of keys, for the parts of a state that it touches.
+-- `sync_keys` on log, early and late alone, as taking.rt computes it.
 use Rattle.std.specs.Prelude.{Bool, not, ◌&&◌, nat_lt, List, [], ◌∷◌, Option, length}
 use Rattle.nz_base.specs.declared.key.Id.{Id}
 use Rattle.nz_base.specs.declared.key.Key.{Key}
@@ -27,7 +27,7 @@ may_join log key =
 abbrev pub found_in : Log → List Entry → List Entry → Id → Option Entry
 found_in log early late id = or_else (find_id (unsynced_part log) id) (or_else (find_id early id) (find_id late id))
 
--- What the taking of keys comes to, once it is known what became of the first.
+-- How the taking of keys goes on, once it is known what became of the first.
 abbrev pub after_first : Taken → ReplicaData → Key → List Key → ReplicaData × List Key
 after_first Synced s key keys = sync_keys s keys
 after_first Missing s key keys = (s, key ∷ keys)

@@ -1,4 +1,4 @@
--- What the records of a run show of its clients: how far each is, and what a record tells.
+-- What the records of a run show of its clients: how far each is, and what a record says.
 use Rattle.std.specs.Prelude.{◌≡◌, ℕ, ◌<◌, ◌≤◌, not, ◌==◌, nat_lt, if◌then◌else◌, List, [], ◌∷◌, ◌++◌, length, map, filter, Option, Some, None, Result, Ok, Err, slice_get}
 use Rattle.std.specs.List.{list_any}
 use Rattle.nz_base.specs.declared.actor.Actor.{Actor}
@@ -23,6 +23,7 @@ use Rattle.nz_machine.specs.Events.{Told, Sent, Accepted, id_at, command_at}
 
 -- ---- what a telling means
 
+-- The event of an acceptance, if there is one.
 abbrev pub acceptance_told : Option Acceptance → List Told
 acceptance_told None = []
 acceptance_told (Some a) = Accepted a.id a.answer a.path ∷ []
@@ -31,6 +32,7 @@ acceptance_told (Some a) = Accepted a.id a.answer a.path ∷ []
 abbrev pub request_told : Group → Id → Told
 request_told g id = Sent id (command_at (script_of g id.client) id.num)
 
+-- The events of some requests.
 abbrev pub requests_told : Group → List Id → List Told
 requests_told g ids = map (request_told g) ids
 
@@ -45,9 +47,11 @@ pub record Progress : Type 0 where
   pub sent : ℕ
   pub waiting : List ℕ
 
+-- What is known of a client at the start.
 abbrev pub first_progress : Progress
 first_progress = record { sent = 0; waiting = [] }
 
+-- What of a client's state is kept: how many requests it sent, and the numbers of the open ones.
 abbrev pub progress_of : ClientData → Progress
 progress_of s = record { sent = s.sent; waiting = map (λ (a : Attempt). a.num) s.attempts }
 
@@ -56,7 +60,7 @@ pub record AreAfter (g : Group) (J : List Record) (clients : List Progress) : Ty
   pub count : length clients ≡ length g.scripts
   pub each : (c : ℕ) → c < length g.scripts → slice_get clients c ≡ Some (progress_of (state_after g (Client c) J))
 
--- The actor is none of so many clients.
+-- The actor is none of this many clients.
 abbrev pub IsOther : ℕ → Actor → Type 0
 IsOther count (Client c) = count ≤ c
 IsOther count _ = Unit {0}
@@ -68,6 +72,7 @@ abbrev pub answer_in : ℕ → Progress → Actor → Message → Option Accepta
 answer_in c p (Proxy q) (Answer b) = if list_any (λ num. num == b.num) p.waiting then Some (record { id = id_at c b.num; answer = b.answer; path = b.path }) else None
 answer_in c p _ _ = None
 
+-- The acceptance in what a client reads, if it is one.
 abbrev pub answer_heard : ℕ → Progress → Option Envelope → Option Acceptance
 answer_heard c p None = None
 answer_heard c p (Some e) = answer_in c p e.from e.message
@@ -86,10 +91,12 @@ abbrev pub with_answer : Progress → Option Acceptance → Progress
 with_answer p None = p
 with_answer p (Some a) = record p { waiting = filter (λ num. not (num == a.id.num)) p.waiting }
 
+-- The number of the request in a message.
 abbrev pub num_in : Message → Option ℕ
 num_in (Request b) = Some b.num
 num_in _ = None
 
+-- The same, of a decoded frame.
 abbrev pub num_read : Result Envelope DecodeRefusal → Option ℕ
 num_read (Err refusal) = None
 num_read (Ok e) = num_in e.message
@@ -103,6 +110,7 @@ abbrev pub new_in : ℕ → Progress → Option ℕ → List Id
 new_in c p None = []
 new_in c p (Some num) = if nat_lt p.sent num then id_at c num ∷ [] else []
 
+-- A request of a greater number than all before is new, and open.
 abbrev pub with_num : Progress → Option ℕ → Progress
 with_num p None = p
 with_num p (Some num) = if nat_lt p.sent num then record { sent = num; waiting = p.waiting ++ num ∷ [] } else p
@@ -112,11 +120,12 @@ abbrev pub new_among : ℕ → Progress → List (Option ℕ) → List Id
 new_among c p [] = []
 new_among c p (num ∷ nums) = new_in c p num ++ new_among c (with_num p num) nums
 
+-- The same of several requests in turn.
 abbrev pub with_all : Progress → List (Option ℕ) → Progress
 with_all p [] = p
 with_all p (num ∷ nums) = with_all (with_num p num) nums
 
--- What the record of a client tells, and how far the client is then.
+-- What the record of a client says, and how far the client is then.
 abbrev pub shown : ℕ → Progress → Event → List Parcel → Telling × Progress
 shown c p e sends =
     let accepted = answer_of c p e in

@@ -11,7 +11,7 @@ use Rattle.nz_machine.specs.Replicas.{last_view, is_up, leader, leads, to_others
 abbrev pub most_quiet : ℕ
 most_quiet = 20
 
--- In a view change it asks again each time that so many ticks have passed.
+-- In a view change it asks again each time that this many ticks have passed.
 abbrev pub ask_period : ℕ
 ask_period = 5
 

@@ -1,3 +1,5 @@
+//! Copies of answers.
+
 ghost use Rattle.std.specs.Prelude.{◌≡◌, IfOk};
 
 use nz_base::NoMemory;

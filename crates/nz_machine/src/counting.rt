@@ -1,3 +1,5 @@
+//! Whether a message counts in a cluster.
+
 ghost use Rattle.std.specs.Prelude.{◌≡◌, ◌&&◌};
 ghost use Rattle.std.specs.Option.{option_copied};
 ghost use Rattle.nz_machine.specs.Step.{is_in_cluster, is_sized, vector_of as vector_in};
@@ -6,8 +8,8 @@ use nz_base::{Actor, Cluster};
 use nz_cv::CrashVector;
 use nz_msg::{Envelope, Message};
 
-/// Whether a message counts in a cluster: its sender is of it, and its crash vector, if it has one, has
-/// a counter for each replica.
+/// Whether a message counts: its sender is in the cluster, and its crash vector, if it has one, has a counter for
+/// each replica.
 pub fn is_counted(cluster: Cluster, envelope: &Envelope) -> bool
     ensures { result ≡ (is_in_cluster cluster envelope.now.from && is_sized cluster (vector_in envelope.now.message)) }
 {

@@ -1,8 +1,10 @@
+//! The data of actors' states.
+
 use nz_base::List;
 use nz_cv::CrashVector;
 use nz_merge::Change;
 
-/// What a replica is at. Only one in normal operation takes requests.
+/// A replica's mode. Only one in normal operation takes requests.
 #[derive(Clone, Copy, Debug, PartialEq, Eq)]
 pub enum Status {
     Normal,

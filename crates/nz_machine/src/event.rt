@@ -1,3 +1,5 @@
+//! Parcels, events and records.
+
 use bytes::Bytes;
 use nz_base::{Actor, List, NoMemory, TryCopy};
 use std::alloc::Global;
@@ -15,9 +17,9 @@ pub struct Parcel {
 pub enum Event {
     /// The parcel comes whole.
     Deliver(Parcel),
-    /// So many bytes of the parcel come.
+    /// This many bytes of the parcel come.
     Cut(Parcel, u32),
-    /// The actor's clock reads so many clock units.
+    /// The actor's clock reads this many clock units.
     Tick(u64),
     /// The actor is told that the leader is lost.
     Alarm,

@@ -1,3 +1,5 @@
+//! Items, journals and histories.
+
 use super::event::{Event, RecordList};
 use nz_base::{Actor, Blob, Id, List, Scenario};
 use nz_store::Answer;

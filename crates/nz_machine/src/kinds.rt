@@ -1,3 +1,5 @@
+//! The kind of the message in a frame.
+
 ghost use Rattle.std.specs.Prelude.{◌≡◌};
 ghost use Rattle.nz_machine.specs.Schedule.{kind_of as kind_in};
 

@@ -90,7 +90,7 @@ pub fn take_in(
     Ok(())
 }
 
-/// That frames can carry so many counters.
+/// That frames can carry this many counters.
 fn counters_fit(counters: &[u32])
     requires { IsClusterSize (length counters.now) }
     ensures { vector_field.fits counters.now }

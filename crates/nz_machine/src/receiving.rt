@@ -1,3 +1,5 @@
+//! What an actor reads of a parcel.
+
 ghost use Rattle.std.specs.Prelude.{◌≡◌, ◌≢◌, IfOk, IfSome};
 ghost use Rattle.nz_base.specs.Actor.{HasAddress};
 ghost use Rattle.nz_msg.specs.Messages.{Fits};

@@ -1,3 +1,5 @@
+//! Replies as proxies note them.
+
 use nz_base::List;
 use nz_cv::CrashVector;
 use nz_digest::Digest;

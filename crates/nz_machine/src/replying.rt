@@ -1,3 +1,5 @@
+//! How a replica sends its replies.
+
 ghost use Rattle.std.specs.Prelude.{◌≡◌, ◌<◌, ◌++◌, map, length, OnOk};
 ghost use Rattle.std.specs.Map.{lookup};
 ghost use Rattle.nz_base.specs.Key.{id_eq};

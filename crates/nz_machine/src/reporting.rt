@@ -10,7 +10,7 @@ use nz_base::Cluster;
 /// The most replicas that a cluster has.
 const MOST: usize = 9;
 
-/// Puts what the other replicas report in front, in the order of their numbers. Gives how many they are.
+/// Puts what the other replicas report first, in the order of their numbers. Gives how many they are.
 fn gather(reports: &mut [u32; MOST], me: u8, ack: &[u32]) -> usize
     requires { length ack.now ≤ 9 }
     ensures within { result ≤ 9 }

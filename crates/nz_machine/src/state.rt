@@ -1,3 +1,5 @@
+//! The state of a replica.
+
 ghost use Rattle.std.specs.Prelude.{◌≡◌, ◌<◌, ◌≤◌, ◌+◌, ◌∷◌, ◌++◌, [], List, length, IsTrue, IsFalse, IfOk, IfSome, IfNone, OnOk, OnErr};
 ghost use Rattle.std.specs.Map.{lookup};
 ghost use Rattle.nz_base.specs.Actor.{HasAddress};

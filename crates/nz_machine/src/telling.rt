@@ -40,7 +40,7 @@ pub struct Acceptance {
     pub path: Path,
 }
 
-/// What a record tells: an acceptance, and after it the requests that were sent for the first time.
+/// What a record says: an acceptance, and after it the requests that were sent for the first time.
 #[derive(Debug, Drop)]
 pub struct Telling {
     pub accepted: Option<Acceptance>,
@@ -195,7 +195,7 @@ fn answer_of(
     }
 }
 
-/// What a record of the client tells.
+/// What a record of the client says.
 fn read(
     alloc: Global,
     client: u8,
@@ -241,7 +241,7 @@ impl Clients {
         }
     }
 
-    /// What the next record tells, which is of this client.
+    /// What the next record says, which is of this client.
     fn tell_own(&mut self, alloc: Global, client: u8, next: &Record) -> Result<Telling, NoMemory>
         requires actor { next.now.actor ≡ IsClient client }
         requires there { client < length self.old }
@@ -252,7 +252,7 @@ impl Clients {
         read(alloc, client, &mut self.progress[place], next)
     }
 
-    /// What the next record of a run tells, of which the earlier ones were read.
+    /// What the next record of a run says, of which the earlier ones were read.
     pub fn tell(&mut self, alloc: Global, next: &Record) -> Result<Telling, NoMemory>
         ensures told { IfOk result (λ telling. (g : Group) (J : List ARecord) → World g (next.now ∷ J) → AreAfter g J self.old → told_of g telling ≡ told_by g next.now.actor next.now J) }
         ensures after { OnOk result ((g : Group) (J : List ARecord) → World g (next.now ∷ J) → AreAfter g J self.old → AreAfter g (next.now ∷ J) self.new) }

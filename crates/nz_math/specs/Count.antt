@@ -1,6 +1,7 @@
 -- Sets of numbers below a limit, each by its membership test, and how many members they have.
 use Rattle.std.specs.Prelude.{ℕ, zero, suc, ◌+◌, ◌<◌, ◌≤◌, Bool, true, false, not, ◌&&◌, ◌||◌, ◌==◌, List, [], ◌∷◌, ◌++◌, IsTrue, IsFalse, if◌then◌else◌}
 
+-- 1 for true, 0 for false.
 abbrev pub one_if : Bool → ℕ
 one_if b = if b then 1 else 0
 
@@ -17,6 +18,7 @@ both p q x = p x && q x
 abbrev pub everyone : ℕ → Bool
 everyone x = true
 
+-- Every number but one.
 abbrev pub all_but : ℕ → ℕ → Bool
 all_but m x = not (m == x)
 
@@ -24,12 +26,12 @@ all_but m x = not (m == x)
 abbrev pub IsWithin : ℕ → (ℕ → Bool) → (ℕ → Bool) → Type 0
 IsWithin n p among = (x : ℕ) → x < n → IsTrue (p x) → IsTrue (among x)
 
--- Whether a number stands in a list.
+-- Whether a number is in a list.
 abbrev pub is_in : List ℕ → ℕ → Bool
 is_in [] x = false
 is_in (y ∷ ys) x = (y == x) || is_in ys x
 
--- No number stands in the list twice.
+-- No number is in the list twice.
 abbrev pub AreDistinct : List ℕ → Type 0
 AreDistinct [] = Unit {0}
 AreDistinct (x ∷ xs) = IsFalse (is_in xs x) × AreDistinct xs

@@ -1,3 +1,5 @@
+//! Sets of replicas.
+
 ghost use Rattle.std.specs.Prelude.{◌≡◌, ◌≤◌, ◌<◌, ℕ, ◌||◌, ◌==◌, [], length, IsTrue, IsFalse, IfSome, IfNone};
 ghost use Rattle.nz_math.specs.Count.{both, is_in, IsChoice};
 

@@ -1,3 +1,5 @@
+//! Sets, and their common members.
+
 use super::*;
 use std::test::*;
 

@@ -8,7 +8,7 @@ use Rattle.nz_base.proofs.Names.{key_eq_self, same_key}
 use Rattle.nz_base.proofs.Booleans.{and_left, and_right, and_both}
 use Rattle.nz_merge.specs.Merged.{begins_with}
 
--- each key of one list stands in the other
+-- each key of one list is in the other
 abbrev pub AreAmong : List Key → List Key → Type 0
 AreAmong xs ys = (x : Key) → has_key xs x ≡ true → has_key ys x ≡ true
 
@@ -16,7 +16,7 @@ pub begins_append : (front rest : List Key) → begins_with (front ++ rest) fron
 begins_append [] rest = refl
 begins_append (k ∷ front) rest = and_both (key_eq k k) (begins_with (front ++ rest) front) (key_eq_self k) (begins_append front rest)
 
--- what begins with a front is the front and a rest
+-- what begins with a prefix is the prefix and a rest
 pub rest_of : (keys front : List Key) → begins_with keys front ≡ true → (rest : List Key) × (keys ≡ front ++ rest)
 rest_of keys [] h = (keys, refl)
 rest_of [] (f ∷ front) h = absurd cc

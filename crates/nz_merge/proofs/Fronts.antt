@@ -63,13 +63,13 @@ among_all p (c ∷ changes) k h some =
       | inr away ↦ has_back (keys_of c.log) (flat_map (λ d. keys_of d.log) changes) k (among_all p changes k h (rw away at some))
     ]
 
--- a key of a front is a key of what begins with it
+-- a key of a prefix is a key of what begins with it
 pub of_front : (keys front : List Key) (k : Key) → begins_with keys front ≡ true → has_key front k ≡ true → has_key keys k ≡ true
 of_front keys front k begins h =
     let rest = rest_of keys front begins in
     subst (λ (xs : List Key). has_key xs k ≡ true) (sym rest.1) (has_front front rest.0 k h)
 
--- ---- a front that enough logs have
+-- ---- a prefix that enough logs have
 
 pub settled : (limit : ℕ) (changes : List Change) (P : List Key) → AllByRecursion IsFit changes → 0 < limit → length changes < limit + limit → limit ≤ count_beginning P changes → IsSettled limit changes P
 settled limit changes P fit positive few enough =

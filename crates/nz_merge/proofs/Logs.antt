@@ -1,4 +1,4 @@
--- The merged log is a log, and what stands in it.
+-- The merged log is a log, and what is in it.
 use Rattle.std.proofs.Common.{◌≡◌, ℕ, Bool, true, false, ◌&&◌, not, cond, eqb, List, [], ◌∷◌, ◌++◌, length, leb, ltb, Option, Some, None, refl, sym, ap, subst, ◌∙◌, inl, inr, append_assoc}
 use Rattle.std.specs.Prelude.{map, take, drop}
 use Rattle.std.specs.List.{filter, AllByRecursion}

@@ -9,7 +9,7 @@ use Rattle.nz_base.proofs.Booleans.{cases_bool, or_cases, or_left, clash}
 use Rattle.nz_base.proofs.Logs.{has_first, has_later}
 use Rattle.nz_merge.specs.Merged.{put_in_order, put_all_in_order, in_order}
 
--- by how two keys stand
+-- by how two keys are ordered
 put_cases : (P : List Key → Type 0) (key k : Key) (keys : List Key)
     → (key_below key k ≡ true → P (key ∷ k ∷ keys))
     → (key ≡ k → P (k ∷ keys))

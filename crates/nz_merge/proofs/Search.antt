@@ -43,7 +43,7 @@ rising_at (e ∷ log) i zero d r lt h = absurd (omega arith)
 rising_at (e ∷ log) zero (suc j) d r lt h = r.0 (get_or log j d).key (has_at log j d (omega arith))
 rising_at (e ∷ log) (suc i) (suc j) d r lt h = rising_at log i j d r.1 (omega arith) (omega arith)
 
--- where a key stands
+-- where a key is
 pub place_has : (log : List Entry) (key : Key) (d : Entry) → has_key (keys_of log) key ≡ true → (i : ℕ) × (i < length log) × ((get_or log i d).key ≡ key)
 place_has [] key d h = absurd cc
 place_has (e ∷ log) key d h =
@@ -106,7 +106,7 @@ has_slice [] p key h = absurd cc
 has_slice (e ∷ log) zero key h = let same : e.key ≡ key = cc in subst (λ (k : Key). has_key (keys_of (e ∷ log)) k ≡ true) same (has_first e.key (keys_of log))
 has_slice (e ∷ log) (suc p) key h = or_right (key_eq key e.key) (has_key (keys_of log) key) (has_slice log p key h)
 
--- a search tells whether the key is there
+-- a search shows whether the key is there
 pub search_tells : (log : List Entry) (key : Key) (r : Result ℕ ℕ) → IsSearchInRange r (length log) → IsBinarySearchResult (λ e. key_cmp e.key key) log r → AreRising (keys_of log)
     → is_some (result_ok r) ≡ has_key (keys_of log) key
 search_tells log key (Ok i) range h rising = let found = search_found log key (Ok i) range h in sym (has_slice log i key found.1)

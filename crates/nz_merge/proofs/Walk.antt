@@ -1,4 +1,4 @@
--- Going through the keys in turn takes a front that enough logs have.
+-- Going through the keys in turn takes a prefix that enough logs have.
 use Rattle.std.proofs.Common.{◌≡◌, ℕ, true, false, ◌&&◌, not, List, [], ◌∷◌, ◌++◌, length, leb, refl, sym, ap, subst, ◌∙◌, inl, inr, ◌⊎◌, append_assoc}
 use Rattle.nz_base.specs.declared.key.Key.{Key}
 use Rattle.nz_base.specs.Key.{key_below, key_eq, id_of}
@@ -54,7 +54,7 @@ skips_other limit changes P taken r rest k s parts before =
           ]
     ]
 
--- what is still asked for is among the keys behind the first
+-- what is still asked for is among the keys after the first
 among_rest : (r : Key) (rest : List Key) (k : Key) (keys : List Key) → AreAmong (r ∷ rest) (k ∷ keys) → ((x : Key) → has_key (r ∷ rest) x ≡ true → key_below k x ≡ true) → AreAmong (r ∷ rest) keys
 among_rest r rest k keys among before x h =
     elim (or_cases (key_eq x k) (has_key keys x) (among x h)) [

@@ -13,11 +13,13 @@ pub record IsFit (c : Change) : Type 0 where
   pub log : IsLog c.log
   pub synced : c.synced ≤ length c.log
 
+-- All reports are fit.
 abbrev pub AreFit : List Change → Type 0
 AreFit changes = AllByRecursion IsFit changes
 
 -- ---- which logs count
 
+-- The greatest of some numbers, 0 of none.
 abbrev pub greatest : List ℕ → ℕ
 greatest [] = 0
 greatest (n ∷ ns) = max n (greatest ns)
@@ -26,6 +28,7 @@ greatest (n ∷ ns) = max n (greatest ns)
 abbrev pub of_view : ℕ → List Change → List Change
 of_view view changes = filter (λ c. c.last == view) changes
 
+-- The reports that count: those of the greatest last view.
 abbrev pub kept : List Change → List Change
 kept changes = of_view (greatest (map (λ c. c.last) changes)) changes
 
@@ -34,12 +37,14 @@ abbrev pub lower : Change → Option Change → Change
 lower c None = c
 lower c (Some d) = if nat_lt d.sender c.sender then d else c
 
+-- The report of the lowest sender, if there is one.
 abbrev pub lowest : List Change → Option Change
 lowest [] = None
 lowest (c ∷ changes) = Some (lower c (lowest changes))
 
 -- ---- the synced part
 
+-- The synced part of a report's log, if there is a report.
 abbrev pub synced_entries : Option Change → List Entry
 synced_entries None = []
 synced_entries (Some c) = take c.synced c.log
@@ -49,6 +54,7 @@ synced_entries (Some c) = take c.synced c.log
 abbrev pub with_synced : ℕ → List Change → List Change
 with_synced count changes = filter (λ c. c.synced == count) changes
 
+-- The synced part that is taken: of the reports with the greatest synced count that of the lowest sender.
 abbrev pub synced_part : List Change → List Entry
 synced_part changes = synced_entries (lowest (with_synced (greatest (map (λ c. c.synced) changes)) changes))
 
@@ -63,10 +69,12 @@ abbrev pub put_in_order : Key → List Key → List Key
 put_in_order key [] = key ∷ []
 put_in_order key (k ∷ keys) = if key_below key k then key ∷ k ∷ keys else (if key_eq key k then k ∷ keys else k ∷ put_in_order key keys)
 
+-- The keys, each put in its place among the others.
 abbrev pub put_all_in_order : List Key → List Key → List Key
 put_all_in_order others [] = others
 put_all_in_order others (k ∷ keys) = put_all_in_order (put_in_order k others) keys
 
+-- The keys in rising order, each once.
 abbrev pub in_order : List Key → List Key
 in_order keys = put_all_in_order [] keys
 
@@ -74,13 +82,13 @@ in_order keys = put_all_in_order [] keys
 abbrev pub all_keys : List Change → List Key
 all_keys changes = in_order (flat_map (λ c. keys_of c.log) changes)
 
--- Whether a key is taken behind those that were taken: enough logs hold it, it is above the last of
--- them, and its id is not among theirs.
+-- Whether a key is taken after those that were taken: enough logs hold it, it is above the last of them, and its id
+-- is not among theirs.
 abbrev pub is_taken : ℕ → List Change → List Key → Key → Bool
 is_taken limit changes taken key =
     nat_le limit (length (holders changes key)) && (is_above_last taken key && not (has_id taken (id_of key)))
 
--- The keys that are taken behind others, when these are gone through in turn.
+-- The keys that are taken after others, when these are gone through in turn.
 unfoldable pub later : ℕ → List Change → List Key → List Key → List Key
 later limit changes taken [] = []
 later limit changes taken (key ∷ keys) =
@@ -91,6 +99,7 @@ abbrev pub command_at : Key → List Entry → List ℕ
 command_at key [] = []
 command_at key (e ∷ log) = if key_eq key e.key then e.command else command_at key log
 
+-- The command of a key in a report's log, empty where there is no report.
 abbrev pub command_in : Key → Option Change → List ℕ
 command_in key None = []
 command_in key (Some c) = command_at key c.log
@@ -111,6 +120,7 @@ merged_from limit changes =
 abbrev pub threshold : ℕ → ℕ
 threshold f = half_up f + 1
 
+-- The merged log: that of the reports that count, with keys that enough of their logs hold.
 unfoldable pub merged : ℕ → List Change → List Entry
 merged f changes = merged_from (threshold f) (kept changes)
 

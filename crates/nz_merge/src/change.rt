@@ -1,3 +1,5 @@
+//! Reports of different replicas, and whether they are fit to be merged.
+
 ghost use Rattle.std.specs.Prelude.{◌≡◌, [], ◌∷◌, ◌++◌, ◌↔◌, IsTrue, IsFalse, OnOk, OnErr};
 ghost use Rattle.nz_base.specs.Log.{keys_of};
 ghost use Rattle.nz_merge.specs.Fit.{comes_first as first_of, are_log, are_fit};

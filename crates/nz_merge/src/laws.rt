@@ -23,8 +23,8 @@ pub fn begins_with_synced_part()
         → IsTrue (begins_with (keys_of (merged f changes)) front) }
 {}
 
-/// Of at most f + 1 reports, let enough of the kept ones begin with some keys, and let these keys and
-/// the synced part that is taken be one the front of the other. Then the merged log begins with them.
+/// Of at most f + 1 reports, let enough of the kept ones begin with some keys. Let these keys be a prefix of the
+/// synced part that is taken, or it a prefix of them. Then the merged log begins with them.
 pub fn front_stays()
     ensures { (f : ℕ) (changes : List AChange) (front : List AKey) → AreFit changes
         → length changes ≤ f + 1 → threshold f ≤ count_beginning front (kept changes)
@@ -33,8 +33,8 @@ pub fn front_stays()
         → IsTrue (begins_with (keys_of (merged f changes)) front) }
 {}
 
-/// A key that enough of the kept logs hold, behind the synced part, stands in the merged log if no
-/// other key with its id does.
+/// A key that enough of the kept logs hold, after the synced part, is in the merged log if no other key with its id
+/// is.
 pub fn held_key_stays()
     ensures { (f : ℕ) (changes : List AChange) (key : AKey) → AreFit changes
         → threshold f ≤ length (holders (kept changes) key)

@@ -1,3 +1,5 @@
+//! The log of a new leader.
+
 ghost use Rattle.std.specs.Prelude.{◌≡◌, IfOk};
 ghost use Rattle.nz_merge.specs.Merged.{AreFit, merged};
 

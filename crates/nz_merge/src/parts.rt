@@ -184,7 +184,7 @@ fn is_above(log: &[Entry], key: Key) -> bool
     }
 }
 
-/// Whether a key may stand behind the entries that were taken.
+/// Whether a key may follow the entries that were taken.
 pub fn may_follow(log: &[Entry], key: Key) -> bool
     ensures { result ≡ (is_above_last (keys_of log.now) key && not (has_id (keys_of log.now) (id_of key))) }
 {

@@ -1,3 +1,5 @@
+//! Merges of logs, worked out apart from the program.
+
 use super::*;
 use nz_base::{Blob, Cluster, Entry, EntryList, Key, List, NoMemory};
 use std::alloc::Global;

@@ -12,13 +12,13 @@ use Rattle.nz_frame.specs.Grammar.{AreBytes}
 use Rattle.nz_frame.proofs.Bytes.{AreBytes-drop, AreBytes-take, two_bytes, four_bytes}
 use Rattle.nz_msg.specs.Codec.{◌>>=◌, Codec, number_bytes, number_at, number, run_at, run, nothing, limited_at, limited, ◌leading◌, ◌then◌, as_made, optional_at, optional_put, optional, items_put, items_at, ItemsFit, items, counted}
 
--- what was read stands in front of the bytes, spelled so
+-- the bytes begin with what was read, spelled so
 pub record Takes {A : Type 0} (c : Codec A) (bytes : List ℕ) (a : A) (rest : List ℕ) : Type 0 where
   pub spelled : bytes ≡ c.put a rest
   pub fit : c.fits a
   pub rest_fits : AreBytes rest
 
--- what is left, behind a value or from a fault on, is part of the bytes
+-- what is left, after a value or from a fault on, is part of the bytes
 abbrev pub IsWithin : {A : Type 0} → ℕ → Result (A × List ℕ) ℕ → Type 0
 IsWithin most (Ok x) = length x.1 ≤ most
 IsWithin most (Err left) = left ≤ most
@@ -68,7 +68,7 @@ within-test most false r s h k = k
 
 -- ---- numbers
 
--- the bytes of the number in front are the bytes in front
+-- the bytes of the number that comes first are the first bytes
 pub record IsWide (size : ℕ) : Type 0 where
   pub back : (bytes : List ℕ) → size ≤ length bytes → AreBytes bytes → big_bytes size (big_number size bytes) ++ drop size bytes ≡ bytes
 
@@ -252,7 +252,7 @@ made_exact make parts c size back forth p = record {
   long = λ b rest h. p.long (parts b) rest h;
 }
 
--- ---- a value behind a flag
+-- ---- a value after a flag
 
 pub flag_exact : IsExact (limited (is_in_range 0 1) (number 1)) 1
 flag_exact = limited_exact (is_in_range 0 1) (number 1) 1 (number_exact 1 wide1)
@@ -262,7 +262,7 @@ unfolding optional_at
 optional_again c size p None rest h = rw (flag_exact.again 0 rest (omega arith, refl)) refl
 optional_again c size p (Some a) rest h = rw (flag_exact.again 1 (c.put a rest) (omega arith, refl), p.again a rest h) refl
 
--- what stands behind the flag
+-- what is after the flag
 behind_flag : {A : Type 0} → Codec A → ℕ → List ℕ → Result (Option A × List ℕ) ℕ
 behind_flag c flag bytes = cond (eqb flag 0) (Ok (None, bytes)) (c.get bytes >>= λ a. Ok (Some a.0, a.1))
 
@@ -325,7 +325,7 @@ pub record TakesItems {A : Type 0} (item : List A → Codec A) (before : List A)
   pub fit : ItemsFit item before xs
   pub rest_fits : AreBytes rest
 
--- an item, and then the items behind it
+-- an item, and then the items after it
 takes_more : {A : Type 0} (item : List A → Codec A) (before : List A) (n : ℕ) (bytes : List ℕ) (x : A) (after : List ℕ) (xs : List A) (rest : List ℕ) → Takes (item before) bytes x after → TakesItems item (before ++ x ∷ []) n after xs rest
     → TakesItems item before (suc n) bytes (x ∷ xs) rest
 unfolding items_put

@@ -37,7 +37,7 @@ id_exact = made_exact _ _ (u32 then u32) 8 (λ i. refl) (λ p h. refl) (then_exa
 pub key_exact : IsExact key 16
 key_exact = made_exact _ _ (deadline then u32 then u32) 16 (λ k. refl) (λ p h. refl) (then_exact deadline (u32 then u32) 8 8 deadline_exact (then_exact u32 u32 4 4 u32_exact u32_exact))
 
--- a run of bytes behind its length
+-- a run of bytes after its length
 pub blob_exact : (most : ℕ) → IsExact (counted (number_within 2 1 most) run) (2 + most)
 blob_exact most = counted_exact (number_within 2 1 most) run 2 most (within_exact 2 1 most wide2) (λ k h. run_exact k most (within_most 2 1 most k h)) (λ k xs h. h) (λ k bytes. (run_exact k k (omega arith)).within bytes)
 

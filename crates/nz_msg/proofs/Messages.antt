@@ -209,7 +209,7 @@ by_test : (b : Bool) (kind k : ℕ) (bytes : List ℕ) (m : Message) (r s : Resu
 by_test true kind k bytes m r s same p q e = subst (λ (n : ℕ). IsBody n bytes m) (sym (same refl)) (p e)
 by_test false kind k bytes m r s same p q e = q e
 
--- one kind, or one of those behind it
+-- one kind, or one of those after it
 by_kind : (kind k : ℕ) (bytes : List ℕ) (m : Message) (r s : Result Message ℕ) → (r ≡ Ok m → IsBody k bytes m) → (s ≡ Ok m → IsBody kind bytes m) → cond (eqb kind k) r s ≡ Ok m → IsBody kind bytes m
 by_kind kind k bytes m r s p q e = by_test (eqb kind k) kind k bytes m r s (λ t. eqb-true kind k t) p q e
 

@@ -12,11 +12,11 @@ use Rattle.nz_msg.specs.declared.refusal.DecodeRefusal.{DecodeRefusal}
 use Rattle.nz_msg.specs.declared.refusal.DecodeRefusal.TheVariants.{Frame, BadBody, NoMemory}
 use Rattle.nz_msg.specs.Messages.{kind_of, Fits, body_of, body_at}
 
--- the one spelling of a message from one actor to another
+-- The one spelling of a message from one actor to another.
 unfoldable pub encode_of : Actor → Actor → Message → List ℕ
 encode_of from to message = frame (kind_of message) (address_of from) (address_of to) (body_of message)
 
--- the bytes are the frame of this envelope
+-- The bytes are the frame of this envelope.
 pub record Spells (envelope : Envelope) (bytes : List ℕ) : Type 0 where
   pub sender : HasAddress envelope.from
   pub receiver : HasAddress envelope.to
@@ -25,30 +25,30 @@ pub record Spells (envelope : Envelope) (bytes : List ℕ) : Type 0 where
 
 -- ---- decoding
 
--- the actor that is named at a place
+-- The actor that is named at a place.
 abbrev pub named : ℕ → Option Actor → Result Actor DecodeRefusal
 named place (Some actor) = Ok actor
 named place None = Err (Frame (BadActor place))
 
--- what follows once the frame's own tests are passed
+-- What follows once the frame's own tests are passed.
 abbrev pub unless_refused : Option FrameRefusal → Result Envelope DecodeRefusal → Result Envelope DecodeRefusal
 unless_refused (Some r) envelope = Err (Frame r)
 unless_refused None envelope = envelope
 
--- the envelope of what was read. A fault so many bytes before the end is at the place that is left of all.
+-- The envelope of what was read. A fault this many bytes before the end is at the place that is left of all.
 abbrev pub enveloped : ℕ → Result Actor DecodeRefusal → Result Actor DecodeRefusal → Result Message ℕ → Result Envelope DecodeRefusal
 enveloped size (Err r) to message = Err r
 enveloped size (Ok from) (Err r) message = Err r
 enveloped size (Ok from) (Ok to) (Err left) = Err (BadBody (size - left))
 enveloped size (Ok from) (Ok to) (Ok message) = Ok (record { from = from; to = to; message = message })
 
--- what the bytes say, or why they say nothing: first as a frame, and then as a message of the frame's kind
+-- What the bytes say, or why they say nothing: first as a frame, and then as a message of the frame's kind.
 unfoldable pub decode_of : List ℕ → Result Envelope DecodeRefusal
 decode_of bytes =
     unless_refused (refusal bytes)
     (enveloped (length bytes) (named 6 (actor_at (sender bytes))) (named 8 (actor_at (receiver bytes))) (body_at (slice_index bytes 5) (drop 10 bytes)))
 
--- the refusal is that of the bytes, or memory was not found
+-- The refusal is that of the bytes, or memory was not found.
 abbrev pub IsRefusedAs : List ℕ → DecodeRefusal → Type 0
 IsRefusedAs bytes (Frame r) = decode_of bytes ≡ Err (Frame r)
 IsRefusedAs bytes (BadBody place) = decode_of bytes ≡ Err (BadBody place)

@@ -12,104 +12,111 @@ use Rattle.nz_msg.specs.declared.message.Path.{Path}
 use Rattle.nz_msg.specs.declared.message.Path.TheVariants.{Fast, Slow}
 use Rattle.nz_msg.specs.Codec.{Codec, number, run, nothing, limited, number_within, ◌leading◌, ◌then◌, as_made, items, counted}
 
--- numbers of 32 and of 64 bits
+-- Numbers of 32 and of 64 bits.
 abbrev pub u32 : Codec ℕ
 u32 = number 4
 
+-- A number of 8 bytes.
 abbrev pub u64 : Codec ℕ
 u64 = number 8
 
--- a view: at most 2^62 - 1
+-- A view: at most 2^62 - 1.
 abbrev pub view : Codec ℕ
 view = number_within 8 0 (2 ^ 62 - 1)
 
--- a deadline: at most 2^63 - 1
+-- A deadline: at most 2^63 - 1.
 abbrev pub deadline : Codec ℕ
 deadline = number_within 8 0 (2 ^ 63 - 1)
 
--- the client, and the number of its request
+-- The client, and the number of its request.
 abbrev pub id : Codec Id
 id = as_made (λ p. record { client = p.0; num = p.1 }) (λ i. (i.client, i.num)) (u32 then u32)
 
--- the deadline, and the id
+-- The deadline, and the id.
 abbrev pub key : Codec Key
 key = as_made (λ p. record { deadline = p.0; client = p.1.0; num = p.1.1 }) (λ k. (k.deadline, (k.client, k.num))) (deadline then u32 then u32)
 
--- 1 to 552 bytes behind a length of two bytes
+-- 1 to 552 bytes after a length of two bytes.
 abbrev pub command : Codec (List ℕ)
 command = counted (number_within 2 1 552) run
 
+-- A digest of 20 bytes.
 abbrev pub digest : Codec (List ℕ)
 digest = run 20
 
--- a cluster has 3, 5, 7 or 9 replicas
+-- A cluster has 3, 5, 7 or 9 replicas.
 abbrev pub is_cluster_size : ℕ → Bool
 is_cluster_size n = is_in_range 3 9 n && n % 2 == 1
 
--- the size of the cluster in one byte, and a counter for each replica
+-- The size of the cluster in one byte, and a counter for each replica.
 abbrev pub vector : Codec (List ℕ)
 vector = counted (limited is_cluster_size (number 1)) (items (λ _. u32))
 
 -- ---- answers
 
--- 1 to 256 bytes behind a length of two bytes
+-- 1 to 256 bytes after a length of two bytes.
 abbrev pub value : Codec (List ℕ)
 value = counted (number_within 2 1 256) run
 
--- the byte that says which answer it is, and the value of the one that has a value
+-- The byte that says which answer it is, and the value of the one that has a value.
 abbrev pub answer_parts : Answer → ℕ × List ℕ
 answer_parts Done = (1, [])
 answer_parts (Value v) = (2, v)
 answer_parts Absent = (3, [])
 answer_parts Differs = (4, [])
 
+-- The answer of a tag and a value: 1 done, 2 value, 3 absent, 4 differs.
 abbrev pub answer_of : ℕ × List ℕ → Answer
 answer_of p = if p.0 == 1 then Done else (if p.0 == 2 then Value p.1 else (if p.0 == 3 then Absent else Differs))
 
+-- A value, or nothing.
 abbrev pub value_if : Bool → Codec (List ℕ)
 value_if true = value
 value_if false = nothing
 
+-- What follows the tag of an answer: a value after the tag 2 alone.
 abbrev pub answer_value : ℕ → Codec (List ℕ)
 answer_value tag = value_if (tag == 2)
 
+-- An answer: a tag of one byte, 1 to 4, and what follows it.
 abbrev pub answer : Codec Answer
 answer = as_made answer_of answer_parts (number_within 1 1 4 leading answer_value)
 
--- a byte 1 for the fast path, 2 for the slow one
+-- A byte 1 for the fast path, 2 for the slow one.
 abbrev pub path_number : Path → ℕ
 path_number Fast = 1
 path_number Slow = 2
 
+-- A path: one byte, 1 fast and 2 slow.
 abbrev pub path : Codec Path
 path = as_made (λ n. if n == 1 then Fast else Slow) path_number (number_within 1 1 2)
 
 -- ---- lists
 
--- a key comes behind those of all these items, and its id is none of theirs
+-- A key comes after those of all these items, and its id is none of theirs.
 abbrev pub may_follow : {A : Type 0} → (A → Key) → List A → Key → Bool
 may_follow key_of before key = list_all (λ a. key_below (key_of a) key && not (id_eq (id_of (key_of a)) (id_of key))) before
 
--- the key of the item behind these
+-- The key of the item after these.
 abbrev pub next_key_by : {A : Type 0} → (A → Key) → List A → Codec Key
 next_key_by key_of before = limited (may_follow key_of before) key
 
--- the key behind these
+-- The key after these.
 abbrev pub next_key : List Key → Codec Key
 next_key before = next_key_by (λ k. k) before
 
--- the entry behind these
+-- The entry after these.
 abbrev pub next_entry : List Entry → Codec Entry
 next_entry before = as_made (λ p. record { key = p.0; command = p.1 }) (λ e. (e.key, e.command)) (next_key_by (λ e. e.key) before then command)
 
--- 1 to 64 ids behind their count of one byte
+-- 1 to 64 ids after their count of one byte.
 abbrev pub ids : Codec (List Id)
 ids = counted (number_within 1 1 64) (items (λ _. id))
 
--- at most 64 keys behind their count of one byte
+-- At most 64 keys after their count of one byte.
 abbrev pub keys : Codec (List Key)
 keys = counted (number_within 1 0 64) (items next_key)
 
--- from least to most entries behind their count of four bytes
+-- From least to most entries after their count of four bytes.
 abbrev pub entries : ℕ → ℕ → Codec (List Entry)
 entries least most = counted (number_within 4 least most) (items next_entry)

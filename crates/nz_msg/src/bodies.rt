@@ -25,7 +25,7 @@ pub const MAX_ENTRIES: u32 = 4096;
 /// The most entries that answer a fetch.
 pub const MAX_FETCHED: u32 = 64;
 
-// Nothing stands behind the last field.
+// Nothing follows the last field.
 fn end(rest: &[u8]) -> Result<(), Fault>
     ensures ok { OnOk result (length rest.now ≡ 0) }
     ensures more { OnErr result (0 < length rest.now) }

@@ -1,3 +1,5 @@
+//! Messages as frames, both ways.
+
 ghost use Rattle.std.specs.Prelude.{◌≡◌, ◌<◌, ◌^◌, ◌⊎◌, Ok, Err, Some, IfOk, IfErr};
 ghost use Rattle.nz_base.specs.Actor.{HasAddress, actor_at};
 ghost use Rattle.nz_frame.specs.Address.{IsAddress};
@@ -45,7 +47,7 @@ fn actor_of(address: u16) -> Actor
     }
 }
 
-// The refusal of so many bytes for a fault in them.
+// The refusal of this many bytes for a fault in them.
 fn placed(fault: Fault, size: usize) -> DecodeRefusal
     requires fault { IsPlaced size fault }
     requires size { size < 2 ^ 32 }

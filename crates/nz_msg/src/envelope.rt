@@ -1,3 +1,5 @@
+//! A message with its sender and its receiver.
+
 use super::message::Message;
 use nz_base::Actor;
 

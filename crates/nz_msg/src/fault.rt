@@ -8,8 +8,8 @@ use std::alloc::{AllocError, AllocFailed};
 #[derive(Debug, Drop)]
 pub enum Fault {
     NoMemory,
-    /// A field runs past the end or is out of its range, or bytes stand behind the last one. So many
-    /// bytes are left from its place on.
+    /// A field runs past the end or is out of its range, or bytes follow the last one. This many bytes are left from
+    /// its place on.
     Bad(usize),
 }
 

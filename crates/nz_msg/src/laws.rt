@@ -54,7 +54,7 @@ pub fn frames_come_first()
         → (decode_of bytes ≡ Err (Frame r)) ↔ (refusal bytes ≡ Some r) }
 {}
 
-/// The place of a refused body stands behind the header, and at most at the frame's end.
+/// The place of a refused body is after the header, and at most at the frame's end.
 pub fn places_of_bodies()
     ensures { (bytes : List ℕ) (place : ℕ) → AreBytes bytes → decode_of bytes ≡ Err (BadBody place)
         → (10 ≤ place) × (place ≤ length bytes) }

@@ -1,4 +1,4 @@
-//! Reading of lists, whose count stands before them.
+//! Reading of lists, with their count before them.
 
 ghost use Rattle.std.specs.Prelude.{◌≡◌, ◌<◌, ◌≤◌, ◌/◌, [], ◌&&◌, not, take, length, min, IfOk, IsTrue};
 ghost use Rattle.std.specs.List.{list_all};
@@ -42,7 +42,7 @@ fn room_for(count: u32, size: u8, bytes: &[u8]) -> u32
     }
 }
 
-/// Whether a cluster has so many replicas.
+/// Whether a cluster has this many replicas.
 pub fn is_cluster_size(size: usize) -> bool
     ensures { result ≡ is_cluster_size_test size }
 {
@@ -106,7 +106,7 @@ pub fn ids_at(alloc: Global, bytes: &[u8]) -> Result<(IdList, &[u8]), Fault>
     list_of_ids(alloc, u32::from(count), rest)
 }
 
-// Whether a key may stand behind an earlier one.
+// Whether a key may follow an earlier one.
 fn follows(earlier: &Key, key: &Key) -> bool
     ensures { result ≡ (key_below earlier.now key.now && not (id_eq (id_of earlier.now) (id_of key.now))) }
 {

@@ -1,3 +1,5 @@
+//! The eighteen messages.
+
 use nz_base::{Blob, EntryList, Id, IdList, KeyList};
 use nz_cv::CrashVector;
 use nz_digest::Digest;
@@ -27,8 +29,8 @@ pub struct TimedBody {
     pub command: Blob,
 }
 
-/// Replica to proxy: the request stands in the log. The digest is that of the log up to it, `delay` is
-/// how long the timed message took, in clock units, and only the leader has an answer.
+/// Replica to proxy: the request is in the log. The digest is that of the log up to it, `delay` is how long the timed
+/// message took, in clock units, and only the leader has an answer.
 #[derive(Debug, Drop)]
 pub struct FastReplyBody {
     pub view: u64,

@@ -1,4 +1,4 @@
-//! Reading of fields. Each reader gives what stands in front of the bytes, and the bytes behind it.
+//! Reading of fields. Each reader gives what the bytes begin with, and the bytes after it.
 
 ghost use Rattle.std.specs.Prelude.{◌≡◌};
 ghost use Rattle.nz_msg.specs.Codec.{number_at, run_at, number_within, run, counted, optional};
@@ -130,7 +130,7 @@ fn run_of(bytes: &[u8], len: u16) -> Result<(&[u8], &[u8]), Fault>
     Ok(bytes.split_at(usize::from(len)))
 }
 
-// A run of bytes behind its length.
+// A run of bytes after its length.
 fn text_at(bytes: &[u8], most: u16) -> Result<(&[u8], &[u8]), Fault>
     ensures { Gives (λ x. (x.0.now, x.1.now)) result ((counted (number_within 2 1 most) run).get bytes.now) }
 {

@@ -240,7 +240,7 @@ fn log_of(alloc: Global, last: u32) -> Result<Vec<u8>, NoMemory> {
     Ok(bytes)
 }
 
-// An id that is repeated stands in the last entry, 42,026 bytes from the start.
+// An id that is repeated is in the last entry, 42,026 bytes from the start.
 #[test]
 fn a_long_log(rt: HostRuntime) -> Result<(), Fail> {
     let alloc = rt.alloc();

@@ -58,7 +58,7 @@ fn put_key(out: &mut Vec<u8>, k: &Key) -> Result<(), NoMemory>
     put_u32(out, k.num)
 }
 
-// A run of bytes behind its length.
+// A run of bytes after its length.
 fn put_text(out: &mut Vec<u8>, bytes: &[u8]) -> Result<(), NoMemory>
     requires { length bytes.now < 2 ^ 16 }
     ensures { OnOk result (Adds out.old.items out.new.items (command.put bytes.now)) }

@@ -228,8 +228,7 @@ fn follower_holds_a_late_request(rt: HostRuntime) -> Result<(), Fail> {
 
 const END: u64 = (1 << 63) - 1;
 
-// A replica, what comes to it, how many entries then stand in log, early and late, and how many parcels
-// were sent.
+// A replica, what comes to it, how many entries are then in log, early and late, and how many parcels were sent.
 type Row = (u8, &'static [Step], (u32, usize, usize, u32));
 
 const ROWS: &[Row] = &[
@@ -298,7 +297,7 @@ fn rows() -> &'static [Row] {
     ROWS
 }
 
-// How many entries stand in log, early and late of a replica, and how many parcels it sent.
+// How many entries are in log, early and late of a replica, and how many parcels it sent.
 fn counts(alloc: Global, me: u8, steps: &[Step]) -> Result<(u32, usize, usize, u32), Fail> {
     let mut state = replica(alloc, me)?;
     let mut sends = List::new(alloc);

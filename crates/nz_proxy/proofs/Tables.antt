@@ -59,7 +59,7 @@ fit_lookup f id (e ∷ es) all =
       | inr away ↦ rw away (fit_lookup f id es all.1)
     ]
 
--- ---- behind a reference
+-- ---- of what is lent
 
 pub known_behind : (o : Option (Bor Standing)) → option_map {U = Known} (λ s. known s.now) o ≡ option_map known (option_copied o)
 known_behind None = refl

@@ -1,3 +1,5 @@
+//! What a proxy knows of a request.
+
 ghost use Rattle.std.specs.Prelude.{◌≡◌, ℕ, IfOk, OnOk};
 ghost use Rattle.nz_proxy.specs.Standings.{IsNotable, IsFit, HasFitAnswer, noted, told};
 

@@ -1,3 +1,5 @@
+//! The state of a proxy, and its rules.
+
 ghost use Rattle.std.specs.Prelude.{◌≡◌, ◌+◌, ◌-◌, ◌^◌, ◌<◌, ◌≤◌, ◌++◌, ◌∷◌, List, [], map, length, OnOk, IfOk, IsSome, IfSome, true, false};
 ghost use Rattle.std.specs.Option.{option_map};
 ghost use Rattle.nz_base.specs.Actor.{HasAddress};
@@ -29,7 +31,7 @@ use std::marker::Model;
 /// Clocks stop here.
 const LAST_CLOCK: u64 = (1 << 62) - 1;
 
-/// Behind the bound on the delay, in clock units.
+/// Added to the bound on the delay, in clock units.
 const MARGIN: u64 = 500;
 
 /// The state of a proxy.

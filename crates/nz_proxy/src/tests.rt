@@ -1,3 +1,5 @@
+//! Steps of a proxy, with what it sends.
+
 use super::*;
 use nz_base::{Actor, Blob, Cluster, Id};
 use nz_cv::CrashVector;
@@ -114,7 +116,7 @@ fn requests_replies_and_a_crash(rt: HostRuntime) -> Result<(), Fail> {
     let other = parcel(alloc, Actor::Replica(1), Actor::Proxy(1), &late)?;
     let table = [
         (Event::Tick(1000), None),
-        // No delays are known: 10,000 and the margin stand behind the clock.
+        // No delays are known: 10,000 and the margin are added to the clock.
         (request(alloc, 1)?, Some(Sent::Timed(11_500))),
         (fast_reply(alloc, 1, 1, 200)?, None),
         (fast_reply(alloc, 0, 1, 100)?, None),

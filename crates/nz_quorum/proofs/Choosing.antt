@@ -35,7 +35,7 @@ none_passes p (x ∷ xs) y none has passes =
           ]
     ]
 
--- behind one that fails, or that is of a greater view
+-- after one that fails, or that is of a greater view
 behind_one : (p : Reply → Bool) (x : Reply) (xs : List Reply) (y : Reply) → (p x ≡ true → view_of y < view_of x) → IsFirst p xs y → IsFirst p (x ∷ xs) y
 behind_one p x xs y lesser first = record {
   before = x ∷ first.before;

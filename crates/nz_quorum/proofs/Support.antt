@@ -1,4 +1,4 @@
--- The set of those that stand with a leader's reply, against the counts that define a quorum.
+-- The set of those that support a leader's reply, against the counts that define a quorum.
 use Rattle.std.proofs.Common.{◌≡◌, ℕ, suc, ◌+◌, ◌<◌, Bool, true, false, ◌&&◌, ◌||◌, eqb, nat_le, List, [], ◌∷◌, length, get_or, drop, refl, sym, ap, ◌∙◌, arith, add-one, drop-cons, inl, inr, Option}
 use Rattle.std.specs.List.{list_any, AllByRecursion}
 use Rattle.std.proofs.lemmas.Bool.{cases_eq, eq-eqb, ne_eqb, eqb-true}
@@ -55,7 +55,7 @@ is_slow : (r view : ℕ) (digest vector : List ℕ) (answer : Option Answer) (x 
 is_slow r view digest vector answer x (Fast s w d u b) = and_false (eqb s x)
 is_slow r view digest vector answer x (Slow s w) = refl
 
--- whether a replica stands with the lead in a quorum of this path
+-- whether a replica supports the lead in a quorum of this path
 abbrev pub stands : Path → ℕ → List Reply → Reply → ℕ → Bool
 stands paths.Fast f replies lead = stands_fast f replies lead
 stands paths.Slow f replies lead = stands_slowly f replies lead
@@ -99,7 +99,7 @@ count_supporters path f replies lead set leader of_cluster choice members leads 
     let counted = count_same (replica_count f) (is_in set) (stands path f replies lead) (λ x lt. members x ∙ same_stand path f replies lead x leads) in
     sym listed ∙ counted
 
--- a lead has a quorum where enough stand with it
+-- a lead has a quorum where enough support it
 pub quorum_counts : (path : Path) (f : ℕ) (replies : List Reply) (lead : Reply) → is_of_leader f lead ≡ true → nat_le (quorum_size path f) (count_below (replica_count f) (stands path f replies lead)) ≡ has_quorum path f replies lead
 quorum_counts paths.Fast f replies lead leads = rw leads refl
 quorum_counts paths.Slow f replies lead leads = rw leads refl

@@ -1,4 +1,4 @@
--- Which replies stand with a leader's reply, each looked at by itself.
+-- Which replies support a leader's reply, each looked at by itself.
 use Rattle.std.specs.Prelude.{Bool, true, false, ◌&&◌, ◌==◌, Option, Some, None}
 use Rattle.std.specs.Str.{bytes_eq}
 use Rattle.nz_msg.specs.declared.message.Path.{Path}
@@ -7,11 +7,12 @@ use Rattle.nz_machine.specs.declared.reply.Reply.{Reply}
 use Rattle.nz_machine.specs.declared.reply.Reply.TheVariants.{Fast, Slow}
 use Rattle.nz_machine.specs.Quorums.{of_lesser_view}
 
+-- Whether the path is fast.
 abbrev pub is_fast : Path → Bool
 is_fast paths.Fast = true
 is_fast paths.Slow = false
 
--- The sender of the second reply stands with the first one.
+-- The sender of the second reply supports the first one.
 abbrev pub supports : Path → Reply → Reply → Bool
 supports path (Fast r view digest vector answer) (Slow s w) = w == view
 supports path (Fast r view digest vector answer) (Fast s w d u b) = is_fast path && ((w == view) && (bytes_eq d digest && bytes_eq u vector))

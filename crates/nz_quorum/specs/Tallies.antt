@@ -12,10 +12,12 @@ pub record TallyData : Type 0 where
   pub f : ℕ
   pub replies : List Reply
 
+-- The replica that replied.
 abbrev pub replica_of : Reply → ℕ
 replica_of (Fast replica view digest vector answer) = replica
 replica_of (Slow replica view) = replica
 
+-- The crash vector of a fast reply.
 abbrev pub vector_of : Reply → Option (List ℕ)
 vector_of (Fast replica view digest vector answer) = Some vector
 vector_of (Slow replica view) = None
@@ -25,6 +27,7 @@ pub record IsOfCluster (f : ℕ) (reply : Reply) : Type 0 where
   pub replica : replica_of reply < replica_count f
   pub vector : IfSome (vector_of reply) (λ vector. length vector ≡ replica_count f)
 
+-- How many replicas a quorum of this path has.
 abbrev pub quorum_size : Path → ℕ → ℕ
 quorum_size paths.Fast f = fast_size f
 quorum_size paths.Slow f = slow_size f

@@ -45,7 +45,7 @@ fn is_lead(cluster: Cluster, reply: &Reply) -> bool
     }
 }
 
-/// Whether the sender of the reply stands with a leader's reply in a quorum of this path.
+/// Whether the sender of the reply supports a leader's reply in a quorum of this path.
 fn supports(path: Path, lead: &Reply, reply: &Reply) -> bool
     ensures { result ≡ supports_of path lead.now reply.now }
 {
@@ -69,7 +69,7 @@ fn supports(path: Path, lead: &Reply, reply: &Reply) -> bool
     }
 }
 
-/// The leader, and the senders of the replies that stand with its reply.
+/// The leader, and the senders of the replies that support its reply.
 fn supporters(cluster: Cluster, replies: &[Reply], path: Path, lead: &Reply) -> ReplicaSet
     requires { AllByRecursion (IsOfCluster cluster) replies.now }
     ensures { (x : ℕ) → is_in result x ≡ ((leader_of cluster (view_of lead.now) == x) || list_any (λ r. (replica_of r == x) && supports_of path lead.now r) replies.now) }

@@ -1,3 +1,5 @@
+//! The replies to a request, and what they decide.
+
 ghost use Rattle.std.specs.Prelude.{◌≡◌, ℕ, [], Some, IsSome, IfSome, OnOk, OnErr};
 ghost use Rattle.std.specs.Option.{option_map};
 ghost use Rattle.nz_base.specs.Cluster.{replica_count};

@@ -1,3 +1,5 @@
+//! Quorums of each cluster, and decisions.
+
 ghost use Rattle.std.specs.Prelude.{◌≡◌};
 
 use super::*;

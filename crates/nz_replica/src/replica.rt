@@ -1,3 +1,5 @@
+//! A replica as a core.
+
 ghost use Rattle.std.specs.Prelude.{◌≡◌, ◌≢◌, ◌<◌, ◌&&◌, true, IsTrue, IfOk, OnOk};
 ghost use Rattle.nz_base.specs.Actor.{HasAddress};
 ghost use Rattle.nz_base.specs.Cluster.{replica_count};
@@ -23,7 +25,7 @@ use nz_view::{change_timer, on_alarm, on_start_view, on_view_ask, on_view_change
 use std::alloc::Global;
 use std::marker::Model;
 
-/// A replica. Of its state nothing is known once a step ran out of memory, so its cluster stands apart.
+/// A replica. Of its state nothing is known once a step ran out of memory, so its cluster is kept apart.
 #[derive(Drop)]
 pub struct Replica {
     cluster: Cluster,
@@ -88,7 +90,7 @@ impl Replica {
     }
 }
 
-/// Which rule a message comes to.
+/// Which rule handles a message.
 fn handle(state: &mut ReplicaState, envelope: &Envelope, sends: &mut Sends) -> Result<(), NoMemory>
     requires from { HasAddress envelope.now.from }
     requires other { envelope.now.from ≢ IsReplica state.old.me }

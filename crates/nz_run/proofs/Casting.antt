@@ -1,4 +1,4 @@
--- The cores of a run stand where the records lead them, record by record.
+-- The cores of a run have the states that the records lead them to, record by record.
 use Rattle.std.proofs.Common.{◌≡◌, ℕ, zero, suc, ◌+◌, ◌<◌, eqb, Bool, true, false, List, [], ◌∷◌, ◌++◌, length, map, get_or, set, Option, Some, Result, Ok, Err, refl, sym, ap, ◌∙◌, subst, arith, length-append}
 use Rattle.std.specs.Prelude.{slice_get, IfOk, OnOk, IfSome}
 use Rattle.std.specs.List.{AllByRecursion}

@@ -24,7 +24,7 @@ use Rattle.nz_machine.proofs.Pieces.{all_map}
 use Rattle.nz_machine.proofs.FitReplicas.{numbers_are_below}
 use Rattle.nz_machine.proofs.Runs.{has_left, has_right, on_cond}
 
--- the tick of the restart line with a nonce, behind so many others
+-- the tick of the restart line with a nonce, after this many others
 abbrev pub restart_tick : ℕ → List Fault → ℕ → Option ℕ
 restart_tick before [] nonce = None
 restart_tick before (faults.Restart a t ∷ lines) nonce = cond (eqb nonce (before + 1)) (Some t) (restart_tick (before + 1) lines nonce)
@@ -39,7 +39,7 @@ IsCalled tick before lines Alarm = Unit {0}
 IsCalled tick before lines Crash = Unit {0}
 IsCalled tick before lines (Restart nonce) = (before < nonce) × (restart_tick before lines nonce ≡ Some tick)
 
--- the event may happen to the actor in the tick, behind these records
+-- the event may happen to the actor in the tick, after these records
 abbrev pub IsFine : Scenario → ℕ → List Record → Actor → Event → Type 0
 IsFine s tick J a (Deliver p) = (p.to ≡ a) × Has (sent_in J) p
 IsFine s tick J a (Cut p kept) = (p.to ≡ a) × Has (sent_in J) p

@@ -58,7 +58,7 @@ called_above tick before lines Alarm h = tt
 called_above tick before lines Crash h = tt
 called_above tick before lines (Restart nonce) h = h.0
 
--- whatever comes behind an event that is no restart
+-- whatever comes after an event that is no restart
 after_other : (e : Event) (is : List Item) → IsOther e → AllByRecursion (λ (j : Item). IsBefore e j.event) is
 after_other e [] h = tt
 after_other (Deliver p) (i ∷ is) h = (tt, after_other (Deliver p) is h)

@@ -121,7 +121,7 @@ tick_is_fresh s tick now older same =
 
 -- ---- the records of one actor
 
--- an actor stands where its own records lead it
+-- an actor has the state that its own records lead it to
 own_state : (g : Group) (a : Actor) (J : List Record) → state_after g a (of_actor a J) ≡ state_after g a J
 own_state g a [] = refl
 own_state g a (r ∷ J) =
@@ -140,7 +140,7 @@ all_back : (g : Group) (now older : List Record) → AllReplay g (now ++ older) 
 all_back g [] older h = h
 all_back g (r ∷ now) older h = all_back g now older (λ a member. replay_back g a r (now ++ older) (h a member))
 
--- what an actor sends is what it sends behind its own records
+-- what an actor sends is what it sends after its own records
 replay_sends : (g : Group) (a : Actor) (r : Record) (J : List Record) → r.actor ≡ a → IsReplay g a (of_actor a (r ∷ J)) → r.sends ≡ (node_step g a (state_after g a J) r.event).1
 replay_sends g a r J is h =
     let own = of_actor a J in

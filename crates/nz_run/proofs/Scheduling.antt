@@ -1,4 +1,4 @@
--- Where the records of a tick stand in any order.
+-- Where the records of a tick are in any order.
 use Rattle.std.proofs.Common.{ℕ, zero, suc, List, [], ◌∷◌, map, subst, arith}
 use Rattle.std.specs.Prelude.{reverse, IsPermutation}
 use Rattle.std.specs.List.{All, AllByRecursion}

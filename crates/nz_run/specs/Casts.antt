@@ -1,4 +1,4 @@
--- The cores of a run, each of which stands where the records lead its actor.
+-- The cores of a run, each with the state that the records lead its actor to.
 use Rattle.std.specs.Prelude.{◌≡◌, ℕ, ◌<◌, Bool, true, List, length, get_or}
 use Rattle.nz_base.specs.Cluster.{replica_count}
 use Rattle.nz_base.specs.declared.actor.Actor.{Actor}
@@ -20,7 +20,7 @@ use Rattle.nz_proxy.specs.Seats.{ProxyView}
 use Rattle.nz_client.specs.Seats.{ClientView, IsOf}
 use Rattle.nz_run.specs.declared.cast.Cast.{Cast}
 
--- The actor's core: it stands where the records lead the actor, and no step of it ran out of memory.
+-- The actor's core: its state is the actor's after the records, and it is live.
 pub record IsAt (g : Group) (J : List Record) (a : Actor) (meaning : Node) (live : Bool) (fits : Type 0) : Type 0 where
   pub stands : meaning ≡ record { actor = a; state = state_after g a J }
   pub lives : live ≡ true
@@ -31,30 +31,37 @@ abbrev pub AreAt : {C : Type 0} → (C → Node) → (C → Bool) → (C → Gro
 AreAt {C} meaning live fits g named J cores =
     (k : ℕ) (d : C) → k < length cores → IsAt g J (named k) (meaning (get_or cores k d)) (live (get_or cores k d)) (fits (get_or cores k d) g)
 
+-- A record of an actor in a tick.
 abbrev pub record_of : ℕ → Actor → Event → List Parcel → Record
 record_of tick a e sends = record { tick = tick; actor = a; event = e; sends = sends }
 
--- What an actor sends at an event behind the records.
+-- What an actor sends at an event after the records.
 abbrev pub sends_of : Group → List Record → Actor → Event → List Parcel
 sends_of g J a e = (node_step g a (state_after g a J) e).1
 
 -- ---- the cores of each sort
 
+-- The actor that a replica's core is, with its state.
 abbrev pub replica_node : ReplicaView → Node
 replica_node r = record { actor = actors.Replica r.seat.me; state = r.seat.state }
 
+-- The replica is of the group's cluster.
 abbrev pub ReplicaFits : ReplicaView → Group → Type 0
 ReplicaFits r g = g.f ≡ r.f
 
+-- The actor that a proxy's core is, with its state.
 abbrev pub proxy_node : ProxyView → Node
 proxy_node p = record { actor = actors.Proxy p.seat.me; state = p.seat.state }
 
+-- The proxy is of the group's cluster.
 abbrev pub ProxyFits : ProxyView → Group → Type 0
 ProxyFits p g = g.f ≡ p.seat.f
 
+-- The actor that a client's core is, with its state.
 abbrev pub client_node : ClientView → Node
 client_node c = record { actor = actors.Client c.seat.me; state = c.seat.state }
 
+-- The client is of the group: its script, the window and the number of proxies.
 abbrev pub ClientFits : ClientView → Group → Type 0
 ClientFits c g = IsOf g c.seat
 
@@ -62,9 +69,11 @@ ClientFits c g = IsOf g c.seat
 abbrev pub new_replica : ℕ → ℕ → ReplicaView
 new_replica f me = record { f = f; seat = record { f = f; me = me; state = first_replica f }; live = true }
 
+-- The core of a proxy at the start.
 abbrev pub new_proxy : ℕ → ℕ → ProxyView
 new_proxy f me = record { seat = record { f = f; me = me; state = first_proxy f }; live = true }
 
+-- The core of a client at the start.
 abbrev pub new_client : Scenario → ℕ → ClientView
 new_client s me = record { seat = record { me = me; proxies = s.proxies; window = s.window; script = script_of (group_of s) me; state = first_client }; live = true }
 
@@ -77,7 +86,7 @@ pub record IsCast (g : Group) (J : List Record) (cast : Cast) : Type 0 where
   pub proxy_count : length cast.proxies.items ≡ g.proxies
   pub client_count : length cast.clients.items ≡ length g.scripts
 
--- The records so far are a run of the world, and the cores stand where they lead.
+-- The records so far are a run of the world, and the cores have the states that they lead to.
 pub record IsUnderWay (f : State) (cast : Cast) : Type 0 where
   pub world : World (group_of f.scenario) (records_of f)
   pub is_cast : IsCast (group_of f.scenario) (records_of f) cast

@@ -23,7 +23,7 @@ AllReplay g J = (a : Actor) → IsMember g a → IsReplay g a (of_actor a J)
 abbrev pub IsOwn : List Record → Actor → Lane → Type 0
 IsOwn J a lane = (lane.actor ≡ a) × (lane.steps ≡ of_actor a J)
 
--- The states of so many actors, each at the place of its number, with the records that the journal has of them.
+-- The states of this many actors, each at the place of its number, with the records that the journal has of them.
 pub record AreOwn {S : Type 0} (lane_in : S → Lane) (J : List Record) (named : ℕ → Actor) (count : ℕ) (states : List S) : Type 0 where
   pub all : length states ≡ count
   pub own : (k : ℕ) (d : S) → k < count → IsOwn J (named k) (lane_in (get_or states k d))

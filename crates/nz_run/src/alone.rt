@@ -1,3 +1,5 @@
+//! A run on one thread.
+
 ghost use Rattle.std.specs.Prelude.{◌≡◌, ◌+◌, ◌<◌, length, MatchBool, IfOk, OnOk};
 ghost use Rattle.nz_machine.specs.Journals.{group_in, run_in};
 ghost use Rattle.nz_machine.specs.Schedule.{InOrder, IsPlayable};

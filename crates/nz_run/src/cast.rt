@@ -1,3 +1,5 @@
+//! The cores of all actors.
+
 ghost use Rattle.std.specs.Prelude.{◌≡◌, ◌<◌, ◌==◌, ◌∷◌, [], ℕ, List, length, map, get_or, true, IfOk, OnOk};
 ghost use Rattle.nz_base.specs.Actor.{actor_eq};
 ghost use Rattle.nz_base.specs.Cluster.{replica_count};

@@ -1,3 +1,5 @@
+//! How the ledger is dealt out to workers, and put together again.
+
 ghost use Rattle.std.specs.Prelude.{◌≡◌, ◌+◌, ◌<◌, ◌≤◌, ℕ, [], length, vec_len, vec_capacity, All, sum_by};
 
 use nz_fabric::{Name, Share};

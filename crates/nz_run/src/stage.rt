@@ -1,3 +1,5 @@
+//! All actors, each under its own lock.
+
 ghost use Rattle.std.specs.Prelude.{◌≡◌, ◌+◌, ◌<◌, ◌↔◌, All, ℕ, IfOk, IsTrue};
 ghost use Rattle.nz_machine.specs.Schedule.{group_of, IsPlayable};
 ghost use Rattle.nz_fabric.specs.Dues.{named};

@@ -1,3 +1,5 @@
+//! A run by several workers.
+
 ghost use Rattle.std.specs.Prelude.{◌≡◌, ◌⊎◌, ◌<◌, ◌≤◌, length, true, IfOk, IfSome, OnOk};
 ghost use Rattle.nz_machine.specs.Journals.{group_in, run_in};
 ghost use Rattle.nz_machine.specs.Schedule.{InOrder, IsPlayable, Scheduled};
@@ -110,8 +112,8 @@ fn run_named<N: Name + Send + Sync, R: Threads + Wait + Sync, G: Gate + Sync>(
     Ok(Some(state.into_journal()?))
 }
 
-/// The journal of a run by so many workers, whichever does what. It may be done anew on one thread, and is with
-/// one worker. May wait.
+/// The journal of a run by this many workers, whichever does what. It may be done anew on one thread, and is with one
+/// worker. May wait.
 pub fn run<R: Threads + Wait + Sync, G: Gate + Sync>(
     rt: &R,
     alloc: Global,

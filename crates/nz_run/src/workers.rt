@@ -1,3 +1,5 @@
+//! What a worker does, tick after tick.
+
 ghost use Rattle.std.specs.Prelude.{◌≡◌, ◌<◌, ℕ, length, All, slice_index_or};
 
 use crate::shares::Worker;

@@ -57,7 +57,7 @@ pub choice_within : (choice : Option (List ℕ)) → is_choice_text choice ≡ t
 choice_within None e = refl
 choice_within (Some v) e = e
 
--- a command's line, behind its wait
+-- a command's line, after its wait
 pub command_taken : (v : ℕ) (g : Group) (t : ℕ) (ks : List Skew) (ss : List (List Request)) (b : List Request) (w r : ℕ) (c : Command) → has_spelling c ≡ true → has_room_for_requests (r + 1) t ≡ true
     → IsTakenTo (open_block v g t ks ss b w r) (command_line c ∷ []) (open_block v g t ks ss (b ++ a_request w c ∷ []) 0 (r + 1))
 command_taken v g t ks ss b w r (command.Put key value) e room =
@@ -117,7 +117,7 @@ room_less a b t h e =
     let p = both_of (nat_le b 2000) (nat_le (b * t) 2000000) e in
     both _ _ (is_most a 2000 (omega (arith, h, below_most b 2000 p.0))) (is_most (a * t) 2000000 (omega (arith, mul-le-mul_right t h, below_most (b * t) 2000000 p.1)))
 
--- the draft behind a block that is whole
+-- the draft after a block that is whole
 abbrev pub closed : ℕ → Group → ℕ → List Skew → ℕ → List (List Request) → ℕ → Draft
 closed v g t ks n ss r = a_draft (cond (n == g.clients) place.Mishaps place.Between) v g t ks ss [] 0 r []
 

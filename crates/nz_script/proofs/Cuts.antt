@@ -18,7 +18,7 @@ cut-none b (c ∷ cs) h = let ih = cut-none b cs h.1 in grind (arith, ih)
 pub cut-whole : (b : ℕ) (x l : List ℕ) → Lacks b x → x ≡ l → cut b l ≡ None
 cut-whole b x l h e = ap (cut b) (sym e) ∙ cut-none b x h
 
--- what stands before and behind a place that has the byte, where no place before has it
+-- what is before and after a place that has the byte, where no place before has it
 pub cut-at_place : (b : ℕ) (l : List ℕ) (k : ℕ) → k < length l → Lacks b (take k l) → get_or l k 0 ≡ b → cut b l ≡ Some (take k l, drop (suc k) l)
 cut-at_place b [] k within passed here = absurd (omega (arith, within))
 cut-at_place b (x ∷ xs) zero within passed here = grind (arith, here)
@@ -39,7 +39,7 @@ lacks_step b x xs true o p t ih e = subst (λ (q : List ℕ × List ℕ). Lacks 
 lacks_step b x xs false None p t ih e = absurd (none-some _ e)
 lacks_step b x xs false (Some q) p t ih e = subst (λ (q : List ℕ × List ℕ). Lacks b q.0) (same_Some _ _ e) (eqb-false x b t, ih q refl)
 
--- the byte is not in what stands before it
+-- the byte is not in what is before it
 pub cut-lacks : (b : ℕ) (l : List ℕ) (p : List ℕ × List ℕ) → cut b l ≡ Some p → Lacks b p.0
 cut-lacks b [] p e = absurd cc
 cut-lacks b (x ∷ xs) p e = lacks_step b x xs (x == b) (cut b xs) p refl (cut-lacks b xs) e
@@ -64,12 +64,12 @@ pub words-word : (x : ℕ) (xs t : List ℕ) → Lacks space (x ∷ xs) → is_w
 words-word x [] t h ends = rw (other x space h.0, ends) refl
 words-word x (y ∷ ys) t h ends = rw (other x space h.0, other y space h.1.0) (ap (onto_first x) (sym (rw (other y space h.1.0) refl) ∙ words-word y ys t h.1 ends))
 
--- no word stands before a space in front
+-- no word comes before a space that is first
 pub words-skip : (l w r : List ℕ) → (length w == 0) ≡ true → cut space l ≡ Some (w, r) → words_in l ≡ words_in r
 words-skip l [] r h e = ap words_in (cut-takes space l ([], r) e)
 words-skip l (x ∷ w) r h e = absurd (grind (arith, h))
 
--- the word before the first space, and the words behind it
+-- the word before the first space, and the words after it
 pub words-cut : (l w r : List ℕ) → (length w == 0) ≡ false → cut space l ≡ Some (w, r) → words_in l ≡ w ∷ words_in r
 words-cut l [] r h e = absurd (grind (arith, h))
 words-cut l (x ∷ w) r h e = ap words_in (cut-takes space l (x ∷ w, r) e) ∙ words-word x w (space ∷ r) (cut-lacks space l (x ∷ w, r) e) refl

@@ -142,7 +142,7 @@ fault_read g (fault.Alarm a t) small e h =
     let c = number 1 20000 t (omega arith) (half (is_between 1 20000 t) true h) in
     record { reads = (replica_read a (known_small g a small (rest (is_replica a) (knows g a) p)), (reads_number 1 20000 t c, tt)); again = ap (λ (m : ℕ). fault.Alarm a m) (number_again t c) }
 
--- the draft behind the blocks
+-- the draft after the blocks
 abbrev pub mishaps : ℕ → Group → ℕ → List Skew → List (List Request) → ℕ → List Fault → Draft
 mishaps v g t ks ss r fs = a_draft place.Mishaps v g t ks ss [] 0 r fs
 

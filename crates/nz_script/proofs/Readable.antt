@@ -50,12 +50,12 @@ number_of-decimal n h = rw (numeral_decimal n h) (ap (λ (m : ℕ). Some m) (dig
 
 -- ---- words
 
--- some bytes, each of which may stand in a word
+-- some bytes, each of which may be in a word
 pub record IsWord (bytes : List ℕ) : Type 0 where
   pub some : 0 < length bytes
   pub graphic : list_all is_graphic bytes ≡ true
 
--- the word is read again where this form is to stand
+-- the word is read again where this form is expected
 pub record IsReadAs (f : Form) (w : Word) : Type 0 where
   pub read : word_of f (word_text w) ≡ Some w
   pub word : IsWord (word_text w)

@@ -113,7 +113,7 @@ draft_3 v s = with_words (draft_2 v s) (verb.Head head.Proxies) (word.Number s.p
 abbrev draft_4 : ℕ → Scenario → Draft
 draft_4 v s = with_words (draft_3 v s) (verb.Head head.Clients) (word.Number s.clients ∷ [])
 
--- behind the first five lines: version 2 has its window next
+-- after the first five lines: version 2 has its window next
 abbrev draft_5 : ℕ → Group → ℕ → Draft
 draft_5 v g t = a_draft (cond (v == 2) place.Window place.Between) v g t [] [] [] 0 0 []
 

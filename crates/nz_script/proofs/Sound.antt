@@ -220,7 +220,7 @@ head_kept d head.Window words p e fits =
 
 -- ---- the lines of a block
 
--- behind the head, where the same has been read
+-- after the head, where the same has been read
 moved : (rank next : ℕ) (g : Group) (scripts : List (List Request)) (block : List Request) (requests : ℕ) (faults : List Fault) → 6 ≤ next → (next < 8 → rank < 8) → (8 ≤ next → 8 ≤ rank)
     → IsAt rank g scripts block requests faults → IsAt next g scripts block requests faults
 moved rank next g scripts block requests faults high lasts full p = record {
@@ -284,7 +284,7 @@ wait_kept d words p fits =
 all_counted : (scripts : List (List Request)) (block : List Request) (requests : ℕ) → sum_by length scripts + length block ≡ requests → sum_by length (scripts ++ block ∷ []) + 0 ≡ requests
 all_counted scripts block requests e = omega (arith, e, sum_by-append length scripts (block ∷ []))
 
--- behind a block
+-- after a block
 closed : (g : Group) (scripts : List (List Request)) (block : List Request) (requests : ℕ) (faults : List Fault) (last : Bool) → (length scripts + 1 == g.clients) ≡ last → length scripts < g.clients → faults ≡ []
     → IsAt (rank_of (cond last place.Mishaps place.Between)) g (scripts ++ block ∷ []) [] requests faults
 closed g scripts block requests faults true e lasts none =

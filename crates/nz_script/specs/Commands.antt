@@ -1,4 +1,4 @@
--- The command whose words stand first among some words.
+-- The command whose words come first among some words.
 use Rattle.std.specs.Prelude.{ℕ, if◌then◌else◌, List, [], ◌∷◌, Option, Some, None}
 use Rattle.nz_store.specs.declared.command.Command.{Command}
 use Rattle.nz_script.specs.declared.shape.Ask.{Ask}
@@ -10,21 +10,22 @@ use Rattle.nz_script.specs.Shapes.{verb_of, ask_shape_of}
 use Rattle.nz_script.specs.Forms.{word_of, ◌>>=◌}
 use Rattle.nz_script.specs.Drafts.{all_within, command_in}
 
--- what the first words mean, where each has its form, and the words behind them
+-- What the first words mean, where each has its form, and the words after them.
 abbrev pub fits_first : List Form → List (List ℕ) → Option (List Word × List (List ℕ))
 fits_first [] more = Some ([], more)
 fits_first (form ∷ forms) [] = None
 fits_first (form ∷ forms) (bytes ∷ more) = word_of form bytes >>= λ word. fits_first forms more >>= λ x. Some (word ∷ x.0, x.1)
 
+-- The command word that a first word is, if it is one.
 abbrev pub asked : Verb → Option Ask
 asked (verb.Ask ask) = Some ask
 asked _ = None
 
--- a command of this sort, with its key and its values in range, and the words behind it
+-- A command of this sort, with its key and its values in range, and the words after it.
 abbrev pub command_of_sort : Ask → List (List ℕ) → Option (Command × List (List ℕ))
 command_of_sort ask words = fits_first (ask_shape_of ask).2 words >>= λ x. if all_within (ask_shape_of ask).2 x.0 then Some (command_in ask x.0, x.1) else None
 
--- the command whose words stand first, and the words behind it
+-- The command whose words come first, and the words after it.
 unfoldable pub command_first : List (List ℕ) → Option (Command × List (List ℕ))
 command_first [] = None
 command_first (first ∷ more) = verb_of first >>= λ verb. asked verb >>= λ ask. command_of_sort ask more

@@ -10,28 +10,28 @@ use Rattle.nz_store.specs.declared.command.Command.{Command}
 use Rattle.nz_store.specs.declared.command.Command.TheVariants as command
 use Rattle.nz_store.specs.Grammar.{spelling}
 
--- the state of the generator after one draw
+-- The state of the generator after one draw.
 unfoldable pub next : ℕ → ℕ
 next x = (x * 6364136223846793005 + 1442695040888963407) % 2 ^ 64
 
--- the number that the draw gives which led to this state
+-- The number that the draw gives which led to this state.
 abbrev pub drawn : ℕ → ℕ
 drawn x = x / 2 ^ 33
 
--- the state after so many pairs of draws
+-- The state after this many pairs of draws.
 abbrev pub after : ℕ → ℕ → ℕ
 after zero x = x
 after (suc n) x = after n (next (next x))
 
--- `kB`
+-- `kB`.
 abbrev pub key_of : ℕ → List ℕ
 key_of b = 107 ∷ decimal b
 
--- `vI`
+-- `vI`.
 abbrev pub value_of : ℕ → List ℕ
 value_of i = 118 ∷ decimal i
 
--- put, get, del or cas from absent, by a; the key is by b and the value by i
+-- Put, get, del or cas from absent, by a; the key is by b and the value by i.
 abbrev pub command_for : ℕ → ℕ → ℕ → Command
 command_for a b i =
     if a == 0 then command.Put (key_of b) (value_of i)
@@ -39,35 +39,36 @@ command_for a b i =
     else (if a == 2 then command.Del (key_of b)
     else command.Cas (key_of b) None (Some (value_of i))))
 
--- request i, of the two draws behind this state
+-- Request i, of the two draws after this state.
 abbrev pub request_for : ℕ → ℕ → Request
 request_for x i = record { wait = 0; command = spelling (command_for (drawn (next x) % 4) (drawn (next (next x)) % 16) i) }
 
--- the requests from i on, two draws each
+-- The requests from i on, two draws each.
 abbrev pub requests_for : ℕ → ℕ → ℕ → List Request
 requests_for x i zero = []
 requests_for x i (suc n) = request_for x i ∷ requests_for (next (next x)) (i + 1) n
 
--- every sixteenth request from this client's first on; i is the number of the first of the list
+-- Every sixteenth request from this client's first on; i is the number of the first of the list.
 abbrev pub script_for : ℕ → ℕ → List Request → List Request
 script_for client i [] = []
 script_for client i (r ∷ requests) = if i % 16 == client then r ∷ script_for client (i + 1) requests else script_for client (i + 1) requests
 
--- the scripts of n clients from this one on
+-- The scripts of n clients from this one on.
 abbrev pub scripts_for : ℕ → ℕ → List Request → List (List Request)
 scripts_for client zero requests = []
 scripts_for client (suc n) requests = script_for client 0 requests ∷ scripts_for (client + 1) n requests
 
--- fault j: the timed message of a drawn request to a drawn replica is lost
+-- Fault j: the timed message of a drawn request to a drawn replica is lost.
 abbrev pub fault_for : ℕ → ℕ → ℕ → Fault
 fault_for count x j = fault.Drop (Proxy (j % 2)) (Replica (drawn (next x) % 5)) 2 (1 + drawn (next (next x)) % count)
 
--- the faults from j on, two draws each
+-- The faults from j on, two draws each.
 abbrev pub faults_for : ℕ → ℕ → ℕ → ℕ → List Fault
 faults_for count x j zero = []
 faults_for count x j (suc n) = fault_for count x j ∷ faults_for count (next (next x)) (j + 1) n
 
--- f is 2, and there are 2 proxies, 16 clients with one request open at a time, 1,000 ticks, and a fault for each 50 requests
+-- f is 2, and there are 2 proxies, 16 clients with one request open at a time, 1,000 ticks, and a fault for each 50
+-- requests.
 abbrev pub generated : ℕ → ℕ → Scenario
 generated seed count = record {
   cluster = 2;

@@ -9,22 +9,22 @@ use Rattle.nz_script.specs.Bytes.{is_printed, words_in}
 use Rattle.nz_script.specs.Shapes.{verb_of, forms_of}
 use Rattle.nz_script.specs.Forms.{word_of, ◌>>=◌}
 
--- what the words mean, where each has its form and none is missing or too many
+-- What the words mean, where each has its form and none is missing or too many.
 abbrev pub fits : List Form → List (List ℕ) → Option (List Word)
 fits [] [] = Some []
 fits [] (bytes ∷ more) = None
 fits (form ∷ forms) [] = None
 fits (form ∷ forms) (bytes ∷ more) = word_of form bytes >>= λ word. fits forms more >>= λ words. Some (word ∷ words)
 
--- a line of this sort with these words
+-- A line of this sort with these words.
 abbrev pub a_line : Verb → List Word → Line
 a_line verb words = record { verb = verb; words = words }
 
--- the words after the first, which tells the sort
+-- The words after the first, which tells the sort.
 abbrev pub line_from : List (List ℕ) → Option Line
 line_from [] = None
 line_from (first ∷ more) = verb_of first >>= λ verb. fits (forms_of verb) more >>= λ words. Some (a_line verb words)
 
--- what the bytes of a line are: None where they have no shape of the table
+-- What the bytes of a line are: None where they have no shape of the table.
 unfoldable pub line_of : List ℕ → Option Line
 line_of bytes = if list_all is_printed bytes then line_from (words_in bytes) else None

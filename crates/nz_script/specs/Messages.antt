@@ -4,7 +4,7 @@ use Rattle.std.specs.Str.{bytes_eq}
 use Rattle.nz_script.specs.declared.message.Message.{Message}
 use Rattle.nz_script.specs.declared.message.Message.TheVariants.{Request, Timed, FastReply, SlowReply, Answer, LogMod, Fetch, FetchReply, SyncReport, ViewAsk, ViewChange, StartView, VectorAsk, VectorTell, RejoinAsk, RejoinTell, StateAsk, StateTell}
 
--- the number and the name of each
+-- The number and the name of each.
 abbrev pub row_of : Message → ℕ × List ℕ
 row_of Request = (1, codes "request")
 row_of Timed = (2, codes "timed")
@@ -25,21 +25,24 @@ row_of RejoinTell = (16, codes "rejoin-tell")
 row_of StateAsk = (17, codes "state-ask")
 row_of StateTell = (18, codes "state-tell")
 
+-- All kinds of messages, by number.
 abbrev pub messages : List Message
 messages = Request ∷ Timed ∷ FastReply ∷ SlowReply ∷ Answer ∷ LogMod ∷ Fetch ∷ FetchReply ∷ SyncReport ∷ ViewAsk ∷ ViewChange ∷ StartView ∷ VectorAsk ∷ VectorTell ∷ RejoinAsk ∷ RejoinTell ∷ StateAsk ∷ StateTell ∷ []
 
+-- The number of the kind with this name, among some kinds.
 abbrev pub kind_in : List Message → List ℕ → Option ℕ
 kind_in [] name = None
 kind_in (message ∷ others) name = if bytes_eq (row_of message).1 name then Some (row_of message).0 else kind_in others name
 
+-- The name of the kind with this number, among some kinds.
 abbrev pub name_in : List Message → ℕ → List ℕ
 name_in [] kind = []
 name_in (message ∷ others) kind = if (row_of message).0 == kind then (row_of message).1 else name_in others kind
 
--- the number of the kind with this name
+-- The number of the kind with this name.
 unfoldable pub kind_named : List ℕ → Option ℕ
 kind_named name = kind_in messages name
 
--- the name of the kind with this number
+-- The name of the kind with this number.
 unfoldable pub name_of : ℕ → List ℕ
 name_of kind = name_in messages kind

@@ -12,12 +12,12 @@ use Rattle.nz_script.specs.Shapes.{rank_of}
 use Rattle.nz_script.specs.Lines.{line_of}
 use Rattle.nz_script.specs.Drafts.{version_has, in_order, names_known, within_limits, with_words, start, scenario_of}
 
--- an empty line, or one that begins with `#`
+-- An empty line, or one that begins with `#`.
 abbrev pub is_passed_over : List ℕ → Bool
 is_passed_over [] = true
 is_passed_over (byte ∷ bytes) = byte == 35
 
--- what is wrong with a line that has its shape: it is none of this version, or the first test that fails
+-- What is wrong with a line that has its shape: it is none of this version, or the first test that fails.
 abbrev pub fault_of : Draft → Line → Option Kind
 fault_of d line =
     if not (version_has d.version line.verb) then Some Syntax
@@ -25,46 +25,48 @@ fault_of d line =
     else (if not (names_known d line) then Some Name
     else (if not (within_limits d line) then Some Limit else None)))
 
+-- The draft with a line, unless the line is at fault.
 abbrev pub taken : Draft → Line → Option Kind → Result Draft Kind
 taken d line (Some kind) = Err kind
 taken d line None = Ok (with_words d line.verb line.words)
 
+-- The same of a line that may have no shape.
 abbrev pub taken_if_shaped : Draft → Option Line → Result Draft Kind
 taken_if_shaped d None = Err Syntax
 taken_if_shaped d (Some line) = taken d line (fault_of d line)
 
--- what has been read with one line more, or what is wrong with that line
+-- What has been read with one line more, or what is wrong with that line.
 unfoldable pub step : Draft → List ℕ → Result Draft Kind
 step d bytes = if is_passed_over bytes then Ok d else taken_if_shaped d (line_of bytes)
 
--- what has been read with the line, or what is wrong with it
+-- What has been read with the line, or what is wrong with it.
 abbrev pub outcome : Option Kind → Draft → Result Draft Kind
 outcome None d = Ok d
 outcome (Some kind) d = Err kind
 
--- a text has at most this many bytes
+-- A text has at most this many bytes.
 abbrev pub most_bytes : ℕ
 most_bytes = 1048576
 
--- behind the last newline: an input that goes on past the most bytes is at its limit in this line, a line without
--- its newline is no line, and a text that ends before its last line lacks this one
+-- After the last newline: an input that goes on past the most bytes is at its limit in this line, a line without its
+-- newline is no line, and a text that ends before its last line lacks this one.
 abbrev pub ending : Bool → List ℕ → ℕ → Draft → Result Scenario ScriptFault
 ending long tail n d =
     if long then Err (Refusal n Limit)
     else (if not (length tail == 0) then Err (Refusal n Syntax)
     else (if rank_of d.place == 9 then Ok (scenario_of d) else Err (Refusal n Order)))
 
--- the answer to the lines behind, where nothing is wrong with line n
+-- The answer to the lines after, where nothing is wrong with line n.
 abbrev pub behind : ℕ → (Draft → Result Scenario ScriptFault) → Result Draft Kind → Result Scenario ScriptFault
 behind n further (Err kind) = Err (Refusal n kind)
 behind n further (Ok next) = further next
 
--- the lines from line n on, and what stands behind the last newline
+-- The lines from line n on, and what follows the last newline.
 abbrev pub reading : Bool → List ℕ → ℕ → Draft → List (List ℕ) → Result Scenario ScriptFault
 reading long tail n d [] = ending long tail n d
 reading long tail n d (line ∷ lines) = behind n (λ next. reading long tail (n + 1) next lines) (step d line)
 
--- the scenario that the bytes are the text of, or the first bad line with its kind
+-- The scenario that the bytes are the text of, or the first bad line with its kind.
 unfoldable pub scenario : List ℕ → Result Scenario ScriptFault
 scenario bytes =
     let text = take most_bytes bytes in

@@ -1,26 +1,26 @@
--- Whether a text has at most so many bytes, part by part.
+-- Whether a text has at most this many bytes, part by part.
 use Rattle.std.specs.Prelude.{ℕ, ◌-◌, nat_le, if◌then◌else◌, List, length, Option, Some, None}
 use Rattle.std.specs.Option.{option_map}
 use Rattle.nz_store.specs.declared.command.Command.{Command}
 use Rattle.nz_store.specs.Reading.{command_of}
 use Rattle.nz_script.specs.Texts.{word_text, line_text, choice_of, command_line}
 
--- what is left of a room when so many bytes are taken
+-- What is left of a room when this many bytes are taken.
 abbrev pub room_after : ℕ → ℕ → Option ℕ
 room_after room n = if nat_le n room then Some (room - n) else None
 
--- the length of a choice as a word
+-- The length of a choice as a word.
 abbrev pub choice_len : Option (List ℕ) → ℕ
 choice_len choice = length (word_text (choice_of choice))
 
--- the length of a choice, and the bytes behind it
+-- The length of a choice, and the bytes after it.
 abbrev pub sized : Option (List ℕ) × List ℕ → ℕ × List ℕ
 sized x = (choice_len x.0, x.1)
 
--- the length of a command's line, without its newline
+-- The length of a command's line, without its newline.
 abbrev pub command_len : Command → ℕ
 command_len c = length (line_text (command_line c))
 
--- that of the command which the bytes spell
+-- That of the command which the bytes spell.
 abbrev pub spelled_len : List ℕ → Option ℕ
 spelled_len bytes = option_map command_len (command_of bytes)

@@ -14,63 +14,69 @@ use Rattle.nz_script.specs.Shapes.{forms_of}
 use Rattle.nz_script.specs.Drafts.{knows, all_known, all_within, is_span, has_skew, has_room_for_requests, has_room_for_faults}
 use Rattle.nz_script.specs.Texts.{skew_line, fault_line, text_of}
 
+-- Who takes part in a scenario.
 abbrev pub group_of : Scenario → Group
 group_of s = record { cluster = s.cluster; proxies = s.proxies; clients = s.clients; window = s.window }
 
--- the actors of the line are of the group and of their sorts, and its numbers are in the ranges of the table
+-- The actors of the line are of the group and of their sorts, and its numbers are in the ranges of the table.
 abbrev pub is_sound : Group → Line → Bool
 is_sound g line = all_known g (forms_of line.verb) line.words && (all_within (forms_of line.verb) line.words && is_span line.verb line.words)
 
--- f is 1 to 4, there are 1 to 8 proxies and 1 to 64 clients with a script each, 1 to 20,000 ticks, and a window of 1 to 16
+-- f is 1 to 4, there are 1 to 8 proxies and 1 to 64 clients with a script each, 1 to 20,000 ticks, and a window of 1
+-- to 16.
 abbrev pub has_group : Scenario → Bool
 has_group s = ((is_within 1 4 s.cluster && is_within 1 8 s.proxies) && (is_within 1 64 s.clients && is_within 1 20000 s.ticks)) && (is_within 1 16 s.window && (length s.scripts == s.clients))
 
--- no clock has two skews
+-- No clock has two skews.
 abbrev pub are_apart : List Skew → Bool
 are_apart [] = true
 are_apart (s ∷ skews) = not (has_skew skews s.actor) && are_apart skews
 
+-- Whether each skew's line is sound, and no actor has two.
 abbrev pub has_skews : Scenario → Bool
 has_skews s = list_all (λ k. is_sound (group_of s) (skew_line k)) s.skews && are_apart s.skews
 
--- a request waits at most 20,000 ticks, and its bytes are those of a command
+-- A request waits at most 20,000 ticks, and its bytes are those of a command.
 abbrev pub is_request : Request → Bool
 is_request r = nat_le r.wait 20000 && is_some (command_of r.command)
 
+-- Whether all requests of a script are commands that may wait so long.
 abbrev pub are_requests : List Request → Bool
 are_requests script = list_all is_request script
 
--- how many requests there are in all
+-- How many requests there are in all.
 abbrev pub request_count : List (List Request) → ℕ
 request_count scripts = sum_by length scripts
 
--- the sums and the products are within the limits
+-- The sums and the products are within the limits.
 abbrev pub has_few : Scenario → Bool
 has_few s = has_room_for_requests (request_count s.scripts) s.ticks && has_room_for_faults (request_count s.scripts) (length s.faults)
 
+-- Whether each fault's line is sound.
 abbrev pub has_faults : Scenario → Bool
 has_faults s = list_all (λ f. is_sound (group_of s) (fault_line f)) s.faults
 
--- the text has at most 1,048,576 bytes
+-- The text has at most 1,048,576 bytes.
 abbrev pub is_short : Scenario → Bool
 is_short s = nat_le (length (text_of s)) 1048576
 
--- the scenario is as a run asks, and its text can be read
+-- The scenario is as a run asks, and its text can be read.
 abbrev pub is_valid : Scenario → Bool
 is_valid s = ((has_group s && has_skews s) && (list_all are_requests s.scripts && has_few s)) && (has_faults s && is_short s)
 
+-- The scenario is one that a text can have.
 abbrev pub IsValid : Scenario → Type 0
 IsValid s = IsTrue (is_valid s)
 
--- who crashes, restarts or is alarmed is of the group
+-- Who crashes, restarts or is alarmed is of the group.
 abbrev pub calls_known : Group → Fault → Bool
 calls_known g (fault.Crash a t) = knows g a
 calls_known g (fault.Restart a t) = knows g a
 calls_known g (fault.Alarm a t) = knows g a
 calls_known g _ = true
 
--- a scenario that can be run: its group and its ticks are in range, its requests are commands, there are not too many
--- requests and faults, and its faults call nobody who is not there
+-- A scenario that can be run: its group and its ticks are in range, its requests are commands, there are not too many
+-- requests and faults, and its faults call nobody who is not there.
 pub record IsRunnable (s : Scenario) : Type 0 where
   pub group : IsTrue (has_group s)
   pub requests : IsTrue (list_all are_requests s.scripts)

@@ -1,10 +1,12 @@
+//! Pieces of bytes: lines, words and numerals.
+
 ghost use Rattle.std.specs.Prelude.{◌≡◌, ◌<◌, ◌∷◌, [], length, MatchOption, nat_le, ◌&&◌};
 ghost use Rattle.std.specs.Char.{is_ascii_digit};
 ghost use Rattle.std.specs.List.{list_all};
 ghost use Rattle.std.specs.Option.{option_map};
 ghost use Rattle.nz_script.specs.Bytes.{cut, words_in, is_without_leading_zero as has_no_leading_zero, is_numeral as is_numeral_word, number_of as number_in};
 
-/// What stands before and behind the first byte that is `at`.
+/// What is before and after the first byte that is `at`.
 pub fn cut_at(bytes: &[u8], at: u8) -> Option<(&[u8], &[u8])>
     ensures { option_map (λ x. (x.0.now, x.1.now)) result ≡ cut at bytes.now }
 {
@@ -19,7 +21,7 @@ pub fn cut_at(bytes: &[u8], at: u8) -> Option<(&[u8], &[u8])>
     }
 }
 
-/// The next word, and what stands behind it.
+/// The next word, and what follows it.
 pub fn next_word(line: &[u8]) -> Option<(&[u8], &[u8])>
     ensures { MatchOption result (words_in line.now ≡ []) (λ x. words_in line.now ≡ x.0.now ∷ words_in x.1.now) }
 {

@@ -1,3 +1,5 @@
+//! The tests of a line that has its shape.
+
 ghost use Rattle.std.specs.Prelude.{◌≡◌, ◌<◌, ◌^◌};
 ghost use Rattle.nz_base.specs.Actor.{actor_eq};
 ghost use Rattle.nz_store.specs.Reading.{is_key_text, is_value_text};
@@ -211,7 +213,7 @@ pub fn are_within(forms: &[Form], words: &[Word]) -> bool
     is_within(*form, word) && are_within(forms, words)
 }
 
-/// Whether so many requests are within the limits.
+/// Whether this many requests are within the limits.
 pub fn fits_requests(requests: u64, ticks: u32) -> bool
     requires { requests < 2 ^ 40 }
     ensures { result ≡ has_room_for_requests requests ticks }
@@ -219,7 +221,7 @@ pub fn fits_requests(requests: u64, ticks: u32) -> bool
     requests <= MOST_REQUESTS && requests * u64::from(ticks) <= MOST_TURNS
 }
 
-/// Whether so many faults are within the limits.
+/// Whether this many faults are within the limits.
 pub fn fits_faults(requests: u64, faults: u64) -> bool
     requires { requests < 2 ^ 40 }
     ensures { result ≡ has_room_for_faults requests faults }

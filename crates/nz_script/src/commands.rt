@@ -1,3 +1,5 @@
+//! The command that words spell.
+
 ghost use Rattle.std.specs.Prelude.{◌≡◌, map, IfOk, IfSome};
 ghost use Rattle.std.specs.Option.{option_map};
 ghost use Rattle.nz_store.specs.Grammar.{IsValid};
@@ -11,7 +13,7 @@ use nz_base::NoMemory;
 use nz_store::Command;
 use std::alloc::Global;
 
-/// What the first words mean, and the words behind them.
+/// What the first words mean, and the words after them.
 fn words_first<'a, 'b>(
     alloc: Global,
     forms: &[Form],
@@ -62,7 +64,7 @@ fn command_of_ask<'a, 'b>(
     Ok(Some((command, rest)))
 }
 
-/// The command whose words, as a scenario has them, stand first, and the words behind it.
+/// The command whose words, as a scenario has them, come first, and the words after it.
 #[tactic(auto, unfolding(crate::specs::Commands::command_first))]
 pub fn command_first<'a, 'b>(
     alloc: Global,

@@ -1,3 +1,5 @@
+//! What was read of a scenario so far.
+
 ghost use Rattle.std.specs.Prelude.{◌≡◌, ◌+◌, ◌<◌, ◌≤◌, IfOk, IsTrue, OnOk};
 ghost use Rattle.nz_store.specs.Grammar.{IsValid};
 ghost use Rattle.nz_script.specs.Shapes.{forms_of, head_shape_of};

@@ -1,9 +1,11 @@
+//! Why a text is no scenario.
+
 /// What is wrong with a line. The first of the four that is, in this order, is its kind.
 #[derive(Clone, Copy, Debug, PartialEq, Eq)]
 pub enum Kind {
     /// It has not the shape of any line.
     Syntax,
-    /// It does not stand in its place.
+    /// It is not in its place.
     Order,
     /// It names somebody or something that is not there.
     Name,

@@ -1,3 +1,5 @@
+//! Scenarios that are drawn from a seed.
+
 ghost use Rattle.std.specs.Prelude.{◌≡◌, ◌+◌, ◌*◌, ◌/◌, ◌<◌, ◌≤◌, ◌^◌, length, IfOk, OnOk, ◌∷◌};
 ghost use Rattle.std.specs.Fmt.{decimal};
 ghost use Rattle.nz_store.specs.Grammar.{spelling, IsValid};
@@ -30,7 +32,7 @@ impl Draws {
     }
 }
 
-/// The letter and the number behind it.
+/// The letter and the number after it.
 fn lettered(alloc: Global, letter: u8, number: u64) -> Result<Text, NoMemory>
     ensures { IfOk result (λ text. text ≡ letter ∷ decimal number) }
 {
@@ -142,7 +144,7 @@ fn faults_of(alloc: Global, draws: &mut Draws, count: u32) -> Result<FaultList, 
     Ok(faults)
 }
 
-/// The scenario that the seed draws, with so many requests, 1 to 2,000.
+/// The scenario that the seed draws, with this many requests, 1 to 2,000.
 pub fn generate(alloc: Global, seed: u64, count: u32) -> Result<Scenario, NoMemory>
     requires some { 1 ≤ count }
     requires few { count ≤ 2000 }

@@ -1,3 +1,5 @@
+//! Who takes part, as the head of a scenario says.
+
 ghost use Rattle.std.specs.Prelude.{◌≡◌};
 ghost use Rattle.nz_script.specs.Drafts.{knows as knows_actor};
 

@@ -1,3 +1,5 @@
+//! Lines, by their words.
+
 ghost use Rattle.std.specs.Prelude.{◌≡◌, IfOk};
 ghost use Rattle.std.specs.List.{list_all};
 ghost use Rattle.nz_script.specs.Bytes.{is_printed, words_in};

@@ -1,3 +1,5 @@
+//! The kinds of messages by number and name.
+
 ghost use Rattle.std.specs.Prelude.{◌≡◌};
 ghost use Rattle.nz_script.specs.Messages.{row_of, kind_named as kind_for, name_of as name_for, kind_in as kind_among, name_in as name_among};
 

@@ -1,3 +1,5 @@
+//! The one text of a scenario.
+
 ghost use Rattle.std.specs.Prelude.{◌≡◌, ◌++◌, ◌∷◌, [], IfOk, OnOk, Ok, Some, map, length, take, ◌≤◌};
 ghost use Rattle.std.specs.Fmt.{decimal};
 ghost use Rattle.nz_store.specs.Reading.{command_of};

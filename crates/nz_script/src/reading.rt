@@ -1,3 +1,5 @@
+//! Texts, read line by line.
+
 ghost use Rattle.std.specs.Prelude.{◌≡◌, ◌≢◌, ◌≤◌, ℕ, Bool, List, length, nat_lt, take, IfOk, IfErr, OnErr, Option, Some, None, Result, Ok, Err};
 ghost use Rattle.nz_script.specs.Bytes.{lines_in, tail_in};
 ghost use Rattle.nz_script.specs.Reading.{is_passed_over as line_is_passed_over, step as step_of, outcome, ending as ending_of, reading, scenario};
@@ -45,7 +47,7 @@ fn step(alloc: Global, draft: &mut Draft, bytes: &[u8]) -> Result<Option<Kind>, 
     }
 }
 
-/// What is answered at the end of the text, in the line behind the last newline.
+/// What is answered at the end of the text, in the line after the last newline.
 fn ending(long: bool, tail: &[u8], line: u32, draft: Draft) -> Result<Scenario, ScriptFault>
     ensures { result ≡ ending_of long tail.now line draft }
 {
@@ -92,7 +94,7 @@ fn read_text(
     Ok(ending(long, rest, line, draft))
 }
 
-/// The bytes, cut behind so many.
+/// The first bytes, this many.
 fn front(bytes: &[u8], most: usize) -> &[u8]
     ensures value { result.now ≡ take most bytes.now }
     ensures short { length result.now ≤ most }

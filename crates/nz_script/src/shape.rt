@@ -1,7 +1,9 @@
+//! The table of lines.
+
 ghost use Rattle.std.specs.Prelude.{◌≡◌, ◌==◌};
 ghost use Rattle.nz_script.specs.Shapes.{word_of, place_of, forms_of, head_shape_of, ask_shape_of, mishap_shape_of, rank_of, verb_of as verb_for, verb_in as verb_among};
 
-/// How far a text has come: which lines may stand next.
+/// How far a text has come: which lines may come next.
 #[derive(Clone, Copy, Debug)]
 pub enum Place {
     Version,
@@ -64,7 +66,7 @@ pub enum Verb {
     Done,
 }
 
-/// What may stand as a word behind the first one.
+/// What may be a word after the first one.
 #[derive(Clone, Copy, Debug)]
 pub enum Form {
     /// A number from `least` to `most`.
@@ -177,7 +179,7 @@ const WINDOW: Form = Form::Number { least: 2, most: 16 };
 
 const VERSION: Form = Form::Number { least: 1, most: 2 };
 
-/// The first words of the lines, where these may stand, and the forms of the words that follow.
+/// The first words of the lines, where these may come, and the forms of the words that follow.
 fn head_shape(head: Head) -> Shape
     ensures word { result.0.now ≡ (head_shape_of head).0 }
     ensures place { result.1 ≡ (head_shape_of head).1 }
@@ -245,7 +247,7 @@ fn mishap_shape(mishap: Mishap) -> Shape
 }
 
 impl Verb {
-    /// The first word of such a line, where it may stand, and the forms of the words that follow.
+    /// The first word of such a line, where it may come, and the forms of the words that follow.
     pub fn shape(self) -> Shape
         ensures word { result.0.now ≡ word_of self }
         ensures place { result.1 ≡ place_of self }

@@ -1,3 +1,5 @@
+//! Whether the text of a scenario is short enough, part by part.
+
 ghost use Rattle.std.specs.Prelude.{◌≡◌, ◌≤◌, ◌∷◌, [], length, map, Some, None};
 ghost use Rattle.std.specs.Fmt.{decimal};
 ghost use Rattle.nz_store.specs.Reading.{command_of};
@@ -12,7 +14,7 @@ use super::spelled::spelled_len;
 use super::word::Word;
 use nz_base::{Actor, Fault, Request, RequestList, Scenario, Skew};
 
-/// What is left of a room when so many bytes are taken.
+/// What is left of a room when this many bytes are taken.
 fn taken(room: u32, len: u32) -> Option<u32>
     ensures { result ≡ room_after room len }
 {

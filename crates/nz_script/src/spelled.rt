@@ -42,7 +42,7 @@ fn value_at(bytes: &[u8]) -> Option<(&[u8], &[u8])>
     }
 }
 
-/// How long the choice is as a word of a line, and the bytes behind it.
+/// How long the choice is as a word of a line, and the bytes after it.
 #[tactic(auto, unfolding(nz_store::specs::Reading::choice_at))]
 fn choice_at(bytes: &[u8]) -> Option<(u32, &[u8])>
     ensures value { option_map (λ x. (x.0, x.1.now)) result ≡ option_map sized (choice_in bytes.now) }

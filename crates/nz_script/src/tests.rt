@@ -1,3 +1,5 @@
+//! Texts, drawn scenarios, and first bad lines.
+
 use super::*;
 use nz_base::Scenario;
 use std::alloc::Global;
@@ -309,8 +311,7 @@ fn values_of_257_bytes(rt: HostRuntime) -> Result<(), Fail> {
     Ok(())
 }
 
-/// A prefix that ends inside line N is bad there, and one that ends behind its newline lacks the
-/// line after it.
+/// A prefix that ends inside line N is bad there, and one that ends after its newline lacks the line after it.
 #[test]
 fn proper_prefixes(rt: HostRuntime) -> Result<(), Fail> {
     let mut line = 1u32;

@@ -1,3 +1,5 @@
+//! Whether a scenario is one that a text can have.
+
 ghost use Rattle.std.specs.Prelude.{◌≡◌, ◌↔◌, ◌≤◌, ◌<◌, ◌^◌, IsTrue, length};
 ghost use Rattle.std.specs.List.{list_all};
 ghost use Rattle.nz_base.specs.Actor.{is_within as is_between_of};

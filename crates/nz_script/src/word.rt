@@ -1,3 +1,5 @@
+//! What a word of a line means.
+
 ghost use Rattle.std.specs.Prelude.{◌≡◌, IfOk, slice_get};
 ghost use Rattle.std.specs.Option.{option_copied};
 ghost use Rattle.nz_script.specs.Forms.{lettered as lettered_as, actor_named, number_word as number_as, units_word as units_as, actor_word as actor_as, actors_word as actors_as, value_word as value_as, choice_word as choice_as, word_of as word_for, number_in, byte_in, units_in, actor_in, actors_in, kind_in, text_in, choice_in};

@@ -76,7 +76,7 @@ value_of-without (e ∷ es) key other =
           absurd cc)
     ] refl
 
--- ---- each key stands once
+-- ---- each key is there once
 
 -- all keys lie above this one
 abbrev AllAbove : List ℕ → Entries → Type 0

@@ -7,30 +7,31 @@ use Rattle.std.specs.Str.{bytes_eq}
 use Rattle.std.specs.Map.{lookup, keys_of}
 use Rattle.std.specs.BTreeMap.{insert_entry}
 
+-- The pairs of a key and its value, in the order of the keys' bytes.
 abbrev pub Entries : Type 0
 Entries = List (List ℕ × List ℕ)
 
--- the map with no keys
+-- The map with no keys.
 abbrev pub empty : Entries
 empty = []
 
--- the value of a key, where it has one
+-- The value of a key, where it has one.
 abbrev pub value_of : Entries → List ℕ → Option (List ℕ)
 value_of entries key = lookup (bytes_eq key) entries
 
--- the same map, but with this value at the key
+-- The same map, but with this value at the key.
 abbrev pub with_value : Entries → List ℕ → List ℕ → Entries
 with_value entries key value = insert_entry (slice_cmp nat_cmp) entries key value
 
--- the same map, but with no value at the key
+-- The same map, but with no value at the key.
 abbrev pub without : Entries → List ℕ → Entries
 without entries key = filter (λ e. not (bytes_eq key e.0)) entries
 
--- the same map, but with this value or none at the key
+-- The same map, but with this value or none at the key.
 abbrev pub with_choice : Entries → List ℕ → Option (List ℕ) → Entries
 with_choice entries key (Some value) = with_value entries key value
 with_choice entries key None = without entries key
 
--- each key stands once, in the order of their bytes
+-- Each key is there once, in the order of their bytes.
 abbrev pub IsMap : Entries → Type 0
 IsMap entries = IsStrictlySortedBy (slice_cmp nat_cmp) (keys_of entries)

@@ -4,60 +4,60 @@ use Rattle.std.specs.List.{AllPass}
 use Rattle.nz_store.specs.declared.command.Command.{Command}
 use Rattle.nz_store.specs.declared.command.Command.TheVariants.{Put, Get, Del, Cas}
 
--- a printed byte other than the space
+-- A printed byte other than the space.
 abbrev pub is_graphic : ℕ → Bool
 is_graphic byte = nat_le 0x21 byte && nat_le byte 0x7e
 
--- a key has 1 to 32 such bytes
+-- A key has 1 to 32 such bytes.
 pub record IsKey (key : List ℕ) : Type 0 where
   pub some : 1 ≤ length key
   pub short : length key ≤ 32
   pub graphic : AllPass is_graphic key
 
--- the value `-`, which stands for no value in a scenario
+-- The value `-`, which stands for no value in a scenario.
 abbrev pub dash : List ℕ
 dash = 0x2d ∷ []
 
--- a value has 1 to 256 such bytes, and is not the single byte `-`
+-- A value has 1 to 256 such bytes, and is not the single byte `-`.
 pub record IsValue (value : List ℕ) : Type 0 where
   pub some : 1 ≤ length value
   pub short : length value ≤ 256
   pub graphic : AllPass is_graphic value
   pub other : value ≢ dash
 
--- no value, or a value
+-- No value, or a value.
 abbrev pub IsChoice : Option (List ℕ) → Type 0
 IsChoice None = Unit {0}
 IsChoice (Some value) = IsValue value
 
--- the commands that have a spelling
+-- The commands that have a spelling.
 abbrev pub IsValid : Command → Type 0
 IsValid (Put key value) = IsKey key × IsValue value
 IsValid (Get key) = IsKey key
 IsValid (Del key) = IsKey key
 IsValid (Cas key old new) = IsKey key × IsChoice old × IsChoice new
 
--- a key is spelled by its length in one byte, and its bytes
+-- A key is spelled by its length in one byte, and its bytes.
 abbrev pub key_spelling : List ℕ → List ℕ
 key_spelling key = length key ∷ key
 
--- a value is spelled by its length in two bytes, the high one first, and its bytes
+-- A value is spelled by its length in two bytes, the high one first, and its bytes.
 abbrev pub value_spelling : List ℕ → List ℕ
 value_spelling value = length value / 256 ∷ length value % 256 ∷ value
 
--- no value is spelled by 0, and a value by 1 and its spelling
+-- No value is spelled by 0, and a value by 1 and its spelling.
 abbrev pub choice_spelling : Option (List ℕ) → List ℕ
 choice_spelling None = 0 ∷ []
 choice_spelling (Some value) = 1 ∷ value_spelling value
 
--- a command is spelled by its kind, its key, and its values
+-- A command is spelled by its kind, its key, and its values.
 abbrev pub spelling : Command → List ℕ
 spelling (Put key value) = 1 ∷ (key_spelling key ++ value_spelling value)
 spelling (Get key) = 2 ∷ key_spelling key
 spelling (Del key) = 3 ∷ key_spelling key
 spelling (Cas key old new) = 4 ∷ (key_spelling key ++ (choice_spelling old ++ choice_spelling new))
 
--- the bytes are those of the command, and nothing follows
+-- The bytes are those of the command, and nothing follows.
 pub record Spells (command : Command) (bytes : List ℕ) : Type 0 where
   pub valid : IsValid command
   pub whole : bytes ≡ spelling command

@@ -6,59 +6,59 @@ use Rattle.nz_store.specs.declared.command.Command.{Command}
 use Rattle.nz_store.specs.declared.command.Command.TheVariants.{Put, Get, Del, Cas}
 use Rattle.nz_store.specs.Grammar.{is_graphic, dash}
 
--- the first answer, handed on to the next question
+-- The first answer, handed on to the next question.
 infixl 10 ◌>>=◌
 abbrev pub ◌>>=◌ : {A B : Type 0} → Option A → (A → Option B) → Option B
 (Some x) >>= f = f x
 None >>= f = None
 
--- the test of 1 to `most` bytes, each of which may be printed
+-- The test of 1 to `most` bytes, each of which may be printed.
 abbrev pub is_text : ℕ → List ℕ → Bool
 is_text most bytes = (nat_le 1 (length bytes) && nat_le (length bytes) most) && list_all is_graphic bytes
 
--- the test of a key
+-- The test of a key.
 abbrev pub is_key_text : List ℕ → Bool
 is_key_text bytes = is_text 32 bytes
 
--- the test of a value
+-- The test of a value.
 abbrev pub is_value_text : List ℕ → Bool
 is_value_text bytes = is_text 256 bytes && not (bytes_eq bytes dash)
 
--- the test of no value or a value
+-- The test of no value or a value.
 abbrev pub is_choice_text : Option (List ℕ) → Bool
 is_choice_text None = true
 is_choice_text (Some value) = is_value_text value
 
--- the test of a command
+-- The test of a command.
 abbrev pub has_spelling : Command → Bool
 has_spelling (Put key value) = is_key_text key && is_value_text value
 has_spelling (Get key) = is_key_text key
 has_spelling (Del key) = is_key_text key
 has_spelling (Cas key old new) = (is_key_text key && is_choice_text old) && is_choice_text new
 
--- the first n bytes, where there are so many and they pass the test, and the bytes behind them
+-- The first n bytes, where there are that many and they pass the test, and the bytes after them.
 abbrev pub text_at : (List ℕ → Bool) → ℕ → List ℕ → Option (List ℕ × List ℕ)
 text_at test n bytes = if nat_lt (length bytes) n then None else (if test (take n bytes) then Some (take n bytes, drop n bytes) else None)
 
--- a key, and the bytes behind it
+-- A key, and the bytes after it.
 unfoldable pub key_at : List ℕ → Option (List ℕ × List ℕ)
 key_at [] = None
 key_at (n ∷ bytes) = text_at is_key_text n bytes
 
--- a value, and the bytes behind it
+-- A value, and the bytes after it.
 unfoldable pub value_at : List ℕ → Option (List ℕ × List ℕ)
 value_at [] = None
 value_at (high ∷ []) = None
 value_at (high ∷ low ∷ bytes) = if nat_lt low 256 then text_at is_value_text (256 * high + low) bytes else None
 
--- a value or none, and the bytes behind it
+-- A value or none, and the bytes after it.
 unfoldable pub choice_at : List ℕ → Option (Option (List ℕ) × List ℕ)
 choice_at [] = None
 choice_at (zero ∷ bytes) = Some (None, bytes)
 choice_at (suc zero ∷ bytes) = value_at bytes >>= λ v. Some (Some v.0, v.1)
 choice_at (suc (suc n) ∷ bytes) = None
 
--- the values of a command of this kind with this key, and the bytes behind it
+-- The values of a command of this kind with this key, and the bytes after it.
 unfoldable pub body_at : ℕ → List ℕ → List ℕ → Option (Command × List ℕ)
 body_at kind key bytes =
     if kind == 1 then (value_at bytes >>= λ v. Some (Put key v.0, v.1))
@@ -66,16 +66,16 @@ body_at kind key bytes =
     else (if kind == 3 then Some (Del key, bytes)
     else (if kind == 4 then (choice_at bytes >>= λ old. choice_at old.1 >>= λ new. Some (Cas key old.0 new.0, new.1)) else None)))
 
--- a command, and the bytes behind it
+-- A command, and the bytes after it.
 unfoldable pub command_at : List ℕ → Option (Command × List ℕ)
 command_at [] = None
 command_at (kind ∷ bytes) = key_at bytes >>= λ key. body_at kind key.0 key.1
 
--- what was found, where nothing stands behind it
+-- What was found, where nothing follows it.
 abbrev pub all_of : {A : Type 0} → Option (A × List ℕ) → Option A
 all_of None = None
 all_of (Some found) = if length found.1 == 0 then Some found.0 else None
 
--- the command that the bytes spell
+-- The command that the bytes spell.
 unfoldable pub command_of : List ℕ → Option Command
 command_of bytes = all_of (command_at bytes)

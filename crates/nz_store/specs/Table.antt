@@ -7,14 +7,14 @@ use Rattle.std.specs.Global.{Vec}
 use Rattle.std.specs.BTreeMap.{BTreeMap, IsOrdered}
 use Rattle.nz_store.specs.Entries.{Entries}
 
--- the entries without where their keys lie in memory
+-- The entries without where their keys lie in memory.
 abbrev pub entries_of : List (Vec ℕ × List ℕ) → Entries
 entries_of table = map (λ e. (e.0.items, e.1)) table
 
--- keys are compared by their bytes
+-- Keys are compared by their bytes.
 abbrev pub key_cmp : Vec ℕ → Vec ℕ → Ordering
 key_cmp a b = slice_cmp nat_cmp a.items b.items
 
--- the table's keys rise
+-- The table's keys rise.
 pub record IsInOrder (table : BTreeMap (Vec ℕ) (List ℕ)) : Type 0 where
   pub ordered : IsOrdered key_cmp table

@@ -1,3 +1,5 @@
+//! Keys and values as runs of bytes.
+
 ghost use Rattle.std.specs.Prelude.{◌≡◌, IfOk, IsTrue, ◌↔◌};
 
 use crate::error::NoMemory;

@@ -1,3 +1,5 @@
+//! Commands and answers.
+
 ghost use Rattle.std.specs.Prelude.{◌≡◌, IsTrue, ◌↔◌, IfOk};
 ghost use Rattle.nz_store.specs.Reading.{is_choice_text, has_spelling};
 

@@ -1,3 +1,5 @@
+//! The map that commands are applied to.
+
 ghost use Rattle.std.specs.Prelude.{◌≡◌, OnOk, IfOk, OnErr, Option, ℕ, List};
 ghost use Rattle.std.specs.Option.{option_copied, option_eq};
 ghost use Rattle.std.specs.Str.{bytes_eq};

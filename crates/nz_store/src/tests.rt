@@ -1,3 +1,5 @@
+//! Commands, their spellings and their answers.
+
 use super::*;
 use std::alloc::Global;
 use std::test::Fail;

@@ -1,3 +1,5 @@
+//! Commands, written as bytes.
+
 ghost use Rattle.std.specs.Prelude.{◌≡◌, ◌++◌, ◌∷◌, OnOk, IfOk};
 ghost use Rattle.nz_store.specs.Grammar.{IsKey, IsValue, IsChoice, IsValid, Spells, key_spelling, value_spelling, choice_spelling};
 

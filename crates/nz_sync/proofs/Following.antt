@@ -81,7 +81,7 @@ all_sent f sends first second third a b c one two three =
     ∙ append_assoc sends (map f a) (map f b ++ map f c)
     ∙ ap (λ (xs : List Parcel). sends ++ xs) (sym (map-append f a (b ++ c) ∙ ap (λ (xs : List Parcel). map f a ++ xs) (map-append f b c)))
 
--- what is sent behind the taking of keys: replies, a fetch and a report
+-- what is sent after the taking of keys: replies, a fetch and a report
 pub taken_sends : (f me leader : ℕ) (b : LogModBody) (s : ReplicaData) (keys : List Key) (seat : ReplicaModel) (ids : List Id) (synced : ℕ) (sends first second third : List Parcel)
     → taken_from leader b s ≡ taken_in s leader b.commit (sync_keys s keys)
     → seat ≡ record { f = f; me = me; state = (taken_in s leader b.commit (sync_keys s keys)).0 }

@@ -16,7 +16,7 @@ pieces-last (c ∷ cs) h = rw (other c space h.0) (ap (onto_first c) (pieces-las
 pieces-cut : (l w r : List ℕ) → cut space l ≡ Some (w, r) → pieces_in l ≡ w ∷ pieces_in r
 pieces-cut l w r e = ap pieces_in (cut-takes space l (w, r) e) ∙ pieces-word w r (cut-lacks space l (w, r) e)
 
--- one word more, behind a space
+-- one word more, after a space
 pub next_piece : {R : Type 0} (now : R → List ℕ) (ps new : List R) (p : R) (rest behind : List ℕ) (whole : List (List ℕ)) → cut space rest ≡ Some (now p, behind) → new ≡ ps ++ p ∷ []
     → map now ps ++ pieces_in rest ≡ whole → map now new ++ pieces_in behind ≡ whole
 next_piece now ps new p rest behind whole e is inv =

@@ -44,7 +44,7 @@ tail-append : (xs ys : List (List ℕ)) → tail_text (xs ++ ys) ≡ tail_text x
 tail-append [] ys = refl
 tail-append (x ∷ xs) ys = ap (λ (l : List ℕ). space ∷ (x ++ l)) (tail-append xs ys) ∙ ap (λ (l : List ℕ). space ∷ l) (sym (append_assoc x (tail_text xs) (tail_text ys)))
 
--- no space and no newline stands in the word
+-- no space and no newline is in the word
 pub record IsPlain (w : List ℕ) : Type 0 where
   pub no_space : Lacks space w
   pub no_newline : Lacks line_end w
@@ -77,7 +77,7 @@ unfolding step
 line_step bytes x h d =
     ap (λ (ps : List (List ℕ)). line_of ps >>= λ l. with_line d l) (pieces_again h.first h.words h.plain) ∙ ap (λ (o : Option Line). o >>= λ l. with_line d l) h.says
 
--- a line at the front is read, and the rest goes on
+-- the first line is read, and the rest goes on
 pub line_read : (bytes rest : List ℕ) (n : ℕ) (d next : Draft) (x : Line) → IsLine bytes x → with_line d x ≡ Some next
     → reading (tail_in (bytes ++ rest)) n d (lines_in (bytes ++ rest)) ≡ reading (tail_in rest) (n + 1) next (lines_in rest)
 line_read bytes rest n d next x h e =
@@ -118,7 +118,7 @@ id_again id more h =
     ap (λ (o : Option ℕ). (o >>= λ c. number_in (decimal id.num) >>= λ n. Some (record { client = c; num = n })) >>= λ i. Some (i, more)) (number_again id.client h.client)
     ∙ ap (λ (o : Option ℕ). (o >>= λ n. Some (record { client = id.client; num = n })) >>= λ i. Some (i, more)) (number_again id.num h.num)
 
--- the id's words, with words and a newline behind them
+-- the id's words, with words and a newline after them
 id_spelled : (id : Id) (ws : List (List ℕ)) (T : List ℕ) → T ≡ tail_text ws → id_text id ++ (T ++ newline) ≡ tail_text (client_word id.client ∷ decimal id.num ∷ ws) ++ newline
 id_spelled id ws T is =
     let D = decimal id.client in
@@ -282,7 +282,7 @@ at_says : (place : ℕ) (e : Executed) (h : IsCommand e.command) → place < 2 ^
 unfolding line_of
 at_says place e h few fits a = placed_again place e h few fits a
 
--- the part of the line behind the id
+-- the part of the line after the id
 at_rest : (e : Executed) (h : IsCommand e.command) → found_text (command_of e.command) ++ (codes " gives" ++ answer_text e.answer) ≡ tail_text (command_words h.command ++ codes "gives" ∷ answer_words e.answer)
 at_rest e h =
     ap (λ (l : List ℕ). l ++ (codes " gives" ++ answer_text e.answer)) (found_spelled e.command h) ∙ ap (λ (l : List ℕ). tail_text (command_words h.command) ++ (codes " gives" ++ l)) (answer_spelled e.answer)

@@ -63,7 +63,7 @@ events_read n E0 (e ∷ E) rest h =
 
 -- ---- open requests
 
--- the stage behind some lines of a sort
+-- the stage after some lines of a sort
 stage_after : {X : Type 0} → Stage → List X → Stage → Stage
 stage_after s [] t = s
 stage_after s (x ∷ xs) t = stage_after t xs t

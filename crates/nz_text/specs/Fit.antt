@@ -27,11 +27,13 @@ abbrev pub FitsEvent : Event → Type 0
 FitsEvent (Send id command) = FitsId id × IsSome (command_of command)
 FitsEvent (Accept id answer path) = FitsId id × FitsAnswer answer
 
+-- An entry of a history that can be printed.
 pub record FitsExecuted (e : Executed) : Type 0 where
   pub id : FitsId e.id
   pub command : IsSome (command_of e.command)
   pub answer : FitsAnswer e.answer
 
+-- What can be printed and read back.
 pub record FitsPrinted (p : Printed) : Type 0 where
   pub events : AllByRecursion FitsEvent p.events
   pub unanswered : AllByRecursion FitsId p.unanswered

@@ -24,7 +24,7 @@ use Rattle.nz_text.specs.declared.printed.Printed.{Printed}
 
 -- ---- words
 
--- What stands between the spaces of a line: two spaces have an empty word between them.
+-- What is between the spaces of a line: two spaces have an empty word between them.
 abbrev pub pieces_in : List ℕ → List (List ℕ)
 pieces_in [] = [] ∷ []
 pieces_in (x ∷ xs) = if x == space then [] ∷ pieces_in xs else onto_first x (pieces_in xs)
@@ -42,17 +42,17 @@ client_in (letter ∷ digits) = if letter == 99 then number_in digits else None
 abbrev pub id_of_words : List ℕ → List ℕ → Option Id
 id_of_words client num = client_in client >>= λ c. number_in num >>= λ n. Some (record { client = c; num = n })
 
--- The id whose two words stand first, and the words behind them.
+-- The id whose two words come first, and the words after them.
 unfoldable pub id_first : List (List ℕ) → Option (Id × List (List ℕ))
 id_first (client ∷ num ∷ more) = id_of_words client num >>= λ id. Some (id, more)
 id_first _ = None
 
--- The value that stands first, and the words behind it.
+-- The value that comes first, and the words after it.
 abbrev pub value_first : List (List ℕ) → Option (Answer × List (List ℕ))
 value_first [] = None
 value_first (value ∷ more) = if is_value_text value then Some (Value value, more) else None
 
--- The answer whose words stand first, and the words behind it.
+-- The answer whose words come first, and the words after it.
 unfoldable pub answer_first : List (List ℕ) → Option (Answer × List (List ℕ))
 answer_first [] = None
 answer_first (word ∷ more) =
@@ -61,14 +61,14 @@ answer_first (word ∷ more) =
     else (if bytes_eq word (codes "absent") then Some (Absent, more)
     else (if bytes_eq word (codes "differs") then Some (Differs, more) else None)))
 
--- ---- lines, by the words behind the first one
+-- ---- lines, by the words after the first one
 
 -- The one word is a path.
 unfoldable pub path_of : List (List ℕ) → Option Path
 path_of (word ∷ []) = if bytes_eq word (codes "fast") then Some Fast else (if bytes_eq word (codes "slow") then Some Slow else None)
 path_of _ = None
 
--- The thing, where nothing stands behind it.
+-- The thing, where nothing follows it.
 abbrev pub alone : {X : Type 0} → X → List (List ℕ) → Option X
 alone x [] = Some x
 alone x (word ∷ more) = None
@@ -81,25 +81,28 @@ send_of id words = command_first words >>= λ c. alone (line.Event (Send id (spe
 abbrev pub accept_of : Id → List (List ℕ) → Option Line
 accept_of id words = answer_first words >>= λ a. path_of a.1 >>= λ path. Some (line.Event (Accept id a.0 path))
 
--- The answer behind the word `gives`.
+-- The answer after the word `gives`.
 unfoldable pub given : List (List ℕ) → Option Answer
 given [] = None
 given (word ∷ more) = if bytes_eq word (codes "gives") then (answer_first more >>= λ a. alone a.0 a.1) else None
 
--- A command, and behind `gives` its answer.
+-- A command, and after `gives` its answer.
 abbrev pub executed_of : Id → List (List ℕ) → Option Executed
 executed_of id words = command_first words >>= λ c. given c.1 >>= λ answer. Some (record { id = id; command = spelling c.0; answer = answer })
 
--- The words behind `send`, `accept`, `open` and `at`.
+-- The words after `send`, `accept`, `open` and `at`.
 abbrev pub sent : List (List ℕ) → Option Line
 sent words = id_first words >>= λ i. send_of i.0 i.1
 
+-- An `accept` line of these words.
 abbrev pub accepted : List (List ℕ) → Option Line
 accepted words = id_first words >>= λ i. accept_of i.0 i.1
 
+-- An `open` line of these words.
 abbrev pub opened : List (List ℕ) → Option Line
 opened words = id_first words >>= λ i. alone (line.Open i.0) i.1
 
+-- An `at` line of these words.
 unfoldable pub placed : List (List ℕ) → Option Line
 placed [] = None
 placed (place ∷ words) = number_of place >>= λ n. id_first words >>= λ i. executed_of i.0 i.1 >>= λ x. Some (line.At n x)
@@ -127,15 +130,15 @@ rank_of stage.Behind = 3
 abbrev pub outcome : Bool → Draft → Option Draft
 outcome good d = if good then Some d else None
 
--- What was read with the line, where it may stand here: events, then open requests, then the history with its
--- places from 1, then the end.
+-- What was read with the line, where it may come here: events, then open requests, then the history with its places
+-- from 1, then the end.
 abbrev pub with_line : Draft → Line → Option Draft
 with_line d (line.Event e) = outcome (rank_of d.stage == 0) (record d { printed = record d.printed { events = d.printed.events ++ e ∷ [] } })
 with_line d (line.Open id) = outcome (nat_le (rank_of d.stage) 1) (record { stage = stage.Opens; printed = record d.printed { unanswered = d.printed.unanswered ++ id ∷ [] } })
 with_line d (line.At place x) = outcome (nat_le (rank_of d.stage) 2 && (place == length d.printed.history + 1)) (record { stage = stage.History; printed = record d.printed { history = d.printed.history ++ x ∷ [] } })
 with_line d line.End = outcome (nat_le (rank_of d.stage) 2) (record d { stage = stage.Behind })
 
--- What was read with these bytes as a line, if they are one that may stand here.
+-- What was read with these bytes as a line, if they are one that may come here.
 unfoldable pub step : Draft → List ℕ → Option Draft
 step d bytes = line_of (pieces_in bytes) >>= λ l. with_line d l
 
@@ -143,16 +146,16 @@ step d bytes = line_of (pieces_in bytes) >>= λ l. with_line d l
 abbrev pub start : Draft
 start = record { stage = stage.Events; printed = record { events = []; unanswered = []; history = [] } }
 
--- Behind the last newline: nothing stands there, and the end was read.
+-- After the last newline: nothing is there, and the end was read.
 abbrev pub ending : List ℕ → ℕ → Draft → Result Printed TextFault
 ending tail n d = if (length tail == 0) && (rank_of d.stage == 3) then Ok d.printed else Err (Bad n)
 
--- The answer to the lines behind, where line n is not bad.
+-- The answer to the lines after, where line n is not bad.
 abbrev pub behind : ℕ → (Draft → Result Printed TextFault) → Option Draft → Result Printed TextFault
 behind n further None = Err (Bad n)
 behind n further (Some next) = further next
 
--- The lines from line n on, and what stands behind the last newline.
+-- The lines from line n on, and what follows the last newline.
 abbrev pub reading : List ℕ → ℕ → Draft → List (List ℕ) → Result Printed TextFault
 reading tail n d [] = ending tail n d
 reading tail n d (bytes ∷ lines) = behind n (λ next. reading tail (n + 1) next lines) (step d bytes)

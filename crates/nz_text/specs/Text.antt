@@ -29,23 +29,23 @@ use Rattle.nz_text.specs.declared.printed.Printed.{Printed}
 abbrev pub newline : List ℕ
 newline = codes "\n"
 
--- A client and its number of the request, behind a space.
+-- A client and its number of the request, after a space.
 abbrev pub id_text : Id → List ℕ
 id_text id = codes " c" ++ (decimal id.client ++ (codes " " ++ decimal id.num))
 
--- The command as a line of a scenario, behind a space. Bytes that are no command have no text.
+-- The command as a line of a scenario, after a space. Bytes that are no command have no text.
 abbrev pub found_text : Option Command → List ℕ
 found_text None = []
 found_text (Some command) = codes " " ++ line_text (command_line command)
 
--- What the store answered, behind a space.
+-- What the store answered, after a space.
 abbrev pub answer_text : Answer → List ℕ
 answer_text Done = codes " done"
 answer_text (Value value) = codes " value " ++ value
 answer_text Absent = codes " absent"
 answer_text Differs = codes " differs"
 
--- How the request was decided, behind a space.
+-- How the request was decided, after a space.
 abbrev pub path_text : Path → List ℕ
 path_text Fast = codes " fast"
 path_text Slow = codes " slow"

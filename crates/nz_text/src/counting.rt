@@ -1,3 +1,5 @@
+//! The summary of a run.
+
 ghost use Rattle.std.specs.Prelude.{◌≡◌, ◌++◌, count_by, IfOk, OnOk};
 ghost use Rattle.nz_machine.specs.Journals.{group_in, run_in, history_in};
 ghost use Rattle.nz_machine.specs.World.{World};

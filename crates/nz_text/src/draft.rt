@@ -1,3 +1,5 @@
+//! What was read of a text so far.
+
 ghost use Rattle.std.specs.Prelude.{◌≡◌, IfOk};
 ghost use Rattle.nz_text.specs.declared.line.Line.TheVariants as line;
 ghost use Rattle.nz_text.specs.Reading.{rank_of, start, with_line, step as step_by, outcome};
@@ -106,7 +108,7 @@ impl Draft {
         }
     }
 
-    /// Takes a line in, if the bytes are one that may stand here.
+    /// Takes a line in, if the bytes are one that may come here.
     #[tactic(auto, unfolding(crate::specs::Reading::step))]
     pub fn step(&mut self, alloc: Global, bytes: &[u8]) -> Result<bool, NoMemory>
         ensures { IfOk result (λ good. step_by self.old bytes.now ≡ outcome good self.new) }

@@ -1,3 +1,5 @@
+//! Why a text is none of a run.
+
 /// Why a text was not read.
 #[derive(Clone, Copy, Debug, PartialEq, Eq)]
 pub enum TextFault {

@@ -23,7 +23,7 @@ pub enum Line {
     End,
 }
 
-/// What stands between the spaces of the line.
+/// What is between the spaces of the line.
 fn pieces<'a>(alloc: Global, line: &'a [u8]) -> Result<Vec<&'a [u8]>, NoMemory>
     ensures { IfOk result (λ pieces. map (λ p. p.now) pieces.items ≡ pieces_in line.now) }
 {
@@ -96,7 +96,7 @@ fn value_first<'a, 'b>(
     Ok(Some((Answer::Value(value), more)))
 }
 
-/// The answer whose words stand first, and the words behind it.
+/// The answer whose words come first, and the words after it.
 #[tactic(auto, unfolding(crate::specs::Reading::answer_first))]
 fn answer_first<'a, 'b>(
     alloc: Global,
@@ -174,7 +174,7 @@ fn accept_line(alloc: Global, id: Id, words: &[&[u8]]) -> Result<Option<Line>, N
     Ok(Some(Line::Event(Event::Accept { id, answer, path })))
 }
 
-/// The answer behind the word `gives`.
+/// The answer after the word `gives`.
 #[tactic(auto, unfolding(crate::specs::Reading::given))]
 fn given(alloc: Global, words: &[&[u8]]) -> Result<Option<Answer>, NoMemory>
     ensures { IfOk result (λ answer. answer ≡ given_by (map (λ w. w.now) words.now)) }

@@ -1,4 +1,4 @@
-//! The lines of a text, each written behind what is there.
+//! The lines of a text, each written after what is there.
 ghost use Rattle.std.specs.Prelude.{◌≡◌, ◌++◌, ◌<◌, ◌^◌, length, OnOk};
 ghost use Rattle.std.specs.List.{flat_map};
 ghost use Rattle.nz_store.specs.Reading.{command_of};

@@ -1,3 +1,5 @@
+//! What a text says: events, open requests, and the history.
+
 use nz_base::{Blob, Id, IdList, List};
 use nz_machine::History;
 use nz_msg::Path;

@@ -1,3 +1,5 @@
+//! The text of a run.
+
 ghost use Rattle.std.specs.Prelude.{◌≡◌, IfOk};
 ghost use Rattle.nz_machine.specs.Journals.{group_in, run_in, history_in};
 ghost use Rattle.nz_machine.specs.World.{World};

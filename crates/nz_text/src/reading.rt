@@ -1,3 +1,5 @@
+//! Texts, read line by line.
+
 ghost use Rattle.std.specs.Prelude.{◌≡◌, ◌≢◌, ◌<◌, length, IfOk, IfErr, Ok, Err};
 ghost use Rattle.nz_script.specs.Bytes.{lines_in, tail_in};
 ghost use Rattle.nz_text.specs.Reading.{start, ending as ending_by, reading, printed_in};
@@ -10,7 +12,7 @@ use nz_base::NoMemory;
 use nz_script::cut_at;
 use std::alloc::Global;
 
-/// The answer at the end of the text, in the line behind the last newline.
+/// The answer at the end of the text, in the line after the last newline.
 fn ending(tail: &[u8], line: u32, draft: Draft) -> Result<Printed, TextFault>
     ensures { result ≡ ending_by tail.now line draft }
 {

@@ -1,4 +1,4 @@
-//! What a run's records tell, as events, and which requests are open behind them.
+//! What a run's records say, as events, and which requests are open after them.
 ghost use Rattle.std.specs.Prelude.{◌≡◌, ◌++◌, ◌∷◌, [], List, map, IfOk, OnOk};
 ghost use Rattle.std.specs.List.{list_any};
 ghost use Rattle.std.specs.HashSet.{contains};

@@ -1,3 +1,5 @@
+//! Texts and traces, and first bad lines.
+
 use super::counting::count;
 use super::printing::spell;
 use super::running::unanswered_of;

@@ -1,3 +1,5 @@
+//! The trace of a run.
+
 ghost use Rattle.std.specs.Prelude.{◌≡◌, ◌++◌, IfOk, OnOk};
 ghost use Rattle.std.specs.List.{flat_map};
 ghost use Rattle.nz_machine.specs.Journals.{run_in};

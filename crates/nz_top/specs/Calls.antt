@@ -24,87 +24,89 @@ use Rattle.nz_top.specs.declared.words.Command.TheVariants.{Run, Trace, Gen}
 use Rattle.nz_top.specs.Moves.{input, TakesFront}
 use Rattle.nz_top.specs.Words.{reads}
 
--- the source tells its bytes, and what is looked at of them is the text of this scenario
+-- The source exposes its bytes, and those that are looked at are the text of this scenario.
 abbrev pub ReadsAs : Option (List ℕ) → Scenario → Type 0
 ReadsAs left s = IfSome left (λ bytes. scenario (input bytes) ≡ Ok s)
 
--- the source tells its bytes, and in what is looked at of them this line is the first bad one, with what is wrong in it
+-- The source exposes its bytes, and of those looked at this line is the first bad one, with what is wrong in it.
 abbrev pub RefusedAt : Option (List ℕ) → ℕ → Kind → Type 0
 RefusedAt left line kind = IfSome left (λ bytes. scenario (input bytes) ≡ Err (Refusal line kind))
 
--- the source tells its bytes, and what is looked at of them is the text of some scenario
+-- The source exposes its bytes, and those that are looked at are the text of some scenario.
 abbrev pub IsReadable : Option (List ℕ) → Type 0
 IsReadable None = ⊥
 IsReadable (Some bytes) = (s : Scenario) × (scenario (input bytes) ≡ Ok s)
 
--- the source tells its bytes, and what is looked at of them has a bad line
+-- The source exposes its bytes, and those that are looked at have a bad line.
 abbrev pub IsRefused : Option (List ℕ) → Type 0
 IsRefused None = ⊥
 IsRefused (Some bytes) = (line : ℕ) × ((kind : Kind) × (scenario (input bytes) ≡ Err (Refusal line kind)))
 
--- the scenario that a command plays: that of the input, or one that is drawn
+-- The scenario that a command plays: that of the input, or one that is drawn.
 abbrev pub Plays : Command → Option (List ℕ) → Scenario → Type 0
 Plays (Run workers) left s = ReadsAs left s
 Plays (Trace workers) left s = ReadsAs left s
 Plays (Gen seed count) left s = s ≡ generated seed count
 
--- what is left of the input then: nothing, or all of it where it is not read
+-- What is left of the input then: nothing, or all of it where it is not read.
 abbrev pub HasRead : Command → Option (List ℕ) → Option (List ℕ) → Type 0
 HasRead (Run workers) before after = IfSome after (λ rest. rest ≡ [])
 HasRead (Trace workers) before after = IfSome after (λ rest. rest ≡ [])
 HasRead (Gen seed count) before after = after ≡ before
 
--- there is a scenario to play, and nothing keeps it from being read
+-- There is a scenario to play, and nothing keeps it from being read.
 abbrev pub CanPlay : Option Command → Option (List ℕ) → ℕ → ℕ → Type 0
 CanPlay None left counted counts = ⊥
 CanPlay (Some (Run workers)) left counted counts = ¬ Rose counted counts × IsReadable left
 CanPlay (Some (Trace workers)) left counted counts = ¬ Rose counted counts × IsReadable left
 CanPlay (Some (Gen seed count)) left counted counts = Unit {0}
 
--- the command reads a scenario from the source
+-- The command reads a scenario from the source.
 abbrev pub Reads : Option Command → Type 0
 Reads None = ⊥
 Reads (Some command) = IsTrue (reads command)
 
--- why there is no scenario
+-- Why there is no scenario.
 abbrev pub Explains : Command → Option (List ℕ) → ℕ → ℕ → NoScenario → Type 0
 Explains command left counted counts (no_scenario.Refused line kind) = IsTrue (reads command) × RefusedAt left line kind
 Explains command left counted counts no_scenario.Fault = IsTrue (reads command) × Rose counted counts
 Explains command left counted counts no_scenario.NoMemory = Unit {0}
 
--- the line is written whole, but for a front of it where the sink counted a fault
+-- The line is written whole, or a prefix of it where the sink counted a fault.
 pub record WritesLine (line : List ℕ) (before after : Option (List ℕ)) (counted counts : ℕ) : Type 0 where
   pub front : TakesFront before after line
   pub whole : Rose counted counts ⊎ Gains before after line
 
+-- The name of a refusal's kind.
 abbrev pub kind_name : Kind → List ℕ
 kind_name Syntax = codes "syntax"
 kind_name Order = codes "order"
 kind_name Name = codes "name"
 kind_name Limit = codes "limit"
 
--- the line that tells a bad line of the input
+-- The line that reports a bad line of the input.
 unfoldable pub refusal_line : ℕ → Kind → List ℕ
 refusal_line line kind = codes "refused line " ++ (decimal line ++ (codes ": " ++ (kind_name kind ++ codes "\n")))
 
--- the input's first bad line is told
+-- The first bad line of the input is reported.
 pub record TellsBadLine (left before after : Option (List ℕ)) (counted counts : ℕ) : Type 0 where
   pub line : ℕ
   pub kind : Kind
   pub first : RefusedAt left line kind
   pub told : WritesLine (refusal_line line kind) before after counted counts
 
--- what a command prints of a run
+-- What a command prints of a run.
 abbrev pub printed_by : Command → Journal → List ℕ
 printed_by (Run workers) j = text (group_in j) (run_in j)
 printed_by (Gen seed count) j = summary (group_in j) (run_in j)
 printed_by (Trace workers) j = trace (run_in j) ++ (codes "text\n" ++ text (group_in j) (run_in j))
 
+-- What the command prints of a journal, nothing where there is no command.
 abbrev pub printed : Option Command → Journal → List ℕ
 printed None j = []
 printed (Some command) j = printed_by command j
 
--- the codes that the program ends with
+-- The codes that the program ends with.
 abbrev pub code_of : Status → ℕ
 code_of Done = 0
 code_of Usage = 1
@@ -113,7 +115,7 @@ code_of ReadFault = 3
 code_of WriteFault = 4
 code_of NoMemory = 6
 
--- a run that was played comes back, also where it could not be written; no other call has one
+-- A run that was played comes back, also where it could not be written; no other call has one.
 abbrev pub HasRun : Status → Option Journal → Type 0
 HasRun Done journal = IsSome journal
 HasRun WriteFault journal = IsSome journal
@@ -122,14 +124,14 @@ HasRun BadScenario journal = IsNone journal
 HasRun ReadFault journal = IsNone journal
 HasRun NoMemory journal = Unit {0}
 
--- how a call ends once its scenario is read
+-- How a call ends once its scenario is read.
 abbrev pub IsPlayed : Status → Type 0
 IsPlayed Done = Unit {0}
 IsPlayed WriteFault = Unit {0}
 IsPlayed NoMemory = Unit {0}
 IsPlayed _ = ⊥
 
--- the records are a run of the machine, which keeps to the schedule
+-- The records are a run of the machine, which keeps to the schedule.
 pub record IsRun (j : Journal) : Type 0 where
   pub world : World (group_in j) (run_in j)
   pub scheduled : Scheduled j.scenario (run_in j)

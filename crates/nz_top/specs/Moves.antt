@@ -2,22 +2,22 @@
 use Rattle.std.specs.Prelude.{ℕ, ◌≡◌, List, ◌++◌, length, take, Option}
 use Rattle.nz_edge.specs.Told.{Loses, Gains}
 
--- an input is looked at up to this many bytes
+-- An input is looked at up to this many bytes.
 abbrev pub most_input : ℕ
 most_input = 1048577
 
--- what is looked at of the bytes that a source has
+-- What is looked at of the bytes that a source has.
 abbrev pub input : List ℕ → List ℕ
 input bytes = take most_input bytes
 
--- what the source lost stands behind what was there
+-- What the source gave was put after the bytes that were there.
 pub record Moved (before after : Option (List ℕ)) (old new : List ℕ) (count : ℕ) : Type 0 where
   pub bytes : List ℕ
   pub many : length bytes ≡ count
   pub lost : Loses before after bytes
   pub kept : new ≡ old ++ bytes
 
--- the sink took a front of the bytes
+-- The sink took a prefix of the bytes.
 pub record TakesFront (before after : Option (List ℕ)) (bytes : List ℕ) : Type 0 where
   pub count : ℕ
   pub taken : Gains before after (take count bytes)

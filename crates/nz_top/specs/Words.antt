@@ -6,63 +6,65 @@ use Rattle.nz_script.specs.Bytes.{number_of}
 use Rattle.nz_top.specs.declared.words.Command.{Command}
 use Rattle.nz_top.specs.declared.words.Command.TheVariants.{Run, Trace, Gen}
 
--- the number, where it is from 1 to this
+-- The number, where it is from 1 to this.
 abbrev pub up_to : ℕ → Option ℕ → Option ℕ
 up_to most None = None
 up_to most (Some n) = if is_within 1 most n then Some n else None
 
--- how many workers a numeral asks for
+-- How many workers a numeral asks for.
 abbrev pub workers_in : List ℕ → Option ℕ
 workers_in numeral = up_to 16 (number_of numeral)
 
--- the same of a word `--workers=N`
+-- The same of a word `--workers=N`.
 abbrev pub workers_at : List ℕ → Option ℕ
 workers_at word = if bytes_eq (take 10 word) (codes "--workers=") then workers_in (drop 10 word) else None
 
--- `run` prints the text of the run, and `trace` its records before that
+-- `run` prints the text of the run, and `trace` its records before that.
 abbrev pub named : List ℕ → ℕ → Option Command
 named word workers = if bytes_eq word (codes "run") then Some (Run workers) else (if bytes_eq word (codes "trace") then Some (Trace workers) else None)
 
+-- The command of a first word and a number of workers.
 abbrev pub played : List ℕ → Option ℕ → Option Command
 played word None = None
 played word (Some workers) = named word workers
 
+-- The command `gen`, of a seed and a count.
 abbrev pub drawn : Option ℕ → Option ℕ → Option Command
 drawn (Some seed) (Some count) = Some (Gen seed count)
 drawn _ _ = None
 
--- `gen SEED COUNT` plays the scenario that the seed draws, with so many requests, and prints its summary
+-- `gen SEED COUNT` plays the scenario that the seed draws, with this many requests, and prints its summary.
 abbrev pub of_three : List ℕ → List ℕ → List ℕ → Option Command
 of_three word second third =
     if bytes_eq word (codes "gen") then drawn (number_of second) (up_to 2000 (number_of third))
     else (if bytes_eq second (codes "--workers") then played word (workers_in third) else None)
 
--- the command that the words call: with no other number there is one worker
+-- The command that the words call: with no other number there is one worker.
 abbrev pub command_of : List (List ℕ) → Option Command
 command_of (word ∷ []) = named word 1
 command_of (word ∷ option ∷ []) = played word (workers_at option)
 command_of (word ∷ second ∷ third ∷ []) = of_three word second third
 command_of _ = None
 
--- the commands that read a scenario from the source
+-- The commands that read a scenario from the source.
 abbrev pub reads : Command → Bool
 reads (Run workers) = true
 reads (Trace workers) = true
 reads (Gen seed count) = false
 
--- how many workers play it
+-- How many workers play it.
 abbrev pub workers_of : Command → ℕ
 workers_of (Run workers) = workers
 workers_of (Trace workers) = workers
 workers_of (Gen seed count) = 1
 
--- a command that words can call: with 1 to 16 workers, or one that draws 1 to 2,000 requests
+-- A command that words can call: with 1 to 16 workers, or one that draws 1 to 2,000 requests.
 abbrev pub IsCalled : Command → Type 0
 IsCalled (Run workers) = (1 ≤ workers) × (workers ≤ 16)
 IsCalled (Trace workers) = (1 ≤ workers) × (workers ≤ 16)
 IsCalled (Gen seed count) = (1 ≤ count) × (count ≤ 2000)
 
--- one worker plays it
+-- One worker plays it.
 abbrev pub IsAlone : Option Command → Type 0
 IsAlone None = ⊥
 IsAlone (Some command) = workers_of command ≡ 1

@@ -20,7 +20,7 @@ pub enum Stop {
     NoMemory,
 }
 
-/// Reads once, and puts behind the data what came.
+/// Reads once, and puts after the data what came.
 fn read_piece<S: Source>(
     source: &mut S,
     piece: &mut [u8],

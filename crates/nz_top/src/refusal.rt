@@ -21,7 +21,7 @@ fn kind_name(kind: Kind) -> &'static str
 }
 
 #[tactic(auto, unfolding(crate::specs::Calls::refusal_line))]
-/// The line that tells a bad line of the input, counted from 1, and what is wrong in it.
+/// The line that reports a bad line of the input, counted from 1, and what is wrong in it.
 pub fn refusal_line(line: u32, kind: Kind) -> ArrayString<LONGEST>
     ensures { result.bytes ≡ refusal_line_of line kind }
 {

@@ -90,7 +90,7 @@ fn refuse<O: Sink>(out: &mut O, line: &[u8])
     let _ = write_all(out, line);
 }
 
-/// Tells the bad line of the input.
+/// Reports the bad line of the input.
 fn tell_bad_line<O: Sink>(out: &mut O, line: u32, kind: Kind)
     ensures line { WritesLine (refusal_line_of line kind) (O.taken out.old) (O.taken out.new) (O.faults out.old) (O.faults out.new) }
     ensures counts { O.faults out.old ≤ O.faults out.new }
@@ -184,9 +184,9 @@ fn answer<O: Sink, R: Threads + Wait + Sync, G: Gate + Sync>(
     write_run(journal, bytes.as_slice(), out)
 }
 
-/// What the program does with the words behind its name: `run` and `trace` read a scenario from the
-/// source, play it, and write the run to the sink; `gen` plays one that is drawn, and writes its summary.
-/// Each worker calls the gate before each turn. May wait.
+/// What the program does with the words after its name: `run` and `trace` read a scenario from the source, play it,
+/// and write the run to the sink; `gen` plays one that is drawn, and writes its summary. Each worker calls the gate
+/// before each turn. May wait.
 pub fn nezha<R: Threads + Wait + Sync, S: Source, O: Sink, G: Gate + Sync>(
     rt: &R,
     alloc: Global,

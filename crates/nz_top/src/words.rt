@@ -10,11 +10,11 @@ use std::marker::Model;
 /// What the program is to do.
 #[derive(Clone, Copy, Debug, PartialEq, Eq)]
 pub enum Command {
-    /// Play the scenario with so many workers, 1 to 16, and print the text of the run.
+    /// Play the scenario with this many workers, 1 to 16, and print the text of the run.
     Run { workers: u8 },
     /// The same, and print each record of the run before that.
     Trace { workers: u8 },
-    /// Play the scenario that the seed draws, with so many requests, 1 to 2,000, and print its summary.
+    /// Play the scenario that the seed draws, with this many requests, 1 to 2,000, and print its summary.
     Gen { seed: u64, count: u32 },
 }
 
@@ -33,7 +33,7 @@ impl Command {
     }
 }
 
-/// The words behind the program's name.
+/// The words after the program's name.
 #[derive(Drop)]
 pub struct Words {
     words: List<Blob>,

@@ -16,9 +16,9 @@ use nz_msg::{Envelope, Message, StartViewBody, ViewAskBody, ViewChangeBody};
 use std::alloc::Global;
 use std::test::*;
 
-// What comes to a replica: an alarm; so many ticks; a view-ask of a sender for a view; a view-change of a sender for a
-// view, with its last view and with what it knows of the counter of replica 0; or a start-view of a sender for a view,
-// with what is committed. Logs have one entry in each view but view 0, where they have none.
+// What comes to a replica: an alarm; this many ticks; a view-ask of a sender for a view; a view-change of a sender
+// for a view, with its last view and with what it knows of the counter of replica 0; or a start-view of a sender for
+// a view, with what is committed. Logs have one entry in each view but view 0, where they have none.
 #[derive(Clone, Copy)]
 enum Step {
     Alarm,

@@ -8,7 +8,7 @@ ghost use Rattle.nz_machine.specs.Does.{Does};
 use nz_base::NoMemory;
 use nz_machine::{MOST_QUIET, ReplicaState, Sends};
 
-/// In a view change it asks again each time that so many ticks have passed.
+/// In a view change it asks again each time that this many ticks have passed.
 const ASK_PERIOD: u8 = 5;
 
 /// The next view is entered, where there is one.

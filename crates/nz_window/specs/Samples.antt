@@ -4,54 +4,54 @@ use Rattle.std.specs.Prelude.{◌≡◌, ◌==◌, ◌<◌, ◌≤◌, ℕ, ◌-
 use Rattle.std.specs.List.{list_any}
 use Rattle.std.specs.List.Sorted.{IsNonDecreasing}
 
--- what is kept of a replica's samples: the last 32
+-- What is kept of a replica's samples: the last 32.
 abbrev pub last_32 : List ℕ → List ℕ
 last_32 samples = drop (length samples - 32) samples
 
--- the samples of all replicas after one more of this replica, which counts as at most 10,000
+-- The samples of all replicas after one more of this replica, which counts as at most 10,000.
 abbrev pub sampled : List (List ℕ) → ℕ → ℕ → List (List ℕ)
 sampled window replica delay = slice_set window replica (last_32 (slice_index_or window replica [] ++ min delay 10000 ∷ []))
 
--- a number at its place in a list in rising order
+-- A number at its place in a list in rising order.
 abbrev pub placed : ℕ → List ℕ → List ℕ
 placed x [] = x ∷ []
 placed x (y ∷ ys) = if nat_le x y then x ∷ (y ∷ ys) else y ∷ placed x ys
 
--- the same numbers in rising order
+-- The same numbers in rising order.
 abbrev pub in_order : List ℕ → List ℕ
 in_order [] = []
 in_order (x ∷ xs) = placed x (in_order xs)
 
--- the median of k samples: that at place k / 2 of them in rising order
+-- The median of k samples: that at place k / 2 of them in rising order.
 abbrev pub median : List ℕ → ℕ
 median samples = slice_index (in_order samples) (length samples / 2)
 
--- 10,000 where a replica has no sample, else the greatest of the replicas' medians
+-- 10,000 where a replica has no sample, else the greatest of the replicas' medians.
 abbrev pub bound_of : List (List ℕ) → ℕ
 bound_of window = if list_any (λ samples. length samples == 0) window then 10000 else fold max 0 (map median window)
 
--- the numbers in rising order are the same numbers, in rising order
+-- The numbers in rising order are the same numbers, in rising order.
 abbrev pub OrdersAll : Type 0
 OrdersAll = (xs : List ℕ) → IsPermutation xs (in_order xs) × IsNonDecreasing (in_order xs)
 
--- samples of one replica that a window may hold
+-- Samples of one replica that a window may hold.
 pub record AreKept (samples : List ℕ) : Type 0 where
   pub few : length samples ≤ 32
   pub small : All (λ s. s ≤ 10000) samples
 
--- a window of this many replicas
+-- A window of this many replicas.
 pub record IsWindow (window : List (List ℕ)) (size : ℕ) : Type 0 where
   pub replicas : length window ≡ size
   pub kept : All AreKept window
 
--- without samples it is a window
+-- Without samples it is a window.
 abbrev pub WindowsStart : Type 0
 WindowsStart = (size : ℕ) → IsWindow (replicate size []) size
 
--- a window stays one, whatever is sampled
+-- A window stays one, whatever is sampled.
 abbrev pub WindowsStay : Type 0
 WindowsStay = (window : List (List ℕ)) (size replica delay : ℕ) → IsWindow window size → replica < size → IsWindow (sampled window replica delay) size
 
--- the bound of a window is at most 10,000
+-- The bound of a window is at most 10,000.
 abbrev pub BoundIsBounded : Type 0
 BoundIsBounded = (window : List (List ℕ)) (size : ℕ) → IsWindow window size → bound_of window ≤ 10000

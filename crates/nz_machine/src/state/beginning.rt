@@ -67,7 +67,7 @@ impl ReplicaState {
         Ok(changes)
     }
 
-    /// The view begins with the log, all of it executed, of which so many entries are committed if it has them.
+    /// The view begins with the log, all of it executed, of which this many entries are committed if it has them.
     fn begin_with(&mut self, log: EntryList, commit: u32) -> Result<(), NoMemory>
         requires { IsCarried log }
         ensures { OnOk result (self.new ≡ record self.old { state = after_begin self.old.f self.old.state log commit }) }

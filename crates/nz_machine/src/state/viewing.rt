@@ -80,7 +80,7 @@ impl ReplicaState {
         self.call_for_view(sends)
     }
 
-    /// In normal operation in a view that another leads, with this log, of which so many entries are committed.
+    /// In normal operation in a view that another leads, with this log, of which this many entries are committed.
     pub fn start(&mut self, view: u64, log: EntryList, commit: u32) -> Result<(), NoMemory>
         requires view { view ≤ last_view }
         requires follows { IsFalse (leader_of self.old.f view == self.old.me) }

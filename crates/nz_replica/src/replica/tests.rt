@@ -55,7 +55,7 @@ fn command(num: u64) -> u64 {
     0x0003_0201_61 + num % 16
 }
 
-// Keys, with their commands where these have so many bytes.
+// Keys, with their commands where these have this many bytes.
 fn put_items(bytes: &mut Vec<u8>, items: &[Place], size: usize) -> Result<(), NoMemory> {
     for (deadline, num) in items {
         put(bytes, &[(8, *deadline), (8, *num), (size, command(*num))])?;

@@ -51,7 +51,7 @@ fn add_reply(
     Ok(())
 }
 
-/// Adds those of the fast replies that the record sends, over the log behind it.
+/// Adds those of the fast replies that the record sends, over the log after it.
 fn add_replies(
     alloc: Global,
     record: &Record,

@@ -9,7 +9,7 @@ use std::sync::Wait;
 use std::test::Fail;
 use std::thread::Threads;
 
-/// A scenario with so many ticks, puts, and lines that drop a message that is never sent.
+/// A scenario with this many ticks, puts, and lines that drop a message that is never sent.
 fn scenario(alloc: Global, ticks: u32, puts: u32, drops: u32) -> Result<String, Fail> {
     let head = "nezha 1\nf 1\nproxies 1\nclients 1\n";
     let mut text = format!(in alloc; "{head}ticks {ticks}\nclient c0\n")?;
@@ -71,7 +71,7 @@ fn scenarios_of_one_tick_at_a_limit(rt: HostRuntime) -> Result<(), Fail> {
     Ok(())
 }
 
-/// Whether a scenario with so many ticks and puts runs to its end, and its text may be that of a run.
+/// Whether a scenario with this many ticks and puts runs to its end, and its text may be that of a run.
 fn stands<R: Threads + Wait + Sync>(
     rt: &R,
     alloc: Global,
@@ -99,7 +99,7 @@ fn most_ticks_with_100_requests(rt: HostRuntime) -> Result<(), Fail> {
     Ok(())
 }
 
-/// A put and a get after a comment, with so many bytes in all.
+/// A put and a get after a comment, with this many bytes in all.
 fn commented(alloc: Global, size: usize) -> Result<Vec<u8>, Fail> {
     let scenario = PUT_THEN_GET.input.as_bytes();
     let comment = size.saturating_sub(scenario.len()).saturating_sub(1);
@@ -109,7 +109,7 @@ fn commented(alloc: Global, size: usize) -> Result<Vec<u8>, Fail> {
     Ok(text)
 }
 
-/// Whether the scenario with so many bytes ends so.
+/// Whether the scenario with this many bytes ends so.
 fn ends_commented<R: Threads + Wait + Sync>(
     rt: &R,
     alloc: Global,

@@ -96,7 +96,7 @@ fn are_same(a: &[Executed], b: &[Executed]) -> bool {
     a.len() == b.len() && a.iter().zip(b.iter()).all(|(x, y)| is_same(x, y))
 }
 
-/// Whether the text says what the journal does, and each of so many requests is printed, accepted and executed.
+/// Whether the text says what the journal does, and each of this many requests is printed, accepted and executed.
 fn says(alloc: Global, text: &[u8], journal: &Journal, requests: u8) -> Result<bool, Fail>
     requires { World (group_in journal.now) (run_in journal.now) }
 {

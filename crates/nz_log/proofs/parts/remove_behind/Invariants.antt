@@ -3,7 +3,7 @@ use Rattle.std.specs.List.{filter}
 use Rattle.nz_log.specs.Synced.{stays_behind}
 use Rattle.nz_log.proofs.parts.remove_behind.Given as goal
 
--- what is in front of the place stays, and of the rest what passes
+-- what is before the place stays, and of the rest what passes
 abbrev pub invariant-loop-place : goal.invariant-loop-place
 invariant-loop-place l = record {
   within : l.place ≤ length l.entries.items;

@@ -2,7 +2,7 @@ use Rattle.std.proofs.Common.{◌≡◌, ◌+◌, ◌++◌, drop}
 use Rattle.nz_text.specs.Text.{at_lines}
 use Rattle.nz_text.proofs.lines.put_history.Given as goal
 
--- what was written, and the lines that are left behind it
+-- what was written, and the lines that are left after it
 abbrev pub invariant-loop-executed : goal.invariant-loop-executed
 invariant-loop-executed l = record {
   place : l.place ≡ l.executed-index;

@@ -4,6 +4,6 @@ use Rattle.nz_machine.specs.Telling.{requests_told}
 use Rattle.nz_text.specs.Text.{event_of}
 use Rattle.nz_text.proofs.running.add_requests.Given as goal
 
--- what was added, and the requests that are left behind it
+-- what was added, and the requests that are left after it
 abbrev pub invariant-loop-id : goal.invariant-loop-id
 invariant-loop-id l = l.events ++ map event_of (requests_told (group_of l.scenario) (drop l.id-index l.sent)) ≡ l.fn.events ++ map event_of (requests_told (group_of l.scenario) l.sent)
