@@ -1,3 +1,4 @@
+-- The modules of this crate's proofs.
 pub mod Executions
 pub mod Replays
 pub mod Places

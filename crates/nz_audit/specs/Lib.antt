@@ -1,3 +1,4 @@
+-- The modules of this crate's definitions.
 pub mod Sources
 pub mod Noting
 pub mod Memories

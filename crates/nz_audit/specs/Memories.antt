@@ -1,4 +1,5 @@
--- What a proxy knows of a request after some records, with the sources of its replies, by the definition of the history.
+-- What a proxy knows of a request after some records, with the sources of its replies, by the definition of the
+-- history.
 use Rattle.std.specs.Prelude.{ℕ, List, map, Option, Some, None, is_some, if◌then◌else◌}
 use Rattle.nz_base.specs.declared.key.Id.{Id}
 use Rattle.nz_base.specs.declared.actor.Actor.TheVariants.{Proxy}

@@ -1,3 +1,4 @@
+-- The modules of this crate's proofs.
 pub mod Booleans
 pub mod Names
 pub mod Keys

@@ -1,3 +1,4 @@
+-- The modules of this crate's definitions.
 pub mod Actor
 pub mod Cluster
 pub mod Key

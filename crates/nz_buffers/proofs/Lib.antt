@@ -1,3 +1,4 @@
+-- The modules of this crate's proofs.
 pub mod Inserting
 pub mod Keeping
 pub mod Releasing

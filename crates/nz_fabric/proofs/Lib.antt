@@ -1,3 +1,4 @@
+-- The modules of this crate's proofs.
 pub mod Numbering
 pub mod Dating
 pub mod Sending

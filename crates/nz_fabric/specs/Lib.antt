@@ -1,3 +1,4 @@
+-- The modules of this crate's definitions.
 pub mod Calendars
 pub mod Posting
 pub mod Rows

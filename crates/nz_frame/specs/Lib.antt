@@ -1,3 +1,4 @@
+-- The modules of this crate's definitions.
 pub mod Address
 pub mod Grammar
 pub mod Refusal

@@ -18,7 +18,7 @@ pub fn frames_pass()
         → IsFrame bytes kind from to body → refusal bytes ≡ None }
 {}
 
-/// What is not refused is the frame of its parts: it is written to the same bytes.
+/// Bytes that are not refused are the frame of their parts: writing these gives the same bytes.
 pub fn only_frames_pass()
     ensures { (bytes : List ℕ) → AreBytes bytes → refusal bytes ≡ None
         → IsFrame bytes (slice_index bytes 5) (sender bytes) (receiver bytes) (drop 10 bytes) }
@@ -44,7 +44,7 @@ pub fn more_is_trailing()
         → refusal (bytes ++ rest) ≡ Some (Trailing (length bytes)) }
 {}
 
-/// The place of what is too short is the number of bytes given, where 32 bits can count them.
+/// The place of a frame that is too short is the number of bytes given, where 32 bits can count them.
 pub fn short_place()
     ensures { (bytes : List ℕ) (place : ℕ) → length bytes < 2 ^ 32
         → refusal bytes ≡ Some (Short place) → place ≡ length bytes }

@@ -1,4 +1,5 @@
--- Of a run that follows the rules: accepted prefixes are in each later start and paired, and synced parts are the leaders'.
+-- Of a run that follows the rules: accepted prefixes are in each later start and paired, and synced parts are the
+-- leaders'.
 use Rattle.std.proofs.Common.{◌≡◌, ℕ, zero, suc, true, List, [], ◌∷◌, take, sym, ap, subst, ◌∙◌, inl, inr}
 use Rattle.std.specs.Option.{option_map}
 use Rattle.std.proofs.lemmas.List.{take-map}

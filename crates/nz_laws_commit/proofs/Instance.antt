@@ -1,4 +1,5 @@
--- What the laws on logs read of the machine, in the machine's own words: statuses, incarnations, leaders' logs and begins.
+-- What the laws on logs read of the machine, in the machine's own words: statuses, incarnations, leaders' logs and
+-- begins.
 use Rattle.std.proofs.Common.{◌≡◌, ℕ, suc, Bool, true, false, not, ◌&&◌, cond, eqb, List, [], ◌∷◌, Option, Some, None, refl, sym, ap, ◌∙◌, inl, inr, eq-eqb}
 use Rattle.std.specs.Option.{option_or, option_map}
 use Rattle.std.proofs.lemmas.Option.{none-some}

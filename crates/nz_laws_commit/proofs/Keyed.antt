@@ -1,4 +1,5 @@
--- Lists of entries, by their keys: in one run equal keys are of equal entries, and an id has one place among a leader's.
+-- Lists of entries, by their keys: in one run equal keys are of equal entries, and an id has one place among a
+-- leader's.
 use Rattle.std.proofs.Common.{◌≡◌, ℕ, zero, suc, ◌<◌, eqb, Bool, true, false, cond, List, [], ◌∷◌, ◌++◌, take, Option, Some, None, refl, sym, ap, subst, ◌∙◌, arith, inl, inr, ◌⊎◌}
 use Rattle.std.specs.Prelude.{slice_get}
 use Rattle.std.proofs.lemmas.Option.{none-some, same_Some}

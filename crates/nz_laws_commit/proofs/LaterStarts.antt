@@ -1,4 +1,4 @@
--- What is supported in a view is what each later view begins with, and of two supported lists one begins with the other.
+-- Each later view begins with what is supported in a view, and of two supported lists one begins with the other.
 use Rattle.std.proofs.Common.{◌≡◌, ℕ, ◌<◌, ◌≤◌, true, eqb, List, [], ◌∷◌, length, take, Some, refl, sym, ap, subst, ◌∙◌, arith, inl, inr, ◌⊎◌}
 use Rattle.std.proofs.lemmas.Bool.{cases_lt, eq-eqb}
 use Rattle.std.proofs.lemmas.List.{length-map, length-take-le}

@@ -1,3 +1,4 @@
+-- The modules of this crate's proofs.
 pub mod RunLaws
 pub mod Closing
 pub mod OneView

@@ -231,7 +231,8 @@ module _ {R : Type 0} (M : Machine R) (J : List R) (h : RunLaws M J) where
               omega (arith, enough, shown, still)
         ]
 
-    -- a report of v begins with what the member sent a fast-reply of v for, if the leader had the vector and as long a log
+    -- a report of v begins with what the member sent a fast-reply of v for, if the leader had the vector and as long
+    -- a log
     pub fast_held : (P : List Key) (u : List ℕ) (L : List R) → FastReplied M v c.sender P u J → At J L → IsNormal M (view_leader M v) v L
         → (M.state (view_leader M v) L).vector ≡ u → length P ≤ length (keys_at M (view_leader M v) L)
         → IsPrefix P (M.lead v J) → c.last ≡ v → IsPrefix P (keys_of c.log)

@@ -1,4 +1,5 @@
--- What a decision rests on supports the prefix that was accepted. The premise on digests is used here, and nowhere else.
+-- What a decision rests on supports the prefix that was accepted. The premise on digests is used here, and nowhere
+-- else.
 use Rattle.std.proofs.Common.{◌≡◌, ℕ, suc, eqb, eqb-true, eq-eqb, true, ◌&&◌, is_some, List, [], ◌∷◌, length, take, map, Option, Some, None, refl, sym, ap, subst, ◌∙◌, arith, inl, inr, ◌⊎◌}
 use Rattle.std.specs.List.{list_any}
 use Rattle.std.specs.Str.{bytes_eq}

@@ -1,4 +1,5 @@
--- In every run the replicas follow the rules, so what is accepted in a view is in each later start, and what is accepted is paired.
+-- In every run the replicas follow the rules, so what is accepted in a view is in each later start, and what is
+-- accepted is paired.
 use Rattle.std.proofs.Common.{ℕ, List, ◌++◌, [], ◌∷◌, inr, true, ◌≡◌}
 use Rattle.nz_base.specs.declared.actor.Actor.TheVariants.{Replica}
 use Rattle.nz_base.specs.Moments.{At}

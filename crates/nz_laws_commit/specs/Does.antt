@@ -51,7 +51,7 @@ pub record VectorGrows (y : ℕ) (s t : LogState) : Type 0 where
   pub own : place s.vector y ≡ place t.vector y
 
 module _ {R : Type 0} (g : GroupStates R) where
-  -- A follower takes a log modification that the leader of its view sent at the moment told.
+  -- A follower takes a log modification that the leader of its view sent at the moment `told`.
   pub record Syncs (y : ℕ) (K : List R) (s t : LogState) : Type 0 where
     pub before : s.status ≡ Normal
     pub after : t.status ≡ Normal
@@ -76,7 +76,7 @@ module _ {R : Type 0} (g : GroupStates R) where
     pub higher : s.last < t.last
     pub synced : t.synced ≡ length t.log
 
-  -- It takes the log that the leader of a view told it at the moment told, by a start-view or a state-tell.
+  -- It takes the log that the leader of a view sent it at the moment `told`, by a start-view or a state-tell.
   pub record AdoptsLog (y : ℕ) (K : List R) (s t : LogState) : Type 0 where
     pub before : ¬ (s.status ≡ Down)
     pub after : t.status ≡ Normal

@@ -1,3 +1,4 @@
+-- The modules of this crate's definitions.
 pub mod States
 pub mod Supports
 pub mod Premises

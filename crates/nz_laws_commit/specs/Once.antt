@@ -1,4 +1,5 @@
--- Each request is sent once, and accepted at most once and after that; and a client has at most as many open as its window.
+-- Each request is sent once, and accepted at most once and after that; and a client has at most as many open as its
+-- window.
 use Rattle.std.specs.Prelude.{◌≡◌, ℕ, suc, ◌+◌, ◌≤◌, ◌==◌, if◌then◌else◌, List, [], ◌∷◌, ◌++◌}
 use Rattle.nz_base.specs.declared.key.Id.{Id}
 use Rattle.nz_store.specs.declared.command.Answer.{Answer}

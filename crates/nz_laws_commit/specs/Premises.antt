@@ -29,7 +29,8 @@ module _ {R : Type 0} (M : Machine R) where
     pub rejoining : (M.state x before).status ≡ Rejoining
     pub normal : (M.state x C).status ≡ Normal
 
-  -- At the completion C the replica x has the log that the leader of its view told it at t, in x's present incarnation.
+  -- At the completion C the replica x has the log that the leader of its view sent it at t, in x's present
+  -- incarnation.
   pub record IsLogOfLeader (x : ℕ) (C t : List R) : Type 0 where
     pub moment : Before C t
     pub restarted : M.inc x t ≡ M.inc x C

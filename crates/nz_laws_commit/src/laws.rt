@@ -1,4 +1,4 @@
-//! The laws of what is supported, of every run that follows the rules, and that every run of the machine does.
+//! The laws of support, for every run that follows the rules; and that every run of the machine follows them.
 
 ghost use Rattle.std.specs.Prelude.{◌≡◌, ◌≤◌, ◌⊎◌, ℕ, Bool, List, [], ◌∷◌, ◌++◌, length, Some, IsTrue};
 ghost use Rattle.nz_base.specs.declared.key.Key.{Key};
@@ -23,13 +23,13 @@ ghost use Rattle.nz_laws_commit.specs.Does.{FollowsRules};
 ghost use Rattle.nz_laws_commit.specs.Instance.{states_of};
 ghost use Rattle.nz_laws_commit.specs.Example as example;
 
-/// In every run of the machine, whoever crashes and rejoins, what was accepted in a view is what each later
-/// view starts with, and of two accepted prefixes one begins with the other.
+/// In every run of the machine, whoever crashes and rejoins, each later view starts with what was accepted in a view,
+/// and of two accepted prefixes one begins with the other.
 pub fn prefixes()
     ensures { (g : Group) (J : List Record) → World g J → NoCollision g J → Prefixes g J }
 {}
 
-/// Every run of the machine follows the rules that the laws of what is supported ask for.
+/// Every run of the machine follows the rules that the laws of support ask for.
 pub fn rules_are_followed()
     ensures { (g : Group) (J : List Record) → World g J → FollowsRules (states_of g) J }
 {}
@@ -52,8 +52,8 @@ pub fn synced_parts_are_the_leaders()
         → IsPrefix (synced_part (state_after g (Replica r) J).log) (lead g v J) }
 {}
 
-/// What is supported in a view is what each later view begins with, also where the support is complete
-/// only after that view has begun; and what is supported stays so as the run goes on.
+/// Each later view begins with what is supported in a view, also where the support is complete only after that view
+/// has begun; and what is supported stays so as the run goes on.
 pub fn supported_stays<R>()
     ensures starts { (g : GroupStates R) (J : List R) (v : ℕ) (P : List Key) → FollowsRules g J
         → Support (machine_of g) v P J → InLaterStarts (machine_of g) J v P }

@@ -1,4 +1,5 @@
--- With which log a view begins: the merge of the reports that its leader collected, each of which is its sender's state.
+-- With which log a view begins: the merge of the reports that its leader collected, each of which is its sender's
+-- state.
 use Rattle.std.proofs.Common.{◌≡◌, ℕ, ◌≤◌, ◌<◌, true, false, List, ◌∷◌, length, map, Some, refl, sym, ap, ◌∙◌, inr, arith}
 use Rattle.nz_base.specs.Cluster.{leader_of}
 use Rattle.nz_base.specs.Moments.{At}

@@ -49,8 +49,8 @@ module _ {R : Type 0} (N : Notions R) (J : List R) where
         (h.completion l from.0 came.completes).follows (ap N.leader is_zero))
   ]
 
-  -- what is needed for one begin: no replica completes in a view that it leads, and a view is led from its begins on, in
-  -- their incarnation
+  -- what is needed for one begin: no replica completes in a view that it leads, and a view is led from its begins on,
+  -- in their incarnation
   pub record LeadsOnce : Type 0 where
     pub follows : (x : ℕ) (C : List R) → N.Completes x C → ¬ (N.leader (N.view x C) ≡ x)
     pub at : (v : ℕ) (B : List R) → N.Begins v B → At J B

@@ -1,3 +1,4 @@
+-- The modules of this crate's proofs.
 pub mod Meeting
 pub mod Completing
 pub mod Knowing

@@ -1,4 +1,5 @@
--- A completion adopts the log that the leader of its view told at a moment of the same incarnation, with its own counter.
+-- A completion adopts the log that the leader of its view told at a moment of the same incarnation, with its own
+-- counter.
 use Rattle.std.proofs.Common.{◌≡◌, ℕ, ◌≤◌, ◌<◌, true, List, ◌∷◌, length, sym, ap, subst, ◌∙◌, inr, arith}
 use Rattle.std.specs.Prelude.{slice_index}
 use Rattle.nz_base.specs.Cluster.{leader_of}

@@ -1,4 +1,5 @@
--- The premises of knowledge and views: facts of single states, of messages, and of one replica at two moments of one run.
+-- The premises of knowledge and views: facts of single states, of messages, and of one replica at two moments of one
+-- run.
 use Rattle.std.specs.Prelude.{◌≡◌, ℕ, ◌<◌, ◌≤◌, List, [], ◌∷◌, ◌⊎◌, length}
 use Rattle.nz_base.specs.Moments.{At}
 use Rattle.nz_laws_cv.specs.Notions.{Notions, IsIn, IsHeldByMany}

@@ -1,3 +1,4 @@
+-- The modules of this crate's definitions.
 pub mod Notions
 pub mod Ground
 pub mod Views

@@ -16,7 +16,8 @@ pub record Notions (R : Type 0) : Type 1 where
   -- It is neither down nor rejoining; it is in normal operation.
   pub IsUp : ℕ → List R → Type 0
   pub IsNormal : ℕ → List R → Type 0
-  -- The newest record completes the replica's rejoin; that rejoin used an answer of another replica, sent at this moment.
+  -- The newest record completes the replica's rejoin; that rejoin used an answer of another replica, sent at this
+  -- moment.
   pub Completes : ℕ → List R → Type 0
   pub Uses : ℕ → List R → ℕ → List R → Type 0
   -- The newest record begins the view; this replica is one of the begin's members, and reported at this moment.

@@ -1,3 +1,4 @@
+-- The modules of this crate's proofs.
 pub mod Decoded
 pub mod Histories
 pub mod OneHistory

@@ -214,7 +214,8 @@ no_more : {X : Type 0} (xs : List X) → IsPrefix xs [] → xs ≡ []
 no_more [] p = refl
 no_more {X} (x ∷ xs) p = absurd (let e : ◌≡◌ {A = List X} [] (x ∷ (xs ++ p.rest)) = p.whole in cc)
 
--- keys of an earlier leader's log, from start on, come next after a prefix of the leader's log that is no shorter than start
+-- keys of an earlier leader's log, from start on, come next after a prefix of the leader's log that is no shorter
+-- than start
 pub told_ahead : {X : Type 0} (A early lead : List X) (start count : ℕ) → IsPrefix A lead → IsPrefix early lead → start ≤ length A
     → IsPrefix (A ++ drop (length A - start) (take count (drop start early))) lead
 told_ahead {X} A early lead start count a b le =

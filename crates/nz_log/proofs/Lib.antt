@@ -1,3 +1,4 @@
+-- The modules of this crate's proofs.
 pub mod Calling
 pub mod Digests
 pub mod Indexing

@@ -109,7 +109,7 @@ none_lost log e x h apart =
 
 -- ---- an entry put in, and what may not follow it taken out
 
--- What stands before and after the entry that was put in.
+-- What is before and after the entry that was put in.
 pub put_front : (es : List Entry) (place : ℕ) (e : Entry) → place ≤ length es → take (place + 1) (take place es ++ e ∷ drop place es) ≡ take place es ++ e ∷ []
 put_front es place e within =
     let front = take place es ++ e ∷ [] in

@@ -19,14 +19,14 @@ pub record IsSummed (es : List Entry) (digests : List (List ℕ)) : Type 0 where
   pub count : length digests ≡ length es
   pub sums : (k : ℕ) → k < length es → (d : List ℕ) → slice_index_or digests k d ≡ digest_at es k
 
--- What is kept of a log is so: its digests are those at its places, and the index has its ids at their places.
+-- What is kept beside a log is right: its digests are those at its places, and the index has its ids at their places.
 pub record IsKept (log : Log) (digests : List (List ℕ)) (places : List (Id × ℕ)) : Type 0 where
   pub sound : IsSound log
   pub summed : IsSummed log.entries digests
   pub found : (i : Id) → lookup (id_eq i) places ≡ place_of log.entries i
 
--- In the midst of a modification: the index is right for the entries that have their places, and still has the ids of the
--- others. The id of the key itself is among the first.
+-- In the midst of a modification: the index is right for the entries that have their places, and still has the ids of
+-- the others. The id of the key itself is among the first.
 pub record IsMidway (key : Key) (settled others : List Entry) (index : Id → Option ℕ) : Type 0 where
   pub own : HaveOwnIds (keys_of others)
   pub apart : (i : Id) → has_id (keys_of others) i ≡ true → id_eq (id_of key) i ≡ false → has_id (keys_of settled) i ≡ false

@@ -1,3 +1,4 @@
+-- The modules of this crate's definitions.
 pub mod Calls
 pub mod Keeping
 pub mod Paging

@@ -61,7 +61,8 @@ record Views : Type 0 where
   -- With two reports beside the own one, as is left when a merged log had no room, no view begins.
   exactly : replica_message 1 1 (record changing { changes = reported 0 ∷ reported 2 ∷ [] }) (Replica 0) (report (0 ∷ 0 ∷ 0 ∷ []))
       ≡ (record changing { changes = reported 2 ∷ reported 0 ∷ [] }, [])
-  -- A report that the merged vector makes stray goes, and then one is too few no more: the view begins from the new one.
+  -- A report that the merged vector makes stray goes, and then one is too few no more: the view begins from the new
+  -- one.
   purged : (replica_message 1 1 (record changing { changes = reported 2 ∷ [] }) (Replica 0) (report (0 ∷ 0 ∷ 1 ∷ []))).0.changes
       ≡ (record { vector = 0 ∷ 0 ∷ 1 ∷ []; change = record { sender = 0; last = 0; synced = 0; commit = 0; log = [] } }) ∷ []
   -- It goes in normal operation too; the sender is told that the view has begun.
@@ -87,7 +88,8 @@ record Views : Type 0 where
       }
   -- Acknowledgements of an earlier view do not count.
   acks : (replica_message 1 1 (record changing { ack = 4 ∷ 4 ∷ 4 ∷ [] }) (Replica 0) (report (0 ∷ 0 ∷ 0 ∷ []))).0.ack ≡ 0 ∷ 0 ∷ 0 ∷ []
-  -- A start-view: entries that it leaves out go to late, its ids leave early and late, and what is early and not above its last is late.
+  -- A start-view: entries that it leaves out go to late, its ids leave early and late, and what is early and not
+  -- above its last is late.
   adopted : (replica_message 1 2 (record normal { log = record { entries = entry 1 ∷ entry 2 ∷ []; synced = 1 }; commit = 1; early = entry 3 ∷ entry 4 ∷ entry 9 ∷ []; late = entry 5 ∷ entry 7 ∷ []; quiet = 9 }) (Replica 1)
       (messages.StartView (record { view = 1; vector = 0 ∷ 0 ∷ 0 ∷ []; commit = 0; entries = entry 1 ∷ entry 4 ∷ entry 5 ∷ [] }))).0
       ≡ record normal { view = 1; last = 1; log = record { entries = entry 1 ∷ entry 4 ∷ entry 5 ∷ []; synced = 3 }; commit = 1; early = entry 9 ∷ []; late = entry 7 ∷ entry 2 ∷ entry 3 ∷ [] }
@@ -103,7 +105,8 @@ record Views : Type 0 where
         (Replica 0, messages.ViewAsk (record { view = 1 })) ∷ (Replica 1, messages.ViewAsk (record { view = 1 }))
             ∷ (Replica 1, messages.ViewChange (record { view = 1; last = 0; vector = 1 ∷ 0 ∷ 0 ∷ []; synced = 0; commit = 0; entries = [] })) ∷ [],
       )
-  -- Entering a view, also another in a view change: both timers start anew, nothing is collected, and what else there is stays.
+  -- Entering a view, also another in a view change: both timers start anew, nothing is collected, and what else there
+  -- is stays.
   entered : replica_message 1 2 (record changing { clock = 7; last = 0; commit = 1; log = record { entries = entry 1 ∷ []; synced = 1 }; late = entry 2 ∷ []; ack = 1 ∷ 1 ∷ 1 ∷ []; quiet = 9; since = 9; changes = reported 0 ∷ [] }) (Replica 0) (messages.ViewAsk (record { view = 4 }))
       ≡ (
         record changing { clock = 7; view = 4; last = 0; commit = 1; log = record { entries = entry 1 ∷ []; synced = 1 }; late = entry 2 ∷ []; ack = 1 ∷ 1 ∷ 1 ∷ [] },

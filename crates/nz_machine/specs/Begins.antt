@@ -49,7 +49,7 @@ after_begin f s log commit =
       results = replies (commands log);
     }
 
--- The view begins with the merged log, where a log has room for it, and the others are told.
+-- The view begins with the merged log, where a log has room for it, and the others get a start-view.
 unfoldable pub begin : ℕ → ℕ → ReplicaData → ReplicaData × List Out
 begin f me s =
     let changes = changes_of me s in
@@ -65,7 +65,7 @@ collect f me sender b s =
     let collected = with_report s sender b in
     if length collected.changes == f then begin f me collected else (collected, [])
 
--- In the view change the report is collected. Where the view has begun already, its sender is told.
+-- In the view change the report is collected. Where the view has begun already, its sender gets a start-view.
 abbrev pub hear_report : ℕ → ℕ → ℕ → ViewChangeBody → ReplicaData → ReplicaData × List Out
 hear_report f me sender b s = if is_changing s.status then collect f me sender b s else (s, to_replica sender (start_view s))
 

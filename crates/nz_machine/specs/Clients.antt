@@ -55,7 +55,8 @@ fill_window window proxies me script s = fill_places (window - length s.attempts
 abbrev pub is_overdue : Attempt → Bool
 is_overdue a = a.since + 1 == patience
 
--- It waits one tick more, or is sent again: the first attempt went to the client's own proxy, each further one goes to the next.
+-- It waits one tick more, or is sent again: the first attempt went to the client's own proxy, each further one goes
+-- to the next.
 abbrev pub waited : ℕ → Attempt → Attempt
 waited proxies a = if is_overdue a then record { num = a.num; proxy = (a.proxy + 1) % proxies; since = 0 } else record { num = a.num; proxy = a.proxy; since = a.since + 1 }
 

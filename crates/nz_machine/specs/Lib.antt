@@ -1,3 +1,4 @@
+-- The modules of this crate's definitions.
 pub mod State
 pub mod Replicas
 pub mod Requests

@@ -89,7 +89,7 @@ pub record ShowsSlow (f me : ℕ) (s : ReplicaData) (to : Actor) (b : SlowReplyB
   pub receiver : to ≡ Proxy origin.proxy
   pub read : b ≡ record { view = s.view; id = b.id; delay = origin.delay }
 
--- What a leader tells of its log from a place on.
+-- What a leader sends of its log, from a place on.
 abbrev pub told_from : ReplicaData → ℕ → LogModBody
 told_from s start = record { view = s.view; vector = s.vector; commit = s.commit; start = start; keys = take most_keys (drop start (keys_of s.log.entries)) }
 
@@ -100,7 +100,7 @@ pub record ShowsLogMod (f me : ℕ) (s : ReplicaData) (to : Actor) (b : LogModBo
   pub receiver : IsOther f me to
   pub read : b ≡ told_from s (slice_index s.ack receiver.replica)
 
--- A fetch asks the leader for ids that the follower does not hold, some of those that the leader told it.
+-- A fetch asks the leader for ids that the follower does not hold, some of those that the leader named.
 pub record ShowsFetch (f me : ℕ) (heard : Heard) (s : ReplicaData) (to : Actor) (b : FetchBody) : Type 0 where
   pub normal : is_normal s.status ≡ true
   pub follows : leads f me s ≡ false

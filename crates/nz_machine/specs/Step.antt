@@ -143,8 +143,8 @@ mode_timer ViewChange f me s = change_timer f me s
 mode_timer Rejoining f me s = rejoin_timer f me s
 mode_timer Down f me s = (s, [])
 
--- At a tick a replica sets its clock and releases what is due. Then the leader in normal operation tells the others
--- what its log has, and any other replica counts the tick.
+-- At a tick a replica sets its clock and releases what is due. Then the leader in normal operation sends the others
+-- its log modifications, and any other replica counts the tick.
 abbrev pub tick_rule : ℕ → ℕ → ReplicaData → ℕ → ReplicaData × List Out
 tick_rule f me s clock = release_rule f me s clock and_then (λ t. mode_timer t.status f me t)
 

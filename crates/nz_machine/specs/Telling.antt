@@ -1,4 +1,4 @@
--- What the records of a run show of its clients: how far each is, and what a record says.
+-- What the records of a run show of its clients: how far each is, and the events of a record.
 use Rattle.std.specs.Prelude.{◌≡◌, ℕ, ◌<◌, ◌≤◌, not, ◌==◌, nat_lt, if◌then◌else◌, List, [], ◌∷◌, ◌++◌, length, map, filter, Option, Some, None, Result, Ok, Err, slice_get}
 use Rattle.std.specs.List.{list_any}
 use Rattle.nz_base.specs.declared.actor.Actor.{Actor}

@@ -98,7 +98,7 @@ pub fn facts_are_kept()
         → HasFacts f me (state_tell_rule f me s sender body).0 }
 {}
 
-/// Where the log has room for what is due, that is what a replica in normal operation releases.
+/// Where the log has room for what is due, a replica in normal operation releases all of it.
 pub fn due_entries_are_released()
     ensures log { (f me : ℕ) (s : ReplicaData) (clock : ℕ) → HasFacts f me s → IsTrue (is_normal s.status)
         → length s.log.entries + length (released_of s.early (min clock last_clock)) ≤ most_entries

@@ -174,8 +174,8 @@ pub fn pass_over(log: &HashedLog, early: &mut Early, late: &mut Late) -> Result<
     }
 }
 
-/// Takes the keys, and moves what is early no more to late. Gives the place of the first key that is
-/// missing, or their count.
+/// Takes the keys, and moves what is no longer early to late. Gives the place of the first key that is missing, or
+/// their count.
 pub fn sync_parts(
     alloc: Global,
     log: &mut HashedLog,

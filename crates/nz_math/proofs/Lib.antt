@@ -1,3 +1,4 @@
+-- The modules of this crate's proofs.
 pub mod Counting
 pub mod Marks
 pub mod Sharing

@@ -5,7 +5,7 @@ ghost use Rattle.std.specs.Prelude.{◌≡◌, ◌+◌, ◌*◌, ◌<◌, ◌≤
 ghost use Rattle.nz_math.specs.Count.{count_below, both, everyone, all_but, IsWithin, is_in, IsChoice, AreTwoAmong, IsShared};
 ghost use Rattle.nz_math.specs.Quorum.{half_up, group_size, slow_quorum, fast_quorum};
 
-/// What two sets within a third have together, the third and their common members have too.
+/// Two sets within a third have together at most as many members as the third and their common ones.
 pub fn shared_members()
     ensures { (n : ℕ) (p q among : ℕ → Bool) → IsWithin n p among → IsWithin n q among
         → count_below n p + count_below n q ≤ count_below n among + count_below n (both p q) }

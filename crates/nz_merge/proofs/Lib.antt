@@ -1,3 +1,4 @@
+-- The modules of this crate's proofs.
 pub mod Beginnings
 pub mod Ordering
 pub mod Walk

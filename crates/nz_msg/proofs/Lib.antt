@@ -1,3 +1,4 @@
+-- The modules of this crate's proofs.
 pub mod Codecs
 pub mod Fields
 pub mod Messages

@@ -1,3 +1,4 @@
+-- The modules of this crate's definitions.
 pub mod Codec
 pub mod Fields
 pub mod Messages

@@ -48,7 +48,7 @@ pub fn cut_message_is_short()
         → decode_of bytes ≡ Err (Frame (Short (length bytes))) }
 {}
 
-/// What is no frame is refused as such, before its body is looked at.
+/// Bytes that are no frame are refused as such, before their body is looked at.
 pub fn frames_come_first()
     ensures { (bytes : List ℕ) (r : FrameRefusal) → AreBytes bytes
         → (decode_of bytes ≡ Err (Frame r)) ↔ (refusal bytes ≡ Some r) }

@@ -1,3 +1,4 @@
+-- The modules of this crate's proofs.
 mod Tables
 mod Sends
 mod Fitting

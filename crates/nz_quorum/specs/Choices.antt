@@ -1,4 +1,4 @@
--- What is chosen, said without a walk over the replies.
+-- The reply that is chosen, described without a walk over the replies.
 use Rattle.std.specs.Prelude.{◌≡◌, ℕ, ◌<◌, ◌≤◌, List, ◌∷◌, ◌++◌, IsTrue}
 use Rattle.nz_msg.specs.declared.message.Path.{Path}
 use Rattle.nz_machine.specs.declared.reply.Reply.{Reply}

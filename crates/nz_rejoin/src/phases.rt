@@ -149,7 +149,7 @@ pub fn on_rejoin_tell(
 
 // ---- the third phase: the log
 
-/// Whether the log is told that the replica waits for: by the leader of the wanted view or a later one, for this
+/// Whether this is the log that the replica waits for: from the leader of the wanted view or a later one, for this
 /// restart.
 fn is_wanted(state: &ReplicaState, sender: u8, body: &StateTellBody) -> bool
     ensures { let s = state.now in result ≡ (awaits phases.Log s.state body.now.nonce && (nat_le s.state.rejoin.wanted body.now.view && (sender == leader_of s.f body.now.view))) }

@@ -1,3 +1,4 @@
+-- The modules of this crate's proofs.
 pub mod Scheduling
 pub mod Fine
 pub mod Fresh

@@ -1,3 +1,4 @@
+-- The modules of this crate's proofs.
 pub mod Cuts
 pub mod Numerals
 pub mod Passing

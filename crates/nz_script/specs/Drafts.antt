@@ -235,7 +235,7 @@ with_words d verb.End words = with_script d
 with_words d (verb.Mishap m) words = record d { faults = d.faults ++ fault_in m words ∷ [] }
 with_words d verb.Done words = record d { place = place.Behind }
 
--- Before the first line: the window is 1 where no line tells it, and the other numbers of the head are set before
+-- Before the first line: the window is 1 where no line gives it, and the other numbers of the head are set before
 -- they are used.
 abbrev pub start : Draft
 start = record {

@@ -1,3 +1,4 @@
+-- The modules of this crate's definitions.
 pub mod Bytes
 pub mod Shapes
 pub mod Messages

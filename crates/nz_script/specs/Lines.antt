@@ -20,7 +20,7 @@ fits (form ∷ forms) (bytes ∷ more) = word_of form bytes >>= λ word. fits fo
 abbrev pub a_line : Verb → List Word → Line
 a_line verb words = record { verb = verb; words = words }
 
--- The words after the first, which tells the sort.
+-- The words after the first, which gives the sort.
 abbrev pub line_from : List (List ℕ) → Option Line
 line_from [] = None
 line_from (first ∷ more) = verb_of first >>= λ verb. fits (forms_of verb) more >>= λ words. Some (a_line verb words)

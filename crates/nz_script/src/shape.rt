@@ -53,7 +53,7 @@ pub enum Mishap {
     Alarm,
 }
 
-/// The sort of a line, which its first word tells.
+/// The sort of a line, by its first word.
 #[derive(Clone, Copy, Debug)]
 pub enum Verb {
     Head(Head),

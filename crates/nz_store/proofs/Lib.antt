@@ -1,3 +1,4 @@
+-- The modules of this crate's proofs.
 pub mod Texts
 pub mod Fields
 pub mod Spellings

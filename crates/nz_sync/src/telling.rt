@@ -1,4 +1,4 @@
-//! What the leader tells the other replicas of its log.
+//! What the leader sends the other replicas of its log.
 
 ghost use Rattle.std.specs.Prelude.{◌≡◌, ◌<◌, ◌∷◌, ◌++◌, [], map, take, drop, IfOk, OnOk};
 ghost use Rattle.nz_base.specs.Cluster.{replica_count};
@@ -29,7 +29,7 @@ fn keys_from(state: &ReplicaState, start: u32) -> Result<KeyList, NoMemory>
     Ok(keys)
 }
 
-/// Tells a replica the keys of the log from where its own agrees.
+/// Sends a replica the keys of the log, from where its own agrees.
 fn tell_one(state: &ReplicaState, replica: u8, sends: &mut Sends) -> Result<(), NoMemory>
     requires { replica < replica_count state.now.f }
     ensures { OnOk result (sends.new ≡ sends.old ++ map (parcel (IsReplica state.now.me)) (log_mod_to state.now.state replica ∷ [])) }
@@ -48,7 +48,7 @@ fn tell_one(state: &ReplicaState, replica: u8, sends: &mut Sends) -> Result<(), 
     send(state.allocator(), state.name(), to, &message, sends)
 }
 
-/// At a tick the leader in normal operation tells each of the others what its log has.
+/// At a tick the leader in normal operation sends each of the others what its log has.
 pub fn tell_others(state: &ReplicaState, sends: &mut Sends) -> Result<(), NoMemory>
     ensures { OnOk result (sends.new ≡ sends.old ++ map (parcel (IsReplica state.now.me)) (log_mods_to_others state.now.f state.now.me state.now.state)) }
 {

@@ -1,3 +1,4 @@
+-- The modules of this crate's proofs.
 mod Events
 mod Opens
 mod Pieces

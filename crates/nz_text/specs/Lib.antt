@@ -1,3 +1,4 @@
+-- The modules of this crate's definitions.
 pub mod Text
 pub mod Trace
 pub mod Reading

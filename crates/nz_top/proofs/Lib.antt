@@ -1,3 +1,4 @@
+-- The modules of this crate's proofs.
 mod Inputs
 mod Playable
 pub mod Answers

@@ -1,3 +1,4 @@
+-- The modules of this crate's definitions.
 pub mod Moves
 pub mod Words
 pub mod Calls

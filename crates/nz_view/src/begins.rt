@@ -17,7 +17,7 @@ use nz_base::{Actor, NoMemory};
 use nz_machine::{ReplicaState, Sends};
 use nz_msg::ViewChangeBody;
 
-/// The view begins with the merged log, where a log has room for it, and the others are told.
+/// The view begins with the merged log, where a log has room for it, and the others get a start-view.
 #[tactic(auto, unfolding(nz_machine::specs::Begins::begin))]
 fn begin(state: &mut ReplicaState, sends: &mut Sends) -> Result<(), NoMemory>
     requires changing { IsTrue (is_changing state.old.state.status) }
@@ -52,7 +52,7 @@ fn collect(
     begin(state, sends)
 }
 
-/// In the view change the report is collected. Where the view has begun already, its sender is told.
+/// In the view change the report is collected. Where the view has begun already, its sender gets a start-view.
 fn hear_report(
     state: &mut ReplicaState,
     sender: u8,

@@ -1,3 +1,4 @@
+-- What the function of this folder owes, proved.
 use Rattle.std.proofs.Common.{arith}
 use Rattle.nz_cv.proofs.Merging.{greater_counters-raised}
 use Rattle.nz_cv.proofs.raise.Goals as goal

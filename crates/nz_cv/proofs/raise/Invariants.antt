@@ -1,3 +1,4 @@
+-- What the loops of the function of this folder keep.
 use Rattle.nz_cv.proofs.Merging.{Raised}
 use Rattle.nz_cv.proofs.raise.Given as goal
 

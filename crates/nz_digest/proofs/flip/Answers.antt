@@ -1,3 +1,4 @@
+-- What the function of this folder owes, proved.
 use Rattle.std.proofs.Common.{arith}
 use Rattle.nz_digest.proofs.Bytes.{xor_bytes-flipped}
 use Rattle.nz_digest.proofs.flip.Goals as goal

@@ -1,3 +1,4 @@
+-- What the loops of the function of this folder keep.
 use Rattle.nz_digest.proofs.Bytes.{Flipped}
 use Rattle.nz_digest.proofs.flip.Given as goal
 

@@ -313,7 +313,7 @@ fn turns() -> &'static [Turn] {
     TURNS
 }
 
-// Takes a turn. Tells whether it sends what is wanted.
+// Takes a turn. Whether it sends what is wanted.
 fn play(alloc: Global, cores: &mut [Replica], turn: &Turn, mail: &mut Sends) -> Result<bool, Fail> {
     let (me, input, wanted) = turn;
     match cores.get_mut(usize::from(*me)) {

@@ -1,4 +1,5 @@
-//! Broken input, and ends that fail at each of their calls. What the program has to answer was worked out apart from it.
+//! Broken input, and ends that fail at each of their calls. What the program has to answer was worked out apart from
+//! it.
 ghost use Rattle.std.specs.Prelude.{◌<◌};
 
 use super::losses::LEADER_CUT_OFF;

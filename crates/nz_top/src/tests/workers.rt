@@ -170,7 +170,7 @@ impl Gate for Holding {
     }
 }
 
-/// Where the first record of an actor stands.
+/// The place of the first record of an actor.
 fn first_of(records: &[Record], actor: Actor) -> Option<usize> {
     records.iter().position(|record| record.actor == actor)
 }

@@ -1,3 +1,4 @@
+-- What the function of this folder owes, proved.
 use Rattle.std.proofs.Common.{◌∙◌, sym}
 use Rattle.nz_machine.specs.Journals.{group_in}
 use Rattle.nz_audit.proofs.Tables.{table_passes}

@@ -1,3 +1,4 @@
+-- What the function of this folder owes, proved.
 use Rattle.std.proofs.Common.{List, ◌<◌, length, get_or, ap, subst, ◌∙◌}
 use Rattle.nz_machine.specs.declared.event.Parcel.{Parcel}
 use Rattle.nz_audit.proofs.Acting.{has_at}

@@ -1,3 +1,4 @@
+-- What the function of this folder owes, proved.
 use Rattle.std.proofs.Common.{arith}
 use Rattle.nz_audit.specs.Cores.{run_up_to}
 use Rattle.nz_audit.proofs.Found.{is_next}

@@ -1,3 +1,4 @@
+-- What the loops of the function of this folder keep.
 use Rattle.nz_machine.specs.Journals.{group_in}
 use Rattle.nz_audit.specs.Cores.{IsCore, run_up_to}
 use Rattle.nz_audit.proofs.replaying.replay.Given as goal

@@ -1,3 +1,4 @@
+-- What the function of this folder owes, proved.
 use Rattle.std.proofs.Common.{sym, ◌∙◌}
 use Rattle.nz_audit.proofs.Replays.{core_steps, core_stays}
 use Rattle.nz_audit.proofs.replaying.replay_one.Goals as goal

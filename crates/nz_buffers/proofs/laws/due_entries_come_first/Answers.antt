@@ -1,3 +1,4 @@
+-- What the function of this folder owes, proved.
 use Rattle.nz_buffers.proofs.Releasing.{in_turn, left}
 use Rattle.nz_buffers.proofs.laws.due_entries_come_first.Goals as goal
 

@@ -1,3 +1,4 @@
+-- What the loops of the function of this folder keep.
 use Rattle.std.proofs.Common.{◌≡◌, ◌≤◌, ◌-◌, drop, length}
 use Rattle.nz_buffers.specs.Places.{key_place_from}
 use Rattle.nz_buffers.proofs.places.key_place.Given as goal

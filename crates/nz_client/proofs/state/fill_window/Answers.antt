@@ -1,3 +1,4 @@
+-- What the function of this folder owes, proved.
 use Rattle.nz_client.proofs.Windows.{filling_none, filling_more}
 use Rattle.nz_client.proofs.state.fill_window.Goals as goal
 

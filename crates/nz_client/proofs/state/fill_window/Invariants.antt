@@ -1,3 +1,4 @@
+-- What the loops of the function of this folder keep.
 use Rattle.nz_client.proofs.Windows.{IsFilling}
 use Rattle.nz_client.proofs.state.fill_window.Given as goal
 

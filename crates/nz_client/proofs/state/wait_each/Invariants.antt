@@ -1,3 +1,4 @@
+-- What the loops of the function of this folder keep.
 use Rattle.std.proofs.Common.{◌≡◌}
 use Rattle.nz_machine.specs.Clients.{waited}
 use Rattle.nz_client.proofs.Windows.{done_to}

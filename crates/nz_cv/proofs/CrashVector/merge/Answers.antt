@@ -1,3 +1,4 @@
+-- What the function of this folder owes, proved.
 use Rattle.nz_cv.proofs.Merging.{Merges, merges}
 use Rattle.nz_cv.proofs.CrashVector.merge.Goals as goal
 

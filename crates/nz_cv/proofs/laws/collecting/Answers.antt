@@ -1,3 +1,4 @@
+-- What the function of this folder owes, proved.
 use Rattle.nz_cv.proofs.Collecting.{crash_consistency}
 use Rattle.nz_cv.proofs.laws.collecting.Goals as goal
 

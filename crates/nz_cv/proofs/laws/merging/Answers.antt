@@ -1,3 +1,4 @@
+-- What the function of this folder owes, proved.
 use Rattle.nz_cv.proofs.Merging.{merged-own}
 use Rattle.nz_cv.proofs.Collecting.{never_falls, takes_in, adds_nothing, idempotent}
 use Rattle.nz_cv.proofs.laws.merging.Goals as goal

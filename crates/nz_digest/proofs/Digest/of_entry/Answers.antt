@@ -1,3 +1,4 @@
+-- What the function of this folder owes, proved.
 use Rattle.std.proofs.Common.{◌≡◌, [], ◌++◌, ap, ◌∙◌}
 use Rattle.sha1.specs.Sha1.{sha1}
 use Rattle.nz_digest.specs.Digests.{key_bytes}

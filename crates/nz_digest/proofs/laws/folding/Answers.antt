@@ -1,3 +1,4 @@
+-- What the function of this folder owes, proved.
 use Rattle.nz_digest.proofs.Bytes.{xor_bytes-twice}
 use Rattle.nz_digest.proofs.Keys.{length-digest, digest-push, digest-rearranged}
 use Rattle.nz_digest.proofs.laws.folding.Goals as goal

@@ -1,3 +1,4 @@
+-- What the loops of the function of this folder keep.
 use Rattle.std.proofs.Common.{◌≡◌, map, take}
 use Rattle.nz_fabric.specs.Posting.{arrival_of, up_to}
 use Rattle.nz_fabric.proofs.calendar.arrivals_of.Given as goal

@@ -1,3 +1,4 @@
+-- What the loops of the function of this folder keep.
 use Rattle.std.proofs.Common.{◌≡◌, ℕ}
 use Rattle.std.specs.Prelude.{◌+◌, ◌-◌, vec_len}
 use Rattle.nz_fabric.specs.Calendars.{items_in}

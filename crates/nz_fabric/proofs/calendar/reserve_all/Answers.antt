@@ -1,3 +1,4 @@
+-- What the function of this folder owes, proved.
 use Rattle.std.proofs.Common.{◌∙◌, length}
 use Rattle.nz_fabric.proofs.Dating.{rooms_more}
 use Rattle.nz_fabric.proofs.calendar.reserve_all.Goals as goal

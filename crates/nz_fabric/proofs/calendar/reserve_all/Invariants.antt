@@ -1,3 +1,4 @@
+-- What the loops of the function of this folder keep.
 use Rattle.std.proofs.Common.{◌≡◌, ℕ, length, take}
 use Rattle.nz_fabric.specs.Calendars.{items_in}
 use Rattle.nz_fabric.specs.Posting.{days_of, HasRooms}

@@ -1,3 +1,4 @@
+-- What the function of this folder owes, proved.
 use Rattle.nz_fabric.proofs.Numbering.{count_updated}
 use Rattle.nz_fabric.proofs.course.count_up_to.Goals as goal
 

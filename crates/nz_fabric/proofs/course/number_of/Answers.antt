@@ -1,3 +1,4 @@
+-- What the function of this folder owes, proved.
 use Rattle.std.proofs.Common.{◌≡◌, ap, ◌∙◌, ℕ, arith, Option}
 use Rattle.std.specs.Prelude.{unwrap_or}
 use Rattle.nz_fabric.specs.Calendars.{course, count_of}

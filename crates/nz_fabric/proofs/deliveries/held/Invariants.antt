@@ -1,3 +1,4 @@
+-- What the loops of the function of this folder keep.
 use Rattle.std.proofs.Common.{◌≡◌, ◌++◌, map, take, drop}
 use Rattle.nz_fabric.specs.Posting.{put_off}
 use Rattle.nz_fabric.proofs.deliveries.held.Given as goal

@@ -1,3 +1,4 @@
+-- What the function of this folder owes, proved.
 use Rattle.std.proofs.Common.{refl}
 use Rattle.nz_fabric.proofs.Calling.{restarts_step, calls_step, few_step}
 use Rattle.nz_fabric.proofs.due.push_calls.Goals as goal

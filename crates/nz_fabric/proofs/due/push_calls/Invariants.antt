@@ -1,3 +1,4 @@
+-- What the loops of the function of this folder keep.
 use Rattle.std.proofs.Common.{◌≡◌, ◌≤◌, ◌++◌, take}
 use Rattle.nz_machine.specs.Schedule.{calls}
 use Rattle.nz_fabric.specs.Dues.{restarts_in}

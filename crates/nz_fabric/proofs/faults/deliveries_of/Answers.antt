@@ -1,3 +1,4 @@
+-- What the function of this folder owes, proved.
 use Rattle.std.proofs.Common.{◌+◌, ◌∷◌, []}
 use Rattle.std.proofs.lemmas.List.{get_or_default}
 use Rattle.nz_machine.specs.Schedule.{whole_in}

@@ -1,3 +1,4 @@
+-- What the function of this folder owes, proved.
 use Rattle.std.proofs.Common.{◌∙◌, map, sym, ap, true, false}
 use Rattle.nz_fabric.specs.Posting.{stored}
 use Rattle.nz_fabric.proofs.Numbering.{faulted_is}

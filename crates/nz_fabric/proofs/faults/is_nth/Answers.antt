@@ -1,3 +1,4 @@
+-- What the function of this folder owes, proved.
 use Rattle.std.proofs.Common.{◌∙◌}
 use Rattle.nz_fabric.proofs.Numbering.{struck_by_number}
 use Rattle.nz_fabric.proofs.faults.is_nth.Goals as goal

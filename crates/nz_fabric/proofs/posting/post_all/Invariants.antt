@@ -1,3 +1,4 @@
+-- What the loops of the function of this folder keep.
 use Rattle.std.proofs.Common.{◌++◌, ℕ, List, take}
 use Rattle.nz_machine.specs.Schedule.{Posted}
 use Rattle.nz_fabric.specs.Calendars.{StandsFor, posted_by}

@@ -1,3 +1,4 @@
+-- What the loops of the function of this folder keep.
 use Rattle.std.proofs.Common.{◌++◌, ℕ, List, map, take}
 use Rattle.nz_machine.specs.Schedule.{Posted, posted_in}
 use Rattle.nz_fabric.specs.Calendars.{StandsFor}

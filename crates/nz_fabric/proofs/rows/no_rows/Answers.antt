@@ -1,3 +1,4 @@
+-- What the function of this folder owes, proved.
 use Rattle.std.proofs.Common.{◌≡◌, ◌++◌, ◌∙◌, ◌∷◌, [], List, ap, arith}
 use Rattle.std.specs.Prelude.{get_or, Vec}
 use Rattle.std.specs.Global.{Global}

@@ -1,3 +1,4 @@
+-- What the loops of the function of this folder keep.
 use Rattle.std.proofs.Common.{◌≡◌, ◌≤◌, ◌-◌, [], ℕ}
 use Rattle.std.specs.Prelude.{get_or, vec_len, vec_capacity}
 use Rattle.nz_fabric.specs.Rows.{rows_of}

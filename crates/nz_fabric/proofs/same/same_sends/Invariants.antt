@@ -1,3 +1,4 @@
+-- What the loops of the function of this folder keep.
 use Rattle.std.specs.Prelude.{◌≡◌, take}
 use Rattle.nz_fabric.proofs.same.same_sends.Given as goal
 

@@ -1,3 +1,4 @@
+-- What the function of this folder owes, proved.
 use Rattle.nz_frame.proofs.Readings as readings
 use Rattle.nz_frame.proofs.laws.no_prefix.Goals as goal
 

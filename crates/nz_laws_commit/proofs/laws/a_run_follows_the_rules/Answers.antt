@@ -1,3 +1,4 @@
+-- What the function of this folder owes, proved.
 use Rattle.nz_laws_commit.proofs.FourRecords as four
 use Rattle.nz_laws_commit.proofs.laws.a_run_follows_the_rules.Goals as goal
 

@@ -1,3 +1,4 @@
+-- What the function of this folder owes, proved.
 use Rattle.nz_laws_commit.proofs.Committing.{led_results}
 use Rattle.nz_laws_commit.proofs.laws.leader_executes_its_log.Goals as goal
 

@@ -1,3 +1,4 @@
+-- What the function of this folder owes, proved.
 use Rattle.nz_laws_commit.specs.Machines.{machine_of}
 use Rattle.nz_laws_commit.proofs.OneView.{run_laws}
 use Rattle.nz_laws_commit.proofs.LaterStarts.{pairs}

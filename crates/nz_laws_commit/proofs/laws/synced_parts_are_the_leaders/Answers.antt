@@ -1,3 +1,4 @@
+-- What the function of this folder owes, proved.
 use Rattle.nz_laws_commit.proofs.Whole.{synced_is_leads}
 use Rattle.nz_laws_commit.proofs.laws.synced_parts_are_the_leaders.Goals as goal
 

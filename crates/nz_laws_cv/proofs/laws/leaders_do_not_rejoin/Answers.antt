@@ -1,3 +1,4 @@
+-- What the function of this folder owes, proved.
 use Rattle.nz_laws_cv.specs.Tests.{notions}
 use Rattle.nz_laws_cv.proofs.Leading.{before_begin}
 use Rattle.nz_laws_cv.proofs.Whole as proved

@@ -1,3 +1,4 @@
+-- What the function of this folder owes, proved.
 use Rattle.nz_lin.proofs.OneHistory.{history_of_pairs}
 use Rattle.nz_lin.proofs.laws.history_of_paired_prefixes.Goals as goal
 

@@ -1,3 +1,4 @@
+-- What the function of this folder owes, proved.
 use Rattle.nz_lin.proofs.Replied.{no_collision_listed}
 use Rattle.nz_lin.proofs.laws.premise_on_digests.Goals as goal
 

@@ -1,3 +1,4 @@
+-- What the function of this folder owes, proved.
 use Rattle.std.proofs.Common.{◌≡◌, sym, ap, ◌∙◌, nat_lt, ℕ, ◌≤◌, length, arith}
 use Rattle.nz_log.specs.Synced.{Log}
 use Rattle.nz_log.proofs.Keeping.{held_before, none_before}

@@ -1,3 +1,4 @@
+-- What the function of this folder owes, proved.
 use Rattle.nz_log.proofs.Modifying.{modified_sound}
 use Rattle.nz_log.proofs.laws.modified_is_log.Goals as goal
 

@@ -1,3 +1,4 @@
+-- What the function of this folder owes, proved.
 use Rattle.std.proofs.Common.{◌∙◌}
 use Rattle.nz_log.proofs.Placing.{search_tells}
 use Rattle.nz_log.proofs.parts.contains.Goals as goal

@@ -1,3 +1,4 @@
+-- What the loops of the function of this folder keep.
 use Rattle.std.proofs.Common.{◌≡◌, take}
 use Rattle.nz_log.specs.Synced.{left_out}
 use Rattle.nz_log.proofs.parts.copy_left_out.Given as goal

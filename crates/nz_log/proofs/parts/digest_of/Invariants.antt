@@ -1,3 +1,4 @@
+-- What the loops of the function of this folder keep.
 use Rattle.std.proofs.Common.{◌≡◌, take}
 use Rattle.nz_log.specs.Places.{digest_of_log}
 use Rattle.nz_log.proofs.parts.digest_of.Given as goal

@@ -1,3 +1,4 @@
+-- What the loops of the function of this folder keep.
 use Rattle.std.proofs.Common.{◌≡◌, false, take}
 use Rattle.nz_base.specs.Log.{keys_of, has_id}
 use Rattle.nz_log.proofs.parts.find_place.Given as goal

@@ -1,3 +1,4 @@
+-- What the function of this folder owes, proved.
 use Rattle.std.proofs.Common.{List, ◌+◌, ◌≤◌, ◌++◌, length, take, drop, arith, ap, ◌∙◌}
 use Rattle.std.specs.List.{filter}
 use Rattle.nz_base.specs.declared.key.Entry.{Entry}

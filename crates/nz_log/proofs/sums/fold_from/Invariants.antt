@@ -1,3 +1,4 @@
+-- What the loops of the function of this folder keep.
 use Rattle.std.proofs.Common.{◌≤◌, length, take}
 use Rattle.std.specs.Vec.{vec_capacity}
 use Rattle.nz_log.specs.Keeping.{IsSummed}

@@ -1,3 +1,4 @@
+-- What the loops of the function of this folder keep.
 use Rattle.std.proofs.Common.{◌≡◌, ◌∷◌, map, take}
 use Rattle.nz_machine.proofs.collecting.all_changes.Given as goal
 

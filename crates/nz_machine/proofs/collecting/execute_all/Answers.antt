@@ -1,3 +1,4 @@
+-- What the function of this folder owes, proved.
 use Rattle.std.proofs.Common.{◌∙◌, sym}
 use Rattle.nz_machine.proofs.Stores.{no_store}
 use Rattle.nz_machine.proofs.Collects.{no_replies}

@@ -1,3 +1,4 @@
+-- What the loops of the function of this folder keep.
 use Rattle.std.proofs.Common.{◌≡◌, max, map, drop}
 use Rattle.nz_merge.specs.Merged.{greatest}
 use Rattle.nz_machine.proofs.collecting.latest.Given as goal

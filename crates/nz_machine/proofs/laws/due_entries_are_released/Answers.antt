@@ -1,3 +1,4 @@
+-- What the function of this folder owes, proved.
 use Rattle.nz_machine.proofs.Due.{release_due}
 use Rattle.nz_machine.proofs.laws.due_entries_are_released.Goals as goal
 

@@ -1,3 +1,4 @@
+-- What the function of this folder owes, proved.
 use Rattle.std.proofs.Common.{[], length, refl, arith}
 use Rattle.nz_msg.proofs.Valid.{counters_fit, size_small}
 use Rattle.nz_machine.proofs.Sizes.{size_passes}

@@ -1,3 +1,4 @@
+-- What the function of this folder owes, proved.
 use Rattle.std.proofs.Common.{sym}
 use Rattle.nz_base.proofs.Logs.{above_none, above_some}
 use Rattle.nz_machine.proofs.parts.last_key.Goals as goal

@@ -1,3 +1,4 @@
+-- What the loops of the function of this folder keep.
 use Rattle.std.proofs.Common.{◌≡◌, ◌≤◌, take}
 use Rattle.nz_machine.proofs.Reports.{gathered}
 use Rattle.nz_machine.proofs.reporting.gather.Given as goal

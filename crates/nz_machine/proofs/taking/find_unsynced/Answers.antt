@@ -1,3 +1,4 @@
+-- What the function of this folder owes, proved.
 use Rattle.std.proofs.Common.{sym, ◌∙◌}
 use Rattle.nz_machine.proofs.Takes.{find_behind, find_nowhere, find_at}
 use Rattle.nz_machine.proofs.taking.find_unsynced.Goals as goal

@@ -1,3 +1,4 @@
+-- What the loops of the function of this folder keep.
 use Rattle.std.proofs.Common.{length}
 use Rattle.nz_machine.proofs.Takes.{AreMoving}
 use Rattle.nz_machine.proofs.taking.move_below.Given as goal

@@ -1,3 +1,4 @@
+-- What the function of this folder owes, proved.
 use Rattle.std.proofs.Common.{List, ap, ◌∙◌, sym}
 use Rattle.nz_base.specs.declared.key.Key.{Key}
 use Rattle.nz_machine.specs.State.{ReplicaData}

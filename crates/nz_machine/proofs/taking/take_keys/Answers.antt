@@ -1,3 +1,4 @@
+-- What the function of this folder owes, proved.
 use Rattle.std.proofs.Common.{◌+◌, drop, ◌∙◌}
 use Rattle.nz_machine.specs.Taking.{with_parts}
 use Rattle.nz_machine.proofs.Takes.{took_missing, took_synced, took_refused, took_all}

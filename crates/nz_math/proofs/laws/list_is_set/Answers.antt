@@ -1,3 +1,4 @@
+-- What the function of this folder owes, proved.
 use Rattle.nz_math.proofs.Counting as proved
 use Rattle.nz_math.proofs.laws.list_is_set.Goals as goal
 

@@ -1,3 +1,4 @@
+-- What the function of this folder owes, proved.
 use Rattle.nz_math.proofs.Counting as proved
 use Rattle.nz_math.proofs.laws.member_outside.Goals as goal
 

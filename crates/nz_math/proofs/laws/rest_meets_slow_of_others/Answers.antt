@@ -1,3 +1,4 @@
+-- What the function of this folder owes, proved.
 use Rattle.nz_math.proofs.Sharing as proved
 use Rattle.nz_math.proofs.laws.rest_meets_slow_of_others.Goals as goal
 

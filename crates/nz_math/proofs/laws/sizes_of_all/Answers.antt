@@ -1,3 +1,4 @@
+-- What the function of this folder owes, proved.
 use Rattle.nz_math.proofs.Counting.{count_everyone, count_all_but}
 use Rattle.nz_math.proofs.laws.sizes_of_all.Goals as goal
 

@@ -1,3 +1,4 @@
+-- What the loops of the function of this folder keep.
 use Rattle.std.proofs.Common.{◌≡◌, drop}
 use Rattle.nz_merge.specs.Fit.{are_fit}
 use Rattle.nz_merge.proofs.change.all_fit.Given as goal

@@ -1,3 +1,4 @@
+-- What the loops of the function of this folder keep.
 use Rattle.std.proofs.Common.{◌≡◌, drop}
 use Rattle.nz_base.specs.Log.{keys_of}
 use Rattle.nz_merge.specs.Fit.{are_log}

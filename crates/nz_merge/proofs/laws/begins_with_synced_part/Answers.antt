@@ -1,3 +1,4 @@
+-- What the function of this folder owes, proved.
 use Rattle.nz_merge.proofs.Merging.{starts, synced_front}
 use Rattle.nz_merge.proofs.laws.begins_with_synced_part.Goals as goal
 

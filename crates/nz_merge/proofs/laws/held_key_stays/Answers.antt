@@ -1,3 +1,4 @@
+-- What the function of this folder owes, proved.
 use Rattle.nz_merge.proofs.Merging as merging
 use Rattle.nz_merge.proofs.laws.held_key_stays.Goals as goal
 

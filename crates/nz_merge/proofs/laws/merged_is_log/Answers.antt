@@ -1,3 +1,4 @@
+-- What the function of this folder owes, proved.
 use Rattle.nz_merge.proofs.Merging as merging
 use Rattle.nz_merge.proofs.laws.merged_is_log.Goals as goal
 

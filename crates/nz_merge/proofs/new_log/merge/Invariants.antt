@@ -1,3 +1,4 @@
+-- What the loops of the function of this folder keep.
 use Rattle.std.proofs.Common.{◌≡◌}
 use Rattle.nz_merge.specs.Merged.{of_view, merged_from}
 use Rattle.nz_merge.proofs.Turns.{in_all}

@@ -1,3 +1,4 @@
+-- What the function of this folder owes, proved.
 use Rattle.std.proofs.Common.{sym}
 use Rattle.nz_merge.proofs.Search.{command_found, command_none}
 use Rattle.nz_merge.proofs.parts.copy_command.Goals as goal

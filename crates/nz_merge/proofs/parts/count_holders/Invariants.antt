@@ -1,3 +1,4 @@
+-- What the loops of the function of this folder keep.
 use Rattle.std.proofs.Common.{◌≡◌, ◌+◌, ◌≤◌, length, drop}
 use Rattle.nz_merge.specs.Merged.{of_view, holders, AreFit}
 use Rattle.nz_merge.proofs.parts.count_holders.Given as goal

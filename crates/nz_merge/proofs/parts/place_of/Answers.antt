@@ -1,3 +1,4 @@
+-- What the function of this folder owes, proved.
 use Rattle.std.proofs.Common.{rules}
 use Rattle.std.proofs.lemmas.List.Sorted.{answers_always}
 use Rattle.nz_merge.proofs.Search.{search_found, search_tells}

@@ -1,3 +1,4 @@
+-- What the function of this folder owes, proved.
 use Rattle.std.proofs.Common.{refl}
 use Rattle.nz_merge.proofs.Sets.{put_step}
 use Rattle.nz_merge.proofs.parts.put_keys.Goals as goal

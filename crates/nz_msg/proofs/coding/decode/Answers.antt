@@ -1,3 +1,4 @@
+-- What the function of this folder owes, proved.
 use Rattle.std.proofs.Common.{arith}
 use Rattle.nz_msg.proofs.Envelopes.{all_spelled, all_decoded}
 use Rattle.nz_msg.proofs.coding.decode.Goals as goal

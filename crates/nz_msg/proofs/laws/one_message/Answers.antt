@@ -1,3 +1,4 @@
+-- What the function of this folder owes, proved.
 use Rattle.nz_msg.proofs.Envelopes as proofs
 use Rattle.nz_msg.proofs.laws.one_message.Goals as goal
 

@@ -1,3 +1,4 @@
+-- What the loops of the function of this folder keep.
 use Rattle.std.proofs.Common.{◌≡◌, ◌-◌, [], take, length}
 use Rattle.nz_msg.specs.Codec.{items_at}
 use Rattle.nz_msg.specs.Fields.{u32}

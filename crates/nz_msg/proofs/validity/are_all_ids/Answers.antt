@@ -1,3 +1,4 @@
+-- What the function of this folder owes, proved.
 use Rattle.std.proofs.Common.{◌≡◌, true, false, sym, ◌∙◌}
 use Rattle.nz_msg.specs.Fields.{id}
 use Rattle.nz_msg.proofs.Valid.{fits_next, fits_at}

@@ -1,3 +1,4 @@
+-- What the function of this folder owes, proved.
 use Rattle.std.proofs.Common.{◌≡◌, true, ◌∙◌, sym, [], length, refl, arith}
 use Rattle.nz_msg.specs.Fields.{is_cluster_size}
 use Rattle.nz_msg.proofs.Valid.{counters_fit, size_small}

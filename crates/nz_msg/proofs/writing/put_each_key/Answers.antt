@@ -1,3 +1,4 @@
+-- What the function of this folder owes, proved.
 use Rattle.nz_msg.specs.Fields.{next_key}
 use Rattle.nz_msg.proofs.Writes.{adds_none, adds_next}
 use Rattle.nz_msg.proofs.writing.put_each_key.Goals as goal

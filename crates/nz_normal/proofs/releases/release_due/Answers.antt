@@ -1,3 +1,4 @@
+-- What the function of this folder owes, proved.
 use Rattle.std.proofs.Common.{refl, sym, ◌∙◌}
 use Rattle.nz_normal.proofs.Releasing.{goes_on, is_done, fewer}
 use Rattle.nz_normal.proofs.releases.release_due.Goals as goal

@@ -1,3 +1,4 @@
+-- What the function of this folder owes, proved.
 use Rattle.nz_quorum.proofs.Choosing.{fast_has_quorum, quorum_is_fast}
 use Rattle.nz_quorum.proofs.laws.fast_where_there_is_one.Goals as goal
 

@@ -1,3 +1,4 @@
+-- What the function of this folder owes, proved.
 use Rattle.nz_quorum.proofs.Choosing.{slow_has_quorum, quorum_is_slow}
 use Rattle.nz_quorum.proofs.laws.slow_where_none_is_fast.Goals as goal
 

@@ -1,3 +1,4 @@
+-- What the function of this folder owes, proved.
 use Rattle.std.proofs.Common.{sym, ◌∙◌}
 use Rattle.nz_quorum.proofs.Support.{count_supporters, quorum_counts, leader_below}
 use Rattle.nz_machine.specs.Quorums.{view_of}

@@ -1,3 +1,4 @@
+-- What the loops of the function of this folder keep.
 use Rattle.std.proofs.Common.{◌≡◌, ℕ, ◌||◌, eqb, drop}
 use Rattle.std.specs.List.{list_any, AllByRecursion}
 use Rattle.nz_base.specs.Cluster.{leader_of}

@@ -1,3 +1,4 @@
+-- What the loops of the function of this folder keep.
 use Rattle.std.proofs.Common.{◌≡◌}
 use Rattle.nz_quorum.proofs.tests.path_of.Given as goal
 

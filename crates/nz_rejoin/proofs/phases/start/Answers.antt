@@ -1,3 +1,4 @@
+-- What the function of this folder owes, proved.
 use Rattle.std.proofs.Common.{sym, subst}
 use Rattle.nz_machine.specs.Facts.{IsCarried}
 use Rattle.nz_machine.proofs.Carried.{carried_of_fit}

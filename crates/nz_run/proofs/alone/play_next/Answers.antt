@@ -1,3 +1,4 @@
+-- What the function of this folder owes, proved.
 use Rattle.std.proofs.Common.{◌≡◌, ◌+◌, ◌<◌, ◌∙◌, length, refl, sym, ap, subst, arith}
 use Rattle.nz_machine.specs.Schedule.{group_of}
 use Rattle.nz_fabric.specs.States.{State, IsQuiet, IsNext, records_of, with_taken, with_recorded}

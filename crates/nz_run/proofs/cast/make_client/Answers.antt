@@ -1,3 +1,4 @@
+-- What the function of this folder owes, proved.
 use Rattle.std.proofs.Common.{◌∙◌, sym, ap, Some, List, []}
 use Rattle.nz_base.specs.declared.scenario.Request.{Request}
 use Rattle.nz_client.specs.Seats.{ClientView}

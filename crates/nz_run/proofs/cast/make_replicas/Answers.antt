@@ -1,3 +1,4 @@
+-- What the function of this folder owes, proved.
 use Rattle.nz_run.specs.Casts.{new_replica}
 use Rattle.nz_run.proofs.Casting.{one_more}
 use Rattle.nz_run.proofs.cast.make_replicas.Goals as goal

@@ -1,3 +1,4 @@
+-- What the function of this folder owes, proved.
 use Rattle.nz_run.proofs.Casting.{step_result}
 use Rattle.nz_run.proofs.cast.step_at.Goals as goal
 

@@ -1,3 +1,4 @@
+-- What the loops of the function of this folder keep.
 use Rattle.nz_run.proofs.gate_tests.two_steps_at_once.Given as goal
 
 abbrev pub ghosts-seen_at_once-N-Name : goal.ghosts-seen_at_once-N-Name

@@ -1,3 +1,4 @@
+-- What the loops of the function of this folder keep.
 use Rattle.std.specs.Prelude.{◌≡◌, ◌+◌, vec_len, sum_by, All}
 use Rattle.nz_run.proofs.shares.gather.Given as goal
 

@@ -1,3 +1,4 @@
+-- What the loops of the function of this folder keep.
 use Rattle.std.specs.Prelude.{ℕ, ◌<◌, get_or}
 use Rattle.nz_machine.specs.Schedule.{group_of}
 use Rattle.nz_fabric.specs.Dues.{named}

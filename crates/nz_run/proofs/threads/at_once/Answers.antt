@@ -1,3 +1,4 @@
+-- What the function of this folder owes, proved.
 use Rattle.std.proofs.Common.{◌≡◌, ◌∙◌, ap, arith, length, get_or}
 use Rattle.nz_run.proofs.Fewer.{written, all_idle, same_sum}
 use Rattle.nz_run.proofs.threads.at_once.Goals as goal

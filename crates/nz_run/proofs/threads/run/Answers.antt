@@ -1,3 +1,4 @@
+-- What the function of this folder owes, proved.
 use Rattle.nz_machine.specs.Journals.{run_in}
 use Rattle.nz_run.proofs.Casting.{if_ok}
 use Rattle.nz_run.proofs.Scheduling.{scheduled_in_order}

@@ -1,3 +1,4 @@
+-- What the loops of the function of this folder keep.
 use Rattle.nz_run.proofs.threads.run.Given as goal
 
 abbrev pub ghosts-run_named-N-Name : goal.ghosts-run_named-N-Name

@@ -1,3 +1,4 @@
+-- What the loops of the function of this folder keep.
 use Rattle.std.specs.Prelude.{◌≡◌}
 use Rattle.nz_run.proofs.workers.work.Given as goal
 

@@ -1,3 +1,4 @@
+-- What the loops of the function of this folder keep.
 use Rattle.std.proofs.Common.{◌≤◌, ◌-◌, length, take}
 use Rattle.nz_script.specs.Bytes.{Lacks}
 use Rattle.nz_script.proofs.bytes.cut_at.Given as goal

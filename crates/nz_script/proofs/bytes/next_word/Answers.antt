@@ -1,3 +1,4 @@
+-- What the function of this folder owes, proved.
 use Rattle.std.proofs.Common.{◌∙◌, sym, rules}
 use Rattle.nz_script.specs.Bytes.{space}
 use Rattle.nz_script.proofs.Cuts.{shorter, words-skip, words-cut, words-one}

@@ -1,3 +1,4 @@
+-- What the function of this folder owes, proved.
 use Rattle.std.proofs.Common.{◌≡◌, true, sym, ap, ◌∙◌, subst, List}
 use Rattle.nz_store.specs.Grammar.{IsValid}
 use Rattle.nz_script.specs.declared.shape.Form.{Form}

@@ -1,3 +1,4 @@
+-- What the function of this folder owes, proved.
 use Rattle.std.proofs.Common.{map}
 use Rattle.nz_script.proofs.Fitting.{first_lacking}
 use Rattle.nz_script.proofs.commands.words_first.Goals as goal

@@ -1,3 +1,4 @@
+-- What the function of this folder owes, proved.
 use Rattle.std.proofs.Common.{◌++◌, ◌∷◌, [], ◌-◌, ◌+◌, ◌/◌, ◌∙◌, ap, List, ℕ}
 use Rattle.nz_base.specs.declared.scenario.Fault.{Fault}
 use Rattle.nz_script.specs.Draws.{faults_for}

@@ -1,3 +1,4 @@
+-- What the function of this folder owes, proved.
 use Rattle.std.proofs.Common.{◌≡◌, length, arith, ap, ◌∙◌, List}
 use Rattle.nz_script.proofs.Drawing.{length-requests_for}
 use Rattle.nz_base.specs.declared.scenario.Request.{Request}

@@ -1,3 +1,4 @@
+-- What the function of this folder owes, proved.
 use Rattle.std.proofs.Common.{◌%◌, sym, subst, arith}
 use Rattle.nz_store.specs.Grammar.{IsValid}
 use Rattle.nz_script.proofs.Drawing.{command_for_is_valid}

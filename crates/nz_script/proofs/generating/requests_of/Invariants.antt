@@ -1,3 +1,4 @@
+-- What the loops of the function of this folder keep.
 use Rattle.std.proofs.Common.{◌≡◌, ◌++◌, ◌-◌}
 use Rattle.nz_script.specs.Draws.{after, requests_for}
 use Rattle.nz_script.proofs.generating.requests_of.Given as goal

@@ -1,3 +1,4 @@
+-- What the loops of the function of this folder keep.
 use Rattle.std.proofs.Common.{◌≡◌, ◌++◌, drop}
 use Rattle.nz_script.specs.Draws.{script_for}
 use Rattle.nz_script.proofs.generating.script_of.Given as goal

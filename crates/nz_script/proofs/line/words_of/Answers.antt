@@ -1,3 +1,4 @@
+-- What the function of this folder owes, proved.
 use Rattle.nz_script.specs.Bytes.{words_in}
 use Rattle.nz_script.proofs.Fitting.{word_lacking}
 use Rattle.nz_script.proofs.line.words_of.Goals as goal

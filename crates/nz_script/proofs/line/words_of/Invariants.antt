@@ -1,3 +1,4 @@
+-- What the loops of the function of this folder keep.
 use Rattle.std.proofs.Common.{◌≡◌, ◌++◌, drop, List}
 use Rattle.std.specs.Option.{option_map}
 use Rattle.nz_script.specs.declared.word.Word.{Word}

@@ -1,3 +1,4 @@
+-- What the function of this folder owes, proved.
 use Rattle.std.proofs.Common.{arith}
 use Rattle.nz_script.proofs.Written.{script_written}
 use Rattle.nz_script.proofs.printing.put_scripts.Goals as goal

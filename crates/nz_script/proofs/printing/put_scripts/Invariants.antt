@@ -1,3 +1,4 @@
+-- What the loops of the function of this folder keep.
 use Rattle.std.proofs.Common.{◌≡◌, ◌++◌, drop}
 use Rattle.nz_script.specs.Texts.{text_of_lines, scripts_lines}
 use Rattle.nz_script.proofs.printing.put_scripts.Given as goal

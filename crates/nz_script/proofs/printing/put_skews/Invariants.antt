@@ -1,3 +1,4 @@
+-- What the loops of the function of this folder keep.
 use Rattle.std.proofs.Common.{◌≡◌, ◌++◌, drop, map}
 use Rattle.nz_script.specs.Texts.{text_of_lines, skew_line}
 use Rattle.nz_script.proofs.printing.put_skews.Given as goal

@@ -1,3 +1,4 @@
+-- What the function of this folder owes, proved.
 use Rattle.std.proofs.Common.{◌∙◌, ap, List, ℕ, length, nat_lt}
 use Rattle.nz_script.specs.Bytes.{lines_in, tail_in}
 use Rattle.nz_script.specs.Drafts.{start}

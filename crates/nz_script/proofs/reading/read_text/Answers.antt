@@ -1,3 +1,4 @@
+-- What the function of this folder owes, proved.
 use Rattle.std.proofs.Common.{◌∙◌, sym, ap, Option, arith}
 use Rattle.nz_script.specs.declared.faults.Kind.{Kind}
 use Rattle.nz_script.specs.Bytes.{newline}

@@ -1,3 +1,4 @@
+-- What the function of this folder owes, proved.
 use Rattle.std.proofs.Common.{◌≡◌, true, ◌∙◌, sym, subst, List}
 use Rattle.nz_script.specs.declared.word.Word.{Word}
 use Rattle.nz_script.specs.Shapes.{forms_of}

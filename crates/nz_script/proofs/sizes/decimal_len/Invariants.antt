@@ -1,3 +1,4 @@
+-- What the loops of the function of this folder keep.
 use Rattle.std.proofs.Common.{◌≡◌, ◌+◌, ◌≤◌, length}
 use Rattle.std.specs.Fmt.{decimal}
 use Rattle.nz_script.proofs.sizes.decimal_len.Given as goal

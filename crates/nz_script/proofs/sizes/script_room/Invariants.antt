@@ -1,3 +1,4 @@
+-- What the loops of the function of this folder keep.
 use Rattle.std.proofs.Common.{◌≡◌, length, drop}
 use Rattle.nz_script.specs.Texts.{text_of_lines, script_lines}
 use Rattle.nz_script.specs.Sizes.{room_after}

@@ -1,3 +1,4 @@
+-- What the loops of the function of this folder keep.
 use Rattle.std.proofs.Common.{◌≡◌, drop}
 use Rattle.nz_script.specs.Valid.{are_apart}
 use Rattle.nz_script.proofs.validity.are_apart.Given as goal

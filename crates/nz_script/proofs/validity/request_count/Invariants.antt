@@ -1,3 +1,4 @@
+-- What the loops of the function of this folder keep.
 use Rattle.std.proofs.Common.{◌≡◌, ◌+◌, ◌*◌, ◌≤◌, drop}
 use Rattle.nz_script.specs.Valid.{request_count}
 use Rattle.nz_script.proofs.validity.request_count.Given as goal

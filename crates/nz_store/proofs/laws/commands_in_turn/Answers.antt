@@ -1,3 +1,4 @@
+-- What the function of this folder owes, proved.
 use Rattle.nz_store.proofs.Turns.{store_from-append, store_after-push, replies-push, slice_get-replies, reply-append}
 use Rattle.nz_store.proofs.laws.commands_in_turn.Goals as goal
 

@@ -1,3 +1,4 @@
+-- What the function of this folder owes, proved.
 use Rattle.nz_store.proofs.Spellings.{no_prefix}
 use Rattle.nz_store.proofs.laws.no_command_begins_another.Goals as goal
 

@@ -1,3 +1,4 @@
+-- What the function of this folder owes, proved.
 use Rattle.std.proofs.Common.{refl, sym, ◌∙◌}
 use Rattle.nz_store.proofs.Fields.{some_is}
 use Rattle.nz_store.proofs.Spellings.{spells_from_reading, reading_from_spells}

@@ -1,3 +1,4 @@
+-- What the function of this folder owes, proved.
 use Rattle.nz_store.proofs.Maps.{value_of-with_value, value_of-without, IsMap-store_after}
 use Rattle.nz_store.proofs.laws.store_is_a_map.Goals as goal
 

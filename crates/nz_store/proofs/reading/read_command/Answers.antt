@@ -1,3 +1,4 @@
+-- What the function of this folder owes, proved.
 use Rattle.std.proofs.Common.{Result, Ok, Err, ◌≡◌, ◌↔◌, List, ℕ, Option, Some, IfOk, IsNone}
 use Rattle.nz_store.specs.declared.command.Command.{Command}
 use Rattle.nz_store.specs.declared.error.NoMemory.{NoMemory}

@@ -1,3 +1,4 @@
+-- What the function of this folder owes, proved.
 use Rattle.std.proofs.Common.{◌≡◌, ap, ◌∙◌}
 use Rattle.nz_store.specs.Entries.{with_value}
 use Rattle.nz_store.specs.Table.{entries_of}

@@ -1,3 +1,4 @@
+-- What the loops of the function of this folder keep.
 use Rattle.std.proofs.Common.{◌≡◌, false, take}
 use Rattle.nz_machine.specs.LogMods.{is_asked}
 use Rattle.nz_sync.proofs.fetches.is_asked.Given as goal

@@ -1,3 +1,4 @@
+-- What the function of this folder owes, proved.
 use Rattle.std.proofs.Common.{◌+◌, drop, sym, ap, ◌∙◌}
 use Rattle.nz_machine.specs.Facts.{ReplicaModel}
 use Rattle.nz_machine.specs.LogMods.{kept_all}

@@ -1,3 +1,4 @@
+-- What the loops of the function of this folder keep.
 use Rattle.std.proofs.Common.{◌≡◌, drop}
 use Rattle.nz_machine.specs.LogMods.{kept_all}
 use Rattle.nz_sync.proofs.fetches.keep_each.Given as goal

@@ -1,3 +1,4 @@
+-- What the function of this folder owes, proved.
 use Rattle.nz_machine.proofs.Fields.{ids_fit}
 use Rattle.nz_sync.proofs.Following.{some_left}
 use Rattle.nz_sync.proofs.log_mods.fetch.Goals as goal

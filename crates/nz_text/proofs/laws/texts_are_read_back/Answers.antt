@@ -1,3 +1,4 @@
+-- What the function of this folder owes, proved.
 use Rattle.nz_text.proofs.Whole.{read_back}
 use Rattle.nz_text.proofs.laws.texts_are_read_back.Goals as goal
 

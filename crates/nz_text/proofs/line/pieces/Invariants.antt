@@ -1,3 +1,4 @@
+-- What the loops of the function of this folder keep.
 use Rattle.std.proofs.Common.{◌≡◌, ◌++◌, length, map}
 use Rattle.nz_text.specs.Reading.{pieces_in}
 use Rattle.nz_text.proofs.line.pieces.Given as goal

@@ -1,3 +1,4 @@
+-- What the loops of the function of this folder keep.
 use Rattle.std.proofs.Common.{◌≡◌, ◌+◌, ◌++◌, drop}
 use Rattle.nz_text.specs.Text.{at_lines}
 use Rattle.nz_text.proofs.lines.put_history.Given as goal

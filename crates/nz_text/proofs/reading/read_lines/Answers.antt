@@ -1,3 +1,4 @@
+-- What the function of this folder owes, proved.
 use Rattle.std.proofs.Common.{◌∙◌, sym, ap, Bool, arith}
 use Rattle.nz_script.specs.Bytes.{newline}
 use Rattle.nz_script.proofs.Cuts.{shorter}

@@ -1,3 +1,4 @@
+-- What the function of this folder owes, proved.
 use Rattle.std.proofs.Common.{ap, ◌∙◌}
 use Rattle.std.specs.HashSet.{contains}
 use Rattle.nz_base.specs.Key.{id_eq}

@@ -1,3 +1,4 @@
+-- What the function of this folder owes, proved.
 use Rattle.std.proofs.Common.{◌≡◌, ◌++◌, List, true, false, sym, ap, subst, ◌∙◌}
 use Rattle.std.specs.Result.{OnOk}
 use Rattle.std.proofs.lemmas.List.{append-nil}

@@ -1,3 +1,4 @@
+-- What the loops of the function of this folder keep.
 use Rattle.std.proofs.Common.{◌≡◌, ◌++◌, drop, map}
 use Rattle.nz_machine.specs.Schedule.{group_of}
 use Rattle.nz_machine.specs.Telling.{requests_told}

@@ -1,3 +1,4 @@
+-- What the loops of the function of this folder keep.
 use Rattle.std.proofs.Common.{take, reverse}
 use Rattle.nz_machine.specs.Journals.{group_in}
 use Rattle.nz_text.proofs.Events.{AreRead}

@@ -1,3 +1,4 @@
+-- What the loops of the function of this folder keep.
 use Rattle.std.proofs.Common.{◌≤◌, ◌-◌, vec_len, length}
 use Rattle.nz_edge.specs.Told.{Loses}
 use Rattle.nz_top.specs.Moves.{most_input}

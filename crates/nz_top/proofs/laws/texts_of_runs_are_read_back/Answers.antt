@@ -1,3 +1,4 @@
+-- What the function of this folder owes, proved.
 use Rattle.nz_top.proofs.TextsOfRuns.{texts_are_read}
 use Rattle.nz_top.proofs.laws.texts_of_runs_are_read_back.Goals as goal
 

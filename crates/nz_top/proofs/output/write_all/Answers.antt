@@ -1,3 +1,4 @@
+-- What the function of this folder owes, proved.
 use Rattle.std.proofs.Common.{subst, arith, take, List, ℕ}
 use Rattle.nz_edge.specs.Told.{Gains}
 use Rattle.nz_edge.proofs.Told.{gains_further}

@@ -1,3 +1,4 @@
+-- What the function of this folder owes, proved.
 use Rattle.nz_top.proofs.Playable.{drawn_playable}
 use Rattle.nz_top.proofs.top.scenario_for.Goals as goal
 

@@ -1,3 +1,4 @@
+-- What the function of this folder owes, proved.
 use Rattle.std.proofs.Common.{sym, ap, ◌∙◌, arith, length}
 use Rattle.nz_script.proofs.Sound.{read_short}
 use Rattle.nz_script.specs.Reading.{scenario}

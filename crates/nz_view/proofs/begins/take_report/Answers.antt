@@ -1,3 +1,4 @@
+-- What the function of this folder owes, proved.
 use Rattle.nz_view.proofs.Stages.{leads_later}
 use Rattle.nz_view.proofs.begins.take_report.Goals as goal
 

@@ -1,3 +1,4 @@
+-- What the function of this folder owes, proved.
 use Rattle.std.proofs.Common.{◌≤◌, List, ℕ, take, map, fold, max, arith}
 use Rattle.std.proofs.lemmas.List.Elements.{All-take}
 use Rattle.nz_window.specs.Samples.{AreKept, median}

@@ -1,3 +1,4 @@
+-- What the function of this folder owes, proved.
 use Rattle.std.proofs.Common.{[], arith}
 use Rattle.std.proofs.lemmas.List.{take-replicate}
 use Rattle.nz_window.proofs.Window.new.Goals as goal

@@ -1,3 +1,4 @@
+-- What the function of this folder owes, proved.
 use Rattle.std.proofs.Common.{arith}
 use Rattle.nz_window.proofs.Pushing.{take-sampled}
 use Rattle.nz_window.proofs.Window.sample.Goals as goal

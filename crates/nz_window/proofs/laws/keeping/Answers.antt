@@ -1,3 +1,4 @@
+-- What the function of this folder owes, proved.
 use Rattle.nz_window.proofs.Bounds.{windows_start, windows_stay, bound_is_bounded}
 use Rattle.nz_window.proofs.laws.keeping.Goals as goal
 

@@ -1,3 +1,4 @@
+-- What the function of this folder owes, proved.
 use Rattle.nz_window.proofs.Order.{orders_all}
 use Rattle.nz_window.proofs.laws.ordering.Goals as goal
 

@@ -1,3 +1,4 @@
+-- What the loops of the function of this folder keep.
 use Rattle.std.proofs.Common.{◌≡◌, length}
 use Rattle.nz_window.proofs.tests.bound_after.Given as goal
 

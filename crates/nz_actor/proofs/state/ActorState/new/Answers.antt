@@ -1,3 +1,4 @@
+-- What the function of this folder owes, proved.
 use Rattle.std.proofs.Common.{true, List, sym, ap, subst}
 use Rattle.std.specs.Prelude.{reverse}
 use Rattle.nz_machine.specs.declared.event.Record.{Record}

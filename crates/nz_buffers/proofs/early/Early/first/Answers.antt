@@ -1,3 +1,4 @@
+-- What the function of this folder owes, proved.
 use Rattle.std.proofs.Common.{ap, ◌∙◌}
 use Rattle.nz_buffers.proofs.Keeping.{first_at}
 use Rattle.nz_buffers.specs.Buffers.{first_key}

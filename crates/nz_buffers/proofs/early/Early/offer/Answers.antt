@@ -1,3 +1,4 @@
+-- What the function of this folder owes, proved.
 use Rattle.std.proofs.Common.{◌≡◌, true, false, List, Some, sym, ap, subst, ◌∙◌, if◌then◌else◌}
 use Rattle.std.specs.Map.{lookup, values_of}
 use Rattle.nz_base.specs.declared.key.Id.{Id}

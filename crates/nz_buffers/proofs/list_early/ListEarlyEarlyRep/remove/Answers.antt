@@ -1,3 +1,4 @@
+-- What the function of this folder owes, proved.
 use Rattle.std.proofs.Common.{sym, subst}
 use Rattle.nz_base.specs.Log.{IsLog}
 use Rattle.nz_base.proofs.Logs.{log_filter}

@@ -1,3 +1,4 @@
+-- What the function of this folder owes, proved.
 use Rattle.std.proofs.Common.{◌∙◌, subst, sym, ap, ℕ, List}
 use Rattle.nz_machine.specs.Schedule.{InOrder, InOrderTo}
 use Rattle.nz_machine.specs.declared.event.Record.{Record}

@@ -1,3 +1,4 @@
+-- What the function of this folder owes, proved.
 use Rattle.nz_fabric.proofs.Held.{held_start}
 use Rattle.nz_fabric.proofs.alone.Alone.new.Goals as goal
 

@@ -1,3 +1,4 @@
+-- What the function of this folder owes, proved.
 use Rattle.std.proofs.Common.{◌≡◌, ◌<◌, ◌∙◌, false, length, sym, ap, subst, arith}
 use Rattle.std.specs.Prelude.{drop, vec_capacity}
 use Rattle.std.proofs.lemmas.List.{take_rest}

@@ -1,3 +1,4 @@
+-- What the function of this folder owes, proved.
 use Rattle.std.proofs.Common.{subst, sym}
 use Rattle.std.specs.Prelude.{vec_capacity}
 use Rattle.nz_fabric.specs.States.{State, IsOpen}

@@ -1,3 +1,4 @@
+-- What the loops of the function of this folder keep.
 use Rattle.std.proofs.Common.{◌≤◌, ◌-◌, ◌++◌, ℕ, List}
 use Rattle.std.specs.Prelude.{take, drop}
 use Rattle.nz_machine.specs.Schedule.{Posted}

@@ -1,3 +1,4 @@
+-- What the function of this folder owes, proved.
 use Rattle.std.proofs.Common.{◌≤◌, ◌+◌, ◌++◌, ◌∙◌, ◌∷◌, [], ap, subst, arith, cond}
 use Rattle.std.specs.Prelude.{get_or, map, slice_set}
 use Rattle.nz_base.specs.Actor.{actor_eq}

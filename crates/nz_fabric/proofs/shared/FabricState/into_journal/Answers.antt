@@ -1,3 +1,4 @@
+-- What the function of this folder owes, proved.
 use Rattle.std.proofs.Common.{◌≡◌, ◌∙◌, ap, subst, sym, ℕ, List}
 use Rattle.std.specs.Prelude.{reverse}
 use Rattle.nz_base.specs.declared.scenario.Scenario.{Scenario}

@@ -1,3 +1,4 @@
+-- What the function of this folder owes, proved.
 use Rattle.std.proofs.Common.{List, subst, sym, arith}
 use Rattle.nz_base.specs.declared.scenario.Scenario.{Scenario}
 use Rattle.nz_fabric.specs.declared.running.Running.{Running}

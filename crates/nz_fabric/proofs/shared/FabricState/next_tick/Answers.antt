@@ -1,3 +1,4 @@
+-- What the function of this folder owes, proved.
 use Rattle.std.proofs.Common.{◌≡◌, ◌<◌, ◌∙◌, false, List, length, refl, sym, ap, subst, arith}
 use Rattle.std.specs.Prelude.{drop}
 use Rattle.nz_fabric.specs.declared.ticks.Ticks.{Ticks}

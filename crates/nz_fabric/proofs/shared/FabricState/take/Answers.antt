@@ -1,3 +1,4 @@
+-- What the function of this folder owes, proved.
 use Rattle.std.proofs.Common.{◌+◌, ◌<◌, length, ap, arith}
 use Rattle.nz_fabric.specs.declared.running.Running.{Running}
 use Rattle.nz_fabric.specs.States.{state_in}

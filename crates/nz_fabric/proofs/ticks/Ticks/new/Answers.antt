@@ -1,3 +1,4 @@
+-- What the function of this folder owes, proved.
 use Rattle.std.proofs.Common.{refl}
 use Rattle.nz_fabric.proofs.Held.{new_ticks}
 use Rattle.nz_fabric.proofs.ticks.Ticks.new.Goals as goal

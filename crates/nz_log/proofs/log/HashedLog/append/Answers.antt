@@ -1,3 +1,4 @@
+-- What the function of this folder owes, proved.
 use Rattle.std.proofs.Common.{◌≡◌, ◌<◌, ◌++◌, ◌∷◌, [], true, false, List, ℕ, length, sym, ap, subst, ◌∙◌, Some, if◌then◌else◌}
 use Rattle.std.specs.Map.{lookup}
 use Rattle.nz_base.specs.declared.key.Id.{Id}

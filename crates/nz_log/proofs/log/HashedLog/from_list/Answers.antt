@@ -1,3 +1,4 @@
+-- What the function of this folder owes, proved.
 use Rattle.std.proofs.Common.{◌≡◌, ◌+◌, ◌≤◌, List, ◌++◌, ◌∷◌, length, sym, ap, subst, ◌∙◌, arith, length-append}
 use Rattle.std.specs.Vec.Iter.{into_iter_items}
 use Rattle.nz_base.specs.declared.key.Entry.{Entry}

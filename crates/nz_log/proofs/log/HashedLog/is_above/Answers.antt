@@ -1,3 +1,4 @@
+-- What the function of this folder owes, proved.
 use Rattle.std.proofs.Common.{sym, ap, ◌∙◌}
 use Rattle.nz_base.specs.Log.{keys_of, is_above_last}
 use Rattle.nz_base.proofs.Logs.{above_none, above_some}

@@ -1,3 +1,4 @@
+-- What the function of this folder owes, proved.
 use Rattle.std.proofs.Common.{◌≡◌, ◌<◌, ℕ, length, Option, IfSome, is_some, sym, ap, subst, ◌∙◌}
 use Rattle.nz_log.specs.Places.{place_of}
 use Rattle.nz_log.specs.Synced.{Log}

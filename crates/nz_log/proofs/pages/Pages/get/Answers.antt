@@ -1,3 +1,4 @@
+-- What the function of this folder owes, proved.
 use Rattle.std.proofs.Common.{◌≡◌, ◌<◌, ◌≤◌, ◌/◌, ◌%◌, List, length, get_or, sym, ap, subst, ◌∙◌, arith}
 use Rattle.nz_base.specs.declared.key.Entry.{Entry}
 use Rattle.nz_log.proofs.Paging.{in_full, in_last, last_within}

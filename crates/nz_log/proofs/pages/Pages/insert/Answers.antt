@@ -1,3 +1,4 @@
+-- What the function of this folder owes, proved.
 use Rattle.std.proofs.Common.{ap, ◌∙◌, sym, List, ◌∷◌, ◌++◌, [], take, drop, append_assoc}
 use Rattle.std.proofs.lemmas.List.{take-append-le, drop-append-le}
 use Rattle.nz_base.specs.declared.key.Entry.{Entry}

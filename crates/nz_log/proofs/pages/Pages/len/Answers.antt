@@ -1,3 +1,4 @@
+-- What the function of this folder owes, proved.
 use Rattle.std.proofs.Common.{length, ap, ◌∙◌}
 use Rattle.nz_log.proofs.Paging.{whole_length}
 use Rattle.nz_log.proofs.pages.Pages.len.Goals as goal

@@ -1,3 +1,4 @@
+-- What the function of this folder owes, proved.
 use Rattle.std.proofs.Common.{◌+◌, ap, ◌∙◌, List, take, set}
 use Rattle.nz_base.specs.declared.key.Entry.{Entry}
 use Rattle.nz_log.proofs.Moving.{down_step}

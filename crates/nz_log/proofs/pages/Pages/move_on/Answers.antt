@@ -1,3 +1,4 @@
+-- What the function of this folder owes, proved.
 use Rattle.std.proofs.Common.{◌≡◌, ◌+◌, ◌<◌, length, ap, ◌∙◌, arith, List, ◌∷◌, ◌++◌, take, drop, length-set}
 use Rattle.nz_base.specs.declared.key.Entry.{Entry}
 use Rattle.nz_log.proofs.Moving.{hand_step}

@@ -1,3 +1,4 @@
+-- What the function of this folder owes, proved.
 use Rattle.std.proofs.Common.{◌≡◌, ℕ, List, length, min, replicate, sym, ap, ◌∙◌, arith}
 use Rattle.nz_base.specs.declared.key.Entry.{Entry}
 use Rattle.nz_store.specs.Sequence.{store_after, replies}

@@ -1,3 +1,4 @@
+-- What the function of this folder owes, proved.
 use Rattle.std.proofs.Common.{List, ◌∷◌, map, sym, subst, ◌∙◌}
 use Rattle.nz_merge.specs.Merged.{AreFit}
 use Rattle.nz_merge.specs.Sender.{HaveOwnSenders}

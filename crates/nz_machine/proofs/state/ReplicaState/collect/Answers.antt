@@ -1,3 +1,4 @@
+-- What the function of this folder owes, proved.
 use Rattle.std.proofs.Common.{◌≡◌, ◌<◌, ◌==◌, not, IsFalse, List, [], ◌∷◌, ◌++◌, length, eq-eqb, sym, ap, subst, ◌∙◌}
 use Rattle.std.specs.List.{filter}
 use Rattle.nz_base.specs.Cluster.{replica_count}

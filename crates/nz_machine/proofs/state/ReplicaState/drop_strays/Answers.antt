@@ -1,3 +1,4 @@
+-- What the function of this folder owes, proved.
 use Rattle.nz_machine.proofs.Calls.{kept_strays}
 use Rattle.nz_machine.proofs.state.ReplicaState.drop_strays.Goals as goal
 

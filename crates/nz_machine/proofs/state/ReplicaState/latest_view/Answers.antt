@@ -1,3 +1,4 @@
+-- What the function of this folder owes, proved.
 use Rattle.std.proofs.Common.{◌≤◌, map, ap, ◌∙◌, sym, subst, List}
 use Rattle.nz_merge.specs.Merged.{greatest}
 use Rattle.nz_machine.specs.declared.data.ToldView.{ToldView}

@@ -1,3 +1,4 @@
+-- What the function of this folder owes, proved.
 use Rattle.std.proofs.Common.{◌≡◌, length, eq-eqb, sym, subst}
 use Rattle.nz_base.specs.Cluster.{replica_count}
 use Rattle.nz_machine.specs.Facts.{ReplicaModel}

@@ -1,3 +1,4 @@
+-- What the function of this folder owes, proved.
 use Rattle.std.proofs.Common.{replicate, ap, ◌∙◌}
 use Rattle.nz_machine.specs.declared.data.Status.TheVariants.{Normal}
 use Rattle.nz_machine.proofs.Kept.{kept_first}

@@ -1,3 +1,4 @@
+-- What the function of this folder owes, proved.
 use Rattle.std.proofs.Common.{arith}
 use Rattle.nz_machine.proofs.Kept.{kept_origin}
 use Rattle.nz_machine.proofs.state.ReplicaState.note_origin.Goals as goal

@@ -1,3 +1,4 @@
+-- What the loops of the function of this folder keep.
 use Rattle.std.proofs.Common.{◌≡◌, ◌++◌, not, ◌==◌, map}
 use Rattle.std.specs.List.{filter}
 use Rattle.nz_base.specs.declared.actor.Actor.TheVariants.{Replica}

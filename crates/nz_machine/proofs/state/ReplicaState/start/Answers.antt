@@ -1,3 +1,4 @@
+-- What the function of this folder owes, proved.
 use Rattle.std.proofs.Common.{IsFalse, ◌==◌, sym, ap, subst, ◌∙◌}
 use Rattle.nz_base.specs.Cluster.{leader_of}
 use Rattle.nz_machine.specs.State.{ReplicaData}

@@ -1,3 +1,4 @@
+-- What the function of this folder owes, proved.
 use Rattle.std.proofs.Common.{◌++◌, ◌∷◌, [], List, replicate, ap, subst, sym, ◌∙◌, ◌≡◌, arith, length}
 use Rattle.std.proofs.lemmas.List.{replicate_more}
 use Rattle.nz_machine.specs.Schedule.{group_of}

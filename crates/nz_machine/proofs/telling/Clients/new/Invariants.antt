@@ -1,3 +1,4 @@
+-- What the loops of the function of this folder keep.
 use Rattle.std.proofs.Common.{◌≡◌, replicate}
 use Rattle.nz_machine.specs.Telling.{first_progress}
 use Rattle.nz_machine.proofs.telling.Clients.new.Given as goal

@@ -1,3 +1,4 @@
+-- What the function of this folder owes, proved.
 use Rattle.std.proofs.Common.{List, ap, ◌∙◌}
 use Rattle.nz_base.specs.declared.key.Id.{Id}
 use Rattle.nz_machine.specs.Telling.{requests_told}

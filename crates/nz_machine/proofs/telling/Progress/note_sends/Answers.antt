@@ -1,3 +1,4 @@
+-- What the function of this folder owes, proved.
 use Rattle.std.proofs.Common.{◌++◌, ap, ◌∙◌}
 use Rattle.nz_machine.specs.Telling.{new_in, with_num}
 use Rattle.nz_machine.proofs.Noted.{none_noted, one_noted, all_noted}

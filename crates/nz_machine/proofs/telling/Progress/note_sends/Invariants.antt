@@ -1,3 +1,4 @@
+-- What the loops of the function of this folder keep.
 use Rattle.std.proofs.Common.{take}
 use Rattle.nz_machine.proofs.Noted.{AreNoted}
 use Rattle.nz_machine.proofs.telling.Progress.note_sends.Given as goal

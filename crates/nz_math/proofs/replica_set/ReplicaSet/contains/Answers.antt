@@ -1,3 +1,4 @@
+-- What the function of this folder owes, proved.
 use Rattle.std.proofs.Common.{◌≡◌, ℕ, List, false, get_or, subst, sym}
 use Rattle.std.proofs.lemmas.Bool.{le-ltb}
 use Rattle.nz_math.specs.Count.{is_in, IsChoice}

@@ -1,3 +1,4 @@
+-- What the function of this folder owes, proved.
 use Rattle.std.proofs.Common.{◌≡◌, arith, sym, ◌∙◌, refl}
 use Rattle.nz_math.specs.Count.{count_below, is_in}
 use Rattle.nz_math.proofs.Counting.{count-le, count_yes, count_no, count_choice}

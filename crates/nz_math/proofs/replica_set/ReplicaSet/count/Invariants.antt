@@ -1,3 +1,4 @@
+-- What the loops of the function of this folder keep.
 use Rattle.std.proofs.Common.{◌≡◌, ◌<◌}
 use Rattle.nz_math.specs.Count.{count_below, is_in, IsChoice}
 use Rattle.nz_math.proofs.replica_set.ReplicaSet.count.Given as goal

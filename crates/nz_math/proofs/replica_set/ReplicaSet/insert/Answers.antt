@@ -1,3 +1,4 @@
+-- What the function of this folder owes, proved.
 use Rattle.std.proofs.Common.{◌≡◌, ℕ, List, ◌||◌, true, eqb, set, subst}
 use Rattle.nz_math.specs.Count.{is_in}
 use Rattle.nz_math.proofs.Marks.{marked, is_in-inserted}

@@ -1,3 +1,4 @@
+-- What the function of this folder owes, proved.
 use Rattle.std.proofs.Common.{◌≡◌, ap, sym, ◌∙◌}
 use Rattle.nz_merge.specs.Fit.{are_fit}
 use Rattle.nz_merge.proofs.Fitting.{fit_yes, fit_is}

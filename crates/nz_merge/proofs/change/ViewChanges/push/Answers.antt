@@ -1,3 +1,4 @@
+-- What the function of this folder owes, proved.
 use Rattle.std.proofs.Common.{◌≡◌, false, List, sym, subst}
 use Rattle.nz_merge.specs.Sender.{has_sender, HaveOwnSenders}
 use Rattle.nz_merge.specs.declared.change.Change.{Change}

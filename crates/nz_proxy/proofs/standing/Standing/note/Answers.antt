@@ -1,3 +1,4 @@
+-- What the function of this folder owes, proved.
 use Rattle.std.proofs.Common.{ap, sym, subst, ◌∙◌, Some}
 use Rattle.std.specs.List.{AllByRecursion}
 use Rattle.nz_store.specs.declared.command.Answer.{Answer}

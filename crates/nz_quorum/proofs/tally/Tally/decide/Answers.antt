@@ -1,3 +1,4 @@
+-- What the function of this folder owes, proved.
 use Rattle.std.proofs.Common.{sym, ◌∙◌}
 use Rattle.nz_quorum.proofs.Choosing.{slow_decides}
 use Rattle.nz_quorum.proofs.tally.Tally.decide.Goals as goal

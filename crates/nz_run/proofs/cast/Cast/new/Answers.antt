@@ -1,3 +1,4 @@
+-- What the function of this folder owes, proved.
 use Rattle.nz_run.proofs.Casts.{cast_begins}
 use Rattle.nz_run.proofs.cast.Cast.new.Goals as goal
 

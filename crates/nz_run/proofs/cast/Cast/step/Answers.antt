@@ -1,3 +1,4 @@
+-- What the function of this folder owes, proved.
 use Rattle.std.proofs.Common.{refl}
 use Rattle.nz_base.specs.declared.actor.Actor.TheVariants as actors
 use Rattle.nz_run.proofs.Casting.{if_ok}

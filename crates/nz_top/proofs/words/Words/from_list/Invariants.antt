@@ -1,3 +1,4 @@
+-- What the loops of the function of this folder keep.
 use Rattle.std.proofs.Common.{◌≡◌, take, map}
 use Rattle.nz_top.proofs.words.Words.from_list.Given as goal
 

@@ -1,3 +1,4 @@
+-- What the function of this folder owes, proved.
 use Rattle.std.proofs.Common.{◌∙◌, ap}
 use Rattle.nz_window.specs.Samples.{median}
 use Rattle.nz_window.proofs.Medians.{median-from_sort}

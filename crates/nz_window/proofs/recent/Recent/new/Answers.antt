@@ -1,3 +1,4 @@
+-- What the function of this folder owes, proved.
 use Rattle.std.proofs.Common.{refl, arith}
 use Rattle.nz_window.proofs.Pushing.{get_or-zeros}
 use Rattle.nz_window.proofs.recent.Recent.new.Goals as goal

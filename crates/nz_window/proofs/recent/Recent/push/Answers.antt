@@ -1,3 +1,4 @@
+-- What the function of this folder owes, proved.
 use Rattle.nz_window.proofs.Pushing.{pushed-full}
 use Rattle.nz_window.proofs.recent.Recent.push.Goals as goal
 
