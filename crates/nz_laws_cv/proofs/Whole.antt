@@ -1,9 +1,9 @@
--- Knowledge and views, from the ground; and of runs in which no replica crashes.
+-- Knowledge and views, from the ground.
 use Rattle.std.proofs.Common.{◌≡◌, ℕ, ◌+◌, ◌<◌, List, ◌∷◌, length, refl, sym, ◌∙◌, arith}
 use Rattle.nz_base.specs.Moments.{At}
 use Rattle.nz_laws_cv.specs.Notions.{Notions, IsIn}
 use Rattle.nz_laws_cv.specs.Ground.{Ground}
-use Rattle.nz_laws_cv.specs.Views.{HasViews, IsQuiet}
+use Rattle.nz_laws_cv.specs.Views.{HasViews}
 use Rattle.nz_laws_cv.proofs.Completing.{comes_from}
 use Rattle.nz_laws_cv.proofs.Knowing.{knows_to}
 use Rattle.nz_laws_cv.proofs.Members.{members_to, was_normal}
@@ -35,30 +35,4 @@ module _ {R : Type 0} (N : Notions R) (J : List R) where
     once = once N J h.modes (leads_once h);
     completed = comes_from N J h;
     completion = h.completion;
-  }
-
-  -- ---- where no replica crashes
-
-  not_below : IsQuiet N J → (x : ℕ) (S K : List R) → At J K → N.inc x S < N.inc x K → ⊥
-  not_below q x S K k lower = let none = q.still x K k in omega (arith, none, lower)
-
-  quiet_leader : IsQuiet N J → (v : ℕ) (B K : List R) → N.Begins v B → At J K → IsIn N (N.leader v) v K → N.inc (N.leader v) K ≡ N.inc (N.leader v) B
-  quiet_leader q v B K b at is = q.still (N.leader v) K at ∙ sym (q.still (N.leader v) B (q.at v B b))
-
-  quiet_leads_once : IsQuiet N J → LeadsOnce N J
-  quiet_leads_once q = record { follows = λ x C c. absurd (q.none x C c); at = q.at; leads = q.leads; turns = q.turns; one = quiet_leader q }
-
-  pub quiet_views : IsQuiet N J → HasViews N J
-  quiet_views q = record {
-    rise = λ x S K s k up_s up_k lower. absurd (not_below q x S K k lower);
-    know = λ m x C T K c u at up lower. absurd (q.none m C c);
-    member = λ x w C B Q c b r lower. absurd (q.none x C c);
-    was_normal = λ x w K C at is c lower. absurd (q.none x C c);
-    one_leader = λ v S K s k was is. q.still (N.leader v) S s ∙ sym (q.still (N.leader v) K k);
-    leader_of_zero = λ K at is. q.still (N.leader 0) K at;
-    leader_is_one = quiet_leader q;
-    begins_once = begins_once N J q.modes (quiet_leads_once q);
-    once = once N J q.modes (quiet_leads_once q);
-    completed = λ x K at up more. absurd (let none = q.still x K at in omega (arith, none, more));
-    completion = λ x C c. absurd (q.none x C c);
   }

@@ -38,12 +38,3 @@ module _ {R : Type 0} (N : Notions R) where
     -- Who is up in a later incarnation completed in it.
     pub completed : (x : ℕ) (K : List R) → At J K → N.IsUp x K → 0 < N.inc x K → (C : List R) × ComesFrom J x K C
     pub completion : (x : ℕ) (C : List R) → N.Completes x C → IsCompletion N J x C
-
-  -- A run in which no replica crashes: what the same laws need there.
-  pub record IsQuiet (J : List R) : Type 0 where
-    pub modes : HasModes N J
-    pub still : (x : ℕ) (K : List R) → At J K → N.inc x K ≡ 0
-    pub none : (x : ℕ) (C : List R) → N.Completes x C → ⊥
-    pub leads : (v : ℕ) (B : List R) → N.Begins v B → IsIn N (N.leader v) v B
-    pub turns : (v : ℕ) (r : R) (K : List R) → N.Begins v (r ∷ K) → ¬ IsIn N (N.leader v) v K
-    pub at : (v : ℕ) (B : List R) → N.Begins v B → At J B

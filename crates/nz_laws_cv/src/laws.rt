@@ -9,7 +9,7 @@ ghost use Rattle.nz_machine.specs.Knowledge.{Knowledge};
 ghost use Rattle.nz_machine.specs.Begun.{Views};
 ghost use Rattle.nz_laws_cv.specs.Notions.{IsIn};
 ghost use Rattle.nz_laws_cv.specs.Ground.{Ground, StaysUp};
-ghost use Rattle.nz_laws_cv.specs.Views.{HasViews, IsQuiet};
+ghost use Rattle.nz_laws_cv.specs.Views.{HasViews};
 ghost use Rattle.nz_laws_cv.specs.Tests.{Tests, notions};
 ghost use Rattle.nz_laws_cv.specs.Example as example;
 
@@ -30,11 +30,6 @@ pub fn views()
 /// one incarnation.
 pub fn views_follow<R>()
     ensures { (t : Tests R) (J : List R) → Ground (notions t) J → HasViews (notions t) J }
-{}
-
-/// The same in a run in which no replica crashes, which needs no vectors and no answers.
-pub fn quiet_runs_have_views<R>()
-    ensures { (t : Tests R) (J : List R) → IsQuiet (notions t) J → HasViews (notions t) J }
 {}
 
 /// A leader was up, in the same incarnation, before each record that finds it Normal in its view.

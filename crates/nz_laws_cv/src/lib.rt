@@ -5,6 +5,6 @@
 mod laws;
 
 pub use laws::{
-    a_run_has_the_ground, knowledge, leaders_do_not_rejoin, quiet_runs_have_views, views,
+    a_run_has_the_ground, knowledge, leaders_do_not_rejoin, views,
     views_follow,
 };

@@ -329,10 +329,3 @@ fn proper_prefixes(rt: HostRuntime) -> Result<(), Fail> {
     }
     Ok(())
 }
-
-#[test]
-fn more_than_the_most_bytes(rt: HostRuntime) -> Result<(), Fail> {
-    let text = vec![in rt.alloc(); b'\n'; 1_048_577]?;
-    assert_eq!(rt; read(rt.alloc(), &text), refusal(1_048_577, Kind::Limit));
-    Ok(())
-}

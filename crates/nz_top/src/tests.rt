@@ -106,14 +106,6 @@ fn a_line_of_each_refusal(rt: HostRuntime) -> Result<(), Fail> {
             "nezha 1\nf 1\nproxies 1\nclients 1\nticks 10\nclient c1\n",
             "refused line 6: name\n",
         ),
-        (
-            "nezha 2\nf 1\nproxies 1\nclients 1\nticks 40\nwindow 17\n",
-            "refused line 6: limit\n",
-        ),
-        (
-            "nezha 2\nf 1\nproxies 1\nclients 1\nticks 40\nclient c0\n",
-            "refused line 6: order\n",
-        ),
     ];
     for (input, line) in table {
         let (outcome, out) = answer(&rt, rt.alloc(), &plain(&["run"], input.as_bytes()))?;
