@@ -1,12 +1,12 @@
 -- What is heard of a parcel, and the source that a delivered parcel stands for.
-use Rattle.std.proofs.Common.{◌≡◌, ℕ, Bool, true, false, cond, not, ◌&&◌, List, [], ◌∷◌, Option, Some, None, Result, Ok, Err, refl, sym, ap, subst, ◌∙◌, inl, inr}
+use Rattle.std.proofs.Common.{◌≡◌, ℕ, Bool, true, false, cond, not, ◌&&◌, List, ◌∷◌, Option, Some, None, Result, Ok, Err, refl, sym, ap, ◌∙◌}
 use Rattle.std.specs.Prelude.{is_some}
-use Rattle.std.specs.Option.{option_map, option_and_then, option_flatten}
+use Rattle.std.specs.Option.{option_map, option_flatten}
 use Rattle.std.proofs.lemmas.Option.{none-some, same_Some}
 use Rattle.nz_base.specs.Actor.{actor_eq}
 use Rattle.nz_base.specs.Key.{id_eq}
 use Rattle.nz_base.specs.declared.actor.Actor.{Actor}
-use Rattle.nz_base.specs.declared.actor.Actor.TheVariants.{Replica, Proxy, Client}
+use Rattle.nz_base.specs.declared.actor.Actor.TheVariants.{Replica, Proxy}
 use Rattle.nz_base.specs.declared.key.Id.{Id}
 use Rattle.nz_base.proofs.Booleans.{and_left, and_right}
 use Rattle.nz_base.proofs.Names.{same_actor, same_id}
@@ -24,7 +24,7 @@ use Rattle.nz_machine.specs.Quorums.{answer_in}
 use Rattle.nz_machine.specs.Proxies.{of_fast, of_slow}
 use Rattle.nz_machine.specs.Step.{is_in_cluster, is_sized, vector_of, is_for, heard_if, heard, counted, received}
 use Rattle.nz_machine.specs.World.{sent_in, Has}
-use Rattle.nz_machine.specs.History.{ReplySource, reply_in, source, source_of}
+use Rattle.nz_machine.specs.History.{reply_in, source, source_of}
 use Rattle.nz_machine.proofs.Sources.{has_source, source_stays}
 use Rattle.nz_audit.specs.declared.source.Source.{Source}
 use Rattle.nz_audit.specs.Sources.{numbers_of, in_numbers, about_message, about_envelope, about, source_sent, stands_for}

@@ -1,4 +1,4 @@
-use Rattle.std.proofs.Common.{◌∷◌, List, refl, sym, ap, subst, ◌∙◌}
+use Rattle.std.proofs.Common.{◌∷◌, refl, sym, ap, subst, ◌∙◌}
 use Rattle.nz_machine.specs.Journals.{group_in}
 use Rattle.nz_machine.specs.History.{history}
 use Rattle.nz_audit.specs.Cores.{run_up_to}
