@@ -1,17 +1,13 @@
 -- An acceptance leads to its prefix, and the longest of them to the history.
-use Rattle.std.proofs.Common.{◌≡◌, ℕ, suc, ◌+◌, ◌-◌, ◌<◌, ◌≤◌, Bool, true, false, cond, ltb, ◌||◌, List, [], ◌∷◌, ◌++◌, length, take, zero, Option, Some, None, refl, sym, ap, subst, ◌∙◌, inl, inr, ◌⊎◌, arith, eqb-true, lt-ltb, ltb-true}
+use Rattle.std.proofs.Common.{◌≡◌, ℕ, suc, ◌+◌, ◌-◌, ◌<◌, Bool, true, false, cond, List, [], ◌∷◌, ◌++◌, length, take, zero, Option, Some, None, refl, sym, ap, subst, ◌∙◌, arith, lt-ltb, ltb-true}
 use Rattle.std.specs.Prelude.{nat_lt}
 use Rattle.std.specs.Option.{option_map, option_and_then, option_flatten}
-use Rattle.std.proofs.lemmas.Option.{none-some, same_Some}
-use Rattle.nz_base.proofs.Booleans.{cases_bool}
-use Rattle.nz_base.specs.Cluster.{replica_count}
 use Rattle.nz_base.specs.declared.actor.Actor.{Actor}
 use Rattle.nz_base.specs.declared.actor.Actor.TheVariants.{Replica, Proxy, Client}
 use Rattle.nz_base.specs.declared.key.Id.{Id}
 use Rattle.nz_base.specs.declared.key.Entry.{Entry}
 use Rattle.nz_base.specs.declared.scenario.Request.{Request}
 use Rattle.nz_log.specs.Places.{place_of}
-use Rattle.nz_log.proofs.Placing.{place_found}
 use Rattle.nz_msg.specs.declared.envelope.Envelope.{Envelope}
 use Rattle.nz_msg.specs.declared.message.AnswerBody.{AnswerBody}
 use Rattle.nz_msg.specs.declared.message.Message.{Message}
@@ -22,10 +18,10 @@ use Rattle.nz_machine.specs.declared.event.Parcel.{Parcel}
 use Rattle.nz_machine.specs.declared.event.Record.{Record}
 use Rattle.nz_machine.specs.declared.telling.Acceptance.{Acceptance}
 use Rattle.nz_machine.specs.declared.telling.Telling.{Telling}
-use Rattle.nz_machine.specs.State.{ClientData, State, Group, Out}
-use Rattle.nz_machine.specs.Step.{received, client_message, envelope_step, event_step, script_of}
+use Rattle.nz_machine.specs.State.{ClientData, Group}
+use Rattle.nz_machine.specs.Step.{received, envelope_step, event_step, script_of}
 use Rattle.nz_machine.specs.World.{state_after, World, IsMember}
-use Rattle.nz_machine.specs.Events.{Told, Sent, Accepted, id_at, command_at, read_in, accepted_in, accepted_by, sent_after, sent_by, told_by}
+use Rattle.nz_machine.specs.Events.{Told, Accepted, id_at, read_in, accepted_in, accepted_by, sent_after, sent_by, told_by}
 use Rattle.nz_machine.specs.Telling.{acceptance_told, requests_told, told_of}
 use Rattle.nz_machine.specs.History.{ReplySource, source, log_at, cut_at, cut_after, source_of_sender, accepted_source, prefix_at_source, accepted_prefix, entries_or, prefix_in, longer, history}
 use Rattle.nz_machine.proofs.Runs.{acts_itself, on_cond}
@@ -34,8 +30,8 @@ use Rattle.nz_audit.specs.declared.source.Source.{Source}
 use Rattle.nz_audit.specs.declared.sending.ParcelKey.{ParcelKey}
 use Rattle.nz_audit.specs.Sources.{first_longest, numbers_of, in_numbers, about_message, about, source_sent, stands_for, kept_of, source_delivered, source_told}
 use Rattle.nz_audit.specs.Readings.{IsTable, LeadsTo, LeadsToIfAny}
-use Rattle.nz_audit.proofs.Hearing.{some_if, is_received, about_heard}
-use Rattle.nz_audit.proofs.Reached.{accepted_reached, at_later, IsReached}
+use Rattle.nz_audit.proofs.Hearing.{is_received, about_heard}
+use Rattle.nz_audit.proofs.Reached.{accepted_reached, at_later}
 
 -- ---- the longest so far
 

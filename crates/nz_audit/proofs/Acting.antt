@@ -1,13 +1,12 @@
 -- What a reading has found stays true as it takes one more record.
-use Rattle.std.proofs.Common.{◌≡◌, ℕ, zero, suc, ◌+◌, ◌<◌, ◌≤◌, Bool, true, false, cond, eqb, List, [], ◌∷◌, ◌++◌, length, take, reverse, get_or, Option, Some, None, Result, Ok, Err, refl, sym, ap, subst, ◌∙◌, inl, inr, arith, eqb-true}
+use Rattle.std.proofs.Common.{◌≡◌, ℕ, zero, suc, ◌+◌, ◌<◌, ◌≤◌, false, eqb, List, [], ◌∷◌, ◌++◌, length, take, reverse, get_or, Option, Some, None, Result, Ok, Err, refl, sym, ap, subst, ◌∙◌, inl, inr, arith, eqb-true}
 use Rattle.std.specs.Prelude.{OnOk}
 use Rattle.std.specs.Option.{option_and_then, option_flatten}
 use Rattle.std.proofs.lemmas.List.{reverse-append, reverse-reverse, length-reverse, length-append}
 use Rattle.nz_base.specs.Actor.{actor_eq}
 use Rattle.nz_base.specs.declared.actor.Actor.{Actor}
-use Rattle.nz_base.specs.declared.actor.Actor.TheVariants.{Replica, Proxy, Client}
+use Rattle.nz_base.specs.declared.actor.Actor.TheVariants.{Proxy}
 use Rattle.nz_base.specs.declared.key.Id.{Id}
-use Rattle.nz_base.specs.declared.key.Entry.{Entry}
 use Rattle.nz_base.proofs.Booleans.{cases_bool}
 use Rattle.nz_machine.specs.declared.event.Event.{Event}
 use Rattle.nz_machine.specs.declared.event.Event.TheVariants.{Deliver, Cut, Tick, Alarm, Crash, Restart}
@@ -18,16 +17,15 @@ use Rattle.nz_machine.specs.Journals.{run_in}
 use Rattle.nz_machine.specs.State.{ProxyData, Standing, Open, Decided, Group}
 use Rattle.nz_machine.specs.Proxies.{standing_of}
 use Rattle.nz_machine.specs.World.{state_after, World, Has, IsMember}
-use Rattle.nz_machine.specs.History.{source, standing_after, source_of_sender, decision_moment, is_decided, source_at_decision}
+use Rattle.nz_machine.specs.History.{standing_after, source_of_sender, is_decided, source_at_decision}
 use Rattle.nz_machine.proofs.Runs.{stays, sent_by}
 use Rattle.nz_replica.specs.Seats.{ReplicaView}
 use Rattle.nz_audit.specs.declared.source.Source.{Source}
-use Rattle.nz_audit.specs.declared.noting.Noted.{Noted}
 use Rattle.nz_audit.specs.declared.proxy.ProxyNotes.{ProxyNotes}
 use Rattle.nz_audit.specs.declared.sending.ParcelKey.{ParcelKey}
-use Rattle.nz_audit.specs.Sources.{in_numbers, about, stands_for, kept_of, source_sent, source_delivered}
+use Rattle.nz_audit.specs.Sources.{in_numbers, about, stands_for, source_sent, source_delivered}
 use Rattle.nz_audit.specs.Noting.{after_event, down_after, decided_in, IsSized}
-use Rattle.nz_audit.specs.Memories.{memory_of, memory}
+use Rattle.nz_audit.specs.Memories.{memory_of}
 use Rattle.nz_audit.specs.Cores.{IsCoreIfAny, run_up_to}
 use Rattle.nz_audit.specs.Readings.{IsLive, known_to, is_down_in, IsProxy, IsTable}
 use Rattle.nz_audit.proofs.Memories.{memory_stays, no_decision}

@@ -1,16 +1,13 @@
 -- What an event makes of what a proxy knows of a request.
-use Rattle.std.proofs.Common.{◌≡◌, ℕ, Bool, true, false, cond, List, [], ◌∷◌, Option, Some, None, refl, sym, ap, subst, ◌∙◌, inl, inr}
+use Rattle.std.proofs.Common.{◌≡◌, ℕ, Bool, true, false, cond, List, [], ◌∷◌, Option, Some, None, refl, sym, ap, subst, ◌∙◌}
 use Rattle.std.specs.Prelude.{is_some}
 use Rattle.std.specs.Option.{option_map, option_flatten}
-use Rattle.std.proofs.lemmas.Option.{none-some, same_Some}
+use Rattle.std.proofs.lemmas.Option.{none-some}
 use Rattle.nz_base.specs.Key.{id_eq}
 use Rattle.nz_base.specs.declared.actor.Actor.{Actor}
 use Rattle.nz_base.specs.declared.actor.Actor.TheVariants.{Replica, Proxy, Client}
 use Rattle.nz_base.specs.declared.key.Id.{Id}
-use Rattle.nz_base.proofs.Booleans.{cases_bool}
-use Rattle.nz_base.proofs.Names.{id_eq_self}
 use Rattle.nz_msg.specs.declared.envelope.Envelope.{Envelope}
-use Rattle.nz_msg.specs.declared.message.RequestBody.{RequestBody}
 use Rattle.nz_msg.specs.declared.message.Message.{Message}
 use Rattle.nz_msg.specs.declared.message.Message.TheVariants.{Request, FastReply, SlowReply}
 use Rattle.nz_machine.specs.declared.event.Event.{Event}
@@ -18,20 +15,19 @@ use Rattle.nz_machine.specs.declared.event.Event.TheVariants.{Deliver, Cut, Tick
 use Rattle.nz_machine.specs.declared.event.Parcel.{Parcel}
 use Rattle.nz_machine.specs.declared.event.Record.{Record}
 use Rattle.nz_machine.specs.declared.reply.Reply.{Reply}
-use Rattle.nz_machine.specs.State.{ProxyData, Standing, Group, Out}
+use Rattle.nz_machine.specs.State.{ProxyData, Group, Out}
 use Rattle.nz_machine.specs.Quorums.{answer_in}
-use Rattle.nz_machine.specs.Proxies.{standing_of, of_fast, of_slow, clock_rule, first_proxy, crashed_proxy, restarted_proxy}
+use Rattle.nz_machine.specs.Proxies.{standing_of, of_fast, of_slow, clock_rule, first_proxy}
 use Rattle.nz_machine.specs.Step.{proxy_message, received, envelope_step, event_step}
 use Rattle.nz_machine.specs.World.{state_after, sent_in, Has, MayHappen, World}
 use Rattle.nz_machine.specs.Events.{read_in}
 use Rattle.nz_machine.specs.History.{standing_after, reply_in, reply_read, parcel_in, delivered, source as first_source, source_of}
-use Rattle.nz_machine.proofs.Runs.{acts_itself, on_cond}
+use Rattle.nz_machine.proofs.Runs.{acts_itself}
 use Rattle.nz_audit.specs.declared.source.Source.{Source}
-use Rattle.nz_audit.specs.declared.noting.Noted.{Noted}
 use Rattle.nz_audit.specs.Sources.{in_numbers, about, stands_for}
 use Rattle.nz_audit.specs.Noting.{opened, noted_by, after_message, after_envelope, after_event, down_after}
 use Rattle.nz_audit.specs.Memories.{memory_of, memory}
-use Rattle.nz_audit.proofs.Memories.{standing_opened, standing_noted, Brings, memory_stays, memory_opens, memory_notes}
+use Rattle.nz_audit.proofs.Memories.{standing_opened, standing_noted, memory_stays, memory_opens, memory_notes}
 use Rattle.nz_audit.proofs.Standings.{stamp_opens, reply_notes, stamp_up, reply_up}
 use Rattle.nz_audit.proofs.Hearing.{source_read}
 

@@ -1,12 +1,11 @@
 -- The executed entries of a log that grows.
-use Rattle.std.proofs.Common.{◌≡◌, ℕ, zero, suc, ◌+◌, ◌≤◌, List, [], ◌∷◌, ◌++◌, length, take, Option, Some, refl, sym, ap, ◌∙◌, arith, append-nil, append_assoc}
+use Rattle.std.proofs.Common.{◌≡◌, ℕ, zero, suc, ◌+◌, ◌≤◌, List, [], ◌∷◌, ◌++◌, length, Option, Some, refl, sym, ap, ◌∙◌, arith, append-nil, append_assoc}
 use Rattle.std.proofs.lemmas.List.{map-append, length-map}
-use Rattle.std.proofs.lemmas.Option.{none-some, same_Some}
 use Rattle.std.specs.Prelude.{slice_get}
 use Rattle.nz_base.specs.declared.key.Entry.{Entry}
 use Rattle.nz_base.specs.Key.{id_of}
-use Rattle.nz_store.specs.Sequence.{reply, replies, answer_after, store_from, store_after, apply_bytes}
-use Rattle.nz_store.proofs.Turns.{reply-append, replies-push, slice_get-replies, store_after-push, length-replies_from}
+use Rattle.nz_store.specs.Sequence.{reply, replies, answer_after, store_from, store_after}
+use Rattle.nz_store.proofs.Turns.{reply-append, replies-push, slice_get-replies, length-replies_from}
 use Rattle.nz_store.specs.Entries.{empty}
 use Rattle.nz_store.specs.declared.command.Answer.{Answer}
 use Rattle.nz_machine.specs.declared.journal.Executed.{Executed}
@@ -19,9 +18,6 @@ commands_of es e = map-append (λ (x : Entry). x.command) es (e ∷ [])
 pub store_first : store_after [] ≡ empty
 unfolding store_from
 store_first = refl
-
-pub store_then : (es : List Entry) (e : Entry) → store_after (commands (es ++ e ∷ [])) ≡ (apply_bytes (store_after (commands es)) e.command).0
-store_then es e = ap store_after (commands_of es e) ∙ store_after-push (commands es) e.command
 
 -- what is answered in a longer list
 older_same : (H : List Entry) (e : Entry) (place : ℕ) (es : List Entry) → place + length es ≤ length H → executed_from (H ++ e ∷ []) place es ≡ executed_from H place es
@@ -67,13 +63,3 @@ pub executed_more : (es : List Entry) (e : Entry) (done : List Executed) (x : Ex
 executed_more es e done x so_far id command answer =
     let one : x ≡ record { id = id_of e.key; command = e.command; answer = answer_after (commands es) e.command } = λ i. record { id = id i; command = command i; answer = answer i } in
     ap (λ (l : List Executed). l ++ x ∷ []) so_far ∙ ap (λ (y : Executed). executed es ++ y ∷ []) one ∙ sym (executed_then es e)
-
--- ---- one entry more of a list
-
-take_next : {X : Type 0} (xs : List X) (i : ℕ) (x : X) → slice_get xs i ≡ Some x → take (suc i) xs ≡ take i xs ++ x ∷ []
-take_next [] i x e = absurd (none-some x e)
-take_next (y ∷ xs) zero x e = ap (λ z. z ∷ []) (same_Some y x e)
-take_next (y ∷ xs) (suc i) x e = ap (λ l. y ∷ l) (take_next xs i x e)
-
-pub take_one : {X : Type 0} (xs : List X) (i : ℕ) (x : X) → slice_get xs i ≡ Some x → take (i + 1) xs ≡ take i xs ++ x ∷ []
-take_one xs i x e = let next : i + 1 ≡ suc i = omega arith in ap (λ n. take n xs) next ∙ take_next xs i x e

@@ -1,5 +1,5 @@
 -- What a reading has found after a record, and what it says of the journal's history.
-use Rattle.std.proofs.Common.{◌≡◌, ℕ, ◌+◌, ◌<◌, ◌≤◌, List, ◌∷◌, length, take, reverse, get_or, Option, Some, Result, Ok, Err, refl, sym, ap, subst, ◌∙◌, arith, length-take}
+use Rattle.std.proofs.Common.{◌≡◌, ℕ, ◌+◌, ◌<◌, ◌≤◌, List, length, take, Some, Result, Ok, Err, sym, ap, subst, ◌∙◌, arith, length-take}
 use Rattle.std.specs.Prelude.{OnOk, nat_eq, slice_get}
 use Rattle.std.proofs.lemmas.Option.{get_or_from_slice_get}
 use Rattle.indexmap.specs.IndexMap.{get}

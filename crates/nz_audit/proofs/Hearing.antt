@@ -1,12 +1,12 @@
 -- What is heard of a parcel, and the source that a delivered parcel stands for.
-use Rattle.std.proofs.Common.{◌≡◌, ℕ, Bool, true, false, cond, not, ◌&&◌, List, [], ◌∷◌, Option, Some, None, Result, Ok, Err, refl, sym, ap, subst, ◌∙◌, inl, inr}
+use Rattle.std.proofs.Common.{◌≡◌, ℕ, true, cond, not, ◌&&◌, List, ◌∷◌, Option, Some, None, Result, Ok, Err, refl, sym, ap, ◌∙◌}
 use Rattle.std.specs.Prelude.{is_some}
-use Rattle.std.specs.Option.{option_map, option_and_then, option_flatten}
-use Rattle.std.proofs.lemmas.Option.{none-some, same_Some}
+use Rattle.std.specs.Option.{option_map, option_flatten}
+use Rattle.std.proofs.lemmas.Option.{none-some, cond_some}
 use Rattle.nz_base.specs.Actor.{actor_eq}
 use Rattle.nz_base.specs.Key.{id_eq}
 use Rattle.nz_base.specs.declared.actor.Actor.{Actor}
-use Rattle.nz_base.specs.declared.actor.Actor.TheVariants.{Replica, Proxy, Client}
+use Rattle.nz_base.specs.declared.actor.Actor.TheVariants.{Replica, Proxy}
 use Rattle.nz_base.specs.declared.key.Id.{Id}
 use Rattle.nz_base.proofs.Booleans.{and_left, and_right}
 use Rattle.nz_base.proofs.Names.{same_actor, same_id}
@@ -24,14 +24,10 @@ use Rattle.nz_machine.specs.Quorums.{answer_in}
 use Rattle.nz_machine.specs.Proxies.{of_fast, of_slow}
 use Rattle.nz_machine.specs.Step.{is_in_cluster, is_sized, vector_of, is_for, heard_if, heard, counted, received}
 use Rattle.nz_machine.specs.World.{sent_in, Has}
-use Rattle.nz_machine.specs.History.{ReplySource, reply_in, source, source_of}
+use Rattle.nz_machine.specs.History.{reply_in, source, source_of}
 use Rattle.nz_machine.proofs.Sources.{has_source, source_stays}
 use Rattle.nz_audit.specs.declared.source.Source.{Source}
 use Rattle.nz_audit.specs.Sources.{numbers_of, in_numbers, about_message, about_envelope, about, source_sent, stands_for}
-
-pub some_if : {X : Type 0} (b : Bool) (x y : X) → cond b (Some x) None ≡ Some y → (b ≡ true) × (x ≡ y)
-some_if true x y e = (refl, same_Some x y e)
-some_if false x y e = absurd (none-some y e)
 
 -- ---- an envelope that is heard is of the parcel
 
@@ -43,7 +39,7 @@ pub record IsHeard (me : Actor) (p : Parcel) (e : Envelope) : Type 0 where
 
 heard_by : (me : Actor) (p : Parcel) (d : Result Envelope DecodeRefusal) (e : Envelope) → heard_if me p d ≡ Some e → is_for me p e ≡ true
 heard_by me p (Err refusal) e h = absurd (none-some e h)
-heard_by me p (Ok found) e h = let c = some_if (is_for me p found) found e h in ap (is_for me p) (sym c.1) ∙ c.0
+heard_by me p (Ok found) e h = let c = cond_some (is_for me p found) found e h in ap (is_for me p) (sym c.1) ∙ c.0
 
 heard_of : (me : Actor) (p : Parcel) (e : Envelope) → heard me p ≡ Some e → is_for me p e ≡ true
 unfolding heard
@@ -65,7 +61,7 @@ is_heard me p e h =
 
 counted_some : (f : ℕ) (o : Option Envelope) (e : Envelope) → counted f o ≡ Some e → o ≡ Some e
 counted_some f None e h = absurd (none-some e h)
-counted_some f (Some found) e h = ap Some (some_if (is_in_cluster f found.from && is_sized f (vector_of found.message)) found e h).1
+counted_some f (Some found) e h = ap Some (cond_some (is_in_cluster f found.from && is_sized f (vector_of found.message)) found e h).1
 
 pub is_received : (f : ℕ) (me : Actor) (p : Parcel) (e : Envelope) → received f me p ≡ Some e → IsHeard me p e
 is_received f me p e h = is_heard me p e (counted_some f (heard me p) e h)
@@ -89,7 +85,7 @@ source_later p r J sent = let s = has_source p J sent in source_stays p r J s.0 
 read_by : (g : Group) (q : ℕ) (id : Id) (r : Record) (J : List Record) (p : Parcel) (from : Actor) (m : Message) (reply : Reply) → Has (sent_in J) p → p.from ≡ from → about p ≡ about_message from (Proxy q) m → reply_in id from m ≡ Some reply
     → option_flatten (stands_for g p (source p J) (about p)) ≡ cond (is_some (answer_in reply)) (in_numbers g id (source_of (r ∷ J) p)) None
 read_by g q id r J p (Replica k) (FastReply b) reply sent from is read =
-    let c = some_if (id_eq b.id id) (of_fast k b) reply read in
+    let c = cond_some (id_eq b.id id) (of_fast k b) reply read in
     let own = own_source g id p k (source p J) from in
     ap (λ (o : Option Id). option_flatten (stands_for g p (source p J) o)) is
     ∙ by_answer b.answer (same_id b.id id c.0)
@@ -100,7 +96,7 @@ read_by g q id r J p (Replica k) (FastReply b) reply sent from is read =
     by_answer None same = refl
     by_answer (Some a) same = ap (λ (i : Id). option_flatten (option_map (source_sent g i p.from) (source p J))) same
 read_by g q id r J p (Replica k) (SlowReply b) reply sent from is read =
-    let c = some_if (id_eq b.id id) (of_slow k b) reply read in
+    let c = cond_some (id_eq b.id id) (of_slow k b) reply read in
     ap (λ (o : Option Id). option_flatten (stands_for g p (source p J) o)) is ∙ ap (λ (x : Reply). cond (is_some (answer_in x)) (in_numbers g id (source_of (r ∷ J) p)) None) c.1
 read_by g q id r J p _ _ reply sent from is read = absurd (none-some reply read)
 

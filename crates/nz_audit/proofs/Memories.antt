@@ -1,10 +1,10 @@
 -- What a record makes of what a proxy knows of a request: the sources that are kept are those of the definition.
-use Rattle.std.proofs.Common.{◌≡◌, ℕ, Bool, true, false, cond, eqb, ◌||◌, List, [], ◌∷◌, ◌++◌, map, Option, Some, None, refl, sym, ap, subst, ◌∙◌, inl, inr, ◌⊎◌}
-use Rattle.std.specs.Prelude.{is_some, slice_get}
-use Rattle.std.specs.List.{list_any, position}
-use Rattle.std.specs.Option.{option_map, option_and_then, option_flatten}
+use Rattle.std.proofs.Common.{◌≡◌, ℕ, true, false, cond, eqb, List, [], ◌∷◌, ◌++◌, map, Option, Some, None, refl, sym, ap, ◌∙◌, inl, inr}
+use Rattle.std.specs.Prelude.{is_some}
+use Rattle.std.specs.List.{list_any}
+use Rattle.std.specs.Option.{option_map, option_and_then}
 use Rattle.std.proofs.lemmas.List.{map-append}
-use Rattle.std.proofs.lemmas.Option.{none-some, same_Some, slice_get-map}
+use Rattle.std.proofs.lemmas.Option.{none-some}
 use Rattle.nz_base.specs.declared.actor.Actor.TheVariants.{Proxy}
 use Rattle.nz_base.specs.declared.key.Id.{Id}
 use Rattle.nz_base.specs.Cluster.{leader_of}
@@ -23,7 +23,6 @@ use Rattle.nz_machine.proofs.Sources.{reply_eq_self}
 use Rattle.nz_machine.proofs.Choices.{decision_is}
 use Rattle.nz_audit.specs.declared.source.Source.{Source}
 use Rattle.nz_audit.specs.declared.noting.Notes.{Notes}
-use Rattle.nz_audit.specs.declared.noting.Noted.{Noted}
 use Rattle.nz_audit.specs.declared.noting.Noted.TheVariants as noted
 use Rattle.nz_audit.specs.Sources.{in_numbers}
 use Rattle.nz_audit.specs.Noting.{with_source, source_among, decided_source, settled_by, noted_by, opened}

@@ -1,5 +1,5 @@
 -- The source of an accepted answer is a moment of the run, at a member of the cluster.
-use Rattle.std.proofs.Common.{◌≡◌, ℕ, Bool, true, false, cond, List, [], ◌∷◌, ◌++◌, Option, Some, None, refl, sym, ap, subst, ◌∙◌, inl, inr, ◌⊎◌}
+use Rattle.std.proofs.Common.{◌≡◌, ℕ, Bool, true, false, cond, List, [], ◌∷◌, ◌++◌, Option, Some, None, refl, sym, ap, subst, inl, inr, ◌⊎◌}
 use Rattle.std.specs.List.{list_any}
 use Rattle.std.specs.Option.{option_map, option_and_then}
 use Rattle.std.proofs.lemmas.Option.{none-some, same_Some}
@@ -15,7 +15,7 @@ use Rattle.nz_machine.specs.World.{World, IsMember}
 use Rattle.nz_machine.specs.History.{ReplySource, older_or, source, standing_after, is_decided, decision_moment, replies_of, noting_moment, delivered, source_of, source_of_reply, source_at_decision, deciding_reply, source_of_sender, accepted_source}
 use Rattle.nz_machine.proofs.Runs.{sent_by}
 use Rattle.nz_base.specs.Moments.{At}
-use Rattle.nz_base.proofs.Moments.{at_self, at_then}
+use Rattle.nz_base.proofs.Moments.{at_then}
 use Rattle.nz_machine.proofs.Moments.{at_world}
 use Rattle.nz_machine.proofs.Sources.{source_is}
 

@@ -1,7 +1,5 @@
 -- What a message makes of what a proxy knows of a request, by the proxy's rules.
-use Rattle.std.proofs.Common.{◌≡◌, ℕ, Bool, true, false, cond, List, [], ◌∷◌, Option, Some, None, refl, sym, ap, subst, ◌∙◌, inl, inr}
-use Rattle.std.specs.Map.{lookup}
-use Rattle.indexmap.specs.IndexMap.{insert_entry}
+use Rattle.std.proofs.Common.{◌≡◌, ℕ, false, cond, List, [], Option, Some, None, refl, subst, inl, inr}
 use Rattle.nz_base.specs.declared.key.Id.{Id}
 use Rattle.nz_base.specs.Key.{id_eq}
 use Rattle.nz_base.proofs.Booleans.{cases_bool}
@@ -12,7 +10,7 @@ use Rattle.nz_msg.specs.declared.message.RequestBody.{RequestBody}
 use Rattle.nz_machine.specs.declared.reply.Reply.{Reply}
 use Rattle.nz_machine.specs.State.{ProxyData, Standing, Open, Decided}
 use Rattle.nz_machine.specs.Quorums.{Chosen, decision, answer_in, with_note}
-use Rattle.nz_machine.specs.Proxies.{with_standing, standing_of, stamped, stamp_rule, answered, decided_as, noted_in, reply_rule}
+use Rattle.nz_machine.specs.Proxies.{standing_of, stamped, stamp_rule, answered, decided_as, noted_in, reply_rule}
 use Rattle.nz_machine.proofs.Lookups.{lookup_inserted, lookup_other}
 use Rattle.nz_audit.proofs.Memories.{standing_opened, settled_with, answer_chosen, standing_noted}
 

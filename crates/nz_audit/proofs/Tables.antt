@@ -1,12 +1,13 @@
 -- The table of what was sent first, in the course of a record.
-use Rattle.std.proofs.Common.{◌≡◌, ℕ, Bool, true, false, cond, ◌||◌, List, [], ◌∷◌, ◌++◌, Option, Some, None, refl, sym, ap, subst, ◌∙◌, inl, inr, ◌⊎◌}
+use Rattle.std.proofs.Common.{◌≡◌, Bool, true, false, cond, ◌||◌, List, [], ◌∷◌, ◌++◌, Option, Some, None, refl, sym, ap, subst, ◌∙◌, inl, inr}
 use Rattle.std.specs.Prelude.{is_some}
 use Rattle.std.specs.List.{list_any}
 use Rattle.std.specs.Option.{option_map}
 use Rattle.std.proofs.lemmas.List.Folds.{list_any-append}
-use Rattle.std.proofs.lemmas.Option.{none-some, same_Some}
+use Rattle.std.proofs.lemmas.Option.{none-some}
+use mathlib.Core.Bool.{or-false, or-true}
 use Rattle.nz_base.specs.declared.key.Id.{Id}
-use Rattle.nz_base.proofs.Booleans.{cases_bool, or_right, clash}
+use Rattle.nz_base.proofs.Booleans.{cases_bool, clash}
 use Rattle.nz_machine.specs.declared.event.Parcel.{Parcel}
 use Rattle.nz_machine.specs.declared.event.Record.{Record}
 use Rattle.nz_machine.specs.State.{Group}
@@ -19,22 +20,14 @@ use Rattle.nz_audit.specs.Readings.{source_with, IsTable, IsTableWith}
 
 -- ---- the first record that sent a parcel, with one more
 
-or_nothing : (b : Bool) → (b || false) ≡ b
-or_nothing true = refl
-or_nothing false = refl
-
 any_with : (p s : Parcel) (done : List Parcel) (b : Bool) → parcel_eq p s ≡ b → list_any (parcel_eq p) (done ++ s ∷ []) ≡ (list_any (parcel_eq p) done || b)
-any_with p s done b e = list_any-append (parcel_eq p) done (s ∷ []) ∙ ap (λ x. list_any (parcel_eq p) done || (x || false)) e ∙ ap (λ x. list_any (parcel_eq p) done || x) (or_nothing b)
+any_with p s done b e = list_any-append (parcel_eq p) done (s ∷ []) ∙ ap (λ x. list_any (parcel_eq p) done || (x || false)) e ∙ ap (λ x. list_any (parcel_eq p) done || x) (or-false b)
 
 with_other : (p s : Parcel) (done : List Parcel) (r : Record) (J : List Record) → parcel_eq p s ≡ false → source_with p (done ++ s ∷ []) r J ≡ source_with p done r J
-with_other p s done r J h = ap (λ b. cond b (older_or (source p J) (r ∷ J)) (source p J)) (any_with p s done false h ∙ or_nothing (list_any (parcel_eq p) done))
+with_other p s done r J h = ap (λ b. cond b (older_or (source p J) (r ∷ J)) (source p J)) (any_with p s done false h ∙ or-false (list_any (parcel_eq p) done))
 
 with_itself : (s : Parcel) (done : List Parcel) (r : Record) (J : List Record) → source_with s (done ++ s ∷ []) r J ≡ older_or (source s J) (r ∷ J)
-with_itself s done r J = ap (λ b. cond b (older_or (source s J) (r ∷ J)) (source s J)) (any_with s s done true (parcel_eq_self s) ∙ or_true (list_any (parcel_eq s) done))
-  where
-    or_true : (b : Bool) → (b || true) ≡ true
-    or_true true = refl
-    or_true false = refl
+with_itself s done r J = ap (λ b. cond b (older_or (source s J) (r ∷ J)) (source s J)) (any_with s s done true (parcel_eq_self s) ∙ or-true (list_any (parcel_eq s) done))
 
 sent_already : (o : Option (List Record)) (now K : List Record) (b : Bool) → cond b (older_or o now) o ≡ Some K → older_or o now ≡ Some K
 sent_already o now K true e = e

@@ -1,19 +1,18 @@
 -- What a proxy knows of a request, with the source of each reply.
-use Rattle.std.specs.Prelude.{ℕ, ◌≡◌, Bool, true, false, ◌==◌, List, [], ◌∷◌, ◌++◌, Option, Some, None, slice_get, is_some, if◌then◌else◌}
+use Rattle.std.specs.Prelude.{ℕ, ◌≡◌, Bool, true, false, List, [], ◌∷◌, ◌++◌, Option, Some, None, slice_get, if◌then◌else◌}
 use Rattle.std.specs.List.{list_any, position}
 use Rattle.std.specs.Option.{option_map, option_flatten}
 use Rattle.nz_base.specs.declared.key.Id.{Id}
 use Rattle.nz_base.specs.Key.{id_eq}
 use Rattle.nz_base.specs.declared.actor.Actor.{Actor}
 use Rattle.nz_base.specs.declared.actor.Actor.TheVariants.{Replica, Proxy, Client}
-use Rattle.nz_store.specs.declared.command.Answer.{Answer}
 use Rattle.nz_msg.specs.declared.envelope.Envelope.{Envelope}
 use Rattle.nz_msg.specs.declared.message.Message.{Message}
 use Rattle.nz_msg.specs.declared.message.Message.TheVariants.{Request, FastReply, SlowReply}
 use Rattle.nz_machine.specs.declared.event.Event.{Event}
 use Rattle.nz_machine.specs.declared.event.Event.TheVariants.{Deliver, Cut, Tick, Alarm, Crash, Restart}
 use Rattle.nz_machine.specs.declared.reply.Reply.{Reply}
-use Rattle.nz_machine.specs.Quorums.{Chosen, decision, answer_in, reply_eq}
+use Rattle.nz_machine.specs.Quorums.{Chosen, decision, reply_eq}
 use Rattle.nz_machine.specs.Proxies.{of_fast, of_slow}
 use Rattle.nz_machine.specs.Step.{received}
 use Rattle.nz_quorum.specs.Tallies.{IsOfCluster}

@@ -1,5 +1,5 @@
 -- Where answers come from, in numbers, by the definition of the history.
-use Rattle.std.specs.Prelude.{ℕ, ◌≡◌, Bool, ◌&&◌, List, [], ◌∷◌, length, Option, Some, None, is_some, nat_lt, if◌then◌else◌}
+use Rattle.std.specs.Prelude.{Bool, ◌&&◌, List, length, Option, Some, None, is_some, nat_lt, if◌then◌else◌}
 use Rattle.std.specs.Map.{lookup}
 use Rattle.std.specs.Option.{option_map, option_and_then, option_flatten}
 use Rattle.std.specs.Str.{bytes_eq}
@@ -18,7 +18,7 @@ use Rattle.nz_machine.specs.declared.telling.Acceptance.{Acceptance}
 use Rattle.nz_machine.specs.State.{Group}
 use Rattle.nz_machine.specs.Step.{heard}
 use Rattle.nz_machine.specs.Events.{id_at}
-use Rattle.nz_machine.specs.History.{ReplySource, source, source_of_sender, cut_after, log_at}
+use Rattle.nz_machine.specs.History.{ReplySource, source_of_sender, cut_after, log_at}
 use Rattle.nz_audit.specs.declared.source.Source.{Source}
 use Rattle.nz_audit.specs.declared.sending.ParcelKey.{ParcelKey}
 

@@ -10,9 +10,7 @@ use Rattle.nz_base.specs.Key.{id_of}
 use Rattle.nz_base.specs.Log.{keys_of, HaveOwnIds}
 use Rattle.nz_base.proofs.Logs.{own_front, keys_append}
 use Rattle.nz_store.specs.declared.command.Answer.{Answer}
-use Rattle.nz_msg.specs.declared.message.AnswerBody.{AnswerBody}
 use Rattle.nz_msg.specs.declared.message.Path.{Path}
-use Rattle.nz_msg.specs.declared.message.Message.TheVariants.{Answer as Answered}
 use Rattle.nz_msg.specs.declared.envelope.Envelope.{Envelope}
 use Rattle.nz_machine.specs.declared.event.Event.{Event}
 use Rattle.nz_machine.specs.declared.event.Event.TheVariants.{Deliver}

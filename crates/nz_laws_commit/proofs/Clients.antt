@@ -1,15 +1,15 @@
 -- The rules of a client: what it asks for.
-use Rattle.std.proofs.Common.{◌≡◌, ℕ, zero, suc, ◌+◌, ◌-◌, ◌%◌, ◌<◌, ◌≤◌, List, [], ◌∷◌, ◌++◌, length, Option, Some, None, refl, arith}
+use Rattle.std.proofs.Common.{◌≡◌, ℕ, zero, suc, ◌+◌, ◌-◌, ◌%◌, ◌<◌, ◌≤◌, List, [], ◌∷◌, length, Option, Some, None, refl, arith}
 use Rattle.std.specs.Prelude.{slice_get}
 use Rattle.std.specs.List.{AllByRecursion}
 use Rattle.nz_base.specs.declared.actor.Actor.{Actor}
-use Rattle.nz_base.specs.declared.actor.Actor.TheVariants.{Proxy, Client}
+use Rattle.nz_base.specs.declared.actor.Actor.TheVariants.{Proxy}
 use Rattle.nz_base.specs.declared.scenario.Request.{Request}
 use Rattle.nz_msg.specs.declared.message.AnswerBody.{AnswerBody}
 use Rattle.nz_msg.specs.declared.message.Message.{Message}
 use Rattle.nz_msg.specs.declared.message.Message.TheVariants.{Request as Asked, Answer as Answered}
 use Rattle.nz_machine.specs.declared.data.Attempt.{Attempt}
-use Rattle.nz_machine.specs.State.{ClientData, Group, Out}
+use Rattle.nz_machine.specs.State.{ClientData, Out}
 use Rattle.nz_machine.specs.Clients.{if_due, opened, open_next, fill_places, fill_window, is_overdue, all_waited, asked_again, retry, retries, wait_rule, is_open, accepted, accept_rule}
 use Rattle.nz_machine.specs.Step.{client_message}
 use Rattle.nz_machine.specs.Events.{command_at}

@@ -17,7 +17,7 @@ use Rattle.nz_machine.specs.declared.event.Event.TheVariants.{Deliver, Cut, Tick
 use Rattle.nz_machine.specs.declared.event.Record.{Record}
 use Rattle.nz_machine.specs.State.{ClientData, Group}
 use Rattle.nz_machine.specs.Clients.{is_open}
-use Rattle.nz_machine.specs.Step.{script_of, client_message, received, envelope_step, event_step}
+use Rattle.nz_machine.specs.Step.{script_of, client_message, envelope_step, event_step}
 use Rattle.nz_machine.specs.World.{state_after, Has}
 use Rattle.nz_machine.specs.Events.{Told, Sent, Accepted, id_at, command_at, read_in, accepted_in, accepted_by, sent_after, sent_by, told_by, events}
 use Rattle.nz_machine.specs.OneHistory.{Precedes}

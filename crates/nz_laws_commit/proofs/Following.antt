@@ -64,7 +64,7 @@ start_began g v S (r ∷ K) some e = by_start (start g v K) refl (begins g v (r 
         record { moment = r ∷ K; at = at_self (r ∷ K); is = now; log = same_Some (leader_at g v (r ∷ K)).log.entries S same }
     by_start None was false now same old = absurd (none-some S same)
 
-never_all : (a b c : Bool) → c ≡ false → (a && (b && c)) ≡ false
+pub never_all : (a b c : Bool) → c ≡ false → (a && (b && c)) ≡ false
 never_all true true c e = e
 never_all true false c e = refl
 never_all false b c e = refl

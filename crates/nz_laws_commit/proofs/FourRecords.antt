@@ -1,10 +1,11 @@
 -- The example follows the rules, with a key that is supported in view 0: no premise contradicts the others.
-use Rattle.std.proofs.Common.{◌≡◌, ℕ, zero, suc, ◌<◌, ◌≤◌, Bool, true, false, ◌&&◌, cond, eqb, List, [], ◌∷◌, length, Option, Some, None, refl, sym, ap, subst, ◌∙◌, arith, inl, inr, ◌⊎◌}
+use Rattle.std.proofs.Common.{◌≡◌, ℕ, zero, suc, ◌<◌, ◌≤◌, Bool, true, false, cond, eqb, List, [], ◌∷◌, length, Option, Some, None, refl, sym, ap, subst, ◌∙◌, arith, inl, inr, ◌⊎◌}
 use Rattle.std.specs.List.{All}
 use Rattle.std.specs.Option.{option_or}
 use Rattle.std.proofs.lemmas.Bool.{ne_eqb}
 use Rattle.std.proofs.lemmas.List.Elements.{All-from_recursion}
 use Rattle.std.proofs.lemmas.Option.{none-some, same_Some}
+use mathlib.Core.Bool.{and-false}
 use Rattle.nz_base.specs.declared.key.Key.{Key}
 use Rattle.nz_base.specs.Log.{keys_of, IsLog}
 use Rattle.nz_base.specs.Cluster.{leader_of}
@@ -20,6 +21,7 @@ use Rattle.nz_laws_commit.specs.Premises.{ViewPremises, IsMemberReport, IsMergeO
 use Rattle.nz_laws_commit.specs.Machines.{is_normal, inc_of, lead_of, start_of, leads_by, machine_of}
 use Rattle.nz_laws_commit.specs.Does.{Does, Released, Entered, Synced, Began, FollowsRules}
 use Rattle.nz_laws_commit.specs.Example.{Step, First, Second, Third, Fourth, key, entry, by, zeros, new_state, full_state, changing_state, begun_state, after, state, early, run, group}
+use Rattle.nz_laws_commit.proofs.Following.{never_all}
 
 -- ---- all moments
 
@@ -170,19 +172,10 @@ once_fourth v zero h n = absurd cc
 once_fourth v (suc zero) h n = inl (subst (λ (x : ℕ). start_of group x early ≡ None) n.view start_early)
 once_fourth v (suc (suc y)) h n = absurd cc
 
-never_all : (a b c : Bool) → c ≡ false → (a && (b && c)) ≡ false
-never_all true true c e = e
-never_all true false c e = refl
-never_all false b c e = refl
-
-never_any : (a : Bool) → (a && false) ≡ false
-never_any true = refl
-never_any false = refl
-
 inc_zero : (m : ℕ) (K : List Step) → inc_of group m K ≡ 0
 unfolding inc_of
 inc_zero m [] = refl
-inc_zero m (r ∷ K) = let n = inc_of group m K in ap (λ (b : Bool). cond b (suc n) n) (never_any (by r m)) ∙ inc_zero m K
+inc_zero m (r ∷ K) = let n = inc_of group m K in ap (λ (b : Bool). cond b (suc n) n) (and-false (by r m)) ∙ inc_zero m K
 
 no_start : (v : ℕ) (K : List Step) → 1 < v → start_of group v K ≡ None
 unfolding start_of

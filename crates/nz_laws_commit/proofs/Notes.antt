@@ -2,7 +2,7 @@
 use Rattle.std.proofs.Common.{◌≡◌, ℕ, Bool, true, false, cond, List, [], ◌∷◌, ◌++◌, Option, Some, None, refl, sym, ap, subst, ◌∙◌, inl, inr, ◌⊎◌}
 use Rattle.std.specs.List.{list_any}
 use Rattle.std.specs.Option.{option_map, option_and_then}
-use Rattle.std.proofs.lemmas.Option.{none-some, same_Some}
+use Rattle.std.proofs.lemmas.Option.{none-some, cond_some}
 use Rattle.std.proofs.lemmas.List.Folds.{list_any-append}
 use Rattle.nz_base.specs.declared.actor.Actor.{Actor}
 use Rattle.nz_base.specs.declared.actor.Actor.TheVariants.{Replica, Proxy}
@@ -42,17 +42,13 @@ IsNoted r replies = list_any (reply_eq r) replies ≡ true
 
 -- ---- what is read
 
-choice_some : {X : Type 0} (b : Bool) (x y : X) → cond b (Some x) None ≡ Some y → (b ≡ true) × (x ≡ y)
-choice_some true x y e = (refl, same_Some x y e)
-choice_some false x y e = absurd (none-some y e)
-
 answering_by : (id : Id) (e : Envelope) (from : Actor) (m : Message) (r : Reply) (a : Answer) → e.from ≡ from → e.message ≡ m
     → reply_in id from m ≡ Some r → answer_in r ≡ Some a → IsAnswering e (view_of r) id a
 answering_by id e (Replica k) (messages.FastReply b) r a from is said answer =
-    let c = choice_some (id_eq b.id id) (of_fast k b) r said in
+    let c = cond_some (id_eq b.id id) (of_fast k b) r said in
     record { replica = k; body = b; sender = from; message = is; view = ap view_of c.1; same = same_id b.id id c.0; answer = ap answer_in c.1 ∙ answer }
 answering_by id e (Replica k) (messages.SlowReply b) r a from is said answer =
-    let c = choice_some (id_eq b.id id) (of_slow k b) r said in absurd (none-some a (ap answer_in c.1 ∙ answer))
+    let c = cond_some (id_eq b.id id) (of_slow k b) r said in absurd (none-some a (ap answer_in c.1 ∙ answer))
 answering_by id e _ _ r a from is said answer = absurd (none-some r said)
 
 -- an event delivers a parcel that is read as this envelope

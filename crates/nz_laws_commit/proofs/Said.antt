@@ -1,6 +1,6 @@
 -- What a proxy noted was said: each reply was sent by its replica, and shows it before and after the record.
-use Rattle.std.proofs.Common.{◌≡◌, ℕ, Bool, true, false, cond, List, [], ◌∷◌, map, Some, None, refl, sym, ap, subst, ◌∙◌, inl, inr}
-use Rattle.std.proofs.lemmas.Option.{none-some, same_Some}
+use Rattle.std.proofs.Common.{◌≡◌, ℕ, List, [], ◌∷◌, map, Some, sym, ap, subst, ◌∙◌, inl, inr}
+use Rattle.std.proofs.lemmas.Option.{none-some, cond_some}
 use Rattle.nz_base.specs.declared.actor.Actor.{Actor}
 use Rattle.nz_base.specs.declared.actor.Actor.TheVariants.{Replica}
 use Rattle.nz_base.specs.declared.key.Id.{Id}
@@ -98,10 +98,6 @@ said_later g J K id reply from M at (Slowly m by s) = Slowly m by (record {
 
 -- ---- what is read of a parcel
 
-choice_some : {X : Type 0} (b : Bool) (x y : X) → cond b (Some x) None ≡ Some y → (b ≡ true) × (x ≡ y)
-choice_some true x y e = (refl, same_Some x y e)
-choice_some false x y e = absurd (none-some y e)
-
 -- the record sends a message of a replica
 record SendsAs (g : Group) (J K : List Record) (m : ℕ) (to : Actor) (message : Message) : Type 0 where
   newest : Record
@@ -151,7 +147,7 @@ over_now g J K id m to b same s =
 pub said_by : (g : Group) (J K : List Record) (p : Parcel) (e : Envelope) (from : Actor) (message : Message) (id : Id) (reply : Reply) → World g J
     → IsTold g J K p e → e.from ≡ from → e.message ≡ message → reply_in id from message ≡ Some reply → IsSaid g J id reply p.from K
 said_by g J K p e (Replica m) (messages.FastReply b) id reply w t from is read =
-    let c = choice_some (id_eq b.id id) (of_fast m b) reply read in
+    let c = cond_some (id_eq b.id id) (of_fast m b) reply read in
     let s = sends_as g J K p e m (messages.FastReply b) w t from is in
     let same = same_id b.id id c.0 in
     Fastly m (t.from ∙ from) (record {
@@ -168,7 +164,7 @@ said_by g J K p e (Replica m) (messages.FastReply b) id reply w t from is read =
       over = over_now g J K id m e.to b same s;
     })
 said_by g J K p e (Replica m) (messages.SlowReply b) id reply w t from is read =
-    let c = choice_some (id_eq b.id id) (of_slow m b) reply read in
+    let c = cond_some (id_eq b.id id) (of_slow m b) reply read in
     let s = sends_as g J K p e m (messages.SlowReply b) w t from is in
     Slowly m (t.from ∙ from) (record {
       newest = s.newest;

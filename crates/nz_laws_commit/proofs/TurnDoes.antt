@@ -39,7 +39,7 @@ use Rattle.nz_laws_cv.proofs.Passing.{sound_at}
 use Rattle.nz_laws_cv.proofs.Sent as letters
 use Rattle.nz_laws_cv.proofs.Showing.{shows}
 use Rattle.nz_laws_commit.specs.States.{Down, LogState}
-use Rattle.nz_laws_commit.specs.Does.{IsUnchanged, Releases, Enters, VectorGrows, Syncs, BeginsView, AdoptsLog, Restarts, Does}
+use Rattle.nz_laws_commit.specs.Does.{IsUnchanged, Releases, Enters, Syncs, BeginsView, AdoptsLog, Restarts, Does}
 use Rattle.nz_laws_commit.specs.Does as ways
 use Rattle.nz_laws_commit.specs.Instance.{status_of, states_of}
 use Rattle.nz_laws_commit.proofs.Instance.{normal_status, up_status, status_up, down_status, is_normal_at}

@@ -143,11 +143,6 @@ got_or [] i x d e = absurd (none-some x e)
 got_or (y ∷ xs) zero x d e = same_Some y x e
 got_or (y ∷ xs) (suc i) x d e = got_or xs i x d e
 
-pub got_within : {X : Type 0} (xs : List X) (i : ℕ) (x : X) → slice_get xs i ≡ Some x → i < length xs
-got_within [] i x e = absurd (none-some x e)
-got_within (y ∷ xs) zero x e = omega arith
-got_within (y ∷ xs) (suc i) x e = let ih = got_within xs i x e in omega (arith, ih)
-
 pub sendable : (s : Scenario) (i : ℕ) (script : List Request) → IsPlayable s → slice_get s.scripts i ≡ Some script → AreSendable script
 sendable s i script play e =
     let asked : AllByRecursion IsAsked script = subst (λ (o : Option (List Request)). IfSome o (AllByRecursion IsAsked)) e (all_get (AllByRecursion IsAsked) s.scripts i play.group.commands) in

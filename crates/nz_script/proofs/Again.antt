@@ -1,7 +1,7 @@
 -- Each line that is written is read again, and so is a text of such lines.
 use Rattle.std.proofs.Common.{◌≡◌, ℕ, ◌+◌, true, false, List, [], ◌∷◌, ◌++◌, Option, Some, None, Ok, refl, sym, ap, ◌∙◌, arith, map}
 use Rattle.std.specs.List.{list_all}
-use Rattle.std.proofs.lemmas.Bool.{false≢true}
+use Rattle.std.proofs.lemmas.Bool.{false≢true, and_from, and_parts}
 use Rattle.std.proofs.lemmas.List.Folds.{list_all-append}
 use Rattle.nz_store.specs.Grammar.{is_graphic}
 use Rattle.nz_script.specs.declared.shape.Head.TheVariants as head
@@ -21,7 +21,6 @@ use Rattle.nz_script.specs.Drafts.{with_words, scenario_of}
 use Rattle.nz_script.specs.Reading.{is_passed_over, fault_of, taken, taken_if_shaped, step, behind, ending, reading}
 use Rattle.nz_script.specs.Texts.{word_text, words_text, line_text, text_of_lines}
 use Rattle.nz_script.proofs.Cuts.{words-word, lines-line, tail-line}
-use Rattle.nz_script.proofs.Passing.{both, both_of}
 use Rattle.nz_script.proofs.Readable.{IsWord, IsReadAs}
 
 -- each word is read again by its form, and there are as many
@@ -36,21 +35,21 @@ graphic_is_not_space c g e = let h : is_graphic 32 ≡ true = ap is_graphic (sym
 
 pub graphic_lacks_space : (l : List ℕ) → list_all is_graphic l ≡ true → Lacks space l
 graphic_lacks_space [] e = tt
-graphic_lacks_space (c ∷ cs) e = let p = both_of (is_graphic c) (list_all is_graphic cs) e in (graphic_is_not_space c p.0, graphic_lacks_space cs p.1)
+graphic_lacks_space (c ∷ cs) e = let p = and_parts (is_graphic c) (list_all is_graphic cs) e in (graphic_is_not_space c p.0, graphic_lacks_space cs p.1)
 
 graphic_is_printed : (c : ℕ) → is_graphic c ≡ true → is_printed c ≡ true
 graphic_is_printed c e = grind (arith, e)
 
 pub graphic_are_printed : (l : List ℕ) → list_all is_graphic l ≡ true → list_all is_printed l ≡ true
 graphic_are_printed [] e = refl
-graphic_are_printed (c ∷ cs) e = let p = both_of (is_graphic c) (list_all is_graphic cs) e in both _ _ (graphic_is_printed c p.0) (graphic_are_printed cs p.1)
+graphic_are_printed (c ∷ cs) e = let p = and_parts (is_graphic c) (list_all is_graphic cs) e in and_from _ _ (graphic_is_printed c p.0) (graphic_are_printed cs p.1)
 
 printed_is_not_newline : (c : ℕ) → is_printed c ≡ true → c ≡ newline → ⊥
 printed_is_not_newline c g e = let h : is_printed 10 ≡ true = ap is_printed (sym e) ∙ g in false≢true h
 
 pub printed_lacks_newline : (l : List ℕ) → list_all is_printed l ≡ true → Lacks newline l
 printed_lacks_newline [] e = tt
-printed_lacks_newline (c ∷ cs) e = let p = both_of (is_printed c) (list_all is_printed cs) e in (printed_is_not_newline c p.0, printed_lacks_newline cs p.1)
+printed_lacks_newline (c ∷ cs) e = let p = and_parts (is_printed c) (list_all is_printed cs) e in (printed_is_not_newline c p.0, printed_lacks_newline cs p.1)
 
 words_again : (first : List ℕ) (forms : List Form) (words : List Word) → IsWord first → AreReadAs forms words → words_in (first ++ words_text words) ≡ first ∷ map word_text words
 words_again [] forms words w r = absurd (omega (arith, w.some))
@@ -62,11 +61,11 @@ words_again (x ∷ xs) (f ∷ fs) (v ∷ vs) w r =
     ∙ ap (λ (l : List (List ℕ)). (x ∷ xs) ∷ l) (words_again (word_text v) fs vs r.0.word r.1)
 
 words_are_printed : (first : List ℕ) (forms : List Form) (words : List Word) → IsWord first → AreReadAs forms words → list_all is_printed (first ++ words_text words) ≡ true
-words_are_printed first [] [] w r = list_all-append is_printed first [] ∙ both _ _ (graphic_are_printed first w.graphic) refl
+words_are_printed first [] [] w r = list_all-append is_printed first [] ∙ and_from _ _ (graphic_are_printed first w.graphic) refl
 words_are_printed first [] (v ∷ vs) w r = absurd r
 words_are_printed first (f ∷ fs) [] w r = absurd r
 words_are_printed first (f ∷ fs) (v ∷ vs) w r =
-    list_all-append is_printed first (space ∷ (word_text v ++ words_text vs)) ∙ both _ _ (graphic_are_printed first w.graphic) (words_are_printed (word_text v) fs vs r.0.word r.1)
+    list_all-append is_printed first (space ∷ (word_text v ++ words_text vs)) ∙ and_from _ _ (graphic_are_printed first w.graphic) (words_are_printed (word_text v) fs vs r.0.word r.1)
 
 fits_again : (forms : List Form) (words : List Word) → AreReadAs forms words → fits forms (map word_text words) ≡ Some words
 fits_again [] [] r = refl

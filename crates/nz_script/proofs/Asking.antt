@@ -1,6 +1,7 @@
 -- A command whose words are written is read again.
 use Rattle.std.proofs.Common.{◌≡◌, ℕ, Bool, true, cond, List, [], ◌∷◌, ◌++◌, map, Option, Some, None, refl, ap, ◌∙◌}
 use Rattle.std.specs.Prelude.{◌&&◌}
+use Rattle.std.proofs.lemmas.Bool.{and_from, and_parts}
 use Rattle.nz_store.specs.declared.command.Command.{Command}
 use Rattle.nz_store.specs.declared.command.Command.TheVariants as command
 use Rattle.nz_store.specs.Reading.{is_key_text, is_value_text, is_choice_text, has_spelling}
@@ -17,7 +18,6 @@ use Rattle.nz_script.specs.Lines.{a_line}
 use Rattle.nz_script.specs.Drafts.{all_within, command_in}
 use Rattle.nz_script.specs.Texts.{word_text, choice_of, command_line}
 use Rattle.nz_script.specs.Commands.{fits_first, asked, command_of_sort, command_first}
-use Rattle.nz_script.proofs.Passing.{both, both_of}
 use Rattle.nz_script.proofs.Readable.{key_read, value_read}
 use Rattle.nz_script.proofs.Again.{AreReadAs, first_word}
 use Rattle.nz_script.proofs.Blocks.{choice_again, choice_is_read, choice_within}
@@ -48,19 +48,19 @@ cas_again key old new = ap (λ (o : Option (List ℕ)). command.Cas key o (choic
 
 pub asked_by : (c : Command) → has_spelling c ≡ true → IsAskedBy c
 asked_by (command.Put key value) e =
-    let p = both_of (is_key_text key) (is_value_text value) e in
-    record { ask = Put; words = word.Text key ∷ word.Text value ∷ []; line = refl; read = (key_read key p.0, (value_read value p.1, tt)); within = both _ _ p.0 (both _ _ p.1 refl); means = refl }
-asked_by (command.Get key) e = record { ask = Get; words = word.Text key ∷ []; line = refl; read = (key_read key e, tt); within = both _ _ e refl; means = refl }
-asked_by (command.Del key) e = record { ask = Del; words = word.Text key ∷ []; line = refl; read = (key_read key e, tt); within = both _ _ e refl; means = refl }
+    let p = and_parts (is_key_text key) (is_value_text value) e in
+    record { ask = Put; words = word.Text key ∷ word.Text value ∷ []; line = refl; read = (key_read key p.0, (value_read value p.1, tt)); within = and_from _ _ p.0 (and_from _ _ p.1 refl); means = refl }
+asked_by (command.Get key) e = record { ask = Get; words = word.Text key ∷ []; line = refl; read = (key_read key e, tt); within = and_from _ _ e refl; means = refl }
+asked_by (command.Del key) e = record { ask = Del; words = word.Text key ∷ []; line = refl; read = (key_read key e, tt); within = and_from _ _ e refl; means = refl }
 asked_by (command.Cas key old new) e =
-    let p = both_of (is_key_text key && is_choice_text old) (is_choice_text new) e in
-    let q = both_of (is_key_text key) (is_choice_text old) p.0 in
+    let p = and_parts (is_key_text key && is_choice_text old) (is_choice_text new) e in
+    let q = and_parts (is_key_text key) (is_choice_text old) p.0 in
     record {
       ask = Cas;
       words = word.Text key ∷ choice_of old ∷ choice_of new ∷ [];
       line = refl;
       read = (key_read key q.0, (choice_is_read old q.1, (choice_is_read new p.1, tt)));
-      within = both _ _ q.0 (both _ _ (choice_within old q.1) (both _ _ (choice_within new p.1) refl));
+      within = and_from _ _ q.0 (and_from _ _ (choice_within old q.1) (and_from _ _ (choice_within new p.1) refl));
       means = cas_again key old new;
     }
 

@@ -2,7 +2,7 @@
 use Rattle.std.proofs.Common.{◌≡◌, ℕ, ◌+◌, ◌<◌, ◌≤◌, Bool, true, false, cond, List, [], ◌∷◌, ◌++◌, Ok, refl, sym, ap, subst, ◌∙◌, arith, length, map, take_all}
 use Rattle.std.specs.Prelude.{◌&&◌, nat_le, nat_lt}
 use Rattle.std.specs.List.{list_all}
-use Rattle.std.proofs.lemmas.Bool.{eqb-true}
+use Rattle.std.proofs.lemmas.Bool.{eqb-true, and_parts, leb-true}
 use Rattle.nz_base.specs.declared.scenario.Scenario.{Scenario}
 use Rattle.nz_script.specs.declared.shape.Place.TheVariants as place
 use Rattle.nz_script.specs.declared.shape.Verb.TheVariants as verb
@@ -14,9 +14,8 @@ use Rattle.nz_script.specs.Drafts.{start, scenario_of, has_room_for_requests, ha
 use Rattle.nz_script.specs.Reading.{reading, scenario}
 use Rattle.nz_script.specs.Texts.{version_of, head_lines, skew_line, scripts_lines, fault_line, lines_of, text_of_lines, text_of}
 use Rattle.nz_script.specs.Valid.{group_of, is_sound, has_group, has_skews, are_apart, are_requests, request_count, has_few, has_faults, is_short, is_valid, IsValid}
-use Rattle.nz_script.proofs.Passing.{both_of}
 use Rattle.nz_script.proofs.Again.{lines_again, tail_again, reading_again}
-use Rattle.nz_script.proofs.Sections.{a_draft, no_fault, below_most, group_parts, group_small, head_taken, skews_taken, IsTakenTo, then_taken}
+use Rattle.nz_script.proofs.Sections.{a_draft, no_fault, group_parts, group_small, head_taken, skews_taken, IsTakenTo, then_taken}
 use Rattle.nz_script.proofs.Blocks.{closed, other_count, same_count, scripts_taken}
 use Rattle.nz_script.proofs.Mishaps.{mishaps, faults_taken}
 
@@ -31,11 +30,11 @@ record IsValidIn (s : Scenario) : Type 0 where
 
 valid_parts : (s : Scenario) → is_valid s ≡ true → IsValidIn s
 valid_parts s e =
-    let p = both_of ((has_group s && has_skews s) && (list_all are_requests s.scripts && has_few s)) (has_faults s && is_short s) e in
-    let q = both_of (has_group s && has_skews s) (list_all are_requests s.scripts && has_few s) p.0 in
-    let x = both_of (has_group s) (has_skews s) q.0 in
-    let y = both_of (list_all are_requests s.scripts) (has_few s) q.1 in
-    let z = both_of (has_faults s) (is_short s) p.1 in
+    let p = and_parts ((has_group s && has_skews s) && (list_all are_requests s.scripts && has_few s)) (has_faults s && is_short s) e in
+    let q = and_parts (has_group s && has_skews s) (list_all are_requests s.scripts && has_few s) p.0 in
+    let x = and_parts (has_group s) (has_skews s) q.0 in
+    let y = and_parts (list_all are_requests s.scripts) (has_few s) q.1 in
+    let z = and_parts (has_faults s) (is_short s) p.1 in
     record { group = x.0; skews = x.1; requests = y.0; few = y.1; faults = z.0; short = z.1 }
 
 -- all that was read of a scenario
@@ -49,9 +48,9 @@ lines_taken s ok =
     let h = group_parts s ok.group in
     let small = group_small s h in
     let r = request_count s.scripts in
-    let k = both_of (list_all (λ k. is_sound (group_of s) (skew_line k)) s.skews) (are_apart s.skews) ok.skews in
-    let f = both_of (has_room_for_requests r s.ticks) (has_room_for_faults r (length s.faults)) ok.few in
-    let some : 0 < s.clients = omega (arith, below_most 1 s.clients (both_of (nat_le 1 s.clients) (nat_le s.clients 64) h.clients).0) in
+    let k = and_parts (list_all (λ k. is_sound (group_of s) (skew_line k)) s.skews) (are_apart s.skews) ok.skews in
+    let f = and_parts (has_room_for_requests r s.ticks) (has_room_for_faults r (length s.faults)) ok.few in
+    let some : 0 < s.clients = omega (arith, leb-true 1 s.clients (and_parts (nat_le 1 s.clients) (nat_le s.clients 64) h.clients).0) in
     let scripts : length s.scripts ≡ s.clients = eqb-true (length s.scripts) s.clients h.scripts in
     let first : a_draft place.Between v g s.ticks s.skews [] [] 0 0 [] ≡ closed v g s.ticks s.skews 0 [] 0
     = sym (ap (λ (b : Bool). a_draft (cond b place.Mishaps place.Between) v g s.ticks s.skews [] [] 0 0 []) (other_count 0 s.clients some)) in
@@ -82,7 +81,7 @@ read_back s e =
     let v = valid_parts s e in
     let t = lines_taken s v in
     let text = text_of_lines (lines_of s) in
-    let short : length text ≤ 1048576 = below_most (length text) 1048576 v.short in
+    let short : length text ≤ 1048576 = leb-true (length text) 1048576 v.short in
     ap (λ (x : List ℕ). reading (nat_lt 1048576 (length text)) (tail_in x) 1 start (lines_in x)) (take_all 1048576 text short)
     ∙ ap (λ (b : Bool). reading b (tail_in text) 1 start (lines_in text)) (not_longer (length text) 1048576 short)
     ∙ ap (λ (x : List ℕ). reading false x 1 start (lines_in text)) (tail_again (lines_of s))

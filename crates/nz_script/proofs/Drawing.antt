@@ -1,10 +1,11 @@
 -- What is drawn one after another is the drawn list, and what is drawn can be spelled.
 use Rattle.std.proofs.Common.{◌≡◌, ℕ, zero, suc, ◌+◌, ◌-◌, ◌<◌, ◌≤◌, ◌^◌, Bool, true, false, cond, List, [], ◌∷◌, ◌++◌, refl, sym, ap, ◌∙◌, arith, length, append_assoc}
-use Rattle.std.specs.Prelude.{nat_le, ◌==◌}
+use Rattle.std.specs.Prelude.{◌==◌}
 use Rattle.std.specs.List.{list_all}
 use Rattle.std.specs.Char.{is_ascii_digit}
 use Rattle.std.specs.Fmt.{decimal}
 use Rattle.std.proofs.lemmas.Fmt.{digits_decimal, length-decimal-le}
+use Rattle.std.proofs.lemmas.Bool.{and_from, le-leb}
 use Rattle.nz_base.specs.declared.scenario.Request.{Request}
 use Rattle.nz_base.specs.declared.scenario.Fault.{Fault}
 use Rattle.nz_store.specs.declared.command.Command.{Command}
@@ -13,7 +14,6 @@ use Rattle.nz_store.specs.Reading.{is_text, is_key_text, is_value_text, has_spel
 use Rattle.nz_store.proofs.Texts.{tells_valid}
 use Rattle.nz_script.specs.Draws.{next, after, key_of, value_of, command_for, request_for, requests_for, script_for, scripts_for, fault_for, faults_for}
 use Rattle.nz_script.proofs.Numerals.{own, all-digits}
-use Rattle.nz_script.proofs.Passing.{both}
 
 gap : (j n : ℕ) → j < n → n - j ≡ suc (n - (j + 1))
 gap j n lt = omega (arith, lt)
@@ -54,7 +54,7 @@ digits_are_graphic [] e = refl
 digits_are_graphic (d ∷ ds) e =
     let h : is_ascii_digit d ≡ true = grind (arith, e) in
     let t : list_all is_ascii_digit ds ≡ true = grind (arith, e) in
-    both _ _ (digit_is_graphic d h) (digits_are_graphic ds t)
+    and_from _ _ (digit_is_graphic d h) (digits_are_graphic ds t)
 
 pub decimal_digits : (n : ℕ) → n < 2 ^ 64 → list_all is_ascii_digit (decimal n) ≡ true
 decimal_digits n small = all-digits (decimal n) ∙ digits_decimal own n small
@@ -65,18 +65,15 @@ decimal_graphic n small = digits_are_graphic (decimal n) (decimal_digits n small
 pub decimal_short : (n : ℕ) → n < 2 ^ 64 → length (decimal n) ≤ 20
 decimal_short n small = length-decimal-le 20 n (omega arith) (omega (arith, small)) small
 
-at_most : (n m : ℕ) → n ≤ m → nat_le n m ≡ true
-at_most n m h = grind (arith, h)
-
 lettered_text : (most letter n : ℕ) → 21 ≤ most → is_graphic letter ≡ true → n < 2 ^ 64 → is_text most (letter ∷ decimal n) ≡ true
 lettered_text most letter n long graphic small =
-    both _ _ (both _ _ (at_most 1 (suc (length (decimal n))) (omega arith)) (at_most (suc (length (decimal n))) most (omega (arith, long, decimal_short n small)))) (both _ _ graphic (decimal_graphic n small))
+    and_from _ _ (and_from _ _ (le-leb 1 (suc (length (decimal n))) (omega arith)) (le-leb (suc (length (decimal n))) most (omega (arith, long, decimal_short n small)))) (and_from _ _ graphic (decimal_graphic n small))
 
 key_text : (b : ℕ) → b < 2 ^ 64 → is_key_text (key_of b) ≡ true
 key_text b small = lettered_text 32 107 b (omega arith) refl small
 
 value_text : (i : ℕ) → i < 2 ^ 64 → is_value_text (value_of i) ≡ true
-value_text i small = both _ _ (lettered_text 256 118 i (omega arith) refl small) refl
+value_text i small = and_from _ _ (lettered_text 256 118 i (omega arith) refl small) refl
 
 choice : (t : Bool) (x y : Command) → has_spelling x ≡ true → has_spelling y ≡ true → has_spelling (cond t x y) ≡ true
 choice true x y h k = h
@@ -85,6 +82,6 @@ choice false x y h k = k
 pub command_for_is_valid : (a b i : ℕ) → b < 2 ^ 64 → i < 2 ^ 64 → IsValid (command_for a b i)
 command_for_is_valid a b i sb si =
     (tells_valid (command_for a b i)).0 (
-    choice (a == 0) _ _ (both _ _ (key_text b sb) (value_text i si)) (
+    choice (a == 0) _ _ (and_from _ _ (key_text b sb) (value_text i si)) (
     choice (a == 1) _ _ (key_text b sb) (
-    choice (a == 2) _ _ (key_text b sb) (both _ _ (both _ _ (key_text b sb) refl) (value_text i si)))))
+    choice (a == 2) _ _ (key_text b sb) (and_from _ _ (and_from _ _ (key_text b sb) refl) (value_text i si)))))

@@ -3,7 +3,7 @@ use Rattle.std.proofs.Common.{◌≡◌, ℕ, zero, suc, ◌+◌, ◌*◌, ◌/�
 use Rattle.std.specs.Prelude.{◌==◌, is_some, sum_by}
 use Rattle.std.specs.List.{list_all}
 use Rattle.std.proofs.Math.Nat.{mul-le-mul_right}
-use Rattle.std.proofs.lemmas.Bool.{eqb-true}
+use Rattle.std.proofs.lemmas.Bool.{eqb-true, and_from, and_parts, le-leb}
 use Rattle.std.proofs.lemmas.List.Sums.{sum_by-cons}
 use Rattle.nz_base.specs.declared.scenario.Request.{Request}
 use Rattle.nz_store.specs.Grammar.{spelling}
@@ -11,9 +11,7 @@ use Rattle.nz_store.proofs.Spellings.{reading_from_spells}
 use Rattle.nz_script.specs.declared.group.Group.{Group}
 use Rattle.nz_script.specs.Draws.{next, drawn, command_for, request_for, requests_for, script_for, scripts_for, faults_for, after, generated}
 use Rattle.nz_script.specs.Valid.{group_of, is_request, are_requests, calls_known, IsRunnable}
-use Rattle.nz_script.proofs.Passing.{both, both_of}
-use Rattle.nz_script.proofs.Sections.{is_most}
-use Rattle.nz_script.proofs.Drawing.{command_for_is_valid}
+use Rattle.nz_script.proofs.Drawing.{command_for_is_valid, length-requests_for}
 
 -- ---- requests
 
@@ -25,21 +23,21 @@ request_is_one x i small =
 
 requests_are_some : (x i n : ℕ) → i + n < 2 ^ 64 → are_requests (requests_for x i n) ≡ true
 requests_are_some x i zero small = refl
-requests_are_some x i (suc n) small = both _ _ (request_is_one x i (omega (arith, small))) (requests_are_some (next (next x)) (i + 1) n (omega (arith, small)))
+requests_are_some x i (suc n) small = and_from _ _ (request_is_one x i (omega (arith, small))) (requests_are_some (next (next x)) (i + 1) n (omega (arith, small)))
 
 taken_or_not : (taken : Bool) (r : Request) (rest : List Request) → is_request r ≡ true → are_requests rest ≡ true → are_requests (cond taken (r ∷ rest) rest) ≡ true
-taken_or_not true r rest e h = both _ _ e h
+taken_or_not true r rest e h = and_from _ _ e h
 taken_or_not false r rest e h = h
 
 script_is_some : (client i : ℕ) (rs : List Request) → are_requests rs ≡ true → are_requests (script_for client i rs) ≡ true
 script_is_some client i [] e = refl
 script_is_some client i (r ∷ rs) e =
-    let p = both_of (is_request r) (are_requests rs) e in
+    let p = and_parts (is_request r) (are_requests rs) e in
     taken_or_not (i % 16 == client) r (script_for client (i + 1) rs) p.0 (script_is_some client (i + 1) rs p.1)
 
 scripts_are_some : (client n : ℕ) (rs : List Request) → are_requests rs ≡ true → list_all are_requests (scripts_for client n rs) ≡ true
 scripts_are_some client zero rs e = refl
-scripts_are_some client (suc n) rs e = both _ _ (script_is_some client 0 rs e) (scripts_are_some (client + 1) n rs e)
+scripts_are_some client (suc n) rs e = and_from _ _ (script_is_some client 0 rs e) (scripts_are_some (client + 1) n rs e)
 
 -- ---- how many
 
@@ -102,10 +100,6 @@ held_few i client n (r ∷ rs) =
     let rest = held_few (i + 1) client n rs in
     omega (arith, more, once, rest)
 
-requests_long : (x i n : ℕ) → length (requests_for x i n) ≡ n
-requests_long x i zero = refl
-requests_long x i (suc n) = ap suc (requests_long (next (next x)) (i + 1) n)
-
 -- ---- faults
 
 faults_long : (count x j n : ℕ) → length (faults_for count x j n) ≡ n
@@ -124,15 +118,15 @@ generated_runnable seed count few =
     let scripts = scripts_for 0 16 rs in
     let all = held_is 0 16 rs in
     let held_all = held_few 0 0 16 rs in
-    let long = requests_long seed 0 count in
+    let long = length-requests_for seed 0 count in
     let total : sum_by length scripts ≤ 2000 = omega (arith, few, all, held_all, long) in
     let lost = faults_long count (after count seed) 0 (count / 50) in
     let short : length (faults_for count (after count seed) 0 (count / 50)) ≤ 40 = omega (arith, lost, few) in
     record {
       group = refl;
       requests = scripts_are_some 0 16 rs (requests_are_some seed 0 count (omega (arith, few)));
-      few = both _ _ (both _ _ (is_most (sum_by length scripts) 2000 total) (is_most (sum_by length scripts * 1000) 2000000 (omega (arith, total))))
-          (both _ _ (is_most _ 1000 (omega (arith, short))) (is_most (sum_by length scripts * length (faults_for count (after count seed) 0 (count / 50))) 200000 (product (sum_by length scripts) (length (faults_for count (after count seed) 0 (count / 50))) total short)));
+      few = and_from _ _ (and_from _ _ (le-leb (sum_by length scripts) 2000 total) (le-leb (sum_by length scripts * 1000) 2000000 (omega (arith, total))))
+          (and_from _ _ (le-leb _ 1000 (omega (arith, short))) (le-leb (sum_by length scripts * length (faults_for count (after count seed) 0 (count / 50))) 200000 (product (sum_by length scripts) (length (faults_for count (after count seed) 0 (count / 50))) total short)));
       calls = faults_call_nobody (group_of (generated seed count)) count (after count seed) 0 (count / 50);
     }
   where

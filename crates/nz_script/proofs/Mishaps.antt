@@ -4,6 +4,7 @@ use Rattle.std.specs.Prelude.{◌&&◌, nat_le}
 use Rattle.std.specs.List.{list_all}
 use Rattle.std.proofs.Math.Nat.{mul-le-mul_left}
 use Rattle.std.proofs.lemmas.List.{append-nil}
+use Rattle.std.proofs.lemmas.Bool.{and_from, and_parts, le-leb, leb-true}
 use Rattle.nz_base.specs.declared.actor.Actor.{Actor}
 use Rattle.nz_base.specs.declared.scenario.Skew.{Skew}
 use Rattle.nz_base.specs.declared.scenario.Request.{Request}
@@ -22,10 +23,9 @@ use Rattle.nz_script.specs.Forms.{actors_as}
 use Rattle.nz_script.specs.Drafts.{version_has, in_order, is_new_skew, has_room, knows, is_server, is_replica, is_known, all_known, all_within, is_span, fault_in, has_room_for_faults, with_words}
 use Rattle.nz_script.specs.Texts.{actors_of, fault_line}
 use Rattle.nz_script.specs.Valid.{is_sound}
-use Rattle.nz_script.proofs.Passing.{both, both_of}
 use Rattle.nz_script.proofs.Readable.{IsReadAs, number_read, one_actor_read, actors_read, everyone_read, server_read, replica_read, kind_read}
 use Rattle.nz_script.proofs.Again.{AreReadAs, AreTaken, after_lines}
-use Rattle.nz_script.proofs.Sections.{a_draft, kept, no_fault, is_most, below_most, between_most, known_small, IsTakenTo, IsSmall}
+use Rattle.nz_script.proofs.Sections.{a_draft, kept, no_fault, between_most, known_small, IsTakenTo, IsSmall}
 
 -- the sort of the fault's line
 abbrev mishap_of : Fault → Mishap
@@ -44,10 +44,10 @@ record IsFaultRead (f : Fault) : Type 0 where
   again : fault_in (mishap_of f) (fault_line f).words ≡ f
 
 half : (a b : Bool) → (a && b) ≡ true → a ≡ true
-half a b e = (both_of a b e).0
+half a b e = (and_parts a b e).0
 
 rest : (a b : Bool) → (a && b) ≡ true → b ≡ true
-rest a b e = (both_of a b e).1
+rest a b e = (and_parts a b e).1
 
 number : (l m n : ℕ) → m ≤ 16777216 → is_between l m n ≡ true → n ≤ 16777216
 number l m n h e = omega (arith, h, between_most l m n e)
@@ -67,10 +67,10 @@ record IsParcel (a b : Actor) (k : ℕ) : Type 0 where
 
 parcel : (g : Group) (a b : Actor) (k : ℕ) (more : Bool) → IsSmall g → (knows g a && (knows g b && (is_between 1 18 k && more))) ≡ true → IsParcel a b k
 parcel g a b k more small e =
-    let p = both_of (knows g a) (knows g b && (is_between 1 18 k && more)) e in
-    let q = both_of (knows g b) (is_between 1 18 k && more) p.1 in
-    let r = both_of (nat_le 1 k) (nat_le k 18) (half (is_between 1 18 k) more q.1) in
-    record { from = known_small g a small p.0; to = known_small g b small q.0; low = below_most 1 k r.0; high = below_most k 18 r.1 }
+    let p = and_parts (knows g a) (knows g b && (is_between 1 18 k && more)) e in
+    let q = and_parts (knows g b) (is_between 1 18 k && more) p.1 in
+    let r = and_parts (nat_le 1 k) (nat_le k 18) (half (is_between 1 18 k) more q.1) in
+    record { from = known_small g a small p.0; to = known_small g b small q.0; low = leb-true 1 k r.0; high = leb-true k 18 r.1 }
 
 actors_part : (g : Group) (o : Option Actor) → IsSmall g → is_known g form.Actors (actors_of o) ≡ true → IsReadAs form.Actors (actors_of o)
 actors_part g None small e = everyone_read
@@ -119,7 +119,7 @@ fault_read g (fault.Cut a b k n d) small e h =
       again = ap (λ (m : ℕ). fault.Cut a b k m (wide d)) (number_again n c) ∙ ap (λ (m : ℕ). fault.Cut a b k n m) (number_again d l);
     }
 fault_read g (fault.Block a b first last) small e h =
-    let p = both_of (is_known g form.Actors (actors_of a)) (is_known g form.Actors (actors_of b) && true) e in
+    let p = and_parts (is_known g form.Actors (actors_of a)) (is_known g form.Actors (actors_of b) && true) e in
     let q = half (is_known g form.Actors (actors_of b)) true p.1 in
     let c = number 1 20000 first (omega arith) (half (is_between 1 20000 first) (is_between 1 20000 last && true) h) in
     let l = number 1 20000 last (omega arith) (half (is_between 1 20000 last) true (rest (is_between 1 20000 first) (is_between 1 20000 last && true) h)) in
@@ -198,16 +198,16 @@ with_fault v g t ks ss r fs (fault.Alarm a x) = refl
 
 fewer_faults : (r a b : ℕ) → a ≤ b → has_room_for_faults r b ≡ true → has_room_for_faults r a ≡ true
 fewer_faults r a b h e =
-    let p = both_of (nat_le b 1000) (nat_le (r * b) 200000) e in
-    both _ _ (is_most a 1000 (omega (arith, h, below_most b 1000 p.0))) (is_most (r * a) 200000 (omega (arith, mul-le-mul_left r h, below_most (r * b) 200000 p.1)))
+    let p = and_parts (nat_le b 1000) (nat_le (r * b) 200000) e in
+    and_from _ _ (le-leb a 1000 (omega (arith, h, leb-true b 1000 p.0))) (le-leb (r * a) 200000 (omega (arith, mul-le-mul_left r h, leb-true (r * b) 200000 p.1)))
 
 pub faults_taken : (v : ℕ) (g : Group) (t : ℕ) (ks : List Skew) (ss : List (List Request)) (r : ℕ) (done fs : List Fault) → IsSmall g → list_all (λ f. is_sound g (fault_line f)) fs ≡ true
     → has_room_for_faults r (length done + length fs) ≡ true → IsTakenTo (mishaps v g t ks ss r done) (map fault_line fs) (mishaps v g t ks ss r (done ++ fs))
 faults_taken v g t ks ss r done [] small e room = record { taken = tt; after = ap (mishaps v g t ks ss r) (sym (append-nil done)) }
 faults_taken v g t ks ss r done (f ∷ fs) small e room =
-    let p = both_of (is_sound g (fault_line f)) (list_all (λ f. is_sound g (fault_line f)) fs) e in
-    let q = both_of (known g f) (within f && is_span (fault_line f).verb (fault_line f).words) p.0 in
-    let w = both_of (within f) (is_span (fault_line f).verb (fault_line f).words) q.1 in
+    let p = and_parts (is_sound g (fault_line f)) (list_all (λ f. is_sound g (fault_line f)) fs) e in
+    let q = and_parts (known g f) (within f && is_span (fault_line f).verb (fault_line f).words) p.0 in
+    let w = and_parts (within f) (is_span (fault_line f).verb (fault_line f).words) q.1 in
     let x = fault_read g f small q.0 w.0 in
     let step : with_words (mishaps v g t ks ss r done) (fault_line f).verb (fault_line f).words ≡ mishaps v g t ks ss r (done ++ f ∷ [])
     = with_fault v g t ks ss r done f ∙ ap (λ (y : Fault). mishaps v g t ks ss r (done ++ y ∷ [])) x.again in
@@ -217,8 +217,8 @@ faults_taken v g t ks ss r done (f ∷ fs) small e room =
     record {
       taken = (
         x.reads,
-        no_fault (mishaps v g t ks ss r done) (fault_line f) (any_version v f) (ordered v g t ks ss r done f) (both _ _ q.0 (no_skew (mishaps v g t ks ss r done) f))
-            (both _ _ q.1 (room_of (mishaps v g t ks ss r done) f ∙ fewer_faults r (length done + 1) (length done + length (f ∷ fs)) (omega arith) room)),
+        no_fault (mishaps v g t ks ss r done) (fault_line f) (any_version v f) (ordered v g t ks ss r done f) (and_from _ _ q.0 (no_skew (mishaps v g t ks ss r done) f))
+            (and_from _ _ q.1 (room_of (mishaps v g t ks ss r done) f ∙ fewer_faults r (length done + 1) (length done + length (f ∷ fs)) (omega arith) room)),
         subst (λ (d : Draft). AreTaken d (map fault_line fs)) (sym step) more.taken,
       );
       after = ap (λ (d : Draft). after_lines d (map fault_line fs)) step ∙ more.after ∙ ap (mishaps v g t ks ss r) (append_assoc done (f ∷ []) fs);

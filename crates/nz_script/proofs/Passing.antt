@@ -1,7 +1,7 @@
 -- What the tests of a line show.
 use Rattle.std.proofs.Common.{◌≡◌, Bool, true, false, cond, not, List, [], ◌∷◌, Some, None, refl}
 use Rattle.std.specs.Prelude.{◌&&◌}
-use Rattle.std.proofs.lemmas.Bool.{false≢true}
+use Rattle.std.proofs.lemmas.Bool.{false≢true, and_from, and_parts}
 use Rattle.nz_store.specs.Grammar.{IsValid}
 use Rattle.nz_store.specs.Reading.{is_key_text, is_value_text, is_choice_text, has_spelling}
 use Rattle.nz_store.proofs.Texts.{tells_valid}
@@ -16,14 +16,6 @@ use Rattle.nz_script.specs.Shapes.{ask_shape_of, forms_of}
 use Rattle.nz_script.specs.Forms.{text_as, choice_as}
 use Rattle.nz_script.specs.Drafts.{has_key, has_value, has_choice, all_within, command_in, within_limits, has_room, is_span}
 use Rattle.nz_script.specs.Reading.{fault_of}
-
-pub both_of : (a b : Bool) → (a && b) ≡ true → (a ≡ true) × (b ≡ true)
-both_of true b e = (refl, e)
-both_of false b e = absurd (false≢true e)
-
-pub both : (a b : Bool) → a ≡ true → b ≡ true → (a && b) ≡ true
-both true b e h = h
-both false b e h = e
 
 key-text : (w : Word) → has_key w ≡ true → is_key_text (text_as (Some w)) ≡ true
 key-text (Text t) e = e
@@ -54,21 +46,21 @@ choice-text Nothing e = refl
 
 spelled : (ask : Ask) (words : List Word) → all_within (ask_shape_of ask).2 words ≡ true → has_spelling (command_in ask words) ≡ true
 spelled Put [] e = absurd (false≢true e)
-spelled Put (k ∷ []) e = absurd (false≢true (both_of (has_key k) false e).1)
+spelled Put (k ∷ []) e = absurd (false≢true (and_parts (has_key k) false e).1)
 spelled Put (k ∷ v ∷ more) e =
-    let p = both_of (has_key k) (has_value v && true) e in
-    both _ _ (key-text k p.0) (value-text v (both_of (has_value v) true p.1).0)
+    let p = and_parts (has_key k) (has_value v && true) e in
+    and_from _ _ (key-text k p.0) (value-text v (and_parts (has_value v) true p.1).0)
 spelled Get [] e = absurd (false≢true e)
-spelled Get (k ∷ more) e = key-text k (both_of (has_key k) true e).0
+spelled Get (k ∷ more) e = key-text k (and_parts (has_key k) true e).0
 spelled Del [] e = absurd (false≢true e)
-spelled Del (k ∷ more) e = key-text k (both_of (has_key k) true e).0
+spelled Del (k ∷ more) e = key-text k (and_parts (has_key k) true e).0
 spelled Cas [] e = absurd (false≢true e)
-spelled Cas (k ∷ []) e = absurd (false≢true (both_of (has_key k) false e).1)
-spelled Cas (k ∷ old ∷ []) e = absurd (false≢true (both_of (has_choice old) false (both_of (has_key k) (has_choice old && false) e).1).1)
+spelled Cas (k ∷ []) e = absurd (false≢true (and_parts (has_key k) false e).1)
+spelled Cas (k ∷ old ∷ []) e = absurd (false≢true (and_parts (has_choice old) false (and_parts (has_key k) (has_choice old && false) e).1).1)
 spelled Cas (k ∷ old ∷ new ∷ more) e =
-    let p = both_of (has_key k) (has_choice old && (has_choice new && true)) e in
-    let q = both_of (has_choice old) (has_choice new && true) p.1 in
-    both _ _ (both _ _ (key-text k p.0) (choice-text old q.0)) (choice-text new (both_of (has_choice new) true q.1).0)
+    let p = and_parts (has_key k) (has_choice old && (has_choice new && true)) e in
+    let q = and_parts (has_choice old) (has_choice new && true) p.1 in
+    and_from _ _ (and_from _ _ (key-text k p.0) (choice-text old q.0)) (choice-text new (and_parts (has_choice new) true q.1).0)
 
 -- a command whose key and values are in range can be spelled
 pub command_is_valid : (ask : Ask) (words : List Word) → all_within (ask_shape_of ask).2 words ≡ true → IsValid (command_in ask words)
@@ -86,7 +78,7 @@ pub passed : (d : Draft) (line : Line) → fault_of d line ≡ None → within_l
 passed d line e = last_passed _ _ _ _ e
 
 pub passed_forms : (d : Draft) (line : Line) → fault_of d line ≡ None → all_within (forms_of line.verb) line.words ≡ true
-passed_forms d line e = (both_of (all_within (forms_of line.verb) line.words) (is_span line.verb line.words) (both_of (all_within (forms_of line.verb) line.words && is_span line.verb line.words) (has_room d line.verb) (passed d line e)).0).0
+passed_forms d line e = (and_parts (all_within (forms_of line.verb) line.words) (is_span line.verb line.words) (and_parts (all_within (forms_of line.verb) line.words && is_span line.verb line.words) (has_room d line.verb) (passed d line e)).0).0
 
 pub passed_room : (d : Draft) (line : Line) → fault_of d line ≡ None → has_room d line.verb ≡ true
-passed_room d line e = (both_of (all_within (forms_of line.verb) line.words && is_span line.verb line.words) (has_room d line.verb) (passed d line e)).1
+passed_room d line e = (and_parts (all_within (forms_of line.verb) line.words && is_span line.verb line.words) (has_room d line.verb) (passed d line e)).1

@@ -5,7 +5,7 @@ use Rattle.std.specs.List.{list_all}
 use Rattle.std.specs.Char.{is_ascii_digit}
 use Rattle.std.specs.Str.{bytes_eq}
 use Rattle.std.specs.Fmt.{decimal}
-use Rattle.std.proofs.lemmas.Bool.{false≢true}
+use Rattle.std.proofs.lemmas.Bool.{and_from, and_parts, le-leb, not-true}
 use Rattle.std.proofs.lemmas.Fmt.{decimal_digit, decimal_nonempty, first_decimal, length-decimal-le, digits_value-decimal}
 use Rattle.nz_base.specs.declared.actor.Actor.{Actor}
 use Rattle.nz_base.specs.declared.actor.Actor.TheVariants as actor
@@ -21,7 +21,6 @@ use Rattle.nz_script.specs.Messages.{kind_named, name_of}
 use Rattle.nz_script.specs.Forms.{word_of, number_word, units_word, actor_named, actor_word, actors_word, lettered, ◌>>=◌}
 use Rattle.nz_script.specs.Texts.{word_text, actor_text}
 use Rattle.nz_script.proofs.Numerals.{own}
-use Rattle.nz_script.proofs.Passing.{both, both_of}
 use Rattle.nz_script.proofs.Drawing.{decimal_digits, decimal_graphic}
 
 -- ---- numerals
@@ -35,14 +34,11 @@ decimal_leads : (n : ℕ) → n < 2 ^ 64 → is_without_leading_zero (decimal n)
 decimal_leads zero h = ap is_without_leading_zero (decimal_digit 0 (omega arith))
 decimal_leads (suc n) h = no_zero_first (decimal (suc n)) (first_decimal (suc n) (omega arith) h)
 
-is_at_most : (n m : ℕ) → n ≤ m → nat_le n m ≡ true
-is_at_most n m h = grind (arith, h)
-
 numeral_decimal : (n : ℕ) → n < 2 ^ 63 → is_numeral (decimal n) ≡ true
 numeral_decimal n h =
     let small : n < 2 ^ 64 = omega (arith, h) in
-    both _ _ (both _ _ (is_at_most 1 (length (decimal n)) (decimal_nonempty n small)) (is_at_most (length (decimal n)) 19 (length-decimal-le 19 n (omega arith) (omega (arith, h)) small)))
-    (both _ _ (decimal_digits n small) (decimal_leads n small))
+    and_from _ _ (and_from _ _ (le-leb 1 (length (decimal n)) (decimal_nonempty n small)) (le-leb (length (decimal n)) 19 (length-decimal-le 19 n (omega arith) (omega (arith, h)) small)))
+    (and_from _ _ (decimal_digits n small) (decimal_leads n small))
 
 pub number_of-decimal : (n : ℕ) → n < 2 ^ 63 → number_of (decimal n) ≡ Some n
 unfolding number_of
@@ -64,7 +60,7 @@ decimal_word : (n : ℕ) → n < 2 ^ 63 → IsWord (decimal n)
 decimal_word n h = record { some = decimal_nonempty n (omega (arith, h)); graphic = decimal_graphic n (omega (arith, h)) }
 
 lettered_word : (letter n : ℕ) → is_graphic letter ≡ true → n < 2 ^ 63 → IsWord (letter ∷ decimal n)
-lettered_word letter n g h = record { some = omega arith; graphic = both _ _ g (decimal_graphic n (omega (arith, h))) }
+lettered_word letter n g h = record { some = omega arith; graphic = and_from _ _ g (decimal_graphic n (omega (arith, h))) }
 
 pub number_read : (least most n : ℕ) → n < 2 ^ 63 → IsReadAs (form.Number least most) (Number n)
 unfolding number_word
@@ -76,7 +72,7 @@ no_minus d e = grind (arith, e)
 digits_as_units : (l : List ℕ) → 0 < length l → list_all is_ascii_digit l ≡ true → units_word l ≡ (number_of l >>= λ n. Some (Units false n))
 unfolding units_word
 digits_as_units [] h e = absurd (omega (arith, h))
-digits_as_units (d ∷ ds) h e = rw (no_minus d (both_of (is_ascii_digit d) (list_all is_ascii_digit ds) e).0) refl
+digits_as_units (d ∷ ds) h e = rw (no_minus d (and_parts (is_ascii_digit d) (list_all is_ascii_digit ds) e).0) refl
 
 pub units_read : (back : Bool) (n : ℕ) → n < 2 ^ 63 → IsReadAs form.Units (Units back n)
 unfolding units_word
@@ -93,7 +89,7 @@ actor_is_word (actor.Client n) h = lettered_word 99 n refl (omega (arith, h))
 
 number_named : (letter n : ℕ) → n ≤ 99 → actor_named (letter ∷ decimal n) ≡ lettered letter n
 unfolding actor_named
-number_named letter n h = ap (λ (o : Option ℕ). o >>= λ m. cond (nat_le m 99) (lettered letter m) None) (number_of-decimal n (omega (arith, h))) ∙ ap (λ (b : Bool). cond b (lettered letter n) None) (is_at_most n 99 h)
+number_named letter n h = ap (λ (o : Option ℕ). o >>= λ m. cond (nat_le m 99) (lettered letter m) None) (number_of-decimal n (omega (arith, h))) ∙ ap (λ (b : Bool). cond b (lettered letter n) None) (le-leb n 99 h)
 
 actor_named_again : (a : Actor) → actor_number a ≤ 99 → actor_named (actor_text a) ≡ Some a
 actor_named_again (actor.Replica n) h = number_named 114 n h
@@ -158,25 +154,21 @@ kind_read (suc (suc (suc (suc (suc (suc (suc (suc (suc (suc (suc (suc (suc (suc 
 
 text_is_word : (most : ℕ) (t : List ℕ) → is_text most t ≡ true → IsWord t
 text_is_word most t e =
-    let p = both_of (nat_le 1 (length t) && nat_le (length t) most) (list_all is_graphic t) e in
-    let q = (both_of (nat_le 1 (length t)) (nat_le (length t) most) p.0).0 in
+    let p = and_parts (nat_le 1 (length t) && nat_le (length t) most) (list_all is_graphic t) e in
+    let q = (and_parts (nat_le 1 (length t)) (nat_le (length t) most) p.0).0 in
     record { some = grind (arith, q); graphic = p.1 }
 
 pub key_read : (t : List ℕ) → is_key_text t ≡ true → IsReadAs form.Key (Text t)
 key_read t e = record { read = refl; word = text_is_word 32 t e }
 
-not_true : (b : Bool) → not b ≡ true → b ≡ false
-not_true true e = absurd (false≢true e)
-not_true false e = refl
-
 no_dash : (t : List ℕ) → is_value_text t ≡ true → bytes_eq t (codes "-") ≡ false
-no_dash t e = not_true (bytes_eq t (codes "-")) (both_of (is_text 256 t) (not (bytes_eq t (codes "-"))) e).1
+no_dash t e = not-true (bytes_eq t (codes "-")) (and_parts (is_text 256 t) (not (bytes_eq t (codes "-"))) e).1
 
 pub value_read : (t : List ℕ) → is_value_text t ≡ true → IsReadAs form.Value (Text t)
-value_read t e = record { read = ap (λ (b : Bool). cond b None (Some (Text t))) (no_dash t e); word = text_is_word 256 t (both_of (is_text 256 t) (not (bytes_eq t (codes "-"))) e).0 }
+value_read t e = record { read = ap (λ (b : Bool). cond b None (Some (Text t))) (no_dash t e); word = text_is_word 256 t (and_parts (is_text 256 t) (not (bytes_eq t (codes "-"))) e).0 }
 
 pub choice_read : (t : List ℕ) → is_value_text t ≡ true → IsReadAs form.Choice (Text t)
-choice_read t e = record { read = ap (λ (b : Bool). Some (cond b Nothing (Text t))) (no_dash t e); word = text_is_word 256 t (both_of (is_text 256 t) (not (bytes_eq t (codes "-"))) e).0 }
+choice_read t e = record { read = ap (λ (b : Bool). Some (cond b Nothing (Text t))) (no_dash t e); word = text_is_word 256 t (and_parts (is_text 256 t) (not (bytes_eq t (codes "-"))) e).0 }
 
 pub nothing_read : IsReadAs form.Choice Nothing
 nothing_read = record { read = refl; word = record { some = omega arith; graphic = refl } }

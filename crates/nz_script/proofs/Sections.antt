@@ -1,8 +1,8 @@
 -- The head and the skews of a valid scenario are taken in, line by line.
-use Rattle.std.proofs.Common.{◌≡◌, ℕ, suc, ◌<◌, ◌≤◌, Bool, true, false, cond, not, List, [], ◌∷◌, ◌++◌, Some, None, refl, sym, ap, subst, ◌∙◌, arith, length, map, append_assoc}
-use Rattle.std.specs.Prelude.{◌&&◌, ◌||◌, ◌==◌, nat_le, nat_lt, ℤ, pos, negsuc}
+use Rattle.std.proofs.Common.{◌≡◌, ℕ, suc, ◌≤◌, Bool, true, false, cond, not, List, [], ◌∷◌, ◌++◌, Some, None, refl, sym, ap, subst, ◌∙◌, arith, length, map, append_assoc}
+use Rattle.std.specs.Prelude.{◌&&◌, ◌==◌, nat_le, ℤ, pos, negsuc}
 use Rattle.std.specs.List.{list_all}
-use Rattle.std.proofs.lemmas.Bool.{false≢true, eqb-true, eqb-false}
+use Rattle.std.proofs.lemmas.Bool.{false≢true, eqb-true, eqb-false, and_from, and_parts, le-leb, leb-true, ltb-true, not-true, not_from_false, or_parts}
 use Rattle.std.proofs.lemmas.List.{append-nil}
 use Rattle.nz_base.specs.declared.actor.Actor.{Actor}
 use Rattle.nz_base.specs.declared.actor.Actor.TheVariants as actor
@@ -28,7 +28,6 @@ use Rattle.nz_script.specs.Drafts.{version_has, in_order, names_known, within_li
 use Rattle.nz_script.specs.Reading.{fault_of}
 use Rattle.nz_script.specs.Texts.{number_line, version_of, window_lines, head_lines, units_of, skew_line}
 use Rattle.nz_script.specs.Valid.{group_of, has_group, is_sound, are_apart}
-use Rattle.nz_script.proofs.Passing.{both, both_of}
 use Rattle.nz_script.proofs.Readable.{IsReadAs, number_read, server_read, units_read}
 use Rattle.nz_script.proofs.Again.{AreTaken, after_lines, taken-append, after-append}
 
@@ -46,12 +45,6 @@ all_passed false a b c w x y z = absurd (false≢true w)
 pub no_fault : (d : Draft) (l : Line) → version_has d.version l.verb ≡ true → in_order d l ≡ true → names_known d l ≡ true → within_limits d l ≡ true → fault_of d l ≡ None
 no_fault d l w x y z = all_passed (version_has d.version l.verb) (in_order d l) (names_known d l) (within_limits d l) w x y z
 
-pub below_most : (n m : ℕ) → nat_le n m ≡ true → n ≤ m
-below_most n m e = grind (arith, e)
-
-pub is_most : (n m : ℕ) → n ≤ m → nat_le n m ≡ true
-is_most n m h = grind (arith, h)
-
 -- f, the proxies, the clients, the ticks and the window are in range
 pub record IsGroup (s : Scenario) : Type 0 where
   pub cluster : is_between 1 4 s.cluster ≡ true
@@ -63,21 +56,21 @@ pub record IsGroup (s : Scenario) : Type 0 where
 
 pub group_parts : (s : Scenario) → has_group s ≡ true → IsGroup s
 group_parts s e =
-    let p = both_of ((is_between 1 4 s.cluster && is_between 1 8 s.proxies) && (is_between 1 64 s.clients && is_between 1 20000 s.ticks)) (is_between 1 16 s.window && (length s.scripts == s.clients)) e in
-    let q = both_of (is_between 1 4 s.cluster && is_between 1 8 s.proxies) (is_between 1 64 s.clients && is_between 1 20000 s.ticks) p.0 in
-    let x = both_of (is_between 1 4 s.cluster) (is_between 1 8 s.proxies) q.0 in
-    let y = both_of (is_between 1 64 s.clients) (is_between 1 20000 s.ticks) q.1 in
-    let z = both_of (is_between 1 16 s.window) (length s.scripts == s.clients) p.1 in
+    let p = and_parts ((is_between 1 4 s.cluster && is_between 1 8 s.proxies) && (is_between 1 64 s.clients && is_between 1 20000 s.ticks)) (is_between 1 16 s.window && (length s.scripts == s.clients)) e in
+    let q = and_parts (is_between 1 4 s.cluster && is_between 1 8 s.proxies) (is_between 1 64 s.clients && is_between 1 20000 s.ticks) p.0 in
+    let x = and_parts (is_between 1 4 s.cluster) (is_between 1 8 s.proxies) q.0 in
+    let y = and_parts (is_between 1 64 s.clients) (is_between 1 20000 s.ticks) q.1 in
+    let z = and_parts (is_between 1 16 s.window) (length s.scripts == s.clients) p.1 in
     record { cluster = x.0; proxies = x.1; clients = y.0; ticks = y.1; window = z.0; scripts = z.1 }
 
 pub between_most : (l m n : ℕ) → is_between l m n ≡ true → n ≤ m
-between_most l m n e = below_most n m (both_of (nat_le l n) (nat_le n m) e).1
+between_most l m n e = leb-true n m (and_parts (nat_le l n) (nat_le n m) e).1
 
 limits : (a : Bool) → a ≡ true → (((a && true) && true) && true) ≡ true
-limits a e = both _ _ (both _ _ (both _ _ e refl) refl) refl
+limits a e = and_from _ _ (and_from _ _ (and_from _ _ e refl) refl) refl
 
 pub kept : (n most : ℕ) → n ≤ most → cond (nat_le n most) n most ≡ n
-kept n most h = ap (λ (b : Bool). cond b n most) (is_most n most h)
+kept n most h = ap (λ (b : Bool). cond b n most) (le-leb n most h)
 
 pub record IsTakenTo (d : Draft) (lines : List Line) (e : Draft) : Type 0 where
   pub taken : AreTaken d lines
@@ -165,13 +158,13 @@ window_taken : (s : Scenario) (one : Bool) → (s.window == 1) ≡ one → IsGro
     → IsTakenTo (head_draft (cond one 1 2) s) (cond one [] (number_line (verb.Head head.Window) s.window ∷ [])) (headed (cond one 1 2) s.window s)
 window_taken s true e h = record { taken = tt; after = ap (λ (w : ℕ). headed 1 w s) (sym (eqb-true s.window 1 e)) }
 window_taken s false e h =
-    let p = both_of (nat_le 1 s.window) (nat_le s.window 16) h.window in
-    let low : 2 ≤ s.window = omega (arith, below_most 1 s.window p.0, eqb-false s.window 1 e) in
-    let high : s.window ≤ 16 = below_most s.window 16 p.1 in
+    let p = and_parts (nat_le 1 s.window) (nat_le s.window 16) h.window in
+    let low : 2 ≤ s.window = omega (arith, leb-true 1 s.window p.0, eqb-false s.window 1 e) in
+    let high : s.window ≤ 16 = leb-true s.window 16 p.1 in
     record {
       taken = (
         (number_read 2 16 s.window (omega (arith, high)), tt),
-        no_fault (head_draft 2 s) (number_line (verb.Head head.Window) s.window) refl refl refl (limits (is_between 2 16 s.window) (both _ _ (is_most 2 s.window low) p.1)),
+        no_fault (head_draft 2 s) (number_line (verb.Head head.Window) s.window) refl refl refl (limits (is_between 2 16 s.window) (and_from _ _ (le-leb 2 s.window low) p.1)),
         tt,
       );
       after = ap (λ (w : ℕ). headed 2 w s) (kept s.window 255 (omega (arith, high)));
@@ -196,13 +189,10 @@ pub record IsSmall (g : Group) : Type 0 where
 pub group_small : (s : Scenario) → IsGroup s → IsSmall (group_of s)
 group_small s h = record { cluster = between_most 1 4 s.cluster h.cluster; proxies = between_most 1 8 s.proxies h.proxies; clients = between_most 1 64 s.clients h.clients }
 
-below : (n m : ℕ) → nat_lt n m ≡ true → n < m
-below n m e = grind (arith, e)
-
 pub known_small : (g : Group) (a : Actor) → IsSmall g → knows g a ≡ true → actor_number a ≤ 99
-known_small g (actor.Replica r) h e = omega (arith, below r (replica_count g.cluster) e, h.cluster)
-known_small g (actor.Proxy p) h e = omega (arith, below p g.proxies e, h.proxies)
-known_small g (actor.Client c) h e = omega (arith, below c g.clients e, h.clients)
+known_small g (actor.Replica r) h e = omega (arith, ltb-true r (replica_count g.cluster) e, h.cluster)
+known_small g (actor.Proxy p) h e = omega (arith, ltb-true p g.proxies e, h.proxies)
+known_small g (actor.Client c) h e = omega (arith, ltb-true c g.clients e, h.clients)
 
 -- ---- skews
 
@@ -211,8 +201,8 @@ units_again (pos n) e = rw e refl
 units_again (negsuc n) e = rw e refl
 
 units_are_read : (z : ℤ) → has_units (units_of z) ≡ true → IsReadAs form.Units (units_of z)
-units_are_read (pos n) e = units_read false n (omega (arith, below_most n 4611686018427387904 e))
-units_are_read (negsuc n) e = units_read true (suc n) (omega (arith, below_most (suc n) 4611686018427387904 e))
+units_are_read (pos n) e = units_read false n (omega (arith, leb-true n 4611686018427387904 e))
+units_are_read (negsuc n) e = units_read true (suc n) (omega (arith, leb-true (suc n) 4611686018427387904 e))
 
 skew_again : (k : Skew) → has_units (units_of k.units) ≡ true → skew_in (skew_line k).words ≡ k
 skew_again k e = ap (λ (z : ℤ). record { actor = k.actor; units = z }) (units_again k.units e)
@@ -231,30 +221,18 @@ apart_swapped (actor.Client a) (actor.Replica b) e = refl
 apart_swapped (actor.Client a) (actor.Proxy b) e = refl
 apart_swapped (actor.Client a) (actor.Client b) e = eq-swapped a b e
 
-neither : (a b : Bool) → (a || b) ≡ false → (a ≡ false) × (b ≡ false)
-neither true b e = absurd (false≢true (sym e))
-neither false b e = (refl, e)
-
-not_of : (b : Bool) → not b ≡ true → b ≡ false
-not_of true e = absurd (false≢true e)
-not_of false e = refl
-
 -- who has no skew among many has none among the last, and is not the one in the middle
 skew_not_there : (xs : List Skew) (k : Skew) (ks : List Skew) (a : Actor) → has_skew (xs ++ k ∷ ks) a ≡ false → actor_eq k.actor a ≡ false
-skew_not_there [] k ks a e = (neither (actor_eq k.actor a) (has_skew ks a) e).0
-skew_not_there (x ∷ xs) k ks a e = skew_not_there xs k ks a (neither (actor_eq x.actor a) (has_skew (xs ++ k ∷ ks) a) e).1
+skew_not_there [] k ks a e = (or_parts (actor_eq k.actor a) (has_skew ks a) e).0
+skew_not_there (x ∷ xs) k ks a e = skew_not_there xs k ks a (or_parts (actor_eq x.actor a) (has_skew (xs ++ k ∷ ks) a) e).1
 
 -- each is new to those before it
 apart_new : (done : List Skew) (k : Skew) (ks : List Skew) → are_apart (done ++ k ∷ ks) ≡ true → has_skew done k.actor ≡ false
 apart_new [] k ks e = refl
 apart_new (x ∷ done) k ks e =
-    let p = both_of (not (has_skew (done ++ k ∷ ks) x.actor)) (are_apart (done ++ k ∷ ks)) e in
-    let here : actor_eq x.actor k.actor ≡ false = apart_swapped k.actor x.actor (skew_not_there done k ks x.actor (not_of (has_skew (done ++ k ∷ ks) x.actor) p.0)) in
+    let p = and_parts (not (has_skew (done ++ k ∷ ks) x.actor)) (are_apart (done ++ k ∷ ks)) e in
+    let here : actor_eq x.actor k.actor ≡ false = apart_swapped k.actor x.actor (skew_not_there done k ks x.actor (not-true (has_skew (done ++ k ∷ ks) x.actor) p.0)) in
     rw here (apart_new done k ks p.1)
-
-is_not : (b : Bool) → b ≡ false → not b ≡ true
-is_not true e = absurd (false≢true (sym e))
-is_not false e = refl
 
 -- the parts of a sound skew
 record IsSoundSkew (g : Group) (k : Skew) : Type 0 where
@@ -264,10 +242,10 @@ record IsSoundSkew (g : Group) (k : Skew) : Type 0 where
 
 sound_skew : (g : Group) (k : Skew) → is_sound g (skew_line k) ≡ true → IsSoundSkew g k
 sound_skew g k e =
-    let p = both_of (all_known g (forms_of verb.Skew) (skew_line k).words) (all_within (forms_of verb.Skew) (skew_line k).words && true) e in
-    let q = both_of (is_server k.actor && knows g k.actor) (is_known g form.Units (units_of k.units) && true) p.0 in
-    let r = both_of (all_within (forms_of verb.Skew) (skew_line k).words) true p.1 in
-    record { known = p.0; there = (both_of (is_server k.actor) (knows g k.actor) q.0).1; units = (both_of (has_units (units_of k.units)) true r.0).0 }
+    let p = and_parts (all_known g (forms_of verb.Skew) (skew_line k).words) (all_within (forms_of verb.Skew) (skew_line k).words && true) e in
+    let q = and_parts (is_server k.actor && knows g k.actor) (is_known g form.Units (units_of k.units) && true) p.0 in
+    let r = and_parts (all_within (forms_of verb.Skew) (skew_line k).words) true p.1 in
+    record { known = p.0; there = (and_parts (is_server k.actor) (knows g k.actor) q.0).1; units = (and_parts (has_units (units_of k.units)) true r.0).0 }
 
 abbrev skewed : ℕ → Group → ℕ → List Skew → Draft
 skewed v g t ks = a_draft place.Between v g t ks [] [] 0 0 []
@@ -276,14 +254,14 @@ pub skews_taken : (v : ℕ) (g : Group) (t : ℕ) (done ks : List Skew) → IsSm
     → IsTakenTo (a_draft place.Between v g t done [] [] 0 0 []) (map skew_line ks) (a_draft place.Between v g t (done ++ ks) [] [] 0 0 [])
 skews_taken v g t done [] small sound apart = record { taken = tt; after = ap (skewed v g t) (sym (append-nil done)) }
 skews_taken v g t done (k ∷ ks) small sound apart =
-    let p = both_of (is_sound g (skew_line k)) (list_all (λ k. is_sound g (skew_line k)) ks) sound in
+    let p = and_parts (is_sound g (skew_line k)) (list_all (λ k. is_sound g (skew_line k)) ks) sound in
     let s = sound_skew g k p.0 in
     let again = skew_again k s.units in
     let more = skews_taken v g t (done ++ k ∷ []) ks small p.1 (ap are_apart (append_assoc done (k ∷ []) ks) ∙ apart) in
     record {
       taken = (
         (server_read k.actor (known_small g k.actor small s.there), (units_are_read k.units s.units, tt)),
-        no_fault (skewed v g t done) (skew_line k) refl refl (both _ _ s.known (is_not (has_skew done k.actor) (apart_new done k ks apart))) (limits (has_units (units_of k.units)) s.units),
+        no_fault (skewed v g t done) (skew_line k) refl refl (and_from _ _ s.known (not_from_false (has_skew done k.actor) (apart_new done k ks apart))) (limits (has_units (units_of k.units)) s.units),
         subst (λ (x : Skew). AreTaken (skewed v g t (done ++ x ∷ [])) (map skew_line ks)) (sym again) more.taken,
       );
       after = ap (λ (x : Skew). after_lines (skewed v g t (done ++ x ∷ [])) (map skew_line ks)) again ∙ more.after ∙ ap (skewed v g t) (append_assoc done (k ∷ []) ks);

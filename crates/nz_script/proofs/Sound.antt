@@ -3,7 +3,7 @@ use Rattle.std.proofs.Common.{◌≡◌, ℕ, ◌+◌, ◌*◌, ◌<◌, ◌≤�
 use Rattle.std.specs.Prelude.{◌&&◌, ◌==◌, nat_le, nat_lt, is_some, sum_by}
 use Rattle.std.specs.List.{list_all}
 use Rattle.std.proofs.Math.Nat.{mul-le-mul_right}
-use Rattle.std.proofs.lemmas.Bool.{false≢true, eqb-true, eqb-false}
+use Rattle.std.proofs.lemmas.Bool.{false≢true, eqb-true, eqb-false, and_from, and_parts, le-leb, leb-true}
 use Rattle.std.proofs.lemmas.List.Folds.{list_all-append}
 use Rattle.std.proofs.lemmas.List.Sums.{sum_by-append}
 use Rattle.nz_base.specs.declared.actor.Actor.TheVariants as actor
@@ -41,9 +41,9 @@ use Rattle.nz_script.specs.Drafts.{version_has, in_order, names_known, within_li
 use Rattle.nz_script.specs.Reading.{fault_of, taken, taken_if_shaped, is_passed_over, step, most_bytes, behind, reading, scenario}
 use Rattle.nz_script.specs.Bytes.{lines_in, tail_in}
 use Rattle.nz_script.specs.Valid.{is_request, are_requests, request_count, calls_known, IsRunnable}
-use Rattle.nz_script.proofs.Passing.{both, both_of, passed_forms, passed_room, command_is_valid}
+use Rattle.nz_script.proofs.Passing.{passed_forms, passed_room, command_is_valid}
 use Rattle.nz_script.proofs.Blocks.{room_less}
-use Rattle.nz_script.proofs.Sections.{kept as small_kept, is_most, below_most}
+use Rattle.nz_script.proofs.Sections.{kept as small_kept}
 
 -- ---- what a draft has
 
@@ -102,12 +102,12 @@ names_passed true false b c e = absurd cc
 names_passed false a b c e = absurd cc
 
 stands : (d : Draft) (l : Line) → fault_of d l ≡ None → rank_of d.place ≡ rank_of (place_of l.verb)
-stands d l e = eqb-true (rank_of d.place) (rank_of (place_of l.verb)) (both_of (rank_of d.place == rank_of (place_of l.verb)) (is_in_turn d l.verb l.words) (order_passed (version_has d.version l.verb) (in_order d l) (names_known d l) (within_limits d l) e)).0
+stands d l e = eqb-true (rank_of d.place) (rank_of (place_of l.verb)) (and_parts (rank_of d.place == rank_of (place_of l.verb)) (is_in_turn d l.verb l.words) (order_passed (version_has d.version l.verb) (in_order d l) (names_known d l) (within_limits d l) e)).0
 
 number_fits : (low high most : ℕ) (w : Word) (more : Bool) → high ≤ most → (has_number low high w && more) ≡ true → is_between low high (number_as most (Some w)) ≡ true
 number_fits low high most (word.Number n) more h e =
-    let p = both_of (is_between low high n) more e in
-    subst (λ (m : ℕ). is_between low high m ≡ true) (sym (small_kept n most (omega (arith, h, below_most n high (both_of (nat_le low n) (nat_le n high) p.0).1)))) p.0
+    let p = and_parts (is_between low high n) more e in
+    subst (λ (m : ℕ). is_between low high m ≡ true) (sym (small_kept n most (omega (arith, h, leb-true n high (and_parts (nat_le low n) (nat_le n high) p.0).1)))) p.0
 number_fits low high most (word.Units b n) more h e = absurd (false≢true e)
 number_fits low high most (word.Named a) more h e = absurd (false≢true e)
 number_fits low high most word.Everyone more h e = absurd (false≢true e)
@@ -151,10 +151,10 @@ low_rank : (d : Draft) (n : ℕ) → rank_of d.place ≡ n → n < 6 → rank_of
 low_rank d n e h = omega (arith, e, h)
 
 least : (low high n : ℕ) → is_between low high n ≡ true → low ≤ n
-least low high n e = below_most low n (both_of (nat_le low n) (nat_le n high) e).0
+least low high n e = leb-true low n (and_parts (nat_le low n) (nat_le n high) e).0
 
 blank_room : (r t u : ℕ) → r ≡ 0 → has_room_for_requests r t ≡ true → has_room_for_requests r u ≡ true
-blank_room r t u e h = ap (λ (n : ℕ). has_room_for_requests n u) e ∙ both _ _ refl (is_most (0 * u) 2000000 (omega arith))
+blank_room r t u e h = ap (λ (n : ℕ). has_room_for_requests n u) e ∙ and_from _ _ refl (le-leb (0 * u) 2000000 (omega arith))
 
 behind_ticks : (two : Bool) → rank_of (cond two place.Window place.Between) < 7
 behind_ticks true = omega arith
@@ -162,8 +162,8 @@ behind_ticks false = omega arith
 
 any_window : (n : ℕ) → is_between 2 16 n ≡ true → is_between 1 16 n ≡ true
 any_window n e =
-    let p = both_of (nat_le 2 n) (nat_le n 16) e in
-    both _ _ (is_most 1 n (omega (arith, below_most 2 n p.0))) p.1
+    let p = and_parts (nat_le 2 n) (nat_le n 16) e in
+    and_from _ _ (le-leb 1 n (omega (arith, leb-true 2 n p.0))) p.1
 
 head_kept : (d : Draft) (h : Head) (words : List Word) → IsSound d → rank_of d.place ≡ rank_of (place_of (verb.Head h)) → in_head h words ≡ true → IsSound (with_words d (verb.Head h) words)
 head_kept d head.Version words p e fits = record {
@@ -245,7 +245,7 @@ asked rank g scripts block more requests next faults e p = record {
 }
 
 zero_room : (r : ℕ) → has_room_for_faults r 0 ≡ true
-zero_room r = both _ _ refl (is_most (r * 0) 200000 (omega arith))
+zero_room r = and_from _ _ refl (le-leb (r * 0) 200000 (omega arith))
 
 no_faults_room : (r : ℕ) (faults : List Fault) → faults ≡ [] → has_room_for_faults r (length faults) ≡ true
 no_faults_room r faults e = ap (λ (fs : List Fault). has_room_for_faults r (length fs)) e ∙ zero_room r
@@ -263,7 +263,7 @@ ask_kept d a words p e fits room =
       requests = record {
         counted = one_more d.scripts d.block q d.requests p.requests.counted;
         whole = p.requests.whole;
-        begun = list_all-append is_request d.block (q ∷ []) ∙ both _ _ p.requests.begun (both _ _ (both _ _ p.requests.waits (ap is_some back)) refl);
+        begun = list_all-append is_request d.block (q ∷ []) ∙ and_from _ _ p.requests.begun (and_from _ _ (and_from _ _ p.requests.waits (ap is_some back)) refl);
         waits = refl;
         room = room;
       };
@@ -276,7 +276,7 @@ wait_kept d words p fits =
     let q = p.requests in
     record {
       head = p.head;
-      requests = record { counted = q.counted; whole = q.whole; begun = q.begun; waits = (both_of (nat_le 1 (number_in 0 words)) (nat_le (number_in 0 words) 20000) (ticks_fit words fits)).1; room = q.room };
+      requests = record { counted = q.counted; whole = q.whole; begun = q.begun; waits = (and_parts (nat_le 1 (number_in 0 words)) (nat_le (number_in 0 words) 20000) (ticks_fit words fits)).1; room = q.room };
       faults = p.faults;
       place = p.place;
     }
@@ -311,7 +311,7 @@ end_kept d words p e = record {
   head = p.head;
   requests = record {
     counted = all_counted d.scripts d.block d.requests p.requests.counted;
-    whole = list_all-append are_requests d.scripts (d.block ∷ []) ∙ both _ _ p.requests.whole (both _ _ p.requests.begun refl);
+    whole = list_all-append are_requests d.scripts (d.block ∷ []) ∙ and_from _ _ p.requests.whole (and_from _ _ p.requests.begun refl);
     begun = refl;
     waits = refl;
     room = p.requests.room;
@@ -329,7 +329,7 @@ first_known : (g : Group) → knows g (actor.Replica 0) ≡ true
 first_known g = grind (arith, some_replica g)
 
 actor_known : (g : Group) (f : Form) (w : Word) → is_known g f w ≡ true → knows g (actor_as (Some w)) ≡ true
-actor_known g f (word.Named a) e = (both_of (suits f a) (knows g a) e).1
+actor_known g f (word.Named a) e = (and_parts (suits f a) (knows g a) e).1
 actor_known g f (word.Number n) e = first_known g
 actor_known g f (word.Units b n) e = first_known g
 actor_known g f word.Everyone e = first_known g
@@ -339,7 +339,7 @@ actor_known g f word.Nothing e = first_known g
 
 called_known : (g : Group) (f h : Form) (words : List Word) → all_known g (f ∷ h ∷ []) words ≡ true → knows g (actor_in 0 words) ≡ true
 called_known g f h [] e = first_known g
-called_known g f h (w ∷ words) e = actor_known g f w (both_of (is_known g f w) (all_known g (h ∷ []) words) e).0
+called_known g f h (w ∷ words) e = actor_known g f w (and_parts (is_known g f w) (all_known g (h ∷ []) words) e).0
 
 fault_known : (g : Group) (m : Mishap) (words : List Word) → all_known g (forms_of (verb.Mishap m)) words ≡ true → calls_known g (fault_in m words) ≡ true
 fault_known g mishap.Drop words e = refl
@@ -371,7 +371,7 @@ mishap_kept d m words p e known room =
       requests = p.requests;
       faults = record {
         room = ap (has_room_for_faults d.requests) (length-append d.faults (f ∷ [])) ∙ room;
-        calls = list_all-append (calls_known d.group) d.faults (f ∷ []) ∙ both _ _ p.faults.calls (both _ _ (fault_known d.group m words known) refl);
+        calls = list_all-append (calls_known d.group) d.faults (f ∷ []) ∙ and_from _ _ p.faults.calls (and_from _ _ (fault_known d.group m words known) refl);
       };
       place = faulted (rank_of d.place) d.group d.scripts d.block d.requests d.faults (d.faults ++ f ∷ []) e p.place;
     }
@@ -413,7 +413,7 @@ kept d verb.End words p e = end_kept d words p (stands d (record { verb = verb.E
 kept d (verb.Mishap m) words p e =
     let line : Line = record { verb = verb.Mishap m; words = words } in
     mishap_kept d m words p (stands d line e ∙ mishap_rank m)
-    (both_of (all_known d.group (forms_of (verb.Mishap m)) words) (is_new_skew d (verb.Mishap m) words) (names_passed (version_has d.version line.verb) (in_order d line) (names_known d line) (within_limits d line) e)).0 (passed_room d line e)
+    (and_parts (all_known d.group (forms_of (verb.Mishap m)) words) (is_new_skew d (verb.Mishap m) words) (names_passed (version_has d.version line.verb) (in_order d line) (names_known d line) (within_limits d line) e)).0 (passed_room d line e)
 kept d verb.Done words p e =
     let at = stands d (record { verb = verb.Done; words = words }) e in
     record {
@@ -447,8 +447,8 @@ step_kept d next bytes p h = over_kept d next bytes (is_passed_over bytes) p h
 
 fault_room_of_fewer : (a b n : ℕ) → a ≤ b → has_room_for_faults b n ≡ true → has_room_for_faults a n ≡ true
 fault_room_of_fewer a b n h e =
-    let p = both_of (nat_le n 1000) (nat_le (b * n) 200000) e in
-    both _ _ p.0 (is_most (a * n) 200000 (omega (arith, mul-le-mul_right n h, below_most (b * n) 200000 p.1)))
+    let p = and_parts (nat_le n 1000) (nat_le (b * n) 200000) e in
+    and_from _ _ p.0 (le-leb (a * n) 200000 (omega (arith, mul-le-mul_right n h, leb-true (b * n) 200000 p.1)))
 
 is_same : (n m : ℕ) → n ≡ m → (n == m) ≡ true
 is_same n m e = grind (arith, e)
@@ -457,9 +457,9 @@ runnable : (d : Draft) → IsSound d → rank_of d.place ≡ 9 → IsRunnable (s
 runnable d p e =
     let few : request_count d.scripts ≤ d.requests = omega (arith, p.requests.counted) in
     record {
-      group = both _ _ (both _ _ (both _ _ p.head.cluster p.head.proxies) (both _ _ p.head.clients p.head.span)) (both _ _ p.head.window (is_same (length d.scripts) d.group.clients (p.place.full (omega (arith, e)))));
+      group = and_from _ _ (and_from _ _ (and_from _ _ p.head.cluster p.head.proxies) (and_from _ _ p.head.clients p.head.span)) (and_from _ _ p.head.window (is_same (length d.scripts) d.group.clients (p.place.full (omega (arith, e)))));
       requests = p.requests.whole;
-      few = both _ _ (room_less (request_count d.scripts) d.requests d.ticks few p.requests.room) (fault_room_of_fewer (request_count d.scripts) d.requests (length d.faults) few p.faults.room);
+      few = and_from _ _ (room_less (request_count d.scripts) d.requests d.ticks few p.requests.room) (fault_room_of_fewer (request_count d.scripts) d.requests (length d.faults) few p.faults.room);
       calls = p.faults.calls;
     }
 

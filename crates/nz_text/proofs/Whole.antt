@@ -2,7 +2,7 @@
 use Rattle.std.proofs.Common.{◌≡◌, ℕ, suc, ◌+◌, ◌<◌, ◌^◌, Bool, true, cond, List, [], ◌∷◌, ◌++◌, length, Option, Some, None, Ok, refl, sym, ap, ◌∙◌, arith, append_assoc, length-append}
 use Rattle.std.specs.Prelude.{◌==◌, nat_le, codes, IsSome}
 use Rattle.std.specs.List.{AllByRecursion, flat_map}
-use Rattle.std.proofs.lemmas.Bool.{eq-eqb, false≢true}
+use Rattle.std.proofs.lemmas.Bool.{eq-eqb, false≢true, and_from}
 use Rattle.std.proofs.lemmas.List.{append-nil}
 use Rattle.nz_base.specs.declared.key.Id.{Id}
 use Rattle.nz_store.specs.declared.command.Command.{Command}
@@ -10,7 +10,6 @@ use Rattle.nz_store.specs.Reading.{command_of}
 use Rattle.nz_store.proofs.Spellings.{spells_from_reading}
 use Rattle.nz_store.proofs.Texts.{tells_valid}
 use Rattle.nz_script.specs.Bytes.{lines_in, tail_in}
-use Rattle.nz_script.proofs.Passing.{both}
 use Rattle.nz_machine.specs.declared.journal.Executed.{Executed}
 use Rattle.nz_text.specs.declared.draft.Draft.{Draft}
 use Rattle.nz_text.specs.declared.draft.Stage.{Stage}
@@ -99,7 +98,7 @@ history_read n s E U H0 (e ∷ H) place rest low is few h =
     reaches_to n (at s E U H0) (at last E U ((H0 ++ e ∷ []) ++ H)) (at last E U (H0 ++ e ∷ H)) (at_lines place (e ∷ H) ++ rest) rest
     (first_line n (at s E U H0) next (at last E U ((H0 ++ e ∷ []) ++ H)) (at_line place e) (at_lines (suc place) H) rest
     (line_read (at_line place e) (at_lines (suc place) H ++ rest) n (at s E U H0) next (line.At place e) (at_line_is place e (command_is e.command (command_of e.command) refl h.0.command) here h.0.id h.0.answer)
-    (ap (λ (b : Bool). cond b (Some next) None) (both (nat_le (rank_of s) 2) (place == length H0 + 1) low (eq-eqb place (length H0 + 1) is))))
+    (ap (λ (b : Bool). cond b (Some next) None) (and_from (nat_le (rank_of s) 2) (place == length H0 + 1) low (eq-eqb place (length H0 + 1) is))))
     (history_read (n + 1) stage.History E U (H0 ++ e ∷ []) H (suc place) rest refl (omega (arith, is, longer)) (omega (arith, longer, few)) h.1))
     (ap (λ (X : List Executed). at last E U X) (append_assoc H0 (e ∷ []) H))
 

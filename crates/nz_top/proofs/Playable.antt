@@ -2,7 +2,7 @@
 use Rattle.std.proofs.Common.{◌≡◌, ℕ, ◌<◌, ◌≤◌, true, List, [], ◌∷◌, Option, Ok, sym, subst, arith, length}
 use Rattle.std.specs.Prelude.{◌*◌, nat_le, nat_lt, is_some, IsSome}
 use Rattle.std.specs.List.{list_all, AllByRecursion}
-use Rattle.std.proofs.lemmas.Bool.{eqb-true}
+use Rattle.std.proofs.lemmas.Bool.{eqb-true, and_parts, leb-true, ltb-true}
 use Rattle.std.proofs.lemmas.List.Sums.{sum-map}
 use Rattle.nz_base.specs.declared.actor.Actor.{Actor}
 use Rattle.nz_base.specs.declared.actor.Actor.TheVariants as actor
@@ -17,8 +17,7 @@ use Rattle.nz_store.specs.Reading.{command_of}
 use Rattle.nz_script.specs.Drafts.{knows, has_room_for_requests, has_room_for_faults}
 use Rattle.nz_script.specs.Reading.{scenario}
 use Rattle.nz_script.specs.Valid.{group_of as script_group, is_request, are_requests, request_count, calls_known, IsRunnable}
-use Rattle.nz_script.proofs.Passing.{both_of}
-use Rattle.nz_script.proofs.Sections.{group_parts, between_most, below_most}
+use Rattle.nz_script.proofs.Sections.{group_parts, between_most}
 use Rattle.nz_script.proofs.Generated.{generated_runnable}
 use Rattle.nz_script.proofs.Sound.{read_runnable}
 use Rattle.nz_script.specs.Draws.{generated}
@@ -29,29 +28,26 @@ use Rattle.nz_machine.specs.World.{IsAsked, IsMember, request_count as asked_cou
 use Rattle.nz_machine.specs.Schedule.{group_of, NamesMember, IsPlayable}
 
 least : (low high n : ℕ) → is_within low high n ≡ true → low ≤ n
-least low high n e = below_most low n (both_of (nat_le low n) (nat_le n high) e).0
+least low high n e = leb-true low n (and_parts (nat_le low n) (nat_le n high) e).0
 
 some_command : (o : Option Command) → is_some o ≡ true → IsSome o
 some_command o e = e
 
 asked : (r : Request) → is_request r ≡ true → IsAsked r
-asked r e = record { command = some_command (command_of r.command) (both_of (nat_le r.wait 20000) (is_some (command_of r.command)) e).1 }
+asked r e = record { command = some_command (command_of r.command) (and_parts (nat_le r.wait 20000) (is_some (command_of r.command)) e).1 }
 
 all_asked : (script : List Request) → are_requests script ≡ true → AllByRecursion IsAsked script
 all_asked [] e = tt
-all_asked (r ∷ script) e = let p = both_of (is_request r) (are_requests script) e in (asked r p.0, all_asked script p.1)
+all_asked (r ∷ script) e = let p = and_parts (is_request r) (are_requests script) e in (asked r p.0, all_asked script p.1)
 
 scripts_asked : (scripts : List (List Request)) → list_all are_requests scripts ≡ true → AllByRecursion (λ script. AllByRecursion IsAsked script) scripts
 scripts_asked [] e = tt
-scripts_asked (script ∷ scripts) e = let p = both_of (are_requests script) (list_all are_requests scripts) e in (all_asked script p.0, scripts_asked scripts p.1)
-
-below : (n m : ℕ) → nat_lt n m ≡ true → n < m
-below n m e = grind (arith, e)
+scripts_asked (script ∷ scripts) e = let p = and_parts (are_requests script) (list_all are_requests scripts) e in (all_asked script p.0, scripts_asked scripts p.1)
 
 member : (s : Scenario) (a : Actor) → length s.scripts ≡ s.clients → knows (script_group s) a ≡ true → IsMember (group_of s) a
-member s (actor.Replica r) all e = below r (replica_count s.cluster) e
-member s (actor.Proxy p) all e = below p s.proxies e
-member s (actor.Client c) all e = omega (arith, below c s.clients e, all)
+member s (actor.Replica r) all e = ltb-true r (replica_count s.cluster) e
+member s (actor.Proxy p) all e = ltb-true p s.proxies e
+member s (actor.Client c) all e = omega (arith, ltb-true c s.clients e, all)
 
 names : (s : Scenario) (f : Fault) → length s.scripts ≡ s.clients → calls_known (script_group s) f ≡ true → NamesMember s f
 names s (fault.Crash a t) all e = member s a all e
@@ -65,7 +61,7 @@ names s (fault.Block a b f l) all e = tt
 
 all_names : (s : Scenario) (faults : List Fault) → length s.scripts ≡ s.clients → list_all (calls_known (script_group s)) faults ≡ true → AllByRecursion (NamesMember s) faults
 all_names s [] all e = tt
-all_names s (f ∷ faults) all e = let p = both_of (calls_known (script_group s) f) (list_all (calls_known (script_group s)) faults) e in (names s f all p.0, all_names s faults all p.1)
+all_names s (f ∷ faults) all e = let p = and_parts (calls_known (script_group s) f) (list_all (calls_known (script_group s)) faults) e in (names s f all p.0, all_names s faults all p.1)
 
 few_asked : (scripts : List (List Request)) → request_count scripts ≤ 2000 → asked_count scripts ≤ 2000
 few_asked scripts h = subst (λ (n : ℕ). n ≤ 2000) (sym (sum-map length scripts)) h
@@ -74,7 +70,7 @@ playable : (s : Scenario) → IsRunnable s → IsPlayable s
 playable s h =
     let g = group_parts s h.group in
     let all = eqb-true (length s.scripts) s.clients g.scripts in
-    let few = both_of (has_room_for_requests (request_count s.scripts) s.ticks) (has_room_for_faults (request_count s.scripts) (length s.faults)) h.few in
+    let few = and_parts (has_room_for_requests (request_count s.scripts) s.ticks) (has_room_for_faults (request_count s.scripts) (length s.faults)) h.few in
     record {
       group = record {
         least_f = least 1 4 s.cluster g.cluster;
@@ -85,12 +81,12 @@ playable s h =
         most_window = between_most 1 16 s.window g.window;
         least_clients = omega (arith, all, least 1 64 s.clients g.clients);
         most_clients = omega (arith, all, between_most 1 64 s.clients g.clients);
-        few_requests = few_asked s.scripts (below_most (request_count s.scripts) 2000 (both_of (nat_le (request_count s.scripts) 2000) (nat_le (request_count s.scripts * s.ticks) 2000000) few.0).0);
+        few_requests = few_asked s.scripts (leb-true (request_count s.scripts) 2000 (and_parts (nat_le (request_count s.scripts) 2000) (nat_le (request_count s.scripts * s.ticks) 2000000) few.0).0);
         commands = scripts_asked s.scripts h.requests;
       };
       scripts = all;
       ticks = between_most 1 20000 s.ticks g.ticks;
-      faults = below_most (length s.faults) 1000 (both_of (nat_le (length s.faults) 1000) (nat_le (request_count s.scripts * length s.faults) 200000) few.1).0;
+      faults = leb-true (length s.faults) 1000 (and_parts (nat_le (length s.faults) 1000) (nat_le (request_count s.scripts * length s.faults) 200000) few.1).0;
       members = all_names s s.faults all h.calls;
     }
 

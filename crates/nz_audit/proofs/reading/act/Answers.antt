@@ -5,7 +5,7 @@ use Rattle.std.specs.Prelude.{nat_eq}
 use Rattle.indexmap.specs.IndexMap.{get}
 use Rattle.nz_base.specs.Actor.{actor_eq}
 use Rattle.nz_base.specs.declared.actor.Actor.{Actor}
-use Rattle.nz_base.specs.declared.actor.Actor.TheVariants.{Replica, Proxy, Client}
+use Rattle.nz_base.specs.declared.actor.Actor.TheVariants.{Replica, Proxy}
 use Rattle.nz_audit.proofs.Replays.{any_stays}
 use Rattle.nz_audit.proofs.Acting.{always, on_three, proxy_stays, proxy_takes_it, event_source}
 use Rattle.nz_audit.proofs.reading.act.Goals as goal

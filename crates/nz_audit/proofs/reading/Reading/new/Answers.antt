@@ -1,8 +1,7 @@
 -- What the function of this folder owes, proved.
-use Rattle.std.proofs.Common.{[], Option, sym, ap, subst, refl}
+use Rattle.std.proofs.Common.{[], sym, ap, subst, refl}
 use Rattle.std.specs.Prelude.{nat_eq}
 use Rattle.std.specs.Map.{lookup}
-use Rattle.nz_replica.specs.Seats.{ReplicaView}
 use Rattle.nz_machine.specs.Schedule.{group_of}
 use Rattle.nz_audit.specs.Cores.{IsCoreIfAny}
 use Rattle.nz_audit.specs.Readings.{IsProxy, IsTable}

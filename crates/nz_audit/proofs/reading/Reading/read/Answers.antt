@@ -1,5 +1,5 @@
 -- What the function of this folder owes, proved.
-use Rattle.std.proofs.Common.{◌∷◌, List, refl, sym, ap, subst, ◌∙◌}
+use Rattle.std.proofs.Common.{◌∷◌, refl, sym, ap, subst, ◌∙◌}
 use Rattle.nz_machine.specs.Journals.{group_in}
 use Rattle.nz_machine.specs.History.{history}
 use Rattle.nz_audit.specs.Cores.{run_up_to}
