@@ -18,7 +18,8 @@ begin_at : (g : Group) (a : Actor) → first_node g a ≡ node_of g a []
 unfolding state_after
 begin_at g a = refl
 
-pub lane_start : (g : Group) (meaning : Node) (live : Bool) (fits : Type 0) (a : Actor) → fits → meaning ≡ first_node g meaning.actor → live ≡ true → a ≡ meaning.actor
+pub lane_start : (g : Group) (meaning : Node) (live : Bool) (fits : Type 0) (a : Actor) → fits
+    → meaning ≡ first_node g meaning.actor → live ≡ true → a ≡ meaning.actor
     → IsLane g meaning live fits (record { actor = a; live = true; steps = [] })
 lane_start g meaning live fits a is_of is lives own = record {
   is_of = is_of;
@@ -27,25 +28,32 @@ lane_start g meaning live fits a is_of is lives own = record {
 }
 
 -- the live core runs as the actor does after its records
-runs_as : (g : Group) (lane : Lane) (old : Node) (before : Bool) (fits : Type 0) (e : Event) (ran : Node × List Parcel) → IsLane g old before fits lane → lane.live ≡ true → node_run g old e ≡ ran
+runs_as : (g : Group) (lane : Lane) (old : Node) (before : Bool) (fits : Type 0) (e : Event) (ran : Node × List Parcel)
+    → IsLane g old before fits lane → lane.live ≡ true → node_run g old e ≡ ran
     → node_run g (node_of g lane.actor lane.steps) e ≡ ran
 runs_as g lane old before fits e ran k live step = ap (λ (n : Node). node_run g n e) (sym (k.there live).stands) ∙ step
 
-pub lane_sends : (g : Group) (lane : Lane) (old new : Node) (before : Bool) (fits : Type 0) (e : Event) (sends : List Parcel) → IsLane g old before fits lane → lane.live ≡ true → node_run g old e ≡ (new, sends)
+pub lane_sends : (g : Group) (lane : Lane) (old new : Node) (before : Bool) (fits : Type 0) (e : Event) (sends : List Parcel)
+    → IsLane g old before fits lane → lane.live ≡ true → node_run g old e ≡ (new, sends)
     → IsSentOn g lane.actor e sends
-lane_sends g lane old new before fits e sends k live step = (lane.steps, (k.replay, sym (ap (λ (t : Node × List Parcel). t.1) (runs_as g lane old before fits e (new, sends) k live step))))
+lane_sends g lane old new before fits e sends k live step =
+    (lane.steps, (k.replay, sym (ap (λ (t : Node × List Parcel). t.1) (runs_as g lane old before fits e (new, sends) k live step))))
 
 pub lane_step : (g : Group) (lane : Lane) (old new : Node) (before now : Bool) (fits fits' : Type 0) (r : Record) (e : Event) (sends : List Parcel)
-    → IsLane g old before fits lane → lane.live ≡ true → r.actor ≡ lane.actor → r.event ≡ e → r.sends ≡ sends → node_run g old e ≡ (new, sends) → now ≡ true → fits'
+    → IsLane g old before fits lane → lane.live ≡ true → r.actor ≡ lane.actor → r.event ≡ e → r.sends ≡ sends
+    → node_run g old e ≡ (new, sends) → now ≡ true → fits'
     → IsLane g new now fits' (record { actor = lane.actor; live = true; steps = r ∷ lane.steps })
 lane_step g lane old new before now fits fits' r e sends k live own event sent step lives is_of =
     let a = lane.actor in
-    let ran : node_run g (node_of g a lane.steps) r.event ≡ (new, sends) = ap (λ (f : Event). node_run g (node_of g a lane.steps) f) event ∙ runs_as g lane old before fits e (new, sends) k live step in
+    let ran : node_run g (node_of g a lane.steps) r.event ≡ (new, sends) =
+    ap (λ (f : Event). node_run g (node_of g a lane.steps) f) event ∙ runs_as g lane old before fits e (new, sends) k live step in
     record {
       is_of = is_of;
       replay = (own, (sent ∙ sym (ap (λ (t : Node × List Parcel). t.1) ran), k.replay));
       there = λ _. record {
         lives = lives;
-        stands = sym (ap (λ (t : Node × List Parcel). t.0) ran) ∙ ap (λ (s : _). let n : Node = record { actor = a; state = s } in n) (sym (acts_itself g a r lane.steps own));
+        stands =
+            sym (ap (λ (t : Node × List Parcel). t.0) ran)
+            ∙ ap (λ (s : _). let n : Node = record { actor = a; state = s } in n) (sym (acts_itself g a r lane.steps own));
       };
     }

@@ -4,7 +4,7 @@ ghost use Rattle.std.specs.Prelude.{◌≡◌, ◌↔◌, ◌∷◌, [], true, f
 ghost use Rattle.nz_machine.specs.Schedule.{group_of};
 ghost use Rattle.nz_machine.specs.Step.{first_node};
 ghost use Rattle.nz_fabric.specs.Replays.{IsReplay, IsSentOn};
-ghost use Rattle.nz_fabric.specs.States.{recorded};
+ghost use Rattle.nz_fabric.specs.States.{record_of_turn};
 
 use nz_base::{Actor, NoMemory, TryCopy};
 use nz_fabric::{Name, Turn};
@@ -32,7 +32,8 @@ impl<N: Name, C: Core> Model for ActorState<N, C> {
 
     ghost view = { λ s. record { actor = s.actor; live = s.live; steps = reverse s.lane } };
 
-    ghost invariant = { λ s. IsLane (group_of N.scenario) (C.meaning s.core) (C.live s.core) (C.fits s.core (group_of N.scenario)) (record { actor = s.actor; live = s.live; steps = reverse s.lane }) };
+    ghost invariant = { λ s. IsLane (group_of N.scenario) (C.meaning s.core) (C.live s.core)
+        (C.fits s.core (group_of N.scenario)) (record { actor = s.actor; live = s.live; steps = reverse s.lane }) };
 }
 
 impl<N: Name, C: Core> ActorState<N, C> {
@@ -65,7 +66,7 @@ impl<N: Name, C: Core> ActorState<N, C> {
     pub fn step_turn(&mut self, turn: &Turn) -> Result<Sends, NoMemory>
         requires live { self.old.live ≡ true }
         requires actor { turn.now.actor ≡ self.old.actor }
-        ensures ok { IfOk result (λ sends. self.new ≡ record self.old { steps = recorded turn.now sends ∷ self.old.steps }) }
+        ensures ok { IfOk result (λ sends. self.new ≡ record self.old { steps = record_of_turn turn.now sends ∷ self.old.steps }) }
         ensures sent { IfOk result (IsSentOn (group_of N.scenario) turn.now.actor turn.now.event) }
         ensures err { OnErr result (self.new ≡ record self.old { live = false }) }
     {

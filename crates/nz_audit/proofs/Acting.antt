@@ -1,5 +1,6 @@
 -- What a reading has found stays true as it takes one more record.
-use Rattle.std.proofs.Common.{◌≡◌, ℕ, zero, suc, ◌+◌, ◌<◌, ◌≤◌, false, eqb, List, [], ◌∷◌, ◌++◌, length, take, reverse, get_or, Option, Some, None, Result, Ok, Err, refl, sym, ap, subst, ◌∙◌, inl, inr, arith, eqb-true}
+use Rattle.std.proofs.Common.{◌≡◌, ℕ, zero, suc, ◌+◌, ◌<◌, ◌≤◌, false, eqb, List, [], ◌∷◌, ◌++◌, length, take, reverse, get_or}
+use Rattle.std.proofs.Common.{Option, Some, None, Result, Ok, Err, refl, sym, ap, subst, ◌∙◌, inl, inr, arith, eqb-true}
 use Rattle.std.specs.Prelude.{OnOk}
 use Rattle.std.specs.Option.{option_and_then, option_flatten}
 use Rattle.std.proofs.lemmas.List.{reverse-append, reverse-reverse, length-reverse, length-append}
@@ -43,7 +44,8 @@ on_three (Err e) f p q s = tt
 
 -- ---- proxies
 
-pub proxy_stays : (g : Group) (q : ℕ) (r : Record) (J : List Record) (notes : Option ProxyNotes) → actor_eq r.actor (Proxy q) ≡ false → IsProxy g J q notes → IsProxy g (r ∷ J) q notes
+pub proxy_stays : (g : Group) (q : ℕ) (r : Record) (J : List Record) (notes : Option ProxyNotes)
+    → actor_eq r.actor (Proxy q) ≡ false → IsProxy g J q notes → IsProxy g (r ∷ J) q notes
 proxy_stays g q r J notes other h =
     let same = stays g (Proxy q) r J other in
     record {
@@ -51,7 +53,8 @@ proxy_stays g q r J notes other h =
       known = λ id. h.known id ∙ sym (memory_stays g q id r J (ap (λ (s : ProxyData). standing_of s id) same));
     }
 
-pub event_source : (g : Group) (J : List Record) (table : List (ParcelKey × Option Source)) (e : Event) (s : Option Source) → IsTable g J table → s ≡ source_delivered table e → source_in g J e s
+pub event_source : (g : Group) (J : List Record) (table : List (ParcelKey × Option Source)) (e : Event) (s : Option Source) → IsTable g J table
+    → s ≡ source_delivered table e → source_in g J e s
 event_source g J table (Deliver p) s t is = is ∙ ap option_flatten (t.exact p)
 event_source g J table (Cut p kept) s t is = tt
 event_source g J table (Tick clock) s t is = tt
@@ -59,22 +62,28 @@ event_source g J table Alarm s t is = tt
 event_source g J table Crash s t is = tt
 event_source g J table (Restart nonce) s t is = tt
 
-own_takes : (g : Group) (q f : ℕ) (r : Record) (J : List Record) (s : Option Source) (before after : Option ProxyNotes) → World g (r ∷ J) → r.actor ≡ Proxy q → g.f ≡ f → source_in g J r.event s → IsProxy g J q before
-    → is_down_in after ≡ down_after r.event (is_down_in before) → ((id : Id) → known_to after id ≡ after_event f q s (is_down_in before) id r.event (known_to before id)) → IsProxy g (r ∷ J) q after
+own_takes : (g : Group) (q f : ℕ) (r : Record) (J : List Record) (s : Option Source) (before after : Option ProxyNotes) → World g (r ∷ J)
+    → r.actor ≡ Proxy q → g.f ≡ f → source_in g J r.event s → IsProxy g J q before
+    → is_down_in after ≡ down_after r.event (is_down_in before)
+    → ((id : Id) → known_to after id ≡ after_event f q s (is_down_in before) id r.event (known_to before id)) → IsProxy g (r ∷ J) q after
 own_takes g q f r J s before after w by is_f from h down known = record {
   down = down ∙ ap (down_after r.event) h.down ∙ sym (down_then g q r J by);
   known = λ id. known id ∙ (λ i. after_event (sym is_f i) q s (h.down i) id r.event (h.known id i)) ∙ sym (memory_after g q id r J s w by from);
 }
 
-pub proxy_takes_it : (g : Group) (k q f : ℕ) (r : Record) (J : List Record) (s : Option Source) (own_before own_after before after : Option ProxyNotes) → World g (r ∷ J) → r.actor ≡ Proxy q → g.f ≡ f → source_in g J r.event s
+pub proxy_takes_it : (g : Group) (k q f : ℕ) (r : Record) (J : List Record) (s : Option Source)
+    (own_before own_after before after : Option ProxyNotes) → World g (r ∷ J) → r.actor ≡ Proxy q → g.f ≡ f → source_in g J r.event s
     → (q ≡ k → (before ≡ own_before) × (after ≡ own_after)) → (eqb q k ≡ false → after ≡ before)
-    → is_down_in own_after ≡ down_after r.event (is_down_in own_before) → ((id : Id) → known_to own_after id ≡ after_event f q s (is_down_in own_before) id r.event (known_to own_before id)) → IsProxy g J k before → IsProxy g (r ∷ J) k after
+    → is_down_in own_after ≡ down_after r.event (is_down_in own_before)
+    → ((id : Id) → known_to own_after id ≡ after_event f q s (is_down_in own_before) id r.event (known_to own_before id)) → IsProxy g J k before
+    → IsProxy g (r ∷ J) k after
 proxy_takes_it g k q f r J s own_before own_after before after w by is_f from own others down known h = elim (cases_bool (eqb q k)) [
   | inl same ↦
       let at = eqb-true q k same in
       let is = own at in
       let h_own : IsProxy g J q own_before = subst (λ (n : ℕ). IsProxy g J n own_before) (sym at) (subst (IsProxy g J k) is.0 h) in
-      subst (IsProxy g (r ∷ J) k) (sym is.1) (subst (λ (n : ℕ). IsProxy g (r ∷ J) n own_after) at (own_takes g q f r J s own_before own_after w by is_f from h_own down known))
+      subst (IsProxy g (r ∷ J) k) (sym is.1)
+      (subst (λ (n : ℕ). IsProxy g (r ∷ J) n own_after) at (own_takes g q f r J s own_before own_after w by is_f from h_own down known))
   | inr other ↦ subst (IsProxy g (r ∷ J) k) (sym (others other)) (proxy_stays g k r J before (ap (λ (a : Actor). actor_eq a (Proxy k)) by ∙ other) h)
 ]
 
@@ -86,13 +95,19 @@ sized_of g q id J (Some (Decided a p)) = tt
 pub sized_by : (g : Group) (q : ℕ) (id : Id) (J : List Record) (notes : Option ProxyNotes) → IsProxy g J q notes → IsSized g.f (known_to notes id)
 sized_by g q id J notes h = subst (IsSized g.f) (sym (h.known id)) (sized_of g q id J (standing_after g q id J))
 
-decided_of : (g : Group) (q : ℕ) (id : Id) (J : List Record) (o : Option Standing) → standing_after g q id J ≡ o → decided_in (memory_of g q id J o) ≡ in_numbers g id (source_of_sender g id (Proxy q) J)
-decided_of g q id J None e = ap (λ (m : Option (List Record)). in_numbers g id (option_and_then (source_at_decision g q id) m)) (sym (no_decision g q id J (ap is_decided e)))
-decided_of g q id J (Some (Open replies)) e = ap (λ (m : Option (List Record)). in_numbers g id (option_and_then (source_at_decision g q id) m)) (sym (no_decision g q id J (ap is_decided e)))
+decided_of : (g : Group) (q : ℕ) (id : Id) (J : List Record) (o : Option Standing) → standing_after g q id J ≡ o
+    → decided_in (memory_of g q id J o) ≡ in_numbers g id (source_of_sender g id (Proxy q) J)
+decided_of g q id J None e =
+    ap (λ (m : Option (List Record)). in_numbers g id (option_and_then (source_at_decision g q id) m)) (sym (no_decision g q id J (ap is_decided e)))
+decided_of g q id J (Some (Open replies)) e =
+    ap (λ (m : Option (List Record)). in_numbers g id (option_and_then (source_at_decision g q id) m)) (sym (no_decision g q id J (ap is_decided e)))
 decided_of g q id J (Some (Decided a p)) e = refl
 
-pub decided_by : (g : Group) (q : ℕ) (id : Id) (J : List Record) (notes : Option ProxyNotes) (s : Option Source) → IsProxy g J q notes → s ≡ decided_in (known_to notes id) → s ≡ source_sent g id (Proxy q) J
-decided_by g q id J notes s h is = is ∙ ap decided_in (h.known id) ∙ ap (λ (o : Option Standing). decided_in (memory_of g q id J o)) refl ∙ decided_of g q id J (standing_after g q id J) refl
+pub decided_by : (g : Group) (q : ℕ) (id : Id) (J : List Record) (notes : Option ProxyNotes) (s : Option Source)
+    → IsProxy g J q notes → s ≡ decided_in (known_to notes id) → s ≡ source_sent g id (Proxy q) J
+decided_by g q id J notes s h is =
+    is ∙ ap decided_in (h.known id) ∙ ap (λ (o : Option Standing). decided_in (memory_of g q id J o)) refl
+    ∙ decided_of g q id J (standing_after g q id J) refl
 
 -- ---- members
 

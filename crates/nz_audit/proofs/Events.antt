@@ -18,14 +18,15 @@ use Rattle.nz_machine.specs.declared.reply.Reply.{Reply}
 use Rattle.nz_machine.specs.State.{ProxyData, Group, Out}
 use Rattle.nz_machine.specs.Quorums.{answer_in}
 use Rattle.nz_machine.specs.Proxies.{standing_of, of_fast, of_slow, clock_rule, first_proxy}
-use Rattle.nz_machine.specs.Step.{proxy_message, received, envelope_step, event_step}
+use Rattle.nz_machine.specs.Step.{proxy_message, accepted_envelope, envelope_step, event_step}
 use Rattle.nz_machine.specs.World.{state_after, sent_in, Has, MayHappen, World}
 use Rattle.nz_machine.specs.Events.{read_in}
-use Rattle.nz_machine.specs.History.{standing_after, reply_in, reply_read, parcel_in, delivered, source as first_source, source_of}
+use Rattle.nz_machine.specs.History as history
+use Rattle.nz_machine.specs.History.{standing_after, reply_in, reply_read, parcel_in, parcel_delivered, source_of}
 use Rattle.nz_machine.proofs.Runs.{acts_itself}
 use Rattle.nz_audit.specs.declared.source.Source.{Source}
 use Rattle.nz_audit.specs.Sources.{in_numbers, about, stands_for}
-use Rattle.nz_audit.specs.Noting.{opened, noted_by, after_message, after_envelope, after_event, down_after}
+use Rattle.nz_audit.specs.Noting.{noted_after_request, noted_by, after_message, after_envelope, after_event, down_after}
 use Rattle.nz_audit.specs.Memories.{memory_of, memory}
 use Rattle.nz_audit.proofs.Memories.{standing_opened, standing_noted, memory_stays, memory_opens, memory_notes}
 use Rattle.nz_audit.proofs.Standings.{stamp_opens, reply_notes, stamp_up, reply_up}
@@ -33,23 +34,29 @@ use Rattle.nz_audit.proofs.Hearing.{source_read}
 
 -- the source that goes with what is delivered
 abbrev pub IsFrom : Group → ℕ → Id → Record → List Record → Parcel → Option Source → Type 0
-IsFrom g q id r J p source = (reply : Reply) → reply_read id (read_in g (Proxy q) r.event) ≡ Some reply → source ≡ cond (is_some (answer_in reply)) (in_numbers g id (source_of (r ∷ J) p)) None
+IsFrom g q id r J p source =
+    (reply : Reply) → reply_read id (read_in g (Proxy q) r.event) ≡ Some reply
+    → source ≡ cond (is_some (answer_in reply)) (in_numbers g id (source_of (r ∷ J) p)) None
 
 -- ---- a message
 
-after_request : (g : Group) (q : ℕ) (id own : Id) (r : Record) (J : List Record) (b : Bool) → standing_after g q id (r ∷ J) ≡ cond b (standing_opened (standing_after g q id J)) (standing_after g q id J)
-    → memory g q id (r ∷ J) ≡ cond b (opened g.f (memory g q id J)) (memory g q id J)
+after_request : (g : Group) (q : ℕ) (id own : Id) (r : Record) (J : List Record) (b : Bool)
+    → standing_after g q id (r ∷ J) ≡ cond b (standing_opened (standing_after g q id J)) (standing_after g q id J)
+    → memory g q id (r ∷ J) ≡ cond b (noted_after_request g.f (memory g q id J)) (memory g q id J)
 after_request g q id own r J true after = memory_opens g q id r J after
 after_request g q id own r J false after = memory_stays g q id r J after
 
-after_reply : (g : Group) (q : ℕ) (id own : Id) (r : Record) (J : List Record) (p : Parcel) (reply : Reply) (source : Option Source) (b : Bool) → delivered (r ∷ J) ≡ Some p
+after_reply : (g : Group) (q : ℕ) (id own : Id) (r : Record) (J : List Record) (p : Parcel) (reply : Reply) (source : Option Source) (b : Bool)
+    → parcel_delivered (r ∷ J) ≡ Some p
     → reply_read id (read_in g (Proxy q) r.event) ≡ cond b (Some reply) None → IsFrom g q id r J p source
     → standing_after g q id (r ∷ J) ≡ cond b (standing_noted g.f reply (standing_after g q id J)) (standing_after g q id J)
     → memory g q id (r ∷ J) ≡ cond b (option_map (noted_by reply source) (memory g q id J)) (memory g q id J)
-after_reply g q id own r J p reply source true parcel read from after = memory_notes g q id r J p reply source (record { parcel = parcel; read = read; from = from reply read }) after
+after_reply g q id own r J p reply source true parcel read from after =
+    memory_notes g q id r J p reply source (record { parcel = parcel; read = read; from = from reply read }) after
 after_reply g q id own r J p reply source false parcel read from after = memory_stays g q id r J after
 
-message_memory : (g : Group) (q : ℕ) (id : Id) (r : Record) (J : List Record) (p : Parcel) (source : Option Source) (from : Actor) (m : Message) → delivered (r ∷ J) ≡ Some p
+message_memory : (g : Group) (q : ℕ) (id : Id) (r : Record) (J : List Record) (p : Parcel) (source : Option Source) (from : Actor) (m : Message)
+    → parcel_delivered (r ∷ J) ≡ Some p
     → reply_read id (read_in g (Proxy q) r.event) ≡ reply_in id from m → IsFrom g q id r J p source
     → standing_after g q id (r ∷ J) ≡ standing_of (proxy_message g.f (state_after g (Proxy q) J) from m).0 id
     → memory g q id (r ∷ J) ≡ after_message g.f source id from m (memory g q id J)
@@ -57,57 +64,71 @@ message_memory g q id r J p source (Client c) (Request b) parcel read by after =
     let own : Id = record { client = c; num = b.num } in
     after_request g q id own r J (id_eq own id) (after ∙ stamp_opens g.f (state_after g (Proxy q) J) c b id)
 message_memory g q id r J p source (Replica k) (FastReply b) parcel read by after =
-    after_reply g q id b.id r J p (of_fast k b) source (id_eq b.id id) parcel read by (after ∙ reply_notes g.f (state_after g (Proxy q) J) k b.id b.delay (of_fast k b) id)
+    after_reply g q id b.id r J p (of_fast k b) source (id_eq b.id id) parcel read by
+    (after ∙ reply_notes g.f (state_after g (Proxy q) J) k b.id b.delay (of_fast k b) id)
 message_memory g q id r J p source (Replica k) (SlowReply b) parcel read by after =
-    after_reply g q id b.id r J p (of_slow k b) source (id_eq b.id id) parcel read by (after ∙ reply_notes g.f (state_after g (Proxy q) J) k b.id b.delay (of_slow k b) id)
+    after_reply g q id b.id r J p (of_slow k b) source (id_eq b.id id) parcel read by
+    (after ∙ reply_notes g.f (state_after g (Proxy q) J) k b.id b.delay (of_slow k b) id)
 message_memory g q id r J p source _ _ parcel read by after = memory_stays g q id r J after
 
 -- a proxy that is down hears nothing
-up_memory : (g : Group) (q : ℕ) (id : Id) (r : Record) (J : List Record) (p : Parcel) (source : Option Source) (e : Envelope) (down : Bool) → delivered (r ∷ J) ≡ Some p
+up_memory : (g : Group) (q : ℕ) (id : Id) (r : Record) (J : List Record) (p : Parcel) (source : Option Source) (e : Envelope) (down : Bool)
+    → parcel_delivered (r ∷ J) ≡ Some p
     → reply_read id (read_in g (Proxy q) r.event) ≡ reply_in id e.from e.message → IsFrom g q id r J p source
-    → standing_after g q id (r ∷ J) ≡ standing_of (cond down (state_after g (Proxy q) J, []) (proxy_message g.f (state_after g (Proxy q) J) e.from e.message)).0 id
+    → standing_after g q id (r ∷ J)
+    ≡ standing_of (cond down (state_after g (Proxy q) J, []) (proxy_message g.f (state_after g (Proxy q) J) e.from e.message)).0 id
     → memory g q id (r ∷ J) ≡ cond down (memory g q id J) (after_message g.f source id e.from e.message (memory g q id J))
 up_memory g q id r J p source e true parcel read by after = memory_stays g q id r J after
 up_memory g q id r J p source e false parcel read by after = message_memory g q id r J p source e.from e.message parcel read by after
 
-envelope_memory : (g : Group) (q : ℕ) (id : Id) (r : Record) (J : List Record) (p : Parcel) (source : Option Source) (o : Option Envelope) → delivered (r ∷ J) ≡ Some p → read_in g (Proxy q) r.event ≡ o → IsFrom g q id r J p source
+envelope_memory : (g : Group) (q : ℕ) (id : Id) (r : Record) (J : List Record) (p : Parcel) (source : Option Source) (o : Option Envelope)
+    → parcel_delivered (r ∷ J) ≡ Some p → read_in g (Proxy q) r.event ≡ o → IsFrom g q id r J p source
     → standing_after g q id (r ∷ J) ≡ standing_of (envelope_step g (Proxy q) (state_after g (Proxy q) J) o).0 id
     → memory g q id (r ∷ J) ≡ after_envelope g.f source (state_after g (Proxy q) J).is_down id o (memory g q id J)
 envelope_memory g q id r J p source None parcel read by after = memory_stays g q id r J after
-envelope_memory g q id r J p source (Some e) parcel read by after = up_memory g q id r J p source e (state_after g (Proxy q) J).is_down parcel (ap (reply_read id) read) by after
+envelope_memory g q id r J p source (Some e) parcel read by after =
+    up_memory g q id r J p source e (state_after g (Proxy q) J).is_down parcel (ap (reply_read id) read) by after
 
 -- ---- an event
 
 -- the source is that of what is delivered
 abbrev pub source_in : Group → List Record → Event → Option Source → Type 0
-source_in g J (Deliver p) source = source ≡ option_flatten (stands_for g p (first_source p J) (about p))
+source_in g J (Deliver p) source = source ≡ option_flatten (stands_for g p (history.source p J) (about p))
 source_in g J _ source = Unit {0}
 
 forgotten : (g : Group) (q : ℕ) (id : Id) (r : Record) (J : List Record) → standing_after g q id (r ∷ J) ≡ None → memory g q id (r ∷ J) ≡ None
 forgotten g q id r J after = ap (memory_of g q id (r ∷ J)) after
 
-restarted : (g : Group) (q : ℕ) (id : Id) (r : Record) (J : List Record) (down : Bool) → standing_after g q id (r ∷ J) ≡ standing_of (cond down (first_proxy g.f) (state_after g (Proxy q) J)) id → memory g q id (r ∷ J) ≡ cond down None (memory g q id J)
+restarted : (g : Group) (q : ℕ) (id : Id) (r : Record) (J : List Record) (down : Bool)
+    → standing_after g q id (r ∷ J) ≡ standing_of (cond down (first_proxy g.f) (state_after g (Proxy q) J)) id
+    → memory g q id (r ∷ J) ≡ cond down None (memory g q id J)
 restarted g q id r J true after = forgotten g q id r J after
 restarted g q id r J false after = memory_stays g q id r J after
 
-ticked : (g : Group) (q : ℕ) (id : Id) (r : Record) (J : List Record) (clock : ℕ) (down : Bool) → standing_after g q id (r ∷ J) ≡ standing_of (cond {A = ProxyData × List Out} down (state_after g (Proxy q) J, []) (clock_rule (state_after g (Proxy q) J) clock, [])).0 id → memory g q id (r ∷ J) ≡ memory g q id J
+ticked : (g : Group) (q : ℕ) (id : Id) (r : Record) (J : List Record) (clock : ℕ) (down : Bool)
+    → standing_after g q id (r ∷ J)
+    ≡ standing_of (cond {A = ProxyData × List Out} down (state_after g (Proxy q) J, []) (clock_rule (state_after g (Proxy q) J) clock, [])).0 id
+    → memory g q id (r ∷ J) ≡ memory g q id J
 unfolding clock_rule
 ticked g q id r J clock true after = memory_stays g q id r J after
 ticked g q id r J clock false after = memory_stays g q id r J after
 
-event_by : (g : Group) (q : ℕ) (id : Id) (r : Record) (J : List Record) (source : Option Source) (e : Event) → World g (r ∷ J) → r.event ≡ e → source_in g J e source
+event_by : (g : Group) (q : ℕ) (id : Id) (r : Record) (J : List Record) (source : Option Source) (e : Event)
+    → World g (r ∷ J) → r.event ≡ e → source_in g J e source
     → standing_after g q id (r ∷ J) ≡ standing_of (event_step g (Proxy q) (state_after g (Proxy q) J) e).0 id
     → memory g q id (r ∷ J) ≡ after_event g.f q source (state_after g (Proxy q) J).is_down id e (memory g q id J)
 event_by g q id r J source (Deliver p) w is from after =
-    envelope_memory g q id r J p source (received g.f (Proxy q) p) (ap parcel_in is) (ap (read_in g (Proxy q)) is) brings after
+    envelope_memory g q id r J p source (accepted_envelope g.f (Proxy q) p) (ap parcel_in is) (ap (read_in g (Proxy q)) is) brings after
   where
     sent : Has (sent_in J) p
     sent = (subst (MayHappen J r.actor) is w.0.event).1
 
     brings : IsFrom g q id r J p source
-    brings reply read = from ∙ heard (received g.f (Proxy q) p) refl (ap (λ (x : Event). reply_read id (read_in g (Proxy q) x)) (sym is) ∙ read)
+    brings reply read = from ∙ heard (accepted_envelope g.f (Proxy q) p) refl (ap (λ (x : Event). reply_read id (read_in g (Proxy q) x)) (sym is) ∙ read)
       where
-        heard : (o : Option Envelope) → received g.f (Proxy q) p ≡ o → reply_read id o ≡ Some reply → option_flatten (stands_for g p (first_source p J) (about p)) ≡ cond (is_some (answer_in reply)) (in_numbers g id (source_of (r ∷ J) p)) None
+        heard : (o : Option Envelope) → accepted_envelope g.f (Proxy q) p ≡ o → reply_read id o ≡ Some reply
+            → option_flatten (stands_for g p (history.source p J) (about p))
+            ≡ cond (is_some (answer_in reply)) (in_numbers g id (source_of (r ∷ J) p)) None
         heard None h k = absurd (none-some reply k)
         heard (Some e) h k = source_read g q id r J p e reply sent h k
 event_by g q id r J source (Cut p kept) w is from after = memory_stays g q id r J after
@@ -117,9 +138,11 @@ event_by g q id r J source Crash w is from after = forgotten g q id r J after
 event_by g q id r J source (Restart nonce) w is from after = restarted g q id r J (state_after g (Proxy q) J).is_down after
 
 -- what a proxy knows after a record of its own
-pub memory_after : (g : Group) (q : ℕ) (id : Id) (r : Record) (J : List Record) (source : Option Source) → World g (r ∷ J) → r.actor ≡ Proxy q → source_in g J r.event source
+pub memory_after : (g : Group) (q : ℕ) (id : Id) (r : Record) (J : List Record) (source : Option Source)
+    → World g (r ∷ J) → r.actor ≡ Proxy q → source_in g J r.event source
     → memory g q id (r ∷ J) ≡ after_event g.f q source (state_after g (Proxy q) J).is_down id r.event (memory g q id J)
-memory_after g q id r J source w by from = event_by g q id r J source r.event w refl from (ap (λ (s : ProxyData). standing_of s id) (acts_itself g (Proxy q) r J by))
+memory_after g q id r J source w by from =
+    event_by g q id r J source r.event w refl from (ap (λ (s : ProxyData). standing_of s id) (acts_itself g (Proxy q) r J by))
 
 -- ---- whether a proxy is down
 
@@ -143,12 +166,13 @@ restarts_up f s false h = h
 
 up_after : (g : Group) (q : ℕ) (s : ProxyData) (e : Event) → (event_step g (Proxy q) s e).0.is_down ≡ down_after e s.is_down
 unfolding clock_rule
-up_after g q s (Deliver p) = envelope_up g q s (received g.f (Proxy q) p)
+up_after g q s (Deliver p) = envelope_up g q s (accepted_envelope g.f (Proxy q) p)
 up_after g q s (Cut p kept) = refl
 up_after g q s (Tick clock) = either_up s (clock_rule s clock, []) s.is_down refl
 up_after g q s Alarm = refl
 up_after g q s Crash = refl
 up_after g q s (Restart nonce) = restarts_up g.f s s.is_down refl
 
-pub down_then : (g : Group) (q : ℕ) (r : Record) (J : List Record) → r.actor ≡ Proxy q → (state_after g (Proxy q) (r ∷ J)).is_down ≡ down_after r.event (state_after g (Proxy q) J).is_down
+pub down_then : (g : Group) (q : ℕ) (r : Record) (J : List Record) → r.actor ≡ Proxy q
+    → (state_after g (Proxy q) (r ∷ J)).is_down ≡ down_after r.event (state_after g (Proxy q) J).is_down
 down_then g q r J by = ap (λ (s : ProxyData). s.is_down) (acts_itself g (Proxy q) r J by) ∙ up_after g q (state_after g (Proxy q) J) r.event

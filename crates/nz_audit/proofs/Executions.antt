@@ -10,7 +10,7 @@ use Rattle.nz_store.specs.Entries.{empty}
 use Rattle.nz_store.specs.declared.command.Answer.{Answer}
 use Rattle.nz_machine.specs.declared.journal.Executed.{Executed}
 use Rattle.nz_machine.specs.Replicas.{commands}
-use Rattle.nz_machine.specs.Journals.{answered, executed_from, executed}
+use Rattle.nz_machine.specs.Journals.{executed_if_answered, executed_from, executed_entries}
 
 commands_of : (es : List Entry) (e : Entry) → commands (es ++ e ∷ []) ≡ commands es ++ e.command ∷ []
 commands_of es e = map-append (λ (x : Entry). x.command) es (e ∷ [])
@@ -20,24 +20,33 @@ unfolding store_from
 store_first = refl
 
 -- what is answered in a longer list
-older_same : (H : List Entry) (e : Entry) (place : ℕ) (es : List Entry) → place + length es ≤ length H → executed_from (H ++ e ∷ []) place es ≡ executed_from H place es
+older_same : (H : List Entry) (e : Entry) (place : ℕ) (es : List Entry) → place + length es ≤ length H
+    → executed_from (H ++ e ∷ []) place es ≡ executed_from H place es
 older_same H e place [] le = refl
 older_same H e place (x ∷ es) le =
     let long : length (commands H) ≡ length H = length-map H (λ (y : Entry). y.command) in
-    let same : reply (commands (H ++ e ∷ [])) place ≡ reply (commands H) place = ap (λ (l : List (List ℕ)). reply l place) (commands_of H e) ∙ reply-append (commands H) (e.command ∷ []) place (omega (arith, le, long)) in
-    ap (λ (l : List Executed). answered x (reply (commands (H ++ e ∷ [])) place) ++ l) (older_same H e (suc place) es (omega (arith, le))) ∙ ap (λ (o : Option Answer). answered x o ++ executed_from H (suc place) es) same
+    let same : reply (commands (H ++ e ∷ [])) place ≡ reply (commands H) place =
+    ap (λ (l : List (List ℕ)). reply l place) (commands_of H e) ∙ reply-append (commands H) (e.command ∷ []) place (omega (arith, le, long)) in
+    ap (λ (l : List Executed). executed_if_answered x (reply (commands (H ++ e ∷ [])) place) ++ l)
+    (older_same H e (suc place) es (omega (arith, le)))
+    ∙ ap (λ (o : Option Answer). executed_if_answered x o ++ executed_from H (suc place) es) same
 
-split_from : (H : List Entry) (place : ℕ) (es : List Entry) (e : Entry) → executed_from H place (es ++ e ∷ []) ≡ executed_from H place es ++ answered e (reply (commands H) (place + length es))
-split_from H place [] e = let at : place + 0 ≡ place = omega arith in append-nil (answered e (reply (commands H) place)) ∙ ap (λ k. answered e (reply (commands H) k)) (sym at)
+split_from : (H : List Entry) (place : ℕ) (es : List Entry) (e : Entry)
+    → executed_from H place (es ++ e ∷ []) ≡ executed_from H place es ++ executed_if_answered e (reply (commands H) (place + length es))
+split_from H place [] e = let at : place + 0 ≡ place = omega arith in
+    append-nil (executed_if_answered e (reply (commands H) place)) ∙ ap (λ k. executed_if_answered e (reply (commands H) k)) (sym at)
 split_from H place (x ∷ es) e =
     let at : suc place + length es ≡ place + suc (length es) = omega arith in
-    ap (λ (l : List Executed). answered x (reply (commands H) place) ++ l) (split_from H (suc place) es e ∙ ap (λ k. executed_from H (suc place) es ++ answered e (reply (commands H) k)) at)
-    ∙ sym (append_assoc (answered x (reply (commands H) place)) (executed_from H (suc place) es) (answered e (reply (commands H) (place + suc (length es)))))
+    ap (λ (l : List Executed). executed_if_answered x (reply (commands H) place) ++ l)
+    (split_from H (suc place) es e ∙ ap (λ k. executed_from H (suc place) es ++ executed_if_answered e (reply (commands H) k)) at)
+    ∙ sym (append_assoc (executed_if_answered x (reply (commands H) place)) (executed_from H (suc place) es)
+    (executed_if_answered e (reply (commands H) (place + suc (length es)))))
 
 last_reply : (es : List Entry) (e : Entry) → reply (commands (es ++ e ∷ [])) (length es) ≡ Some (answer_after (commands es) e.command)
 last_reply es e =
     let long : length (replies (commands es)) ≡ length es = replies_long es in
-    sym (slice_get-replies (commands (es ++ e ∷ [])) (length es)) ∙ ap (λ (l : List Answer). slice_get l (length es)) (ap replies (commands_of es e) ∙ replies-push (commands es) e.command)
+    sym (slice_get-replies (commands (es ++ e ∷ [])) (length es))
+    ∙ ap (λ (l : List Answer). slice_get l (length es)) (ap replies (commands_of es e) ∙ replies-push (commands es) e.command)
     ∙ at_end (replies (commands es)) (answer_after (commands es) e.command) (length es) long
   where
     at_end : {X : Type 0} (xs : List X) (x : X) (n : ℕ) → length xs ≡ n → slice_get (xs ++ x ∷ []) n ≡ Some x
@@ -50,16 +59,20 @@ last_reply es e =
     replies_long es = length-replies_from empty (commands es) ∙ length-map es (λ (y : Entry). y.command)
 
 -- one more entry is executed
-pub executed_then : (es : List Entry) (e : Entry) → executed (es ++ e ∷ []) ≡ executed es ++ record { id = id_of e.key; command = e.command; answer = answer_after (commands es) e.command } ∷ []
+pub executed_then : (es : List Entry) (e : Entry)
+    → executed_entries (es ++ e ∷ [])
+    ≡ executed_entries es ++ record { id = id_of e.key; command = e.command; answer = answer_after (commands es) e.command } ∷ []
 executed_then es e =
     let start : 0 + length es ≡ length es = omega arith in
-    split_from (es ++ e ∷ []) 0 es e ∙ ap (λ n. executed_from (es ++ e ∷ []) 0 es ++ answered e (reply (commands (es ++ e ∷ [])) n)) start
-    ∙ ap (λ (l : List Executed). l ++ answered e (reply (commands (es ++ e ∷ [])) (length es))) (older_same es e 0 es (omega arith))
-    ∙ ap (λ (o : Option Answer). executed es ++ answered e o) (last_reply es e)
+    split_from (es ++ e ∷ []) 0 es e ∙ ap (λ n. executed_from (es ++ e ∷ []) 0 es ++ executed_if_answered e (reply (commands (es ++ e ∷ [])) n)) start
+    ∙ ap (λ (l : List Executed). l ++ executed_if_answered e (reply (commands (es ++ e ∷ [])) (length es))) (older_same es e 0 es (omega arith))
+    ∙ ap (λ (o : Option Answer). executed_entries es ++ executed_if_answered e o) (last_reply es e)
 
 -- so is a list that has it
-pub executed_more : (es : List Entry) (e : Entry) (done : List Executed) (x : Executed) → done ≡ executed es → x.id ≡ id_of e.key → x.command ≡ e.command → x.answer ≡ answer_after (commands es) e.command
-    → done ++ x ∷ [] ≡ executed (es ++ e ∷ [])
+pub executed_more : (es : List Entry) (e : Entry) (done : List Executed) (x : Executed) → done ≡ executed_entries es
+    → x.id ≡ id_of e.key → x.command ≡ e.command → x.answer ≡ answer_after (commands es) e.command
+    → done ++ x ∷ [] ≡ executed_entries (es ++ e ∷ [])
 executed_more es e done x so_far id command answer =
-    let one : x ≡ record { id = id_of e.key; command = e.command; answer = answer_after (commands es) e.command } = λ i. record { id = id i; command = command i; answer = answer i } in
-    ap (λ (l : List Executed). l ++ x ∷ []) so_far ∙ ap (λ (y : Executed). executed es ++ y ∷ []) one ∙ sym (executed_then es e)
+    let one : x ≡ record { id = id_of e.key; command = e.command; answer = answer_after (commands es) e.command } =
+    λ i. record { id = id i; command = command i; answer = answer i } in
+    ap (λ (l : List Executed). l ++ x ∷ []) so_far ∙ ap (λ (y : Executed). executed_entries es ++ y ∷ []) one ∙ sym (executed_then es e)

@@ -22,7 +22,7 @@ use Rattle.nz_machine.specs.declared.reply.Reply.{Reply}
 use Rattle.nz_machine.specs.State.{Group}
 use Rattle.nz_machine.specs.Quorums.{answer_in}
 use Rattle.nz_machine.specs.Proxies.{of_fast, of_slow}
-use Rattle.nz_machine.specs.Step.{is_in_cluster, is_sized, vector_of, is_for, heard_if, heard, counted, received}
+use Rattle.nz_machine.specs.Step.{is_in_cluster, is_sized, message_vector, is_for, envelope_if_for, envelope_for, if_from_cluster, accepted_envelope}
 use Rattle.nz_machine.specs.World.{sent_in, Has}
 use Rattle.nz_machine.specs.History.{reply_in, source, source_of}
 use Rattle.nz_machine.proofs.Sources.{has_source, source_stays}
@@ -32,20 +32,20 @@ use Rattle.nz_audit.specs.Sources.{numbers_of, in_numbers, about_message, about_
 -- ---- an envelope that is heard is of the parcel
 
 pub record IsHeard (me : Actor) (p : Parcel) (e : Envelope) : Type 0 where
-  pub heard : heard me p ≡ Some e
+  pub heard : envelope_for me p ≡ Some e
   pub from : e.from ≡ p.from
   pub to : p.to ≡ me
   pub receiver : e.to ≡ me
 
-heard_by : (me : Actor) (p : Parcel) (d : Result Envelope DecodeRefusal) (e : Envelope) → heard_if me p d ≡ Some e → is_for me p e ≡ true
+heard_by : (me : Actor) (p : Parcel) (d : Result Envelope DecodeRefusal) (e : Envelope) → envelope_if_for me p d ≡ Some e → is_for me p e ≡ true
 heard_by me p (Err refusal) e h = absurd (none-some e h)
 heard_by me p (Ok found) e h = let c = cond_some (is_for me p found) found e h in ap (is_for me p) (sym c.1) ∙ c.0
 
-heard_of : (me : Actor) (p : Parcel) (e : Envelope) → heard me p ≡ Some e → is_for me p e ≡ true
-unfolding heard
+heard_of : (me : Actor) (p : Parcel) (e : Envelope) → envelope_for me p ≡ Some e → is_for me p e ≡ true
+unfolding envelope_for
 heard_of me p e h = heard_by me p (decode_of p.frame) e h
 
-pub is_heard : (me : Actor) (p : Parcel) (e : Envelope) → heard me p ≡ Some e → IsHeard me p e
+pub is_heard : (me : Actor) (p : Parcel) (e : Envelope) → envelope_for me p ≡ Some e → IsHeard me p e
 is_heard me p e h =
     let all = heard_of me p e h in
     let rest = and_right (actor_eq e.from p.from) (actor_eq e.to p.to && (actor_eq e.to me && not (actor_eq e.from me))) all in
@@ -59,48 +59,56 @@ is_heard me p e h =
       receiver = own;
     }
 
-counted_some : (f : ℕ) (o : Option Envelope) (e : Envelope) → counted f o ≡ Some e → o ≡ Some e
+counted_some : (f : ℕ) (o : Option Envelope) (e : Envelope) → if_from_cluster f o ≡ Some e → o ≡ Some e
 counted_some f None e h = absurd (none-some e h)
-counted_some f (Some found) e h = ap Some (cond_some (is_in_cluster f found.from && is_sized f (vector_of found.message)) found e h).1
+counted_some f (Some found) e h = ap Some (cond_some (is_in_cluster f found.from && is_sized f (message_vector found.message)) found e h).1
 
-pub is_received : (f : ℕ) (me : Actor) (p : Parcel) (e : Envelope) → received f me p ≡ Some e → IsHeard me p e
-is_received f me p e h = is_heard me p e (counted_some f (heard me p) e h)
+pub is_received : (f : ℕ) (me : Actor) (p : Parcel) (e : Envelope) → accepted_envelope f me p ≡ Some e → IsHeard me p e
+is_received f me p e h = is_heard me p e (counted_some f (envelope_for me p) e h)
 
 -- the request that it is about
 pub about_heard : (me : Actor) (p : Parcel) (e : Envelope) → IsHeard me p e → about p ≡ about_message e.from me e.message
 about_heard me p e h =
-    ap (λ (a : Actor). about_envelope (heard a p)) h.to ∙ ap about_envelope h.heard ∙ ap (λ (a : Actor). about_message e.from a e.message) h.receiver
+    ap (λ (a : Actor). about_envelope (envelope_for a p)) h.to ∙ ap about_envelope h.heard ∙ ap (λ (a : Actor). about_message e.from a e.message) h.receiver
 
 -- ---- the source of a reply that a proxy reads
 
 -- a parcel from a replica stands for its own source
 own_source : (g : Group) (id : Id) (p : Parcel) (k : ℕ) (first : Option (List Record)) → p.from ≡ Replica k
-    → option_flatten (option_map (source_sent g id p.from) first) ≡ in_numbers g id (option_map (λ (K : List Record). record { sender = p.from; run = K }) first)
+    → option_flatten (option_map (source_sent g id p.from) first)
+    ≡ in_numbers g id (option_map (λ (K : List Record). record { sender = p.from; run = K }) first)
 own_source g id p k None from = refl
 own_source g id p k (Some K) from = ap (λ (a : Actor). source_sent g id a K) from ∙ sym (ap (λ (a : Actor). numbers_of g id a K) from)
 
 source_later : (p : Parcel) (r : Record) (J : List Record) → Has (sent_in J) p → source p (r ∷ J) ≡ source p J
 source_later p r J sent = let s = has_source p J sent in source_stays p r J s.0 s.1 ∙ sym s.1
 
-read_by : (g : Group) (q : ℕ) (id : Id) (r : Record) (J : List Record) (p : Parcel) (from : Actor) (m : Message) (reply : Reply) → Has (sent_in J) p → p.from ≡ from → about p ≡ about_message from (Proxy q) m → reply_in id from m ≡ Some reply
+read_by : (g : Group) (q : ℕ) (id : Id) (r : Record) (J : List Record) (p : Parcel) (from : Actor) (m : Message) (reply : Reply)
+    → Has (sent_in J) p → p.from ≡ from → about p ≡ about_message from (Proxy q) m → reply_in id from m ≡ Some reply
     → option_flatten (stands_for g p (source p J) (about p)) ≡ cond (is_some (answer_in reply)) (in_numbers g id (source_of (r ∷ J) p)) None
 read_by g q id r J p (Replica k) (FastReply b) reply sent from is read =
     let c = cond_some (id_eq b.id id) (of_fast k b) reply read in
     let own = own_source g id p k (source p J) from in
     ap (λ (o : Option Id). option_flatten (stands_for g p (source p J) o)) is
     ∙ by_answer b.answer (same_id b.id id c.0)
-    ∙ ap (λ (x : Option Source). cond (is_some b.answer) x None) (own ∙ ap (λ (first : Option (List Record)). in_numbers g id (option_map (λ (K : List Record). record { sender = p.from; run = K }) first)) (sym (source_later p r J sent)))
+    ∙ ap (λ (x : Option Source). cond (is_some b.answer) x None)
+    (own ∙ ap (λ (first : Option (List Record)). in_numbers g id
+    (option_map (λ (K : List Record). record { sender = p.from; run = K }) first)) (sym (source_later p r J sent)))
     ∙ ap (λ (x : Reply). cond (is_some (answer_in x)) (in_numbers g id (source_of (r ∷ J) p)) None) c.1
   where
-    by_answer : (o : Option Answer) → b.id ≡ id → option_flatten (stands_for g p (source p J) (cond (is_some o) (Some b.id) None)) ≡ cond (is_some o) (option_flatten (option_map (source_sent g id p.from) (source p J))) None
+    by_answer : (o : Option Answer) → b.id ≡ id
+        → option_flatten (stands_for g p (source p J) (cond (is_some o) (Some b.id) None))
+        ≡ cond (is_some o) (option_flatten (option_map (source_sent g id p.from) (source p J))) None
     by_answer None same = refl
     by_answer (Some a) same = ap (λ (i : Id). option_flatten (option_map (source_sent g i p.from) (source p J))) same
 read_by g q id r J p (Replica k) (SlowReply b) reply sent from is read =
     let c = cond_some (id_eq b.id id) (of_slow k b) reply read in
-    ap (λ (o : Option Id). option_flatten (stands_for g p (source p J) o)) is ∙ ap (λ (x : Reply). cond (is_some (answer_in x)) (in_numbers g id (source_of (r ∷ J) p)) None) c.1
+    ap (λ (o : Option Id). option_flatten (stands_for g p (source p J) o)) is
+    ∙ ap (λ (x : Reply). cond (is_some (answer_in x)) (in_numbers g id (source_of (r ∷ J) p)) None) c.1
 read_by g q id r J p _ _ reply sent from is read = absurd (none-some reply read)
 
-pub source_read : (g : Group) (q : ℕ) (id : Id) (r : Record) (J : List Record) (p : Parcel) (e : Envelope) (reply : Reply) → Has (sent_in J) p → received g.f (Proxy q) p ≡ Some e → reply_in id e.from e.message ≡ Some reply
+pub source_read : (g : Group) (q : ℕ) (id : Id) (r : Record) (J : List Record) (p : Parcel) (e : Envelope) (reply : Reply) → Has (sent_in J) p
+    → accepted_envelope g.f (Proxy q) p ≡ Some e → reply_in id e.from e.message ≡ Some reply
     → option_flatten (stands_for g p (source p J) (about p)) ≡ cond (is_some (answer_in reply)) (in_numbers g id (source_of (r ∷ J) p)) None
 source_read g q id r J p e reply sent h read =
     let is = is_received g.f (Proxy q) p e h in

@@ -15,10 +15,12 @@ use Rattle.nz_audit.specs.Noting.{source_at, source_among}
 is_within : {X : Type 0} (p : X → Bool) (xs : List X) (x : X) → Has xs x → p x ≡ true → position_or_len p xs < length xs
 is_within p [] x h t = absurd h
 is_within p (y ∷ xs) x (inl e) t = let here : p y ≡ true = ap p e ∙ t in rw here (omega arith)
-is_within p (y ∷ xs) x (inr h) t = elim (cases_bool (p y)) [ inl here ↦ rw here (omega arith) | inr away ↦ rw away (let k = is_within p xs x h t in omega (arith, k)) ]
+is_within p (y ∷ xs) x (inr h) t =
+    elim (cases_bool (p y)) [ inl here ↦ rw here (omega arith) | inr away ↦ rw away (let k = is_within p xs x h t in omega (arith, k)) ]
 
 has_place : {X : Type 0} (p : X → Bool) (xs : List X) (x : X) → Has xs x → p x ≡ true → (i : ℕ) × (position p xs ≡ Some i)
-has_place p xs x h t = (position_or_len p xs, ap (λ b. cond b (Some (position_or_len p xs)) None) (lt-ltb (position_or_len p xs) (length xs) (is_within p xs x h t)))
+has_place p xs x h t =
+    (position_or_len p xs, ap (λ b. cond b (Some (position_or_len p xs)) None) (lt-ltb (position_or_len p xs) (length xs) (is_within p xs x h t)))
 
 pub place_among : (f : Reply → Option Source) (replies : List Reply) (reply : Reply) → Has replies reply → source_among (map f replies) replies reply ≡ f reply
 place_among f replies reply h =

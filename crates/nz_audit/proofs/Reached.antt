@@ -12,7 +12,9 @@ use Rattle.nz_machine.specs.declared.reply.Reply.{Reply}
 use Rattle.nz_machine.specs.State.{Group}
 use Rattle.nz_machine.specs.Quorums.{reply_eq}
 use Rattle.nz_machine.specs.World.{World, IsMember}
-use Rattle.nz_machine.specs.History.{ReplySource, older_or, source, standing_after, is_decided, decision_moment, replies_of, noting_moment, delivered, source_of, source_of_reply, source_at_decision, deciding_reply, source_of_sender, accepted_source}
+use Rattle.nz_machine.specs.History.{ReplySource, older_or, source, standing_after, is_decided, decision_moment, replies_of, noting_moment}
+use Rattle.nz_machine.specs.History.{parcel_delivered, source_of, source_of_reply, source_at_decision, deciding_reply, source_of_sender}
+use Rattle.nz_machine.specs.History.{accepted_source}
 use Rattle.nz_machine.proofs.Runs.{sent_by}
 use Rattle.nz_base.specs.Moments.{At}
 use Rattle.nz_base.proofs.Moments.{at_then}
@@ -44,7 +46,11 @@ decided_by false o now K e = absurd (none-some K e)
 
 decision_at : (g : Group) (q : ℕ) (id : Id) (J K : List Record) → decision_moment g q id J ≡ Some K → At J K
 decision_at g q id [] K e = absurd (none-some K e)
-decision_at g q id (r ∷ J) K e = elim (decided_by (is_decided (standing_after g q id (r ∷ J))) (decision_moment g q id J) (r ∷ J) K e) [ inl old ↦ inr (decision_at g q id J K old) | inr now ↦ inl (sym now) ]
+decision_at g q id (r ∷ J) K e =
+    elim (decided_by (is_decided (standing_after g q id (r ∷ J))) (decision_moment g q id J) (r ∷ J) K e) [
+      | inl old ↦ inr (decision_at g q id J K old)
+      | inr now ↦ inl (sym now)
+    ]
 
 noted_at : (b : Bool) (o : Option (List Record)) (now K : List Record) → cond b o (Some now) ≡ Some K → (o ≡ Some K) ⊎ (now ≡ K)
 noted_at true o now K e = inl e
@@ -52,7 +58,9 @@ noted_at false o now K e = inr (same_Some now K e)
 
 noting_at : (g : Group) (q : ℕ) (id : Id) (reply : Reply) (J K : List Record) → noting_moment g q id reply J ≡ Some K → At J K
 noting_at g q id reply [] K e = absurd (none-some K e)
-noting_at g q id reply (r ∷ J) K e = elim (noted_at (list_any (reply_eq reply) (replies_of (standing_after g q id J))) (noting_moment g q id reply J) (r ∷ J) K e) [ inl old ↦ inr (noting_at g q id reply J K old) | inr now ↦ inl (sym now) ]
+noting_at g q id reply (r ∷ J) K e =
+    elim (noted_at (list_any (reply_eq reply) (replies_of (standing_after g q id J))) (noting_moment g q id reply J)
+    (r ∷ J) K e) [ inl old ↦ inr (noting_at g q id reply J K old) | inr now ↦ inl (sym now) ]
 
 -- a moment of the run whose last record is the sender's
 pub record IsReached (g : Group) (J : List Record) (at : ReplySource) : Type 0 where
@@ -68,10 +76,11 @@ first_reached g M p at w e =
     let from : p.from ≡ s.newest.actor = ap (λ (x : Parcel). x.from) by.is in
     subst (IsReached g M) k.1.1 (record { moment = subst (At M) (sym s.is) s.at; member = subst (IsMember g) (sym from) known.0.member })
 
-reply_reached : (g : Group) (q : ℕ) (id : Id) (K : List Record) (reply : Reply) (at : ReplySource) → World g K → source_of_reply g q id K reply ≡ Some at → IsReached g K at
+reply_reached : (g : Group) (q : ℕ) (id : Id) (K : List Record) (reply : Reply) (at : ReplySource) → World g K
+    → source_of_reply g q id K reply ≡ Some at → IsReached g K at
 reply_reached g q id K reply at w e =
-    let m = and_then_some (λ M. option_and_then (source_of M) (delivered M)) (noting_moment g q id reply K) at e in
-    let p = and_then_some (source_of m.0) (delivered m.0) at m.1.1 in
+    let m = and_then_some (λ M. option_and_then (source_of M) (parcel_delivered M)) (noting_moment g q id reply K) at e in
+    let p = and_then_some (source_of m.0) (parcel_delivered m.0) at m.1.1 in
     let moment = noting_at g q id reply K m.0 m.1.0 in
     let h = first_reached g m.0 p.0 at (at_world g K m.0 w moment) p.1.1 in
     record { moment = at_then K m.0 at.run moment h.moment; member = h.member }
@@ -86,7 +95,8 @@ sender_reached g id (Proxy q) K at w e =
 sender_reached g id (Replica m) K at w e = absurd (none-some at e)
 sender_reached g id (Client c) K at w e = absurd (none-some at e)
 
-pub accepted_reached : (g : Group) (id : Id) (p : Parcel) (J : List Record) (at : ReplySource) → World g J → accepted_source g id p J ≡ Some at → IsReached g J at
+pub accepted_reached : (g : Group) (id : Id) (p : Parcel) (J : List Record) (at : ReplySource) → World g J
+    → accepted_source g id p J ≡ Some at → IsReached g J at
 accepted_reached g id p J at w e =
     let m = and_then_some (source_of_sender g id p.from) (source p J) at e in
     let s = source_is p J m.0 m.1.0 in

@@ -5,17 +5,18 @@ use Rattle.nz_base.specs.Key.{id_eq}
 use Rattle.nz_base.proofs.Booleans.{cases_bool}
 use Rattle.nz_base.proofs.Names.{same_id, id_turn_away}
 use Rattle.nz_store.specs.declared.command.Answer.{Answer}
-use Rattle.nz_window.specs.Samples.{sampled}
+use Rattle.nz_window.specs.Samples.{with_sample}
 use Rattle.nz_msg.specs.declared.message.RequestBody.{RequestBody}
 use Rattle.nz_machine.specs.declared.reply.Reply.{Reply}
 use Rattle.nz_machine.specs.State.{ProxyData, Standing, Open, Decided}
 use Rattle.nz_machine.specs.Quorums.{Chosen, decision, answer_in, with_note}
-use Rattle.nz_machine.specs.Proxies.{standing_of, stamped, stamp_rule, answered, decided_as, noted_in, reply_rule}
+use Rattle.nz_machine.specs.Proxies.{standing_of, after_stamp, stamp_rule, after_chosen_answer, after_choice, after_replica_reply, reply_rule}
 use Rattle.nz_machine.proofs.Lookups.{lookup_inserted, lookup_other}
 use Rattle.nz_audit.proofs.Memories.{standing_opened, settled_with, answer_chosen, standing_noted}
 
 -- a change at one request, seen at any
-at_each : (id x : Id) (s t : ProxyData) (f : Option Standing → Option Standing) → standing_of t id ≡ f (standing_of s id) → (id_eq x id ≡ false → standing_of t x ≡ standing_of s x)
+at_each : (id x : Id) (s t : ProxyData) (f : Option Standing → Option Standing)
+    → standing_of t id ≡ f (standing_of s id) → (id_eq x id ≡ false → standing_of t x ≡ standing_of s x)
     → standing_of t x ≡ cond (id_eq id x) (f (standing_of s x)) (standing_of s x)
 at_each id x s t f here away =
     elim (cases_bool (id_eq id x)) [
@@ -25,12 +26,14 @@ at_each id x s t f here away =
 
 -- ---- a request of a client
 
-stamped_here : (f : ℕ) (s : ProxyData) (id : Id) (command : List ℕ) (o : Option Standing) → standing_of s id ≡ o → standing_of (stamped f s id command o).0 id ≡ standing_opened o
+stamped_here : (f : ℕ) (s : ProxyData) (id : Id) (command : List ℕ) (o : Option Standing) → standing_of s id ≡ o
+    → standing_of (after_stamp f s id command o).0 id ≡ standing_opened o
 stamped_here f s id command None e = lookup_inserted s.standings id (Open [])
 stamped_here f s id command (Some (Open replies)) e = e
 stamped_here f s id command (Some (Decided a p)) e = e
 
-stamped_away : (f : ℕ) (s : ProxyData) (id x : Id) (command : List ℕ) (o : Option Standing) → id_eq x id ≡ false → standing_of (stamped f s id command o).0 x ≡ standing_of s x
+stamped_away : (f : ℕ) (s : ProxyData) (id x : Id) (command : List ℕ) (o : Option Standing) → id_eq x id ≡ false
+    → standing_of (after_stamp f s id command o).0 x ≡ standing_of s x
 stamped_away f s id x command None h = lookup_other s.standings x id (Open []) h
 stamped_away f s id x command (Some (Open replies)) h = refl
 stamped_away f s id x command (Some (Decided a p)) h = refl
@@ -40,32 +43,39 @@ pub stamp_opens : (f : ℕ) (s : ProxyData) (c : ℕ) (b : RequestBody) (x : Id)
 unfolding stamp_rule
 stamp_opens f s c b x =
     let id : Id = record { client = c; num = b.num } in
-    at_each id x s (stamped f s id b.command (standing_of s id)).0 standing_opened (stamped_here f s id b.command (standing_of s id) refl) (stamped_away f s id x b.command (standing_of s id))
+    at_each id x s (after_stamp f s id b.command (standing_of s id)).0 standing_opened
+    (stamped_here f s id b.command (standing_of s id) refl) (stamped_away f s id x b.command (standing_of s id))
 
 -- ---- a reply
 
-answered_here : (s : ProxyData) (id : Id) (replies : List Reply) (chosen : Chosen) (o : Option Answer) → standing_of (answered s id replies chosen.path o).0 id ≡ Some (settled_with replies (Some chosen) o)
+answered_here : (s : ProxyData) (id : Id) (replies : List Reply) (chosen : Chosen) (o : Option Answer)
+    → standing_of (after_chosen_answer s id replies chosen.path o).0 id ≡ Some (settled_with replies (Some chosen) o)
 answered_here s id replies chosen None = lookup_inserted s.standings id (Open replies)
 answered_here s id replies chosen (Some a) = lookup_inserted s.standings id (Decided a chosen.path)
 
-decided_here : (s : ProxyData) (id : Id) (replies : List Reply) (d : Option Chosen) → standing_of (decided_as s id replies d).0 id ≡ Some (settled_with replies d (answer_chosen d))
+decided_here : (s : ProxyData) (id : Id) (replies : List Reply) (d : Option Chosen)
+    → standing_of (after_choice s id replies d).0 id ≡ Some (settled_with replies d (answer_chosen d))
 decided_here s id replies None = lookup_inserted s.standings id (Open replies)
 decided_here s id replies (Some chosen) = answered_here s id replies chosen (answer_in chosen.reply)
 
-noted_here : (f : ℕ) (s : ProxyData) (id : Id) (reply : Reply) (o : Option Standing) → standing_of s id ≡ o → standing_of (noted_in f s id reply o).0 id ≡ standing_noted f reply o
+noted_here : (f : ℕ) (s : ProxyData) (id : Id) (reply : Reply) (o : Option Standing) → standing_of s id ≡ o
+    → standing_of (after_replica_reply f s id reply o).0 id ≡ standing_noted f reply o
 noted_here f s id reply None e = e
 noted_here f s id reply (Some (Decided a p)) e = e
 noted_here f s id reply (Some (Open replies)) e = decided_here s id (with_note replies reply) (decision f (with_note replies reply))
 
-answered_away : (s : ProxyData) (id x : Id) (replies : List Reply) (chosen : Chosen) (o : Option Answer) → id_eq x id ≡ false → standing_of (answered s id replies chosen.path o).0 x ≡ standing_of s x
+answered_away : (s : ProxyData) (id x : Id) (replies : List Reply) (chosen : Chosen) (o : Option Answer)
+    → id_eq x id ≡ false → standing_of (after_chosen_answer s id replies chosen.path o).0 x ≡ standing_of s x
 answered_away s id x replies chosen None h = lookup_other s.standings x id (Open replies) h
 answered_away s id x replies chosen (Some a) h = lookup_other s.standings x id (Decided a chosen.path) h
 
-decided_away : (s : ProxyData) (id x : Id) (replies : List Reply) (d : Option Chosen) → id_eq x id ≡ false → standing_of (decided_as s id replies d).0 x ≡ standing_of s x
+decided_away : (s : ProxyData) (id x : Id) (replies : List Reply) (d : Option Chosen) → id_eq x id ≡ false
+    → standing_of (after_choice s id replies d).0 x ≡ standing_of s x
 decided_away s id x replies None h = lookup_other s.standings x id (Open replies) h
 decided_away s id x replies (Some chosen) h = answered_away s id x replies chosen (answer_in chosen.reply) h
 
-noted_away : (f : ℕ) (s : ProxyData) (id x : Id) (reply : Reply) (o : Option Standing) → id_eq x id ≡ false → standing_of (noted_in f s id reply o).0 x ≡ standing_of s x
+noted_away : (f : ℕ) (s : ProxyData) (id x : Id) (reply : Reply) (o : Option Standing) → id_eq x id ≡ false
+    → standing_of (after_replica_reply f s id reply o).0 x ≡ standing_of s x
 noted_away f s id x reply None h = refl
 noted_away f s id x reply (Some (Decided a p)) h = refl
 noted_away f s id x reply (Some (Open replies)) h = decided_away s id x (with_note replies reply) (decision f (with_note replies reply)) h
@@ -74,12 +84,13 @@ pub reply_notes : (f : ℕ) (s : ProxyData) (replica : ℕ) (id : Id) (delay : �
     → standing_of (reply_rule f s replica id delay reply).0 x ≡ cond (id_eq id x) (standing_noted f reply (standing_of s x)) (standing_of s x)
 unfolding reply_rule
 reply_notes f s replica id delay reply x =
-    let now : ProxyData = record s { samples = sampled s.samples replica delay } in
-    at_each id x s (noted_in f now id reply (standing_of s id)).0 (standing_noted f reply) (noted_here f now id reply (standing_of s id) refl) (noted_away f now id x reply (standing_of s id))
+    let now : ProxyData = record s { samples = with_sample s.samples replica delay } in
+    at_each id x s (after_replica_reply f now id reply (standing_of s id)).0 (standing_noted f reply)
+    (noted_here f now id reply (standing_of s id) refl) (noted_away f now id x reply (standing_of s id))
 
 -- ---- no message takes a proxy down
 
-stamped_up : (f : ℕ) (s : ProxyData) (id : Id) (command : List ℕ) (o : Option Standing) → (stamped f s id command o).0.is_down ≡ s.is_down
+stamped_up : (f : ℕ) (s : ProxyData) (id : Id) (command : List ℕ) (o : Option Standing) → (after_stamp f s id command o).0.is_down ≡ s.is_down
 stamped_up f s id command None = refl
 stamped_up f s id command (Some (Open replies)) = refl
 stamped_up f s id command (Some (Decided a p)) = refl
@@ -88,19 +99,20 @@ pub stamp_up : (f : ℕ) (s : ProxyData) (c : ℕ) (b : RequestBody) → (stamp_
 unfolding stamp_rule
 stamp_up f s c b = let id : Id = record { client = c; num = b.num } in stamped_up f s id b.command (standing_of s id)
 
-answered_up : (s : ProxyData) (id : Id) (replies : List Reply) (chosen : Chosen) (o : Option Answer) → (answered s id replies chosen.path o).0.is_down ≡ s.is_down
+answered_up : (s : ProxyData) (id : Id) (replies : List Reply) (chosen : Chosen) (o : Option Answer)
+    → (after_chosen_answer s id replies chosen.path o).0.is_down ≡ s.is_down
 answered_up s id replies chosen None = refl
 answered_up s id replies chosen (Some a) = refl
 
-decided_up : (s : ProxyData) (id : Id) (replies : List Reply) (d : Option Chosen) → (decided_as s id replies d).0.is_down ≡ s.is_down
+decided_up : (s : ProxyData) (id : Id) (replies : List Reply) (d : Option Chosen) → (after_choice s id replies d).0.is_down ≡ s.is_down
 decided_up s id replies None = refl
 decided_up s id replies (Some chosen) = answered_up s id replies chosen (answer_in chosen.reply)
 
-noted_up : (f : ℕ) (s : ProxyData) (id : Id) (reply : Reply) (o : Option Standing) → (noted_in f s id reply o).0.is_down ≡ s.is_down
+noted_up : (f : ℕ) (s : ProxyData) (id : Id) (reply : Reply) (o : Option Standing) → (after_replica_reply f s id reply o).0.is_down ≡ s.is_down
 noted_up f s id reply None = refl
 noted_up f s id reply (Some (Decided a p)) = refl
 noted_up f s id reply (Some (Open replies)) = decided_up s id (with_note replies reply) (decision f (with_note replies reply))
 
 pub reply_up : (f : ℕ) (s : ProxyData) (replica : ℕ) (id : Id) (delay : ℕ) (reply : Reply) → (reply_rule f s replica id delay reply).0.is_down ≡ s.is_down
 unfolding reply_rule
-reply_up f s replica id delay reply = noted_up f (record s { samples = sampled s.samples replica delay }) id reply (standing_of s id)
+reply_up f s replica id delay reply = noted_up f (record s { samples = with_sample s.samples replica delay }) id reply (standing_of s id)

@@ -21,13 +21,17 @@ use Rattle.nz_audit.specs.Readings.{source_with, IsTable, IsTableWith}
 -- ---- the first record that sent a parcel, with one more
 
 any_with : (p s : Parcel) (done : List Parcel) (b : Bool) → parcel_eq p s ≡ b → list_any (parcel_eq p) (done ++ s ∷ []) ≡ (list_any (parcel_eq p) done || b)
-any_with p s done b e = list_any-append (parcel_eq p) done (s ∷ []) ∙ ap (λ x. list_any (parcel_eq p) done || (x || false)) e ∙ ap (λ x. list_any (parcel_eq p) done || x) (or-false b)
+any_with p s done b e =
+    list_any-append (parcel_eq p) done (s ∷ []) ∙ ap (λ x. list_any (parcel_eq p) done || (x || false)) e
+    ∙ ap (λ x. list_any (parcel_eq p) done || x) (or-false b)
 
-with_other : (p s : Parcel) (done : List Parcel) (r : Record) (J : List Record) → parcel_eq p s ≡ false → source_with p (done ++ s ∷ []) r J ≡ source_with p done r J
+with_other : (p s : Parcel) (done : List Parcel) (r : Record) (J : List Record) → parcel_eq p s ≡ false
+    → source_with p (done ++ s ∷ []) r J ≡ source_with p done r J
 with_other p s done r J h = ap (λ b. cond b (older_or (source p J) (r ∷ J)) (source p J)) (any_with p s done false h ∙ or-false (list_any (parcel_eq p) done))
 
 with_itself : (s : Parcel) (done : List Parcel) (r : Record) (J : List Record) → source_with s (done ++ s ∷ []) r J ≡ older_or (source s J) (r ∷ J)
-with_itself s done r J = ap (λ b. cond b (older_or (source s J) (r ∷ J)) (source s J)) (any_with s s done true (parcel_eq_self s) ∙ or-true (list_any (parcel_eq s) done))
+with_itself s done r J =
+    ap (λ b. cond b (older_or (source s J) (r ∷ J)) (source s J)) (any_with s s done true (parcel_eq_self s) ∙ or-true (list_any (parcel_eq s) done))
 
 sent_already : (o : Option (List Record)) (now K : List Record) (b : Bool) → cond b (older_or o now) o ≡ Some K → older_or o now ≡ Some K
 sent_already o now K true e = e
@@ -41,7 +45,8 @@ not_sent None now b e = refl
 
 -- ---- the table with one more
 
-still_other : (g : Group) (s p : Parcel) (done : List Parcel) (r : Record) (J : List Record) (table : List (ParcelKey × Option Source)) → parcel_eq p s ≡ false → kept_of table p ≡ stands_for g p (source_with p done r J) (about p)
+still_other : (g : Group) (s p : Parcel) (done : List Parcel) (r : Record) (J : List Record) (table : List (ParcelKey × Option Source))
+    → parcel_eq p s ≡ false → kept_of table p ≡ stands_for g p (source_with p done r J) (about p)
     → kept_of table p ≡ stands_for g p (source_with p (done ++ s ∷ []) r J) (about p)
 still_other g s p done r J table h e = e ∙ ap (λ (o : Option (List Record)). stands_for g p o (about p)) (sym (with_other p s done r J h))
 
@@ -49,7 +54,8 @@ by_parcel : (s p : Parcel) (P : Parcel → Type 0) → (s ≡ p → P p) → (pa
 by_parcel s p P same other = elim (cases_bool (parcel_eq p s)) [ inl e ↦ same (sym (same_parcel p s e)) | inr e ↦ other e ]
 
 -- a parcel that stands for nothing
-pub table_passes : (g : Group) (s : Parcel) (done : List Parcel) (r : Record) (J : List Record) (table : List (ParcelKey × Option Source)) → about s ≡ None → IsTableWith g done r J table → IsTableWith g (done ++ s ∷ []) r J table
+pub table_passes : (g : Group) (s : Parcel) (done : List Parcel) (r : Record) (J : List Record) (table : List (ParcelKey × Option Source))
+    → about s ≡ None → IsTableWith g done r J table → IsTableWith g (done ++ s ∷ []) r J table
 table_passes g s done r J table none h = record {
   exact = λ p. by_parcel s p (λ (x : Parcel). kept_of table x ≡ stands_for g x (source_with x (done ++ s ∷ []) r J) (about x))
       (λ same. let nothing : about p ≡ None = ap about (sym same) ∙ none in
@@ -57,19 +63,24 @@ table_passes g s done r J table none h = record {
       (λ other. still_other g s p done r J table other (h.exact p));
 }
 
-found_first : (g : Group) (s : Parcel) (first : Option (List Record)) (o : Option Id) → is_some (stands_for g s first o) ≡ true → (K : List Record) × (first ≡ Some K)
+found_first : (g : Group) (s : Parcel) (first : Option (List Record)) (o : Option Id)
+    → is_some (stands_for g s first o) ≡ true → (K : List Record) × (first ≡ Some K)
 found_first g s first None h = absurd cc
 found_first g s None (Some id) h = absurd cc
 found_first g s (Some K) (Some id) h = (K, refl)
 
 -- one that was sent before
-pub table_has : (g : Group) (s : Parcel) (done : List Parcel) (r : Record) (J : List Record) (table : List (ParcelKey × Option Source)) → is_some (kept_of table s) ≡ true → IsTableWith g done r J table → IsTableWith g (done ++ s ∷ []) r J table
+pub table_has : (g : Group) (s : Parcel) (done : List Parcel) (r : Record) (J : List Record) (table : List (ParcelKey × Option Source))
+    → is_some (kept_of table s) ≡ true → IsTableWith g done r J table → IsTableWith g (done ++ s ∷ []) r J table
 table_has g s done r J table there h =
     let k = found_first g s (source_with s done r J) (about s) (ap is_some (sym (h.exact s)) ∙ there) in
-    let same : source_with s (done ++ s ∷ []) r J ≡ source_with s done r J = with_itself s done r J ∙ sent_already (source s J) (r ∷ J) k.0 (list_any (parcel_eq s) done) k.1 ∙ sym k.1 in
+    let same : source_with s (done ++ s ∷ []) r J ≡ source_with s done r J =
+    with_itself s done r J ∙ sent_already (source s J) (r ∷ J) k.0 (list_any (parcel_eq s) done) k.1 ∙ sym k.1 in
     record {
       exact = λ p. by_parcel s p (λ (x : Parcel). kept_of table x ≡ stands_for g x (source_with x (done ++ s ∷ []) r J) (about x))
-          (λ is. subst (λ (x : Parcel). kept_of table x ≡ stands_for g x (source_with x (done ++ s ∷ []) r J) (about x)) is (h.exact s ∙ ap (λ (o : Option (List Record)). stands_for g s o (about s)) (sym same)))
+          (λ is. subst (λ (x : Parcel). kept_of table x
+          ≡ stands_for g x (source_with x (done ++ s ∷ []) r J) (about x)) is
+          (h.exact s ∙ ap (λ (o : Option (List Record)). stands_for g s o (about s)) (sym same)))
           (λ other. still_other g s p done r J table other (h.exact p));
     }
 
@@ -78,13 +89,19 @@ absent_first g s id None h = refl
 absent_first g s id (Some K) h = absurd cc
 
 -- a new one
-pub table_keeps : (g : Group) (s : Parcel) (id : Id) (done : List Parcel) (r : Record) (J : List Record) (old new : List (ParcelKey × Option Source)) (value : Option Source) → about s ≡ Some id → is_some (kept_of old s) ≡ false
-    → value ≡ source_sent g id s.from (r ∷ J) → ((p : Parcel) → kept_of new p ≡ cond (parcel_eq s p) (Some value) (kept_of old p)) → IsTableWith g done r J old → IsTableWith g (done ++ s ∷ []) r J new
+pub table_keeps : (g : Group) (s : Parcel) (id : Id) (done : List Parcel) (r : Record) (J : List Record)
+    (old new : List (ParcelKey × Option Source)) (value : Option Source) → about s ≡ Some id → is_some (kept_of old s) ≡ false
+    → value ≡ source_sent g id s.from (r ∷ J)
+    → ((p : Parcel) → kept_of new p ≡ cond (parcel_eq s p) (Some value) (kept_of old p)) → IsTableWith g done r J old
+    → IsTableWith g (done ++ s ∷ []) r J new
 table_keeps g s id done r J old new value is away value_is kept h =
-    let none = absent_first g s id (source_with s done r J) (ap (λ (o : Option Id). is_some (stands_for g s (source_with s done r J) o)) (sym is) ∙ ap is_some (sym (h.exact s)) ∙ away) in
+    let none =
+    absent_first g s id (source_with s done r J)
+    (ap (λ (o : Option Id). is_some (stands_for g s (source_with s done r J) o)) (sym is) ∙ ap is_some (sym (h.exact s)) ∙ away) in
     let now : source_with s (done ++ s ∷ []) r J ≡ Some (r ∷ J) = with_itself s done r J ∙ not_sent (source s J) (r ∷ J) (list_any (parcel_eq s) done) none in
     let own : kept_of new s ≡ stands_for g s (source_with s (done ++ s ∷ []) r J) (about s) =
-    kept s ∙ ap (λ b. cond b (Some value) (kept_of old s)) (parcel_eq_self s) ∙ ap Some value_is ∙ sym (ap (stands_for g s (source_with s (done ++ s ∷ []) r J)) is ∙ ap (option_map (source_sent g id s.from)) now) in
+    kept s ∙ ap (λ b. cond b (Some value) (kept_of old s)) (parcel_eq_self s) ∙ ap Some value_is
+    ∙ sym (ap (stands_for g s (source_with s (done ++ s ∷ []) r J)) is ∙ ap (option_map (source_sent g id s.from)) now) in
     record {
       exact = λ p. by_parcel s p (λ (x : Parcel). kept_of new x ≡ stands_for g x (source_with x (done ++ s ∷ []) r J) (about x))
           (λ same. subst (λ (x : Parcel). kept_of new x ≡ stands_for g x (source_with x (done ++ s ∷ []) r J) (about x)) same own)
@@ -102,5 +119,6 @@ table_keeps g s id done r J old new value is away value_is kept h =
 pub table_starts : (g : Group) (r : Record) (J : List Record) (table : List (ParcelKey × Option Source)) → IsTable g J table → IsTableWith g [] r J table
 table_starts g r J table h = record { exact = h.exact }
 
-pub table_ends : (g : Group) (r : Record) (J : List Record) (table : List (ParcelKey × Option Source)) → IsTableWith g r.sends r J table → IsTable g (r ∷ J) table
+pub table_ends : (g : Group) (r : Record) (J : List Record) (table : List (ParcelKey × Option Source))
+    → IsTableWith g r.sends r J table → IsTable g (r ∷ J) table
 table_ends g r J table h = record { exact = h.exact }

@@ -20,7 +20,8 @@ source_noted g q id J reply = if is_some (answer_in reply) then in_numbers g id 
 -- What is kept of a request in this standing: the replies with their sources, or the source of the decision.
 abbrev pub memory_of : Group → ℕ → Id → List Record → Option Standing → Option Noted
 memory_of g q id J None = None
-memory_of g q id J (Some (Open replies)) = Some (noted.Open (record { tally = record { f = g.f; replies = replies }; sources = map (source_noted g q id J) replies }))
+memory_of g q id J (Some (Open replies)) =
+    Some (noted.Open (record { tally = record { f = g.f; replies = replies }; sources = map (source_noted g q id J) replies }))
 memory_of g q id J (Some (Decided answer path)) = Some (noted.Decided (in_numbers g id (source_of_sender g id (Proxy q) J)))
 
 -- What is kept of a request after the records.

@@ -14,7 +14,7 @@ use Rattle.nz_machine.specs.declared.event.Event.TheVariants.{Deliver, Cut, Tick
 use Rattle.nz_machine.specs.declared.reply.Reply.{Reply}
 use Rattle.nz_machine.specs.Quorums.{Chosen, decision, reply_eq}
 use Rattle.nz_machine.specs.Proxies.{of_fast, of_slow}
-use Rattle.nz_machine.specs.Step.{received}
+use Rattle.nz_machine.specs.Step.{accepted_envelope}
 use Rattle.nz_quorum.specs.Tallies.{IsOfCluster}
 use Rattle.nz_audit.specs.declared.source.Source.{Source}
 use Rattle.nz_audit.specs.declared.noting.Notes.{Notes}
@@ -42,22 +42,23 @@ source_among sources replies reply = source_at sources (position (reply_eq reply
 
 -- The source of the reply that decides, where one does.
 abbrev pub decided_source : Notes → Option (Option Source)
-decided_source notes = option_map (λ (chosen : Chosen). source_among notes.sources notes.tally.replies chosen.reply) (decision notes.tally.f notes.tally.replies)
+decided_source notes =
+    option_map (λ (chosen : Chosen). source_among notes.sources notes.tally.replies chosen.reply) (decision notes.tally.f notes.tally.replies)
 
 -- The notes, or the source of the decision that they give.
-abbrev pub settled_by : Notes → Option (Option Source) → Noted
-settled_by notes None = Open notes
-settled_by notes (Some source) = Decided source
+abbrev pub noted_if_decided : Notes → Option (Option Source) → Noted
+noted_if_decided notes None = Open notes
+noted_if_decided notes (Some source) = Decided source
 
 -- A reply to an open request is noted, and may decide.
 abbrev pub noted_by : Reply → Option Source → Noted → Noted
 noted_by reply source (Decided kept) = Decided kept
-noted_by reply source (Open notes) = let now = with_source notes reply source in settled_by now (decided_source now)
+noted_by reply source (Open notes) = let now = with_source notes reply source in noted_if_decided now (decided_source now)
 
 -- The reply may be noted there.
-abbrev pub IsNotable : Noted → Reply → Type 0
-IsNotable (Open notes) reply = IsOfCluster notes.tally.f reply
-IsNotable (Decided source) reply = Unit {0}
+abbrev pub IsNotableBeside : Noted → Reply → Type 0
+IsNotableBeside (Open notes) reply = IsOfCluster notes.tally.f reply
+IsNotableBeside (Decided source) reply = Unit {0}
 
 -- What is known is of a cluster of this size.
 abbrev pub IsSized : ℕ → Option Noted → Type 0
@@ -68,13 +69,13 @@ IsSized f (Some (Decided source)) = Unit {0}
 -- ---- what becomes of it in an event; the source is that of the parcel that is delivered
 
 -- What is kept once the request was asked for.
-abbrev pub opened : ℕ → Option Noted → Option Noted
-opened f None = Some (Open (first_notes f))
-opened f (Some noted) = Some noted
+abbrev pub noted_after_request : ℕ → Option Noted → Option Noted
+noted_after_request f None = Some (Open (first_notes f))
+noted_after_request f (Some noted) = Some noted
 
 -- What is kept of a request after a message.
 abbrev pub after_message : ℕ → Option Source → Id → Actor → Message → Option Noted → Option Noted
-after_message f source id (Client c) (Request b) known = if id_eq (record { client = c; num = b.num }) id then opened f known else known
+after_message f source id (Client c) (Request b) known = if id_eq (record { client = c; num = b.num }) id then noted_after_request f known else known
 after_message f source id (Replica r) (FastReply b) known = if id_eq b.id id then option_map (noted_by (of_fast r b) source) known else known
 after_message f source id (Replica r) (SlowReply b) known = if id_eq b.id id then option_map (noted_by (of_slow r b) source) known else known
 after_message f source id _ _ known = known
@@ -86,7 +87,7 @@ after_envelope f source down id (Some e) known = if down then known else after_m
 
 -- What is kept of a request after an event.
 abbrev pub after_event : ℕ → ℕ → Option Source → Bool → Id → Event → Option Noted → Option Noted
-after_event f me source down id (Deliver p) known = after_envelope f source down id (received f (Proxy me) p) known
+after_event f me source down id (Deliver p) known = after_envelope f source down id (accepted_envelope f (Proxy me) p) known
 after_event f me source down id (Cut p kept) known = known
 after_event f me source down id (Tick clock) known = known
 after_event f me source down id Alarm known = known

@@ -13,7 +13,7 @@ use Rattle.nz_machine.specs.declared.journal.Journal.{Journal}
 use Rattle.nz_machine.specs.Journals.{group_in}
 use Rattle.nz_machine.specs.State.{Group}
 use Rattle.nz_machine.specs.World.{state_after, World}
-use Rattle.nz_machine.specs.Telling.{AreAfter}
+use Rattle.nz_machine.specs.ClientProgress.{AreAfter}
 use Rattle.nz_replica.specs.Seats.{ReplicaView}
 use Rattle.nz_machine.specs.History.{parcel_eq, older_or, source, log_at, history}
 use Rattle.nz_audit.specs.declared.source.Source.{Source}
@@ -81,6 +81,6 @@ pub record IsRead (g : Group) (J : List Record) (reading : Reading) : Type 0 whe
   pub best : LeadsToIfAny g J (history g J) reading.best
 
 -- The record follows these, and is the one of this count in a journal.
-pub record IsNext (journal : Journal) (records : ℕ) (r : Record) (J : List Record) : Type 0 where
+pub record IsNextRecord (journal : Journal) (records : ℕ) (r : Record) (J : List Record) : Type 0 where
   pub run : run_up_to journal records ≡ r ∷ J
   pub world : World (group_in journal) (r ∷ J)

@@ -14,9 +14,9 @@ use Rattle.nz_machine.specs.declared.event.Event.{Event}
 use Rattle.nz_machine.specs.declared.event.Event.TheVariants.{Deliver, Cut, Tick, Alarm, Crash, Restart}
 use Rattle.nz_machine.specs.declared.event.Parcel.{Parcel}
 use Rattle.nz_machine.specs.declared.event.Record.{Record}
-use Rattle.nz_machine.specs.declared.telling.Acceptance.{Acceptance}
+use Rattle.nz_machine.specs.declared.client_progress.Acceptance.{Acceptance}
 use Rattle.nz_machine.specs.State.{Group}
-use Rattle.nz_machine.specs.Step.{heard}
+use Rattle.nz_machine.specs.Step.{envelope_for}
 use Rattle.nz_machine.specs.Events.{id_at}
 use Rattle.nz_machine.specs.History.{ReplySource, source_of_sender, cut_after, log_at}
 use Rattle.nz_audit.specs.declared.source.Source.{Source}
@@ -55,7 +55,7 @@ about_envelope (Some e) = about_message e.from e.to e.message
 
 -- The same of a parcel.
 abbrev pub about : Parcel → Option Id
-about p = about_envelope (heard p.to p)
+about p = about_envelope (envelope_for p.to p)
 
 -- The source that a parcel about the request stands for, sent first by this actor with the last of the records:
 -- a reply is one itself, and an answer stands for that of the reply that decided.
@@ -72,8 +72,8 @@ stands_for g p first (Some id) = option_map (source_sent g id p.from) first
 -- ---- the table of the parcels that were sent
 
 -- What a parcel is found by.
-abbrev pub key_of : Parcel → ParcelKey
-key_of p = record { from = p.from; to = p.to; frame = p.frame }
+abbrev pub parcel_key_of : Parcel → ParcelKey
+parcel_key_of p = record { from = p.from; to = p.to; frame = p.frame }
 
 -- Whether two parcels are equal.
 abbrev pub same_key : ParcelKey → ParcelKey → Bool
@@ -81,7 +81,7 @@ same_key a b = actor_eq a.from b.from && (actor_eq a.to b.to && bytes_eq a.frame
 
 -- What the table has of a parcel.
 abbrev pub kept_of : List (ParcelKey × Option Source) → Parcel → Option (Option Source)
-kept_of table p = lookup (same_key (key_of p)) table
+kept_of table p = lookup (same_key (parcel_key_of p)) table
 
 -- The source of what is delivered, by the table.
 abbrev pub source_delivered : List (ParcelKey × Option Source) → Event → Option Source

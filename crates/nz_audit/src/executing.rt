@@ -1,7 +1,7 @@
 //! What one store answers to a prefix of a log.
 
 ghost use Rattle.std.specs.Prelude.{◌≡◌, ◌≤◌, length, take, IfOk};
-ghost use Rattle.nz_machine.specs.Journals.{executed};
+ghost use Rattle.nz_machine.specs.Journals.{executed_entries};
 
 use nz_base::{NoMemory, TryCopy};
 use nz_log::HashedLog;
@@ -12,7 +12,7 @@ use std::alloc::Global;
 /// This many entries of the log, executed from an empty store on.
 pub fn execute(alloc: Global, log: &HashedLog, count: u32) -> Result<History, NoMemory>
     requires { count ≤ length log.now.entries }
-    ensures { IfOk result (λ history. history ≡ executed (take count log.now.entries)) }
+    ensures { IfOk result (λ history. history ≡ executed_entries (take count log.now.entries)) }
 {
     let mut store = Store::new(alloc);
     let mut history = History::new(alloc);

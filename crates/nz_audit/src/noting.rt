@@ -3,7 +3,7 @@
 ghost use Rattle.std.specs.Prelude.{◌≡◌, OnOk};
 ghost use Rattle.std.specs.Option.{option_copied};
 ghost use Rattle.nz_quorum.specs.Tallies.{IsOfCluster};
-ghost use Rattle.nz_audit.specs.Noting.{first_notes, with_source, source_among, decided_source, noted_by, IsNotable};
+ghost use Rattle.nz_audit.specs.Noting.{first_notes, with_source, source_among, decided_source, noted_by, IsNotableBeside};
 
 use super::source::Source;
 use nz_base::{Cluster, List, NoMemory};
@@ -72,7 +72,7 @@ impl Notes {
 impl Noted {
     /// Notes a reply to an open request, and whether the replies decide now.
     pub fn note(&mut self, reply: Reply, source: Option<Source>) -> Result<(), NoMemory>
-        requires { IsNotable self.old reply }
+        requires { IsNotableBeside self.old reply }
         ensures { OnOk result (self.new ≡ noted_by reply source self.old) }
     {
         match self {

@@ -3,12 +3,12 @@
 ghost use Rattle.std.specs.Prelude.{◌≡◌, OnOk, None, false, IsTrue, if◌then◌else◌};
 ghost use Rattle.std.specs.Option.{option_map};
 ghost use Rattle.nz_base.specs.Key.{id_eq};
-ghost use Rattle.nz_base.specs.declared.key.Id.{Id as AnId};
-ghost use Rattle.nz_base.specs.declared.actor.Actor.TheVariants.{Proxy as IsProxy};
+ghost use Rattle.nz_base.specs.declared.key.Id.{Id as IdModel};
+ghost use Rattle.nz_base.specs.declared.actor.Actor.TheVariants as actors;
 ghost use Rattle.indexmap.specs.IndexMap.{get};
-ghost use Rattle.nz_machine.specs.Step.{received, is_in_cluster, is_sized, vector_of};
+ghost use Rattle.nz_machine.specs.Step.{accepted_envelope, is_in_cluster, is_sized, message_vector};
 ghost use Rattle.nz_quorum.specs.Tallies.{IsOfCluster};
-ghost use Rattle.nz_audit.specs.Noting.{opened, noted_by, after_message, after_envelope, after_event, down_after, IsSized};
+ghost use Rattle.nz_audit.specs.Noting.{noted_after_request, noted_by, after_message, after_envelope, after_event, down_after, IsSized};
 
 use super::noting::{Noted, Notes};
 use super::source::Source;
@@ -28,7 +28,7 @@ impl ProxyNotes {
     /// Nothing is known.
     pub fn new(alloc: Global) -> ProxyNotes
         ensures up { result.is_down ≡ false }
-        ensures known { (id : AnId) → get id_eq result.known id ≡ None }
+        ensures known { (id : IdModel) → get id_eq result.known id ≡ None }
     {
         ProxyNotes {
             is_down: false,
@@ -39,7 +39,9 @@ impl ProxyNotes {
     /// Opens a request that is not known.
     fn open(&mut self, alloc: Global, cluster: Cluster, id: Id) -> Result<(), NoMemory>
         ensures down { self.new.is_down ≡ self.old.is_down }
-        ensures known { OnOk result ((x : AnId) → get id_eq self.new.known x ≡ (if id_eq id x then opened cluster (get id_eq self.old.known x) else get id_eq self.old.known x)) }
+        ensures known { OnOk result ((x : IdModel)
+            → get id_eq self.new.known x ≡ (if id_eq id x then noted_after_request cluster
+            (get id_eq self.old.known x) else get id_eq self.old.known x)) }
     {
         if !self.known.contains_key(&id) {
             self.known
@@ -59,7 +61,9 @@ impl ProxyNotes {
         requires reply { IsOfCluster cluster reply }
         requires sized { IsSized cluster (get id_eq self.old.known id) }
         ensures down { self.new.is_down ≡ self.old.is_down }
-        ensures known { OnOk result ((x : AnId) → get id_eq self.new.known x ≡ (if id_eq id x then option_map (noted_by reply source) (get id_eq self.old.known x) else get id_eq self.old.known x)) }
+        ensures known { OnOk result ((x : IdModel)
+            → get id_eq self.new.known x ≡ (if id_eq id x then option_map (noted_by reply source)
+            (get id_eq self.old.known x) else get id_eq self.old.known x)) }
     {
         match self.known.get_mut(&id) {
             Some(noted) => noted.note(reply, source),
@@ -76,10 +80,11 @@ impl ProxyNotes {
         source: Option<Source>,
     ) -> Result<(), NoMemory>
         requires sender { IsTrue (is_in_cluster cluster envelope.from) }
-        requires vector { IsTrue (is_sized cluster (vector_of envelope.message)) }
-        requires sized { (x : AnId) → IsSized cluster (get id_eq self.old.known x) }
+        requires vector { IsTrue (is_sized cluster (message_vector envelope.message)) }
+        requires sized { (x : IdModel) → IsSized cluster (get id_eq self.old.known x) }
         ensures down { self.new.is_down ≡ self.old.is_down }
-        ensures known { OnOk result ((x : AnId) → get id_eq self.new.known x ≡ after_message cluster source x envelope.from envelope.message (get id_eq self.old.known x)) }
+        ensures known { OnOk result ((x : IdModel)
+            → get id_eq self.new.known x ≡ after_message cluster source x envelope.from envelope.message (get id_eq self.old.known x)) }
     {
         match (envelope.from, envelope.message) {
             (Actor::Client(client), Message::Request(body)) => {
@@ -118,9 +123,11 @@ impl ProxyNotes {
         parcel: &Parcel,
         source: Option<Source>,
     ) -> Result<(), NoMemory>
-        requires { (x : AnId) → IsSized cluster (get id_eq self.old.known x) }
+        requires { (x : IdModel) → IsSized cluster (get id_eq self.old.known x) }
         ensures down { self.new.is_down ≡ self.old.is_down }
-        ensures known { OnOk result ((x : AnId) → get id_eq self.new.known x ≡ after_envelope cluster source self.old.is_down x (received cluster (IsProxy me) parcel.now) (get id_eq self.old.known x)) }
+        ensures known { OnOk result ((x : IdModel)
+            → get id_eq self.new.known x ≡ after_envelope cluster source self.old.is_down x
+            (accepted_envelope cluster (actors.Proxy me) parcel.now) (get id_eq self.old.known x)) }
     {
         match heard(alloc, Actor::Proxy(me), parcel)? {
             None => Ok(()),
@@ -142,9 +149,10 @@ impl ProxyNotes {
         event: &Event,
         source: Option<Source>,
     ) -> Result<(), NoMemory>
-        requires { (x : AnId) → IsSized cluster (get id_eq self.old.known x) }
+        requires { (x : IdModel) → IsSized cluster (get id_eq self.old.known x) }
         ensures down { OnOk result (self.new.is_down ≡ down_after event.now self.old.is_down) }
-        ensures known { OnOk result ((x : AnId) → get id_eq self.new.known x ≡ after_event cluster me source self.old.is_down x event.now (get id_eq self.old.known x)) }
+        ensures known { OnOk result ((x : IdModel)
+            → get id_eq self.new.known x ≡ after_event cluster me source self.old.is_down x event.now (get id_eq self.old.known x)) }
     {
         match event {
             Event::Deliver(parcel) => self.hear(alloc, cluster, me, parcel, source),

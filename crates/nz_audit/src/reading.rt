@@ -3,19 +3,20 @@
 ghost use Rattle.std.specs.Prelude.{◌≡◌, ◌<◌, ◌≤◌, ◌∷◌, ◌++◌, [], false, ℕ, nat_eq, List, length, Some, IsSome, IfOk, OnOk};
 ghost use Rattle.indexmap.specs.IndexMap.{get};
 ghost use Rattle.nz_base.specs.Cluster.{replica_count};
-ghost use Rattle.nz_base.specs.declared.actor.Actor.TheVariants.{Replica as IsReplica};
-ghost use Rattle.nz_base.specs.declared.key.Id.{Id as AnId};
+ghost use Rattle.nz_base.specs.declared.actor.Actor.TheVariants as actors;
+ghost use Rattle.nz_base.specs.declared.key.Id.{Id as IdModel};
 ghost use Rattle.nz_machine.specs.Journals.{group_in, run_in};
 ghost use Rattle.nz_machine.specs.History.{cut_after, log_at, history};
 ghost use Rattle.nz_machine.specs.Schedule.{group_of};
 ghost use Rattle.nz_machine.specs.State.{Group};
 ghost use Rattle.nz_machine.specs.World.{World, Has, IsMember};
-ghost use Rattle.nz_machine.specs.declared.event.Parcel.{Parcel as AParcel};
-ghost use Rattle.nz_machine.specs.declared.event.Record.{Record as ARecord};
+ghost use Rattle.nz_machine.specs.declared.event.Parcel.{Parcel as ParcelModel};
+ghost use Rattle.nz_machine.specs.declared.event.Record.{Record as RecordModel};
 ghost use Rattle.nz_audit.specs.Cores.{IsCoreIfAny, run_up_to};
 ghost use Rattle.nz_audit.specs.Noting.{after_event, down_after, decided_in, IsSized};
-ghost use Rattle.nz_audit.specs.Sources.{about as about_of, source_sent, source_told, source_delivered};
-ghost use Rattle.nz_audit.specs.Readings.{known_to, is_down_in, IsProxy, IsLive, IsTable, IsTableWith, IsNext, IsRead, LeadsToIfAny};
+ghost use Rattle.nz_audit.specs.Sources as sources;
+ghost use Rattle.nz_audit.specs.Sources.{source_sent, source_told, source_delivered};
+ghost use Rattle.nz_audit.specs.Readings.{known_to, is_down_in, IsProxy, IsLive, IsTable, IsTableWith, IsNextRecord, IsRead, LeadsToIfAny};
 
 use super::noting::Noted;
 use super::proxy::ProxyNotes;
@@ -49,7 +50,8 @@ pub struct Reading {
 /// The replica takes a record of its own, if it is followed.
 fn replica_takes(cores: &mut Cores, number: u8, next: &Record) -> Result<(), NoMemory>
     requires { IsLive (get nat_eq cores.old number) }
-    ensures { OnOk result ((g : Group) (J : List ARecord) (k : ℕ) → next.now.actor ≡ IsReplica number → IsCoreIfAny g J k (get nat_eq cores.old k) → IsCoreIfAny g (next.now ∷ J) k (get nat_eq cores.new k)) }
+    ensures { OnOk result ((g : Group) (J : List RecordModel) (k : ℕ) → next.now.actor ≡ actors.Replica number
+        → IsCoreIfAny g J k (get nat_eq cores.old k) → IsCoreIfAny g (next.now ∷ J) k (get nat_eq cores.new k)) }
 {
     match cores.get_mut(&number) {
         Some(core) => replay_one(core, number, next),
@@ -101,7 +103,7 @@ fn entries_of(
     requires number { number < replica_count (group_in journal.now).f }
     requires records { records ≤ length journal.now.records }
     requires cores { (k : ℕ) → IsCoreIfAny (group_in journal.now) (run_up_to journal.now records) k (get nat_eq cores.old k) }
-    ensures entries { IfOk result (λ n. n ≡ length (cut_after id (log_at (group_in journal.now) (IsReplica number) (run_up_to journal.now records)))) }
+    ensures entries { IfOk result (λ n. n ≡ length (cut_after id (log_at (group_in journal.now) (actors.Replica number) (run_up_to journal.now records)))) }
     ensures cores { OnOk result ((k : ℕ) → IsCoreIfAny (group_in journal.now) (run_up_to journal.now records) k (get nat_eq cores.new k)) }
 {
     follow(cores, alloc, journal, number, records)?;
@@ -130,10 +132,10 @@ fn proxy_takes(
     event: &Event,
     source: Option<Source>,
 ) -> Result<(), NoMemory>
-    requires { (id : AnId) → IsSized cluster (known_to (get nat_eq proxies.old number) id) }
+    requires { (id : IdModel) → IsSized cluster (known_to (get nat_eq proxies.old number) id) }
     ensures others { OnOk result ((k : ℕ) → nat_eq number k ≡ false → get nat_eq proxies.new k ≡ get nat_eq proxies.old k) }
     ensures down { OnOk result (is_down_in (get nat_eq proxies.new number) ≡ down_after event.now (is_down_in (get nat_eq proxies.old number))) }
-    ensures known { OnOk result ((id : AnId) → known_to (get nat_eq proxies.new number) id
+    ensures known { OnOk result ((id : IdModel) → known_to (get nat_eq proxies.new number) id
         ≡ after_event cluster number source (is_down_in (get nat_eq proxies.old number)) id event.now (known_to (get nat_eq proxies.old number) id)) }
 {
     match proxies.get_mut(&number) {
@@ -189,14 +191,15 @@ fn keep_about(
     parcel: &Parcel,
     id: Id,
 ) -> Result<(), NoMemory>
-    requires about { about_of parcel.now ≡ Some id }
+    requires about { sources.about parcel.now ≡ Some id }
     requires from { IsMember (group_in journal.now) parcel.now.from }
     requires records { records ≤ length journal.now.records }
     requires cores { (k : ℕ) → IsCoreIfAny (group_in journal.now) (run_up_to journal.now records) k (get nat_eq cores.old k) }
     requires proxies { (q : ℕ) → IsProxy (group_in journal.now) (run_up_to journal.now records) q (get nat_eq proxies.now q) }
     ensures cores { OnOk result ((k : ℕ) → IsCoreIfAny (group_in journal.now) (run_up_to journal.now records) k (get nat_eq cores.new k)) }
-    ensures table { OnOk result ((done : List AParcel) (r : ARecord) (J : List ARecord) → run_up_to journal.now records ≡ r ∷ J
-        → IsTableWith (group_in journal.now) done r J sendings.old.kept.entries → IsTableWith (group_in journal.now) (done ++ parcel.now ∷ []) r J sendings.new.kept.entries) }
+    ensures table { OnOk result ((done : List ParcelModel) (r : RecordModel) (J : List RecordModel) → run_up_to journal.now records ≡ r ∷ J
+        → IsTableWith (group_in journal.now) done r J sendings.old.kept.entries
+        → IsTableWith (group_in journal.now) (done ++ parcel.now ∷ []) r J sendings.new.kept.entries) }
 {
     if sendings.has(parcel)? {
         return Ok(());
@@ -220,8 +223,9 @@ fn keep_sending(
     requires cores { (k : ℕ) → IsCoreIfAny (group_in journal.now) (run_up_to journal.now records) k (get nat_eq cores.old k) }
     requires proxies { (q : ℕ) → IsProxy (group_in journal.now) (run_up_to journal.now records) q (get nat_eq proxies.now q) }
     ensures cores { OnOk result ((k : ℕ) → IsCoreIfAny (group_in journal.now) (run_up_to journal.now records) k (get nat_eq cores.new k)) }
-    ensures table { OnOk result ((done : List AParcel) (r : ARecord) (J : List ARecord) → run_up_to journal.now records ≡ r ∷ J
-        → IsTableWith (group_in journal.now) done r J sendings.old.kept.entries → IsTableWith (group_in journal.now) (done ++ parcel.now ∷ []) r J sendings.new.kept.entries) }
+    ensures table { OnOk result ((done : List ParcelModel) (r : RecordModel) (J : List RecordModel) → run_up_to journal.now records ≡ r ∷ J
+        → IsTableWith (group_in journal.now) done r J sendings.old.kept.entries
+        → IsTableWith (group_in journal.now) (done ++ parcel.now ∷ []) r J sendings.new.kept.entries) }
 {
     match about(alloc, parcel)? {
         None => Ok(()),
@@ -242,11 +246,11 @@ fn keep_sendings(
     next: &Record,
 ) -> Result<(), NoMemory>
     requires records { records ≤ length journal.now.records }
-    requires sender { (p : AParcel) → Has next.now.sends p → IsMember (group_in journal.now) p.from }
+    requires sender { (p : ParcelModel) → Has next.now.sends p → IsMember (group_in journal.now) p.from }
     requires cores { (k : ℕ) → IsCoreIfAny (group_in journal.now) (run_up_to journal.now records) k (get nat_eq cores.old k) }
     requires proxies { (q : ℕ) → IsProxy (group_in journal.now) (run_up_to journal.now records) q (get nat_eq proxies.now q) }
     ensures cores { OnOk result ((k : ℕ) → IsCoreIfAny (group_in journal.now) (run_up_to journal.now records) k (get nat_eq cores.new k)) }
-    ensures table { OnOk result ((J : List ARecord) → run_up_to journal.now records ≡ next.now ∷ J
+    ensures table { OnOk result ((J : List RecordModel) → run_up_to journal.now records ≡ next.now ∷ J
         → IsTable (group_in journal.now) J sendings.old.kept.entries → IsTable (group_in journal.now) (next.now ∷ J) sendings.new.kept.entries) }
 {
     for parcel in next.sends.as_slice() {
@@ -291,10 +295,11 @@ fn act(
     next: &Record,
 ) -> Result<(), NoMemory>
     requires live { (k : ℕ) → IsLive (get nat_eq cores.old k) }
-    requires sized { (q : ℕ) (id : AnId) → IsSized cluster (known_to (get nat_eq proxies.old q) id) }
-    ensures cores { OnOk result ((g : Group) (J : List ARecord) → World g (next.now ∷ J) → ((k : ℕ) → IsCoreIfAny g J k (get nat_eq cores.old k))
+    requires sized { (q : ℕ) (id : IdModel) → IsSized cluster (known_to (get nat_eq proxies.old q) id) }
+    ensures cores { OnOk result ((g : Group) (J : List RecordModel) → World g (next.now ∷ J) → ((k : ℕ) → IsCoreIfAny g J k (get nat_eq cores.old k))
         → (k : ℕ) → IsCoreIfAny g (next.now ∷ J) k (get nat_eq cores.new k)) }
-    ensures proxies { OnOk result ((g : Group) (J : List ARecord) → World g (next.now ∷ J) → g.f ≡ cluster → IsTable g J sendings.now.kept.entries → ((q : ℕ) → IsProxy g J q (get nat_eq proxies.old q))
+    ensures proxies { OnOk result ((g : Group) (J : List RecordModel) → World g (next.now ∷ J) → g.f ≡ cluster
+        → IsTable g J sendings.now.kept.entries → ((q : ℕ) → IsProxy g J q (get nat_eq proxies.old q))
         → (q : ℕ) → IsProxy g (next.now ∷ J) q (get nat_eq proxies.new q)) }
 {
     match next.actor {
@@ -330,7 +335,7 @@ impl Reading {
         next: &Record,
     ) -> Result<(), NoMemory>
         requires records { records ≤ length journal.now.records }
-        requires run { (J : List ARecord) × IsNext journal.now records next.now J × IsRead (group_in journal.now) J self.old }
+        requires run { (J : List RecordModel) × IsNextRecord journal.now records next.now J × IsRead (group_in journal.now) J self.old }
         ensures { OnOk result (IsRead (group_in journal.now) (run_up_to journal.now records) self.new) }
     {
         let telling = self.clients.tell(alloc, next)?;

@@ -4,7 +4,7 @@ ghost use Rattle.std.specs.Prelude.{◌≡◌, ◌≤◌, ◌<◌, ◌∷◌, tr
 ghost use Rattle.nz_base.specs.Cluster.{replica_count};
 ghost use Rattle.nz_machine.specs.Journals.{group_in};
 ghost use Rattle.nz_machine.specs.State.{Group};
-ghost use Rattle.nz_machine.specs.declared.event.Record.{Record as ARecord};
+ghost use Rattle.nz_machine.specs.declared.event.Record.{Record as RecordModel};
 ghost use Rattle.nz_audit.specs.Cores.{IsCore, run_up_to};
 
 use nz_base::{Actor, NoMemory};
@@ -16,7 +16,7 @@ use std::alloc::Global;
 pub fn replay_one(core: &mut Replica, number: u8, next: &Record) -> Result<(), NoMemory>
     requires { core.old.live ≡ true }
     ensures live { OnOk result (core.new.live ≡ true) }
-    ensures core { OnOk result ((g : Group) (J : List ARecord) → IsCore g J number core.old → IsCore g (next.now ∷ J) number core.new) }
+    ensures core { OnOk result ((g : Group) (J : List RecordModel) → IsCore g J number core.old → IsCore g (next.now ∷ J) number core.new) }
 {
     if next.actor.is(&Actor::Replica(number)) {
         core.step(&next.event)?;

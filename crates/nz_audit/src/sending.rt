@@ -3,8 +3,9 @@
 ghost use Rattle.std.specs.Prelude.{◌≡◌, [], IfOk, OnOk, Some, is_some, if◌then◌else◌};
 ghost use Rattle.std.specs.Option.{option_flatten};
 ghost use Rattle.nz_machine.specs.History.{parcel_eq};
-ghost use Rattle.nz_machine.specs.declared.event.Parcel.{Parcel as AParcel};
-ghost use Rattle.nz_audit.specs.Sources.{about_message, about as about_of, key_of, kept_of};
+ghost use Rattle.nz_machine.specs.declared.event.Parcel.{Parcel as ParcelModel};
+ghost use Rattle.nz_audit.specs.Sources as sources;
+ghost use Rattle.nz_audit.specs.Sources.{about_message, parcel_key_of, kept_of};
 
 use super::source::Source;
 use bytes::Bytes;
@@ -24,7 +25,7 @@ pub struct ParcelKey {
 
 impl ParcelKey {
     fn new(parcel: &Parcel) -> Result<ParcelKey, NoMemory>
-        ensures { IfOk result (λ key. key ≡ key_of parcel.now) }
+        ensures { IfOk result (λ key. key ≡ parcel_key_of parcel.now) }
     {
         Ok(ParcelKey {
             from: parcel.from,
@@ -69,7 +70,8 @@ impl Sendings {
     }
 
     pub fn keep(&mut self, parcel: &Parcel, source: Option<Source>) -> Result<(), NoMemory>
-        ensures { OnOk result ((p : AParcel) → kept_of self.new.kept.entries p ≡ (if parcel_eq parcel.now p then Some source else kept_of self.old.kept.entries p)) }
+        ensures { OnOk result ((p : ParcelModel)
+            → kept_of self.new.kept.entries p ≡ (if parcel_eq parcel.now p then Some source else kept_of self.old.kept.entries p)) }
     {
         self.kept.insert(ParcelKey::new(parcel)?, source)?;
         Ok(())
@@ -97,7 +99,7 @@ fn about_in(envelope: &Envelope) -> Option<Id>
 
 /// The request that the parcel is about, where it stands for a source.
 pub fn about(alloc: Global, parcel: &Parcel) -> Result<Option<Id>, NoMemory>
-    ensures { IfOk result (λ id. id ≡ about_of parcel.now) }
+    ensures { IfOk result (λ id. id ≡ sources.about parcel.now) }
 {
     match heard(alloc, parcel.to, parcel)? {
         Some(envelope) => Ok(about_in(&envelope)),

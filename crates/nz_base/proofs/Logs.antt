@@ -1,5 +1,6 @@
 -- Lists of keys and logs: parts of them, put together, filtered, and what comes last.
-use Rattle.std.proofs.Common.{◌≡◌, suc, ◌-◌, Bool, true, false, ◌||◌, List, [], ◌∷◌, ◌++◌, length, Some, None, slice_get, refl, sym, ap, subst, ◌∙◌, inl, inr, ◌⊎◌, arith}
+use Rattle.std.proofs.Common.{◌≡◌, suc, ◌-◌, Bool, true, false, ◌||◌, List, [], ◌∷◌, ◌++◌, length, Some}
+use Rattle.std.proofs.Common.{None, slice_get, refl, sym, ap, subst, ◌∙◌, inl, inr, ◌⊎◌, arith}
 use Rattle.std.specs.List.{filter}
 use Rattle.std.proofs.lemmas.List.{map-append, append-nil}
 use Rattle.std.proofs.lemmas.List.Folds.{list_any-append}
@@ -110,13 +111,17 @@ own_id (x ∷ xs) k ys own =
     elim (cases_bool (id_eq (id_of k) (id_of x))) [
       | inr apart ↦ rw apart (own_id xs k ys own.1)
       | inl same ↦
-          let turned : id_eq (id_of x) (id_of k) ≡ true = subst (λ (i : Id). id_eq (id_of x) i ≡ true) (sym (same_id (id_of k) (id_of x) same)) (id_eq_self (id_of x)) in
-          let there : has_id (xs ++ k ∷ ys) (id_of x) ≡ true = has_id-append xs (k ∷ ys) (id_of x) ∙ or_right (has_id xs (id_of x)) (has_id (k ∷ ys) (id_of x)) (or_left (id_eq (id_of x) (id_of k)) (has_id ys (id_of x)) turned) in
+          let turned : id_eq (id_of x) (id_of k) ≡ true =
+          subst (λ (i : Id). id_eq (id_of x) i ≡ true) (sym (same_id (id_of k) (id_of x) same)) (id_eq_self (id_of x)) in
+          let there : has_id (xs ++ k ∷ ys) (id_of x) ≡ true =
+          has_id-append xs (k ∷ ys) (id_of x)
+          ∙ or_right (has_id xs (id_of x)) (has_id (k ∷ ys) (id_of x)) (or_left (id_eq (id_of x) (id_of k)) (has_id ys (id_of x)) turned) in
           clash (has_id (xs ++ k ∷ ys) (id_of x)) there own.0
     ]
 
 -- a prefix, a key whose id is nowhere else, and a rest
-pub own_join : (xs : List Key) (k : Key) (ys : List Key) → HaveOwnIds (xs ++ ys) → has_id xs (id_of k) ≡ false → has_id ys (id_of k) ≡ false → HaveOwnIds (xs ++ k ∷ ys)
+pub own_join : (xs : List Key) (k : Key) (ys : List Key) → HaveOwnIds (xs ++ ys) → has_id xs (id_of k) ≡ false
+    → has_id ys (id_of k) ≡ false → HaveOwnIds (xs ++ k ∷ ys)
 own_join [] k ys own front back = (back, own)
 own_join (x ∷ xs) k ys own front back =
     let apart = id_turn_away (id_of k) (id_of x) (neither_left (id_eq (id_of k) (id_of x)) (has_id xs (id_of k)) front) in
@@ -135,7 +140,8 @@ own_more keys key own fresh = own_join keys key [] (subst HaveOwnIds (sym (appen
 pub own_push : (es : List Entry) (e : Entry) → HaveOwnIds (keys_of es) → has_id (keys_of es) (id_of e.key) ≡ false → HaveOwnIds (keys_of (es ++ e ∷ []))
 own_push es e own fresh = subst HaveOwnIds (sym (keys_append es (e ∷ []))) (own_more (keys_of es) e.key own fresh)
 
-pub log_push : (es : List Entry) (e : Entry) → IsLog es → is_above_last (keys_of es) e.key ≡ true → has_id (keys_of es) (id_of e.key) ≡ false → IsLog (es ++ e ∷ [])
+pub log_push : (es : List Entry) (e : Entry) → IsLog es → is_above_last (keys_of es) e.key ≡ true
+    → has_id (keys_of es) (id_of e.key) ≡ false → IsLog (es ++ e ∷ [])
 log_push es e log above fresh =
     record {
       rising = subst AreRising (sym (keys_append es (e ∷ []))) (rising_more (keys_of es) e.key log.rising above);
@@ -192,7 +198,8 @@ above_none (e ∷ f ∷ log) key h =
     let last : length (e ∷ f ∷ log) - 1 ≡ suc (length (f ∷ log) - 1) = omega arith in
     above_none (f ∷ log) key (rw last at h)
 
-pub above_some : (log : List Entry) (key : Key) (last : Entry) → slice_get log (length log - 1) ≡ Some last → is_above_last (keys_of log) key ≡ key_below last.key key
+pub above_some : (log : List Entry) (key : Key) (last : Entry) → slice_get log (length log - 1) ≡ Some last
+    → is_above_last (keys_of log) key ≡ key_below last.key key
 above_some [] key last h = absurd cc
 above_some (e ∷ []) key last h = let same : e ≡ last = cc in ap (λ (x : Entry). key_below x.key key) same
 above_some (e ∷ f ∷ log) key last h =

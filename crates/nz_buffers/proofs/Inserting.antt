@@ -20,16 +20,19 @@ choice_suc false m n = refl
 
 key_place_suc : (n : ℕ) (es : List Entry) (key : Key) → key_place_from (suc n) es key ≡ suc (key_place_from n es key)
 key_place_suc n [] key = refl
-key_place_suc n (e ∷ es) key = ap (cond (key_below key e.key) (suc n)) (key_place_suc (suc n) es key) ∙ choice_suc (key_below key e.key) n (key_place_from (suc n) es key)
+key_place_suc n (e ∷ es) key =
+    ap (cond (key_below key e.key) (suc n)) (key_place_suc (suc n) es key) ∙ choice_suc (key_below key e.key) n (key_place_from (suc n) es key)
 
-at_choice : (e f : Entry) (fs : List Entry) (b : Bool) (k : ℕ) → insert fs k e ≡ insert_by_key fs e → insert (f ∷ fs) (cond b 0 (suc k)) e ≡ cond b (e ∷ f ∷ fs) (f ∷ insert_by_key fs e)
+at_choice : (e f : Entry) (fs : List Entry) (b : Bool) (k : ℕ) → insert fs k e ≡ insert_by_key fs e
+    → insert (f ∷ fs) (cond b 0 (suc k)) e ≡ cond b (e ∷ f ∷ fs) (f ∷ insert_by_key fs e)
 at_choice e f fs true k h = refl
 at_choice e f fs false k h = ap (λ (xs : List Entry). f ∷ xs) h
 
 pub insert_by_key_at : (es : List Entry) (e : Entry) → insert es (key_place_from 0 es e.key) e ≡ insert_by_key es e
 insert_by_key_at [] e = refl
 insert_by_key_at (f ∷ fs) e =
-    ap (λ (k : ℕ). insert (f ∷ fs) (cond (key_below e.key f.key) 0 k) e) (key_place_suc 0 fs e.key) ∙ at_choice e f fs (key_below e.key f.key) (key_place_from 0 fs e.key) (insert_by_key_at fs e)
+    ap (λ (k : ℕ). insert (f ∷ fs) (cond (key_below e.key f.key) 0 k) e) (key_place_suc 0 fs e.key)
+    ∙ at_choice e f fs (key_below e.key f.key) (key_place_from 0 fs e.key) (insert_by_key_at fs e)
 
 -- ---- the keys
 
@@ -59,10 +62,13 @@ pub above_other : (a b : Key) → key_below a b ≡ false → id_eq (id_of a) (i
 above_other a b not_lower apart =
     elim (cases_bool (key_below b a)) [
       | inl higher ↦ higher
-      | inr not_higher ↦ clash (id_eq (id_of a) (id_of b)) (subst (λ (k : Key). id_eq (id_of a) (id_of k) ≡ true) (key_below-total a b not_lower not_higher) (id_eq_self (id_of a))) apart
+      | inr not_higher ↦
+          clash (id_eq (id_of a) (id_of b))
+          (subst (λ (k : Key). id_eq (id_of a) (id_of k) ≡ true) (key_below-total a b not_lower not_higher) (id_eq_self (id_of a))) apart
     ]
 
-pub rising_insert : (es : List Entry) (e : Entry) → AreRising (keys_of es) → has_id (keys_of es) (id_of e.key) ≡ false → AreRising (keys_of (insert_by_key es e))
+pub rising_insert : (es : List Entry) (e : Entry) → AreRising (keys_of es) → has_id (keys_of es) (id_of e.key) ≡ false
+    → AreRising (keys_of (insert_by_key es e))
 rising_insert [] e r fresh = (λ x h. absurd cc, tt)
 rising_insert (f ∷ fs) e r fresh =
     elim (cases_bool (key_below e.key f.key)) [
@@ -87,12 +93,15 @@ rising_insert (f ∷ fs) e r fresh =
 
 -- ---- the ids
 
-pub has_id_insert : (es : List Entry) (e : Entry) (i : Id) → has_id (keys_of es) i ≡ false → id_eq i (id_of e.key) ≡ false → has_id (keys_of (insert_by_key es e)) i ≡ false
+pub has_id_insert : (es : List Entry) (e : Entry) (i : Id) → has_id (keys_of es) i ≡ false
+    → id_eq i (id_of e.key) ≡ false → has_id (keys_of (insert_by_key es e)) i ≡ false
 has_id_insert [] e i h apart = rw apart refl
 has_id_insert (f ∷ fs) e i h apart =
     elim (cases_bool (key_below e.key f.key)) [
       | inl lower ↦ rw (lower, apart) h
-      | inr not_lower ↦ rw (not_lower, neither_left (id_eq i (id_of f.key)) (has_id (keys_of fs) i) h) (has_id_insert fs e i (neither_right (id_eq i (id_of f.key)) (has_id (keys_of fs) i) h) apart)
+      | inr not_lower ↦
+          rw (not_lower, neither_left (id_eq i (id_of f.key)) (has_id (keys_of fs) i) h)
+          (has_id_insert fs e i (neither_right (id_eq i (id_of f.key)) (has_id (keys_of fs) i) h) apart)
     ]
 
 pub own_insert : (es : List Entry) (e : Entry) → HaveOwnIds (keys_of es) → has_id (keys_of es) (id_of e.key) ≡ false → HaveOwnIds (keys_of (insert_by_key es e))

@@ -1,5 +1,6 @@
 -- Entries kept by their keys and by their ids, against the lists that clauses see.
-use Rattle.std.proofs.Common.{◌≡◌, Bool, true, false, not, List, [], ◌∷◌, ◌++◌, Option, Some, None, is_some, IsSome, IsTrue, ◌↔◌, arith, refl, sym, ap, subst, ◌∙◌, inl, inr, if◌then◌else◌}
+use Rattle.std.proofs.Common.{◌≡◌, Bool, true, false, not, List, [], ◌∷◌, ◌++◌, Option, Some, None, is_some, IsSome}
+use Rattle.std.proofs.Common.{IsTrue, ◌↔◌, arith, refl, sym, ap, subst, ◌∙◌, inl, inr, if◌then◌else◌}
 use Rattle.std.specs.List.{AllByRecursion}
 use Rattle.std.specs.Map.{lookup, values_of, remove_entry}
 use Rattle.std.specs.Option.{option_map}
@@ -19,7 +20,7 @@ use Rattle.nz_base.proofs.Names.{id_eq_self, same_id, id_turn, id_turn_away}
 use Rattle.nz_base.proofs.Booleans.{cases_bool, neither_left, neither_right, clash}
 use Rattle.nz_base.proofs.Logs.{own_push, own_filter, log_filter}
 use Rattle.nz_buffers.specs.Buffers.{find_id, without, insert_by_key, first_key}
-use Rattle.nz_buffers.specs.Keeping.{IsAtItsKey, IsAtItsId, IsKept, AreByIds}
+use Rattle.nz_buffers.specs.Keeping.{IsAtItsKey, IsAtItsId, IsKeptBuffer, AreByIds}
 use Rattle.nz_buffers.proofs.Inserting.{log_insert}
 use Rattle.nz_buffers.proofs.Removing.{without_none, find_none, find_held}
 
@@ -42,11 +43,14 @@ pub removed_is : {K : Type 0} (test : K → Bool) (i : Id) (es : List (K × Entr
 removed_is test i [] all own = refl
 removed_is test i (p ∷ es) all own =
     elim (cases_bool (id_eq i (id_of p.1.key))) [
-      | inl here ↦ rw (all.0, here) (sym (without_none (values_of es) i (subst (λ (j : Id). has_id (keys_of (values_of es)) j ≡ false) (sym (same_id i (id_of p.1.key) here)) own.0)))
+      | inl here ↦
+          rw (all.0, here) (sym (without_none (values_of es) i
+          (subst (λ (j : Id). has_id (keys_of (values_of es)) j ≡ false) (sym (same_id i (id_of p.1.key) here)) own.0)))
       | inr away ↦ rw (all.0, away) (ap (λ (xs : List Entry). p.1 ∷ xs) (removed_is test i es all.1 own.1))
     ]
 
-pub all_removed : {K : Type 0} (P : K × Entry → Type 0) (test : K → Bool) (es : List (K × Entry)) → AllByRecursion P es → AllByRecursion P (remove_entry test es)
+pub all_removed : {K : Type 0} (P : K × Entry → Type 0) (test : K → Bool) (es : List (K × Entry))
+    → AllByRecursion P es → AllByRecursion P (remove_entry test es)
 all_removed P test [] all = tt
 all_removed P test (p ∷ es) all =
     elim (cases_bool (test p.0)) [
@@ -60,10 +64,13 @@ pub ids_tell : (i : Id) (es : List (Id × Entry)) → AllByRecursion IsAtItsId e
 ids_tell i [] all = tt
 ids_tell i (p ∷ es) all = (ap (id_eq i) all.0, ids_tell i es all.1)
 
-pub by_ids_push : (es : List (Id × Entry)) (e : Entry) → AreByIds es → has_id (keys_of (values_of es)) (id_of e.key) ≡ false → AreByIds (es ++ (id_of e.key, e) ∷ [])
+pub by_ids_push : (es : List (Id × Entry)) (e : Entry) → AreByIds es
+    → has_id (keys_of (values_of es)) (id_of e.key) ≡ false → AreByIds (es ++ (id_of e.key, e) ∷ [])
 by_ids_push es e old fresh = record {
   at = more es old.at;
-  own = subst (λ (xs : List Entry). HaveOwnIds (keys_of xs)) (sym (map-append (λ (p : Id × Entry). p.1) es ((id_of e.key, e) ∷ []))) (own_push (values_of es) e old.own fresh);
+  own =
+      subst (λ (xs : List Entry). HaveOwnIds (keys_of xs))
+      (sym (map-append (λ (p : Id × Entry). p.1) es ((id_of e.key, e) ∷ []))) (own_push (values_of es) e old.own fresh);
 }
   where
     more : (es : List (Id × Entry)) → AllByRecursion IsAtItsId es → AllByRecursion IsAtItsId (es ++ (id_of e.key, e) ∷ [])
@@ -73,7 +80,9 @@ by_ids_push es e old fresh = record {
 pub by_ids_removed : (es : List (Id × Entry)) (i : Id) → AreByIds es → AreByIds (remove_entry (id_eq i) es)
 by_ids_removed es i old = record {
   at = all_removed IsAtItsId (id_eq i) es old.at;
-  own = subst (λ (xs : List Entry). HaveOwnIds (keys_of xs)) (sym (removed_is (id_eq i) i es (ids_tell i es old.at) old.own)) (own_filter (λ (x : Entry). not (id_eq i (id_of x.key))) (values_of es) old.own);
+  own =
+      subst (λ (xs : List Entry). HaveOwnIds (keys_of xs))
+      (sym (removed_is (id_eq i) i es (ids_tell i es old.at) old.own)) (own_filter (λ (x : Entry). not (id_eq i (id_of x.key))) (values_of es) old.own);
 }
 
 -- ---- by keys
@@ -113,10 +122,13 @@ tells_away i k p has at away =
 none_tell : (i : Id) (k : Key) (es : List (Key × Entry)) → id_eq i (id_of k) ≡ true → AllByRecursion IsAtItsKey es → has_id (keys_of (values_of es)) i ≡ false
     → AllByRecursion (Tells (is_at (key_cmp k)) i) es
 none_tell i k [] has all away = tt
-none_tell i k (p ∷ es) has all away =
-    (tells_away i k p has all.0 (neither_left (id_eq i (id_of p.1.key)) (has_id (keys_of (values_of es)) i) away), none_tell i k es has all.1 (neither_right (id_eq i (id_of p.1.key)) (has_id (keys_of (values_of es)) i) away))
+none_tell i k (p ∷ es) has all away = (
+  tells_away i k p has all.0 (neither_left (id_eq i (id_of p.1.key)) (has_id (keys_of (values_of es)) i) away),
+  none_tell i k es has all.1 (neither_right (id_eq i (id_of p.1.key)) (has_id (keys_of (values_of es)) i) away),
+)
 
-pub keys_tell : (i : Id) (k : Key) (es : List (Key × Entry)) → AllByRecursion IsAtItsKey es → HaveOwnIds (keys_of (values_of es)) → option_map (λ (e : Entry). e.key) (find_id (values_of es) i) ≡ Some k
+pub keys_tell : (i : Id) (k : Key) (es : List (Key × Entry)) → AllByRecursion IsAtItsKey es
+    → HaveOwnIds (keys_of (values_of es)) → option_map (λ (e : Entry). e.key) (find_id (values_of es) i) ≡ Some k
     → AllByRecursion (Tells (is_at (key_cmp k)) i) es
 keys_tell i k [] all own h = tt
 keys_tell i k (p ∷ es) all own h =
@@ -125,7 +137,8 @@ keys_tell i k (p ∷ es) all own h =
       | inl here ↦
           let has = found_id (values_of (p ∷ es)) i k h in
           let is : p.1.key ≡ k = some_key p.1.key k (rw here at h) in
-          let free : has_id (keys_of (values_of es)) i ≡ false = subst (λ (j : Id). has_id (keys_of (values_of es)) j ≡ false) (sym (same_id i (id_of p.1.key) here)) own.0 in
+          let free : has_id (keys_of (values_of es)) i ≡ false =
+          subst (λ (j : Id). has_id (keys_of (values_of es)) j ≡ false) (sym (same_id i (id_of p.1.key) here)) own.0 in
           (ap is_eq (ap (key_cmp k) (all.0 ∙ is) ∙ key_self k) ∙ sym here, none_tell i k es has all.1 free)
     ]
   where
@@ -133,17 +146,22 @@ keys_tell i k (p ∷ es) all own h =
     some_key a b h = cc
 
 -- what a removal by the key leaves
-pub kept_removed : (es : List (Key × Entry)) (keys now : List (Id × Key)) (i : Id) (k : Key) → IsKept es keys → lookup (id_eq i) keys ≡ Some k
-    → ((j : Id) → lookup (id_eq j) now ≡ (if id_eq i j then None else lookup (id_eq j) keys)) → IsKept (remove_entry (is_at (key_cmp k)) es) now
+pub kept_removed : (es : List (Key × Entry)) (keys now : List (Id × Key)) (i : Id) (k : Key) → IsKeptBuffer es keys → lookup (id_eq i) keys ≡ Some k
+    → ((j : Id) → lookup (id_eq j) now ≡ (if id_eq i j then None else lookup (id_eq j) keys)) → IsKeptBuffer (remove_entry (is_at (key_cmp k)) es) now
 kept_removed es keys now i k old here index =
     let vs = values_of es in
-    let is : values_of (remove_entry (is_at (key_cmp k)) es) ≡ without vs i = removed_is (is_at (key_cmp k)) i es (keys_tell i k es old.at old.log.own_ids (sym (old.found i) ∙ here)) old.log.own_ids in
+    let is : values_of (remove_entry (is_at (key_cmp k)) es) ≡ without vs i =
+    removed_is (is_at (key_cmp k)) i es (keys_tell i k es old.at old.log.own_ids (sym (old.found i) ∙ here)) old.log.own_ids in
     record {
       at = all_removed IsAtItsKey (is_at (key_cmp k)) es old.at;
       log = subst IsLog (sym is) (log_filter (λ (x : Entry). not (id_eq i (id_of x.key))) vs old.log);
       found = λ j. index j ∙ elim (cases_bool (id_eq i j)) [
-        | inl same ↦ rw same (sym (ap (λ (xs : List Entry). option_map (λ (e : Entry). e.key) (find_id xs j)) is ∙ ap (option_map (λ (e : Entry). e.key)) (subst (λ (m : Id). find_id (without vs i) m ≡ None) (same_id i j same) (gone vs i))))
-        | inr other ↦ rw other (old.found j ∙ ap (option_map (λ (e : Entry). e.key)) (sym (stays vs i j other)) ∙ ap (λ (xs : List Entry). option_map (λ (e : Entry). e.key) (find_id xs j)) (sym is))
+        | inl same ↦
+            rw same (sym (ap (λ (xs : List Entry). option_map (λ (e : Entry). e.key) (find_id xs j)) is
+            ∙ ap (option_map (λ (e : Entry). e.key)) (subst (λ (m : Id). find_id (without vs i) m ≡ None) (same_id i j same) (gone vs i))))
+        | inr other ↦
+            rw other (old.found j ∙ ap (option_map (λ (e : Entry). e.key)) (sym (stays vs i j other))
+            ∙ ap (λ (xs : List Entry). option_map (λ (e : Entry). e.key) (find_id xs j)) (sym is))
       ];
     }
   where
@@ -167,13 +185,16 @@ kept_removed es keys now i k old here index =
     ]
 
 -- what stays where the first entry is taken
-pub kept_popped : (p : Key × Entry) (es : List (Key × Entry)) (keys now : List (Id × Key)) → IsKept (p ∷ es) keys
-    → ((i : Id) → lookup (id_eq i) now ≡ (if id_eq (id_of p.0) i then None else lookup (id_eq i) keys)) → IsKept es now
+pub kept_popped : (p : Key × Entry) (es : List (Key × Entry)) (keys now : List (Id × Key)) → IsKeptBuffer (p ∷ es) keys
+    → ((i : Id) → lookup (id_eq i) now ≡ (if id_eq (id_of p.0) i then None else lookup (id_eq i) keys)) → IsKeptBuffer es now
 kept_popped p es keys now old index = record {
   at = old.at.1;
   log = record { rising = old.log.rising.1; own_ids = old.log.own_ids.1 };
   found = λ i. index i ∙ ap (λ (k : Key). if id_eq (id_of k) i then None else lookup (id_eq i) keys) old.at.0 ∙ elim (cases_bool (id_eq (id_of p.1.key) i)) [
-    | inl here ↦ rw here (sym (ap (option_map (λ (e : Entry). e.key)) (find_none (values_of es) i (subst (λ (j : Id). has_id (keys_of (values_of es)) j ≡ false) (same_id (id_of p.1.key) i here) old.log.own_ids.0))))
+    | inl here ↦
+        rw here (sym (ap (option_map (λ (e : Entry). e.key))
+        (find_none (values_of es) i (subst (λ (j : Id). has_id (keys_of (values_of es)) j ≡ false)
+        (same_id (id_of p.1.key) i here) old.log.own_ids.0))))
     | inr away ↦ rw away (old.found i ∙ rw (id_turn_away (id_of p.1.key) i away) refl)
   ];
 }
@@ -193,7 +214,9 @@ find_new [] e i here away = rw here refl
 find_new (v ∷ vs) e i here away =
     elim (cases_bool (key_below e.key v.key)) [
       | inl lower ↦ rw lower (rw here refl)
-      | inr higher ↦ rw higher (rw (neither_left (id_eq i (id_of v.key)) (has_id (keys_of vs) i) away) (find_new vs e i here (neither_right (id_eq i (id_of v.key)) (has_id (keys_of vs) i) away)))
+      | inr higher ↦
+          rw higher (rw (neither_left (id_eq i (id_of v.key)) (has_id (keys_of vs) i) away)
+          (find_new vs e i here (neither_right (id_eq i (id_of v.key)) (has_id (keys_of vs) i) away)))
     ]
 
 -- Where the new entry goes, by the order of its key and the first one.
@@ -201,15 +224,20 @@ inserted : (es : List (Key × Entry)) (e : Entry) → AllByRecursion IsAtItsKey 
     → (values_of (insert_entry key_cmp es e.key e) ≡ insert_by_key (values_of es) e) × AllByRecursion IsAtItsKey (insert_entry key_cmp es e.key e)
 inserted [] e all fresh = (refl, (refl, tt))
 inserted (p ∷ es) e all fresh =
-    first (key_cmp e.key p.0) refl (inserted es e all.1 (neither_right (id_eq (id_of e.key) (id_of p.1.key)) (has_id (keys_of (values_of es)) (id_of e.key)) fresh))
+    first (key_cmp e.key p.0) refl
+    (inserted es e all.1 (neither_right (id_eq (id_of e.key) (id_of p.1.key)) (has_id (keys_of (values_of es)) (id_of e.key)) fresh))
   where
     first : (r : Ordering) → key_cmp e.key p.0 ≡ r
         → (values_of (insert_entry key_cmp es e.key e) ≡ insert_by_key (values_of es) e) × AllByRecursion IsAtItsKey (insert_entry key_cmp es e.key e)
-        → (values_of (insert_entry key_cmp (p ∷ es) e.key e) ≡ insert_by_key (values_of (p ∷ es)) e) × AllByRecursion IsAtItsKey (insert_entry key_cmp (p ∷ es) e.key e)
+        → (values_of (insert_entry key_cmp (p ∷ es) e.key e) ≡ insert_by_key (values_of (p ∷ es)) e)
+        × AllByRecursion IsAtItsKey (insert_entry key_cmp (p ∷ es) e.key e)
     first Less is rest =
         let below : key_below e.key p.1.key ≡ true = rw (ap (key_cmp e.key) (sym all.0) ∙ is) refl in
         (rw (is, below) refl, rw is (refl, all))
-    first Equal is rest = clash (id_eq (id_of e.key) (id_of p.1.key)) (subst (λ (k : Key). id_eq (id_of e.key) (id_of k) ≡ true) (key_same e.key p.0 is ∙ all.0) (id_eq_self (id_of e.key))) (neither_left (id_eq (id_of e.key) (id_of p.1.key)) (has_id (keys_of (values_of es)) (id_of e.key)) fresh)
+    first Equal is rest =
+        clash (id_eq (id_of e.key) (id_of p.1.key))
+        (subst (λ (k : Key). id_eq (id_of e.key) (id_of k) ≡ true) (key_same e.key p.0 is ∙ all.0)
+        (id_eq_self (id_of e.key))) (neither_left (id_eq (id_of e.key) (id_of p.1.key)) (has_id (keys_of (values_of es)) (id_of e.key)) fresh)
     first Greater is rest =
         let above : key_below e.key p.1.key ≡ false = rw (ap (key_cmp e.key) (sym all.0) ∙ is) refl in
         (rw (is, above) (ap (λ (xs : List Entry). p.1 ∷ xs) rest.0), rw is (all.0, rest.1))
@@ -218,8 +246,10 @@ pub inserted_is : (es : List (Key × Entry)) (e : Entry) → AllByRecursion IsAt
     → values_of (insert_entry key_cmp es e.key e) ≡ insert_by_key (values_of es) e
 inserted_is es e all fresh = (inserted es e all fresh).0
 
-pub kept_inserted : (es : List (Key × Entry)) (keys now : List (Id × Key)) (e : Entry) → IsKept es keys → has_id (keys_of (values_of es)) (id_of e.key) ≡ false
-    → ((i : Id) → lookup (id_eq i) now ≡ (if id_eq (id_of e.key) i then Some e.key else lookup (id_eq i) keys)) → IsKept (insert_entry key_cmp es e.key e) now
+pub kept_inserted : (es : List (Key × Entry)) (keys now : List (Id × Key)) (e : Entry) → IsKeptBuffer es keys
+    → has_id (keys_of (values_of es)) (id_of e.key) ≡ false
+    → ((i : Id) → lookup (id_eq i) now ≡ (if id_eq (id_of e.key) i then Some e.key else lookup (id_eq i) keys))
+    → IsKeptBuffer (insert_entry key_cmp es e.key e) now
 kept_inserted es keys now e old fresh index =
     let is = inserted_is es e old.at fresh in
     record {
@@ -227,9 +257,13 @@ kept_inserted es keys now e old fresh index =
       log = subst IsLog (sym is) (log_insert (values_of es) e old.log fresh);
       found = λ i. index i ∙ elim (cases_bool (id_eq (id_of e.key) i)) [
         | inl here ↦
-            let free : has_id (keys_of (values_of es)) i ≡ false = subst (λ (j : Id). has_id (keys_of (values_of es)) j ≡ false) (same_id (id_of e.key) i here) fresh in
-            rw here (sym (ap (λ (xs : List Entry). option_map (λ (x : Entry). x.key) (find_id xs i)) is ∙ ap (option_map (λ (x : Entry). x.key)) (find_new (values_of es) e i (id_turn (id_of e.key) i here) free)))
-        | inr away ↦ rw away (old.found i ∙ sym (ap (λ (xs : List Entry). option_map (λ (x : Entry). x.key) (find_id xs i)) is ∙ ap (option_map (λ (x : Entry). x.key)) (find_other (values_of es) e i (id_turn_away (id_of e.key) i away))))
+            let free : has_id (keys_of (values_of es)) i ≡ false =
+            subst (λ (j : Id). has_id (keys_of (values_of es)) j ≡ false) (same_id (id_of e.key) i here) fresh in
+            rw here (sym (ap (λ (xs : List Entry). option_map (λ (x : Entry). x.key) (find_id xs i)) is
+            ∙ ap (option_map (λ (x : Entry). x.key)) (find_new (values_of es) e i (id_turn (id_of e.key) i here) free)))
+        | inr away ↦
+            rw away (old.found i ∙ sym (ap (λ (xs : List Entry). option_map (λ (x : Entry). x.key) (find_id xs i)) is
+            ∙ ap (option_map (λ (x : Entry). x.key)) (find_other (values_of es) e i (id_turn_away (id_of e.key) i away))))
       ];
     }
 

@@ -1,5 +1,6 @@
 -- What a removal leaves.
-use Rattle.std.proofs.Common.{◌≡◌, ℕ, suc, ◌<◌, true, false, List, [], ◌∷◌, ◌++◌, length, take, drop, get_or, Option, Some, None, is_some, Bor, IsSome, IsTrue, ◌↔◌, drop-cons, refl, sym, ap, subst, ◌∙◌, inl, inr}
+use Rattle.std.proofs.Common.{◌≡◌, ℕ, suc, ◌<◌, true, false, List, [], ◌∷◌, ◌++◌, length, take, drop, get_or, Option, Some}
+use Rattle.std.proofs.Common.{None, is_some, Bor, IsSome, IsTrue, ◌↔◌, drop-cons, refl, sym, ap, subst, ◌∙◌, inl, inr}
 use Rattle.std.specs.Option.{option_copied}
 use Rattle.std.specs.List.{remove}
 use Rattle.std.proofs.lemmas.List.{map-append, take-append-drop}
@@ -18,14 +19,19 @@ use Rattle.nz_buffers.specs.Places.{IsPlace}
 -- none has the id, and nothing is taken out
 pub without_none : (es : List Entry) (i : Id) → has_id (keys_of es) i ≡ false → without es i ≡ es
 without_none [] i h = refl
-without_none (e ∷ es) i h = rw (neither_left (id_eq i (id_of e.key)) (has_id (keys_of es) i) h) (ap (λ (xs : List Entry). e ∷ xs) (without_none es i (neither_right (id_eq i (id_of e.key)) (has_id (keys_of es) i) h)))
+without_none (e ∷ es) i h =
+    rw (neither_left (id_eq i (id_of e.key)) (has_id (keys_of es) i) h)
+    (ap (λ (xs : List Entry). e ∷ xs) (without_none es i (neither_right (id_eq i (id_of e.key)) (has_id (keys_of es) i) h)))
 
 pub find_none : (es : List Entry) (i : Id) → has_id (keys_of es) i ≡ false → find_id es i ≡ None
 find_none [] i h = refl
-find_none (e ∷ es) i h = rw (neither_left (id_eq i (id_of e.key)) (has_id (keys_of es) i) h) (find_none es i (neither_right (id_eq i (id_of e.key)) (has_id (keys_of es) i) h))
+find_none (e ∷ es) i h =
+    rw (neither_left (id_eq i (id_of e.key)) (has_id (keys_of es) i) h)
+    (find_none es i (neither_right (id_eq i (id_of e.key)) (has_id (keys_of es) i) h))
 
 -- before the entry none has its id, and after it none has either
-taken_split : (front : List Entry) (e : Entry) (back : List Entry) (i : Id) → has_id (keys_of front) i ≡ false → id_eq i (id_of e.key) ≡ true → has_id (keys_of back) i ≡ false
+taken_split : (front : List Entry) (e : Entry) (back : List Entry) (i : Id) → has_id (keys_of front) i ≡ false
+    → id_eq i (id_of e.key) ≡ true → has_id (keys_of back) i ≡ false
     → (find_id (front ++ e ∷ back) i ≡ Some e) × (without (front ++ e ∷ back) i ≡ front ++ back)
 taken_split [] e back i away here behind = (rw here refl, rw here (without_none back i behind))
 taken_split (f ∷ front) e back i away here behind =
@@ -51,7 +57,8 @@ taken_at es i place d own at =
     let split : front ++ e ∷ back ≡ es = split_at es place d at.within in
     let parts : keys_of es ≡ keys_of front ++ e.key ∷ keys_of back = sym (ap keys_of split) ∙ map-append (λ (x : Entry). x.key) front (e ∷ back) in
     let behind : has_id (keys_of back) i ≡ false =
-    subst (λ (j : Id). has_id (keys_of back) j ≡ false) (sym (same_id i (id_of e.key) (at.here d))) (behind_own (keys_of front) e.key (keys_of back) (subst HaveOwnIds parts own)) in
+    subst (λ (j : Id). has_id (keys_of back) j ≡ false) (sym (same_id i (id_of e.key) (at.here d)))
+    (behind_own (keys_of front) e.key (keys_of back) (subst HaveOwnIds parts own)) in
     let both = taken_split front e back i at.front (at.here d) behind in
     (subst (λ (xs : List Entry). find_id xs i ≡ Some e) split both.0, subst (λ (xs : List Entry). without xs i ≡ front ++ back) split both.1)
 
@@ -66,7 +73,8 @@ find_held (e ∷ es) i =
 
 -- the same of an entry that is lent
 pub found_held : (found : Option (Bor Entry)) (es : List Entry) (i : Id) → option_copied found ≡ find_id es i → IsSome found ↔ IsTrue (has_id (keys_of es) i)
-found_held found es i same = (λ some. sym (find_held es i) ∙ ap is_some (sym same) ∙ copied found ∙ some, λ held. sym (copied found) ∙ ap is_some same ∙ find_held es i ∙ held)
+found_held found es i same =
+    (λ some. sym (find_held es i) ∙ ap is_some (sym same) ∙ copied found ∙ some, λ held. sym (copied found) ∙ ap is_some same ∙ find_held es i ∙ held)
   where
     copied : (o : Option (Bor Entry)) → is_some (option_copied o) ≡ is_some o
     copied None = refl

@@ -19,7 +19,7 @@ abbrev pub IsAtItsId : Id × Entry → Type 0
 IsAtItsId p = p.0 ≡ id_of p.1.key
 
 -- The entries are at their keys and are those of a log, and the index has the key of each id.
-pub record IsKept (entries : List (Key × Entry)) (keys : List (Id × Key)) : Type 0 where
+pub record IsKeptBuffer (entries : List (Key × Entry)) (keys : List (Id × Key)) : Type 0 where
   pub at : AllByRecursion IsAtItsKey entries
   pub log : IsLog (values_of entries)
   pub found : (i : Id) → lookup (id_eq i) keys ≡ option_map (λ e. e.key) (find_id (values_of entries) i)

@@ -3,7 +3,7 @@
 ghost use Rattle.std.specs.Prelude.{◌≡◌, ◌++◌, ◌<◌, [], ◌↔◌, if◌then◌else◌, true, Some, None, length, IsTrue, IsFalse, IsSome, IsOk, IfOk, OnOk, OnErr, not};
 ghost use Rattle.std.specs.Option.{option_copied, option_to_list};
 ghost use Rattle.indexmap.specs.IndexMap.{get, spare};
-ghost use Rattle.nz_base.specs.declared.key.Id.{Id as AnId};
+ghost use Rattle.nz_base.specs.declared.key.Id.{Id as IdModel};
 ghost use Rattle.nz_base.specs.Key.{key_below, id_eq, id_of};
 ghost use Rattle.nz_base.specs.Log.{keys_of, has_id};
 ghost use Rattle.nz_buffers.specs.Buffers.{find_id, without, first_key, is_past, is_due, released, first_if};
@@ -35,15 +35,15 @@ pub struct Early {
 
 impl Model for Early {
     ghost use Rattle.std.specs.Prelude.{List};
-    ghost use Rattle.nz_base.specs.declared.key.Entry.{Entry as AnEntry};
+    ghost use Rattle.nz_base.specs.declared.key.Entry.{Entry as EntryModel};
     ghost use Rattle.std.specs.Map.{values_of};
-    ghost use Rattle.nz_buffers.specs.Keeping.{IsKept};
+    ghost use Rattle.nz_buffers.specs.Keeping.{IsKeptBuffer};
 
-    ghost Value = { List AnEntry };
+    ghost Value = { List EntryModel };
 
     ghost view = { λ b. values_of b.entries.entries };
 
-    ghost invariant = { λ b. IsKept b.entries.entries b.keys.entries };
+    ghost invariant = { λ b. IsKeptBuffer b.entries.entries b.keys.entries };
 }
 
 impl Early {
@@ -183,13 +183,13 @@ impl EarlyRep for Early {
 // Notes the key of an id, for which there is room.
 fn note_key(keys: &mut IndexMap<Id, Key>, key: Key)
     requires { 0 < spare keys.old }
-    ensures { (i : AnId) → get id_eq keys.new i ≡ (if id_eq (id_of key) i then Some key else get id_eq keys.old i) }
+    ensures { (i : IdModel) → get id_eq keys.new i ≡ (if id_eq (id_of key) i then Some key else get id_eq keys.old i) }
 {
     let _ = keys.insert(key.id(), key);
 }
 
 fn forget(keys: &mut IndexMap<Id, Key>, id: Id)
-    ensures { (i : AnId) → get id_eq keys.new i ≡ (if id_eq id i then None else get id_eq keys.old i) }
+    ensures { (i : IdModel) → get id_eq keys.new i ≡ (if id_eq id i then None else get id_eq keys.old i) }
 {
     let _ = keys.swap_remove(&id);
 }

@@ -2,7 +2,7 @@
 
 ghost use Rattle.std.specs.Prelude.{◌≡◌, ◌++◌, ◌↔◌, List, IsTrue, IsFalse, IsSome, IsOk, IfOk, OnOk, OnErr, not};
 ghost use Rattle.std.specs.Option.{option_copied, option_to_list};
-ghost use Rattle.nz_base.specs.declared.key.Entry.{Entry as AnEntry};
+ghost use Rattle.nz_base.specs.declared.key.Entry.{Entry as EntryModel};
 ghost use Rattle.nz_base.specs.Key.{key_below, id_of};
 ghost use Rattle.nz_base.specs.Log.{keys_of, has_id};
 ghost use Rattle.nz_buffers.specs.Buffers.{find_id, without, first_key, is_due, released, first_if, is_past};
@@ -14,7 +14,7 @@ use nz_base::{Entry, Id, Key, NoMemory};
 /// The entries that wait for their deadlines, in some representation. A clause sees the list of
 /// them in the order of their keys.
 pub trait EarlyRep {
-    ghost early: { Self → List AnEntry };
+    ghost early: { Self → List EntryModel };
 
     /// The least key.
     fn first(&self) -> Option<Key>

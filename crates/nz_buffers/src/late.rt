@@ -20,11 +20,11 @@ pub struct Late {
 
 impl Model for Late {
     ghost use Rattle.std.specs.Prelude.{List};
-    ghost use Rattle.nz_base.specs.declared.key.Entry.{Entry as AnEntry};
+    ghost use Rattle.nz_base.specs.declared.key.Entry.{Entry as EntryModel};
     ghost use Rattle.std.specs.Map.{values_of};
     ghost use Rattle.nz_buffers.specs.Keeping.{AreByIds};
 
-    ghost Value = { List AnEntry };
+    ghost Value = { List EntryModel };
 
     ghost view = { λ b. values_of b.entries.entries };
 

@@ -18,10 +18,10 @@ pub struct ListEarly {
 
 impl Model for ListEarly {
     ghost use Rattle.std.specs.Prelude.{List};
-    ghost use Rattle.nz_base.specs.declared.key.Entry.{Entry as AnEntry};
+    ghost use Rattle.nz_base.specs.declared.key.Entry.{Entry as EntryModel};
     ghost use Rattle.nz_base.specs.Log.{IsLog};
 
-    ghost Value = { List AnEntry };
+    ghost Value = { List EntryModel };
 
     ghost view = { λ b. b.entries.items };
 

@@ -4,12 +4,15 @@ use Rattle.nz_base.specs.declared.actor.Actor.{Actor}
 use Rattle.nz_base.specs.declared.actor.Actor.TheVariants.{Replica, Proxy, Client}
 use Rattle.nz_msg.specs.declared.envelope.Envelope.{Envelope}
 use Rattle.nz_msg.specs.declared.message.Message.{Message}
-use Rattle.nz_msg.specs.declared.message.Message.TheVariants.{Request, Timed, FastReply, SlowReply, Answer, LogMod, Fetch, FetchReply, SyncReport, ViewAsk, ViewChange, StartView, VectorAsk, VectorTell, RejoinAsk, RejoinTell, StateAsk, StateTell}
-use Rattle.nz_base.specs.declared.scenario.Request.{Request as Wish}
+use Rattle.nz_msg.specs.declared.message.Message.TheVariants.{Request, Timed, FastReply, SlowReply, Answer, LogMod, Fetch, FetchReply}
+use Rattle.nz_msg.specs.declared.message.Message.TheVariants.{SyncReport, ViewAsk, ViewChange, StartView, VectorAsk, VectorTell}
+use Rattle.nz_msg.specs.declared.message.Message.TheVariants.{RejoinAsk, RejoinTell, StateAsk, StateTell}
+use Rattle.nz_base.specs.declared.scenario.Request.{Request as RequestModel}
 use Rattle.nz_machine.specs.declared.event.Parcel.{Parcel}
 use Rattle.nz_machine.specs.State.{ClientData, Group, Out}
-use Rattle.nz_machine.specs.Step.{is_in_cluster, is_sized, vector_of, heard, received, counted, envelope_step, client_message, script_of}
-use Rattle.nz_client.specs.Seats.{ClientSeat, IsOf}
+use Rattle.nz_machine.specs.Step.{is_in_cluster, is_sized, message_vector, envelope_for, accepted_envelope}
+use Rattle.nz_machine.specs.Step.{if_from_cluster, envelope_step, client_message, script_of}
+use Rattle.nz_client.specs.Seats.{ClientSeat, IsClientInGroup}
 
 -- what is passed over changes nothing
 pub idle : (g : Group) (me : ℕ) (s : ClientData) (e : Envelope) (b : Bool) → client_message g.window g.proxies me (script_of g me) s e.from e.message ≡ (s, [])
@@ -19,7 +22,7 @@ idle g me s e false same = sym same
 
 -- a client takes what it hears as if it were of the cluster's size
 pub takes_all : (g : Group) (me : ℕ) (s : ClientData) (from to : Actor) (m : Message)
-    → envelope_step g (Client me) s (counted g.f (Some (record { from = from; to = to; message = m })))
+    → envelope_step g (Client me) s (if_from_cluster g.f (Some (record { from = from; to = to; message = m })))
     ≡ client_message g.window g.proxies me (script_of g me) s from m
 takes_all g me s (Replica r) to m = idle g me s _ _ refl
 takes_all g me s (Client c) to m = idle g me s _ _ refl
@@ -43,12 +46,12 @@ takes_all g me s (Proxy p) to (StateAsk b) = idle g me s _ _ refl
 takes_all g me s (Proxy p) to (StateTell b) = idle g me s _ _ refl
 
 -- what a client does with a parcel that it hears
-pub delivered : (g : Group) (seat : ClientSeat) (p : Parcel) (e : Envelope) → IsOf g seat → heard (Client seat.me) p ≡ Some e
-    → envelope_step g (Client seat.me) seat.state (received g.f (Client seat.me) p)
+pub delivered : (g : Group) (seat : ClientSeat) (p : Parcel) (e : Envelope) → IsClientInGroup g seat → envelope_for (Client seat.me) p ≡ Some e
+    → envelope_step g (Client seat.me) seat.state (accepted_envelope g.f (Client seat.me) p)
     ≡ client_message seat.window seat.proxies seat.me seat.script seat.state e.from e.message
 delivered g seat p e is h =
-    ap (λ (o : Option Envelope). envelope_step g (Client seat.me) seat.state (counted g.f o)) h
+    ap (λ (o : Option Envelope). envelope_step g (Client seat.me) seat.state (if_from_cluster g.f o)) h
     ∙ takes_all g seat.me seat.state e.from e.to e.message
     ∙ ap (λ (n : ℕ). client_message n g.proxies seat.me (script_of g seat.me) seat.state e.from e.message) (sym is.window)
     ∙ ap (λ (n : ℕ). client_message seat.window n seat.me (script_of g seat.me) seat.state e.from e.message) (sym is.proxies)
-    ∙ ap (λ (script : List Wish). client_message seat.window seat.proxies seat.me script seat.state e.from e.message) (sym is.script)
+    ∙ ap (λ (script : List RequestModel). client_message seat.window seat.proxies seat.me script seat.state e.from e.message) (sym is.script)

@@ -1,5 +1,6 @@
 -- What the loops over a client's window do, one place at a time.
-use Rattle.std.proofs.Common.{◌≡◌, ℕ, zero, suc, ◌+◌, ◌-◌, ◌%◌, ◌<◌, ◌≤◌, eqb, Bool, true, false, not, cond, ◌||◌, List, [], ◌∷◌, ◌++◌, length, map, take, set, get_or, Option, Some, None, refl, sym, ap, ◌∙◌, inl, inr, arith}
+use Rattle.std.proofs.Common.{◌≡◌, ℕ, zero, suc, ◌+◌, ◌-◌, ◌%◌, ◌<◌, ◌≤◌, eqb, Bool, true, false, not, cond, ◌||◌, List, [], ◌∷◌}
+use Rattle.std.proofs.Common.{◌++◌, length, map, take, set, get_or, Option, Some, None, refl, sym, ap, ◌∙◌, inl, inr, arith}
 use Rattle.std.specs.Prelude.{slice_get}
 use Rattle.std.specs.List.{AllByRecursion, flat_map}
 use Rattle.std.proofs.lemmas.List.{length-append, map-append, append_assoc, append-nil, take_more, take_all}
@@ -10,36 +11,39 @@ use Rattle.nz_base.specs.declared.scenario.Request.{Request}
 use Rattle.nz_machine.specs.declared.data.Attempt.{Attempt}
 use Rattle.nz_machine.specs.declared.event.Parcel.{Parcel}
 use Rattle.nz_machine.specs.State.{ClientData, Out}
-use Rattle.nz_machine.specs.Clients.{patience, if_due, opened, open_next, fill_places, is_overdue, waited, retry, retries, is_open, without}
+use Rattle.nz_machine.specs.Clients.{patience, if_due, after_opening, open_next, fill_places, is_overdue}
+use Rattle.nz_machine.specs.Clients.{attempt_after_wait, retry, retries, is_open, without_attempt}
 use Rattle.nz_machine.specs.Step.{parcel}
 use Rattle.nz_machine.proofs.Runs.{on_cond}
 use Rattle.nz_client.specs.Seats.{ClientSeat, IsOfProxies}
 
 -- ---- without an open request there is at least one less
 
-without_short : (num : ℕ) (xs : List Attempt) → length (without num xs) ≤ length xs
+without_short : (num : ℕ) (xs : List Attempt) → length (without_attempt num xs) ≤ length xs
 without_short num [] = omega arith
 without_short num (a ∷ xs) =
     let rest = without_short num xs in
-    on_cond (λ (l : List Attempt). length l ≤ length (a ∷ xs)) (not (eqb a.num num)) (a ∷ without num xs) (without num xs) (λ _. omega (arith, rest)) (λ _. omega (arith, rest))
+    on_cond (λ (l : List Attempt). length l ≤ length (a ∷ xs)) (not (eqb a.num num)) (a ∷ without_attempt num xs)
+    (without_attempt num xs) (λ _. omega (arith, rest)) (λ _. omega (arith, rest))
 
-pub less_open : (num : ℕ) (xs : List Attempt) → is_open num xs ≡ true → length (without num xs) + 1 ≤ length xs
+pub less_open : (num : ℕ) (xs : List Attempt) → is_open num xs ≡ true → length (without_attempt num xs) + 1 ≤ length xs
 less_open num [] e = absurd cc
 less_open num (a ∷ xs) e = elim (cases_bool (eqb a.num num)) [
   | inl t ↦
-      let is = ap (λ (b : Bool). length (cond (not b) (a ∷ without num xs) (without num xs))) t in
+      let is = ap (λ (b : Bool). length (cond (not b) (a ∷ without_attempt num xs) (without_attempt num xs))) t in
       let rest = without_short num xs in
       omega (arith, is, rest)
   | inr f ↦
-      let is = ap (λ (b : Bool). length (cond (not b) (a ∷ without num xs) (without num xs))) f in
+      let is = ap (λ (b : Bool). length (cond (not b) (a ∷ without_attempt num xs) (without_attempt num xs))) f in
       let rest = less_open num xs (sym (ap (λ (b : Bool). b || is_open num xs) f) ∙ e) in
       omega (arith, is, rest)
 ]
 
-pub all_without : (P : Attempt → Type 0) (num : ℕ) (xs : List Attempt) → AllByRecursion P xs → AllByRecursion P (without num xs)
+pub all_without : (P : Attempt → Type 0) (num : ℕ) (xs : List Attempt) → AllByRecursion P xs → AllByRecursion P (without_attempt num xs)
 all_without P num [] h = tt
 all_without P num (a ∷ xs) h =
-    on_cond (AllByRecursion P) (not (eqb a.num num)) (a ∷ without num xs) (without num xs) (λ _. (h.0, all_without P num xs h.1)) (λ _. all_without P num xs h.1)
+    on_cond (AllByRecursion P) (not (eqb a.num num)) (a ∷ without_attempt num xs) (without_attempt num xs)
+    (λ _. (h.0, all_without P num xs h.1)) (λ _. all_without P num xs h.1)
 
 -- ---- an element at a place
 
@@ -70,7 +74,8 @@ done_suc f i [] d lt = absurd (omega (arith, lt))
 done_suc f zero (x ∷ xs) d lt = refl
 done_suc f (suc i) (x ∷ xs) d lt = ap (λ (l : List Attempt). f x ∷ l) (done_suc f i xs d (omega (arith, lt)))
 
-pub done_more : (f : Attempt → Attempt) (i : ℕ) (xs : List Attempt) (d : Attempt) → i < length xs → set (done_to f i xs) i (f (get_or xs i d)) ≡ done_to f (i + 1) xs
+pub done_more : (f : Attempt → Attempt) (i : ℕ) (xs : List Attempt) (d : Attempt) → i < length xs
+    → set (done_to f i xs) i (f (get_or xs i d)) ≡ done_to f (i + 1) xs
 done_more f i xs d lt = let next : suc i ≡ i + 1 = omega arith in done_suc f i xs d lt ∙ ap (λ (n : ℕ). done_to f n xs) next
 
 pub done_all : (f : Attempt → Attempt) (i : ℕ) (xs : List Attempt) → length xs ≤ i → done_to f i xs ≡ map f xs
@@ -80,16 +85,24 @@ done_all f (suc i) [] le = refl
 done_all f (suc i) (x ∷ xs) le = ap (λ (l : List Attempt). f x ∷ l) (done_all f i xs (omega (arith, le)))
 
 waited_by : (proxies : ℕ) (a : Attempt) (b : Bool) → eqb (a.since + 1) patience ≡ b → IsOfProxies proxies a
-    → IsOfProxies proxies (cond b (record { num = a.num; proxy = (a.proxy + 1) % proxies; since = 0 }) (record { num = a.num; proxy = a.proxy; since = a.since + 1 }))
+    → IsOfProxies proxies (cond b (record { num = a.num; proxy = (a.proxy + 1) % proxies; since = 0 })
+    (record { num = a.num; proxy = a.proxy; since = a.since + 1 }))
 waited_by proxies a true e h = let below = h.proxy in record { proxy = omega (arith, below); since = omega arith }
 waited_by proxies a false e h =
     let since = h.since in
-    record { proxy = h.proxy; since = elim (cases_lt (a.since + 1) patience) [ inl lt ↦ lt | inr le ↦ absurd (false≢true (sym e ∙ eq-eqb (a.since + 1) patience (omega (arith, since, le)))) ] }
+    record {
+      proxy = h.proxy;
+      since = elim (cases_lt (a.since + 1) patience) [
+        | inl lt ↦ lt
+        | inr le ↦ absurd (false≢true (sym e ∙ eq-eqb (a.since + 1) patience (omega (arith, since, le))))
+      ];
+    }
 
-waited_fits : (proxies : ℕ) (a : Attempt) → IsOfProxies proxies a → IsOfProxies proxies (waited proxies a)
+waited_fits : (proxies : ℕ) (a : Attempt) → IsOfProxies proxies a → IsOfProxies proxies (attempt_after_wait proxies a)
 waited_fits proxies a h = waited_by proxies a (is_overdue a) refl h
 
-pub all_waited_fit : (proxies : ℕ) (xs : List Attempt) → AllByRecursion (IsOfProxies proxies) xs → AllByRecursion (IsOfProxies proxies) (map (waited proxies) xs)
+pub all_waited_fit : (proxies : ℕ) (xs : List Attempt) → AllByRecursion (IsOfProxies proxies) xs
+    → AllByRecursion (IsOfProxies proxies) (map (attempt_after_wait proxies) xs)
 all_waited_fit proxies [] h = tt
 all_waited_fit proxies (a ∷ xs) h = (waited_fits proxies a h.0, all_waited_fit proxies xs h.1)
 
@@ -99,7 +112,8 @@ flat_more : {X Y : Type 0} (f : X → List Y) (xs : List X) (x : X) → flat_map
 flat_more f [] x = append-nil (f x)
 flat_more {X} {Y} f (y ∷ xs) x = ap (λ (l : List Y). f y ++ l) (flat_more f xs x) ∙ sym (append_assoc (f y) (flat_map f xs) (f x))
 
-pub one_retried : (me proxies : ℕ) (script : List Request) (xs : List Attempt) (i : ℕ) (a : Attempt) (before now after : List Parcel) → i < length xs → a ≡ get_or xs i a
+pub one_retried : (me proxies : ℕ) (script : List Request) (xs : List Attempt) (i : ℕ) (a : Attempt) (before now after : List Parcel)
+    → i < length xs → a ≡ get_or xs i a
     → now ≡ before ++ map (parcel (Client me)) (retries proxies script (take i xs)) → after ≡ now ++ map (parcel (Client me)) (retry proxies script a)
     → after ≡ before ++ map (parcel (Client me)) (retries proxies script (take (i + 1) xs))
 one_retried me proxies script xs i a before now after lt at h is =
@@ -130,7 +144,7 @@ pub record IsFilling (s t : ClientSeat) (free done : ℕ) (before now : List Par
   pub sends : now ++ map (parcel (Client s.me)) (fill_places (free - done) s.proxies s.me s.script t.state).1
       ≡ before ++ map (parcel (Client s.me)) (fill_places free s.proxies s.me s.script s.state).1
 
-opened_room : (proxies me : ℕ) (x : ClientData) (o : Option Request) → length (opened proxies me x o).0.attempts ≤ length x.attempts + 1
+opened_room : (proxies me : ℕ) (x : ClientData) (o : Option Request) → length (after_opening proxies me x o).0.attempts ≤ length x.attempts + 1
 opened_room proxies me x None = omega arith
 opened_room proxies me x (Some r) =
     let long = length-append x.attempts (record { num = x.sent + 1; proxy = me % proxies; since = 0 } ∷ []) in omega (arith, long)
@@ -144,8 +158,10 @@ seat_opens a b p m sc =
     ap (λ (n : ℕ). open_next n a.me a.script b.state) p ∙ ap (λ (n : ℕ). open_next b.proxies n a.script b.state) m
     ∙ ap (λ (l : List Request). open_next b.proxies b.me l b.state) sc
 
-filling_by : (s t u : ClientSeat) (free done rest : ℕ) (before now after : List Parcel) → free - (done + 1) ≡ rest → free - done ≡ suc rest → IsFilling s t free done before now
-    → u ≡ record t { state = (open_next t.proxies t.me t.script t.state).0 } → after ≡ now ++ map (parcel (Client t.me)) (open_next t.proxies t.me t.script t.state).1
+filling_by : (s t u : ClientSeat) (free done rest : ℕ) (before now after : List Parcel) → free - (done + 1) ≡ rest
+    → free - done ≡ suc rest → IsFilling s t free done before now
+    → u ≡ record t { state = (open_next t.proxies t.me t.script t.state).0 }
+    → after ≡ now ++ map (parcel (Client t.me)) (open_next t.proxies t.me t.script t.state).1
     → IsFilling s u free (done + 1) before after
 filling_by s t u free done rest before now after left was h state sends =
     let x = open_next s.proxies s.me s.script t.state in
@@ -153,7 +169,8 @@ filling_by s t u free done rest before now after left was h state sends =
     let same : open_next t.proxies t.me t.script t.state ≡ x = sym (seat_opens s t (sym h.proxies) (sym h.me) (sym h.script)) in
     let next : u.state ≡ x.0 = ap (λ (v : ClientSeat). v.state) state ∙ ap (λ (y : ClientData × List Out). y.0) same in
     let sent : after ≡ now ++ map f x.1 =
-    sends ∙ ap (λ (n : ℕ). now ++ map (parcel (Client n)) (open_next t.proxies t.me t.script t.state).1) h.me ∙ ap (λ (y : ClientData × List Out). now ++ map f y.1) same in
+    sends ∙ ap (λ (n : ℕ). now ++ map (parcel (Client n)) (open_next t.proxies t.me t.script t.state).1) h.me
+    ∙ ap (λ (y : ClientData × List Out). now ++ map f y.1) same in
     let v = fill_places rest s.proxies s.me s.script x.0 in
     let room = h.room in
     let one = open_room s.proxies s.me s.script t.state in
@@ -166,7 +183,9 @@ filling_by s t u free done rest before now after left was h state sends =
       window = ap (λ (w : ClientSeat). w.window) state ∙ h.window;
       script = ap (λ (w : ClientSeat). w.script) state ∙ h.script;
       room = omega (arith, room, one, long, left, was);
-      state = ap (λ (n : ℕ). (fill_places n s.proxies s.me s.script u.state).0) left ∙ ap (λ (d : ClientData). (fill_places rest s.proxies s.me s.script d).0) next ∙ old_state;
+      state =
+          ap (λ (n : ℕ). (fill_places n s.proxies s.me s.script u.state).0) left
+          ∙ ap (λ (d : ClientData). (fill_places rest s.proxies s.me s.script d).0) next ∙ old_state;
       sends = ap (λ (n : ℕ). after ++ map f (fill_places n s.proxies s.me s.script u.state).1) left
           ∙ ap (λ (d : ClientData). after ++ map f (fill_places rest s.proxies s.me s.script d).1) next
           ∙ ap (λ (l : List Parcel). l ++ map f v.1) sent ∙ append_assoc now (map f x.1) (map f v.1)
@@ -175,15 +194,25 @@ filling_by s t u free done rest before now after left was h state sends =
 
 -- one place more takes the next request
 pub filling_more : (s t u : ClientSeat) (free done : ℕ) (before now after : List Parcel) → done < free → IsFilling s t free done before now
-    → u ≡ record t { state = (open_next t.proxies t.me t.script t.state).0 } → after ≡ now ++ map (parcel (Client t.me)) (open_next t.proxies t.me t.script t.state).1
+    → u ≡ record t { state = (open_next t.proxies t.me t.script t.state).0 }
+    → after ≡ now ++ map (parcel (Client t.me)) (open_next t.proxies t.me t.script t.state).1
     → IsFilling s u free (done + 1) before after
-filling_more s t u free done before now after lt h state sends = filling_by s t u free done (free - (done + 1)) before now after (omega (arith, lt)) (omega (arith, lt)) h state sends
+filling_more s t u free done before now after lt h state sends =
+    filling_by s t u free done (free - (done + 1)) before now after (omega (arith, lt)) (omega (arith, lt)) h state sends
 
 -- before the first place
 pub filling_none : (s : ClientSeat) (free : ℕ) (before : List Parcel) → free ≡ s.window - length s.state.attempts → length s.state.attempts ≤ s.window
     → IsFilling s s free 0 before before
 filling_none s free before is few =
-    record { me = refl; proxies = refl; window = refl; script = refl; room = omega (arith, is, few); state = filled_by (free - 0) (omega arith); sends = sent_by_all (free - 0) (omega arith) }
+    record {
+      me = refl;
+      proxies = refl;
+      window = refl;
+      script = refl;
+      room = omega (arith, is, few);
+      state = filled_by (free - 0) (omega arith);
+      sends = sent_by_all (free - 0) (omega arith);
+    }
   where
     filled_by : (n : ℕ) → n ≡ free → (fill_places n s.proxies s.me s.script s.state).0 ≡ (fill_places free s.proxies s.me s.script s.state).0
     filled_by n e = ap (λ (k : ℕ). (fill_places k s.proxies s.me s.script s.state).0) e
@@ -197,11 +226,13 @@ pub record IsFilled (s t : ClientSeat) (free : ℕ) (before now : List Parcel) :
   pub state : t ≡ record s { state = (fill_places free s.proxies s.me s.script s.state).0 }
   pub sends : now ≡ before ++ map (parcel (Client s.me)) (fill_places free s.proxies s.me s.script s.state).1
 
-pub filling_all : (s t : ClientSeat) (free done : ℕ) (before now : List Parcel) → free ≤ done → IsFilling s t free done before now → IsFilled s t free before now
+pub filling_all : (s t : ClientSeat) (free done : ℕ) (before now : List Parcel) → free ≤ done
+    → IsFilling s t free done before now → IsFilled s t free before now
 filling_all s t free done before now past h = filled_at (free - done) (omega (arith, past)) h.state h.sends
   where
     filled_at : (n : ℕ) → n ≡ 0 → (fill_places n s.proxies s.me s.script t.state).0 ≡ (fill_places free s.proxies s.me s.script s.state).0
-        → now ++ map (parcel (Client s.me)) (fill_places n s.proxies s.me s.script t.state).1 ≡ before ++ map (parcel (Client s.me)) (fill_places free s.proxies s.me s.script s.state).1
+        → now ++ map (parcel (Client s.me)) (fill_places n s.proxies s.me s.script t.state).1
+        ≡ before ++ map (parcel (Client s.me)) (fill_places free s.proxies s.me s.script s.state).1
         → IsFilled s t free before now
     filled_at zero e state sends = record {
       state = λ i. record { me = h.me i; proxies = h.proxies i; window = h.window i; script = h.script i; state = state i };

@@ -48,13 +48,13 @@ least_open [] = None
 least_open (a ∷ attempts) = Some a.num
 
 -- The client is of this group.
-pub record IsOf (g : Group) (seat : ClientSeat) : Type 0 where
+pub record IsClientInGroup (g : Group) (seat : ClientSeat) : Type 0 where
   pub proxies : seat.proxies ≡ g.proxies
   pub window : seat.window ≡ g.window
   pub script : seat.script ≡ script_of g seat.me
 
 -- One client, maybe in another state.
-pub record IsSame (a b : ClientSeat) : Type 0 where
+pub record IsSameClient (a b : ClientSeat) : Type 0 where
   pub me : b.me ≡ a.me
   pub proxies : b.proxies ≡ a.proxies
   pub window : b.window ≡ a.window

@@ -1,12 +1,13 @@
 //! A client as a core.
 
 ghost use Rattle.std.specs.Prelude.{◌≡◌, ◌≤◌, ◌++◌, ◌↔◌, true, map, OnOk, IsTrue};
-ghost use Rattle.nz_base.specs.declared.actor.Actor.TheVariants.{Client as IsClient};
+ghost use Rattle.nz_base.specs.declared.actor.Actor.TheVariants as actors;
 ghost use Rattle.nz_msg.specs.Fields.{command};
 ghost use Rattle.nz_machine.specs.State.{Group};
-ghost use Rattle.nz_machine.specs.Clients.{first_client, is_open as is_open_in};
-ghost use Rattle.nz_machine.specs.Step.{node_step, envelope_step, client_message, received, parcel};
-ghost use Rattle.nz_client.specs.Seats.{AreSendable, IsOf, IsSame, least_open};
+ghost use Rattle.nz_machine.specs.Clients as clients;
+ghost use Rattle.nz_machine.specs.Clients.{first_client};
+ghost use Rattle.nz_machine.specs.Step.{node_step, envelope_step, client_message, accepted_envelope, parcel};
+ghost use Rattle.nz_client.specs.Seats.{AreSendable, IsClientInGroup, IsSameClient, least_open};
 
 use crate::state::{ClientState, accept_rule, wait_rule};
 use nz_base::{Actor, NoMemory, RequestList};
@@ -76,7 +77,7 @@ impl Client {
 
     /// Whether the request of this number is open.
     pub fn is_open(&self, num: u32) -> bool
-        ensures { result ≡ is_open_in num self.now.seat.state.attempts }
+        ensures { result ≡ clients.is_open num self.now.seat.state.attempts }
     {
         self.state.is_open(num)
     }
@@ -90,9 +91,15 @@ impl Client {
 }
 
 fn handle(state: &mut ClientState, envelope: &Envelope, sends: &mut Sends) -> Result<(), NoMemory>
-    ensures same { IsSame state.old state.new }
-    ensures state { OnOk result (state.new ≡ record state.old { state = (client_message state.old.window state.old.proxies state.old.me state.old.script state.old.state envelope.now.from envelope.now.message).0 }) }
-    ensures sends { OnOk result (sends.new ≡ sends.old ++ map (parcel (IsClient state.old.me)) (client_message state.old.window state.old.proxies state.old.me state.old.script state.old.state envelope.now.from envelope.now.message).1) }
+    ensures same { IsSameClient state.old state.new }
+    ensures state { OnOk result (state.new ≡ record state.old {
+      state = (client_message state.old.window state.old.proxies
+          state.old.me state.old.script state.old.state envelope.now.from envelope.now.message).0;
+    }) }
+    ensures sends { OnOk result (sends.new ≡ sends.old
+        ++ map (parcel (actors.Client state.old.me))
+        (client_message state.old.window state.old.proxies state.old.me state.old.script state.old.state
+        envelope.now.from envelope.now.message).1) }
 {
     match (envelope.from, &envelope.message) {
         (Actor::Proxy(_), Message::Answer(body)) => accept_rule(state, body, sends),
@@ -101,9 +108,16 @@ fn handle(state: &mut ClientState, envelope: &Envelope, sends: &mut Sends) -> Re
 }
 
 fn deliver(state: &mut ClientState, p: &Parcel, sends: &mut Sends) -> Result<(), NoMemory>
-    ensures same { IsSame state.old state.new }
-    ensures state { (g : Group) → IsOf g state.old → OnOk result (state.new ≡ record state.old { state = (envelope_step g (IsClient state.old.me) state.old.state (received g.f (IsClient state.old.me) p.now)).0 }) }
-    ensures sends { (g : Group) → IsOf g state.old → OnOk result (sends.new ≡ sends.old ++ map (parcel (IsClient state.old.me)) (envelope_step g (IsClient state.old.me) state.old.state (received g.f (IsClient state.old.me) p.now)).1) }
+    ensures same { IsSameClient state.old state.new }
+    ensures state { (g : Group) → IsClientInGroup g state.old
+        → OnOk result (state.new ≡ record state.old {
+          state = (envelope_step g
+              (actors.Client state.old.me) state.old.state (accepted_envelope g.f (actors.Client state.old.me) p.now)).0;
+        }) }
+    ensures sends { (g : Group) → IsClientInGroup g state.old
+        → OnOk result (sends.new ≡ sends.old
+        ++ map (parcel (actors.Client state.old.me))
+        (envelope_step g (actors.Client state.old.me) state.old.state (accepted_envelope g.f (actors.Client state.old.me) p.now)).1) }
 {
     match heard(state.allocator(), state.name(), p)? {
         None => Ok(()),
@@ -112,9 +126,11 @@ fn deliver(state: &mut ClientState, p: &Parcel, sends: &mut Sends) -> Result<(),
 }
 
 fn take(state: &mut ClientState, event: &Event, sends: &mut Sends) -> Result<(), NoMemory>
-    ensures same { IsSame state.old state.new }
-    ensures state { (g : Group) → IsOf g state.old → OnOk result (state.new ≡ record state.old { state = (node_step g (IsClient state.old.me) state.old.state event.now).0 }) }
-    ensures sends { (g : Group) → IsOf g state.old → OnOk result (sends.new ≡ sends.old ++ (node_step g (IsClient state.old.me) state.old.state event.now).1) }
+    ensures same { IsSameClient state.old state.new }
+    ensures state { (g : Group) → IsClientInGroup g state.old
+        → OnOk result (state.new ≡ record state.old { state = (node_step g (actors.Client state.old.me) state.old.state event.now).0 }) }
+    ensures sends { (g : Group) → IsClientInGroup g state.old
+        → OnOk result (sends.new ≡ sends.old ++ (node_step g (actors.Client state.old.me) state.old.state event.now).1) }
 {
     match event {
         Event::Deliver(p) => deliver(state, p, sends),
@@ -124,14 +140,14 @@ fn take(state: &mut ClientState, event: &Event, sends: &mut Sends) -> Result<(),
 }
 
 impl Core for Client {
-    ghost use Rattle.nz_base.specs.declared.actor.Actor.TheVariants.{Client as IsClient};
-    ghost use Rattle.nz_client.specs.Seats.{IsOf};
+    ghost use Rattle.nz_base.specs.declared.actor.Actor.TheVariants as actors;
+    ghost use Rattle.nz_client.specs.Seats.{IsClientInGroup};
 
-    ghost meaning = { λ c. record { actor = IsClient c.seat.me; state = c.seat.state } };
+    ghost meaning = { λ c. record { actor = actors.Client c.seat.me; state = c.seat.state } };
 
     ghost live = { λ c. c.live };
 
-    ghost fits = { λ c g. IsOf g c.seat };
+    ghost fits = { λ c g. IsClientInGroup g c.seat };
 
     fn step(&mut self, event: &Event) -> Result<Sends, NoMemory> {
         let mut sends = Sends::new(self.state.allocator());

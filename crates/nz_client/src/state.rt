@@ -4,10 +4,12 @@ ghost use Rattle.std.specs.Prelude.{◌≡◌, ◌+◌, ◌-◌, ◌%◌, ◌<�
 ghost use Rattle.std.specs.List.{AllByRecursion};
 ghost use Rattle.std.specs.Option.{option_copied};
 ghost use Rattle.nz_base.specs.Actor.{HasAddress};
-ghost use Rattle.nz_base.specs.declared.actor.Actor.TheVariants.{Client as IsClient};
-ghost use Rattle.nz_machine.specs.Clients.{first_client, patience, if_due, opened, open_next as open_next_of, fill_window as fill_window_of, is_overdue as is_overdue_of, waited as waited_of, retry as retry_of, retries as retries_of, all_waited, asked_again as asked_again_of, is_open as is_open_in, without, accepted as accepted_of, wait_rule as wait_rule_of, accept_rule as accept_rule_of, ask as ask_of};
+ghost use Rattle.nz_base.specs.declared.actor.Actor.TheVariants as actors;
+ghost use Rattle.nz_machine.specs.Clients as clients;
+ghost use Rattle.nz_machine.specs.Clients.{first_client, patience, if_due, after_opening, attempt_after_wait, retries};
+ghost use Rattle.nz_machine.specs.Clients.{after_wait, request_again, without_attempt, after_acceptance};
 ghost use Rattle.nz_machine.specs.Step.{parcel};
-ghost use Rattle.nz_client.specs.Seats.{IsSendable, AreSendable, IsOfProxies, IsSame, least_open};
+ghost use Rattle.nz_client.specs.Seats.{IsSendable, AreSendable, IsOfProxies, IsSameClient, least_open};
 
 use nz_base::{Actor, NoMemory, Request, RequestList, TryCopy};
 use nz_machine::{Attempt, Sends, send};
@@ -39,7 +41,13 @@ impl Model for ClientState {
 
     ghost Value = { ClientSeat };
 
-    ghost view = { λ s. record { me = s.me; proxies = s.proxies; window = s.window; script = s.script; state = record { ticks = s.ticks; sent = s.sent; accepted = s.accepted; attempts = s.attempts.items } } };
+    ghost view = { λ s. record {
+      me = s.me;
+      proxies = s.proxies;
+      window = s.window;
+      script = s.script;
+      state = record { ticks = s.ticks; sent = s.sent; accepted = s.accepted; attempts = s.attempts.items };
+    } };
 
     ghost invariant = { λ s. IsInTurn s.me s.proxies s.window s.script s.sent s.accepted s.attempts.items };
 }
@@ -71,7 +79,7 @@ impl ClientState {
 
     /// The actor's name.
     pub fn name(&self) -> Actor
-        ensures name { result ≡ IsClient self.now.me }
+        ensures name { result ≡ actors.Client self.now.me }
         ensures address { HasAddress result }
     {
         Actor::Client(self.me)
@@ -93,7 +101,7 @@ impl ClientState {
 
     /// Whether the request of this number is open.
     pub fn is_open(&self, num: u32) -> bool
-        ensures { result ≡ is_open_in num self.now.state.attempts }
+        ensures { result ≡ clients.is_open num self.now.state.attempts }
     {
         self.attempts.iter().any(|attempt| attempt.num == num)
     }
@@ -124,7 +132,7 @@ fn ask(
 ) -> Result<(), NoMemory>
     requires proxy { proxy ≤ 7 }
     requires request { IsSendable request.now }
-    ensures { OnOk result (sends.new ≡ sends.old ++ map (parcel (IsClient state.now.me)) (ask_of proxy num request.now ∷ [])) }
+    ensures { OnOk result (sends.new ≡ sends.old ++ map (parcel (actors.Client state.now.me)) (clients.ask proxy num request.now ∷ [])) }
 {
     let command = request.command.copy(state.alloc)?;
     let message = Message::Request(RequestBody { num, command });
@@ -156,8 +164,14 @@ fn own_proxy(state: &ClientState) -> u8
 fn open(state: &mut ClientState) -> Result<(), NoMemory>
     requires free { length state.old.state.attempts < state.old.window }
     requires there { state.old.state.sent < length state.old.script }
-    ensures same { IsSame state.old state.new }
-    ensures state { OnOk result (state.new ≡ record state.old { state = record state.old.state { sent = state.old.state.sent + 1; attempts = state.old.state.attempts ++ record { num = state.old.state.sent + 1; proxy = state.old.me % state.old.proxies; since = 0 } ∷ [] } }) }
+    ensures same { IsSameClient state.old state.new }
+    ensures state { OnOk result (state.new ≡ record state.old {
+      state = record state.old.state {
+        sent = state.old.state.sent + 1;
+        attempts = state.old.state.attempts
+            ++ record { num = state.old.state.sent + 1; proxy = state.old.me % state.old.proxies; since = 0 } ∷ [];
+      };
+    }) }
 {
     let attempt = Attempt {
         num: state.sent + 1,
@@ -172,9 +186,13 @@ fn open(state: &mut ClientState) -> Result<(), NoMemory>
 /// The next request is opened if it is due.
 fn open_next(state: &mut ClientState, sends: &mut Sends) -> Result<(), NoMemory>
     requires { length state.old.state.attempts < state.old.window }
-    ensures same { IsSame state.old state.new }
-    ensures state { OnOk result (state.new ≡ record state.old { state = (open_next_of state.old.proxies state.old.me state.old.script state.old.state).0 }) }
-    ensures sends { OnOk result (sends.new ≡ sends.old ++ map (parcel (IsClient state.old.me)) (open_next_of state.old.proxies state.old.me state.old.script state.old.state).1) }
+    ensures same { IsSameClient state.old state.new }
+    ensures state { OnOk result (state.new ≡ record state.old {
+      state = (clients.open_next state.old.proxies state.old.me
+          state.old.script state.old.state).0;
+    }) }
+    ensures sends { OnOk result (sends.new ≡ sends.old
+        ++ map (parcel (actors.Client state.old.me)) (clients.open_next state.old.proxies state.old.me state.old.script state.old.state).1) }
 {
     match due_request(state) {
         None => Ok(()),
@@ -196,9 +214,14 @@ fn free_places(state: &ClientState) -> u8
 
 /// Each free place of the window takes the next request, if it is due.
 fn fill_window(state: &mut ClientState, sends: &mut Sends) -> Result<(), NoMemory>
-    ensures same { IsSame state.old state.new }
-    ensures state { OnOk result (state.new ≡ record state.old { state = (fill_window_of state.old.window state.old.proxies state.old.me state.old.script state.old.state).0 }) }
-    ensures sends { OnOk result (sends.new ≡ sends.old ++ map (parcel (IsClient state.old.me)) (fill_window_of state.old.window state.old.proxies state.old.me state.old.script state.old.state).1) }
+    ensures same { IsSameClient state.old state.new }
+    ensures state { OnOk result (state.new ≡ record state.old {
+      state = (clients.fill_window state.old.window
+          state.old.proxies state.old.me state.old.script state.old.state).0;
+    }) }
+    ensures sends { OnOk result (sends.new ≡ sends.old
+        ++ map (parcel (actors.Client state.old.me))
+        (clients.fill_window state.old.window state.old.proxies state.old.me state.old.script state.old.state).1) }
 {
     for _ in 0..free_places(state) {
         open_next(state, sends)?;
@@ -209,7 +232,8 @@ fn fill_window(state: &mut ClientState, sends: &mut Sends) -> Result<(), NoMemor
 /// Sends the request of this number again.
 fn ask_again(state: &ClientState, proxy: u8, num: u32, sends: &mut Sends) -> Result<(), NoMemory>
     requires { proxy ≤ 7 }
-    ensures { OnOk result (sends.new ≡ sends.old ++ map (parcel (IsClient state.now.me)) (asked_again_of proxy num (slice_get state.now.script (num - 1)))) }
+    ensures { OnOk result (sends.new ≡ sends.old
+        ++ map (parcel (actors.Client state.now.me)) (request_again proxy num (slice_get state.now.script (num - 1)))) }
 {
     match request_at(state, num.saturating_sub(1)) {
         None => Ok(()),
@@ -230,7 +254,7 @@ fn next_proxy(proxies: u8, proxy: u8) -> u8
 /// Whether the open request has waited long enough at the next tick.
 fn is_overdue(attempt: Attempt) -> bool
     requires { attempt.since < patience }
-    ensures { result ≡ is_overdue_of attempt }
+    ensures { result ≡ clients.is_overdue attempt }
 {
     attempt.since + 1 == PATIENCE
 }
@@ -238,7 +262,7 @@ fn is_overdue(attempt: Attempt) -> bool
 /// Sends an open request again where it has waited long enough.
 fn retry(state: &ClientState, attempt: Attempt, sends: &mut Sends) -> Result<(), NoMemory>
     requires { IsOfProxies state.now.proxies attempt }
-    ensures { OnOk result (sends.new ≡ sends.old ++ map (parcel (IsClient state.now.me)) (retry_of state.now.proxies state.now.script attempt)) }
+    ensures { OnOk result (sends.new ≡ sends.old ++ map (parcel (actors.Client state.now.me)) (clients.retry state.now.proxies state.now.script attempt)) }
 {
     if is_overdue(attempt) {
         let proxy = next_proxy(state.proxies, attempt.proxy);
@@ -250,7 +274,8 @@ fn retry(state: &ClientState, attempt: Attempt, sends: &mut Sends) -> Result<(),
 
 /// Sends again what has waited long enough, in rising number.
 fn retry_all(state: &ClientState, sends: &mut Sends) -> Result<(), NoMemory>
-    ensures { OnOk result (sends.new ≡ sends.old ++ map (parcel (IsClient state.now.me)) (retries_of state.now.proxies state.now.script state.now.state.attempts)) }
+    ensures { OnOk result (sends.new ≡ sends.old
+        ++ map (parcel (actors.Client state.now.me)) (retries state.now.proxies state.now.script state.now.state.attempts)) }
 {
     for attempt in &state.attempts {
         retry(state, *attempt, sends)?;
@@ -262,7 +287,7 @@ fn retry_all(state: &ClientState, sends: &mut Sends) -> Result<(), NoMemory>
 fn waited(attempt: Attempt, proxies: u8) -> Attempt
     requires most { proxies ≤ 8 }
     requires of_proxies { IsOfProxies proxies attempt }
-    ensures waited { result ≡ waited_of proxies attempt }
+    ensures waited { result ≡ attempt_after_wait proxies attempt }
     ensures of_proxies { IsOfProxies proxies result }
 {
     let num = attempt.num;
@@ -286,7 +311,7 @@ fn waited(attempt: Attempt, proxies: u8) -> Attempt
 fn wait_each(attempts: &mut [Attempt], proxies: u8)
     requires most { proxies ≤ 8 }
     requires of_proxies { AllByRecursion (IsOfProxies proxies) attempts.old }
-    ensures waited { attempts.new ≡ map (waited_of proxies) attempts.old }
+    ensures waited { attempts.new ≡ map (attempt_after_wait proxies) attempts.old }
     ensures of_proxies { AllByRecursion (IsOfProxies proxies) attempts.new }
 {
     for attempt in attempts.iter_mut() {
@@ -296,7 +321,7 @@ fn wait_each(attempts: &mut [Attempt], proxies: u8)
 
 /// The count of ticks rises, and each open request waits.
 fn wait_all(state: &mut ClientState)
-    ensures { state.new ≡ record state.old { state = all_waited state.old.proxies state.old.state } }
+    ensures { state.new ≡ record state.old { state = after_wait state.old.proxies state.old.state } }
 {
     let proxies = state.proxies;
     wait_each(state.attempts.as_mut_slice(), proxies);
@@ -306,9 +331,14 @@ fn wait_all(state: &mut ClientState)
 /// The rule for a tick.
 #[tactic(auto, unfolding(nz_machine::specs::Clients::wait_rule))]
 pub fn wait_rule(state: &mut ClientState, sends: &mut Sends) -> Result<(), NoMemory>
-    ensures same { IsSame state.old state.new }
-    ensures state { OnOk result (state.new ≡ record state.old { state = (wait_rule_of state.old.window state.old.proxies state.old.me state.old.script state.old.state).0 }) }
-    ensures sends { OnOk result (sends.new ≡ sends.old ++ map (parcel (IsClient state.old.me)) (wait_rule_of state.old.window state.old.proxies state.old.me state.old.script state.old.state).1) }
+    ensures same { IsSameClient state.old state.new }
+    ensures state { OnOk result (state.new ≡ record state.old {
+      state = (clients.wait_rule state.old.window
+          state.old.proxies state.old.me state.old.script state.old.state).0;
+    }) }
+    ensures sends { OnOk result (sends.new ≡ sends.old
+        ++ map (parcel (actors.Client state.old.me))
+        (clients.wait_rule state.old.window state.old.proxies state.old.me state.old.script state.old.state).1) }
 {
     retry_all(state, sends)?;
     wait_all(state);
@@ -316,15 +346,15 @@ pub fn wait_rule(state: &mut ClientState, sends: &mut Sends) -> Result<(), NoMem
 }
 
 fn drop_attempt(attempts: &mut Vec<Attempt>, num: u32)
-    ensures { attempts.new.items ≡ without num attempts.old.items }
+    ensures { attempts.new.items ≡ without_attempt num attempts.old.items }
 {
     attempts.retain(|attempt| attempt.num != num);
 }
 
 /// The request of this number is accepted, and no longer open.
 fn accept(state: &mut ClientState, num: u32)
-    requires { IsTrue (is_open_in num state.old.state.attempts) }
-    ensures { state.new ≡ record state.old { state = accepted_of num state.old.state } }
+    requires { IsTrue (clients.is_open num state.old.state.attempts) }
+    ensures { state.new ≡ record state.old { state = after_acceptance num state.old.state } }
 {
     drop_attempt(&mut state.attempts, num);
     state.accepted += 1;
@@ -337,9 +367,14 @@ pub fn accept_rule(
     body: &AnswerBody,
     sends: &mut Sends,
 ) -> Result<(), NoMemory>
-    ensures same { IsSame state.old state.new }
-    ensures state { OnOk result (state.new ≡ record state.old { state = (accept_rule_of state.old.window state.old.proxies state.old.me state.old.script state.old.state body.now).0 }) }
-    ensures sends { OnOk result (sends.new ≡ sends.old ++ map (parcel (IsClient state.old.me)) (accept_rule_of state.old.window state.old.proxies state.old.me state.old.script state.old.state body.now).1) }
+    ensures same { IsSameClient state.old state.new }
+    ensures state { OnOk result (state.new ≡ record state.old {
+      state = (clients.accept_rule state.old.window
+          state.old.proxies state.old.me state.old.script state.old.state body.now).0;
+    }) }
+    ensures sends { OnOk result (sends.new ≡ sends.old
+        ++ map (parcel (actors.Client state.old.me))
+        (clients.accept_rule state.old.window state.old.proxies state.old.me state.old.script state.old.state body.now).1) }
 {
     if !state.is_open(body.num) {
         return Ok(());

@@ -5,7 +5,7 @@ use Rattle.std.proofs.lemmas.Bool.{cases_lt, cases_eq}
 use Rattle.std.proofs.lemmas.List.{ext_get_or, get_or-map, length-map, length-take-le, get_or-take, get_or_past, get_or-set_same, get_or-set_other, length-set}
 use Rattle.std.proofs.lemmas.Slice.Zip.{length-zip, get_or-zip}
 use Rattle.nz_cv.specs.Layout.{IsLaidOut, length-vector}
-use Rattle.nz_cv.specs.Vectors.{greater_counters, merged}
+use Rattle.nz_cv.specs.Vectors.{greater_counters, merged_vector}
 
 -- the first places have the greater counter, and the others what they had
 pub record Raised (old others new : List ℕ) (place : ℕ) : Type 0 where
@@ -16,7 +16,7 @@ pub record Raised (old others new : List ℕ) (place : ℕ) : Type 0 where
 pub length-greater_counters : (u v : List ℕ) → length u ≡ length v → length (greater_counters u v) ≡ length u
 length-greater_counters u v same = length-map (zip u v) (λ pair. max pair.0 pair.1) ∙ length-zip u v ∙ omega arith
 
-pub length-merged : (u v : List ℕ) (own : ℕ) → length u ≡ length v → length (merged u v own) ≡ length u
+pub length-merged : (u v : List ℕ) (own : ℕ) → length u ≡ length v → length (merged_vector u v own) ≡ length u
 length-merged u v own same = length-set (greater_counters u v) own (get_or u own 0) ∙ length-greater_counters u v same
 
 pub get_or-greater_counters : (u v : List ℕ) (k : ℕ) → k < length u → length u ≡ length v
@@ -32,61 +32,62 @@ greater_counters-raised old others new place same all raised =
     (λ k h. raised.below k (omega arith) ∙ sym (get_or-greater_counters old others k (omega arith) same))
 
 -- the counter that a merge leaves at the own place
-pub merged-own : (u v : List ℕ) (own : ℕ) → length u ≡ length v → own < length u → get_or (merged u v own) own 0 ≡ get_or u own 0
+pub merged-own : (u v : List ℕ) (own : ℕ) → length u ≡ length v → own < length u → get_or (merged_vector u v own) own 0 ≡ get_or u own 0
 merged-own u v own same h =
-    get_or-set_same (greater_counters u v) own (get_or u own 0) 0 (let e : length (greater_counters u v) ≡ length u = length-greater_counters u v same in omega arith)
+    get_or-set_same (greater_counters u v) own (get_or u own 0) 0
+    (let e : length (greater_counters u v) ≡ length u = length-greater_counters u v same in omega arith)
 
 -- the counter that a merge leaves elsewhere
 pub merged-elsewhere : (u v : List ℕ) (own k : ℕ) → length u ≡ length v → k < length u → k ≢ own
-    → get_or (merged u v own) k 0 ≡ max (get_or u k 0) (get_or v k 0)
+    → get_or (merged_vector u v own) k 0 ≡ max (get_or u k 0) (get_or v k 0)
 merged-elsewhere u v own k same h other =
     get_or-set_other (greater_counters u v) own k (get_or u own 0) 0 other ∙ get_or-greater_counters u v k h same
 
 -- a list that has these counters at these places is what a merge leaves
 pub merged-by_place : (u v w : List ℕ) (own : ℕ) → length u ≡ length v → length w ≡ length u
     → (own < length u → get_or w own 0 ≡ get_or u own 0)
-    → ((k : ℕ) → k < length u → k ≢ own → get_or w k 0 ≡ max (get_or u k 0) (get_or v k 0)) → w ≡ merged u v own
+    → ((k : ℕ) → k < length u → k ≢ own → get_or w k 0 ≡ max (get_or u k 0) (get_or v k 0)) → w ≡ merged_vector u v own
 merged-by_place u v w own same kept at_own elsewhere =
-    ext_get_or 0 w (merged u v own) (kept ∙ sym (length-merged u v own same)) (λ k h. ⊎_elim
-    (λ (here : k ≡ own). subst (λ (p : ℕ). get_or w p 0 ≡ get_or (merged u v own) p 0) (sym here)
+    ext_get_or 0 w (merged_vector u v own) (kept ∙ sym (length-merged u v own same)) (λ k h. ⊎_elim
+    (λ (here : k ≡ own). subst (λ (p : ℕ). get_or w p 0 ≡ get_or (merged_vector u v own) p 0) (sym here)
     (let within : own < length u = omega arith in at_own within ∙ sym (merged-own u v own same within)))
     (λ (there : k ≢ own). elsewhere k (omega arith) there ∙ sym (merged-elsewhere u v own k same (omega arith) there))
     (cases_eq k own))
 
 -- merging all nine counters merges the vectors
 pub take-merged : (size : ℕ) (u v : List ℕ) (own : ℕ) → length u ≡ 9 → length v ≡ 9 → size ≤ 9 → own < size
-    → take size (merged u v own) ≡ merged (take size u) (take size v) own
+    → take size (merged_vector u v own) ≡ merged_vector (take size u) (take size v) own
 take-merged size u v own nine_u nine_v most h =
     let shown_u : length (take size u) ≡ size = length-take-le size u (omega arith) in
     let shown_v : length (take size v) ≡ size = length-take-le size v (omega arith) in
-    let nine : length (merged u v own) ≡ 9 = length-merged u v own (omega arith) ∙ nine_u in
-    merged-by_place (take size u) (take size v) (take size (merged u v own)) own (omega arith)
-    (length-take-le size (merged u v own) (omega arith) ∙ sym shown_u)
-    (λ _. get_or-take size (merged u v own) own 0 h ∙ merged-own u v own (omega arith) (omega arith) ∙ sym (get_or-take size u own 0 h))
+    let nine : length (merged_vector u v own) ≡ 9 = length-merged u v own (omega arith) ∙ nine_u in
+    merged-by_place (take size u) (take size v) (take size (merged_vector u v own)) own (omega arith)
+    (length-take-le size (merged_vector u v own) (omega arith) ∙ sym shown_u)
+    (λ _. get_or-take size (merged_vector u v own) own 0 h ∙ merged-own u v own (omega arith) (omega arith) ∙ sym (get_or-take size u own 0 h))
     (λ k within there. let below : k < size = omega arith in
-    get_or-take size (merged u v own) k 0 below ∙ merged-elsewhere u v own k (omega arith) (omega arith) there
+    get_or-take size (merged_vector u v own) k 0 below ∙ merged-elsewhere u v own k (omega arith) (omega arith) there
     ∙ (let a : get_or (take size u) k 0 ≡ get_or u k 0 = get_or-take size u k 0 below in
     let b : get_or (take size v) k 0 ≡ get_or v k 0 = get_or-take size v k 0 below in cc))
 
 -- after the last replica a merge leaves the zeros
-pub merged-laid_out : (u v : List ℕ) (size own : ℕ) → IsLaidOut u size → IsLaidOut v size → own < size → IsLaidOut (merged u v own) size
+pub merged-laid_out : (u v : List ℕ) (size own : ℕ) → IsLaidOut u size → IsLaidOut v size → own < size → IsLaidOut (merged_vector u v own) size
 merged-laid_out u v size own left right h =
     let same : length u ≡ length v = left.nine ∙ sym right.nine in
-    let kept : length (merged u v own) ≡ length u = length-merged u v own same in
+    let kept : length (merged_vector u v own) ≡ length u = length-merged u v own same in
     record {
       nine = kept ∙ left.nine;
       cluster = left.cluster;
       zeros = λ k above. ⊎_elim
           (λ (within : k < length u). merged-elsewhere u v own k same within (omega arith)
           ∙ (let a : get_or u k 0 ≡ 0 = left.zeros k above in let b : get_or v k 0 ≡ 0 = right.zeros k above in omega arith))
-          (λ (past : length u ≤ k). get_or_past (merged u v own) k 0 (omega arith))
+          (λ (past : length u ≤ k). get_or_past (merged_vector u v own) k 0 (omega arith))
           (cases_lt k (length u));
     }
 
 -- what a merge of the nine counters of two vectors leaves
 pub record Merges (u v mine theirs : List ℕ) (size own : ℕ) : Type 0 where
-  pub laid_out : IsLaidOut (merged u v own) size
-  pub view : take size (merged u v own) ≡ merged mine theirs own
+  pub laid_out : IsLaidOut (merged_vector u v own) size
+  pub view : take size (merged_vector u v own) ≡ merged_vector mine theirs own
 
 pub merges : (u v mine theirs : List ℕ) (m n own : ℕ) → take m u ≡ mine → take n v ≡ theirs → IsLaidOut u m → IsLaidOut v n
     → length mine ≡ length theirs → own < length mine → Merges u v mine theirs m own
@@ -99,5 +100,5 @@ merges u v mine theirs m n own shows_u shows_v left right same h =
     record {
       laid_out = merged-laid_out u v m own left right' (omega arith);
       view = take-merged m u v own left.nine right'.nine left.cluster.most (omega arith)
-          ∙ ap (λ (w : List ℕ). merged w (take m v) own) shows_u ∙ ap (λ (w : List ℕ). merged mine w own) shows_v';
+          ∙ ap (λ (w : List ℕ). merged_vector w (take m v) own) shows_u ∙ ap (λ (w : List ℕ). merged_vector mine w own) shows_v';
     }

@@ -21,8 +21,10 @@ pub with_zeros-take : (counters : List ℕ) (size : ℕ) → IsLaidOut counters 
 with_zeros-take counters size laid_out =
     let shown : length (take size counters) ≡ size = length-take-le size counters (omega arith) in
     ext_get_or 0 (with_zeros (take size counters)) counters (grind (arith, common_steps)) (λ i h. ⊎_elim
-    (λ (below : i < size). rw (get_or_append_left (take size counters) (replicate (9 - length (take size counters)) 0) 0 i (omega arith)) (get_or-take size counters i 0 below))
-    (λ (above : size ≤ i). rw (get_or-append_right (take size counters) (replicate (9 - length (take size counters)) 0) size i 0 shown above) (grind (arith, common_steps, laid_out.zeros i above)))
+    (λ (below : i < size). rw (get_or_append_left (take size counters)
+    (replicate (9 - length (take size counters)) 0) 0 i (omega arith)) (get_or-take size counters i 0 below))
+    (λ (above : size ≤ i). rw (get_or-append_right (take size counters)
+    (replicate (9 - length (take size counters)) 0) size i 0 shown above) (grind (arith, common_steps, laid_out.zeros i above)))
     (cases_lt i size))
 
 -- A vector's length is the size that it is laid out for.

@@ -22,8 +22,8 @@ abbrev pub greater_counters : List ℕ → List ℕ → List ℕ
 greater_counters u v = map (λ pair. max pair.0 pair.1) (zip u v)
 
 -- u with v merged into it by the replica with the number own, whose own counter stays.
-abbrev pub merged : List ℕ → List ℕ → ℕ → List ℕ
-merged u v own = slice_set (greater_counters u v) own (slice_index u own)
+abbrev pub merged_vector : List ℕ → List ℕ → ℕ → List ℕ
+merged_vector u v own = slice_set (greater_counters u v) own (slice_index u own)
 
 -- No vector of the list makes another one stray for its sender; each is beside its sender.
 abbrev pub Consistent : List (ℕ × List ℕ) → Type 0
@@ -39,29 +39,29 @@ AreFrom n = All (IsFrom n)
 
 -- Merging never changes the own counter.
 abbrev pub OwnStays : Type 0
-OwnStays = (u v : List ℕ) (own : ℕ) → length u ≡ length v → own < length u → slice_index (merged u v own) own ≡ slice_index u own
+OwnStays = (u v : List ℕ) (own : ℕ) → length u ≡ length v → own < length u → slice_index (merged_vector u v own) own ≡ slice_index u own
 
 -- Merging lets no counter fall.
 abbrev pub NeverFalls : Type 0
-NeverFalls = (u v : List ℕ) (own k : ℕ) → length u ≡ length v → own < length u → slice_index u k ≤ slice_index (merged u v own) k
+NeverFalls = (u v : List ℕ) (own k : ℕ) → length u ≡ length v → own < length u → slice_index u k ≤ slice_index (merged_vector u v own) k
 
 -- What was merged in exceeds the result at the own place alone.
 abbrev pub TakesIn : Type 0
-TakesIn = (u v : List ℕ) (own k : ℕ) → length u ≡ length v → own < length u → k ≢ own → slice_index v k ≤ slice_index (merged u v own) k
+TakesIn = (u v : List ℕ) (own k : ℕ) → length u ≡ length v → own < length u → k ≢ own → slice_index v k ≤ slice_index (merged_vector u v own) k
 
 -- Merging takes in nothing else: each counter is one of the two.
 abbrev pub AddsNothing : Type 0
 AddsNothing = (u v : List ℕ) (own k : ℕ) → length u ≡ length v → own < length u
-    → (slice_index (merged u v own) k ≡ slice_index u k) ⊎ (slice_index (merged u v own) k ≡ slice_index v k)
+    → (slice_index (merged_vector u v own) k ≡ slice_index u k) ⊎ (slice_index (merged_vector u v own) k ≡ slice_index v k)
 
 -- Merging the same vector again changes nothing.
 abbrev pub Idempotent : Type 0
-Idempotent = (u v : List ℕ) (own : ℕ) → length u ≡ length v → own < length u → merged (merged u v own) v own ≡ merged u v own
+Idempotent = (u v : List ℕ) (own : ℕ) → length u ≡ length v → own < length u → merged_vector (merged_vector u v own) v own ≡ merged_vector u v own
 
 -- A collector's vector v once the vectors of all these messages are merged into it.
 abbrev pub all_merged : List ℕ → List (ℕ × List ℕ) → ℕ → List ℕ
 all_merged v [] own = v
-all_merged v (message ∷ messages) own = all_merged (merged v message.1 own) messages own
+all_merged v (message ∷ messages) own = all_merged (merged_vector v message.1 own) messages own
 
 -- The messages are crash-consistent for their collector: once it has merged all of them, none is stray for it.
 abbrev pub IsCrashConsistent : List ℕ → List (ℕ × List ℕ) → ℕ → Type 0

@@ -5,7 +5,7 @@ ghost use Rattle.std.specs.Prelude.{◌≡◌, ℕ, ◌+◌, ◌^◌, ◌<◌, �
 ghost use Rattle.std.specs.Bool.{OnTrue, OnFalse};
 ghost use Rattle.std.specs.Cmp.{partial_equiv_from_equiv};
 ghost use Rattle.std.specs.Cmp.Lexicographic.{nat_list_eq_equiv, pointwise};
-ghost use Rattle.nz_cv.specs.Vectors.{IsClusterSize, Stray, is_stray, merged, greater_counters, Consistent, AreFrom};
+ghost use Rattle.nz_cv.specs.Vectors.{IsClusterSize, Stray, is_stray, merged_vector, greater_counters, Consistent, AreFrom};
 
 pub mod laws;
 
@@ -35,7 +35,10 @@ impl Model for CrashVector {
 
     ghost inverse = { λ counters. record { counters = with_zeros counters; size = length counters } };
 
-    ghost inverse_ok = { λ v laid_out. λ i. record { counters = with_zeros-take v.counters v.size laid_out i; size = length-vector v.counters v.size laid_out i } };
+    ghost inverse_ok = { λ v laid_out. λ i. record {
+      counters = with_zeros-take v.counters v.size laid_out i;
+      size = length-vector v.counters v.size laid_out i;
+    } };
 }
 
 impl CrashVector {
@@ -105,7 +108,7 @@ impl CrashVector {
     pub fn merge(&mut self, other: &CrashVector, own: u8)
         requires one_size { length self.old ≡ length other.now }
         requires own { own < length self.old }
-        ensures { self.new ≡ merged self.old other.now own }
+        ensures { self.new ≡ merged_vector self.old other.now own }
     {
         let kept = self.counters[own as usize];
         raise(&mut self.counters, &other.counters);

@@ -22,7 +22,8 @@ get_or-xor_bytes xs ys k h same =
     get_or-map (λ pair. bit_xor pair.0 pair.1) (zip xs ys) k (0, 0) 0 (let e : length (zip xs ys) ≡ length xs = length-zip xs ys ∙ omega arith in omega arith)
     ∙ ap (λ (pair : ℕ × ℕ). bit_xor pair.0 pair.1) (get_or-zip xs ys k (0, 0) h (omega arith))
 
-pub xor_bytes-flipped : (old mask new : List ℕ) (place : ℕ) → length old ≡ length mask → length old ≤ place → Flipped old mask new place → new ≡ xor_bytes old mask
+pub xor_bytes-flipped : (old mask new : List ℕ) (place : ℕ) → length old ≡ length mask → length old ≤ place
+    → Flipped old mask new place → new ≡ xor_bytes old mask
 xor_bytes-flipped old mask new place same all flipped =
     ext_get_or 0 new (xor_bytes old mask) (flipped.long ∙ sym (length-xor_bytes old mask same))
     (λ k h. flipped.below k (omega arith) ∙ sym (get_or-xor_bytes old mask k (omega arith) same))

@@ -1,5 +1,6 @@
 -- The digest of a list of keys, by its parts.
-use Rattle.std.proofs.Common.{◌≡◌, ◌≢◌, ℕ, zero, suc, ◌<◌, List, [], ◌∷◌, ◌++◌, set, swap, length, get_or, arith, refl, sym, ◌∙◌, ap, subst, ⊎_elim, IsPermutation}
+use Rattle.std.proofs.Common.{◌≡◌, ◌≢◌, ℕ, zero, suc, ◌<◌, List, [], ◌∷◌, ◌++◌, set, swap, length}
+use Rattle.std.proofs.Common.{get_or, arith, refl, sym, ◌∙◌, ap, subst, ⊎_elim, IsPermutation}
 use Rattle.std.proofs.lemmas.Bool.{cases_eq}
 use Rattle.std.proofs.lemmas.List.{get_or-set_same, get_or-set_other, length-set}
 use Rattle.std.proofs.lemmas.List.Sorted.{IsPermutation-keeps}
@@ -42,7 +43,8 @@ digest-set : (keys : List EntryKey) (i : ℕ) (key d : EntryKey) → i < length 
 digest-set [] i key d h = absurd (omega arith)
 digest-set (first ∷ keys) zero key d h =
     xor_bytes-comm (key_digest key) (digest keys)
-    ∙ ap (λ (w : List ℕ). xor_bytes w (key_digest key)) (sym (ap (λ (w : List ℕ). xor_bytes w (key_digest first)) (xor_bytes-comm (key_digest first) (digest keys)) ∙ twice-digest keys first))
+    ∙ ap (λ (w : List ℕ). xor_bytes w (key_digest key))
+    (sym (ap (λ (w : List ℕ). xor_bytes w (key_digest first)) (xor_bytes-comm (key_digest first) (digest keys)) ∙ twice-digest keys first))
 digest-set (first ∷ keys) (suc i) key d h =
     ap (xor_bytes (key_digest first)) (digest-set keys i key d (omega arith))
     ∙ sym (xor_bytes-assoc (key_digest first) (xor_bytes (digest keys) (key_digest (get_or keys i d))) (key_digest key))

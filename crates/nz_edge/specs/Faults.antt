@@ -6,8 +6,8 @@ abbrev pub most_counted : ℕ
 most_counted = 2 ^ 64 - 1
 
 -- A count after one more.
-abbrev pub raised : ℕ → ℕ
-raised count = min (count + 1) most_counted
+abbrev pub one_fault_more : ℕ → ℕ
+one_fault_more count = min (count + 1) most_counted
 
 -- A count rose, or is at its limit.
 abbrev pub Rose : ℕ → ℕ → Type 0

@@ -1,4 +1,4 @@
 -- The modules of this crate's definitions.
 pub mod Faults
 pub mod Memory
-pub mod Told
+pub mod Exposed

@@ -1,7 +1,7 @@
 //! Which calls of a source or a sink in memory fail.
 
 ghost use Rattle.std.specs.Prelude.{◌≡◌, ◌↔◌, IsTrue, Contains};
-ghost use Rattle.nz_edge.specs.Faults.{raised};
+ghost use Rattle.nz_edge.specs.Faults.{one_fault_more};
 
 use nz_base::List;
 
@@ -24,8 +24,8 @@ impl Calls {
 
     /// Counts one more call, and says whether it is to fail.
     pub fn next_fails(&mut self) -> bool
-        ensures counted { self.new ≡ record self.old { made = raised self.old.made } }
-        ensures listed { IsTrue result ↔ Contains self.old.fail (raised self.old.made) }
+        ensures counted { self.new ≡ record self.old { made = one_fault_more self.old.made } }
+        ensures listed { IsTrue result ↔ Contains self.old.fail (one_fault_more self.old.made) }
     {
         self.made = self.made.saturating_add(1);
         let made = self.made;

@@ -1,8 +1,8 @@
 //! A sink in memory.
 
 ghost use Rattle.std.specs.Prelude.{◌≡◌, ◌<◌, ◌≤◌, ◌↔◌, ◌++◌, ◌-◌, ◌⊎◌, [], Some, length, take, min, IsErr, IfOk, OnOk, OnErr, Contains};
-ghost use Rattle.nz_edge.specs.Faults.{Rose, raised};
-ghost use Rattle.nz_edge.specs.Told.{Gains};
+ghost use Rattle.nz_edge.specs.Faults.{Rose, one_fault_more};
+ghost use Rattle.nz_edge.specs.Exposed.{Gains};
 
 use super::calls::{CallList, Calls};
 use super::sink::Sink;
@@ -76,10 +76,10 @@ impl Sink for MemSink {
         ensures counts { self.old.faulted ≤ self.new.faulted }
 
         // What this sink takes beyond the promise of every sink.
-        ensures fails { IsErr result ↔ (Contains self.old.fail (raised self.old.made) ⊎ (self.old.room ≤ length self.old.bytes)) }
+        ensures fails { IsErr result ↔ (Contains self.old.fail (one_fault_more self.old.made) ⊎ (self.old.room ≤ length self.old.bytes)) }
         ensures count { IfOk result (λ count. count ≡ min (min (self.old.room - length self.old.bytes) self.old.piece) (length piece.now)) }
-        ensures ok { IfOk result (λ count. self.new ≡ record self.old { bytes = self.old.bytes ++ take count piece.now; made = raised self.old.made }) }
-        ensures err { OnErr result (self.new ≡ record self.old { made = raised self.old.made; faulted = raised self.old.faulted }) }
+        ensures ok { IfOk result (λ count. self.new ≡ record self.old { bytes = self.old.bytes ++ take count piece.now; made = one_fault_more self.old.made }) }
+        ensures err { OnErr result (self.new ≡ record self.old { made = one_fault_more self.old.made; faulted = one_fault_more self.old.faulted }) }
     {
         let fails = self.calls.next_fails();
         let count = (self.room - self.bytes.len())
@@ -99,9 +99,9 @@ impl Sink for MemSink {
         ensures counts { self.old.faulted ≤ self.new.faulted }
 
         // What this sink does beyond the promise of every sink.
-        ensures fails { IsErr result ↔ Contains self.old.fail (raised self.old.made) }
-        ensures ok { OnOk result (self.new ≡ record self.old { made = raised self.old.made }) }
-        ensures err { OnErr result (self.new ≡ record self.old { made = raised self.old.made; faulted = raised self.old.faulted }) }
+        ensures fails { IsErr result ↔ Contains self.old.fail (one_fault_more self.old.made) }
+        ensures ok { OnOk result (self.new ≡ record self.old { made = one_fault_more self.old.made }) }
+        ensures err { OnErr result (self.new ≡ record self.old { made = one_fault_more self.old.made; faulted = one_fault_more self.old.faulted }) }
     {
         if self.calls.next_fails() {
             self.faults = self.faults.saturating_add(1);

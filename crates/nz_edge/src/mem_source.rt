@@ -1,8 +1,8 @@
 //! A source in memory.
 
 ghost use Rattle.std.specs.Prelude.{◌≡◌, ◌<◌, ◌≤◌, ◌↔◌, ◌++◌, [], Some, length, take, drop, min, IsErr, IfOk, IfSome, OnErr, Contains};
-ghost use Rattle.nz_edge.specs.Faults.{Rose, raised};
-ghost use Rattle.nz_edge.specs.Told.{Loses};
+ghost use Rattle.nz_edge.specs.Faults.{Rose, one_fault_more};
+ghost use Rattle.nz_edge.specs.Exposed.{Loses};
 
 use super::calls::{CallList, Calls};
 use super::source::{Failed, Source};
@@ -61,11 +61,11 @@ impl Source for MemSource {
         ensures counts { self.old.faulted ≤ self.new.faulted }
 
         // What this source gives beyond the promise of every source.
-        ensures fails { IsErr result ↔ Contains self.old.fail (raised self.old.made) }
+        ensures fails { IsErr result ↔ Contains self.old.fail (one_fault_more self.old.made) }
         ensures count { IfOk result (λ count. count ≡ min (min (length self.old.rest) self.old.piece) (length into.old)) }
         ensures into { IfOk result (λ count. into.new ≡ take count self.old.rest ++ drop count into.old) }
-        ensures ok { IfOk result (λ count. self.new ≡ record self.old { rest = drop count self.old.rest; made = raised self.old.made }) }
-        ensures err { OnErr result (self.new ≡ record self.old { made = raised self.old.made; faulted = raised self.old.faulted }) }
+        ensures ok { IfOk result (λ count. self.new ≡ record self.old { rest = drop count self.old.rest; made = one_fault_more self.old.made }) }
+        ensures err { OnErr result (self.new ≡ record self.old { made = one_fault_more self.old.made; faulted = one_fault_more self.old.faulted }) }
     {
         if self.calls.next_fails() {
             self.faults = self.faults.saturating_add(1);

@@ -2,7 +2,7 @@
 
 ghost use Rattle.std.specs.Prelude.{◌≡◌, ◌<◌, ◌≤◌, ℕ, List, Option, length, take, IfOk, OnErr};
 ghost use Rattle.nz_edge.specs.Faults.{Rose};
-ghost use Rattle.nz_edge.specs.Told.{Gains};
+ghost use Rattle.nz_edge.specs.Exposed.{Gains};
 
 use super::source::Failed;
 

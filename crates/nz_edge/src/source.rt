@@ -2,7 +2,7 @@
 
 ghost use Rattle.std.specs.Prelude.{◌≡◌, ◌<◌, ◌≤◌, ℕ, List, [], Option, length, take, IfOk, IfSome, OnErr};
 ghost use Rattle.nz_edge.specs.Faults.{Rose};
-ghost use Rattle.nz_edge.specs.Told.{Loses};
+ghost use Rattle.nz_edge.specs.Exposed.{Loses};
 
 /// A read, a write or a flush failed. The end that answered it has counted a fault.
 #[derive(Clone, Copy, Debug, PartialEq, Eq)]

@@ -19,11 +19,14 @@ restarts_push (faults.Crash a t ∷ lines) line = restarts_push lines line
 restarts_push (faults.Restart a t ∷ lines) line = let ih = restarts_push lines line in omega (arith, ih)
 restarts_push (faults.Alarm a t ∷ lines) line = restarts_push lines line
 
-behind : (own : List Item) (tick n : ℕ) (lines : List Fault) (line : Fault) → calls tick n (lines ++ line ∷ []) ≡ calls tick n lines ++ calls tick (n + restarts_in lines) (line ∷ [])
+behind : (own : List Item) (tick n : ℕ) (lines : List Fault) (line : Fault)
+    → calls tick n (lines ++ line ∷ []) ≡ calls tick n lines ++ calls tick (n + restarts_in lines) (line ∷ [])
     → own ++ calls tick n (lines ++ line ∷ []) ≡ (own ++ calls tick n lines) ++ calls tick (n + restarts_in lines) (line ∷ [])
-behind own tick n lines line ih = ap (λ (is : List Item). own ++ is) ih ∙ sym (append_assoc own (calls tick n lines) (calls tick (n + restarts_in lines) (line ∷ [])))
+behind own tick n lines line ih =
+    ap (λ (is : List Item). own ++ is) ih ∙ sym (append_assoc own (calls tick n lines) (calls tick (n + restarts_in lines) (line ∷ [])))
 
-pub calls_push : (tick n : ℕ) (lines : List Fault) (line : Fault) → calls tick n (lines ++ line ∷ []) ≡ calls tick n lines ++ calls tick (n + restarts_in lines) (line ∷ [])
+pub calls_push : (tick n : ℕ) (lines : List Fault) (line : Fault)
+    → calls tick n (lines ++ line ∷ []) ≡ calls tick n lines ++ calls tick (n + restarts_in lines) (line ∷ [])
 calls_push tick n [] line = ap (λ m. calls tick m (line ∷ [])) (omega arith)
 calls_push tick n (faults.Drop from to kind count ∷ lines) line = calls_push tick n lines line
 calls_push tick n (faults.Hold from to kind count by ∷ lines) line = calls_push tick n lines line
@@ -37,11 +40,15 @@ calls_push tick n (faults.Restart a t ∷ lines) line =
 calls_push tick n (faults.Alarm a t ∷ lines) line = behind (if_in tick t (item a Alarm)) tick n lines line (calls_push tick n lines line)
 
 -- one line more
-pub restarts_more : (lines : List Fault) (i : ℕ) (d : Fault) → i < length lines → restarts_in (take (i + 1) lines) ≡ restarts_in (take i lines) + restarts_in (get_or lines i d ∷ [])
+pub restarts_more : (lines : List Fault) (i : ℕ) (d : Fault) → i < length lines
+    → restarts_in (take (i + 1) lines) ≡ restarts_in (take i lines) + restarts_in (get_or lines i d ∷ [])
 restarts_more lines i d lt = ap restarts_in (take_more lines i d lt) ∙ restarts_push (take i lines) (get_or lines i d)
 
-pub calls_more : (tick : ℕ) (lines : List Fault) (i : ℕ) (d : Fault) → i < length lines → calls tick 0 (take (i + 1) lines) ≡ calls tick 0 (take i lines) ++ calls tick (restarts_in (take i lines)) (get_or lines i d ∷ [])
-calls_more tick lines i d lt = ap (calls tick 0) (take_more lines i d lt) ∙ calls_push tick 0 (take i lines) (get_or lines i d) ∙ ap (λ n. calls tick 0 (take i lines) ++ calls tick n (get_or lines i d ∷ [])) (omega arith)
+pub calls_more : (tick : ℕ) (lines : List Fault) (i : ℕ) (d : Fault) → i < length lines
+    → calls tick 0 (take (i + 1) lines) ≡ calls tick 0 (take i lines) ++ calls tick (restarts_in (take i lines)) (get_or lines i d ∷ [])
+calls_more tick lines i d lt =
+    ap (calls tick 0) (take_more lines i d lt) ∙ calls_push tick 0 (take i lines) (get_or lines i d)
+    ∙ ap (λ n. calls tick 0 (take i lines) ++ calls tick n (get_or lines i d ∷ [])) (omega arith)
 
 at_most_one : (line : Fault) → restarts_in (line ∷ []) ≤ 1
 at_most_one (faults.Drop from to kind count) = omega arith
@@ -53,17 +60,21 @@ at_most_one (faults.Crash a t) = omega arith
 at_most_one (faults.Restart a t) = omega arith
 at_most_one (faults.Alarm a t) = omega arith
 
-pub restarts_step : (lines : List Fault) (i : ℕ) (line d : Fault) (now next : ℕ) → i < length lines → line ≡ get_or lines i d → now ≡ restarts_in (take i lines) → next ≡ now + restarts_in (line ∷ []) → next ≡ restarts_in (take (i + 1) lines)
+pub restarts_step : (lines : List Fault) (i : ℕ) (line d : Fault) (now next : ℕ) → i < length lines
+    → line ≡ get_or lines i d → now ≡ restarts_in (take i lines) → next ≡ now + restarts_in (line ∷ []) → next ≡ restarts_in (take (i + 1) lines)
 restarts_step lines i line d now next lt at so_far e =
-    e ∙ ap (λ n. n + restarts_in (line ∷ [])) so_far ∙ ap (λ (x : Fault). restarts_in (take i lines) + restarts_in (x ∷ [])) at ∙ sym (restarts_more lines i d lt)
+    e ∙ ap (λ n. n + restarts_in (line ∷ [])) so_far
+    ∙ ap (λ (x : Fault). restarts_in (take i lines) + restarts_in (x ∷ [])) at ∙ sym (restarts_more lines i d lt)
 
-pub calls_step : (tick : ℕ) (lines : List Fault) (i : ℕ) (line d : Fault) (restarts : ℕ) (old now next : List Item) → i < length lines → line ≡ get_or lines i d → restarts ≡ restarts_in (take i lines)
+pub calls_step : (tick : ℕ) (lines : List Fault) (i : ℕ) (line d : Fault) (restarts : ℕ) (old now next : List Item)
+    → i < length lines → line ≡ get_or lines i d → restarts ≡ restarts_in (take i lines)
     → now ≡ old ++ calls tick 0 (take i lines) → next ≡ now ++ calls tick restarts (line ∷ []) → next ≡ old ++ calls tick 0 (take (i + 1) lines)
 calls_step tick lines i line d restarts old now next lt at count so_far e =
     e ∙ ap (λ (is : List Item). is ++ calls tick restarts (line ∷ [])) so_far
     ∙ append_assoc old (calls tick 0 (take i lines)) (calls tick restarts (line ∷ []))
     ∙ ap (λ (is : List Item). old ++ is)
-    (ap (λ n. calls tick 0 (take i lines) ++ calls tick n (line ∷ [])) count ∙ ap (λ (x : Fault). calls tick 0 (take i lines) ++ calls tick (restarts_in (take i lines)) (x ∷ [])) at ∙ sym (calls_more tick lines i d lt))
+    (ap (λ n. calls tick 0 (take i lines) ++ calls tick n (line ∷ [])) count
+    ∙ ap (λ (x : Fault). calls tick 0 (take i lines) ++ calls tick (restarts_in (take i lines)) (x ∷ [])) at ∙ sym (calls_more tick lines i d lt))
 
 pub few_step : (i : ℕ) (line : Fault) (now next : ℕ) → now ≤ i → next ≡ now + restarts_in (line ∷ []) → next ≤ i + 1
 few_step i line now next few e = let one = at_most_one line in omega (arith, few, e, one)

@@ -1,9 +1,11 @@
 -- The rows of a run's records.
-use Rattle.std.proofs.Common.{◌≡◌, ◌≢◌, ℕ, zero, suc, ◌+◌, ◌-◌, ◌<◌, ◌≤◌, Bool, true, false, cond, List, [], ◌∷◌, ◌++◌, length, map, refl, sym, ap, ◌∙◌, subst, arith, append-nil, append_assoc, inl, inr, length-append, get_or-drop, length-drop}
+use Rattle.std.proofs.Common.{◌≡◌, ◌≢◌, ℕ, zero, suc, ◌+◌, ◌-◌, ◌<◌, ◌≤◌, Bool, true, false, cond, List, [], ◌∷◌, ◌++◌, length, map, refl}
+use Rattle.std.proofs.Common.{sym, ap, ◌∙◌, subst, arith, append-nil, append_assoc, inl, inr, length-append, get_or-drop, length-drop}
 use Rattle.std.specs.Prelude.{drop, get_or, reverse, slice_set, Vec, vec_capacity}
 use Rattle.std.specs.Global.{Global}
 use Rattle.std.specs.List.{AllByRecursion, remove}
-use Rattle.std.proofs.lemmas.List.{map-append, map-set, get_or-set_same, get_or-set_other, length-set, get_or-map, get_or_append_left, get_or_default, length-map, reverse-append, reverse-reverse}
+use Rattle.std.proofs.lemmas.List.{map-append, map-set, get_or-set_same, get_or-set_other, length-set, get_or-map, get_or_append_left}
+use Rattle.std.proofs.lemmas.List.{get_or_default, length-map, reverse-append, reverse-reverse}
 use Rattle.std.proofs.Math.Seq.{map-set_same}
 use Rattle.std.proofs.lemmas.List.Elements.{filter-append}
 use Rattle.std.proofs.lemmas.List.Sorted.{IsPermutation-remove, sum_by-IsPermutation}
@@ -14,11 +16,11 @@ use Rattle.nz_base.proofs.Names.{actor_eq_self, same_actor}
 use Rattle.nz_base.specs.Actor.{actor_eq}
 use Rattle.nz_base.specs.declared.actor.Actor.{Actor}
 use Rattle.nz_base.specs.declared.actor.Actor.TheVariants.{Replica, Proxy, Client}
-use Rattle.nz_machine.proofs.Each.{all_append, all_imply}
+use Rattle.nz_machine.proofs.EachItem.{all_append, all_imply}
 use Rattle.nz_machine.specs.declared.event.Record.{Record}
 use Rattle.nz_fabric.specs.Calendars.{row_number}
 use Rattle.nz_fabric.specs.declared.rows.Place.{Place}
-use Rattle.nz_fabric.specs.declared.running.Running.{Running}
+use Rattle.nz_fabric.specs.declared.open_turns.Running.{Running}
 use Rattle.nz_fabric.specs.Rows.{of_actor, row_in, record_at, rows_of, spare_in, no_record, AreRows, Filed, spare_of, HaveRoom, turns_of}
 
 -- ---- each actor has a row of its own
@@ -64,19 +66,23 @@ row_pushed rows r b lt = row_pushed_by rows r b (actor_eq r.actor b) lt refl
 abbrev pushed_rows : List (List Record) → Record → List (List Record)
 pushed_rows rows r = slice_set rows (row_number r.actor) (row_in rows r.actor ++ r ∷ [])
 
-record_kept : (rows : List (List Record)) (r : Record) (p : Place) → row_number r.actor < length rows → p.at < length (row_in rows p.actor) → record_at (pushed_rows rows r) p ≡ record_at rows p
+record_kept : (rows : List (List Record)) (r : Record) (p : Place) → row_number r.actor < length rows
+    → p.at < length (row_in rows p.actor) → record_at (pushed_rows rows r) p ≡ record_at rows p
 record_kept rows r p lt within =
     ap (λ (row : List Record). get_or row p.at no_record) (row_pushed rows r p.actor lt)
     ∙ get_or_append_left (row_in rows p.actor) (cond (actor_eq r.actor p.actor) (r ∷ []) []) no_record p.at within
 
-records_kept : (rows : List (List Record)) (r : Record) (order : List Place) → row_number r.actor < length rows → AllByRecursion (λ (p : Place). p.at < length (row_in rows p.actor)) order
+records_kept : (rows : List (List Record)) (r : Record) (order : List Place) → row_number r.actor < length rows
+    → AllByRecursion (λ (p : Place). p.at < length (row_in rows p.actor)) order
     → map (record_at (pushed_rows rows r)) order ≡ map (record_at rows) order
 records_kept rows r [] lt h = refl
 records_kept rows r (p ∷ order) lt h = let this = record_kept rows r p lt h.0 in let rest = records_kept rows r order lt h.1 in cc
 
-placed_kept : (rows : List (List Record)) (r : Record) (p : Place) → row_number r.actor < length rows → p.at < length (row_in rows p.actor) → p.at < length (row_in (pushed_rows rows r) p.actor)
+placed_kept : (rows : List (List Record)) (r : Record) (p : Place) → row_number r.actor < length rows
+    → p.at < length (row_in rows p.actor) → p.at < length (row_in (pushed_rows rows r) p.actor)
 placed_kept rows r p lt within =
-    let e = ap length (row_pushed rows r p.actor lt) ∙ length-append (row_in rows p.actor) (cond (actor_eq r.actor p.actor) (r ∷ []) []) in omega (arith, e, within)
+    let e = ap length (row_pushed rows r p.actor lt) ∙ length-append (row_in rows p.actor) (cond (actor_eq r.actor p.actor) (r ∷ []) []) in
+    omega (arith, e, within)
 
 -- the place of the new record
 abbrev next_place : List (List Record) → Record → Place
@@ -87,7 +93,8 @@ own_row rows r lt = row_pushed_by rows r r.actor true lt (actor_eq_self r.actor)
 
 record_new : (rows : List (List Record)) (r : Record) → row_number r.actor < length rows → record_at (pushed_rows rows r) (next_place rows r) ≡ r
 record_new rows r lt =
-    ap (λ (row : List Record). get_or row (length (row_in rows r.actor)) no_record) (own_row rows r lt) ∙ get_or-append_seam (row_in rows r.actor) r [] no_record
+    ap (λ (row : List Record). get_or row (length (row_in rows r.actor)) no_record) (own_row rows r lt)
+    ∙ get_or-append_seam (row_in rows r.actor) r [] no_record
 
 pub records_pushed : (order : List Place) (rows : List (List Record)) (r : Record) → AreRows order rows → row_number r.actor < length rows
     → map (record_at (pushed_rows rows r)) (order ++ next_place rows r ∷ []) ≡ map (record_at rows) order ++ r ∷ []
@@ -99,14 +106,16 @@ records_pushed order rows r h lt =
 of_one : (a : Actor) (records : List Record) (r : Record) → of_actor a (records ++ r ∷ []) ≡ of_actor a records ++ cond (actor_eq r.actor a) (r ∷ []) []
 of_one a records r = filter-append (is_of a) records (r ∷ [])
 
-pub rows_pushed : (order : List Place) (rows : List (List Record)) (r : Record) → AreRows order rows → row_number r.actor < length rows → AreRows (order ++ next_place rows r ∷ []) (pushed_rows rows r)
+pub rows_pushed : (order : List Place) (rows : List (List Record)) (r : Record) → AreRows order rows
+    → row_number r.actor < length rows → AreRows (order ++ next_place rows r ∷ []) (pushed_rows rows r)
 rows_pushed order rows r h lt =
     let rows' = pushed_rows rows r in
     record {
       many = length-set rows (row_number r.actor) (row_in rows r.actor ++ r ∷ []) ∙ h.many;
       placed =
           all_append (λ (p : Place). p.at < length (row_in rows' p.actor)) order (next_place rows r ∷ [])
-          (all_imply (λ (p : Place). p.at < length (row_in rows p.actor)) (λ (p : Place). p.at < length (row_in rows' p.actor)) (λ p within. placed_kept rows r p lt within) order h.placed)
+          (all_imply (λ (p : Place). p.at < length (row_in rows p.actor))
+          (λ (p : Place). p.at < length (row_in rows' p.actor)) (λ p within. placed_kept rows r p lt within) order h.placed)
           ((let e = ap length (own_row rows r lt) ∙ length-append (row_in rows r.actor) (r ∷ []) in omega (arith, e)), tt);
       own = λ a.
           row_pushed rows r a lt
@@ -159,12 +168,15 @@ last_of (b ∷ actors) a (r ∷ left) e =
     record { rest = r ∷ l.rest; last = l.last; split = ap (λ (rs : List Record). r ∷ rs) l.split; rests = (let e = l.rests in cc); actor = l.actor }
 
 -- the row of the last place ends with its record
-pub row_ends : (J : List Record) (order : List Place) (p : Place) (rows : List (List Record)) (taken : List Record) (h : AreLeft J (order ++ p ∷ []) rows taken) → (l : IsLast (map (λ (p : Place). p.actor) order) p.actor h.left)
+pub row_ends : (J : List Record) (order : List Place) (p : Place) (rows : List (List Record)) (taken : List Record)
+    (h : AreLeft J (order ++ p ∷ []) rows taken) → (l : IsLast (map (λ (p : Place). p.actor) order) p.actor h.left)
     × (row_in rows p.actor ≡ of_actor p.actor l.rest ++ l.last ∷ [])
 row_ends J order p rows taken h =
     let l = last_of (map (λ (p : Place). p.actor) order) p.actor h.left (sym (map-append (λ (p : Place). p.actor) order (p ∷ [])) ∙ h.actors) in (
       l,
-      h.own p.actor ∙ ap (of_actor p.actor) l.split ∙ of_one p.actor l.rest l.last ∙ ap (λ (b : Bool). of_actor p.actor l.rest ++ cond b (l.last ∷ []) []) (ap (λ (a : Actor). actor_eq a p.actor) l.actor ∙ actor_eq_self p.actor),
+      h.own p.actor ∙ ap (of_actor p.actor) l.split ∙ of_one p.actor l.rest l.last
+          ∙ ap (λ (b : Bool). of_actor p.actor l.rest ++ cond b (l.last ∷ []) [])
+          (ap (λ (a : Actor). actor_eq a p.actor) l.actor ∙ actor_eq_self p.actor),
     )
 
 same_ends : {X : Type 0} (xs ys : List X) (x y : X) → xs ++ x ∷ [] ≡ ys ++ y ∷ [] → x ∷ reverse xs ≡ y ∷ reverse ys
@@ -176,8 +188,10 @@ same_head x y xs ys e = cc
 same_tail : {X : Type 0} (x y : X) (xs ys : List X) → x ∷ xs ≡ y ∷ ys → xs ≡ ys
 same_tail x y xs ys e = cc
 
-left_own : (rows : List (List Record)) (p a : Actor) (row rest : List Record) (last : Record) (own : Bool) → row_number p < length rows → row ≡ of_actor p rest → last.actor ≡ p
-    → row_in rows a ≡ of_actor a rest ++ cond (actor_eq last.actor a) (last ∷ []) [] → actor_eq p a ≡ own → row_in (slice_set rows (row_number p) row) a ≡ of_actor a rest
+left_own : (rows : List (List Record)) (p a : Actor) (row rest : List Record) (last : Record) (own : Bool)
+    → row_number p < length rows → row ≡ of_actor p rest → last.actor ≡ p
+    → row_in rows a ≡ of_actor a rest ++ cond (actor_eq last.actor a) (last ∷ []) [] → actor_eq p a ≡ own
+    → row_in (slice_set rows (row_number p) row) a ≡ of_actor a rest
 left_own rows p a row rest last true lt is acts was e =
     let same : p ≡ a = same_actor p a e in
     subst (λ (b : Actor). row_in (slice_set rows (row_number p) row) b ≡ of_actor b rest) same (get_or-set_same rows (row_number p) row [] lt ∙ is)
@@ -188,14 +202,17 @@ left_own rows p a row rest last false lt is acts was e =
     ∙ append-nil (of_actor a rest)
 
 -- one record is taken
-pub left_next : (J : List Record) (order : List Place) (p : Place) (rows : List (List Record)) (taken row : List Record) (r : Record) → row_number p.actor < 768 → AreLeft J (order ++ p ∷ []) rows taken → row_in rows p.actor ≡ row ++ r ∷ []
+pub left_next : (J : List Record) (order : List Place) (p : Place) (rows : List (List Record)) (taken row : List Record) (r : Record)
+    → row_number p.actor < 768 → AreLeft J (order ++ p ∷ []) rows taken → row_in rows p.actor ≡ row ++ r ∷ []
     → AreLeft J order (slice_set rows (row_number p.actor) row) (taken ++ r ∷ [])
 left_next J order p rows taken row r number h is =
     let ends = row_ends J order p rows taken h in
     let l = ends.0 in
     let both = same_ends row (of_actor p.actor l.rest) r l.last (sym is ∙ ends.1) in
     let same : r ≡ l.last = same_head r l.last (reverse row) (reverse (of_actor p.actor l.rest)) both in
-    let row_is : row ≡ of_actor p.actor l.rest = sym (reverse-reverse row) ∙ ap reverse (same_tail r l.last (reverse row) (reverse (of_actor p.actor l.rest)) both) ∙ reverse-reverse (of_actor p.actor l.rest) in
+    let row_is : row ≡ of_actor p.actor l.rest =
+    sym (reverse-reverse row) ∙ ap reverse (same_tail r l.last (reverse row) (reverse (of_actor p.actor l.rest)) both)
+    ∙ reverse-reverse (of_actor p.actor l.rest) in
     let many = h.many in
     record {
       many = length-set rows (row_number p.actor) row ∙ many;
@@ -207,10 +224,13 @@ left_next J order p rows taken row r number h is =
           ∙ ap (λ (rs : List Record). rs ++ reverse taken) (sym l.split)
           ∙ h.whole;
       actors = sym l.rests;
-      own = λ a. left_own rows p.actor a row l.rest l.last (actor_eq p.actor a) (omega (arith, number, many)) row_is l.actor (h.own a ∙ ap (of_actor a) l.split ∙ of_one a l.rest l.last) refl;
+      own =
+          λ a. left_own rows p.actor a row l.rest l.last (actor_eq p.actor a) (omega (arith, number, many)) row_is l.actor
+          (h.own a ∙ ap (of_actor a) l.split ∙ of_one a l.rest l.last) refl;
     }
 
-pub row_is_left : (J : List Record) (order : List Place) (p : Place) (rows : List (List Record)) (taken : List Record) → AreLeft J (order ++ p ∷ []) rows taken → 0 < length (row_in rows p.actor)
+pub row_is_left : (J : List Record) (order : List Place) (p : Place) (rows : List (List Record)) (taken : List Record)
+    → AreLeft J (order ++ p ∷ []) rows taken → 0 < length (row_in rows p.actor)
 row_is_left J order p rows taken h =
     let ends = row_ends J order p rows taken h in
     let l = ends.0 in
@@ -227,7 +247,9 @@ left_none J rows taken h =
     no_left [] e = refl
     no_left (r ∷ rs) e = absurd (omega (arith, e))
 
-acts_alike : (rows : List (List Record)) (order : List Place) → AllByRecursion (λ (p : Place). (record_at rows p).actor ≡ p.actor) order → map (λ (p : Place). p.actor) order ≡ map (λ (r : Record). r.actor) (map (record_at rows) order)
+acts_alike : (rows : List (List Record)) (order : List Place)
+    → AllByRecursion (λ (p : Place). (record_at rows p).actor ≡ p.actor) order
+    → map (λ (p : Place). p.actor) order ≡ map (λ (r : Record). r.actor) (map (record_at rows) order)
 acts_alike rows [] h = refl
 acts_alike rows (p ∷ order) h = let this = h.0 in let rest = acts_alike rows order h.1 in cc
 
@@ -247,7 +269,8 @@ acts_in : (a : Actor) (records : List Record) → ActsIn a (of_actor a records)
 acts_in a [] i lt = absurd (omega (arith, lt))
 acts_in a (r ∷ records) i lt = acts_by a r (of_actor a records) (actor_eq r.actor a) refl (acts_in a records) i lt
 
-acts_at : (order : List Place) (rows : List (List Record)) (p : Place) → AreRows order rows → p.at < length (row_in rows p.actor) → (record_at rows p).actor ≡ p.actor
+acts_at : (order : List Place) (rows : List (List Record)) (p : Place) → AreRows order rows
+    → p.at < length (row_in rows p.actor) → (record_at rows p).actor ≡ p.actor
 acts_at order rows p h lt =
     let records = map (record_at rows) order in
     let e = ap length (h.own p.actor) in
@@ -258,7 +281,9 @@ left_start order rows h = record {
   many = h.many;
   left = map (record_at rows) order;
   whole = append-nil (map (record_at rows) order);
-  actors = acts_alike rows order (all_imply (λ (p : Place). p.at < length (row_in rows p.actor)) (λ (p : Place). (record_at rows p).actor ≡ p.actor) (λ p lt. acts_at order rows p h lt) order h.placed);
+  actors =
+      acts_alike rows order (all_imply (λ (p : Place). p.at < length (row_in rows p.actor))
+      (λ (p : Place). (record_at rows p).actor ≡ p.actor) (λ p lt. acts_at order rows p h lt) order h.placed);
   own = h.own;
 }
 
@@ -273,18 +298,23 @@ at_most_one false = omega arith
 
 few_turns : (a : Actor) (running : List Running) → turns_of a running ≤ length running
 few_turns a [] = omega arith
-few_turns a (o ∷ running) = let one = at_most_one (actor_eq o.item.actor a) in let rest = few_turns a running in let sum = sum_by-cons (one_of a) o running in omega (arith, one, rest, sum)
+few_turns a (o ∷ running) = let one = at_most_one (actor_eq o.item.actor a) in let rest = few_turns a running in
+    let sum = sum_by-cons (one_of a) o running in omega (arith, one, rest, sum)
 
 turns_pushed : (a : Actor) (running : List Running) (o : Running) → turns_of a (running ++ o ∷ []) ≡ turns_of a running + cond (actor_eq o.item.actor a) 1 0
 turns_pushed a running o = let sum = sum_by-append (one_of a) running (o ∷ []) in let one = sum_by-cons (one_of a) o [] in omega (arith, sum, one)
 
-turns_removed : (a : Actor) (running : List Running) (i : ℕ) (o : Running) → i < length running → o ≡ get_or running i o → turns_of a running ≡ cond (actor_eq o.item.actor a) 1 0 + turns_of a (remove running i)
-turns_removed a running i o lt at = sym (sum_by-IsPermutation (one_of a) running (o ∷ remove running i) (IsPermutation-remove running i o lt at)) ∙ sum_by-cons (one_of a) o (remove running i)
+turns_removed : (a : Actor) (running : List Running) (i : ℕ) (o : Running) → i < length running
+    → o ≡ get_or running i o → turns_of a running ≡ cond (actor_eq o.item.actor a) 1 0 + turns_of a (remove running i)
+turns_removed a running i o lt at =
+    sym (sum_by-IsPermutation (one_of a) running (o ∷ remove running i) (IsPermutation-remove running i o lt at))
+    ∙ sum_by-cons (one_of a) o (remove running i)
 
 pub room_none : (f : Filed) → HaveRoom [] f
 room_none f a = omega arith
 
-room_by : (running : List Running) (o : Running) (f f' : Filed) (a : Actor) (own : Bool) → actor_eq o.item.actor a ≡ own → HaveRoom running f → ((a : Actor) → spare_of f a ≤ spare_of f' a) → length running + 1 ≤ spare_of f' o.item.actor
+room_by : (running : List Running) (o : Running) (f f' : Filed) (a : Actor) (own : Bool)
+    → actor_eq o.item.actor a ≡ own → HaveRoom running f → ((a : Actor) → spare_of f a ≤ spare_of f' a) → length running + 1 ≤ spare_of f' o.item.actor
     → turns_of a (running ++ o ∷ []) ≤ spare_of f' a
 room_by running o f f' a true e h grown more =
     let pushed = turns_pushed a running o ∙ ap (λ (b : Bool). turns_of a running + cond b 1 0) e in
@@ -298,12 +328,16 @@ room_by running o f f' a false e h grown more =
     omega (arith, pushed, room, grow)
 
 -- one turn more has its place
-pub room_taken : (running : List Running) (o : Running) (f f' : Filed) → HaveRoom running f → ((a : Actor) → spare_of f a ≤ spare_of f' a) → length running + 1 ≤ spare_of f' o.item.actor → HaveRoom (running ++ o ∷ []) f'
+pub room_taken : (running : List Running) (o : Running) (f f' : Filed) → HaveRoom running f
+    → ((a : Actor) → spare_of f a ≤ spare_of f' a) → length running + 1 ≤ spare_of f' o.item.actor → HaveRoom (running ++ o ∷ []) f'
 room_taken running o f f' h grown more = λ a. room_by running o f f' a (actor_eq o.item.actor a) refl h grown more
 
-pub room_own : (running : List Running) (i : ℕ) (o : Running) (f : Filed) → HaveRoom running f → i < length running → o ≡ get_or running i o → 0 < spare_of f o.item.actor
+pub room_own : (running : List Running) (i : ℕ) (o : Running) (f : Filed) → HaveRoom running f → i < length running
+    → o ≡ get_or running i o → 0 < spare_of f o.item.actor
 room_own running i o f h lt at =
-    let fewer = turns_removed o.item.actor running i o lt at ∙ ap (λ (b : Bool). cond b 1 0 + turns_of o.item.actor (remove running i)) (actor_eq_self o.item.actor) in
+    let fewer =
+    turns_removed o.item.actor running i o lt at
+    ∙ ap (λ (b : Bool). cond b 1 0 + turns_of o.item.actor (remove running i)) (actor_eq_self o.item.actor) in
     let room = h o.item.actor in
     omega (arith, fewer, room)
 
@@ -317,39 +351,50 @@ room_recorded running i o f f' h lt at spares = λ a.
     omega (arith, fewer, room, spare)
 
 -- one turn fewer, which was given up
-pub room_given_up : (running : List Running) (i : ℕ) (o : Running) (f : Filed) → HaveRoom running f → i < length running → o ≡ get_or running i o → HaveRoom (remove running i) f
+pub room_given_up : (running : List Running) (i : ℕ) (o : Running) (f : Filed) → HaveRoom running f
+    → i < length running → o ≡ get_or running i o → HaveRoom (remove running i) f
 room_given_up running i o f h lt at = λ a. let fewer = turns_removed a running i o lt at in let room = h a in omega (arith, fewer, room)
 
 -- ---- rows as the code keeps them
 
-pub row_is : (rows : List (Vec Record Global)) (a : Actor) (v : Vec Record Global) → row_number a < length rows → v ≡ get_or rows (row_number a) v → row_in (rows_of rows) a ≡ v.items
+pub row_is : (rows : List (Vec Record Global)) (a : Actor) (v : Vec Record Global) → row_number a < length rows
+    → v ≡ get_or rows (row_number a) v → row_in (rows_of rows) a ≡ v.items
 row_is rows a v lt at = get_or-map (λ (v : Vec Record Global). v.items) rows (row_number a) v [] lt ∙ ap (λ (v : Vec Record Global). v.items) (sym at)
 
 pub wide : (order : List Place) (rows : List (Vec Record Global)) → AreRows order (rows_of rows) → length rows ≡ 768
 wide order rows h = sym (length-map rows (λ (v : Vec Record Global). v.items)) ∙ h.many
 
 -- a row with more room is the same row
-pub same_rows : (rows : List (Vec Record Global)) (i : ℕ) (old v : Vec Record Global) → old ≡ get_or rows i old → v.items ≡ old.items → rows_of (slice_set rows i v) ≡ rows_of rows
+pub same_rows : (rows : List (Vec Record Global)) (i : ℕ) (old v : Vec Record Global) → old ≡ get_or rows i old
+    → v.items ≡ old.items → rows_of (slice_set rows i v) ≡ rows_of rows
 same_rows rows i old v at e = map-set_same (λ (v : Vec Record Global). v.items) rows i v old (e ∙ ap (λ (v : Vec Record Global). v.items) at)
 
-spare_at : (rows : List (Vec Record Global)) (i j : ℕ) (v : Vec Record Global) → i < length rows → j ≡ i → get_or (map spare_in (slice_set rows i v)) j 0 ≡ spare_in v
+spare_at : (rows : List (Vec Record Global)) (i j : ℕ) (v : Vec Record Global) → i < length rows → j ≡ i
+    → get_or (map spare_in (slice_set rows i v)) j 0 ≡ spare_in v
 spare_at rows i j v lt e =
     let long = length-map rows spare_in in
-    ap (λ (S : List ℕ). get_or S j 0) (map-set spare_in rows i v) ∙ ap (λ (k : ℕ). get_or (slice_set (map spare_in rows) i (spare_in v)) k 0) e ∙ get_or-set_same (map spare_in rows) i (spare_in v) 0 (omega (arith, lt, long))
+    ap (λ (S : List ℕ). get_or S j 0) (map-set spare_in rows i v)
+    ∙ ap (λ (k : ℕ). get_or (slice_set (map spare_in rows) i (spare_in v)) k 0) e
+    ∙ get_or-set_same (map spare_in rows) i (spare_in v) 0 (omega (arith, lt, long))
 
-spare_was : (rows : List (Vec Record Global)) (i j : ℕ) (old : Vec Record Global) → i < length rows → old ≡ get_or rows i old → j ≡ i → get_or (map spare_in rows) j 0 ≡ spare_in old
+spare_was : (rows : List (Vec Record Global)) (i j : ℕ) (old : Vec Record Global) → i < length rows
+    → old ≡ get_or rows i old → j ≡ i → get_or (map spare_in rows) j 0 ≡ spare_in old
 spare_was rows i j old lt at e = ap (λ (k : ℕ). get_or (map spare_in rows) k 0) e ∙ get_or-map spare_in rows i old 0 lt ∙ ap spare_in (sym at)
 
-spare_other : (rows : List (Vec Record Global)) (i j : ℕ) (v : Vec Record Global) → j ≢ i → get_or (map spare_in (slice_set rows i v)) j 0 ≡ get_or (map spare_in rows) j 0
+spare_other : (rows : List (Vec Record Global)) (i j : ℕ) (v : Vec Record Global) → j ≢ i
+    → get_or (map spare_in (slice_set rows i v)) j 0 ≡ get_or (map spare_in rows) j 0
 spare_other rows i j v ne = ap (λ (S : List ℕ). get_or S j 0) (map-set spare_in rows i v) ∙ get_or-set_other (map spare_in rows) i j (spare_in v) 0 ne
 
-pub spare_own : (rows : List (Vec Record Global)) (a : Actor) (v : Vec Record Global) → row_number a < length rows → get_or (map spare_in (slice_set rows (row_number a) v)) (row_number a) 0 ≡ spare_in v
+pub spare_own : (rows : List (Vec Record Global)) (a : Actor) (v : Vec Record Global) → row_number a < length rows
+    → get_or (map spare_in (slice_set rows (row_number a) v)) (row_number a) 0 ≡ spare_in v
 spare_own rows a v lt = spare_at rows (row_number a) (row_number a) v lt refl
 
-pub spare_of_row : (rows : List (Vec Record Global)) (a : Actor) (old : Vec Record Global) → row_number a < length rows → old ≡ get_or rows (row_number a) old → get_or (map spare_in rows) (row_number a) 0 ≡ spare_in old
+pub spare_of_row : (rows : List (Vec Record Global)) (a : Actor) (old : Vec Record Global)
+    → row_number a < length rows → old ≡ get_or rows (row_number a) old → get_or (map spare_in rows) (row_number a) 0 ≡ spare_in old
 spare_of_row rows a old lt at = spare_was rows (row_number a) (row_number a) old lt at refl
 
-pub spares_grow : (rows : List (Vec Record Global)) (i : ℕ) (old v : Vec Record Global) (a : Actor) → i < length rows → old ≡ get_or rows i old → spare_in old ≤ spare_in v
+pub spares_grow : (rows : List (Vec Record Global)) (i : ℕ) (old v : Vec Record Global) (a : Actor) → i < length rows
+    → old ≡ get_or rows i old → spare_in old ≤ spare_in v
     → get_or (map spare_in rows) (row_number a) 0 ≤ get_or (map spare_in (slice_set rows i v)) (row_number a) 0
 spares_grow rows i old v a lt at le =
     elim (cases_eq (row_number a) i) [
@@ -357,7 +402,8 @@ spares_grow rows i old v a lt at le =
       | inr ne ↦ (let same = spare_other rows i (row_number a) v ne in omega (arith, same))
     ]
 
-spares_by : (rows : List (Vec Record Global)) (b a : Actor) (old v : Vec Record Global) (own : Bool) → actor_eq b a ≡ own → row_number b < length rows → old ≡ get_or rows (row_number b) old → spare_in old ≤ spare_in v + 1
+spares_by : (rows : List (Vec Record Global)) (b a : Actor) (old v : Vec Record Global) (own : Bool)
+    → actor_eq b a ≡ own → row_number b < length rows → old ≡ get_or rows (row_number b) old → spare_in old ≤ spare_in v + 1
     → get_or (map spare_in rows) (row_number a) 0 ≤ get_or (map spare_in (slice_set rows (row_number b) v)) (row_number a) 0 + cond own 1 0
 spares_by rows b a old v true e lt at le =
     let same = ap row_number (sym (same_actor b a e)) in
@@ -367,7 +413,8 @@ spares_by rows b a old v true e lt at le =
 spares_by rows b a old v false e lt at le = let same = spare_other rows (row_number b) (row_number a) v (other_number b a e) in omega (arith, same)
 
 -- one place of the actor's row is used
-pub spares_used : (rows : List (Vec Record Global)) (b a : Actor) (old v : Vec Record Global) → row_number b < length rows → old ≡ get_or rows (row_number b) old → spare_in old ≤ spare_in v + 1
+pub spares_used : (rows : List (Vec Record Global)) (b a : Actor) (old v : Vec Record Global)
+    → row_number b < length rows → old ≡ get_or rows (row_number b) old → spare_in old ≤ spare_in v + 1
     → get_or (map spare_in rows) (row_number a) 0 ≤ get_or (map spare_in (slice_set rows (row_number b) v)) (row_number a) 0 + cond (actor_eq b a) 1 0
 spares_used rows b a old v lt at le = spares_by rows b a old v (actor_eq b a) refl lt at le
 
@@ -376,14 +423,17 @@ pub record IsFiled (order : List Place) (rows : List (Vec Record Global)) (r : R
   pub rows_are : AreRows (order ++ p ∷ []) (rows_of (slice_set rows (row_number r.actor) v))
   pub records : map (record_at (rows_of (slice_set rows (row_number r.actor) v))) (order ++ p ∷ []) ≡ map (record_at (rows_of rows)) order ++ r ∷ []
 
-pub filed : (order : List Place) (rows : List (Vec Record Global)) (r : Record) (at : ℕ) (old v : Vec Record Global) → AreRows order (rows_of rows) → row_number r.actor < length rows → old ≡ get_or rows (row_number r.actor) old
+pub filed : (order : List Place) (rows : List (Vec Record Global)) (r : Record) (at : ℕ) (old v : Vec Record Global)
+    → AreRows order (rows_of rows) → row_number r.actor < length rows → old ≡ get_or rows (row_number r.actor) old
     → at ≡ length old.items → v.items ≡ old.items ++ r ∷ [] → IsFiled order rows r (record { actor = r.actor; at = at }) v
 filed order rows r at old v h lt was long items =
     let R = rows_of rows in
     let row = row_is rows r.actor old lt was in
     let many = length-map rows (λ (v : Vec Record Global). v.items) in
     let lt' : row_number r.actor < length R = omega (arith, lt, many) in
-    let now : rows_of (slice_set rows (row_number r.actor) v) ≡ pushed_rows R r = map-set (λ (v : Vec Record Global). v.items) rows (row_number r.actor) v ∙ ap (slice_set R (row_number r.actor)) (items ∙ ap (λ (row : List Record). row ++ r ∷ []) (sym row)) in
+    let now : rows_of (slice_set rows (row_number r.actor) v) ≡ pushed_rows R r =
+    map-set (λ (v : Vec Record Global). v.items) rows (row_number r.actor) v
+    ∙ ap (slice_set R (row_number r.actor)) (items ∙ ap (λ (row : List Record). row ++ r ∷ []) (sym row)) in
     let place : at ≡ length (row_in R r.actor) = long ∙ ap length (sym row) in
     subst (λ (n : ℕ). IsFiled order rows r (record { actor = r.actor; at = n }) v) (sym place)
     (record {
@@ -399,10 +449,13 @@ one_read rows i v w lt at at' = at ∙ sym (get_or_default rows i w v lt) ∙ sy
 pub record IsPushed (order order' : List Place) (rows : List (Vec Record Global)) (i : ℕ) (r : Record) (v : Vec Record Global) : Type 0 where
   pub rows_are : AreRows order' (rows_of (slice_set rows i v))
   pub records : map (record_at (rows_of (slice_set rows i v))) order' ≡ map (record_at (rows_of rows)) order ++ r ∷ []
-  pub spares : (a : Actor) → get_or (map spare_in rows) (row_number a) 0 ≤ get_or (map spare_in (slice_set rows i v)) (row_number a) 0 + cond (actor_eq r.actor a) 1 0
+  pub spares : (a : Actor)
+      → get_or (map spare_in rows) (row_number a) 0 ≤ get_or (map spare_in (slice_set rows i v)) (row_number a) 0 + cond (actor_eq r.actor a) 1 0
 
-pub pushed : (order order' : List Place) (rows : List (Vec Record Global)) (i at : ℕ) (r : Record) (old read v : Vec Record Global) → AreRows order (rows_of rows) → i ≡ row_number r.actor → i < 768 → old ≡ get_or rows i old
-    → read ≡ get_or rows i read → at ≡ length read.items → v.items ≡ old.items ++ r ∷ [] → vec_capacity v ≡ vec_capacity old → order' ≡ order ++ record { actor = r.actor; at = at } ∷ [] → IsPushed order order' rows i r v
+pub pushed : (order order' : List Place) (rows : List (Vec Record Global)) (i at : ℕ) (r : Record) (old read v : Vec Record Global)
+    → AreRows order (rows_of rows) → i ≡ row_number r.actor → i < 768 → old ≡ get_or rows i old
+    → read ≡ get_or rows i read → at ≡ length read.items → v.items ≡ old.items ++ r ∷ []
+    → vec_capacity v ≡ vec_capacity old → order' ≡ order ++ record { actor = r.actor; at = at } ∷ [] → IsPushed order order' rows i r v
 pushed order order' rows i at r old read v h n within was was' long items capacity last =
     let many = wide order rows h in
     let lt : row_number r.actor < length rows = omega (arith, many, n, within) in
@@ -421,7 +474,8 @@ pub record IsFrom (before place : ℕ) (records : List Record) (r : Record) : Ty
   pub within : place - before < length (drop before records)
   pub at : r ≡ get_or (drop before records) (place - before) r
 
-pub read_from : (before place : ℕ) (records : List Record) (r : Record) → before ≤ place → place < length records → r ≡ get_or records place r → IsFrom before place records r
+pub read_from : (before place : ℕ) (records : List Record) (r : Record) → before ≤ place → place < length records
+    → r ≡ get_or records place r → IsFrom before place records r
 read_from before place records r le lt at =
     let long = length-drop before records in
     record {
@@ -430,19 +484,24 @@ read_from before place records r le lt at =
     }
 
 -- the last record of a row is taken
-pub left_popped : (J : List Record) (order whole : List Place) (p : Place) (rows : List (Vec Record Global)) (taken taken' : List Record) (i : ℕ) (old v : Vec Record Global) (r : Record) → i ≡ row_number p.actor → i < 768 → whole ≡ order ++ p ∷ [] → old ≡ get_or rows i old
+pub left_popped : (J : List Record) (order whole : List Place) (p : Place) (rows : List (Vec Record Global))
+    (taken taken' : List Record) (i : ℕ) (old v : Vec Record Global) (r : Record) → i ≡ row_number p.actor → i < 768
+    → whole ≡ order ++ p ∷ [] → old ≡ get_or rows i old
     → old.items ≡ v.items ++ r ∷ [] → taken' ≡ taken ++ r ∷ [] → AreLeft J whole (rows_of rows) taken → AreLeft J order (rows_of (slice_set rows i v)) taken'
 left_popped J order whole p rows taken taken' i old v r number within last at popped more h =
     let many = h.many in
     let long = length-map rows (λ (v : Vec Record Global). v.items) in
     let lt : row_number p.actor < length rows = omega (arith, number, within, many, long) in
     let own = row_is rows p.actor old lt (at ∙ ap (λ (n : ℕ). get_or rows n old) number) ∙ popped in
-    let now : rows_of (slice_set rows i v) ≡ slice_set (rows_of rows) (row_number p.actor) v.items = map-set (λ (v : Vec Record Global). v.items) rows i v ∙ ap (λ (n : ℕ). slice_set (rows_of rows) n v.items) number in
+    let now : rows_of (slice_set rows i v) ≡ slice_set (rows_of rows) (row_number p.actor) v.items =
+    map-set (λ (v : Vec Record Global). v.items) rows i v ∙ ap (λ (n : ℕ). slice_set (rows_of rows) n v.items) number in
     subst (λ (R : List (List Record)). AreLeft J order R taken') (sym now)
     (subst (AreLeft J order (slice_set (rows_of rows) (row_number p.actor) v.items)) (sym more)
-    (left_next J order p (rows_of rows) taken v.items r (omega (arith, number, within)) (subst (λ (o : List Place). AreLeft J o (rows_of rows) taken) last h) own))
+    (left_next J order p (rows_of rows) taken v.items r (omega (arith, number, within))
+    (subst (λ (o : List Place). AreLeft J o (rows_of rows) taken) last h) own))
 
-pub left_some : (J : List Record) (order whole : List Place) (p : Place) (rows : List (Vec Record Global)) (taken : List Record) (i : ℕ) (old : Vec Record Global) → i ≡ row_number p.actor → i < 768 → whole ≡ order ++ p ∷ [] → old ≡ get_or rows i old
+pub left_some : (J : List Record) (order whole : List Place) (p : Place) (rows : List (Vec Record Global))
+    (taken : List Record) (i : ℕ) (old : Vec Record Global) → i ≡ row_number p.actor → i < 768 → whole ≡ order ++ p ∷ [] → old ≡ get_or rows i old
     → AreLeft J whole (rows_of rows) taken → 0 < length old.items
 left_some J order whole p rows taken i old number within last at h =
     let many = h.many in

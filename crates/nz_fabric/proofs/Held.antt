@@ -1,5 +1,6 @@
 -- What a fabric of one thread keeps.
-use Rattle.std.proofs.Common.{◌≡◌, ℕ, zero, suc, ◌+◌, ◌<◌, ◌≤◌, Bool, true, false, List, [], ◌∷◌, ◌++◌, length, map, Some, refl, sym, ap, ◌∙◌, subst, arith, length-append, length-drop, take_all, take-append-drop, append-nil, append_assoc}
+use Rattle.std.proofs.Common.{◌≡◌, ℕ, zero, suc, ◌+◌, ◌<◌, ◌≤◌, Bool, true, false, List, [], ◌∷◌, ◌++◌, length, map, Some, refl, sym, ap}
+use Rattle.std.proofs.Common.{◌∙◌, subst, arith, length-append, length-drop, take_all, take-append-drop, append-nil, append_assoc}
 use Rattle.std.specs.Prelude.{take, drop, reverse, slice_get}
 use Rattle.std.specs.List.{AllByRecursion}
 use Rattle.std.proofs.lemmas.List.{map-append, reverse-append, length-reverse, reverse-reverse, drop_all, take-append-le, drop-append-le}
@@ -9,11 +10,12 @@ use Rattle.nz_base.specs.declared.scenario.Scenario.{Scenario}
 use Rattle.nz_machine.specs.declared.event.Parcel.{Parcel}
 use Rattle.nz_machine.specs.declared.event.Record.{Record}
 use Rattle.nz_machine.specs.declared.journal.Item.{Item}
-use Rattle.nz_machine.specs.Schedule.{Posted, posted, posted_in, item_of, due, InOrderTo, IsPlayable}
+use Rattle.nz_machine.specs.Schedule.{Posted, posted_by_run, posted_in, item_of, due, InOrderTo, IsPlayable}
 use Rattle.nz_fabric.specs.declared.turn.Turn.{Turn}
 use Rattle.nz_fabric.specs.declared.ticks.Ticks.{Ticks}
 use Rattle.nz_fabric.specs.Calendars.{Dates, StandsFor, HasPosted, posted_by}
-use Rattle.nz_fabric.specs.States.{State, records_of, start, IsNew, IsOpen, IsDone, item_in, recorded, with_recorded, after_tick, IsBegun, IsBegunAs, IsKept, IsPosted, state_of, state_in, IsHeld, HasBegun}
+use Rattle.nz_fabric.specs.States.{State, records_of, start_state, IsNew, IsOpen, IsDone, item_in, record_of_turn, with_recorded}
+use Rattle.nz_fabric.specs.States.{after_tick, IsBegun, IsBegunAs, IsKeptRun, IsPosted, state_of, state_in, IsHeld, HasBegun}
 use Rattle.nz_fabric.proofs.Dating.{posted_push, posted_reverse}
 
 -- ---- the start
@@ -24,15 +26,26 @@ begin_with s items = state_of s 0 0 [] items 0 false
 pub new_ticks : (s : Scenario) (t : Ticks) → state_in t 0 [] ≡ begin_with s t.items.items → t.items.items ≡ [] → StandsFor s [] 0 t.calendar → IsNew s t
 new_ticks s t is nothing h = record { state = is ∙ ap (begin_with s) nothing; stands = h }
 
-pub posted_start : (s : Scenario) (c : Dates) → StandsFor s [] 0 c → IsPosted (start s) c
+pub posted_start : (s : Scenario) (c : Dates) → StandsFor s [] 0 c → IsPosted (start_state s) c
 posted_start s c h = record { sent = []; rest = []; prefix = refl; stands = h; none = λ _. refl }
 
-pub held_start : (s : Scenario) (t : Ticks) (records : List Record) (room : ℕ) → IsPlayable s → IsNew s t → records ≡ [] → IsHeld (state_in t 0 records) 0 room records t.calendar
+pub held_start : (s : Scenario) (t : Ticks) (records : List Record) (room : ℕ) → IsPlayable s → IsNew s t
+    → records ≡ [] → IsHeld (state_in t 0 records) 0 room records t.calendar
 held_start s t records room play new none =
     subst (λ (rs : List Record). IsHeld (state_in t 0 rs) 0 room rs t.calendar) (sym none)
     (subst (λ (f : State). IsHeld f 0 room [] t.calendar) (sym new.state)
     (record {
-      kept = record { playable = play; in_run = omega arith; begun = (refl, refl); here = tt; in_order = refl; next = omega arith; least = omega arith; most = omega arith };
+      kept =
+          record {
+            playable = play;
+            in_run = omega arith;
+            begun = (refl, refl);
+            here = tt;
+            in_order = refl;
+            next = omega arith;
+            least = omega arith;
+            most = omega arith;
+          };
       within = omega arith;
       few = omega arith;
       has_room = λ _. record { reserved = omega arith; few = omega arith };
@@ -46,7 +59,7 @@ take_got [] i x e = absurd (none-some x e)
 take_got (y ∷ xs) zero x e = ap (λ z. z ∷ []) (same_Some y x e)
 take_got (y ∷ xs) (suc i) x e = ap (λ zs. y ∷ zs) (take_got xs i x e)
 
-pub kept_record : (f : State) (turn : Turn) (sends : List Parcel) → IsKept f → IsOpen f turn → IsKept (with_recorded turn sends f)
+pub kept_record : (f : State) (turn : Turn) (sends : List Parcel) → IsKeptRun f → IsOpen f turn → IsKeptRun (with_recorded turn sends f)
 kept_record f turn sends k o =
     let taken = o.taken in
     record {
@@ -55,8 +68,8 @@ kept_record f turn sends k o =
       begun = k.begun;
       here = (o.is_next.tick, k.here);
       in_order =
-          ap (map item_of) (reverse_onto f.here (recorded turn sends) [])
-          ∙ map-append item_of (reverse f.here) (recorded turn sends ∷ [])
+          ap (map item_of) (reverse_onto f.here (record_of_turn turn sends) [])
+          ∙ map-append item_of (reverse f.here) (record_of_turn turn sends ∷ [])
           ∙ ap (λ (is : List Item). is ++ item_in turn ∷ []) k.in_order
           ∙ sym (take_got f.items (length f.here) (item_in turn) o.is_next.item);
       next = k.next;
@@ -64,14 +77,32 @@ kept_record f turn sends k o =
       most = omega (arith, taken);
     }
 
-pub state_record : (s : Scenario) (tick before : ℕ) (records : List Record) (items : List Item) (next : ℕ) (marked : Bool) (turn : Turn) (sends : List Parcel) → before ≤ length records
-    → state_of s tick before (records ++ recorded turn sends ∷ []) items next marked ≡ with_recorded turn sends (state_of s tick before records items next marked)
+pub state_record : (s : Scenario) (tick before : ℕ) (records : List Record) (items : List Item) (next : ℕ)
+    (marked : Bool) (turn : Turn) (sends : List Parcel) → before ≤ length records
+    → state_of s tick before (records ++ record_of_turn turn sends ∷ []) items next marked
+    ≡ with_recorded turn sends (state_of s tick before records items next marked)
 state_record s tick before records items next marked turn sends le =
-    let r = recorded turn sends in
+    let r = record_of_turn turn sends in
     let first = ap reverse (take-append-le before records (r ∷ []) le) in
     let last = ap reverse (drop-append-le before records (r ∷ []) le) ∙ reverse-append (drop before records) (r ∷ []) in
-    ap (λ (xs : List Record). let f : State = record { scenario = s; tick = tick; finished = xs; here = reverse (drop before (records ++ r ∷ [])); items = items; next = next; marked = marked } in f) first
-    ∙ ap (λ (xs : List Record). let f : State = record { scenario = s; tick = tick; finished = reverse (take before records); here = xs; items = items; next = next; marked = marked } in f) last
+    ap (λ (xs : List Record). let f : State = record {
+      scenario = s;
+      tick = tick;
+      finished = xs;
+      here = reverse (drop before (records ++ r ∷ []));
+      items = items;
+      next = next;
+      marked = marked;
+    } in f) first
+    ∙ ap (λ (xs : List Record). let f : State = record {
+      scenario = s;
+      tick = tick;
+      finished = reverse (take before records);
+      here = xs;
+      items = items;
+      next = next;
+      marked = marked;
+    } in f) last
 
 long_here : (before : ℕ) (records : List Record) → before ≤ length records → before + length (reverse (drop before records)) ≡ length records
 long_here before records le = let a = length-reverse (drop before records) in let b = length-drop before records in omega (arith, a, b, le)
@@ -90,11 +121,12 @@ posted_grow f r c h = record {
   none = h.none;
 }
 
-pub held_record : (s : Scenario) (tick before room : ℕ) (records : List Record) (items : List Item) (next : ℕ) (marked : Bool) (c : Dates) (turn : Turn) (sends : List Parcel)
+pub held_record : (s : Scenario) (tick before room : ℕ) (records : List Record) (items : List Item) (next : ℕ)
+    (marked : Bool) (c : Dates) (turn : Turn) (sends : List Parcel)
     → IsHeld (state_of s tick before records items next marked) before room records c → IsOpen (state_of s tick before records items next marked) turn
-    → IsHeld (state_of s tick before (records ++ recorded turn sends ∷ []) items next marked) before room (records ++ recorded turn sends ∷ []) c
+    → IsHeld (state_of s tick before (records ++ record_of_turn turn sends ∷ []) items next marked) before room (records ++ record_of_turn turn sends ∷ []) c
 held_record s tick before room records items next marked c turn sends h o =
-    let r = recorded turn sends in
+    let r = record_of_turn turn sends in
     let long = length-append records (r ∷ []) in
     let taken = o.taken in
     let here = long_here before records h.within in
@@ -115,7 +147,8 @@ pub no_records : (xs : List Record) → length xs ≡ 0 → xs ≡ []
 no_records [] e = refl
 no_records (x ∷ xs) e = absurd (omega (arith, e))
 
-in_order_by : (f : State) (tick : ℕ) → f.tick ≡ tick → IsBegun f.scenario tick f.finished f.items → IsKept f → length f.here ≡ length f.items → InOrderTo f.scenario tick (records_of f)
+in_order_by : (f : State) (tick : ℕ) → f.tick ≡ tick → IsBegun f.scenario tick f.finished f.items → IsKeptRun f
+    → length f.here ≡ length f.items → InOrderTo f.scenario tick (records_of f)
 in_order_by f zero e (none, nothing) k all =
     let here : f.here ≡ [] = no_records f.here (all ∙ ap length nothing) in
     ap (λ (xs : List Record). xs ++ f.finished) here ∙ none
@@ -135,29 +168,65 @@ in_order_by f (suc tick) e (before, items) k all = (
 )
 
 -- all that was due was recorded, so the records are in order
-pub in_order_now : (f : State) → IsKept f → IsDone f → InOrderTo f.scenario f.tick (records_of f)
+pub in_order_now : (f : State) → IsKeptRun f → IsDone f → InOrderTo f.scenario f.tick (records_of f)
 in_order_now f k d = in_order_by f f.tick refl k.begun k (sym d.quiet.closed ∙ d.all)
 
 -- all records, the newest first
 pub all_records : (before : ℕ) (records : List Record) → reverse (drop before records) ++ reverse (take before records) ≡ reverse records
 all_records before records = sym (reverse-append (take before records) (drop before records)) ∙ ap reverse (take-append-drop before records)
 
-pub begun_next : (Ordered : Scenario → ℕ → List Record → Type 0) (s : Scenario) (tick next : ℕ) (J : List Record) → suc tick ≡ next → Ordered s tick J → IsBegunAs Ordered s next J (due s next J)
+pub begun_next : (Ordered : Scenario → ℕ → List Record → Type 0) (s : Scenario) (tick next : ℕ) (J : List Record)
+    → suc tick ≡ next → Ordered s tick J → IsBegunAs Ordered s next J (due s next J)
 begun_next Ordered s tick next J e order = subst (λ (n : ℕ). IsBegunAs Ordered s n J (due s n J)) e (order, refl)
 
-pub state_next : (s : Scenario) (tick before n : ℕ) (records : List Record) (items items' : List Item) (next : ℕ) (marked : Bool) → n ≡ length records → marked ≡ false
+pub state_next : (s : Scenario) (tick before n : ℕ) (records : List Record) (items items' : List Item) (next : ℕ) (marked : Bool)
+    → n ≡ length records → marked ≡ false
     → items' ≡ due s (tick + 1) (records_of (state_of s tick before records items next marked))
     → state_of s (tick + 1) n records items' 0 false ≡ after_tick (state_of s tick before records items next marked)
 state_next s tick before n records items items' next marked long unmarked are_due =
-    let finished : reverse (take n records) ≡ records_of (state_of s tick before records items next marked) = ap reverse (take_all n records (omega (arith, long))) ∙ sym (all_records before records) in
+    let finished : reverse (take n records) ≡ records_of (state_of s tick before records items next marked) =
+    ap reverse (take_all n records (omega (arith, long))) ∙ sym (all_records before records) in
     let here : reverse (drop n records) ≡ [] = ap reverse (drop_all n records (omega (arith, long))) in
-    ap (λ (xs : List Record). let f : State = record { scenario = s; tick = tick + 1; finished = xs; here = reverse (drop n records); items = items'; next = 0; marked = false } in f) finished
-    ∙ ap (λ (xs : List Record). let f : State = record { scenario = s; tick = tick + 1; finished = records_of (state_of s tick before records items next marked); here = xs; items = items'; next = 0; marked = false } in f) here
-    ∙ ap (λ (is : List Item). let f : State = record { scenario = s; tick = tick + 1; finished = records_of (state_of s tick before records items next marked); here = []; items = is; next = 0; marked = false } in f) are_due
-    ∙ ap (λ (m : Bool). let f : State = record { scenario = s; tick = tick + 1; finished = records_of (state_of s tick before records items next marked); here = []; items = due s (tick + 1) (records_of (state_of s tick before records items next marked)); next = 0; marked = m } in f) (sym unmarked)
+    ap (λ (xs : List Record). let f : State = record {
+      scenario = s;
+      tick = tick + 1;
+      finished = xs;
+      here = reverse (drop n records);
+      items = items';
+      next = 0;
+      marked = false;
+    } in f) finished
+    ∙ ap (λ (xs : List Record). let f : State = record {
+      scenario = s;
+      tick = tick + 1;
+      finished = records_of (state_of s tick before records items next marked);
+      here = xs;
+      items = items';
+      next = 0;
+      marked = false;
+    } in f) here
+    ∙ ap (λ (is : List Item). let f : State = record {
+      scenario = s;
+      tick = tick + 1;
+      finished = records_of (state_of s tick before records items next marked);
+      here = [];
+      items = is;
+      next = 0;
+      marked = false;
+    } in f) are_due
+    ∙ ap (λ (m : Bool). let f : State = record {
+      scenario = s;
+      tick = tick + 1;
+      finished = records_of (state_of s tick before records items next marked);
+      here = [];
+      items = due s (tick + 1) (records_of (state_of s tick before records items next marked));
+      next = 0;
+      marked = m;
+    } in f) (sym unmarked)
 
 -- the ticks that began are the next state
-pub next_is : (s : Scenario) (tick before n : ℕ) (records : List Record) (items : List Item) (next : ℕ) (marked : Bool) (new : Ticks) → HasBegun s tick (posted (records_of (state_of s tick before records items next marked))) new → n ≡ length records → marked ≡ false
+pub next_is : (s : Scenario) (tick before n : ℕ) (records : List Record) (items : List Item) (next : ℕ) (marked : Bool) (new : Ticks)
+    → HasBegun s tick (posted_by_run (records_of (state_of s tick before records items next marked))) new → n ≡ length records → marked ≡ false
     → state_in new n records ≡ after_tick (state_of s tick before records items next marked)
 next_is s tick before n records items next marked new b long unmarked =
     let is = new.items.items in
@@ -173,23 +242,30 @@ whole_here : (before : ℕ) (records : List Record) → reverse (reverse (drop b
 whole_here before records = reverse-reverse (drop before records)
 
 -- before it begins the next tick, the calendar has what the finished ticks sent
-posted_started : (f : State) (c : Dates) → f.marked ≡ false → IsPosted f c → StandsFor f.scenario (posted f.finished) f.tick c
-posted_started f c e h = subst (λ (L : List Posted). StandsFor f.scenario L f.tick c) (ap (λ (L : List Posted). posted f.finished ++ L) (h.none e) ∙ append-nil (posted f.finished)) h.stands
+posted_started : (f : State) (c : Dates) → f.marked ≡ false → IsPosted f c → StandsFor f.scenario (posted_by_run f.finished) f.tick c
+posted_started f c e h =
+    subst (λ (L : List Posted). StandsFor f.scenario L f.tick c)
+    (ap (λ (L : List Posted). posted_by_run f.finished ++ L) (h.none e) ∙ append-nil (posted_by_run f.finished)) h.stands
 
 -- then it has what this tick sent
-posted_now : (s : Scenario) (tick before : ℕ) (records : List Record) (c : Dates) → StandsFor s (posted (reverse (take before records)) ++ posted_by (drop before records)) tick c
-    → StandsFor s (posted (reverse (drop before records) ++ reverse (take before records))) tick c
-posted_now s tick before records c h = subst (λ (L : List Posted). StandsFor s L tick c) (sym (posted_reverse (drop before records) (reverse (take before records)))) h
+posted_now : (s : Scenario) (tick before : ℕ) (records : List Record) (c : Dates)
+    → StandsFor s (posted_by_run (reverse (take before records)) ++ posted_by (drop before records)) tick c
+    → StandsFor s (posted_by_run (reverse (drop before records) ++ reverse (take before records))) tick c
+posted_now s tick before records c h =
+    subst (λ (L : List Posted). StandsFor s L tick c) (sym (posted_reverse (drop before records) (reverse (take before records)))) h
 
-posted_some : (s : Scenario) (tick before : ℕ) (records : List Record) (items : List Item) (next : ℕ) (c : Dates) → HasPosted s (posted (reverse (take before records))) (posted_by (drop before records)) tick c
+posted_some : (s : Scenario) (tick before : ℕ) (records : List Record) (items : List Item) (next : ℕ) (c : Dates)
+    → HasPosted s (posted_by_run (reverse (take before records))) (posted_by (drop before records)) tick c
     → IsPosted (state_of s tick before records items next true) c
 posted_some s tick before records items next c h =
     record { sent = h.sent; rest = h.rest; prefix = ap posted_by (whole_here before records) ∙ h.prefix; stands = h.stands; none = λ e. cc }
 
-posted_whole : (s : Scenario) (tick before : ℕ) (records : List Record) (items : List Item) (next : ℕ) (c : Dates) → StandsFor s (posted (reverse (take before records)) ++ posted_by (drop before records)) tick c
+posted_whole : (s : Scenario) (tick before : ℕ) (records : List Record) (items : List Item) (next : ℕ) (c : Dates)
+    → StandsFor s (posted_by_run (reverse (take before records)) ++ posted_by (drop before records)) tick c
     → IsPosted (state_of s tick before records items next true) c
 posted_whole s tick before records items next c h =
-    posted_some s tick before records items next c (record { sent = posted_by (drop before records); rest = []; prefix = sym (append-nil (posted_by (drop before records))); stands = h })
+    posted_some s tick before records items next c
+    (record { sent = posted_by (drop before records); rest = []; prefix = sym (append-nil (posted_by (drop before records))); stands = h })
 
 -- what posting does: after it the calendar has these too, or a prefix of them
 abbrev pub PostsAll : Scenario → Dates → Dates → List Posted → Type 0
@@ -199,36 +275,54 @@ abbrev pub PostsSome : Scenario → Dates → Dates → List Posted → Type 0
 PostsSome s old new sent = (L : List Posted) (now : ℕ) → StandsFor s L now old → HasPosted s L sent now new
 
 -- the tick is over, and what it sent was posted in part
-pub over_some : (t : Ticks) (before : ℕ) (records sent : List Record) (c : Dates) → t.marked ≡ false → IsPosted (state_in t before records) t.calendar → sent ≡ drop before records
+pub over_some : (t : Ticks) (before : ℕ) (records sent : List Record) (c : Dates) → t.marked ≡ false
+    → IsPosted (state_in t before records) t.calendar → sent ≡ drop before records
     → PostsSome t.scenario t.calendar c (posted_by sent) → IsPosted (state_of t.scenario t.tick before records t.items.items t.next true) c
 over_some t before records sent c unmarked posts e some =
-    let L = posted (reverse (take before records)) in
+    let L = posted_by_run (reverse (take before records)) in
     posted_some t.scenario t.tick before records t.items.items t.next c
-    (subst (λ (rs : List Record). HasPosted t.scenario L (posted_by rs) t.tick c) e (some L t.tick (posted_started (state_in t before records) t.calendar unmarked posts)))
+    (subst (λ (rs : List Record). HasPosted t.scenario L (posted_by rs) t.tick c) e
+    (some L t.tick (posted_started (state_in t before records) t.calendar unmarked posts)))
 
 -- the same, in whole
-over_now : (t : Ticks) (before : ℕ) (records sent : List Record) (c : Dates) → t.marked ≡ false → IsPosted (state_in t before records) t.calendar → sent ≡ drop before records
-    → PostsAll t.scenario t.calendar c (posted_by sent) → StandsFor t.scenario (posted (reverse (take before records)) ++ posted_by (drop before records)) t.tick c
+over_now : (t : Ticks) (before : ℕ) (records sent : List Record) (c : Dates) → t.marked ≡ false
+    → IsPosted (state_in t before records) t.calendar → sent ≡ drop before records
+    → PostsAll t.scenario t.calendar c (posted_by sent)
+    → StandsFor t.scenario (posted_by_run (reverse (take before records)) ++ posted_by (drop before records)) t.tick c
 over_now t before records sent c unmarked posts e all =
-    let L = posted (reverse (take before records)) in
-    subst (λ (rs : List Record). StandsFor t.scenario (L ++ posted_by rs) t.tick c) e (all L t.tick (posted_started (state_in t before records) t.calendar unmarked posts))
+    let L = posted_by_run (reverse (take before records)) in
+    subst (λ (rs : List Record). StandsFor t.scenario (L ++ posted_by rs) t.tick c) e
+    (all L t.tick (posted_started (state_in t before records) t.calendar unmarked posts))
 
-pub over_whole : (t : Ticks) (before : ℕ) (records sent : List Record) (c : Dates) → t.marked ≡ false → IsPosted (state_in t before records) t.calendar → sent ≡ drop before records
+pub over_whole : (t : Ticks) (before : ℕ) (records sent : List Record) (c : Dates) → t.marked ≡ false
+    → IsPosted (state_in t before records) t.calendar → sent ≡ drop before records
     → PostsAll t.scenario t.calendar c (posted_by sent) → IsPosted (state_of t.scenario t.tick before records t.items.items t.next true) c
-over_whole t before records sent c unmarked posts e all = posted_whole t.scenario t.tick before records t.items.items t.next c (over_now t before records sent c unmarked posts e all)
+over_whole t before records sent c unmarked posts e all =
+    posted_whole t.scenario t.tick before records t.items.items t.next c (over_now t before records sent c unmarked posts e all)
 
 -- and the next tick began
-pub over_begun : (t : Ticks) (before : ℕ) (records sent : List Record) (c : Dates) (new : Ticks) → t.marked ≡ false → IsPosted (state_in t before records) t.calendar → sent ≡ drop before records
-    → PostsAll t.scenario t.calendar c (posted_by sent) → ((L : List Posted) → StandsFor t.scenario L t.tick c → HasBegun t.scenario t.tick L new) → HasBegun t.scenario t.tick (posted (records_of (state_in t before records))) new
+pub over_begun : (t : Ticks) (before : ℕ) (records sent : List Record) (c : Dates) (new : Ticks) → t.marked ≡ false
+    → IsPosted (state_in t before records) t.calendar → sent ≡ drop before records
+    → PostsAll t.scenario t.calendar c (posted_by sent)
+    → ((L : List Posted) → StandsFor t.scenario L t.tick c → HasBegun t.scenario t.tick L new)
+    → HasBegun t.scenario t.tick (posted_by_run (records_of (state_in t before records))) new
 over_begun t before records sent c new unmarked posts e all begins =
-    begins (posted (records_of (state_in t before records))) (posted_now t.scenario t.tick before records c (over_now t before records sent c unmarked posts e all))
+    begins (posted_by_run (records_of (state_in t before records)))
+    (posted_now t.scenario t.tick before records c (over_now t before records sent c unmarked posts e all))
 
-pub posted_next : (f : State) (c : Dates) → StandsFor f.scenario (posted (records_of f)) (f.tick + 1) c → IsPosted (after_tick f) c
-posted_next f c h = record { sent = []; rest = []; prefix = refl; stands = subst (λ (L : List Posted). StandsFor f.scenario L (f.tick + 1) c) (sym (append-nil (posted (records_of f)))) h; none = λ _. refl }
+pub posted_next : (f : State) (c : Dates) → StandsFor f.scenario (posted_by_run (records_of f)) (f.tick + 1) c → IsPosted (after_tick f) c
+posted_next f c h =
+    record {
+      sent = [];
+      rest = [];
+      prefix = refl;
+      stands = subst (λ (L : List Posted). StandsFor f.scenario L (f.tick + 1) c) (sym (append-nil (posted_by_run (records_of f)))) h;
+      none = λ _. refl;
+    }
 
 -- ---- the next tick of a fabric of one thread
 
-kept_next : (f : State) → IsKept f → IsDone f → f.tick < f.scenario.ticks → IsKept (after_tick f)
+kept_next : (f : State) → IsKeptRun f → IsDone f → f.tick < f.scenario.ticks → IsKeptRun (after_tick f)
 kept_next f k d lt = record {
   playable = k.playable;
   in_run = omega (arith, lt);
@@ -240,8 +334,10 @@ kept_next f k d lt = record {
   most = omega arith;
 }
 
-pub held_next : (s : Scenario) (tick before n room : ℕ) (records : List Record) (items : List Item) (next : ℕ) (marked : Bool) (c : Dates) (new : Ticks) → IsHeld (state_of s tick before records items next marked) before room records c
-    → IsDone (state_of s tick before records items next marked) → tick < s.ticks → HasBegun s tick (posted (records_of (state_of s tick before records items next marked))) new → n ≡ length records
+pub held_next : (s : Scenario) (tick before n room : ℕ) (records : List Record) (items : List Item) (next : ℕ)
+    (marked : Bool) (c : Dates) (new : Ticks) → IsHeld (state_of s tick before records items next marked) before room records c
+    → IsDone (state_of s tick before records items next marked) → tick < s.ticks
+    → HasBegun s tick (posted_by_run (records_of (state_of s tick before records items next marked))) new → n ≡ length records
     → IsHeld (state_in new n records) n room records new.calendar
 held_next s tick before n room records items next marked c new h d lt b long =
     let f = state_of s tick before records items next marked in
@@ -260,10 +356,21 @@ held_next s tick before n room records items next marked c new h d lt b long =
     })
 
 -- no further turn is given
-pub held_marked : (s : Scenario) (tick before room : ℕ) (records : List Record) (items : List Item) (next : ℕ) (marked : Bool) (c c' : Dates) → IsHeld (state_of s tick before records items next marked) before room records c
+pub held_marked : (s : Scenario) (tick before room : ℕ) (records : List Record) (items : List Item) (next : ℕ) (marked : Bool) (c c' : Dates)
+    → IsHeld (state_of s tick before records items next marked) before room records c
     → IsPosted (state_of s tick before records items next true) c' → IsHeld (state_of s tick before records items next true) before room records c'
 held_marked s tick before room records items next marked c c' h posted = record {
-  kept = let k = h.kept in record { playable = k.playable; in_run = k.in_run; begun = k.begun; here = k.here; in_order = k.in_order; next = k.next; least = k.least; most = k.most };
+  kept = let k = h.kept in
+      record {
+        playable = k.playable;
+        in_run = k.in_run;
+        begun = k.begun;
+        here = k.here;
+        in_order = k.in_order;
+        next = k.next;
+        least = k.least;
+        most = k.most;
+      };
   within = h.within;
   few = h.few;
   has_room = λ e. cc;

@@ -1,5 +1,6 @@
 -- The number of a parcel among those of its sender, receiver and kind, and what fault lines make of its deliveries.
-use Rattle.std.proofs.Common.{◌≡◌, ℕ, ◌+◌, ◌-◌, ◌<◌, ◌≤◌, eqb, min, Bool, true, false, cond, Option, Some, None, List, [], ◌∷◌, ◌++◌, length, map, refl, sym, ap, ◌∙◌, subst, arith, length-append, append-nil, take_all}
+use Rattle.std.proofs.Common.{◌≡◌, ℕ, ◌+◌, ◌-◌, ◌<◌, ◌≤◌, eqb, min, Bool, true, false, cond, Option, Some, None, List, [], ◌∷◌}
+use Rattle.std.proofs.Common.{◌++◌, length, map, refl, sym, ap, ◌∙◌, subst, arith, length-append, append-nil, take_all}
 use Rattle.std.specs.Prelude.{◌^◌, ◌&&◌, filter, take, drop, get_or, unwrap_or, MatchOption}
 use Rattle.std.specs.Map.{lookup}
 use Rattle.std.proofs.lemmas.Bool.{eqb-true}
@@ -15,18 +16,19 @@ use Rattle.nz_base.specs.declared.actor.Actor.TheVariants.{Replica, Proxy, Clien
 use Rattle.nz_base.specs.declared.scenario.Fault.{Fault}
 use Rattle.nz_base.specs.declared.scenario.Fault.TheVariants as faults
 use Rattle.nz_machine.specs.declared.event.Parcel.{Parcel}
-use Rattle.nz_machine.specs.Schedule.{Delivery as Planned, Posted, posted_in, later, held, repeated, cut_short, is_of, is_nth, has_kind, kind_of, faulted, faulted_by}
+use Rattle.nz_machine.specs.Schedule.{Delivery as DeliveryModel, Posted, posted_in, delivery_later, deliveries_later, with_copy}
+use Rattle.nz_machine.specs.Schedule.{cut_short, is_parcel_of, is_nth, has_kind, kind_in_frame, after_fault, after_faults}
 use Rattle.nz_fabric.specs.declared.deliveries.Delivery.{Delivery}
 use Rattle.nz_fabric.specs.declared.course.Course.{Course}
 use Rattle.nz_fabric.specs.Calendars.{course, course_eq, count_of, parcels_of, row_number, IsCounted}
-use Rattle.nz_fabric.specs.Posting.{stored, put_off, HasNumber, strikes, struck}
+use Rattle.nz_fabric.specs.Posting.{delivery_as_stored, put_off, HasNumber, strikes, after_strike}
 
 -- ---- what was held
 
-put_off_is : (by : ℕ) (d : Planned) → put_off by (stored d) ≡ stored (later by d)
+put_off_is : (by : ℕ) (d : DeliveryModel) → put_off by (delivery_as_stored d) ≡ delivery_as_stored (delivery_later by d)
 put_off_is by d = ap (λ (t : ℕ). let x : Delivery = record { tick = t; kept = d.kept } in x) (omega arith)
 
-pub held_is : (by : ℕ) (ds : List Planned) → map (put_off by) (map stored ds) ≡ map stored (held by ds)
+pub held_is : (by : ℕ) (ds : List DeliveryModel) → map (put_off by) (map delivery_as_stored ds) ≡ map delivery_as_stored (deliveries_later by ds)
 held_is by [] = refl
 held_is by (d ∷ ds) = let ih = held_is by ds in let this = put_off_is by d in cc
 
@@ -45,8 +47,9 @@ same_test false n m count h = and_false (eqb n count)
     and_false false = refl
 
 pub struck_by_number : (from to : Actor) (kind count number : ℕ) (earlier : List Parcel) (p : Parcel) → HasNumber earlier p number
-    → (eqb number count && is_of from to kind p) ≡ is_nth from to kind count earlier p
-struck_by_number from to kind count number earlier p h = same_test (is_of from to kind p) number (length (filter (is_of from to kind) earlier) + 1) count (h from to kind)
+    → (eqb number count && is_parcel_of from to kind p) ≡ is_nth from to kind count earlier p
+struck_by_number from to kind count number earlier p h =
+    same_test (is_parcel_of from to kind p) number (length (filter (is_parcel_of from to kind) earlier) + 1) count (h from to kind)
 
 -- ---- the number of a parcel
 
@@ -61,31 +64,35 @@ kind_is : (kind : ℕ) (k : Option ℕ) → has_kind kind k ≡ true → k ≡ S
 kind_is kind None h = cc
 kind_is kind (Some k) h = ap Some (eqb-true k kind h)
 
-number_for : (earlier : List Parcel) (p : Parcel) (k : Option ℕ) (counts : List (Course × ℕ)) (number kind : ℕ) → k ≡ Some kind → count_of counts (course p.from p.to kind) ≡ length (filter (is_of p.from p.to kind) earlier) → length earlier < 2 ^ 64 - 1
-    → MatchOption k (number ≡ 0) (λ k. number ≡ min (count_of counts (course p.from p.to k) + 1) (2 ^ 64 - 1)) → number ≡ length (filter (is_of p.from p.to kind) earlier) + 1
+number_for : (earlier : List Parcel) (p : Parcel) (k : Option ℕ) (counts : List (Course × ℕ)) (number kind : ℕ)
+    → k ≡ Some kind → count_of counts (course p.from p.to kind) ≡ length (filter (is_parcel_of p.from p.to kind) earlier) → length earlier < 2 ^ 64 - 1
+    → MatchOption k (number ≡ 0) (λ k. number ≡ min (count_of counts (course p.from p.to k) + 1) (2 ^ 64 - 1))
+    → number ≡ length (filter (is_parcel_of p.from p.to kind) earlier) + 1
 number_for earlier p None counts number kind e count few h = cc
 number_for earlier p (Some k) counts number kind e count few h =
     let same : k ≡ kind = same_Some k kind e in
-    let now : number ≡ min (count_of counts (course p.from p.to kind) + 1) (2 ^ 64 - 1) = subst (λ (k : ℕ). number ≡ min (count_of counts (course p.from p.to k) + 1) (2 ^ 64 - 1)) same h in
-    let le = length-filter_le (is_of p.from p.to kind) earlier in
+    let now : number ≡ min (count_of counts (course p.from p.to kind) + 1) (2 ^ 64 - 1) =
+    subst (λ (k : ℕ). number ≡ min (count_of counts (course p.from p.to k) + 1) (2 ^ 64 - 1)) same h in
+    let le = length-filter_le (is_parcel_of p.from p.to kind) earlier in
     omega (arith, now, count, le, few)
 
-pub numbered : (earlier : List Parcel) (p : Parcel) (k : Option ℕ) (counts : List (Course × ℕ)) (number : ℕ) → k ≡ kind_of p.frame
-    → ((from to : Actor) (kind : ℕ) → count_of counts (course from to kind) ≡ length (filter (is_of from to kind) earlier)) → length earlier < 2 ^ 64 - 1
+pub numbered : (earlier : List Parcel) (p : Parcel) (k : Option ℕ) (counts : List (Course × ℕ)) (number : ℕ) → k ≡ kind_in_frame p.frame
+    → ((from to : Actor) (kind : ℕ) → count_of counts (course from to kind) ≡ length (filter (is_parcel_of from to kind) earlier)) → length earlier < 2 ^ 64 - 1
     → MatchOption k (number ≡ 0) (λ k. number ≡ min (count_of counts (course p.from p.to k) + 1) (2 ^ 64 - 1)) → HasNumber earlier p number
 numbered earlier p k counts number own known few h = λ from to kind yes.
     let a = both_true (actor_eq p.from from) _ yes in
     let b = both_true (actor_eq p.to to) _ a.1 in
-    let is : k ≡ Some kind = own ∙ kind_is kind (kind_of p.frame) b.1 in
-    subst (λ (x : Actor). number ≡ length (filter (is_of x to kind) earlier) + 1) (same_actor p.from from a.0)
-    (subst (λ (x : Actor). number ≡ length (filter (is_of p.from x kind) earlier) + 1) (same_actor p.to to b.0) (number_for earlier p k counts number kind is (known p.from p.to kind) few h))
+    let is : k ≡ Some kind = own ∙ kind_is kind (kind_in_frame p.frame) b.1 in
+    subst (λ (x : Actor). number ≡ length (filter (is_parcel_of x to kind) earlier) + 1) (same_actor p.from from a.0)
+    (subst (λ (x : Actor). number ≡ length (filter (is_parcel_of p.from x kind) earlier) + 1) (same_actor p.to to b.0)
+    (number_for earlier p k counts number kind is (known p.from p.to kind) few h))
 
 -- ---- one parcel more
 
-one_if : (from to : Actor) (kind : ℕ) (earlier : List Parcel) (p : Parcel) (b : Bool) → is_of from to kind p ≡ b
-    → length (filter (is_of from to kind) (earlier ++ p ∷ [])) ≡ length (filter (is_of from to kind) earlier) + cond b 1 0
+one_if : (from to : Actor) (kind : ℕ) (earlier : List Parcel) (p : Parcel) (b : Bool) → is_parcel_of from to kind p ≡ b
+    → length (filter (is_parcel_of from to kind) (earlier ++ p ∷ [])) ≡ length (filter (is_parcel_of from to kind) earlier) + cond b 1 0
 one_if from to kind earlier p b e =
-    let f = is_of from to kind in
+    let f = is_parcel_of from to kind in
     ap length (filter-append f earlier (p ∷ [])) ∙ length-append (filter f earlier) (filter f (p ∷ []))
     ∙ ap (λ (xs : List Parcel). length (filter f earlier) + length xs) (ap (λ (c : Bool). cond c (p ∷ []) []) e) ∙ lone b p (length (filter f earlier))
   where
@@ -93,8 +100,9 @@ one_if from to kind earlier p b e =
     lone true p n = refl
     lone false p n = refl
 
-counted_by : (from to : Actor) (kind number now then : ℕ) (earlier : List Parcel) (p : Parcel) (b : Bool) → is_of from to kind p ≡ b → HasNumber earlier p number → now ≡ length (filter (is_of from to kind) earlier)
-    → then ≡ cond b number now → then ≡ length (filter (is_of from to kind) (earlier ++ p ∷ []))
+counted_by : (from to : Actor) (kind number now then : ℕ) (earlier : List Parcel) (p : Parcel) (b : Bool)
+    → is_parcel_of from to kind p ≡ b → HasNumber earlier p number → now ≡ length (filter (is_parcel_of from to kind) earlier)
+    → then ≡ cond b number now → then ≡ length (filter (is_parcel_of from to kind) (earlier ++ p ∷ []))
 counted_by from to kind number now then earlier p true e h count step = step ∙ h from to kind e ∙ sym (one_if from to kind earlier p true e)
 counted_by from to kind number now then earlier p false e h count step = let one = one_if from to kind earlier p false e in omega (arith, one, step, count)
 
@@ -110,10 +118,13 @@ same_number (Client n) (Replica m) = grind (arith, nat_tests)
 same_number (Client n) (Proxy m) = grind (arith, nat_tests)
 same_number (Client n) (Client m) = grind (arith, nat_tests)
 
-counted_one : (before after : List (Course × ℕ)) (p : Parcel) (k : Option ℕ) (number : ℕ) (from to : Actor) (kind : ℕ) → k ≡ kind_of p.frame → IsCounted before after p k number
-    → count_of after (course from to kind) ≡ cond (is_of from to kind p) number (count_of before (course from to kind))
+counted_one : (before after : List (Course × ℕ)) (p : Parcel) (k : Option ℕ) (number : ℕ) (from to : Actor) (kind : ℕ)
+    → k ≡ kind_in_frame p.frame → IsCounted before after p k number
+    → count_of after (course from to kind) ≡ cond (is_parcel_of from to kind p) number (count_of before (course from to kind))
 counted_one before after p None number from to kind own h =
-    ap (λ (counts : List (Course × ℕ)). count_of counts (course from to kind)) h ∙ ap (λ (b : Bool). cond b number (count_of before (course from to kind))) (sym (none_of (actor_eq p.from from) (actor_eq p.to to) (has_kind kind (kind_of p.frame)) (ap (has_kind kind) (sym own))))
+    ap (λ (counts : List (Course × ℕ)). count_of counts (course from to kind)) h
+    ∙ ap (λ (b : Bool). cond b number (count_of before (course from to kind)))
+    (sym (none_of (actor_eq p.from from) (actor_eq p.to to) (has_kind kind (kind_in_frame p.frame)) (ap (has_kind kind) (sym own))))
   where
     none_of : (a b c : Bool) → c ≡ false → (a && (b && c)) ≡ false
     none_of true true c h = h
@@ -121,43 +132,50 @@ counted_one before after p None number from to kind own h =
     none_of false b c h = refl
 counted_one before after p (Some k) number from to kind own h =
     h (course from to kind)
-    ∙ ap (λ (b : Bool). cond (b && (eqb (row_number p.to) (row_number to) && eqb k kind)) number (count_of before (course from to kind))) (same_number p.from from)
+    ∙ ap (λ (b : Bool). cond (b && (eqb (row_number p.to) (row_number to) && eqb k kind)) number
+    (count_of before (course from to kind))) (same_number p.from from)
     ∙ ap (λ (b : Bool). cond (actor_eq p.from from && (b && eqb k kind)) number (count_of before (course from to kind))) (same_number p.to to)
     ∙ ap (λ (o : Option ℕ). cond (actor_eq p.from from && (actor_eq p.to to && has_kind kind o)) number (count_of before (course from to kind))) own
 
-pub counted : (before after : List (Course × ℕ)) (L : List Posted) (tick : ℕ) (p : Parcel) (k : Option ℕ) (number : ℕ) → k ≡ kind_of p.frame → IsCounted before after p k number → HasNumber (parcels_of L) p number
-    → ((from to : Actor) (kind : ℕ) → count_of before (course from to kind) ≡ length (filter (is_of from to kind) (parcels_of L)))
-    → (from to : Actor) (kind : ℕ) → count_of after (course from to kind) ≡ length (filter (is_of from to kind) (parcels_of (L ++ posted_in tick p ∷ [])))
+pub counted : (before after : List (Course × ℕ)) (L : List Posted) (tick : ℕ) (p : Parcel) (k : Option ℕ) (number : ℕ)
+    → k ≡ kind_in_frame p.frame → IsCounted before after p k number → HasNumber (parcels_of L) p number
+    → ((from to : Actor) (kind : ℕ) → count_of before (course from to kind) ≡ length (filter (is_parcel_of from to kind) (parcels_of L)))
+    → (from to : Actor) (kind : ℕ)
+    → count_of after (course from to kind) ≡ length (filter (is_parcel_of from to kind) (parcels_of (L ++ posted_in tick p ∷ [])))
 counted before after L tick p k number own h is known from to kind =
-    counted_by from to kind number (count_of before (course from to kind)) (count_of after (course from to kind)) (parcels_of L) p (is_of from to kind p) refl is (known from to kind) (counted_one before after p k number from to kind own h)
-    ∙ ap (λ (ps : List Parcel). length (filter (is_of from to kind) ps)) (sym (map-append (λ (x : Posted). x.parcel) L (posted_in tick p ∷ [])))
+    counted_by from to kind number (count_of before (course from to kind)) (count_of after (course from to kind))
+    (parcels_of L) p (is_parcel_of from to kind p) refl is (known from to kind) (counted_one before after p k number from to kind own h)
+    ∙ ap (λ (ps : List Parcel). length (filter (is_parcel_of from to kind) ps)) (sym (map-append (λ (x : Posted). x.parcel) L (posted_in tick p ∷ [])))
 
 -- ---- one fault line more
 
 -- a line leaves the deliveries of a parcel that it does not strike
-pub faulted_is : (tick : ℕ) (earlier : List Parcel) (p : Parcel) (line : Fault) (ds : List Planned) (b : Bool) → strikes tick earlier p line ≡ b → faulted tick earlier p line ds ≡ cond b (struck p line ds) ds
+pub faulted_is : (tick : ℕ) (earlier : List Parcel) (p : Parcel) (line : Fault) (ds : List DeliveryModel) (b : Bool)
+    → strikes tick earlier p line ≡ b → after_fault tick earlier p line ds ≡ cond b (after_strike p line ds) ds
 faulted_is tick earlier p (faults.Drop from to kind count) ds b e = ap (λ (b : Bool). cond b [] ds) e
-faulted_is tick earlier p (faults.Hold from to kind count by) ds b e = ap (λ (b : Bool). cond b (held by ds) ds) e
-faulted_is tick earlier p (faults.Twice from to kind count by) ds b e = ap (λ (b : Bool). cond b (repeated by ds) ds) e
+faulted_is tick earlier p (faults.Hold from to kind count by) ds b e = ap (λ (b : Bool). cond b (deliveries_later by ds) ds) e
+faulted_is tick earlier p (faults.Twice from to kind count by) ds b e = ap (λ (b : Bool). cond b (with_copy by ds) ds) e
 faulted_is tick earlier p (faults.Cut from to kind count keep) ds b e = ap (λ (b : Bool). cond b (cut_short keep (length p.frame) ds) ds) e
 faulted_is tick earlier p (faults.Block from to first last) ds b e = ap (λ (b : Bool). cond b [] ds) e
 faulted_is tick earlier p (faults.Crash a t) ds b e = ap (λ (b : Bool). cond b ds ds) e
 faulted_is tick earlier p (faults.Restart a t) ds b e = ap (λ (b : Bool). cond b ds ds) e
 faulted_is tick earlier p (faults.Alarm a t) ds b e = ap (λ (b : Bool). cond b ds ds) e
 
-faulted_by_push : (tick : ℕ) (earlier : List Parcel) (p : Parcel) (lines : List Fault) (line : Fault) (ds : List Planned)
-    → faulted_by tick earlier p (lines ++ line ∷ []) ds ≡ faulted tick earlier p line (faulted_by tick earlier p lines ds)
+faulted_by_push : (tick : ℕ) (earlier : List Parcel) (p : Parcel) (lines : List Fault) (line : Fault) (ds : List DeliveryModel)
+    → after_faults tick earlier p (lines ++ line ∷ []) ds ≡ after_fault tick earlier p line (after_faults tick earlier p lines ds)
 faulted_by_push tick earlier p [] line ds = refl
-faulted_by_push tick earlier p (x ∷ lines) line ds = faulted_by_push tick earlier p lines line (faulted tick earlier p x ds)
+faulted_by_push tick earlier p (x ∷ lines) line ds = faulted_by_push tick earlier p lines line (after_fault tick earlier p x ds)
 
-pub one_line : (tick : ℕ) (earlier : List Parcel) (p : Parcel) (faults : List Fault) (first : List Planned) (i : ℕ) (line : Fault) (now next : List Delivery)
-    → i < length faults → line ≡ get_or faults i line → now ≡ map stored (faulted_by tick earlier p (take i faults) first)
-    → ((ds : List Planned) → now ≡ map stored ds → next ≡ map stored (faulted tick earlier p line ds))
-    → next ≡ map stored (faulted_by tick earlier p (take (i + 1) faults) first)
+pub one_line : (tick : ℕ) (earlier : List Parcel) (p : Parcel) (faults : List Fault) (first : List DeliveryModel)
+    (i : ℕ) (line : Fault) (now next : List Delivery)
+    → i < length faults → line ≡ get_or faults i line → now ≡ map delivery_as_stored (after_faults tick earlier p (take i faults) first)
+    → ((ds : List DeliveryModel) → now ≡ map delivery_as_stored ds → next ≡ map delivery_as_stored (after_fault tick earlier p line ds))
+    → next ≡ map delivery_as_stored (after_faults tick earlier p (take (i + 1) faults) first)
 one_line tick earlier p faults first i line now next lt at so_far step =
     let more : take (i + 1) faults ≡ take i faults ++ line ∷ [] = take_more faults i line lt ∙ ap (λ (x : Fault). take i faults ++ x ∷ []) (sym at) in
-    step (faulted_by tick earlier p (take i faults) first) so_far
-    ∙ ap (map stored) (sym (faulted_by_push tick earlier p (take i faults) line first) ∙ ap (λ (xs : List Fault). faulted_by tick earlier p xs first) (sym more))
+    step (after_faults tick earlier p (take i faults) first) so_far
+    ∙ ap (map delivery_as_stored) (sym (faulted_by_push tick earlier p (take i faults) line first)
+    ∙ ap (λ (xs : List Fault). after_faults tick earlier p xs first) (sym more))
 
 -- ---- loops
 
@@ -167,10 +185,12 @@ over_all f xs ys i e le = e ∙ ap (λ zs. map f zs ++ drop i xs) (take_all i xs
 
 -- ---- counts
 
-pub count_updated : (before after : List (Course × ℕ)) (c own : Course) (number : ℕ) (p : Parcel) (k : ℕ) → lookup (course_eq c) after ≡ cond (course_eq own c) (Some number) (lookup (course_eq c) before) → own ≡ course p.from p.to k
+pub count_updated : (before after : List (Course × ℕ)) (c own : Course) (number : ℕ) (p : Parcel) (k : ℕ)
+    → lookup (course_eq c) after ≡ cond (course_eq own c) (Some number) (lookup (course_eq c) before) → own ≡ course p.from p.to k
     → count_of after c ≡ cond (course_eq (course p.from p.to k) c) number (count_of before c)
 count_updated before after c own number p k now is =
-    ap (λ (o : Option ℕ). unwrap_or o 0) now ∙ out (course_eq own c) (lookup (course_eq c) before) ∙ ap (λ (o : Course). cond (course_eq o c) number (count_of before c)) is
+    ap (λ (o : Option ℕ). unwrap_or o 0) now ∙ out (course_eq own c) (lookup (course_eq c) before)
+    ∙ ap (λ (o : Course). cond (course_eq o c) number (count_of before c)) is
   where
     out : (b : Bool) (o : Option ℕ) → unwrap_or (cond b (Some number) o) 0 ≡ cond b number (unwrap_or o 0)
     out true o = refl

@@ -12,15 +12,19 @@ use Rattle.nz_fabric.proofs.Dating.{posted_push}
 
 -- ---- the parcels of a record
 
-pub one_sent : (s : Scenario) (L : List Posted) (now : ℕ) (c : Dates) (tick : ℕ) (sends : List Parcel) (i : ℕ) (p : Parcel) → i < length sends → p ≡ get_or sends i p
-    → StandsFor s ((L ++ map (posted_in tick) (take i sends)) ++ posted_in tick p ∷ []) now c → StandsFor s (L ++ map (posted_in tick) (take (i + 1) sends)) now c
+pub one_sent : (s : Scenario) (L : List Posted) (now : ℕ) (c : Dates) (tick : ℕ) (sends : List Parcel) (i : ℕ) (p : Parcel) → i < length sends
+    → p ≡ get_or sends i p
+    → StandsFor s ((L ++ map (posted_in tick) (take i sends)) ++ posted_in tick p ∷ []) now c
+    → StandsFor s (L ++ map (posted_in tick) (take (i + 1) sends)) now c
 one_sent s L now c tick sends i p lt at h =
     subst (λ (M : List Posted). StandsFor s M now c)
     (append_assoc L (map (posted_in tick) (take i sends)) (posted_in tick p ∷ [])
-    ∙ ap (λ (M : List Posted). L ++ M) (ap (λ (x : Parcel). map (posted_in tick) (take i sends) ++ posted_in tick x ∷ []) at ∙ sym (map_more (posted_in tick) sends i p lt)))
+    ∙ ap (λ (M : List Posted). L ++ M)
+    (ap (λ (x : Parcel). map (posted_in tick) (take i sends) ++ posted_in tick x ∷ []) at ∙ sym (map_more (posted_in tick) sends i p lt)))
     h
 
-pub some_sent : (s : Scenario) (L : List Posted) (now : ℕ) (c : Dates) (tick : ℕ) (sends : List Parcel) (i : ℕ) → StandsFor s (L ++ map (posted_in tick) (take i sends)) now c → HasPosted s L (map (posted_in tick) sends) now c
+pub some_sent : (s : Scenario) (L : List Posted) (now : ℕ) (c : Dates) (tick : ℕ) (sends : List Parcel) (i : ℕ)
+    → StandsFor s (L ++ map (posted_in tick) (take i sends)) now c → HasPosted s L (map (posted_in tick) sends) now c
 some_sent s L now c tick sends i h = record {
   sent = map (posted_in tick) (take i sends);
   rest = map (posted_in tick) (drop i sends);
@@ -35,19 +39,23 @@ pub one_record : (s : Scenario) (L : List Posted) (now : ℕ) (c : Dates) (rs : 
 one_record s L now c rs i r lt at h =
     subst (λ (M : List Posted). StandsFor s M now c)
     (append_assoc L (posted_by (take i rs)) (map (posted_in r.tick) r.sends)
-    ∙ ap (λ (M : List Posted). L ++ M) (sym (posted_push (take i rs) r) ∙ ap posted_by (ap (λ (x : Record). take i rs ++ x ∷ []) at ∙ sym (take_more rs i r lt))))
+    ∙ ap (λ (M : List Posted). L ++ M)
+    (sym (posted_push (take i rs) r) ∙ ap posted_by (ap (λ (x : Record). take i rs ++ x ∷ []) at ∙ sym (take_more rs i r lt))))
     h
 
 posted_append : (xs ys : List Record) → posted_by (xs ++ ys) ≡ posted_by xs ++ posted_by ys
 posted_append [] ys = refl
-posted_append (r ∷ xs) ys = ap (λ (L : List Posted). map (posted_in r.tick) r.sends ++ L) (posted_append xs ys) ∙ sym (append_assoc (map (posted_in r.tick) r.sends) (posted_by xs) (posted_by ys))
+posted_append (r ∷ xs) ys =
+    ap (λ (L : List Posted). map (posted_in r.tick) r.sends ++ L) (posted_append xs ys)
+    ∙ sym (append_assoc (map (posted_in r.tick) r.sends) (posted_by xs) (posted_by ys))
 
 pub some_records : (s : Scenario) (L : List Posted) (now : ℕ) (c : Dates) (rs : List Record) (i : ℕ) (r : Record) → i < length rs → r ≡ get_or rs i r
     → HasPosted s (L ++ posted_by (take i rs)) (map (posted_in r.tick) r.sends) now c → HasPosted s L (posted_by rs) now c
 some_records s L now c rs i r lt at h =
     let before = posted_by (take i rs) in
     let after = posted_by (drop (i + 1) rs) in
-    let first : posted_by (take (i + 1) rs) ≡ before ++ map (posted_in r.tick) r.sends = ap posted_by (take_more rs i r lt ∙ ap (λ (x : Record). take i rs ++ x ∷ []) (sym at)) ∙ posted_push (take i rs) r in
+    let first : posted_by (take (i + 1) rs) ≡ before ++ map (posted_in r.tick) r.sends =
+    ap posted_by (take_more rs i r lt ∙ ap (λ (x : Record). take i rs ++ x ∷ []) (sym at)) ∙ posted_push (take i rs) r in
     record {
       sent = before ++ h.sent;
       rest = h.rest ++ after;

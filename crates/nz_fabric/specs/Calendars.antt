@@ -1,6 +1,7 @@
 -- What a calendar says of what was sent: how many parcels, how many of each sender, receiver and kind, and what is
 -- to come in each tick.
-use Rattle.std.specs.Prelude.{◌≡◌, ℕ, ◌+◌, ◌*◌, ◌<◌, ◌≤◌, ◌==◌, ◌&&◌, Bool, Option, MatchOption, if◌then◌else◌, List, [], ◌∷◌, ◌++◌, length, map, filter, get_or, unwrap_or}
+use Rattle.std.specs.Prelude.{◌≡◌, ℕ, ◌+◌, ◌*◌, ◌<◌, ◌≤◌, ◌==◌, ◌&&◌, Bool, Option, MatchOption, if◌then◌else◌}
+use Rattle.std.specs.Prelude.{List, [], ◌∷◌, ◌++◌, length, map, filter, get_or, unwrap_or}
 use Rattle.std.specs.Map.{lookup}
 use Rattle.nz_base.specs.declared.actor.Actor.{Actor}
 use Rattle.nz_base.specs.declared.actor.Actor.TheVariants.{Replica, Proxy, Client}
@@ -8,7 +9,7 @@ use Rattle.nz_base.specs.declared.scenario.Scenario.{Scenario}
 use Rattle.nz_machine.specs.declared.event.Parcel.{Parcel}
 use Rattle.nz_machine.specs.declared.event.Record.{Record}
 use Rattle.nz_machine.specs.declared.journal.Item.{Item}
-use Rattle.nz_machine.specs.Schedule.{Posted, is_of, posted_in, arrivals}
+use Rattle.nz_machine.specs.Schedule.{Posted, is_parcel_of, posted_in, arrivals}
 use Rattle.nz_fabric.specs.declared.course.Course.{Course}
 
 -- The number of parcels, how many of each course there were, and the items of each tick from 0 on.
@@ -56,7 +57,7 @@ posted_by (r ∷ rs) = map (posted_in r.tick) r.sends ++ posted_by rs
 -- The calendar counts these parcels, and has of each later tick what the schedule says of them.
 pub record StandsFor (s : Scenario) (L : List Posted) (now : ℕ) (c : Dates) : Type 0 where
   pub parcels : c.parcels ≡ length L
-  pub counts : (from to : Actor) (kind : ℕ) → count_of c.counts (course from to kind) ≡ length (filter (is_of from to kind) (parcels_of L))
+  pub counts : (from to : Actor) (kind : ℕ) → count_of c.counts (course from to kind) ≡ length (filter (is_parcel_of from to kind) (parcels_of L))
   pub items : (t : ℕ) → now < t → t ≤ s.ticks → items_in c.days t ≡ arrivals s t [] L
 
 -- Before the first parcel.

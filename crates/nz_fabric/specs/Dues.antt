@@ -8,10 +8,10 @@ use Rattle.nz_fabric.specs.declared.due.Sort.{Sort}
 use Rattle.nz_fabric.specs.declared.due.Sort.TheVariants as sorts
 
 -- The actor of a sort with a number.
-abbrev pub named : Sort → ℕ → Actor
-named sorts.Replicas = actors.Replica
-named sorts.Proxies = actors.Proxy
-named sorts.Clients = actors.Client
+abbrev pub actor_of_sort : Sort → ℕ → Actor
+actor_of_sort sorts.Replicas = actors.Replica
+actor_of_sort sorts.Proxies = actors.Proxy
+actor_of_sort sorts.Clients = actors.Client
 
 -- How many of the fault lines are restarts.
 abbrev pub restarts_in : List Fault → ℕ

@@ -7,26 +7,27 @@ use Rattle.nz_base.specs.declared.scenario.Fault.{Fault}
 use Rattle.nz_base.specs.declared.scenario.Fault.TheVariants as faults
 use Rattle.nz_machine.specs.declared.event.Parcel.{Parcel}
 use Rattle.nz_machine.specs.declared.journal.Item.{Item}
-use Rattle.nz_machine.specs.Schedule.{Delivery as Planned, is_of, is_nth, is_blocked, held, repeated, cut_short, item, coming}
+use Rattle.nz_machine.specs.Schedule.{Delivery as DeliveryModel, is_parcel_of, is_nth, is_blocked, deliveries_later, with_copy, cut_short, item, delivery_event}
 use Rattle.nz_fabric.specs.declared.deliveries.Delivery.{Delivery}
 use Rattle.nz_fabric.specs.declared.calendar.Arrival.{Arrival}
 use Rattle.nz_fabric.specs.Calendars.{items_in}
 
 -- The ticks of deliveries stop here, which is after the last tick of every run.
-abbrev pub last_tick : ℕ
-last_tick = 2 ^ 32 - 1
+abbrev pub last_delivery_tick : ℕ
+last_delivery_tick = 2 ^ 32 - 1
 
 -- A delivery as the code has it.
-abbrev pub stored : Planned → Delivery
-stored d = record { tick = min d.tick last_tick; kept = d.kept }
+abbrev pub delivery_as_stored : DeliveryModel → Delivery
+delivery_as_stored d = record { tick = min d.tick last_delivery_tick; kept = d.kept }
 
 -- A delivery that comes later.
 abbrev pub put_off : ℕ → Delivery → Delivery
-put_off by d = record d { tick = min (d.tick + by) last_tick }
+put_off by d = record d { tick = min (d.tick + by) last_delivery_tick }
 
 -- The parcel is the one of this number among those of its sender, receiver and kind, after earlier parcels.
 abbrev pub HasNumber : List Parcel → Parcel → ℕ → Type 0
-HasNumber earlier p number = (from to : Actor) (kind : ℕ) → is_of from to kind p ≡ true → number ≡ length (filter (is_of from to kind) earlier) + 1
+HasNumber earlier p number =
+    (from to : Actor) (kind : ℕ) → is_parcel_of from to kind p ≡ true → number ≡ length (filter (is_parcel_of from to kind) earlier) + 1
 
 -- Whether a fault line strikes a parcel that is sent in a tick after earlier parcels.
 abbrev pub strikes : ℕ → List Parcel → Parcel → Fault → Bool
@@ -38,25 +39,25 @@ strikes tick earlier p (faults.Block from to first last) = is_blocked from to fi
 strikes tick earlier p _ = false
 
 -- What it makes of the deliveries of a parcel that it strikes.
-abbrev pub struck : Parcel → Fault → List Planned → List Planned
-struck p (faults.Drop from to kind count) ds = []
-struck p (faults.Hold from to kind count by) ds = held by ds
-struck p (faults.Twice from to kind count by) ds = repeated by ds
-struck p (faults.Cut from to kind count keep) ds = cut_short keep (length p.frame) ds
-struck p (faults.Block from to first last) ds = []
-struck p _ ds = ds
+abbrev pub after_strike : Parcel → Fault → List DeliveryModel → List DeliveryModel
+after_strike p (faults.Drop from to kind count) ds = []
+after_strike p (faults.Hold from to kind count by) ds = deliveries_later by ds
+after_strike p (faults.Twice from to kind count by) ds = with_copy by ds
+after_strike p (faults.Cut from to kind count keep) ds = cut_short keep (length p.frame) ds
+after_strike p (faults.Block from to first last) ds = []
+after_strike p _ ds = ds
 
 -- A delivery of a parcel, with its tick.
 abbrev pub arrival_of : Parcel → Delivery → Arrival
-arrival_of p d = record { tick = d.tick; item = item p.to (coming p d.kept) }
+arrival_of p d = record { tick = d.tick; item = item p.to (delivery_event p d.kept) }
 
 -- What of it is due in a tick.
-abbrev pub arriving : ℕ → List Arrival → List Item
-arriving tick arrivals = map (λ a. a.item) (filter (λ a. a.tick == tick) arrivals)
+abbrev pub items_arriving : ℕ → List Arrival → List Item
+items_arriving tick arrivals = map (λ a. a.item) (filter (λ a. a.tick == tick) arrivals)
 
 -- Those up to the last tick.
-abbrev pub up_to : ℕ → List Arrival → List Arrival
-up_to last arrivals = filter (λ a. nat_le a.tick last) arrivals
+abbrev pub arrivals_up_to : ℕ → List Arrival → List Arrival
+arrivals_up_to last arrivals = filter (λ a. nat_le a.tick last) arrivals
 
 -- The items of each day, as the code keeps them.
 abbrev pub days_of : List (Vec Item Global) → List (List Item)

@@ -9,7 +9,7 @@ use Rattle.nz_machine.specs.declared.event.Event.TheVariants.{Alarm}
 use Rattle.nz_machine.specs.declared.event.Record.{Record}
 use Rattle.nz_fabric.specs.Calendars.{row_number}
 use Rattle.nz_fabric.specs.declared.rows.Place.{Place}
-use Rattle.nz_fabric.specs.declared.running.Running.{Running}
+use Rattle.nz_fabric.specs.declared.open_turns.Running.{Running}
 
 -- The records of an actor among others.
 abbrev pub of_actor : Actor → List Record → List Record

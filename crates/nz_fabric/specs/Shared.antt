@@ -1,5 +1,6 @@
 -- What contracts see of a fabric of threads, and what it keeps.
-use Rattle.std.specs.Prelude.{◌≡◌, ℕ, ◌+◌, ◌≤◌, ◌<◌, ◌^◌, ◌==◌, false, List, [], ◌∷◌, ◌++◌, length, map, take, Some, slice_get, get_or, unwrap_or, IsPermutation}
+use Rattle.std.specs.Prelude.{◌≡◌, ℕ, ◌+◌, ◌≤◌, ◌<◌, ◌^◌, ◌==◌, false, List, [], ◌∷◌, ◌++◌, length}
+use Rattle.std.specs.Prelude.{map, take, Some, slice_get, get_or, unwrap_or, IsPermutation}
 use Rattle.std.specs.List.{AllByRecursion, remove, position}
 use Rattle.nz_base.specs.declared.actor.Actor.TheVariants.{Replica}
 use Rattle.nz_base.specs.declared.scenario.Scenario.{Scenario}
@@ -9,9 +10,9 @@ use Rattle.nz_machine.specs.declared.event.Record.{Record}
 use Rattle.nz_machine.specs.declared.journal.Item.{Item}
 use Rattle.nz_machine.specs.Schedule.{item, item_of, ScheduledTo, IsPlayable}
 use Rattle.nz_fabric.specs.declared.turn.Turn.{Turn}
-use Rattle.nz_fabric.specs.declared.running.Running.{Running}
+use Rattle.nz_fabric.specs.declared.open_turns.Running.{Running}
 use Rattle.nz_fabric.specs.Calendars.{Dates}
-use Rattle.nz_fabric.specs.States.{State, records_of, start, item_in, IsPosted, with_recorded, with_taken, with_mark, after_tick, IsBegunAs}
+use Rattle.nz_fabric.specs.States.{State, records_of, start_state, item_in, IsPosted, with_recorded, with_taken, with_mark, after_tick, IsBegunAs}
 
 -- The run, and the turns that are open: they were taken, and neither recorded nor given up.
 pub record Shared : Type 0 where
@@ -19,8 +20,8 @@ pub record Shared : Type 0 where
   pub running : List Running
 
 -- A run with its open turns.
-abbrev pub shared : State → List Running → Shared
-shared run running = record { run = run; running = running }
+abbrev pub shared_with : State → List Running → Shared
+shared_with run running = record { run = run; running = running }
 
 -- This many of the ledger's parts, with this many open turns on them.
 pub record Holding : Type 0 where
@@ -33,7 +34,7 @@ no_scenario = record { cluster = 1; proxies = 0; clients = 0; window = 0; ticks 
 
 -- Before the first tick nothing is due.
 abbrev pub start_shared : Scenario → Shared
-start_shared s = shared (start s) []
+start_shared s = shared_with (start_state s) []
 
 -- The item of an open turn.
 abbrev pub item_running : Running → Item
@@ -52,11 +53,11 @@ pub record IsNextOf (f : Shared) (turn : Turn) : Type 0 where
 
 -- The next item is taken, and its turn is open.
 abbrev pub with_opened : Turn → Shared → Shared
-with_opened turn f = shared (with_taken f.run) (f.running ++ running_as turn ∷ [])
+with_opened turn f = shared_with (with_taken f.run) (f.running ++ running_as turn ∷ [])
 
 -- The place of the open turn that a number names: that of the number, or else the least.
-abbrev pub place_of : ℕ → List Running → ℕ
-place_of number running = unwrap_or (position (λ o. o.number == number) running) 0
+abbrev pub place_of_turn : ℕ → List Running → ℕ
+place_of_turn number running = unwrap_or (position (λ o. o.number == number) running) 0
 
 -- What is read where no turn is open.
 abbrev pub no_turn : Running
@@ -68,19 +69,19 @@ turn_of tick o = record { number = o.number; tick = tick; actor = o.item.actor; 
 
 -- The open turn that a number names.
 abbrev pub turn_for : ℕ → ℕ → List Running → Turn
-turn_for tick number running = turn_of tick (get_or running (place_of number running) no_turn)
+turn_for tick number running = turn_of tick (get_or running (place_of_turn number running) no_turn)
 
 -- It is no longer open.
-abbrev pub closed : ℕ → List Running → List Running
-closed number running = remove running (place_of number running)
+abbrev pub without_turn : ℕ → List Running → List Running
+without_turn number running = remove running (place_of_turn number running)
 
 -- The open turn that the number names is recorded with these sends.
 abbrev pub with_record : ℕ → List Parcel → Shared → Shared
-with_record number sends f = shared (with_recorded (turn_for f.run.tick number f.running) sends f.run) (closed number f.running)
+with_record number sends f = shared_with (with_recorded (turn_for f.run.tick number f.running) sends f.run) (without_turn number f.running)
 
 -- It is given up.
 abbrev pub with_given_up : ℕ → Shared → Shared
-with_given_up number f = shared (with_mark f.run) (closed number f.running)
+with_given_up number f = shared_with (with_mark f.run) (without_turn number f.running)
 
 -- All that is due in the tick was recorded.
 pub record IsOver (f : Shared) : Type 0 where
@@ -96,7 +97,7 @@ pub record MustWait (f : Shared) : Type 0 where
 
 -- The next tick begins.
 abbrev pub after_shared : Shared → Shared
-after_shared f = shared (after_tick f.run) []
+after_shared f = shared_with (after_tick f.run) []
 
 -- The finished ticks are scheduled. The records of this tick, the open turns and those given up are the first of
 -- its items, each once. A turn that was given up marks the run.
@@ -114,7 +115,7 @@ pub record IsAccounted (s : Scenario) (f : Shared) : Type 0 where
 -- What the code keeps, in the form of a fabric of one thread: each open turn has its place in the journal, the
 -- ledger counts the open turns, and the calendar has what was sent.
 pub record IsBooked (s : Scenario) (total : ℕ) (f : State) (running : List Running) (before room : ℕ) (records : List Record) (c : Dates) : Type 0 where
-  pub accounted : IsAccounted s (shared f running)
+  pub accounted : IsAccounted s (shared_with f running)
   pub within : before ≤ length records
   pub few : length records + length running < 2 ^ 32
   pub reserved : length records + length running ≤ room

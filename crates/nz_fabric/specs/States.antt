@@ -5,7 +5,7 @@ use Rattle.nz_base.specs.declared.scenario.Scenario.{Scenario}
 use Rattle.nz_machine.specs.declared.event.Parcel.{Parcel}
 use Rattle.nz_machine.specs.declared.event.Record.{Record}
 use Rattle.nz_machine.specs.declared.journal.Item.{Item}
-use Rattle.nz_machine.specs.Schedule.{item, item_of, Posted, posted, calls, tick_item, actors_of, arrivals, due, InOrderTo, IsPlayable}
+use Rattle.nz_machine.specs.Schedule.{item, item_of, Posted, posted_by_run, calls, tick_item, actors_of, arrivals, due, InOrderTo, IsPlayable}
 use Rattle.nz_fabric.specs.declared.turn.Turn.{Turn}
 use Rattle.nz_fabric.specs.declared.ticks.Ticks.{Ticks}
 use Rattle.nz_fabric.specs.Calendars.{Dates, StandsFor, posted_by}
@@ -26,16 +26,16 @@ abbrev pub records_of : State → List Record
 records_of f = f.here ++ f.finished
 
 -- Before the first tick nothing is due.
-abbrev pub start : Scenario → State
-start s = record { scenario = s; tick = 0; finished = []; here = []; items = []; next = 0; marked = false }
+abbrev pub start_state : Scenario → State
+start_state s = record { scenario = s; tick = 0; finished = []; here = []; items = []; next = 0; marked = false }
 
 -- The item of a turn.
 abbrev pub item_in : Turn → Item
 item_in turn = item turn.actor turn.event
 
 -- The record of a turn with what its step sent.
-abbrev pub recorded : Turn → List Parcel → Record
-recorded turn sends = record { tick = turn.tick; actor = turn.actor; event = turn.event; sends = sends }
+abbrev pub record_of_turn : Turn → List Parcel → Record
+record_of_turn turn sends = record { tick = turn.tick; actor = turn.actor; event = turn.event; sends = sends }
 
 -- No turn was given up, and none is open.
 pub record IsQuiet (f : State) : Type 0 where
@@ -43,7 +43,7 @@ pub record IsQuiet (f : State) : Type 0 where
   pub closed : f.next ≡ length f.here
 
 -- The turn of the next item.
-pub record IsNext (f : State) (turn : Turn) : Type 0 where
+pub record IsNextTurn (f : State) (turn : Turn) : Type 0 where
   pub number : turn.number ≡ length (records_of f) + 1
   pub tick : turn.tick ≡ f.tick
   pub item : slice_get f.items (length f.here) ≡ Some (item_in turn)
@@ -52,7 +52,7 @@ pub record IsNext (f : State) (turn : Turn) : Type 0 where
 pub record IsOpen (f : State) (turn : Turn) : Type 0 where
   pub unmarked : f.marked ≡ false
   pub taken : f.next ≡ length f.here + 1
-  pub is_next : IsNext f turn
+  pub is_next : IsNextTurn f turn
 
 -- All that is due in the tick was recorded.
 pub record IsDone (f : State) : Type 0 where
@@ -65,7 +65,7 @@ with_taken f = record f { next = f.next + 1 }
 
 -- The turn was recorded, with what was sent.
 abbrev pub with_recorded : Turn → List Parcel → State → State
-with_recorded turn sends f = record f { here = recorded turn sends ∷ f.here }
+with_recorded turn sends f = record f { here = record_of_turn turn sends ∷ f.here }
 
 -- No journal will come of the run.
 abbrev pub with_mark : State → State
@@ -86,7 +86,7 @@ abbrev pub IsBegun : Scenario → ℕ → List Record → List Item → Type 0
 IsBegun s tick finished items = IsBegunAs InOrderTo s tick finished items
 
 -- The records of the tick are the first of its items, in their order; at most one further item was taken.
-pub record IsKept (f : State) : Type 0 where
+pub record IsKeptRun (f : State) : Type 0 where
   pub playable : IsPlayable f.scenario
   pub in_run : f.tick ≤ f.scenario.ticks
   pub begun : IsBegun f.scenario f.tick f.finished f.items
@@ -118,12 +118,12 @@ pub record IsPosted (f : State) (c : Dates) : Type 0 where
   pub sent : List Posted
   pub rest : List Posted
   pub prefix : posted_by (reverse f.here) ≡ sent ++ rest
-  pub stands : StandsFor f.scenario (posted f.finished ++ sent) f.tick c
+  pub stands : StandsFor f.scenario (posted_by_run f.finished ++ sent) f.tick c
   pub none : f.marked ≡ false → sent ≡ []
 
 -- What the code keeps: while a turn is open its record has a place, and the calendar has what was sent.
 pub record IsHeld (f : State) (before room : ℕ) (records : List Record) (c : Dates) : Type 0 where
-  pub kept : IsKept f
+  pub kept : IsKeptRun f
   pub within : before ≤ length records
   pub few : length records < 2 ^ 32
   pub has_room : f.marked ≡ false → HasRoom f before room
@@ -135,7 +135,7 @@ state_in t before records = state_of t.scenario t.tick before records t.items.it
 
 -- A run that has not begun.
 pub record IsNew (s : Scenario) (t : Ticks) : Type 0 where
-  pub state : state_in t 0 [] ≡ start s
+  pub state : state_in t 0 [] ≡ start_state s
   pub stands : StandsFor s [] 0 t.calendar
 
 -- The next tick began, after what was posted.

@@ -3,7 +3,7 @@
 ghost use Rattle.std.specs.Prelude.{◌≡◌, ◌⊎◌, ◌<◌, ◌++◌, ◌∷◌, length, true, false, Some, OnErr, IfOk, MatchResult, MatchOption, MatchBool};
 ghost use Rattle.nz_machine.specs.Journals.{run_in};
 ghost use Rattle.nz_machine.specs.Schedule.{InOrder, IsPlayable};
-ghost use Rattle.nz_fabric.specs.States.{IsDone, IsKept, IsNext, IsOpen, after_tick, records_of, start, with_mark, with_recorded, with_taken};
+ghost use Rattle.nz_fabric.specs.States.{IsDone, IsKeptRun, IsNextTurn, IsOpen, after_tick, records_of, start_state, with_mark, with_recorded, with_taken};
 
 use crate::posting::post_all;
 use crate::ticks::Ticks;
@@ -37,7 +37,7 @@ impl Alone {
     /// A run that has not begun.
     pub fn new(alloc: Global, scenario: Scenario) -> Result<Alone, NoMemory>
         requires { IsPlayable scenario }
-        ensures { IfOk result (λ alone. alone ≡ start scenario) }
+        ensures { IfOk result (λ alone. alone ≡ start_state scenario) }
     {
         Ok(Alone {
             ticks: Ticks::new(alloc, scenario),
@@ -48,7 +48,7 @@ impl Alone {
 
     /// The invariant of this type, for the caller's proof. Does nothing.
     pub fn kept(&self)
-        ensures { IsKept self.now }
+        ensures { IsKeptRun self.now }
     {
         let _ = &self.ticks;
     }
@@ -60,7 +60,7 @@ impl Alone {
             (λ turn.
             MatchOption turn
             ((self.new ≡ self.old) × ((self.old.marked ≡ true) ⊎ (self.old.next ≡ length self.old.items)))
-            (λ turn. (self.new ≡ with_taken self.old) × (self.old.marked ≡ false) × IsNext self.old turn))
+            (λ turn. (self.new ≡ with_taken self.old) × (self.old.marked ≡ false) × IsNextTurn self.old turn))
             (λ _. self.new ≡ self.old) }
     {
         if self.ticks.marked || self.ticks.next == self.ticks.items.len() {

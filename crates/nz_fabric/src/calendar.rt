@@ -1,11 +1,12 @@
 //! The calendar of coming deliveries.
 
-ghost use Rattle.std.specs.Prelude.{◌≡◌, ◌+◌, ◌-◌, ◌<◌, ◌≤◌, ◌^◌, ◌∷◌, ◌++◌, [], ℕ, List, length, map, get_or, min, Option, IfOk, OnOk, OnErr, MatchOption, if◌then◌else◌};
-ghost use Rattle.nz_base.specs.declared.scenario.Scenario.{Scenario as Scenarios};
+ghost use Rattle.std.specs.Prelude.{◌≡◌, ◌+◌, ◌-◌, ◌<◌, ◌≤◌, ◌^◌, ◌∷◌, ◌++◌, [], ℕ, List, length, map, get_or};
+ghost use Rattle.std.specs.Prelude.{min, Option, IfOk, OnOk, OnErr, MatchOption, if◌then◌else◌};
+ghost use Rattle.nz_base.specs.declared.scenario.Scenario.{Scenario as ScenarioModel};
 ghost use Rattle.nz_machine.specs.Schedule.{IsPlayable, Posted, posted_in, arrivals};
-ghost use Rattle.nz_fabric.specs.declared.course.Course.{Course as Courses};
+ghost use Rattle.nz_fabric.specs.declared.course.Course.{Course as CourseModel};
 ghost use Rattle.nz_fabric.specs.Calendars.{StandsFor, no_dates, course, course_eq, count_of, items_in};
-ghost use Rattle.nz_fabric.specs.Posting.{arrival_of, arriving, up_to, days_of, HasRoomFor, HasRooms, AreShort};
+ghost use Rattle.nz_fabric.specs.Posting.{arrival_of, items_arriving, arrivals_up_to, days_of, HasRoomFor, HasRooms, AreShort};
 
 use crate::course::{Course, count_up_to, number_of};
 use crate::deliveries::Delivery;
@@ -69,7 +70,7 @@ fn arrivals_of(
     parcel: &Parcel,
     deliveries: &[Delivery],
 ) -> Result<Vec<Arrival>, NoMemory>
-    ensures { IfOk result (λ v. v.items ≡ up_to last (map (arrival_of parcel.now) deliveries.now)) }
+    ensures { IfOk result (λ v. v.items ≡ arrivals_up_to last (map (arrival_of parcel.now) deliveries.now)) }
 {
     let mut arrivals = Vec::new(alloc);
     for delivery in deliveries {
@@ -133,7 +134,7 @@ fn place_all(days: &mut Vec<Vec<Item>>, arrivals: Vec<Arrival>)
     requires short { AreShort days.old.items }
     requires room { HasRooms (length arrivals.items) days.old.items arrivals.items }
     ensures short { AreShort days.new.items }
-    ensures placed { (t : ℕ) → items_in (days_of days.new.items) t ≡ items_in (days_of days.old.items) t ++ arriving t arrivals.items }
+    ensures placed { (t : ℕ) → items_in (days_of days.new.items) t ≡ items_in (days_of days.old.items) t ++ items_arriving t arrivals.items }
 {
     for arrival in arrivals {
         days[arrival.tick as usize].push_reserved(arrival.item);
@@ -144,7 +145,7 @@ impl Calendar {
     /// No parcel was posted, and nothing is to come.
     pub fn new(alloc: Global) -> Calendar
         ensures empty { result ≡ no_dates }
-        ensures stands { (s : Scenarios) → StandsFor s [] 0 result }
+        ensures stands { (s : ScenarioModel) → StandsFor s [] 0 result }
     {
         Calendar {
             alloc,
@@ -165,8 +166,9 @@ impl Calendar {
     pub fn post(&mut self, scenario: &Scenario, tick: u32, parcel: &Parcel) -> Result<(), NoMemory>
         requires playable { IsPlayable scenario.now }
         requires few { self.old.parcels < 2 ^ 64 - 1 }
-        ensures ok { (L : List Posted) (now : ℕ) → StandsFor scenario.now L now self.old → OnOk result (StandsFor scenario.now (L ++ posted_in tick parcel.now ∷ []) now self.new) }
-        ensures err { (s : Scenarios) (L : List Posted) (now : ℕ) → StandsFor s L now self.old → OnErr result (StandsFor s L now self.new) }
+        ensures ok { (L : List Posted) (now : ℕ) → StandsFor scenario.now L now self.old
+            → OnOk result (StandsFor scenario.now (L ++ posted_in tick parcel.now ∷ []) now self.new) }
+        ensures err { (s : ScenarioModel) (L : List Posted) (now : ℕ) → StandsFor s L now self.old → OnErr result (StandsFor s L now self.new) }
     {
         let kind = kind_of(parcel.frame.as_slice());
         let number = number_of(&self.counts, parcel, kind);
@@ -193,8 +195,9 @@ impl Calendar {
     /// The items of a tick, which are to come no more.
     pub fn take(&mut self, tick: u32) -> ItemList
         ensures items { result ≡ items_in self.old.days tick }
-        ensures stands { (s : Scenarios) (L : List Posted) (now : ℕ) → StandsFor s L now self.old → now < tick → StandsFor s L tick self.new }
-        ensures due { (s : Scenarios) (L : List Posted) (now : ℕ) → StandsFor s L now self.old → now < tick → tick ≤ s.ticks → result ≡ arrivals s tick [] L }
+        ensures stands { (s : ScenarioModel) (L : List Posted) (now : ℕ) → StandsFor s L now self.old → now < tick → StandsFor s L tick self.new }
+        ensures due { (s : ScenarioModel) (L : List Posted) (now : ℕ) → StandsFor s L now self.old → now < tick
+            → tick ≤ s.ticks → result ≡ arrivals s tick [] L }
     {
         let place = tick as usize;
         if place >= self.days.len() {

@@ -1,8 +1,9 @@
 //! What one fault line makes of the deliveries of a parcel.
 
 ghost use Rattle.std.specs.Prelude.{◌≡◌, List, map, OnOk};
-ghost use Rattle.nz_machine.specs.Schedule.{Delivery as Planned, held as held_of, repeated as repeated_of, cut_short as cut_short_of};
-ghost use Rattle.nz_fabric.specs.Posting.{stored};
+ghost use Rattle.nz_machine.specs.Schedule as schedule;
+ghost use Rattle.nz_machine.specs.Schedule.{Delivery as DeliveryModel, deliveries_later, with_copy};
+ghost use Rattle.nz_fabric.specs.Posting.{delivery_as_stored};
 
 use nz_base::NoMemory;
 
@@ -16,7 +17,7 @@ pub struct Delivery {
 
 /// Every delivery comes later.
 pub fn held(by: u32, deliveries: &mut [Delivery])
-    ensures { (ds : List Planned) → deliveries.old ≡ map stored ds → deliveries.new ≡ map stored (held_of by ds) }
+    ensures { (ds : List DeliveryModel) → deliveries.old ≡ map delivery_as_stored ds → deliveries.new ≡ map delivery_as_stored (deliveries_later by ds) }
 {
     for place in 0..deliveries.len() {
         deliveries[place].tick = deliveries[place].tick.saturating_add(by);
@@ -25,7 +26,8 @@ pub fn held(by: u32, deliveries: &mut [Delivery])
 
 /// A whole copy comes so much later than the first delivery.
 pub fn repeated(by: u32, deliveries: &mut Vec<Delivery>) -> Result<(), NoMemory>
-    ensures { (ds : List Planned) → deliveries.old.items ≡ map stored ds → OnOk result (deliveries.new.items ≡ map stored (repeated_of by ds)) }
+    ensures { (ds : List DeliveryModel) → deliveries.old.items ≡ map delivery_as_stored ds
+        → OnOk result (deliveries.new.items ≡ map delivery_as_stored (with_copy by ds)) }
 {
     if let Some(first) = deliveries.first() {
         let tick = first.tick.saturating_add(by);
@@ -36,7 +38,8 @@ pub fn repeated(by: u32, deliveries: &mut Vec<Delivery>) -> Result<(), NoMemory>
 
 /// Of the first delivery this many bytes come, and never all of them.
 pub fn cut_short(keep: u32, len: usize, deliveries: &mut [Delivery])
-    ensures { (ds : List Planned) → deliveries.old ≡ map stored ds → deliveries.new ≡ map stored (cut_short_of keep len ds) }
+    ensures { (ds : List DeliveryModel) → deliveries.old ≡ map delivery_as_stored ds
+        → deliveries.new ≡ map delivery_as_stored (schedule.cut_short keep len ds) }
 {
     if !deliveries.is_empty() {
         let kept = len.saturating_sub(1).min(keep as usize);

@@ -2,8 +2,9 @@
 
 ghost use Rattle.std.specs.Prelude.{◌≡◌, ◌<◌, ◌+◌, ◌-◌, ◌^◌, ◌==◌, ◌∷◌, ◌++◌, [], map, IfOk, OnOk};
 ghost use Rattle.nz_machine.specs.Replicas.{numbers_below};
-ghost use Rattle.nz_machine.specs.Schedule.{item, if_in, calls, skew_of, clock_at as clock_in, actors_of, tick_item};
-ghost use Rattle.nz_fabric.specs.Dues.{named, restarts_in};
+ghost use Rattle.nz_machine.specs.Schedule as schedule;
+ghost use Rattle.nz_machine.specs.Schedule.{item, if_in, calls, skew_of, actors_of, tick_item};
+ghost use Rattle.nz_fabric.specs.Dues.{actor_of_sort, restarts_in};
 
 use nz_base::{Actor, Fault, NoMemory, Scenario, Skew};
 use nz_machine::{Event, Item};
@@ -25,7 +26,7 @@ pub enum Sort {
 
 impl Sort {
     pub fn actor(self, number: u8) -> Actor
-        ensures { result ≡ named self number }
+        ensures { result ≡ actor_of_sort self number }
     {
         match self {
             Sort::Replicas => Actor::Replica(number),
@@ -98,7 +99,7 @@ fn units_of(skews: &[Skew], actor: Actor) -> i64
 
 /// What the actor's clock reads in a tick.
 fn clock_at(scenario: &Scenario, tick: u32, actor: Actor) -> u64
-    ensures { result ≡ clock_in scenario.now tick actor }
+    ensures { result ≡ schedule.clock_at scenario.now tick actor }
 {
     let units = units_of(scenario.skews.as_slice(), actor);
     (UNITS * u64::from(tick))
@@ -114,7 +115,7 @@ fn push_sort(
     sort: Sort,
     count: u8,
 ) -> Result<(), NoMemory>
-    ensures { OnOk result (items.new.items ≡ items.old.items ++ map (tick_item scenario.now tick) (map (named sort) (numbers_below count))) }
+    ensures { OnOk result (items.new.items ≡ items.old.items ++ map (tick_item scenario.now tick) (map (actor_of_sort sort) (numbers_below count))) }
 {
     for number in 0..count {
         let actor = sort.actor(number);

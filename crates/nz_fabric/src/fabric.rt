@@ -1,7 +1,7 @@
 //! The lock around the network of several threads.
 
+use crate::fabric_state::FabricState;
 use crate::name::Name;
-use crate::shared::FabricState;
 use std::sync::{Condvar, Mutex, MutexGuard, Wait};
 
 /// A tick with fewer items wakes no worker: those that are awake do it sooner. A cluster has at most 81

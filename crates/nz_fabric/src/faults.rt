@@ -1,9 +1,11 @@
 //! The deliveries of a parcel, by all fault lines.
 
 ghost use Rattle.std.specs.Prelude.{◌≡◌, ◌+◌, ◌&&◌, ◌==◌, ◌∷◌, [], List, map, IfOk, OnOk};
-ghost use Rattle.nz_machine.specs.declared.event.Parcel.{Parcel as Parcels};
-ghost use Rattle.nz_machine.specs.Schedule.{Delivery as Planned, is_of as is_of_kind, is_nth as is_nth_of_kind, is_named as is_named_by, is_blocked as is_blocked_by, kind_of as kind_in, whole_in, faulted as faulted_of, faulted_by};
-ghost use Rattle.nz_fabric.specs.Posting.{stored, strikes as strikes_of, struck, HasNumber};
+ghost use Rattle.nz_machine.specs.declared.event.Parcel.{Parcel as ParcelModel};
+ghost use Rattle.nz_machine.specs.Schedule as schedule;
+ghost use Rattle.nz_machine.specs.Schedule.{Delivery as DeliveryModel, is_parcel_of, kind_in_frame, whole_in, after_fault, after_faults};
+ghost use Rattle.nz_fabric.specs.Posting as posting;
+ghost use Rattle.nz_fabric.specs.Posting.{delivery_as_stored, after_strike, HasNumber};
 
 use crate::deliveries::{Delivery, cut_short, held, repeated};
 use nz_base::{Actor, Fault, NoMemory};
@@ -12,8 +14,8 @@ use std::alloc::Global;
 
 /// Whether a parcel whose frame has this kind is of a kind from the one actor to the other.
 fn is_of(from: Actor, to: Actor, kind: u8, parcel: &Parcel, own: Option<u8>) -> bool
-    requires { own ≡ kind_in parcel.now.frame }
-    ensures { result ≡ is_of_kind from to kind parcel.now }
+    requires { own ≡ kind_in_frame parcel.now.frame }
+    ensures { result ≡ is_parcel_of from to kind parcel.now }
 {
     own == Some(kind) && parcel.from.is(&from) && parcel.to.is(&to)
 }
@@ -28,8 +30,8 @@ fn is_numbered(
     own: Option<u8>,
     number: u64,
 ) -> bool
-    requires { own ≡ kind_in parcel.now.frame }
-    ensures { result ≡ ((number == count) && is_of_kind from to kind parcel.now) }
+    requires { own ≡ kind_in_frame parcel.now.frame }
+    ensures { result ≡ ((number == count) && is_parcel_of from to kind parcel.now) }
 {
     number == u64::from(count) && is_of(from, to, kind, parcel, own)
 }
@@ -44,15 +46,15 @@ fn is_nth(
     own: Option<u8>,
     number: u64,
 ) -> bool
-    requires { own ≡ kind_in parcel.now.frame }
-    ensures { (earlier : List Parcels) → HasNumber earlier parcel.now number → result ≡ is_nth_of_kind from to kind count earlier parcel.now }
+    requires { own ≡ kind_in_frame parcel.now.frame }
+    ensures { (earlier : List ParcelModel) → HasNumber earlier parcel.now number → result ≡ schedule.is_nth from to kind count earlier parcel.now }
 {
     is_numbered(from, to, kind, count, parcel, own, number)
 }
 
 /// Whether an end of a block names the actor.
 fn is_named(end: Option<Actor>, actor: Actor) -> bool
-    ensures { result ≡ is_named_by end actor }
+    ensures { result ≡ schedule.is_named end actor }
 {
     match end {
         None => true,
@@ -69,7 +71,7 @@ fn is_blocked(
     tick: u32,
     parcel: &Parcel,
 ) -> bool
-    ensures { result ≡ is_blocked_by from to first last tick parcel.now }
+    ensures { result ≡ schedule.is_blocked from to first last tick parcel.now }
 {
     is_named(from, parcel.from) && is_named(to, parcel.to) && first <= tick && tick <= last
 }
@@ -77,8 +79,8 @@ fn is_blocked(
 /// Whether a fault line strikes a parcel that is sent in a tick, and is the one of this number among those of its
 /// sender, receiver and kind.
 fn strikes(fault: Fault, tick: u32, parcel: &Parcel, own: Option<u8>, number: u64) -> bool
-    requires { own ≡ kind_in parcel.now.frame }
-    ensures { (earlier : List Parcels) → HasNumber earlier parcel.now number → result ≡ strikes_of tick earlier parcel.now fault }
+    requires { own ≡ kind_in_frame parcel.now.frame }
+    ensures { (earlier : List ParcelModel) → HasNumber earlier parcel.now number → result ≡ posting.strikes tick earlier parcel.now fault }
 {
     match fault {
         Fault::Drop {
@@ -120,7 +122,8 @@ fn strikes(fault: Fault, tick: u32, parcel: &Parcel, own: Option<u8>, number: u6
 
 /// What a fault line makes of the deliveries of a parcel that it strikes.
 fn strike(fault: Fault, parcel: &Parcel, deliveries: &mut Vec<Delivery>) -> Result<(), NoMemory>
-    ensures { (ds : List Planned) → deliveries.old.items ≡ map stored ds → OnOk result (deliveries.new.items ≡ map stored (struck parcel.now fault ds)) }
+    ensures { (ds : List DeliveryModel) → deliveries.old.items ≡ map delivery_as_stored ds
+        → OnOk result (deliveries.new.items ≡ map delivery_as_stored (after_strike parcel.now fault ds)) }
 {
     match fault {
         Fault::Drop { .. } | Fault::Block { .. } => deliveries.clear(),
@@ -143,9 +146,9 @@ fn faulted(
     number: u64,
     deliveries: &mut Vec<Delivery>,
 ) -> Result<(), NoMemory>
-    requires { own ≡ kind_in parcel.now.frame }
-    ensures { (earlier : List Parcels) (ds : List Planned) → HasNumber earlier parcel.now number → deliveries.old.items ≡ map stored ds
-        → OnOk result (deliveries.new.items ≡ map stored (faulted_of tick earlier parcel.now fault ds)) }
+    requires { own ≡ kind_in_frame parcel.now.frame }
+    ensures { (earlier : List ParcelModel) (ds : List DeliveryModel) → HasNumber earlier parcel.now number → deliveries.old.items ≡ map delivery_as_stored ds
+        → OnOk result (deliveries.new.items ≡ map delivery_as_stored (after_fault tick earlier parcel.now fault ds)) }
 {
     if strikes(fault, tick, parcel, own, number) {
         strike(fault, parcel, deliveries)?;
@@ -162,9 +165,9 @@ pub fn deliveries_of(
     own: Option<u8>,
     number: u64,
 ) -> Result<Vec<Delivery>, NoMemory>
-    requires { own ≡ kind_in parcel.now.frame }
-    ensures { (earlier : List Parcels) → HasNumber earlier parcel.now number
-        → IfOk result (λ v. v.items ≡ map stored (faulted_by tick earlier parcel.now faults.now (whole_in (tick + 1) ∷ []))) }
+    requires { own ≡ kind_in_frame parcel.now.frame }
+    ensures { (earlier : List ParcelModel) → HasNumber earlier parcel.now number
+        → IfOk result (λ v. v.items ≡ map delivery_as_stored (after_faults tick earlier parcel.now faults.now (whole_in (tick + 1) ∷ []))) }
 {
     let mut deliveries = Vec::new(alloc);
     deliveries.push(Delivery {

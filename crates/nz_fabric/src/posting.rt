@@ -16,8 +16,10 @@ pub fn post_sends(
     sends: &[Parcel],
 ) -> Result<(), NoMemory>
     requires { IsPlayable scenario.now }
-    ensures ok { (L : List Posted) (now : ℕ) → StandsFor scenario.now L now calendar.old → OnOk result (StandsFor scenario.now (L ++ map (posted_in tick) sends.now) now calendar.new) }
-    ensures err { (L : List Posted) (now : ℕ) → StandsFor scenario.now L now calendar.old → OnErr result (HasPosted scenario.now L (map (posted_in tick) sends.now) now calendar.new) }
+    ensures ok { (L : List Posted) (now : ℕ) → StandsFor scenario.now L now calendar.old
+        → OnOk result (StandsFor scenario.now (L ++ map (posted_in tick) sends.now) now calendar.new) }
+    ensures err { (L : List Posted) (now : ℕ) → StandsFor scenario.now L now calendar.old
+        → OnErr result (HasPosted scenario.now L (map (posted_in tick) sends.now) now calendar.new) }
 {
     for parcel in sends {
         if calendar.parcels() == u64::MAX {
@@ -35,8 +37,10 @@ pub fn post_all(
     records: &[Record],
 ) -> Result<(), NoMemory>
     requires { IsPlayable scenario.now }
-    ensures ok { (L : List Posted) (now : ℕ) → StandsFor scenario.now L now calendar.old → OnOk result (StandsFor scenario.now (L ++ posted_by records.now) now calendar.new) }
-    ensures err { (L : List Posted) (now : ℕ) → StandsFor scenario.now L now calendar.old → OnErr result (HasPosted scenario.now L (posted_by records.now) now calendar.new) }
+    ensures ok { (L : List Posted) (now : ℕ) → StandsFor scenario.now L now calendar.old
+        → OnOk result (StandsFor scenario.now (L ++ posted_by records.now) now calendar.new) }
+    ensures err { (L : List Posted) (now : ℕ) → StandsFor scenario.now L now calendar.old
+        → OnErr result (HasPosted scenario.now L (posted_by records.now) now calendar.new) }
 {
     for record in records {
         post_sends(calendar, scenario, record.tick, record.sends.as_slice())?;

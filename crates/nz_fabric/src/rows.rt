@@ -1,8 +1,9 @@
 //! The records of a run, one row for each actor.
 
-ghost use Rattle.std.specs.Prelude.{◌≡◌, ◌↔◌, ◌+◌, ◌<◌, ◌≤◌, ◌∷◌, ◌++◌, [], ℕ, List, length, map, drop, get_or, vec_capacity, IsTrue, IfOk, OnOk, OnErr, if◌then◌else◌};
+ghost use Rattle.std.specs.Prelude.{◌≡◌, ◌↔◌, ◌+◌, ◌<◌, ◌≤◌, ◌∷◌, ◌++◌, [], ℕ, List, length, map, drop};
+ghost use Rattle.std.specs.Prelude.{get_or, vec_capacity, IsTrue, IfOk, OnOk, OnErr, if◌then◌else◌};
 ghost use Rattle.nz_base.specs.Actor.{actor_eq};
-ghost use Rattle.nz_base.specs.declared.actor.Actor.{Actor as Actors};
+ghost use Rattle.nz_base.specs.declared.actor.Actor.{Actor as ActorModel};
 ghost use Rattle.nz_machine.specs.Schedule.{IsPlayable, Posted};
 ghost use Rattle.nz_fabric.specs.Calendars.{StandsFor, HasPosted, posted_by, row_number};
 ghost use Rattle.nz_fabric.specs.Rows.{of_actor, spare_of};
@@ -39,7 +40,11 @@ impl Model for Rows {
 
     ghost Value = { Filed };
 
-    ghost view = { λ f. record { records = map (record_at (rows_of f.rows.items)) f.order.items; room = vec_capacity f.order; spares = map spare_in f.rows.items } };
+    ghost view = { λ f. record {
+      records = map (record_at (rows_of f.rows.items)) f.order.items;
+      room = vec_capacity f.order;
+      spares = map spare_in f.rows.items;
+    } };
 
     ghost invariant = { λ f. AreRows f.order.items (rows_of f.rows.items) };
 }
@@ -86,7 +91,7 @@ impl Rows {
     pub fn reserve(&mut self, actor: Actor, count: usize) -> Result<(), NoMemory>
         ensures records { self.new.records ≡ self.old.records }
         ensures room { self.old.room ≤ self.new.room }
-        ensures spares { (a : Actors) → spare_of self.old a ≤ spare_of self.new a }
+        ensures spares { (a : ActorModel) → spare_of self.old a ≤ spare_of self.new a }
         ensures more { OnOk result (length self.new.records + count ≤ self.new.room) }
         ensures spare { OnOk result (count ≤ spare_of self.new actor) }
     {
@@ -101,7 +106,7 @@ impl Rows {
         requires spare { 0 < spare_of self.old step.actor }
         ensures records { self.new.records ≡ self.old.records ++ step ∷ [] }
         ensures room { self.new.room ≡ self.old.room }
-        ensures spares { (a : Actors) → spare_of self.old a ≤ spare_of self.new a + (if actor_eq step.actor a then 1 else 0) }
+        ensures spares { (a : ActorModel) → spare_of self.old a ≤ spare_of self.new a + (if actor_eq step.actor a then 1 else 0) }
     {
         let actor = step.actor;
         let row = row_of(actor);
@@ -135,8 +140,10 @@ impl Rows {
     ) -> Result<(), NoMemory>
         requires playable { IsPlayable scenario.now }
         requires before { before ≤ length self.now.records }
-        ensures ok { (L : List Posted) (now : ℕ) → StandsFor scenario.now L now calendar.old → OnOk result (StandsFor scenario.now (L ++ posted_by (drop before self.now.records)) now calendar.new) }
-        ensures err { (L : List Posted) (now : ℕ) → StandsFor scenario.now L now calendar.old → OnErr result (HasPosted scenario.now L (posted_by (drop before self.now.records)) now calendar.new) }
+        ensures ok { (L : List Posted) (now : ℕ) → StandsFor scenario.now L now calendar.old
+            → OnOk result (StandsFor scenario.now (L ++ posted_by (drop before self.now.records)) now calendar.new) }
+        ensures err { (L : List Posted) (now : ℕ) → StandsFor scenario.now L now calendar.old
+            → OnErr result (HasPosted scenario.now L (posted_by (drop before self.now.records)) now calendar.new) }
     {
         for place in before..self.order.len() {
             let step = self.get(place);

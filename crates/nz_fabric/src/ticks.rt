@@ -65,7 +65,8 @@ impl Ticks {
     pub fn begin(&mut self) -> Result<(), NoMemory>
         requires more { self.old.tick < self.old.scenario.ticks }
         requires ticks { self.old.scenario.ticks ≤ 20000 }
-        ensures ok { (L : List Posted) → StandsFor self.old.scenario L self.old.tick self.old.calendar → OnOk result (HasBegun self.old.scenario self.old.tick L self.new) }
+        ensures ok { (L : List Posted) → StandsFor self.old.scenario L self.old.tick self.old.calendar
+            → OnOk result (HasBegun self.old.scenario self.old.tick L self.new) }
         ensures err { OnErr result (self.new ≡ self.old) }
     {
         let tick = self.tick + 1;

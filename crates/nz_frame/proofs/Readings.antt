@@ -1,21 +1,24 @@
 -- The laws of frames and refusals.
-use Rattle.std.proofs.Common.{◌≡◌, ℕ, ◌+◌, ◌^◌, ◌<◌, Bool, true, false, List, [], ◌∷◌, ◌++◌, length, drop, Some, None, refl, sym, ap, subst, ◌∙◌, arith, inl, inr, length-append, leb}
+use Rattle.std.proofs.Common.{◌≡◌, ℕ, ◌+◌, ◌^◌, ◌<◌, Bool, true, false, List, [], ◌∷◌, ◌++◌, length, drop}
+use Rattle.std.proofs.Common.{Some, None, refl, sym, ap, subst, ◌∙◌, arith, inl, inr, length-append, leb}
 use Rattle.std.specs.Prelude.{slice_index}
 use Rattle.std.proofs.lemmas.Bool.{cases_lt, le-leb, lt-leb, leb-true, eqb-true}
 use Rattle.std.proofs.lemmas.List.{nil_from_length}
 use Rattle.byteorder.specs.Numbers.{big_from-append}
 use Rattle.nz_frame.specs.Address.{is_kind, is_address}
 use Rattle.nz_frame.specs.Grammar.{IsFrame, SameParts, AreBytes}
-use Rattle.nz_frame.specs.Refusal.{Test, test, first_failed, tests, stated, end_of, sender, receiver, refusal}
+use Rattle.nz_frame.specs.Refusal.{Test, test, first_failed, tests, stated_size, end_of, sender, receiver, refusal}
 use Rattle.nz_frame.specs.declared.refusal.FrameRefusal.{FrameRefusal}
 use Rattle.nz_frame.specs.declared.refusal.FrameRefusal.TheVariants.{Short, Trailing}
 use Rattle.nz_frame.proofs.Parts.{address_fits, IsRead, frame_read, is_frame}
 
 pub read_of : (bytes : List ℕ) (kind from to : ℕ) (body : List ℕ) → IsFrame bytes kind from to body → IsRead bytes kind from to body
 read_of bytes kind from to body h =
-    subst (λ (xs : List ℕ). IsRead xs kind from to body) (sym h.spelled) (frame_read kind from to body (address_fits from h.sender) (address_fits to h.receiver) h.fits)
+    subst (λ (xs : List ℕ). IsRead xs kind from to body) (sym h.spelled)
+    (frame_read kind from to body (address_fits from h.sender) (address_fits to h.receiver) h.fits)
 
-pub one_reading : (bytes : List ℕ) (kind from to : ℕ) (body : List ℕ) (kind' from' to' : ℕ) (body' : List ℕ) → IsFrame bytes kind from to body → IsFrame bytes kind' from' to' body'
+pub one_reading : (bytes : List ℕ) (kind from to : ℕ) (body : List ℕ) (kind' from' to' : ℕ) (body' : List ℕ)
+    → IsFrame bytes kind from to body → IsFrame bytes kind' from' to' body'
     → SameParts kind from to body kind' from' to' body'
 one_reading bytes kind from to body kind' from' to' body' h h' =
     let r = read_of bytes kind from to body h in
@@ -33,8 +36,8 @@ accepted bytes kind from to body h =
     let r = read_of bytes kind from to body h in
     let fits = h.fits in
     let a : leb 4 (length bytes) ≡ true = le-leb _ _ (omega (arith, r.long)) in
-    let b : leb (stated bytes) 16777216 ≡ true = le-leb _ _ (omega (arith, r.len_is)) in
-    let c : leb 6 (stated bytes) ≡ true = le-leb _ _ (omega (arith, r.len_is)) in
+    let b : leb (stated_size bytes) 16777216 ≡ true = le-leb _ _ (omega (arith, r.len_is)) in
+    let c : leb 6 (stated_size bytes) ≡ true = le-leb _ _ (omega (arith, r.len_is)) in
     let d : leb (end_of bytes) (length bytes) ≡ true = le-leb _ _ (omega (arith, r.len_is, r.long)) in
     let e : leb (length bytes) (end_of bytes) ≡ true = le-leb _ _ (omega (arith, r.len_is, r.long)) in
     let known : is_kind (slice_index bytes 5) ≡ true = subst (λ (k : ℕ). is_kind k ≡ true) (sym r.kind_is) h.known in
@@ -61,7 +64,8 @@ abbrev EachHas : (FrameRefusal → Type 0) → List Test → Type 0
 EachHas P [] = Unit {0}
 EachHas P (t ∷ ts) = P t.refusal × EachHas P ts
 
-on_test : (P : FrameRefusal → Type 0) (b : Bool) (own : FrameRefusal) (ts : List Test) (r : FrameRefusal) → P own × EachHas P ts → (first_failed ts ≡ Some r → P r) → first_failed (test b own ∷ ts) ≡ Some r → P r
+on_test : (P : FrameRefusal → Type 0) (b : Bool) (own : FrameRefusal) (ts : List Test) (r : FrameRefusal)
+    → P own × EachHas P ts → (first_failed ts ≡ Some r → P r) → first_failed (test b own ∷ ts) ≡ Some r → P r
 on_test P true own ts r h later e = later e
 on_test P false own ts r h later e = let same : own ≡ r = cc in subst P same h.0
 
@@ -83,17 +87,19 @@ pub only_frames : (bytes : List ℕ) → AreBytes bytes → refusal bytes ≡ No
 unfolding refusal
 only_frames bytes fits e =
     let h : EachHolds (tests bytes) = each_holds (tests bytes) e in
-    let high = leb-true (stated bytes) 16777216 h.1.0 in
-    let low = leb-true 6 (stated bytes) h.1.1.0 in
+    let high = leb-true (stated_size bytes) 16777216 h.1.0 in
+    let low = leb-true 6 (stated_size bytes) h.1.1.0 in
     let least = leb-true (end_of bytes) (length bytes) h.1.1.1.0 in
     let most = leb-true (length bytes) (end_of bytes) h.1.1.1.1.0 in
     let version = eqb-true (slice_index bytes 4) 1 h.1.1.1.1.1.0 in
     let header = h.1.1.1.1.1.1 in
-    is_frame bytes (sender bytes) (receiver bytes) (drop 10 bytes) fits low high (omega (arith, least, most)) version header.0 header.1.0 header.1.1.0 refl refl refl
+    is_frame bytes (sender bytes) (receiver bytes) (drop 10 bytes) fits low high
+    (omega (arith, least, most)) version header.0 header.1.0 header.1.1.0 refl refl refl
 
 -- ---- too few bytes and too many
 
-pub cut_is_short : (bytes rest : List ℕ) (kind from to : ℕ) (body : List ℕ) → IsFrame (bytes ++ rest) kind from to body → 0 < length rest → refusal bytes ≡ Some (Short (length bytes))
+pub cut_is_short : (bytes rest : List ℕ) (kind from to : ℕ) (body : List ℕ)
+    → IsFrame (bytes ++ rest) kind from to body → 0 < length rest → refusal bytes ≡ Some (Short (length bytes))
 unfolding refusal
 cut_is_short bytes rest kind from to body h more =
     let r = read_of (bytes ++ rest) kind from to body h in
@@ -102,34 +108,36 @@ cut_is_short bytes rest kind from to body h more =
     elim (cases_lt (length bytes) 4) [
       | inl few ↦ rw (lt-leb 4 (length bytes) few) refl
       | inr many ↦
-          let same : stated bytes ≡ 6 + length body = sym (big_from-append 4 bytes rest many) ∙ r.len_is in
+          let same : stated_size bytes ≡ 6 + length body = sym (big_from-append 4 bytes rest many) ∙ r.len_is in
           let a : leb 4 (length bytes) ≡ true = le-leb _ _ many in
-          let b : leb (stated bytes) 16777216 ≡ true = le-leb _ _ (omega (arith, same)) in
-          let c : leb 6 (stated bytes) ≡ true = le-leb _ _ (omega (arith, same)) in
+          let b : leb (stated_size bytes) 16777216 ≡ true = le-leb _ _ (omega (arith, same)) in
+          let c : leb 6 (stated_size bytes) ≡ true = le-leb _ _ (omega (arith, same)) in
           let d : leb (end_of bytes) (length bytes) ≡ false = lt-leb _ _ (omega (arith, same, parts, r.long)) in
           rw (a, b, c, d) refl
     ]
 
-pub more_is_trailing : (bytes rest : List ℕ) (kind from to : ℕ) (body : List ℕ) → IsFrame bytes kind from to body → 0 < length rest → refusal (bytes ++ rest) ≡ Some (Trailing (length bytes))
+pub more_is_trailing : (bytes rest : List ℕ) (kind from to : ℕ) (body : List ℕ) → IsFrame bytes kind from to body
+    → 0 < length rest → refusal (bytes ++ rest) ≡ Some (Trailing (length bytes))
 unfolding refusal
 more_is_trailing bytes rest kind from to body h more =
     let r = read_of bytes kind from to body h in
     let fits = h.fits in
     let parts = length-append bytes rest in
-    let same : stated (bytes ++ rest) ≡ 6 + length body = big_from-append 4 bytes rest (omega (arith, r.long)) ∙ r.len_is in
+    let same : stated_size (bytes ++ rest) ≡ 6 + length body = big_from-append 4 bytes rest (omega (arith, r.long)) ∙ r.len_is in
     let a : leb 4 (length (bytes ++ rest)) ≡ true = le-leb _ _ (omega (arith, parts, r.long)) in
-    let b : leb (stated (bytes ++ rest)) 16777216 ≡ true = le-leb _ _ (omega (arith, same)) in
-    let c : leb 6 (stated (bytes ++ rest)) ≡ true = le-leb _ _ (omega (arith, same)) in
+    let b : leb (stated_size (bytes ++ rest)) 16777216 ≡ true = le-leb _ _ (omega (arith, same)) in
+    let c : leb 6 (stated_size (bytes ++ rest)) ≡ true = le-leb _ _ (omega (arith, same)) in
     let d : leb (end_of (bytes ++ rest)) (length (bytes ++ rest)) ≡ true = le-leb _ _ (omega (arith, same, parts, r.long)) in
     let e : leb (length (bytes ++ rest)) (end_of (bytes ++ rest)) ≡ false = lt-leb _ _ (omega (arith, same, parts, r.long)) in
     let place : end_of (bytes ++ rest) ≡ length bytes = omega (arith, same, r.long) in
     rw (a, b, c, d, e) (ap (λ (n : ℕ). Some (Trailing n)) place)
 
-pub no_prefix : (bytes rest : List ℕ) (kind from to : ℕ) (body : List ℕ) (kind' from' to' : ℕ) (body' : List ℕ) → IsFrame bytes kind from to body → IsFrame (bytes ++ rest) kind' from' to' body' → rest ≡ []
+pub no_prefix : (bytes rest : List ℕ) (kind from to : ℕ) (body : List ℕ) (kind' from' to' : ℕ) (body' : List ℕ)
+    → IsFrame bytes kind from to body → IsFrame (bytes ++ rest) kind' from' to' body' → rest ≡ []
 no_prefix bytes rest kind from to body kind' from' to' body' h h' =
     let r = read_of bytes kind from to body h in
     let r' = read_of (bytes ++ rest) kind' from' to' body' h' in
-    let same : stated (bytes ++ rest) ≡ stated bytes = big_from-append 4 bytes rest (omega (arith, r.long)) in
+    let same : stated_size (bytes ++ rest) ≡ stated_size bytes = big_from-append 4 bytes rest (omega (arith, r.long)) in
     nil_from_length rest (omega (arith, same, length-append bytes rest, r.long, r'.long, r.len_is, r'.len_is))
 
 -- a frame is refused by no test

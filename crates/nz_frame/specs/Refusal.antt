@@ -6,12 +6,12 @@ use Rattle.nz_frame.specs.declared.refusal.FrameRefusal.{FrameRefusal}
 use Rattle.nz_frame.specs.declared.refusal.FrameRefusal.TheVariants.{Short, TooLong, Trailing, BadVersion, BadKind, BadActor}
 
 -- The length that the first four bytes state, of what follows them.
-abbrev pub stated : List ℕ → ℕ
-stated bytes = big_number 4 bytes
+abbrev pub stated_size : List ℕ → ℕ
+stated_size bytes = big_number 4 bytes
 
 -- Where the frame ends, by the length that it states.
 abbrev pub end_of : List ℕ → ℕ
-end_of bytes = 4 + stated bytes
+end_of bytes = 4 + stated_size bytes
 
 -- The addresses of the sender and the receiver.
 abbrev pub sender : List ℕ → ℕ
@@ -40,8 +40,8 @@ first_failed (t ∷ ts) = if t.holds then first_failed ts else Some t.refusal
 abbrev pub tests : List ℕ → List Test
 tests bytes =
     test (nat_le 4 (length bytes)) (Short (length bytes))
-    ∷ test (nat_le (stated bytes) 16777216) (TooLong 0)
-    ∷ test (nat_le 6 (stated bytes)) (Short (min (length bytes) (2 ^ 32 - 1)))
+    ∷ test (nat_le (stated_size bytes) 16777216) (TooLong 0)
+    ∷ test (nat_le 6 (stated_size bytes)) (Short (min (length bytes) (2 ^ 32 - 1)))
     ∷ test (nat_le (end_of bytes) (length bytes)) (Short (length bytes))
     ∷ test (nat_le (length bytes) (end_of bytes)) (Trailing (end_of bytes))
     ∷ test (slice_index bytes 4 == 1) (BadVersion 4)

@@ -1,11 +1,13 @@
 //! Frames, written and read.
 
-ghost use Rattle.std.specs.Prelude.{◌≡◌, ◌+◌, ◌≤◌, ◌<◌, ◌^◌, ◌∷◌, ◌++◌, ◌↔◌, ℕ, List, length, drop, IsOkAnd, IfOk, IfErr, OnOk, OnErr, IsFalse, IfSome, IsSome, Some, None};
+ghost use Rattle.std.specs.Prelude.{◌≡◌, ◌+◌, ◌≤◌, ◌<◌, ◌^◌, ◌∷◌, ◌++◌, ◌↔◌, ℕ, List, length, drop, IsOkAnd};
+ghost use Rattle.std.specs.Prelude.{IfOk, IfErr, OnOk, OnErr, IsFalse, IfSome, IsSome, Some, None};
 ghost use Rattle.byteorder.specs.Endian.{big_bytes, big_number};
-ghost use Rattle.nz_frame.specs.Address.{is_address as is_address_test, IsKind, IsAddress};
+ghost use Rattle.nz_frame.specs.Address as address_words;
+ghost use Rattle.nz_frame.specs.Address.{IsKind, IsAddress};
 ghost use Rattle.nz_frame.specs.Grammar.{frame, IsFrame, SameParts};
 ghost use Rattle.nz_frame.specs.declared.refusal.FrameRefusal.TheVariants.{BadActor};
-ghost use Rattle.nz_frame.specs.Refusal.{stated, end_of, refusal};
+ghost use Rattle.nz_frame.specs.Refusal.{stated_size, end_of, refusal};
 
 use super::address::{is_address, is_kind};
 use super::error::NoMemory;
@@ -53,7 +55,7 @@ pub fn frame_len(bytes: &[u8]) -> Option<u32>
 // The tests on how many bytes there are.
 #[tactic(auto, unfolding(crate::specs::Refusal::refusal))]
 fn check_length(bytes: &[u8]) -> Result<(), FrameRefusal>
-    ensures ok { OnOk result ((6 ≤ stated bytes.now) × (stated bytes.now ≤ 16777216)
+    ensures ok { OnOk result ((6 ≤ stated_size bytes.now) × (stated_size bytes.now ≤ 16777216)
         × (length bytes.now ≡ end_of bytes.now)) }
     ensures err { IfErr result (λ r. refusal bytes.now ≡ Some r) }
 {
@@ -88,7 +90,7 @@ fn actor_at(bytes: &[u8], place: u32) -> Result<u16, FrameRefusal>
     ensures address { IfOk result (λ a. a ≡ big_number 2 (drop place bytes.now)) }
     ensures known { IfOk result (λ a. IsAddress a) }
     ensures refusal { IfErr result (λ r. r ≡ BadActor place) }
-    ensures unknown { OnErr result (IsFalse (is_address_test (big_number 2 (drop place bytes.now)))) }
+    ensures unknown { OnErr result (IsFalse (address_words.is_address (big_number 2 (drop place bytes.now)))) }
 {
     let address = BigEndian::read_u16(&bytes[place as usize..]);
     if !is_address(address) {

@@ -17,9 +17,9 @@ use Rattle.nz_machine.specs.declared.event.Event.TheVariants.{Deliver}
 use Rattle.nz_machine.specs.declared.event.Parcel.{Parcel}
 use Rattle.nz_machine.specs.declared.event.Record.{Record}
 use Rattle.nz_machine.specs.State.{ClientData, Group}
-use Rattle.nz_machine.specs.Step.{received, envelope_step, event_step}
+use Rattle.nz_machine.specs.Step.{accepted_envelope, envelope_step, event_step}
 use Rattle.nz_machine.specs.World.{state_after, Has, MayHappen, World}
-use Rattle.nz_machine.specs.Events.{Told, Sent, Accepted, id_at, told_by, events}
+use Rattle.nz_machine.specs.Events.{ClientEvent, Sent, Accepted, id_at, client_events, events}
 use Rattle.nz_machine.specs.declared.reply.Reply.{Reply}
 use Rattle.nz_machine.specs.Quorums.{view_of}
 use Rattle.nz_machine.specs.Committed.{view_of_sender, accepted_view, AcceptsIn, IsAcceptedIn}
@@ -36,22 +36,22 @@ use Rattle.std.proofs.lemmas.Option.{none-some, same_Some}
 use Rattle.nz_machine.specs.Leading.{leader_at}
 use Rattle.nz_base.proofs.Prefixes.{prefix_length}
 use Rattle.nz_laws_commit.proofs.Places.{own_prefix}
-use Rattle.nz_laws_commit.proofs.Heard.{told_at}
+use Rattle.nz_laws_commit.proofs.ReadMessages.{told_at}
 use Rattle.nz_laws_commit.proofs.FactsStay.{facts_stay}
 use Rattle.nz_laws_commit.proofs.Answering.{IsGiven, given_later}
-use Rattle.nz_laws_commit.proofs.Notes.{delivers}
-use Rattle.nz_laws_commit.proofs.Said.{IsBacked, backed_later}
+use Rattle.nz_laws_commit.proofs.ReplySources.{delivers}
+use Rattle.nz_laws_commit.proofs.NotedWereSent.{IsBacked, backed_later}
 use Rattle.nz_laws_commit.proofs.AnswersSent.{LeadsBack, answer_source}
 use Rattle.nz_machine.proofs.Accepting.{IsAnswerTo, client_accepts}
-use Rattle.nz_laws_commit.proofs.Tells.{AcceptsAnswer, told_accepted}
-use Rattle.nz_laws_commit.proofs.Asked.{WasSent, own_command}
+use Rattle.nz_laws_commit.proofs.ClientEvents.{AcceptsAnswer, told_accepted}
+use Rattle.nz_laws_commit.proofs.OwnCommands.{WasSent, own_command}
 
 -- ---- what a leader's log has, up to an entry
 
-pub events_later : (g : Group) (J K : List Record) → At J K → (x : Told) → Has (events g K) x → Has (events g J) x
+pub events_later : (g : Group) (J K : List Record) → At J K → (x : ClientEvent) → Has (events g K) x → Has (events g J) x
 events_later g [] K at x h = subst (λ (L : List Record). Has (events g L) x) at h
 events_later g (r ∷ J) K (inl same) x h = subst (λ (L : List Record). Has (events g L) x) same h
-events_later g (r ∷ J) K (inr older) x h = has_left (events g J) (told_by g r.actor r J) x (events_later g J K older x h)
+events_later g (r ∷ J) K (inr older) x h = has_left (events g J) (client_events g r.actor r J) x (events_later g J K older x h)
 
 -- each entry was sent
 pub given_sent : (g : Group) (J : List Record) → World g J → (v : ℕ) (id : Id) (a : Answer) (P : List Entry) → IsGiven g J v id a P → (e : Entry)
@@ -86,7 +86,7 @@ pub record Gives (g : Group) (r : Record) (J : List Record) (id : Id) (a : Answe
   pub event : r.event ≡ Deliver parcel
   pub prefix : List Entry
   pub found : accepted_prefix g id parcel J ≡ Some prefix
-  pub is : prefix_in g (told_by g r.actor r J) r.event J ≡ prefix
+  pub is : prefix_in g (client_events g r.actor r J) r.event J ≡ prefix
   pub reply : Reply
   pub source : ReplySource
   pub at_source : prefix ≡ prefix_at_source g id source
@@ -95,7 +95,7 @@ pub record Gives (g : Group) (r : Record) (J : List Record) (id : Id) (a : Answe
   pub given : IsGiven g J (view_of reply) id a prefix
 
 -- what is read of a parcel is sent to the reader
-read_to : (g : Group) (J : List Record) (a : Actor) (p : Parcel) (e : Envelope) → World g J → MayHappen J a (Deliver p) → received g.f a p ≡ Some e
+read_to : (g : Group) (J : List Record) (a : Actor) (p : Parcel) (e : Envelope) → World g J → MayHappen J a (Deliver p) → accepted_envelope g.f a p ≡ Some e
     → e.to ≡ a
 read_to g J a p e w may heard = elim (delivered g (Fitted g) (FittedState g) (fits_keep g) J (all_fit g J w) a p may) [
   | inl none ↦ absurd (none-some e (sym none ∙ heard))
@@ -127,7 +127,7 @@ gives_by g r J id a path w t to =
       event = d.is;
       prefix = prefix;
       found = found;
-      is = ap (λ (l : List Told). prefix_in g l r.event J) t.told ∙ ap (λ (e : Event). prefix_in g (Accepted id a path ∷ t.rest) e J) d.is
+      is = ap (λ (l : List ClientEvent). prefix_in g l r.event J) t.told ∙ ap (λ (e : Event). prefix_in g (Accepted id a path ∷ t.rest) e J) d.is
           ∙ ap entries_or found;
       reply = mine.reply;
       source = mine.source;

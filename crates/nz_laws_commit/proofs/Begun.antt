@@ -25,10 +25,10 @@ use Rattle.nz_machine.specs.Leading.{leader_at, is_led}
 use Rattle.nz_machine.specs.Begun.{begins, start, IsMemberOf}
 use Rattle.nz_machine.proofs.Moments.{at_world}
 use Rattle.nz_laws_cv.proofs.TurnRules.{changing_up}
-use Rattle.nz_laws_cv.proofs.Passing.{sound_at}
+use Rattle.nz_laws_cv.proofs.WithinIncarnation.{sound_at}
 use Rattle.nz_laws_cv.proofs.Showing.{shows}
 use Rattle.nz_laws_cv.proofs.Changes.{reporter}
-use Rattle.nz_laws_cv.proofs.Beginnings.{normal_in_is as leads_in, turning_is, choice_is, full_is}
+use Rattle.nz_laws_cv.proofs.Beginnings.{normal_in_is, turning_is, choice_is, full_is}
 use Rattle.nz_laws_cv.proofs.BegunLogs.{IsBegunLog, begun_log_is, report_is_read}
 use Rattle.nz_laws_cv.proofs.Known.{has_views}
 use Rattle.nz_laws_commit.specs.Premises.{CompletesRejoin, IsMemberReport, IsMergeOfReports}
@@ -75,7 +75,7 @@ module _ (g : Group) (J : List Record) (world : World g J) (w : ℕ) (r : Record
 
     own_report : IsMemberReport (logs_of g) w (own_change l (leader_at g w K)) J
     own_report =
-        let now = leads_in w (leader_at g w B) led in
+        let now = normal_in_is w (leader_at g w B) led in
         record {
           q = B;
           moment = at;

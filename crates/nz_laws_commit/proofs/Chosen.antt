@@ -5,7 +5,8 @@ use Rattle.std.specs.List.{filter, list_any}
 use Rattle.std.proofs.lemmas.Option.{none-some, same_Some}
 use Rattle.nz_base.proofs.Booleans.{or_cases}
 use Rattle.nz_machine.specs.declared.reply.Reply.{Reply}
-use Rattle.nz_machine.specs.Quorums.{view_of, has_slow_quorum, has_fast_quorum, of_lesser_view, first_of_least_view, fast_lead, slow_lead, Chosen, slow_or_none, fast_or, decision}
+use Rattle.nz_machine.specs.Quorums.{view_of, has_slow_quorum, has_fast_quorum, of_lesser_view, first_of_least_view}
+use Rattle.nz_machine.specs.Quorums.{fast_lead, slow_lead, Chosen, slow_or_none, fast_or, decision}
 use Rattle.nz_machine.specs.World.{Has}
 
 -- the replies and the one that decides have a slow quorum, or a fast one

@@ -7,32 +7,35 @@ use Rattle.nz_base.specs.declared.actor.Actor.TheVariants.{Proxy}
 use Rattle.nz_base.specs.declared.scenario.Request.{Request}
 use Rattle.nz_msg.specs.declared.message.AnswerBody.{AnswerBody}
 use Rattle.nz_msg.specs.declared.message.Message.{Message}
-use Rattle.nz_msg.specs.declared.message.Message.TheVariants.{Request as Asked, Answer as Answered}
+use Rattle.nz_msg.specs.declared.message.Message.TheVariants as messages
+use Rattle.nz_msg.specs.declared.message.Message.TheVariants.{Answer}
 use Rattle.nz_machine.specs.declared.data.Attempt.{Attempt}
 use Rattle.nz_machine.specs.State.{ClientData, Out}
-use Rattle.nz_machine.specs.Clients.{if_due, opened, open_next, fill_places, fill_window, is_overdue, all_waited, asked_again, retry, retries, wait_rule, is_open, accepted, accept_rule}
+use Rattle.nz_machine.specs.Clients.{if_due, after_opening, open_next, fill_places, fill_window, is_overdue, after_wait}
+use Rattle.nz_machine.specs.Clients.{request_again, retry, retries, wait_rule, is_open, after_acceptance, accept_rule}
 use Rattle.nz_machine.specs.Step.{client_message}
-use Rattle.nz_machine.specs.Events.{command_at}
+use Rattle.nz_machine.specs.Events.{script_command}
 use Rattle.nz_machine.proofs.Runs.{on_cond}
-use Rattle.nz_machine.proofs.Each.{all_append, all_imply}
+use Rattle.nz_machine.proofs.EachItem.{all_append, all_imply}
 use Rattle.nz_machine.proofs.InTurn.{Rises, rises_most, InTurn, if_due_is}
-use Rattle.nz_machine.proofs.Progressing.{own_command}
+use Rattle.nz_machine.proofs.ProgressIsTold.{own_command}
 
 -- a request that is sent has a number of the client, and the script's command
 pub record IsAsked (script : List Request) (sent num : ℕ) (command : List ℕ) : Type 0 where
   pub some : 0 < num
   pub sent_before : num ≤ sent
-  pub own : command ≡ command_at script num
+  pub own : command ≡ script_command script num
 
 abbrev pub AskedFrom : List Request → ℕ → Message → Type 0
-AskedFrom script sent (Asked b) = IsAsked script sent b.num b.command
+AskedFrom script sent (messages.Request b) = IsAsked script sent b.num b.command
 AskedFrom script sent _ = ⊥
 
 abbrev pub AllAsked : List Request → ℕ → List Out → Type 0
 AllAsked script sent outs = AllByRecursion (λ (o : Out). AskedFrom script sent o.1) outs
 
 asked_later : (script : List Request) (sent more : ℕ) (m : Message) → sent ≤ more → AskedFrom script sent m → AskedFrom script more m
-asked_later script sent more (Asked b) le h = let before = h.sent_before in record { some = h.some; sent_before = omega (arith, before, le); own = h.own }
+asked_later script sent more (messages.Request b) le h = let before = h.sent_before in
+    record { some = h.some; sent_before = omega (arith, before, le); own = h.own }
 asked_later script sent more _ le h = absurd h
 
 all_asked_later : (script : List Request) (sent more : ℕ) (outs : List Out) → sent ≤ more → AllAsked script sent outs → AllAsked script more outs
@@ -41,7 +44,7 @@ all_asked_later script sent more outs le h =
 
 -- ---- new requests
 
-opened_more : (proxies me : ℕ) (s : ClientData) (o : Option Request) → s.sent ≤ (opened proxies me s o).0.sent
+opened_more : (proxies me : ℕ) (s : ClientData) (o : Option Request) → s.sent ≤ (after_opening proxies me s o).0.sent
 opened_more proxies me s None = omega arith
 opened_more proxies me s (Some r) = omega arith
 
@@ -53,7 +56,7 @@ places_more (suc free) proxies me script s =
     omega (arith, first, rest)
 
 opened_asked : (proxies me : ℕ) (script : List Request) (s : ClientData) (o : Option Request) → if_due s.ticks (slice_get script s.sent) ≡ o
-    → AllAsked script (opened proxies me s o).0.sent (opened proxies me s o).1
+    → AllAsked script (after_opening proxies me s o).0.sent (after_opening proxies me s o).1
 opened_asked proxies me script s None e = tt
 opened_asked proxies me script s (Some r) e = (
   record {
@@ -71,24 +74,27 @@ places_asked (suc free) proxies me script s =
     let t = open_next proxies me script s in
     let u = fill_places free proxies me script t.0 in
     all_append (λ (o : Out). AskedFrom script u.0.sent o.1) t.1 u.1
-    (all_asked_later script t.0.sent u.0.sent t.1 (places_more free proxies me script t.0) (opened_asked proxies me script s (if_due s.ticks (slice_get script s.sent)) refl))
+    (all_asked_later script t.0.sent u.0.sent t.1 (places_more free proxies me script t.0)
+    (opened_asked proxies me script s (if_due s.ticks (slice_get script s.sent)) refl))
     (places_asked free proxies me script t.0)
 
 -- ---- retries
 
 again_asked : (proxy num sent : ℕ) (script : List Request) (o : Option Request) → 0 < num → num ≤ sent → slice_get script (num - 1) ≡ o
-    → AllAsked script sent (asked_again proxy num o)
+    → AllAsked script sent (request_again proxy num o)
 again_asked proxy num sent script None some le e = tt
 again_asked proxy num sent script (Some r) some le e = (record { some = some; sent_before = le; own = own_command script num (num - 1) r refl e }, tt)
 
-retries_asked : (proxies low : ℕ) (script : List Request) (xs : List Attempt) (high sent : ℕ) → Rises low xs high → high ≤ sent → AllAsked script sent (retries proxies script xs)
+retries_asked : (proxies low : ℕ) (script : List Request) (xs : List Attempt) (high sent : ℕ) → Rises low xs high
+    → high ≤ sent → AllAsked script sent (retries proxies script xs)
 retries_asked proxies low script [] high sent h le = tt
 retries_asked proxies low script (a ∷ xs) high sent h le =
     let above = h.0 in
     let most = rises_most a.num xs high h.1 in
     all_append (λ (o : Out). AskedFrom script sent o.1) (retry proxies script a) (retries proxies script xs)
     (on_cond (AllAsked script sent) (is_overdue a) _ []
-    (λ _. again_asked ((a.proxy + 1) % proxies) a.num sent script (slice_get script (a.num - 1)) (omega (arith, above)) (omega (arith, most, le)) refl) (λ _. tt))
+    (λ _. again_asked ((a.proxy + 1) % proxies) a.num sent script (slice_get script (a.num - 1))
+    (omega (arith, above)) (omega (arith, most, le)) refl) (λ _. tt))
     (retries_asked proxies a.num script xs high sent h.1 le)
 
 -- ---- the rules
@@ -97,7 +103,7 @@ pub tick_asked : (window proxies me : ℕ) (script : List Request) (s : ClientDa
     → AllAsked script (wait_rule window proxies me script s).0.sent (wait_rule window proxies me script s).1
 unfolding wait_rule
 tick_asked window proxies me script s h =
-    let now = all_waited proxies s in
+    let now = after_wait proxies s in
     let free = window - length now.attempts in
     let t = fill_window window proxies me script now in
     all_append (λ (o : Out). AskedFrom script t.0.sent o.1) (retries proxies script s.attempts) t.1
@@ -107,11 +113,11 @@ accept_asked : (window proxies me : ℕ) (script : List Request) (s : ClientData
     → AllAsked script (accept_rule window proxies me script s b).0.sent (accept_rule window proxies me script s b).1
 unfolding accept_rule
 accept_asked window proxies me script s b =
-    let now = accepted b.num s in
+    let now = after_acceptance b.num s in
     on_cond (λ (t : ClientData × List Out). AllAsked script t.0.sent t.1) (is_open b.num s.attempts) (fill_window window proxies me script now) (s, [])
     (λ _. places_asked (window - length now.attempts) proxies me script now) (λ _. tt)
 
 pub message_asked : (window proxies me : ℕ) (script : List Request) (s : ClientData) (from : Actor) (m : Message)
     → AllAsked script (client_message window proxies me script s from m).0.sent (client_message window proxies me script s from m).1
-message_asked window proxies me script s (Proxy p) (Answered b) = accept_asked window proxies me script s b
+message_asked window proxies me script s (Proxy p) (Answer b) = accept_asked window proxies me script s b
 message_asked window proxies me script s _ _ = tt

@@ -32,7 +32,7 @@ use Rattle.nz_laws_commit.proofs.LaterStarts.{in_later_starts, pairs}
 use Rattle.nz_laws_commit.proofs.FactsStay.{facts_stay}
 use Rattle.nz_laws_commit.proofs.Instance.{normal_status, normal_up_status, led_log, led_leads, lead_is, start_is}
 use Rattle.nz_laws_commit.proofs.Keyed.{WereSent, keyed_prefix, keyed_comparable, start_sent, lead_sent}
-use Rattle.nz_laws_commit.proofs.Asked.{own_command}
+use Rattle.nz_laws_commit.proofs.OwnCommands.{own_command}
 use Rattle.nz_laws_commit.proofs.Accepted.{events_later, given_sent, IsDecidedIn, decided_in, accepted_somewhere}
 use Rattle.nz_laws_commit.proofs.Supporting.{accepted_supported}
 

@@ -1,5 +1,6 @@
 -- Each request is sent once, and accepted at most once and after that.
-use Rattle.std.proofs.Common.{◌≡◌, ℕ, zero, suc, ◌+◌, ◌-◌, ◌<◌, ◌≤◌, Bool, true, false, cond, nat_lt, List, [], ◌∷◌, ◌++◌, Option, Some, None, refl, sym, ap, subst, ◌∙◌, arith, inl, inr, ◌⊎◌}
+use Rattle.std.proofs.Common.{◌≡◌, ℕ, zero, suc, ◌+◌, ◌-◌, ◌<◌, ◌≤◌, Bool, true, false, cond, nat_lt, List, []}
+use Rattle.std.proofs.Common.{◌∷◌, ◌++◌, Option, Some, None, refl, sym, ap, subst, ◌∙◌, arith, inl, inr, ◌⊎◌}
 use Rattle.std.proofs.lemmas.Bool.{false≢true}
 use Rattle.std.proofs.lemmas.Option.{none-some}
 use Rattle.nz_base.specs.declared.actor.Actor.{Actor}
@@ -10,7 +11,7 @@ use Rattle.nz_store.specs.declared.command.Answer.{Answer}
 use Rattle.nz_msg.specs.declared.message.AnswerBody.{AnswerBody}
 use Rattle.nz_msg.specs.declared.message.Path.{Path}
 use Rattle.nz_msg.specs.declared.message.Message.{Message}
-use Rattle.nz_msg.specs.declared.message.Message.TheVariants.{Answer as Answered}
+use Rattle.nz_msg.specs.declared.message.Message.TheVariants as messages
 use Rattle.nz_msg.specs.declared.envelope.Envelope.{Envelope}
 use Rattle.nz_machine.specs.declared.event.Event.{Event}
 use Rattle.nz_machine.specs.declared.event.Event.TheVariants.{Deliver, Cut, Tick, Alarm, Crash, Restart}
@@ -19,12 +20,14 @@ use Rattle.nz_machine.specs.State.{ClientData, Group}
 use Rattle.nz_machine.specs.Clients.{is_open}
 use Rattle.nz_machine.specs.Step.{script_of, client_message, envelope_step, event_step}
 use Rattle.nz_machine.specs.World.{state_after, Has}
-use Rattle.nz_machine.specs.Events.{Told, Sent, Accepted, id_at, command_at, read_in, accepted_in, accepted_by, sent_after, sent_by, told_by, events}
+use Rattle.nz_machine.specs.Events.{ClientEvent, Sent, Accepted, id_at, script_command, read_in, accepted_in}
+use Rattle.nz_machine.specs.Events.{accepted_by, sent_after, sent_by, client_events, events}
 use Rattle.nz_machine.specs.OneHistory.{Precedes}
 use Rattle.nz_machine.proofs.Runs.{acts_itself, has_left, has_right, has_split}
 use Rattle.nz_machine.proofs.InTurn.{InTurn, open_within, answer_takes}
 use Rattle.nz_laws_commit.specs.Once.{AreOnce}
-use Rattle.nz_laws_commit.proofs.Tells.{AcceptsAnswer, told_sent, told_accepted, same_sent, not_sent, not_accepted, is_after, not_sent_before, has_sent, in_turn, turns}
+use Rattle.nz_laws_commit.proofs.ClientEvents.{AcceptsAnswer, told_sent, told_accepted, same_sent, not_sent, not_accepted}
+use Rattle.nz_laws_commit.proofs.ClientEvents.{is_after, not_sent_before, has_sent, in_turn, turns}
 use Rattle.nz_laws_commit.proofs.Opened.{few_open}
 
 -- ---- lists of events
@@ -58,20 +61,22 @@ record Shuts (before after : ClientData) (num : ℕ) : Type 0 where
   closed : is_open num after.attempts ≡ false
 
 message_shuts : (window proxies me : ℕ) (script : List Request) (s : ClientData) (from : Actor) (b : AnswerBody) → InTurn window script s
-    → s.accepted < (client_message window proxies me script s from (Answered b)).0.accepted
-    → Shuts s (client_message window proxies me script s from (Answered b)).0 b.num
-message_shuts window proxies me script s (Proxy p) b h lt = let t = answer_takes window proxies me script s b h in record { was_open = t.held lt; closed = t.shut lt }
+    → s.accepted < (client_message window proxies me script s from (messages.Answer b)).0.accepted
+    → Shuts s (client_message window proxies me script s from (messages.Answer b)).0 b.num
+message_shuts window proxies me script s (Proxy p) b h lt = let t = answer_takes window proxies me script s b h in
+    record { was_open = t.held lt; closed = t.shut lt }
 message_shuts window proxies me script s (Replica r) b h lt = absurd (omega (arith, lt))
 message_shuts window proxies me script s (Client c) b h lt = absurd (omega (arith, lt))
 
-envelope_shuts : (g : Group) (c : ℕ) (s : ClientData) (e : Envelope) (b : AnswerBody) → e.message ≡ Answered b → InTurn g.window (script_of g c) s
+envelope_shuts : (g : Group) (c : ℕ) (s : ClientData) (e : Envelope) (b : AnswerBody) → e.message ≡ messages.Answer b → InTurn g.window (script_of g c) s
     → s.accepted < (envelope_step g (Client c) s (Some e)).0.accepted → Shuts s (envelope_step g (Client c) s (Some e)).0 b.num
 envelope_shuts g c s e b is h =
     let step = λ (m : Message). client_message g.window g.proxies c (script_of g c) s e.from m in
     subst (λ (m : Message). s.accepted < (step m).0.accepted → Shuts s (step m).0 b.num) (sym is)
     (message_shuts g.window g.proxies c (script_of g c) s e.from b h)
 
-event_shuts : (g : Group) (c : ℕ) (s : ClientData) (event : Event) (e : Envelope) (b : AnswerBody) → read_in g (Client c) event ≡ Some e → e.message ≡ Answered b
+event_shuts : (g : Group) (c : ℕ) (s : ClientData) (event : Event) (e : Envelope) (b : AnswerBody)
+    → read_in g (Client c) event ≡ Some e → e.message ≡ messages.Answer b
     → InTurn g.window (script_of g c) s → s.accepted < (event_step g (Client c) s event).0.accepted → Shuts s (event_step g (Client c) s event).0 b.num
 event_shuts g c s (Deliver p) e b read is h =
     subst (λ (o : Option Envelope). s.accepted < (envelope_step g (Client c) s o).0.accepted → Shuts s (envelope_step g (Client c) s o).0 b.num) (sym read)
@@ -106,7 +111,7 @@ record IsClosed (num : ℕ) (s : ClientData) : Type 0 where
 accepted_closed : (g : Group) (J : List Record) (id : Id) (a : Answer) (p : Path) → Has (events g J) (Accepted id a p)
     → IsClosed id.num (state_after g (Client id.client) J)
 accepted_closed g [] id a p h = absurd h
-accepted_closed g (r ∷ J) id a p h = elim (has_split (events g J) (told_by g r.actor r J) (Accepted id a p) h) [
+accepted_closed g (r ∷ J) id a p h = elim (has_split (events g J) (client_events g r.actor r J) (Accepted id a p) h) [
   | inl x ↦
       let old = accepted_closed g J id a p x in
       let k = turns g id.client r J in
@@ -129,33 +134,34 @@ not_accepted_before g r J id a b p q t h =
 
 -- ---- the events of one record
 
-alone : (b : Bool) (z x y : Told) → Precedes (cond b (z ∷ []) []) x y → ⊥
+alone : (b : Bool) (z x y : ClientEvent) → Precedes (cond b (z ∷ []) []) x y → ⊥
 alone true z x y (inl h) = h.1
 alone true z x y (inr h) = h
 alone false z x y h = h
 
-accepted_alone : (c : ℕ) (before after : ClientData) (m : Message) (x y : Told) → Precedes (accepted_in c before after m) x y → ⊥
-accepted_alone c before after (Answered b) x y h = alone (nat_lt before.accepted after.accepted) (Accepted (id_at c b.num) b.answer b.path) x y h
+accepted_alone : (c : ℕ) (before after : ClientData) (m : Message) (x y : ClientEvent) → Precedes (accepted_in c before after m) x y → ⊥
+accepted_alone c before after (messages.Answer b) x y h = alone (nat_lt before.accepted after.accepted) (Accepted (id_at c b.num) b.answer b.path) x y h
 accepted_alone c before after _ x y h = h
 
-one_accepted : (c : ℕ) (before after : ClientData) (o : Option Envelope) (x y : Told) → Precedes (accepted_by c before after o) x y → ⊥
+one_accepted : (c : ℕ) (before after : ClientData) (o : Option Envelope) (x y : ClientEvent) → Precedes (accepted_by c before after o) x y → ⊥
 one_accepted c before after None x y h = h
 one_accepted c before after (Some e) x y h = accepted_alone c before after e.message x y h
 
 -- a record has an acceptance, and then a request
-record IsPair (g : Group) (a : Actor) (r : Record) (J : List Record) (x y : Told) : Type 0 where
+record IsPair (g : Group) (a : Actor) (r : Record) (J : List Record) (x y : ClientEvent) : Type 0 where
   client : ℕ
   by : a ≡ Client client
   first : Has (accepted_by client (state_after g (Client client) J) (state_after g (Client client) (r ∷ J)) (read_in g (Client client) r.event)) x
   second : Has (sent_by client (script_of g client) (state_after g (Client client) J) (state_after g (Client client) (r ∷ J))) y
 
 -- or one request after another
-record AreSent (g : Group) (a : Actor) (r : Record) (J : List Record) (x y : Told) : Type 0 where
+record AreSent (g : Group) (a : Actor) (r : Record) (J : List Record) (x y : ClientEvent) : Type 0 where
   client : ℕ
   by : a ≡ Client client
   both : Precedes (sent_by client (script_of g client) (state_after g (Client client) J) (state_after g (Client client) (r ∷ J))) x y
 
-pair_told : (g : Group) (a : Actor) (r : Record) (J : List Record) (x y : Told) → Precedes (told_by g a r J) x y → IsPair g a r J x y ⊎ AreSent g a r J x y
+pair_told : (g : Group) (a : Actor) (r : Record) (J : List Record) (x y : ClientEvent)
+    → Precedes (client_events g a r J) x y → IsPair g a r J x y ⊎ AreSent g a r J x y
 pair_told g (Client c) r J x y h =
     let before = state_after g (Client c) J in
     let after = state_after g (Client c) (r ∷ J) in
@@ -168,12 +174,13 @@ pair_told g (Replica m) r J x y h = absurd h
 pair_told g (Proxy p) r J x y h = absurd h
 
 -- the requests of one record have rising numbers
-sent_rising : (c : ℕ) (script : List Request) (n more : ℕ) (a b : Id) (x y : List ℕ) → Precedes (sent_after c script n more) (Sent a x) (Sent b y) → a.num < b.num
+sent_rising : (c : ℕ) (script : List Request) (n more : ℕ) (a b : Id) (x y : List ℕ)
+    → Precedes (sent_after c script n more) (Sent a x) (Sent b y) → a.num < b.num
 sent_rising c script n zero a b x y h = absurd h
 sent_rising c script n (suc more) a b x y (inl h) =
     let t = is_after c script (n + 1) more (Sent b y) h.1 in
-    let first = ap (λ (i : Id). i.num) (same_sent (id_at c (n + 1)) a (command_at script (n + 1)) x h.0) in
-    let second = ap (λ (i : Id). i.num) (same_sent (id_at c t.num) b (command_at script t.num) y t.is) in
+    let first = ap (λ (i : Id). i.num) (same_sent (id_at c (n + 1)) a (script_command script (n + 1)) x h.0) in
+    let second = ap (λ (i : Id). i.num) (same_sent (id_at c t.num) b (script_command script t.num) y t.is) in
     let above = t.above in
     omega (arith, first, second, above)
 sent_rising c script n (suc more) a b x y (inr h) = sent_rising c script (n + 1) more a b x y h
@@ -182,7 +189,7 @@ sent_rising c script n (suc more) a b x y (inr h) = sent_rising c script (n + 1)
 
 sent_twice : (g : Group) (r : Record) (J : List Record) (id : Id) (x y : List ℕ) → AreOnce g.window (events g J)
     → Precedes (events g (r ∷ J)) (Sent id x) (Sent id y) → ⊥
-sent_twice g r J id x y old h = elim (precedes_three (events g J) (told_by g r.actor r J) (Sent id x) (Sent id y) h) [
+sent_twice g r J id x y old h = elim (precedes_three (events g J) (client_events g r.actor r J) (Sent id x) (Sent id y) h) [
   | inl k ↦ old.sent id x y k
   | inr (inl k) ↦ not_sent_before g r J id x (told_sent g r J id y k.1) k.0
   | inr (inr k) ↦ elim (pair_told g r.actor r J (Sent id x) (Sent id y) k) [
@@ -197,7 +204,7 @@ sent_twice g r J id x y old h = elim (precedes_three (events g J) (told_by g r.a
 
 accepted_twice : (g : Group) (r : Record) (J : List Record) (id : Id) (a b : Answer) (p q : Path) → AreOnce g.window (events g J)
     → Precedes (events g (r ∷ J)) (Accepted id a p) (Accepted id b q) → ⊥
-accepted_twice g r J id a b p q old h = elim (precedes_three (events g J) (told_by g r.actor r J) (Accepted id a p) (Accepted id b q) h) [
+accepted_twice g r J id a b p q old h = elim (precedes_three (events g J) (client_events g r.actor r J) (Accepted id a p) (Accepted id b q) h) [
   | inl k ↦ old.accepted id a b p q k
   | inr (inl k) ↦ not_accepted_before g r J id a b p q (told_accepted g r J id b q k.1) k.0
   | inr (inr k) ↦ elim (pair_told g r.actor r J (Accepted id a p) (Accepted id b q) k) [
@@ -216,12 +223,12 @@ sent_first g r J id a p t =
     let within = accept_within g r J id a p t in
     let n = t.body.num in
     let sent = (has_sent g c J).each n within.0 within.1 in
-    (command_at (script_of g c) n, subst (λ (i : Id). Has (events g J) (Sent i (command_at (script_of g c) n))) (sym t.id_is) sent)
+    (script_command (script_of g c) n, subst (λ (i : Id). Has (events g J) (Sent i (script_command (script_of g c) n))) (sym t.id_is) sent)
 
 accepted_after : (g : Group) (r : Record) (J : List Record) (id : Id) (a : Answer) (p : Path) → AreOnce g.window (events g J)
     → Has (events g (r ∷ J)) (Accepted id a p) → (command : List ℕ) × Precedes (events g (r ∷ J)) (Sent id command) (Accepted id a p)
 accepted_after g r J id a p old h =
-    let more = told_by g r.actor r J in
+    let more = client_events g r.actor r J in
     elim (has_split (events g J) more (Accepted id a p) h) [
       | inl k ↦ let t = old.in_order id a p k in (t.0, precedes_left (events g J) more (Sent id t.0) (Accepted id a p) t.1)
       | inr k ↦ let t = sent_first g r J id a p (told_accepted g r J id a p k) in (t.0, precedes_across (events g J) more (Sent id t.0) (Accepted id a p) t.1 k)

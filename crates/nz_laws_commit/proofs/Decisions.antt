@@ -14,16 +14,17 @@ use Rattle.nz_machine.specs.State.{Standing, Open, Decided, Group}
 use Rattle.nz_machine.specs.Quorums.{Chosen, decision, reply_eq, answer_in, with_note, view_of}
 use Rattle.nz_machine.specs.World.{state_after, Has, World}
 use Rattle.nz_machine.specs.Events.{read_in}
-use Rattle.nz_machine.specs.History.{older_or, standing_after, is_decided, decision_moment, replies_of, reply_read, with_reply, replies_at_last, deciding_reply, ReplySource, source_of_reply, source_at_decision, prefix_at_source}
+use Rattle.nz_machine.specs.History.{older_or, standing_after, is_decided, decision_moment, replies_of, reply_read, with_reply_noted, replies_at_last}
+use Rattle.nz_machine.specs.History.{deciding_reply, ReplySource, source_of_reply, source_at_decision, prefix_at_source}
 use Rattle.nz_base.specs.Moments.{At}
 use Rattle.nz_base.proofs.Moments.{at_self}
 use Rattle.nz_machine.proofs.Sources.{reply_eq_self}
 use Rattle.nz_machine.proofs.Choices.{decision_is}
 use Rattle.nz_laws_commit.proofs.Answering.{IsGiven}
 use Rattle.nz_laws_commit.proofs.Standings.{Moves, Stays, Forgets, Opens, Notes, Decides}
-use Rattle.nz_laws_commit.proofs.Said.{IsBacked}
+use Rattle.nz_laws_commit.proofs.NotedWereSent.{IsBacked}
 use Rattle.nz_laws_commit.proofs.Chosen.{chosen_quorum}
-use Rattle.nz_laws_commit.proofs.Notes.{IsNoted, moment_of, standing_moves, has_moment, noted_brought, noted_source}
+use Rattle.nz_laws_commit.proofs.ReplySources.{IsNoted, moment_of, standing_moves, has_moment, noted_brought, noted_source}
 
 has_noted : (replies : List Reply) (r : Reply) → Has replies r → IsNoted r replies
 has_noted [] r h = absurd h
@@ -73,7 +74,7 @@ decides g r J q id a p replies n chosen w by before heard d answer now =
     let m = moment_of g q id r J replies n chosen.reply by before heard (has_moment g J q id chosen.reply) noted in
     let b = noted_source g (r ∷ J) q id chosen.reply a w m answer in
     let stood : replies_at_last g q id (r ∷ J) ≡ with_note replies n =
-    ap (λ (t : Option Standing). with_reply (replies_of t) (reply_read id (read_in g (Proxy q) r.event))) before ∙ ap (with_reply replies) heard in
+    ap (λ (t : Option Standing). with_reply_noted (replies_of t) (reply_read id (read_in g (Proxy q) r.event))) before ∙ ap (with_reply_noted replies) heard in
     let deciding : deciding_reply g q id (r ∷ J) ≡ Some chosen.reply = ap (λ (ys : List Reply). option_map (λ (c : Chosen). c.reply) (decision g.f ys)) stood
     ∙ ap (option_map (λ (c : Chosen). c.reply)) d in
     record {

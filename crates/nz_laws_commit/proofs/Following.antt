@@ -1,6 +1,7 @@
 -- In every run the states of the replicas have what the laws on logs ask of them, but for what each record does and
 -- what each begin merges.
-use Rattle.std.proofs.Common.{◌≡◌, ℕ, ◌<◌, Bool, true, false, cond, eqb, ◌&&◌, List, [], ◌∷◌, length, Option, Some, None, refl, sym, ap, subst, ◌∙◌, arith, inl, inr, ◌⊎◌, eq-eqb, eqb-true}
+use Rattle.std.proofs.Common.{◌≡◌, ℕ, ◌<◌, Bool, true, false, cond, eqb, ◌&&◌, List, [], ◌∷◌, length, Option}
+use Rattle.std.proofs.Common.{Some, None, refl, sym, ap, subst, ◌∙◌, arith, inl, inr, ◌⊎◌, eq-eqb, eqb-true}
 use Rattle.std.specs.Option.{option_map}
 use Rattle.std.proofs.lemmas.Option.{none-some, same_Some}
 use Rattle.nz_base.specs.Actor.{actor_eq}
@@ -22,10 +23,10 @@ use Rattle.nz_machine.specs.Leading.{leader_at}
 use Rattle.nz_machine.specs.Begun.{begins, earlier_or, start}
 use Rattle.nz_machine.proofs.Moments.{at_world}
 use Rattle.nz_machine.proofs.Runs.{stays}
-use Rattle.nz_machine.proofs.Words.{own_carried}
+use Rattle.nz_machine.proofs.WordsKeepFacts.{own_carried}
 use Rattle.nz_laws_cv.specs.Views.{HasViews, ComesFrom}
 use Rattle.nz_laws_cv.proofs.Modes.{up_not_down, normal_no_rejoin}
-use Rattle.nz_laws_cv.proofs.Passing.{inc_same}
+use Rattle.nz_laws_cv.proofs.WithinIncarnation.{inc_same}
 use Rattle.nz_laws_cv.proofs.ViewNotions.{Begins, notions}
 use Rattle.nz_laws_cv.proofs.Grounds.{later_at, completing_is}
 use Rattle.nz_laws_cv.proofs.Showing.{shows}

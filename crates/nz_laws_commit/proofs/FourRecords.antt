@@ -1,5 +1,6 @@
 -- The example follows the rules, with a key that is supported in view 0: no premise contradicts the others.
-use Rattle.std.proofs.Common.{◌≡◌, ℕ, zero, suc, ◌<◌, ◌≤◌, Bool, true, false, cond, eqb, List, [], ◌∷◌, length, Option, Some, None, refl, sym, ap, subst, ◌∙◌, arith, inl, inr, ◌⊎◌}
+use Rattle.std.proofs.Common.{◌≡◌, ℕ, zero, suc, ◌<◌, ◌≤◌, Bool, true, false, cond, eqb, List, [], ◌∷◌, length}
+use Rattle.std.proofs.Common.{Option, Some, None, refl, sym, ap, subst, ◌∙◌, arith, inl, inr, ◌⊎◌}
 use Rattle.std.specs.List.{All}
 use Rattle.std.specs.Option.{option_or}
 use Rattle.std.proofs.lemmas.Bool.{ne_eqb}
@@ -14,13 +15,14 @@ use Rattle.nz_base.specs.Prefixes.{IsPrefix}
 use Rattle.nz_base.proofs.Prefixes.{prefix_self, prefix_none, prefix_then}
 use Rattle.nz_math.proofs.Twos.{of_two, two_choice}
 use Rattle.nz_merge.specs.declared.change.Change.{Change}
-use Rattle.nz_merge.specs.Merged.{merged, later}
+use Rattle.nz_merge.specs.Merged.{merged, later_keys}
 use Rattle.nz_laws_commit.specs.States.{Normal, ViewChange, LogState, place}
 use Rattle.nz_laws_commit.specs.Supports.{IsNormal, HadSynced, Support}
 use Rattle.nz_laws_commit.specs.Premises.{ViewPremises, IsMemberReport, IsMergeOfReports}
 use Rattle.nz_laws_commit.specs.Machines.{is_normal, inc_of, lead_of, start_of, leads_by, machine_of}
 use Rattle.nz_laws_commit.specs.Does.{Does, Released, Entered, Synced, Began, FollowsRules}
-use Rattle.nz_laws_commit.specs.Example.{Step, First, Second, Third, Fourth, key, entry, by, zeros, new_state, full_state, changing_state, begun_state, after, state, early, run, group}
+use Rattle.nz_laws_commit.specs.Example.{Step, First, Second, Third, Fourth, key, entry, by, zeros, new_state, full_state}
+use Rattle.nz_laws_commit.specs.Example.{changing_state, begun_state, after, state, early, run, group}
 use Rattle.nz_laws_commit.proofs.Following.{never_all}
 
 -- ---- all moments
@@ -234,7 +236,7 @@ reports =
     All-from_recursion (λ (c : Change). IsMemberReport (machine_of group) 1 c run) (first_change ∷ second_change ∷ []) (report_first, (report_second, tt))
 
 merged_is : key ∷ [] ≡ keys_of (merged 1 (first_change ∷ second_change ∷ []))
-unfolding merged later
+unfolding merged later_keys
 merged_is = refl
 
 begun_one : IsMergeOfReports (machine_of group) 1 (key ∷ []) run

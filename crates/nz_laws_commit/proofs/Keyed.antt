@@ -1,6 +1,7 @@
 -- Lists of entries, by their keys: in one run equal keys are of equal entries, and an id has one place among a
 -- leader's.
-use Rattle.std.proofs.Common.{◌≡◌, ℕ, zero, suc, ◌<◌, eqb, Bool, true, false, cond, List, [], ◌∷◌, ◌++◌, take, Option, Some, None, refl, sym, ap, subst, ◌∙◌, arith, inl, inr, ◌⊎◌}
+use Rattle.std.proofs.Common.{◌≡◌, ℕ, zero, suc, ◌<◌, eqb, Bool, true, false, cond, List, [], ◌∷◌, ◌++◌}
+use Rattle.std.proofs.Common.{take, Option, Some, None, refl, sym, ap, subst, ◌∙◌, arith, inl, inr, ◌⊎◌}
 use Rattle.std.specs.Prelude.{slice_get}
 use Rattle.std.proofs.lemmas.Option.{none-some, same_Some}
 use Rattle.nz_base.specs.Cluster.{leader_of}
@@ -18,14 +19,14 @@ use Rattle.nz_log.specs.Places.{place_of}
 use Rattle.nz_machine.specs.declared.event.Record.{Record}
 use Rattle.nz_machine.specs.State.{Group}
 use Rattle.nz_machine.specs.World.{Has, World}
-use Rattle.nz_machine.specs.Events.{Sent, told_by, events}
+use Rattle.nz_machine.specs.Events.{Sent, client_events, events}
 use Rattle.nz_machine.specs.OneHistory.{Precedes}
 use Rattle.nz_machine.specs.Leading.{leader_at, is_led, lead}
 use Rattle.nz_machine.specs.Begun.{begins, earlier_or, start}
 use Rattle.nz_machine.proofs.Runs.{has_left}
 use Rattle.nz_laws_commit.proofs.FactsStay.{facts_stay}
 use Rattle.nz_laws_commit.proofs.Places.{place_cases}
-use Rattle.nz_laws_commit.proofs.Asked.{WasSent, own_command}
+use Rattle.nz_laws_commit.proofs.OwnCommands.{WasSent, own_command}
 use Rattle.nz_laws_commit.proofs.Counts.{are_once}
 use Rattle.nz_laws_commit.proofs.Instance.{led_log, not_led}
 
@@ -83,7 +84,7 @@ keyed_comparable g J xs ys mine its (inr p) = inr (keyed_prefix g J ys xs its mi
 -- ---- what a view began with, and what its leader leads with
 
 later_sent : (g : Group) (r : Record) (J : List Record) (e : Entry) → WasSent (events g J) e → WasSent (events g (r ∷ J)) e
-later_sent g r J e h = has_left (events g J) (told_by g r.actor r J) (Sent (id_of e.key) e.command) h
+later_sent g r J e h = has_left (events g J) (client_events g r.actor r J) (Sent (id_of e.key) e.command) h
 
 leader_sent : (g : Group) (J : List Record) → World g J → (v : ℕ) → WereSent g J (leader_at g v J).log.entries
 leader_sent g J w v e h = own_command g J (leader_of g.f v) e w h

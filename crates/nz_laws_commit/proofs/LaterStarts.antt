@@ -14,7 +14,7 @@ use Rattle.nz_base.proofs.Prefixes.{prefix_then, prefix_take, shorter_prefix, bo
 use Rattle.nz_math.specs.Count.{is_in}
 use Rattle.nz_math.proofs.Upto.{upto}
 use Rattle.nz_merge.specs.declared.change.Change.{Change}
-use Rattle.nz_merge.specs.Merged.{AreFit, IsFit, kept, synced_part, merged}
+use Rattle.nz_merge.specs.Merged.{AreFit, IsFit, changes_kept, merged_synced_part, merged}
 use Rattle.nz_merge.proofs.Senders.{slow_member}
 use Rattle.nz_merge.proofs.Bases.{last_of, IsBase, within_greatest, base_of, synced_stays, fast_count, fast_stays}
 use Rattle.nz_laws_commit.specs.States.{Machine}
@@ -40,7 +40,7 @@ module _ {R : Type 0} (M : Machine R) (J : List R) (h : RunLaws M J) (v : ℕ) (
 
     -- the synced part that is merged, and the greatest last view
     abbrev base_keys : List Key
-    base_keys = keys_of (synced_part (kept b.changes))
+    base_keys = keys_of (merged_synced_part (changes_kept b.changes))
 
     abbrev greatest_last : ℕ
     greatest_last = last_of b.changes

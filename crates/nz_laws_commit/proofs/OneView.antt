@@ -1,5 +1,6 @@
 -- One view: from what each record does, what is synced is the leader's, and what a record leaves of a prefix.
-use Rattle.std.proofs.Common.{◌≡◌, ℕ, ◌<◌, ◌≤◌, Bool, true, false, cond, eqb, List, [], ◌∷◌, length, take, Option, Some, None, refl, sym, ap, subst, ◌∙◌, arith, inl, inr, ◌⊎◌}
+use Rattle.std.proofs.Common.{◌≡◌, ℕ, ◌<◌, ◌≤◌, Bool, true, false, cond, eqb, List, [], ◌∷◌, length, take}
+use Rattle.std.proofs.Common.{Option, Some, None, refl, sym, ap, subst, ◌∙◌, arith, inl, inr, ◌⊎◌}
 use Rattle.std.proofs.lemmas.Bool.{cases_eq, eq-eqb}
 use Rattle.std.proofs.lemmas.Option.{same_Some}
 use Rattle.std.proofs.lemmas.List.{length-map}
@@ -16,7 +17,8 @@ use Rattle.nz_base.proofs.Prefixes.{prefix_same, prefix_then, prefix_take, prefi
 use Rattle.nz_laws_commit.specs.States.{Status, Normal, ViewChange, Rejoining, Down, IsUp, LogState, Machine}
 use Rattle.nz_laws_commit.specs.Supports.{IsNormal, IsUpIn, keys_at}
 use Rattle.nz_laws_commit.specs.Machines.{GroupStates, leads_by, lead_of, start_of, machine_of}
-use Rattle.nz_laws_commit.specs.Does.{IsUnchanged, IsModified, Syncs, Does, Stays, Released, Entered, Synced, Began, Adopted, Fell, Rose, VectorGrows, FollowsRules}
+use Rattle.nz_laws_commit.specs.Does.{IsUnchanged, IsModified, Syncs, Does, Stays, Released, Entered}
+use Rattle.nz_laws_commit.specs.Does.{Synced, Began, Adopted, Fell, Rose, VectorGrows, FollowsRules}
 use Rattle.nz_laws_commit.proofs.RunLaws.{HasGrown, RecordLaws, RunLaws, StepLaws}
 use Rattle.nz_laws_commit.proofs.Closing.{never_up, run_laws_of, start_step, start_stays, leads_test, lead_is, lead_step, lead_grows, starts}
 

@@ -1,5 +1,6 @@
 -- At each moment a client has at most as many requests open as its window has places.
-use Rattle.std.proofs.Common.{◌≡◌, ℕ, zero, suc, ◌+◌, ◌-◌, ◌<◌, ◌≤◌, eqb, eqb-true, Bool, true, false, cond, nat_lt, List, [], ◌∷◌, ◌++◌, Option, Some, None, refl, sym, ap, subst, ◌∙◌, arith, inl, inr, ◌⊎◌, lt-ltb}
+use Rattle.std.proofs.Common.{◌≡◌, ℕ, zero, suc, ◌+◌, ◌-◌, ◌<◌, ◌≤◌, eqb, eqb-true, Bool, true, false, cond, nat_lt, List}
+use Rattle.std.proofs.Common.{[], ◌∷◌, ◌++◌, Option, Some, None, refl, sym, ap, subst, ◌∙◌, arith, inl, inr, ◌⊎◌, lt-ltb}
 use Rattle.std.proofs.lemmas.Bool.{cases_lt, eq-eqb}
 use Rattle.nz_base.specs.Actor.{actor_eq}
 use Rattle.nz_base.specs.declared.actor.Actor.{Actor}
@@ -7,20 +8,20 @@ use Rattle.nz_base.specs.declared.actor.Actor.TheVariants.{Replica, Proxy, Clien
 use Rattle.nz_base.specs.declared.scenario.Request.{Request}
 use Rattle.nz_msg.specs.declared.message.AnswerBody.{AnswerBody}
 use Rattle.nz_msg.specs.declared.message.Message.{Message}
-use Rattle.nz_msg.specs.declared.message.Message.TheVariants.{Answer as Answered}
+use Rattle.nz_msg.specs.declared.message.Message.TheVariants.{Answer}
 use Rattle.nz_msg.specs.declared.envelope.Envelope.{Envelope}
 use Rattle.nz_machine.specs.declared.event.Event.{Event}
 use Rattle.nz_machine.specs.declared.event.Event.TheVariants.{Deliver, Tick}
 use Rattle.nz_machine.specs.declared.event.Record.{Record}
 use Rattle.nz_machine.specs.State.{ClientData, Group}
-use Rattle.nz_machine.specs.Step.{script_of, received, envelope_step, event_step}
+use Rattle.nz_machine.specs.Step.{script_of, accepted_envelope, envelope_step, event_step}
 use Rattle.nz_machine.specs.World.{state_after}
-use Rattle.nz_machine.specs.Events.{Told, Sent, Accepted, id_at, read_in, accepted_in, accepted_by, sent_after, sent_by, told_by, events}
+use Rattle.nz_machine.specs.Events.{ClientEvent, Sent, Accepted, id_at, read_in, accepted_in, accepted_by, sent_after, sent_by, client_events, events}
 use Rattle.nz_machine.proofs.Runs.{acts_itself, stays, on_cond}
 use Rattle.nz_machine.proofs.InTurn.{InTurn, tick_fills}
 use Rattle.nz_machine.proofs.Accepting.{client_accepts}
 use Rattle.nz_laws_commit.specs.Once.{count_sent, count_accepted}
-use Rattle.nz_laws_commit.proofs.Tells.{in_turn, turns}
+use Rattle.nz_laws_commit.proofs.ClientEvents.{in_turn, turns}
 
 -- ---- counts
 
@@ -28,13 +29,13 @@ plus_one : (b : Bool) (m n : ℕ) → cond b (suc (m + n)) (m + n) ≡ cond b (s
 plus_one true m n = omega arith
 plus_one false m n = refl
 
-sent_append : (c : ℕ) (E F : List Told) → count_sent c (E ++ F) ≡ count_sent c E + count_sent c F
+sent_append : (c : ℕ) (E F : List ClientEvent) → count_sent c (E ++ F) ≡ count_sent c E + count_sent c F
 sent_append c [] F = omega arith
 sent_append c (Sent id command ∷ E) F =
     ap (λ (n : ℕ). cond (eqb id.client c) (suc n) n) (sent_append c E F) ∙ plus_one (eqb id.client c) (count_sent c E) (count_sent c F)
 sent_append c (Accepted id answer path ∷ E) F = sent_append c E F
 
-accepted_append : (c : ℕ) (E F : List Told) → count_accepted c (E ++ F) ≡ count_accepted c E + count_accepted c F
+accepted_append : (c : ℕ) (E F : List ClientEvent) → count_accepted c (E ++ F) ≡ count_accepted c E + count_accepted c F
 accepted_append c [] F = omega arith
 accepted_append c (Sent id command ∷ E) F = accepted_append c E F
 accepted_append c (Accepted id answer path ∷ E) F =
@@ -56,8 +57,9 @@ none_after c k script n (suc more) e =
     ap (λ (b : Bool). cond b (suc rest) rest) e ∙ none_after c k script (n + 1) more e
 
 none_sent_in : (c k : ℕ) (before after : ClientData) (m : Message) → count_sent c (accepted_in k before after m) ≡ 0
-none_sent_in c k before after (Answered b) =
-    on_cond (λ (E : List Told). count_sent c E ≡ 0) (nat_lt before.accepted after.accepted) (Accepted (id_at k b.num) b.answer b.path ∷ []) [] (λ _. refl) (λ _. refl)
+none_sent_in c k before after (Answer b) =
+    on_cond (λ (E : List ClientEvent). count_sent c E ≡ 0) (nat_lt before.accepted after.accepted)
+    (Accepted (id_at k b.num) b.answer b.path ∷ []) [] (λ _. refl) (λ _. refl)
 none_sent_in c k before after _ = refl
 
 none_sent : (c k : ℕ) (before after : ClientData) (o : Option Envelope) → count_sent c (accepted_by k before after o) ≡ 0
@@ -70,7 +72,7 @@ record ReadsAnswer (o : Option Envelope) : Type 0 where
   envelope : Envelope
   read : o ≡ Some envelope
   body : AnswerBody
-  message : envelope.message ≡ Answered body
+  message : envelope.message ≡ Answer body
 
 envelope_answer : (g : Group) (c : ℕ) (s : ClientData) (o : Option Envelope) → s.accepted < (envelope_step g (Client c) s o).0.accepted → ReadsAnswer o
 envelope_answer g c s None lt = absurd (omega (arith, lt))
@@ -78,7 +80,7 @@ envelope_answer g c s (Some e) lt = let t = client_accepts g c s e lt in record 
 
 event_answer : (g : Group) (c : ℕ) (s : ClientData) (e : Event) → InTurn g.window (script_of g c) s → s.accepted < (event_step g (Client c) s e).0.accepted
     → ReadsAnswer (read_in g (Client c) e)
-event_answer g c s (Deliver p) h lt = envelope_answer g c s (received g.f (Client c) p) lt
+event_answer g c s (Deliver p) h lt = envelope_answer g c s (accepted_envelope g.f (Client c) p) lt
 event_answer g c s (Tick clock) h lt =
     let same = (tick_fills g.window g.proxies c (script_of g c) s h).same in
     absurd (omega (arith, lt, same))
@@ -88,22 +90,24 @@ one_accepted : (c : ℕ) (before after : ClientData) (o : Option Envelope) → b
     → count_accepted c (accepted_by c before after o) ≡ 1
 one_accepted c before after o lt h =
     let b = h.body in
-    let x : Told = Accepted (id_at c b.num) b.answer b.path in
-    ap (λ (y : Option Envelope). count_accepted c (accepted_by c before after y)) h.read ∙ ap (λ (m : Message). count_accepted c (accepted_in c before after m)) h.message
+    let x : ClientEvent = Accepted (id_at c b.num) b.answer b.path in
+    ap (λ (y : Option Envelope). count_accepted c (accepted_by c before after y)) h.read
+    ∙ ap (λ (m : Message). count_accepted c (accepted_in c before after m)) h.message
     ∙ ap (λ (t : Bool). count_accepted c (cond t (x ∷ []) [])) (lt-ltb before.accepted after.accepted lt) ∙ ap (λ (t : Bool). cond t 1 0) (eq-eqb c c refl)
 
 -- ---- what a record says of a client: an acceptance, and then requests
 
 record Parts (g : Group) (c : ℕ) (r : Record) (J : List Record) : Type 0 where
-  first : List Told
-  second : List Told
-  told : told_by g r.actor r J ≡ first ++ second
+  first : List ClientEvent
+  second : List ClientEvent
+  told : client_events g r.actor r J ≡ first ++ second
   none : count_sent c first ≡ 0
   sends : count_sent c second + (state_after g (Client c) J).sent ≤ (state_after g (Client c) (r ∷ J)).sent
   takes : (state_after g (Client c) (r ∷ J)).accepted ≤ count_accepted c first + (state_after g (Client c) J).accepted
 
 -- of another actor's record
-other_parts : (g : Group) (c : ℕ) (r : Record) (J : List Record) (first second : List Told) → told_by g r.actor r J ≡ first ++ second → actor_eq r.actor (Client c) ≡ false
+other_parts : (g : Group) (c : ℕ) (r : Record) (J : List Record) (first second : List ClientEvent)
+    → client_events g r.actor r J ≡ first ++ second → actor_eq r.actor (Client c) ≡ false
     → count_sent c first ≡ 0 → count_sent c second ≡ 0 → Parts g c r J
 other_parts g c r J first second told other none nothing =
     let same = stays g (Client c) r J other in
@@ -125,7 +129,7 @@ own_parts g c r J by =
     record {
       first = first;
       second = second;
-      told = ap (λ (a : Actor). told_by g a r J) by;
+      told = ap (λ (a : Actor). client_events g a r J) by;
       none = none_sent c c before after read;
       sends = omega (arith, few, more);
       takes = elim (cases_lt before.accepted after.accepted) [
@@ -144,15 +148,16 @@ client_parts g c k r J false e by =
     let before = state_after g (Client k) J in
     let after = state_after g (Client k) (r ∷ J) in
     let read = read_in g (Client k) r.event in
-    other_parts g c r J (accepted_by k before after read) (sent_by k (script_of g k) before after) (ap (λ (a : Actor). told_by g a r J) by)
-    (ap (λ (a : Actor). actor_eq a (Client c)) by ∙ e) (none_sent c k before after read) (none_after c k (script_of g k) before.sent (after.sent - before.sent) e)
+    other_parts g c r J (accepted_by k before after read) (sent_by k (script_of g k) before after) (ap (λ (a : Actor). client_events g a r J) by)
+    (ap (λ (a : Actor). actor_eq a (Client c)) by ∙ e) (none_sent c k before after read)
+    (none_after c k (script_of g k) before.sent (after.sent - before.sent) e)
 
 parts_by : (g : Group) (c : ℕ) (r : Record) (J : List Record) (a : Actor) → r.actor ≡ a → Parts g c r J
 parts_by g c r J (Client k) by = client_parts g c k r J (eqb k c) refl by
 parts_by g c r J (Replica m) by =
-    other_parts g c r J [] [] (ap (λ (a : Actor). told_by g a r J) by) (ap (λ (a : Actor). actor_eq a (Client c)) by) refl refl
+    other_parts g c r J [] [] (ap (λ (a : Actor). client_events g a r J) by) (ap (λ (a : Actor). actor_eq a (Client c)) by) refl refl
 parts_by g c r J (Proxy p) by =
-    other_parts g c r J [] [] (ap (λ (a : Actor). told_by g a r J) by) (ap (λ (a : Actor). actor_eq a (Client c)) by) refl refl
+    other_parts g c r J [] [] (ap (λ (a : Actor). client_events g a r J) by) (ap (λ (a : Actor). actor_eq a (Client c)) by) refl refl
 
 -- ---- prefixes of a list
 
@@ -184,7 +189,7 @@ split {X} (x ∷ xs) ys (b ∷ before) after e =
 record Few (g : Group) (c : ℕ) (J : List Record) : Type 0 where
   sent : count_sent c (events g J) ≤ (state_after g (Client c) J).sent
   taken : (state_after g (Client c) J).accepted ≤ count_accepted c (events g J)
-  prefixes : (before after : List Told) → events g J ≡ before ++ after → count_sent c before ≤ count_accepted c before + g.window
+  prefixes : (before after : List ClientEvent) → events g J ≡ before ++ after → count_sent c before ≤ count_accepted c before + g.window
 
 few_in_all : (g : Group) (c : ℕ) (J : List Record) → Few g c J → (state_after g (Client c) J).sent ≤ count_accepted c (events g J) + g.window
 few_in_all g c J h =
@@ -195,7 +200,7 @@ few_in_all g c J h =
     omega (arith, counted, few, taken)
 
 -- a prefix that ends in the record
-few_now : (g : Group) (c : ℕ) (r : Record) (J : List Record) (part after : List Told) → Few g c J → told_by g r.actor r J ≡ part ++ after
+few_now : (g : Group) (c : ℕ) (r : Record) (J : List Record) (part after : List ClientEvent) → Few g c J → client_events g r.actor r J ≡ part ++ after
     → count_sent c (events g J ++ part) ≤ count_accepted c (events g J ++ part) + g.window
 few_now g c r J part after h whole =
     let p = parts_by g c r J r.actor refl in
@@ -225,7 +230,7 @@ few : (g : Group) (c : ℕ) (J : List Record) → Few g c J
 unfolding state_after
 few g c [] = record { sent = omega arith; taken = omega arith; prefixes = λ before after e. few_none before after e }
   where
-    few_none : (before after : List Told) → [] ≡ before ++ after → count_sent c before ≤ count_accepted c before + g.window
+    few_none : (before after : List ClientEvent) → [] ≡ before ++ after → count_sent c before ≤ count_accepted c before + g.window
     few_none [] after e = omega arith
     few_none (x ∷ before) after e = absurd cc
 few g c (r ∷ J) =
@@ -238,17 +243,18 @@ few g c (r ∷ J) =
     let takes = p.takes in
     let told_sent = ap (count_sent c) p.told ∙ sent_append c p.first p.second in
     let told_taken = ap (count_accepted c) p.told ∙ accepted_append c p.first p.second in
-    let all_sent = sent_append c (events g J) (told_by g r.actor r J) in
-    let all_taken = accepted_append c (events g J) (told_by g r.actor r J) in
+    let all_sent = sent_append c (events g J) (client_events g r.actor r J) in
+    let all_taken = accepted_append c (events g J) (client_events g r.actor r J) in
     record {
       sent = omega (arith, old_sent, none, sends, told_sent, all_sent);
       taken = omega (arith, old_taken, takes, told_taken, all_taken);
-      prefixes = λ before after e. elim (split (events g J) (told_by g r.actor r J) before after e) [
+      prefixes = λ before after e. elim (split (events g J) (client_events g r.actor r J) before after e) [
         | inl t ↦ h.prefixes before t.rest t.whole
         | inr t ↦
-            subst (λ (l : List Told). count_sent c l ≤ count_accepted c l + g.window) (sym t.is) (few_now g c r J t.part after h t.whole)
+            subst (λ (l : List ClientEvent). count_sent c l ≤ count_accepted c l + g.window) (sym t.is) (few_now g c r J t.part after h t.whole)
       ];
     }
 
-pub few_open : (g : Group) (J : List Record) (c : ℕ) (before after : List Told) → events g J ≡ before ++ after → count_sent c before ≤ count_accepted c before + g.window
+pub few_open : (g : Group) (J : List Record) (c : ℕ) (before after : List ClientEvent) → events g J ≡ before ++ after
+    → count_sent c before ≤ count_accepted c before + g.window
 few_open g J c before after e = (few g c J).prefixes before after e

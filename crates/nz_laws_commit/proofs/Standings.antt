@@ -8,7 +8,7 @@ use Rattle.nz_base.specs.declared.key.Id.{Id}
 use Rattle.nz_base.specs.Key.{id_eq}
 use Rattle.nz_base.proofs.Names.{id_eq_self, same_id}
 use Rattle.nz_store.specs.declared.command.Answer.{Answer}
-use Rattle.nz_window.specs.Samples.{sampled}
+use Rattle.nz_window.specs.Samples.{with_sample}
 use Rattle.nz_msg.specs.declared.message.RequestBody.{RequestBody}
 use Rattle.nz_msg.specs.declared.message.Message.{Message}
 use Rattle.nz_msg.specs.declared.message.Message.TheVariants as messages
@@ -18,8 +18,9 @@ use Rattle.nz_machine.specs.declared.event.Event.TheVariants.{Deliver, Cut, Tick
 use Rattle.nz_machine.specs.declared.reply.Reply.{Reply}
 use Rattle.nz_machine.specs.State.{ProxyData, Standing, Open, Decided, Group, Out}
 use Rattle.nz_machine.specs.Quorums.{Chosen, decision, answer_in, with_note}
-use Rattle.nz_machine.specs.Proxies.{with_standing, standing_of, stamped, stamp_rule, answered, decided_as, noted_in, reply_rule, of_fast, of_slow, clock_rule, first_proxy}
-use Rattle.nz_machine.specs.Step.{proxy_message, received, envelope_step, event_step}
+use Rattle.nz_machine.specs.Proxies.{with_standing, standing_of, after_stamp, stamp_rule, after_chosen_answer, after_choice}
+use Rattle.nz_machine.specs.Proxies.{after_replica_reply, reply_rule, of_fast, of_slow, clock_rule, first_proxy}
+use Rattle.nz_machine.specs.Step.{proxy_message, accepted_envelope, envelope_step, event_step}
 use Rattle.nz_machine.specs.Events.{read_in}
 use Rattle.nz_machine.specs.History.{reply_in, reply_read}
 use Rattle.nz_machine.proofs.Runs.{on_cond}
@@ -52,14 +53,14 @@ standing_moves : (f : ℕ) (s : ProxyData) (x id : Id) (v : Standing) (heard : O
 standing_moves f s x id v heard h = moves_by f s x id v heard (id_eq x id) refl h
 
 stamped_moves : (f : ℕ) (s : ProxyData) (x id : Id) (command : List ℕ) (heard : Option Reply) (o : Option Standing) → standing_of s id ≡ o
-    → Moves f heard (standing_of s x) (standing_of (stamped f s id command o).0 x)
+    → Moves f heard (standing_of s x) (standing_of (after_stamp f s id command o).0 x)
 stamped_moves f s x id command heard None e = standing_moves f s x id (Open []) heard (λ same. Opens (ap (standing_of s) same ∙ e) refl)
 stamped_moves f s x id command heard (Some (Open replies)) e = Stays refl
 stamped_moves f s x id command heard (Some (Decided a p)) e = Stays refl
 
 answered_moves : (f : ℕ) (s : ProxyData) (x id : Id) (replies : List Reply) (r : Reply) (chosen : Chosen) (heard : Option Reply) (o : Option Answer)
     → standing_of s id ≡ Some (Open replies) → (x ≡ id → heard ≡ Some r) → decision f (with_note replies r) ≡ Some chosen → answer_in chosen.reply ≡ o
-    → Moves f heard (standing_of s x) (standing_of (answered s id (with_note replies r) chosen.path o).0 x)
+    → Moves f heard (standing_of s x) (standing_of (after_chosen_answer s id (with_note replies r) chosen.path o).0 x)
 answered_moves f s x id replies r chosen heard None e h d is = standing_moves f s x id (Open (with_note replies r)) heard
     (λ same. Notes replies r (ap (standing_of s) same ∙ e) (h same) refl)
 answered_moves f s x id replies r chosen heard (Some a) e h d is = standing_moves f s x id (Decided a chosen.path) heard
@@ -67,13 +68,13 @@ answered_moves f s x id replies r chosen heard (Some a) e h d is = standing_move
 
 decided_moves : (f : ℕ) (s : ProxyData) (x id : Id) (replies : List Reply) (r : Reply) (heard : Option Reply) (o : Option Chosen)
     → standing_of s id ≡ Some (Open replies) → (x ≡ id → heard ≡ Some r) → decision f (with_note replies r) ≡ o
-    → Moves f heard (standing_of s x) (standing_of (decided_as s id (with_note replies r) o).0 x)
+    → Moves f heard (standing_of s x) (standing_of (after_choice s id (with_note replies r) o).0 x)
 decided_moves f s x id replies r heard None e h d = standing_moves f s x id (Open (with_note replies r)) heard
     (λ same. Notes replies r (ap (standing_of s) same ∙ e) (h same) refl)
 decided_moves f s x id replies r heard (Some chosen) e h d = answered_moves f s x id replies r chosen heard (answer_in chosen.reply) e h d refl
 
 noted_moves : (f : ℕ) (s : ProxyData) (x id : Id) (r : Reply) (heard : Option Reply) (o : Option Standing) → standing_of s id ≡ o
-    → (x ≡ id → heard ≡ Some r) → Moves f heard (standing_of s x) (standing_of (noted_in f s id r o).0 x)
+    → (x ≡ id → heard ≡ Some r) → Moves f heard (standing_of s x) (standing_of (after_replica_reply f s id r o).0 x)
 noted_moves f s x id r heard None e h = Stays refl
 noted_moves f s x id r heard (Some (Open replies)) e h = decided_moves f s x id replies r heard (decision f (with_note replies r)) e h refl
 noted_moves f s x id r heard (Some (Decided a p)) e h = Stays refl
@@ -81,7 +82,7 @@ noted_moves f s x id r heard (Some (Decided a p)) e h = Stays refl
 reply_moves : (f : ℕ) (s : ProxyData) (x : Id) (replica : ℕ) (id : Id) (delay : ℕ) (r : Reply) (heard : Option Reply) → (x ≡ id → heard ≡ Some r)
     → Moves f heard (standing_of s x) (standing_of (reply_rule f s replica id delay r).0 x)
 unfolding reply_rule
-reply_moves f s x replica id delay r heard h = noted_moves f (record s { samples = sampled s.samples replica delay }) x id r heard (standing_of s id) refl h
+reply_moves f s x replica id delay r heard h = noted_moves f (record s { samples = with_sample s.samples replica delay }) x id r heard (standing_of s id) refl h
 
 stamp_moves : (f : ℕ) (s : ProxyData) (x : Id) (c : ℕ) (b : RequestBody) (heard : Option Reply)
     → Moves f heard (standing_of s x) (standing_of (stamp_rule f s c b).0 x)
@@ -113,7 +114,7 @@ envelope_moves g q s x (Some e) = up_moves g.f (reply_in x e.from e.message) s x
 pub event_moves : (g : Group) (q : ℕ) (s : ProxyData) (x : Id) (e : Event)
     → Moves g.f (reply_read x (read_in g (Proxy q) e)) (standing_of s x) (standing_of (event_step g (Proxy q) s e).0 x)
 unfolding clock_rule
-event_moves g q s x (Deliver p) = envelope_moves g q s x (received g.f (Proxy q) p)
+event_moves g q s x (Deliver p) = envelope_moves g q s x (accepted_envelope g.f (Proxy q) p)
 event_moves g q s x (Cut p kept) = Stays refl
 event_moves g q s x (Tick clock) = up_moves g.f None s x (clock_rule s clock, []) (Stays refl)
 event_moves g q s x Alarm = Stays refl

@@ -1,6 +1,7 @@
 -- What a decision rests on supports the prefix that was accepted. The premise on digests is used here, and nowhere
 -- else.
-use Rattle.std.proofs.Common.{◌≡◌, ℕ, suc, eqb, eqb-true, eq-eqb, true, ◌&&◌, is_some, List, [], ◌∷◌, length, take, map, Option, Some, None, refl, sym, ap, subst, ◌∙◌, arith, inl, inr, ◌⊎◌}
+use Rattle.std.proofs.Common.{◌≡◌, ℕ, suc, eqb, eqb-true, eq-eqb, true, ◌&&◌, is_some, List, [], ◌∷◌, length}
+use Rattle.std.proofs.Common.{take, map, Option, Some, None, refl, sym, ap, subst, ◌∙◌, arith, inl, inr, ◌⊎◌}
 use Rattle.std.specs.List.{list_any}
 use Rattle.std.specs.Str.{bytes_eq}
 use Rattle.std.proofs.lemmas.Bool.{leb-true}
@@ -40,7 +41,7 @@ use Rattle.nz_laws_commit.proofs.Deciding.{slowly, quickly}
 use Rattle.nz_laws_commit.proofs.Instance.{is_normal_at, up_status, normal_up_status, lead_is}
 use Rattle.nz_laws_commit.proofs.Keyed.{IsAt, place_key, at_longer, at_taken, one_place, lead_own}
 use Rattle.nz_laws_commit.proofs.Chosen.{HasQuorum, BySlow, ByFast, any_reply}
-use Rattle.nz_laws_commit.proofs.Said.{SaysFast, SaysSlow, IsSaid, Fastly, Slowly, WasSaid, IsBacked}
+use Rattle.nz_laws_commit.proofs.NotedWereSent.{SaysFast, SaysSlow, IsSaid, Fastly, Slowly, WasSaid, IsBacked}
 use Rattle.nz_laws_commit.proofs.Accepted.{IsDecidedIn}
 
 -- ---- replies

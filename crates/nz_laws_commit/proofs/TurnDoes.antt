@@ -28,15 +28,16 @@ use Rattle.nz_machine.specs.Incarnations.{replica_at, is_restart}
 use Rattle.nz_machine.proofs.FitRuns.{all_fit}
 use Rattle.nz_machine.proofs.Moments.{at_world}
 use Rattle.nz_machine.proofs.Sources.{has_source, source_is}
-use Rattle.nz_machine.proofs.Told.{was_sent, shown_by}
-use Rattle.nz_machine.proofs.Words.{own_carried}
-use Rattle.nz_laws_cv.proofs.Turns.{Seat, Grown, Same, More, Anew, Going, MayStart, Turn, Stays, Release, Merge, Sync, Tally, Enter, Follow, Answer, Collect, Begin, Start, Fall, Wake, HearVector, Count, HearView, Forget, AskLog, Return, Back}
+use Rattle.nz_machine.proofs.ReadShows.{was_sent, shown_by}
+use Rattle.nz_machine.proofs.WordsKeepFacts.{own_carried}
+use Rattle.nz_laws_cv.proofs.Turns.{Seat, Grown, Same, More, Anew, Going, MayStart, Turn, Stays, Release, Merge, Sync, Tally, Enter, Follow}
+use Rattle.nz_laws_cv.proofs.Turns.{Answer, Collect, Begin, Start, Fall, Wake, HearVector, Count, HearView, Forget, AskLog, Return, Back}
 use Rattle.nz_laws_cv.proofs.TurnRules.{up_kinds, changing_is, heard_by}
 use Rattle.nz_laws_cv.proofs.Hearing.{hears_fit}
 use Rattle.nz_laws_cv.proofs.Steps.{seat_at, Acts, Rests, steps}
 use Rattle.nz_laws_cv.proofs.Modes.{IsSound, collects_low, up_no_rejoin}
-use Rattle.nz_laws_cv.proofs.Passing.{sound_at}
-use Rattle.nz_laws_cv.proofs.Sent as letters
+use Rattle.nz_laws_cv.proofs.WithinIncarnation.{sound_at}
+use Rattle.nz_laws_cv.proofs.SentShows as letters
 use Rattle.nz_laws_cv.proofs.Showing.{shows}
 use Rattle.nz_laws_commit.specs.States.{Down, LogState}
 use Rattle.nz_laws_commit.specs.Does.{IsUnchanged, Releases, Enters, Syncs, BeginsView, AdoptsLog, Restarts, Does}

@@ -6,7 +6,7 @@ use Rattle.nz_base.proofs.Booleans.{clash}
 use Rattle.nz_log.specs.Synced.{Log}
 use Rattle.nz_machine.specs.State.{ReplicaData, Out}
 use Rattle.nz_machine.specs.Replicas.{is_normal, leads}
-use Rattle.nz_machine.specs.Releases.{appended, released, releases, release_rule, may_release, at_clock}
+use Rattle.nz_machine.specs.Releases.{log_with_entry, after_release, releases, release_rule, may_release, at_clock}
 use Rattle.nz_machine.proofs.Runs.{on_cond}
 use Rattle.nz_laws_cv.proofs.Turns.{seat_of, holding, Appends}
 
@@ -15,17 +15,17 @@ use Rattle.nz_laws_cv.proofs.Turns.{seat_of, holding, Appends}
 appends_none : (led : Bool) (log : Log) → Appends led log log
 appends_none led log = record { entries = prefix_self log.entries; leads = λ e h. h; follows = λ e. refl }
 
-one_more : (led : Bool) (log : Log) (e : Entry) → Appends led log (appended led log e)
+one_more : (led : Bool) (log : Log) (e : Entry) → Appends led log (log_with_entry led log e)
 one_more true log e = record { entries = prefix_more log.entries (e ∷ []); leads = λ h k. refl; follows = λ h. absurd cc }
 one_more false log e = record { entries = prefix_more log.entries (e ∷ []); leads = λ h k. absurd cc; follows = λ h. refl }
 
-one_leads : (led : Bool) (log : Log) (e : Entry) → led ≡ true → (appended led log e).synced ≡ length (appended led log e).entries
+one_leads : (led : Bool) (log : Log) (e : Entry) → led ≡ true → (log_with_entry led log e).synced ≡ length (log_with_entry led log e).entries
 one_leads true log e h = refl
 one_leads false log e h = absurd cc
 
-appends_then : (led : Bool) (log : Log) (e : Entry) (c : Log) → Appends led (appended led log e) c → Appends led log c
+appends_then : (led : Bool) (log : Log) (e : Entry) (c : Log) → Appends led (log_with_entry led log e) c → Appends led log c
 appends_then led log e c rest = record {
-  entries = prefix_then log.entries (appended led log e).entries c.entries (one_more led log e).entries rest.entries;
+  entries = prefix_then log.entries (log_with_entry led log e).entries c.entries (one_more led log e).entries rest.entries;
   leads = λ h k. rest.leads h (one_leads led log e h);
   follows = λ h. rest.follows h ∙ (one_more led log e).follows h;
 }
@@ -40,9 +40,9 @@ unfolding releases
 releases_are f me s [] = record { seat = refl; log = appends_none (leads f me s) s.log }
 releases_are f me s (e ∷ es) =
     on_cond (λ (t : ReplicaData × List Out). IsRelease f me s t.0) (may_release s e) _ (s, [])
-    (λ _. let rest = releases_are f me (released f me s e es) es in record {
+    (λ _. let rest = releases_are f me (after_release f me s e es) es in record {
       seat = rest.seat;
-      log = appends_then (leads f me s) s.log e (releases f me (released f me s e es) es).0.log rest.log;
+      log = appends_then (leads f me s) s.log e (releases f me (after_release f me s e es) es).0.log rest.log;
     })
     (λ _. record { seat = refl; log = appends_none (leads f me s) s.log })
 

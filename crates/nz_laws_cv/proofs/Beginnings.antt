@@ -1,5 +1,6 @@
 -- Begins: from whose reports, and that who is Normal in a view above 0 finds it begun.
-use Rattle.std.proofs.Common.{◌≡◌, ℕ, ◌<◌, Bool, true, false, ◌&&◌, not, eqb, List, [], ◌∷◌, length, map, refl, sym, ap, subst, ◌∙◌, inl, inr, arith, eqb-true, eq-eqb}
+use Rattle.std.proofs.Common.{◌≡◌, ℕ, ◌<◌, Bool, true, false, ◌&&◌, not, eqb, List, [], ◌∷◌, length}
+use Rattle.std.proofs.Common.{map, refl, sym, ap, subst, ◌∙◌, inl, inr, arith, eqb-true, eq-eqb}
 use Rattle.std.specs.Prelude.{slice_index}
 use Rattle.std.proofs.lemmas.List.{length-map}
 use Rattle.nz_base.specs.Cluster.{replica_count, leader_of}
@@ -26,12 +27,13 @@ use Rattle.nz_laws_cv.proofs.Hearing.{hears_fit}
 use Rattle.nz_laws_cv.proofs.Steps.{seat_at, Acts, Rests, steps}
 use Rattle.nz_base.proofs.Moments.{at_self, at_then}
 use Rattle.nz_machine.proofs.Moments.{at_world}
-use Rattle.nz_laws_cv.proofs.Passing.{sound_at, in_group, inc_grows, inc_first, first_seat}
-use Rattle.nz_laws_cv.proofs.Sent.{letter, Shows, shows_at, shows_before, sent_at, was_sent}
+use Rattle.nz_laws_cv.proofs.WithinIncarnation.{sound_at, in_group, inc_grows, inc_first, first_seat}
+use Rattle.nz_laws_cv.proofs.SentShows.{letter, Shows, shows_at, shows_before, sent_at, was_sent}
 use Rattle.nz_machine.proofs.Sources.{source_is, has_source}
 use Rattle.nz_laws_cv.proofs.Lists.{in_map}
 use Rattle.nz_laws_cv.proofs.Changes.{AreReports, collected, reporter, report_message}
-use Rattle.nz_laws_cv.proofs.Collected.{Sent, HasCollected, collected_later, collected_at, hears_sent, IsBegun, Arrives, Was, Starts, Returns, arrives, up_at, own_zero}
+use Rattle.nz_laws_cv.proofs.Collected.{Sent, HasCollected, collected_later, collected_at, hears_sent, IsBegun}
+use Rattle.nz_laws_cv.proofs.Collected.{Arrives, Was, Starts, Returns, arrives, up_at, own_zero}
 use Rattle.nz_laws_cv.proofs.Collected as arrivals
 use Rattle.nz_laws_cv.proofs.ViewNotions.{Begins, notions}
 use Rattle.nz_laws_cv.proofs.Grounds.{later_at, stays_at, claimed_at, completion_at}

@@ -20,8 +20,8 @@ use Rattle.nz_laws_cv.proofs.TurnRules.{heard_by}
 use Rattle.nz_laws_cv.proofs.Hearing.{hears_fit}
 use Rattle.nz_laws_cv.proofs.Steps.{seat_at}
 use Rattle.nz_laws_cv.proofs.Modes.{collects_low}
-use Rattle.nz_laws_cv.proofs.Passing.{sound_at}
-use Rattle.nz_laws_cv.proofs.Sent.{Shows}
+use Rattle.nz_laws_cv.proofs.WithinIncarnation.{sound_at}
+use Rattle.nz_laws_cv.proofs.SentShows.{Shows}
 use Rattle.nz_laws_cv.proofs.Beginnings.{normal_in_is, begun_turn, begin_of}
 
 -- the leader's log after the record, and its state before

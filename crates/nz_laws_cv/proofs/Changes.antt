@@ -4,7 +4,7 @@ use Rattle.std.specs.Prelude.{slice_index}
 use Rattle.std.specs.List.{filter}
 use Rattle.std.proofs.lemmas.Bool.Decides.{nat_tests}
 use Rattle.nz_base.specs.Cluster.{replica_count}
-use Rattle.nz_cv.specs.Vectors.{is_stray, merged}
+use Rattle.nz_cv.specs.Vectors.{is_stray, merged_vector}
 use Rattle.nz_cv.proofs.Merging.{merged-elsewhere}
 use Rattle.nz_msg.specs.declared.message.ViewChangeBody.{ViewChangeBody}
 use Rattle.nz_msg.specs.declared.message.Message.{Message}
@@ -16,7 +16,8 @@ use Rattle.nz_machine.specs.Begins.{report_of}
 use Rattle.nz_machine.specs.World.{Has}
 use Rattle.nz_machine.specs.Hearing.{Heard}
 use Rattle.nz_math.specs.Count.{AreDistinct}
-use Rattle.nz_laws_cv.proofs.Turns.{Seat, fresh_changes, with_change, IsNew, Base, Anew, Going, Turn, Stays, Release, Merge, Sync, Tally, Enter, Follow, Answer, Collect, Begin, Start, Fall, Wake, HearVector, Count, HearView, Forget, AskLog, Return, Back}
+use Rattle.nz_laws_cv.proofs.Turns.{Seat, fresh_changes, with_change, IsNew, Base, Anew, Going, Turn, Stays, Release, Merge, Sync, Tally, Enter, Follow}
+use Rattle.nz_laws_cv.proofs.Turns.{Answer, Collect, Begin, Start, Fall, Wake, HearVector, Count, HearView, Forget, AskLog, Return, Back}
 use Rattle.nz_laws_cv.proofs.TurnRules.{changing_up}
 use Rattle.nz_laws_cv.proofs.Hearing.{HearsFit}
 use Rattle.nz_machine.proofs.Runs.{has_split}
@@ -69,9 +70,9 @@ module _ (f me : ℕ) (Sent : ℕ → Message → Type 0) where
   module _ (e : Event) (heard : Heard) (fit : HearsFit f me heard) (sent : HearsSent Sent me heard) (in_group : me < replica_count f) where
     -- those that are not stray for the merged vector
     fresh_reports : (s : Seat) (sender : ℕ) (m : Message) (u : List ℕ) → IsSound f s → IsNew heard s sender m u → AreReports s.view s.vector s.changes
-        → AreReports s.view (merged s.vector u me) (fresh_changes s.changes (merged s.vector u me))
+        → AreReports s.view (merged_vector s.vector u me) (fresh_changes s.changes (merged_vector s.vector u me))
     fresh_reports s sender m u sound new h =
-        let v = merged s.vector u me in
+        let v = merged_vector s.vector u me in
         let test : Reported → Bool = λ r. not (is_stray r.vector r.change.sender v) in
         record {
           distinct = distinct_filter reporter test s.changes h.distinct;
@@ -89,16 +90,16 @@ module _ (f me : ℕ) (Sent : ℕ → Message → Type 0) where
         }
 
     base_reports : (s : Seat) (sender : ℕ) (b : ViewChangeBody) (base : List Reported) → IsSound f s → HasReports s
-        → IsNew heard s sender (messages.ViewChange b) b.vector → Base s b.view (merged s.vector b.vector me) base
-        → AreReports b.view (merged s.vector b.vector me) base
-    base_reports s sender b _ sound h new (Anew later) = no_reports b.view (merged s.vector b.vector me)
+        → IsNew heard s sender (messages.ViewChange b) b.vector → Base s b.view (merged_vector s.vector b.vector me) base
+        → AreReports b.view (merged_vector s.vector b.vector me) base
+    base_reports s sender b _ sound h new (Anew later) = no_reports b.view (merged_vector s.vector b.vector me)
     base_reports s sender b _ sound h new (Going same changing) =
-        subst (λ (w : ℕ). AreReports w (merged s.vector b.vector me) (fresh_changes s.changes (merged s.vector b.vector me))) same
+        subst (λ (w : ℕ). AreReports w (merged_vector s.vector b.vector me) (fresh_changes s.changes (merged_vector s.vector b.vector me))) same
         (fresh_reports s sender (messages.ViewChange b) b.vector sound new (h.reports changing))
 
     -- the one that is heard: it was not stray, so what is merged has its sender's counter
     new_report : (s : Seat) (sender : ℕ) (b : ViewChangeBody) → IsSound f s → IsNew heard s sender (messages.ViewChange b) b.vector
-        → IsReported b.view (merged s.vector b.vector me) (report_of sender b)
+        → IsReported b.view (merged_vector s.vector b.vector me) (report_of sender b)
     new_report s sender b sound new = record {
       below = (fit.hears sender _ new.is).below;
       other = (fit.hears sender _ new.is).other;
@@ -123,13 +124,13 @@ module _ (f me : ℕ) (Sent : ℕ → Message → Type 0) where
 
     -- the reports with the one that is heard
     pub collected : (s : Seat) (sender : ℕ) (b : ViewChangeBody) (base : List Reported) → IsSound f s → HasReports s
-        → IsNew heard s sender (messages.ViewChange b) b.vector → Base s b.view (merged s.vector b.vector me) base
-        → AreReports b.view (merged s.vector b.vector me) (with_change base sender b)
+        → IsNew heard s sender (messages.ViewChange b) b.vector → Base s b.view (merged_vector s.vector b.vector me) base
+        → AreReports b.view (merged_vector s.vector b.vector me) (with_change base sender b)
     collected s sender b base sound h new on =
         let old = base_reports s sender b base sound h new on in
         record {
           distinct = distinct_replace reporter base (report_of sender b) old.distinct;
-          each = one_of b.view (merged s.vector b.vector me) sender b base old (new_report s sender b sound new);
+          each = one_of b.view (merged_vector s.vector b.vector me) sender b base old (new_report s sender b sound new);
         }
 
     pub reports_kept : (s t : Seat) → IsSound f s → Turn f me e heard s t → HasReports s → HasReports t

@@ -4,7 +4,7 @@ use Rattle.std.specs.Prelude.{slice_index}
 use Rattle.nz_base.specs.Cluster.{replica_count, leader_of}
 use Rattle.nz_base.specs.declared.actor.Actor.TheVariants.{Replica}
 use Rattle.nz_base.proofs.Booleans.{clash}
-use Rattle.nz_cv.specs.Vectors.{merged}
+use Rattle.nz_cv.specs.Vectors.{merged_vector}
 use Rattle.nz_msg.specs.declared.message.ViewChangeBody.{ViewChangeBody}
 use Rattle.nz_msg.specs.declared.message.StartViewBody.{StartViewBody}
 use Rattle.nz_msg.specs.declared.message.StateTellBody.{StateTellBody}
@@ -19,15 +19,17 @@ use Rattle.nz_machine.specs.Replicas.{first_replica, is_normal, is_up, is_rejoin
 use Rattle.nz_machine.specs.World.{World}
 use Rattle.nz_machine.specs.Incarnations.{replica_at, incarnation}
 use Rattle.nz_machine.specs.Hearing.{Heard}
-use Rattle.nz_laws_cv.proofs.Turns.{Seat, seat_of, merging, starting, with_changes, with_change, begun_log, begun_commit, IsNew, MayLead, Base, Awaits, Turn, Stays, Release, Merge, Sync, Tally, Enter, Follow, Answer, Collect, Begin, Start, Fall, Wake, HearVector, Count, HearView, Forget, AskLog, Return, Back}
+use Rattle.nz_laws_cv.proofs.Turns.{Seat, seat_of, merging, starting, with_changes, with_change, begun_log, begun_commit, IsNew}
+use Rattle.nz_laws_cv.proofs.Turns.{MayLead, Base, Awaits, Turn, Stays, Release, Merge, Sync, Tally, Enter, Follow, Answer, Collect}
+use Rattle.nz_laws_cv.proofs.Turns.{Begin, Start, Fall, Wake, HearVector, Count, HearView, Forget, AskLog, Return, Back}
 use Rattle.nz_laws_cv.proofs.TurnRules.{heard_by}
 use Rattle.nz_laws_cv.proofs.Hearing.{hears_fit}
 use Rattle.nz_laws_cv.proofs.Steps.{seat_at, Acts, Rests, steps}
 use Rattle.nz_laws_cv.proofs.Modes.{Goes, Settled, IsUp, IsRejoining, IsDown, standing, up_no_rejoin, up_no_down, rejoin_not_down, normal_no_rejoin}
-use Rattle.nz_laws_cv.proofs.Passing.{sound_at, in_group, first_seat, inc_first, Woken, Fallen, Gone, passing, crashed_down}
-use Rattle.nz_laws_cv.proofs.Sent.{IsSent, sent_more, Shows, shows_before, was_sent}
+use Rattle.nz_laws_cv.proofs.WithinIncarnation.{sound_at, in_group, first_seat, inc_first, Woken, Fallen, Gone, passing, crashed_down}
+use Rattle.nz_laws_cv.proofs.SentShows.{IsSent, sent_more, Shows, shows_before, was_sent}
 use Rattle.nz_laws_cv.proofs.Tellers.{HearsSent, HasTellers, first_tellers, tellers_kept, tellers_stay, log_settled}
-use Rattle.nz_laws_cv.proofs.Tells.{HasTells, first_tells, tells_kept, tells_stay}
+use Rattle.nz_laws_cv.proofs.ToldViews.{HasTells, first_tells, tells_kept, tells_stay}
 use Rattle.nz_laws_cv.proofs.Changes.{HasReports, reports_kept, reports_stay}
 
 -- ---- what is collected
@@ -117,7 +119,7 @@ module _ (f me : ℕ) (e : Event) (heard : Heard) where
     pub new : IsNew heard s sender (messages.ViewChange body) body.vector
     pub may : MayLead f me s body.view
     pub base : List Reported
-    pub on : Base s body.view (merged s.vector body.vector me) base
+    pub on : Base s body.view (merged_vector s.vector body.vector me) base
     pub full : length (with_change base sender body) ≡ f
     pub is : t
         ≡ with_changes

@@ -1,5 +1,6 @@
 -- The example has the ground: no premise contradicts the others.
-use Rattle.std.proofs.Common.{◌≡◌, ℕ, zero, suc, ◌<◌, ◌≤◌, true, false, ◌&&◌, ◌||◌, eqb, leb, List, [], ◌∷◌, length, refl, sym, ap, subst, ◌∙◌, inl, inr, ◌⊎◌, arith}
+use Rattle.std.proofs.Common.{◌≡◌, ℕ, zero, suc, ◌<◌, ◌≤◌, true, false, ◌&&◌, ◌||◌, eqb, leb, List}
+use Rattle.std.proofs.Common.{[], ◌∷◌, length, refl, sym, ap, subst, ◌∙◌, inl, inr, ◌⊎◌, arith}
 use Rattle.std.proofs.lemmas.Bool.{cases_lt, cases_eq, eqb-true, ltb-true, lt-ltb, leb-true, le-leb}
 use Rattle.nz_base.specs.Moments.{At}
 use Rattle.nz_base.proofs.Booleans.{and_both, and_left, and_right, or_cases, or_left, or_right}
@@ -8,7 +9,8 @@ use Rattle.nz_math.proofs.Twos.{of_two, two_choice}
 use Rattle.nz_laws_cv.specs.Notions.{Notions, IsHeldByMany}
 use Rattle.nz_laws_cv.specs.Ground.{TellsVector, IsUsed, IsCompletion, IsReport, IsBegin, HasModes, Ground}
 use Rattle.nz_laws_cv.specs.Tests.{notions}
-use Rattle.nz_laws_cv.specs.Example.{tests, first_records, run, is_up_after, is_normal_after, one_from, inc_after, view_after, last_after, knows_from, place_after, are_first, completes_at, answers_at, begins_at, reports_at}
+use Rattle.nz_laws_cv.specs.Example.{tests, first_records, run, is_up_after, is_normal_after, one_from, inc_after, view_after, last_after}
+use Rattle.nz_laws_cv.specs.Example.{knows_from, place_after, are_first, completes_at, answers_at, begins_at, reports_at}
 
 -- what is read of the run
 abbrev N : Notions ℕ

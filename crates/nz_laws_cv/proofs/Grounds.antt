@@ -30,12 +30,12 @@ use Rattle.nz_laws_cv.proofs.Steps.{seat_at}
 use Rattle.nz_base.proofs.Moments.{at_self, at_then, at_shorter}
 use Rattle.nz_machine.proofs.Moments.{at_world}
 use Rattle.nz_laws_cv.proofs.Modes.{up_not_down, rejoin_not_down}
-use Rattle.nz_laws_cv.proofs.Passing.{inc_grows, goes_far, same_nonce, nonce_at, down_at}
-use Rattle.nz_laws_cv.proofs.Sent.{letter, Shows, shows_at, IsSent, sent_at}
+use Rattle.nz_laws_cv.proofs.WithinIncarnation.{inc_grows, goes_far, same_nonce, nonce_at, down_at}
+use Rattle.nz_laws_cv.proofs.SentShows.{letter, Shows, shows_at, IsSent, sent_at}
 use Rattle.nz_machine.proofs.Sources.{source_is, has_source, source_stays}
 use Rattle.nz_laws_cv.proofs.Lists.{in_map}
 use Rattle.nz_laws_cv.proofs.Tellers.{views_settled}
-use Rattle.nz_laws_cv.proofs.Tells.{HasTells, sender_of, tell_of}
+use Rattle.nz_laws_cv.proofs.ToldViews.{HasTells, sender_of, tell_of}
 use Rattle.nz_laws_cv.proofs.Collected.{Sent, collected_at, IsReturn, completing, up_at, rejoining_at, rejoins_later, StayedUp, Rejoined, was_up, settled_later}
 use Rattle.nz_laws_cv.proofs.ViewNotions.{Completes, Uses, notions}
 

@@ -10,15 +10,15 @@ use Rattle.nz_msg.specs.declared.message.Message.{Message}
 use Rattle.nz_machine.specs.declared.event.Event.{Event}
 use Rattle.nz_machine.specs.State.{Group}
 use Rattle.nz_machine.specs.Hearing.{Heard}
-use Rattle.nz_machine.specs.Step.{is_in_cluster, is_sized, vector_of}
-use Rattle.nz_machine.proofs.Told.{delivers}
+use Rattle.nz_machine.specs.Step.{is_in_cluster, is_sized, message_vector}
+use Rattle.nz_machine.proofs.ReadShows.{delivers}
 use Rattle.nz_laws_cv.proofs.TurnRules.{heard_by}
 
 -- the message comes from another replica of the cluster, with a vector of its size if it has one
 pub record Hears (f me sender : ℕ) (m : Message) : Type 0 where
   pub other : ¬ (sender ≡ me)
   pub below : sender < replica_count f
-  pub sized : is_sized f (vector_of m) ≡ true
+  pub sized : is_sized f (message_vector m) ≡ true
 
 pub record HearsFit (f me : ℕ) (heard : Heard) : Type 0 where
   pub hears : (sender : ℕ) (m : Message) → heard ≡ Some (Replica sender, m) → Hears f me sender m
@@ -31,7 +31,7 @@ hears_by g me e sender m h =
     record {
       other = λ same. let one = eq-eqb sender me same in cc;
       below = grind (arith, nat_tests, member);
-      sized = ap (λ (x : Message). is_sized g.f (vector_of x)) (sym d.message_is) ∙ d.counts.sized;
+      sized = ap (λ (x : Message). is_sized g.f (message_vector x)) (sym d.message_is) ∙ d.counts.sized;
     }
 
 pub hears_fit : (g : Group) (me : ℕ) (e : Event) → HearsFit g.f me (heard_by g me e)

@@ -17,8 +17,8 @@ use Rattle.nz_base.proofs.Moments.{at_order, at_tail, at_self}
 use Rattle.nz_laws_cv.proofs.TurnRules.{normal_up}
 use Rattle.nz_machine.proofs.Moments.{at_world}
 use Rattle.nz_laws_cv.proofs.Modes.{up_no_rejoin, rejoin_not_down}
-use Rattle.nz_laws_cv.proofs.Passing.{inc_grows, goes_far}
-use Rattle.nz_laws_cv.proofs.Sent.{Shows}
+use Rattle.nz_laws_cv.proofs.WithinIncarnation.{inc_grows, goes_far}
+use Rattle.nz_laws_cv.proofs.SentShows.{Shows}
 use Rattle.nz_laws_cv.proofs.Showing.{shows}
 use Rattle.nz_laws_cv.proofs.ViewNotions.{notions}
 use Rattle.nz_laws_cv.proofs.Grounds.{completing_is}

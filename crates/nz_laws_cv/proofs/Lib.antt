@@ -13,12 +13,12 @@ pub mod TurnRules
 pub mod Steps
 pub mod Modes
 pub mod Hearing
-pub mod Passing
-pub mod Sent
+pub mod WithinIncarnation
+pub mod SentShows
 pub mod Showing
 pub mod Lists
 pub mod Tellers
-pub mod Tells
+pub mod ToldViews
 pub mod Changes
 pub mod Collected
 pub mod ViewNotions

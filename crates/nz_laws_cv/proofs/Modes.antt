@@ -1,10 +1,11 @@
 -- Modes, and what a turn does to view, last, vector and nonce within an incarnation.
-use Rattle.std.proofs.Common.{◌≡◌, ℕ, ◌+◌, ◌≤◌, ◌<◌, true, false, List, [], length, max, Option, Some, None, refl, sym, ap, subst, ◌∙◌, inl, inr, arith, eqb-true}
+use Rattle.std.proofs.Common.{◌≡◌, ℕ, ◌+◌, ◌≤◌, ◌<◌, true, false, List, [], length, max, Option}
+use Rattle.std.proofs.Common.{Some, None, refl, sym, ap, subst, ◌∙◌, inl, inr, arith, eqb-true}
 use Rattle.std.specs.Prelude.{slice_index}
 use Rattle.std.proofs.lemmas.Option.{same_Some}
 use Rattle.std.proofs.lemmas.List.{length-set, length-replicate, get_or-set_other}
 use Rattle.nz_base.specs.Cluster.{replica_count}
-use Rattle.nz_cv.specs.Vectors.{merged}
+use Rattle.nz_cv.specs.Vectors.{merged_vector}
 use Rattle.nz_cv.proofs.Merging.{length-merged, merged-own}
 use Rattle.nz_cv.proofs.Collecting.{never_falls, takes_in}
 use Rattle.nz_msg.specs.declared.message.Message.{Message}
@@ -19,9 +20,10 @@ use Rattle.nz_machine.specs.declared.data.Reported.{Reported}
 use Rattle.nz_log.specs.Synced.{Log}
 use Rattle.nz_machine.specs.Replicas.{first_replica, is_normal, is_changing, is_up, is_rejoining, is_down, crashed_replica}
 use Rattle.nz_machine.specs.Rejoining.{restarted_replica, is_phase}
-use Rattle.nz_machine.specs.Step.{vector_of, is_sized}
+use Rattle.nz_machine.specs.Step.{message_vector, is_sized}
 use Rattle.nz_machine.specs.Hearing.{Heard}
-use Rattle.nz_laws_cv.proofs.Turns.{Seat, seat_of, IsNew, Base, Anew, Going, Awaits, Turn, Stays, Release, Merge, Sync, Tally, Enter, Follow, Answer, Collect, Begin, Start, Fall, Wake, HearVector, Count, HearView, Forget, AskLog, Return, Back}
+use Rattle.nz_laws_cv.proofs.Turns.{Seat, seat_of, IsNew, Base, Anew, Going, Awaits, Turn, Stays, Release, Merge, Sync, Tally, Enter, Follow}
+use Rattle.nz_laws_cv.proofs.Turns.{Answer, Collect, Begin, Start, Fall, Wake, HearVector, Count, HearView, Forget, AskLog, Return, Back}
 use Rattle.nz_laws_cv.proofs.TurnRules.{up_kinds, normal_up}
 use Rattle.nz_laws_cv.proofs.Hearing.{HearsFit}
 
@@ -109,7 +111,7 @@ size_is f u (Some v) e h = ap length (sym (same_Some v u e)) ∙ eqb-true _ _ h
 
 pub new_size : (f me : ℕ) (heard : Heard) (s : Seat) (sender : ℕ) (m : Message) (u : List ℕ) → HearsFit f me heard → IsNew heard s sender m u
     → length u ≡ replica_count f
-new_size f me heard s sender m u fit new = size_is f u (vector_of m) new.carries (fit.hears sender m new.is).sized
+new_size f me heard s sender m u fit new = size_is f u (message_vector m) new.carries (fit.hears sender m new.is).sized
 
 -- ---- within an incarnation
 
@@ -168,7 +170,8 @@ pub data Course (f me : ℕ) (e : Event) (s t : Seat) : Type 0 where
   GoesOn : Goes me s t → RejoinsNormal s t → Course f me e s t
 
 module _ (f me : ℕ) (e : Event) (heard : Heard) (fit : HearsFit f me heard) where
-  merged_size : (s : Seat) (sender : ℕ) (m : Message) (u : List ℕ) → IsSound f s → IsNew heard s sender m u → length (merged s.vector u me) ≡ replica_count f
+  merged_size : (s : Seat) (sender : ℕ) (m : Message) (u : List ℕ) → IsSound f s → IsNew heard s sender m u
+      → length (merged_vector s.vector u me) ≡ replica_count f
   merged_size s sender m u h new =
       let size = new_size f me heard s sender m u fit new in
       let own = h.sized in
@@ -212,7 +215,7 @@ module _ (f me : ℕ) (e : Event) (heard : Heard) (fit : HearsFit f me heard) wh
       record { sized = merged_size s sender m u h new; normal = h.normal; changing = h.changing; rejoining = h.rejoining; rejoining_last = h.rejoining_last }
   sound_kept s _ (Enter w up later log grown) h = enters s s.vector w log [] (let low = last_low f s h up in omega (arith, low, later)) h.sized
   sound_kept s _ (Follow sender m u new w up later) h =
-      enters s (merged s.vector u me) w s.log [] (let low = last_low f s h up in omega (arith, low, later)) (merged_size s sender m u h new)
+      enters s (merged_vector s.vector u me) w s.log [] (let low = last_low f s h up in omega (arith, low, later)) (merged_size s sender m u h new)
   sound_kept s _ (Answer sender b new normal same) h =
       record {
         sized = merged_size s sender _ b.vector h new;
@@ -230,7 +233,7 @@ module _ (f me : ℕ) (e : Event) (heard : Heard) (fit : HearsFit f me heard) wh
   sound_kept s _ (Wake nonce is down) h = restarted_sound f nonce
   sound_kept s _ (HearVector sender b new ours) h = rejoins_on s _ _ _ _ h ours (merged_size s sender _ b.vector h new)
   sound_kept s _ (Count sender b new ours enough) h =
-      rejoins_on s _ _ _ _ h ours (length-set (merged s.vector b.vector me) me _ ∙ merged_size s sender _ b.vector h new)
+      rejoins_on s _ _ _ _ h ours (length-set (merged_vector s.vector b.vector me) me _ ∙ merged_size s sender _ b.vector h new)
   sound_kept s _ (HearView sender b new ours) h = rejoins_on s _ _ _ _ h ours (merged_size s sender _ b.vector h new)
   sound_kept s _ (Forget sender b new ours) h = rejoins_on s _ _ _ _ h ours (merged_size s sender _ b.vector h new)
   sound_kept s _ (AskLog sender b new ours tells is enough) h = rejoins_on s _ _ _ _ h ours (merged_size s sender _ b.vector h new)
@@ -241,21 +244,21 @@ module _ (f me : ℕ) (e : Event) (heard : Heard) (fit : HearsFit f me heard) wh
   -- ---- within an incarnation
 
   pub merges : (s : Seat) (sender : ℕ) (m : Message) (u : List ℕ) → me < replica_count f → IsSound f s → IsNew heard s sender m u → (k : ℕ)
-      → slice_index s.vector k ≤ slice_index (merged s.vector u me) k
+      → slice_index s.vector k ≤ slice_index (merged_vector s.vector u me) k
   merges s sender m u in_group h new k =
       let size = new_size f me heard s sender m u fit new in
       let own = h.sized in
       never_falls s.vector u me k (omega (arith, size, own)) (omega (arith, in_group, own))
 
   pub merges_own : (s : Seat) (sender : ℕ) (m : Message) (u : List ℕ) → me < replica_count f → IsSound f s → IsNew heard s sender m u
-      → slice_index s.vector me ≡ slice_index (merged s.vector u me) me
+      → slice_index s.vector me ≡ slice_index (merged_vector s.vector u me) me
   merges_own s sender m u in_group h new =
       let size = new_size f me heard s sender m u fit new in
       let own = h.sized in
       sym (merged-own s.vector u me (omega (arith, size, own)) (omega (arith, in_group, own)))
 
   pub merges_in : (s : Seat) (sender : ℕ) (m : Message) (u : List ℕ) → me < replica_count f → IsSound f s → IsNew heard s sender m u → (k : ℕ) → ¬ (k ≡ me)
-      → slice_index u k ≤ slice_index (merged s.vector u me) k
+      → slice_index u k ≤ slice_index (merged_vector s.vector u me) k
   merges_in s sender m u in_group h new k other =
       let size = new_size f me heard s sender m u fit new in
       let own = h.sized in
@@ -342,7 +345,7 @@ module _ (f me : ℕ) (e : Event) (heard : Heard) (fit : HearsFit f me heard) wh
       GoesOn (goes_back s _ _ ours.rejoining
       (λ k other. let up =
       merges s sender _ b.vector in_group h new k in let same =
-      get_or-set_other (merged s.vector b.vector me) me k (max s.rejoin.claim (slice_index b.vector me) + 1) 0 other in omega (arith, up, same))
+      get_or-set_other (merged_vector s.vector b.vector me) me k (max s.rejoin.claim (slice_index b.vector me) + 1) 0 other in omega (arith, up, same))
       refl (λ _. refl) (λ x. unsettled s b.nonce ours x)) (λ x y. up_no_rejoin s.status y x)
   course s _ in_group h (HearView sender b new ours) =
       GoesOn (goes_back s _ _ ours.rejoining (λ k _. merges s sender _ b.vector in_group h new k) refl (λ x. x)

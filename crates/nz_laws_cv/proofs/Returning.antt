@@ -17,8 +17,8 @@ use Rattle.nz_laws_cv.proofs.TurnRules.{heard_by, normal_up}
 use Rattle.nz_laws_cv.proofs.Steps.{seat_at, Acts, Rests, steps}
 use Rattle.nz_base.proofs.Moments.{at_self, at_then, at_shorter}
 use Rattle.nz_laws_cv.proofs.Modes.{normal_no_rejoin, up_not_down}
-use Rattle.nz_laws_cv.proofs.Passing.{inc_grows, goes_far, nonce_at}
-use Rattle.nz_laws_cv.proofs.Sent.{Shows, shows_before, sent_at, was_sent}
+use Rattle.nz_laws_cv.proofs.WithinIncarnation.{inc_grows, goes_far, nonce_at}
+use Rattle.nz_laws_cv.proofs.SentShows.{Shows, shows_before, sent_at, was_sent}
 use Rattle.nz_laws_cv.proofs.Tellers.{log_settled}
 use Rattle.nz_laws_cv.proofs.Collected.{IsReturn, returns, rejoining_at, rejoins_later}
 use Rattle.nz_laws_cv.proofs.Grounds.{inside}

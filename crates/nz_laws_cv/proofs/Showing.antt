@@ -20,10 +20,11 @@ use Rattle.nz_machine.specs.State.{Group}
 use Rattle.nz_machine.specs.World.{World}
 use Rattle.nz_machine.specs.Hearing.{heard_at}
 use Rattle.nz_machine.specs.Incarnations.{replica_at}
-use Rattle.nz_machine.specs.Shows.{ShowsVectorAsk, ShowsRejoinAsk, ShowsStateAsk, ShowsVectorTell, ShowsRejoinTell, ShowsStateTell, ShowsViewChange, ShowsStartView}
+use Rattle.nz_machine.specs.Shows.{ShowsVectorAsk, ShowsRejoinAsk, ShowsStateAsk, ShowsVectorTell, ShowsRejoinTell}
+use Rattle.nz_machine.specs.Shows.{ShowsStateTell, ShowsViewChange, ShowsStartView}
 use Rattle.nz_machine.proofs.Moments.{at_world}
-use Rattle.nz_machine.proofs.Told.{IsShown, shown_by, delivers, was_sent, rejoin_tell_takes, state_tell_takes}
-use Rattle.nz_laws_cv.proofs.Sent.{IsSent, Sends, AsksVector, AsksView, AsksLog, TellsVector, TellsView, TellsLog, Reports, StartsView, Shows}
+use Rattle.nz_machine.proofs.ReadShows.{IsShown, shown_by, delivers, was_sent, rejoin_tell_takes, state_tell_takes}
+use Rattle.nz_laws_cv.proofs.SentShows.{IsSent, Sends, AsksVector, AsksView, AsksLog, TellsVector, TellsView, TellsLog, Reports, StartsView, Shows}
 
 same_replica : (r q : ℕ) → Replica r ≡ Replica q → r ≡ q
 same_replica r q e = cc

@@ -1,5 +1,6 @@
 -- What a log modification does to a log, beside any list in which its keys have their places.
-use Rattle.std.proofs.Common.{◌≡◌, ℕ, ◌-◌, ◌≤◌, not, Bool, true, false, cond, List, [], ◌∷◌, ◌++◌, length, take, drop, Option, Some, None, refl, sym, ap, subst, ◌∙◌, arith}
+use Rattle.std.proofs.Common.{◌≡◌, ℕ, ◌-◌, ◌≤◌, not, Bool, true, false, cond, List, [], ◌∷◌, ◌++◌, length}
+use Rattle.std.proofs.Common.{take, drop, Option, Some, None, refl, sym, ap, subst, ◌∙◌, arith}
 use Rattle.std.proofs.lemmas.Bool.{ltb-true, not-true}
 use Rattle.std.proofs.lemmas.List.{length-map, length-take-le, take-map}
 use Rattle.std.proofs.Math.Seq.{take-length}
@@ -16,7 +17,7 @@ use Rattle.nz_log.proofs.LedKeys.{syncs, ModifiesLog, KeepsPrefixes, keeps, told
 use Rattle.nz_log.proofs.LedKeys as loops
 use Rattle.nz_msg.specs.declared.message.LogModBody.{LogModBody}
 use Rattle.nz_machine.specs.State.{ReplicaData}
-use Rattle.nz_machine.specs.LogMods.{most_keys, found, may_sync, synced_with, if_found, sync_keys}
+use Rattle.nz_machine.specs.LogMods.{most_keys, entry_of_id, may_sync, synced_with, if_found, sync_keys}
 use Rattle.nz_laws_cv.proofs.Turns.{seat_of, holding, Taken, Modifies}
 
 -- ---- what else is kept
@@ -36,25 +37,26 @@ tested_seat false s t h = refl
 pub sync_seat : (s : ReplicaData) (keys : List Key) → seat_of (sync_keys s keys).0 ≡ holding (seat_of s) (sync_keys s keys).0.log
 unfolding sync_keys
 sync_seat s [] = refl
-sync_seat s (k ∷ keys) = tested_seat (may_sync s k) s _ (found_seat s k keys (λ t. sync_seat t keys) (found s (id_of k)))
+sync_seat s (k ∷ keys) = tested_seat (may_sync s k) s _ (found_seat s k keys (λ t. sync_seat t keys) (entry_of_id s (id_of k)))
 
 -- ---- the keys in turn
 
 -- the loop of the rule is the loop of the lemma
-sync_same : (s : ReplicaData) (ks : List Key) → (sync_keys s ks).0 ≡ syncs (λ (x : ReplicaData). x.log) may_sync found synced_with s ks
+sync_same : (s : ReplicaData) (ks : List Key) → (sync_keys s ks).0 ≡ syncs (λ (x : ReplicaData). x.log) may_sync entry_of_id synced_with s ks
 unfolding sync_keys syncs loops.if_found
 sync_same s [] = refl
-sync_same s (k ∷ ks) = by_test (may_sync s k) (found s (id_of k)) (λ t. sync_same t ks)
+sync_same s (k ∷ ks) = by_test (may_sync s k) (entry_of_id s (id_of k)) (λ t. sync_same t ks)
   where
-    by_test : (b : Bool) (o : Option Entry) → ((t : ReplicaData) → (sync_keys t ks).0 ≡ syncs (λ (x : ReplicaData). x.log) may_sync found synced_with t ks)
+    by_test : (b : Bool) (o : Option Entry)
+        → ((t : ReplicaData) → (sync_keys t ks).0 ≡ syncs (λ (x : ReplicaData). x.log) may_sync entry_of_id synced_with t ks)
         → (cond b (if_found o (s, k ∷ ks) (λ e. sync_keys (synced_with s (record { key = k; command = e.command })) ks)) (s, [])).0
         ≡ cond b (loops.if_found o s
-        (λ e. syncs (λ (x : ReplicaData). x.log) may_sync found synced_with (synced_with s (record { key = k; command = e.command })) ks)) s
+        (λ e. syncs (λ (x : ReplicaData). x.log) may_sync entry_of_id synced_with (synced_with s (record { key = k; command = e.command })) ks)) s
     by_test false o rest = refl
     by_test true None rest = refl
     by_test true (Some e) rest = rest (synced_with s (record { key = k; command = e.command }))
 
-fits : ModifiesLog (λ (x : ReplicaData). x.log) may_sync found synced_with
+fits : ModifiesLog (λ (x : ReplicaData). x.log) may_sync entry_of_id synced_with
 fits = record {
   is = λ s e. refl;
   sound = λ s e may sound.
@@ -78,23 +80,24 @@ taken s early start count sound le =
     subst (λ (t : ReplicaData). Taken early s.log t.log) (sym (sync_same s (drop (s.log.synced - start) (take count (drop start early))))) whole
   where
     beside : (lead : List Key) → IsPrefix (take s.log.synced (keys_of s.log.entries)) lead → IsPrefix early lead
-        → KeepsPrefixes (λ (x : ReplicaData). x.log) may_sync found synced_with lead s
-        (syncs (λ (x : ReplicaData). x.log) may_sync found synced_with s (drop (s.log.synced - start) (take count (drop start early))))
+        → KeepsPrefixes (λ (x : ReplicaData). x.log) may_sync entry_of_id synced_with lead s
+        (syncs (λ (x : ReplicaData). x.log) may_sync entry_of_id synced_with s (drop (s.log.synced - start) (take count (drop start early))))
     beside lead prefix told =
         let A = keys_of (synced_part s.log) in
         let long = part_long s.log sound in
         let a : IsPrefix A lead = subst (λ (l : List Key). IsPrefix l lead) (sym (part_is s.log)) prefix in
         let ahead = told_ahead A early lead start count a told (omega (arith, le, long)) in
         let ahead_now = subst (λ (n : ℕ). IsPrefix (A ++ drop (n - start) (take count (drop start early))) lead) long ahead in
-        keeps (λ (x : ReplicaData). x.log) may_sync found synced_with fits lead s (drop (s.log.synced - start) (take count (drop start early))) sound ahead_now
+        keeps (λ (x : ReplicaData). x.log) may_sync entry_of_id synced_with fits lead s
+        (drop (s.log.synced - start) (take count (drop start early))) sound ahead_now
 
     whole : Taken early s.log
-        (syncs (λ (x : ReplicaData). x.log) may_sync found synced_with s (drop (s.log.synced - start) (take count (drop start early)))).log
+        (syncs (λ (x : ReplicaData). x.log) may_sync entry_of_id synced_with s (drop (s.log.synced - start) (take count (drop start early)))).log
     whole =
         let keys = drop (s.log.synced - start) (take count (drop start early)) in
-        let t = syncs (λ (x : ReplicaData). x.log) may_sync found synced_with s keys in
+        let t = syncs (λ (x : ReplicaData). x.log) may_sync entry_of_id synced_with s keys in
         let A = keys_of (synced_part s.log) in
-        let here = keeps (λ (x : ReplicaData). x.log) may_sync found synced_with fits (A ++ keys) s keys sound (prefix_self (A ++ keys)) in
+        let here = keeps (λ (x : ReplicaData). x.log) may_sync entry_of_id synced_with fits (A ++ keys) s keys sound (prefix_self (A ++ keys)) in
         let long = part_long s.log sound in
         let long_after = part_long t.log here.sound in
         let more = prefix_length A (keys_of (synced_part t.log)) here.grown in

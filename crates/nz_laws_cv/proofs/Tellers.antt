@@ -1,12 +1,13 @@
 -- Who told its vector in the first phase of a rejoin, and the own counter from the second phase on.
-use Rattle.std.proofs.Common.{◌≡◌, ℕ, ◌+◌, ◌≤◌, ◌<◌, Bool, true, false, cond, eqb, List, [], ◌∷◌, ◌++◌, length, max, Some, refl, sym, ap, subst, ◌∙◌, inl, inr, ◌⊎◌, arith, eqb-true}
+use Rattle.std.proofs.Common.{◌≡◌, ℕ, ◌+◌, ◌≤◌, ◌<◌, Bool, true, false, cond, eqb, List, [], ◌∷◌, ◌++◌, length}
+use Rattle.std.proofs.Common.{max, Some, refl, sym, ap, subst, ◌∙◌, inl, inr, ◌⊎◌, arith, eqb-true}
 use Rattle.std.specs.Prelude.{slice_index}
 use Rattle.std.specs.List.{list_any}
 use Rattle.std.proofs.lemmas.List.{get_or-set_same}
 use Rattle.nz_base.specs.Cluster.{replica_count, slow_size}
 use Rattle.nz_base.specs.declared.actor.Actor.TheVariants.{Replica}
 use Rattle.nz_base.proofs.Booleans.{or_cases, clash}
-use Rattle.nz_cv.specs.Vectors.{merged}
+use Rattle.nz_cv.specs.Vectors.{merged_vector}
 use Rattle.nz_msg.specs.declared.message.VectorTellBody.{VectorTellBody}
 use Rattle.nz_msg.specs.declared.message.Message.{Message}
 use Rattle.nz_msg.specs.declared.message.Message.TheVariants as messages
@@ -16,7 +17,8 @@ use Rattle.nz_machine.specs.Replicas.{first_replica, crashed_replica}
 use Rattle.nz_machine.specs.Rejoining.{restarted_replica, is_phase}
 use Rattle.nz_machine.specs.Hearing.{Heard}
 use Rattle.nz_math.specs.Count.{is_in, AreDistinct}
-use Rattle.nz_laws_cv.proofs.Turns.{Seat, seat_of, more_tellers, IsNew, Awaits, Turn, Stays, Release, Merge, Sync, Tally, Enter, Follow, Answer, Collect, Begin, Start, Fall, Wake, HearVector, Count, HearView, Forget, AskLog, Return, Back}
+use Rattle.nz_laws_cv.proofs.Turns.{Seat, seat_of, more_tellers, IsNew, Awaits, Turn, Stays, Release, Merge, Sync, Tally, Enter, Follow, Answer}
+use Rattle.nz_laws_cv.proofs.Turns.{Collect, Begin, Start, Fall, Wake, HearVector, Count, HearView, Forget, AskLog, Return, Back}
 use Rattle.nz_laws_cv.proofs.Hearing.{HearsFit}
 use Rattle.nz_laws_cv.proofs.Modes.{IsSound, Settled, is_phase_is, merges_own, sound_kept}
 use Rattle.nz_machine.proofs.Distinct.{any_in, distinct_more, in_append}
@@ -124,7 +126,7 @@ module _ (f me : ℕ) (Sent : ℕ → Message → Type 0) where
 
   module _ (e : Event) (heard : Heard) (fit : HearsFit f me heard) (sent : HearsSent Sent me heard) (in_group : me < replica_count f) where
     own : (s : Seat) (sender : ℕ) (m : Message) (u : List ℕ) → IsSound f s → IsNew heard s sender m u
-        → slice_index s.vector me ≡ slice_index (merged s.vector u me) me
+        → slice_index s.vector me ≡ slice_index (merged_vector s.vector u me) me
     own s sender m u sound new = merges_own f me e heard fit s sender m u in_group sound new
 
     pub tellers_kept : (s t : Seat) → IsSound f s → Turn f me e heard s t → HasTellers s → HasTellers t
@@ -158,7 +160,7 @@ module _ (f me : ℕ) (Sent : ℕ → Message → Type 0) where
       distinct = more_distinct s.rejoin.tellers sender h.distinct;
       told = more_told s sender b.vector h (hears_teller heard s sender b fit sent new ours);
       counted = λ _. enough;
-      counter = λ _. get_or-set_same (merged s.vector b.vector me) me (max s.rejoin.claim (slice_index b.vector me) + 1) 0
+      counter = λ _. get_or-set_same (merged_vector s.vector b.vector me) me (max s.rejoin.claim (slice_index b.vector me) + 1) 0
           (let size = (sound_kept f me e heard fit s _ (HearVector sender b new ours) sound).sized in omega (arith, size, in_group));
     }
     tellers_kept s _ sound (HearView sender b new ours) h =

@@ -1,5 +1,6 @@
 -- Each rule of a replica is one turn.
-use Rattle.std.proofs.Common.{◌≡◌, cond, ℕ, ◌+◌, ◌≤◌, ◌<◌, Bool, ◌&&◌, eqb, true, false, List, [], ◌∷◌, length, max, Option, Some, None, refl, sym, ap, subst, ◌∙◌, inl, inr, ◌⊎◌, arith, eqb-true}
+use Rattle.std.proofs.Common.{◌≡◌, cond, ℕ, ◌+◌, ◌≤◌, ◌<◌, Bool, ◌&&◌, eqb, true, false, List, [], ◌∷◌, length, max}
+use Rattle.std.proofs.Common.{Option, Some, None, refl, sym, ap, subst, ◌∙◌, inl, inr, ◌⊎◌, arith, eqb-true}
 use Rattle.std.specs.Prelude.{nat_lt, nat_le, min, map, drop, ◌-◌}
 use Rattle.std.proofs.lemmas.Bool.Decides.{nat_tests}
 use Rattle.nz_base.specs.Cluster.{leader_of, slow_size}
@@ -7,8 +8,8 @@ use Rattle.nz_base.specs.declared.actor.Actor.{Actor}
 use Rattle.nz_base.specs.declared.actor.Actor.TheVariants.{Replica, Proxy}
 use Rattle.nz_base.specs.declared.key.Entry.{Entry}
 use Rattle.nz_base.proofs.Booleans.{and_left, and_right}
-use Rattle.nz_cv.specs.Vectors.{is_stray, merged}
-use Rattle.nz_merge.specs.Merged.{merged as merged_changes, greatest}
+use Rattle.nz_cv.specs.Vectors.{is_stray, merged_vector}
+use Rattle.nz_merge.specs.Merged.{merged, greatest}
 use Rattle.nz_merge.specs.declared.change.Change.{Change}
 use Rattle.nz_msg.specs.declared.envelope.Envelope.{Envelope}
 use Rattle.nz_msg.specs.declared.message.TimedBody.{TimedBody}
@@ -39,16 +40,22 @@ use Rattle.nz_machine.specs.Hearing.{Heard, heard_as, heard_at}
 use Rattle.nz_machine.specs.Replicas.{is_normal, is_changing, is_up, is_rejoining, is_down, leads, leads_view, hears_leader, most_entries}
 use Rattle.nz_machine.specs.Requests.{request_rule}
 use Rattle.nz_machine.specs.Releases.{release_rule}
-use Rattle.nz_machine.specs.LogMods.{after_hearing, hears_later_leader, sync_keys, taken_from, log_mod_rule, fetch_rule, kept_all, kept_late, fetch_reply_rule, sync_report_rule}
+use Rattle.nz_machine.specs.LogMods.{after_hearing, hears_later_leader, sync_keys, after_log_mod, log_mod_rule, fetch_rule}
+use Rattle.nz_machine.specs.LogMods.{with_late_entries, with_late_entry, fetch_reply_rule, sync_report_rule}
 use Rattle.nz_machine.specs.Vectors.{with_vector, unless_stray}
 use Rattle.nz_machine.specs.Views.{enter_view, alarm_rule, view_ask_rule, quiet_timer, change_timer, most_quiet}
 use Rattle.nz_machine.specs.Adopting.{normal_in, after_start, start_view_rule}
 use Rattle.nz_machine.specs.Begins.{changes_of, after_begin, with_report, without_strays, collect, begin, view_change_rule}
-use Rattle.nz_machine.specs.Rejoining.{crash_rule, restart_rule, restarted_replica, with_teller, ask_views, with_new_counter, with_tells, ask_log, ask_again, with_tell, latest_view, vector_ask_rule, vector_tell_rule, rejoin_ask_rule, rejoin_tell_rule, state_ask_rule, state_tell_rule, rejoin_timer, is_phase}
-use Rattle.nz_machine.specs.Step.{replica_message, tick_rule, mode_timer, received, envelope_step, event_step}
+use Rattle.nz_machine.specs.Rejoining.{crash_rule, restart_rule, restarted_replica, with_teller, ask_views, with_new_counter, with_tells}
+use Rattle.nz_machine.specs.Rejoining.{ask_log, ask_again, with_tell, latest_view, vector_ask_rule, vector_tell_rule, rejoin_ask_rule}
+use Rattle.nz_machine.specs.Rejoining.{rejoin_tell_rule, state_ask_rule, state_tell_rule, rejoin_timer, is_phase}
+use Rattle.nz_machine.specs.Step.{replica_message, tick_rule, mode_timer, accepted_envelope, envelope_step, event_step}
 use Rattle.nz_machine.proofs.Runs.{on_cond, unless_down}
 use Rattle.nz_machine.proofs.Guards.{HearsLeader, hears_leader_parts}
-use Rattle.nz_laws_cv.proofs.Turns.{Seat, seat_of, merging, holding, committing, entering, starting, with_changes, fresh_changes, with_change, begun_log, begun_commit, more_tellers, Appends, Same, More, IsNew, MayLead, Base, Anew, Going, MayStart, Awaits, Turn, Stays, Release, Merge, Sync, Tally, Enter, Follow, Answer, Collect, Begin, Start, Fall, Wake, HearVector, Count, HearView, Forget, AskLog, Return, Back}
+use Rattle.nz_laws_cv.proofs.Turns.{Seat, seat_of, merging, holding, committing, entering, starting, with_changes, fresh_changes, with_change}
+use Rattle.nz_laws_cv.proofs.Turns.{begun_log, begun_commit, more_tellers, Appends, Same, More, IsNew, MayLead, Base, Anew, Going}
+use Rattle.nz_laws_cv.proofs.Turns.{MayStart, Awaits, Turn, Stays, Release, Merge, Sync, Tally, Enter, Follow, Answer, Collect, Begin}
+use Rattle.nz_laws_cv.proofs.Turns.{Start, Fall, Wake, HearVector, Count, HearView, Forget, AskLog, Return, Back}
 use Rattle.nz_laws_cv.proofs.Appending.{IsRelease, release_is, no_release}
 use Rattle.nz_laws_cv.proofs.TakenKeys.{sync_seat, modifies}
 
@@ -62,13 +69,13 @@ pub fetch_seat : (f me : ℕ) (s : ReplicaData) (sender : ℕ) (b : FetchBody) �
 unfolding fetch_rule
 fetch_seat f me s sender b = grind arith
 
-kept_late_seat : (s : ReplicaData) (e : Entry) → seat_of (kept_late s e) ≡ seat_of s
+kept_late_seat : (s : ReplicaData) (e : Entry) → seat_of (with_late_entry s e) ≡ seat_of s
 kept_late_seat s e = grind arith
 
-kept_seat : (s : ReplicaData) (es : List Entry) → seat_of (kept_all s es) ≡ seat_of s
-unfolding kept_all
+kept_seat : (s : ReplicaData) (es : List Entry) → seat_of (with_late_entries s es) ≡ seat_of s
+unfolding with_late_entries
 kept_seat s [] = refl
-kept_seat s (e ∷ es) = kept_seat (kept_late s e) es ∙ kept_late_seat s e
+kept_seat s (e ∷ es) = kept_seat (with_late_entry s e) es ∙ kept_late_seat s e
 
 pub fetch_reply_seat : (f me : ℕ) (s : ReplicaData) (sender : ℕ) (b : FetchReplyBody) → seat_of (fetch_reply_rule f me s sender b).0 ≡ seat_of s
 unfolding fetch_reply_rule
@@ -107,7 +114,8 @@ changing_is Down h = absurd cc
 -- ---- rules that turn
 
 same_changing : (me : ℕ) (s : ReplicaData) (u : List ℕ) (view : ℕ) → s.view ≡ view → is_changing s.status ≡ true
-    → seat_of (without_strays (with_vector me s u)) ≡ with_changes (entering (merging me (seat_of s) u) view) (fresh_changes s.changes (merged s.vector u me))
+    → seat_of (without_strays (with_vector me s u))
+    ≡ with_changes (entering (merging me (seat_of s) u) view) (fresh_changes s.changes (merged_vector s.vector u me))
 same_changing me s u view same changing =
     let is = changing_is s.status changing in
     λ i. record {
@@ -116,8 +124,8 @@ same_changing me s u view same changing =
       last = s.last;
       log = s.log;
       commit = s.commit;
-      vector = merged s.vector u me;
-      changes = fresh_changes s.changes (merged s.vector u me);
+      vector = merged_vector s.vector u me;
+      changes = fresh_changes s.changes (merged_vector s.vector u me);
       rejoin = s.rejoin;
     }
 
@@ -139,7 +147,7 @@ module _ (f me : ℕ) (e : Event) where
 
   -- a log modification of the own view
   own_turn : (s : ReplicaData) (sender : ℕ) (b : LogModBody) → is_stray b.vector sender s.vector ≡ false → HearsLeader f me s.status s.view sender b.view
-      → Turns (Some (Replica sender, messages.LogMod b)) s (taken_from sender b (after_hearing (with_vector me s b.vector))).0
+      → Turns (Some (Replica sender, messages.LogMod b)) s (after_log_mod sender b (after_hearing (with_vector me s b.vector))).0
   own_turn s sender b new hears =
       let heard : Heard = Some (Replica sender, messages.LogMod b) in
       let is : IsNew heard (seat_of s) sender (messages.LogMod b) b.vector = record { is = refl; carries = refl; new = new } in
@@ -158,7 +166,7 @@ module _ (f me : ℕ) (e : Event) where
       let heard : Heard = Some (Replica sender, messages.LogMod b) in
       on_cond (λ (x : ReplicaData × List Out). Turns heard s x.0) (hears_later_leader f s b.view sender)
       (unless_stray me s sender b.vector (enter_view f me b.view))
-      (cond (hears_leader f me s b.view sender) (unless_stray me s sender b.vector (λ (t : ReplicaData). taken_from sender b (after_hearing t))) (s, []))
+      (cond (hears_leader f me s b.view sender) (unless_stray me s sender b.vector (λ (t : ReplicaData). after_log_mod sender b (after_hearing t))) (s, []))
       (λ later.
       let parts = hears_later_parts f s b.view sender later in
       on_cond (λ (x : ReplicaData × List Out). Turns heard s x.0) (is_stray b.vector sender s.vector)
@@ -166,10 +174,10 @@ module _ (f me : ℕ) (e : Event) where
       (λ new. Follow sender (messages.LogMod b) b.vector (record { is = refl; carries = refl; new = new }) b.view parts.up parts.later))
       (λ _.
       on_cond (λ (x : ReplicaData × List Out). Turns heard s x.0) (hears_leader f me s b.view sender)
-      (unless_stray me s sender b.vector (λ (t : ReplicaData). taken_from sender b (after_hearing t))) (s, [])
+      (unless_stray me s sender b.vector (λ (t : ReplicaData). after_log_mod sender b (after_hearing t))) (s, [])
       (λ hears.
       on_cond (λ (x : ReplicaData × List Out). Turns heard s x.0) (is_stray b.vector sender s.vector)
-      (s, []) (taken_from sender b (after_hearing (with_vector me s b.vector))) (λ _. Stays)
+      (s, []) (after_log_mod sender b (after_hearing (with_vector me s b.vector))) (λ _. Stays)
       (λ new. own_turn s sender b new (hears_leader_parts f me s b.view sender hears)))
       (λ _. Stays))
 
@@ -209,7 +217,7 @@ module _ (f me : ℕ) (e : Event) where
   -- the reports of a view that is entered or going on, with one more: it goes on, or begins
   begin_turn : (s t : ReplicaData) (sender : ℕ) (b : ViewChangeBody) (base : List Reported)
       → IsNew (Some (Replica sender, messages.ViewChange b)) (seat_of s) sender (messages.ViewChange b) b.vector
-      → MayLead f me (seat_of s) b.view → Base (seat_of s) b.view (merged s.vector b.vector me) base
+      → MayLead f me (seat_of s) b.view → Base (seat_of s) b.view (merged_vector s.vector b.vector me) base
       → seat_of t ≡ with_changes (entering (merging me (seat_of s) b.vector) b.view) base
       → Turns (Some (Replica sender, messages.ViewChange b)) s (collect f me sender b t).0
   unfolding begin
@@ -218,14 +226,14 @@ module _ (f me : ℕ) (e : Event) where
       let going : Turns heard s (with_report t sender b) =
       subst (λ (u : Seat). Turn f me e heard (seat_of s) (with_changes u (with_change u.changes sender b))) (sym is) (Collect sender b new may base on) in
       let begun : length (with_change t.changes sender b) ≡ f
-      → Turns heard s (after_begin f (with_report t sender b) (merged_changes f (changes_of me (with_report t sender b)))
+      → Turns heard s (after_begin f (with_report t sender b) (merged f (changes_of me (with_report t sender b)))
       (greatest (map (λ (c : Change). c.commit) (changes_of me (with_report t sender b))))) =
       subst (λ (u : Seat). length (with_change u.changes sender b) ≡ f
       → Turn f me e heard (seat_of s)
       (with_changes (starting u u.view (begun_log f me u (with_change u.changes sender b)) (begun_commit f me u (with_change u.changes sender b)))
       (with_change u.changes sender b)))
       (sym is) (λ full. Begin sender b new may base on full) in
-      let merged_log = merged_changes f (changes_of me (with_report t sender b)) in
+      let merged_log = merged f (changes_of me (with_report t sender b)) in
       on_cond (λ (x : ReplicaData × List Out). Turns heard s x.0) (eqb (length (with_change t.changes sender b)) f) (begin f me (with_report t sender b))
       (with_report t sender b, [])
       (λ full. on_cond (λ (x : ReplicaData × List Out). Turns heard s x.0) (nat_lt most_entries (length merged_log)) (with_report t sender b, []) _
@@ -244,7 +252,9 @@ module _ (f me : ℕ) (e : Event) where
       (record { is = refl; carries = refl; new = new }) may (Anew later) refl in
       let going : is_stray b.vector sender s.vector ≡ false → MayLead f me (seat_of s) b.view → s.view ≡ b.view → is_changing s.status ≡ true
       → Turns (Some (Replica sender, messages.ViewChange b)) s (collect f me sender b (without_strays (with_vector me s b.vector))).0
-      = λ new may same changing. begin_turn s (without_strays (with_vector me s b.vector)) sender b (fresh_changes s.changes (merged s.vector b.vector me))
+      =
+      λ new may same changing. begin_turn s (without_strays (with_vector me s b.vector)) sender b
+      (fresh_changes s.changes (merged_vector s.vector b.vector me))
       (record { is = refl; carries = refl; new = new }) may (Going same changing) (same_changing me s b.vector b.view same changing) in
       let answer : is_stray b.vector sender s.vector ≡ false → is_normal s.status ≡ true → s.view ≡ b.view
       → Turns (Some (Replica sender, messages.ViewChange b)) s (without_strays (with_vector me s b.vector))
@@ -422,7 +432,7 @@ abbrev pub heard_by : Group → ℕ → Event → Heard
 heard_by g me e = heard_at g (Replica me) e
 
 pub event_turn : (g : Group) (me : ℕ) (s : ReplicaData) (e : Event) → Turn g.f me e (heard_by g me e) (seat_of s) (seat_of (event_step g (Replica me) s e).0)
-event_turn g me s (Deliver p) = envelope_turn g me (Deliver p) s (received g.f (Replica me) p)
+event_turn g me s (Deliver p) = envelope_turn g me (Deliver p) s (accepted_envelope g.f (Replica me) p)
 event_turn g me s (Cut p kept) = Stays
 event_turn g me s (Tick clock) =
     unless_down (λ (t : ReplicaData × List Out). Turn g.f me (Tick clock) None (seat_of s) (seat_of t.0)) s (tick_rule g.f me s clock)

@@ -8,10 +8,10 @@ use Rattle.nz_base.specs.Prefixes.{IsPrefix, Comparable}
 use Rattle.nz_base.specs.declared.key.Key.{Key}
 use Rattle.nz_base.specs.declared.key.Entry.{Entry}
 use Rattle.nz_base.specs.declared.actor.Actor.TheVariants.{Replica}
-use Rattle.nz_cv.specs.Vectors.{is_stray, merged}
+use Rattle.nz_cv.specs.Vectors.{is_stray, merged_vector}
 use Rattle.nz_log.specs.Synced.{Log, IsSound}
 use Rattle.nz_merge.specs.declared.change.Change.{Change}
-use Rattle.nz_merge.specs.Merged.{greatest, merged as merged_changes}
+use Rattle.nz_merge.specs.Merged.{greatest, merged}
 use Rattle.nz_msg.specs.declared.message.LogModBody.{LogModBody}
 use Rattle.nz_msg.specs.declared.message.ViewChangeBody.{ViewChangeBody}
 use Rattle.nz_msg.specs.declared.message.StartViewBody.{StartViewBody}
@@ -35,7 +35,7 @@ use Rattle.nz_machine.specs.Replicas.{is_normal, is_changing, is_up, is_rejoinin
 use Rattle.nz_machine.specs.LogMods.{most_keys}
 use Rattle.nz_machine.specs.Begins.{report_of}
 use Rattle.nz_machine.specs.Rejoining.{restarted_replica, is_phase}
-use Rattle.nz_machine.specs.Step.{vector_of}
+use Rattle.nz_machine.specs.Step.{message_vector}
 use Rattle.nz_machine.proofs.Guards.{HearsLeader}
 
 pub record Seat : Type 0 where
@@ -63,7 +63,7 @@ seat_of s = record {
 -- ---- parts
 
 abbrev pub merging : ℕ → Seat → List ℕ → Seat
-merging me s u = record s { vector = merged s.vector u me }
+merging me s u = record s { vector = merged_vector s.vector u me }
 
 abbrev pub holding : Seat → Log → Seat
 holding s log = record s { log = log }
@@ -100,7 +100,7 @@ abbrev pub reports_for : ℕ → Seat → List Reported → List Change
 reports_for me s changes = own_report me s ∷ map (λ (r : Reported). r.change) changes
 
 abbrev pub begun_log : ℕ → ℕ → Seat → List Reported → List Entry
-begun_log f me s changes = merged_changes f (reports_for me s changes)
+begun_log f me s changes = merged f (reports_for me s changes)
 
 abbrev pub begun_commit : ℕ → ℕ → Seat → List Reported → ℕ
 begun_commit f me s changes = min (length (begun_log f me s changes)) (greatest (map (λ (c : Change). c.commit) (reports_for me s changes)))
@@ -163,7 +163,7 @@ pub data Grown (f me : ℕ) (s : Seat) : Log → Type 0 where
 -- a message with a vector that is not stray
 pub record IsNew (heard : Heard) (s : Seat) (sender : ℕ) (m : Message) (u : List ℕ) : Type 0 where
   pub is : heard ≡ Some (Replica sender, m)
-  pub carries : vector_of m ≡ Some u
+  pub carries : message_vector m ≡ Some u
   pub new : is_stray u sender s.vector ≡ false
 
 -- the replica leads the view, which is its own or a later one
@@ -206,12 +206,12 @@ pub data Turn (f me : ℕ) (e : Event) (heard : Heard) (s : Seat) : Seat → Typ
       → Turn f me e heard s (entering (merging me s u) w)
   -- a view change that comes where the view has begun
   Answer : (sender : ℕ) (b : ViewChangeBody) → IsNew heard s sender (messages.ViewChange b) b.vector → is_normal s.status ≡ true → s.view ≡ b.view
-      → Turn f me e heard s (with_changes (merging me s b.vector) (fresh_changes s.changes (merged s.vector b.vector me)))
+      → Turn f me e heard s (with_changes (merging me s b.vector) (fresh_changes s.changes (merged_vector s.vector b.vector me)))
   Collect : (sender : ℕ) (b : ViewChangeBody) → IsNew heard s sender (messages.ViewChange b) b.vector → MayLead f me s b.view
-      → (base : List Reported) → Base s b.view (merged s.vector b.vector me) base
+      → (base : List Reported) → Base s b.view (merged_vector s.vector b.vector me) base
       → Turn f me e heard s (with_changes (entering (merging me s b.vector) b.view) (with_change base sender b))
   Begin : (sender : ℕ) (b : ViewChangeBody) → IsNew heard s sender (messages.ViewChange b) b.vector → MayLead f me s b.view
-      → (base : List Reported) → Base s b.view (merged s.vector b.vector me) base → length (with_change base sender b) ≡ f
+      → (base : List Reported) → Base s b.view (merged_vector s.vector b.vector me) base → length (with_change base sender b) ≡ f
       → Turn f me e heard s (
       with_changes
       (starting (merging me s b.vector) b.view (begun_log f me s (with_change base sender b)) (begun_commit f me s (with_change base sender b)))
@@ -226,16 +226,16 @@ pub data Turn (f me : ℕ) (e : Event) (heard : Heard) (s : Seat) : Seat → Typ
   Count : (sender : ℕ) (b : VectorTellBody) → IsNew heard s sender (messages.VectorTell b) b.vector → Awaits phases.Vectors s b.nonce
       → slow_size f ≤ length (more_tellers s.rejoin.tellers sender)
       → Turn f me e heard s (record s {
-        vector = slice_set (merged s.vector b.vector me) me (max s.rejoin.claim (slice_index b.vector me) + 1);
+        vector = slice_set (merged_vector s.vector b.vector me) me (max s.rejoin.claim (slice_index b.vector me) + 1);
         rejoin = asking_views (with_claim me s.rejoin sender b.vector);
       })
   HearView : (sender : ℕ) (b : RejoinTellBody) → IsNew heard s sender (messages.RejoinTell b) b.vector → Awaits phases.Views s b.nonce
       → Turn f me e heard s
-      (with_rejoin (merging me s b.vector) (hearing s.rejoin (fresh_tells (more_tells s.rejoin.tells sender b) (merged s.vector b.vector me))))
+      (with_rejoin (merging me s b.vector) (hearing s.rejoin (fresh_tells (more_tells s.rejoin.tells sender b) (merged_vector s.vector b.vector me))))
   Forget : (sender : ℕ) (b : RejoinTellBody) → IsNew heard s sender (messages.RejoinTell b) b.vector → Awaits phases.Views s b.nonce
       → Turn f me e heard s (with_rejoin (merging me s b.vector) (hearing s.rejoin []))
   AskLog : (sender : ℕ) (b : RejoinTellBody) → IsNew heard s sender (messages.RejoinTell b) b.vector → Awaits phases.Views s b.nonce
-      → (tells : List ToldView) → tells ≡ fresh_tells (more_tells s.rejoin.tells sender b) (merged s.vector b.vector me) → slow_size f ≤ length tells
+      → (tells : List ToldView) → tells ≡ fresh_tells (more_tells s.rejoin.tells sender b) (merged_vector s.vector b.vector me) → slow_size f ≤ length tells
       → Turn f me e heard s (with_rejoin (merging me s b.vector) (asking_log (hearing s.rejoin tells) (latest_of tells)))
   Return : (sender : ℕ) (b : StateTellBody) → IsNew heard s sender (messages.StateTell b) b.vector → Awaits phases.Log s b.nonce
       → s.rejoin.wanted ≤ b.view → sender ≡ leader_of f b.view

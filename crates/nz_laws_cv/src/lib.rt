@@ -4,7 +4,4 @@
 
 mod laws;
 
-pub use laws::{
-    a_run_has_the_ground, knowledge, leaders_do_not_rejoin, views,
-    views_follow,
-};
+pub use laws::{a_run_has_the_ground, knowledge, leaders_do_not_rejoin, views, views_follow};

@@ -12,7 +12,14 @@ use Rattle.nz_machine.proofs.FitRuns.{Fitted, all_fit}
 use Rattle.nz_lin.specs.Laws.{IsDecoded}
 
 parcel_decodes : (by : Actor) (o : Out) → FitsOut by o → IsDecoded (parcel by o)
-parcel_decodes by o fit = record { message = o.1; sender = fit.sender; receiver = fit.receiver; fit = fit.message; decoded = decode-encode by o.0 o.1 fit.sender fit.receiver fit.message }
+parcel_decodes by o fit =
+    record {
+      message = o.1;
+      sender = fit.sender;
+      receiver = fit.receiver;
+      fit = fit.message;
+      decoded = decode-encode by o.0 o.1 fit.sender fit.receiver fit.message;
+    }
 
 pub each_decodes : (g : Group) (J : List Record) (p : Parcel) → World g J → Has (sent_in J) p → IsDecoded p
 each_decodes g J p w h =

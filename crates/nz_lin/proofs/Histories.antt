@@ -1,5 +1,6 @@
 -- The history of a run is one of its accepted prefixes, and each accepted answer has a prefix that is not longer.
-use Rattle.std.proofs.Common.{◌≡◌, ℕ, ◌≤◌, Bool, true, false, cond, nat_lt, List, [], ◌∷◌, ◌++◌, length, Some, refl, sym, ap, subst, ◌∙◌, arith, inl, inr, ◌⊎◌, ltb-true, ltb-false}
+use Rattle.std.proofs.Common.{◌≡◌, ℕ, ◌≤◌, Bool, true, false, cond, nat_lt, List, [], ◌∷◌, ◌++◌, length, Some}
+use Rattle.std.proofs.Common.{refl, sym, ap, subst, ◌∙◌, arith, inl, inr, ◌⊎◌, ltb-true, ltb-false}
 use Rattle.nz_base.specs.declared.key.Id.{Id}
 use Rattle.nz_base.specs.declared.key.Entry.{Entry}
 use Rattle.nz_base.specs.Log.{keys_of, has_id, HaveOwnIds}
@@ -10,7 +11,7 @@ use Rattle.nz_machine.specs.declared.event.Event.TheVariants.{Deliver}
 use Rattle.nz_machine.specs.declared.event.Record.{Record}
 use Rattle.nz_machine.specs.State.{Group}
 use Rattle.nz_machine.specs.World.{Has, World}
-use Rattle.nz_machine.specs.Events.{Told, Sent, Accepted, told_by, events}
+use Rattle.nz_machine.specs.Events.{ClientEvent, Sent, Accepted, client_events, events}
 use Rattle.nz_machine.specs.History.{prefix_in, longer, history}
 use Rattle.nz_machine.specs.Quorums.{view_of}
 use Rattle.nz_machine.specs.OneHistory.{Precedes, IsAccepted}
@@ -21,8 +22,8 @@ use Rattle.nz_laws_commit.proofs.Places.{absent_by}
 use Rattle.nz_laws_commit.proofs.Answering.{IsGiven, given_later}
 use Rattle.nz_laws_commit.proofs.Accepted.{gives, accepted_given, given_sent, given_own, given_few}
 use Rattle.nz_laws_commit.proofs.Counts.{precedes_has, precedes_three}
-use Rattle.nz_laws_commit.proofs.Tells.{told_sent, told_accepted, not_sent_before}
-use Rattle.nz_laws_commit.proofs.Asked.{WasSent}
+use Rattle.nz_laws_commit.proofs.ClientEvents.{told_sent, told_accepted, not_sent_before}
+use Rattle.nz_laws_commit.proofs.OwnCommands.{WasSent}
 
 -- ---- the longest
 
@@ -39,7 +40,7 @@ pub record IsLonger (old new both : List Entry) : Type 0 where
 longer_is : (old new : List Entry) → IsLonger old new (longer old new)
 longer_is old new = let t = longer_by old new (nat_lt (length old) (length new)) refl in record { than_old = t.0; than_new = t.1.0; cases = t.1.1 }
 
-prefix_cases : (g : Group) (told : List Told) (e : Event) (J : List Record)
+prefix_cases : (g : Group) (told : List ClientEvent) (e : Event) (J : List Record)
     → (prefix_in g told e J ≡ []) ⊎ ((id : Id) × ((a : Answer) × ((path : Path) × Has told (Accepted id a path))))
 prefix_cases g (Accepted id a path ∷ told) (Deliver p) J = inr (id, (a, (path, inl refl)))
 prefix_cases g _ _ J = inl refl
@@ -66,7 +67,7 @@ pub record IsHistory (g : Group) (J : List Record) : Type 0 where
       → Precedes (events g J) (Accepted id a path) (Sent other command) → IsBefore g J id a other
 
 grown : (g : Group) (r : Record) (J : List Record) → length (history g J) ≤ length (history g (r ∷ J))
-grown g r J = (longer_is (history g J) (prefix_in g (told_by g r.actor r J) r.event J)).than_old
+grown g r J = (longer_is (history g J) (prefix_in g (client_events g r.actor r J) r.event J)).than_old
 
 -- a prefix that is given before the record
 pub record IsCoveredBy (g : Group) (r : Record) (J : List Record) (id : Id) (a : Answer) : Type 0 where
@@ -81,10 +82,10 @@ covered_old g r J id a h =
     record { prefix = h.prefix; accepted = inr h.accepted; view = h.view; given = h.given; short = let k = grown g r J in omega (arith, k, h.short) }
 
 covered_now : (g : Group) (r : Record) (J : List Record) (id : Id) (a : Answer) (path : Path) → World g (r ∷ J)
-    → Has (told_by g r.actor r J) (Accepted id a path) → IsCoveredBy g r J id a
+    → Has (client_events g r.actor r J) (Accepted id a path) → IsCoveredBy g r J id a
 covered_now g r J id a path w h =
     let t = gives g r J id a path w (told_accepted g r J id a path h) in
-    let long = (longer_is (history g J) (prefix_in g (told_by g r.actor r J) r.event J)).than_new in
+    let long = (longer_is (history g J) (prefix_in g (client_events g r.actor r J) r.event J)).than_new in
     record {
       prefix = t.prefix;
       accepted = inl (record { id = id; answer = a; path = path; brought = t.parcel; told = h; event = t.event; prefix = t.found });
@@ -106,14 +107,14 @@ covered_at g r J id a h =
 
 -- a request that is sent now is in no log of before
 absent_now : (g : Group) (r : Record) (J : List Record) (other : Id) (command : List ℕ) (v : ℕ) (id : Id) (a : Answer) (P : List Entry) → World g J
-    → Has (told_by g r.actor r J) (Sent other command) → IsGiven g J v id a P → has_id (keys_of P) other ≡ false
+    → Has (client_events g r.actor r J) (Sent other command) → IsGiven g J v id a P → has_id (keys_of P) other ≡ false
 absent_now g r J other command v id a P w h given =
     let new = told_sent g r J other command h in
     absent_by other P (λ e within same. not_sent_before g r J other e.command new
     (subst (λ (i : Id). Has (events g J) (Sent i e.command)) same (given_sent g J w v id a P given e within)))
 
 before_now : (g : Group) (r : Record) (J : List Record) (id : Id) (a : Answer) (other : Id) (command : List ℕ) → World g (r ∷ J)
-    → Has (told_by g r.actor r J) (Sent other command) → IsCoveredBy g r J id a → IsBefore g (r ∷ J) id a other
+    → Has (client_events g r.actor r J) (Sent other command) → IsCoveredBy g r J id a → IsBefore g (r ∷ J) id a other
 unfolding covered_at
 before_now g r J id a other command w h k =
     record { covered = covered_at g r J id a k; absent = absent_now g r J other command k.view id a k.prefix w.1 h k.given }
@@ -137,25 +138,25 @@ precedes_split xs ys x y h = elim (precedes_three xs ys x y h) [
 
 covered_in : (g : Group) (r : Record) (J : List Record) → World g (r ∷ J) → IsHistory g J → (id : Id) (a : Answer) (path : Path)
     → Has (events g (r ∷ J)) (Accepted id a path) → IsCoveredBy g r J id a
-covered_in g r J w h id a path k = elim (has_split (events g J) (told_by g r.actor r J) (Accepted id a path) k) [
+covered_in g r J w h id a path k = elim (has_split (events g J) (client_events g r.actor r J) (Accepted id a path) k) [
   | inl x ↦ covered_old g r J id a (h.covers id a path x)
   | inr x ↦ covered_now g r J id a path w x
 ]
 
 accepted_now : (g : Group) (r : Record) (J : List Record) (id : Id) (a : Answer) (path : Path) → World g (r ∷ J)
-    → Has (told_by g r.actor r J) (Accepted id a path) → IsAccepted g (prefix_in g (told_by g r.actor r J) r.event J) (r ∷ J)
+    → Has (client_events g r.actor r J) (Accepted id a path) → IsAccepted g (prefix_in g (client_events g r.actor r J) r.event J) (r ∷ J)
 accepted_now g r J id a path w h =
     let t = gives g r J id a path w (told_accepted g r J id a path h) in
     inl (record { id = id; answer = a; path = path; brought = t.parcel; told = h; event = t.event; prefix = t.found ∙ ap Some (sym t.is) })
 
 ends_new : (g : Group) (r : Record) (J : List Record) → World g (r ∷ J)
-    → (prefix_in g (told_by g r.actor r J) r.event J ≡ []) ⊎ IsAccepted g (prefix_in g (told_by g r.actor r J) r.event J) (r ∷ J)
+    → (prefix_in g (client_events g r.actor r J) r.event J ≡ []) ⊎ IsAccepted g (prefix_in g (client_events g r.actor r J) r.event J) (r ∷ J)
 ends_new g r J w =
-    elim (prefix_cases g (told_by g r.actor r J) r.event J) [ inl none ↦ inl none | inr h ↦ inr (accepted_now g r J h.0 h.1.0 h.1.1.0 w h.1.1.1) ]
+    elim (prefix_cases g (client_events g r.actor r J) r.event J) [ inl none ↦ inl none | inr h ↦ inr (accepted_now g r J h.0 h.1.0 h.1.1.0 w h.1.1.1) ]
 
 ends_later : (g : Group) (r : Record) (J : List Record) → World g (r ∷ J) → IsHistory g J
     → (history g (r ∷ J) ≡ []) ⊎ IsAccepted g (history g (r ∷ J)) (r ∷ J)
-ends_later g r J w h = elim (longer_is (history g J) (prefix_in g (told_by g r.actor r J) r.event J)).cases [
+ends_later g r J w h = elim (longer_is (history g J) (prefix_in g (client_events g r.actor r J) r.event J)).cases [
   | inl old ↦ elim h.ends [ inl none ↦ inl (old ∙ none) | inr l ↦ inr (inr (subst (λ (H : List Entry). IsAccepted g H J) (sym old) l)) ]
   | inr new ↦ elim (ends_new g r J w) [ inl none ↦ inl (new ∙ none) | inr l ↦ inr (subst (λ (H : List Entry). IsAccepted g H (r ∷ J)) (sym new) l) ]
 ]
@@ -163,7 +164,7 @@ ends_later g r J w h = elim (longer_is (history g J) (prefix_in g (told_by g r.a
 order_later : (g : Group) (r : Record) (J : List Record) → World g (r ∷ J) → IsHistory g J
     → (id : Id) (a : Answer) (path : Path) (other : Id) (command : List ℕ) → Precedes (events g (r ∷ J)) (Accepted id a path) (Sent other command)
     → IsBefore g (r ∷ J) id a other
-order_later g r J w h id a path other command p = elim (precedes_split (events g J) (told_by g r.actor r J) (Accepted id a path) (Sent other command) p) [
+order_later g r J w h id a path other command p = elim (precedes_split (events g J) (client_events g r.actor r J) (Accepted id a path) (Sent other command) p) [
   | inl old ↦ before_later g r J id a other (h.in_order id a path other command old)
   | inr new ↦ before_now g r J id a other command w new.1 (covered_in g r J w h id a path new.0)
 ]

@@ -20,7 +20,8 @@ use Rattle.nz_msg.specs.Envelope.{encode_of, decode_of}
 use Rattle.nz_msg.specs.Messages.{body_at}
 use Rattle.nz_store.specs.declared.command.Answer.TheVariants.{Done, Value}
 use Rattle.nz_store.specs.Reading.{key_at, value_at, choice_at, command_of}
-use Rattle.nz_store.specs.Reading.{body_at as command_body_at, command_at as command_there}
+use Rattle.nz_store.specs.Reading as reading
+use Rattle.nz_store.specs.Reading.{command_at}
 use Rattle.nz_store.specs.Sequence.{apply, apply_bytes, store_from, replies_from, replies}
 use Rattle.nz_msg.specs.declared.message.Path.TheVariants.{Fast}
 use Rattle.nz_machine.specs.declared.event.Event.{Event}
@@ -34,7 +35,7 @@ use Rattle.nz_machine.specs.Releases.{releases, release_rule}
 use Rattle.nz_machine.specs.Proxies.{stamp_rule, reply_rule, clock_rule}
 use Rattle.nz_machine.specs.Quorums.{decision}
 use Rattle.nz_machine.specs.Replicas.{commands}
-use Rattle.nz_machine.specs.Step.{heard, node_step}
+use Rattle.nz_machine.specs.Step.{envelope_for, node_step}
 use Rattle.nz_machine.specs.Replicas.{last_clock}
 use Rattle.nz_machine.specs.World.{state_after, sent_in, Has, IsGroup, IsMember, MayHappen, World}
 use Rattle.std.proofs.lemmas.Option.{none-some, same_Some}
@@ -156,23 +157,49 @@ all_ticked clock J w le =
 
 -- each record may follow the older ones
 is_run : World group ended
-unfolding group play arrive come ticked put get first second first_entry second_entry asked stamped told released decided once again_stamped again_told again_released again_decided ended state_after encode_of decode_of frame refusal number_bytes number_at run_at limited_at optional_at items_put items_at body_at heard wait_rule accept_rule clock_rule stamp_rule reply_rule request_rule release_rule releases decision count_below key_bytes first_words schedule rounds compress hash_after digest_bytes sha1 apply apply_bytes store_from replies_from key_at value_at choice_at command_of command_body_at command_there
+unfolding group play arrive come ticked put get first second first_entry second_entry asked stamped told released
+    decided once again_stamped again_told again_released again_decided ended state_after encode_of decode_of frame refusal
+    number_bytes number_at run_at limited_at optional_at items_put items_at body_at envelope_for wait_rule accept_rule
+    clock_rule stamp_rule reply_rule request_rule release_rule releases decision count_below key_bytes first_words
+    schedule rounds compress hash_after digest_bytes sha1 apply apply_bytes store_from replies_from key_at value_at
+    choice_at command_of reading.body_at command_at
 is_run =
-    let start : IsGroup group = record { least_f = omega arith; most_f = omega arith; least_proxies = omega arith; most_proxies = omega arith; least_window = omega arith; most_window = omega arith; least_clients = omega arith; most_clients = omega arith; few_requests = omega arith; commands = ((record { command = refl }, (record { command = refl }, tt)), tt) } in
+    let start : IsGroup group =
+    record {
+      least_f = omega arith;
+      most_f = omega arith;
+      least_proxies = omega arith;
+      most_proxies = omega arith;
+      least_window = omega arith;
+      most_window = omega arith;
+      least_clients = omega arith;
+      most_clients = omega arith;
+      few_requests = omega arith;
+      commands = ((record { command = refl }, (record { command = refl }, tt)), tt);
+    } in
     let at_asked = played [] (Client 0) (Tick 1000) start (omega arith) (omega arith) in
     let at_stamped = came 0 (play asked (Proxy 0) (Tick 2000)) (played asked (Proxy 0) (Tick 2000) at_asked (omega arith) (omega arith)) (omega arith) in
     let here = ticked 3000 stamped in
-    let at_told = came 4 (come 3 (come 2 here)) (came 3 (come 2 here) (came 2 here (all_ticked 3000 stamped at_stamped (omega arith)) (omega arith)) (omega arith)) (omega arith) in
+    let at_told =
+    came 4 (come 3 (come 2 here)) (came 3 (come 2 here)
+    (came 2 here (all_ticked 3000 stamped at_stamped (omega arith)) (omega arith)) (omega arith)) (omega arith) in
     let at_released = all_ticked 13000 told at_told (omega arith) in
     let now = play released (Proxy 0) (Tick 14000) in
-    let at_decided = came 0 (come 1 (come 2 now)) (came 1 (come 2 now) (came 2 now (played released (Proxy 0) (Tick 14000) at_released (omega arith) (omega arith)) (omega arith)) (omega arith)) (omega arith) in
+    let at_decided =
+    came 0 (come 1 (come 2 now)) (came 1 (come 2 now)
+    (came 2 now (played released (Proxy 0) (Tick 14000) at_released (omega arith) (omega arith)) (omega arith)) (omega arith)) (omega arith) in
     let at_once = came 0 (play decided (Client 0) (Tick 15000)) (played decided (Client 0) (Tick 15000) at_decided (omega arith) (omega arith)) (omega arith) in
     let again = came 0 (play once (Proxy 0) (Tick 16000)) (played once (Proxy 0) (Tick 16000) at_once (omega arith) (omega arith)) (omega arith) in
     let there = ticked 17000 again_stamped in
-    let again_heard = came 4 (come 3 (come 2 there)) (came 3 (come 2 there) (came 2 there (all_ticked 17000 again_stamped again (omega arith)) (omega arith)) (omega arith)) (omega arith) in
+    let again_heard =
+    came 4 (come 3 (come 2 there))
+    (came 3 (come 2 there) (came 2 there (all_ticked 17000 again_stamped again (omega arith)) (omega arith)) (omega arith)) (omega arith) in
     let again_out = all_ticked 18000 again_told again_heard (omega arith) in
     let then_now = play again_released (Proxy 0) (Tick 19000) in
-    let at_end = came 0 (come 1 (come 2 then_now)) (came 1 (come 2 then_now) (came 2 then_now (played again_released (Proxy 0) (Tick 19000) again_out (omega arith) (omega arith)) (omega arith)) (omega arith)) (omega arith) in
+    let at_end =
+    came 0 (come 1 (come 2 then_now))
+    (came 1 (come 2 then_now) (came 2 then_now
+    (played again_released (Proxy 0) (Tick 19000) again_out (omega arith) (omega arith)) (omega arith)) (omega arith)) (omega arith) in
     came 0 (play again_decided (Client 0) (Tick 20000)) (played again_decided (Client 0) (Tick 20000) at_end (omega arith) (omega arith)) (omega arith)
 
 -- ---- what the definitions say of it
@@ -194,8 +221,24 @@ record IsAsWorked : Type 0 where
   answers : replies (commands (history group ended)) ≡ Done ∷ Value (49 ∷ []) ∷ []
 
 as_worked : IsAsWorked
-unfolding group play arrive come ticked put get first second first_entry second_entry asked stamped told released decided once again_stamped again_told again_released again_decided ended state_after encode_of decode_of frame refusal number_bytes number_at run_at limited_at optional_at items_put items_at body_at heard wait_rule accept_rule clock_rule stamp_rule reply_rule request_rule release_rule releases decision count_below key_bytes first_words schedule rounds compress hash_after digest_bytes sha1 apply apply_bytes store_from replies_from key_at value_at choice_at command_of command_body_at command_there
-as_worked = record { seen_once = refl; seen = refl; first_source = refl; first_decision = refl; first_prefix = refl; second_prefix = refl; history_once = refl; history_then = refl; answers = refl }
+unfolding group play arrive come ticked put get first second first_entry second_entry asked stamped told released
+    decided once again_stamped again_told again_released again_decided ended state_after encode_of decode_of frame refusal
+    number_bytes number_at run_at limited_at optional_at items_put items_at body_at envelope_for wait_rule accept_rule
+    clock_rule stamp_rule reply_rule request_rule release_rule releases decision count_below key_bytes first_words
+    schedule rounds compress hash_after digest_bytes sha1 apply apply_bytes store_from replies_from key_at value_at
+    choice_at command_of reading.body_at command_at
+as_worked =
+    record {
+      seen_once = refl;
+      seen = refl;
+      first_source = refl;
+      first_decision = refl;
+      first_prefix = refl;
+      second_prefix = refl;
+      history_once = refl;
+      history_then = refl;
+      answers = refl;
+    }
 
 -- ---- the premise on digests holds of it
 
@@ -207,10 +250,16 @@ second_list = map entry_key (first_entry ∷ second_entry ∷ [])
 
 -- each replica replied over the first entry, and then over both
 lists : replied_lists group ended ≡ second_list ∷ second_list ∷ second_list ∷ first_list ∷ first_list ∷ first_list ∷ []
-unfolding first_list second_list group play arrive come ticked put get first second first_entry second_entry asked stamped told released decided once again_stamped again_told again_released again_decided ended state_after encode_of decode_of frame refusal number_bytes number_at run_at limited_at optional_at items_put items_at body_at heard wait_rule accept_rule clock_rule stamp_rule reply_rule request_rule release_rule releases decision count_below key_bytes first_words schedule rounds compress hash_after digest_bytes sha1 apply apply_bytes store_from replies_from key_at value_at choice_at command_of command_body_at command_there
+unfolding first_list second_list group play arrive come ticked put get first second first_entry second_entry asked
+    stamped told released decided once again_stamped again_told again_released again_decided ended state_after encode_of
+    decode_of frame refusal number_bytes number_at run_at limited_at optional_at items_put items_at body_at envelope_for
+    wait_rule accept_rule clock_rule stamp_rule reply_rule request_rule release_rule releases decision count_below
+    key_bytes first_words schedule rounds compress hash_after digest_bytes sha1 apply apply_bytes store_from replies_from
+    key_at value_at choice_at command_of reading.body_at command_at
 lists = refl
 
-one_or_other : (keys : List EntryKey) → Has (second_list ∷ second_list ∷ second_list ∷ first_list ∷ first_list ∷ first_list ∷ []) keys → (keys ≡ second_list) ⊎ (keys ≡ first_list)
+one_or_other : (keys : List EntryKey)
+    → Has (second_list ∷ second_list ∷ second_list ∷ first_list ∷ first_list ∷ first_list ∷ []) keys → (keys ≡ second_list) ⊎ (keys ≡ first_list)
 one_or_other keys (inl e) = inl (sym e)
 one_or_other keys (inr (inl e)) = inl (sym e)
 one_or_other keys (inr (inr (inl e))) = inl (sym e)
@@ -225,7 +274,9 @@ unfolding first_list second_list first_entry second_entry put get key_bytes firs
 differ = refl
 
 not_same : digest first_list ≡ digest second_list → ⊥
-not_same e = let same : bytes_eq (digest first_list) (digest second_list) ≡ true = (bytes_eq-Decides (digest first_list) (digest second_list)).1 e in let both : true ≡ false = sym same ∙ differ in absurd cc
+not_same e =
+    let same : bytes_eq (digest first_list) (digest second_list) ≡ true = (bytes_eq-Decides (digest first_list) (digest second_list)).1 e in
+    let both : true ≡ false = sym same ∙ differ in absurd cc
 
 none_collide : NoCollision group ended
 none_collide = no_collision_listed group ended is_run (λ keys others h k same.

@@ -1,5 +1,6 @@
 -- The conditions of calls to a log, and lists of calls.
-use Rattle.std.proofs.Common.{◌≡◌, ℕ, ◌+◌, ◌<◌, Bool, true, false, not, List, [], ◌∷◌, ◌++◌, length, take, drop, get_or, suc, drop-cons, refl, sym, ap, subst, ◌∙◌, inl, inr}
+use Rattle.std.proofs.Common.{◌≡◌, ℕ, ◌+◌, ◌<◌, Bool, true, false, not, List, [], ◌∷◌, ◌++◌, length, take}
+use Rattle.std.proofs.Common.{drop, get_or, suc, drop-cons, refl, sym, ap, subst, ◌∙◌, inl, inr}
 use Rattle.std.specs.List.{list_all}
 use Rattle.nz_base.specs.declared.key.Key.{Key}
 use Rattle.nz_base.specs.declared.key.Entry.{Entry}
@@ -28,11 +29,15 @@ each_below k (y ∷ ks) x all there =
 all_below : (k : Key) (ks : List Key) → ((x : Key) → has_key ks x ≡ true → key_below k x ≡ true) → list_all (key_below k) ks ≡ true
 all_below k [] each = refl
 all_below k (y ∷ ks) each =
-    and_both (key_below k y) (list_all (key_below k) ks) (each y (or_left (key_eq y y) (has_key ks y) (key_eq_self y))) (all_below k ks (λ x there. each x (or_right (key_eq x y) (has_key ks x) there)))
+    and_both (key_below k y) (list_all (key_below k) ks)
+    (each y (or_left (key_eq y y) (has_key ks y) (key_eq_self y))) (all_below k ks (λ x there. each x (or_right (key_eq x y) (has_key ks x) there)))
 
 rises : (ks : List Key) → are_rising ks ≡ true → AreRising ks
 rises [] h = tt
-rises (k ∷ ks) h = (λ x there. each_below k ks x (and_left (list_all (key_below k) ks) (are_rising ks) h) there, rises ks (and_right (list_all (key_below k) ks) (are_rising ks) h))
+rises (k ∷ ks) h = (
+  λ x there. each_below k ks x (and_left (list_all (key_below k) ks) (are_rising ks) h) there,
+  rises ks (and_right (list_all (key_below k) ks) (are_rising ks) h),
+)
 
 rises_test : (ks : List Key) → AreRising ks → are_rising ks ≡ true
 rises_test [] h = refl
@@ -44,7 +49,10 @@ not_false false h = refl
 
 owns : (ks : List Key) → have_own_ids ks ≡ true → HaveOwnIds ks
 owns [] h = tt
-owns (k ∷ ks) h = (not_false (has_id ks (id_of k)) (and_left (not (has_id ks (id_of k))) (have_own_ids ks) h), owns ks (and_right (not (has_id ks (id_of k))) (have_own_ids ks) h))
+owns (k ∷ ks) h = (
+  not_false (has_id ks (id_of k)) (and_left (not (has_id ks (id_of k))) (have_own_ids ks) h),
+  owns ks (and_right (not (has_id ks (id_of k))) (have_own_ids ks) h),
+)
 
 owns_test : (ks : List Key) → HaveOwnIds ks → have_own_ids ks ≡ true
 owns_test [] h = refl
@@ -68,7 +76,8 @@ no_log es refused = elim (cases_bool (may_be_log es)) [
 
 -- ---- one call more
 
-pub answers_more : (log : Log) (calls : List LogCall) (call : LogCall) → answers_to log (calls ++ call ∷ []) ≡ answers_to log calls ++ answer_to (after_calls log calls) call ∷ []
+pub answers_more : (log : Log) (calls : List LogCall) (call : LogCall)
+    → answers_to log (calls ++ call ∷ []) ≡ answers_to log calls ++ answer_to (after_calls log calls) call ∷ []
 answers_more log [] call = refl
 answers_more log (c ∷ calls) call = ap (λ (answers : List LogAnswer). answer_to log c ∷ answers) (answers_more (after_call log c) calls call)
 
@@ -78,15 +87,21 @@ after_more log (c ∷ calls) call = after_more (after_call log c) calls call
 
 -- ---- a list that is tested entry after entry
 
-pub log_more : (es : List Entry) (place : ℕ) (e : Entry) → place < length es → e ≡ get_or es place e → IsLog (take place es) → may_follow (take place es) e.key ≡ true → IsLog (take (place + 1) es)
+pub log_more : (es : List Entry) (place : ℕ) (e : Entry) → place < length es → e ≡ get_or es place e
+    → IsLog (take place es) → may_follow (take place es) e.key ≡ true → IsLog (take (place + 1) es)
 log_more es place e within is log may =
     let more : take (place + 1) es ≡ take place es ++ e ∷ [] = take_more es place e within ∙ ap (λ (x : Entry). take place es ++ x ∷ []) (sym is) in
-    subst IsLog (sym more) (log_push (take place es) e log (and_left (is_above_last (keys_of (take place es)) e.key) (not (has_id (keys_of (take place es)) (id_of e.key))) may)
-    (not_false (has_id (keys_of (take place es)) (id_of e.key)) (and_right (is_above_last (keys_of (take place es)) e.key) (not (has_id (keys_of (take place es)) (id_of e.key))) may)))
+    subst IsLog (sym more) (log_push (take place es) e log
+    (and_left (is_above_last (keys_of (take place es)) e.key) (not (has_id (keys_of (take place es)) (id_of e.key))) may)
+    (not_false (has_id (keys_of (take place es)) (id_of e.key))
+    (and_right (is_above_last (keys_of (take place es)) e.key) (not (has_id (keys_of (take place es)) (id_of e.key))) may)))
 
-pub log_stops : (es : List Entry) (place : ℕ) (e : Entry) → place < length es → e ≡ get_or es place e → may_follow (take place es) e.key ≡ false → may_be_log es ≡ false
+pub log_stops : (es : List Entry) (place : ℕ) (e : Entry) → place < length es → e ≡ get_or es place e
+    → may_follow (take place es) e.key ≡ false → may_be_log es ≡ false
 log_stops es place e within is may = no_log es (λ log.
     let rest : drop place es ≡ e ∷ drop (suc place) es = drop-cons es place e within ∙ ap (λ (x : Entry). x ∷ drop (suc place) es) (sym is) in
     let whole : take place es ++ e ∷ drop (suc place) es ≡ es = ap (λ (xs : List Entry). take place es ++ xs) (sym rest) ∙ take-append-drop place es in
     let all = subst IsLog (sym whole) log in
-    clash (may_follow (take place es) e.key) (and_both (is_above_last (keys_of (take place es)) e.key) (not (has_id (keys_of (take place es)) (id_of e.key))) (next_above (take place es) e (drop (suc place) es) all) (ap not (next_fresh (take place es) e (drop (suc place) es) all))) may)
+    clash (may_follow (take place es) e.key)
+    (and_both (is_above_last (keys_of (take place es)) e.key) (not (has_id (keys_of (take place es)) (id_of e.key)))
+    (next_above (take place es) e (drop (suc place) es) all) (ap not (next_fresh (take place es) e (drop (suc place) es) all))) may)

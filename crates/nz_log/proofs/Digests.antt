@@ -6,7 +6,8 @@ use Rattle.nz_digest.specs.Digests.{digest, digest_of_key, xor_bytes}
 use Rattle.nz_digest.proofs.Keys.{digest-push}
 use Rattle.nz_log.specs.Places.{entry_key, digest_of_log, digest_at}
 
-pub digest_push : (es : List Entry) (e : Entry) → digest_of_log (es ++ e ∷ []) ≡ xor_bytes (digest_of_log es) (digest_of_key e.key.deadline e.key.client e.key.num)
+pub digest_push : (es : List Entry) (e : Entry)
+    → digest_of_log (es ++ e ∷ []) ≡ xor_bytes (digest_of_log es) (digest_of_key e.key.deadline e.key.client e.key.num)
 digest_push es e = ap digest (map-append entry_key es (e ∷ [])) ∙ digest-push (map entry_key es) (entry_key e)
 
 pub digest_more : (es : List Entry) (k : ℕ) (e : Entry) → k < length es → e ≡ get_or es k e
@@ -14,7 +15,8 @@ pub digest_more : (es : List Entry) (k : ℕ) (e : Entry) → k < length es → 
 digest_more es k e within is =
     ap digest_of_log (take_more es k e within ∙ ap (λ (x : Entry). take k es ++ x ∷ []) (sym is)) ∙ digest_push (take k es) e
 
-pub digest_last : (es : List Entry) (e : Entry) → digest_at (es ++ e ∷ []) (length es) ≡ xor_bytes (digest_of_log es) (digest_of_key e.key.deadline e.key.client e.key.num)
+pub digest_last : (es : List Entry) (e : Entry)
+    → digest_at (es ++ e ∷ []) (length es) ≡ xor_bytes (digest_of_log es) (digest_of_key e.key.deadline e.key.client e.key.num)
 digest_last es e =
     let long : length (es ++ e ∷ []) ≡ length es + 1 = length-append es (e ∷ []) in
     ap digest_of_log (take_all (suc (length es)) (es ++ e ∷ []) (omega (arith, long))) ∙ digest_push es e

@@ -1,5 +1,6 @@
 -- The index of a log, while its entries go to their places one after another.
-use Rattle.std.proofs.Common.{◌≡◌, ℕ, suc, ◌+◌, ◌<◌, ◌≤◌, take, drop, get_or, drop-cons, append_assoc, arith, true, false, List, [], ◌∷◌, ◌++◌, length, filter, Option, Some, None, is_some, refl, sym, ap, subst, ◌∙◌, inl, inr, if◌then◌else◌}
+use Rattle.std.proofs.Common.{◌≡◌, ℕ, suc, ◌+◌, ◌<◌, ◌≤◌, take, drop, get_or, drop-cons, append_assoc, arith, true, false, List, [], ◌∷◌}
+use Rattle.std.proofs.Common.{◌++◌, length, filter, Option, Some, None, is_some, refl, sym, ap, subst, ◌∙◌, inl, inr, if◌then◌else◌}
 use Rattle.std.specs.Option.{option_map}
 use Rattle.std.proofs.lemmas.List.{length-take-le}
 use Rattle.nz_base.specs.declared.key.Id.{Id}
@@ -21,7 +22,8 @@ pub place_push_other : (es : List Entry) (e : Entry) (i : Id) → id_eq i (id_of
 place_push_other [] e i apart = rw apart refl
 place_push_other (f ∷ es) e i apart = ap (λ (o : Option ℕ). if id_eq i (id_of f.key) then Some 0 else option_map suc o) (place_push_other es e i apart)
 
-pub place_push_new : (es : List Entry) (e : Entry) (i : Id) → has_id (keys_of es) i ≡ false → id_eq i (id_of e.key) ≡ true → place_of (es ++ e ∷ []) i ≡ Some (length es)
+pub place_push_new : (es : List Entry) (e : Entry) (i : Id) → has_id (keys_of es) i ≡ false
+    → id_eq i (id_of e.key) ≡ true → place_of (es ++ e ∷ []) i ≡ Some (length es)
 place_push_new [] e i away here = rw here refl
 place_push_new (f ∷ es) e i away here =
     rw (neither_left (id_eq i (id_of f.key)) (has_id (keys_of es) i) away)
@@ -58,13 +60,18 @@ midway_gone key settled x rest f g other now mid = record {
   own = mid.own.1;
   apart = λ i there apart. mid.apart i (or_right (id_eq i (id_of x.key)) (has_id (keys_of rest) i) there) apart;
   held = λ i there. elim (cases_bool (id_eq (id_of x.key) i)) [
-    | inl here ↦ clash (has_id (keys_of rest) (id_of x.key)) (subst (λ (j : Id). has_id (keys_of rest) j ≡ true) (sym (same_id (id_of x.key) i here)) there) mid.own.0
+    | inl here ↦
+        clash (has_id (keys_of rest) (id_of x.key))
+        (subst (λ (j : Id). has_id (keys_of rest) j ≡ true) (sym (same_id (id_of x.key) i here)) there) mid.own.0
     | inr away ↦ ap is_some (now i) ∙ rw away (mid.held i (or_right (id_eq i (id_of x.key)) (has_id (keys_of rest) i) there))
   ];
   right = λ i known. elim (cases_bool (id_eq (id_of x.key) i)) [
     | inl here ↦
         let is : id_of x.key ≡ i = same_id (id_of x.key) i here in
-        let free : has_id (keys_of settled) i ≡ false = subst (λ (j : Id). has_id (keys_of settled) j ≡ false) is (mid.apart (id_of x.key) (or_left (id_eq (id_of x.key) (id_of x.key)) (has_id (keys_of rest) (id_of x.key)) (id_eq_self (id_of x.key))) other) in
+        let free : has_id (keys_of settled) i ≡ false =
+        subst (λ (j : Id). has_id (keys_of settled) j ≡ false) is
+        (mid.apart (id_of x.key) (or_left (id_eq (id_of x.key) (id_of x.key)) (has_id (keys_of rest) (id_of x.key))
+        (id_eq_self (id_of x.key))) other) in
         now i ∙ rw here (sym (place_none settled i free))
     | inr away ↦ now i ∙ rw away (mid.right i (elim known [
       | inr same ↦ inr same
@@ -74,14 +81,17 @@ midway_gone key settled x rest f g other now mid = record {
 }
 
 pub midway_stays : (key : Key) (settled : List Entry) (x : Entry) (rest : List Entry) (f g : Id → Option ℕ) → id_eq (id_of key) (id_of x.key) ≡ false
-    → ((i : Id) → g i ≡ (if id_eq (id_of x.key) i then Some (length settled) else f i)) → IsMidway key settled (x ∷ rest) f → IsMidway key (settled ++ x ∷ []) rest g
+    → ((i : Id) → g i ≡ (if id_eq (id_of x.key) i then Some (length settled) else f i))
+    → IsMidway key settled (x ∷ rest) f → IsMidway key (settled ++ x ∷ []) rest g
 midway_stays key settled x rest f g other now mid =
     let first = mid.apart (id_of x.key) (or_left (id_eq (id_of x.key) (id_of x.key)) (has_id (keys_of rest) (id_of x.key)) (id_eq_self (id_of x.key))) other in
     record {
       own = mid.own.1;
       apart = λ i there apart.
           let away : id_eq i (id_of x.key) ≡ false = elim (cases_bool (id_eq i (id_of x.key))) [
-            | inl here ↦ clash (has_id (keys_of rest) (id_of x.key)) (subst (λ (j : Id). has_id (keys_of rest) j ≡ true) (same_id i (id_of x.key) here) there) mid.own.0
+            | inl here ↦
+                clash (has_id (keys_of rest) (id_of x.key))
+                (subst (λ (j : Id). has_id (keys_of rest) j ≡ true) (same_id i (id_of x.key) here) there) mid.own.0
             | inr away ↦ away
           ] in
           let free = mid.apart i (or_right (id_eq i (id_of x.key)) (has_id (keys_of rest) i) there) apart in
@@ -116,7 +126,10 @@ front_away [] ys i own there = refl
 front_away (x ∷ xs) ys i own there =
     elim (cases_bool (id_eq i (id_of x))) [
       | inr away ↦ rw away (front_away xs ys i own.1 there)
-      | inl here ↦ clash (has_id (xs ++ ys) (id_of x)) (subst (λ (j : Id). has_id (xs ++ ys) j ≡ true) (same_id i (id_of x) here) (has_id-append xs ys i ∙ or_right (has_id xs i) (has_id ys i) there)) own.0
+      | inl here ↦
+          clash (has_id (xs ++ ys) (id_of x))
+          (subst (λ (j : Id). has_id (xs ++ ys) j ≡ true) (same_id i (id_of x) here)
+          (has_id-append xs ys i ∙ or_right (has_id xs i) (has_id ys i) there)) own.0
     ]
 
 -- an id that is not among the last entries has its place among the first
@@ -124,7 +137,8 @@ place_front : (front back : List Entry) (i : Id) → has_id (keys_of back) i ≡
 place_front [] back i away = place_none back i away
 place_front (f ∷ front) back i away = ap (λ (o : Option ℕ). if id_eq i (id_of f.key) then Some 0 else option_map suc o) (place_front front back i away)
 
-pub midway_start : (front : List Entry) (e : Entry) (back : List Entry) (f g : Id → Option ℕ) → HaveOwnIds (keys_of (front ++ back)) → has_id (keys_of front) (id_of e.key) ≡ false
+pub midway_start : (front : List Entry) (e : Entry) (back : List Entry) (f g : Id → Option ℕ)
+    → HaveOwnIds (keys_of (front ++ back)) → has_id (keys_of front) (id_of e.key) ≡ false
     → ((i : Id) → f i ≡ place_of (front ++ back) i) → ((i : Id) → g i ≡ (if id_eq (id_of e.key) i then Some (length front) else f i))
     → IsMidway e.key (front ++ e ∷ []) back g
 midway_start front e back f g own fresh old now =
@@ -135,10 +149,14 @@ midway_start front e back f g own fresh old now =
       apart = λ i there other. with_last i (id_turn_away (id_of e.key) i other) (front_away (keys_of front) (keys_of back) i apart there);
       held = λ i there. ap is_some (now i) ∙ elim (cases_bool (id_eq (id_of e.key) i)) [
         | inl here ↦ rw here refl
-        | inr away ↦ rw away (ap is_some (old i) ∙ place_held (front ++ back) i ∙ ap (λ (ks : List Key). has_id ks i) parts ∙ has_id-append (keys_of front) (keys_of back) i ∙ or_right (has_id (keys_of front) i) (has_id (keys_of back) i) there)
+        | inr away ↦
+            rw away (ap is_some (old i) ∙ place_held (front ++ back) i ∙ ap (λ (ks : List Key). has_id ks i) parts
+            ∙ has_id-append (keys_of front) (keys_of back) i ∙ or_right (has_id (keys_of front) i) (has_id (keys_of back) i) there)
       ];
       right = λ i known. now i ∙ elim (cases_bool (id_eq (id_of e.key) i)) [
-        | inl here ↦ rw here (sym (place_push_new front e i (subst (λ (j : Id). has_id (keys_of front) j ≡ false) (same_id (id_of e.key) i here) fresh) (id_turn (id_of e.key) i here)))
+        | inl here ↦
+            rw here (sym (place_push_new front e i
+            (subst (λ (j : Id). has_id (keys_of front) j ≡ false) (same_id (id_of e.key) i here) fresh) (id_turn (id_of e.key) i here)))
         | inr away ↦ rw away (old i ∙ elim known [
           | inr same ↦ clash (id_eq (id_of e.key) i) same away
           | inl gone ↦ place_front front back i gone ∙ sym (place_push_other front e i (id_turn_away (id_of e.key) i away))
@@ -147,7 +165,8 @@ midway_start front e back f g own fresh old now =
     }
   where
     with_last : (i : Id) → id_eq i (id_of e.key) ≡ false → has_id (keys_of front) i ≡ false → has_id (keys_of (front ++ e ∷ [])) i ≡ false
-    with_last i away free = ap (λ (ks : List Key). has_id ks i) (keys_append front (e ∷ [])) ∙ has_id-append (keys_of front) (e.key ∷ []) i ∙ rw (free, away) refl
+    with_last i away free =
+        ap (λ (ks : List Key). has_id ks i) (keys_append front (e ∷ [])) ∙ has_id-append (keys_of front) (e.key ∷ []) i ∙ rw (free, away) refl
 
 -- ---- a step of the loop
 
@@ -195,12 +214,16 @@ module _ (key : Key) (es : List Entry) (kept place : ℕ) (f : Id → Option ℕ
   along_stays new g down other high first back now =
       let long : length (take kept es) ≡ kept = length-take-le kept es down in
       let left : filter (stays_behind key) (x ∷ drop (place + 1) es) ≡ x ∷ filter (stays_behind key) (drop (place + 1) es) = rw (high, other) refl in
-      let moved : IsMidway key (take kept es ++ x ∷ []) (drop (place + 1) es) g = midway_stays key (take kept es) x (drop (place + 1) es) f g other (λ i. now i ∙ ap (λ (n : ℕ). if id_eq (id_of x.key) i then Some n else f i) (sym long)) midway in
+      let moved : IsMidway key (take kept es ++ x ∷ []) (drop (place + 1) es) g =
+      midway_stays key (take kept es) x (drop (place + 1) es) f g other
+      (λ i. now i ∙ ap (λ (n : ℕ). if id_eq (id_of x.key) i then Some n else f i) (sym long)) midway in
       record {
         same = ap (λ (xs : List Entry). xs ++ filter (stays_behind key) (drop (place + 1) new)) first
             ∙ ap (λ (xs : List Entry). (take kept es ++ x ∷ []) ++ filter (stays_behind key) xs) back
             ∙ append_assoc (take kept es) (x ∷ []) (filter (stays_behind key) (drop (place + 1) es))
             ∙ ap (λ (xs : List Entry). take kept es ++ xs) (sym left)
             ∙ before;
-        midway = subst (λ (xs : List Entry). IsMidway key xs (drop (place + 1) new) g) (sym first) (subst (λ (xs : List Entry). IsMidway key (take kept es ++ x ∷ []) xs g) (sym back) moved);
+        midway =
+            subst (λ (xs : List Entry). IsMidway key xs (drop (place + 1) new) g) (sym first)
+            (subst (λ (xs : List Entry). IsMidway key (take kept es ++ x ∷ []) xs g) (sym back) moved);
       }

@@ -1,5 +1,6 @@
 -- What is kept of a log: looked up, and after one more entry.
-use Rattle.std.proofs.Common.{◌≡◌, ℕ, zero, suc, ◌+◌, ◌-◌, ◌<◌, ◌≤◌, true, false, List, [], ◌∷◌, ◌++◌, length, take, drop, get_or, nat_lt, Option, Some, None, IfSome, is_some, refl, sym, ap, subst, ◌∙◌, inl, inr, if◌then◌else◌, arith}
+use Rattle.std.proofs.Common.{◌≡◌, ℕ, zero, suc, ◌+◌, ◌-◌, ◌<◌, ◌≤◌, true, false, List, [], ◌∷◌, ◌++◌, length, take, drop, get_or, nat_lt}
+use Rattle.std.proofs.Common.{Option, Some, None, IfSome, is_some, refl, sym, ap, subst, ◌∙◌, inl, inr, if◌then◌else◌, arith}
 use Rattle.std.specs.Prelude.{slice_get}
 use Rattle.std.specs.Option.{option_map}
 use Rattle.std.specs.Map.{lookup}
@@ -17,7 +18,7 @@ use Rattle.nz_base.proofs.Logs.{has_first, has_id-append, keys_append, front_bel
 use Rattle.std.proofs.Math.Seq.{take-append_seam}
 use Rattle.nz_log.specs.Places.{place_of}
 use Rattle.nz_log.specs.Synced.{Log, IsSound, synced_part, unsynced_part}
-use Rattle.nz_log.specs.Keeping.{IsKept, IsSummed, IsMidway, digest_with}
+use Rattle.nz_log.specs.Keeping.{IsKeptLog, IsSummed, IsMidway, digest_with}
 use Rattle.nz_log.proofs.Placing.{place_found, place_held, held_at}
 use Rattle.nz_log.proofs.Indexing.{place_push_new, place_push_other, midway_start}
 use Rattle.nz_log.proofs.Summing.{sums_push, sums_take}
@@ -38,7 +39,10 @@ early : (es : List Entry) (n : ℕ) (i : Id) (place : ℕ) → n ≤ length es �
 early es n i place few is below =
     let at = place_found es i place is in
     let long : length (take n es) ≡ n = length-take-le n es few in
-    held_at (take n es) i place (record { within = omega (arith, long, below); here = λ d. ap (λ (x : Entry). id_eq i (id_of x.key)) (get_or-take n es place d below) ∙ at.here d })
+    held_at (take n es) i place (record {
+      within = omega (arith, long, below);
+      here = λ d. ap (λ (x : Entry). id_eq i (id_of x.key)) (get_or-take n es place d below) ∙ at.here d;
+    })
 
 late : (es : List Entry) (n : ℕ) (i : Id) (place : ℕ) → place_of es i ≡ Some place → n ≤ place → has_id (keys_of (take n es)) i ≡ false
 late es zero i place is above = refl
@@ -52,7 +56,8 @@ late (e ∷ es) (suc n) i place is above =
     some_same : (a b : ℕ) → Some a ≡ Some b → a ≡ b
     some_same a b h = cc
 
-    further : (o : Option ℕ) (place : ℕ) → ((m : ℕ) → o ≡ Some m → n ≤ m → has_id (keys_of (take n es)) i ≡ false) → option_map suc o ≡ Some place → suc n ≤ place → has_id (keys_of (take n es)) i ≡ false
+    further : (o : Option ℕ) (place : ℕ) → ((m : ℕ) → o ≡ Some m → n ≤ m → has_id (keys_of (take n es)) i ≡ false)
+        → option_map suc o ≡ Some place → suc n ≤ place → has_id (keys_of (take n es)) i ≡ false
     further None place rest h above = absurd cc
     further (Some m) place rest h above = let next : suc m ≡ place = some_same (suc m) place h in rest m refl (omega (arith, next, above))
 
@@ -68,35 +73,43 @@ held_before es n i place few is = sym (ltb_from_iff (
 pub none_before : (es : List Entry) (n : ℕ) (i : Id) → place_of es i ≡ None → false ≡ has_id (keys_of (take n es)) i
 none_before es n i is =
     let away : has_id (keys_of es) i ≡ false = sym (place_held es i) ∙ ap is_some is in
-    let parts : has_id (keys_of es) i ≡ _ = ap (λ (xs : List Entry). has_id (keys_of xs) i) (sym (take-append-drop n es)) ∙ ap (λ (ks : List Key). has_id ks i) (keys_append (take n es) (drop n es)) ∙ has_id-append (keys_of (take n es)) (keys_of (drop n es)) i in
+    let parts : has_id (keys_of es) i ≡ _ =
+    ap (λ (xs : List Entry). has_id (keys_of xs) i) (sym (take-append-drop n es))
+    ∙ ap (λ (ks : List Key). has_id ks i) (keys_append (take n es) (drop n es)) ∙ has_id-append (keys_of (take n es)) (keys_of (drop n es)) i in
     sym (neither_left (has_id (keys_of (take n es)) i) (has_id (keys_of (drop n es)) i) (sym parts ∙ away))
 
 -- the last of the first n entries
-pub above_first : (es : List Entry) (n : ℕ) (last : ℕ) (key : Key) (x : Entry) → n ≤ length es → last + 1 ≡ n → x ≡ get_or es last x → key_below x.key key ≡ is_above_last (keys_of (take n es)) key
+pub above_first : (es : List Entry) (n : ℕ) (last : ℕ) (key : Key) (x : Entry) → n ≤ length es → last + 1 ≡ n
+    → x ≡ get_or es last x → key_below x.key key ≡ is_above_last (keys_of (take n es)) key
 above_first es n last key x few next is =
     let long : length (take n es) ≡ n = length-take-le n es few in
     let at : length (take n es) - 1 ≡ last = omega (arith, long, next) in
-    let there : slice_get (take n es) last ≡ Some x = slice_get_read (take n es) (length (take n es)) last x refl (omega (arith, long, next)) (is ∙ sym (get_or-take n es last x (omega (arith, next)))) in
+    let there : slice_get (take n es) last ≡ Some x =
+    slice_get_read (take n es) (length (take n es)) last x refl (omega (arith, long, next))
+    (is ∙ sym (get_or-take n es last x (omega (arith, next)))) in
     sym (above_some (take n es) key x (ap (slice_get (take n es)) at ∙ there))
 
 -- ---- one more entry
 
-pub kept_push : (log : Log) (sums : List (List ℕ)) (places now : List (Id × ℕ)) (e : Entry) (sum : List ℕ) → IsKept log sums places
-    → is_above_last (keys_of log.entries) e.key ≡ true → has_id (keys_of log.entries) (id_of e.key) ≡ false → length log.entries < 4096 → sum ≡ digest_with log.entries e.key
+pub kept_push : (log : Log) (sums : List (List ℕ)) (places now : List (Id × ℕ)) (e : Entry) (sum : List ℕ) → IsKeptLog log sums places
+    → is_above_last (keys_of log.entries) e.key ≡ true → has_id (keys_of log.entries) (id_of e.key) ≡ false
+    → length log.entries < 4096 → sum ≡ digest_with log.entries e.key
     → ((i : Id) → lookup (id_eq i) now ≡ (if id_eq (id_of e.key) i then Some (length log.entries) else lookup (id_eq i) places))
-    → IsKept (record log { entries = log.entries ++ e ∷ [] }) (sums ++ sum ∷ []) now
+    → IsKeptLog (record log { entries = log.entries ++ e ∷ [] }) (sums ++ sum ∷ []) now
 kept_push log sums places now e sum kept above fresh room is index = record {
   sound = pushed_sound log e kept.sound above fresh room;
   summed = sums_push log.entries sums e sum kept.summed is;
   found = λ i. index i ∙ elim (cases_bool (id_eq (id_of e.key) i)) [
-    | inl here ↦ rw here (sym (place_push_new log.entries e i (subst (λ (j : Id). has_id (keys_of log.entries) j ≡ false) (same_id (id_of e.key) i here) fresh) (id_turn (id_of e.key) i here)))
+    | inl here ↦
+        rw here (sym (place_push_new log.entries e i
+        (subst (λ (j : Id). has_id (keys_of log.entries) j ≡ false) (same_id (id_of e.key) i here) fresh) (id_turn (id_of e.key) i here)))
     | inr away ↦ rw away (kept.found i ∙ sym (place_push_other log.entries e i (id_turn_away (id_of e.key) i away)))
   ];
 }
 
 -- ---- an entry put at the end of the synced part
 
-pub midway_put : (log : Log) (e : Entry) (sums : List (List ℕ)) (places : List (Id × ℕ)) (now : Id → Option ℕ) (put : List Entry) → IsKept log sums places
+pub midway_put : (log : Log) (e : Entry) (sums : List (List ℕ)) (places : List (Id × ℕ)) (now : Id → Option ℕ) (put : List Entry) → IsKeptLog log sums places
     → has_id (keys_of (synced_part log)) (id_of e.key) ≡ false → put ≡ synced_part log ++ e ∷ unsynced_part log
     → ((i : Id) → now i ≡ (if id_eq (id_of e.key) i then Some log.synced else lookup (id_eq i) places))
     → IsMidway e.key (take (log.synced + 1) put) (drop (log.synced + 1) put) now
@@ -109,16 +122,22 @@ midway_put log e sums places now put kept fresh is index =
     let first : take (log.synced + 1) put ≡ front ++ e ∷ [] = ap (take (log.synced + 1)) is ∙ put_front log.entries log.synced e within in
     let rest : drop (log.synced + 1) put ≡ back = ap (drop (log.synced + 1)) is ∙ put_back log.entries log.synced e within in
     let own = subst (λ (xs : List Entry). HaveOwnIds (keys_of xs)) (sym whole) kept.sound.ordered.own_ids in
-    let mid = midway_start front e back (λ i. lookup (id_eq i) places) now own fresh (λ i. kept.found i ∙ ap (λ (xs : List Entry). place_of xs i) (sym whole)) (λ i. index i ∙ ap (λ (n : ℕ). if id_eq (id_of e.key) i then Some n else lookup (id_eq i) places) (sym long)) in
-    subst (λ (xs : List Entry). IsMidway e.key xs (drop (log.synced + 1) put) now) (sym first) (subst (λ (xs : List Entry). IsMidway e.key (front ++ e ∷ []) xs now) (sym rest) mid)
+    let mid =
+    midway_start front e back (λ i. lookup (id_eq i) places) now own fresh
+    (λ i. kept.found i ∙ ap (λ (xs : List Entry). place_of xs i) (sym whole))
+    (λ i. index i ∙ ap (λ (n : ℕ). if id_eq (id_of e.key) i then Some n else lookup (id_eq i) places) (sym long)) in
+    subst (λ (xs : List Entry). IsMidway e.key xs (drop (log.synced + 1) put) now) (sym first)
+    (subst (λ (xs : List Entry). IsMidway e.key (front ++ e ∷ []) xs now) (sym rest) mid)
 
 -- the digests before the entry stay
-pub sums_put : (log : Log) (e : Entry) (sums : List (List ℕ)) (rest left : List Entry) → IsSound log → IsSummed log.entries sums → left ≡ synced_part log ++ e ∷ rest
+pub sums_put : (log : Log) (e : Entry) (sums : List (List ℕ)) (rest left : List Entry) → IsSound log
+    → IsSummed log.entries sums → left ≡ synced_part log ++ e ∷ rest
     → IsSummed (take log.synced left) (take log.synced sums)
 sums_put log e sums rest left sound summed is =
     let front = synced_part log in
     let long : length front ≡ log.synced = length-take-le log.synced log.entries sound.within in
-    let first : take log.synced left ≡ front = ap (take log.synced) is ∙ ap (λ (n : ℕ). take n (front ++ e ∷ rest)) (sym long) ∙ take-append_seam front (e ∷ rest) in
+    let first : take log.synced left ≡ front =
+    ap (take log.synced) is ∙ ap (λ (n : ℕ). take n (front ++ e ∷ rest)) (sym long) ∙ take-append_seam front (e ∷ rest) in
     subst (λ (xs : List Entry). IsSummed xs (take log.synced sums)) (sym first) (sums_take log.entries sums log.synced summed sound.within)
 
 -- ---- the entries of a list, one after another

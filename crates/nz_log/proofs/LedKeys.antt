@@ -1,6 +1,7 @@
 -- Keys of the leader's log are put at the end of the synced part, one after another: the synced part is a prefix of the
 -- leader's log, and so is each prefix of the log that is comparable with the leader's.
-use Rattle.std.proofs.Common.{◌≡◌, ℕ, zero, suc, ◌+◌, ◌-◌, ◌≤◌, Bool, true, false, List, [], ◌∷◌, ◌++◌, length, take, drop, cond, Option, Some, None, slice_get, refl, sym, ap, subst, ◌∙◌, arith, inl, inr, append_assoc, append-nil, take-append-drop}
+use Rattle.std.proofs.Common.{◌≡◌, ℕ, zero, suc, ◌+◌, ◌-◌, ◌≤◌, Bool, true, false, List, [], ◌∷◌, ◌++◌, length, take, drop, cond, Option, Some}
+use Rattle.std.proofs.Common.{None, slice_get, refl, sym, ap, subst, ◌∙◌, arith, inl, inr, append_assoc, append-nil, take-append-drop}
 use Rattle.std.specs.List.{filter}
 use Rattle.std.proofs.Math.Seq.{drop-append_seam}
 use Rattle.std.proofs.lemmas.Bool.{cases_lt}
@@ -16,7 +17,7 @@ use Rattle.nz_base.proofs.Booleans.{cases_bool, clash}
 use Rattle.nz_base.proofs.Keys.{key_below-self}
 use Rattle.nz_base.proofs.Logs.{keys_append, has_first, has_later, rising_back}
 use Rattle.nz_base.proofs.Prefixes.{prefix_self, prefix_more, prefix_then, shorter_prefix}
-use Rattle.nz_log.specs.Synced.{Log, IsSound, synced_part, unsynced_part, stays_behind, modified}
+use Rattle.nz_log.specs.Synced.{Log, IsSound, synced_part, unsynced_part, stays_behind, log_with_synced}
 use Rattle.nz_log.proofs.Modifying.{synced_more}
 
 -- ---- lists that go on after a prefix
@@ -86,18 +87,18 @@ module _ (log : Log) (e : Entry) (lead : List Key) (sound : IsSound log) (more :
   parts : keys_of log.entries ≡ keys_of (synced_part log) ++ keys_of (unsynced_part log)
   parts = sym (ap keys_of (take-append-drop log.synced log.entries)) ∙ keys_append (synced_part log) (unsynced_part log)
 
-  after : keys_of (modified log e).entries ≡ keys_of (synced_part log) ++ e.key ∷ keys_of (filter (stays_behind e.key) (unsynced_part log))
+  after : keys_of (log_with_synced log e).entries ≡ keys_of (synced_part log) ++ e.key ∷ keys_of (filter (stays_behind e.key) (unsynced_part log))
   after = keys_append (synced_part log) (e ∷ filter (stays_behind e.key) (unsynced_part log))
 
-  pub synced_stays : IsPrefix (keys_of (synced_part (modified log e))) lead
+  pub synced_stays : IsPrefix (keys_of (synced_part (log_with_synced log e))) lead
   synced_stays =
-      let part : keys_of (synced_part (modified log e)) ≡ keys_of (synced_part log) ++ e.key ∷ [] =
+      let part : keys_of (synced_part (log_with_synced log e)) ≡ keys_of (synced_part log) ++ e.key ∷ [] =
       ap keys_of (synced_more log e sound) ∙ keys_append (synced_part log) (e ∷ []) in
       record { rest = more; whole = ahead ∙ sym (append_assoc (keys_of (synced_part log)) (e.key ∷ []) more) ∙ ap (λ (l : List Key). l ++ more) (sym part) }
 
   -- a prefix that goes beyond the synced part has the key there already
   beyond : (P : List Key) → IsPrefix P (keys_of log.entries) → Comparable P lead → (rest : List Key) → P ≡ keys_of (synced_part log) ++ rest
-      → IsPrefix P (keys_of (modified log e).entries)
+      → IsPrefix P (keys_of (log_with_synced log e).entries)
   beyond P p either [] whole =
       let same : P ≡ keys_of (synced_part log) = whole ∙ append-nil (keys_of (synced_part log)) in
       let tail = e.key ∷ keys_of (filter (stays_behind e.key) (unsynced_part log)) in
@@ -114,10 +115,10 @@ module _ (log : Log) (e : Entry) (lead : List Key) (sound : IsSound log) (more :
       let rising = rising_back A B (subst AreRising parts sound.ordered.rising) in
       let own = own_rest A B (subst HaveOwnIds parts sound.ordered.own_ids) in
       let kept = none_goes (unsynced_part log) e.key (rest ++ p.rest) there rising own in
-      let unchanged : keys_of (modified log e).entries ≡ keys_of log.entries = after ∙ ap (λ (l : List Key). A ++ l) kept ∙ sym parts in
+      let unchanged : keys_of (log_with_synced log e).entries ≡ keys_of log.entries = after ∙ ap (λ (l : List Key). A ++ l) kept ∙ sym parts in
       subst (IsPrefix P) (sym unchanged) p
 
-  pub prefixes_stay : (P : List Key) → IsPrefix P (keys_of log.entries) → Comparable P lead → IsPrefix P (keys_of (modified log e).entries)
+  pub prefixes_stay : (P : List Key) → IsPrefix P (keys_of log.entries) → Comparable P lead → IsPrefix P (keys_of (log_with_synced log e).entries)
   prefixes_stay P p either =
       let A = keys_of (synced_part log) in
       let part : IsPrefix A (keys_of log.entries) = record { rest = keys_of (unsynced_part log); whole = parts } in
@@ -144,8 +145,8 @@ module _ {S : Type 0} (log_of : S → Log) (may : S → Key → Bool) (found : S
 
   -- an entry more modifies the log, and leaves it sound where it may be put
   pub record ModifiesLog : Type 0 where
-    pub is : (s : S) (e : Entry) → log_of (next s e) ≡ modified (log_of s) e
-    pub sound : (s : S) (e : Entry) → may s e.key ≡ true → IsSound (log_of s) → IsSound (modified (log_of s) e)
+    pub is : (s : S) (e : Entry) → log_of (next s e) ≡ log_with_synced (log_of s) e
+    pub sound : (s : S) (e : Entry) → may s e.key ≡ true → IsSound (log_of s) → IsSound (log_with_synced (log_of s) e)
 
   -- what is kept from s to t, beside the leader's log
   pub record KeepsPrefixes (lead : List Key) (s t : S) : Type 0 where

@@ -8,7 +8,8 @@ use Rattle.nz_base.specs.Key.{key_below, key_eq, id_eq, id_of}
 use Rattle.nz_base.specs.Log.{keys_of, has_key, has_id, AreRising, HaveOwnIds, IsLog, is_above_last}
 use Rattle.nz_base.proofs.Names.{same_key}
 use Rattle.nz_base.proofs.Booleans.{cases_bool, or_cases, and_left, and_right, neither_left, neither_right}
-use Rattle.nz_base.proofs.Logs.{has_id-append, keys_append, above_each, rising_join, rising_front, rising_back, own_join, has_id_filter, rising_filter, own_filter}
+use Rattle.nz_base.proofs.Logs.{has_id-append, keys_append, above_each, rising_join, rising_front}
+use Rattle.nz_base.proofs.Logs.{rising_back, own_join, has_id_filter, rising_filter, own_filter}
 use Rattle.nz_log.specs.Synced.{stays_behind}
 
 -- what stays after a key is above it, and of other ids
@@ -18,7 +19,9 @@ stay_above key (e ∷ es) y h =
     elim (cases_bool (stays_behind key e)) [
       | inr gone ↦ stay_above key es y (rw gone at h)
       | inl kept ↦ elim (or_cases (key_eq y e.key) (has_key (keys_of (filter (stays_behind key) es)) y) (rw kept at h)) [
-        | inl first ↦ subst (λ (z : Key). key_below key z ≡ true) (sym (same_key y e.key first)) (and_left (key_below key e.key) (not (id_eq (id_of key) (id_of e.key))) kept)
+        | inl first ↦
+            subst (λ (z : Key). key_below key z ≡ true) (sym (same_key y e.key first))
+            (and_left (key_below key e.key) (not (id_eq (id_of key) (id_of e.key))) kept)
         | inr there ↦ stay_above key es y there
       ]
     ]
@@ -28,7 +31,12 @@ stay_apart key [] = refl
 stay_apart key (e ∷ es) =
     elim (cases_bool (stays_behind key e)) [
       | inr gone ↦ rw gone (stay_apart key es)
-      | inl kept ↦ rw (kept, not-true (id_eq (id_of key) (id_of e.key)) (and_right (key_below key e.key) (not (id_eq (id_of key) (id_of e.key))) kept)) (stay_apart key es)
+      | inl kept ↦
+          rw (
+            kept,
+            not-true (id_eq (id_of key) (id_of e.key))
+                (and_right (key_below key e.key) (not (id_eq (id_of key) (id_of e.key))) kept),
+          ) (stay_apart key es)
     ]
 
 -- ids stay apart where some of the back go
@@ -39,11 +47,13 @@ own_back (x ∷ xs) p ys own =
     let parted : (has_id (keys_of xs) i || has_id (keys_of ys) i) ≡ false = sym (has_id-append (keys_of xs) (keys_of ys) i) ∙ own.0 in
     let new : has_id (keys_of xs ++ keys_of (filter p ys)) i ≡ false =
     has_id-append (keys_of xs) (keys_of (filter p ys)) i
-    ∙ (rw (neither_left (has_id (keys_of xs) i) (has_id (keys_of ys) i) parted) (has_id_filter p ys i (neither_right (has_id (keys_of xs) i) (has_id (keys_of ys) i) parted))) in
+    ∙ (rw (neither_left (has_id (keys_of xs) i) (has_id (keys_of ys) i) parted)
+    (has_id_filter p ys i (neither_right (has_id (keys_of xs) i) (has_id (keys_of ys) i) parted))) in
     (new, own_back xs p ys own.1)
 
 -- an entry after a prefix, before what stays
-pub log_put : (front : List Entry) (e : Entry) (back : List Entry) → IsLog (front ++ back) → is_above_last (keys_of front) e.key ≡ true → has_id (keys_of front) (id_of e.key) ≡ false
+pub log_put : (front : List Entry) (e : Entry) (back : List Entry) → IsLog (front ++ back)
+    → is_above_last (keys_of front) e.key ≡ true → has_id (keys_of front) (id_of e.key) ≡ false
     → IsLog (front ++ e ∷ filter (stays_behind e.key) back)
 log_put front e back log above fresh =
     let kept = filter (stays_behind e.key) back in
@@ -52,8 +62,13 @@ log_put front e back log above fresh =
     let rising = subst AreRising parts log.rising in
     let lower = rising_front (keys_of front) (keys_of back) rising in
     record {
-      rising = subst AreRising same (rising_join (keys_of front) e.key (keys_of kept) lower (rising_filter (stays_behind e.key) back (rising_back (keys_of front) (keys_of back) rising)) (λ x h. above_each (keys_of front) e.key x lower above h) (λ y h. stay_above e.key back y h));
-      own_ids = subst HaveOwnIds same (own_join (keys_of front) e.key (keys_of kept) (own_back front (stays_behind e.key) back (subst HaveOwnIds parts log.own_ids)) fresh (stay_apart e.key back));
+      rising =
+          subst AreRising same (rising_join (keys_of front) e.key (keys_of kept) lower
+          (rising_filter (stays_behind e.key) back (rising_back (keys_of front) (keys_of back) rising))
+          (λ x h. above_each (keys_of front) e.key x lower above h) (λ y h. stay_above e.key back y h));
+      own_ids =
+          subst HaveOwnIds same (own_join (keys_of front) e.key (keys_of kept)
+          (own_back front (stays_behind e.key) back (subst HaveOwnIds parts log.own_ids)) fresh (stay_apart e.key back));
     }
 
 -- ---- the last entry

@@ -1,5 +1,6 @@
 -- A modification leaves a log, one entry more of which is synced.
-use Rattle.std.proofs.Common.{◌≡◌, ℕ, ◌+◌, ◌<◌, ◌≤◌, Bool, true, false, List, [], ◌∷◌, ◌++◌, length, take, drop, cond, sym, ap, subst, ◌∙◌, inl, inr, ◌⊎◌, arith, length-append, append_assoc}
+use Rattle.std.proofs.Common.{◌≡◌, ℕ, ◌+◌, ◌<◌, ◌≤◌, Bool, true, false, List, [], ◌∷◌, ◌++◌, length, take, drop}
+use Rattle.std.proofs.Common.{cond, sym, ap, subst, ◌∙◌, inl, inr, ◌⊎◌, arith, length-append, append_assoc}
 use Rattle.std.specs.List.{filter, insert}
 use Rattle.std.proofs.lemmas.List.{take-append-drop, length-take-le}
 use Rattle.std.proofs.Math.Seq.{take-append_seam, drop-append_seam}
@@ -10,7 +11,7 @@ use Rattle.nz_base.specs.Log.{keys_of, has_key, has_id, IsLog, is_above_last}
 use Rattle.nz_base.proofs.Names.{same_key}
 use Rattle.nz_base.proofs.Booleans.{cases_bool, or_cases, or_left, or_right, length-filter_le}
 use Rattle.nz_base.proofs.Logs.{has_append, has_front, has_back, keys_append, log_push}
-use Rattle.nz_log.specs.Synced.{Log, IsSound, synced_part, unsynced_part, stays_behind, is_displaced, modified, displaced}
+use Rattle.nz_log.specs.Synced.{Log, IsSound, synced_part, unsynced_part, stays_behind, is_displaced, log_with_synced, displaced_entries}
 use Rattle.nz_log.proofs.Lists.{log_put}
 
 -- an entry is put in at a place, and of what then follows it some goes
@@ -21,8 +22,10 @@ put_parts es place e p within =
     let back = drop place es in
     let long : length front ≡ place + 1 = length-append (take place es) (e ∷ []) ∙ ap (λ (n : ℕ). n + 1) (length-take-le place es within) in
     let whole : insert es place e ≡ front ++ back = sym (append_assoc (take place es) (e ∷ []) back) in
-    let first : take (place + 1) (insert es place e) ≡ front = ap (λ (xs : List Entry). take (place + 1) xs) whole ∙ ap (λ (n : ℕ). take n (front ++ back)) (sym long) ∙ take-append_seam front back in
-    let rest : drop (place + 1) (insert es place e) ≡ back = ap (λ (xs : List Entry). drop (place + 1) xs) whole ∙ ap (λ (n : ℕ). drop n (front ++ back)) (sym long) ∙ drop-append_seam front back in
+    let first : take (place + 1) (insert es place e) ≡ front =
+    ap (λ (xs : List Entry). take (place + 1) xs) whole ∙ ap (λ (n : ℕ). take n (front ++ back)) (sym long) ∙ take-append_seam front back in
+    let rest : drop (place + 1) (insert es place e) ≡ back =
+    ap (λ (xs : List Entry). drop (place + 1) xs) whole ∙ ap (λ (n : ℕ). drop n (front ++ back)) (sym long) ∙ drop-append_seam front back in
     ap (λ (xs : List Entry). xs ++ filter p (drop (place + 1) (insert es place e))) first
     ∙ ap (λ (xs : List Entry). front ++ filter p xs) rest
     ∙ append_assoc (take place es) (e ∷ []) (filter p back)
@@ -40,8 +43,9 @@ pushed_sound log e sound above fresh room =
     let within : log.synced ≤ length log.entries = sound.within in
     record { ordered = log_push log.entries e sound.ordered above fresh; within = omega (arith, long); few = omega (arith, long) }
 
-pub modified_sound : (log : Log) (e : Entry) → IsSound log → is_above_last (keys_of (synced_part log)) e.key ≡ true → has_id (keys_of (synced_part log)) (id_of e.key) ≡ false
-    → length log.entries < 4096 → IsSound (modified log e)
+pub modified_sound : (log : Log) (e : Entry) → IsSound log → is_above_last (keys_of (synced_part log)) e.key ≡ true
+    → has_id (keys_of (synced_part log)) (id_of e.key) ≡ false
+    → length log.entries < 4096 → IsSound (log_with_synced log e)
 modified_sound log e sound above fresh room =
     let front = synced_part log in
     let back = unsynced_part log in
@@ -56,7 +60,7 @@ modified_sound log e sound above fresh room =
       few = omega (arith, long, whole, few, room);
     }
 
-pub synced_more : (log : Log) (e : Entry) → IsSound log → synced_part (modified log e) ≡ synced_part log ++ e ∷ []
+pub synced_more : (log : Log) (e : Entry) → IsSound log → synced_part (log_with_synced log e) ≡ synced_part log ++ e ∷ []
 synced_more log e sound =
     let front = synced_part log ++ e ∷ [] in
     let kept = filter (stays_behind e.key) (unsynced_part log) in
@@ -92,7 +96,7 @@ split_kept key (e ∷ es) x apart h =
     further b d (inr goes) = inr (later d (filter (is_displaced key) es) goes)
 
 pub none_lost : (log : Log) (e : Entry) (x : Key) → has_key (keys_of log.entries) x ≡ true → id_eq (id_of e.key) (id_of x) ≡ false
-    → (has_key (keys_of (modified log e).entries) x ≡ true) ⊎ (has_key (keys_of (displaced log e)) x ≡ true)
+    → (has_key (keys_of (log_with_synced log e).entries) x ≡ true) ⊎ (has_key (keys_of (displaced_entries log e)) x ≡ true)
 none_lost log e x h apart =
     let front = synced_part log in
     let back = unsynced_part log in
@@ -102,7 +106,9 @@ none_lost log e x h apart =
     elim (has_append (keys_of front) (keys_of back) x (subst (λ (ks : List Key). has_key ks x ≡ true) parts h)) [
       | inl early ↦ inl (subst (λ (ks : List Key). has_key ks x ≡ true) whole (has_front (keys_of front) (e.key ∷ keys_of kept) x early))
       | inr late ↦ elim (split_kept e.key back x apart late) [
-        | inl stays ↦ inl (subst (λ (ks : List Key). has_key ks x ≡ true) whole (has_back (keys_of front) (e.key ∷ keys_of kept) x (or_right (key_eq x e.key) (has_key (keys_of kept) x) stays)))
+        | inl stays ↦
+            inl (subst (λ (ks : List Key). has_key ks x ≡ true) whole
+            (has_back (keys_of front) (e.key ∷ keys_of kept) x (or_right (key_eq x e.key) (has_key (keys_of kept) x) stays)))
         | inr goes ↦ inr goes
       ]
     ]
@@ -115,17 +121,20 @@ put_front es place e within =
     let front = take place es ++ e ∷ [] in
     let back = drop place es in
     let long : length front ≡ place + 1 = length-append (take place es) (e ∷ []) ∙ ap (λ (n : ℕ). n + 1) (length-take-le place es within) in
-    ap (λ (xs : List Entry). take (place + 1) xs) (sym (append_assoc (take place es) (e ∷ []) back)) ∙ ap (λ (n : ℕ). take n (front ++ back)) (sym long) ∙ take-append_seam front back
+    ap (λ (xs : List Entry). take (place + 1) xs) (sym (append_assoc (take place es) (e ∷ []) back))
+    ∙ ap (λ (n : ℕ). take n (front ++ back)) (sym long) ∙ take-append_seam front back
 
 pub put_back : (es : List Entry) (place : ℕ) (e : Entry) → place ≤ length es → drop (place + 1) (take place es ++ e ∷ drop place es) ≡ drop place es
 put_back es place e within =
     let front = take place es ++ e ∷ [] in
     let back = drop place es in
     let long : length front ≡ place + 1 = length-append (take place es) (e ∷ []) ∙ ap (λ (n : ℕ). n + 1) (length-take-le place es within) in
-    ap (λ (xs : List Entry). drop (place + 1) xs) (sym (append_assoc (take place es) (e ∷ []) back)) ∙ ap (λ (n : ℕ). drop n (front ++ back)) (sym long) ∙ drop-append_seam front back
+    ap (λ (xs : List Entry). drop (place + 1) xs) (sym (append_assoc (take place es) (e ∷ []) back))
+    ∙ ap (λ (n : ℕ). drop n (front ++ back)) (sym long) ∙ drop-append_seam front back
 
 pub kept_after : (es : List Entry) (place : ℕ) (e : Entry) (put left : List Entry) → place ≤ length es → put ≡ take place es ++ e ∷ drop place es
-    → left ≡ take (place + 1) put ++ filter (stays_behind e.key) (drop (place + 1) put) → left ≡ take place es ++ e ∷ filter (stays_behind e.key) (drop place es)
+    → left ≡ take (place + 1) put ++ filter (stays_behind e.key) (drop (place + 1) put)
+    → left ≡ take place es ++ e ∷ filter (stays_behind e.key) (drop place es)
 kept_after es place e put left within is kept =
     kept
     ∙ ap (λ (xs : List Entry). take (place + 1) xs ++ filter (stays_behind e.key) (drop (place + 1) xs)) is
@@ -134,10 +143,12 @@ kept_after es place e put left within is kept =
     ∙ append_assoc (take place es) (e ∷ []) (filter (stays_behind e.key) (drop place es))
 
 -- it is at most one entry longer
-pub kept_long : (es : List Entry) (place : ℕ) (e : Entry) → place ≤ length es → length (take place es ++ e ∷ filter (stays_behind e.key) (drop place es)) ≤ length es + 1
+pub kept_long : (es : List Entry) (place : ℕ) (e : Entry) → place ≤ length es
+    → length (take place es ++ e ∷ filter (stays_behind e.key) (drop place es)) ≤ length es + 1
 kept_long es place e within =
     let kept = filter (stays_behind e.key) (drop place es) in
     let long : length (take place es ++ e ∷ kept) ≡ length (take place es) + length (e ∷ kept) = length-append (take place es) (e ∷ kept) in
-    let whole : length (take place es) + length (drop place es) ≡ length es = sym (length-append (take place es) (drop place es)) ∙ ap length (take-append-drop place es) in
+    let whole : length (take place es) + length (drop place es) ≡ length es =
+    sym (length-append (take place es) (drop place es)) ∙ ap length (take-append-drop place es) in
     let few : length kept ≤ length (drop place es) = length-filter_le (stays_behind e.key) (drop place es) in
     omega (arith, long, whole, few)

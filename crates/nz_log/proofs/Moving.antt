@@ -1,5 +1,6 @@
 -- Entries that move within a log.
-use Rattle.std.proofs.Common.{◌≡◌, ℕ, suc, ◌+◌, ◌<◌, ◌≤◌, List, [], ◌∷◌, ◌++◌, length, take, drop, get_or, set, refl, sym, ap, ◌∙◌, arith, drop-cons, append_assoc, length-append, length-set}
+use Rattle.std.proofs.Common.{◌≡◌, ℕ, suc, ◌+◌, ◌<◌, ◌≤◌, List, [], ◌∷◌, ◌++◌, length, take, drop, get_or, set}
+use Rattle.std.proofs.Common.{refl, sym, ap, ◌∙◌, arith, drop-cons, append_assoc, length-append, length-set}
 use Rattle.std.proofs.lemmas.List.{take_more_set, drop-set-lt, take-set-le, get_or_default}
 use Rattle.std.proofs.lemmas.Grind.{common_steps}
 use Rattle.nz_base.specs.declared.key.Entry.{Entry}
@@ -11,7 +12,8 @@ hand_step es at hand out within is =
     let first : take (at + 1) (set es at hand) ≡ take at es ++ hand ∷ [] = take_more_set es at hand within in
     let rest : drop (at + 1) (set es at hand) ≡ drop (at + 1) es = drop-set-lt (at + 1) es at hand (omega arith) in
     let next : suc at ≡ at + 1 = omega arith in
-    let whole : drop at es ≡ out ∷ drop (at + 1) es = drop-cons es at out within ∙ ap (λ (x : Entry). x ∷ drop (suc at) es) (sym is) ∙ ap (λ (n : ℕ). out ∷ drop n es) next in
+    let whole : drop at es ≡ out ∷ drop (at + 1) es =
+    drop-cons es at out within ∙ ap (λ (x : Entry). x ∷ drop (suc at) es) (sym is) ∙ ap (λ (n : ℕ). out ∷ drop n es) next in
     ap (λ (xs : List Entry). xs ++ out ∷ drop (at + 1) (set es at hand)) first
     ∙ ap (λ (xs : List Entry). (take at es ++ hand ∷ []) ++ out ∷ xs) rest
     ∙ append_assoc (take at es) (hand ∷ []) (out ∷ drop (at + 1) es)
@@ -20,8 +22,12 @@ hand_step es at hand out within is =
 -- the last entry of each is dropped
 pub last_away : (xs ys : List Entry) (x y : Entry) → xs ++ x ∷ [] ≡ ys ++ y ∷ [] → xs ≡ ys
 last_away [] [] x y same = refl
-last_away [] (b ∷ ys) x y same = absurd (let long : length (x ∷ []) ≡ length (b ∷ ys ++ y ∷ []) = ap length same in let rest : length (ys ++ y ∷ []) ≡ length ys + 1 = length-append ys (y ∷ []) in omega (arith, long, rest))
-last_away (a ∷ xs) [] x y same = absurd (let long : length (a ∷ xs ++ x ∷ []) ≡ length (y ∷ []) = ap length same in let rest : length (xs ++ x ∷ []) ≡ length xs + 1 = length-append xs (x ∷ []) in omega (arith, long, rest))
+last_away [] (b ∷ ys) x y same =
+    absurd (let long : length (x ∷ []) ≡ length (b ∷ ys ++ y ∷ []) = ap length same in
+    let rest : length (ys ++ y ∷ []) ≡ length ys + 1 = length-append ys (y ∷ []) in omega (arith, long, rest))
+last_away (a ∷ xs) [] x y same =
+    absurd (let long : length (a ∷ xs ++ x ∷ []) ≡ length (y ∷ []) = ap length same in
+    let rest : length (xs ++ x ∷ []) ≡ length xs + 1 = length-append xs (x ∷ []) in omega (arith, long, rest))
 last_away (a ∷ xs) (b ∷ ys) x y same = grind (arith, common_steps, last_away xs ys x y)
 
 -- an entry goes down to a place

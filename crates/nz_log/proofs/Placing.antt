@@ -1,5 +1,6 @@
 -- The place of an id.
-use Rattle.std.proofs.Common.{◌≡◌, ℕ, zero, suc, ◌<◌, true, false, List, [], ◌∷◌, length, take, Option, Some, None, IfSome, IfNone, is_some, refl, sym, ap, subst, ◌∙◌, inl, inr, arith}
+use Rattle.std.proofs.Common.{◌≡◌, ℕ, zero, suc, ◌<◌, true, false, List, [], ◌∷◌, length, take, Option, Some}
+use Rattle.std.proofs.Common.{None, IfSome, IfNone, is_some, refl, sym, ap, subst, ◌∙◌, inl, inr, arith}
 use Rattle.std.specs.Option.{option_map}
 use Rattle.nz_base.specs.declared.key.Id.{Id}
 use Rattle.nz_base.specs.declared.key.Entry.{Entry}
@@ -35,7 +36,11 @@ first_place (e ∷ es) i zero at = rw (at.at.here e) refl
 first_place (e ∷ es) i (suc place) at =
     let away = neither_left (id_eq i (id_of e.key)) (has_id (keys_of (take place es)) i) at.front in
     let within : suc place < length (e ∷ es) = at.at.within in
-    let rest : IsFirstPlace es i place = record { at = record { within = omega arith; here = at.at.here }; front = neither_right (id_eq i (id_of e.key)) (has_id (keys_of (take place es)) i) at.front } in
+    let rest : IsFirstPlace es i place =
+    record {
+      at = record { within = omega arith; here = at.at.here };
+      front = neither_right (id_eq i (id_of e.key)) (has_id (keys_of (take place es)) i) at.front;
+    } in
     rw away (ap (λ (o : Option ℕ). option_map suc o) (first_place es i place rest))
 
 some_same : (a b : ℕ) → Some a ≡ Some b → a ≡ b
@@ -74,10 +79,13 @@ place_only (e ∷ es) i (suc place) own at =
     let rest : IsPlace es i place = record { within = omega arith; here = at.here } in
     elim (cases_bool (id_eq i (id_of e.key))) [
       | inr away ↦ rw away (ap (λ (o : Option ℕ). option_map suc o) (place_only es i place own.1 rest))
-      | inl here ↦ clash (has_id (keys_of es) (id_of e.key)) (subst (λ (j : Id). has_id (keys_of es) j ≡ true) (same_id i (id_of e.key) here) (held_at es i place rest)) own.0
+      | inl here ↦
+          clash (has_id (keys_of es) (id_of e.key))
+          (subst (λ (j : Id). has_id (keys_of es) j ≡ true) (same_id i (id_of e.key) here) (held_at es i place rest)) own.0
     ]
 
 -- a search shows whether the id is held
-pub search_tells : (found : Option ℕ) (es : List Entry) (i : Id) → IfSome found (λ place. IsFirstPlace es i place) → IfNone found (has_id (keys_of es) i ≡ false) → is_some found ≡ has_id (keys_of es) i
+pub search_tells : (found : Option ℕ) (es : List Entry) (i : Id) → IfSome found (λ place. IsFirstPlace es i place)
+    → IfNone found (has_id (keys_of es) i ≡ false) → is_some found ≡ has_id (keys_of es) i
 search_tells None es i at away = sym away
 search_tells (Some place) es i at away = sym (held_at es i place at.at)

@@ -1,5 +1,6 @@
 -- One digest at each place: one more entry, and the first ones alone.
-use Rattle.std.proofs.Common.{◌≡◌, ℕ, zero, suc, ◌+◌, ◌-◌, ◌<◌, ◌≤◌, List, [], ◌∷◌, ◌++◌, length, take, get_or, Some, None, refl, sym, ap, subst, ◌∙◌, inl, inr, arith, length-append}
+use Rattle.std.proofs.Common.{◌≡◌, ℕ, zero, suc, ◌+◌, ◌-◌, ◌<◌, ◌≤◌, List, [], ◌∷◌, ◌++◌, length, take, get_or}
+use Rattle.std.proofs.Common.{Some, None, refl, sym, ap, subst, ◌∙◌, inl, inr, arith, length-append}
 use Rattle.std.specs.Prelude.{slice_get}
 use Rattle.std.proofs.lemmas.List.{take-append-le, length-take-le, take_all, get_or-take, get_or_append_left}
 use Rattle.std.proofs.Math.Seq.{get_or-append_seam}
@@ -17,7 +18,8 @@ take_less (suc m) zero es less = absurd (omega arith)
 take_less (suc m) (suc n) [] less = refl
 take_less (suc m) (suc n) (e ∷ es) less = ap (λ (xs : List Entry). e ∷ xs) (take_less m n es (omega arith))
 
-pub sums_push : (es : List Entry) (ds : List (List ℕ)) (e : Entry) (sum : List ℕ) → IsSummed es ds → sum ≡ digest_with es e.key → IsSummed (es ++ e ∷ []) (ds ++ sum ∷ [])
+pub sums_push : (es : List Entry) (ds : List (List ℕ)) (e : Entry) (sum : List ℕ) → IsSummed es ds
+    → sum ≡ digest_with es e.key → IsSummed (es ++ e ∷ []) (ds ++ sum ∷ [])
 sums_push es ds e sum old is =
     let long_es : length (es ++ e ∷ []) ≡ length es + 1 = length-append es (e ∷ []) in
     let long_ds : length (ds ++ sum ∷ []) ≡ length ds + 1 = length-append ds (sum ∷ []) in
@@ -25,11 +27,14 @@ sums_push es ds e sum old is =
     record {
       count = omega (arith, long_es, long_ds, count);
       sums = λ k within d. elim (cases_lt k (length es)) [
-        | inl early ↦ get_or_append_left ds (sum ∷ []) d k (omega (arith, count, early)) ∙ old.sums k early d ∙ ap digest_of_log (sym (take-append-le (suc k) es (e ∷ []) early))
+        | inl early ↦
+            get_or_append_left ds (sum ∷ []) d k (omega (arith, count, early)) ∙ old.sums k early d
+            ∙ ap digest_of_log (sym (take-append-le (suc k) es (e ∷ []) early))
         | inr last ↦
             let here : k ≡ length es = omega (arith, long_es, within, last) in
             subst (λ (n : ℕ). get_or (ds ++ sum ∷ []) n d ≡ digest_at (es ++ e ∷ []) n) (sym here)
-            (subst (λ (n : ℕ). get_or (ds ++ sum ∷ []) n d ≡ digest_at (es ++ e ∷ []) (length es)) count (get_or-append_seam ds sum [] d ∙ is ∙ sym (digest_last es e)))
+            (subst (λ (n : ℕ). get_or (ds ++ sum ∷ []) n d ≡ digest_at (es ++ e ∷ []) (length es)) count
+            (get_or-append_seam ds sum [] d ∙ is ∙ sym (digest_last es e)))
       ];
     }
 
@@ -59,5 +64,6 @@ pub sum_none : (es : List Entry) (ds : List (List ℕ)) → IsSummed es ds → s
 sum_none [] ds old last = refl
 sum_none (e ∷ es) [] old last = absurd (let count : 0 ≡ length (e ∷ es) = old.count in omega (arith, count))
 sum_none (e ∷ es) (x ∷ ds) old last =
-    let there : slice_get (x ∷ ds) (length (x ∷ ds) - 1) ≡ Some (get_or (x ∷ ds) (length (x ∷ ds) - 1) x) = slice_get-get_or (x ∷ ds) (length (x ∷ ds) - 1) x (omega arith) in
+    let there : slice_get (x ∷ ds) (length (x ∷ ds) - 1) ≡ Some (get_or (x ∷ ds) (length (x ∷ ds) - 1) x) =
+    slice_get-get_or (x ∷ ds) (length (x ∷ ds) - 1) x (omega arith) in
     absurd cc

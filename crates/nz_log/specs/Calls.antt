@@ -11,7 +11,7 @@ use Rattle.nz_log.specs.declared.calls.LogCall.TheVariants.{Append, SyncAll, Mod
 use Rattle.nz_log.specs.declared.calls.LogAnswer.{LogAnswer}
 use Rattle.nz_log.specs.declared.calls.LogAnswer.TheVariants.{Nothing, Removed, Place, Sum, Skipped}
 use Rattle.nz_log.specs.Places.{place_of, digest_at}
-use Rattle.nz_log.specs.Synced.{Log, synced_part, modified, displaced, left_out}
+use Rattle.nz_log.specs.Synced.{Log, synced_part, log_with_synced, displaced_entries, left_out}
 
 -- ---- the conditions
 
@@ -47,7 +47,7 @@ may_replace list = may_be_log list && nat_le (length list) MAX_ENTRIES
 abbrev pub answer_to : Log → LogCall → LogAnswer
 answer_to log (Append e) = if may_follow log.entries e.key && has_room log then Nothing else Skipped
 answer_to log SyncAll = Nothing
-answer_to log (Modify e) = if may_follow (synced_part log) e.key && has_room log then Removed (displaced log e) else Skipped
+answer_to log (Modify e) = if may_follow (synced_part log) e.key && has_room log then Removed (displaced_entries log e) else Skipped
 answer_to log (ReplaceAll list) = if may_replace list then Removed (left_out log.entries list) else Skipped
 answer_to log (PlaceOf id) = Place (place_of log.entries id)
 answer_to log (DigestAt place) = if nat_lt place (length log.entries) then Sum (digest_at log.entries place) else Skipped
@@ -56,7 +56,7 @@ answer_to log (DigestAt place) = if nat_lt place (length log.entries) then Sum (
 abbrev pub after_call : Log → LogCall → Log
 after_call log (Append e) = if may_follow log.entries e.key && has_room log then record log { entries = log.entries ++ e ∷ [] } else log
 after_call log SyncAll = record log { synced = length log.entries }
-after_call log (Modify e) = if may_follow (synced_part log) e.key && has_room log then modified log e else log
+after_call log (Modify e) = if may_follow (synced_part log) e.key && has_room log then log_with_synced log e else log
 after_call log (ReplaceAll list) = if may_replace list then record { entries = list; synced = length list } else log
 after_call log (PlaceOf id) = log
 after_call log (DigestAt place) = log

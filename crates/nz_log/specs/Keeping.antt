@@ -20,7 +20,7 @@ pub record IsSummed (es : List Entry) (digests : List (List ℕ)) : Type 0 where
   pub sums : (k : ℕ) → k < length es → (d : List ℕ) → slice_index_or digests k d ≡ digest_at es k
 
 -- What is kept beside a log is right: its digests are those at its places, and the index has its ids at their places.
-pub record IsKept (log : Log) (digests : List (List ℕ)) (places : List (Id × ℕ)) : Type 0 where
+pub record IsKeptLog (log : Log) (digests : List (List ℕ)) (places : List (Id × ℕ)) : Type 0 where
   pub sound : IsSound log
   pub summed : IsSummed log.entries digests
   pub found : (i : Id) → lookup (id_eq i) places ≡ place_of log.entries i

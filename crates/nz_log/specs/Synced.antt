@@ -36,13 +36,13 @@ abbrev pub is_displaced : Key → Entry → Bool
 is_displaced key x = not (key_below key x.key) && not (id_eq (id_of key) (id_of x.key))
 
 -- The log with the entry as the last of its synced part.
-abbrev pub modified : Log → Entry → Log
-modified log e =
+abbrev pub log_with_synced : Log → Entry → Log
+log_with_synced log e =
     record { entries = synced_part log ++ e ∷ filter (stays_behind e.key) (unsynced_part log); synced = log.synced + 1 }
 
 -- The entries that lose their places to it.
-abbrev pub displaced : Log → Entry → List Entry
-displaced log e = filter (is_displaced e.key) (unsynced_part log)
+abbrev pub displaced_entries : Log → Entry → List Entry
+displaced_entries log e = filter (is_displaced e.key) (unsynced_part log)
 
 -- ---- a list put in the place of a log
 

@@ -2,7 +2,7 @@
 
 ghost use Rattle.std.specs.Prelude.{◌≡◌, ◌+◌, ◌≤◌, ◌<◌, ◌^◌, ◌⊎◌, ◌++◌, length, take, drop, filter, Some, None, IsSome, if◌then◌else◌};
 ghost use Rattle.indexmap.specs.IndexMap.{get, spare};
-ghost use Rattle.nz_base.specs.declared.key.Id.{Id as AnId};
+ghost use Rattle.nz_base.specs.declared.key.Id.{Id as IdModel};
 ghost use Rattle.nz_base.specs.Key.{id_eq};
 ghost use Rattle.nz_log.specs.Places.{place_of};
 ghost use Rattle.nz_log.specs.Synced.{stays_behind};
@@ -15,14 +15,14 @@ use nz_base::{Id, Key};
 /// Notes the place of an id that has one already, or for which there is room.
 pub fn set_place(places: &mut IndexMap<Id, u32>, id: Id, place: u32)
     requires { IsSome (get id_eq places.old id) ⊎ (0 < spare places.old) }
-    ensures { (i : AnId) → get id_eq places.new i ≡ (if id_eq id i then Some place else get id_eq places.old i) }
+    ensures { (i : IdModel) → get id_eq places.new i ≡ (if id_eq id i then Some place else get id_eq places.old i) }
 {
     let _ = places.insert(id, place);
 }
 
 /// Forgets an id.
 pub fn drop_place(places: &mut IndexMap<Id, u32>, id: Id)
-    ensures { (i : AnId) → get id_eq places.new i ≡ (if id_eq id i then None else get id_eq places.old i) }
+    ensures { (i : IdModel) → get id_eq places.new i ≡ (if id_eq id i then None else get id_eq places.old i) }
 {
     let _ = places.swap_remove(&id);
 }
@@ -33,7 +33,7 @@ pub fn keep_above(entries: &mut Pages, places: &mut IndexMap<Id, u32>, from: usi
     requires few { length entries.old < 2 ^ 32 }
     requires midway { IsMidway key (take from entries.old) (drop from entries.old) (get id_eq places.old) }
     ensures entries { entries.new ≡ take from entries.old ++ filter (stays_behind key) (drop from entries.old) }
-    ensures places { (i : AnId) → get id_eq places.new i ≡ place_of entries.new i }
+    ensures places { (i : IdModel) → get id_eq places.new i ≡ place_of entries.new i }
 {
     let mut kept = from;
     for place in from..entries.len() {

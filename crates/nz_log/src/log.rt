@@ -5,7 +5,7 @@ ghost use Rattle.std.specs.Option.{option_copied};
 ghost use Rattle.nz_base.specs.Key.{id_of};
 ghost use Rattle.nz_base.specs.Log.{keys_of, has_id, is_above_last, IsLog};
 ghost use Rattle.nz_log.specs.Places.{place_of, last_entry, digest_at};
-ghost use Rattle.nz_log.specs.Synced.{IsSound, synced_part, modified, displaced, left_out};
+ghost use Rattle.nz_log.specs.Synced.{IsSound, synced_part, log_with_synced, displaced_entries, left_out};
 
 use super::MAX_ENTRIES;
 use super::index::{keep_above, set_place};
@@ -32,13 +32,13 @@ pub struct HashedLog {
 
 impl Model for HashedLog {
     ghost use Rattle.nz_log.specs.Synced.{Log};
-    ghost use Rattle.nz_log.specs.Keeping.{IsKept};
+    ghost use Rattle.nz_log.specs.Keeping.{IsKeptLog};
 
     ghost Value = { Log };
 
     ghost view = { λ l. record { entries = l.entries; synced = l.synced } };
 
-    ghost invariant = { λ l. IsKept (record { entries = l.entries; synced = l.synced }) l.digests.items l.places.entries };
+    ghost invariant = { λ l. IsKeptLog (record { entries = l.entries; synced = l.synced }) l.digests.items l.places.entries };
 }
 
 impl HashedLog {
@@ -165,8 +165,8 @@ impl HashedLog {
         requires above { IsTrue (is_above_last (keys_of (synced_part self.old)) entry.key) }
         requires fresh { IsFalse (has_id (keys_of (synced_part self.old)) (id_of entry.key)) }
         requires room { length self.old.entries < MAX_ENTRIES }
-        ensures ok { OnOk result (self.new ≡ modified self.old entry) }
-        ensures displaced { IfOk result (λ list. list ≡ displaced self.old entry) }
+        ensures ok { OnOk result (self.new ≡ log_with_synced self.old entry) }
+        ensures displaced { IfOk result (λ list. list ≡ displaced_entries self.old entry) }
         ensures err { OnErr result (self.new ≡ self.old) }
     {
         let place = self.synced as usize;

@@ -4,7 +4,7 @@ ghost use Rattle.std.specs.Prelude.{◌≡◌, ◌↔◌, ◌<◌, ◌≤◌, �
 ghost use Rattle.nz_base.specs.Key.{id_of};
 ghost use Rattle.nz_base.specs.Log.{keys_of, has_id, is_above_last, IsLog};
 ghost use Rattle.nz_log.specs.Places.{place_of, digest_at};
-ghost use Rattle.nz_log.specs.Synced.{Log, synced_part, modified, displaced, left_out};
+ghost use Rattle.nz_log.specs.Synced.{Log, synced_part, log_with_synced, displaced_entries, left_out};
 
 use super::MAX_ENTRIES;
 use nz_base::{Entry, EntryList, Id, NoMemory};
@@ -61,8 +61,8 @@ pub trait LogRep: Allocating {
         requires above { IsTrue (is_above_last (keys_of (synced_part (log self.old))) entry.key) }
         requires fresh { IsFalse (has_id (keys_of (synced_part (log self.old))) (id_of entry.key)) }
         requires room { length (log self.old).entries < MAX_ENTRIES }
-        ensures ok { OnOk result (log self.new ≡ modified (log self.old) entry) }
-        ensures displaced { IfOk result (λ list. list ≡ displaced (log self.old) entry) }
+        ensures ok { OnOk result (log self.new ≡ log_with_synced (log self.old) entry) }
+        ensures displaced { IfOk result (λ list. list ≡ displaced_entries (log self.old) entry) }
         ensures err { OnErr result (log self.new ≡ log self.old) };
 
     /// Puts the list in the place of the log. It answers the old entries whose ids are not in it.

@@ -23,10 +23,10 @@ pub struct Pages {
 impl Model for Pages {
     ghost use Rattle.std.specs.Prelude.{List, ◌++◌};
     ghost use Rattle.std.specs.List.{flat_map};
-    ghost use Rattle.nz_base.specs.declared.key.Entry.{Entry as AnEntry};
+    ghost use Rattle.nz_base.specs.declared.key.Entry.{Entry as EntryModel};
     ghost use Rattle.nz_log.specs.Paging.{ArePages};
 
-    ghost Value = { List AnEntry };
+    ghost Value = { List EntryModel };
 
     ghost view = { λ p. flat_map (λ page. page.items) p.full.items ++ p.last.items };
 

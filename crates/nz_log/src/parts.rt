@@ -1,6 +1,7 @@
 //! Plain work on the entries of a log.
 
-ghost use Rattle.std.specs.Prelude.{◌≡◌, ◌↔◌, ◌+◌, ◌≤◌, ◌<◌, ◌∷◌, ◌++◌, length, take, drop, filter, vec_len, IfOk, OnOk, OnErr, IfSome, IfNone, IsSome, IsTrue, IsFalse};
+ghost use Rattle.std.specs.Prelude.{◌≡◌, ◌↔◌, ◌+◌, ◌≤◌, ◌<◌, ◌∷◌, ◌++◌, length, take, drop, filter, vec_len};
+ghost use Rattle.std.specs.Prelude.{IfOk, OnOk, OnErr, IfSome, IfNone, IsSome, IsTrue, IsFalse};
 ghost use Rattle.nz_base.specs.Log.{keys_of, has_id, is_above_last};
 ghost use Rattle.nz_log.specs.Places.{IsFirstPlace, digest_of_log};
 ghost use Rattle.nz_log.specs.Synced.{stays_behind, is_displaced, left_out};

@@ -1,7 +1,7 @@
 //! One digest at each place of a log.
 
 ghost use Rattle.std.specs.Prelude.{◌≡◌, ◌+◌, ◌≤◌, ◌<◌, length, take, vec_capacity, List};
-ghost use Rattle.nz_base.specs.declared.key.Entry.{Entry as AnEntry};
+ghost use Rattle.nz_base.specs.declared.key.Entry.{Entry};
 ghost use Rattle.nz_log.specs.Places.{digest_of_log};
 ghost use Rattle.nz_log.specs.Keeping.{IsSummed, digest_with};
 
@@ -11,7 +11,7 @@ use nz_digest::Digest;
 
 /// The last of the digests with one more entry folded in.
 pub fn digest_after(digests: &[Digest], key: &Key) -> Digest
-    ensures { (es : List AnEntry) → IsSummed es digests.now → result ≡ digest_with es key.now }
+    ensures { (es : List Entry) → IsSummed es digests.now → result ≡ digest_with es key.now }
 {
     let mut digest = match digests.last() {
         Some(last) => *last,

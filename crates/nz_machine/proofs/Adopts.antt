@@ -17,7 +17,7 @@ use Rattle.nz_machine.specs.State.{ReplicaData}
 use Rattle.nz_machine.specs.Facts.{AreApart, IsCarried}
 use Rattle.nz_machine.specs.Taking.{with_parts}
 use Rattle.nz_machine.specs.Adopting.{with_log}
-use Rattle.nz_machine.proofs.Apart.{own_rest}
+use Rattle.nz_machine.proofs.KeysApart.{own_rest}
 use Rattle.nz_machine.proofs.Adopting.{apart_adopted}
 
 -- ---- the ids of a list leave, one after the other
@@ -41,7 +41,8 @@ left_next (e ∷ es) xs x =
       | inr none ↦ elim (cases_bool (id_eq (id_of x.key) i)) [
         | inl same ↦
             let turned = id_turn (id_of x.key) i same in
-            let all : has_id (keys_of (xs ++ x ∷ [])) i ≡ true = more ∙ or_right (has_id (keys_of xs) i) (has_id (keys_of (x ∷ [])) i) (or_left (id_eq i (id_of x.key)) false turned) in
+            let all : has_id (keys_of (xs ++ x ∷ [])) i ≡ true =
+            more ∙ or_right (has_id (keys_of xs) i) (has_id (keys_of (x ∷ [])) i) (or_left (id_eq i (id_of x.key)) false turned) in
             rw (none, same, all) (left_next es xs x)
         | inr away ↦
             let turned = id_turn_away (id_of x.key) i away in
@@ -50,7 +51,8 @@ left_next (e ∷ es) xs x =
       ]
     ]
 
-pub left_step : (es list : List Entry) (i : ℕ) (d : Entry) → i < length list → without (left_out es (take i list)) (id_of (get_or list i d).key) ≡ left_out es (take (i + 1) list)
+pub left_step : (es list : List Entry) (i : ℕ) (d : Entry) → i < length list
+    → without (left_out es (take i list)) (id_of (get_or list i d).key) ≡ left_out es (take (i + 1) list)
 left_step es list i d within = left_next es (take i list) (get_or list i d) ∙ ap (left_out es) (sym (take_more list i d within))
 
 -- ---- log, early and late
@@ -64,16 +66,20 @@ own_left l es fs list a c =
     let all = (apart_adopted l es fs list a c.log c.few c.fit).own_ids in
     let last = left_out (fs ++ l.entries) list in
     let rest = own_rest (keys_of list) (keys_of (left_out es list ++ last)) (subst HaveOwnIds (keys_append list (left_out es list ++ last)) all) in
-    subst (λ (xs : List Entry). HaveOwnIds (keys_of xs)) (left_both l fs list) (own_rest (keys_of (left_out es list)) (keys_of last) (subst HaveOwnIds (keys_append (left_out es list) last) rest))
+    subst (λ (xs : List Entry). HaveOwnIds (keys_of xs)) (left_both l fs list)
+    (own_rest (keys_of (left_out es list)) (keys_of last) (subst HaveOwnIds (keys_append (left_out es list) last) rest))
 
 -- the whole, in its steps
-pub adopted : (s : ReplicaData) (l new : Log) (es fs early late early2 late2 list : List Entry) → new ≡ record { entries = list; synced = length list } → early ≡ left_out es list
+pub adopted : (s : ReplicaData) (l new : Log) (es fs early late early2 late2 list : List Entry)
+    → new ≡ record { entries = list; synced = length list } → early ≡ left_out es list
     → late ≡ left_out fs list ++ left_out l.entries list → early2 ≡ filter (λ (e : Entry). is_above_last (keys_of new.entries) e.key) early
-    → late2 ≡ late ++ filter (λ (e : Entry). not (is_above_last (keys_of new.entries) e.key)) early → with_log (with_parts s l es fs) list ≡ with_parts s new early2 late2
+    → late2 ≡ late ++ filter (λ (e : Entry). not (is_above_last (keys_of new.entries) e.key)) early
+    → with_log (with_parts s l es fs) list ≡ with_parts s new early2 late2
 adopted s l new es fs early late early2 late2 list new-is early-is late-is early2-is late2-is =
     let log : Log = record { entries = list; synced = length list } in
     let e2 : filter (λ (e : Entry). is_above_last (keys_of list) e.key) (left_out es list) ≡ early2 =
     sym (early2-is ∙ (λ i. filter (λ (e : Entry). is_above_last (keys_of (new-is i).entries) e.key) (early-is i))) in
     let l2 : left_out (fs ++ l.entries) list ++ filter (λ (e : Entry). not (is_above_last (keys_of list) e.key)) (left_out es list) ≡ late2 =
-    sym (late2-is ∙ (λ i. (late-is ∙ sym (left_both l fs list)) i ++ filter (λ (e : Entry). not (is_above_last (keys_of (new-is i).entries) e.key)) (early-is i))) in
+    sym (late2-is ∙ (λ i. (late-is ∙ sym (left_both l fs list)) i
+    ++ filter (λ (e : Entry). not (is_above_last (keys_of (new-is i).entries) e.key)) (early-is i))) in
     λ i. with_parts s (sym new-is i) (e2 i) (l2 i)

@@ -13,7 +13,7 @@ use Rattle.nz_msg.specs.Codec.{number_within, ItemsFit}
 use Rattle.nz_msg.specs.Fields.{may_follow, next_entry, entries}
 use Rattle.nz_msg.proofs.Fields.{within_most}
 use Rattle.nz_machine.specs.Facts.{IsCarried}
-use Rattle.nz_machine.proofs.Fields.{entries_of_fit}
+use Rattle.nz_machine.proofs.SentFields.{entries_of_fit}
 
 is_above : (before : List Entry) (k : Key) → may_follow (λ (e : Entry). e.key) before k ≡ true → is_above_last (keys_of before) k ≡ true
 is_above [] k h = refl
@@ -28,7 +28,9 @@ is_fresh : (before : List Entry) (k : Key) → may_follow (λ (e : Entry). e.key
 is_fresh [] k h = refl
 is_fresh (a ∷ before) k h =
     let own = and_left (key_below a.key k && not (id_eq (id_of a.key) (id_of k))) (may_follow (λ (e : Entry). e.key) before k) h in
-    let away = id_turn_away (id_of a.key) (id_of k) (not_true (id_eq (id_of a.key) (id_of k)) (and_right (key_below a.key k) (not (id_eq (id_of a.key) (id_of k))) own)) in
+    let away =
+    id_turn_away (id_of a.key) (id_of k)
+    (not_true (id_eq (id_of a.key) (id_of k)) (and_right (key_below a.key k) (not (id_eq (id_of a.key) (id_of k))) own)) in
     rw away (is_fresh before k (and_right (key_below a.key k && not (id_eq (id_of a.key) (id_of k))) (may_follow (λ (e : Entry). e.key) before k) h))
 
 log_each : (before xs : List Entry) → IsLog before → ItemsFit next_entry before xs → IsLog (before ++ xs)

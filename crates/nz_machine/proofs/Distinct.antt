@@ -68,7 +68,8 @@ module _ {X : Type 0} (key : X → ℕ) where
 
   -- one more, in place of an earlier one of its sender
   pub distinct_replace : (xs : List X) (x : X) → AreDistinct (map key xs) → AreDistinct (map key (filter (λ t. not (eqb (key t) (key x))) xs ++ x ∷ []))
-  distinct_replace xs x d = distinct_add (filter (λ t. not (eqb (key t) (key x))) xs) x (distinct_filter (λ t. not (eqb (key t) (key x))) xs d) (gone xs (key x))
+  distinct_replace xs x d =
+      distinct_add (filter (λ t. not (eqb (key t) (key x))) xs) x (distinct_filter (λ t. not (eqb (key t) (key x))) xs d) (gone xs (key x))
 
 -- ---- reports
 

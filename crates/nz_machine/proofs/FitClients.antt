@@ -10,13 +10,14 @@ use Rattle.nz_msg.specs.declared.message.Message.{Message}
 use Rattle.nz_msg.specs.declared.message.Message.TheVariants as messages
 use Rattle.nz_machine.specs.declared.data.Attempt.{Attempt}
 use Rattle.nz_machine.specs.State.{ClientData, Group, Out}
-use Rattle.nz_machine.specs.Clients.{ask, if_due, opened, open_next, fill_places, fill_window, is_overdue, all_waited, asked_again, retry, retries, wait_rule, is_open, accepted, accept_rule}
+use Rattle.nz_machine.specs.Clients.{ask, if_due, after_opening, open_next, fill_places, fill_window, is_overdue, after_wait}
+use Rattle.nz_machine.specs.Clients.{request_again, retry, retries, wait_rule, is_open, after_acceptance, accept_rule}
 use Rattle.nz_machine.specs.Step.{script_of, client_message}
 use Rattle.nz_machine.specs.World.{IsAsked, IsGroup}
 use Rattle.nz_machine.proofs.Runs.{FitsOut, AllFit, on_cond}
-use Rattle.nz_machine.proofs.Each.{all_append}
-use Rattle.nz_machine.proofs.Pieces.{all_get, all_index}
-use Rattle.nz_machine.proofs.Fields.{command_fits}
+use Rattle.nz_machine.proofs.EachItem.{all_append}
+use Rattle.nz_machine.proofs.ListParts.{all_get, all_index}
+use Rattle.nz_machine.proofs.SentFields.{command_fits}
 use Rattle.nz_machine.proofs.InTurn.{Rises, rises_most, InTurn, if_due_is, due_within, tick_fills, message_turns}
 
 -- a client that frames can name, with a script that is not too long, and the proxies
@@ -31,7 +32,8 @@ pub record ClientStep (window : ℕ) (script : List Request) (me : ℕ) (t : Cli
   pub state : InTurn window script t.0
   pub sends : AllFit (Client me) t.1
 
-ask_fits : (proxies me : ℕ) (script : List Request) (proxy num : ℕ) (r : Request) → IsClient proxies me script → proxy < proxies → num ≤ 2000 → IsAsked r → FitsOut (Client me) (ask proxy num r)
+ask_fits : (proxies me : ℕ) (script : List Request) (proxy num : ℕ) (r : Request) → IsClient proxies me script
+    → proxy < proxies → num ≤ 2000 → IsAsked r → FitsOut (Client me) (ask proxy num r)
 ask_fits proxies me script proxy num r c below few asked =
     let most = c.few in
     record { sender = c.address; receiver = omega (arith, below, most); message = (omega (arith, few), command_fits r.command asked.command) }
@@ -44,8 +46,9 @@ own_proxy proxies n some = omega (arith, some)
 
 -- ---- new requests
 
-opened_fit : (proxies me : ℕ) (script : List Request) (s : ClientData) (o : Option Request) → IsClient proxies me script → if_due s.ticks (slice_get script s.sent) ≡ o
-    → AllFit (Client me) (opened proxies me s o).1
+opened_fit : (proxies me : ℕ) (script : List Request) (s : ClientData) (o : Option Request)
+    → IsClient proxies me script → if_due s.ticks (slice_get script s.sent) ≡ o
+    → AllFit (Client me) (after_opening proxies me s o).1
 opened_fit proxies me script s None c e = tt
 opened_fit proxies me script s (Some r) c e =
     let within = due_within s.ticks script s.sent r e in
@@ -55,26 +58,33 @@ opened_fit proxies me script s (Some r) c e =
       tt,
     )
 
-places_fit : (free proxies me : ℕ) (script : List Request) (s : ClientData) → IsClient proxies me script → AllFit (Client me) (fill_places free proxies me script s).1
+places_fit : (free proxies me : ℕ) (script : List Request) (s : ClientData) → IsClient proxies me script
+    → AllFit (Client me) (fill_places free proxies me script s).1
 places_fit zero proxies me script s c = tt
 places_fit (suc free) proxies me script s c =
     let t = open_next proxies me script s in
-    all_append (FitsOut (Client me)) t.1 (fill_places free proxies me script t.0).1 (opened_fit proxies me script s (if_due s.ticks (slice_get script s.sent)) c refl)
+    all_append (FitsOut (Client me)) t.1 (fill_places free proxies me script t.0).1
+    (opened_fit proxies me script s (if_due s.ticks (slice_get script s.sent)) c refl)
     (places_fit free proxies me script t.0 c)
 
 -- ---- retries
 
-again_fits : (proxies me : ℕ) (script : List Request) (proxy num i : ℕ) (o : Option Request) → IsClient proxies me script → proxy < proxies → num ≤ length script → slice_get script i ≡ o → AllFit (Client me) (asked_again proxy num o)
+again_fits : (proxies me : ℕ) (script : List Request) (proxy num i : ℕ) (o : Option Request)
+    → IsClient proxies me script → proxy < proxies → num ≤ length script → slice_get script i ≡ o → AllFit (Client me) (request_again proxy num o)
 again_fits proxies me script proxy num i None c below few e = tt
-again_fits proxies me script proxy num i (Some r) c below few e = let short = c.short in (ask_fits proxies me script proxy num r c below (omega (arith, few, short)) (get_asked script i r c.commands e), tt)
+again_fits proxies me script proxy num i (Some r) c below few e = let short = c.short in
+    (ask_fits proxies me script proxy num r c below (omega (arith, few, short)) (get_asked script i r c.commands e), tt)
 
-retry_fits : (proxies me : ℕ) (script : List Request) (a : Attempt) → IsClient proxies me script → a.num ≤ length script → AllFit (Client me) (retry proxies script a)
+retry_fits : (proxies me : ℕ) (script : List Request) (a : Attempt) → IsClient proxies me script
+    → a.num ≤ length script → AllFit (Client me) (retry proxies script a)
 retry_fits proxies me script a c few =
     on_cond (AllFit (Client me)) (is_overdue a) _ []
-    (λ _. again_fits proxies me script ((a.proxy + 1) % proxies) a.num (a.num - 1) (slice_get script (a.num - 1)) c (own_proxy proxies (a.proxy + 1) c.some) few refl)
+    (λ _. again_fits proxies me script ((a.proxy + 1) % proxies) a.num (a.num - 1) (slice_get script (a.num - 1)) c
+    (own_proxy proxies (a.proxy + 1) c.some) few refl)
     (λ _. tt)
 
-retries_fit : (proxies me : ℕ) (script : List Request) (low : ℕ) (xs : List Attempt) (high : ℕ) → IsClient proxies me script → Rises low xs high → high ≤ length script
+retries_fit : (proxies me : ℕ) (script : List Request) (low : ℕ) (xs : List Attempt) (high : ℕ)
+    → IsClient proxies me script → Rises low xs high → high ≤ length script
     → AllFit (Client me) (retries proxies script xs)
 retries_fit proxies me script low [] high c h few = tt
 retries_fit proxies me script low (a ∷ xs) high c h few =
@@ -88,7 +98,7 @@ tick_sends : (window proxies me : ℕ) (script : List Request) (s : ClientData) 
     → AllFit (Client me) (wait_rule window proxies me script s).1
 unfolding wait_rule
 tick_sends window proxies me script s c h =
-    let now = all_waited proxies s in
+    let now = after_wait proxies s in
     all_append (FitsOut (Client me)) (retries proxies script s.attempts) (fill_window window proxies me script now).1
     (retries_fit proxies me script 0 s.attempts s.sent c h.rising h.sent) (places_fit (window - length now.attempts) proxies me script now c)
 
@@ -101,7 +111,7 @@ accept_sends : (window proxies me : ℕ) (script : List Request) (s : ClientData
     → AllFit (Client me) (accept_rule window proxies me script s b).1
 unfolding accept_rule
 accept_sends window proxies me script s b c =
-    let now = accepted b.num s in
+    let now = after_acceptance b.num s in
     on_cond (λ (t : ClientData × List Out). AllFit (Client me) t.1) (is_open b.num s.attempts) (fill_window window proxies me script now) (s, [])
     (λ _. places_fit (window - length now.attempts) proxies me script now c) (λ _. tt)
 
@@ -110,7 +120,8 @@ message_sends : (window proxies me : ℕ) (script : List Request) (s : ClientDat
 message_sends window proxies me script s (Proxy p) (messages.Answer b) c = accept_sends window proxies me script s b c
 message_sends window proxies me script s _ _ c = tt
 
-pub client_message_fits : (window proxies me : ℕ) (script : List Request) (s : ClientData) (from : Actor) (m : Message) → IsClient proxies me script → InTurn window script s
+pub client_message_fits : (window proxies me : ℕ) (script : List Request) (s : ClientData) (from : Actor) (m : Message)
+    → IsClient proxies me script → InTurn window script s
     → ClientStep window script me (client_message window proxies me script s from m)
 client_message_fits window proxies me script s from m c h =
     record { state = (message_turns window proxies me script s from m h).in_turn; sends = message_sends window proxies me script s from m c }

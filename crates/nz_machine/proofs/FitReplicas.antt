@@ -1,5 +1,6 @@
 -- Each kind of message of a replica is one that frames can carry.
-use Rattle.std.proofs.Common.{◌≡◌, ℕ, zero, suc, ◌<◌, ◌≤◌, ◌^◌, max, not, cond, true, List, [], ◌∷◌, ◌++◌, length, take, drop, map, Some, None, is_some, refl, sym, ap, subst, ◌∙◌, inl, inr, arith, length-append, length-take, take-append-drop}
+use Rattle.std.proofs.Common.{◌≡◌, ℕ, zero, suc, ◌<◌, ◌≤◌, ◌^◌, max, not, cond, true, List, [], ◌∷◌, ◌++◌, length, take, drop, map, Some}
+use Rattle.std.proofs.Common.{None, is_some, refl, sym, ap, subst, ◌∙◌, inl, inr, arith, length-append, length-take, take-append-drop}
 use Rattle.std.specs.Prelude.{IfSome, slice_index, slice_get}
 use Rattle.std.specs.List.{AllByRecursion, filter}
 use Rattle.std.specs.Map.{lookup}
@@ -42,16 +43,18 @@ use Rattle.nz_machine.specs.State.{ReplicaData}
 use Rattle.nz_machine.specs.Facts.{FitsEntry, IsKnown, HasFacts}
 use Rattle.nz_machine.specs.Replicas.{last_view, most_entries, numbers_below, leads}
 use Rattle.nz_machine.specs.LogMods.{most_keys, sync_keys, missing_ids, is_asked, is_held}
-use Rattle.nz_machine.specs.Views.{view_change}
-use Rattle.nz_machine.specs.Adopting.{start_view}
-use Rattle.nz_machine.specs.Rejoining.{vector_ask, rejoin_ask, state_ask, rejoin_tell, state_tell}
+use Rattle.nz_machine.specs.Views.{view_change_message}
+use Rattle.nz_machine.specs.Adopting.{start_view_message}
+use Rattle.nz_machine.specs.Rejoining.{vector_ask_message, rejoin_ask_message, state_ask_message, rejoin_tell_message, state_tell_message}
 use Rattle.nz_machine.specs.Hearing.{Heard}
-use Rattle.nz_machine.specs.Shows.{IsOther, IsRest, told_from, ShowsFast, ShowsSlow, ShowsLogMod, ShowsFetch, ShowsFetchReply, ShowsReport, ShowsViewAsk, ShowsViewChange, ShowsStartView, ShowsVectorAsk, ShowsVectorTell, ShowsRejoinAsk, ShowsRejoinTell, ShowsStateAsk, ShowsStateTell, ReplicaShows}
+use Rattle.nz_machine.specs.Shows.{IsOther, IsRest, log_mod_from, ShowsFast, ShowsSlow, ShowsLogMod, ShowsFetch, ShowsFetchReply}
+use Rattle.nz_machine.specs.Shows.{ShowsReport, ShowsViewAsk, ShowsViewChange, ShowsStartView, ShowsVectorAsk, ShowsVectorTell}
+use Rattle.nz_machine.specs.Shows.{ShowsRejoinAsk, ShowsRejoinTell, ShowsStateAsk, ShowsStateTell, ReplicaShows}
 use Rattle.nz_machine.proofs.Runs.{FitsOut, on_cond}
-use Rattle.nz_machine.proofs.Each.{all_append, all_front, all_filter, all_imply}
-use Rattle.nz_machine.proofs.Apart.{own_rest}
-use Rattle.nz_machine.proofs.Pieces.{all_take, all_drop, all_map, all_get, all_index, lookup_each, few_either, one_of_id}
-use Rattle.nz_machine.proofs.Fields.{view_fits, ids_fit, vector_fits, AreInOrder, keys_fit, entries_fit, log_fits, keys_of_fit, few_keys, few_ids}
+use Rattle.nz_machine.proofs.EachItem.{all_append, all_front, all_filter, all_imply}
+use Rattle.nz_machine.proofs.KeysApart.{own_rest}
+use Rattle.nz_machine.proofs.ListParts.{all_take, all_drop, all_map, all_get, all_index, lookup_each, few_either, one_of_id}
+use Rattle.nz_machine.proofs.SentFields.{view_fits, ids_fit, vector_fits, AreInOrder, keys_fit, entries_fit, log_fits, keys_of_fit, few_keys, few_ids}
 use Rattle.nz_machine.proofs.Following.{sync_rest}
 
 -- a cluster that frames can name, and one of its replicas
@@ -188,7 +191,7 @@ pub own_log : (f me : ℕ) (least : ℕ) (s : ReplicaData) → HasFacts f me s �
 own_log f me least s h low = log_fits least s.log.entries low h.entries.few (led_log f me s h).order (log_each f me s h)
 
 -- what a replica sends of its whole state is in the ranges of frames
-pub view_change_fits : (f me : ℕ) (s : ReplicaData) → IsReplica f me → HasFacts f me s → Fits (view_change s)
+pub view_change_fits : (f me : ℕ) (s : ReplicaData) → IsReplica f me → HasFacts f me s → Fits (view_change_message s)
 view_change_fits f me s c h =
     let synced = h.entries.within in
     let commit = h.commit in
@@ -199,7 +202,7 @@ view_change_fits f me s c h =
     let log = own_log f me (max s.log.synced s.commit) s h (omega (arith, synced, commit)) in
     (view_fits s.view low, (view_fits s.last (omega (arith, last, low)), (counts, ((omega (arith, synced, few), omega (arith, commit, synced, few)), log))))
 
-pub start_view_fits : (f me : ℕ) (s : ReplicaData) → IsReplica f me → HasFacts f me s → Fits (start_view s)
+pub start_view_fits : (f me : ℕ) (s : ReplicaData) → IsReplica f me → HasFacts f me s → Fits (start_view_message s)
 start_view_fits f me s c h =
     let synced = h.entries.within in
     let commit = h.commit in
@@ -207,7 +210,7 @@ start_view_fits f me s c h =
     let counts = vector_fits f s.vector c.least c.most h.tables.vector in
     (view_fits s.view h.bounds.view, (counts, (omega (arith, commit, synced, few), own_log f me s.commit s h (omega (arith, synced, commit)))))
 
-pub state_tell_fits : (f me : ℕ) (s : ReplicaData) (nonce : ℕ) → IsReplica f me → HasFacts f me s → nonce < 2 ^ 64 → Fits (state_tell s nonce)
+pub state_tell_fits : (f me : ℕ) (s : ReplicaData) (nonce : ℕ) → IsReplica f me → HasFacts f me s → nonce < 2 ^ 64 → Fits (state_tell_message s nonce)
 state_tell_fits f me s nonce c h small =
     let synced = h.entries.within in
     let commit = h.commit in
@@ -215,16 +218,16 @@ state_tell_fits f me s nonce c h small =
     let counts = vector_fits f s.vector c.least c.most h.tables.vector in
     (small, (view_fits s.view h.bounds.view, (counts, (omega (arith, commit, synced, few), own_log f me s.commit s h (omega (arith, synced, commit))))))
 
-pub rejoin_tell_fits : (f me : ℕ) (s : ReplicaData) (nonce : ℕ) → IsReplica f me → HasFacts f me s → nonce < 2 ^ 64 → Fits (rejoin_tell s nonce)
+pub rejoin_tell_fits : (f me : ℕ) (s : ReplicaData) (nonce : ℕ) → IsReplica f me → HasFacts f me s → nonce < 2 ^ 64 → Fits (rejoin_tell_message s nonce)
 rejoin_tell_fits f me s nonce c h small = (small, (view_fits s.view h.bounds.view, vector_fits f s.vector c.least c.most h.tables.vector))
 
-pub vector_ask_fits : (f me : ℕ) (s : ReplicaData) → HasFacts f me s → Fits (vector_ask s)
+pub vector_ask_fits : (f me : ℕ) (s : ReplicaData) → HasFacts f me s → Fits (vector_ask_message s)
 vector_ask_fits f me s h = h.rejoin.nonce
 
-pub rejoin_ask_fits : (f me : ℕ) (s : ReplicaData) → IsReplica f me → HasFacts f me s → Fits (rejoin_ask s)
+pub rejoin_ask_fits : (f me : ℕ) (s : ReplicaData) → IsReplica f me → HasFacts f me s → Fits (rejoin_ask_message s)
 rejoin_ask_fits f me s c h = (h.rejoin.nonce, vector_fits f s.vector c.least c.most h.tables.vector)
 
-pub state_ask_fits : (f me : ℕ) (s : ReplicaData) → IsReplica f me → HasFacts f me s → Fits (state_ask s)
+pub state_ask_fits : (f me : ℕ) (s : ReplicaData) → IsReplica f me → HasFacts f me s → Fits (state_ask_message s)
 state_ask_fits f me s c h = (h.rejoin.nonce, (view_fits s.rejoin.wanted h.rejoin.wanted, vector_fits f s.vector c.least c.most h.tables.vector))
 
 -- ---- one lemma a kind
@@ -308,7 +311,7 @@ log_mod_fits f me s to b c h w =
     let few = h.entries.few in
     let keys_told = told_keys_fit s start (led_log f me s h) (log_each f me s h) in
     let vector_told = vector_fits f s.vector c.least c.most h.tables.vector in
-    let fit : Fits (messages.LogMod (told_from s start)) =
+    let fit : Fits (messages.LogMod (log_mod_from s start)) =
     (view_fits s.view h.bounds.view, (vector_told, (omega (arith, commit, within, few), (omega (arith, acked), keys_told)))) in
     record {
       sender = own_address f me c;

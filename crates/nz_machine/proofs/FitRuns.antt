@@ -13,7 +13,7 @@ use Rattle.nz_machine.specs.World.{state_after, IsGroup, IsMember, World}
 use Rattle.nz_machine.proofs.Runs.{FitsOut, AllFit, Hears, Holds, Keeps, holds, on_cond, unless_down, group_of}
 use Rattle.nz_machine.proofs.FitReplicas.{IsReplica}
 use Rattle.nz_machine.proofs.FitSteps.{ReplicaStep, message_fits, tick_fits, alarm_fits, crash_fits, restart_fits}
-use Rattle.nz_machine.proofs.Keeping.{first_has_facts}
+use Rattle.nz_machine.proofs.RulesKeepFacts.{first_has_facts}
 use Rattle.nz_machine.proofs.FitProxies.{IsProxy, FitsProxy, ProxyStep, first_proxy_fits, crashed_fits, proxy_message_fits, proxy_tick_fits}
 use Rattle.nz_machine.proofs.InTurn.{InTurn, first_in_turn}
 use Rattle.nz_machine.proofs.FitClients.{client_of, client_message_fits, client_tick_fits}

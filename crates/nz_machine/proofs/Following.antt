@@ -1,5 +1,6 @@
 -- What the rules by which logs agree send is what the states before and after show.
-use Rattle.std.proofs.Common.{◌≡◌, ℕ, zero, suc, ◌-◌, ◌<◌, ◌≤◌, not, eqb, true, false, List, [], ◌∷◌, ◌++◌, length, take, drop, Option, Some, None, refl, sym, ap, subst, ◌∙◌, inl, inr, arith, append_assoc, take-append-drop}
+use Rattle.std.proofs.Common.{◌≡◌, ℕ, zero, suc, ◌-◌, ◌<◌, ◌≤◌, not, eqb, true, false, List, [], ◌∷◌, ◌++◌, length, take, drop}
+use Rattle.std.proofs.Common.{Option, Some, None, refl, sym, ap, subst, ◌∙◌, inl, inr, arith, append_assoc, take-append-drop}
 use Rattle.std.specs.Prelude.{nat_lt}
 use Rattle.std.specs.List.{AllByRecursion, filter, flat_map}
 use Rattle.std.specs.Map.{lookup}
@@ -22,14 +23,16 @@ use Rattle.nz_msg.specs.declared.message.Message.TheVariants as messages
 use Rattle.nz_machine.specs.declared.data.Status.{Status}
 use Rattle.nz_machine.specs.State.{ReplicaData, Out}
 use Rattle.nz_machine.specs.Replicas.{is_normal, leads, slow_replies}
-use Rattle.nz_machine.specs.LogMods.{sync_report_to, found, if_found, synced_with, sync_keys, overtaken, committed_to, replies_since, is_held, missing_ids, fetch_from, taken_in, taken_from, after_hearing, log_mod_rule, fetch_rule, is_asked, kept_all, fetch_reply_rule, with_ack, with_commit, sync_report_rule}
+use Rattle.nz_machine.specs.LogMods.{sync_report_to, entry_of_id, if_found, synced_with, sync_keys, overtaken_to_late, committed_to, replies_since}
+use Rattle.nz_machine.specs.LogMods.{is_held, missing_ids, fetch_from, after_taking_keys, after_log_mod, after_hearing, log_mod_rule, fetch_rule}
+use Rattle.nz_machine.specs.LogMods.{is_asked, with_late_entries, fetch_reply_rule, with_ack, with_commit, sync_report_rule}
 use Rattle.nz_machine.specs.Vectors.{with_vector}
 use Rattle.nz_machine.specs.World.{Has}
 use Rattle.nz_machine.specs.Hearing.{Heard}
 use Rattle.nz_machine.specs.Shows.{IsOther, IsRest, ReplicaShows}
 use Rattle.nz_machine.proofs.Runs.{on_cond}
-use Rattle.nz_machine.proofs.Each.{all_append}
-use Rattle.nz_machine.proofs.Placed.{place_kept, place_within, has_place}
+use Rattle.nz_machine.proofs.EachItem.{all_append}
+use Rattle.nz_machine.proofs.LogPlaces.{place_kept, place_within, has_place}
 use Rattle.nz_machine.proofs.Shows.{AllShow, Shown, silent, other_is, leader_below}
 use Rattle.nz_machine.proofs.ViewsShow.{enter_shows}
 use Rattle.nz_machine.proofs.Replies.{slow_shows}
@@ -50,7 +53,7 @@ found_seat s k keys rest (Some e) = rest _
 sync_seat : (s : ReplicaData) (keys : List Key) → seat (sync_keys s keys).0 ≡ seat s
 unfolding sync_keys
 sync_seat s [] = refl
-sync_seat s (k ∷ keys) = let hit = found_seat s k keys (λ t. sync_seat t keys) (found s (id_of k)) in grind (arith, hit)
+sync_seat s (k ∷ keys) = let hit = found_seat s k keys (λ t. sync_seat t keys) (entry_of_id s (id_of k)) in grind (arith, hit)
 
 -- a follower of the leader
 record Follows (f me leader : ℕ) (s : ReplicaData) : Type 0 where
@@ -93,7 +96,7 @@ pub sync_rest : (s : ReplicaData) (keys : List Key) → IsRest (sync_keys s keys
 unfolding sync_keys
 sync_rest s [] = rest_self []
 sync_rest s (k ∷ keys) =
-    let hit = found_rest s k keys (λ t. sync_rest t keys) (found s (id_of k)) in
+    let hit = found_rest s k keys (λ t. sync_rest t keys) (entry_of_id s (id_of k)) in
     let none = rest_none (k ∷ keys) in
     grind (arith, hit, none)
 
@@ -180,13 +183,13 @@ after_shows f me leader before s b count keys w rest =
     (fetch_by f me leader before s b keys (missing_ids s keys) refl w rest) (report_shows f me leader heard before s w))
 
 taken_shows : (f me leader : ℕ) (before s : ReplicaData) (b : LogModBody) → Follows f me leader s
-    → Shown f me (Some (Replica leader, messages.LogMod b)) before (taken_from leader b s)
+    → Shown f me (Some (Replica leader, messages.LogMod b)) before (after_log_mod leader b s)
 taken_shows f me leader before s b w =
     let heard : Heard = Some (Replica leader, messages.LogMod b) in
     let keys = drop (s.log.synced - b.start) b.keys in
     let t = sync_keys s keys in
-    let after = committed_to (overtaken t.0) b.commit in
-    on_cond (Shown f me heard before) (nat_lt s.log.synced b.start) (s, sync_report_to leader s ∷ []) (taken_in s leader b.commit t)
+    let after = committed_to (overtaken_to_late t.0) b.commit in
+    on_cond (Shown f me heard before) (nat_lt s.log.synced b.start) (s, sync_report_to leader s ∷ []) (after_taking_keys s leader b.commit t)
     (λ _. record { shows = report_shows f me leader heard before s w })
     (λ _.
     let follows = still_follows f me leader s after (sync_seat s keys) w in
@@ -202,7 +205,7 @@ log_mod_shows f me s sender b =
     let stay = silent f me heard s s in
     let enter = enter_shows f me heard s b.view own in
     let take : is_normal s.status ≡ true → leads f me s ≡ false → b.view ≡ s.view → sender ≡ leader_of f b.view
-    → Shown f me heard s (taken_from sender b (after_hearing own)) =
+    → Shown f me heard s (after_log_mod sender b (after_hearing own)) =
     λ normal follows view is.
     taken_shows f me sender s (after_hearing own) b (record { normal = normal; follows = follows; is = is ∙ ap (leader_of f) view }) in
     grind (arith, nat_tests, stay, enter, take)
@@ -225,7 +228,7 @@ pub fetch_reply_silent : (f me : ℕ) (heard : Heard) (s : ReplicaData) (sender 
     → Shown f me heard s (fetch_reply_rule f me s sender b)
 unfolding fetch_reply_rule
 fetch_reply_silent f me heard s sender b =
-    let stay = silent f me heard s s in let keep = silent f me heard s (kept_all s b.entries) in grind (arith, stay, keep)
+    let stay = silent f me heard s s in let keep = silent f me heard s (with_late_entries s b.entries) in grind (arith, stay, keep)
 
 pub report_silent : (f me : ℕ) (heard : Heard) (s : ReplicaData) (sender : ℕ) (b : SyncReportBody) → Shown f me heard s (sync_report_rule f me s sender b)
 unfolding sync_report_rule

@@ -1,5 +1,6 @@
 -- A client's open requests have rising numbers of those that it sent, and with the accepted ones they are all of them.
-use Rattle.std.proofs.Common.{◌≡◌, ℕ, zero, suc, ◌+◌, ◌-◌, ◌%◌, ◌<◌, ◌≤◌, eqb, eqb-true, Bool, true, false, not, cond, ◌||◌, List, [], ◌∷◌, ◌++◌, length, map, Option, Some, None, refl, sym, ap, subst, ◌∙◌, inl, inr, arith}
+use Rattle.std.proofs.Common.{◌≡◌, ℕ, zero, suc, ◌+◌, ◌-◌, ◌%◌, ◌<◌, ◌≤◌, eqb, eqb-true, Bool, true, false, not, cond, ◌||◌, List}
+use Rattle.std.proofs.Common.{[], ◌∷◌, ◌++◌, length, map, Option, Some, None, refl, sym, ap, subst, ◌∙◌, inl, inr, arith}
 use Rattle.std.specs.Prelude.{slice_get, nat_le}
 use Rattle.std.proofs.lemmas.List.{length-append, length-map}
 use Rattle.std.proofs.lemmas.Option.{none-some, same_Some}
@@ -10,13 +11,14 @@ use Rattle.nz_base.specs.declared.scenario.Request.{Request}
 use Rattle.nz_msg.specs.declared.message.AnswerBody.{AnswerBody}
 use Rattle.nz_msg.specs.declared.envelope.Envelope.{Envelope}
 use Rattle.nz_msg.specs.declared.message.Message.{Message}
-use Rattle.nz_msg.specs.declared.message.Message.TheVariants.{Answer as Answered}
+use Rattle.nz_msg.specs.declared.message.Message.TheVariants.{Answer}
 use Rattle.nz_machine.specs.declared.data.Attempt.{Attempt}
 use Rattle.nz_machine.specs.declared.event.Event.{Event}
 use Rattle.nz_machine.specs.declared.event.Event.TheVariants.{Deliver, Tick}
 use Rattle.nz_machine.specs.State.{ClientData, Group, Out}
-use Rattle.nz_machine.specs.Clients.{if_due, opened, open_next, fill_places, fill_window, is_overdue, waited, all_waited, wait_rule, is_open, without, accepted, accept_rule, first_client}
-use Rattle.nz_machine.specs.Step.{script_of, client_message, received, envelope_step, event_step}
+use Rattle.nz_machine.specs.Clients.{if_due, after_opening, open_next, fill_places, fill_window, is_overdue, attempt_after_wait, after_wait}
+use Rattle.nz_machine.specs.Clients.{wait_rule, is_open, without_attempt, after_acceptance, accept_rule, first_client}
+use Rattle.nz_machine.specs.Step.{script_of, client_message, accepted_envelope, envelope_step, event_step}
 use Rattle.nz_machine.proofs.Runs.{on_cond}
 
 -- ---- rising numbers
@@ -38,22 +40,22 @@ rises_push : (low : ℕ) (xs : List Attempt) (high : ℕ) (a : Attempt) → Rise
 rises_push low [] high a h lt = (omega (arith, h, lt), omega arith)
 rises_push low (b ∷ xs) high a h lt = (h.0, rises_push b.num xs high a h.1 lt)
 
-pub waited_num : (proxies : ℕ) (a : Attempt) → (waited proxies a).num ≡ a.num
+pub waited_num : (proxies : ℕ) (a : Attempt) → (attempt_after_wait proxies a).num ≡ a.num
 waited_num proxies a = on_cond (λ (x : Attempt). x.num ≡ a.num) (is_overdue a) _ _ (λ _. refl) (λ _. refl)
 
-rises_waited : (proxies low : ℕ) (xs : List Attempt) (high : ℕ) → Rises low xs high → Rises low (map (waited proxies) xs) high
+rises_waited : (proxies low : ℕ) (xs : List Attempt) (high : ℕ) → Rises low xs high → Rises low (map (attempt_after_wait proxies) xs) high
 rises_waited proxies low [] high h = h
 rises_waited proxies low (a ∷ xs) high h =
     let same = sym (waited_num proxies a) in
-    (subst (λ (n : ℕ). low < n) same h.0, subst (λ (n : ℕ). Rises n (map (waited proxies) xs) high) same (rises_waited proxies a.num xs high h.1))
+    (subst (λ (n : ℕ). low < n) same h.0, subst (λ (n : ℕ). Rises n (map (attempt_after_wait proxies) xs) high) same (rises_waited proxies a.num xs high h.1))
 
-rises_without : (num low : ℕ) (xs : List Attempt) (high : ℕ) → Rises low xs high → Rises low (without num xs) high
+rises_without : (num low : ℕ) (xs : List Attempt) (high : ℕ) → Rises low xs high → Rises low (without_attempt num xs) high
 rises_without num low [] high h = h
 rises_without num low (a ∷ xs) high h =
     let rest = rises_without num a.num xs high h.1 in
     let below = h.0 in
-    on_cond (λ (l : List Attempt). Rises low l high) (not (eqb a.num num)) (a ∷ without num xs) (without num xs) (λ _. (h.0, rest))
-    (λ _. rises_lower a.num low (without num xs) high (omega (arith, below)) rest)
+    on_cond (λ (l : List Attempt). Rises low l high) (not (eqb a.num num)) (a ∷ without_attempt num xs) (without_attempt num xs) (λ _. (h.0, rest))
+    (λ _. rises_lower a.num low (without_attempt num xs) high (omega (arith, below)) rest)
 
 -- ---- which are open
 
@@ -64,8 +66,10 @@ any_head num a xs b e = ap (λ (x : Bool). x || is_open num xs) e
 pub open_within : (num low : ℕ) (xs : List Attempt) (high : ℕ) → Rises low xs high → is_open num xs ≡ true → (low < num) × (num ≤ high)
 open_within num low [] high h held = absurd cc
 open_within num low (a ∷ xs) high h held = elim (cases_bool (eqb a.num num)) [
-  | inl t ↦ let same = eqb-true a.num num t in let below = h.0 in let rest = rises_most a.num xs high h.1 in (omega (arith, same, below), omega (arith, same, rest))
-  | inr f ↦ let k = open_within num a.num xs high h.1 (sym (any_head num a xs false f) ∙ held) in let below = h.0 in let least = k.0 in (omega (arith, below, least), k.1)
+  | inl t ↦ let same = eqb-true a.num num t in let below = h.0 in let rest = rises_most a.num xs high h.1 in
+      (omega (arith, same, below), omega (arith, same, rest))
+  | inr f ↦ let k = open_within num a.num xs high h.1 (sym (any_head num a xs false f) ∙ held) in let below = h.0 in let least = k.0 in
+      (omega (arith, below, least), k.1)
 ]
 
 -- a number above all is of none
@@ -86,10 +90,11 @@ or_false : (a b : Bool) → (a || b) ≡ false → (a ≡ false) × (b ≡ false
 or_false true b e = absurd cc
 or_false false b e = (refl, e)
 
-closed_waited : (proxies num : ℕ) (xs : List Attempt) → is_open num (map (waited proxies) xs) ≡ is_open num xs
+closed_waited : (proxies num : ℕ) (xs : List Attempt) → is_open num (map (attempt_after_wait proxies) xs) ≡ is_open num xs
 closed_waited proxies num [] = refl
 closed_waited proxies num (a ∷ xs) =
-    ap (λ (n : ℕ). eqb n num || is_open num (map (waited proxies) xs)) (waited_num proxies a) ∙ ap (λ (b : Bool). eqb a.num num || b) (closed_waited proxies num xs)
+    ap (λ (n : ℕ). eqb n num || is_open num (map (attempt_after_wait proxies) xs)) (waited_num proxies a)
+    ∙ ap (λ (b : Bool). eqb a.num num || b) (closed_waited proxies num xs)
 
 closed_push : (num : ℕ) (xs : List Attempt) (a : Attempt) → num < a.num → is_open num xs ≡ false → is_open num (xs ++ a ∷ []) ≡ false
 closed_push num [] a lt h = elim (cases_bool (eqb a.num num)) [
@@ -100,39 +105,41 @@ closed_push num (b ∷ xs) a lt h =
     let k = or_false (eqb b.num num) (is_open num xs) h in any_head num b (xs ++ a ∷ []) false k.0 ∙ closed_push num xs a lt k.1
 
 -- what is closed stays closed without another, and that one is closed
-closed_by : (num other : ℕ) (xs : List Attempt) → is_open num xs ≡ false → is_open num (without other xs) ≡ false
+closed_by : (num other : ℕ) (xs : List Attempt) → is_open num xs ≡ false → is_open num (without_attempt other xs) ≡ false
 closed_by num other [] h = refl
 closed_by num other (a ∷ xs) h =
     let k = or_false (eqb a.num num) (is_open num xs) h in
-    on_cond (λ (l : List Attempt). is_open num l ≡ false) (not (eqb a.num other)) (a ∷ without other xs) (without other xs)
-    (λ _. any_head num a (without other xs) false k.0 ∙ closed_by num other xs k.1) (λ _. closed_by num other xs k.1)
+    on_cond (λ (l : List Attempt). is_open num l ≡ false) (not (eqb a.num other)) (a ∷ without_attempt other xs) (without_attempt other xs)
+    (λ _. any_head num a (without_attempt other xs) false k.0 ∙ closed_by num other xs k.1) (λ _. closed_by num other xs k.1)
 
-closed_now : (num : ℕ) (xs : List Attempt) → is_open num (without num xs) ≡ false
+closed_now : (num : ℕ) (xs : List Attempt) → is_open num (without_attempt num xs) ≡ false
 closed_now num [] = refl
 closed_now num (a ∷ xs) = elim (cases_bool (eqb a.num num)) [
-  | inl t ↦ ap (λ (b : Bool). is_open num (cond (not b) (a ∷ without num xs) (without num xs))) t ∙ closed_now num xs
-  | inr f ↦ ap (λ (b : Bool). is_open num (cond (not b) (a ∷ without num xs) (without num xs))) f ∙ any_head num a (without num xs) false f ∙ closed_now num xs
+  | inl t ↦ ap (λ (b : Bool). is_open num (cond (not b) (a ∷ without_attempt num xs) (without_attempt num xs))) t ∙ closed_now num xs
+  | inr f ↦
+      ap (λ (b : Bool). is_open num (cond (not b) (a ∷ without_attempt num xs) (without_attempt num xs))) f
+      ∙ any_head num a (without_attempt num xs) false f ∙ closed_now num xs
 ]
 
 -- ---- without an open one there is one less
 
-pub none_without : (num : ℕ) (xs : List Attempt) → is_open num xs ≡ false → without num xs ≡ xs
+pub none_without : (num : ℕ) (xs : List Attempt) → is_open num xs ≡ false → without_attempt num xs ≡ xs
 none_without num [] h = refl
 none_without num (a ∷ xs) h =
     let k = or_false (eqb a.num num) (is_open num xs) h in
-    ap (λ (b : Bool). cond (not b) (a ∷ without num xs) (without num xs)) k.0 ∙ ap (λ (l : List Attempt). a ∷ l) (none_without num xs k.1)
+    ap (λ (b : Bool). cond (not b) (a ∷ without_attempt num xs) (without_attempt num xs)) k.0 ∙ ap (λ (l : List Attempt). a ∷ l) (none_without num xs k.1)
 
-one_less : (num low : ℕ) (xs : List Attempt) (high : ℕ) → Rises low xs high → is_open num xs ≡ true → length (without num xs) + 1 ≡ length xs
+one_less : (num low : ℕ) (xs : List Attempt) (high : ℕ) → Rises low xs high → is_open num xs ≡ true → length (without_attempt num xs) + 1 ≡ length xs
 one_less num low [] high h held = absurd cc
 one_less num low (a ∷ xs) high h held = elim (cases_bool (eqb a.num num)) [
   | inl t ↦
       let same = eqb-true a.num num t in
       let rest = none_without num xs (none_below num a.num xs high h.1 (omega (arith, same))) in
-      let is = ap (λ (b : Bool). length (cond (not b) (a ∷ without num xs) (without num xs))) t ∙ ap length rest in
+      let is = ap (λ (b : Bool). length (cond (not b) (a ∷ without_attempt num xs) (without_attempt num xs))) t ∙ ap length rest in
       omega (arith, is)
   | inr f ↦
       let ih = one_less num a.num xs high h.1 (sym (any_head num a xs false f) ∙ held) in
-      let is = ap (λ (b : Bool). length (cond (not b) (a ∷ without num xs) (without num xs))) f in
+      let is = ap (λ (b : Bool). length (cond (not b) (a ∷ without_attempt num xs) (without_attempt num xs))) f in
       omega (arith, is, ih)
 ]
 
@@ -182,7 +189,7 @@ pub due_within : (ticks : ℕ) (script : List Request) (i : ℕ) (r : Request) �
 due_within ticks script i r e = get_within script i r (if_due_is ticks (slice_get script i) r e)
 
 opened_opens : (window proxies me : ℕ) (script : List Request) (s : ClientData) (o : Option Request) → if_due s.ticks (slice_get script s.sent) ≡ o
-    → length s.attempts < window → InTurn window script s → Opens window script s (opened proxies me s o).0
+    → length s.attempts < window → InTurn window script s → Opens window script s (after_opening proxies me s o).0
 opened_opens window proxies me script s None e room h = record { fills = stays_in_turn window script s h; one = omega arith }
 opened_opens window proxies me script s (Some r) e room h =
     let a : Attempt = record { num = s.sent + 1; proxy = me % proxies; since = 0 } in
@@ -247,9 +254,9 @@ fills_turns window script s t h =
 pub none_turns : (window : ℕ) (script : List Request) (s : ClientData) → InTurn window script s → Turns window script s s
 none_turns window script s h = fills_turns window script s s (stays_in_turn window script s h)
 
-pub waited_in_turn : (window proxies : ℕ) (script : List Request) (s : ClientData) → InTurn window script s → InTurn window script (all_waited proxies s)
+pub waited_in_turn : (window proxies : ℕ) (script : List Request) (s : ClientData) → InTurn window script s → InTurn window script (after_wait proxies s)
 waited_in_turn window proxies script s h =
-    let long = length-map s.attempts (waited proxies) in
+    let long = length-map s.attempts (attempt_after_wait proxies) in
     let counted = h.counted in
     let few = h.few in
     record {
@@ -264,12 +271,12 @@ pub tick_fills : (window proxies me : ℕ) (script : List Request) (s : ClientDa
     → Fills window script s (wait_rule window proxies me script s).0
 unfolding wait_rule
 tick_fills window proxies me script s h =
-    let now = all_waited proxies s in
+    let now = after_wait proxies s in
     let t = window_filled window proxies me script now (waited_in_turn window proxies script s h) in
     record { in_turn = t.in_turn; more = t.more; same = t.same; closed = λ num le c. t.closed num le (closed_waited proxies num s.attempts ∙ c) }
 
 pub accepted_in_turn : (window num : ℕ) (script : List Request) (s : ClientData) → is_open num s.attempts ≡ true → InTurn window script s
-    → InTurn window script (accepted num s)
+    → InTurn window script (after_acceptance num s)
 accepted_in_turn window num script s held h =
     let less = one_less num 0 s.attempts s.sent h.rising held in
     let counted = h.counted in
@@ -291,7 +298,7 @@ pub answer_takes : (window proxies me : ℕ) (script : List Request) (s : Client
     → Takes window script s b (accept_rule window proxies me script s b).0
 unfolding accept_rule
 answer_takes window proxies me script s b h =
-    let now = accepted b.num s in
+    let now = after_acceptance b.num s in
     on_cond (λ (t : ClientData × List Out). Takes window script s b t.0) (is_open b.num s.attempts) (fill_window window proxies me script now) (s, [])
     (λ held.
     let t = window_filled window proxies me script now (accepted_in_turn window b.num script s held h) in
@@ -312,7 +319,7 @@ answer_takes window proxies me script s b h =
 
 pub message_turns : (window proxies me : ℕ) (script : List Request) (s : ClientData) (from : Actor) (m : Message) → InTurn window script s
     → Turns window script s (client_message window proxies me script s from m).0
-message_turns window proxies me script s (Proxy p) (Answered b) h = (answer_takes window proxies me script s b h).turns
+message_turns window proxies me script s (Proxy p) (Answer b) h = (answer_takes window proxies me script s b h).turns
 message_turns window proxies me script s _ _ h = none_turns window script s h
 
 envelope_turns : (g : Group) (c : ℕ) (s : ClientData) (o : Option Envelope) → InTurn g.window (script_of g c) s
@@ -322,6 +329,6 @@ envelope_turns g c s (Some e) h = message_turns g.window g.proxies c (script_of 
 
 pub event_turns : (g : Group) (c : ℕ) (s : ClientData) (e : Event) → InTurn g.window (script_of g c) s
     → Turns g.window (script_of g c) s (event_step g (Client c) s e).0
-event_turns g c s (Deliver p) h = envelope_turns g c s (received g.f (Client c) p) h
+event_turns g c s (Deliver p) h = envelope_turns g c s (accepted_envelope g.f (Client c) p) h
 event_turns g c s (Tick clock) h = fills_turns g.window (script_of g c) s _ (tick_fills g.window g.proxies c (script_of g c) s h)
 event_turns g c s _ h = none_turns g.window (script_of g c) s h

@@ -1,5 +1,6 @@
 -- What a proxy and a client send is what the states after show.
-use Rattle.std.proofs.Common.{◌≡◌, ℕ, zero, suc, ◌+◌, ◌-◌, ◌%◌, ◌<◌, ◌≤◌, Bool, false, cond, List, [], ◌∷◌, length, map, Option, Some, None, refl, ap, subst, ◌∙◌, inl, inr, arith}
+use Rattle.std.proofs.Common.{◌≡◌, ℕ, zero, suc, ◌+◌, ◌-◌, ◌%◌, ◌<◌, ◌≤◌, Bool, false, cond, List, [], ◌∷◌}
+use Rattle.std.proofs.Common.{length, map, Option, Some, None, refl, ap, subst, ◌∙◌, inl, inr, arith}
 use Rattle.std.specs.Prelude.{slice_get}
 use Rattle.std.specs.List.{AllByRecursion}
 use Rattle.std.specs.Map.{lookup}
@@ -11,7 +12,7 @@ use Rattle.nz_base.specs.declared.actor.Actor.TheVariants.{Replica, Proxy, Clien
 use Rattle.nz_base.specs.declared.key.Id.{Id}
 use Rattle.nz_base.specs.declared.scenario.Request.{Request}
 use Rattle.nz_store.specs.declared.command.Answer.{Answer}
-use Rattle.nz_window.specs.Samples.{sampled}
+use Rattle.nz_window.specs.Samples.{with_sample}
 use Rattle.nz_msg.specs.declared.message.Path.{Path}
 use Rattle.nz_msg.specs.declared.message.RequestBody.{RequestBody}
 use Rattle.nz_msg.specs.declared.message.AnswerBody.{AnswerBody}
@@ -21,16 +22,18 @@ use Rattle.nz_machine.specs.declared.data.Attempt.{Attempt}
 use Rattle.nz_machine.specs.declared.reply.Reply.{Reply}
 use Rattle.nz_machine.specs.State.{ProxyData, ClientData, Standing, Open, Decided, Out}
 use Rattle.nz_machine.specs.Quorums.{Chosen, decision, answer_in, with_note}
-use Rattle.nz_machine.specs.Proxies.{standing_of, with_standing, timed_to, timed_to_all, stamped, stamp_rule, answered, decided_as, noted_in, reply_rule, of_fast, of_slow}
-use Rattle.nz_machine.specs.Clients.{if_due, opened, open_next, fill_places, fill_window, is_overdue, waited, all_waited, asked_again, retry, retries, wait_rule, is_open, accepted, accept_rule}
+use Rattle.nz_machine.specs.Proxies.{standing_of, with_standing, timed_to, timed_to_all, after_stamp, stamp_rule, after_chosen_answer}
+use Rattle.nz_machine.specs.Proxies.{after_choice, after_replica_reply, reply_rule, of_fast, of_slow}
+use Rattle.nz_machine.specs.Clients.{if_due, after_opening, open_next, fill_places, fill_window, is_overdue, attempt_after_wait, after_wait}
+use Rattle.nz_machine.specs.Clients.{request_again, retry, retries, wait_rule, is_open, after_acceptance, accept_rule}
 use Rattle.nz_machine.specs.Step.{proxy_message, client_message}
 use Rattle.nz_machine.specs.Hearing.{Heard}
 use Rattle.nz_machine.specs.Shows.{ProxyShows, ClientShows}
 use Rattle.nz_machine.specs.World.{Has}
 use Rattle.nz_machine.proofs.Runs.{on_cond, has_left, has_right}
-use Rattle.nz_machine.proofs.Each.{all_append, all_imply}
+use Rattle.nz_machine.proofs.EachItem.{all_append, all_imply}
 use Rattle.nz_machine.proofs.Lookups.{lookup_inserted}
-use Rattle.nz_machine.proofs.Pieces.{all_map}
+use Rattle.nz_machine.proofs.ListParts.{all_map}
 use Rattle.nz_machine.proofs.Shows.{all_below}
 use Rattle.nz_machine.proofs.InTurn.{if_due_is}
 use Rattle.nz_machine.proofs.FitClients.{own_proxy}
@@ -55,29 +58,39 @@ timed_shows f s standings id command replies up at =
     record {
       shows = all_map (λ (o : Out). ProxyShows f (asks id command) t o.0 o.1) (timed_to s id command) _
           (all_below (λ r. ProxyShows f (asks id command) t (timed_to s id command r).0 (timed_to s id command r).1) (replica_count f)
-          (λ r lt. record { up = up; hears = refl; replies = replies; standing = at; replica = r; member = lt; receiver = refl; sent = refl; deadline = refl }));
+          (λ r lt. record {
+            up = up;
+            hears = refl;
+            replies = replies;
+            standing = at;
+            replica = r;
+            member = lt;
+            receiver = refl;
+            sent = refl;
+            deadline = refl;
+          }));
     }
 
 stamped_shows : (f : ℕ) (s : ProxyData) (id : Id) (command : List ℕ) (o : Option Standing) → s.is_down ≡ false → standing_of s id ≡ o
-    → ProxyShown f (asks id command) (stamped f s id command o)
+    → ProxyShown f (asks id command) (after_stamp f s id command o)
 stamped_shows f s id command None up e =
     timed_shows f s (insert_entry id_eq s.standings id (Open [])) id command [] up (lookup_inserted s.standings id (Open []))
 stamped_shows f s id command (Some (Open replies)) up e = timed_shows f s s.standings id command replies up e
 stamped_shows f s id command (Some (Decided a p)) up e = record { shows = (record { up = up; client = id.client; decided = e; to_client = refl }, tt) }
 
 answered_shows : (f : ℕ) (heard : Heard) (s : ProxyData) (id : Id) (replies : List Reply) (p : Path) (o : Option Answer) → s.is_down ≡ false
-    → ProxyShown f heard (answered s id replies p o)
+    → ProxyShown f heard (after_chosen_answer s id replies p o)
 answered_shows f heard s id replies p None up = proxy_silent f heard (with_standing s id (Open replies))
 answered_shows f heard s id replies p (Some a) up =
     record { shows = (record { up = up; client = id.client; decided = lookup_inserted s.standings id (Decided a p); to_client = refl }, tt) }
 
 decided_shows : (f : ℕ) (heard : Heard) (s : ProxyData) (id : Id) (replies : List Reply) (o : Option Chosen) → s.is_down ≡ false
-    → ProxyShown f heard (decided_as s id replies o)
+    → ProxyShown f heard (after_choice s id replies o)
 decided_shows f heard s id replies None up = proxy_silent f heard (with_standing s id (Open replies))
 decided_shows f heard s id replies (Some chosen) up = answered_shows f heard s id replies chosen.path (answer_in chosen.reply) up
 
 noted_shows : (f : ℕ) (heard : Heard) (s : ProxyData) (id : Id) (r : Reply) (o : Option Standing) → s.is_down ≡ false
-    → ProxyShown f heard (noted_in f s id r o)
+    → ProxyShown f heard (after_replica_reply f s id r o)
 noted_shows f heard s id r None up = proxy_silent f heard s
 noted_shows f heard s id r (Some (Decided a p)) up = proxy_silent f heard s
 noted_shows f heard s id r (Some (Open replies)) up = decided_shows f heard s id (with_note replies r) (decision f (with_note replies r)) up
@@ -89,7 +102,7 @@ stamp_shows f s c b up = let id : Id = record { client = c; num = b.num } in sta
 reply_shows : (f : ℕ) (heard : Heard) (s : ProxyData) (replica : ℕ) (id : Id) (delay : ℕ) (r : Reply) → s.is_down ≡ false
     → ProxyShown f heard (reply_rule f s replica id delay r)
 unfolding reply_rule
-reply_shows f heard s replica id delay r up = noted_shows f heard (record s { samples = sampled s.samples replica delay }) id r (standing_of s id) up
+reply_shows f heard s replica id delay r up = noted_shows f heard (record s { samples = with_sample s.samples replica delay }) id r (standing_of s id) up
 
 pub proxy_message_shows : (f : ℕ) (s : ProxyData) (from : Actor) (m : Message) → s.is_down ≡ false → ProxyShown f (Some (from, m)) (proxy_message f s from m)
 proxy_message_shows f s (Client c) (messages.Request b) up = stamp_shows f s c b up
@@ -109,16 +122,19 @@ AllShow proxies script t outs = AllByRecursion (λ (o : Out). ClientShows proxie
 abbrev Keeps : ClientData → ClientData → Type 0
 Keeps s t = (a : Attempt) → Has s.attempts a → Has t.attempts a
 
-shows_later : (proxies : ℕ) (script : List Request) (s t : ClientData) → Keeps s t → (o : Out) → ClientShows proxies script s o.0 o.1 → ClientShows proxies script t o.0 o.1
+shows_later : (proxies : ℕ) (script : List Request) (s t : ClientData) → Keeps s t → (o : Out)
+    → ClientShows proxies script s o.0 o.1 → ClientShows proxies script t o.0 o.1
 shows_later proxies script s t keeps (to, messages.Request b) w =
     record { proxy = w.proxy; member = w.member; receiver = w.receiver; attempt = keeps _ w.attempt; request = w.request; own = w.own; command = w.command }
 shows_later proxies script s t keeps (to, _) w = absurd w
 
-all_later : (proxies : ℕ) (script : List Request) (s t : ClientData) (outs : List Out) → Keeps s t → AllShow proxies script s outs → AllShow proxies script t outs
+all_later : (proxies : ℕ) (script : List Request) (s t : ClientData) (outs : List Out) → Keeps s t
+    → AllShow proxies script s outs → AllShow proxies script t outs
 all_later proxies script s t outs keeps all =
-    all_imply (λ (o : Out). ClientShows proxies script s o.0 o.1) (λ (o : Out). ClientShows proxies script t o.0 o.1) (shows_later proxies script s t keeps) outs all
+    all_imply (λ (o : Out). ClientShows proxies script s o.0 o.1) (λ (o : Out). ClientShows proxies script t o.0 o.1)
+    (shows_later proxies script s t keeps) outs all
 
-opened_keeps : (proxies me : ℕ) (s : ClientData) (o : Option Request) → Keeps s (opened proxies me s o).0
+opened_keeps : (proxies me : ℕ) (s : ClientData) (o : Option Request) → Keeps s (after_opening proxies me s o).0
 opened_keeps proxies me s None a h = h
 opened_keeps proxies me s (Some r) a h = has_left s.attempts (record { num = s.sent + 1; proxy = me % proxies; since = 0 } ∷ []) a h
 
@@ -128,13 +144,23 @@ places_keep (suc free) proxies me script s a h =
     places_keep free proxies me script (open_next proxies me script s).0 a (opened_keeps proxies me s (if_due s.ticks (slice_get script s.sent)) a h)
 
 opened_shows : (proxies me : ℕ) (script : List Request) (s : ClientData) (o : Option Request) → 1 ≤ proxies → if_due s.ticks (slice_get script s.sent) ≡ o
-    → AllShow proxies script (opened proxies me s o).0 (opened proxies me s o).1
+    → AllShow proxies script (after_opening proxies me s o).0 (after_opening proxies me s o).1
 opened_shows proxies me script s None any e = tt
 opened_shows proxies me script s (Some r) any e =
     let at : s.sent + 1 - 1 ≡ s.sent = omega arith in
     let own = ap (slice_get script) at ∙ if_due_is s.ticks (slice_get script s.sent) r e in
-    let a : Attempt = record { num = s.sent + 1; proxy = me % proxies; since = 0 } in
-    (record { proxy = me % proxies; member = own_proxy proxies me any; receiver = refl; attempt = has_right s.attempts (a ∷ []) a (inl refl); request = r; own = own; command = refl }, tt)
+    let a : Attempt = record { num = s.sent + 1; proxy = me % proxies; since = 0 } in (
+      record {
+        proxy = me % proxies;
+        member = own_proxy proxies me any;
+        receiver = refl;
+        attempt = has_right s.attempts (a ∷ []) a (inl refl);
+        request = r;
+        own = own;
+        command = refl;
+      },
+      tt,
+    )
 
 places_show : (free proxies me : ℕ) (script : List Request) (s : ClientData) → 1 ≤ proxies
     → AllShow proxies script (fill_places free proxies me script s).0 (fill_places free proxies me script s).1
@@ -143,34 +169,39 @@ places_show (suc free) proxies me script s any =
     let t = open_next proxies me script s in
     let u = fill_places free proxies me script t.0 in
     all_append (λ (o : Out). ClientShows proxies script u.0 o.0 o.1) t.1 u.1
-    (all_later proxies script t.0 u.0 t.1 (places_keep free proxies me script t.0) (opened_shows proxies me script s (if_due s.ticks (slice_get script s.sent)) any refl))
+    (all_later proxies script t.0 u.0 t.1 (places_keep free proxies me script t.0)
+    (opened_shows proxies me script s (if_due s.ticks (slice_get script s.sent)) any refl))
     (places_show free proxies me script t.0 any)
 
 again_shows : (proxies : ℕ) (script : List Request) (t : ClientData) (proxy num : ℕ) (o : Option Request) → proxy < proxies → slice_get script (num - 1) ≡ o
-    → Has t.attempts (record { num = num; proxy = proxy; since = 0 }) → AllShow proxies script t (asked_again proxy num o)
+    → Has t.attempts (record { num = num; proxy = proxy; since = 0 }) → AllShow proxies script t (request_again proxy num o)
 again_shows proxies script t proxy num None member e h = tt
 again_shows proxies script t proxy num (Some r) member e h =
     (record { proxy = proxy; member = member; receiver = refl; attempt = h; request = r; own = e; command = refl }, tt)
 
-retry_shows : (proxies : ℕ) (script : List Request) (t : ClientData) (a : Attempt) → 1 ≤ proxies → Has t.attempts (waited proxies a) → AllShow proxies script t (retry proxies script a)
+retry_shows : (proxies : ℕ) (script : List Request) (t : ClientData) (a : Attempt) → 1 ≤ proxies
+    → Has t.attempts (attempt_after_wait proxies a) → AllShow proxies script t (retry proxies script a)
 retry_shows proxies script t a any h =
     on_cond (AllShow proxies script t) (is_overdue a) _ []
     (λ late. again_shows proxies script t ((a.proxy + 1) % proxies) a.num (slice_get script (a.num - 1)) (own_proxy proxies (a.proxy + 1) any) refl
-    (subst (λ (b : Bool). Has t.attempts (cond b (record { num = a.num; proxy = (a.proxy + 1) % proxies; since = 0 }) (record { num = a.num; proxy = a.proxy; since = a.since + 1 }))) late h))
+    (subst (λ (b : Bool). Has t.attempts
+    (cond b (record { num = a.num; proxy = (a.proxy + 1) % proxies; since = 0 })
+    (record { num = a.num; proxy = a.proxy; since = a.since + 1 }))) late h))
     (λ _. tt)
 
 retries_show : (proxies : ℕ) (script : List Request) (t : ClientData) (xs : List Attempt) → 1 ≤ proxies
-    → ((a : Attempt) → Has (map (waited proxies) xs) a → Has t.attempts a) → AllShow proxies script t (retries proxies script xs)
+    → ((a : Attempt) → Has (map (attempt_after_wait proxies) xs) a → Has t.attempts a) → AllShow proxies script t (retries proxies script xs)
 retries_show proxies script t [] any keeps = tt
 retries_show proxies script t (a ∷ xs) any keeps =
     all_append (λ (o : Out). ClientShows proxies script t o.0 o.1) (retry proxies script a) (retries proxies script xs)
-    (retry_shows proxies script t a any (keeps (waited proxies a) (inl refl)))
+    (retry_shows proxies script t a any (keeps (attempt_after_wait proxies a) (inl refl)))
     (retries_show proxies script t xs any (λ b h. keeps b (inr h)))
 
-pub wait_shows : (window proxies me : ℕ) (script : List Request) (s : ClientData) → 1 ≤ proxies → ClientShown proxies script (wait_rule window proxies me script s)
+pub wait_shows : (window proxies me : ℕ) (script : List Request) (s : ClientData) → 1 ≤ proxies
+    → ClientShown proxies script (wait_rule window proxies me script s)
 unfolding wait_rule
 wait_shows window proxies me script s any =
-    let now = all_waited proxies s in
+    let now = after_wait proxies s in
     let t = fill_window window proxies me script now in
     let free = window - length now.attempts in
     record {
@@ -182,7 +213,7 @@ accept_shows : (window proxies me : ℕ) (script : List Request) (s : ClientData
     → ClientShown proxies script (accept_rule window proxies me script s b)
 unfolding accept_rule
 accept_shows window proxies me script s b any =
-    let now = accepted b.num s in
+    let now = after_acceptance b.num s in
     on_cond (ClientShown proxies script) (is_open b.num s.attempts) (fill_window window proxies me script now) (s, [])
     (λ _. record { shows = places_show (window - length now.attempts) proxies me script now any }) (λ _. record { shows = tt })
 

@@ -6,9 +6,10 @@ use Rattle.sha1.specs.Sha1.{first_words, schedule, rounds, compress, hash_after,
 use Rattle.nz_base.specs.declared.actor.Actor.TheVariants.{Replica}
 use Rattle.nz_digest.specs.Digests.{key_bytes}
 use Rattle.nz_math.specs.Count.{count_below}
-use Rattle.nz_merge.specs.Merged.{merged, later}
+use Rattle.nz_merge.specs.Merged.{merged, later_keys}
 use Rattle.nz_store.specs.Reading.{key_at, value_at, choice_at, command_of}
-use Rattle.nz_store.specs.Reading.{body_at as command_body_at, command_at as command_there}
+use Rattle.nz_store.specs.Reading as reading
+use Rattle.nz_store.specs.Reading.{command_at}
 use Rattle.nz_store.specs.Sequence.{apply, apply_bytes, store_from, replies_from}
 use Rattle.nz_machine.specs.Clients.{wait_rule, accept_rule}
 use Rattle.nz_machine.specs.Proxies.{stamp_rule, reply_rule, clock_rule}
@@ -17,11 +18,12 @@ use Rattle.nz_machine.specs.State.{ReplicaData}
 use Rattle.nz_machine.specs.Replicas.{first_replica}
 use Rattle.nz_machine.specs.Requests.{request_rule}
 use Rattle.nz_machine.specs.Releases.{releases, release_rule}
-use Rattle.nz_machine.specs.LogMods.{sync_keys, log_mod_rule, fetch_rule, kept_all, fetch_reply_rule, sync_report_rule}
+use Rattle.nz_machine.specs.LogMods.{sync_keys, log_mod_rule, fetch_rule, with_late_entries, fetch_reply_rule, sync_report_rule}
 use Rattle.nz_machine.specs.Views.{enter_view, alarm_rule, view_ask_rule}
 use Rattle.nz_machine.specs.Adopting.{start_view_rule}
 use Rattle.nz_machine.specs.Begins.{begin, view_change_rule}
-use Rattle.nz_machine.specs.Rejoining.{crash_rule, restart_rule, vector_ask_rule, vector_tell_rule, rejoin_ask_rule, rejoin_tell_rule, state_ask_rule, state_tell_rule}
+use Rattle.nz_machine.specs.Rejoining.{crash_rule, restart_rule, vector_ask_rule, vector_tell_rule, rejoin_ask_rule}
+use Rattle.nz_machine.specs.Rejoining.{rejoin_tell_rule, state_ask_rule, state_tell_rule}
 use Rattle.nz_frame.specs.Grammar.{frame}
 use Rattle.nz_frame.specs.Refusal.{refusal}
 use Rattle.nz_msg.specs.Codec.{number_bytes, number_at, run_at, limited_at, optional_at, items_put, items_at}
@@ -31,12 +33,13 @@ use Rattle.nz_machine.specs.declared.data.Status.TheVariants.{Down}
 use Rattle.nz_machine.specs.declared.event.Event.TheVariants.{Tick, Alarm, Crash, Restart}
 use Rattle.nz_machine.specs.declared.event.Record.{Record}
 use Rattle.nz_machine.specs.declared.data.Phase.TheVariants as phases
-use Rattle.nz_machine.specs.Step.{heard}
+use Rattle.nz_machine.specs.Step.{envelope_for}
 use Rattle.nz_machine.specs.World.{state_after, World}
 use Rattle.nz_machine.specs.History.{history}
 use Rattle.nz_machine.specs.Incarnations.{replica_at, incarnation, own_counter, counter_at, completes, views_used, tell_source}
 use Rattle.nz_machine.specs.Begun.{start}
-use Rattle.nz_machine.proofs.WorkedRuns.{first_entry, holding, group, play, arrive, kinds_sent, come, all_tick, opened, stamped, spread, released, replied, accepted, played, came, is_accepted, never_restarted}
+use Rattle.nz_machine.proofs.WorkedRuns.{first_entry, holding, group, play, arrive, kinds_sent, come, all_tick, opened, stamped}
+use Rattle.nz_machine.proofs.WorkedRuns.{spread, released, replied, accepted, played, came, is_accepted, never_restarted}
 
 unfoldable pub alarmed : List Record
 alarmed = play accepted (Replica 2) Alarm
@@ -123,19 +126,61 @@ record IsAsWorked : Type 0 where
   history : history group strayed ≡ first_entry ∷ []
 
 as_worked : IsAsWorked
-unfolding alarmed down deaf back told_once counted first_asked second_asked viewed rejoined strayed play arrive come all_tick opened stamped spread released replied accepted state_after encode_of decode_of frame refusal number_bytes number_at run_at limited_at optional_at items_put items_at body_at heard incarnation start clock_rule wait_rule accept_rule stamp_rule reply_rule decision count_below key_bytes first_words schedule rounds compress hash_after digest_bytes sha1 apply apply_bytes store_from replies_from key_at value_at choice_at command_of command_body_at command_there request_rule release_rule releases sync_keys log_mod_rule fetch_rule kept_all fetch_reply_rule sync_report_rule enter_view alarm_rule view_ask_rule start_view_rule begin view_change_rule crash_rule restart_rule vector_ask_rule vector_tell_rule rejoin_ask_rule rejoin_tell_rule state_ask_rule state_tell_rule merged later
-as_worked = record { alarm_sends = refl; lost = refl; deaf_still = refl; deaf_sends = refl; back_sends = refl; one_is_too_few = refl; view_asks = refl; log_ask = refl; again = refl; known = refl; known_too = refl; came = refl; stray_stays = refl; stray_sends = refl; before = refl; after = refl; not_yet = refl; complete = refl; counter = refl; used = refl; answered_by = refl; known_counter = refl; begun = refl; history = refl }
+unfolding alarmed down deaf back told_once counted first_asked second_asked viewed rejoined strayed play arrive come
+    all_tick opened stamped spread released replied accepted state_after encode_of decode_of frame refusal number_bytes
+    number_at run_at limited_at optional_at items_put items_at body_at envelope_for incarnation start clock_rule wait_rule
+    accept_rule stamp_rule reply_rule decision count_below key_bytes first_words schedule rounds compress hash_after
+    digest_bytes sha1 apply apply_bytes store_from replies_from key_at value_at choice_at command_of reading.body_at
+    command_at request_rule release_rule releases sync_keys log_mod_rule fetch_rule with_late_entries fetch_reply_rule
+    sync_report_rule enter_view alarm_rule view_ask_rule start_view_rule begin view_change_rule crash_rule restart_rule
+    vector_ask_rule vector_tell_rule rejoin_ask_rule rejoin_tell_rule state_ask_rule state_tell_rule merged later_keys
+as_worked =
+    record {
+      alarm_sends = refl;
+      lost = refl;
+      deaf_still = refl;
+      deaf_sends = refl;
+      back_sends = refl;
+      one_is_too_few = refl;
+      view_asks = refl;
+      log_ask = refl;
+      again = refl;
+      known = refl;
+      known_too = refl;
+      came = refl;
+      stray_stays = refl;
+      stray_sends = refl;
+      before = refl;
+      after = refl;
+      not_yet = refl;
+      complete = refl;
+      counter = refl;
+      used = refl;
+      answered_by = refl;
+      known_counter = refl;
+      begun = refl;
+      history = refl;
+    }
 
 -- It is a run of the world.
 pub is_run : World group strayed
-unfolding alarmed down deaf back told_once counted first_asked second_asked viewed rejoined strayed play arrive come all_tick opened stamped spread released replied accepted state_after encode_of decode_of frame refusal number_bytes number_at run_at limited_at optional_at items_put items_at body_at heard incarnation start clock_rule wait_rule accept_rule stamp_rule reply_rule decision count_below key_bytes first_words schedule rounds compress hash_after digest_bytes sha1 apply apply_bytes store_from replies_from key_at value_at choice_at command_of command_body_at command_there request_rule release_rule releases sync_keys log_mod_rule fetch_rule kept_all fetch_reply_rule sync_report_rule enter_view alarm_rule view_ask_rule start_view_rule begin view_change_rule crash_rule restart_rule vector_ask_rule vector_tell_rule rejoin_ask_rule rejoin_tell_rule state_ask_rule state_tell_rule merged later
+unfolding alarmed down deaf back told_once counted first_asked second_asked viewed rejoined strayed play arrive come
+    all_tick opened stamped spread released replied accepted state_after encode_of decode_of frame refusal number_bytes
+    number_at run_at limited_at optional_at items_put items_at body_at envelope_for incarnation start clock_rule wait_rule
+    accept_rule stamp_rule reply_rule decision count_below key_bytes first_words schedule rounds compress hash_after
+    digest_bytes sha1 apply apply_bytes store_from replies_from key_at value_at choice_at command_of reading.body_at
+    command_at request_rule release_rule releases sync_keys log_mod_rule fetch_rule with_late_entries fetch_reply_rule
+    sync_report_rule enter_view alarm_rule view_ask_rule start_view_rule begin view_change_rule crash_rule restart_rule
+    vector_ask_rule vector_tell_rule rejoin_ask_rule rejoin_tell_rule state_ask_rule state_tell_rule merged later_keys
 is_run =
     let at_alarmed = played accepted (Replica 2) Alarm is_accepted (omega arith) tt in
     let at_deaf = played down (Replica 2) (Tick 14000) (played alarmed (Replica 2) Crash at_alarmed (omega arith) tt) (omega arith) (omega arith) in
     let at_back = played deaf (Replica 2) (Restart 7) at_deaf (omega arith) (omega arith, never_restarted deaf (Replica 2) 7 refl) in
     let zero = come 13 (Replica 2) (Replica 0) back in
     let one = come 13 (Replica 2) (Replica 1) zero in
-    let at_told = came 14 (Replica 0) (Replica 2) one (came 13 (Replica 2) (Replica 1) zero (came 13 (Replica 2) (Replica 0) back at_back (omega arith)) (omega arith)) (omega arith) in
+    let at_told =
+    came 14 (Replica 0) (Replica 2) one
+    (came 13 (Replica 2) (Replica 1) zero (came 13 (Replica 2) (Replica 0) back at_back (omega arith)) (omega arith)) (omega arith) in
     let at_counted = came 14 (Replica 1) (Replica 2) told_once at_told (omega arith) in
     let at_first = came 15 (Replica 2) (Replica 0) counted at_counted (omega arith) in
     let at_second = came 15 (Replica 2) (Replica 1) first_asked at_first (omega arith) in

@@ -16,7 +16,10 @@ use Rattle.nz_machine.specs.State.{ReplicaData, Out}
 use Rattle.nz_machine.specs.Replicas.{is_normal, is_rejoining, is_down, leads, crashed_replica, to_others, to_replica}
 use Rattle.nz_machine.specs.Vectors.{with_vector}
 use Rattle.nz_machine.specs.Adopting.{normal_in}
-use Rattle.nz_machine.specs.Rejoining.{crash_rule, restart_rule, restarted_replica, vector_ask, rejoin_ask, rejoin_tell, state_tell, vector_ask_rule, rejoin_ask_rule, state_ask_rule, is_phase, ask_again, ask_views, rejoin_timer, with_teller, with_new_counter, with_tells, with_tell, ask_log, latest_view, vector_tell_rule, rejoin_tell_rule, state_tell_rule}
+use Rattle.nz_machine.specs.Rejoining.{crash_rule, restart_rule, restarted_replica, vector_ask_message, rejoin_ask_message, rejoin_tell_message}
+use Rattle.nz_machine.specs.Rejoining.{state_tell_message, vector_ask_rule, rejoin_ask_rule, state_ask_rule, is_phase, ask_again}
+use Rattle.nz_machine.specs.Rejoining.{ask_views, rejoin_timer, with_teller, with_new_counter, with_tells, with_tell, ask_log}
+use Rattle.nz_machine.specs.Rejoining.{latest_view, vector_tell_rule, rejoin_tell_rule, state_tell_rule}
 use Rattle.nz_machine.specs.Hearing.{Heard}
 use Rattle.nz_machine.specs.Shows.{ReplicaShows}
 use Rattle.nz_machine.proofs.Runs.{on_cond}
@@ -34,9 +37,9 @@ pub restart_shows : (f me : ℕ) (heard : Heard) (s : ReplicaData) (nonce : ℕ)
 unfolding restart_rule
 restart_shows f me heard s nonce =
     let back = restarted_replica f nonce in
-    on_cond (Shown f me heard s) (is_down s.status) (back, to_others f me (vector_ask back)) (s, [])
+    on_cond (Shown f me heard s) (is_down s.status) (back, to_others f me (vector_ask_message back)) (s, [])
     (λ _. record {
-      shows = to_each f me (λ (o : Out). ReplicaShows f me heard s back o.0 o.1) (λ r. (Replica r, vector_ask back))
+      shows = to_each f me (λ (o : Out). ReplicaShows f me heard s back o.0 o.1) (λ r. (Replica r, vector_ask_message back))
           (λ r other. record { rejoining = refl; in_phase = refl; receiver = other; read = refl });
     })
     (λ _. silent f me heard s s)
@@ -45,7 +48,7 @@ ask_views_shows : (f me : ℕ) (heard : Heard) (before s : ReplicaData) → is_r
 ask_views_shows f me heard before s rejoining =
     let t = (ask_views f me s).0 in
     record {
-      shows = to_each f me (λ (o : Out). ReplicaShows f me heard before t o.0 o.1) (λ r. (Replica r, rejoin_ask t))
+      shows = to_each f me (λ (o : Out). ReplicaShows f me heard before t o.0 o.1) (λ r. (Replica r, rejoin_ask_message t))
           (λ r other. record { rejoining = rejoining; in_phase = refl; receiver = other; read = refl });
     }
 
@@ -53,12 +56,12 @@ again_shows : (f me : ℕ) (heard : Heard) (before s : ReplicaData) (p : Phase) 
     → Shown f me heard before (ask_again p f me s)
 again_shows f me heard before s phases.Vectors rejoining is =
     record {
-      shows = to_each f me (λ (o : Out). ReplicaShows f me heard before s o.0 o.1) (λ r. (Replica r, vector_ask s))
+      shows = to_each f me (λ (o : Out). ReplicaShows f me heard before s o.0 o.1) (λ r. (Replica r, vector_ask_message s))
           (λ r other. record { rejoining = rejoining; in_phase = ap (λ (p : Phase). is_phase p phases.Vectors) is; receiver = other; read = refl });
     }
 again_shows f me heard before s phases.Views rejoining is =
     record {
-      shows = to_each f me (λ (o : Out). ReplicaShows f me heard before s o.0 o.1) (λ r. (Replica r, rejoin_ask s))
+      shows = to_each f me (λ (o : Out). ReplicaShows f me heard before s o.0 o.1) (λ r. (Replica r, rejoin_ask_message s))
           (λ r other. record { rejoining = rejoining; in_phase = ap (λ (p : Phase). is_phase p phases.Views) is; receiver = other; read = refl });
     }
 again_shows f me heard before s phases.Log rejoining is = ask_views_shows f me heard before s rejoining
@@ -79,7 +82,7 @@ rejoin_ask_shows f me s sender b =
     let heard : Heard = Some (Replica sender, messages.RejoinAsk b) in
     let own = with_vector me s b.vector in
     let stay = silent f me heard s s in
-    let tell : is_normal s.status ≡ true → Shown f me heard s (own, to_replica sender (rejoin_tell own b.nonce))
+    let tell : is_normal s.status ≡ true → Shown f me heard s (own, to_replica sender (rejoin_tell_message own b.nonce))
     = λ normal. record { shows = (record { normal = normal; asker = sender; ask = b; hears = refl; receiver = refl; taken = refl; read = refl }, tt) } in
     grind (arith, stay, tell)
 
@@ -90,8 +93,24 @@ state_ask_shows f me s sender b =
     let heard : Heard = Some (Replica sender, messages.StateAsk b) in
     let own = with_vector me s b.vector in
     let stay = silent f me heard s s in
-    let tell : is_normal s.status ≡ true → leads f me s ≡ true → b.view ≤ s.view → Shown f me heard s (own, to_replica sender (state_tell own b.nonce))
-    = λ normal lead later. record { shows = (record { normal = normal; led = lead; asker = sender; ask = b; hears = refl; receiver = refl; later = later; taken = refl; read = refl }, tt) } in
+    let tell : is_normal s.status ≡ true → leads f me s ≡ true → b.view ≤ s.view → Shown f me heard s (own, to_replica sender (state_tell_message own b.nonce))
+    =
+    λ normal lead later. record {
+      shows = (
+        record {
+          normal = normal;
+          led = lead;
+          asker = sender;
+          ask = b;
+          hears = refl;
+          receiver = refl;
+          later = later;
+          taken = refl;
+          read = refl;
+        },
+        tt,
+      );
+    } in
     grind (arith, nat_tests, stay, tell)
 
 pub vector_tell_shows : (f me : ℕ) (heard : Heard) (s : ReplicaData) (sender : ℕ) (b : VectorTellBody) → Shown f me heard s (vector_tell_rule f me s sender b)

@@ -1,5 +1,6 @@
 -- What the rules of requests and releases send is what the states before and after show.
-use Rattle.std.proofs.Common.{◌≡◌, ℕ, ◌+◌, ◌-◌, ◌<◌, ◌&&◌, not, eqb, Bool, true, false, cond, List, [], ◌∷◌, ◌++◌, length, Option, Some, None, refl, sym, ap, subst, ◌∙◌, arith, ltb-true, append_assoc, length-append}
+use Rattle.std.proofs.Common.{◌≡◌, ℕ, ◌+◌, ◌-◌, ◌<◌, ◌&&◌, not, eqb, Bool, true, false, cond, List, [], ◌∷◌, ◌++◌, length}
+use Rattle.std.proofs.Common.{Option, Some, None, refl, sym, ap, subst, ◌∙◌, arith, ltb-true, append_assoc, length-append}
 use Rattle.std.specs.Prelude.{slice_get, nat_lt, min}
 use Rattle.std.specs.Map.{lookup}
 use Rattle.std.proofs.lemmas.Bool.{not-true}
@@ -21,16 +22,16 @@ use Rattle.nz_machine.specs.declared.data.Status.{Status}
 use Rattle.nz_machine.specs.declared.data.Status.TheVariants.{Normal, ViewChange, Rejoining, Down}
 use Rattle.nz_machine.specs.State.{ReplicaData, Out}
 use Rattle.nz_machine.specs.Replicas.{is_normal, is_changing, is_up, is_rejoining, leads, fast_replies, slow_replies}
-use Rattle.nz_machine.specs.Requests.{with_origin, replies_at, requested, unlogged, request_rule}
-use Rattle.nz_machine.specs.Releases.{appended, executed, released, release_replies, may_release, releases, at_clock, release_rule}
+use Rattle.nz_machine.specs.Requests.{with_origin, replies_at, after_timed, after_new_request, request_rule}
+use Rattle.nz_machine.specs.Releases.{log_with_entry, results_with_entry, after_release, release_replies, may_release, releases, at_clock, release_rule}
 use Rattle.nz_machine.specs.LogMods.{log_mods_to_others}
 use Rattle.nz_machine.specs.Views.{enter_view, most_quiet}
 use Rattle.nz_machine.specs.Step.{mode_timer, tick_rule}
 use Rattle.nz_machine.specs.Hearing.{Heard}
 use Rattle.nz_machine.specs.Shows.{ReplicaShows}
 use Rattle.nz_machine.proofs.Runs.{on_cond}
-use Rattle.nz_machine.proofs.Each.{all_append}
-use Rattle.nz_machine.proofs.Placed.{get_kept, place_kept, place_within, digest_kept, place_at_end}
+use Rattle.nz_machine.proofs.EachItem.{all_append}
+use Rattle.nz_machine.proofs.LogPlaces.{get_kept, place_kept, place_within, digest_kept, place_at_end}
 use Rattle.nz_machine.proofs.Shows.{AllShow, Shown, silent, log_mods_show}
 use Rattle.nz_machine.proofs.ViewsShow.{quiet_shows, change_shows}
 use Rattle.nz_machine.proofs.RejoinsShow.{rejoin_shows}
@@ -91,8 +92,20 @@ pub slow_shows : (f me : ℕ) (heard : Heard) (before s : ReplicaData) (id : Id)
     → leads f me s ≡ false → place_of s.log.entries id ≡ Some place → place < s.log.synced
     → lookup (id_eq id) s.origin ≡ o → AllShow f me heard before s (slow_replies s id o)
 slow_shows f me heard before s id place None normal follows at synced known = tt
-slow_shows f me heard before s id place (Some origin) normal follows at synced known =
-    (record { normal = normal; follows = follows; place = place; stands = at; synced = synced; origin = origin; known = known; receiver = refl; read = refl }, tt)
+slow_shows f me heard before s id place (Some origin) normal follows at synced known = (
+  record {
+    normal = normal;
+    follows = follows;
+    place = place;
+    stands = at;
+    synced = synced;
+    origin = origin;
+    known = known;
+    receiver = refl;
+    read = refl;
+  },
+  tt,
+)
 
 -- ---- requests
 
@@ -100,7 +113,7 @@ pub request_shows : (f me : ℕ) (heard : Heard) (s : ReplicaData) (proxy : ℕ)
     → Shown f me heard s (request_rule f me s proxy b)
 unfolding request_rule
 request_shows f me heard s proxy b a =
-    on_cond (Shown f me heard s) (is_normal s.status) (requested f me own b (place_of s.log.entries b.id)) (s, [])
+    on_cond (Shown f me heard s) (is_normal s.status) (after_timed f me own b (place_of s.log.entries b.id)) (s, [])
     (λ normal. found normal (place_of s.log.entries b.id) refl) (λ _. silent f me heard s s)
   where
     own : ReplicaData
@@ -116,30 +129,39 @@ request_shows f me heard s proxy b a =
         let synced = ltb-true place s.log.synced (and_right (not (leads f me s)) (nat_lt place s.log.synced) t) in
         slow_shows f me heard s own b.id place origin normal follows at synced refl)
         (λ _. fast_shows f me heard s own own b.id place origin normal
-        (record { log = prefix_self s.log.entries; results = prefix_self s.results; vector = refl; origin = refl; view = refl; last = a.last normal; up = normal_up s.status normal; led = λ _. (normal, refl) })
+        (record {
+          log = prefix_self s.log.entries;
+          results = prefix_self s.results;
+          vector = refl;
+          origin = refl;
+          view = refl;
+          last = a.last normal;
+          up = normal_up s.status normal;
+          led = λ _. (normal, refl);
+        })
         at (λ lead. let lt = place_within s.log.entries b.id place at in let n = a.count normal lead in omega (arith, lt, n)) refl)
 
-    found : is_normal s.status ≡ true → (o : Option ℕ) → place_of s.log.entries b.id ≡ o → Shown f me heard s (requested f me own b o)
-    found normal None at = silent f me heard s (unlogged f me own b)
+    found : is_normal s.status ≡ true → (o : Option ℕ) → place_of s.log.entries b.id ≡ o → Shown f me heard s (after_timed f me own b o)
+    found normal None at = silent f me heard s (after_new_request f me own b)
     found normal (Some place) at = record { shows = replies normal place at }
 
 -- ---- releases
 
-appended_is : (b : Bool) (log : Log) (e : Entry) → (appended b log e).entries ≡ log.entries ++ e ∷ []
+appended_is : (b : Bool) (log : Log) (e : Entry) → (log_with_entry b log e).entries ≡ log.entries ++ e ∷ []
 appended_is true log e = refl
 appended_is false log e = refl
 
-executed_more : (b : Bool) (results : List Answer) (es : List Entry) (e : Entry) → IsPrefix results (executed b results es e)
+executed_more : (b : Bool) (results : List Answer) (es : List Entry) (e : Entry) → IsPrefix results (results_with_entry b results es e)
 executed_more true results es e = prefix_more results _
 executed_more false results es e = prefix_self results
 
-executed_one : (b : Bool) (results : List Answer) (es : List Entry) (e : Entry) → b ≡ true → length (executed b results es e) ≡ length results + 1
+executed_one : (b : Bool) (results : List Answer) (es : List Entry) (e : Entry) → b ≡ true → length (results_with_entry b results es e) ≡ length results + 1
 executed_one true results es e h = length-append results _
 executed_one false results es e h = absurd cc
 
-released_later : (f me : ℕ) (before s t : ReplicaData) (e : Entry) (es : List Entry) → Later f me before (released f me s e es) t → Later f me before s t
+released_later : (f me : ℕ) (before s t : ReplicaData) (e : Entry) (es : List Entry) → Later f me before (after_release f me s e es) t → Later f me before s t
 released_later f me before s t e es l =
-    let next = released f me s e es in
+    let next = after_release f me s e es in
     record {
       log = prefix_then s.log.entries next.log.entries t.log.entries (record { rest = e ∷ []; whole = appended_is (leads f me s) s.log e }) l.log;
       results = prefix_then s.results next.results t.results (executed_more (leads f me s) s.results s.log.entries e) l.results;
@@ -155,22 +177,22 @@ releases_later : (f me : ℕ) (before s t : ReplicaData) (es : List Entry) → L
 unfolding releases
 releases_later f me before s t [] l = l
 releases_later f me before s t (e ∷ es) l =
-    let next = released f me s e es in
+    let next = after_release f me s e es in
     on_cond (λ (x : ReplicaData × List Out). Later f me before x.0 t → Later f me before s t) (may_release s e) _ (s, [])
     (λ _ l. released_later f me before s t e es (releases_later f me before next t es l)) (λ _ l. l) l
 
 -- once it is released, an entry is last, and the ids are those of before
 released_own : (f me : ℕ) (s : ReplicaData) (e : Entry) (es : List Entry) → HaveOwnIds (keys_of (s.log.entries ++ e ∷ es))
-    → HaveOwnIds (keys_of ((released f me s e es).log.entries ++ es))
+    → HaveOwnIds (keys_of ((after_release f me s e es).log.entries ++ es))
 released_own f me s e es own =
     let grown = ap (λ (l : List Entry). l ++ es) (sym (appended_is (leads f me s) s.log e)) in
     subst (λ (l : List Entry). HaveOwnIds (keys_of l)) (sym (append_assoc s.log.entries (e ∷ []) es) ∙ grown) own
 
-released_stands : (f me : ℕ) (s : ReplicaData) (e : Entry) (es : List Entry) → HaveOwnIds (keys_of ((released f me s e es).log.entries ++ es))
-    → place_of (released f me s e es).log.entries (id_of e.key) ≡ Some (length (released f me s e es).log.entries - 1)
+released_stands : (f me : ℕ) (s : ReplicaData) (e : Entry) (es : List Entry) → HaveOwnIds (keys_of ((after_release f me s e es).log.entries ++ es))
+    → place_of (after_release f me s e es).log.entries (id_of e.key) ≡ Some (length (after_release f me s e es).log.entries - 1)
 released_stands f me s e es own =
     let is = appended_is (leads f me s) s.log e in
-    let entries = (released f me s e es).log.entries in
+    let entries = (after_release f me s e es).log.entries in
     let own_log = own_front (keys_of entries) (keys_of es) (subst HaveOwnIds (keys_append entries es) own) in
     let last = place_at_end s.log.entries e (subst (λ (l : List Entry). HaveOwnIds (keys_of l)) is own_log) in
     let long = length-append s.log.entries (e ∷ []) in
@@ -183,7 +205,7 @@ releases_show : (f me : ℕ) (heard : Heard) (before s t : ReplicaData) (es : Li
 unfolding releases
 releases_show f me heard before s t [] normal l own answered = tt
 releases_show f me heard before s t (e ∷ es) normal l own answered =
-    let next = released f me s e es in
+    let next = after_release f me s e es in
     on_cond (λ (x : ReplicaData × List Out). Later f me before x.0 t → AllShow f me heard before t x.1) (may_release s e) _ (s, [])
     (λ _ l.
     let now = releases_later f me before next t es l in
@@ -222,7 +244,7 @@ mode s = (s.status, (s.view, s.last))
 releases_mode : (f me : ℕ) (s : ReplicaData) (es : List Entry) → mode (releases f me s es).0 ≡ mode s
 unfolding releases
 releases_mode f me s [] = refl
-releases_mode f me s (e ∷ es) = let rest = releases_mode f me (released f me s e es) es in grind (arith, rest)
+releases_mode f me s (e ∷ es) = let rest = releases_mode f me (after_release f me s e es) es in grind (arith, rest)
 
 -- the state in which the releases end, and that after the timer
 timer_later : (f me : ℕ) (before t : ReplicaData) (a : Status) → t.status ≡ a → is_normal t.status ≡ true → t.view ≡ before.view → t.last ≡ before.view

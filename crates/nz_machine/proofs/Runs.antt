@@ -1,5 +1,6 @@
 -- What a record does to the states, and the theorem that what each step keeps holds of every run.
-use Rattle.std.proofs.Common.{◌≡◌, ℕ, ◌≤◌, ◌<◌, ◌^◌, Bool, true, false, cond, ◌&&◌, not, List, [], ◌∷◌, ◌++◌, map, Option, Some, None, Ok, refl, sym, ap, subst, ◌∙◌, inl, inr, ◌⊎◌}
+use Rattle.std.proofs.Common.{◌≡◌, ℕ, ◌≤◌, ◌<◌, ◌^◌, Bool, true, false, cond, ◌&&◌, not, List, [], ◌∷◌, ◌++◌}
+use Rattle.std.proofs.Common.{map, Option, Some, None, Ok, refl, sym, ap, subst, ◌∙◌, inl, inr, ◌⊎◌}
 use Rattle.std.specs.List.{AllByRecursion}
 use Rattle.nz_base.specs.declared.actor.Actor.{Actor}
 use Rattle.nz_base.specs.Actor.{actor_eq, HasAddress}
@@ -16,13 +17,15 @@ use Rattle.nz_machine.specs.declared.event.Event.TheVariants.{Deliver, Cut, Tick
 use Rattle.nz_machine.specs.declared.event.Record.{Record}
 use Rattle.nz_machine.specs.State.{ReplicaData, State, Group, Out}
 use Rattle.nz_machine.specs.Replicas.{last_clock, is_down}
-use Rattle.nz_machine.specs.Step.{first, is_in_cluster, is_sized, vector_of, is_for, heard_if, heard, counted, received, message_step, envelope_step, tick_step, alarm_step, crash_step, restart_step, event_step, parcel}
+use Rattle.nz_machine.specs.Step.{first, is_in_cluster, is_sized, message_vector, is_for, envelope_if_for, envelope_for, if_from_cluster}
+use Rattle.nz_machine.specs.Step.{accepted_envelope, message_step, envelope_step, tick_step, alarm_step, crash_step, restart_step, event_step, parcel}
 use Rattle.nz_machine.specs.World.{state_after, sent_in, Has, IsGroup, MayHappen, World}
-use Rattle.nz_machine.proofs.Each.{all_imply}
+use Rattle.nz_machine.proofs.EachItem.{all_imply}
 
 -- ---- states
 
-pub acts : (g : Group) (a : Actor) (r : Record) (J : List Record) → actor_eq r.actor a ≡ true → state_after g a (r ∷ J) ≡ (event_step g a (state_after g a J) r.event).0
+pub acts : (g : Group) (a : Actor) (r : Record) (J : List Record) → actor_eq r.actor a ≡ true
+    → state_after g a (r ∷ J) ≡ (event_step g a (state_after g a J) r.event).0
 unfolding state_after
 acts g a r J e = ap (λ b. cond b (event_step g a (state_after g a J) r.event).0 (state_after g a J)) e
 
@@ -31,7 +34,8 @@ unfolding state_after
 stays g a r J e = ap (λ b. cond b (event_step g a (state_after g a J) r.event).0 (state_after g a J)) e
 
 -- the actor of a record acts
-pub acts_itself : (g : Group) (a : Actor) (r : Record) (J : List Record) → r.actor ≡ a → state_after g a (r ∷ J) ≡ (event_step g a (state_after g a J) r.event).0
+pub acts_itself : (g : Group) (a : Actor) (r : Record) (J : List Record) → r.actor ≡ a
+    → state_after g a (r ∷ J) ≡ (event_step g a (state_after g a J) r.event).0
 acts_itself g a r J e = acts g a r J (ap (λ (x : Actor). actor_eq x a) e ∙ actor_eq_self a)
 
 -- a record is of the actor, or leaves its state
@@ -110,7 +114,8 @@ pub record Sent (P : Actor → Out → Type 0) (p : Parcel) : Type 0 where
   pub is : p ≡ parcel by out
   pub has : P by out
 
-pub sent_from : (P : Actor → Out → Type 0) (J : List Record) (p : Parcel) → AllByRecursion (λ (r : Record). AreOf (P r.actor) r.actor r.sends) J → Has (sent_in J) p → Sent P p
+pub sent_from : (P : Actor → Out → Type 0) (J : List Record) (p : Parcel)
+    → AllByRecursion (λ (r : Record). AreOf (P r.actor) r.actor r.sends) J → Has (sent_in J) p → Sent P p
 sent_from P [] p all h = absurd h
 sent_from P (r ∷ J) p all h = elim (has_split r.sends (sent_in J) p h) [
   | inl now ↦
@@ -133,33 +138,38 @@ AllFit a os = AllByRecursion (FitsOut a) os
 -- an actor takes the message: it is another's, and it counts in a cluster of this size
 pub record Hears (f : ℕ) (me from : Actor) (m : Message) : Type 0 where
   pub other : not (actor_eq from me) ≡ true
-  pub counts : (is_in_cluster f from && is_sized f (vector_of m)) ≡ true
+  pub counts : (is_in_cluster f from && is_sized f (message_vector m)) ≡ true
 
 pub record IsHeard (f : ℕ) (me : Actor) (e : Envelope) (x : Option Envelope) : Type 0 where
   pub is : x ≡ Some e
   pub hears : Hears f me e.from e.message
 
-counted_is : (f : ℕ) (a : Actor) (p : Parcel) (e : Envelope) (b c : Bool) → is_for a p e ≡ b → (is_in_cluster f e.from && is_sized f (vector_of e.message)) ≡ c
-    → (counted f (heard_if a p (Ok e)) ≡ None) ⊎ IsHeard f a e (counted f (heard_if a p (Ok e)))
-counted_is f a p e false c h k = inl (ap (λ b. counted f (cond b (Some e) None)) h)
-counted_is f a p e true false h k = inl (ap (λ b. counted f (cond b (Some e) None)) h ∙ ap (λ c. cond c (Some e) None) k)
+counted_is : (f : ℕ) (a : Actor) (p : Parcel) (e : Envelope) (b c : Bool) → is_for a p e ≡ b
+    → (is_in_cluster f e.from && is_sized f (message_vector e.message)) ≡ c
+    → (if_from_cluster f (envelope_if_for a p (Ok e)) ≡ None) ⊎ IsHeard f a e (if_from_cluster f (envelope_if_for a p (Ok e)))
+counted_is f a p e false c h k = inl (ap (λ b. if_from_cluster f (cond b (Some e) None)) h)
+counted_is f a p e true false h k = inl (ap (λ b. if_from_cluster f (cond b (Some e) None)) h ∙ ap (λ c. cond c (Some e) None) k)
 counted_is f a p e true true h k = inr (record {
-  is = ap (λ b. counted f (cond b (Some e) None)) h ∙ ap (λ c. cond c (Some e) None) k;
+  is = ap (λ b. if_from_cluster f (cond b (Some e) None)) h ∙ ap (λ c. cond c (Some e) None) k;
   hears = record {
-    other = and_right (actor_eq e.to a) (not (actor_eq e.from a)) (and_right (actor_eq e.to p.to) (actor_eq e.to a && not (actor_eq e.from a)) (and_right (actor_eq e.from p.from) (actor_eq e.to p.to && (actor_eq e.to a && not (actor_eq e.from a))) h));
+    other =
+        and_right (actor_eq e.to a) (not (actor_eq e.from a))
+        (and_right (actor_eq e.to p.to) (actor_eq e.to a && not (actor_eq e.from a))
+        (and_right (actor_eq e.from p.from) (actor_eq e.to p.to && (actor_eq e.to a && not (actor_eq e.from a))) h));
     counts = k;
   };
 })
 
 -- a parcel of a message that fits is read as that message, if it is read at all
 pub received_is : (f : ℕ) (a by : Actor) (o : Out) → FitsOut by o
-    → (received f a (parcel by o) ≡ None) ⊎ IsHeard f a (record { from = by; to = o.0; message = o.1 }) (received f a (parcel by o))
-unfolding heard
+    → (accepted_envelope f a (parcel by o) ≡ None) ⊎ IsHeard f a (record { from = by; to = o.0; message = o.1 }) (accepted_envelope f a (parcel by o))
+unfolding envelope_for
 received_is f a by o fit =
     let e : Envelope = record { from = by; to = o.0; message = o.1 } in
     let d : decode_of (encode_of by o.0 o.1) ≡ Ok e = decode-encode by o.0 o.1 fit.sender fit.receiver fit.message in
-    let same : received f a (parcel by o) ≡ counted f (heard_if a (parcel by o) (Ok e)) = ap (λ x. counted f (heard_if a (parcel by o) x)) d in
-    elim (counted_is f a (parcel by o) e (is_for a (parcel by o) e) (is_in_cluster f by && is_sized f (vector_of o.1)) refl refl) [
+    let same : accepted_envelope f a (parcel by o) ≡ if_from_cluster f (envelope_if_for a (parcel by o) (Ok e)) =
+    ap (λ x. if_from_cluster f (envelope_if_for a (parcel by o) x)) d in
+    elim (counted_is f a (parcel by o) e (is_for a (parcel by o) e) (is_in_cluster f by && is_sized f (message_vector o.1)) refl refl) [
       | inl n ↦ inl (same ∙ n)
       | inr y ↦ inr (record { is = same ∙ y.is; hears = y.hears })
     ]
@@ -181,7 +191,8 @@ module _ (g : Group) (P : List Record → Actor → Out → Type 0) (Q : List Re
     pub start : (a : Actor) → Q [] a (first g a)
     pub sent_stays : (J : List Record) (r : Record) → World g (r ∷ J) → (a : Actor) (o : Out) → P J a o → P (r ∷ J) a o
     pub state_stays : (J : List Record) (r : Record) → World g (r ∷ J) → (a : Actor) (s : State a) → Q J a s → Q (r ∷ J) a s
-    pub message : (J : List Record) (r : Record) → World g (r ∷ J) → (from : Actor) (m : Message) → Hears g.f r.actor from m → P J from (r.actor, m) → Q J r.actor (state_after g r.actor J)
+    pub message : (J : List Record) (r : Record) → World g (r ∷ J) → (from : Actor) (m : Message)
+        → Hears g.f r.actor from m → P J from (r.actor, m) → Q J r.actor (state_after g r.actor J)
         → state_after g r.actor (r ∷ J) ≡ (message_step g r.actor (state_after g r.actor J) from m).0
         → StepHas (r ∷ J) r.actor (message_step g r.actor (state_after g r.actor J) from m)
     pub tick : (J : List Record) (r : Record) → World g (r ∷ J) → (c : ℕ) → c ≤ last_clock → Q J r.actor (state_after g r.actor J)
@@ -209,10 +220,10 @@ module _ (g : Group) (P : List Record → Actor → Out → Type 0) (Q : List Re
   abbrev pub Reads : List Record → Actor → Option Envelope → Type 0
   Reads J a x = (x ≡ None) ⊎ ReadsMessage J a x
 
-  reads_sent : (J : List Record) (a : Actor) (q : Parcel) → q.to ≡ a → (s : Sent (P J) q) → FitsOut s.by s.out → Reads J a (received g.f a q)
+  reads_sent : (J : List Record) (a : Actor) (q : Parcel) → q.to ≡ a → (s : Sent (P J) q) → FitsOut s.by s.out → Reads J a (accepted_envelope g.f a q)
   reads_sent J a q e s fit =
       let to : s.out.0 ≡ a = sym (ap (λ (x : Parcel). x.to) s.is) ∙ e in
-      let same = ap (received g.f a) s.is in
+      let same = ap (accepted_envelope g.f a) s.is in
       elim (received_is g.f a s.by s.out fit) [
         | inl n ↦ inl (same ∙ n)
         | inr y ↦ inr (record {
@@ -224,7 +235,7 @@ module _ (g : Group) (P : List Record → Actor → Out → Type 0) (Q : List Re
         })
       ]
 
-  pub delivered : Keeps → (J : List Record) → Holds J → (a : Actor) (q : Parcel) → MayHappen J a (Deliver q) → Reads J a (received g.f a q)
+  pub delivered : Keeps → (J : List Record) → Holds J → (a : Actor) (q : Parcel) → MayHappen J a (Deliver q) → Reads J a (accepted_envelope g.f a q)
   delivered k J h a q may = let s = sent_from (P J) J q h.sends may.1 in reads_sent J a q may.0 s (k.fits J s.by s.out s.has)
 
   envelope_keeps : Keeps → (J : List Record) (r : Record) → World g (r ∷ J) → Q J r.actor (state_after g r.actor J) → (x : Option Envelope) → Reads J r.actor x
@@ -239,17 +250,19 @@ module _ (g : Group) (P : List Record → Actor → Out → Type 0) (Q : List Re
   event_keeps : Keeps → (J : List Record) (r : Record) → World g (r ∷ J) → Holds J → (e : Event) → MayHappen J r.actor e
       → state_after g r.actor (r ∷ J) ≡ (event_step g r.actor (state_after g r.actor J) e).0
       → StepHas (r ∷ J) r.actor (event_step g r.actor (state_after g r.actor J) e)
-  event_keeps k J r w h (Deliver q) may now = envelope_keeps k J r w (h.states r.actor) (received g.f r.actor q) (delivered k J h r.actor q may) now
+  event_keeps k J r w h (Deliver q) may now = envelope_keeps k J r w (h.states r.actor) (accepted_envelope g.f r.actor q) (delivered k J h r.actor q may) now
   event_keeps k J r w h (Cut q kept) may now = (k.state_stays J r w r.actor _ (h.states r.actor), tt)
   event_keeps k J r w h (Tick c) may now = k.tick J r w c may (h.states r.actor) now
   event_keeps k J r w h Alarm may now = k.alarm J r w (h.states r.actor) now
   event_keeps k J r w h Crash may now = k.crash J r w (h.states r.actor) now
   event_keeps k J r w h (Restart n) may now = k.restart J r w n may.0 (h.states r.actor) now
 
-  state_keeps : Keeps → (J : List Record) (r : Record) → World g (r ∷ J) → Holds J → Q (r ∷ J) r.actor (event_step g r.actor (state_after g r.actor J) r.event).0
+  state_keeps : Keeps → (J : List Record) (r : Record) → World g (r ∷ J) → Holds J
+      → Q (r ∷ J) r.actor (event_step g r.actor (state_after g r.actor J) r.event).0
       → (a : Actor) (b : Bool) → actor_eq r.actor a ≡ b → Q (r ∷ J) a (state_after g a (r ∷ J))
   state_keeps k J r w h q a true e =
-      let at_actor : Q (r ∷ J) r.actor (state_after g r.actor (r ∷ J)) = subst (λ s. Q (r ∷ J) r.actor s) (sym (acts g r.actor r J (actor_eq_self r.actor))) q in
+      let at_actor : Q (r ∷ J) r.actor (state_after g r.actor (r ∷ J)) =
+      subst (λ s. Q (r ∷ J) r.actor s) (sym (acts g r.actor r J (actor_eq_self r.actor))) q in
       subst (λ (x : Actor). Q (r ∷ J) x (state_after g x (r ∷ J))) (same_actor r.actor a e) at_actor
   state_keeps k J r w h q a false e = subst (λ s. Q (r ∷ J) a s) (sym (stays g a r J e)) (k.state_stays J r w a _ (h.states a))
 
@@ -269,7 +282,8 @@ module _ (g : Group) (P : List Record → Actor → Out → Type 0) (Q : List Re
       }
 
   -- what a record sends
-  pub sends_have : Keeps → (J : List Record) (r : Record) → World g (r ∷ J) → AllByRecursion (P (r ∷ J) r.actor) (event_step g r.actor (state_after g r.actor J) r.event).1
+  pub sends_have : Keeps → (J : List Record) (r : Record) → World g (r ∷ J)
+      → AllByRecursion (P (r ∷ J) r.actor) (event_step g r.actor (state_after g r.actor J) r.event).1
   sends_have k J r w = (event_keeps k J r w (holds k J w.1) r.event w.0.event (acts g r.actor r J (actor_eq_self r.actor))).1
 
 -- ---- a second law over a first
@@ -279,11 +293,13 @@ module _ (g : Group) (P : List Record → Actor → Out → Type 0) (Q : List Re
     pub start : (a : Actor) → R [] a (first g a)
     pub sent_stays : (J : List Record) (r : Record) → World g (r ∷ J) → (a : Actor) (o : Out) → F J a o → F (r ∷ J) a o
     pub state_stays : (J : List Record) (r : Record) → World g (r ∷ J) → (a : Actor) (s : State a) → R J a s → R (r ∷ J) a s
-    pub message : (J : List Record) (r : Record) → World g (r ∷ J) → (from : Actor) (m : Message) → Hears g.f r.actor from m → P J from (r.actor, m) → F J from (r.actor, m)
+    pub message : (J : List Record) (r : Record) → World g (r ∷ J) → (from : Actor) (m : Message)
+        → Hears g.f r.actor from m → P J from (r.actor, m) → F J from (r.actor, m)
         → Q J r.actor (state_after g r.actor J) → R J r.actor (state_after g r.actor J)
         → state_after g r.actor (r ∷ J) ≡ (message_step g r.actor (state_after g r.actor J) from m).0
         → StepHas g F R (r ∷ J) r.actor (message_step g r.actor (state_after g r.actor J) from m)
-    pub tick : (J : List Record) (r : Record) → World g (r ∷ J) → (c : ℕ) → c ≤ last_clock → Q J r.actor (state_after g r.actor J) → R J r.actor (state_after g r.actor J)
+    pub tick : (J : List Record) (r : Record) → World g (r ∷ J) → (c : ℕ) → c ≤ last_clock
+        → Q J r.actor (state_after g r.actor J) → R J r.actor (state_after g r.actor J)
         → state_after g r.actor (r ∷ J) ≡ (tick_step g r.actor (state_after g r.actor J) c).0
         → StepHas g F R (r ∷ J) r.actor (tick_step g r.actor (state_after g r.actor J) c)
     pub alarm : (J : List Record) (r : Record) → World g (r ∷ J) → Q J r.actor (state_after g r.actor J) → R J r.actor (state_after g r.actor J)
@@ -292,7 +308,8 @@ module _ (g : Group) (P : List Record → Actor → Out → Type 0) (Q : List Re
     pub crash : (J : List Record) (r : Record) → World g (r ∷ J) → Q J r.actor (state_after g r.actor J) → R J r.actor (state_after g r.actor J)
         → state_after g r.actor (r ∷ J) ≡ (crash_step g r.actor (state_after g r.actor J)).0
         → StepHas g F R (r ∷ J) r.actor (crash_step g r.actor (state_after g r.actor J))
-    pub restart : (J : List Record) (r : Record) → World g (r ∷ J) → (nonce : ℕ) → nonce < 2 ^ 64 → Q J r.actor (state_after g r.actor J) → R J r.actor (state_after g r.actor J)
+    pub restart : (J : List Record) (r : Record) → World g (r ∷ J) → (nonce : ℕ) → nonce < 2 ^ 64
+        → Q J r.actor (state_after g r.actor J) → R J r.actor (state_after g r.actor J)
         → state_after g r.actor (r ∷ J) ≡ (restart_step g r.actor (state_after g r.actor J) nonce).0
         → StepHas g F R (r ∷ J) r.actor (restart_step g r.actor (state_after g r.actor J) nonce)
 
@@ -315,7 +332,9 @@ module _ (g : Group) (P : List Record → Actor → Out → Type 0) (Q : List Re
     start = λ a. (k.start a, m.start a);
     sent_stays = λ J r w a o p. (k.sent_stays J r w a o p.0, m.sent_stays J r w a o p.1);
     state_stays = λ J r w a s q. (k.state_stays J r w a s q.0, m.state_stays J r w a s q.1);
-    message = λ J r w from msg hears p q now. both_steps (r ∷ J) r.actor _ (k.message J r w from msg hears p.0 q.0 now) (m.message J r w from msg hears p.0 p.1 q.0 q.1 now);
+    message =
+        λ J r w from msg hears p q now. both_steps (r ∷ J) r.actor _ (k.message J r w from msg hears p.0 q.0 now)
+        (m.message J r w from msg hears p.0 p.1 q.0 q.1 now);
     tick = λ J r w c le q now. both_steps (r ∷ J) r.actor _ (k.tick J r w c le q.0 now) (m.tick J r w c le q.0 q.1 now);
     alarm = λ J r w q now. both_steps (r ∷ J) r.actor _ (k.alarm J r w q.0 now) (m.alarm J r w q.0 q.1 now);
     crash = λ J r w q now. both_steps (r ∷ J) r.actor _ (k.crash J r w q.0 now) (m.crash J r w q.0 q.1 now);

@@ -9,10 +9,10 @@ use Rattle.nz_machine.specs.State.{ReplicaData, Out}
 use Rattle.nz_machine.specs.Replicas.{is_normal, leads, numbers_below, others}
 use Rattle.nz_machine.specs.LogMods.{log_mod_to, log_mods_to_others}
 use Rattle.nz_machine.specs.Hearing.{Heard}
-use Rattle.nz_machine.specs.Shows.{IsOther, told_from, ReplicaShows}
+use Rattle.nz_machine.specs.Shows.{IsOther, log_mod_from, ReplicaShows}
 use Rattle.nz_machine.proofs.Runs.{on_cond}
-use Rattle.nz_machine.proofs.Each.{all_append}
-use Rattle.nz_machine.proofs.Pieces.{all_map}
+use Rattle.nz_machine.proofs.EachItem.{all_append}
+use Rattle.nz_machine.proofs.ListParts.{all_map}
 
 module _ (f me : ℕ) where
   abbrev pub AllShow : Heard → ReplicaData → ReplicaData → List Out → Type 0
@@ -63,6 +63,6 @@ log_mods_show f me heard before s normal lead =
     record {
       shows = to_each f me (λ (o : Out). ReplicaShows f me heard before s o.0 o.1) (log_mod_to s)
           (λ r other.
-          let read = ap (λ n. told_from s (slice_index s.ack n)) (same_replica r other.replica other.is) in
+          let read = ap (λ n. log_mod_from s (slice_index s.ack n)) (same_replica r other.replica other.is) in
           record { normal = normal; led = lead; receiver = other; read = read });
     }

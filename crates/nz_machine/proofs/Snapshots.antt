@@ -1,5 +1,6 @@
 -- What an actor sends in a step is what its states before and after show.
-use Rattle.std.proofs.Common.{◌≡◌, ℕ, ◌≤◌, ◌&&◌, not, Bool, true, false, cond, List, [], ◌∷◌, ◌++◌, length, Option, Some, None, Result, Ok, Err, refl, sym, ap, subst, ◌∙◌, arith, append_assoc, ltb-true}
+use Rattle.std.proofs.Common.{◌≡◌, ℕ, ◌≤◌, ◌&&◌, not, Bool, true, false, cond, List, [], ◌∷◌, ◌++◌, length, Option, Some}
+use Rattle.std.proofs.Common.{None, Result, Ok, Err, refl, sym, ap, subst, ◌∙◌, arith, append_assoc, ltb-true}
 use Rattle.std.specs.List.{AllByRecursion}
 use Rattle.std.proofs.lemmas.Bool.{not-true}
 use Rattle.nz_base.specs.Actor.{actor_eq}
@@ -23,13 +24,16 @@ use Rattle.nz_machine.specs.State.{ReplicaData, State, Group, Out}
 use Rattle.nz_machine.specs.Facts.{HasFacts}
 use Rattle.nz_machine.specs.Replicas.{is_down, commands}
 use Rattle.nz_machine.specs.Proxies.{clock_rule}
-use Rattle.nz_machine.specs.Step.{is_in_cluster, is_sized, vector_of, is_for, heard_if, heard, counted, script_of, replica_message, proxy_message, received, message_step, envelope_step, tick_rule, tick_step, alarm_step, crash_step, restart_step, event_step}
+use Rattle.nz_machine.specs.Step.{is_in_cluster, is_sized, message_vector, is_for, envelope_if_for, envelope_for, if_from_cluster}
+use Rattle.nz_machine.specs.Step.{script_of, replica_message, proxy_message, accepted_envelope, message_step, envelope_step}
+use Rattle.nz_machine.specs.Step.{tick_rule, tick_step, alarm_step, crash_step, restart_step, event_step}
 use Rattle.nz_machine.specs.Hearing.{Heard, heard_as, heard_at}
 use Rattle.nz_machine.specs.Shows.{IsOther, Shows}
 use Rattle.nz_machine.proofs.Runs.{Hears, on_cond}
 use Rattle.nz_machine.proofs.Shows.{Shown, silent}
 use Rattle.nz_machine.proofs.ViewsShow.{alarm_shows, view_ask_shows, start_view_silent, view_change_shows}
-use Rattle.nz_machine.proofs.RejoinsShow.{crash_silent, restart_shows, vector_ask_shows, vector_tell_shows, rejoin_ask_shows, rejoin_tell_shows, state_ask_shows, state_tell_silent}
+use Rattle.nz_machine.proofs.RejoinsShow.{crash_silent, restart_shows, vector_ask_shows, vector_tell_shows, rejoin_ask_shows}
+use Rattle.nz_machine.proofs.RejoinsShow.{rejoin_tell_shows, state_ask_shows, state_tell_silent}
 use Rattle.nz_machine.proofs.Replies.{HasAnswers, request_shows, tick_shows}
 use Rattle.nz_machine.proofs.Following.{log_mod_shows, fetch_shows, fetch_reply_silent, report_silent}
 use Rattle.nz_machine.proofs.OthersShow.{proxy_message_shows, wait_shows, client_message_shows}
@@ -84,21 +88,21 @@ pub record IsRead (f : ℕ) (me : Actor) (p : Parcel) (e : Envelope) : Type 0 wh
   pub to_me : actor_eq e.to me ≡ true
   pub other : actor_eq e.from me ≡ false
   pub member : is_in_cluster f e.from ≡ true
-  pub sized : is_sized f (vector_of e.message) ≡ true
+  pub sized : is_sized f (message_vector e.message) ≡ true
 
 some_if : (b : Bool) (d e : Envelope) → cond b (Some d) None ≡ Some e → (b ≡ true) × (d ≡ e)
 some_if true d e h = (refl, cc)
 some_if false d e h = absurd cc
 
 read_by : (f : ℕ) (me : Actor) (p : Parcel) (d : Result Envelope DecodeRefusal) (e : Envelope) → decode_of p.frame ≡ d
-    → counted f (heard_if me p d) ≡ Some e → IsRead f me p e
+    → if_from_cluster f (envelope_if_for me p d) ≡ Some e → IsRead f me p e
 read_by f me p (Err x) e says h = absurd cc
 read_by f me p (Ok d) e says h = read_if (is_for me p d) refl h
   where
-    read_if : (b : Bool) → is_for me p d ≡ b → counted f (cond b (Some d) None) ≡ Some e → IsRead f me p e
+    read_if : (b : Bool) → is_for me p d ≡ b → if_from_cluster f (cond b (Some d) None) ≡ Some e → IsRead f me p e
     read_if false is h = absurd cc
     read_if true is h =
-        let t = some_if (is_in_cluster f d.from && is_sized f (vector_of d.message)) d e h in
+        let t = some_if (is_in_cluster f d.from && is_sized f (message_vector d.message)) d e h in
         let rest = and_right (actor_eq d.to p.to) (actor_eq d.to me && not (actor_eq d.from me))
         (and_right (actor_eq d.from p.from) (actor_eq d.to p.to && (actor_eq d.to me && not (actor_eq d.from me))) is) in
         subst (IsRead f me p) t.1 (record {
@@ -106,12 +110,12 @@ read_by f me p (Ok d) e says h = read_if (is_for me p d) refl h
           same_from = and_left (actor_eq d.from p.from) (actor_eq d.to p.to && (actor_eq d.to me && not (actor_eq d.from me))) is;
           to_me = and_left (actor_eq d.to me) (not (actor_eq d.from me)) rest;
           other = not-true (actor_eq d.from me) (and_right (actor_eq d.to me) (not (actor_eq d.from me)) rest);
-          member = and_left (is_in_cluster f d.from) (is_sized f (vector_of d.message)) t.0;
-          sized = and_right (is_in_cluster f d.from) (is_sized f (vector_of d.message)) t.0;
+          member = and_left (is_in_cluster f d.from) (is_sized f (message_vector d.message)) t.0;
+          sized = and_right (is_in_cluster f d.from) (is_sized f (message_vector d.message)) t.0;
         })
 
-pub is_read : (f : ℕ) (me : Actor) (p : Parcel) (e : Envelope) → received f me p ≡ Some e → IsRead f me p e
-unfolding heard
+pub is_read : (f : ℕ) (me : Actor) (p : Parcel) (e : Envelope) → accepted_envelope f me p ≡ Some e → IsRead f me p e
+unfolding envelope_for
 is_read f me p e h = read_by f me p (decode_of p.frame) e refl h
 
 fair_sender : (f me : ℕ) (from : Actor) → actor_eq from (Replica me) ≡ false → is_in_cluster f from ≡ true → IsFair f me from
@@ -122,7 +126,7 @@ fair_sender f me (Client c) other member = tt
 -- what is taken is from another, and a replica that sends it is of the cluster
 pub fair_hears : (f me : ℕ) (from : Actor) (m : Message) → Hears f (Replica me) from m → IsFair f me from
 fair_hears f me from m h =
-    fair_sender f me from (not-true (actor_eq from (Replica me)) h.other) (and_left (is_in_cluster f from) (is_sized f (vector_of m)) h.counts)
+    fair_sender f me from (not-true (actor_eq from (Replica me)) h.other) (and_left (is_in_cluster f from) (is_sized f (message_vector m)) h.counts)
 
 -- ---- any actor
 
@@ -184,18 +188,18 @@ restart_step_shows g (Replica r) s nonce = record { shows = (restart_shows g.f r
 restart_step_shows g (Proxy p) s nonce = record { shows = tt }
 restart_step_shows g (Client c) s nonce = record { shows = tt }
 
-envelope_shows : (g : Group) (a : Actor) (s : State a) (p : Parcel) (x : Option Envelope) → received g.f a p ≡ x → MayShow g a s
+envelope_shows : (g : Group) (a : Actor) (s : State a) (p : Parcel) (x : Option Envelope) → accepted_envelope g.f a p ≡ x → MayShow g a s
     → StepShows g a (heard_as x) s (envelope_step g a s x)
 envelope_shows g a s p None is may = quiet g a None s s
 envelope_shows g a s p (Some e) is may = message_step_shows g a s e.from e.message (fair_read a is) may
   where
-    fair_read : (a : Actor) → received g.f a p ≡ Some e → IsFairTo g a e.from
+    fair_read : (a : Actor) → accepted_envelope g.f a p ≡ Some e → IsFairTo g a e.from
     fair_read (Replica r) is = let read = is_read g.f (Replica r) p e is in fair_sender g.f r e.from read.other read.member
     fair_read (Proxy q) is = tt
     fair_read (Client c) is = tt
 
 pub event_shows : (g : Group) (a : Actor) (s : State a) (e : Event) → MayShow g a s → StepShows g a (heard_at g a e) s (event_step g a s e)
-event_shows g a s (Deliver p) may = envelope_shows g a s p (received g.f a p) refl may
+event_shows g a s (Deliver p) may = envelope_shows g a s p (accepted_envelope g.f a p) refl may
 event_shows g a s (Cut p kept) may = quiet g a None s s
 event_shows g a s (Tick clock) may = tick_step_shows g a s clock may
 event_shows g a s Alarm may = alarm_step_shows g a s

@@ -18,12 +18,13 @@ use Rattle.nz_store.specs.declared.command.Answer.TheVariants.{Done, Value, Abse
 use Rattle.nz_store.specs.Grammar.{IsValue, IsChoice, IsValid}
 use Rattle.nz_store.specs.Reading.{command_of}
 use Rattle.nz_store.specs.Entries.{Entries, empty, value_of, with_value, with_choice}
-use Rattle.nz_store.specs.Sequence.{value_answer, removal_answer, refusal_answer, swap, apply, apply_found, apply_bytes, store_from, store_after, answer_after, replies}
+use Rattle.nz_store.specs.Sequence.{value_answer, removal_answer, refusal_answer, swap, apply, apply_found}
+use Rattle.nz_store.specs.Sequence.{apply_bytes, store_from, store_after, answer_after, replies}
 use Rattle.nz_store.proofs.Spellings.{spells_from_reading}
 use Rattle.nz_store.proofs.Turns.{store_after-push, replies-push}
 use Rattle.nz_msg.specs.Fields.{answer}
 use Rattle.nz_machine.specs.Replicas.{commands}
-use Rattle.nz_machine.proofs.Each.{all_filter}
+use Rattle.nz_machine.proofs.EachItem.{all_filter}
 
 -- a value of a store has 1 to 256 bytes
 pub record IsShort (e : List ℕ × List ℕ) : Type 0 where
@@ -59,7 +60,8 @@ short_put Greater e key value rest new all more own = (all.0, more)
 short_with : (store : Entries) (key value : List ℕ) → AreShort store → IsValue value → AreShort (with_value store key value)
 short_with [] key value all own = (record { some = own.some; short = own.short }, tt)
 short_with (e ∷ store) key value all own =
-    short_put (slice_cmp nat_cmp key e.0) e key value store (with_value store key value) all (short_with store key value all.1 own) (record { some = own.some; short = own.short })
+    short_put (slice_cmp nat_cmp key e.0) e key value store (with_value store key value) all
+    (short_with store key value all.1 own) (record { some = own.some; short = own.short })
 
 short_choice : (store : Entries) (key : List ℕ) (value : Option (List ℕ)) → AreShort store → IsChoice value → AreShort (with_choice store key value)
 short_choice store key None all own = all_filter IsShort _ store all

@@ -3,12 +3,12 @@ use Rattle.std.proofs.Common.{◌≡◌, ℕ, zero, suc, ◌<◌, ◌≤◌, ◌
 use Rattle.std.specs.Prelude.{slice_index, slice_set}
 use Rattle.std.specs.List.{AllByRecursion}
 use Rattle.nz_base.proofs.Booleans.{cases_bool}
-use Rattle.nz_cv.specs.Vectors.{greater_counters, merged}
-use Rattle.nz_window.specs.Samples.{placed, in_order}
+use Rattle.nz_cv.specs.Vectors.{greater_counters, merged_vector}
+use Rattle.nz_window.specs.Samples.{with_number, numbers_in_order}
 use Rattle.nz_machine.specs.Facts.{AreCounters}
 use Rattle.nz_machine.specs.Replicas.{others}
-use Rattle.nz_machine.specs.LogMods.{reported}
-use Rattle.nz_machine.proofs.Pieces.{all_index}
+use Rattle.nz_machine.specs.LogMods.{commit_point}
+use Rattle.nz_machine.proofs.ListParts.{all_index}
 
 -- ---- one number is replaced
 
@@ -24,7 +24,8 @@ set_long (x ∷ xs) (suc i) y = ap suc (set_long xs i y)
 
 -- ---- crash vectors
 
-greater_small : (u v : List ℕ) → AllByRecursion (λ n. n < 2 ^ 32) u → AllByRecursion (λ n. n < 2 ^ 32) v → AllByRecursion (λ n. n < 2 ^ 32) (greater_counters u v)
+greater_small : (u v : List ℕ) → AllByRecursion (λ n. n < 2 ^ 32) u → AllByRecursion (λ n. n < 2 ^ 32) v
+    → AllByRecursion (λ n. n < 2 ^ 32) (greater_counters u v)
 greater_small [] v p q = tt
 greater_small (x ∷ u) [] p q = tt
 greater_small (x ∷ u) (y ∷ v) p q = (omega (arith, p.0, q.0), greater_small u v p.1 q.1)
@@ -34,15 +35,17 @@ greater_long [] v e = refl
 greater_long (x ∷ u) [] e = absurd (omega (arith, e))
 greater_long (x ∷ u) (y ∷ v) e = ap suc (greater_long u v (omega (arith, e)))
 
-pub merged_counters : (f : ℕ) (u v : List ℕ) (own : ℕ) → AreCounters f u → AreCounters f v → AreCounters f (merged u v own)
+pub merged_counters : (f : ℕ) (u v : List ℕ) (own : ℕ) → AreCounters f u → AreCounters f v → AreCounters f (merged_vector u v own)
 merged_counters f u v own p q = record {
   size = set_long (greater_counters u v) own _ ∙ greater_long u v (p.size ∙ sym q.size) ∙ p.size;
-  small = set_all (λ n. n < 2 ^ 32) (greater_counters u v) own _ (greater_small u v p.small q.small) (all_index (λ n. n < 2 ^ 32) u own 0 p.small (omega arith));
+  small =
+      set_all (λ n. n < 2 ^ 32) (greater_counters u v) own _ (greater_small u v p.small q.small)
+      (all_index (λ n. n < 2 ^ 32) u own 0 p.small (omega arith));
 }
 
 -- ---- reports
 
-all_placed : (n x : ℕ) (ys : List ℕ) → x ≤ n → AllByRecursion (λ y. y ≤ n) ys → AllByRecursion (λ y. y ≤ n) (placed x ys)
+all_placed : (n x : ℕ) (ys : List ℕ) → x ≤ n → AllByRecursion (λ y. y ≤ n) ys → AllByRecursion (λ y. y ≤ n) (with_number x ys)
 all_placed n x [] low all = (low, tt)
 all_placed n x (y ∷ ys) low all =
     elim (cases_bool (nat_le x y)) [
@@ -50,9 +53,9 @@ all_placed n x (y ∷ ys) low all =
       | inr later ↦ rw later (all.0, all_placed n x ys low all.1)
     ]
 
-all_in_order : (n : ℕ) (xs : List ℕ) → AllByRecursion (λ y. y ≤ n) xs → AllByRecursion (λ y. y ≤ n) (in_order xs)
+all_in_order : (n : ℕ) (xs : List ℕ) → AllByRecursion (λ y. y ≤ n) xs → AllByRecursion (λ y. y ≤ n) (numbers_in_order xs)
 all_in_order n [] all = tt
-all_in_order n (x ∷ xs) all = all_placed n x (in_order xs) all.0 (all_in_order n xs all.1)
+all_in_order n (x ∷ xs) all = all_placed n x (numbers_in_order xs) all.0 (all_in_order n xs all.1)
 
 pub at_most : (n : ℕ) (xs : List ℕ) (i : ℕ) → AllByRecursion (λ y. y ≤ n) xs → slice_index xs i ≤ n
 at_most n xs i all = all_index (λ y. y ≤ n) xs i 0 all (omega arith)
@@ -61,11 +64,12 @@ all_at : (n : ℕ) (xs places : List ℕ) → AllByRecursion (λ y. y ≤ n) xs 
 all_at n xs [] all = tt
 all_at n xs (i ∷ places) all = (at_most n xs i all, all_at n xs places all)
 
-pub reported_low : (f me n : ℕ) (ack : List ℕ) → AllByRecursion (λ y. y ≤ n) ack → reported f me ack ≤ n
+pub reported_low : (f me n : ℕ) (ack : List ℕ) → AllByRecursion (λ y. y ≤ n) ack → commit_point f me ack ≤ n
 reported_low f me n ack all = at_most n _ f (all_in_order n _ (all_at n ack (others f me) all))
 
 -- a report of at most this many is noted
-pub noted_low : (n : ℕ) (ack : List ℕ) (sender synced : ℕ) → synced ≤ n → AllByRecursion (λ y. y ≤ n) ack → AllByRecursion (λ y. y ≤ n) (slice_set ack sender (max (slice_index ack sender) synced))
+pub noted_low : (n : ℕ) (ack : List ℕ) (sender synced : ℕ) → synced ≤ n → AllByRecursion (λ y. y ≤ n) ack
+    → AllByRecursion (λ y. y ≤ n) (slice_set ack sender (max (slice_index ack sender) synced))
 noted_low n ack sender synced low all =
     let before = at_most n ack sender all in
     set_all (λ y. y ≤ n) ack sender _ all (omega (arith, before, low))

@@ -1,5 +1,6 @@
 -- Taking keys one after the other, as the code does.
-use Rattle.std.proofs.Common.{◌≡◌, ℕ, suc, zero, ◌+◌, ◌<◌, ◌≤◌, Bool, true, false, not, List, [], ◌∷◌, ◌++◌, length, drop, get_or, drop-cons, add-one, Option, Some, None, is_some, refl, sym, ap, subst, ◌∙◌, inl, inr, arith, append_assoc}
+use Rattle.std.proofs.Common.{◌≡◌, ℕ, suc, zero, ◌+◌, ◌<◌, ◌≤◌, Bool, true, false, not, List, [], ◌∷◌, ◌++◌, length, drop, get_or, drop-cons}
+use Rattle.std.proofs.Common.{add-one, Option, Some, None, is_some, refl, sym, ap, subst, ◌∙◌, inl, inr, arith, append_assoc}
 use Rattle.std.specs.Prelude.{slice_get}
 use Rattle.std.specs.List.{filter}
 use Rattle.std.specs.Option.{option_map}
@@ -14,30 +15,32 @@ use Rattle.nz_base.proofs.Booleans.{cases_bool, and_right, neither_left, neither
 use Rattle.nz_base.proofs.Keys.{key_below-trans}
 use Rattle.nz_base.proofs.Logs.{keys_append, has_first, has_later, own_id}
 use Rattle.nz_log.specs.Places.{place_of}
-use Rattle.nz_log.specs.Synced.{Log, synced_part, unsynced_part, is_displaced, modified, displaced}
+use Rattle.nz_log.specs.Synced.{Log, synced_part, unsynced_part, is_displaced, log_with_synced, displaced_entries}
 use Rattle.nz_log.proofs.Placing.{place_held}
 use Rattle.nz_buffers.specs.Buffers.{find_id, without, first_if}
 use Rattle.nz_buffers.proofs.Removing.{find_none}
-use Rattle.nz_msg.specs.Fields.{key as key_field}
+use Rattle.nz_msg.specs.Fields as fields
 use Rattle.nz_machine.specs.State.{ReplicaData}
 use Rattle.nz_machine.specs.Facts.{FitsEntry, AreApart}
-use Rattle.nz_machine.specs.LogMods.{found, may_sync, synced_with, if_found, sync_keys}
-use Rattle.nz_machine.specs.declared.taking.Taken.{Taken}
-use Rattle.nz_machine.specs.declared.taking.Taken.TheVariants.{Synced, Missing, Refused}
+use Rattle.nz_machine.specs.LogMods.{entry_of_id, may_sync, synced_with, if_found, sync_keys}
+use Rattle.nz_machine.specs.declared.sync_keys.Taken.{Taken}
+use Rattle.nz_machine.specs.declared.sync_keys.Taken.TheVariants.{Synced, Missing, Refused}
 use Rattle.nz_machine.specs.Taking.{found_in, after_first}
-use Rattle.nz_machine.proofs.Apart.{own_rest}
-use Rattle.nz_machine.proofs.Counts.{times_append, times_all, own_times, times_own}
-use Rattle.nz_machine.proofs.Syncing.{own_synced, found_fits}
+use Rattle.nz_machine.proofs.KeysApart.{own_rest}
+use Rattle.nz_machine.proofs.IdCounts.{times_append, times_all, own_times, times_own}
+use Rattle.nz_machine.proofs.KeysKeepFacts.{own_synced, found_fits}
 
 -- ---- the entry with an id
 
 find_skips : (xs ys : List Entry) (i : Id) → has_id (keys_of xs) i ≡ false → find_id (xs ++ ys) i ≡ find_id ys i
 find_skips [] ys i none = refl
 find_skips (x ∷ xs) ys i none =
-    rw (neither_left (id_eq i (id_of x.key)) (has_id (keys_of xs) i) none) (find_skips xs ys i (neither_right (id_eq i (id_of x.key)) (has_id (keys_of xs) i) none))
+    rw (neither_left (id_eq i (id_of x.key)) (has_id (keys_of xs) i) none)
+    (find_skips xs ys i (neither_right (id_eq i (id_of x.key)) (has_id (keys_of xs) i) none))
 
 pub find_behind : (log : Log) (i : Id) → has_id (keys_of (synced_part log)) i ≡ false → find_id log.entries i ≡ find_id (unsynced_part log) i
-find_behind log i none = ap (λ (xs : List Entry). find_id xs i) (sym (take-append-drop log.synced log.entries)) ∙ find_skips (synced_part log) (unsynced_part log) i none
+find_behind log i none =
+    ap (λ (xs : List Entry). find_id xs i) (sym (take-append-drop log.synced log.entries)) ∙ find_skips (synced_part log) (unsynced_part log) i none
 
 pub find_nowhere : (es : List Entry) (i : Id) → place_of es i ≡ None → find_id es i ≡ None
 find_nowhere es i is = find_none es i (sym (place_held es i) ∙ ap is_some is)
@@ -53,7 +56,8 @@ find_at (x ∷ xs) i place e is at =
       | inr away ↦ rw away (go (λ n p h. find_at xs i n e p h) (place_of xs i) refl (rw away at is))
     ]
   where
-    go : ((n : ℕ) → place_of xs i ≡ Some n → slice_get xs n ≡ Some e → find_id xs i ≡ Some e) → (o : Option ℕ) → place_of xs i ≡ o → option_map suc o ≡ Some place → find_id xs i ≡ Some e
+    go : ((n : ℕ) → place_of xs i ≡ Some n → slice_get xs n ≡ Some e → find_id xs i ≡ Some e) → (o : Option ℕ)
+        → place_of xs i ≡ o → option_map suc o ≡ Some place → find_id xs i ≡ Some e
     go rest None p h = absurd cc
     go rest (Some n) p h =
         let next : suc n ≡ place = cc in
@@ -71,19 +75,23 @@ without_split key (e ∷ es) =
       | inr stays ↦ rw stays (without_split key es)
     ]
 
-pub without_displaced : (log : Log) (late : List Entry) (e : Entry) → without (late ++ displaced log e) (id_of e.key) ≡ without late (id_of e.key) ++ displaced log e
+pub without_displaced : (log : Log) (late : List Entry) (e : Entry)
+    → without (late ++ displaced_entries log e) (id_of e.key) ≡ without late (id_of e.key) ++ displaced_entries log e
 without_displaced log late e =
-    filter-append (λ (x : Entry). not (id_eq (id_of e.key) (id_of x.key))) late (displaced log e)
+    filter-append (λ (x : Entry). not (id_eq (id_of e.key) (id_of x.key))) late (displaced_entries log e)
     ∙ ap (λ (xs : List Entry). without late (id_of e.key) ++ xs) (without_split e.key (unsynced_part log))
 
 pub own_late : (log : Log) (early late : List Entry) (e : Entry) → AreApart log early late → has_id (keys_of (synced_part log)) (id_of e.key) ≡ false
-    → HaveOwnIds (keys_of (without late (id_of e.key) ++ displaced log e))
+    → HaveOwnIds (keys_of (without late (id_of e.key) ++ displaced_entries log e))
 own_late log early late e a fresh =
     let i = id_of e.key in
     let all = times_own _ (own_synced log early late e a fresh) in
-    let last = without (late ++ displaced log e) i in
-    let rest = own_rest (keys_of (modified log e).entries) (keys_of (without early i ++ last)) (subst HaveOwnIds (keys_append (modified log e).entries (without early i ++ last)) all) in
-    subst (λ (xs : List Entry). HaveOwnIds (keys_of xs)) (without_displaced log late e) (own_rest (keys_of (without early i)) (keys_of last) (subst HaveOwnIds (keys_append (without early i) last) rest))
+    let last = without (late ++ displaced_entries log e) i in
+    let rest =
+    own_rest (keys_of (log_with_synced log e).entries) (keys_of (without early i ++ last))
+    (subst HaveOwnIds (keys_append (log_with_synced log e).entries (without early i ++ last)) all) in
+    subst (λ (xs : List Entry). HaveOwnIds (keys_of xs)) (without_displaced log late e)
+    (own_rest (keys_of (without early i)) (keys_of last) (subst HaveOwnIds (keys_append (without early i) last) rest))
 
 -- an entry that comes next is of an id that is not there
 pub next_fresh : (late : List Entry) (e : Entry) (rest : List Entry) → HaveOwnIds (keys_of (late ++ e ∷ rest)) → has_id (keys_of late) (id_of e.key) ≡ false
@@ -110,7 +118,8 @@ none_below last (e ∷ es) rising is =
           (rw above (ap (λ (xs : List Entry). e ∷ xs) rest.0), rw above rest.1)
     ]
 
-pub first_below : (last : Key) (es : List Entry) (e : Entry) (rest : List Entry) → es ≡ e ∷ rest → first_if (λ x. not (key_below last x.key)) es ≡ Some e → key_below last e.key ≡ false
+pub first_below : (last : Key) (es : List Entry) (e : Entry) (rest : List Entry) → es ≡ e ∷ rest
+    → first_if (λ x. not (key_below last x.key)) es ≡ Some e → key_below last e.key ≡ false
 first_below last es e rest is first =
     let one : first_if (λ x. not (key_below last x.key)) (e ∷ rest) ≡ Some e = ap (first_if (λ (x : Entry). not (key_below last x.key))) (sym is) ∙ first in
     elim (cases_bool (key_below last e.key)) [
@@ -134,7 +143,8 @@ turned rest e late own =
     let sum = times_all i rest late (e ∷ []) in
     omega (arith, once, before, sum))
 
-pub one_moves : (last : Key) (early late first_early first_late : List Entry) (e : Entry) (rest more : List Entry) → AreMoving last early late first_early first_late
+pub one_moves : (last : Key) (early late first_early first_late : List Entry) (e : Entry) (rest more : List Entry)
+    → AreMoving last early late first_early first_late
     → early ≡ e ∷ rest → first_if (λ x. not (key_below last x.key)) early ≡ Some e → more ≡ late ++ e ∷ [] → AreMoving last rest more first_early first_late
 one_moves last early late first_early first_late e rest more m is first more-is =
     let below = first_below last early e rest is first in
@@ -149,7 +159,8 @@ one_moves last early late first_early first_late e rest more m is first more-is 
     })
 
 -- none is left
-pub none_moves : (last : Key) (early late first_early first_late : List Entry) → AreMoving last early late first_early first_late → first_if (λ x. not (key_below last x.key)) early ≡ None
+pub none_moves : (last : Key) (early late first_early first_late : List Entry)
+    → AreMoving last early late first_early first_late → first_if (λ x. not (key_below last x.key)) early ≡ None
     → (early ≡ filter (λ e. key_below last e.key) first_early) × (late ≡ first_late ++ filter (λ e. not (key_below last e.key)) first_early)
 none_moves last early late first_early first_late m none =
     let all = none_below last early m.waiting none in
@@ -172,36 +183,42 @@ pub key_refused : (s : ReplicaData) (key : Key) (keys : List Key) → may_sync s
 unfolding sync_keys
 key_refused s key keys may_not = rw may_not refl
 
-pub key_missing : (s : ReplicaData) (key : Key) (keys : List Key) → may_sync s key ≡ true → option_map (λ (e : Entry). e.command) (found s (id_of key)) ≡ None → sync_keys s (key ∷ keys) ≡ (s, key ∷ keys)
+pub key_missing : (s : ReplicaData) (key : Key) (keys : List Key) → may_sync s key ≡ true
+    → option_map (λ (e : Entry). e.command) (entry_of_id s (id_of key)) ≡ None → sync_keys s (key ∷ keys) ≡ (s, key ∷ keys)
 unfolding sync_keys
-key_missing s key keys may none = rw may (go (found s (id_of key)) none)
+key_missing s key keys may none = rw may (go (entry_of_id s (id_of key)) none)
   where
-    go : (o : Option Entry) → option_map (λ (e : Entry). e.command) o ≡ None → if_found o (s, key ∷ keys) (λ e. sync_keys (synced_with s (record { key = key; command = e.command })) keys) ≡ (s, key ∷ keys)
+    go : (o : Option Entry) → option_map (λ (e : Entry). e.command) o ≡ None
+        → if_found o (s, key ∷ keys) (λ e. sync_keys (synced_with s (record { key = key; command = e.command })) keys) ≡ (s, key ∷ keys)
     go None h = refl
     go (Some e) h = absurd cc
 
-pub key_synced : (s : ReplicaData) (key : Key) (keys : List Key) (command : List ℕ) → may_sync s key ≡ true → option_map (λ (e : Entry). e.command) (found s (id_of key)) ≡ Some command
+pub key_synced : (s : ReplicaData) (key : Key) (keys : List Key) (command : List ℕ) → may_sync s key ≡ true
+    → option_map (λ (e : Entry). e.command) (entry_of_id s (id_of key)) ≡ Some command
     → sync_keys s (key ∷ keys) ≡ sync_keys (synced_with s (record { key = key; command = command })) keys
 unfolding sync_keys
-key_synced s key keys command may some = rw may (go (found s (id_of key)) some)
+key_synced s key keys command may some = rw may (go (entry_of_id s (id_of key)) some)
   where
     go : (o : Option Entry) → option_map (λ (e : Entry). e.command) o ≡ Some command
-        → if_found o (s, key ∷ keys) (λ e. sync_keys (synced_with s (record { key = key; command = e.command })) keys) ≡ sync_keys (synced_with s (record { key = key; command = command })) keys
+        → if_found o (s, key ∷ keys) (λ e. sync_keys (synced_with s (record { key = key; command = e.command })) keys)
+        ≡ sync_keys (synced_with s (record { key = key; command = command })) keys
     go None h = absurd cc
     go (Some e) h = let same : e.command ≡ command = cc in ap (λ (c : List ℕ). sync_keys (synced_with s (record { key = key; command = c })) keys) same
 
-pub command_fits : (log : Log) (early late : List Entry) (key : Key) (command : List ℕ) → AreApart log early late → key_field.fits key
+pub command_fits : (log : Log) (early late : List Entry) (key : Key) (command : List ℕ) → AreApart log early late → fields.key.fits key
     → option_map (λ (e : Entry). e.command) (found_in log early late (id_of key)) ≡ Some command → FitsEntry (record { key = key; command = command })
 command_fits log early late key command a fit some = go (found_in log early late (id_of key)) refl some
   where
-    go : (o : Option Entry) → found_in log early late (id_of key) ≡ o → option_map (λ (e : Entry). e.command) o ≡ Some command → FitsEntry (record { key = key; command = command })
+    go : (o : Option Entry) → found_in log early late (id_of key) ≡ o
+        → option_map (λ (e : Entry). e.command) o ≡ Some command → FitsEntry (record { key = key; command = command })
     go None is h = absurd cc
     go (Some e) is h =
         let same : e.command ≡ command = cc in
         let fits = found_fits log early late (id_of key) e a is in
         subst (λ (c : List ℕ). FitsEntry (record { key = key; command = c })) same (record { key = fit; command = fits.command })
 
-pub same_apart : (log log2 : Log) (early early2 late late2 : List Entry) → log ≡ log2 → early ≡ early2 → late ≡ late2 → AreApart log2 early2 late2 → AreApart log early late
+pub same_apart : (log log2 : Log) (early early2 late late2 : List Entry) → log ≡ log2 → early ≡ early2 → late ≡ late2
+    → AreApart log2 early2 late2 → AreApart log early late
 same_apart log log2 early early2 late late2 log-is early-is late-is a =
     subst (λ (l : Log). AreApart l early late) (sym log-is)
     (subst (λ (xs : List Entry). AreApart log2 xs late) (sym early-is) (subst (λ (xs : List Entry). AreApart log2 early2 xs) (sym late-is) a))
@@ -236,7 +253,8 @@ drop_past (k ∷ keys) (suc n) past = drop_past keys n (omega arith)
 pub took_refused : (s t : ReplicaData) (keys : List Key) (place : ℕ) (d : Key) (taken : Taken) → place < length keys
     → sync_keys s (get_or keys place d ∷ drop (place + 1) keys) ≡ after_first taken t (get_or keys place d) (drop (place + 1) keys) → taken ≡ Refused
     → sync_keys s (drop place keys) ≡ (t, drop (length keys) keys)
-took_refused s t keys place d taken within is same = took s t keys place d taken Refused within is same ∙ (λ i. (t, sym (drop_past keys (length keys) (omega arith)) i))
+took_refused s t keys place d taken within is same =
+    took s t keys place d taken Refused within is same ∙ (λ i. (t, sym (drop_past keys (length keys) (omega arith)) i))
 
 sync_none : (s : ReplicaData) → sync_keys s [] ≡ (s, [])
 unfolding sync_keys

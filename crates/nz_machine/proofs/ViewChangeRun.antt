@@ -6,20 +6,22 @@ use Rattle.sha1.specs.Sha1.{first_words, schedule, rounds, compress, hash_after,
 use Rattle.nz_base.specs.declared.actor.Actor.TheVariants.{Replica, Proxy, Client}
 use Rattle.nz_digest.specs.Digests.{key_bytes}
 use Rattle.nz_math.specs.Count.{count_below}
-use Rattle.nz_merge.specs.Merged.{merged, later}
+use Rattle.nz_merge.specs.Merged.{merged, later_keys}
 use Rattle.nz_store.specs.Reading.{key_at, value_at, choice_at, command_of}
-use Rattle.nz_store.specs.Reading.{body_at as command_body_at, command_at as command_there}
+use Rattle.nz_store.specs.Reading as reading
+use Rattle.nz_store.specs.Reading.{command_at}
 use Rattle.nz_store.specs.Sequence.{apply, apply_bytes, store_from, replies_from}
 use Rattle.nz_machine.specs.Clients.{wait_rule, accept_rule}
 use Rattle.nz_machine.specs.Proxies.{stamp_rule, reply_rule, clock_rule}
 use Rattle.nz_machine.specs.Quorums.{decision}
 use Rattle.nz_machine.specs.Requests.{request_rule}
 use Rattle.nz_machine.specs.Releases.{releases, release_rule}
-use Rattle.nz_machine.specs.LogMods.{sync_keys, log_mod_rule, fetch_rule, kept_all, fetch_reply_rule, sync_report_rule}
+use Rattle.nz_machine.specs.LogMods.{sync_keys, log_mod_rule, fetch_rule, with_late_entries, fetch_reply_rule, sync_report_rule}
 use Rattle.nz_machine.specs.Views.{enter_view, alarm_rule, view_ask_rule}
 use Rattle.nz_machine.specs.Adopting.{start_view_rule}
 use Rattle.nz_machine.specs.Begins.{begin, view_change_rule}
-use Rattle.nz_machine.specs.Rejoining.{crash_rule, restart_rule, vector_ask_rule, vector_tell_rule, rejoin_ask_rule, rejoin_tell_rule, state_ask_rule, state_tell_rule}
+use Rattle.nz_machine.specs.Rejoining.{crash_rule, restart_rule, vector_ask_rule, vector_tell_rule, rejoin_ask_rule}
+use Rattle.nz_machine.specs.Rejoining.{rejoin_tell_rule, state_ask_rule, state_tell_rule}
 use Rattle.std.specs.Option.{option_and_then}
 use Rattle.nz_frame.specs.Grammar.{frame}
 use Rattle.nz_frame.specs.Refusal.{refusal}
@@ -33,13 +35,14 @@ use Rattle.nz_machine.specs.declared.event.Record.{Record}
 use Rattle.nz_msg.specs.declared.message.Message.TheVariants as messages
 use Rattle.nz_msg.specs.declared.message.Path.TheVariants.{Fast}
 use Rattle.nz_machine.specs.declared.data.Reported.{Reported}
-use Rattle.nz_machine.specs.Step.{heard, parcel}
+use Rattle.nz_machine.specs.Step.{envelope_for, parcel}
 use Rattle.nz_machine.specs.World.{state_after, World}
 use Rattle.nz_machine.specs.History.{source, history}
 use Rattle.nz_machine.specs.Incarnations.{replica_at, incarnation, completes}
 use Rattle.nz_machine.specs.Begun.{begins, start, reports_used, report_parcel, IsMemberOf}
 use Rattle.nz_machine.specs.Committed.{accepted_view, IsAcceptedIn}
-use Rattle.nz_machine.proofs.WorkedRuns.{first, first_entry, holding, group, play, arrive, kinds_sent, newest, come, all_tick, opened, stamped, spread, released, replied, accepted, played, came, is_accepted, never_restarted}
+use Rattle.nz_machine.proofs.WorkedRuns.{first, first_entry, holding, group, play, arrive, kinds_sent, newest, come, all_tick, opened}
+use Rattle.nz_machine.proofs.WorkedRuns.{stamped, spread, released, replied, accepted, played, came, is_accepted, never_restarted}
 
 -- r1 enters view 1. r0 hears its view-ask, and enters too.
 unfoldable alarmed : List Record
@@ -81,7 +84,8 @@ record IsAsWorked : Type 0 where
   }
   waiting : (replica_at group 0 begun).status ≡ ViewChange
   follower : replica_at group 2 ended ≡ record holding { view = 1; last = 1; log = record { entries = first_entry ∷ []; synced = 1 }; quiet = 0 }
-  old_leader : replica_at group 0 ended ≡ record holding { view = 1; last = 1; log = record { entries = first_entry ∷ []; synced = 1 }; results = Done ∷ []; quiet = 0 }
+  old_leader : replica_at group 0 ended
+      ≡ record holding { view = 1; last = 1; log = record { entries = first_entry ∷ []; synced = 1 }; results = Done ∷ []; quiet = 0 }
   -- The view begins in this very record, from the log of r0 as it was when it entered.
   begins_here : begins group 1 begun ≡ true
   begins_once : begins group 1 ended ≡ false
@@ -94,8 +98,34 @@ record IsAsWorked : Type 0 where
   decided : option_and_then (λ p. accepted_view group first p ended) (newest 5 (Proxy 0) (Client 0) ended) ≡ Some 0
 
 as_worked : IsAsWorked
-unfolding alarmed asked begun late ended play arrive come all_tick opened stamped spread released replied accepted state_after encode_of decode_of frame refusal number_bytes number_at run_at limited_at optional_at items_put items_at body_at heard incarnation start clock_rule wait_rule accept_rule stamp_rule reply_rule decision count_below key_bytes first_words schedule rounds compress hash_after digest_bytes sha1 apply apply_bytes store_from replies_from key_at value_at choice_at command_of command_body_at command_there request_rule release_rule releases sync_keys log_mod_rule fetch_rule kept_all fetch_reply_rule sync_report_rule enter_view alarm_rule view_ask_rule start_view_rule begin view_change_rule crash_rule restart_rule vector_ask_rule vector_tell_rule rejoin_ask_rule rejoin_tell_rule state_ask_rule state_tell_rule merged later
-as_worked = record { alarm_sends = refl; ask_sends = refl; begin_sends = refl; late_sends = refl; before = refl; leader = refl; waiting = refl; follower = refl; old_leader = refl; begins_here = refl; begins_once = refl; starts = refl; starts_first = refl; not_before = refl; reported = refl; history = refl; decided = refl }
+unfolding alarmed asked begun late ended play arrive come all_tick opened stamped spread released replied accepted
+    state_after encode_of decode_of frame refusal number_bytes number_at run_at limited_at optional_at items_put items_at
+    body_at envelope_for incarnation start clock_rule wait_rule accept_rule stamp_rule reply_rule decision count_below
+    key_bytes first_words schedule rounds compress hash_after digest_bytes sha1 apply apply_bytes store_from replies_from
+    key_at value_at choice_at command_of reading.body_at command_at request_rule release_rule releases sync_keys
+    log_mod_rule fetch_rule with_late_entries fetch_reply_rule sync_report_rule enter_view alarm_rule view_ask_rule
+    start_view_rule begin view_change_rule crash_rule restart_rule vector_ask_rule vector_tell_rule rejoin_ask_rule
+    rejoin_tell_rule state_ask_rule state_tell_rule merged later_keys
+as_worked =
+    record {
+      alarm_sends = refl;
+      ask_sends = refl;
+      begin_sends = refl;
+      late_sends = refl;
+      before = refl;
+      leader = refl;
+      waiting = refl;
+      follower = refl;
+      old_leader = refl;
+      begins_here = refl;
+      begins_once = refl;
+      starts = refl;
+      starts_first = refl;
+      not_before = refl;
+      reported = refl;
+      history = refl;
+      decided = refl;
+    }
 
 -- ---- afterwards r0 forgets all, and rejoins
 
@@ -130,7 +160,14 @@ record IsInstance : Type 0 where
   starts : start group 1 rejoined ≡ Some (first_entry ∷ [])
 
 instance_of_laws : IsInstance
-unfolding alarmed asked begun late ended back counted viewed rejoined play arrive come all_tick opened stamped spread released replied accepted state_after encode_of decode_of frame refusal number_bytes number_at run_at limited_at optional_at items_put items_at body_at heard incarnation start clock_rule wait_rule accept_rule stamp_rule reply_rule decision count_below key_bytes first_words schedule rounds compress hash_after digest_bytes sha1 apply apply_bytes store_from replies_from key_at value_at choice_at command_of command_body_at command_there request_rule release_rule releases sync_keys log_mod_rule fetch_rule kept_all fetch_reply_rule sync_report_rule enter_view alarm_rule view_ask_rule start_view_rule begin view_change_rule crash_rule restart_rule vector_ask_rule vector_tell_rule rejoin_ask_rule rejoin_tell_rule state_ask_rule state_tell_rule merged later
+unfolding alarmed asked begun late ended back counted viewed rejoined play arrive come all_tick opened stamped spread
+    released replied accepted state_after encode_of decode_of frame refusal number_bytes number_at run_at limited_at
+    optional_at items_put items_at body_at envelope_for incarnation start clock_rule wait_rule accept_rule stamp_rule
+    reply_rule decision count_below key_bytes first_words schedule rounds compress hash_after digest_bytes sha1 apply
+    apply_bytes store_from replies_from key_at value_at choice_at command_of reading.body_at command_at request_rule
+    release_rule releases sync_keys log_mod_rule fetch_rule with_late_entries fetch_reply_rule sync_report_rule enter_view
+    alarm_rule view_ask_rule start_view_rule begin view_change_rule crash_rule restart_rule vector_ask_rule
+    vector_tell_rule rejoin_ask_rule rejoin_tell_rule state_ask_rule state_tell_rule merged later_keys
 instance_of_laws = record {
   begins_here = refl;
   is_member = inr (record { report = report; used = inl refl; sender = refl; source = refl });
@@ -157,7 +194,14 @@ instance_of_laws = record {
 
 -- It is a run of the world.
 is_run : World group rejoined
-unfolding alarmed asked begun late ended back counted viewed rejoined play arrive come all_tick opened stamped spread released replied accepted state_after encode_of decode_of frame refusal number_bytes number_at run_at limited_at optional_at items_put items_at body_at heard incarnation start clock_rule wait_rule accept_rule stamp_rule reply_rule decision count_below key_bytes first_words schedule rounds compress hash_after digest_bytes sha1 apply apply_bytes store_from replies_from key_at value_at choice_at command_of command_body_at command_there request_rule release_rule releases sync_keys log_mod_rule fetch_rule kept_all fetch_reply_rule sync_report_rule enter_view alarm_rule view_ask_rule start_view_rule begin view_change_rule crash_rule restart_rule vector_ask_rule vector_tell_rule rejoin_ask_rule rejoin_tell_rule state_ask_rule state_tell_rule merged later
+unfolding alarmed asked begun late ended back counted viewed rejoined play arrive come all_tick opened stamped spread
+    released replied accepted state_after encode_of decode_of frame refusal number_bytes number_at run_at limited_at
+    optional_at items_put items_at body_at envelope_for incarnation start clock_rule wait_rule accept_rule stamp_rule
+    reply_rule decision count_below key_bytes first_words schedule rounds compress hash_after digest_bytes sha1 apply
+    apply_bytes store_from replies_from key_at value_at choice_at command_of reading.body_at command_at request_rule
+    release_rule releases sync_keys log_mod_rule fetch_rule with_late_entries fetch_reply_rule sync_report_rule enter_view
+    alarm_rule view_ask_rule start_view_rule begin view_change_rule crash_rule restart_rule vector_ask_rule
+    vector_tell_rule rejoin_ask_rule rejoin_tell_rule state_ask_rule state_tell_rule merged later_keys
 is_run =
     let at_alarmed = played accepted (Replica 1) Alarm is_accepted (omega arith) tt in
     let at_asked = came 10 (Replica 1) (Replica 0) alarmed at_alarmed (omega arith) in
@@ -167,11 +211,15 @@ is_run =
     let first = come 12 (Replica 1) (Replica 0) late in
     let at_ended = came 12 (Replica 1) (Replica 2) first (came 12 (Replica 1) (Replica 0) late at_late (omega arith)) (omega arith) in
     let down = play ended (Replica 0) Crash in
-    let at_back = played down (Replica 0) (Restart 3) (played ended (Replica 0) Crash at_ended (omega arith) tt) (omega arith) (omega arith, never_restarted down (Replica 0) 3 refl) in
+    let at_back =
+    played down (Replica 0) (Restart 3) (played ended (Replica 0) Crash at_ended (omega arith) tt) (omega arith)
+    (omega arith, never_restarted down (Replica 0) 3 refl) in
     let zero = come 13 (Replica 0) (Replica 1) back in
     let one = come 13 (Replica 0) (Replica 2) zero in
     let two = come 14 (Replica 1) (Replica 0) one in
-    let at_two = came 14 (Replica 1) (Replica 0) one (came 13 (Replica 0) (Replica 2) zero (came 13 (Replica 0) (Replica 1) back at_back (omega arith)) (omega arith)) (omega arith) in
+    let at_two =
+    came 14 (Replica 1) (Replica 0) one
+    (came 13 (Replica 0) (Replica 2) zero (came 13 (Replica 0) (Replica 1) back at_back (omega arith)) (omega arith)) (omega arith) in
     let at_counted = came 14 (Replica 2) (Replica 0) two at_two (omega arith) in
     let three = come 15 (Replica 0) (Replica 1) counted in
     let four = come 15 (Replica 0) (Replica 2) three in

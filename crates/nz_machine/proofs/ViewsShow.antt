@@ -5,7 +5,7 @@ use Rattle.std.proofs.lemmas.Bool.Decides.{nat_tests}
 use Rattle.nz_base.specs.Cluster.{leader_of}
 use Rattle.nz_base.specs.declared.actor.Actor.TheVariants.{Replica}
 use Rattle.nz_base.specs.declared.key.Entry.{Entry}
-use Rattle.nz_merge.specs.Merged.{merged as merged_changes, greatest}
+use Rattle.nz_merge.specs.Merged.{merged, greatest}
 use Rattle.nz_merge.specs.declared.change.Change.{Change}
 use Rattle.nz_msg.specs.declared.message.ViewAskBody.{ViewAskBody}
 use Rattle.nz_msg.specs.declared.message.ViewChangeBody.{ViewChangeBody}
@@ -15,27 +15,28 @@ use Rattle.nz_machine.specs.declared.data.Status.TheVariants.{Normal, ViewChange
 use Rattle.nz_machine.specs.State.{ReplicaData, Out}
 use Rattle.nz_machine.specs.Replicas.{is_normal, is_changing, is_up, leads, leader, most_entries, to_others, to_replica}
 use Rattle.nz_machine.specs.Vectors.{with_vector}
-use Rattle.nz_machine.specs.Views.{in_view_change, view_ask, view_change, to_leader, view_calls, enter_view, alarm_rule, view_ask_rule, quiet_timer, change_timer, most_quiet}
-use Rattle.nz_machine.specs.Adopting.{start_view, start_view_rule, after_start}
+use Rattle.nz_machine.specs.Views.{in_view_change, view_ask_message, view_change_message, to_leader, view_calls}
+use Rattle.nz_machine.specs.Views.{enter_view, alarm_rule, view_ask_rule, quiet_timer, change_timer, most_quiet}
+use Rattle.nz_machine.specs.Adopting.{start_view_message, start_view_rule, after_start}
 use Rattle.nz_machine.specs.Begins.{changes_of, after_begin, with_report, without_strays, collect, begin, view_change_rule}
 use Rattle.nz_machine.specs.Hearing.{Heard}
 use Rattle.nz_machine.specs.Shows.{IsOther, ReplicaShows}
 use Rattle.nz_machine.proofs.Runs.{on_cond}
-use Rattle.nz_machine.proofs.Each.{all_append}
+use Rattle.nz_machine.proofs.EachItem.{all_append}
 use Rattle.nz_machine.proofs.Shows.{AllShow, Shown, silent, other_is, leader_below, to_each}
 
 -- ---- entering views
 
 asks_show : (f me : ℕ) (heard : Heard) (before s t : ReplicaData) → is_up t.status ≡ true → s.view ≡ t.view
-    → AllShow f me heard before t (to_others f me (view_ask s))
+    → AllShow f me heard before t (to_others f me (view_ask_message s))
 asks_show f me heard before s t up view =
-    to_each f me (λ (o : Out). ReplicaShows f me heard before t o.0 o.1) (λ r. (Replica r, view_ask s))
+    to_each f me (λ (o : Out). ReplicaShows f me heard before t o.0 o.1) (λ r. (Replica r, view_ask_message s))
     (λ r other. record { up = up; receiver = other; view = view })
 
 report_shows : (f me : ℕ) (heard : Heard) (before s : ReplicaData) → is_changing s.status ≡ true
-    → AllShow f me heard before s (to_leader f me s (view_change s))
+    → AllShow f me heard before s (to_leader f me s (view_change_message s))
 report_shows f me heard before s changing =
-    on_cond (AllShow f me heard before s) (leads f me s) [] (to_replica (leader f s) (view_change s)) (λ _. tt)
+    on_cond (AllShow f me heard before s) (leads f me s) [] (to_replica (leader f s) (view_change_message s)) (λ _. tt)
     (λ away. (
       record {
         changing = changing;
@@ -56,7 +57,7 @@ changing_up Down h = absurd cc
 
 calls_show : (f me : ℕ) (heard : Heard) (before s : ReplicaData) → is_changing s.status ≡ true → AllShow f me heard before s (view_calls f me s)
 calls_show f me heard before s changing =
-    all_append (λ (o : Out). ReplicaShows f me heard before s o.0 o.1) (to_others f me (view_ask s)) (to_leader f me s (view_change s))
+    all_append (λ (o : Out). ReplicaShows f me heard before s o.0 o.1) (to_others f me (view_ask_message s)) (to_leader f me s (view_change_message s))
     (asks_show f me heard before s s (changing_up s.status changing) refl) (report_shows f me heard before s changing)
 
 pub enter_shows : (f me : ℕ) (heard : Heard) (before : ReplicaData) (view : ℕ) (s : ReplicaData) → Shown f me heard before (enter_view f me view s)
@@ -90,12 +91,12 @@ begin_shows : (f me : ℕ) (heard : Heard) (before s : ReplicaData) → leads f 
 unfolding begin
 begin_shows f me heard before s lead =
     let changes = changes_of me s in
-    let log = merged_changes f changes in
+    let log = merged f changes in
     let begun = after_begin f s log (greatest (map (λ (c : Change). c.commit) changes)) in
-    on_cond (Shown f me heard before) (nat_lt most_entries (length log)) (s, []) (begun, to_others f me (start_view begun))
+    on_cond (Shown f me heard before) (nat_lt most_entries (length log)) (s, []) (begun, to_others f me (start_view_message begun))
     (λ _. silent f me heard before s)
     (λ _. record {
-      shows = to_each f me (λ (o : Out). ReplicaShows f me heard before begun o.0 o.1) (λ r. (Replica r, start_view begun))
+      shows = to_each f me (λ (o : Out). ReplicaShows f me heard before begun o.0 o.1) (λ r. (Replica r, start_view_message begun))
           (λ r other. record { normal = refl; led = lead; receiver = other; read = refl });
     })
 
@@ -134,9 +135,9 @@ entered_shows f me heard before sender b s lead changing =
     let Shows = λ (o : Out). ReplicaShows f me heard before end o.0 o.1 in
     record {
       shows = all_append Shows (view_calls f me s) (collect f me sender b s).1
-          (all_append Shows (to_others f me (view_ask s)) (to_leader f me s (view_change s))
+          (all_append Shows (to_others f me (view_ask_message s)) (to_leader f me s (view_change_message s))
           (asks_show f me heard before s end there.up there.same)
-          (on_cond (AllShow f me heard before end) (leads f me s) [] (to_replica (leader f s) (view_change s)) (λ _. tt) (λ away. absurd cc)))
+          (on_cond (AllShow f me heard before end) (leads f me s) [] (to_replica (leader f s) (view_change_message s)) (λ _. tt) (λ away. absurd cc)))
           (collect_shows f me heard before sender b s lead).shows;
     }
 
@@ -147,7 +148,7 @@ up_kinds Rejoining up h = absurd cc
 up_kinds Down up h = absurd cc
 
 answer_shows : (f me : ℕ) (heard : Heard) (before : ReplicaData) (sender : ℕ) (s : ReplicaData) → IsOther f me (Replica sender)
-    → leads f me s ≡ true → is_normal s.status ≡ true → Shown f me heard before (s, to_replica sender (start_view s))
+    → leads f me s ≡ true → is_normal s.status ≡ true → Shown f me heard before (s, to_replica sender (start_view_message s))
 answer_shows f me heard before sender s other lead normal = record { shows = (record { normal = normal; led = lead; receiver = other; read = refl }, tt) }
 
 pub view_change_shows : (f me : ℕ) (heard : Heard) (s : ReplicaData) (sender : ℕ) (b : ViewChangeBody) → IsOther f me (Replica sender)
@@ -164,7 +165,7 @@ view_change_shows f me heard s sender b other =
     = λ lead. entered_shows f me heard s sender b (in_view_change kept b.view) lead refl in
     let going : leads f me s ≡ true → Shown f me heard s (collect f me sender b kept) = λ lead. collect_shows f me heard s sender b kept lead in
     let answer : leads f me s ≡ true → is_normal s.status ≡ true
-    → Shown f me heard s (kept, to_replica sender (start_view kept)) = λ lead normal. answer_shows f me heard s sender kept other lead normal in
+    → Shown f me heard s (kept, to_replica sender (start_view_message kept)) = λ lead normal. answer_shows f me heard s sender kept other lead normal in
     grind (arith, nat_tests, stay, anew, going, answer, up_kinds)
 
 -- ---- timers

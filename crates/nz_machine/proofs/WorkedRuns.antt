@@ -17,20 +17,22 @@ use Rattle.nz_machine.specs.State.{Group}
 use Rattle.sha1.specs.Sha1.{first_words, schedule, rounds, compress, hash_after, digest_bytes, sha1}
 use Rattle.nz_digest.specs.Digests.{key_bytes}
 use Rattle.nz_math.specs.Count.{count_below}
-use Rattle.nz_merge.specs.Merged.{merged, later}
+use Rattle.nz_merge.specs.Merged.{merged, later_keys}
 use Rattle.nz_store.specs.Reading.{key_at, value_at, choice_at, command_of}
-use Rattle.nz_store.specs.Reading.{body_at as command_body_at, command_at as command_there}
+use Rattle.nz_store.specs.Reading as reading
+use Rattle.nz_store.specs.Reading.{command_at}
 use Rattle.nz_store.specs.Sequence.{apply, apply_bytes, store_from, replies_from}
 use Rattle.nz_machine.specs.Clients.{wait_rule, accept_rule}
 use Rattle.nz_machine.specs.Proxies.{stamp_rule, reply_rule, clock_rule}
 use Rattle.nz_machine.specs.Quorums.{decision}
 use Rattle.nz_machine.specs.Requests.{request_rule}
 use Rattle.nz_machine.specs.Releases.{releases, release_rule}
-use Rattle.nz_machine.specs.LogMods.{sync_keys, log_mod_rule, fetch_rule, kept_all, fetch_reply_rule, sync_report_rule}
+use Rattle.nz_machine.specs.LogMods.{sync_keys, log_mod_rule, fetch_rule, with_late_entries, fetch_reply_rule, sync_report_rule}
 use Rattle.nz_machine.specs.Views.{enter_view, alarm_rule, view_ask_rule}
 use Rattle.nz_machine.specs.Adopting.{start_view_rule}
 use Rattle.nz_machine.specs.Begins.{begin, view_change_rule}
-use Rattle.nz_machine.specs.Rejoining.{crash_rule, restart_rule, vector_ask_rule, vector_tell_rule, rejoin_ask_rule, rejoin_tell_rule, state_ask_rule, state_tell_rule}
+use Rattle.nz_machine.specs.Rejoining.{crash_rule, restart_rule, vector_ask_rule, vector_tell_rule, rejoin_ask_rule}
+use Rattle.nz_machine.specs.Rejoining.{rejoin_tell_rule, state_ask_rule, state_tell_rule}
 use Rattle.nz_frame.specs.Grammar.{frame}
 use Rattle.nz_frame.specs.Refusal.{refusal}
 use Rattle.nz_msg.specs.Codec.{number_bytes, number_at, run_at, limited_at, optional_at, items_put, items_at}
@@ -39,7 +41,7 @@ use Rattle.nz_msg.specs.Messages.{body_at}
 use Rattle.nz_machine.specs.Incarnations.{is_restart}
 use Rattle.nz_machine.specs.State.{ReplicaData}
 use Rattle.nz_machine.specs.Replicas.{first_replica, last_clock}
-use Rattle.nz_machine.specs.Step.{node_step, heard}
+use Rattle.nz_machine.specs.Step.{node_step, envelope_for}
 use Rattle.nz_machine.specs.World.{state_after, sent_in, Has, IsGroup, IsMember, Restarts, MayHappen, World}
 
 -- put a 1
@@ -167,18 +169,43 @@ never_restarted (r ∷ J) a nonce e =
     (λ h. not_restart r.event nonce (false_of (is_restart r.event) both.0) h.1, never_restarted J a nonce both.1)
 
 start_group : IsGroup group
-unfolding command_of command_there value_at key_at command_body_at
-start_group = record { least_f = omega arith; most_f = omega arith; least_proxies = omega arith; most_proxies = omega arith; least_window = omega arith; most_window = omega arith; least_clients = omega arith; most_clients = omega arith; few_requests = omega arith; commands = ((record { command = refl }, tt), tt) }
+unfolding command_of command_at value_at key_at reading.body_at
+start_group =
+    record {
+      least_f = omega arith;
+      most_f = omega arith;
+      least_proxies = omega arith;
+      most_proxies = omega arith;
+      least_window = omega arith;
+      most_window = omega arith;
+      least_clients = omega arith;
+      most_clients = omega arith;
+      few_requests = omega arith;
+      commands = ((record { command = refl }, tt), tt);
+    }
 
 pub is_accepted : World group accepted
-unfolding accepted replied released spread stamped opened play arrive come all_tick state_after encode_of decode_of frame refusal number_bytes number_at run_at limited_at optional_at items_put items_at body_at heard clock_rule wait_rule accept_rule stamp_rule reply_rule decision count_below key_bytes first_words schedule rounds compress hash_after digest_bytes sha1 apply apply_bytes store_from replies_from key_at value_at choice_at command_of command_body_at command_there request_rule release_rule releases sync_keys log_mod_rule fetch_rule kept_all fetch_reply_rule sync_report_rule enter_view alarm_rule view_ask_rule start_view_rule begin view_change_rule crash_rule restart_rule vector_ask_rule vector_tell_rule rejoin_ask_rule rejoin_tell_rule state_ask_rule state_tell_rule merged later
+unfolding accepted replied released spread stamped opened play arrive come all_tick state_after encode_of decode_of
+    frame refusal number_bytes number_at run_at limited_at optional_at items_put items_at body_at envelope_for clock_rule
+    wait_rule accept_rule stamp_rule reply_rule decision count_below key_bytes first_words schedule rounds compress
+    hash_after digest_bytes sha1 apply apply_bytes store_from replies_from key_at value_at choice_at command_of
+    reading.body_at command_at request_rule release_rule releases sync_keys log_mod_rule fetch_rule with_late_entries
+    fetch_reply_rule sync_report_rule enter_view alarm_rule view_ask_rule start_view_rule begin view_change_rule
+    crash_rule restart_rule vector_ask_rule vector_tell_rule rejoin_ask_rule rejoin_tell_rule state_ask_rule state_tell_rule merged later_keys
 is_accepted =
     let at_asked = played [] (Client 0) (Tick 1000) start_group (omega arith) (omega arith) in
-    let at_stamped = came 1 (Client 0) (Proxy 0) (play opened (Proxy 0) (Tick 2000)) (played opened (Proxy 0) (Tick 2000) at_asked (omega arith) (omega arith)) (omega arith) in
+    let at_stamped =
+    came 1 (Client 0) (Proxy 0) (play opened (Proxy 0) (Tick 2000))
+    (played opened (Proxy 0) (Tick 2000) at_asked (omega arith) (omega arith)) (omega arith) in
     let here = all_tick 3000 stamped in
     let first = come 2 (Proxy 0) (Replica 0) here in
-    let at_spread = came 2 (Proxy 0) (Replica 2) (come 2 (Proxy 0) (Replica 1) first) (came 2 (Proxy 0) (Replica 1) first (came 2 (Proxy 0) (Replica 0) here (all_ticked 3000 stamped at_stamped (omega arith)) (omega arith)) (omega arith)) (omega arith) in
+    let at_spread =
+    came 2 (Proxy 0) (Replica 2) (come 2 (Proxy 0) (Replica 1) first)
+    (came 2 (Proxy 0) (Replica 1) first
+    (came 2 (Proxy 0) (Replica 0) here (all_ticked 3000 stamped at_stamped (omega arith)) (omega arith)) (omega arith)) (omega arith) in
     let at_released = all_ticked 13000 spread at_spread (omega arith) in
     let one = come 3 (Replica 0) (Proxy 0) released in
-    let at_replied = came 3 (Replica 2) (Proxy 0) (come 3 (Replica 1) (Proxy 0) one) (came 3 (Replica 1) (Proxy 0) one (came 3 (Replica 0) (Proxy 0) released at_released (omega arith)) (omega arith)) (omega arith) in
+    let at_replied =
+    came 3 (Replica 2) (Proxy 0) (come 3 (Replica 1) (Proxy 0) one)
+    (came 3 (Replica 1) (Proxy 0) one (came 3 (Replica 0) (Proxy 0) released at_released (omega arith)) (omega arith)) (omega arith) in
     came 5 (Proxy 0) (Client 0) replied at_replied (omega arith)

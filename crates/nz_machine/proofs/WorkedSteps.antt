@@ -5,7 +5,7 @@ use Rattle.std.specs.Prelude.{◌++◌}
 use Rattle.nz_base.specs.declared.actor.Actor.{Actor}
 use Rattle.nz_base.specs.declared.actor.Actor.TheVariants.{Replica, Proxy}
 use Rattle.nz_base.specs.declared.key.Entry.{Entry}
-use Rattle.nz_merge.specs.Merged.{merged, later}
+use Rattle.nz_merge.specs.Merged.{merged, later_keys}
 use Rattle.nz_msg.specs.declared.message.Message.{Message}
 use Rattle.nz_msg.specs.declared.message.Message.TheVariants as messages
 use Rattle.nz_machine.specs.declared.data.Status.TheVariants.{Normal, ViewChange}
@@ -23,7 +23,8 @@ use Rattle.nz_machine.specs.LogMods.{log_mod_rule, fetch_rule, fetch_reply_rule,
 use Rattle.nz_machine.specs.Views.{enter_view, alarm_rule, view_ask_rule}
 use Rattle.nz_machine.specs.Adopting.{start_view_rule}
 use Rattle.nz_machine.specs.Begins.{begin, view_change_rule}
-use Rattle.nz_machine.specs.Rejoining.{restarted_replica, restart_rule, rejoin_ask, vector_ask_rule, vector_tell_rule, rejoin_ask_rule, rejoin_tell_rule, state_ask_rule, state_tell_rule}
+use Rattle.nz_machine.specs.Rejoining.{restarted_replica, restart_rule, rejoin_ask_message, vector_ask_rule, vector_tell_rule}
+use Rattle.nz_machine.specs.Rejoining.{rejoin_ask_rule, rejoin_tell_rule, state_ask_rule, state_tell_rule}
 use Rattle.nz_machine.specs.Step.{replica_message, tick_rule, tick_step}
 use Rattle.nz_machine.proofs.WorkedRuns.{group}
 
@@ -72,7 +73,8 @@ record Views : Type 0 where
         (Replica 0, messages.StartView (record { view = 1; vector = 0 ∷ 0 ∷ 1 ∷ []; commit = 0; entries = [] })) ∷ [],
       )
   -- A stray report changes nothing.
-  stray : replica_message 1 1 (record changing { vector = 1 ∷ 0 ∷ 0 ∷ [] }) (Replica 0) (report (0 ∷ 9 ∷ 9 ∷ [])) ≡ (record changing { vector = 1 ∷ 0 ∷ 0 ∷ [] }, [])
+  stray : replica_message 1 1 (record changing { vector = 1 ∷ 0 ∷ 0 ∷ [] }) (Replica 0) (report (0 ∷ 9 ∷ 9 ∷ []))
+      ≡ (record changing { vector = 1 ∷ 0 ∷ 0 ∷ [] }, [])
   -- Who does not lead the view merges nothing of it.
   not_leader : replica_message 1 2 changing (Replica 0) (report (0 ∷ 0 ∷ 1 ∷ [])) ≡ (changing, [])
   -- The greatest commit is known to be committed, as far as the log goes.
@@ -84,21 +86,42 @@ record Views : Type 0 where
         log = record { entries = entry 1 ∷ entry 2 ∷ entry 3 ∷ []; synced = 3 };
         commit = 3;
         results = Absent ∷ Absent ∷ Absent ∷ [];
-        changes = (record { vector = 0 ∷ 0 ∷ 0 ∷ []; change = record { sender = 0; last = 0; synced = 3; commit = 3; log = entry 1 ∷ entry 2 ∷ entry 3 ∷ [] } }) ∷ [];
+        changes =
+            (record {
+              vector = 0 ∷ 0 ∷ 0 ∷ [];
+              change = record { sender = 0; last = 0; synced = 3; commit = 3; log = entry 1 ∷ entry 2 ∷ entry 3 ∷ [] };
+            }) ∷ [];
       }
   -- Acknowledgements of an earlier view do not count.
   acks : (replica_message 1 1 (record changing { ack = 4 ∷ 4 ∷ 4 ∷ [] }) (Replica 0) (report (0 ∷ 0 ∷ 0 ∷ []))).0.ack ≡ 0 ∷ 0 ∷ 0 ∷ []
   -- A start-view: entries that it leaves out go to late, its ids leave early and late, and what is early and not
   -- above its last is late.
-  adopted : (replica_message 1 2 (record normal { log = record { entries = entry 1 ∷ entry 2 ∷ []; synced = 1 }; commit = 1; early = entry 3 ∷ entry 4 ∷ entry 9 ∷ []; late = entry 5 ∷ entry 7 ∷ []; quiet = 9 }) (Replica 1)
+  adopted : (replica_message 1 2
+      (record normal {
+        log = record { entries = entry 1 ∷ entry 2 ∷ []; synced = 1 };
+        commit = 1;
+        early = entry 3 ∷ entry 4 ∷ entry 9 ∷ [];
+        late = entry 5 ∷ entry 7 ∷ [];
+        quiet = 9;
+      }) (Replica 1)
       (messages.StartView (record { view = 1; vector = 0 ∷ 0 ∷ 0 ∷ []; commit = 0; entries = entry 1 ∷ entry 4 ∷ entry 5 ∷ [] }))).0
-      ≡ record normal { view = 1; last = 1; log = record { entries = entry 1 ∷ entry 4 ∷ entry 5 ∷ []; synced = 3 }; commit = 1; early = entry 9 ∷ []; late = entry 7 ∷ entry 2 ∷ entry 3 ∷ [] }
+      ≡ record normal {
+        view = 1;
+        last = 1;
+        log = record { entries = entry 1 ∷ entry 4 ∷ entry 5 ∷ []; synced = 3 };
+        commit = 1;
+        early = entry 9 ∷ [];
+        late = entry 7 ∷ entry 2 ∷ entry 3 ∷ [];
+      }
   -- In normal operation one of the own view changes nothing; one that another sends neither.
-  started : replica_message 1 2 (record changing { status = Normal; last = 1 }) (Replica 1) (messages.StartView (record { view = 1; vector = 1 ∷ 0 ∷ 0 ∷ []; commit = 0; entries = entry 1 ∷ [] }))
+  started : replica_message 1 2 (record changing { status = Normal; last = 1 }) (Replica 1)
+      (messages.StartView (record { view = 1; vector = 1 ∷ 0 ∷ 0 ∷ []; commit = 0; entries = entry 1 ∷ [] }))
       ≡ (record changing { status = Normal; last = 1 }, [])
-  by_another : replica_message 1 2 changing (Replica 0) (messages.StartView (record { view = 1; vector = 1 ∷ 0 ∷ 0 ∷ []; commit = 0; entries = entry 1 ∷ [] })) ≡ (changing, [])
+  by_another : replica_message 1 2 changing (Replica 0)
+      (messages.StartView (record { view = 1; vector = 1 ∷ 0 ∷ 0 ∷ []; commit = 0; entries = entry 1 ∷ [] })) ≡ (changing, [])
   -- A log modification of the own view merges nothing in a view change. One of a later view is a reason to enter it.
-  own_view : replica_message 1 2 changing (Replica 1) (messages.LogMod (record { view = 1; vector = 1 ∷ 0 ∷ 0 ∷ []; commit = 0; start = 0; keys = [] })) ≡ (changing, [])
+  own_view : replica_message 1 2 changing (Replica 1)
+      (messages.LogMod (record { view = 1; vector = 1 ∷ 0 ∷ 0 ∷ []; commit = 0; start = 0; keys = [] })) ≡ (changing, [])
   later_view : replica_message 1 2 normal (Replica 1) (messages.LogMod (record { view = 1; vector = 1 ∷ 0 ∷ 0 ∷ []; commit = 0; start = 0; keys = [] }))
       ≡ (
         record changing { vector = 1 ∷ 0 ∷ 0 ∷ [] },
@@ -107,9 +130,27 @@ record Views : Type 0 where
       )
   -- Entering a view, also another in a view change: both timers start anew, nothing is collected, and what else there
   -- is stays.
-  entered : replica_message 1 2 (record changing { clock = 7; last = 0; commit = 1; log = record { entries = entry 1 ∷ []; synced = 1 }; late = entry 2 ∷ []; ack = 1 ∷ 1 ∷ 1 ∷ []; quiet = 9; since = 9; changes = reported 0 ∷ [] }) (Replica 0) (messages.ViewAsk (record { view = 4 }))
+  entered : replica_message 1 2 (record changing {
+    clock = 7;
+    last = 0;
+    commit = 1;
+    log = record { entries = entry 1 ∷ []; synced = 1 };
+    late = entry 2 ∷ [];
+    ack = 1 ∷ 1 ∷ 1 ∷ [];
+    quiet = 9;
+    since = 9;
+    changes = reported 0 ∷ [];
+  }) (Replica 0) (messages.ViewAsk (record { view = 4 }))
       ≡ (
-        record changing { clock = 7; view = 4; last = 0; commit = 1; log = record { entries = entry 1 ∷ []; synced = 1 }; late = entry 2 ∷ []; ack = 1 ∷ 1 ∷ 1 ∷ [] },
+        record changing {
+          clock = 7;
+          view = 4;
+          last = 0;
+          commit = 1;
+          log = record { entries = entry 1 ∷ []; synced = 1 };
+          late = entry 2 ∷ [];
+          ack = 1 ∷ 1 ∷ 1 ∷ [];
+        },
         (Replica 0, messages.ViewAsk (record { view = 4 })) ∷ (Replica 1, messages.ViewAsk (record { view = 4 }))
             ∷ (Replica 1, messages.ViewChange (record { view = 4; last = 0; vector = 0 ∷ 0 ∷ 0 ∷ []; synced = 1; commit = 1; entries = entry 1 ∷ [] })) ∷ [],
       )
@@ -124,12 +165,35 @@ record Views : Type 0 where
   up : restart_rule 1 2 changing 7 ≡ (changing, [])
 
 views : Views
-unfolding request_rule releases release_rule log_mod_rule fetch_rule fetch_reply_rule sync_report_rule enter_view alarm_rule view_ask_rule start_view_rule begin view_change_rule restart_rule merged later replies_from apply_bytes command_of command_at
-views = record { exactly = refl; purged = refl; purged_in_normal = refl; stray = refl; not_leader = refl; commit = refl; acks = refl; adopted = refl; started = refl; by_another = refl; own_view = refl; later_view = refl; entered = refl; same_view = refl; last_alarm = refl; last_quiet = refl; last_since = refl; down = refl; up = refl }
+unfolding request_rule releases release_rule log_mod_rule fetch_rule fetch_reply_rule sync_report_rule enter_view
+    alarm_rule view_ask_rule start_view_rule begin view_change_rule restart_rule merged later_keys replies_from apply_bytes command_of command_at
+views =
+    record {
+      exactly = refl;
+      purged = refl;
+      purged_in_normal = refl;
+      stray = refl;
+      not_leader = refl;
+      commit = refl;
+      acks = refl;
+      adopted = refl;
+      started = refl;
+      by_another = refl;
+      own_view = refl;
+      later_view = refl;
+      entered = refl;
+      same_view = refl;
+      last_alarm = refl;
+      last_quiet = refl;
+      last_since = refl;
+      down = refl;
+      up = refl;
+    }
 
 -- Whatever comes to a replica that is down is an empty step.
 down_hears_nothing : (f me : ℕ) (from : Actor) (m : Message) → replica_message f me (crashed_replica f) from m ≡ (crashed_replica f, [])
-unfolding request_rule log_mod_rule fetch_rule fetch_reply_rule sync_report_rule view_ask_rule start_view_rule view_change_rule vector_ask_rule vector_tell_rule rejoin_ask_rule rejoin_tell_rule state_ask_rule state_tell_rule
+unfolding request_rule log_mod_rule fetch_rule fetch_reply_rule sync_report_rule view_ask_rule start_view_rule
+    view_change_rule vector_ask_rule vector_tell_rule rejoin_ask_rule rejoin_tell_rule state_ask_rule state_tell_rule
 down_hears_nothing f me (Proxy p) (messages.Timed b) = refl
 down_hears_nothing f me (Replica r) (messages.LogMod b) = refl
 down_hears_nothing f me (Replica r) (messages.Fetch b) = refl
@@ -160,41 +224,67 @@ in_third wanted = record at_first { phase = phases.Log; wanted = wanted }
 
 record Rejoins : Type 0 where
   -- The counter is one more than the greatest that was told, and the second teller is enough.
-  counted : replica_message 1 2 (record (rejoining (record at_first { claim = 4; tellers = 0 ∷ [] })) { since = 3 }) (Replica 1) (messages.VectorTell (record { nonce = 5; vector = 3 ∷ 0 ∷ 2 ∷ [] }))
+  counted : replica_message 1 2 (record (rejoining (record at_first { claim = 4; tellers = 0 ∷ [] })) { since = 3 })
+      (Replica 1) (messages.VectorTell (record { nonce = 5; vector = 3 ∷ 0 ∷ 2 ∷ [] }))
       ≡ (
         record (rejoining (record at_first { phase = phases.Views; claim = 4; tellers = 0 ∷ 1 ∷ [] })) { vector = 3 ∷ 0 ∷ 5 ∷ [] },
-        (Replica 0, messages.RejoinAsk (record { nonce = 5; vector = 3 ∷ 0 ∷ 5 ∷ [] })) ∷ (Replica 1, messages.RejoinAsk (record { nonce = 5; vector = 3 ∷ 0 ∷ 5 ∷ [] })) ∷ [],
+        (Replica 0, messages.RejoinAsk (record { nonce = 5; vector = 3 ∷ 0 ∷ 5 ∷ [] }))
+            ∷ (Replica 1, messages.RejoinAsk (record { nonce = 5; vector = 3 ∷ 0 ∷ 5 ∷ [] })) ∷ [],
       )
   -- The same teller twice is one.
-  once : replica_message 1 2 (rejoining (record at_first { tellers = 0 ∷ [] })) (Replica 0) (messages.VectorTell (record { nonce = 5; vector = 0 ∷ 0 ∷ 2 ∷ [] }))
+  once : replica_message 1 2 (rejoining (record at_first { tellers = 0 ∷ [] })) (Replica 0)
+      (messages.VectorTell (record { nonce = 5; vector = 0 ∷ 0 ∷ 2 ∷ [] }))
       ≡ (rejoining (record at_first { claim = 2; tellers = 0 ∷ [] }), [])
   -- There is no counter after the last.
-  full : replica_message 1 2 (rejoining (record at_first { tellers = 0 ∷ [] })) (Replica 1) (messages.VectorTell (record { nonce = 5; vector = 0 ∷ 0 ∷ 4294967295 ∷ [] }))
+  full : replica_message 1 2 (rejoining (record at_first { tellers = 0 ∷ [] })) (Replica 1)
+      (messages.VectorTell (record { nonce = 5; vector = 0 ∷ 0 ∷ 4294967295 ∷ [] }))
       ≡ (rejoining (record at_first { claim = 4294967295; tellers = 0 ∷ 1 ∷ [] }), [])
   -- Another restart's answer is nothing.
-  other_nonce : replica_message 1 2 (rejoining at_first) (Replica 1) (messages.VectorTell (record { nonce = 4; vector = 7 ∷ 7 ∷ 7 ∷ [] })) ≡ (rejoining at_first, [])
+  other_nonce : replica_message 1 2 (rejoining at_first) (Replica 1)
+      (messages.VectorTell (record { nonce = 4; vector = 7 ∷ 7 ∷ 7 ∷ [] })) ≡ (rejoining at_first, [])
   -- The greatest view is wanted, and its leader is asked.
-  wanted : replica_message 1 2 (record (rejoining (told 0 1 (0 ∷ 0 ∷ 0 ∷ []) in_second)) { since = 3 }) (Replica 1) (messages.RejoinTell (record { nonce = 5; view = 0; vector = 0 ∷ 0 ∷ 0 ∷ [] }))
+  wanted : replica_message 1 2 (record (rejoining (told 0 1 (0 ∷ 0 ∷ 0 ∷ []) in_second)) { since = 3 }) (Replica 1)
+      (messages.RejoinTell (record { nonce = 5; view = 0; vector = 0 ∷ 0 ∷ 0 ∷ [] }))
       ≡ (
         rejoining (record (told 1 0 (0 ∷ 0 ∷ 0 ∷ []) (told 0 1 (0 ∷ 0 ∷ 0 ∷ []) in_second)) { phase = phases.Log; wanted = 1 }),
         (Replica 1, messages.StateAsk (record { nonce = 5; view = 1; vector = 0 ∷ 0 ∷ 0 ∷ [] })) ∷ [],
       )
   -- What the new answer makes stray goes, and one is too few.
-  purged : replica_message 1 2 (rejoining (told 0 1 (0 ∷ 0 ∷ 0 ∷ []) in_second)) (Replica 1) (messages.RejoinTell (record { nonce = 5; view = 0; vector = 1 ∷ 0 ∷ 0 ∷ [] }))
+  purged : replica_message 1 2 (rejoining (told 0 1 (0 ∷ 0 ∷ 0 ∷ []) in_second)) (Replica 1)
+      (messages.RejoinTell (record { nonce = 5; view = 0; vector = 1 ∷ 0 ∷ 0 ∷ [] }))
       ≡ (record (rejoining (told 1 0 (1 ∷ 0 ∷ 0 ∷ []) in_second)) { vector = 1 ∷ 0 ∷ 0 ∷ [] }, [])
   -- Its own view: nothing stays collected.
-  own_view : replica_message 1 2 (record (rejoining (told 0 2 (0 ∷ 0 ∷ 0 ∷ []) in_second)) { since = 3 }) (Replica 1) (messages.RejoinTell (record { nonce = 5; view = 0; vector = 0 ∷ 0 ∷ 0 ∷ [] }))
+  own_view : replica_message 1 2 (record (rejoining (told 0 2 (0 ∷ 0 ∷ 0 ∷ []) in_second)) { since = 3 }) (Replica 1)
+      (messages.RejoinTell (record { nonce = 5; view = 0; vector = 0 ∷ 0 ∷ 0 ∷ [] }))
       ≡ (record (rejoining in_second) { since = 3 }, [])
   -- From the third phase it goes back to the second with nothing collected.
   back : tick_rule 1 2 (record (rejoining (told 0 0 (0 ∷ 0 ∷ 0 ∷ []) (in_third 1))) { since = 4 }) 9000
-      ≡ (record (rejoining (record in_second { wanted = 1 })) { clock = 9000 }, (Replica 0, rejoin_ask (rejoining in_second)) ∷ (Replica 1, rejoin_ask (rejoining in_second)) ∷ [])
+      ≡ (
+        record (rejoining (record in_second { wanted = 1 })) { clock = 9000 },
+        (Replica 0, rejoin_ask_message (rejoining in_second)) ∷ (Replica 1, rejoin_ask_message (rejoining in_second)) ∷ [],
+      )
   -- In the second what is collected stays.
   again : tick_rule 1 2 (record (rejoining (told 0 0 (0 ∷ 0 ∷ 0 ∷ []) in_second)) { since = 4 }) 9000
-      ≡ (record (rejoining (told 0 0 (0 ∷ 0 ∷ 0 ∷ []) in_second)) { clock = 9000 }, (Replica 0, rejoin_ask (rejoining in_second)) ∷ (Replica 1, rejoin_ask (rejoining in_second)) ∷ [])
+      ≡ (
+        record (rejoining (told 0 0 (0 ∷ 0 ∷ 0 ∷ []) in_second)) { clock = 9000 },
+        (Replica 0, rejoin_ask_message (rejoining in_second)) ∷ (Replica 1, rejoin_ask_message (rejoining in_second)) ∷ [],
+      )
   -- The leader of an earlier view than the wanted one is not followed; that of a later one is, and its commit is taken.
-  earlier : replica_message 1 2 (rejoining (in_third 1)) (Replica 0) (messages.StateTell (record { nonce = 5; view = 0; vector = 1 ∷ 0 ∷ 0 ∷ []; commit = 0; entries = [] })) ≡ (rejoining (in_third 1), [])
-  later_view : replica_message 1 2 (rejoining (in_third 1)) (Replica 0) (messages.StateTell (record { nonce = 5; view = 3; vector = 1 ∷ 0 ∷ 0 ∷ []; commit = 1; entries = entry 1 ∷ entry 2 ∷ [] }))
-      ≡ (record (rejoining (in_third 1)) { status = Normal; view = 3; last = 3; log = record { entries = entry 1 ∷ entry 2 ∷ []; synced = 2 }; commit = 1; vector = 1 ∷ 0 ∷ 0 ∷ [] }, [])
+  earlier : replica_message 1 2 (rejoining (in_third 1)) (Replica 0)
+      (messages.StateTell (record { nonce = 5; view = 0; vector = 1 ∷ 0 ∷ 0 ∷ []; commit = 0; entries = [] })) ≡ (rejoining (in_third 1), [])
+  later_view : replica_message 1 2 (rejoining (in_third 1)) (Replica 0)
+      (messages.StateTell (record { nonce = 5; view = 3; vector = 1 ∷ 0 ∷ 0 ∷ []; commit = 1; entries = entry 1 ∷ entry 2 ∷ [] }))
+      ≡ (
+        record (rejoining (in_third 1)) {
+          status = Normal;
+          view = 3;
+          last = 3;
+          log = record { entries = entry 1 ∷ entry 2 ∷ []; synced = 2 };
+          commit = 1;
+          vector = 1 ∷ 0 ∷ 0 ∷ [];
+        },
+        [],
+      )
   -- Who asks for a later view than the leader's gets no answer, and nothing of the ask is merged.
   ahead : replica_message 1 0 normal (Replica 2) (messages.StateAsk (record { nonce = 5; view = 3; vector = 0 ∷ 0 ∷ 1 ∷ [] })) ≡ (normal, [])
   -- Who is asked merges the vector first.
@@ -205,4 +295,20 @@ record Rejoins : Type 0 where
 
 rejoins : Rejoins
 unfolding releases release_rule vector_tell_rule rejoin_ask_rule rejoin_tell_rule state_ask_rule state_tell_rule
-rejoins = record { counted = refl; once = refl; full = refl; other_nonce = refl; wanted = refl; purged = refl; own_view = refl; back = refl; again = refl; earlier = refl; later_view = refl; ahead = refl; answered = refl; silent = refl }
+rejoins =
+    record {
+      counted = refl;
+      once = refl;
+      full = refl;
+      other_nonce = refl;
+      wanted = refl;
+      purged = refl;
+      own_view = refl;
+      back = refl;
+      again = refl;
+      earlier = refl;
+      later_view = refl;
+      ahead = refl;
+      answered = refl;
+      silent = refl;
+    }

@@ -10,13 +10,13 @@ use Rattle.nz_machine.specs.declared.data.Status.TheVariants.{Normal}
 use Rattle.nz_machine.specs.State.{ReplicaData, Out}
 use Rattle.nz_machine.specs.Replicas.{is_changing, is_up}
 use Rattle.nz_machine.specs.Vectors.{unless_stray}
-use Rattle.nz_machine.specs.LogMods.{overtaken}
+use Rattle.nz_machine.specs.LogMods.{overtaken_to_late}
 
 -- The list is the log, all of it synced. Entries of the old log that it leaves out go to late, its ids leave early
 -- and late, and early entries that are not above its last go to late.
 abbrev pub with_log : ReplicaData → List Entry → ReplicaData
 with_log s list =
-    overtaken (record s {
+    overtaken_to_late (record s {
       log = record { entries = list; synced = length list };
       early = left_out s.early list;
       late = left_out (s.late ++ s.log.entries) list;
@@ -27,8 +27,8 @@ abbrev pub normal_in : ReplicaData → ℕ → List Entry → ℕ → ReplicaDat
 normal_in s view log commit = record (with_log s log) { status = Normal; view = view; last = view; commit = commit; quiet = 0 }
 
 -- What the leader of a view sends to start it.
-abbrev pub start_view : ReplicaData → Message
-start_view s = messages.StartView (record { view = s.view; vector = s.vector; commit = s.commit; entries = s.log.entries })
+abbrev pub start_view_message : ReplicaData → Message
+start_view_message s = messages.StartView (record { view = s.view; vector = s.vector; commit = s.commit; entries = s.log.entries })
 
 -- Whether a view may start here: a later one, or the one of the view change.
 abbrev pub may_start : ReplicaData → ℕ → Bool

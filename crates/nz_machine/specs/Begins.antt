@@ -12,7 +12,7 @@ use Rattle.nz_machine.specs.declared.data.Reported.{Reported}
 use Rattle.nz_machine.specs.Replicas.{most_entries, is_changing, is_up, commands, to_others, to_replica, ◌and_then◌}
 use Rattle.nz_machine.specs.Vectors.{unless_stray}
 use Rattle.nz_machine.specs.Views.{enter_later}
-use Rattle.nz_machine.specs.Adopting.{normal_in, start_view}
+use Rattle.nz_machine.specs.Adopting.{normal_in, start_view_message}
 
 -- ---- what is collected
 
@@ -55,7 +55,7 @@ begin f me s =
     let changes = changes_of me s in
     let log = merged f changes in
     if nat_lt most_entries (length log) then (s, [])
-    else (let begun = after_begin f s log (greatest (map (λ c. c.commit) changes)) in (begun, to_others f me (start_view begun)))
+    else (let begun = after_begin f s log (greatest (map (λ c. c.commit) changes)) in (begun, to_others f me (start_view_message begun)))
 
 -- ---- the rule
 
@@ -67,7 +67,7 @@ collect f me sender b s =
 
 -- In the view change the report is collected. Where the view has begun already, its sender gets a start-view.
 abbrev pub hear_report : ℕ → ℕ → ℕ → ViewChangeBody → ReplicaData → ReplicaData × List Out
-hear_report f me sender b s = if is_changing s.status then collect f me sender b s else (s, to_replica sender (start_view s))
+hear_report f me sender b s = if is_changing s.status then collect f me sender b s else (s, to_replica sender (start_view_message s))
 
 -- Whether the replica leads the view, and the view is its own or a later one.
 abbrev pub may_lead : ℕ → ℕ → ReplicaData → ℕ → Bool

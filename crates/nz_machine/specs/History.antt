@@ -22,7 +22,7 @@ use Rattle.nz_machine.specs.State.{Group, Standing, Open, Decided}
 use Rattle.nz_machine.specs.Quorums.{Chosen, decision, reply_eq, with_note}
 use Rattle.nz_machine.specs.Proxies.{standing_of, of_fast, of_slow}
 use Rattle.nz_machine.specs.World.{state_after}
-use Rattle.nz_machine.specs.Events.{Told, Accepted, read_in, told_by}
+use Rattle.nz_machine.specs.Events.{ClientEvent, Accepted, read_in, client_events}
 
 -- ---- where a parcel comes from
 
@@ -79,14 +79,14 @@ reply_read id None = None
 reply_read id (Some e) = reply_in id e.from e.message
 
 -- The replies with one more noted, if there is one.
-abbrev pub with_reply : List Reply → Option Reply → List Reply
-with_reply replies None = replies
-with_reply replies (Some reply) = with_note replies reply
+abbrev pub with_reply_noted : List Reply → Option Reply → List Reply
+with_reply_noted replies None = replies
+with_reply_noted replies (Some reply) = with_note replies reply
 
 -- The replies noted for the request, the last record's included.
 abbrev pub replies_at_last : Group → ℕ → Id → List Record → List Reply
 replies_at_last g p id [] = []
-replies_at_last g p id (r ∷ J) = with_reply (replies_of (standing_after g p id J)) (reply_read id (read_in g (Proxy p) r.event))
+replies_at_last g p id (r ∷ J) = with_reply_noted (replies_of (standing_after g p id J)) (reply_read id (read_in g (Proxy p) r.event))
 
 -- The leader's reply that the quorum names, at the moment of the decision.
 abbrev pub deciding_reply : Group → ℕ → Id → List Record → Option Reply
@@ -110,9 +110,9 @@ parcel_in Crash = None
 parcel_in (Restart nonce) = None
 
 -- The parcel that the last record delivers.
-abbrev pub delivered : List Record → Option Parcel
-delivered [] = None
-delivered (r ∷ J) = parcel_in r.event
+abbrev pub parcel_delivered : List Record → Option Parcel
+parcel_delivered [] = None
+parcel_delivered (r ∷ J) = parcel_in r.event
 
 -- The log of a replica after the records. Other actors have none.
 abbrev pub log_at : Group → Actor → List Record → List Entry
@@ -140,7 +140,7 @@ source_of J p = option_map (λ K. record { sender = p.from; run = K }) (source p
 
 -- The source of the parcel that brought a reply.
 abbrev pub source_of_reply : Group → ℕ → Id → List Record → Reply → Option ReplySource
-source_of_reply g p id K reply = option_and_then (λ M. option_and_then (source_of M) (delivered M)) (noting_moment g p id reply K)
+source_of_reply g p id K reply = option_and_then (λ M. option_and_then (source_of M) (parcel_delivered M)) (noting_moment g p id reply K)
 
 -- The source of the reply with which a proxy decided.
 abbrev pub source_at_decision : Group → ℕ → Id → List Record → Option ReplySource
@@ -170,7 +170,7 @@ entries_or None = []
 entries_or (Some es) = es
 
 -- The accepted prefix of a record that accepts, else nothing.
-abbrev pub prefix_in : Group → List Told → Event → List Record → List Entry
+abbrev pub prefix_in : Group → List ClientEvent → Event → List Record → List Entry
 prefix_in g (Accepted id answer path ∷ told) (Deliver p) J = entries_or (accepted_prefix g id p J)
 prefix_in g _ _ J = []
 
@@ -181,4 +181,4 @@ longer old new = if nat_lt (length old) (length new) then new else old
 -- The longest accepted prefix, the first of these among equals.
 abbrev pub history : Group → List Record → List Entry
 history g [] = []
-history g (r ∷ J) = longer (history g J) (prefix_in g (told_by g r.actor r J) r.event J)
+history g (r ∷ J) = longer (history g J) (prefix_in g (client_events g r.actor r J) r.event J)

@@ -21,20 +21,20 @@ abbrev pub run_in : Journal → List Record
 run_in journal = reverse journal.records
 
 -- The entry with its answer, if there is one.
-abbrev pub answered : Entry → Option Answer → List Executed
-answered e None = []
-answered e (Some answer) = record { id = id_of e.key; command = e.command; answer = answer } ∷ []
+abbrev pub executed_if_answered : Entry → Option Answer → List Executed
+executed_if_answered e None = []
+executed_if_answered e (Some answer) = record { id = id_of e.key; command = e.command; answer = answer } ∷ []
 
 -- The entries from a place of the history on, counted from 0, with what the one store that executes the
 -- history answers them.
 abbrev pub executed_from : List Entry → ℕ → List Entry → List Executed
 executed_from H place [] = []
-executed_from H place (e ∷ es) = answered e (reply (commands H) place) ++ executed_from H (suc place) es
+executed_from H place (e ∷ es) = executed_if_answered e (reply (commands H) place) ++ executed_from H (suc place) es
 
 -- All entries of the history, each with its answer.
-abbrev pub executed : List Entry → List Executed
-executed H = executed_from H 0 H
+abbrev pub executed_entries : List Entry → List Executed
+executed_entries H = executed_from H 0 H
 
 -- The history of a journal's run.
 abbrev pub history_in : Journal → List Executed
-history_in journal = executed (history (group_in journal) (run_in journal))
+history_in journal = executed_entries (history (group_in journal) (run_in journal))

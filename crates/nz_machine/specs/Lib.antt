@@ -28,6 +28,6 @@ pub mod Knowledge
 pub mod Committed
 pub mod Schedule
 pub mod Journals
-pub mod Telling
+pub mod ClientProgress
 pub mod Hearing
 pub mod Shows

@@ -1,6 +1,7 @@
 -- The rules by which followers make their logs agree with the leader's: what the leader sends at a tick, how a
 -- follower takes it, and how missing entries are fetched and sync points reported.
-use Rattle.std.specs.Prelude.{ℕ, ◌-◌, Bool, not, ◌&&◌, ◌||◌, ◌==◌, nat_lt, nat_le, max, min, List, [], ◌∷◌, ◌++◌, length, map, take, drop, filter, Option, Some, None, if◌then◌else◌, slice_index, slice_set}
+use Rattle.std.specs.Prelude.{ℕ, ◌-◌, Bool, not, ◌&&◌, ◌||◌, ◌==◌, nat_lt, nat_le, max, min, List, [], ◌∷◌, ◌++◌, length}
+use Rattle.std.specs.Prelude.{map, take, drop, filter, Option, Some, None, if◌then◌else◌, slice_index, slice_set}
 use Rattle.std.specs.List.{list_any, flat_map}
 use Rattle.std.specs.Map.{lookup}
 use Rattle.nz_base.specs.Cluster.{leader_of}
@@ -10,8 +11,8 @@ use Rattle.nz_base.specs.declared.actor.Actor.TheVariants.{Replica}
 use Rattle.nz_base.specs.declared.key.Id.{Id}
 use Rattle.nz_base.specs.declared.key.Key.{Key}
 use Rattle.nz_base.specs.declared.key.Entry.{Entry}
-use Rattle.nz_window.specs.Samples.{in_order}
-use Rattle.nz_log.specs.Synced.{synced_part, unsynced_part, modified, displaced}
+use Rattle.nz_window.specs.Samples.{numbers_in_order}
+use Rattle.nz_log.specs.Synced.{synced_part, unsynced_part, log_with_synced, displaced_entries}
 use Rattle.nz_buffers.specs.Buffers.{find_id, without}
 use Rattle.nz_msg.specs.declared.message.LogModBody.{LogModBody}
 use Rattle.nz_msg.specs.declared.message.FetchBody.{FetchBody}
@@ -53,8 +54,8 @@ or_else None second = second
 or_else (Some e) second = Some e
 
 -- The entry with the id beyond the synced ones, in early or in late.
-abbrev pub found : ReplicaData → Id → Option Entry
-found s id = or_else (find_id (unsynced_part s.log) id) (or_else (find_id s.early id) (find_id s.late id))
+abbrev pub entry_of_id : ReplicaData → Id → Option Entry
+entry_of_id s id = or_else (find_id (unsynced_part s.log) id) (or_else (find_id s.early id) (find_id s.late id))
 
 -- Whether the id is in log, early or late.
 abbrev pub is_held : ReplicaData → Id → Bool
@@ -72,9 +73,9 @@ may_sync s key =
 abbrev pub synced_with : ReplicaData → Entry → ReplicaData
 synced_with s e =
     record s {
-      log = modified s.log e;
+      log = log_with_synced s.log e;
       early = without s.early (id_of e.key);
-      late = without (s.late ++ displaced s.log e) (id_of e.key);
+      late = without (s.late ++ displaced_entries s.log e) (id_of e.key);
     }
 
 -- What follows where the entry was found, and what is answered where it was not.
@@ -88,7 +89,7 @@ unfoldable pub sync_keys : ReplicaData → List Key → ReplicaData × List Key
 sync_keys s [] = (s, [])
 sync_keys s (key ∷ keys) =
     if may_sync s key
-    then if_found (found s (id_of key)) (s, key ∷ keys) (λ e. sync_keys (synced_with s (record { key = key; command = e.command })) keys)
+    then if_found (entry_of_id s (id_of key)) (s, key ∷ keys) (λ e. sync_keys (synced_with s (record { key = key; command = e.command })) keys)
     else (s, [])
 
 -- Early entries whose key is not above the last of the log go to late.
@@ -96,8 +97,8 @@ abbrev pub is_early_yet : ReplicaData → Entry → Bool
 is_early_yet s e = is_above_last (keys_of s.log.entries) e.key
 
 -- Early entries that are not above the log's last go to late.
-abbrev pub overtaken : ReplicaData → ReplicaData
-overtaken s =
+abbrev pub overtaken_to_late : ReplicaData → ReplicaData
+overtaken_to_late s =
     record s {
       early = filter (is_early_yet s) s.early;
       late = s.late ++ filter (λ e. not (is_early_yet s e)) s.early;
@@ -123,9 +124,9 @@ fetch_from leader s (id ∷ ids) = (Replica leader, Fetch (record { view = s.vie
 
 -- The end of the rule, after `sync_keys`. Its arguments are the state before, the leader, its commit, and the result
 -- of `sync_keys`.
-abbrev pub taken_in : ReplicaData → ℕ → ℕ → ReplicaData × List Key → ReplicaData × List Out
-taken_in before leader commit (s, missing) =
-    let after = committed_to (overtaken s) commit in
+abbrev pub after_taking_keys : ReplicaData → ℕ → ℕ → ReplicaData × List Key → ReplicaData × List Out
+after_taking_keys before leader commit (s, missing) =
+    let after = committed_to (overtaken_to_late s) commit in
     (after, replies_since after before.log.synced ++ (fetch_from leader after (missing_ids after missing) ++ sync_report_to leader after ∷ []))
 
 -- The follower has heard from its leader.
@@ -134,10 +135,10 @@ after_hearing s = record s { quiet = 0 }
 
 -- The first key belongs to the place start: the keys before the first place that is not synced are passed over.
 -- Where a place between is missing, the follower only reports its sync point.
-abbrev pub taken_from : ℕ → LogModBody → ReplicaData → ReplicaData × List Out
-taken_from leader b s =
+abbrev pub after_log_mod : ℕ → LogModBody → ReplicaData → ReplicaData × List Out
+after_log_mod leader b s =
     if nat_lt s.log.synced b.start then (s, sync_report_to leader s ∷ [])
-    else taken_in s leader b.commit (sync_keys s (drop (s.log.synced - b.start) b.keys))
+    else after_taking_keys s leader b.commit (sync_keys s (drop (s.log.synced - b.start) b.keys))
 
 -- Whether the leader of a later view is heard.
 abbrev pub hears_later_leader : ℕ → ReplicaData → ℕ → ℕ → Bool
@@ -147,7 +148,7 @@ hears_later_leader f s view sender = is_up s.status && (nat_lt s.view view && (s
 unfoldable pub log_mod_rule : ℕ → ℕ → ReplicaData → ℕ → LogModBody → ReplicaData × List Out
 log_mod_rule f me s sender b =
     if hears_later_leader f s b.view sender then unless_stray me s sender b.vector (enter_view f me b.view)
-    else (if hears_leader f me s b.view sender then unless_stray me s sender b.vector (λ t. taken_from sender b (after_hearing t))
+    else (if hears_leader f me s b.view sender then unless_stray me s sender b.vector (λ t. after_log_mod sender b (after_hearing t))
     else (s, []))
 
 -- ---- fetches
@@ -164,19 +165,19 @@ fetch_rule f me s sender b =
     else (s, [])
 
 -- An entry goes to late where its id is held nowhere and there is room.
-abbrev pub kept_late : ReplicaData → Entry → ReplicaData
-kept_late s e = if is_held s (id_of e.key) || is_full s then s else record s { late = s.late ++ e ∷ [] }
+abbrev pub with_late_entry : ReplicaData → Entry → ReplicaData
+with_late_entry s e = if is_held s (id_of e.key) || is_full s then s else record s { late = s.late ++ e ∷ [] }
 
 -- The entries in turn, each kept in late where it may be.
-unfoldable pub kept_all : ReplicaData → List Entry → ReplicaData
-kept_all s [] = s
-kept_all s (e ∷ es) = kept_all (kept_late s e) es
+unfoldable pub with_late_entries : ReplicaData → List Entry → ReplicaData
+with_late_entries s [] = s
+with_late_entries s (e ∷ es) = with_late_entries (with_late_entry s e) es
 
 -- A follower keeps in late what its leader sends.
 unfoldable pub fetch_reply_rule : ℕ → ℕ → ReplicaData → ℕ → FetchReplyBody → ReplicaData × List Out
 fetch_reply_rule f me s sender b =
     if hears_leader f me s b.view sender
-    then (kept_all s b.entries, [])
+    then (with_late_entries s b.entries, [])
     else (s, [])
 
 -- ---- sync reports
@@ -186,12 +187,12 @@ abbrev pub with_ack : ReplicaData → ℕ → ℕ → ReplicaData
 with_ack s sender synced = record s { ack = slice_set s.ack sender (max (slice_index s.ack sender) synced) }
 
 -- The f-th greatest of what the 2f others report: with the least at place 0, that at place f.
-abbrev pub reported : ℕ → ℕ → List ℕ → ℕ
-reported f me ack = slice_index (in_order (map (slice_index ack) (others f me))) f
+abbrev pub commit_point : ℕ → ℕ → List ℕ → ℕ
+commit_point f me ack = slice_index (numbers_in_order (map (slice_index ack) (others f me))) f
 
 -- The commit rises to what f others report.
 abbrev pub with_commit : ℕ → ℕ → ReplicaData → ReplicaData
-with_commit f me s = record s { commit = max s.commit (reported f me s.ack) }
+with_commit f me s = record s { commit = max s.commit (commit_point f me s.ack) }
 
 -- The leader notes how far a replica's log agrees, and commits what f others report.
 unfoldable pub sync_report_rule : ℕ → ℕ → ReplicaData → ℕ → SyncReportBody → ReplicaData × List Out

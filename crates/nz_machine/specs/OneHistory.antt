@@ -22,7 +22,7 @@ use Rattle.nz_machine.specs.State.{Group}
 use Rattle.nz_machine.specs.Replicas.{commands}
 use Rattle.nz_machine.specs.Step.{parcel}
 use Rattle.nz_machine.specs.World.{Has}
-use Rattle.nz_machine.specs.Events.{Told, Sent, Accepted, told_by}
+use Rattle.nz_machine.specs.Events.{ClientEvent, Sent, Accepted, client_events}
 use Rattle.nz_machine.specs.History.{log_at, cut_after, accepted_prefix}
 
 -- x comes before y.
@@ -46,7 +46,7 @@ pub record IsAnswered (H : List Entry) (id : Id) (answer : Answer) : Type 0 wher
 
 -- The clients' events come from one store that executes the history, each request once; and what was sent
 -- after an acceptance comes after it.
-pub record Lin (E : List Told) (H : List Entry) : Type 0 where
+pub record Lin (E : List ClientEvent) (H : List Entry) : Type 0 where
   pub once : HaveOwnIds (keys_of H)
   pub asked : (e : Entry) → Has H e → Has E (Sent (id_of e.key) e.command)
   pub answered : (id : Id) (answer : Answer) (path : Path) → Has E (Accepted id answer path) → IsAnswered H id answer
@@ -61,7 +61,7 @@ pub record Accepts (g : Group) (P : List Entry) (r : Record) (J : List Record) :
   pub answer : Answer
   pub path : Path
   pub brought : Parcel
-  pub told : Has (told_by g r.actor r J) (Accepted id answer path)
+  pub told : Has (client_events g r.actor r J) (Accepted id answer path)
   pub event : r.event ≡ Deliver brought
   pub prefix : accepted_prefix g id brought J ≡ Some P
 

@@ -3,7 +3,7 @@ use Rattle.std.specs.Prelude.{ℕ, ◌+◌, ◌==◌, [], replicate, if◌then�
 use Rattle.nz_base.specs.Cluster.{replica_count}
 use Rattle.nz_machine.specs.declared.state.Parts.{Parts}
 use Rattle.nz_machine.specs.State.{ReplicaData}
-use Rattle.nz_machine.specs.Facts.{ReplicaModel, IsKept}
+use Rattle.nz_machine.specs.Facts.{ReplicaModel, IsKeptReplica}
 
 -- The parts as the data that the rules speak of.
 abbrev pub data_of : Parts → ReplicaData
@@ -32,7 +32,7 @@ model_of p = record { f = p.cluster; me = p.me; state = data_of p }
 
 -- The parts have what the code keeps.
 abbrev pub ArePartsKept : Parts → Type 0
-ArePartsKept p = IsKept p.cluster p.me (data_of p) p.store
+ArePartsKept p = IsKeptReplica p.cluster p.me (data_of p) p.store
 
 -- Nothing waits, no request's origin is known, and nothing was reported or collected.
 abbrev pub without_waiting : ReplicaModel → ReplicaModel

@@ -7,12 +7,13 @@ use Rattle.nz_base.specs.Key.{id_eq}
 use Rattle.nz_base.specs.declared.actor.Actor.TheVariants.{Replica, Client}
 use Rattle.nz_base.specs.declared.key.Id.{Id}
 use Rattle.nz_store.specs.declared.command.Answer.{Answer}
-use Rattle.nz_window.specs.Samples.{sampled, bound_of}
+use Rattle.nz_window.specs.Samples.{with_sample, bound_of}
 use Rattle.nz_msg.specs.declared.message.Path.{Path}
 use Rattle.nz_msg.specs.declared.message.RequestBody.{RequestBody}
 use Rattle.nz_msg.specs.declared.message.FastReplyBody.{FastReplyBody}
 use Rattle.nz_msg.specs.declared.message.SlowReplyBody.{SlowReplyBody}
-use Rattle.nz_msg.specs.declared.message.Message.TheVariants.{Timed, Answer as Answered}
+use Rattle.nz_msg.specs.declared.message.Message.TheVariants as messages
+use Rattle.nz_msg.specs.declared.message.Message.TheVariants.{Timed}
 use Rattle.nz_machine.specs.declared.reply.Reply.{Reply}
 use Rattle.nz_machine.specs.declared.reply.Reply.TheVariants.{Fast, Slow}
 use Rattle.nz_machine.specs.State.{ProxyData, Standing, Open, Decided, Out}
@@ -32,50 +33,51 @@ abbrev pub standing_of : ProxyData → Id → Option Standing
 standing_of s id = lookup (id_eq id) s.standings
 
 -- The answer to a request, for its client.
-abbrev pub answer_to : Id → Answer → Path → Out
-answer_to id answer path = (Client id.client, Answered (record { num = id.num; answer = answer; path = path }))
+abbrev pub answer_to_client : Id → Answer → Path → Out
+answer_to_client id answer path = (Client id.client, messages.Answer (record { num = id.num; answer = answer; path = path }))
 
 -- ---- a request of a client
 
 -- A request is stamped with the clock, the bound on the delay and the margin.
 abbrev pub timed_to : ProxyData → Id → List ℕ → ℕ → Out
-timed_to s id command replica = (Replica replica, Timed (record { sent = s.clock; deadline = s.clock + bound_of s.samples + margin; id = id; command = command }))
+timed_to s id command replica =
+    (Replica replica, Timed (record { sent = s.clock; deadline = s.clock + bound_of s.samples + margin; id = id; command = command }))
 
 -- The stamped request, to each replica.
 abbrev pub timed_to_all : ℕ → ProxyData → Id → List ℕ → List Out
 timed_to_all f s id command = map (timed_to s id command) (numbers_below (replica_count f))
 
 -- An unknown request is opened and stamped, and an open one is stamped again. A decided one is answered again.
-abbrev pub stamped : ℕ → ProxyData → Id → List ℕ → Option Standing → ProxyData × List Out
-stamped f s id command None = (with_standing s id (Open []), timed_to_all f s id command)
-stamped f s id command (Some (Open replies)) = (s, timed_to_all f s id command)
-stamped f s id command (Some (Decided answer path)) = (s, answer_to id answer path ∷ [])
+abbrev pub after_stamp : ℕ → ProxyData → Id → List ℕ → Option Standing → ProxyData × List Out
+after_stamp f s id command None = (with_standing s id (Open []), timed_to_all f s id command)
+after_stamp f s id command (Some (Open replies)) = (s, timed_to_all f s id command)
+after_stamp f s id command (Some (Decided answer path)) = (s, answer_to_client id answer path ∷ [])
 
 -- A client asks: its request is stamped, or answered again.
 unfoldable pub stamp_rule : ℕ → ProxyData → ℕ → RequestBody → ProxyData × List Out
-stamp_rule f s client b = let id : Id = record { client = client; num = b.num } in stamped f s id b.command (standing_of s id)
+stamp_rule f s client b = let id : Id = record { client = client; num = b.num } in after_stamp f s id b.command (standing_of s id)
 
 -- ---- a reply of a replica
 
 -- What was decided is kept, and the client is answered.
-abbrev pub answered : ProxyData → Id → List Reply → Path → Option Answer → ProxyData × List Out
-answered s id replies path None = (with_standing s id (Open replies), [])
-answered s id replies path (Some answer) = (with_standing s id (Decided answer path), answer_to id answer path ∷ [])
+abbrev pub after_chosen_answer : ProxyData → Id → List Reply → Path → Option Answer → ProxyData × List Out
+after_chosen_answer s id replies path None = (with_standing s id (Open replies), [])
+after_chosen_answer s id replies path (Some answer) = (with_standing s id (Decided answer path), answer_to_client id answer path ∷ [])
 
 -- The replies are kept, or the decision that they give.
-abbrev pub decided_as : ProxyData → Id → List Reply → Option Chosen → ProxyData × List Out
-decided_as s id replies None = (with_standing s id (Open replies), [])
-decided_as s id replies (Some chosen) = answered s id replies chosen.path (answer_in chosen.reply)
+abbrev pub after_choice : ProxyData → Id → List Reply → Option Chosen → ProxyData × List Out
+after_choice s id replies None = (with_standing s id (Open replies), [])
+after_choice s id replies (Some chosen) = after_chosen_answer s id replies chosen.path (answer_in chosen.reply)
 
 -- A reply to a request that is open is noted. Another one changes nothing.
-abbrev pub noted_in : ℕ → ProxyData → Id → Reply → Option Standing → ProxyData × List Out
-noted_in f s id reply None = (s, [])
-noted_in f s id reply (Some (Decided answer path)) = (s, [])
-noted_in f s id reply (Some (Open replies)) = let noted = with_note replies reply in decided_as s id noted (decision f noted)
+abbrev pub after_replica_reply : ℕ → ProxyData → Id → Reply → Option Standing → ProxyData × List Out
+after_replica_reply f s id reply None = (s, [])
+after_replica_reply f s id reply (Some (Decided answer path)) = (s, [])
+after_replica_reply f s id reply (Some (Open replies)) = let noted = with_note replies reply in after_choice s id noted (decision f noted)
 
 -- Each reply's delay is a sample of its replica.
 unfoldable pub reply_rule : ℕ → ProxyData → ℕ → Id → ℕ → Reply → ProxyData × List Out
-reply_rule f s replica id delay reply = noted_in f (record s { samples = sampled s.samples replica delay }) id reply (standing_of s id)
+reply_rule f s replica id delay reply = after_replica_reply f (record s { samples = with_sample s.samples replica delay }) id reply (standing_of s id)
 
 -- A fast reply as it is noted.
 abbrev pub of_fast : ℕ → FastReplyBody → Reply

@@ -1,6 +1,7 @@
 -- The rules by which a replica that has forgotten all rejoins (Michael et al., DISC 2017): it asks for vectors,
 -- then for views, and then the leader of the latest view for its log.
-use Rattle.std.specs.Prelude.{ℕ, ◌+◌, ◌-◌, ◌^◌, Bool, true, false, not, ◌&&◌, ◌==◌, nat_le, max, List, [], ◌∷◌, ◌++◌, length, map, filter, if◌then◌else◌, slice_index, slice_set}
+use Rattle.std.specs.Prelude.{ℕ, ◌+◌, ◌-◌, ◌^◌, Bool, true, false, not, ◌&&◌, ◌==◌, nat_le, max, List, []}
+use Rattle.std.specs.Prelude.{◌∷◌, ◌++◌, length, map, filter, if◌then◌else◌, slice_index, slice_set}
 use Rattle.std.specs.List.{list_any}
 use Rattle.nz_base.specs.Cluster.{leader_of, slow_size}
 use Rattle.nz_cv.specs.Vectors.{is_stray}
@@ -41,13 +42,13 @@ abbrev pub restarted_replica : ℕ → ℕ → ReplicaData
 restarted_replica f nonce = let s = first_replica f in record s { status = Rejoining; rejoin = record s.rejoin { nonce = nonce } }
 
 -- In the first phase the others are asked for their vectors.
-abbrev pub vector_ask : ReplicaData → Message
-vector_ask s = messages.VectorAsk (record { nonce = s.rejoin.nonce })
+abbrev pub vector_ask_message : ReplicaData → Message
+vector_ask_message s = messages.VectorAsk (record { nonce = s.rejoin.nonce })
 
 -- A restart begins the next incarnation. Only a replica that is down restarts.
 unfoldable pub restart_rule : ℕ → ℕ → ReplicaData → ℕ → ReplicaData × List Out
 restart_rule f me s nonce =
-    if is_down s.status then (let t = restarted_replica f nonce in (t, to_others f me (vector_ask t))) else (s, [])
+    if is_down s.status then (let t = restarted_replica f nonce in (t, to_others f me (vector_ask_message t))) else (s, [])
 
 -- ---- the answers of a replica in normal operation
 
@@ -57,23 +58,23 @@ vector_ask_rule s sender b =
     if is_normal s.status then (s, to_replica sender (messages.VectorTell (record { nonce = b.nonce; vector = s.vector }))) else (s, [])
 
 -- The answer to a rejoin-ask, with its nonce.
-abbrev pub rejoin_tell : ReplicaData → ℕ → Message
-rejoin_tell s nonce = messages.RejoinTell (record { nonce = nonce; view = s.view; vector = s.vector })
+abbrev pub rejoin_tell_message : ReplicaData → ℕ → Message
+rejoin_tell_message s nonce = messages.RejoinTell (record { nonce = nonce; view = s.view; vector = s.vector })
 
 -- It merges the vector of who rejoins, and tells its view with its own.
 unfoldable pub rejoin_ask_rule : ℕ → ReplicaData → ℕ → RejoinAskBody → ReplicaData × List Out
 rejoin_ask_rule me s sender b =
-    if is_normal s.status then unless_stray me s sender b.vector (λ t. (t, to_replica sender (rejoin_tell t b.nonce))) else (s, [])
+    if is_normal s.status then unless_stray me s sender b.vector (λ t. (t, to_replica sender (rejoin_tell_message t b.nonce))) else (s, [])
 
 -- The answer to a state-ask, with its nonce.
-abbrev pub state_tell : ReplicaData → ℕ → Message
-state_tell s nonce = messages.StateTell (record { nonce = nonce; view = s.view; vector = s.vector; commit = s.commit; entries = s.log.entries })
+abbrev pub state_tell_message : ReplicaData → ℕ → Message
+state_tell_message s nonce = messages.StateTell (record { nonce = nonce; view = s.view; vector = s.vector; commit = s.commit; entries = s.log.entries })
 
 -- The leader answers, in the view that is asked for or a later one.
 unfoldable pub state_ask_rule : ℕ → ℕ → ReplicaData → ℕ → StateAskBody → ReplicaData × List Out
 state_ask_rule f me s sender b =
     if leads_view f me s && nat_le b.view s.view
-    then unless_stray me s sender b.vector (λ t. (t, to_replica sender (state_tell t b.nonce)))
+    then unless_stray me s sender b.vector (λ t. (t, to_replica sender (state_tell_message t b.nonce)))
     else (s, [])
 
 -- ---- how far a rejoin is
@@ -107,14 +108,14 @@ with_teller me s sender vector =
     }
 
 -- In the second phase the others are asked for their views. They get the new counter with it.
-abbrev pub rejoin_ask : ReplicaData → Message
-rejoin_ask s = messages.RejoinAsk (record { nonce = s.rejoin.nonce; vector = s.vector })
+abbrev pub rejoin_ask_message : ReplicaData → Message
+rejoin_ask_message s = messages.RejoinAsk (record { nonce = s.rejoin.nonce; vector = s.vector })
 
 -- The second phase starts with nothing collected: the others are asked for their views.
 abbrev pub ask_views : ℕ → ℕ → ReplicaData → ReplicaData × List Out
 ask_views f me s =
     let asking = record s { since = 0; rejoin = record s.rejoin { phase = Views; tells = [] } } in
-    (asking, to_others f me (rejoin_ask asking))
+    (asking, to_others f me (rejoin_ask_message asking))
 
 -- The own counter becomes one more than any teller knew.
 abbrev pub with_new_counter : ℕ → ReplicaData → ReplicaData
@@ -150,14 +151,14 @@ abbrev pub latest_view : ReplicaData → ℕ
 latest_view s = greatest (map (λ t. t.view) s.rejoin.tells)
 
 -- In the third phase the leader of the wanted view is asked.
-abbrev pub state_ask : ReplicaData → Message
-state_ask s = messages.StateAsk (record { nonce = s.rejoin.nonce; view = s.rejoin.wanted; vector = s.vector })
+abbrev pub state_ask_message : ReplicaData → Message
+state_ask_message s = messages.StateAsk (record { nonce = s.rejoin.nonce; view = s.rejoin.wanted; vector = s.vector })
 
 -- The third phase: the leader of the view is asked for its log.
 abbrev pub ask_log : ℕ → ReplicaData → ℕ → ReplicaData × List Out
 ask_log f s view =
     let asking = record s { since = 0; rejoin = record s.rejoin { phase = Log; wanted = view } } in
-    (asking, to_replica (leader_of f view) (state_ask asking))
+    (asking, to_replica (leader_of f view) (state_ask_message asking))
 
 -- With enough views the third phase starts. A replica that led the latest one itself waits until there is a later.
 abbrev pub after_views : ℕ → ℕ → ReplicaData → ReplicaData × List Out
@@ -184,8 +185,8 @@ state_tell_rule f me s sender b =
 
 -- In each phase what was asked is asked again; from the third the replica goes back to the second.
 abbrev pub ask_again : Phase → ℕ → ℕ → ReplicaData → ReplicaData × List Out
-ask_again Vectors f me s = (s, to_others f me (vector_ask s))
-ask_again Views f me s = (s, to_others f me (rejoin_ask s))
+ask_again Vectors f me s = (s, to_others f me (vector_ask_message s))
+ask_again Views f me s = (s, to_others f me (rejoin_ask_message s))
 ask_again Log f me s = ask_views f me s
 
 -- After each period the replica asks again.

@@ -11,27 +11,27 @@ use Rattle.nz_machine.specs.State.{ReplicaData, Out}
 use Rattle.nz_machine.specs.Replicas.{last_clock, most_entries, is_normal, leads, commands, fast_replies}
 
 -- The log with one more entry. The leader's log agrees with itself.
-abbrev pub appended : Bool → Log → Entry → Log
-appended is_leader log e =
+abbrev pub log_with_entry : Bool → Log → Entry → Log
+log_with_entry is_leader log e =
     let grown = record log { entries = log.entries ++ e ∷ [] } in
     if is_leader then record grown { synced = length grown.entries } else grown
 
 -- The leader executes the entry after the others, and keeps its answer.
-abbrev pub executed : Bool → List Answer → List Entry → Entry → List Answer
-executed is_leader results entries e = if is_leader then results ++ answer_after (commands entries) e.command ∷ [] else results
+abbrev pub results_with_entry : Bool → List Answer → List Entry → Entry → List Answer
+results_with_entry is_leader results entries e = if is_leader then results ++ answer_after (commands entries) e.command ∷ [] else results
 
 -- The entry is released; these are the early entries after it.
-abbrev pub released : ℕ → ℕ → ReplicaData → Entry → List Entry → ReplicaData
-released f me s e rest =
+abbrev pub after_release : ℕ → ℕ → ReplicaData → Entry → List Entry → ReplicaData
+after_release f me s e rest =
     record s {
-      log = appended (leads f me s) s.log e;
-      results = executed (leads f me s) s.results s.log.entries e;
+      log = log_with_entry (leads f me s) s.log e;
+      results = results_with_entry (leads f me s) s.results s.log.entries e;
       early = rest;
     }
 
 -- Whether the log may have one more entry.
-abbrev pub has_room : ReplicaData → Bool
-has_room s = nat_lt (length s.log.entries) most_entries
+abbrev pub log_has_room : ReplicaData → Bool
+log_has_room s = nat_lt (length s.log.entries) most_entries
 
 -- What is sent when the entry was released as the log's last.
 abbrev pub release_replies : ℕ → ℕ → ReplicaData → Entry → List Out
@@ -39,7 +39,7 @@ release_replies f me s e = fast_replies f me s (id_of e.key) (length s.log.entri
 
 -- An entry is released when its deadline is at most the clock and the log has room.
 abbrev pub may_release : ReplicaData → Entry → Bool
-may_release s e = is_due s.clock e && has_room s
+may_release s e = is_due s.clock e && log_has_room s
 
 -- Whether the first of the early entries may be released.
 abbrev pub first_may : ReplicaData → List Entry → Bool
@@ -50,7 +50,7 @@ first_may s (e ∷ es) = may_release s e
 unfoldable pub releases : ℕ → ℕ → ReplicaData → List Entry → ReplicaData × List Out
 releases f me s [] = (s, [])
 releases f me s (e ∷ es) =
-    if may_release s e then (let next = released f me s e es in
+    if may_release s e then (let next = after_release f me s e es in
     let rest = releases f me next es in
     (rest.0, release_replies f me next e ++ rest.1))
     else (s, [])

@@ -1,5 +1,6 @@
 -- Definitions that several rules of a replica use.
-use Rattle.std.specs.Prelude.{ℕ, zero, suc, ◌-◌, ◌^◌, Bool, true, false, not, ◌&&◌, List, [], ◌∷◌, ◌++◌, replicate, map, filter, Option, Some, None, ◌==◌, if◌then◌else◌, slice_get}
+use Rattle.std.specs.Prelude.{ℕ, zero, suc, ◌-◌, ◌^◌, Bool, true, false, not, ◌&&◌, List, [], ◌∷◌, ◌++◌, replicate}
+use Rattle.std.specs.Prelude.{map, filter, Option, Some, None, ◌==◌, if◌then◌else◌, slice_get}
 use Rattle.nz_base.specs.Cluster.{replica_count, leader_of}
 use Rattle.nz_base.specs.declared.actor.Actor.TheVariants.{Replica, Proxy}
 use Rattle.nz_base.specs.declared.key.Id.{Id}
@@ -107,16 +108,16 @@ abbrev pub commands : List Entry → List (List ℕ)
 commands entries = map (λ e. e.command) entries
 
 -- The key of a request with this deadline.
-abbrev pub key_at : ℕ → Id → Key
-key_at deadline id = record { deadline = deadline; client = id.client; num = id.num }
+abbrev pub key_with_deadline : ℕ → Id → Key
+key_with_deadline deadline id = record { deadline = deadline; client = id.client; num = id.num }
 
 -- The leader has an answer to the entry at a place.
 abbrev pub answer_at : ℕ → ℕ → ReplicaData → ℕ → Option Answer
 answer_at f me s place = if leads f me s then slice_get s.results place else None
 
 -- A fast reply for the entry at a place: the digest of the log up to there, and at the leader the answer.
-abbrev pub fast_reply : ℕ → ℕ → ReplicaData → Id → ℕ → Origin → Out
-fast_reply f me s id place origin = (
+abbrev pub fast_reply_to : ℕ → ℕ → ReplicaData → Id → ℕ → Origin → Out
+fast_reply_to f me s id place origin = (
   Proxy origin.proxy,
   FastReply (record {
     view = s.view;
@@ -129,18 +130,18 @@ fast_reply f me s id place origin = (
 )
 
 -- A slow reply to a request.
-abbrev pub slow_reply : ReplicaData → Id → Origin → Out
-slow_reply s id origin = (Proxy origin.proxy, SlowReply (record { view = s.view; id = id; delay = origin.delay }))
+abbrev pub slow_reply_to : ReplicaData → Id → Origin → Out
+slow_reply_to s id origin = (Proxy origin.proxy, SlowReply (record { view = s.view; id = id; delay = origin.delay }))
 
 -- A fast reply for the entry at a place, to where its request came from, if that is known.
 abbrev pub fast_replies : ℕ → ℕ → ReplicaData → Id → ℕ → Option Origin → List Out
 fast_replies f me s id place None = []
-fast_replies f me s id place (Some origin) = fast_reply f me s id place origin ∷ []
+fast_replies f me s id place (Some origin) = fast_reply_to f me s id place origin ∷ []
 
 -- A slow reply to where the request came from, if that is known.
 abbrev pub slow_replies : ReplicaData → Id → Option Origin → List Out
 slow_replies s id None = []
-slow_replies s id (Some origin) = slow_reply s id origin ∷ []
+slow_replies s id (Some origin) = slow_reply_to s id origin ∷ []
 
 -- The state at the start.
 abbrev pub first_replica : ℕ → ReplicaData

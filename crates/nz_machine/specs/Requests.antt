@@ -11,7 +11,7 @@ use Rattle.nz_buffers.specs.Buffers.{insert_by_key, without}
 use Rattle.nz_msg.specs.declared.message.TimedBody.{TimedBody}
 use Rattle.nz_machine.specs.declared.data.Origin.{Origin}
 use Rattle.nz_machine.specs.State.{ReplicaData, Out}
-use Rattle.nz_machine.specs.Replicas.{leads, most_entries, is_normal, key_at, fast_replies, slow_replies}
+use Rattle.nz_machine.specs.Replicas.{leads, most_entries, is_normal, key_with_deadline, fast_replies, slow_replies}
 
 -- A delay counts up to this, in clock units.
 abbrev pub longest_delay : ℕ
@@ -47,7 +47,7 @@ to_late s e = if has_id (keys_of s.late) (id_of e.key) then s else record s { la
 
 -- The request as an entry with this deadline.
 abbrev pub entry_at : ℕ → TimedBody → Entry
-entry_at deadline b = record { key = key_at deadline b.id; command = b.command }
+entry_at deadline b = record { key = key_with_deadline deadline b.id; command = b.command }
 
 -- The deadline after the last entry's.
 abbrev pub next_deadline : Option Entry → ℕ
@@ -55,34 +55,34 @@ next_deadline None = 1
 next_deadline (Some e) = e.key.deadline + 1
 
 -- The leader gives the request the deadline after the log's last, where that is a deadline.
-abbrev pub restamped : ReplicaData → TimedBody → ReplicaData
-restamped s b =
+abbrev pub after_restamp : ReplicaData → TimedBody → ReplicaData
+after_restamp s b =
     let deadline = next_deadline (last_entry s.log.entries) in
     if nat_lt deadline (2 ^ 63) then to_early s (entry_at deadline b) else s
 
 -- A key above the log's last is early. Another request is late, and the leader stamps it anew.
-abbrev pub placed : ℕ → ℕ → ReplicaData → TimedBody → ReplicaData
-placed f me s b =
-    if is_above_last (keys_of s.log.entries) (key_at b.deadline b.id) then to_early s (entry_at b.deadline b)
-    else (if leads f me s then restamped s b else to_late s (entry_at b.deadline b))
+abbrev pub after_placing : ℕ → ℕ → ReplicaData → TimedBody → ReplicaData
+after_placing f me s b =
+    if is_above_last (keys_of s.log.entries) (key_with_deadline b.deadline b.id) then to_early s (entry_at b.deadline b)
+    else (if leads f me s then after_restamp s b else to_late s (entry_at b.deadline b))
 
 -- Whether log, early and late together hold as many entries as a log may.
 abbrev pub is_full : ReplicaData → Bool
 is_full s = nat_le most_entries (length s.log.entries + length s.early + length s.late)
 
 -- A request that is early already, or finds no room, changes nothing. Any other is placed.
-abbrev pub unlogged : ℕ → ℕ → ReplicaData → TimedBody → ReplicaData
-unlogged f me s b = if has_id (keys_of s.early) b.id then s else (if is_full s then s else placed f me s b)
+abbrev pub after_new_request : ℕ → ℕ → ReplicaData → TimedBody → ReplicaData
+after_new_request f me s b = if has_id (keys_of s.early) b.id then s else (if is_full s then s else after_placing f me s b)
 
 -- ---- the rule
 
 -- A request that the log has, at this place, is replied to. Any other goes to a buffer.
-abbrev pub requested : ℕ → ℕ → ReplicaData → TimedBody → Option ℕ → ReplicaData × List Out
-requested f me s b (Some place) = (s, replies_at f me s b.id place)
-requested f me s b None = (unlogged f me s b, [])
+abbrev pub after_timed : ℕ → ℕ → ReplicaData → TimedBody → Option ℕ → ReplicaData × List Out
+after_timed f me s b (Some place) = (s, replies_at f me s b.id place)
+after_timed f me s b None = (after_new_request f me s b, [])
 
 -- In normal operation the origin is noted, and the request is replied to or goes to a buffer.
 unfoldable pub request_rule : ℕ → ℕ → ReplicaData → ℕ → TimedBody → ReplicaData × List Out
 request_rule f me s proxy b =
-    if is_normal s.status then requested f me (with_origin s proxy b) b (place_of s.log.entries b.id)
+    if is_normal s.status then after_timed f me (with_origin s proxy b) b (place_of s.log.entries b.id)
     else (s, [])

@@ -1,5 +1,6 @@
 -- The schedule: what is due in each tick of a scenario, and which runs keep to it.
-use Rattle.std.specs.Prelude.{ℕ, zero, suc, ◌≡◌, ◌+◌, ◌-◌, ◌*◌, ◌≤◌, min, Bool, true, false, ◌&&◌, ◌==◌, if◌then◌else◌, List, [], ◌∷◌, ◌++◌, length, map, filter, reverse, Option, Some, None, ℤ, pos, negsuc, slice_index, IsPermutation}
+use Rattle.std.specs.Prelude.{ℕ, zero, suc, ◌≡◌, ◌+◌, ◌-◌, ◌*◌, ◌≤◌, min, Bool, true, false, ◌&&◌, ◌==◌, if◌then◌else◌, List, [], ◌∷◌}
+use Rattle.std.specs.Prelude.{◌++◌, length, map, filter, reverse, Option, Some, None, ℤ, pos, negsuc, slice_index, IsPermutation}
 use Rattle.std.specs.List.{AllByRecursion}
 use Rattle.nz_base.specs.Actor.{actor_eq, is_within}
 use Rattle.nz_base.specs.Cluster.{replica_count}
@@ -46,9 +47,9 @@ calls tick restarts (_ ∷ lines) = calls tick restarts lines
 -- ---- clocks
 
 -- The units of a clock that is fast or slow by this many. None reads less than 0.
-abbrev pub shifted : ℕ → ℤ → ℕ
-shifted units (pos n) = units + n
-shifted units (negsuc n) = units - suc n
+abbrev pub clock_with_skew : ℕ → ℤ → ℕ
+clock_with_skew units (pos n) = units + n
+clock_with_skew units (negsuc n) = units - suc n
 
 -- How far the actor's clock is ahead.
 abbrev pub skew_of : Actor → List Skew → ℤ
@@ -57,7 +58,7 @@ skew_of a (s ∷ skews) = if actor_eq s.actor a then s.units else skew_of a skew
 
 -- A tick is 1,000 clock units.
 abbrev pub clock_at : Scenario → ℕ → Actor → ℕ
-clock_at s tick a = min (shifted (1000 * tick) (skew_of a s.skews)) last_clock
+clock_at s tick a = min (clock_with_skew (1000 * tick) (skew_of a s.skews)) last_clock
 
 -- Replicas, proxies and clients, each by number.
 abbrev pub actors_of : Scenario → List Actor
@@ -79,17 +80,17 @@ abbrev pub whole_in : ℕ → Delivery
 whole_in tick = record { tick = tick; kept = None }
 
 -- The delivery comes so much later.
-abbrev pub later : ℕ → Delivery → Delivery
-later by d = record d { tick = d.tick + by }
+abbrev pub delivery_later : ℕ → Delivery → Delivery
+delivery_later by d = record d { tick = d.tick + by }
 
 -- Every delivery comes later.
-abbrev pub held : ℕ → List Delivery → List Delivery
-held by ds = map (later by) ds
+abbrev pub deliveries_later : ℕ → List Delivery → List Delivery
+deliveries_later by ds = map (delivery_later by) ds
 
 -- A whole copy comes so much later than the first delivery.
-abbrev pub repeated : ℕ → List Delivery → List Delivery
-repeated by [] = []
-repeated by (d ∷ ds) = d ∷ (ds ++ whole_in (d.tick + by) ∷ [])
+abbrev pub with_copy : ℕ → List Delivery → List Delivery
+with_copy by [] = []
+with_copy by (d ∷ ds) = d ∷ (ds ++ whole_in (d.tick + by) ∷ [])
 
 -- Of the first delivery this many bytes come, and never all of them.
 abbrev pub cut_short : ℕ → ℕ → List Delivery → List Delivery
@@ -102,8 +103,8 @@ kind_if frame None = Some (slice_index frame 5)
 kind_if frame (Some refusal) = None
 
 -- The kind of the message in a frame. What is no frame has none.
-abbrev pub kind_of : List ℕ → Option ℕ
-kind_of frame = kind_if frame (refusal frame)
+abbrev pub kind_in_frame : List ℕ → Option ℕ
+kind_in_frame frame = kind_if frame (refusal frame)
 
 -- Whether a kind is the one that a fault line names.
 abbrev pub has_kind : ℕ → Option ℕ → Bool
@@ -111,12 +112,12 @@ has_kind kind None = false
 has_kind kind (Some k) = k == kind
 
 -- A parcel of this kind from the one actor to the other.
-abbrev pub is_of : Actor → Actor → ℕ → Parcel → Bool
-is_of from to kind p = actor_eq p.from from && (actor_eq p.to to && has_kind kind (kind_of p.frame))
+abbrev pub is_parcel_of : Actor → Actor → ℕ → Parcel → Bool
+is_parcel_of from to kind p = actor_eq p.from from && (actor_eq p.to to && has_kind kind (kind_in_frame p.frame))
 
 -- It is the one with this number among the parcels of that kind, counted from 1, when those were sent earlier.
 abbrev pub is_nth : Actor → Actor → ℕ → ℕ → List Parcel → Parcel → Bool
-is_nth from to kind count earlier p = is_of from to kind p && (length (filter (is_of from to kind) earlier) + 1 == count)
+is_nth from to kind count earlier p = is_parcel_of from to kind p && (length (filter (is_parcel_of from to kind) earlier) + 1 == count)
 
 -- Whom an end of a block names: one actor, or everyone.
 abbrev pub is_named : Option Actor → Actor → Bool
@@ -128,31 +129,31 @@ abbrev pub is_blocked : Option Actor → Option Actor → ℕ → ℕ → ℕ �
 is_blocked from to first last tick p = is_named from p.from && (is_named to p.to && is_within first last tick)
 
 -- What a fault line makes of the deliveries of a parcel that is sent in a tick after earlier parcels.
-abbrev pub faulted : ℕ → List Parcel → Parcel → Fault → List Delivery → List Delivery
-faulted tick earlier p (faults.Drop from to kind count) ds = if is_nth from to kind count earlier p then [] else ds
-faulted tick earlier p (faults.Hold from to kind count by) ds = if is_nth from to kind count earlier p then held by ds else ds
-faulted tick earlier p (faults.Twice from to kind count by) ds = if is_nth from to kind count earlier p then repeated by ds else ds
-faulted tick earlier p (faults.Cut from to kind count keep) ds = if is_nth from to kind count earlier p then cut_short keep (length p.frame) ds else ds
-faulted tick earlier p (faults.Block from to first last) ds = if is_blocked from to first last tick p then [] else ds
-faulted tick earlier p _ ds = ds
+abbrev pub after_fault : ℕ → List Parcel → Parcel → Fault → List Delivery → List Delivery
+after_fault tick earlier p (faults.Drop from to kind count) ds = if is_nth from to kind count earlier p then [] else ds
+after_fault tick earlier p (faults.Hold from to kind count by) ds = if is_nth from to kind count earlier p then deliveries_later by ds else ds
+after_fault tick earlier p (faults.Twice from to kind count by) ds = if is_nth from to kind count earlier p then with_copy by ds else ds
+after_fault tick earlier p (faults.Cut from to kind count keep) ds = if is_nth from to kind count earlier p then cut_short keep (length p.frame) ds else ds
+after_fault tick earlier p (faults.Block from to first last) ds = if is_blocked from to first last tick p then [] else ds
+after_fault tick earlier p _ ds = ds
 
 -- The lines in the order of the file, each on what those before it left.
-abbrev pub faulted_by : ℕ → List Parcel → Parcel → List Fault → List Delivery → List Delivery
-faulted_by tick earlier p [] ds = ds
-faulted_by tick earlier p (line ∷ lines) ds = faulted_by tick earlier p lines (faulted tick earlier p line ds)
+abbrev pub after_faults : ℕ → List Parcel → Parcel → List Fault → List Delivery → List Delivery
+after_faults tick earlier p [] ds = ds
+after_faults tick earlier p (line ∷ lines) ds = after_faults tick earlier p lines (after_fault tick earlier p line ds)
 
 -- A parcel comes once and whole in the tick after the one it was sent in, but for the faults.
 abbrev pub deliveries : Scenario → ℕ → List Parcel → Parcel → List Delivery
-deliveries s tick earlier p = faulted_by tick earlier p s.faults (whole_in (tick + 1) ∷ [])
+deliveries s tick earlier p = after_faults tick earlier p s.faults (whole_in (tick + 1) ∷ [])
 
 -- A parcel comes whole, or this many bytes of it.
-abbrev pub coming : Parcel → Option ℕ → Event
-coming p None = Deliver p
-coming p (Some kept) = Cut p kept
+abbrev pub delivery_event : Parcel → Option ℕ → Event
+delivery_event p None = Deliver p
+delivery_event p (Some kept) = Cut p kept
 
 -- The delivery as an event of the receiver.
 abbrev pub delivery_item : Parcel → Delivery → Item
-delivery_item p d = item p.to (coming p d.kept)
+delivery_item p d = item p.to (delivery_event p d.kept)
 
 -- The deliveries of a parcel that are due in a tick.
 abbrev pub due_of : ℕ → Parcel → List Delivery → List Item
@@ -168,9 +169,9 @@ abbrev pub posted_in : ℕ → Parcel → Posted
 posted_in tick p = record { tick = tick; parcel = p }
 
 -- What a run sent, the oldest first.
-abbrev pub posted : List Record → List Posted
-posted [] = []
-posted (r ∷ J) = posted J ++ map (posted_in r.tick) r.sends
+abbrev pub posted_by_run : List Record → List Posted
+posted_by_run [] = []
+posted_by_run (r ∷ J) = posted_by_run J ++ map (posted_in r.tick) r.sends
 
 -- What of it comes in a tick, by the order of sending and then of the copies. `earlier` was sent before all of it.
 abbrev pub arrivals : Scenario → ℕ → List Parcel → List Posted → List Item
@@ -182,7 +183,7 @@ arrivals s tick earlier (x ∷ xs) = due_of tick x.parcel (deliveries s x.tick e
 -- What is due in a tick, by the records of the ticks before it: crashes, restarts and alarms, then every
 -- clock, then what arrives.
 abbrev pub due : Scenario → ℕ → List Record → List Item
-due s tick J = calls tick 0 s.faults ++ (map (tick_item s tick) (actors_of s) ++ arrivals s tick [] (posted J))
+due s tick J = calls tick 0 s.faults ++ (map (tick_item s tick) (actors_of s) ++ arrivals s tick [] (posted_by_run J))
 
 -- What a record is of: its actor and its event.
 abbrev pub item_of : Record → Item

@@ -1,5 +1,6 @@
 -- What a message shows of its sender: it is read off the sender's states before and after the record that sends it.
-use Rattle.std.specs.Prelude.{◌≡◌, ℕ, ◌+◌, ◌-◌, ◌<◌, ◌≤◌, ◌==◌, not, true, false, List, ◌++◌, length, Some, None, filter, map, take, drop, slice_get, slice_index, if◌then◌else◌}
+use Rattle.std.specs.Prelude.{◌≡◌, ℕ, ◌+◌, ◌-◌, ◌<◌, ◌≤◌, ◌==◌, not, true, false, List, ◌++◌, length, Some}
+use Rattle.std.specs.Prelude.{None, filter, map, take, drop, slice_get, slice_index, if◌then◌else◌}
 use Rattle.std.specs.Map.{lookup}
 use Rattle.nz_base.specs.Cluster.{replica_count, leader_of}
 use Rattle.nz_base.specs.Key.{id_eq, id_of}
@@ -8,7 +9,7 @@ use Rattle.nz_base.specs.declared.actor.Actor.{Actor}
 use Rattle.nz_base.specs.declared.actor.Actor.TheVariants.{Replica, Proxy, Client}
 use Rattle.nz_base.specs.declared.key.Key.{Key}
 use Rattle.nz_base.specs.declared.scenario.Request.{Request}
-use Rattle.nz_cv.specs.Vectors.{merged}
+use Rattle.nz_cv.specs.Vectors.{merged_vector}
 use Rattle.nz_window.specs.Samples.{bound_of}
 use Rattle.nz_log.specs.Places.{place_of, digest_at}
 use Rattle.nz_msg.specs.declared.message.RequestBody.{RequestBody}
@@ -90,15 +91,15 @@ pub record ShowsSlow (f me : ℕ) (s : ReplicaData) (to : Actor) (b : SlowReplyB
   pub read : b ≡ record { view = s.view; id = b.id; delay = origin.delay }
 
 -- What a leader sends of its log, from a place on.
-abbrev pub told_from : ReplicaData → ℕ → LogModBody
-told_from s start = record { view = s.view; vector = s.vector; commit = s.commit; start = start; keys = take most_keys (drop start (keys_of s.log.entries)) }
+abbrev pub log_mod_from : ReplicaData → ℕ → LogModBody
+log_mod_from s start = record { view = s.view; vector = s.vector; commit = s.commit; start = start; keys = take most_keys (drop start (keys_of s.log.entries)) }
 
 -- A log modification has the keys of the leader's log, from where the receiver's agrees with it.
 pub record ShowsLogMod (f me : ℕ) (s : ReplicaData) (to : Actor) (b : LogModBody) : Type 0 where
   pub normal : is_normal s.status ≡ true
   pub led : leads f me s ≡ true
   pub receiver : IsOther f me to
-  pub read : b ≡ told_from s (slice_index s.ack receiver.replica)
+  pub read : b ≡ log_mod_from s (slice_index s.ack receiver.replica)
 
 -- A fetch asks the leader for ids that the follower does not hold, some of those that the leader named.
 pub record ShowsFetch (f me : ℕ) (heard : Heard) (s : ReplicaData) (to : Actor) (b : FetchBody) : Type 0 where
@@ -196,7 +197,7 @@ pub record ShowsRejoinTell (f me : ℕ) (heard : Heard) (before s : ReplicaData)
   pub ask : RejoinAskBody
   pub hears : heard ≡ Some (Replica asker, messages.RejoinAsk ask)
   pub receiver : to ≡ Replica asker
-  pub taken : s.vector ≡ merged before.vector ask.vector me
+  pub taken : s.vector ≡ merged_vector before.vector ask.vector me
   pub read : b ≡ record { nonce = ask.nonce; view = s.view; vector = s.vector }
 
 -- A state-tell: the leader of its view answers the state-ask that it just heard, with its commit and log.
@@ -208,7 +209,7 @@ pub record ShowsStateTell (f me : ℕ) (heard : Heard) (before s : ReplicaData) 
   pub hears : heard ≡ Some (Replica asker, messages.StateAsk ask)
   pub receiver : to ≡ Replica asker
   pub later : ask.view ≤ s.view
-  pub taken : s.vector ≡ merged before.vector ask.vector me
+  pub taken : s.vector ≡ merged_vector before.vector ask.vector me
   pub read : b ≡ record { nonce = ask.nonce; view = s.view; vector = s.vector; commit = s.commit; entries = s.log.entries }
 
 -- ---- all kinds of a replica

@@ -23,7 +23,8 @@ use Rattle.nz_machine.specs.LogMods.{log_mods_to_others, log_mod_rule, fetch_rul
 use Rattle.nz_machine.specs.Views.{alarm_rule, view_ask_rule, quiet_timer, change_timer}
 use Rattle.nz_machine.specs.Adopting.{start_view_rule}
 use Rattle.nz_machine.specs.Begins.{view_change_rule}
-use Rattle.nz_machine.specs.Rejoining.{crash_rule, restart_rule, vector_ask_rule, vector_tell_rule, rejoin_ask_rule, rejoin_tell_rule, state_ask_rule, state_tell_rule, rejoin_timer}
+use Rattle.nz_machine.specs.Rejoining.{crash_rule, restart_rule, vector_ask_rule, vector_tell_rule, rejoin_ask_rule}
+use Rattle.nz_machine.specs.Rejoining.{rejoin_tell_rule, state_ask_rule, state_tell_rule, rejoin_timer}
 use Rattle.nz_machine.specs.Proxies.{first_proxy, stamp_rule, reply_rule, of_fast, of_slow, clock_rule, crashed_proxy, restarted_proxy}
 use Rattle.nz_machine.specs.Clients.{first_client, wait_rule, accept_rule}
 
@@ -46,25 +47,25 @@ is_in_cluster f (Proxy p) = true
 is_in_cluster f (Client c) = true
 
 -- The crash vector of a message, if it carries one.
-abbrev pub vector_of : Message → Option (List ℕ)
-vector_of (messages.Request b) = None
-vector_of (messages.Timed b) = None
-vector_of (messages.FastReply b) = Some b.vector
-vector_of (messages.SlowReply b) = None
-vector_of (messages.Answer b) = None
-vector_of (messages.LogMod b) = Some b.vector
-vector_of (messages.Fetch b) = None
-vector_of (messages.FetchReply b) = None
-vector_of (messages.SyncReport b) = None
-vector_of (messages.ViewAsk b) = None
-vector_of (messages.ViewChange b) = Some b.vector
-vector_of (messages.StartView b) = Some b.vector
-vector_of (messages.VectorAsk b) = None
-vector_of (messages.VectorTell b) = Some b.vector
-vector_of (messages.RejoinAsk b) = Some b.vector
-vector_of (messages.RejoinTell b) = Some b.vector
-vector_of (messages.StateAsk b) = Some b.vector
-vector_of (messages.StateTell b) = Some b.vector
+abbrev pub message_vector : Message → Option (List ℕ)
+message_vector (messages.Request b) = None
+message_vector (messages.Timed b) = None
+message_vector (messages.FastReply b) = Some b.vector
+message_vector (messages.SlowReply b) = None
+message_vector (messages.Answer b) = None
+message_vector (messages.LogMod b) = Some b.vector
+message_vector (messages.Fetch b) = None
+message_vector (messages.FetchReply b) = None
+message_vector (messages.SyncReport b) = None
+message_vector (messages.ViewAsk b) = None
+message_vector (messages.ViewChange b) = Some b.vector
+message_vector (messages.StartView b) = Some b.vector
+message_vector (messages.VectorAsk b) = None
+message_vector (messages.VectorTell b) = Some b.vector
+message_vector (messages.RejoinAsk b) = Some b.vector
+message_vector (messages.RejoinTell b) = Some b.vector
+message_vector (messages.StateAsk b) = Some b.vector
+message_vector (messages.StateTell b) = Some b.vector
 
 -- A vector has a counter for each replica.
 abbrev pub is_sized : ℕ → Option (List ℕ) → Bool
@@ -76,22 +77,22 @@ abbrev pub is_for : Actor → Parcel → Envelope → Bool
 is_for me p e = actor_eq e.from p.from && (actor_eq e.to p.to && (actor_eq e.to me && not (actor_eq e.from me)))
 
 -- What was decoded, if it is for this actor.
-abbrev pub heard_if : Actor → Parcel → Result Envelope DecodeRefusal → Option Envelope
-heard_if me p (Err refusal) = None
-heard_if me p (Ok e) = if is_for me p e then Some e else None
+abbrev pub envelope_if_for : Actor → Parcel → Result Envelope DecodeRefusal → Option Envelope
+envelope_if_for me p (Err refusal) = None
+envelope_if_for me p (Ok e) = if is_for me p e then Some e else None
 
 -- What this actor reads of a parcel.
-unfoldable pub heard : Actor → Parcel → Option Envelope
-heard me p = heard_if me p (decode_of p.frame)
+unfoldable pub envelope_for : Actor → Parcel → Option Envelope
+envelope_for me p = envelope_if_for me p (decode_of p.frame)
 
 -- It counts where it is of the cluster's size.
-abbrev pub counted : ℕ → Option Envelope → Option Envelope
-counted f None = None
-counted f (Some e) = if is_in_cluster f e.from && is_sized f (vector_of e.message) then Some e else None
+abbrev pub if_from_cluster : ℕ → Option Envelope → Option Envelope
+if_from_cluster f None = None
+if_from_cluster f (Some e) = if is_in_cluster f e.from && is_sized f (message_vector e.message) then Some e else None
 
 -- What this actor reads of a parcel, where it counts.
-abbrev pub received : ℕ → Actor → Parcel → Option Envelope
-received f me p = counted f (heard me p)
+abbrev pub accepted_envelope : ℕ → Actor → Parcel → Option Envelope
+accepted_envelope f me p = if_from_cluster f (envelope_for me p)
 
 -- ---- which rule
 
@@ -174,7 +175,7 @@ restart_step g (Client c) s nonce = (s, [])
 
 -- The state after an event, and what is sent. A cut parcel changes nothing.
 abbrev pub event_step : Group → (a : Actor) → State a → Event → State a × List Out
-event_step g a s (Deliver p) = envelope_step g a s (received g.f a p)
+event_step g a s (Deliver p) = envelope_step g a s (accepted_envelope g.f a p)
 event_step g a s (Cut p kept) = (s, [])
 event_step g a s (Tick clock) = tick_step g a s clock
 event_step g a s Alarm = alarm_step g a s

@@ -7,8 +7,8 @@ use Rattle.nz_base.specs.Key.{id_of}
 use Rattle.nz_base.specs.Log.{keys_of, has_id, is_above_last}
 use Rattle.nz_log.specs.Synced.{Log, synced_part, unsynced_part}
 use Rattle.nz_buffers.specs.Buffers.{find_id}
-use Rattle.nz_machine.specs.declared.taking.Taken.{Taken}
-use Rattle.nz_machine.specs.declared.taking.Taken.TheVariants.{Synced, Missing, Refused}
+use Rattle.nz_machine.specs.declared.sync_keys.Taken.{Taken}
+use Rattle.nz_machine.specs.declared.sync_keys.Taken.TheVariants.{Synced, Missing, Refused}
 use Rattle.nz_machine.specs.State.{ReplicaData}
 use Rattle.nz_machine.specs.Replicas.{most_entries}
 use Rattle.nz_machine.specs.LogMods.{or_else, sync_keys}

@@ -22,12 +22,12 @@ abbrev pub in_view_change : ReplicaData → ℕ → ReplicaData
 in_view_change s view = record s { status = ViewChange; view = view; changes = []; since = 0; quiet = 0 }
 
 -- The others are asked to enter the view.
-abbrev pub view_ask : ReplicaData → Message
-view_ask s = messages.ViewAsk (record { view = s.view })
+abbrev pub view_ask_message : ReplicaData → Message
+view_ask_message s = messages.ViewAsk (record { view = s.view })
 
 -- What the replica reports to the leader of its view.
-abbrev pub view_change : ReplicaData → Message
-view_change s =
+abbrev pub view_change_message : ReplicaData → Message
+view_change_message s =
     let log = s.log in
     messages.ViewChange (record { view = s.view; last = s.last; vector = s.vector; synced = log.synced; commit = s.commit; entries = log.entries })
 
@@ -37,7 +37,7 @@ to_leader f me s m = if leads f me s then [] else to_replica (leader f s) m
 
 -- What is sent for a view: the others are asked, and then its leader gets the report.
 abbrev pub view_calls : ℕ → ℕ → ReplicaData → List Out
-view_calls f me s = to_others f me (view_ask s) ++ to_leader f me s (view_change s)
+view_calls f me s = to_others f me (view_ask_message s) ++ to_leader f me s (view_change_message s)
 
 -- A view is entered, and everybody hears of it.
 unfoldable pub enter_view : ℕ → ℕ → ℕ → ReplicaData → ReplicaData × List Out

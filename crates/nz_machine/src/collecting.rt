@@ -2,9 +2,9 @@
 
 ghost use Rattle.std.specs.Prelude.{◌≡◌, ◌∷◌, ◌++◌, [], ◌==◌, not, length, map, filter, replicate, slice_index, if◌then◌else◌, IfOk, OnOk, OnErr};
 ghost use Rattle.std.specs.List.{list_any};
-ghost use Rattle.nz_cv.specs.Vectors.{is_stray as is_stray_in};
+ghost use Rattle.nz_cv.specs.Vectors as vectors;
 ghost use Rattle.nz_log.specs.Synced.{left_out};
-ghost use Rattle.nz_merge.specs.declared.change.Change.{Change as AChange};
+ghost use Rattle.nz_merge.specs.declared.change.Change.{Change as ChangeModel};
 ghost use Rattle.nz_merge.specs.Merged.{greatest};
 ghost use Rattle.nz_merge.specs.Sender.{HaveOwnSenders};
 ghost use Rattle.nz_store.specs.Sequence.{store_after, replies};
@@ -13,11 +13,11 @@ ghost use Rattle.nz_machine.specs.Facts.{AreApart, IsCarried};
 ghost use Rattle.nz_machine.specs.Replicas.{commands};
 ghost use Rattle.nz_machine.specs.Taking.{with_parts};
 ghost use Rattle.nz_machine.specs.Adopting.{with_log};
-ghost use Rattle.nz_machine.specs.declared.data.Reported.{Reported as AReported};
-ghost use Rattle.nz_machine.specs.declared.data.ToldView.{ToldView as AToldView};
+ghost use Rattle.nz_machine.specs.declared.data.Reported.{Reported as ReportedModel};
+ghost use Rattle.nz_machine.specs.declared.data.ToldView.{ToldView as ToldViewModel};
 
 use super::data::{Reported, ToldView};
-use super::taking::{keep_each, pass_over};
+use super::sync_keys::{keep_each, pass_over};
 use nz_base::{Entry, EntryList, List, NoMemory, TryCopy};
 use nz_buffers::{Early, Late};
 use nz_cv::CrashVector;
@@ -38,14 +38,15 @@ fn counter(vector: &CrashVector, place: u8) -> u32
 
 /// Whether a message of the sender with this vector is stray.
 fn is_stray(vector: &CrashVector, sender: u8, known: &CrashVector) -> bool
-    ensures { result ≡ is_stray_in vector.now sender known.now }
+    ensures { result ≡ vectors.is_stray vector.now sender known.now }
 {
     counter(vector, sender) < counter(known, sender)
 }
 
 /// Collects the report in place of an earlier one of its sender.
 pub fn replace_report(changes: &mut Vec<Reported>, reported: Reported) -> Result<(), NoMemory>
-    ensures ok { OnOk result (changes.new.items ≡ filter (λ (r : AReported). not (r.change.sender == reported.change.sender)) changes.old.items ++ reported ∷ []) }
+    ensures ok { OnOk result (changes.new.items
+        ≡ filter (λ (r : ReportedModel). not (r.change.sender == reported.change.sender)) changes.old.items ++ reported ∷ []) }
     ensures err { OnErr result (changes.new.items ≡ changes.old.items) }
 {
     // No report is lost where there is no memory for this one.
@@ -65,7 +66,7 @@ pub fn clear_reports(ack: &mut Vec<u32>)
 
 /// Drops the reports that the vector makes stray.
 pub fn drop_stray_reports(changes: &mut Vec<Reported>, known: &CrashVector)
-    ensures { changes.new.items ≡ filter (λ (r : AReported). not (is_stray_in r.vector r.change.sender known.now)) changes.old.items }
+    ensures { changes.new.items ≡ filter (λ (r : ReportedModel). not (vectors.is_stray r.vector r.change.sender known.now)) changes.old.items }
 {
     changes.retain(|r| !is_stray(&r.vector, r.change.sender, known));
 }
@@ -78,7 +79,9 @@ pub fn with_told(
     told: ToldView,
     known: &CrashVector,
 ) -> Result<List<ToldView>, NoMemory>
-    ensures { IfOk result (λ list. list ≡ filter (λ (t : AToldView). not (is_stray_in t.vector t.sender known.now)) (filter (λ (t : AToldView). not (t.sender == told.sender)) tells.now ++ told ∷ [])) }
+    ensures { IfOk result (λ list. list ≡ filter
+        (λ (t : ToldViewModel). not (vectors.is_stray t.vector t.sender known.now))
+        (filter (λ (t : ToldViewModel). not (t.sender == told.sender)) tells.now ++ told ∷ [])) }
 {
     let mut list = List::new(alloc);
     for other in tells {
@@ -95,7 +98,7 @@ pub fn with_told(
 
 /// The latest view that was told.
 pub fn latest(tells: &[ToldView]) -> u64
-    ensures { result ≡ greatest (map (λ (t : AToldView). t.view) tells.now) }
+    ensures { result ≡ greatest (map (λ (t : ToldViewModel). t.view) tells.now) }
 {
     let mut latest = 0;
     for told in tells {
@@ -140,8 +143,8 @@ pub fn all_changes(
     own: Change,
     reports: &[Reported],
 ) -> Result<ViewChanges, NoMemory>
-    requires { HaveOwnSenders (own ∷ map (λ (r : AReported). r.change) reports.now) }
-    ensures { IfOk result (λ changes. changes ≡ own ∷ map (λ (r : AReported). r.change) reports.now) }
+    requires { HaveOwnSenders (own ∷ map (λ (r : ReportedModel). r.change) reports.now) }
+    ensures { IfOk result (λ changes. changes ≡ own ∷ map (λ (r : ReportedModel). r.change) reports.now) }
 {
     let mut changes = ViewChanges::new(alloc);
     changes.push(own)?;
@@ -153,7 +156,7 @@ pub fn all_changes(
 
 /// How many entries the reports know to be committed at most.
 pub fn greatest_commit(changes: &[Change]) -> u32
-    ensures { result ≡ greatest (map (λ (c : AChange). c.commit) changes.now) }
+    ensures { result ≡ greatest (map (λ (c : ChangeModel). c.commit) changes.now) }
 {
     let mut commit = 0;
     for change in changes {

@@ -1,6 +1,6 @@
 //! Laws of the rules, each the contract of a function with nothing to do.
 ghost use Rattle.std.specs.Prelude.{◌≡◌, ℕ, List, ◌+◌, ◌≤◌, ◌<◌, ◌^◌, ◌==◌, ◌++◌, length, min, IsTrue, IsFalse};
-ghost use Rattle.nz_buffers.specs.Buffers.{released as released_of, held_back};
+ghost use Rattle.nz_buffers.specs.Buffers.{released, held_back};
 ghost use Rattle.nz_base.specs.Cluster.{replica_count};
 ghost use Rattle.nz_msg.specs.declared.message.TimedBody.{TimedBody};
 ghost use Rattle.nz_msg.specs.declared.message.LogModBody.{LogModBody};
@@ -101,10 +101,10 @@ pub fn facts_are_kept()
 /// Where the log has room for what is due, a replica in normal operation releases all of it.
 pub fn due_entries_are_released()
     ensures log { (f me : ℕ) (s : ReplicaData) (clock : ℕ) → HasFacts f me s → IsTrue (is_normal s.status)
-        → length s.log.entries + length (released_of s.early (min clock last_clock)) ≤ most_entries
-        → (release_rule f me s clock).0.log.entries ≡ s.log.entries ++ released_of s.early (min clock last_clock) }
+        → length s.log.entries + length (released s.early (min clock last_clock)) ≤ most_entries
+        → (release_rule f me s clock).0.log.entries ≡ s.log.entries ++ released s.early (min clock last_clock) }
     ensures early { (f me : ℕ) (s : ReplicaData) (clock : ℕ) → HasFacts f me s → IsTrue (is_normal s.status)
-        → length s.log.entries + length (released_of s.early (min clock last_clock)) ≤ most_entries
+        → length s.log.entries + length (released s.early (min clock last_clock)) ≤ most_entries
         → (release_rule f me s clock).0.early ≡ held_back s.early (min clock last_clock) }
 {}
 

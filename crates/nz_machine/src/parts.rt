@@ -3,13 +3,13 @@
 ghost use Rattle.std.specs.Prelude.{◌≡◌, ◌<◌, ◌∷◌, ◌++◌, [], length, IsTrue, IsFalse, OnOk, OnErr, if◌then◌else◌};
 ghost use Rattle.nz_base.specs.Key.{id_of};
 ghost use Rattle.nz_base.specs.Log.{keys_of, has_id, is_above_last};
-ghost use Rattle.nz_base.specs.declared.key.Key.{Key as AKey};
+ghost use Rattle.nz_base.specs.declared.key.Key.{Key as KeyModel};
 ghost use Rattle.nz_cv.specs.Vectors.{IsClusterSize};
 ghost use Rattle.nz_store.specs.Sequence.{store_after};
 ghost use Rattle.nz_buffers.specs.Buffers.{is_past, insert_by_key, without};
-ghost use Rattle.nz_msg.specs.Fields.{vector as vector_field};
+ghost use Rattle.nz_msg.specs.Fields as fields;
 ghost use Rattle.nz_machine.specs.Replicas.{commands};
-ghost use Rattle.nz_machine.specs.Releases.{appended, executed};
+ghost use Rattle.nz_machine.specs.Releases.{log_with_entry, results_with_entry};
 
 use nz_base::{Entry, Key, NoMemory};
 use nz_buffers::{Early, Late, Offer};
@@ -19,7 +19,7 @@ use nz_store::{Answer, Store};
 
 /// The key of the log's last entry.
 pub fn last_key(log: &HashedLog) -> Option<Key>
-    ensures { (key : AKey) → is_past result key ≡ is_above_last (keys_of log.now.entries) key }
+    ensures { (key : KeyModel) → is_past result key ≡ is_above_last (keys_of log.now.entries) key }
 {
     match log.last() {
         None => None,
@@ -74,8 +74,8 @@ pub fn take_in(
     requires fresh { IsFalse (has_id (keys_of log.old.entries) (id_of entry.key)) }
     requires room { length log.old.entries < MAX_ENTRIES }
     requires store { IsTrue leads → store.old ≡ store_after (commands log.old.entries) }
-    ensures log { OnOk result (log.new ≡ appended leads log.old entry) }
-    ensures results { OnOk result (results.new.items ≡ executed leads results.old.items log.old.entries entry) }
+    ensures log { OnOk result (log.new ≡ log_with_entry leads log.old entry) }
+    ensures results { OnOk result (results.new.items ≡ results_with_entry leads results.old.items log.old.entries entry) }
     ensures store { OnOk result (IsTrue leads → store.new ≡ store_after (commands log.new.entries)) }
 {
     if !leads {
@@ -93,14 +93,14 @@ pub fn take_in(
 /// That frames can carry this many counters.
 fn counters_fit(counters: &[u32])
     requires { IsClusterSize (length counters.now) }
-    ensures { vector_field.fits counters.now }
+    ensures { fields.vector.fits counters.now }
 {
     let _count = counters.len();
 }
 
 /// That frames can carry a crash vector.
 pub fn vector_fits(vector: &CrashVector)
-    ensures { vector_field.fits vector.now }
+    ensures { fields.vector.fits vector.now }
 {
     let _size = vector.size();
     counters_fit(vector.as_slice());

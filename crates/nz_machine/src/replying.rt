@@ -3,7 +3,7 @@
 ghost use Rattle.std.specs.Prelude.{◌≡◌, ◌<◌, ◌++◌, map, length, OnOk};
 ghost use Rattle.std.specs.Map.{lookup};
 ghost use Rattle.nz_base.specs.Key.{id_eq};
-ghost use Rattle.nz_base.specs.declared.actor.Actor.TheVariants.{Replica as IsReplica};
+ghost use Rattle.nz_base.specs.declared.actor.Actor.TheVariants.{Replica};
 ghost use Rattle.nz_machine.specs.Replicas.{fast_replies, slow_replies};
 ghost use Rattle.nz_machine.specs.Step.{parcel};
 
@@ -17,7 +17,9 @@ impl ReplicaState {
     /// Sends the fast reply for the entry at a place to where its request came from, if that is known.
     pub fn reply_fast(&self, id: Id, place: u32, sends: &mut Sends) -> Result<(), NoMemory>
         requires { place < length self.now.state.log.entries }
-        ensures { OnOk result (sends.new ≡ sends.old ++ map (parcel (IsReplica self.now.me)) (fast_replies self.now.f self.now.me self.now.state id place (lookup (id_eq id) self.now.state.origin))) }
+        ensures { OnOk result (sends.new ≡ sends.old
+            ++ map (parcel (Replica self.now.me))
+            (fast_replies self.now.f self.now.me self.now.state id place (lookup (id_eq id) self.now.state.origin))) }
     {
         match self.origin_of(id) {
             None => Ok(()),
@@ -38,7 +40,8 @@ impl ReplicaState {
 
     /// Sends the slow reply for a request to where it came from, if that is known.
     pub fn reply_slowly(&self, id: Id, sends: &mut Sends) -> Result<(), NoMemory>
-        ensures { OnOk result (sends.new ≡ sends.old ++ map (parcel (IsReplica self.now.me)) (slow_replies self.now.state id (lookup (id_eq id) self.now.state.origin))) }
+        ensures { OnOk result (sends.new ≡ sends.old
+            ++ map (parcel (Replica self.now.me)) (slow_replies self.now.state id (lookup (id_eq id) self.now.state.origin))) }
     {
         match self.origin_of(id) {
             None => Ok(()),

@@ -6,20 +6,21 @@ ghost use Rattle.nz_base.specs.Actor.{HasAddress};
 ghost use Rattle.nz_base.specs.Cluster.{replica_count};
 ghost use Rattle.nz_base.specs.Key.{id_eq, id_of};
 ghost use Rattle.nz_base.specs.Log.{keys_of, has_id, is_above_last};
-ghost use Rattle.nz_base.specs.declared.actor.Actor.TheVariants.{Replica as IsReplica};
-ghost use Rattle.nz_base.specs.declared.key.Entry.{Entry as AnEntry};
-ghost use Rattle.nz_msg.specs.Fields.{view as view_field, vector as vector_field, answer as answer_field};
+ghost use Rattle.nz_base.specs.declared.actor.Actor.TheVariants as actors;
+ghost use Rattle.nz_base.specs.declared.key.Entry.{Entry as EntryModel};
+ghost use Rattle.nz_msg.specs.Fields as fields;
 ghost use Rattle.nz_machine.specs.declared.data.Phase.TheVariants.{Vectors};
 ghost use Rattle.nz_machine.specs.Facts.{FitsEntry, HasFacts};
 ghost use Rattle.nz_machine.specs.Parts.{model_of, without_waiting};
-ghost use Rattle.nz_machine.specs.Replicas.{first_replica, crashed_replica, is_normal, is_changing, is_up, is_rejoining, is_down as is_down_in, leads as leads_in, leads_view as leads_view_in, hears_leader as hears_leader_in, answer_at};
-ghost use Rattle.nz_machine.specs.Requests.{with_origin, to_early as to_early_of, to_late as to_late_of};
-ghost use Rattle.nz_machine.specs.Releases.{at_clock, released, first_may};
+ghost use Rattle.nz_machine.specs.Replicas as replicas;
+ghost use Rattle.nz_machine.specs.Replicas.{first_replica, crashed_replica, is_normal, is_changing, is_up, is_rejoining, answer_at};
+ghost use Rattle.nz_machine.specs.Requests.{with_origin, to_early, to_late};
+ghost use Rattle.nz_machine.specs.Releases.{at_clock, after_release, first_may};
 
-mod agreeing;
 mod beginning;
 mod messages;
 mod rejoining;
+mod sync;
 mod viewing;
 
 use super::answers::copy_answer;
@@ -203,7 +204,7 @@ impl ReplicaState {
 
     /// The actor's name.
     pub fn name(&self) -> Actor
-        ensures name { result ≡ IsReplica self.now.me }
+        ensures name { result ≡ actors.Replica self.now.me }
         ensures address { HasAddress result }
     {
         // f is at most 4, so the number is at most 8.
@@ -224,21 +225,21 @@ impl ReplicaState {
 
     /// Whether the replica leads its view, in whatever mode.
     pub fn leads(&self) -> bool
-        ensures { result ≡ leads_in self.now.f self.now.me self.now.state }
+        ensures { result ≡ replicas.leads self.now.f self.now.me self.now.state }
     {
         self.parts.cluster.leader(self.parts.view) == self.parts.me
     }
 
     /// Whether it leads its view in normal operation.
     pub fn leads_view(&self) -> bool
-        ensures { result ≡ leads_view_in self.now.f self.now.me self.now.state }
+        ensures { result ≡ replicas.leads_view self.now.f self.now.me self.now.state }
     {
         self.is_normal() && self.leads()
     }
 
     /// Whether it is a follower in normal operation, and hears the leader of its view.
     pub fn hears_leader(&self, view: u64, sender: u8) -> bool
-        ensures { result ≡ hears_leader_in self.now.f self.now.me self.now.state view sender }
+        ensures { result ≡ replicas.hears_leader self.now.f self.now.me self.now.state view sender }
     {
         self.is_normal()
             && view == self.parts.view
@@ -269,14 +270,14 @@ impl ReplicaState {
 
     /// Whether it is out of service.
     pub fn is_down(&self) -> bool
-        ensures { result ≡ is_down_in self.now.state.status }
+        ensures { result ≡ replicas.is_down self.now.state.status }
     {
         matches!(self.parts.status, Status::Down)
     }
 
     pub fn view(&self) -> u64
         ensures value { result ≡ self.now.state.view }
-        ensures fits { view_field.fits result }
+        ensures fits { fields.view.fits result }
     {
         self.parts.view
     }
@@ -295,7 +296,7 @@ impl ReplicaState {
 
     pub fn vector(&self) -> &CrashVector
         ensures value { result.now ≡ self.now.state.vector }
-        ensures fits { vector_field.fits result.now }
+        ensures fits { fields.vector.fits result.now }
     {
         vector_fits(&self.parts.vector);
         &self.parts.vector
@@ -324,7 +325,7 @@ impl ReplicaState {
     /// A copy of the leader's answer to the entry at a place. A follower has none.
     pub fn answer_at(&self, place: u32) -> Result<Option<Answer>, NoMemory>
         ensures value { IfOk result (λ answer. answer ≡ answer_at self.now.f self.now.me self.now.state place) }
-        ensures fits { IfOk result (λ answer. IfSome answer answer_field.fits) }
+        ensures fits { IfOk result (λ answer. IfSome answer fields.answer.fits) }
     {
         if !self.leads() {
             return Ok(None);
@@ -362,7 +363,7 @@ impl ReplicaState {
         requires above { IsTrue (is_above_last (keys_of self.old.state.log.entries) entry.key) }
         requires logged { IsFalse (has_id (keys_of self.old.state.log.entries) (id_of entry.key)) }
         requires held { IsFalse (has_id (keys_of self.old.state.early) (id_of entry.key)) }
-        ensures { OnOk result (self.new ≡ record self.old { state = to_early_of self.old.state entry }) }
+        ensures { OnOk result (self.new ≡ record self.old { state = to_early self.old.state entry }) }
     {
         let last = last_key(&self.parts.log);
         put_early(&mut self.parts.early, &mut self.parts.late, last, entry)?;
@@ -374,7 +375,7 @@ impl ReplicaState {
         requires fit { FitsEntry entry }
         requires logged { IsFalse (has_id (keys_of self.old.state.log.entries) (id_of entry.key)) }
         requires held { IsFalse (has_id (keys_of self.old.state.early) (id_of entry.key)) }
-        ensures { OnOk result (self.new ≡ record self.old { state = to_late_of self.old.state entry }) }
+        ensures { OnOk result (self.new ≡ record self.old { state = to_late self.old.state entry }) }
     {
         put_late(&mut self.parts.late, entry)?;
         Ok(())
@@ -394,8 +395,8 @@ impl ReplicaState {
     pub fn release(&mut self) -> Result<Id, NoMemory>
         requires normal { IsTrue (is_normal self.old.state.status) }
         requires first { IsTrue (first_may self.old.state self.old.state.early) }
-        ensures state { IfOk result (λ id. (e : AnEntry) (es : List AnEntry) → self.old.state.early ≡ e ∷ es
-            → (id ≡ id_of e.key) × (self.new ≡ record self.old { state = released self.old.f self.old.me self.old.state e es })) }
+        ensures state { IfOk result (λ id. (e : EntryModel) (es : List EntryModel) → self.old.state.early ≡ e ∷ es
+            → (id ≡ id_of e.key) × (self.new ≡ record self.old { state = after_release self.old.f self.old.me self.old.state e es })) }
         ensures grown { OnOk result (length self.new.state.log.entries ≡ length self.old.state.log.entries + 1) }
     {
         let leads = self.leads();

@@ -1,5 +1,6 @@
 -- Counting the members of sets below a limit.
-use Rattle.std.proofs.Common.{◌≡◌, ℕ, zero, suc, ◌+◌, ◌<◌, ◌≤◌, ◌⊎◌, Bool, true, false, not, ◌&&◌, ◌||◌, cond, eqb, ltb, List, [], ◌∷◌, ◌++◌, length, refl, sym, ap, subst, ◌∙◌, arith, inl, inr}
+use Rattle.std.proofs.Common.{◌≡◌, ℕ, zero, suc, ◌+◌, ◌<◌, ◌≤◌, ◌⊎◌, Bool, true, false, not, ◌&&◌, ◌||◌, cond, eqb}
+use Rattle.std.proofs.Common.{ltb, List, [], ◌∷◌, ◌++◌, length, refl, sym, ap, subst, ◌∙◌, arith, inl, inr}
 use Rattle.std.proofs.lemmas.Bool.{cases_lt, cases_eq, eq-eqb, eqb-false, ne_eqb, lt-ltb, le-ltb, ltb-true}
 use Rattle.std.proofs.lemmas.List.{append-nil}
 use Rattle.nz_math.specs.Count.{one_if, count_below, both, everyone, all_but, IsWithin, is_in, AreDistinct, IsChoice, members_below}
@@ -67,7 +68,8 @@ one_place false false c h k = omega arith
 narrow : (n : ℕ) (p q : ℕ → Bool) → IsWithin (suc n) p q → IsWithin n p q
 narrow n p q h x lt = h x (omega arith)
 
-pub counting : (n : ℕ) (p q among : ℕ → Bool) → IsWithin n p among → IsWithin n q among → count_below n p + count_below n q ≤ count_below n among + count_below n (both p q)
+pub counting : (n : ℕ) (p q among : ℕ → Bool) → IsWithin n p among → IsWithin n q among
+    → count_below n p + count_below n q ≤ count_below n among + count_below n (both p q)
 unfolding count_below
 counting zero p q among hp hq = omega arith
 counting (suc n) p q among hp hq =
@@ -97,7 +99,9 @@ count_add (suc n) y p lt new =
       | inl same ↦
           let last : eqb y n ≡ true = eq-eqb y n same in
           let absent : p n ≡ false = subst (λ (m : ℕ). p m ≡ false) same new in
-          let rest = count_same n (λ x. eqb y x || p x) p (λ x below. let differs : eqb y x ≡ false = ne_eqb y x (λ e. absurd (omega arith)) in rw differs refl) in
+          let rest =
+          count_same n (λ x. eqb y x || p x) p
+          (λ x below. let differs : eqb y x ≡ false = ne_eqb y x (λ e. absurd (omega arith)) in rw differs refl) in
           rw (last, absent, rest) (omega arith)
       | inr other ↦
           let last : eqb y n ≡ false = ne_eqb y n other in
@@ -130,7 +134,9 @@ count_drop zero m p = omega arith
 count_drop (suc n) m p =
     elim (cases_eq m n) [
       | inl same ↦
-          let rest : count_below n p ≡ count_below n (λ x. p x && not (eqb m x)) = count_same n p (λ x. p x && not (eqb m x)) (λ x below. let differs : eqb m x ≡ false = ne_eqb m x (λ e. absurd (omega arith)) in rw differs (sym (and_true (p x)))) in
+          let rest : count_below n p ≡ count_below n (λ x. p x && not (eqb m x)) =
+          count_same n p (λ x. p x && not (eqb m x))
+          (λ x below. let differs : eqb m x ≡ false = ne_eqb m x (λ e. absurd (omega arith)) in rw differs (sym (and_true (p x)))) in
           let last = one_at_most (p n) in
           omega (arith, rest, last)
       | inr other ↦
@@ -206,7 +212,8 @@ distinct-append : (xs : List ℕ) (n : ℕ) → AreDistinct xs → is_in xs n �
 distinct-append [] n d h = (refl, tt)
 distinct-append (y ∷ xs) n d h =
     let parts = or_both (eqb y n) (is_in xs n) h in
-    let own : is_in (xs ++ n ∷ []) y ≡ false = rw (is_in-append xs (n ∷ []) y, d.0) (let apart : eqb n y ≡ false = ne_eqb n y (λ e. eqb-false y n parts.0 (sym e)) in rw apart refl) in
+    let own : is_in (xs ++ n ∷ []) y ≡ false =
+    rw (is_in-append xs (n ∷ []) y, d.0) (let apart : eqb n y ≡ false = ne_eqb n y (λ e. eqb-false y n parts.0 (sym e)) in rw apart refl) in
     (own, distinct-append xs n d.1 parts.1)
 
 distinct-last : (xs : List ℕ) (n : ℕ) (b : Bool) → AreDistinct xs → is_in xs n ≡ false → AreDistinct (xs ++ cond b (n ∷ []) [])

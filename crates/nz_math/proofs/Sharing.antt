@@ -11,19 +11,23 @@ at_least size n k p q h enough =
     let sum = counting n p q h.among h.first h.second in
     omega (arith, few, sum)
 
-pub fast_and_slow : (f n : ℕ) (p q : ℕ → Bool) → AreTwoAmong (group_size f) n p q → fast_quorum f ≤ count_below n p → slow_quorum f ≤ count_below n q → half_up f + 1 ≤ count_below n (both p q)
+pub fast_and_slow : (f n : ℕ) (p q : ℕ → Bool) → AreTwoAmong (group_size f) n p q → fast_quorum f ≤ count_below n p
+    → slow_quorum f ≤ count_below n q → half_up f + 1 ≤ count_below n (both p q)
 fast_and_slow f n p q h fast slow = at_least (group_size f) n (half_up f + 1) p q h (omega (arith, fast, slow))
 
 pub more_than_half : (f : ℕ) → slow_quorum f < 2 * (half_up f + 1)
 more_than_half f = omega arith
 
-pub two_slow : (f n : ℕ) (p q : ℕ → Bool) → AreTwoAmong (group_size f) n p q → slow_quorum f ≤ count_below n p → slow_quorum f ≤ count_below n q → 1 ≤ count_below n (both p q)
+pub two_slow : (f n : ℕ) (p q : ℕ → Bool) → AreTwoAmong (group_size f) n p q → slow_quorum f ≤ count_below n p
+    → slow_quorum f ≤ count_below n q → 1 ≤ count_below n (both p q)
 two_slow f n p q h first second = at_least (group_size f) n 1 p q h (omega (arith, first, second))
 
-pub two_slow_of_others : (f n : ℕ) (p q : ℕ → Bool) → AreTwoAmong (2 * f) n p q → slow_quorum f ≤ count_below n p → slow_quorum f ≤ count_below n q → 2 ≤ count_below n (both p q)
+pub two_slow_of_others : (f n : ℕ) (p q : ℕ → Bool) → AreTwoAmong (2 * f) n p q → slow_quorum f ≤ count_below n p
+    → slow_quorum f ≤ count_below n q → 2 ≤ count_below n (both p q)
 two_slow_of_others f n p q h first second = at_least (2 * f) n 2 p q h (omega (arith, first, second))
 
-pub slow_and_rest : (f n : ℕ) (p q : ℕ → Bool) → AreTwoAmong (2 * f) n p q → f ≤ count_below n p → slow_quorum f ≤ count_below n q → 1 ≤ count_below n (both p q)
+pub slow_and_rest : (f n : ℕ) (p q : ℕ → Bool) → AreTwoAmong (2 * f) n p q → f ≤ count_below n p
+    → slow_quorum f ≤ count_below n q → 1 ≤ count_below n (both p q)
 slow_and_rest f n p q h first second = at_least (2 * f) n 1 p q h (omega (arith, first, second))
 
 shared : (n : ℕ) (xs ys left : List ℕ) → length left < count_below n (both (is_in xs) (is_in ys)) → (x : ℕ) × IsShared xs ys left x
@@ -42,7 +46,8 @@ lists_share n xs ys left hx hy enough =
     let sum = counting n (is_in xs) (is_in ys) everyone (λ x lt h. refl) (λ x lt h. refl) in
     shared n xs ys left (omega (arith, sum, count_everyone n, count_choice n xs hx, count_choice n ys hy))
 
-pub others_share : (n m : ℕ) (xs ys left : List ℕ) → IsChoice n xs → IsChoice n ys → m < n → is_in xs m ≡ false → is_in ys m ≡ false → n + length left ≤ length xs + length ys → (x : ℕ) × IsShared xs ys left x
+pub others_share : (n m : ℕ) (xs ys left : List ℕ) → IsChoice n xs → IsChoice n ys → m < n → is_in xs m ≡ false
+    → is_in ys m ≡ false → n + length left ≤ length xs + length ys → (x : ℕ) × IsShared xs ys left x
 others_share n m xs ys left hx hy lt apart_x apart_y enough =
     let sum = counting n (is_in xs) (is_in ys) (all_but m) (within_all_but n m (is_in xs) apart_x) (within_all_but n m (is_in ys) apart_y) in
     shared n xs ys left (omega (arith, sum, count_all_but n m lt, count_choice n xs hx, count_choice n ys hy))

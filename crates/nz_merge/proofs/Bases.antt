@@ -1,5 +1,6 @@
 -- The merged log in prefixes: the synced part that it begins with, and the keys of a fast quorum that stay.
-use Rattle.std.proofs.Common.{◌≡◌, ℕ, zero, suc, ◌<◌, ◌≤◌, Bool, true, false, cond, eqb, List, [], ◌∷◌, length, take, refl, sym, ap, subst, ◌∙◌, arith, inl, inr, ◌⊎◌}
+use Rattle.std.proofs.Common.{◌≡◌, ℕ, zero, suc, ◌<◌, ◌≤◌, Bool, true, false, cond, eqb, List, []}
+use Rattle.std.proofs.Common.{◌∷◌, length, take, refl, sym, ap, subst, ◌∙◌, arith, inl, inr, ◌⊎◌}
 use Rattle.std.specs.Prelude.{map}
 use Rattle.std.specs.List.{filter, Contains}
 use Rattle.std.proofs.lemmas.Bool.{cases_lt, eq-eqb, eqb-true}
@@ -12,7 +13,8 @@ use Rattle.nz_base.specs.Prefixes.{IsPrefix, Comparable}
 use Rattle.nz_math.specs.Count.{is_in, IsChoice}
 use Rattle.nz_math.specs.Quorum.{group_size, slow_quorum, fast_quorum}
 use Rattle.nz_merge.specs.declared.change.Change.{Change}
-use Rattle.nz_merge.specs.Merged.{AreFit, greatest, kept, lower, lowest, with_synced, synced_entries, synced_part, threshold, merged, begins_with, count_beginning}
+use Rattle.nz_merge.specs.Merged.{AreFit, greatest, changes_kept, lower, lowest, with_synced, synced_entries}
+use Rattle.nz_merge.specs.Merged.{merged_synced_part, threshold, merged, begins_with, count_beginning}
 use Rattle.nz_merge.specs.Sender.{senders}
 use Rattle.nz_merge.proofs.Beginnings.{begins_append, rest_of}
 use Rattle.nz_merge.proofs.Logs.{lowest_has}
@@ -72,16 +74,16 @@ pub record IsBase (changes : List Change) : Type 0 where
   pub among : Contains changes c
   pub last : c.last ≡ last_of changes
   pub most : (d : Change) → Contains changes d → d.last ≡ last_of changes → d.synced ≤ c.synced
-  pub is : keys_of (synced_part (kept changes)) ≡ take c.synced (keys_of c.log)
+  pub is : keys_of (merged_synced_part (changes_kept changes)) ≡ take c.synced (keys_of c.log)
 
 -- a kept report is one of the reports, of the greatest last view, and each of these is kept
-of_kept : (changes : List Change) (c : Change) → Contains (kept changes) c → Contains changes c × (eqb c.last (last_of changes) ≡ true)
+of_kept : (changes : List Change) (c : Change) → Contains (changes_kept changes) c → Contains changes c × (eqb c.last (last_of changes) ≡ true)
 of_kept changes c h = of_filter (λ (d : Change). eqb d.last (last_of changes)) changes c h
 
-in_kept : (changes : List Change) (c : Change) → Contains changes c → c.last ≡ last_of changes → Contains (kept changes) c
+in_kept : (changes : List Change) (c : Change) → Contains changes c → c.last ≡ last_of changes → Contains (changes_kept changes) c
 in_kept changes c h e = in_filter (λ (d : Change). eqb d.last (last_of changes)) changes c h (eq-eqb c.last (last_of changes) e)
 
-base_from : (changes : List Change) (all : List Change) → kept changes ≡ all → (c : Change) → Contains all c → IsBase changes
+base_from : (changes : List Change) (all : List Change) → changes_kept changes ≡ all → (c : Change) → Contains all c → IsBase changes
 base_from changes [] e c (k, lt, _) = absurd (omega (arith, lt))
 base_from changes (x ∷ xs) e c h = found (with_synced most (x ∷ xs)) refl
   where
@@ -103,7 +105,8 @@ base_from changes (x ∷ xs) e c h = found (with_synced most (x ∷ xs)) refl
         let parts = of_filter (λ (d : Change). eqb d.synced m) (x ∷ xs) low (subst (λ (l : List Change). Contains l low) (sym is) in_few) in
         let kept_parts = of_kept changes low (subst (λ (l : List Change). Contains l low) (sym e) parts.0) in
         let synced : low.synced ≡ m = eqb-true low.synced m parts.1 in
-        let part : synced_part (kept changes) ≡ take low.synced low.log = ap synced_part e ∙ ap (λ (l : List Change). synced_entries (lowest l)) is in
+        let part : merged_synced_part (changes_kept changes) ≡ take low.synced low.log =
+        ap merged_synced_part e ∙ ap (λ (l : List Change). synced_entries (lowest l)) is in
         record {
           c = low;
           among = kept_parts.0;
@@ -120,18 +123,19 @@ pub base_of : (changes : List Change) → 0 < length changes → IsBase changes
 base_of [] some = absurd (omega (arith, some))
 base_of (x ∷ xs) some =
     let c = is_greatest (λ (d : Change). d.last) x xs in
-    base_from (x ∷ xs) (kept (x ∷ xs)) refl c.0 (in_kept (x ∷ xs) c.0 c.1 c.2)
+    base_from (x ∷ xs) (changes_kept (x ∷ xs)) refl c.0 (in_kept (x ∷ xs) c.0 c.1 c.2)
 
 -- ---- what the merged log begins with
 
-pub synced_stays : (f : ℕ) (changes : List Change) (P : List Key) → IsPrefix P (keys_of (synced_part (kept changes))) → IsPrefix P (keys_of (merged f changes))
-synced_stays f changes P p = begun P (keys_of (merged f changes)) (synced_front f changes P (begins P (keys_of (synced_part (kept changes))) p))
+pub synced_stays : (f : ℕ) (changes : List Change) (P : List Key)
+    → IsPrefix P (keys_of (merged_synced_part (changes_kept changes))) → IsPrefix P (keys_of (merged f changes))
+synced_stays f changes P p = begun P (keys_of (merged f changes)) (synced_front f changes P (begins P (keys_of (merged_synced_part (changes_kept changes))) p))
 
 -- a list that each report from a fast quorum begins with, and is of the greatest last view
 pub fast_count : (f : ℕ) (quorum : List ℕ) (changes : List Change) (P : List Key) → IsChoice (group_size f) quorum → fast_quorum f ≤ length quorum
     → IsChoice (group_size f) (senders changes) → length changes ≡ slow_quorum f
     → ((c : Change) → Contains changes c → is_in quorum c.sender ≡ true → (c.last ≡ last_of changes) × IsPrefix P (keys_of c.log))
-    → threshold f ≤ count_beginning P (kept changes)
+    → threshold f ≤ count_beginning P (changes_kept changes)
 fast_count f quorum changes P choice enough members size holds =
     let some = fast_members f quorum changes choice enough members size in
     let from_quorum : Change → Bool = λ c. is_in quorum c.sender in
@@ -140,9 +144,10 @@ fast_count f quorum changes P choice enough members size holds =
     omega (arith, some, among)
 
 pub fast_stays : (f : ℕ) (changes : List Change) (P : List Key) → AreFit changes → length changes ≡ slow_quorum f
-    → threshold f ≤ count_beginning P (kept changes) → Comparable P (keys_of (synced_part (kept changes))) → IsPrefix P (keys_of (merged f changes))
+    → threshold f ≤ count_beginning P (changes_kept changes)
+    → Comparable P (keys_of (merged_synced_part (changes_kept changes))) → IsPrefix P (keys_of (merged f changes))
 fast_stays f changes P fit size enough either =
-    let base = keys_of (synced_part (kept changes)) in
+    let base = keys_of (merged_synced_part (changes_kept changes)) in
     let in_tests : (begins_with base P ≡ true) ⊎ (begins_with P base ≡ true) = elim either [
       | inl shorter ↦ inl (begins P base shorter)
       | inr longer ↦ inr (begins base P longer)

@@ -1,5 +1,6 @@
 -- Which keys the merged log has, and where its entries come from.
-use Rattle.std.proofs.Common.{◌≡◌, ℕ, zero, suc, ◌<◌, ◌≤◌, Bool, true, false, ◌&&◌, not, eqb, List, [], ◌∷◌, ◌++◌, length, leb, Option, Some, None, refl, sym, subst, inl, inr, append_assoc, arith}
+use Rattle.std.proofs.Common.{◌≡◌, ℕ, zero, suc, ◌<◌, ◌≤◌, Bool, true, false, ◌&&◌, not, eqb, List, [], ◌∷◌, ◌++◌}
+use Rattle.std.proofs.Common.{length, leb, Option, Some, None, refl, sym, subst, inl, inr, append_assoc, arith}
 use Rattle.std.specs.Prelude.{map, take}
 use Rattle.std.specs.List.{filter, flat_map, AllByRecursion}
 use Rattle.std.proofs.lemmas.Bool.{le-leb, leb-true}
@@ -12,10 +13,11 @@ use Rattle.nz_base.proofs.Names.{same_key}
 use Rattle.nz_base.proofs.Booleans.{cases_bool, or_cases, or_left, or_right, and_both, and_left, clash}
 use Rattle.nz_base.proofs.Logs.{has_first, has_append, has_front, has_back, above_each, above_last}
 use Rattle.nz_base.proofs.Keys.{never_self}
-use Rattle.nz_merge.specs.Merged.{IsFit, greatest, lowest, synced_entries, synced_part, holders, all_keys, is_taken, later, command_at, command_in, entry_in, merged_from}
+use Rattle.nz_merge.specs.Merged.{IsFit, greatest, lowest, synced_entries, merged_synced_part, holders, all_keys}
+use Rattle.nz_merge.specs.Merged.{is_taken, later_keys, command_of_key, command_of_change, entry_in, merged_from}
 use Rattle.nz_merge.specs.declared.change.Change.{Change}
 use Rattle.nz_merge.proofs.Ordering.{in_order_rising, has_in_order}
-use Rattle.nz_merge.proofs.Fronts.{among_all, merged_keys}
+use Rattle.nz_merge.proofs.CommonPrefixes.{among_all, merged_keys}
 use Rattle.nz_merge.proofs.Logs.{base_log, lowest_has, all_filter}
 
 -- ---- a key that enough logs hold
@@ -33,9 +35,9 @@ with_id (k ∷ keys) i h =
 pub takes_held : (limit : ℕ) (changes : List Change) (taken candidates : List Key) (k : Key) → AreRising candidates → has_key candidates k ≡ true
     → leb limit (length (holders changes k)) ≡ true
     → ((x : Key) → has_key taken x ≡ true → key_below x k ≡ true)
-    → ((x : Key) → has_key (taken ++ later limit changes taken candidates) x ≡ true → id_eq (id_of k) (id_of x) ≡ true → x ≡ k)
-    → has_key (later limit changes taken candidates) k ≡ true
-unfolding later
+    → ((x : Key) → has_key (taken ++ later_keys limit changes taken candidates) x ≡ true → id_eq (id_of k) (id_of x) ≡ true → x ≡ k)
+    → has_key (later_keys limit changes taken candidates) k ≡ true
+unfolding later_keys
 takes_held limit changes taken [] k r there enough below only = absurd cc
 takes_held limit changes taken (c ∷ candidates) k r there enough below only =
     elim (cases_bool (key_eq k c)) [
@@ -46,12 +48,15 @@ takes_held limit changes taken (c ∷ candidates) k r there enough below only =
             | inr away ↦ away
             | inl known ↦
                 let found = with_id taken (id_of k) known in
-                let itself : found.0 ≡ k = only found.0 (has_front taken (later limit changes taken (c ∷ candidates)) found.0 found.1) found.2 in
+                let itself : found.0 ≡ k = only found.0 (has_front taken (later_keys limit changes taken (c ∷ candidates)) found.0 found.1) found.2 in
                 never_self k (subst (λ (x : Key). key_below x k ≡ true) itself (below found.0 found.1))
           ] in
-          let joins : is_taken limit changes taken k ≡ true = and_both (leb limit (length (holders changes k))) (is_above_last taken k && not (has_id taken (id_of k))) enough (and_both (is_above_last taken k) (not (has_id taken (id_of k))) above (rw fresh refl)) in
+          let joins : is_taken limit changes taken k ≡ true =
+          and_both (leb limit (length (holders changes k)))
+          (is_above_last taken k && not (has_id taken (id_of k))) enough
+          (and_both (is_above_last taken k) (not (has_id taken (id_of k))) above (rw fresh refl)) in
           let joins_c : is_taken limit changes taken c ≡ true = subst (λ (x : Key). is_taken limit changes taken x ≡ true) same joins in
-          rw joins_c (or_left (key_eq k c) (has_key (later limit changes (taken ++ c ∷ []) candidates) k) equal)
+          rw joins_c (or_left (key_eq k c) (has_key (later_keys limit changes (taken ++ c ∷ []) candidates) k) equal)
       | inr other ↦
           let behind : has_key candidates k ≡ true = elim (or_cases (key_eq k c) (has_key candidates k) there) [
             | inl equal ↦ clash (key_eq k c) equal other
@@ -68,24 +73,32 @@ takes_held limit changes taken (c ∷ candidates) k r there enough below only =
                     | inr none ↦ absurd cc
                   ]
                 ] in
-                let rest = later limit changes (taken ++ c ∷ []) candidates in
+                let rest = later_keys limit changes (taken ++ c ∷ []) candidates in
                 let only_then : (x : Key) → has_key (taken ++ c ∷ rest) x ≡ true → id_eq (id_of k) (id_of x) ≡ true → x ≡ k = rw joins at only in
-                let found = takes_held limit changes (taken ++ c ∷ []) candidates k r.1 behind enough more (λ x h i. only_then x (subst (λ (xs : List Key). has_key xs x ≡ true) (append_assoc taken (c ∷ []) rest) h) i) in
+                let found =
+                takes_held limit changes (taken ++ c ∷ []) candidates k r.1 behind enough more
+                (λ x h i. only_then x (subst (λ (xs : List Key). has_key xs x ≡ true) (append_assoc taken (c ∷ []) rest) h) i) in
                 rw joins (or_right (key_eq k c) (has_key rest k) found)
           ]
     ]
 
-pub merged_has : (limit : ℕ) (changes : List Change) (k : Key) → AllByRecursion IsFit changes → 0 < limit → limit ≤ length (holders changes k) → is_above_last (keys_of (synced_part changes)) k ≡ true
-    → ((x : Key) → has_key (keys_of (merged_from limit changes)) x ≡ true → id_eq (id_of k) (id_of x) ≡ true → x ≡ k) → has_key (keys_of (merged_from limit changes)) k ≡ true
+pub merged_has : (limit : ℕ) (changes : List Change) (k : Key) → AllByRecursion IsFit changes → 0 < limit
+    → limit ≤ length (holders changes k) → is_above_last (keys_of (merged_synced_part changes)) k ≡ true
+    → ((x : Key) → has_key (keys_of (merged_from limit changes)) x ≡ true → id_eq (id_of k) (id_of x) ≡ true → x ≡ k)
+    → has_key (keys_of (merged_from limit changes)) k ≡ true
 merged_has limit changes k fit positive enough above only =
-    let base = keys_of (synced_part changes) in
+    let base = keys_of (merged_synced_part changes) in
     let candidates = all_keys changes in
     let same = merged_keys limit changes in
     let rising = base_log changes fit in
-    let there : has_key candidates k ≡ true = has_in_order (flat_map (λ c. keys_of c.log) changes) k (among_all (λ c. has_key (keys_of c.log) k) changes k (λ c h. h) (omega (arith, enough))) in
-    let found = takes_held limit changes base candidates k (in_order_rising (flat_map (λ c. keys_of c.log) changes)) there (le-leb limit (length (holders changes k)) enough) (λ x h. above_each base k x rising.0 above h)
+    let there : has_key candidates k ≡ true =
+    has_in_order (flat_map (λ c. keys_of c.log) changes) k
+    (among_all (λ c. has_key (keys_of c.log) k) changes k (λ c h. h) (omega (arith, enough))) in
+    let found =
+    takes_held limit changes base candidates k (in_order_rising (flat_map (λ c. keys_of c.log) changes)) there
+    (le-leb limit (length (holders changes k)) enough) (λ x h. above_each base k x rising.0 above h)
     (λ x h i. only x (subst (λ (xs : List Key). has_key xs x ≡ true) (sym same) h) i) in
-    subst (λ (xs : List Key). has_key xs k ≡ true) (sym same) (has_back base (later limit changes base candidates) k found)
+    subst (λ (xs : List Key). has_key xs k ≡ true) (sym same) (has_back base (later_keys limit changes base candidates) k found)
 
 -- ---- where the entries come from
 
@@ -107,7 +120,8 @@ base_entries Q None h = tt
 base_entries Q (Some c) h = all_take Q c.synced c.log (h c refl)
 
 -- the entry of a key that a log has
-entry_at : (Q : Entry → Type 0) (key : Key) (log : List Entry) → AllByRecursion Q log → has_key (keys_of log) key ≡ true → Q (record { key = key; command = command_at key log })
+entry_at : (Q : Entry → Type 0) (key : Key) (log : List Entry) → AllByRecursion Q log
+    → has_key (keys_of log) key ≡ true → Q (record { key = key; command = command_of_key key log })
 entry_at Q key [] each h = absurd cc
 entry_at Q key (e ∷ log) each h =
     elim (cases_bool (key_eq key e.key)) [
@@ -128,26 +142,34 @@ are_holders Q key (c ∷ changes) each =
       | inr away ↦ rw away (are_holders Q key changes each.1)
     ]
 
-by_holder : (Q : Entry → Type 0) (key : Key) (found : List Change) → AllByRecursion (IsHolder Q key) found → 0 < length found → Q (record { key = key; command = command_in key (lowest found) })
+by_holder : (Q : Entry → Type 0) (key : Key) (found : List Change) → AllByRecursion (IsHolder Q key) found
+    → 0 < length found → Q (record { key = key; command = command_of_change key (lowest found) })
 by_holder Q key [] each some = absurd (omega arith)
 by_holder Q key (c ∷ found) each some =
     let first = lowest_has (IsHolder Q key) (c ∷ found) _ each refl in
     entry_at Q key _ first.each first.holds
 
-later_entries : (Q : Entry → Type 0) (limit : ℕ) (changes : List Change) (taken candidates : List Key) → EachEntry Q changes → 0 < limit → AllByRecursion Q (map (entry_in changes) (later limit changes taken candidates))
-unfolding later
+later_entries : (Q : Entry → Type 0) (limit : ℕ) (changes : List Change) (taken candidates : List Key)
+    → EachEntry Q changes → 0 < limit → AllByRecursion Q (map (entry_in changes) (later_keys limit changes taken candidates))
+unfolding later_keys
 later_entries Q limit changes taken [] each positive = tt
 later_entries Q limit changes taken (k ∷ candidates) each positive =
     elim (cases_bool (is_taken limit changes taken k)) [
       | inr skipped ↦ rw skipped (later_entries Q limit changes taken candidates each positive)
       | inl joins ↦
-          let enough = leb-true limit (length (holders changes k)) (and_left (leb limit (length (holders changes k))) (is_above_last taken k && not (has_id taken (id_of k))) joins) in
-          rw joins (by_holder Q k (holders changes k) (are_holders Q k changes each) (omega (arith, enough)), later_entries Q limit changes (taken ++ k ∷ []) candidates each positive)
+          let enough =
+          leb-true limit (length (holders changes k))
+          (and_left (leb limit (length (holders changes k))) (is_above_last taken k && not (has_id taken (id_of k))) joins) in
+          rw joins (
+            by_holder Q k (holders changes k) (are_holders Q k changes each) (omega (arith, enough)),
+            later_entries Q limit changes (taken ++ k ∷ []) candidates each positive,
+          )
     ]
 
 pub merged_entries : (Q : Entry → Type 0) (limit : ℕ) (changes : List Change) → EachEntry Q changes → 0 < limit → AllByRecursion Q (merged_from limit changes)
 merged_entries Q limit changes each positive =
     let best : Change → Bool = λ c. eqb c.synced (greatest (map (λ d. d.synced) changes)) in
-    all_append Q (synced_part changes) (map (entry_in changes) (later limit changes (keys_of (synced_part changes)) (all_keys changes)))
-    (base_entries Q (lowest (filter best changes)) (λ c h. lowest_has (λ d. AllByRecursion Q d.log) (filter best changes) c (all_filter (λ d. AllByRecursion Q d.log) best changes each) h))
-    (later_entries Q limit changes (keys_of (synced_part changes)) (all_keys changes) each positive)
+    all_append Q (merged_synced_part changes) (map (entry_in changes) (later_keys limit changes (keys_of (merged_synced_part changes)) (all_keys changes)))
+    (base_entries Q (lowest (filter best changes))
+    (λ c h. lowest_has (λ d. AllByRecursion Q d.log) (filter best changes) c (all_filter (λ d. AllByRecursion Q d.log) best changes each) h))
+    (later_entries Q limit changes (keys_of (merged_synced_part changes)) (all_keys changes) each positive)

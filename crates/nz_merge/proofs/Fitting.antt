@@ -27,19 +27,22 @@ first_own key (k ∷ keys) h =
     let apart = not-true (id_eq (id_of key) (id_of k)) (and_right (key_below key k) (not (id_eq (id_of key) (id_of k))) own) in
     rw apart (first_own key keys (and_right (key_below key k && not (id_eq (id_of key) (id_of k))) (comes_first key keys) h))
 
-first_is : (key : Key) (keys : List Key) → ((x : Key) → has_key keys x ≡ true → key_below key x ≡ true) → has_id keys (id_of key) ≡ false → comes_first key keys ≡ true
+first_is : (key : Key) (keys : List Key) → ((x : Key) → has_key keys x ≡ true → key_below key x ≡ true)
+    → has_id keys (id_of key) ≡ false → comes_first key keys ≡ true
 first_is key [] below own = refl
 first_is key (k ∷ keys) below own =
     elim (cases_bool (id_eq (id_of key) (id_of k))) [
       | inl same ↦ clash (has_id (k ∷ keys) (id_of key)) (or_left (id_eq (id_of key) (id_of k)) (has_id keys (id_of key)) same) own
       | inr apart ↦
           let rest = first_is key keys (λ x h. below x (has_later k keys x h)) (rw apart at own) in
-          and_both (key_below key k && not (id_eq (id_of key) (id_of k))) (comes_first key keys) (and_both (key_below key k) (not (id_eq (id_of key) (id_of k))) (below k (has_first k keys)) (rw apart refl)) rest
+          and_both (key_below key k && not (id_eq (id_of key) (id_of k))) (comes_first key keys)
+          (and_both (key_below key k) (not (id_eq (id_of key) (id_of k))) (below k (has_first k keys)) (rw apart refl)) rest
     ]
 
 log_rising : (keys : List Key) → are_log keys ≡ true → AreRising keys
 log_rising [] h = tt
-log_rising (k ∷ keys) h = (first_below k keys (and_left (comes_first k keys) (are_log keys) h), log_rising keys (and_right (comes_first k keys) (are_log keys) h))
+log_rising (k ∷ keys) h =
+    (first_below k keys (and_left (comes_first k keys) (are_log keys) h), log_rising keys (and_right (comes_first k keys) (are_log keys) h))
 
 log_own : (keys : List Key) → are_log keys ≡ true → HaveOwnIds keys
 log_own [] h = tt
@@ -65,4 +68,6 @@ pub fit_is : (changes : List Change) → AreFit changes → are_fit changes ≡ 
 fit_is [] h = refl
 fit_is (c ∷ changes) h =
     let fit = h.0 in
-    and_both (is_fit c) (are_fit changes) (and_both (leb c.synced (length c.log)) (are_log (keys_of c.log)) (le-leb c.synced (length c.log) fit.synced) (log_is (keys_of c.log) fit.log.rising fit.log.own_ids)) (fit_is changes h.1)
+    and_both (is_fit c) (are_fit changes)
+    (and_both (leb c.synced (length c.log)) (are_log (keys_of c.log)) (le-leb c.synced (length c.log) fit.synced)
+    (log_is (keys_of c.log) fit.log.rising fit.log.own_ids)) (fit_is changes h.1)

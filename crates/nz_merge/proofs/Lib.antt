@@ -2,7 +2,7 @@
 pub mod Beginnings
 pub mod Ordering
 pub mod Walk
-pub mod Fronts
+pub mod CommonPrefixes
 pub mod Logs
 pub mod Entries
 pub mod Merging

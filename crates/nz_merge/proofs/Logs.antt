@@ -1,5 +1,6 @@
 -- The merged log is a log, and what is in it.
-use Rattle.std.proofs.Common.{◌≡◌, ℕ, Bool, true, false, ◌&&◌, not, cond, eqb, List, [], ◌∷◌, ◌++◌, length, leb, ltb, Option, Some, None, refl, sym, ap, subst, ◌∙◌, inl, inr, append_assoc}
+use Rattle.std.proofs.Common.{◌≡◌, ℕ, Bool, true, false, ◌&&◌, not, cond, eqb, List, [], ◌∷◌, ◌++◌, length, leb}
+use Rattle.std.proofs.Common.{ltb, Option, Some, None, refl, sym, ap, subst, ◌∙◌, inl, inr, append_assoc}
 use Rattle.std.specs.Prelude.{map, take, drop}
 use Rattle.std.specs.List.{filter, AllByRecursion}
 use Rattle.std.proofs.lemmas.List.{map-append, append-nil, take-append-drop}
@@ -10,14 +11,14 @@ use Rattle.nz_base.specs.Key.{id_of}
 use Rattle.nz_base.specs.Log.{keys_of, has_id, AreRising, HaveOwnIds, IsLog, is_above_last}
 use Rattle.nz_base.proofs.Booleans.{cases_bool, and_left, and_right}
 use Rattle.nz_base.proofs.Logs.{rising_front, rising_more, own_front, own_more}
-use Rattle.nz_merge.specs.Merged.{IsFit, greatest, lower, lowest, synced_entries, synced_part, holders, all_keys, is_taken, later, merged_from}
+use Rattle.nz_merge.specs.Merged.{IsFit, greatest, lower, lowest, synced_entries, merged_synced_part, holders, all_keys, is_taken, later_keys, merged_from}
 use Rattle.nz_merge.specs.declared.change.Change.{Change}
-use Rattle.nz_merge.proofs.Fronts.{merged_keys}
+use Rattle.nz_merge.proofs.CommonPrefixes.{merged_keys}
 
 -- what is taken keeps the keys rising and the ids apart
 pub taken_log : (limit : ℕ) (changes : List Change) (taken candidates : List Key) → AreRising taken → HaveOwnIds taken
-    → AreRising (taken ++ later limit changes taken candidates) × HaveOwnIds (taken ++ later limit changes taken candidates)
-unfolding later
+    → AreRising (taken ++ later_keys limit changes taken candidates) × HaveOwnIds (taken ++ later_keys limit changes taken candidates)
+unfolding later_keys
 taken_log limit changes taken [] r own = (subst AreRising (sym (append-nil taken)) r, subst HaveOwnIds (sym (append-nil taken)) own)
 taken_log limit changes taken (k ∷ keys) r own =
     elim (cases_bool (is_taken limit changes taken k)) [
@@ -27,7 +28,9 @@ taken_log limit changes taken (k ∷ keys) r own =
           let above = and_left (is_above_last taken k) (not (has_id taken (id_of k))) tests in
           let fresh = not-true (has_id taken (id_of k)) (and_right (is_above_last taken k) (not (has_id taken (id_of k))) tests) in
           let both = taken_log limit changes (taken ++ k ∷ []) keys (rising_more taken k r above) (own_more taken k own fresh) in
-          let regroup : (taken ++ k ∷ []) ++ later limit changes (taken ++ k ∷ []) keys ≡ taken ++ k ∷ later limit changes (taken ++ k ∷ []) keys = append_assoc taken (k ∷ []) (later limit changes (taken ++ k ∷ []) keys) in
+          let regroup : (taken ++ k ∷ []) ++ later_keys limit changes (taken ++ k ∷ []) keys
+          ≡ taken ++ k ∷ later_keys limit changes (taken ++ k ∷ []) keys =
+          append_assoc taken (k ∷ []) (later_keys limit changes (taken ++ k ∷ []) keys) in
           rw joins (subst AreRising regroup both.0, subst HaveOwnIds regroup both.1)
     ]
 
@@ -59,14 +62,18 @@ all_filter Q p (c ∷ changes) each = by_test (p c) c (filter p changes) each.0 
 
 front_log : (s : ℕ) (log : List Entry) → IsLog log → AreRising (keys_of (take s log)) × HaveOwnIds (keys_of (take s log))
 front_log s log h =
-    let parts : keys_of log ≡ keys_of (take s log) ++ keys_of (drop s log) = sym (ap keys_of (take-append-drop s log)) ∙ map-append (λ (e : Entry). e.key) (take s log) (drop s log) in
-    (rising_front (keys_of (take s log)) (keys_of (drop s log)) (subst AreRising parts h.rising), own_front (keys_of (take s log)) (keys_of (drop s log)) (subst HaveOwnIds parts h.own_ids))
+    let parts : keys_of log ≡ keys_of (take s log) ++ keys_of (drop s log) =
+    sym (ap keys_of (take-append-drop s log)) ∙ map-append (λ (e : Entry). e.key) (take s log) (drop s log) in (
+      rising_front (keys_of (take s log)) (keys_of (drop s log)) (subst AreRising parts h.rising),
+      own_front (keys_of (take s log)) (keys_of (drop s log)) (subst HaveOwnIds parts h.own_ids),
+    )
 
 base_of : (o : Option Change) → ((c : Change) → o ≡ Some c → IsFit c) → AreRising (keys_of (synced_entries o)) × HaveOwnIds (keys_of (synced_entries o))
 base_of None h = (tt, tt)
 base_of (Some c) h = let fit = h c refl in front_log c.synced c.log fit.log
 
-pub base_log : (changes : List Change) → AllByRecursion IsFit changes → AreRising (keys_of (synced_part changes)) × HaveOwnIds (keys_of (synced_part changes))
+pub base_log : (changes : List Change) → AllByRecursion IsFit changes
+    → AreRising (keys_of (merged_synced_part changes)) × HaveOwnIds (keys_of (merged_synced_part changes))
 base_log changes fit =
     let best = filter (λ c. eqb c.synced (greatest (map (λ d. d.synced) changes))) changes in
     base_of (lowest best) (λ c h. lowest_has IsFit best c (all_filter IsFit (λ d. eqb d.synced (greatest (map (λ e. e.synced) changes))) changes fit) h)
@@ -74,6 +81,6 @@ base_log changes fit =
 pub merged_log : (limit : ℕ) (changes : List Change) → AllByRecursion IsFit changes → IsLog (merged_from limit changes)
 merged_log limit changes fit =
     let base = base_log changes fit in
-    let whole = taken_log limit changes (keys_of (synced_part changes)) (all_keys changes) base.0 base.1 in
+    let whole = taken_log limit changes (keys_of (merged_synced_part changes)) (all_keys changes) base.0 base.1 in
     let same = merged_keys limit changes in
     record { rising = subst AreRising (sym same) whole.0; own_ids = subst HaveOwnIds (sym same) whole.1 }

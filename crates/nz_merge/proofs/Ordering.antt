@@ -7,7 +7,7 @@ use Rattle.nz_base.proofs.Keys.{key_below-trans, key_below-total}
 use Rattle.nz_base.proofs.Names.{key_eq_self, same_key}
 use Rattle.nz_base.proofs.Booleans.{cases_bool, or_cases, or_left, clash}
 use Rattle.nz_base.proofs.Logs.{has_first, has_later}
-use Rattle.nz_merge.specs.Merged.{put_in_order, put_all_in_order, in_order}
+use Rattle.nz_merge.specs.Merged.{put_in_order, put_all_in_order, sorted_keys}
 
 -- by how two keys are ordered
 put_cases : (P : List Key → Type 0) (key k : Key) (keys : List Key)
@@ -24,7 +24,9 @@ put_cases P key k keys below same above =
             | inr other ↦
                 let higher : key_below k key ≡ true = elim (cases_bool (key_below k key)) [
                   | inl yes_higher ↦ yes_higher
-                  | inr not_higher ↦ clash (key_eq key k) (subst (λ (x : Key). key_eq key x ≡ true) (key_below-total key k not_lower not_higher) (key_eq_self key)) other
+                  | inr not_higher ↦
+                      clash (key_eq key k) (subst (λ (x : Key). key_eq key x ≡ true)
+                      (key_below-total key k not_lower not_higher) (key_eq_self key)) other
                 ] in
                 rw (not_lower, other) (above higher)
           ]
@@ -91,7 +93,7 @@ pub all_rising : (others keys : List Key) → AreRising others → AreRising (pu
 all_rising others [] r = r
 all_rising others (k ∷ keys) r = all_rising (put_in_order k others) keys (put_rising k others r)
 
-pub in_order_rising : (keys : List Key) → AreRising (in_order keys)
+pub in_order_rising : (keys : List Key) → AreRising (sorted_keys keys)
 in_order_rising keys = all_rising [] keys tt
 
 has_others : (others keys : List Key) (x : Key) → has_key others x ≡ true → has_key (put_all_in_order others keys) x ≡ true
@@ -102,11 +104,13 @@ has_all : (others keys : List Key) (x : Key) → has_key keys x ≡ true → has
 has_all others [] x h = absurd cc
 has_all others (k ∷ keys) x h =
     elim (or_cases (key_eq x k) (has_key keys x) h) [
-      | inl first ↦ has_others (put_in_order k others) keys x (subst (λ (y : Key). has_key (put_in_order k others) y ≡ true) (sym (same_key x k first)) (has_put k others))
+      | inl first ↦
+          has_others (put_in_order k others) keys x
+          (subst (λ (y : Key). has_key (put_in_order k others) y ≡ true) (sym (same_key x k first)) (has_put k others))
       | inr there ↦ has_all (put_in_order k others) keys x there
     ]
 
-pub has_in_order : (keys : List Key) (x : Key) → has_key keys x ≡ true → has_key (in_order keys) x ≡ true
+pub has_in_order : (keys : List Key) (x : Key) → has_key keys x ≡ true → has_key (sorted_keys keys) x ≡ true
 has_in_order keys x h = has_all [] keys x h
 
 pub put_all-append : (others xs ys : List Key) → put_all_in_order others (xs ++ ys) ≡ put_all_in_order (put_all_in_order others xs) ys

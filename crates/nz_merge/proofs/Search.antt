@@ -1,5 +1,6 @@
 -- A binary search among rising keys.
-use Rattle.std.proofs.Common.{◌≡◌, ℕ, zero, suc, ◌<◌, ◌≤◌, true, false, List, [], ◌∷◌, length, get_or, Some, Result, Ok, Err, refl, sym, ap, subst, ◌∙◌, inl, inr, arith}
+use Rattle.std.proofs.Common.{◌≡◌, ℕ, zero, suc, ◌<◌, ◌≤◌, true, false, List, [], ◌∷◌, length, get_or}
+use Rattle.std.proofs.Common.{Some, Result, Ok, Err, refl, sym, ap, subst, ◌∙◌, inl, inr, arith}
 use Rattle.std.specs.Prelude.{slice_get, is_some, IfSome, IfNone}
 use Rattle.std.specs.Result.{result_ok}
 use Rattle.std.specs.Ordering.{is_lt, ordering_index}
@@ -16,7 +17,7 @@ use Rattle.nz_base.proofs.Keys.{key_below-self, key_below-trans}
 use Rattle.nz_base.proofs.Names.{key_eq_self, same_key}
 use Rattle.nz_base.proofs.Booleans.{cases_bool, or_left, or_right, clash}
 use Rattle.nz_base.proofs.Logs.{has_first}
-use Rattle.nz_merge.specs.Merged.{command_at}
+use Rattle.nz_merge.specs.Merged.{command_of_key}
 
 pub cmp_less : (a b : Key) → key_below a b ≡ true → key_cmp a b ≡ Less
 cmp_less a b h = is_less (key_cmp a b) h
@@ -37,7 +38,8 @@ has_at [] i d h = absurd (omega arith)
 has_at (e ∷ log) zero d h = has_first e.key (keys_of log)
 has_at (e ∷ log) (suc i) d h = or_right (key_eq (get_or log i d).key e.key) (has_key (keys_of log) (get_or log i d).key) (has_at log i d (omega arith))
 
-pub rising_at : (log : List Entry) (i j : ℕ) (d : Entry) → AreRising (keys_of log) → i < j → j < length log → key_below (get_or log i d).key (get_or log j d).key ≡ true
+pub rising_at : (log : List Entry) (i j : ℕ) (d : Entry) → AreRising (keys_of log) → i < j → j < length log
+    → key_below (get_or log i d).key (get_or log j d).key ≡ true
 rising_at [] i j d r lt h = absurd (omega arith)
 rising_at (e ∷ log) i zero d r lt h = absurd (omega arith)
 rising_at (e ∷ log) zero (suc j) d r lt h = r.0 (get_or log j d).key (has_at log j d (omega arith))
@@ -107,14 +109,15 @@ has_slice (e ∷ log) zero key h = let same : e.key ≡ key = cc in subst (λ (k
 has_slice (e ∷ log) (suc p) key h = or_right (key_eq key e.key) (has_key (keys_of log) key) (has_slice log p key h)
 
 -- a search shows whether the key is there
-pub search_tells : (log : List Entry) (key : Key) (r : Result ℕ ℕ) → IsSearchInRange r (length log) → IsBinarySearchResult (λ e. key_cmp e.key key) log r → AreRising (keys_of log)
+pub search_tells : (log : List Entry) (key : Key) (r : Result ℕ ℕ) → IsSearchInRange r (length log)
+    → IsBinarySearchResult (λ e. key_cmp e.key key) log r → AreRising (keys_of log)
     → is_some (result_ok r) ≡ has_key (keys_of log) key
 search_tells log key (Ok i) range h rising = let found = search_found log key (Ok i) range h in sym (has_slice log i key found.1)
 search_tells log key (Err i) range h rising = let none = search_none log key (Err i) h rising in sym none
 
 -- ---- commands
 
-pub command_none : (log : List Entry) (key : Key) → has_key (keys_of log) key ≡ false → command_at key log ≡ []
+pub command_none : (log : List Entry) (key : Key) → has_key (keys_of log) key ≡ false → command_of_key key log ≡ []
 command_none [] key h = refl
 command_none (e ∷ log) key h =
     elim (cases_bool (key_eq key e.key)) [
@@ -122,7 +125,8 @@ command_none (e ∷ log) key h =
       | inr other ↦ rw other (command_none log key (rw other at h))
     ]
 
-pub command_found : (log : List Entry) (p : ℕ) (key : Key) (d : Entry) → AreRising (keys_of log) → p < length log → slice_get (keys_of log) p ≡ Some key → command_at key log ≡ (get_or log p d).command
+pub command_found : (log : List Entry) (p : ℕ) (key : Key) (d : Entry) → AreRising (keys_of log) → p < length log
+    → slice_get (keys_of log) p ≡ Some key → command_of_key key log ≡ (get_or log p d).command
 command_found [] p key d r lt h = absurd (omega arith)
 command_found (e ∷ log) zero key d r lt h =
     let same : e.key ≡ key = cc in

@@ -1,5 +1,6 @@
 -- A set of keys in their order, and keys that are put into it.
-use Rattle.std.proofs.Common.{◌≡◌, Bool, true, false, List, [], ◌∷◌, ◌++◌, refl, sym, ap, subst, ◌∙◌, drop, length, get_or, ℕ, suc, ◌+◌, ◌<◌, add-one, drop-cons, eqb}
+use Rattle.std.proofs.Common.{◌≡◌, Bool, true, false, List, [], ◌∷◌, ◌++◌, refl, sym, ap, subst, ◌∙◌}
+use Rattle.std.proofs.Common.{drop, length, get_or, ℕ, suc, ◌+◌, ◌<◌, add-one, drop-cons, eqb}
 use Rattle.std.specs.List.{flat_map}
 use Rattle.std.specs.BTreeSet.{insert_key}
 use Rattle.std.specs.declared.cmp.Ordering.{Ordering}
@@ -22,11 +23,13 @@ greater_apart key k e = by_test (key_eq key k) refl
     by_test false h = refl
     by_test true h = absurd (let clash_now : Greater ≡ Equal = sym e ∙ ap (λ (x : Key). key_cmp key x) (sym (same_key key k h)) ∙ cmp_self key in cc)
 
-pub insert_is : (cmp : Key → Key → Ordering) → ((a b : Key) → cmp a b ≡ key_cmp a b) → (keys : List Key) (key : Key) → insert_key cmp keys key ≡ put_in_order key keys
+pub insert_is : (cmp : Key → Key → Ordering) → ((a b : Key) → cmp a b ≡ key_cmp a b) → (keys : List Key) (key : Key)
+    → insert_key cmp keys key ≡ put_in_order key keys
 insert_is cmp same [] key = refl
 insert_is cmp same (k ∷ keys) key = by_answer (key_cmp key k) refl (insert_is cmp same keys key)
   where
-    by_answer : (o : Ordering) → key_cmp key k ≡ o → insert_key cmp keys key ≡ put_in_order key keys → insert_key cmp (k ∷ keys) key ≡ put_in_order key (k ∷ keys)
+    by_answer : (o : Ordering) → key_cmp key k ≡ o → insert_key cmp keys key ≡ put_in_order key keys
+        → insert_key cmp (k ∷ keys) key ≡ put_in_order key (k ∷ keys)
     by_answer Less e rest = rw (same key k, e) refl
     by_answer Equal e rest =
         let equal : key_eq key k ≡ true = subst (λ (x : Key). key_eq key x ≡ true) (cmp_equal key k e) (key_eq_self key) in
@@ -37,14 +40,17 @@ insert_is cmp same (k ∷ keys) key = by_answer (key_cmp key k) refl (insert_is 
 
 -- one key more is put
 pub put_step : (cmp : Key → Key → Ordering) → ((a b : Key) → cmp a b ≡ key_cmp a b) → (before after total : List Key) (log : List Entry) (i : ℕ) (e : Entry)
-    → i < length log → e ≡ get_or log i e → after ≡ insert_key cmp before e.key → put_all_in_order before (keys_of (drop i log)) ≡ total → put_all_in_order after (keys_of (drop (i + 1) log)) ≡ total
+    → i < length log → e ≡ get_or log i e → after ≡ insert_key cmp before e.key
+    → put_all_in_order before (keys_of (drop i log)) ≡ total → put_all_in_order after (keys_of (drop (i + 1) log)) ≡ total
 put_step cmp same before after total log i e lt is put h =
     let next : drop i log ≡ e ∷ drop (i + 1) log = rw add-one (drop-cons log i e lt ∙ ap (λ (x : Entry). x ∷ drop (suc i) log) (sym is)) in
     let ordered : after ≡ put_in_order e.key before = put ∙ insert_is cmp same before e.key in
-    ap (λ (xs : List Key). put_all_in_order xs (keys_of (drop (i + 1) log))) ordered ∙ ap (λ (xs : List Entry). put_all_in_order before (keys_of xs)) (sym next) ∙ h
+    ap (λ (xs : List Key). put_all_in_order xs (keys_of (drop (i + 1) log))) ordered
+    ∙ ap (λ (xs : List Entry). put_all_in_order before (keys_of xs)) (sym next) ∙ h
 
 -- the keys of one log more are put
-pub log_step : (view : ℕ) (before after total : List Key) (changes : List Change) (i : ℕ) (c : Change) → i < length changes → c ≡ get_or changes i c → eqb c.last view ≡ true
+pub log_step : (view : ℕ) (before after total : List Key) (changes : List Change) (i : ℕ) (c : Change)
+    → i < length changes → c ≡ get_or changes i c → eqb c.last view ≡ true
     → after ≡ put_all_in_order before (keys_of c.log) → put_all_in_order before (flat_map (λ d. keys_of d.log) (of_view view (drop i changes))) ≡ total
     → put_all_in_order after (flat_map (λ d. keys_of d.log) (of_view view (drop (i + 1) changes))) ≡ total
 log_step view before after total changes i c lt is of put h =
@@ -54,8 +60,10 @@ log_step view before after total changes i c lt is of put h =
     let mine : put_all_in_order before (keys_of c.log ++ rest) ≡ total = rw of at whole in
     ap (λ (xs : List Key). put_all_in_order xs rest) put ∙ sym (put_all-append before (keys_of c.log) rest) ∙ mine
 
-pub skip_step : (view : ℕ) (before total : List Key) (changes : List Change) (i : ℕ) (c : Change) → i < length changes → c ≡ get_or changes i c → eqb c.last view ≡ false
-    → put_all_in_order before (flat_map (λ d. keys_of d.log) (of_view view (drop i changes))) ≡ total → put_all_in_order before (flat_map (λ d. keys_of d.log) (of_view view (drop (i + 1) changes))) ≡ total
+pub skip_step : (view : ℕ) (before total : List Key) (changes : List Change) (i : ℕ) (c : Change) → i < length changes
+    → c ≡ get_or changes i c → eqb c.last view ≡ false
+    → put_all_in_order before (flat_map (λ d. keys_of d.log) (of_view view (drop i changes))) ≡ total
+    → put_all_in_order before (flat_map (λ d. keys_of d.log) (of_view view (drop (i + 1) changes))) ≡ total
 skip_step view before total changes i c lt is other h =
     let whole : put_all_in_order before (flat_map (λ d. keys_of d.log) (of_view view (c ∷ drop (i + 1) changes))) ≡ total =
     ap (λ (xs : List Change). put_all_in_order before (flat_map (λ d. keys_of d.log) (of_view view xs))) (sym (next_item changes i c lt is)) ∙ h in

@@ -8,49 +8,59 @@ use Rattle.nz_base.specs.declared.key.Entry.{Entry}
 use Rattle.nz_base.specs.Key.{id_of}
 use Rattle.nz_base.specs.Log.{keys_of, has_id, is_above_last}
 use Rattle.nz_base.proofs.Booleans.{and_both}
-use Rattle.nz_merge.specs.Merged.{holders, is_taken, later, entry_in, synced_part, all_keys, merged_from, merged, threshold, greatest, of_view, kept}
+use Rattle.nz_merge.specs.Merged.{holders, is_taken, later_keys, entry_in, merged_synced_part, all_keys}
+use Rattle.nz_merge.specs.Merged.{merged_from, merged, threshold, greatest, of_view, changes_kept}
 use Rattle.nz_merge.specs.declared.change.Change.{Change}
 
 -- what is taken so far, and what will be
 abbrev pub in_all : ℕ → List Change → List Entry → List Key → List Entry
-in_all limit changes log keys = log ++ map (entry_in changes) (later limit changes (keys_of log) keys)
+in_all limit changes log keys = log ++ map (entry_in changes) (later_keys limit changes (keys_of log) keys)
 
 pub take_turn : (limit : ℕ) (changes : List Change) (log : List Entry) (key : Key) (keys : List Key) (total : List Entry) → limit ≤ length (holders changes key)
     → (is_above_last (keys_of log) key && not (has_id (keys_of log) (id_of key))) ≡ true
     → in_all limit changes log (key ∷ keys) ≡ total → in_all limit changes (log ++ entry_in changes key ∷ []) keys ≡ total
-unfolding later
+unfolding later_keys
 take_turn limit changes log key keys total enough follows h =
-    let joins : is_taken limit changes (keys_of log) key ≡ true = and_both (leb limit (length (holders changes key))) (is_above_last (keys_of log) key && not (has_id (keys_of log) (id_of key))) (le-leb limit (length (holders changes key)) enough) follows in
+    let joins : is_taken limit changes (keys_of log) key ≡ true =
+    and_both (leb limit (length (holders changes key)))
+    (is_above_last (keys_of log) key && not (has_id (keys_of log) (id_of key))) (le-leb limit (length (holders changes key)) enough) follows in
     let added : keys_of (log ++ entry_in changes key ∷ []) ≡ keys_of log ++ key ∷ [] = map-append (λ (e : Entry). e.key) log (entry_in changes key ∷ []) in
-    let rest = map (entry_in changes) (later limit changes (keys_of log ++ key ∷ []) keys) in
+    let rest = map (entry_in changes) (later_keys limit changes (keys_of log ++ key ∷ []) keys) in
     let there : log ++ entry_in changes key ∷ rest ≡ total = rw joins at h in
-    ap (λ (ks : List Key). (log ++ entry_in changes key ∷ []) ++ map (entry_in changes) (later limit changes ks keys)) added ∙ append_assoc log (entry_in changes key ∷ []) rest ∙ there
+    ap (λ (ks : List Key). (log ++ entry_in changes key ∷ [])
+    ++ map (entry_in changes) (later_keys limit changes ks keys)) added ∙ append_assoc log (entry_in changes key ∷ []) rest ∙ there
 
-skip : (limit : ℕ) (changes : List Change) (log : List Entry) (key : Key) (keys : List Key) (total : List Entry) → is_taken limit changes (keys_of log) key ≡ false
+skip : (limit : ℕ) (changes : List Change) (log : List Entry) (key : Key) (keys : List Key) (total : List Entry)
+    → is_taken limit changes (keys_of log) key ≡ false
     → in_all limit changes log (key ∷ keys) ≡ total → in_all limit changes log keys ≡ total
-unfolding later
+unfolding later_keys
 skip limit changes log key keys total away h = rw away at h
 
 pub skip_few : (limit : ℕ) (changes : List Change) (log : List Entry) (key : Key) (keys : List Key) (total : List Entry) → length (holders changes key) < limit
     → in_all limit changes log (key ∷ keys) ≡ total → in_all limit changes log keys ≡ total
-skip_few limit changes log key keys total few h = skip limit changes log key keys total (let less = lt-leb limit (length (holders changes key)) few in rw less refl) h
+skip_few limit changes log key keys total few h =
+    skip limit changes log key keys total (let less = lt-leb limit (length (holders changes key)) few in rw less refl) h
 
-pub skip_other : (limit : ℕ) (changes : List Change) (log : List Entry) (key : Key) (keys : List Key) (total : List Entry) → limit ≤ length (holders changes key)
+pub skip_other : (limit : ℕ) (changes : List Change) (log : List Entry) (key : Key) (keys : List Key) (total : List Entry)
+    → limit ≤ length (holders changes key)
     → (is_above_last (keys_of log) key && not (has_id (keys_of log) (id_of key))) ≡ false
     → in_all limit changes log (key ∷ keys) ≡ total → in_all limit changes log keys ≡ total
-skip_other limit changes log key keys total enough away h = skip limit changes log key keys total (let more = le-leb limit (length (holders changes key)) enough in rw (more, away) refl) h
+skip_other limit changes log key keys total enough away h =
+    skip limit changes log key keys total (let more = le-leb limit (length (holders changes key)) enough in rw (more, away) refl) h
 
 pub no_turn : (limit : ℕ) (changes : List Change) (log total : List Entry) → in_all limit changes log [] ≡ total → log ≡ total
-unfolding later
+unfolding later_keys
 no_turn limit changes log total h = sym (append-nil log) ∙ h
 
 -- ---- the same, as the loop has them
 
-pub start : (limit : ℕ) (changes : List Change) (log : List Entry) (set keys : List Key) → log ≡ synced_part changes → keys ≡ set → set ≡ all_keys changes → in_all limit changes log keys ≡ merged_from limit changes
+pub start : (limit : ℕ) (changes : List Change) (log : List Entry) (set keys : List Key)
+    → log ≡ merged_synced_part changes → keys ≡ set → set ≡ all_keys changes → in_all limit changes log keys ≡ merged_from limit changes
 start limit changes log set keys synced same all =
-    ap (λ (l : List Entry). in_all limit changes l keys) synced ∙ ap (λ (ks : List Key). in_all limit changes (synced_part changes) ks) (same ∙ all)
+    ap (λ (l : List Entry). in_all limit changes l keys) synced ∙ ap (λ (ks : List Key). in_all limit changes (merged_synced_part changes) ks) (same ∙ all)
 
-pub taken : (limit : ℕ) (changes : List Change) (log after total : List Entry) (before keys : List Key) (key : Key) (entry : Entry) (count : ℕ) (follows : Bool) → before ≡ key ∷ keys
+pub taken : (limit : ℕ) (changes : List Change) (log after total : List Entry) (before keys : List Key) (key : Key)
+    (entry : Entry) (count : ℕ) (follows : Bool) → before ≡ key ∷ keys
     → count ≡ length (holders changes key) → limit ≤ count
     → follows ≡ (is_above_last (keys_of log) key && not (has_id (keys_of log) (id_of key))) → follows ≡ true
     → entry ≡ entry_in changes key → after ≡ log ++ entry ∷ []
@@ -61,21 +71,26 @@ taken limit changes log after total before keys key entry count follows first co
     let log_is : after ≡ log ++ entry_in changes key ∷ [] = pushed ∙ ap (λ (e : Entry). log ++ e ∷ []) made in
     ap (λ (l : List Entry). in_all limit changes l keys) log_is ∙ next
 
-pub left_few : (limit : ℕ) (changes : List Change) (log total : List Entry) (before keys : List Key) (key : Key) (count : ℕ) → before ≡ key ∷ keys → count ≡ length (holders changes key) → count < limit
+pub left_few : (limit : ℕ) (changes : List Change) (log total : List Entry) (before keys : List Key) (key : Key) (count : ℕ) → before ≡ key ∷ keys
+    → count ≡ length (holders changes key) → count < limit
     → in_all limit changes log before ≡ total → in_all limit changes log keys ≡ total
 left_few limit changes log total before keys key count first counted few h =
     skip_few limit changes log key keys total (subst (λ (n : ℕ). n < limit) counted few) (ap (λ (ks : List Key). in_all limit changes log ks) (sym first) ∙ h)
 
-pub left_other : (limit : ℕ) (changes : List Change) (log total : List Entry) (before keys : List Key) (key : Key) (count : ℕ) (follows : Bool) → before ≡ key ∷ keys → count ≡ length (holders changes key) → limit ≤ count
+pub left_other : (limit : ℕ) (changes : List Change) (log total : List Entry) (before keys : List Key) (key : Key) (count : ℕ) (follows : Bool)
+    → before ≡ key ∷ keys → count ≡ length (holders changes key) → limit ≤ count
     → follows ≡ (is_above_last (keys_of log) key && not (has_id (keys_of log) (id_of key))) → follows ≡ false
     → in_all limit changes log before ≡ total → in_all limit changes log keys ≡ total
 left_other limit changes log total before keys key count follows first counted enough tells away h =
-    skip_other limit changes log key keys total (subst (λ (n : ℕ). limit ≤ n) counted enough) (sym tells ∙ away) (ap (λ (ks : List Key). in_all limit changes log ks) (sym first) ∙ h)
+    skip_other limit changes log key keys total (subst (λ (n : ℕ). limit ≤ n) counted enough) (sym tells ∙ away)
+    (ap (λ (ks : List Key). in_all limit changes log ks) (sym first) ∙ h)
 
 pub ended : (limit : ℕ) (changes : List Change) (log total : List Entry) (keys : List Key) → keys ≡ [] → in_all limit changes log keys ≡ total → log ≡ total
 ended limit changes log total keys none h = no_turn limit changes log total (ap (λ (ks : List Key). in_all limit changes log ks) (sym none) ∙ h)
 
-pub same_merge : (least f view : ℕ) (slice changes : List Change) → least ≡ threshold f → slice ≡ changes → view ≡ greatest (map (λ c. c.last) slice) → merged_from least (of_view view slice) ≡ merged f changes
+pub same_merge : (least f view : ℕ) (slice changes : List Change) → least ≡ threshold f → slice ≡ changes
+    → view ≡ greatest (map (λ c. c.last) slice) → merged_from least (of_view view slice) ≡ merged f changes
 unfolding merged
 same_merge least f view slice changes enough same last =
-    ap (λ (n : ℕ). merged_from n (of_view view slice)) enough ∙ ap (λ (v : ℕ). merged_from (threshold f) (of_view v slice)) last ∙ ap (λ (cs : List Change). merged_from (threshold f) (kept cs)) same
+    ap (λ (n : ℕ). merged_from n (of_view view slice)) enough
+    ∙ ap (λ (v : ℕ). merged_from (threshold f) (of_view v slice)) last ∙ ap (λ (cs : List Change). merged_from (threshold f) (changes_kept cs)) same

@@ -7,7 +7,7 @@ use Rattle.nz_base.proofs.Keys.{key_below-trans, never_both, never_self}
 use Rattle.nz_base.proofs.Names.{same_key}
 use Rattle.nz_base.proofs.Booleans.{cases_bool, or_cases, and_left, and_right, and_both, clash}
 use Rattle.nz_base.proofs.Logs.{has_first, has_later, has_append, has_back, front_below, rising_back, rising_front, above_each, above_last, own_id}
-use Rattle.nz_merge.specs.Merged.{begins_with, holders, is_taken, later}
+use Rattle.nz_merge.specs.Merged.{begins_with, holders, is_taken, later_keys}
 use Rattle.nz_merge.specs.declared.change.Change.{Change}
 use Rattle.nz_merge.proofs.Beginnings.{AreAmong}
 
@@ -20,7 +20,8 @@ pub record IsSettled (limit : ℕ) (changes : List Change) (P : List Key) : Type
   pub closed : (k : Key) → leb limit (length (holders changes k)) ≡ true → (has_key P k ≡ true) ⊎ ((x : Key) → has_key P x ≡ true → key_below x k ≡ true)
 
 -- the next key of P is taken
-takes_next : (limit : ℕ) (changes : List Change) (P taken : List Key) (r : Key) (rest : List Key) → IsSettled limit changes P → P ≡ taken ++ r ∷ rest → is_taken limit changes taken r ≡ true
+takes_next : (limit : ℕ) (changes : List Change) (P taken : List Key) (r : Key) (rest : List Key)
+    → IsSettled limit changes P → P ≡ taken ++ r ∷ rest → is_taken limit changes taken r ≡ true
 takes_next limit changes P taken r rest s parts =
     let rising : AreRising (taken ++ r ∷ rest) = subst AreRising parts s.rising in
     let own : HaveOwnIds (taken ++ r ∷ rest) = subst HaveOwnIds parts s.own_ids in
@@ -31,7 +32,8 @@ takes_next limit changes P taken r rest s parts =
     (and_both (is_above_last taken r) (not (has_id taken (id_of r))) above (rw fresh refl))
 
 -- a key before the next one of P is not taken
-skips_other : (limit : ℕ) (changes : List Change) (P taken : List Key) (r : Key) (rest : List Key) (k : Key) → IsSettled limit changes P → P ≡ taken ++ r ∷ rest → key_below k r ≡ true → is_taken limit changes taken k ≡ false
+skips_other : (limit : ℕ) (changes : List Change) (P taken : List Key) (r : Key) (rest : List Key) (k : Key)
+    → IsSettled limit changes P → P ≡ taken ++ r ∷ rest → key_below k r ≡ true → is_taken limit changes taken k ≡ false
 skips_other limit changes P taken r rest k s parts before =
     let rising : AreRising (taken ++ r ∷ rest) = subst AreRising parts s.rising in
     let behind : AreRising (r ∷ rest) = rising_back taken (r ∷ rest) rising in
@@ -39,9 +41,13 @@ skips_other limit changes P taken r rest k s parts before =
       | inr away ↦ away
       | inl joins ↦
           let enough = and_left (leb limit (length (holders changes k))) (is_above_last taken k && not (has_id taken (id_of k))) joins in
-          let above = and_left (is_above_last taken k) (not (has_id taken (id_of k))) (and_right (leb limit (length (holders changes k))) (is_above_last taken k && not (has_id taken (id_of k))) joins) in
+          let above =
+          and_left (is_above_last taken k) (not (has_id taken (id_of k)))
+          (and_right (leb limit (length (holders changes k))) (is_above_last taken k && not (has_id taken (id_of k))) joins) in
           elim (s.closed k enough) [
-            | inr all ↦ never_both k r before (all r (subst (λ (xs : List Key). has_key xs r ≡ true) (sym parts) (has_back taken (r ∷ rest) r (has_first r rest))))
+            | inr all ↦
+                never_both k r before (all r (subst (λ (xs : List Key). has_key xs r ≡ true) (sym parts)
+                (has_back taken (r ∷ rest) r (has_first r rest))))
             | inl among ↦
                 elim (has_append taken (r ∷ rest) k (subst (λ (xs : List Key). has_key xs k ≡ true) parts among)) [
                   | inl early ↦ never_self k (above_each taken k k (rising_front taken (r ∷ rest) rising) above early)
@@ -55,7 +61,8 @@ skips_other limit changes P taken r rest k s parts before =
     ]
 
 -- what is still asked for is among the keys after the first
-among_rest : (r : Key) (rest : List Key) (k : Key) (keys : List Key) → AreAmong (r ∷ rest) (k ∷ keys) → ((x : Key) → has_key (r ∷ rest) x ≡ true → key_below k x ≡ true) → AreAmong (r ∷ rest) keys
+among_rest : (r : Key) (rest : List Key) (k : Key) (keys : List Key) → AreAmong (r ∷ rest) (k ∷ keys)
+    → ((x : Key) → has_key (r ∷ rest) x ≡ true → key_below k x ≡ true) → AreAmong (r ∷ rest) keys
 among_rest r rest k keys among before x h =
     elim (or_cases (key_eq x k) (has_key keys x) (among x h)) [
       | inl same ↦ never_self k (subst (λ (y : Key). key_below k y ≡ true) (same_key x k same) (before x h))
@@ -66,10 +73,11 @@ begins_none : (keys : List Key) → begins_with keys [] ≡ true
 begins_none [] = refl
 begins_none (k ∷ keys) = refl
 
-pub walk : (limit : ℕ) (changes : List Change) (P taken rest candidates : List Key) → IsSettled limit changes P → P ≡ taken ++ rest → AreRising candidates → AreAmong rest candidates
-    → begins_with (later limit changes taken candidates) rest ≡ true
-unfolding later
-walk limit changes P taken [] candidates s parts rising among = begins_none (later limit changes taken candidates)
+pub walk : (limit : ℕ) (changes : List Change) (P taken rest candidates : List Key) → IsSettled limit changes P
+    → P ≡ taken ++ rest → AreRising candidates → AreAmong rest candidates
+    → begins_with (later_keys limit changes taken candidates) rest ≡ true
+unfolding later_keys
+walk limit changes P taken [] candidates s parts rising among = begins_none (later_keys limit changes taken candidates)
 walk limit changes P taken (r ∷ rest) [] s parts rising among = absurd (let h = among r (has_first r rest) in cc)
 walk limit changes P taken (r ∷ rest) (k ∷ keys) s parts rising among =
     let whole : AreRising (taken ++ r ∷ rest) = subst AreRising parts s.rising in
@@ -77,13 +85,15 @@ walk limit changes P taken (r ∷ rest) (k ∷ keys) s parts rising among =
     elim (cases_bool (key_eq r k)) [
       | inl equal ↦
           let same : r ≡ k = same_key r k equal in
-          let joins : is_taken limit changes taken k ≡ true = subst (λ (x : Key). is_taken limit changes taken x ≡ true) same (takes_next limit changes P taken r rest s parts) in
+          let joins : is_taken limit changes taken k ≡ true =
+          subst (λ (x : Key). is_taken limit changes taken x ≡ true) same (takes_next limit changes P taken r rest s parts) in
           let next : P ≡ (taken ++ k ∷ []) ++ rest = parts ∙ ap (λ (x : Key). taken ++ x ∷ rest) same ∙ sym (append_assoc taken (k ∷ []) rest) in
           let among_next : AreAmong rest keys = λ x h. elim (or_cases (key_eq x k) (has_key keys x) (among x (has_later r rest x h))) [
             | inl first ↦ never_self r (subst (λ (y : Key). key_below r y ≡ true) (same_key x k first ∙ sym same) (behind.0 x h))
             | inr there ↦ there
           ] in
-          rw joins (and_both (key_eq r k) (begins_with (later limit changes (taken ++ k ∷ []) keys) rest) equal (walk limit changes P (taken ++ k ∷ []) rest keys s next rising.1 among_next))
+          rw joins (and_both (key_eq r k) (begins_with (later_keys limit changes (taken ++ k ∷ []) keys) rest) equal
+          (walk limit changes P (taken ++ k ∷ []) rest keys s next rising.1 among_next))
       | inr other ↦
           let there : has_key keys r ≡ true = elim (or_cases (key_eq r k) (has_key keys r) (among r (has_first r rest))) [
             | inl equal ↦ clash (key_eq r k) equal other

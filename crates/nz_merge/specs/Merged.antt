@@ -1,5 +1,6 @@
 -- The log that a new leader makes of the logs that replicas reported.
-use Rattle.std.specs.Prelude.{ℕ, ◌+◌, ◌≤◌, max, Bool, true, false, not, ◌&&◌, ◌==◌, nat_le, nat_lt, if◌then◌else◌, List, [], ◌∷◌, ◌++◌, length, map, take, Option, Some, None}
+use Rattle.std.specs.Prelude.{ℕ, ◌+◌, ◌≤◌, max, Bool, true, false, not, ◌&&◌, ◌==◌, nat_le, nat_lt, if◌then◌else◌}
+use Rattle.std.specs.Prelude.{List, [], ◌∷◌, ◌++◌, length, map, take, Option, Some, None}
 use Rattle.std.specs.List.{filter, flat_map, AllByRecursion}
 use Rattle.nz_base.specs.declared.key.Key.{Key}
 use Rattle.nz_base.specs.declared.key.Entry.{Entry}
@@ -29,8 +30,8 @@ abbrev pub of_view : ℕ → List Change → List Change
 of_view view changes = filter (λ c. c.last == view) changes
 
 -- The reports that count: those of the greatest last view.
-abbrev pub kept : List Change → List Change
-kept changes = of_view (greatest (map (λ c. c.last) changes)) changes
+abbrev pub changes_kept : List Change → List Change
+changes_kept changes = of_view (greatest (map (λ c. c.last) changes)) changes
 
 -- The change of the lowest sender.
 abbrev pub lower : Change → Option Change → Change
@@ -55,8 +56,8 @@ abbrev pub with_synced : ℕ → List Change → List Change
 with_synced count changes = filter (λ c. c.synced == count) changes
 
 -- The synced part that is taken: of the reports with the greatest synced count that of the lowest sender.
-abbrev pub synced_part : List Change → List Entry
-synced_part changes = synced_entries (lowest (with_synced (greatest (map (λ c. c.synced) changes)) changes))
+abbrev pub merged_synced_part : List Change → List Entry
+merged_synced_part changes = synced_entries (lowest (with_synced (greatest (map (λ c. c.synced) changes)) changes))
 
 -- ---- the later keys
 
@@ -75,12 +76,12 @@ put_all_in_order others [] = others
 put_all_in_order others (k ∷ keys) = put_all_in_order (put_in_order k others) keys
 
 -- The keys in rising order, each once.
-abbrev pub in_order : List Key → List Key
-in_order keys = put_all_in_order [] keys
+abbrev pub sorted_keys : List Key → List Key
+sorted_keys keys = put_all_in_order [] keys
 
 -- All keys of the logs, in their order.
 abbrev pub all_keys : List Change → List Key
-all_keys changes = in_order (flat_map (λ c. keys_of c.log) changes)
+all_keys changes = sorted_keys (flat_map (λ c. keys_of c.log) changes)
 
 -- Whether a key is taken after those that were taken: enough logs hold it, it is above the last of them, and its id
 -- is not among theirs.
@@ -89,32 +90,32 @@ is_taken limit changes taken key =
     nat_le limit (length (holders changes key)) && (is_above_last taken key && not (has_id taken (id_of key)))
 
 -- The keys that are taken after others, when these are gone through in turn.
-unfoldable pub later : ℕ → List Change → List Key → List Key → List Key
-later limit changes taken [] = []
-later limit changes taken (key ∷ keys) =
-    if is_taken limit changes taken key then key ∷ later limit changes (taken ++ key ∷ []) keys else later limit changes taken keys
+unfoldable pub later_keys : ℕ → List Change → List Key → List Key → List Key
+later_keys limit changes taken [] = []
+later_keys limit changes taken (key ∷ keys) =
+    if is_taken limit changes taken key then key ∷ later_keys limit changes (taken ++ key ∷ []) keys else later_keys limit changes taken keys
 
 -- The command that a log has for a key.
-abbrev pub command_at : Key → List Entry → List ℕ
-command_at key [] = []
-command_at key (e ∷ log) = if key_eq key e.key then e.command else command_at key log
+abbrev pub command_of_key : Key → List Entry → List ℕ
+command_of_key key [] = []
+command_of_key key (e ∷ log) = if key_eq key e.key then e.command else command_of_key key log
 
 -- The command of a key in a report's log, empty where there is no report.
-abbrev pub command_in : Key → Option Change → List ℕ
-command_in key None = []
-command_in key (Some c) = command_at key c.log
+abbrev pub command_of_change : Key → Option Change → List ℕ
+command_of_change key None = []
+command_of_change key (Some c) = command_of_key key c.log
 
 -- A key with its command in the log of the lowest sender that holds it.
 abbrev pub entry_in : List Change → Key → Entry
-entry_in changes key = record { key = key; command = command_in key (lowest (holders changes key)) }
+entry_in changes key = record { key = key; command = command_of_change key (lowest (holders changes key)) }
 
 -- ---- the merged log
 
 -- The synced part, and each later key that at least limit of the logs hold.
 abbrev pub merged_from : ℕ → List Change → List Entry
 merged_from limit changes =
-    let base = synced_part changes in
-    base ++ map (entry_in changes) (later limit changes (keys_of base) (all_keys changes))
+    let base = merged_synced_part changes in
+    base ++ map (entry_in changes) (later_keys limit changes (keys_of base) (all_keys changes))
 
 -- A key is taken where one more than half of f, rounded up, hold it.
 abbrev pub threshold : ℕ → ℕ
@@ -122,7 +123,7 @@ threshold f = half_up f + 1
 
 -- The merged log: that of the reports that count, with keys that enough of their logs hold.
 unfoldable pub merged : ℕ → List Change → List Entry
-merged f changes = merged_from (threshold f) (kept changes)
+merged f changes = merged_from (threshold f) (changes_kept changes)
 
 -- Whether one list of keys begins with another.
 abbrev pub begins_with : List Key → List Key → Bool

@@ -2,7 +2,8 @@
 
 ghost use Rattle.std.specs.Prelude.{◌≡◌, [], ◌∷◌, ◌++◌, ◌↔◌, IsTrue, IsFalse, OnOk, OnErr};
 ghost use Rattle.nz_base.specs.Log.{keys_of};
-ghost use Rattle.nz_merge.specs.Fit.{comes_first as first_of, are_log, are_fit};
+ghost use Rattle.nz_merge.specs.Fit as fit;
+ghost use Rattle.nz_merge.specs.Fit.{are_log, are_fit};
 ghost use Rattle.nz_merge.specs.Merged.{AreFit};
 ghost use Rattle.nz_merge.specs.Sender.{has_sender, HaveOwnSenders};
 
@@ -32,10 +33,10 @@ pub struct ViewChanges {
 
 impl Model for ViewChanges {
     ghost use Rattle.std.specs.Prelude.{List};
-    ghost use Rattle.nz_merge.specs.declared.change.Change.{Change as AChange};
+    ghost use Rattle.nz_merge.specs.declared.change.Change.{Change as ChangeModel};
     ghost use Rattle.nz_merge.specs.Sender.{HaveOwnSenders};
 
-    ghost Value = { List AChange };
+    ghost Value = { List ChangeModel };
 
     ghost view = { λ s. s.changes.items };
 
@@ -106,7 +107,7 @@ fn is_log(log: &[Entry]) -> bool
 }
 
 fn comes_first(key: Key, others: &[Entry]) -> bool
-    ensures { result ≡ first_of key (keys_of others.now) }
+    ensures { result ≡ fit.comes_first key (keys_of others.now) }
 {
     for entry in others {
         if !key.is_below(&entry.key) || key.id() == entry.key.id() {

@@ -5,7 +5,8 @@ ghost use Rattle.std.specs.Option.{option_copied};
 ghost use Rattle.nz_base.specs.Key.{id_of};
 ghost use Rattle.nz_base.specs.Log.{keys_of, has_key, has_id, AreRising, is_above_last};
 ghost use Rattle.nz_merge.specs.Lower.{lower_of};
-ghost use Rattle.nz_merge.specs.Merged.{AreFit, command_at, put_all_in_order, IsFit, greatest, of_view, lowest, with_synced, synced_part, holders, all_keys, entry_in};
+ghost use Rattle.nz_merge.specs.Merged.{AreFit, command_of_key, put_all_in_order, IsFit, greatest, of_view, lowest};
+ghost use Rattle.nz_merge.specs.Merged.{with_synced, merged_synced_part, holders, all_keys, entry_in};
 
 use super::change::Change;
 use nz_base::{Blob, Entry, EntryList, Id, Key, List, NoMemory, TryCopy};
@@ -64,7 +65,7 @@ fn most_synced(changes: &[Change], view: u64) -> Option<&Change>
 /// Copies of the synced entries that are taken.
 pub fn copy_synced_part(alloc: Global, changes: &[Change], view: u64) -> Result<EntryList, NoMemory>
     requires { AreFit changes.now }
-    ensures { IfOk result (λ log. log ≡ synced_part (of_view view changes.now)) }
+    ensures { IfOk result (λ log. log ≡ merged_synced_part (of_view view changes.now)) }
 {
     match most_synced(changes, view) {
         None => Ok(List::new(alloc)),
@@ -118,7 +119,7 @@ fn lowest_holder(changes: &[Change], view: u64, key: Key) -> Option<&Change>
 // The command that a log has for a key, or an empty one.
 fn copy_command(alloc: Global, log: &[Entry], key: Key) -> Result<Blob, NoMemory>
     requires { AreRising (keys_of log.now) }
-    ensures { IfOk result (λ command. command ≡ command_at key log.now) }
+    ensures { IfOk result (λ command. command ≡ command_of_key key log.now) }
 {
     match place_of(log, key) {
         Some(place) => log[place].command.copy(alloc),

@@ -1,5 +1,6 @@
 -- What is spelled is read again, and what is read was spelled so.
-use Rattle.std.proofs.Common.{◌≡◌, ℕ, zero, suc, ◌+◌, ◌*◌, ◌^◌, ◌<◌, ◌≤◌, Bool, true, false, cond, ltb, eqb, List, [], ◌∷◌, ◌++◌, length, take, drop, Option, Some, None, Result, Ok, Err, refl, sym, ap, subst, ◌∙◌, arith, length-drop, length-append}
+use Rattle.std.proofs.Common.{◌≡◌, ℕ, zero, suc, ◌+◌, ◌*◌, ◌^◌, ◌<◌, ◌≤◌, Bool, true, false, cond, ltb, eqb, List, [], ◌∷◌, ◌++◌, length, take}
+use Rattle.std.proofs.Common.{drop, Option, Some, None, Result, Ok, Err, refl, sym, ap, subst, ◌∙◌, arith, length-drop, length-append}
 use Rattle.std.specs.Int.{is_in_range, w64, from_be_bytes}
 use Rattle.std.proofs.lemmas.Bool.{ltb-false, le-ltb}
 use Rattle.std.proofs.lemmas.List.{take_at, drop_at, take-append-drop, length-take}
@@ -10,7 +11,8 @@ use Rattle.std.proofs.Math.Nat.{add-mul, mul-le-mul_right}
 use Rattle.byteorder.specs.Numbers.{big_from-take, big_number-reads_back, big_from-lt, length-bytes_high_first}
 use Rattle.nz_frame.specs.Grammar.{AreBytes}
 use Rattle.nz_frame.proofs.Bytes.{AreBytes-drop, AreBytes-take, two_bytes, four_bytes}
-use Rattle.nz_msg.specs.Codec.{◌>>=◌, Codec, number_bytes, number_at, number, run_at, run, nothing, limited_at, limited, ◌leading◌, ◌then◌, as_made, optional_at, optional_put, optional, items_put, items_at, ItemsFit, items, counted}
+use Rattle.nz_msg.specs.Codec.{◌>>=◌, Codec, number_bytes, number_at, number, run_at, run, nothing, limited_at, with_limit, ◌leading◌}
+use Rattle.nz_msg.specs.Codec.{◌then◌, as_made, optional_at, optional_put, optional, items_put, items_at, ItemsFit, items, with_count}
 
 -- the bytes begin with what was read, spelled so
 pub record Takes {A : Type 0} (c : Codec A) (bytes : List ℕ) (a : A) (rest : List ℕ) : Type 0 where
@@ -53,12 +55,14 @@ pub within-trans : {A : Type 0} (most less : ℕ) (r : Result (A × List ℕ) �
 within-trans most less (Ok x) h k = omega arith
 within-trans most less (Err left) h k = omega arith
 
-pub within-bind : {A B : Type 0} (most : ℕ) (r : Result (A × List ℕ) ℕ) (f : A × List ℕ → Result (B × List ℕ) ℕ) → IsWithin most r → ((x : A × List ℕ) → IsWithin (length x.1) (f x)) → IsWithin most (r >>= f)
+pub within-bind : {A B : Type 0} (most : ℕ) (r : Result (A × List ℕ) ℕ) (f : A × List ℕ → Result (B × List ℕ) ℕ)
+    → IsWithin most r → ((x : A × List ℕ) → IsWithin (length x.1) (f x)) → IsWithin most (r >>= f)
 within-bind most (Ok x) f h k = within-trans most (length x.1) (f x) h (k x)
 within-bind most (Err left) f h k = h
 
 -- the same, where what is read next may know what is left
-pub within-known : {A B : Type 0} (most : ℕ) (r : Result (A × List ℕ) ℕ) (f : A × List ℕ → Result (B × List ℕ) ℕ) → IsWithin most r → ((x : A × List ℕ) → length x.1 ≤ most → IsWithin most (f x)) → IsWithin most (r >>= f)
+pub within-known : {A B : Type 0} (most : ℕ) (r : Result (A × List ℕ) ℕ) (f : A × List ℕ → Result (B × List ℕ) ℕ)
+    → IsWithin most r → ((x : A × List ℕ) → length x.1 ≤ most → IsWithin most (f x)) → IsWithin most (r >>= f)
 within-known most (Ok x) f h k = k x h
 within-known most (Err left) f h k = h
 
@@ -114,7 +118,9 @@ number_takes size wide bytes x fits e =
 
 number_within_bytes : (size : ℕ) (bytes : List ℕ) → IsWithin (length bytes) (number_at size bytes)
 unfolding number_at
-number_within_bytes size bytes = within-test (length bytes) (ltb (length bytes) size) (Err (length bytes)) (Ok (big_number size bytes, drop size bytes)) (omega arith) (omega (arith, length-drop size bytes))
+number_within_bytes size bytes =
+    within-test (length bytes) (ltb (length bytes) size) (Err (length bytes))
+    (Ok (big_number size bytes, drop size bytes)) (omega arith) (omega (arith, length-drop size bytes))
 
 number_long : (size n : ℕ) (rest : List ℕ) → length (number_bytes size n ++ rest) ≤ size + length rest
 unfolding number_bytes
@@ -150,7 +156,9 @@ run_takes n bytes x fits e =
 
 run_within : (n : ℕ) (bytes : List ℕ) → IsWithin (length bytes) (run_at n bytes)
 unfolding run_at
-run_within n bytes = within-test (length bytes) (ltb (length bytes) n) (Err (length bytes)) (Ok (take n bytes, drop n bytes)) (omega arith) (omega (arith, length-drop n bytes))
+run_within n bytes =
+    within-test (length bytes) (ltb (length bytes) n) (Err (length bytes)) (Ok (take n bytes, drop n bytes)) (omega arith)
+    (omega (arith, length-drop n bytes))
 
 pub run_exact : (n size : ℕ) → n ≤ size → IsExact (run n) size
 run_exact n size small = record {
@@ -175,25 +183,28 @@ nothing_exact size = record {
 
 -- ---- fields made of others
 
-limited_again : {A : Type 0} (ok : A → Bool) (c : Codec A) (size : ℕ) → IsExact c size → (a : A) (rest : List ℕ) → (limited ok c).fits a → limited_at ok c.get (c.put a rest) ≡ Ok (a, rest)
+limited_again : {A : Type 0} (ok : A → Bool) (c : Codec A) (size : ℕ) → IsExact c size → (a : A) (rest : List ℕ)
+    → (with_limit ok c).fits a → limited_at ok c.get (c.put a rest) ≡ Ok (a, rest)
 unfolding limited_at
 limited_again ok c size p a rest h = rw (p.again a rest h.0, h.1) refl
 
-limited_takes : {A : Type 0} (ok : A → Bool) (c : Codec A) (size : ℕ) → IsExact c size → (bytes : List ℕ) (x : A × List ℕ) → AreBytes bytes → limited_at ok c.get bytes ≡ Ok x → Takes (limited ok c) bytes x.0 x.1
+limited_takes : {A : Type 0} (ok : A → Bool) (c : Codec A) (size : ℕ) → IsExact c size
+    → (bytes : List ℕ) (x : A × List ℕ) → AreBytes bytes → limited_at ok c.get bytes ≡ Ok x → Takes (with_limit ok c) bytes x.0 x.1
 unfolding limited_at
 limited_takes ok c size p bytes x fits e =
     let b = bind_ok (c.get bytes) (λ y. cond (ok y.0) (Ok y) (Err (length bytes))) x e in
     let g = passed (ok b.0.0) (length bytes) b.0 x b.2 in
     let t = p.takes bytes b.0 fits b.1 in
-    let made : Takes (limited ok c) bytes b.0.0 b.0.1 = record { spelled = t.spelled; fit = (t.fit, g.0); rest_fits = t.rest_fits } in
-    subst (λ (y : _ × List ℕ). Takes (limited ok c) bytes y.0 y.1) g.1 made
+    let made : Takes (with_limit ok c) bytes b.0.0 b.0.1 = record { spelled = t.spelled; fit = (t.fit, g.0); rest_fits = t.rest_fits } in
+    subst (λ (y : _ × List ℕ). Takes (with_limit ok c) bytes y.0 y.1) g.1 made
 
 limited_within : {A : Type 0} (ok : A → Bool) (c : Codec A) (size : ℕ) → IsExact c size → (bytes : List ℕ) → IsWithin (length bytes) (limited_at ok c.get bytes)
 unfolding limited_at
 limited_within ok c size p bytes =
-    within-known (length bytes) (c.get bytes) (λ y. cond (ok y.0) (Ok y) (Err (length bytes))) (p.within bytes) (λ x h. within-test (length bytes) (ok x.0) (Ok x) (Err (length bytes)) h (omega arith))
+    within-known (length bytes) (c.get bytes) (λ y. cond (ok y.0) (Ok y) (Err (length bytes))) (p.within bytes)
+    (λ x h. within-test (length bytes) (ok x.0) (Ok x) (Err (length bytes)) h (omega arith))
 
-pub limited_exact : {A : Type 0} (ok : A → Bool) (c : Codec A) (size : ℕ) → IsExact c size → IsExact (limited ok c) size
+pub limited_exact : {A : Type 0} (ok : A → Bool) (c : Codec A) (size : ℕ) → IsExact c size → IsExact (with_limit ok c) size
 limited_exact ok c size p = record {
   again = limited_again ok c size p;
   takes = limited_takes ok c size p;
@@ -201,10 +212,14 @@ limited_exact ok c size p = record {
   long = λ a rest h. p.long a rest h.0;
 }
 
-leading_again : {A B : Type 0} (c : Codec A) (d : A → Codec B) (m n : ℕ) → IsExact c m → ((a : A) → c.fits a → IsExact (d a) n) → (x : A × B) (rest : List ℕ) → (c leading d).fits x → (c leading d).get ((c leading d).put x rest) ≡ Ok (x, rest)
+leading_again : {A B : Type 0} (c : Codec A) (d : A → Codec B) (m n : ℕ) → IsExact c m
+    → ((a : A) → c.fits a → IsExact (d a) n) → (x : A × B) (rest : List ℕ) → (c leading d).fits x
+    → (c leading d).get ((c leading d).put x rest) ≡ Ok (x, rest)
 leading_again c d m n p q x rest h = rw (p.again x.0 ((d x.0).put x.1 rest) h.0, (q x.0 h.0).again x.1 rest h.1) refl
 
-leading_takes : {A B : Type 0} (c : Codec A) (d : A → Codec B) (m n : ℕ) → IsExact c m → ((a : A) → c.fits a → IsExact (d a) n) → (bytes : List ℕ) (x : (A × B) × List ℕ) → AreBytes bytes → (c leading d).get bytes ≡ Ok x → Takes (c leading d) bytes x.0 x.1
+leading_takes : {A B : Type 0} (c : Codec A) (d : A → Codec B) (m n : ℕ) → IsExact c m
+    → ((a : A) → c.fits a → IsExact (d a) n) → (bytes : List ℕ) (x : (A × B) × List ℕ) → AreBytes bytes
+    → (c leading d).get bytes ≡ Ok x → Takes (c leading d) bytes x.0 x.1
 leading_takes {A} {B} c d m n p q bytes x fits e =
     let f = bind_ok (c.get bytes) (λ a. (d a.0).get a.1 >>= λ b. Ok ((a.0, b.0), b.1)) x e in
     let a = f.0 in
@@ -219,18 +234,23 @@ leading_takes {A} {B} c d m n p q bytes x fits e =
     } in
     subst (λ (y : (A × B) × List ℕ). Takes (c leading d) bytes y.0 y.1) (ok_is ((a.0, b.0), b.1) x g.2) made
 
-pub leading_exact : {A B : Type 0} (c : Codec A) (d : A → Codec B) (m n : ℕ) → IsExact c m → ((a : A) → c.fits a → IsExact (d a) n) → ((a : A) (bytes : List ℕ) → IsWithin (length bytes) ((d a).get bytes)) → IsExact (c leading d) (m + n)
+pub leading_exact : {A B : Type 0} (c : Codec A) (d : A → Codec B) (m n : ℕ) → IsExact c m
+    → ((a : A) → c.fits a → IsExact (d a) n) → ((a : A) (bytes : List ℕ) → IsWithin (length bytes) ((d a).get bytes)) → IsExact (c leading d) (m + n)
 leading_exact c d m n p q w = record {
   again = leading_again c d m n p q;
   takes = leading_takes c d m n p q;
-  within = λ bytes. within-bind (length bytes) (c.get bytes) _ (p.within bytes) (λ a. within-bind (length a.1) ((d a.0).get a.1) _ (w a.0 a.1) (λ b. omega arith));
+  within =
+      λ bytes. within-bind (length bytes) (c.get bytes) _ (p.within bytes)
+      (λ a. within-bind (length a.1) ((d a.0).get a.1) _ (w a.0 a.1) (λ b. omega arith));
   long = λ x rest h. omega (arith, p.long x.0 ((d x.0).put x.1 rest) h.0, (q x.0 h.0).long x.1 rest h.1);
 }
 
 pub then_exact : {A B : Type 0} (c : Codec A) (d : Codec B) (m n : ℕ) → IsExact c m → IsExact d n → IsExact (c then d) (m + n)
 then_exact c d m n p q = leading_exact c (λ _. d) m n p (λ a h. q) (λ a bytes. q.within bytes)
 
-made_takes : {A B : Type 0} (make : A → B) (parts : B → A) (c : Codec A) (size : ℕ) → ((a : A) → c.fits a → parts (make a) ≡ a) → IsExact c size → (bytes : List ℕ) (x : B × List ℕ) → AreBytes bytes → (as_made make parts c).get bytes ≡ Ok x
+made_takes : {A B : Type 0} (make : A → B) (parts : B → A) (c : Codec A) (size : ℕ)
+    → ((a : A) → c.fits a → parts (make a) ≡ a) → IsExact c size → (bytes : List ℕ) (x : B × List ℕ) → AreBytes bytes
+    → (as_made make parts c).get bytes ≡ Ok x
     → Takes (as_made make parts c) bytes x.0 x.1
 made_takes {A} {B} make parts c size forth p bytes x fits e =
     let f = bind_ok (c.get bytes) (λ a. Ok (make a.0, a.1)) x e in
@@ -244,7 +264,8 @@ made_takes {A} {B} make parts c size forth p bytes x fits e =
     } in
     subst (λ (y : B × List ℕ). Takes (as_made make parts c) bytes y.0 y.1) (ok_is (make a.0, a.1) x f.2) made
 
-pub made_exact : {A B : Type 0} (make : A → B) (parts : B → A) (c : Codec A) (size : ℕ) → ((b : B) → make (parts b) ≡ b) → ((a : A) → c.fits a → parts (make a) ≡ a) → IsExact c size → IsExact (as_made make parts c) size
+pub made_exact : {A B : Type 0} (make : A → B) (parts : B → A) (c : Codec A) (size : ℕ)
+    → ((b : B) → make (parts b) ≡ b) → ((a : A) → c.fits a → parts (make a) ≡ a) → IsExact c size → IsExact (as_made make parts c) size
 made_exact make parts c size back forth p = record {
   again = λ b rest h. rw (p.again (parts b) rest h, back b) refl;
   takes = made_takes make parts c size forth p;
@@ -254,10 +275,11 @@ made_exact make parts c size back forth p = record {
 
 -- ---- a value after a flag
 
-pub flag_exact : IsExact (limited (is_in_range 0 1) (number 1)) 1
+pub flag_exact : IsExact (with_limit (is_in_range 0 1) (number 1)) 1
 flag_exact = limited_exact (is_in_range 0 1) (number 1) 1 (number_exact 1 wide1)
 
-optional_again : {A : Type 0} (c : Codec A) (size : ℕ) → IsExact c size → (o : Option A) (rest : List ℕ) → (optional c).fits o → optional_at c.get (optional_put c.put o rest) ≡ Ok (o, rest)
+optional_again : {A : Type 0} (c : Codec A) (size : ℕ) → IsExact c size → (o : Option A) (rest : List ℕ)
+    → (optional c).fits o → optional_at c.get (optional_put c.put o rest) ≡ Ok (o, rest)
 unfolding optional_at
 optional_again c size p None rest h = rw (flag_exact.again 0 rest (omega arith, refl)) refl
 optional_again c size p (Some a) rest h = rw (flag_exact.again 1 (c.put a rest) (omega arith, refl), p.again a rest h) refl
@@ -271,7 +293,8 @@ record IsFlagged {A : Type 0} (c : Codec A) (flag : ℕ) (bytes : List ℕ) (o :
   fit : (optional c).fits o
   rest_fits : AreBytes rest
 
-flagged : {A : Type 0} (c : Codec A) (size : ℕ) → IsExact c size → (flag : ℕ) (bytes : List ℕ) (x : Option A × List ℕ) → flag < 2 → AreBytes bytes → behind_flag c flag bytes ≡ Ok x → IsFlagged c flag bytes x.0 x.1
+flagged : {A : Type 0} (c : Codec A) (size : ℕ) → IsExact c size → (flag : ℕ) (bytes : List ℕ) (x : Option A × List ℕ)
+    → flag < 2 → AreBytes bytes → behind_flag c flag bytes ≡ Ok x → IsFlagged c flag bytes x.0 x.1
 unfolding behind_flag
 flagged {A} c size p zero bytes x small fits e =
     let made : IsFlagged c 0 bytes None bytes = record { spelled = refl; fit = tt; rest_fits = fits } in
@@ -279,11 +302,13 @@ flagged {A} c size p zero bytes x small fits e =
 flagged {A} c size p (suc zero) bytes x small fits e =
     let f = bind_ok (c.get bytes) (λ a. Ok (Some a.0, a.1)) x e in
     let t = p.takes bytes f.0 fits f.1 in
-    let made : IsFlagged c 1 bytes (Some f.0.0) f.0.1 = record { spelled = ap (λ (ys : List ℕ). number_bytes 1 1 ++ ys) t.spelled; fit = t.fit; rest_fits = t.rest_fits } in
+    let made : IsFlagged c 1 bytes (Some f.0.0) f.0.1 =
+    record { spelled = ap (λ (ys : List ℕ). number_bytes 1 1 ++ ys) t.spelled; fit = t.fit; rest_fits = t.rest_fits } in
     subst (λ (y : Option A × List ℕ). IsFlagged c 1 bytes y.0 y.1) (ok_is (Some f.0.0, f.0.1) x f.2) made
 flagged c size p (suc (suc n)) bytes x small fits e = absurd (omega arith)
 
-optional_takes : {A : Type 0} (c : Codec A) (size : ℕ) → IsExact c size → (bytes : List ℕ) (x : Option A × List ℕ) → AreBytes bytes → optional_at c.get bytes ≡ Ok x → Takes (optional c) bytes x.0 x.1
+optional_takes : {A : Type 0} (c : Codec A) (size : ℕ) → IsExact c size → (bytes : List ℕ) (x : Option A × List ℕ)
+    → AreBytes bytes → optional_at c.get bytes ≡ Ok x → Takes (optional c) bytes x.0 x.1
 unfolding optional_at behind_flag
 optional_takes {A} c size p bytes x fits e =
     let f = bind_ok (limited_at (is_in_range 0 1) (number_at 1) bytes) (λ flag. behind_flag c flag.0 flag.1) x e in
@@ -296,9 +321,12 @@ optional_takes {A} c size p bytes x fits e =
 optional_within : {A : Type 0} (c : Codec A) (size : ℕ) → IsExact c size → (bytes : List ℕ) → IsWithin (length bytes) (optional_at c.get bytes)
 unfolding optional_at
 optional_within c size p bytes =
-    within-bind (length bytes) (limited_at (is_in_range 0 1) (number_at 1) bytes) _ (flag_exact.within bytes) (λ flag. within-test (length flag.1) (eqb flag.0 0) (Ok (None, flag.1)) _ (omega arith) (within-bind (length flag.1) (c.get flag.1) _ (p.within flag.1) (λ a. omega arith)))
+    within-bind (length bytes) (limited_at (is_in_range 0 1) (number_at 1) bytes) _ (flag_exact.within bytes)
+    (λ flag. within-test (length flag.1) (eqb flag.0 0) (Ok (None, flag.1)) _ (omega arith)
+    (within-bind (length flag.1) (c.get flag.1) _ (p.within flag.1) (λ a. omega arith)))
 
-optional_long : {A : Type 0} (c : Codec A) (size : ℕ) → IsExact c size → (o : Option A) (rest : List ℕ) → (optional c).fits o → length (optional_put c.put o rest) ≤ 1 + size + length rest
+optional_long : {A : Type 0} (c : Codec A) (size : ℕ) → IsExact c size → (o : Option A) (rest : List ℕ)
+    → (optional c).fits o → length (optional_put c.put o rest) ≤ 1 + size + length rest
 optional_long c size p None rest h = omega (arith, number_long 1 0 rest)
 optional_long c size p (Some a) rest h = omega (arith, number_long 1 1 (c.put a rest), p.long a rest h)
 
@@ -312,7 +340,8 @@ optional_exact c size p = record {
 
 -- ---- lists
 
-items_again : {A : Type 0} (item : List A → Codec A) (size : ℕ) → ((before : List A) → IsExact (item before) size) → (before xs : List A) (rest : List ℕ) → ItemsFit item before xs
+items_again : {A : Type 0} (item : List A → Codec A) (size : ℕ) → ((before : List A) → IsExact (item before) size)
+    → (before xs : List A) (rest : List ℕ) → ItemsFit item before xs
     → items_at item before (length xs) (items_put item before xs rest) ≡ Ok (xs, rest)
 unfolding items_at items_put
 items_again item size p before [] rest h = refl
@@ -326,7 +355,8 @@ pub record TakesItems {A : Type 0} (item : List A → Codec A) (before : List A)
   pub rest_fits : AreBytes rest
 
 -- an item, and then the items after it
-takes_more : {A : Type 0} (item : List A → Codec A) (before : List A) (n : ℕ) (bytes : List ℕ) (x : A) (after : List ℕ) (xs : List A) (rest : List ℕ) → Takes (item before) bytes x after → TakesItems item (before ++ x ∷ []) n after xs rest
+takes_more : {A : Type 0} (item : List A → Codec A) (before : List A) (n : ℕ) (bytes : List ℕ) (x : A)
+    (after : List ℕ) (xs : List A) (rest : List ℕ) → Takes (item before) bytes x after → TakesItems item (before ++ x ∷ []) n after xs rest
     → TakesItems item before (suc n) bytes (x ∷ xs) rest
 unfolding items_put
 takes_more item before n bytes x after xs rest t u = record {
@@ -336,7 +366,8 @@ takes_more item before n bytes x after xs rest t u = record {
   rest_fits = u.rest_fits;
 }
 
-items_take : {A : Type 0} (item : List A → Codec A) (size : ℕ) → ((before : List A) → IsExact (item before) size) → (before : List A) (n : ℕ) (bytes : List ℕ) (x : List A × List ℕ) → AreBytes bytes
+items_take : {A : Type 0} (item : List A → Codec A) (size : ℕ) → ((before : List A) → IsExact (item before) size)
+    → (before : List A) (n : ℕ) (bytes : List ℕ) (x : List A × List ℕ) → AreBytes bytes
     → items_at item before n bytes ≡ Ok x → TakesItems item before n bytes x.0 x.1
 unfolding items_at items_put
 items_take {A} item size p before zero bytes x fits e =
@@ -352,13 +383,17 @@ items_take {A} item size p before (suc n) bytes x fits e =
     let made = takes_more item before n bytes first.0 first.1 others.0 others.1 t u in
     subst (λ (y : List A × List ℕ). TakesItems item before (suc n) bytes y.0 y.1) (ok_is (first.0 ∷ others.0, others.1) x g.2) made
 
-items_within : {A : Type 0} (item : List A → Codec A) (size : ℕ) → ((before : List A) → IsExact (item before) size) → (before : List A) (n : ℕ) (bytes : List ℕ) → IsWithin (length bytes) (items_at item before n bytes)
+items_within : {A : Type 0} (item : List A → Codec A) (size : ℕ) → ((before : List A) → IsExact (item before) size)
+    → (before : List A) (n : ℕ) (bytes : List ℕ) → IsWithin (length bytes) (items_at item before n bytes)
 unfolding items_at
 items_within item size p before zero bytes = omega arith
 items_within item size p before (suc n) bytes =
-    within-bind (length bytes) ((item before).get bytes) _ ((p before).within bytes) (λ first. within-bind (length first.1) (items_at item (before ++ first.0 ∷ []) n first.1) _ (items_within item size p (before ++ first.0 ∷ []) n first.1) (λ others. omega arith))
+    within-bind (length bytes) ((item before).get bytes) _ ((p before).within bytes)
+    (λ first. within-bind (length first.1) (items_at item (before ++ first.0 ∷ []) n first.1) _
+    (items_within item size p (before ++ first.0 ∷ []) n first.1) (λ others. omega arith))
 
-items_long : {A : Type 0} (item : List A → Codec A) (size : ℕ) → ((before : List A) → IsExact (item before) size) → (before xs : List A) (rest : List ℕ) → ItemsFit item before xs
+items_long : {A : Type 0} (item : List A → Codec A) (size : ℕ) → ((before : List A) → IsExact (item before) size)
+    → (before xs : List A) (rest : List ℕ) → ItemsFit item before xs
     → length (items_put item before xs rest) ≤ length xs * size + length rest
 unfolding items_put
 items_long item size p before [] rest h = omega arith
@@ -368,18 +403,21 @@ items_long item size p before (x ∷ xs) rest h =
     let product : (length xs + 1) * size ≡ length xs * size + 1 * size = add-mul (length xs) 1 size in
     omega (arith, one, others, product)
 
-pub items_exact : {A : Type 0} (item : List A → Codec A) (size n most : ℕ) → n ≤ most → ((before : List A) → IsExact (item before) size) → IsExact (items item n) (most * size)
+pub items_exact : {A : Type 0} (item : List A → Codec A) (size n most : ℕ) → n ≤ most
+    → ((before : List A) → IsExact (item before) size) → IsExact (items item n) (most * size)
 items_exact {A} item size n most small p = record {
   again = λ xs rest h. subst (λ (k : ℕ). items_at item [] k (items_put item [] xs rest) ≡ Ok (xs, rest)) h.0 (items_again item size p [] xs rest h.1);
-  takes = λ bytes x fits e. let t = items_take item size p [] n bytes x fits e in record { spelled = t.spelled; fit = (t.count, t.fit); rest_fits = t.rest_fits };
+  takes = λ bytes x fits e. let t = items_take item size p [] n bytes x fits e in
+      record { spelled = t.spelled; fit = (t.count, t.fit); rest_fits = t.rest_fits };
   within = items_within item size p [] n;
   long = λ xs rest h.
       let below : length xs * size ≤ most * size = mul-le-mul_right size (omega arith) in
       omega (arith, items_long item size p [] xs rest h.1);
 }
 
-counted_takes : {A : Type 0} (count : Codec ℕ) (list : ℕ → Codec (List A)) (m n : ℕ) → IsExact count m → ((k : ℕ) → count.fits k → IsExact (list k) n) → ((k : ℕ) (xs : List A) → (list k).fits xs → length xs ≡ k)
-    → (bytes : List ℕ) (x : List A × List ℕ) → AreBytes bytes → (counted count list).get bytes ≡ Ok x → Takes (counted count list) bytes x.0 x.1
+counted_takes : {A : Type 0} (count : Codec ℕ) (list : ℕ → Codec (List A)) (m n : ℕ) → IsExact count m
+    → ((k : ℕ) → count.fits k → IsExact (list k) n) → ((k : ℕ) (xs : List A) → (list k).fits xs → length xs ≡ k)
+    → (bytes : List ℕ) (x : List A × List ℕ) → AreBytes bytes → (with_count count list).get bytes ≡ Ok x → Takes (with_count count list) bytes x.0 x.1
 counted_takes {A} count list m n p q len bytes x fits e =
     let f = bind_ok (count.get bytes) (λ k. (list k.0).get k.1) x e in
     let k = f.0 in
@@ -393,8 +431,9 @@ counted_takes {A} count list m n p q len bytes x fits e =
       rest_fits = u.rest_fits;
     }
 
-pub counted_exact : {A : Type 0} (count : Codec ℕ) (list : ℕ → Codec (List A)) (m n : ℕ) → IsExact count m → ((k : ℕ) → count.fits k → IsExact (list k) n) → ((k : ℕ) (xs : List A) → (list k).fits xs → length xs ≡ k)
-    → ((k : ℕ) (bytes : List ℕ) → IsWithin (length bytes) ((list k).get bytes)) → IsExact (counted count list) (m + n)
+pub counted_exact : {A : Type 0} (count : Codec ℕ) (list : ℕ → Codec (List A)) (m n : ℕ) → IsExact count m
+    → ((k : ℕ) → count.fits k → IsExact (list k) n) → ((k : ℕ) (xs : List A) → (list k).fits xs → length xs ≡ k)
+    → ((k : ℕ) (bytes : List ℕ) → IsWithin (length bytes) ((list k).get bytes)) → IsExact (with_count count list) (m + n)
 counted_exact count list m n p q len w = record {
   again = λ xs rest h. rw (p.again (length xs) ((list (length xs)).put xs rest) h.0) ((q (length xs) h.0).again xs rest h.1);
   takes = counted_takes count list m n p q len;

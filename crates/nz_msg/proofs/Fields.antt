@@ -9,9 +9,11 @@ use Rattle.nz_store.specs.declared.command.Answer.{Answer}
 use Rattle.nz_store.specs.declared.command.Answer.TheVariants.{Done, Value, Absent, Differs}
 use Rattle.nz_msg.specs.declared.message.Path.{Path}
 use Rattle.nz_msg.specs.declared.message.Path.TheVariants.{Fast, Slow}
-use Rattle.nz_msg.specs.Codec.{number, run, limited, number_within, ◌leading◌, ◌then◌, items, counted}
-use Rattle.nz_msg.specs.Fields.{u32, u64, view, deadline, id, key, command, digest, is_cluster_size, vector, value, answer_parts, answer_of, value_if, answer_value, answer, path_number, path, may_follow, next_key_by, next_key, next_entry, ids, keys, entries}
-use Rattle.nz_msg.proofs.Codecs.{IsExact, IsWide, wide1, wide2, wide4, wide8, number_exact, run_exact, nothing_exact, limited_exact, leading_exact, then_exact, made_exact, items_exact, counted_exact}
+use Rattle.nz_msg.specs.Codec.{number, run, with_limit, number_within, ◌leading◌, ◌then◌, items, with_count}
+use Rattle.nz_msg.specs.Fields.{u32, u64, view, deadline, id, key, command, digest, is_cluster_size, vector, value, answer_parts, answer_of, value_if}
+use Rattle.nz_msg.specs.Fields.{answer_value, answer, path_number, path, may_follow, next_key_by, next_key, next_entry, ids, keys, entries}
+use Rattle.nz_msg.proofs.Codecs.{IsExact, IsWide, wide1, wide2, wide4, wide8, number_exact, run_exact, nothing_exact}
+use Rattle.nz_msg.proofs.Codecs.{limited_exact, leading_exact, then_exact, made_exact, items_exact, counted_exact}
 
 pub within_exact : (size least most : ℕ) → IsWide size → IsExact (number_within size least most) size
 within_exact size least most wide = limited_exact (is_in_range least most) (number size) size (number_exact size wide)
@@ -35,11 +37,15 @@ pub id_exact : IsExact id 8
 id_exact = made_exact _ _ (u32 then u32) 8 (λ i. refl) (λ p h. refl) (then_exact u32 u32 4 4 u32_exact u32_exact)
 
 pub key_exact : IsExact key 16
-key_exact = made_exact _ _ (deadline then u32 then u32) 16 (λ k. refl) (λ p h. refl) (then_exact deadline (u32 then u32) 8 8 deadline_exact (then_exact u32 u32 4 4 u32_exact u32_exact))
+key_exact =
+    made_exact _ _ (deadline then u32 then u32) 16 (λ k. refl) (λ p h. refl)
+    (then_exact deadline (u32 then u32) 8 8 deadline_exact (then_exact u32 u32 4 4 u32_exact u32_exact))
 
 -- a run of bytes after its length
-pub blob_exact : (most : ℕ) → IsExact (counted (number_within 2 1 most) run) (2 + most)
-blob_exact most = counted_exact (number_within 2 1 most) run 2 most (within_exact 2 1 most wide2) (λ k h. run_exact k most (within_most 2 1 most k h)) (λ k xs h. h) (λ k bytes. (run_exact k k (omega arith)).within bytes)
+pub blob_exact : (most : ℕ) → IsExact (with_count (number_within 2 1 most) run) (2 + most)
+blob_exact most =
+    counted_exact (number_within 2 1 most) run 2 most (within_exact 2 1 most wide2)
+    (λ k h. run_exact k most (within_most 2 1 most k h)) (λ k xs h. h) (λ k bytes. (run_exact k k (omega arith)).within bytes)
 
 pub command_exact : IsExact command 554
 command_exact = blob_exact 552
@@ -47,12 +53,15 @@ command_exact = blob_exact 552
 pub digest_exact : IsExact digest 20
 digest_exact = run_exact 20 20 (omega arith)
 
-vector_small : (n : ℕ) → (limited is_cluster_size (number 1)).fits n → n ≤ 9
+vector_small : (n : ℕ) → (with_limit is_cluster_size (number 1)).fits n → n ≤ 9
 vector_small n h = let range = h.1 in grind (arith, nat_tests, range)
 
 pub vector_exact : IsExact vector 37
 vector_exact =
-    counted_exact (limited is_cluster_size (number 1)) (items (λ _. u32)) 1 36 (limited_exact is_cluster_size (number 1) 1 (number_exact 1 wide1)) (λ k h. items_exact (λ _. u32) 4 k 9 (vector_small k h) (λ before. u32_exact)) (λ k xs h. h.0) (λ k bytes. (items_exact (λ _. u32) 4 k k (omega arith) (λ before. u32_exact)).within bytes)
+    counted_exact (with_limit is_cluster_size (number 1)) (items (λ _. u32)) 1 36
+    (limited_exact is_cluster_size (number 1) 1 (number_exact 1 wide1))
+    (λ k h. items_exact (λ _. u32) 4 k 9 (vector_small k h) (λ before. u32_exact)) (λ k xs h. h.0)
+    (λ k bytes. (items_exact (λ _. u32) 4 k k (omega arith) (λ before. u32_exact)).within bytes)
 
 pub value_exact : IsExact value 258
 value_exact = blob_exact 256
@@ -86,7 +95,10 @@ tag_some n h = let range = h.1 in grind (arith, nat_tests, range)
 
 pub answer_exact : IsExact answer 259
 answer_exact =
-    made_exact answer_of answer_parts (number_within 1 1 4 leading answer_value) 259 answer_back (λ p h. answer_forth p.0 p.1 (tag_small p.0 h.0) (tag_some p.0 h.0) h.1) (leading_exact (number_within 1 1 4) answer_value 1 258 (within_exact 1 1 4 wide1) (λ tag h. answer_value_exact tag) (λ tag bytes. (answer_value_exact tag).within bytes))
+    made_exact answer_of answer_parts (number_within 1 1 4 leading answer_value) 259 answer_back
+    (λ p h. answer_forth p.0 p.1 (tag_small p.0 h.0) (tag_some p.0 h.0) h.1)
+    (leading_exact (number_within 1 1 4) answer_value 1 258 (within_exact 1 1 4 wide1)
+    (λ tag h. answer_value_exact tag) (λ tag bytes. (answer_value_exact tag).within bytes))
 
 path_back : (p : Path) → (if path_number p == 1 then Fast else Slow) ≡ p
 path_back Fast = refl
@@ -105,7 +117,9 @@ path_some : (n : ℕ) → (number_within 1 1 2).fits n → 0 < n
 path_some n h = let range = h.1 in grind (arith, nat_tests, range)
 
 pub path_exact : IsExact path 1
-path_exact = made_exact (λ n. if n == 1 then Fast else Slow) path_number (number_within 1 1 2) 1 path_back (λ n h. path_forth n (path_small n h) (path_some n h)) (within_exact 1 1 2 wide1)
+path_exact =
+    made_exact (λ n. if n == 1 then Fast else Slow) path_number (number_within 1 1 2) 1 path_back
+    (λ n h. path_forth n (path_small n h) (path_some n h)) (within_exact 1 1 2 wide1)
 
 -- ---- lists
 
@@ -116,15 +130,21 @@ pub next_key_exact : (before : List Key) → IsExact (next_key before) 16
 next_key_exact before = next_key_by_exact (λ k. k) before
 
 pub next_entry_exact : (before : List Entry) → IsExact (next_entry before) 570
-next_entry_exact before = made_exact _ _ (next_key_by (λ e. e.key) before then command) 570 (λ e. refl) (λ p h. refl) (then_exact (next_key_by (λ e. e.key) before) command 16 554 (next_key_by_exact (λ e. e.key) before) command_exact)
+next_entry_exact before =
+    made_exact _ _ (next_key_by (λ e. e.key) before then command) 570 (λ e. refl) (λ p h. refl)
+    (then_exact (next_key_by (λ e. e.key) before) command 16 554 (next_key_by_exact (λ e. e.key) before) command_exact)
 
 pub ids_exact : IsExact ids 513
 ids_exact =
-    counted_exact (number_within 1 1 64) (items (λ _. id)) 1 512 (within_exact 1 1 64 wide1) (λ k h. items_exact (λ _. id) 8 k 64 (within_most 1 1 64 k h) (λ before. id_exact)) (λ k xs h. h.0) (λ k bytes. (items_exact (λ _. id) 8 k k (omega arith) (λ before. id_exact)).within bytes)
+    counted_exact (number_within 1 1 64) (items (λ _. id)) 1 512 (within_exact 1 1 64 wide1)
+    (λ k h. items_exact (λ _. id) 8 k 64 (within_most 1 1 64 k h) (λ before. id_exact)) (λ k xs h. h.0)
+    (λ k bytes. (items_exact (λ _. id) 8 k k (omega arith) (λ before. id_exact)).within bytes)
 
 pub keys_exact : IsExact keys 1025
 keys_exact =
-    counted_exact (number_within 1 0 64) (items next_key) 1 1024 (within_exact 1 0 64 wide1) (λ k h. items_exact next_key 16 k 64 (within_most 1 0 64 k h) next_key_exact) (λ k xs h. h.0) (λ k bytes. (items_exact next_key 16 k k (omega arith) next_key_exact).within bytes)
+    counted_exact (number_within 1 0 64) (items next_key) 1 1024 (within_exact 1 0 64 wide1)
+    (λ k h. items_exact next_key 16 k 64 (within_most 1 0 64 k h) next_key_exact) (λ k xs h. h.0)
+    (λ k bytes. (items_exact next_key 16 k k (omega arith) next_key_exact).within bytes)
 
 few_items : (least most k : ℕ) → most ≤ 4096 → (number_within 4 least most).fits k → k ≤ 4096
 few_items least most k few h = let small = within_most 4 least most k h in omega arith
@@ -132,4 +152,6 @@ few_items least most k few h = let small = within_most 4 least most k h in omega
 -- at most 4,096 entries
 pub entries_exact : (least most : ℕ) → most ≤ 4096 → IsExact (entries least most) 2334724
 entries_exact least most few =
-    counted_exact (number_within 4 least most) (items next_entry) 4 2334720 (within_exact 4 least most wide4) (λ k h. items_exact next_entry 570 k 4096 (few_items least most k few h) next_entry_exact) (λ k xs h. h.0) (λ k bytes. (items_exact next_entry 570 k k (omega arith) next_entry_exact).within bytes)
+    counted_exact (number_within 4 least most) (items next_entry) 4 2334720 (within_exact 4 least most wide4)
+    (λ k h. items_exact next_entry 570 k 4096 (few_items least most k few h) next_entry_exact) (λ k xs h. h.0)
+    (λ k bytes. (items_exact next_entry 570 k k (omega arith) next_entry_exact).within bytes)

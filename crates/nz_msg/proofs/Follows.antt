@@ -37,18 +37,24 @@ pub follows_fresh : (before : List Entry) (k : Key) → follows before k ≡ tru
 follows_fresh [] k h = refl
 follows_fresh (a ∷ before) k h =
     let own = and_left (key_below a.key k && not (id_eq (id_of a.key) (id_of k))) (follows before k) h in
-    let away = id_turn_away (id_of a.key) (id_of k) (not_true (id_eq (id_of a.key) (id_of k)) (and_right (key_below a.key k) (not (id_eq (id_of a.key) (id_of k))) own)) in
+    let away =
+    id_turn_away (id_of a.key) (id_of k)
+    (not_true (id_eq (id_of a.key) (id_of k)) (and_right (key_below a.key k) (not (id_eq (id_of a.key) (id_of k))) own)) in
     rw away (follows_fresh before k (and_right (key_below a.key k && not (id_eq (id_of a.key) (id_of k))) (follows before k) h))
 
-follows_all : (before : List Entry) (k : Key) → ((x : Key) → has_key (keys_of before) x ≡ true → key_below x k ≡ true) → has_id (keys_of before) (id_of k) ≡ false → follows before k ≡ true
+follows_all : (before : List Entry) (k : Key) → ((x : Key) → has_key (keys_of before) x ≡ true → key_below x k ≡ true)
+    → has_id (keys_of before) (id_of k) ≡ false → follows before k ≡ true
 follows_all [] k below fresh = refl
 follows_all (a ∷ before) k below fresh =
     let first : key_below a.key k ≡ true = below a.key (has_first a.key (keys_of before)) in
-    let other : id_eq (id_of a.key) (id_of k) ≡ false = id_turn_away (id_of k) (id_of a.key) (neither_left (id_eq (id_of k) (id_of a.key)) (has_id (keys_of before) (id_of k)) fresh) in
-    rw (first, other) (follows_all before k (λ x h. below x (has_later a.key (keys_of before) x h)) (neither_right (id_eq (id_of k) (id_of a.key)) (has_id (keys_of before) (id_of k)) fresh))
+    let other : id_eq (id_of a.key) (id_of k) ≡ false =
+    id_turn_away (id_of k) (id_of a.key) (neither_left (id_eq (id_of k) (id_of a.key)) (has_id (keys_of before) (id_of k)) fresh) in
+    rw (first, other) (follows_all before k (λ x h. below x (has_later a.key (keys_of before) x h))
+    (neither_right (id_eq (id_of k) (id_of a.key)) (has_id (keys_of before) (id_of k)) fresh))
 
 -- the last of rising keys tells for all of them
-pub follows_last : (before : List Entry) (k : Key) → AreRising (keys_of before) → follows before k ≡ (is_above_last (keys_of before) k && not (has_id (keys_of before) (id_of k)))
+pub follows_last : (before : List Entry) (k : Key) → AreRising (keys_of before)
+    → follows before k ≡ (is_above_last (keys_of before) k && not (has_id (keys_of before) (id_of k)))
 follows_last before k rising =
     elim (cases_bool (is_above_last (keys_of before) k)) [
       | inr under ↦ rw under (false_from (follows before k) (is_above_last (keys_of before) k) (follows_above before k) under)
@@ -73,7 +79,8 @@ pub is_noted : (before : List Entry) (ids : List Id) (i : Id) → AreNoted befor
 is_noted before ids i noted = ap (list_any (id_eq i)) noted.ids_are ∙ has_noted before i
 
 -- one more entry
-pub noted_more : (before : List Entry) (ids : List Id) (e : Entry) → AreNoted before ids → follows before e.key ≡ true → AreNoted (before ++ e ∷ []) (insert_key id_eq ids (id_of e.key))
+pub noted_more : (before : List Entry) (ids : List Id) (e : Entry) → AreNoted before ids → follows before e.key ≡ true
+    → AreNoted (before ++ e ∷ []) (insert_key id_eq ids (id_of e.key))
 noted_more before ids e noted next =
     let fresh : list_any (id_eq (id_of e.key)) ids ≡ false = is_noted before ids (id_of e.key) noted ∙ follows_fresh before e.key next in
     let added : insert_key id_eq ids (id_of e.key) ≡ ids ++ id_of e.key ∷ [] = rw fresh refl in

@@ -5,27 +5,41 @@ use Rattle.std.proofs.lemmas.Bool.{eqb-true}
 use Rattle.std.proofs.lemmas.List.{nil_from_length}
 use Rattle.nz_frame.specs.Grammar.{AreBytes}
 use Rattle.nz_msg.specs.declared.message.Message.{Message}
-use Rattle.nz_msg.specs.declared.message.Message.TheVariants.{Request, Timed, FastReply, SlowReply, Answer, LogMod, Fetch, FetchReply, SyncReport, ViewAsk, ViewChange, StartView, VectorAsk, VectorTell, RejoinAsk, RejoinTell, StateAsk, StateTell}
+use Rattle.nz_msg.specs.declared.message.Message.TheVariants.{Request, Timed, FastReply, SlowReply, Answer, LogMod, Fetch, FetchReply}
+use Rattle.nz_msg.specs.declared.message.Message.TheVariants.{SyncReport, ViewAsk, ViewChange, StartView, VectorAsk, VectorTell}
+use Rattle.nz_msg.specs.declared.message.Message.TheVariants.{RejoinAsk, RejoinTell, StateAsk, StateTell}
 use Rattle.nz_msg.specs.Codec.{Codec, ◌>>=◌, ◌leading◌, ◌then◌}
 use Rattle.nz_msg.specs.Fields.{u32, answer, entries}
-use Rattle.nz_msg.specs.Messages.{request, timed, fast_reply, slow_reply, client_answer, log_mod, fetch, fetch_reply, sync_report, view_ask, view_change, start_view, vector_ask, vector_tell, rejoin_ask, rejoin_tell, state_ask, state_tell, kind_of, Fits, body_of, IsBody, whole, body_at}
+use Rattle.nz_msg.specs.Messages.{request, timed, fast_reply, slow_reply, client_answer, log_mod, fetch, fetch_reply, sync_report}
+use Rattle.nz_msg.specs.Messages.{view_ask, view_change, start_view, vector_ask, vector_tell, rejoin_ask, rejoin_tell}
+use Rattle.nz_msg.specs.Messages.{state_ask, state_tell, kind_of, Fits, body_of, IsBody, whole, body_at}
 use Rattle.nz_msg.proofs.Codecs.{IsExact, IsWithin, bind_ok, passed, then_exact, leading_exact, made_exact, optional_exact}
-use Rattle.nz_msg.proofs.Fields.{u32_exact, u64_exact, view_exact, deadline_exact, id_exact, command_exact, digest_exact, vector_exact, answer_exact, path_exact, ids_exact, keys_exact, entries_exact}
+use Rattle.nz_msg.proofs.Fields.{u32_exact, u64_exact, view_exact, deadline_exact, id_exact, command_exact, digest_exact}
+use Rattle.nz_msg.proofs.Fields.{vector_exact, answer_exact, path_exact, ids_exact, keys_exact, entries_exact}
 
 -- ---- the bodies
 
 -- the entries of a log, of which some are committed
 log_exact : IsExact (u32 leading λ commit. entries commit 4096) 2334728
-log_exact = leading_exact u32 (λ commit. entries commit 4096) 4 2334724 u32_exact (λ commit h. entries_exact commit 4096 (omega arith)) (λ commit bytes. (entries_exact commit 4096 (omega arith)).within bytes)
+log_exact =
+    leading_exact u32 (λ commit. entries commit 4096) 4 2334724 u32_exact
+    (λ commit h. entries_exact commit 4096 (omega arith)) (λ commit bytes. (entries_exact commit 4096 (omega arith)).within bytes)
 
 request_exact : IsExact request 558
 request_exact = made_exact _ _ _ 558 (λ b. refl) (λ p h. refl) (then_exact _ _ 4 554 u32_exact command_exact)
 
 timed_exact : IsExact timed 578
-timed_exact = made_exact _ _ _ 578 (λ b. refl) (λ p h. refl) (then_exact _ _ 8 570 u64_exact (then_exact _ _ 8 562 deadline_exact (then_exact _ _ 8 554 id_exact command_exact)))
+timed_exact =
+    made_exact _ _ _ 578 (λ b. refl) (λ p h. refl)
+    (then_exact _ _ 8 570 u64_exact (then_exact _ _ 8 562 deadline_exact (then_exact _ _ 8 554 id_exact command_exact)))
 
 fast_reply_exact : IsExact fast_reply 337
-fast_reply_exact = made_exact _ _ _ 337 (λ b. refl) (λ p h. refl) (then_exact _ _ 8 329 view_exact (then_exact _ _ 8 321 id_exact (then_exact _ _ 20 301 digest_exact (then_exact _ _ 37 264 vector_exact (then_exact _ _ 4 260 u32_exact (optional_exact answer 259 answer_exact))))))
+fast_reply_exact =
+    made_exact _ _ _ 337 (λ b. refl) (λ p h. refl)
+    (then_exact _ _ 8 329 view_exact
+    (then_exact _ _ 8 321 id_exact
+    (then_exact _ _ 20 301 digest_exact
+    (then_exact _ _ 37 264 vector_exact (then_exact _ _ 4 260 u32_exact (optional_exact answer 259 answer_exact))))))
 
 slow_reply_exact : IsExact slow_reply 20
 slow_reply_exact = made_exact _ _ _ 20 (λ b. refl) (λ p h. refl) (then_exact _ _ 8 12 view_exact (then_exact _ _ 8 4 id_exact u32_exact))
@@ -34,7 +48,10 @@ client_answer_exact : IsExact client_answer 264
 client_answer_exact = made_exact _ _ _ 264 (λ b. refl) (λ p h. refl) (then_exact _ _ 4 260 u32_exact (then_exact _ _ 259 1 answer_exact path_exact))
 
 log_mod_exact : IsExact log_mod 1078
-log_mod_exact = made_exact _ _ _ 1078 (λ b. refl) (λ p h. refl) (then_exact _ _ 8 1070 view_exact (then_exact _ _ 37 1033 vector_exact (then_exact _ _ 4 1029 u32_exact (then_exact _ _ 4 1025 u32_exact keys_exact))))
+log_mod_exact =
+    made_exact _ _ _ 1078 (λ b. refl) (λ p h. refl)
+    (then_exact _ _ 8 1070 view_exact
+    (then_exact _ _ 37 1033 vector_exact (then_exact _ _ 4 1029 u32_exact (then_exact _ _ 4 1025 u32_exact keys_exact))))
 
 fetch_exact : IsExact fetch 521
 fetch_exact = made_exact _ _ _ 521 (λ b. refl) (λ p h. refl) (then_exact _ _ 8 513 view_exact ids_exact)
@@ -49,7 +66,13 @@ view_ask_exact : IsExact view_ask 8
 view_ask_exact = made_exact _ _ _ 8 (λ b. refl) (λ p h. refl) view_exact
 
 view_change_exact : IsExact view_change 2334785
-view_change_exact = made_exact _ _ _ 2334785 (λ b. refl) (λ p h. refl) (then_exact _ _ 8 2334777 view_exact (then_exact _ _ 8 2334769 view_exact (then_exact _ _ 37 2334732 vector_exact (leading_exact (u32 then u32) (λ p. entries (max p.0 p.1) 4096) 8 2334724 (then_exact u32 u32 4 4 u32_exact u32_exact) (λ p h. entries_exact (max p.0 p.1) 4096 (omega arith)) (λ p bytes. (entries_exact (max p.0 p.1) 4096 (omega arith)).within bytes)))))
+view_change_exact =
+    made_exact _ _ _ 2334785 (λ b. refl) (λ p h. refl)
+    (then_exact _ _ 8 2334777 view_exact
+    (then_exact _ _ 8 2334769 view_exact
+    (then_exact _ _ 37 2334732 vector_exact
+    (leading_exact (u32 then u32) (λ p. entries (max p.0 p.1) 4096) 8 2334724 (then_exact u32 u32 4 4 u32_exact u32_exact)
+    (λ p h. entries_exact (max p.0 p.1) 4096 (omega arith)) (λ p bytes. (entries_exact (max p.0 p.1) 4096 (omega arith)).within bytes)))))
 
 start_view_exact : IsExact start_view 2334773
 start_view_exact = made_exact _ _ _ 2334773 (λ b. refl) (λ p h. refl) (then_exact _ _ 8 2334765 view_exact (then_exact _ _ 37 2334728 vector_exact log_exact))
@@ -70,7 +93,9 @@ state_ask_exact : IsExact state_ask 53
 state_ask_exact = made_exact _ _ _ 53 (λ b. refl) (λ p h. refl) (then_exact _ _ 8 45 u64_exact (then_exact _ _ 8 37 view_exact vector_exact))
 
 state_tell_exact : IsExact state_tell 2334781
-state_tell_exact = made_exact _ _ _ 2334781 (λ b. refl) (λ p h. refl) (then_exact _ _ 8 2334773 u64_exact (then_exact _ _ 8 2334765 view_exact (then_exact _ _ 37 2334728 vector_exact log_exact)))
+state_tell_exact =
+    made_exact _ _ _ 2334781 (λ b. refl) (λ p h. refl)
+    (then_exact _ _ 8 2334773 u64_exact (then_exact _ _ 8 2334765 view_exact (then_exact _ _ 37 2334728 vector_exact log_exact)))
 
 -- ---- whole bodies
 
@@ -84,7 +109,8 @@ record IsWhole {A : Type 0} (c : Codec A) (make : A → Message) (bytes : List �
   fit : c.fits value
   spelled : bytes ≡ c.put value []
 
-whole_takes : {A : Type 0} (c : Codec A) (size : ℕ) (make : A → Message) → IsExact c size → (bytes : List ℕ) (message : Message) → AreBytes bytes → whole c make bytes ≡ Ok message → IsWhole c make bytes message
+whole_takes : {A : Type 0} (c : Codec A) (size : ℕ) (make : A → Message) → IsExact c size
+    → (bytes : List ℕ) (message : Message) → AreBytes bytes → whole c make bytes ≡ Ok message → IsWhole c make bytes message
 whole_takes c size make p bytes message fits e =
     let f = bind_ok (c.get bytes) (λ x. cond (eqb (length x.1) 0) (Ok (make x.0)) (Err (length x.1))) message e in
     let g = passed (eqb (length f.0.1) 0) (length f.0.1) (make f.0.0) message f.2 in
@@ -205,12 +231,14 @@ body_again (RejoinTell b) h = whole_again rejoin_tell 53 RejoinTell rejoin_tell_
 body_again (StateAsk b) h = whole_again state_ask 53 StateAsk state_ask_exact b h
 body_again (StateTell b) h = whole_again state_tell 2334781 StateTell state_tell_exact b h
 
-by_test : (b : Bool) (kind k : ℕ) (bytes : List ℕ) (m : Message) (r s : Result Message ℕ) → (b ≡ true → kind ≡ k) → (r ≡ Ok m → IsBody k bytes m) → (s ≡ Ok m → IsBody kind bytes m) → cond b r s ≡ Ok m → IsBody kind bytes m
+by_test : (b : Bool) (kind k : ℕ) (bytes : List ℕ) (m : Message) (r s : Result Message ℕ) → (b ≡ true → kind ≡ k)
+    → (r ≡ Ok m → IsBody k bytes m) → (s ≡ Ok m → IsBody kind bytes m) → cond b r s ≡ Ok m → IsBody kind bytes m
 by_test true kind k bytes m r s same p q e = subst (λ (n : ℕ). IsBody n bytes m) (sym (same refl)) (p e)
 by_test false kind k bytes m r s same p q e = q e
 
 -- one kind, or one of those after it
-by_kind : (kind k : ℕ) (bytes : List ℕ) (m : Message) (r s : Result Message ℕ) → (r ≡ Ok m → IsBody k bytes m) → (s ≡ Ok m → IsBody kind bytes m) → cond (eqb kind k) r s ≡ Ok m → IsBody kind bytes m
+by_kind : (kind k : ℕ) (bytes : List ℕ) (m : Message) (r s : Result Message ℕ) → (r ≡ Ok m → IsBody k bytes m)
+    → (s ≡ Ok m → IsBody kind bytes m) → cond (eqb kind k) r s ≡ Ok m → IsBody kind bytes m
 by_kind kind k bytes m r s p q e = by_test (eqb kind k) kind k bytes m r s (λ t. eqb-true kind k t) p q e
 
 no_kind : (kind : ℕ) (bytes : List ℕ) (m : Message) → Err (length bytes) ≡ Ok m → IsBody kind bytes m
@@ -260,19 +288,23 @@ body_long (RejoinTell b) h = let long = rejoin_tell_exact.long b [] h in omega a
 body_long (StateAsk b) h = let long = state_ask_exact.long b [] h in omega arith
 body_long (StateTell b) h = let long = state_tell_exact.long b [] h in omega arith
 
-left_behind : {A : Type 0} (x : A × List ℕ) (b : Bool) (make : A → Message) (most left : ℕ) → length x.1 ≤ most → cond b (Ok (make x.0)) (Err (length x.1)) ≡ Err left → left ≤ most
+left_behind : {A : Type 0} (x : A × List ℕ) (b : Bool) (make : A → Message) (most left : ℕ) → length x.1 ≤ most
+    → cond b (Ok (make x.0)) (Err (length x.1)) ≡ Err left → left ≤ most
 left_behind x true make most left h e = absurd cc
 left_behind x false make most left h e = let same : length x.1 ≡ left = cc in omega arith
 
-left_within : {A : Type 0} (most : ℕ) (r : Result (A × List ℕ) ℕ) (make : A → Message) (left : ℕ) → IsWithin most r → (r >>= λ x. cond (eqb (length x.1) 0) (Ok (make x.0)) (Err (length x.1))) ≡ Err left → left ≤ most
+left_within : {A : Type 0} (most : ℕ) (r : Result (A × List ℕ) ℕ) (make : A → Message) (left : ℕ) → IsWithin most r
+    → (r >>= λ x. cond (eqb (length x.1) 0) (Ok (make x.0)) (Err (length x.1))) ≡ Err left → left ≤ most
 left_within most (Ok x) make left h e = left_behind x (eqb (length x.1) 0) make most left h e
 left_within most (Err k) make left h e = let same : k ≡ left = cc in omega arith
 
 -- what is left is part of the bytes
-whole_within : {A : Type 0} (c : Codec A) (size : ℕ) (make : A → Message) → IsExact c size → (bytes : List ℕ) (left : ℕ) → whole c make bytes ≡ Err left → left ≤ length bytes
+whole_within : {A : Type 0} (c : Codec A) (size : ℕ) (make : A → Message) → IsExact c size
+    → (bytes : List ℕ) (left : ℕ) → whole c make bytes ≡ Err left → left ≤ length bytes
 whole_within c size make p bytes left e = left_within (length bytes) (c.get bytes) make left (p.within bytes) e
 
-left_by_test : (b : Bool) (r s : Result Message ℕ) (most left : ℕ) → (r ≡ Err left → left ≤ most) → (s ≡ Err left → left ≤ most) → cond b r s ≡ Err left → left ≤ most
+left_by_test : (b : Bool) (r s : Result Message ℕ) (most left : ℕ) → (r ≡ Err left → left ≤ most)
+    → (s ≡ Err left → left ≤ most) → cond b r s ≡ Err left → left ≤ most
 left_by_test true r s most left p q e = p e
 left_by_test false r s most left p q e = q e
 

@@ -8,21 +8,26 @@ use Rattle.nz_msg.specs.Codec.{Codec, items_put, ItemsFit}
 use Rattle.nz_msg.specs.Fields.{command, next_entry}
 use Rattle.nz_msg.specs.Writing.{Adds}
 
-items_put-snoc : {A : Type 0} (item : List A → Codec A) (before xs : List A) (x : A) (rest : List ℕ) → items_put item before (xs ++ x ∷ []) rest ≡ items_put item before xs ((item (before ++ xs)).put x rest)
+items_put-snoc : {A : Type 0} (item : List A → Codec A) (before xs : List A) (x : A) (rest : List ℕ)
+    → items_put item before (xs ++ x ∷ []) rest ≡ items_put item before xs ((item (before ++ xs)).put x rest)
 unfolding items_put
 items_put-snoc {A} item before [] x rest = ap (λ (b : List A). (item b).put x rest) (sym (append-nil before))
 items_put-snoc {A} item before (y ∷ ys) x rest =
-    ap ((item before).put y) (items_put-snoc item (before ++ y ∷ []) ys x rest ∙ ap (λ (b : List A). items_put item (before ++ y ∷ []) ys ((item b).put x rest)) (append_assoc before (y ∷ []) ys))
+    ap ((item before).put y) (items_put-snoc item (before ++ y ∷ []) ys x rest
+    ∙ ap (λ (b : List A). items_put item (before ++ y ∷ []) ys ((item b).put x rest)) (append_assoc before (y ∷ []) ys))
 
 pub adds_none : {A : Type 0} (item : List A → Codec A) (bytes : List ℕ) → Adds bytes bytes (items_put item [] [])
 unfolding items_put
 adds_none item bytes rest = refl
 
 -- one more item
-pub adds_one : {A : Type 0} (item : List A → Codec A) (old now next : List ℕ) (xs : List A) (x : A) → Adds old now (items_put item [] xs) → Adds now next ((item xs).put x) → Adds old next (items_put item [] (xs ++ x ∷ []))
+pub adds_one : {A : Type 0} (item : List A → Codec A) (old now next : List ℕ) (xs : List A) (x : A)
+    → Adds old now (items_put item [] xs) → Adds now next ((item xs).put x) → Adds old next (items_put item [] (xs ++ x ∷ []))
 adds_one item old now next xs x h k rest = k rest ∙ h ((item xs).put x rest) ∙ ap (λ (ys : List ℕ). old ++ ys) (sym (items_put-snoc item [] xs x rest))
 
-pub adds_next : {A : Type 0} (item : List A → Codec A) (old now next : List ℕ) (xs : List A) (i : ℕ) (d : A) → i < length xs → Adds old now (items_put item [] (take i xs)) → Adds now next ((item (take i xs)).put (get_or xs i d)) → Adds old next (items_put item [] (take (i + 1) xs))
+pub adds_next : {A : Type 0} (item : List A → Codec A) (old now next : List ℕ) (xs : List A) (i : ℕ) (d : A)
+    → i < length xs → Adds old now (items_put item [] (take i xs))
+    → Adds now next ((item (take i xs)).put (get_or xs i d)) → Adds old next (items_put item [] (take (i + 1) xs))
 adds_next item old now next xs i d lt h k = rw (take_more xs i d lt) (adds_one item old now next (take i xs) (get_or xs i d) h k)
 
 commands_behind : (before xs : List Entry) → ItemsFit next_entry before xs → AllByRecursion (λ e. command.fits e.command) xs

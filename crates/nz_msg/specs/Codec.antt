@@ -1,5 +1,6 @@
 -- Fields: how each is spelled and read, once for all messages.
-use Rattle.std.specs.Prelude.{◌≡◌, ℕ, zero, suc, ◌<◌, ◌^◌, Bool, ◌==◌, nat_lt, if◌then◌else◌, List, [], ◌∷◌, ◌++◌, length, take, drop, Option, Some, None, IfSome, Result, Ok, Err, IsTrue}
+use Rattle.std.specs.Prelude.{◌≡◌, ℕ, zero, suc, ◌<◌, ◌^◌, Bool, ◌==◌, nat_lt, if◌then◌else◌, List, [], ◌∷◌}
+use Rattle.std.specs.Prelude.{◌++◌, length, take, drop, Option, Some, None, IfSome, Result, Ok, Err, IsTrue}
 use Rattle.std.specs.Int.{is_in_range}
 use Rattle.byteorder.specs.Endian.{big_bytes, big_number}
 
@@ -50,12 +51,12 @@ limited_at ok get bytes = do
   if ok x.0 then Ok x else Err (length bytes)
 
 -- Only these values: another one is out of range at its first byte.
-abbrev pub limited : {A : Type 0} → (A → Bool) → Codec A → Codec A
-limited ok c = record { put = c.put; get = limited_at ok c.get; fits = λ a. c.fits a × IsTrue (ok a) }
+abbrev pub with_limit : {A : Type 0} → (A → Bool) → Codec A → Codec A
+with_limit ok c = record { put = c.put; get = limited_at ok c.get; fits = λ a. c.fits a × IsTrue (ok a) }
 
 -- A number of this many bytes, from least to most.
 abbrev pub number_within : ℕ → ℕ → ℕ → Codec ℕ
-number_within size least most = limited (is_in_range least most) (number size)
+number_within size least most = with_limit (is_in_range least most) (number size)
 
 -- One field, and then one that depends on it.
 infixr 20 ◌leading◌
@@ -119,8 +120,8 @@ abbrev pub items : {A : Type 0} → (List A → Codec A) → ℕ → Codec (List
 items item n = record { put = items_put item []; get = items_at item [] n; fits = λ xs. (length xs ≡ n) × ItemsFit item [] xs }
 
 -- A list with its length before it.
-abbrev pub counted : {A : Type 0} → Codec ℕ → (ℕ → Codec (List A)) → Codec (List A)
-counted count list = record {
+abbrev pub with_count : {A : Type 0} → Codec ℕ → (ℕ → Codec (List A)) → Codec (List A)
+with_count count list = record {
   put = λ xs rest. count.put (length xs) ((list (length xs)).put xs rest);
   get = λ bytes. count.get bytes >>= λ n. (list n.0).get n.1;
   fits = λ xs. count.fits (length xs) × (list (length xs)).fits xs;

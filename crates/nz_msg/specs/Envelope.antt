@@ -26,9 +26,9 @@ pub record Spells (envelope : Envelope) (bytes : List ℕ) : Type 0 where
 -- ---- decoding
 
 -- The actor that is named at a place.
-abbrev pub named : ℕ → Option Actor → Result Actor DecodeRefusal
-named place (Some actor) = Ok actor
-named place None = Err (Frame (BadActor place))
+abbrev pub actor_if_known : ℕ → Option Actor → Result Actor DecodeRefusal
+actor_if_known place (Some actor) = Ok actor
+actor_if_known place None = Err (Frame (BadActor place))
 
 -- What follows once the frame's own tests are passed.
 abbrev pub unless_refused : Option FrameRefusal → Result Envelope DecodeRefusal → Result Envelope DecodeRefusal
@@ -36,17 +36,18 @@ unless_refused (Some r) envelope = Err (Frame r)
 unless_refused None envelope = envelope
 
 -- The envelope of what was read. A fault this many bytes before the end is at the place that is left of all.
-abbrev pub enveloped : ℕ → Result Actor DecodeRefusal → Result Actor DecodeRefusal → Result Message ℕ → Result Envelope DecodeRefusal
-enveloped size (Err r) to message = Err r
-enveloped size (Ok from) (Err r) message = Err r
-enveloped size (Ok from) (Ok to) (Err left) = Err (BadBody (size - left))
-enveloped size (Ok from) (Ok to) (Ok message) = Ok (record { from = from; to = to; message = message })
+abbrev pub envelope_if_read : ℕ → Result Actor DecodeRefusal → Result Actor DecodeRefusal → Result Message ℕ → Result Envelope DecodeRefusal
+envelope_if_read size (Err r) to message = Err r
+envelope_if_read size (Ok from) (Err r) message = Err r
+envelope_if_read size (Ok from) (Ok to) (Err left) = Err (BadBody (size - left))
+envelope_if_read size (Ok from) (Ok to) (Ok message) = Ok (record { from = from; to = to; message = message })
 
 -- What the bytes say, or why they say nothing: first as a frame, and then as a message of the frame's kind.
 unfoldable pub decode_of : List ℕ → Result Envelope DecodeRefusal
 decode_of bytes =
     unless_refused (refusal bytes)
-    (enveloped (length bytes) (named 6 (actor_at (sender bytes))) (named 8 (actor_at (receiver bytes))) (body_at (slice_index bytes 5) (drop 10 bytes)))
+    (envelope_if_read (length bytes) (actor_if_known 6 (actor_at (sender bytes)))
+    (actor_if_known 8 (actor_at (receiver bytes))) (body_at (slice_index bytes 5) (drop 10 bytes)))
 
 -- The refusal is that of the bytes, or memory was not found.
 abbrev pub IsRefusedAs : List ℕ → DecodeRefusal → Type 0

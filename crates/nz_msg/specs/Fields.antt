@@ -10,7 +10,7 @@ use Rattle.nz_store.specs.declared.command.Answer.{Answer}
 use Rattle.nz_store.specs.declared.command.Answer.TheVariants.{Done, Value, Absent, Differs}
 use Rattle.nz_msg.specs.declared.message.Path.{Path}
 use Rattle.nz_msg.specs.declared.message.Path.TheVariants.{Fast, Slow}
-use Rattle.nz_msg.specs.Codec.{Codec, number, run, nothing, limited, number_within, ◌leading◌, ◌then◌, as_made, items, counted}
+use Rattle.nz_msg.specs.Codec.{Codec, number, run, nothing, with_limit, number_within, ◌leading◌, ◌then◌, as_made, items, with_count}
 
 -- Numbers of 32 and of 64 bits.
 abbrev pub u32 : Codec ℕ
@@ -38,7 +38,7 @@ key = as_made (λ p. record { deadline = p.0; client = p.1.0; num = p.1.1 }) (λ
 
 -- 1 to 552 bytes after a length of two bytes.
 abbrev pub command : Codec (List ℕ)
-command = counted (number_within 2 1 552) run
+command = with_count (number_within 2 1 552) run
 
 -- A digest of 20 bytes.
 abbrev pub digest : Codec (List ℕ)
@@ -50,13 +50,13 @@ is_cluster_size n = is_in_range 3 9 n && n % 2 == 1
 
 -- The size of the cluster in one byte, and a counter for each replica.
 abbrev pub vector : Codec (List ℕ)
-vector = counted (limited is_cluster_size (number 1)) (items (λ _. u32))
+vector = with_count (with_limit is_cluster_size (number 1)) (items (λ _. u32))
 
 -- ---- answers
 
 -- 1 to 256 bytes after a length of two bytes.
 abbrev pub value : Codec (List ℕ)
-value = counted (number_within 2 1 256) run
+value = with_count (number_within 2 1 256) run
 
 -- The byte that says which answer it is, and the value of the one that has a value.
 abbrev pub answer_parts : Answer → ℕ × List ℕ
@@ -99,7 +99,7 @@ may_follow key_of before key = list_all (λ a. key_below (key_of a) key && not (
 
 -- The key of the item after these.
 abbrev pub next_key_by : {A : Type 0} → (A → Key) → List A → Codec Key
-next_key_by key_of before = limited (may_follow key_of before) key
+next_key_by key_of before = with_limit (may_follow key_of before) key
 
 -- The key after these.
 abbrev pub next_key : List Key → Codec Key
@@ -111,12 +111,12 @@ next_entry before = as_made (λ p. record { key = p.0; command = p.1 }) (λ e. (
 
 -- 1 to 64 ids after their count of one byte.
 abbrev pub ids : Codec (List Id)
-ids = counted (number_within 1 1 64) (items (λ _. id))
+ids = with_count (number_within 1 1 64) (items (λ _. id))
 
 -- At most 64 keys after their count of one byte.
 abbrev pub keys : Codec (List Key)
-keys = counted (number_within 1 0 64) (items next_key)
+keys = with_count (number_within 1 0 64) (items next_key)
 
 -- From least to most entries after their count of four bytes.
 abbrev pub entries : ℕ → ℕ → Codec (List Entry)
-entries least most = counted (number_within 4 least most) (items next_entry)
+entries least most = with_count (number_within 4 least most) (items next_entry)

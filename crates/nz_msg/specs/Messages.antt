@@ -19,7 +19,9 @@ use Rattle.nz_msg.specs.declared.message.RejoinTellBody.{RejoinTellBody}
 use Rattle.nz_msg.specs.declared.message.StateAskBody.{StateAskBody}
 use Rattle.nz_msg.specs.declared.message.StateTellBody.{StateTellBody}
 use Rattle.nz_msg.specs.declared.message.Message.{Message}
-use Rattle.nz_msg.specs.declared.message.Message.TheVariants.{Request, Timed, FastReply, SlowReply, Answer, LogMod, Fetch, FetchReply, SyncReport, ViewAsk, ViewChange, StartView, VectorAsk, VectorTell, RejoinAsk, RejoinTell, StateAsk, StateTell}
+use Rattle.nz_msg.specs.declared.message.Message.TheVariants.{Request, Timed, FastReply, SlowReply, Answer, LogMod, Fetch, FetchReply}
+use Rattle.nz_msg.specs.declared.message.Message.TheVariants.{SyncReport, ViewAsk, ViewChange, StartView, VectorAsk, VectorTell}
+use Rattle.nz_msg.specs.declared.message.Message.TheVariants.{RejoinAsk, RejoinTell, StateAsk, StateTell}
 use Rattle.nz_msg.specs.Codec.{Codec, ◌>>=◌, optional, ◌leading◌, ◌then◌, as_made}
 use Rattle.nz_msg.specs.Fields.{u32, u64, view, deadline, id, command, digest, vector, answer, path, ids, keys, entries}
 

@@ -25,9 +25,9 @@ IsPlaced size faults.NoMemory = Unit {0}
 IsPlaced size (faults.Bad left) = left ≤ size
 
 -- The refusal of this many bytes for a fault in them.
-abbrev pub placed : ℕ → Fault → DecodeRefusal
-placed size faults.NoMemory = refusals.NoMemory
-placed size (faults.Bad left) = refusals.BadBody (size - left)
+abbrev pub refusal_at : ℕ → Fault → DecodeRefusal
+refusal_at size faults.NoMemory = refusals.NoMemory
+refusal_at size (faults.Bad left) = refusals.BadBody (size - left)
 
 -- These are the ids of entries in the order of their keys.
 pub record AreNoted (entries : List Entry) (ids : List Id) : Type 0 where

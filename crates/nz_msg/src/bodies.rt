@@ -3,7 +3,9 @@
 ghost use Rattle.std.specs.Prelude.{◌≡◌, ◌<◌, length, OnOk, OnErr, IfErr};
 ghost use Rattle.nz_msg.specs.declared.fault.Fault.TheVariants.{Bad};
 ghost use Rattle.nz_msg.specs.declared.message.Message.TheVariants as messages;
-ghost use Rattle.nz_msg.specs.Messages.{request, timed, fast_reply, slow_reply, client_answer, log_mod, fetch, fetch_reply, sync_report, view_ask, view_change, start_view, vector_ask, vector_tell, rejoin_ask, rejoin_tell, state_ask, state_tell, whole, body_at};
+ghost use Rattle.nz_msg.specs.Messages.{request, timed, fast_reply, slow_reply, client_answer, log_mod, fetch, fetch_reply, sync_report, view_ask};
+ghost use Rattle.nz_msg.specs.Messages.{view_change, start_view, vector_ask, vector_tell, rejoin_ask, rejoin_tell, state_ask, state_tell, whole};
+ghost use Rattle.nz_msg.specs.Messages.{body_at};
 ghost use Rattle.nz_msg.specs.Reading.{Gives};
 
 use super::fault::Fault;

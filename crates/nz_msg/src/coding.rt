@@ -3,11 +3,11 @@
 ghost use Rattle.std.specs.Prelude.{◌≡◌, ◌<◌, ◌^◌, ◌⊎◌, Ok, Err, Some, IfOk, IfErr};
 ghost use Rattle.nz_base.specs.Actor.{HasAddress, actor_at};
 ghost use Rattle.nz_frame.specs.Address.{IsAddress};
-ghost use Rattle.nz_msg.specs.declared.envelope.Envelope.{Envelope as AnEnvelope};
+ghost use Rattle.nz_msg.specs.declared.envelope.Envelope.{Envelope as EnvelopeModel};
 ghost use Rattle.nz_msg.specs.declared.refusal.DecodeRefusal.TheVariants as refusals;
 ghost use Rattle.nz_msg.specs.Messages.{Fits};
 ghost use Rattle.nz_msg.specs.Envelope.{encode_of, Spells, decode_of, IsRefusedAs};
-ghost use Rattle.nz_msg.specs.Reading.{IsPlaced, placed as placed_refusal};
+ghost use Rattle.nz_msg.specs.Reading.{IsPlaced, refusal_at};
 
 use super::bodies::message_of;
 use super::envelope::Envelope;
@@ -51,7 +51,7 @@ fn actor_of(address: u16) -> Actor
 fn placed(fault: Fault, size: usize) -> DecodeRefusal
     requires fault { IsPlaced size fault }
     requires size { size < 2 ^ 32 }
-    ensures { result ≡ placed_refusal size fault }
+    ensures { result ≡ refusal_at size fault }
 {
     match fault {
         Fault::NoMemory => DecodeRefusal::NoMemory,
@@ -83,7 +83,7 @@ pub fn decode(alloc: Global, bytes: &[u8]) -> Result<Envelope, DecodeRefusal>
     // The bytes are the frame of what is decoded.
     ensures spelled { IfOk result (λ envelope. Spells envelope bytes.now) }
     // Whatever the bytes are the frame of is decoded, where there is memory.
-    ensures every_frame { (envelope : AnEnvelope) → Spells envelope bytes.now
+    ensures every_frame { (envelope : EnvelopeModel) → Spells envelope bytes.now
         → (result ≡ Ok envelope) ⊎ (result ≡ Err refusals.NoMemory) }
     // The same by the reading of the bytes, which also has the place of each refusal.
     ensures decoded { IfOk result (λ envelope. decode_of bytes.now ≡ Ok envelope) }

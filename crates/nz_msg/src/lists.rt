@@ -4,8 +4,9 @@ ghost use Rattle.std.specs.Prelude.{◌≡◌, ◌<◌, ◌≤◌, ◌/◌, [], 
 ghost use Rattle.std.specs.List.{list_all};
 ghost use Rattle.nz_base.specs.Key.{key_below, id_of, id_eq};
 ghost use Rattle.nz_cv.specs.Vectors.{IsClusterSize};
-ghost use Rattle.nz_msg.specs.Codec.{items_at, limited, number};
-ghost use Rattle.nz_msg.specs.Fields.{u32, id, is_cluster_size as is_cluster_size_test, vector, may_follow as may_follow_by, next_key_by, next_key, next_entry, ids, keys, entries};
+ghost use Rattle.nz_msg.specs.Codec.{items_at, with_limit, number};
+ghost use Rattle.nz_msg.specs.Fields as fields;
+ghost use Rattle.nz_msg.specs.Fields.{u32, id, vector, next_key_by, next_key, next_entry, ids, keys, entries};
 ghost use Rattle.nz_msg.specs.Reading.{Gives, AreNoted};
 
 use super::fault::Fault;
@@ -44,14 +45,14 @@ fn room_for(count: u32, size: u8, bytes: &[u8]) -> u32
 
 /// Whether a cluster has this many replicas.
 pub fn is_cluster_size(size: usize) -> bool
-    ensures { result ≡ is_cluster_size_test size }
+    ensures { result ≡ fields.is_cluster_size size }
 {
     matches!(size, 3 | 5 | 7 | 9)
 }
 
 #[tactic(auto, unfolding(crate::specs::Codec::limited_at))]
 fn size_at(bytes: &[u8]) -> Result<(u8, &[u8]), Fault>
-    ensures size { Gives (λ x. (x.0, x.1.now)) result ((limited is_cluster_size_test (number 1)).get bytes.now) }
+    ensures size { Gives (λ x. (x.0, x.1.now)) result ((with_limit fields.is_cluster_size (number 1)).get bytes.now) }
     ensures cluster { IfOk result (λ x. IsClusterSize x.0) }
 {
     let (size, rest) = u8_at(bytes)?;
@@ -114,13 +115,13 @@ fn follows(earlier: &Key, key: &Key) -> bool
 }
 
 pub fn may_follow(before: &[Key], key: &Key) -> bool
-    ensures { result ≡ may_follow_by (λ k. k) before.now key.now }
+    ensures { result ≡ fields.may_follow (λ k. k) before.now key.now }
 {
     before.iter().all(|earlier| follows(earlier, key))
 }
 
 pub fn may_follow_entries(before: &[Entry], key: &Key) -> bool
-    ensures { result ≡ may_follow_by (λ e. e.key) before.now key.now }
+    ensures { result ≡ fields.may_follow (λ e. e.key) before.now key.now }
 {
     before.iter().all(|earlier| follows(&earlier.key, key))
 }
@@ -139,7 +140,7 @@ fn next_key_at<'a>(before: &[Key], bytes: &'a [u8]) -> Result<(Key, &'a [u8]), F
 // Whether an entry with this key may come next: the last entry has the greatest key so far.
 fn may_be_next(before: &[Entry], ids: &IndexSet<Id>, key: &Key) -> bool
     requires { AreNoted before.now ids.now.keys }
-    ensures { result ≡ may_follow_by (λ e. e.key) before.now key.now }
+    ensures { result ≡ fields.may_follow (λ e. e.key) before.now key.now }
 {
     match before.last() {
         Some(last) => last.key.is_below(key) && !ids.contains(&key.id()),
@@ -155,7 +156,7 @@ fn next_entry_key_at<'a>(
 ) -> Result<(Key, &'a [u8]), Fault>
     requires { AreNoted before.now ids.now.keys }
     ensures value { Gives (λ x. (x.0, x.1.now)) result ((next_key_by (λ e. e.key) before.now).get bytes.now) }
-    ensures follows { IfOk result (λ x. IsTrue (may_follow_by (λ e. e.key) before.now x.0)) }
+    ensures follows { IfOk result (λ x. IsTrue (fields.may_follow (λ e. e.key) before.now x.0)) }
 {
     let (key, rest) = key_at(bytes)?;
     if !may_be_next(before, ids, &key) {
@@ -172,7 +173,7 @@ fn next_entry_at<'a>(
 ) -> Result<(Entry, &'a [u8]), Fault>
     requires { AreNoted before.now ids.now.keys }
     ensures value { Gives (λ x. (x.0, x.1.now)) result ((next_entry before.now).get bytes.now) }
-    ensures follows { IfOk result (λ x. IsTrue (may_follow_by (λ e. e.key) before.now x.0.key)) }
+    ensures follows { IfOk result (λ x. IsTrue (fields.may_follow (λ e. e.key) before.now x.0.key)) }
 {
     let (key, rest) = next_entry_key_at(before, ids, bytes)?;
     let (command, rest) = command_at(alloc, rest)?;

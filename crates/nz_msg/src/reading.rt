@@ -1,7 +1,7 @@
 //! Reading of fields. Each reader gives what the bytes begin with, and the bytes after it.
 
 ghost use Rattle.std.specs.Prelude.{◌≡◌};
-ghost use Rattle.nz_msg.specs.Codec.{number_at, run_at, number_within, run, counted, optional};
+ghost use Rattle.nz_msg.specs.Codec.{number_at, run_at, number_within, run, with_count, optional};
 ghost use Rattle.nz_msg.specs.Fields.{view, deadline, id, key, command, digest, answer, path};
 ghost use Rattle.nz_msg.specs.Reading.{Gives};
 
@@ -132,7 +132,7 @@ fn run_of(bytes: &[u8], len: u16) -> Result<(&[u8], &[u8]), Fault>
 
 // A run of bytes after its length.
 fn text_at(bytes: &[u8], most: u16) -> Result<(&[u8], &[u8]), Fault>
-    ensures { Gives (λ x. (x.0.now, x.1.now)) result ((counted (number_within 2 1 most) run).get bytes.now) }
+    ensures { Gives (λ x. (x.0.now, x.1.now)) result ((with_count (number_within 2 1 most) run).get bytes.now) }
 {
     let (len, rest) = u16_within(bytes, 1, most)?;
     run_of(rest, len)

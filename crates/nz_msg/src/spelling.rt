@@ -1,7 +1,9 @@
 //! Writing of bodies, one function a kind.
 
 ghost use Rattle.std.specs.Prelude.{◌≡◌, ◌++◌, [], OnOk};
-ghost use Rattle.nz_msg.specs.Messages.{request, timed, fast_reply, slow_reply, client_answer, log_mod, fetch, fetch_reply, sync_report, view_ask, view_change, start_view, vector_ask, vector_tell, rejoin_ask, rejoin_tell, state_ask, state_tell, Fits, kind_of, body_of};
+ghost use Rattle.nz_msg.specs.Messages.{request, timed, fast_reply, slow_reply, client_answer, log_mod, fetch, fetch_reply};
+ghost use Rattle.nz_msg.specs.Messages.{sync_report, view_ask, view_change, start_view, vector_ask, vector_tell, rejoin_ask};
+ghost use Rattle.nz_msg.specs.Messages.{rejoin_tell, state_ask, state_tell, Fits, kind_of, body_of};
 ghost use Rattle.nz_msg.specs.Writing.{Adds};
 
 use super::message::{

@@ -3,7 +3,8 @@
 ghost use Rattle.std.specs.Prelude.{◌↔◌, ◌≡◌, IsTrue, []};
 ghost use Rattle.nz_msg.specs.Codec.{optional, ItemsFit};
 ghost use Rattle.nz_msg.specs.Fields.{view, deadline, id, command, digest, vector, answer, key, next_key, next_entry, ids, keys, entries};
-ghost use Rattle.nz_msg.specs.Messages.{request, timed, fast_reply, slow_reply, client_answer, log_mod, fetch, fetch_reply, sync_report, view_change, start_view, vector_tell, vector_ask, rejoin_tell, state_ask, state_tell};
+ghost use Rattle.nz_msg.specs.Messages.{request, timed, fast_reply, slow_reply, client_answer, log_mod, fetch, fetch_reply, sync_report};
+ghost use Rattle.nz_msg.specs.Messages.{view_change, start_view, vector_tell, vector_ask, rejoin_tell, state_ask, state_tell};
 
 use super::bodies::{MAX_ENTRIES, MAX_FETCHED};
 use super::lists::{MAX_KEYS, is_cluster_size, may_follow, may_follow_entries};

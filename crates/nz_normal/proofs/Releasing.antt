@@ -10,7 +10,7 @@ use Rattle.nz_machine.specs.declared.event.Parcel.{Parcel}
 use Rattle.nz_machine.specs.State.{ReplicaData, Out}
 use Rattle.nz_machine.specs.Facts.{ReplicaModel}
 use Rattle.nz_machine.specs.Replicas.{is_normal, fast_replies}
-use Rattle.nz_machine.specs.Releases.{may_release, first_may, released, release_replies, releases}
+use Rattle.nz_machine.specs.Releases.{may_release, first_may, after_release, release_replies, releases}
 use Rattle.nz_machine.specs.Step.{parcel}
 
 -- what is left to release leads to the end
@@ -23,21 +23,23 @@ pub record Releases (f me : ℕ) (end : ReplicaData × List Parcel) (seat : Repl
 
 -- the reply to what was released last
 pub replied : (seat new : ReplicaModel) (id : Id) (place : ℕ) (e : Entry) (es : List Entry) (sends after : List Parcel) → seat.state.early ≡ e ∷ es
-    → ((e : Entry) (es : List Entry) → seat.state.early ≡ e ∷ es → (id ≡ id_of e.key) × (new ≡ record seat { state = released seat.f seat.me seat.state e es }))
+    → ((e : Entry) (es : List Entry) → seat.state.early ≡ e ∷ es
+    → (id ≡ id_of e.key) × (new ≡ record seat { state = after_release seat.f seat.me seat.state e es }))
     → length new.state.log.entries ≡ length seat.state.log.entries + 1 → place ≡ length seat.state.log.entries
     → after ≡ sends ++ map (parcel (Replica new.me)) (fast_replies new.f new.me new.state id place (lookup (id_eq id) new.state.origin))
-    → after ≡ sends ++ map (parcel (Replica seat.me)) (release_replies seat.f seat.me (released seat.f seat.me seat.state e es) e)
+    → after ≡ sends ++ map (parcel (Replica seat.me)) (release_replies seat.f seat.me (after_release seat.f seat.me seat.state e es) e)
 replied seat new id place e es sends after is h grown at told =
     let last : place ≡ length new.state.log.entries - 1 = omega (arith, grown, at) in
     told ∙ ap (λ (n : ℕ). sends ++ map (parcel (Replica new.me)) (fast_replies new.f new.me new.state id n (lookup (id_eq id) new.state.origin))) last
     ∙ (λ i.
     let seen : ReplicaModel = (h e es is).1 i in
     let own : Id = (h e es is).0 i in
-    sends ++ map (parcel (Replica seen.me)) (fast_replies seen.f seen.me seen.state own (length seen.state.log.entries - 1) (lookup (id_eq own) seen.state.origin)))
+    sends ++ map (parcel (Replica seen.me))
+    (fast_replies seen.f seen.me seen.state own (length seen.state.log.entries - 1) (lookup (id_eq own) seen.state.origin)))
 
 abbrev after_first : ℕ → ℕ → ReplicaData → Entry → List Entry → ReplicaData × List Out
 after_first f me s e es =
-    let next = released f me s e es in
+    let next = after_release f me s e es in
     ((releases f me next es).0, release_replies f me next e ++ (releases f me next es).1)
 
 release_is : (f me : ℕ) (s : ReplicaData) (e : Entry) (es : List Entry) → may_release s e ≡ true → releases f me s (e ∷ es) ≡ after_first f me s e es
@@ -49,16 +51,22 @@ unfolding releases
 stop_is f me s [] q = refl
 stop_is f me s (e ∷ es) q = ap (λ b. cond b (after_first f me s e es) (s, [])) q
 
-pub goes_on : (f me : ℕ) (end : ReplicaData × List Parcel) (seat new : ReplicaModel) (sends after : List Parcel) (early : List Entry) → seat.state.early ≡ early → first_may seat.state early ≡ true
-    → ((e : Entry) (es : List Entry) → seat.state.early ≡ e ∷ es → new ≡ record seat { state = released seat.f seat.me seat.state e es })
-    → ((e : Entry) (es : List Entry) → seat.state.early ≡ e ∷ es → after ≡ sends ++ map (parcel (Replica seat.me)) (release_replies seat.f seat.me (released seat.f seat.me seat.state e es) e))
+pub goes_on : (f me : ℕ) (end : ReplicaData × List Parcel) (seat new : ReplicaModel) (sends after : List Parcel) (early : List Entry)
+    → seat.state.early ≡ early → first_may seat.state early ≡ true
+    → ((e : Entry) (es : List Entry) → seat.state.early ≡ e ∷ es → new ≡ record seat { state = after_release seat.f seat.me seat.state e es })
+    → ((e : Entry) (es : List Entry) → seat.state.early ≡ e ∷ es
+    → after ≡ sends ++ map (parcel (Replica seat.me)) (release_replies seat.f seat.me (after_release seat.f seat.me seat.state e es) e))
     → Releases f me end seat sends → Releases f me end new after
 goes_on f me end seat new sends after [] is may h k r = absurd cc
 goes_on f me end seat new sends after (e ∷ es) is may h k r =
-    let next = released f me seat.state e es in
-    let one : releases f me seat.state seat.state.early ≡ after_first f me seat.state e es = ap (releases f me seat.state) is ∙ release_is f me seat.state e es may in
-    let new-is : new ≡ record { f = f; me = me; state = next } = h e es is ∙ (λ i. record { f = r.size i; me = r.number i; state = released (r.size i) (r.number i) seat.state e es }) in
-    let after-is : after ≡ sends ++ map (parcel (Replica me)) (release_replies f me next e) = k e es is ∙ (λ i. sends ++ map (parcel (Replica (r.number i))) (release_replies (r.size i) (r.number i) (released (r.size i) (r.number i) seat.state e es) e)) in
+    let next = after_release f me seat.state e es in
+    let one : releases f me seat.state seat.state.early ≡ after_first f me seat.state e es =
+    ap (releases f me seat.state) is ∙ release_is f me seat.state e es may in
+    let new-is : new ≡ record { f = f; me = me; state = next } =
+    h e es is ∙ (λ i. record { f = r.size i; me = r.number i; state = after_release (r.size i) (r.number i) seat.state e es }) in
+    let after-is : after ≡ sends ++ map (parcel (Replica me)) (release_replies f me next e) =
+    k e es is ∙ (λ i. sends ++ map (parcel (Replica (r.number i)))
+    (release_replies (r.size i) (r.number i) (after_release (r.size i) (r.number i) seat.state e es) e)) in
     let told = ap (λ (t : ReplicaData × List Out). sends ++ map (parcel (Replica me)) t.1) one in
     let done : Releases f me end (record { f = f; me = me; state = next }) after = record {
       size = refl;
@@ -72,7 +80,8 @@ goes_on f me end seat new sends after (e ∷ es) is may h k r =
     } in
     subst (λ (v : ReplicaModel). Releases f me end v after) (sym new-is) done
 
-pub is_done : (f me : ℕ) (end : ReplicaData × List Parcel) (seat : ReplicaModel) (sends : List Parcel) → first_may seat.state seat.state.early ≡ false → Releases f me end seat sends
+pub is_done : (f me : ℕ) (end : ReplicaData × List Parcel) (seat : ReplicaModel) (sends : List Parcel)
+    → first_may seat.state seat.state.early ≡ false → Releases f me end seat sends
     → (seat ≡ record { f = f; me = me; state = end.0 }) × (sends ≡ end.1)
 is_done f me end seat sends over r =
     let one = stop_is f me seat.state seat.state.early over in
@@ -81,12 +90,15 @@ is_done f me end seat sends over r =
     (λ i. record { f = r.size i; me = r.number i; state = state-is i }, sends-is)
 
 pub begins : (seat : ReplicaModel) (sends : List Parcel) → is_normal seat.state.status ≡ true
-    → Releases seat.f seat.me ((releases seat.f seat.me seat.state seat.state.early).0, sends ++ map (parcel (Replica seat.me)) (releases seat.f seat.me seat.state seat.state.early).1) seat sends
+    → Releases seat.f seat.me (
+      (releases seat.f seat.me seat.state seat.state.early).0,
+      sends ++ map (parcel (Replica seat.me)) (releases seat.f seat.me seat.state seat.state.early).1,
+    ) seat sends
 begins seat sends normal = record { size = refl; number = refl; normal = normal; state = refl; all = refl }
 
 -- a release leaves fewer
 pub fewer : (seat new : ReplicaModel) (early : List Entry) → seat.state.early ≡ early → first_may seat.state early ≡ true
-    → ((e : Entry) (es : List Entry) → seat.state.early ≡ e ∷ es → new ≡ record seat { state = released seat.f seat.me seat.state e es })
+    → ((e : Entry) (es : List Entry) → seat.state.early ≡ e ∷ es → new ≡ record seat { state = after_release seat.f seat.me seat.state e es })
     → length new.state.early < length seat.state.early
 fewer seat new [] is may h = absurd cc
 fewer seat new (e ∷ es) is may h = omega (arith, ap length is, ap (λ (v : ReplicaModel). length v.state.early) (h e es is))

@@ -1,10 +1,10 @@
 //! The release rule.
 
 ghost use Rattle.std.specs.Prelude.{◌≡◌, ◌∷◌, ◌++◌, List, map, IsTrue, OnOk};
-ghost use Rattle.nz_base.specs.declared.actor.Actor.TheVariants.{Replica as IsReplica};
+ghost use Rattle.nz_base.specs.declared.actor.Actor.TheVariants.{Replica};
 ghost use Rattle.nz_base.specs.declared.key.Entry.{Entry};
 ghost use Rattle.nz_machine.specs.Replicas.{is_normal};
-ghost use Rattle.nz_machine.specs.Releases.{released, release_replies, first_may, releases, release_rule};
+ghost use Rattle.nz_machine.specs.Releases.{after_release, release_replies, first_may, releases, release_rule};
 ghost use Rattle.nz_machine.specs.Does.{Does};
 ghost use Rattle.nz_machine.specs.Step.{parcel};
 
@@ -16,9 +16,10 @@ fn release_first(state: &mut ReplicaState, sends: &mut Sends) -> Result<(), NoMe
     requires normal { IsTrue (is_normal state.old.state.status) }
     requires first { IsTrue (first_may state.old.state state.old.state.early) }
     ensures state { OnOk result ((e : Entry) (es : List Entry) → state.old.state.early ≡ e ∷ es
-        → state.new ≡ record state.old { state = released state.old.f state.old.me state.old.state e es }) }
+        → state.new ≡ record state.old { state = after_release state.old.f state.old.me state.old.state e es }) }
     ensures sends { OnOk result ((e : Entry) (es : List Entry) → state.old.state.early ≡ e ∷ es
-        → sends.new ≡ sends.old ++ map (parcel (IsReplica state.old.me)) (release_replies state.old.f state.old.me (released state.old.f state.old.me state.old.state e es) e)) }
+        → sends.new ≡ sends.old ++ map (parcel (Replica state.old.me))
+        (release_replies state.old.f state.old.me (after_release state.old.f state.old.me state.old.state e es) e)) }
 {
     let place = state.log().len();
     let id = state.release()?;

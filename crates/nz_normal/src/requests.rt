@@ -3,12 +3,13 @@
 ghost use Rattle.std.specs.Prelude.{◌≡◌, ◌≤◌, ◌<◌, ◌^◌, ◌++◌, map, length, nat_lt, IsTrue, IsFalse, IfOk, OnOk, if◌then◌else◌};
 ghost use Rattle.nz_base.specs.Actor.{HasAddress};
 ghost use Rattle.nz_base.specs.Log.{keys_of, has_id};
-ghost use Rattle.nz_base.specs.declared.actor.Actor.TheVariants.{Replica as IsReplica};
+ghost use Rattle.nz_base.specs.declared.actor.Actor.TheVariants as actors;
 ghost use Rattle.nz_log.specs.Places.{last_entry};
 ghost use Rattle.nz_msg.specs.Messages.{timed};
 ghost use Rattle.nz_msg.specs.declared.message.Message.TheVariants.{Timed};
-ghost use Rattle.nz_machine.specs.Replicas.{key_at as key_of};
-ghost use Rattle.nz_machine.specs.Requests.{replies_at, entry_at as entry_of, next_deadline as deadline_after, restamped, placed, unlogged as unlogged_of, request_rule};
+ghost use Rattle.nz_machine.specs.Replicas.{key_with_deadline};
+ghost use Rattle.nz_machine.specs.Requests as requests;
+ghost use Rattle.nz_machine.specs.Requests.{replies_at, after_restamp, after_placing, after_new_request, request_rule};
 ghost use Rattle.nz_machine.specs.Does.{Does};
 ghost use Rattle.nz_machine.specs.Step.{parcel, replica_message};
 
@@ -22,7 +23,7 @@ use std::alloc::Global;
 const DEADLINES: u64 = 1 << 63;
 
 fn key_at(deadline: u64, id: Id) -> Key
-    ensures { result ≡ key_of deadline id }
+    ensures { result ≡ key_with_deadline deadline id }
 {
     Key {
         deadline,
@@ -32,7 +33,7 @@ fn key_at(deadline: u64, id: Id) -> Key
 }
 
 fn entry_at(alloc: Global, deadline: u64, body: &TimedBody) -> Result<Entry, NoMemory>
-    ensures { IfOk result (λ entry. entry ≡ entry_of deadline body.now) }
+    ensures { IfOk result (λ entry. entry ≡ requests.entry_at deadline body.now) }
 {
     Ok(Entry {
         key: key_at(deadline, body.id),
@@ -42,7 +43,7 @@ fn entry_at(alloc: Global, deadline: u64, body: &TimedBody) -> Result<Entry, NoM
 
 /// The deadline after that of the log's last entry, if there is one.
 fn next_deadline(log: &HashedLog) -> Option<u64>
-    ensures { result ≡ (let deadline = deadline_after (last_entry log.now.entries) in if nat_lt deadline (2 ^ 63) then Some deadline else None) }
+    ensures { result ≡ (let deadline = requests.next_deadline (last_entry log.now.entries) in if nat_lt deadline (2 ^ 63) then Some deadline else None) }
 {
     match log.last() {
         None => Some(1),
@@ -61,7 +62,7 @@ fn restamp(state: &mut ReplicaState, body: &TimedBody) -> Result<(), NoMemory>
     requires fits { timed.fits body.now }
     requires logged { IsFalse (has_id (keys_of state.old.state.log.entries) body.now.id) }
     requires held { IsFalse (has_id (keys_of state.old.state.early) body.now.id) }
-    ensures { OnOk result (state.new ≡ record state.old { state = restamped state.old.state body.now }) }
+    ensures { OnOk result (state.new ≡ record state.old { state = after_restamp state.old.state body.now }) }
 {
     match next_deadline(state.log()) {
         None => Ok(()),
@@ -77,7 +78,7 @@ fn place(state: &mut ReplicaState, body: &TimedBody) -> Result<(), NoMemory>
     requires fits { timed.fits body.now }
     requires logged { IsFalse (has_id (keys_of state.old.state.log.entries) body.now.id) }
     requires held { IsFalse (has_id (keys_of state.old.state.early) body.now.id) }
-    ensures { OnOk result (state.new ≡ record state.old { state = placed state.old.f state.old.me state.old.state body.now }) }
+    ensures { OnOk result (state.new ≡ record state.old { state = after_placing state.old.f state.old.me state.old.state body.now }) }
 {
     let is_early = state.log().is_above(&key_at(body.deadline, body.id));
     if !is_early && state.leads() {
@@ -94,7 +95,7 @@ fn place(state: &mut ReplicaState, body: &TimedBody) -> Result<(), NoMemory>
 fn unlogged(state: &mut ReplicaState, body: &TimedBody) -> Result<(), NoMemory>
     requires fits { timed.fits body.now }
     requires logged { IsFalse (has_id (keys_of state.old.state.log.entries) body.now.id) }
-    ensures { OnOk result (state.new ≡ record state.old { state = unlogged_of state.old.f state.old.me state.old.state body.now }) }
+    ensures { OnOk result (state.new ≡ record state.old { state = after_new_request state.old.f state.old.me state.old.state body.now }) }
 {
     if state.early().find(body.id).is_some() || state.is_full() {
         return Ok(());
@@ -105,7 +106,7 @@ fn unlogged(state: &mut ReplicaState, body: &TimedBody) -> Result<(), NoMemory>
 /// Replies to a request whose entry is at this place in the log.
 fn reply(state: &ReplicaState, id: Id, place: u32, sends: &mut Sends) -> Result<(), NoMemory>
     requires { place < length state.now.state.log.entries }
-    ensures { OnOk result (sends.new ≡ sends.old ++ map (parcel (IsReplica state.now.me)) (replies_at state.now.f state.now.me state.now.state id place)) }
+    ensures { OnOk result (sends.new ≡ sends.old ++ map (parcel (actors.Replica state.now.me)) (replies_at state.now.f state.now.me state.now.state id place)) }
 {
     if !state.leads() && place < state.log().synced() {
         state.reply_slowly(id, sends)

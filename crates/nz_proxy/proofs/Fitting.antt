@@ -5,20 +5,22 @@ use Rattle.std.specs.List.{AllByRecursion, list_any}
 use Rattle.nz_base.proofs.Booleans.{cases_bool}
 use Rattle.nz_store.specs.declared.command.Answer.{Answer}
 use Rattle.nz_msg.specs.declared.message.Path.{Path}
-use Rattle.nz_msg.specs.Fields.{answer as an_answer}
+use Rattle.nz_msg.specs.Fields.{answer}
 use Rattle.nz_machine.specs.declared.reply.Reply.{Reply}
 use Rattle.nz_machine.specs.Quorums.{Chosen, decision, answer_in, reply_eq, with_note}
 use Rattle.nz_quorum.specs.Tallies.{IsOfCluster}
 use Rattle.nz_quorum.proofs.Choosing.{chosen_is_first}
 use Rattle.nz_proxy.specs.declared.standing.Standing.{Standing}
 use Rattle.nz_proxy.specs.declared.standing.Standing.TheVariants.{Open, Decided}
-use Rattle.nz_proxy.specs.Standings.{IsFit, IsNotable, HasFitAnswer, with_reply, told_by, told_of, told}
+use Rattle.nz_proxy.specs.Standings.{IsFitStanding, IsNotable, HasFitAnswer, tally_with_reply, answer_on_path, answer_of_choice, answer_after_reply}
 
-each_more : (replies : List Reply) (reply : Reply) → AllByRecursion HasFitAnswer replies → HasFitAnswer reply → AllByRecursion HasFitAnswer (replies ++ reply ∷ [])
+each_more : (replies : List Reply) (reply : Reply) → AllByRecursion HasFitAnswer replies → HasFitAnswer reply
+    → AllByRecursion HasFitAnswer (replies ++ reply ∷ [])
 each_more [] reply all fit = (fit, tt)
 each_more (r ∷ replies) reply all fit = (all.0, each_more replies reply all.1 fit)
 
-pub fit_note : (replies : List Reply) (reply : Reply) → AllByRecursion HasFitAnswer replies → HasFitAnswer reply → AllByRecursion HasFitAnswer (with_note replies reply)
+pub fit_note : (replies : List Reply) (reply : Reply) → AllByRecursion HasFitAnswer replies → HasFitAnswer reply
+    → AllByRecursion HasFitAnswer (with_note replies reply)
 fit_note replies reply all fit =
     elim (cases_bool (list_any (reply_eq reply) replies)) [
       | inl there ↦ rw there all
@@ -29,32 +31,35 @@ middle : (before : List Reply) (reply : Reply) (behind : List Reply) → AllByRe
 middle [] reply behind all = all.0
 middle (r ∷ before) reply behind all = middle before reply behind all.1
 
-chosen_fits : (f : ℕ) (replies : List Reply) (chosen : Chosen) → AllByRecursion HasFitAnswer replies → decision f replies ≡ Some chosen → HasFitAnswer chosen.reply
+chosen_fits : (f : ℕ) (replies : List Reply) (chosen : Chosen) → AllByRecursion HasFitAnswer replies
+    → decision f replies ≡ Some chosen → HasFitAnswer chosen.reply
 chosen_fits f replies chosen all e =
     let first = chosen_is_first f replies chosen e in
     middle first.before chosen.reply first.behind (subst (λ (rs : List Reply). AllByRecursion HasFitAnswer rs) first.noted all)
 
-pub decided_fits : (f : ℕ) (replies : List Reply) (chosen : Chosen) (a : Answer) → AllByRecursion HasFitAnswer replies → decision f replies ≡ Some chosen → answer_in chosen.reply ≡ Some a → an_answer.fits a
+pub decided_fits : (f : ℕ) (replies : List Reply) (chosen : Chosen) (a : Answer) → AllByRecursion HasFitAnswer replies
+    → decision f replies ≡ Some chosen → answer_in chosen.reply ≡ Some a → answer.fits a
 decided_fits f replies chosen a all e is =
     let fit = chosen_fits f replies chosen all e in
-    subst (λ (o : Option Answer). IfSome o an_answer.fits) is fit.answer
+    subst (λ (o : Option Answer). IfSome o answer.fits) is fit.answer
 
-told_by_fits : (path : Path) (a : Option Answer) → IfSome a an_answer.fits → IfSome (told_by path a) (λ t. an_answer.fits t.0)
+told_by_fits : (path : Path) (a : Option Answer) → IfSome a answer.fits → IfSome (answer_on_path path a) (λ t. answer.fits t.0)
 told_by_fits path None fit = tt
 told_by_fits path (Some a) fit = fit
 
-told_of_fits : (f : ℕ) (replies : List Reply) (o : Option Chosen) → AllByRecursion HasFitAnswer replies → decision f replies ≡ o → IfSome (told_of o) (λ t. an_answer.fits t.0)
+told_of_fits : (f : ℕ) (replies : List Reply) (o : Option Chosen) → AllByRecursion HasFitAnswer replies
+    → decision f replies ≡ o → IfSome (answer_of_choice o) (λ t. answer.fits t.0)
 told_of_fits f replies None all e = tt
 told_of_fits f replies (Some chosen) all e =
     let fit = chosen_fits f replies chosen all e in
     told_by_fits chosen.path (answer_in chosen.reply) fit.answer
 
-pub told_fits : (f : ℕ) (s : Standing) (reply : Reply) → HasFitAnswer reply → IsFit f s → IfSome (told s reply) (λ t. an_answer.fits t.0)
+pub told_fits : (f : ℕ) (s : Standing) (reply : Reply) → HasFitAnswer reply → IsFitStanding f s → IfSome (answer_after_reply s reply) (λ t. answer.fits t.0)
 told_fits f (Decided a path) reply fit all = tt
 told_fits f (Open tally) reply fit all =
-    let t = with_reply tally reply in
+    let t = tally_with_reply tally reply in
     told_of_fits t.f t.replies (decision t.f t.replies) (fit_note tally.replies reply all.1 fit) refl
 
-pub notable : (f : ℕ) (s : Standing) (reply : Reply) → IsFit f s → IsOfCluster f reply → IsNotable s reply
+pub notable : (f : ℕ) (s : Standing) (reply : Reply) → IsFitStanding f s → IsOfCluster f reply → IsNotable s reply
 notable f (Decided a path) reply fit of_cluster = tt
 notable f (Open tally) reply fit of_cluster = subst (λ (n : ℕ). IsOfCluster n reply) (sym fit.0) of_cluster

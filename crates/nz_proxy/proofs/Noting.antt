@@ -11,13 +11,14 @@ use Rattle.nz_store.specs.declared.command.Answer.{Answer}
 use Rattle.nz_msg.specs.declared.message.Path.{Path}
 use Rattle.nz_machine.specs.declared.reply.Reply.{Reply}
 use Rattle.nz_machine.specs.State.{ProxyData}
-use Rattle.nz_machine.specs.State.{Standing as Known}
+use Rattle.nz_machine.specs.State.{Standing as StandingModel}
 use Rattle.nz_machine.specs.Quorums.{Chosen, decision, answer_in}
-use Rattle.nz_machine.specs.Proxies.{with_standing, answered, decided_as, noted_in}
+use Rattle.nz_machine.specs.Proxies.{with_standing, after_chosen_answer, after_choice, after_replica_reply}
 use Rattle.nz_quorum.specs.Tallies.{TallyData}
 use Rattle.nz_proxy.specs.declared.standing.Standing.{Standing}
 use Rattle.nz_proxy.specs.declared.standing.Standing.TheVariants.{Open, Decided}
-use Rattle.nz_proxy.specs.Standings.{known, known_all, IsFit, settled_by, settled, with_reply, noted, told_by, told_of, told, answers_to}
+use Rattle.nz_proxy.specs.Standings.{known_standing, known_standings, IsFitStanding, standing_on_path, standing_of_choice, tally_with_reply}
+use Rattle.nz_proxy.specs.Standings.{standing_with_reply, answer_on_path, answer_of_choice, answer_after_reply, answers_to_client}
 use Rattle.nz_proxy.proofs.Tables.{known_insert, known_lookup, set_is_insert}
 
 -- what a success shows, of two facts of it
@@ -33,49 +34,58 @@ pub ok_always : {A E : Type 0} (r : Result A E) (P : A → Type 0) → ((a : A) 
 ok_always (Ok a) P f = f a
 ok_always (Err e) P f = tt
 
-insert_same : (es : List (Id × Known)) (id : Id) (s : Known) → lookup (id_eq id) es ≡ Some s → insert_entry id_eq es id s ≡ es
+insert_same : (es : List (Id × StandingModel)) (id : Id) (s : StandingModel) → lookup (id_eq id) es ≡ Some s → insert_entry id_eq es id s ≡ es
 insert_same [] id s h = absurd cc
 insert_same (e ∷ es) id s h =
     elim (cases_bool (id_eq id e.0)) [
       | inl here ↦
           let found : Some e.1 ≡ Some s = rw here at h in
           let same : e.1 ≡ s = cc in
-          rw here (ap (λ (v : Known). (e.0, v) ∷ es) (sym same))
-      | inr away ↦ rw away (ap (λ (rest : List (Id × Known)). e ∷ rest) (insert_same es id s (rw away at h)))
+          rw here (ap (λ (v : StandingModel). (e.0, v) ∷ es) (sym same))
+      | inr away ↦ rw away (ap (λ (rest : List (Id × StandingModel)). e ∷ rest) (insert_same es id s (rw away at h)))
     ]
 
-answers : (s : ProxyData) (id : Id) (tally : TallyData) (path : Path) (a : Option Answer) → answered s id tally.replies path a ≡ (with_standing s id (known (settled_by tally path a)), answers_to id (told_by path a))
+answers : (s : ProxyData) (id : Id) (tally : TallyData) (path : Path) (a : Option Answer)
+    → after_chosen_answer s id tally.replies path a
+    ≡ (with_standing s id (known_standing (standing_on_path tally path a)), answers_to_client id (answer_on_path path a))
 answers s id tally path None = refl
 answers s id tally path (Some a) = refl
 
-decides : (s : ProxyData) (id : Id) (tally : TallyData) (o : Option Chosen) → decided_as s id tally.replies o ≡ (with_standing s id (known (settled tally o)), answers_to id (told_of o))
+decides : (s : ProxyData) (id : Id) (tally : TallyData) (o : Option Chosen)
+    → after_choice s id tally.replies o ≡ (with_standing s id (known_standing (standing_of_choice tally o)), answers_to_client id (answer_of_choice o))
 decides s id tally None = refl
 decides s id tally (Some chosen) = answers s id tally chosen.path (answer_in chosen.reply)
 
-rule_notes : (f : ℕ) (s : ProxyData) (id : Id) (k : Standing) (reply : Reply) → IsFit f k → lookup (id_eq id) s.standings ≡ Some (known k)
-    → noted_in f s id reply (Some (known k)) ≡ (with_standing s id (known (noted k reply)), answers_to id (told k reply))
-rule_notes f s id (Decided a path) reply fit found = ap (λ (es : List (Id × Known)). (record s { standings = es }, [])) (sym (insert_same s.standings id (known (Decided a path)) found))
+rule_notes : (f : ℕ) (s : ProxyData) (id : Id) (k : Standing) (reply : Reply) → IsFitStanding f k → lookup (id_eq id) s.standings ≡ Some (known_standing k)
+    → after_replica_reply f s id reply (Some (known_standing k))
+    ≡ (with_standing s id (known_standing (standing_with_reply k reply)), answers_to_client id (answer_after_reply k reply))
+rule_notes f s id (Decided a path) reply fit found =
+    ap (λ (es : List (Id × StandingModel)). (record s { standings = es }, []))
+    (sym (insert_same s.standings id (known_standing (Decided a path)) found))
 rule_notes f s id (Open tally) reply fit found =
-    let t = with_reply tally reply in
-    ap (λ (n : ℕ). decided_as s id t.replies (decision n t.replies)) (sym fit.0) ∙ decides s id t (decision t.f t.replies)
+    let t = tally_with_reply tally reply in
+    ap (λ (n : ℕ). after_choice s id t.replies (decision n t.replies)) (sym fit.0) ∙ decides s id t (decision t.f t.replies)
 
 -- the state with other standings
 abbrev pub with_all : ProxyData → List (Id × Standing) → ProxyData
-with_all s entries = record s { standings = known_all entries }
+with_all s entries = record s { standings = known_standings entries }
 
 pub notes_none : (f : ℕ) (s : ProxyData) (es : List (Id × Standing)) (id : Id) (reply : Reply) → lookup (id_eq id) es ≡ None
-    → noted_in f (with_all s es) id reply (lookup (id_eq id) (known_all es)) ≡ (with_all s es, [])
+    → after_replica_reply f (with_all s es) id reply (lookup (id_eq id) (known_standings es)) ≡ (with_all s es, [])
 notes_none f s es id reply h =
-    ap (noted_in f (with_all s es) id reply) (sym (known_lookup id es) ∙ ap (option_map known) h)
+    ap (after_replica_reply f (with_all s es) id reply) (sym (known_lookup id es) ∙ ap (option_map known_standing) h)
 
-pub notes_some : (f : ℕ) (s : ProxyData) (es after : List (Id × Standing)) (id : Id) (k new : Standing) (reply : Reply) (t : Option (Answer × Path)) → IsFit f k → lookup (id_eq id) es ≡ Some k
-    → after ≡ set_value (id_eq id) es new → new ≡ noted k reply → t ≡ told k reply
-    → noted_in f (with_all s es) id reply (lookup (id_eq id) (known_all es)) ≡ (with_all s after, answers_to id t)
+pub notes_some : (f : ℕ) (s : ProxyData) (es after : List (Id × Standing)) (id : Id) (k new : Standing)
+    (reply : Reply) (t : Option (Answer × Path)) → IsFitStanding f k → lookup (id_eq id) es ≡ Some k
+    → after ≡ set_value (id_eq id) es new → new ≡ standing_with_reply k reply → t ≡ answer_after_reply k reply
+    → after_replica_reply f (with_all s es) id reply (lookup (id_eq id) (known_standings es)) ≡ (with_all s after, answers_to_client id t)
 notes_some f s es after id k new reply t fit h is new_is t_is =
-    let found : lookup (id_eq id) (known_all es) ≡ Some (known k) = sym (known_lookup id es) ∙ ap (option_map known) h in
+    let found : lookup (id_eq id) (known_standings es) ≡ Some (known_standing k) = sym (known_lookup id es) ∙ ap (option_map known_standing) h in
     let there = set_is_insert es id new (ap is_some h) in
-    let entries : known_all after ≡ insert_entry id_eq (known_all es) id (known (noted k reply)) = ap known_all (is ∙ there) ∙ known_insert es id new ∙ ap (λ (x : Standing). insert_entry id_eq (known_all es) id (known x)) new_is in
-    ap (noted_in f (with_all s es) id reply) found
+    let entries : known_standings after ≡ insert_entry id_eq (known_standings es) id (known_standing (standing_with_reply k reply)) =
+    ap known_standings (is ∙ there) ∙ known_insert es id new
+    ∙ ap (λ (x : Standing). insert_entry id_eq (known_standings es) id (known_standing x)) new_is in
+    ap (after_replica_reply f (with_all s es) id reply) found
     ∙ rule_notes f (with_all s es) id k reply fit found
-    ∙ ap (λ (xs : List (Id × Known)). (record s { standings = xs }, answers_to id (told k reply))) (sym entries)
-    ∙ ap (λ (x : Option (Answer × Path)). (with_all s after, answers_to id x)) (sym t_is)
+    ∙ ap (λ (xs : List (Id × StandingModel)). (record s { standings = xs }, answers_to_client id (answer_after_reply k reply))) (sym entries)
+    ∙ ap (λ (x : Option (Answer × Path)). (with_all s after, answers_to_client id x)) (sym t_is)

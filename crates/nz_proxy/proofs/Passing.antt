@@ -6,21 +6,21 @@ use Rattle.nz_base.proofs.Booleans.{cases_bool}
 use Rattle.nz_msg.specs.declared.envelope.Envelope.{Envelope}
 use Rattle.nz_machine.specs.declared.event.Parcel.{Parcel}
 use Rattle.nz_machine.specs.State.{ProxyData, Out}
-use Rattle.nz_machine.specs.Step.{is_in_cluster, is_sized, vector_of, counted, envelope_step}
-use Rattle.nz_proxy.specs.Seats.{group_of}
+use Rattle.nz_machine.specs.Step.{is_in_cluster, is_sized, message_vector, if_from_cluster, envelope_step}
+use Rattle.nz_proxy.specs.Seats.{group_with_cluster}
 
 -- where nothing is sent
 pub nothing_sent : (f : Out → Parcel) (sends : List Parcel) (outs : List Out) → outs ≡ [] → sends ≡ sends ++ map f outs
 nothing_sent f sends outs none = sym (append-nil sends) ∙ ap (λ (os : List Out). sends ++ map f os) (sym none)
 
 abbrev pub counts : ℕ → Envelope → Bool
-counts f e = is_in_cluster f e.from && is_sized f (vector_of e.message)
+counts f e = is_in_cluster f e.from && is_sized f (message_vector e.message)
 
 pub passed_over : (f me : ℕ) (s : ProxyData) (o : Option Envelope) (e : Envelope) → o ≡ Some e → (s.is_down ≡ true) ⊎ (counts f e ≡ false)
-    → envelope_step (group_of f) (Proxy me) s (counted f o) ≡ (s, [])
-passed_over f me s o e is (inr stray) = ap (λ x. envelope_step (group_of f) (Proxy me) s (counted f x)) is ∙ (rw stray refl)
+    → envelope_step (group_with_cluster f) (Proxy me) s (if_from_cluster f o) ≡ (s, [])
+passed_over f me s o e is (inr stray) = ap (λ x. envelope_step (group_with_cluster f) (Proxy me) s (if_from_cluster f x)) is ∙ (rw stray refl)
 passed_over f me s o e is (inl down) =
-    ap (λ x. envelope_step (group_of f) (Proxy me) s (counted f x)) is
+    ap (λ x. envelope_step (group_with_cluster f) (Proxy me) s (if_from_cluster f x)) is
     ∙ elim (cases_bool (counts f e)) [
       | inl here ↦ rw (here, down) refl
       | inr stray ↦ rw stray refl

@@ -9,11 +9,11 @@ use Rattle.nz_base.specs.declared.key.Id.{Id}
 use Rattle.nz_base.specs.Key.{id_eq}
 use Rattle.nz_base.proofs.Booleans.{cases_bool}
 use Rattle.nz_base.proofs.Names.{same_id}
-use Rattle.nz_machine.specs.State.{Standing as Known}
+use Rattle.nz_machine.specs.State.{Standing as StandingModel}
 use Rattle.nz_proxy.specs.declared.standing.Standing.{Standing}
-use Rattle.nz_proxy.specs.Standings.{known, known_all, IsFit, IsFitEntry}
+use Rattle.nz_proxy.specs.Standings.{known_standing, known_standings, IsFitStanding, IsFitEntry}
 
-pub known_lookup : (id : Id) (es : List (Id × Standing)) → option_map known (lookup (id_eq id) es) ≡ lookup (id_eq id) (known_all es)
+pub known_lookup : (id : Id) (es : List (Id × Standing)) → option_map known_standing (lookup (id_eq id) es) ≡ lookup (id_eq id) (known_standings es)
 known_lookup id [] = refl
 known_lookup id (e ∷ es) =
     elim (cases_bool (id_eq id e.0)) [
@@ -21,16 +21,18 @@ known_lookup id (e ∷ es) =
       | inr away ↦ rw away (known_lookup id es)
     ]
 
-pub known_insert : (es : List (Id × Standing)) (id : Id) (s : Standing) → known_all (insert_entry id_eq es id s) ≡ insert_entry id_eq (known_all es) id (known s)
+pub known_insert : (es : List (Id × Standing)) (id : Id) (s : Standing)
+    → known_standings (insert_entry id_eq es id s) ≡ insert_entry id_eq (known_standings es) id (known_standing s)
 known_insert [] id s = refl
 known_insert (e ∷ es) id s =
     elim (cases_bool (id_eq id e.0)) [
       | inl here ↦ rw here refl
-      | inr away ↦ rw away (ap (λ (rest : List (Id × Known)). (e.0, known e.1) ∷ rest) (known_insert es id s))
+      | inr away ↦ rw away (ap (λ (rest : List (Id × StandingModel)). (e.0, known_standing e.1) ∷ rest) (known_insert es id s))
     ]
 
 -- a value that is there is written over
-pub set_is_insert : (es : List (Id × Standing)) (id : Id) (s : Standing) → IsSome (lookup (id_eq id) es) → set_value (id_eq id) es s ≡ insert_entry id_eq es id s
+pub set_is_insert : (es : List (Id × Standing)) (id : Id) (s : Standing) → IsSome (lookup (id_eq id) es)
+    → set_value (id_eq id) es s ≡ insert_entry id_eq es id s
 set_is_insert [] id s there = absurd cc
 set_is_insert (e ∷ es) id s there =
     elim (cases_bool (id_eq id e.0)) [
@@ -38,7 +40,8 @@ set_is_insert (e ∷ es) id s there =
       | inr away ↦ rw away (ap (λ (rest : List (Id × Standing)). e ∷ rest) (set_is_insert es id s (rw away at there)))
     ]
 
-pub fit_insert : (f : ℕ) (es : List (Id × Standing)) (id : Id) (s : Standing) → id.client ≤ 63 → IsFit f s → AllByRecursion (IsFitEntry f) es → AllByRecursion (IsFitEntry f) (insert_entry id_eq es id s)
+pub fit_insert : (f : ℕ) (es : List (Id × Standing)) (id : Id) (s : Standing) → id.client ≤ 63 → IsFitStanding f s
+    → AllByRecursion (IsFitEntry f) es → AllByRecursion (IsFitEntry f) (insert_entry id_eq es id s)
 fit_insert f [] id s client fit all = (record { client = client; standing = fit }, tt)
 fit_insert f (e ∷ es) id s client fit all =
     elim (cases_bool (id_eq id e.0)) [
@@ -49,7 +52,7 @@ fit_insert f (e ∷ es) id s client fit all =
 -- what is found is fit, and of a client
 pub record IsFound (f : ℕ) (id : Id) (s : Standing) : Type 0 where
   pub client : id.client ≤ 63
-  pub standing : IsFit f s
+  pub standing : IsFitStanding f s
 
 pub fit_lookup : (f : ℕ) (id : Id) (es : List (Id × Standing)) → AllByRecursion (IsFitEntry f) es → IfSome (lookup (id_eq id) es) (IsFound f id)
 fit_lookup f id [] all = tt
@@ -61,15 +64,17 @@ fit_lookup f id (e ∷ es) all =
 
 -- ---- of what is lent
 
-pub known_behind : (o : Option (Bor Standing)) → option_map {U = Known} (λ s. known s.now) o ≡ option_map known (option_copied o)
+pub known_behind : (o : Option (Bor Standing)) → option_map {U = StandingModel} (λ s. known_standing s.now) o ≡ option_map known_standing (option_copied o)
 known_behind None = refl
 known_behind (Some s) = refl
 
-pub fit_behind : (f : ℕ) (id : Id) (o : Option (Bor Standing)) (x : Option Standing) → option_copied o ≡ x → IfSome x (IsFound f id) → IfSome o (λ s. IsFit f s.now)
+pub fit_behind : (f : ℕ) (id : Id) (o : Option (Bor Standing)) (x : Option Standing) → option_copied o ≡ x
+    → IfSome x (IsFound f id) → IfSome o (λ s. IsFitStanding f s.now)
 fit_behind f id None x e fit = tt
 fit_behind f id (Some s) x e fit = let found = subst (λ (y : Option Standing). IfSome y (IsFound f id)) (sym e) fit in found.standing
 
-pub fit_set : (f : ℕ) (es : List (Id × Standing)) (id : Id) (s : Standing) → IsFit f s → AllByRecursion (IsFitEntry f) es → AllByRecursion (IsFitEntry f) (set_value (id_eq id) es s)
+pub fit_set : (f : ℕ) (es : List (Id × Standing)) (id : Id) (s : Standing) → IsFitStanding f s
+    → AllByRecursion (IsFitEntry f) es → AllByRecursion (IsFitEntry f) (set_value (id_eq id) es s)
 fit_set f [] id s fit all = tt
 fit_set f (e ∷ es) id s fit all =
     elim (cases_bool (id_eq id e.0)) [

@@ -16,18 +16,18 @@ pub record ProxySeat : Type 0 where
   pub state : ProxyData
 
 -- What the code keeps of a proxy's parts.
-pub record IsKept (f me clock : ℕ) (samples : List (List ℕ)) (entries : List (Id × Standing)) : Type 0 where
+pub record IsKeptProxy (f me clock : ℕ) (samples : List (List ℕ)) (entries : List (Id × Standing)) : Type 0 where
   pub named : me ≤ 7
   pub in_time : clock ≤ last_clock
   pub window : length samples ≡ replica_count f
   pub standings : AllByRecursion (IsFitEntry f) entries
 
 -- A group with this cluster. No rule of a proxy asks for more of it.
-abbrev pub group_of : ℕ → Group
-group_of f = record { f = f; proxies = 0; window = 0; scripts = [] }
+abbrev pub group_with_cluster : ℕ → Group
+group_with_cluster f = record { f = f; proxies = 0; window = 0; scripts = [] }
 
 -- One proxy, maybe in another state.
-pub record IsSame (a b : ProxySeat) : Type 0 where
+pub record IsSameProxy (a b : ProxySeat) : Type 0 where
   pub f : b.f ≡ a.f
   pub me : b.me ≡ a.me
 
@@ -37,5 +37,5 @@ pub record ProxyView : Type 0 where
   pub live : Bool
 
 -- The state after a tick.
-abbrev pub ticked : ProxyData → ℕ → ProxyData
-ticked s clock = if s.is_down then s else clock_rule s clock
+abbrev pub proxy_after_tick : ProxyData → ℕ → ProxyData
+proxy_after_tick s clock = if s.is_down then s else clock_rule s clock

@@ -5,9 +5,9 @@ use Rattle.nz_msg.specs.declared.message.Message.{Message}
 use Rattle.nz_machine.specs.State.{Out}
 
 -- A message for a replica.
-abbrev pub to_replica : Message → ℕ → Out
-to_replica message replica = (Replica replica, message)
+abbrev pub parcel_to_replica : Message → ℕ → Out
+parcel_to_replica message replica = (Replica replica, message)
 
 -- A message for each of some replicas.
 abbrev pub to_each : Message → List ℕ → List Out
-to_each message replicas = map (to_replica message) replicas
+to_each message replicas = map (parcel_to_replica message) replicas

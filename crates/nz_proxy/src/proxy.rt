@@ -3,11 +3,13 @@
 ghost use Rattle.std.specs.Prelude.{◌≡◌, ◌<◌, ◌≤◌, ◌++◌, Some, true, map, length, OnOk, IsTrue};
 ghost use Rattle.nz_base.specs.Actor.{HasAddress};
 ghost use Rattle.nz_base.specs.Cluster.{replica_count};
-ghost use Rattle.nz_base.specs.declared.actor.Actor.TheVariants.{Proxy as IsProxy};
+ghost use Rattle.nz_base.specs.declared.actor.Actor.TheVariants as actors;
 ghost use Rattle.nz_msg.specs.Messages.{Fits, fast_reply, slow_reply};
-ghost use Rattle.nz_machine.specs.Proxies.{first_proxy, crashed_proxy, restarted_proxy, reply_rule as reply_rule_of, of_fast, of_slow};
-ghost use Rattle.nz_machine.specs.Step.{node_step, envelope_step, counted, received, parcel, is_in_cluster, is_sized, vector_of, proxy_message};
-ghost use Rattle.nz_proxy.specs.Seats.{IsSame, group_of, ticked};
+ghost use Rattle.nz_machine.specs.Proxies as proxies;
+ghost use Rattle.nz_machine.specs.Proxies.{first_proxy, crashed_proxy, restarted_proxy, of_fast, of_slow};
+ghost use Rattle.nz_machine.specs.Step.{node_step, envelope_step, if_from_cluster, accepted_envelope, parcel};
+ghost use Rattle.nz_machine.specs.Step.{is_in_cluster, is_sized, message_vector, proxy_message};
+ghost use Rattle.nz_proxy.specs.Seats.{IsSameProxy, group_with_cluster, proxy_after_tick};
 
 use crate::state::{ProxyState, clock_rule, reply_rule, stamp_rule};
 use nz_base::{Actor, Cluster, NoMemory};
@@ -68,9 +70,14 @@ fn take_fast(
     requires replica { replica < replica_count state.old.f }
     requires vector { length body.vector ≡ replica_count state.old.f }
     requires body { fast_reply.fits body }
-    ensures same { IsSame state.old state.new }
-    ensures state { OnOk result (state.new ≡ record state.old { state = (reply_rule_of state.old.f state.old.state replica body.id body.delay (of_fast replica body)).0 }) }
-    ensures sends { OnOk result (sends.new ≡ sends.old ++ map (parcel (IsProxy state.old.me)) (reply_rule_of state.old.f state.old.state replica body.id body.delay (of_fast replica body)).1) }
+    ensures same { IsSameProxy state.old state.new }
+    ensures state { OnOk result (state.new ≡ record state.old {
+      state = (proxies.reply_rule state.old.f state.old.state
+          replica body.id body.delay (of_fast replica body)).0;
+    }) }
+    ensures sends { OnOk result (sends.new ≡ sends.old
+        ++ map (parcel (actors.Proxy state.old.me))
+        (proxies.reply_rule state.old.f state.old.state replica body.id body.delay (of_fast replica body)).1) }
 {
     let reply = Reply::Fast {
         replica,
@@ -89,9 +96,14 @@ fn take_slow(
     sends: &mut Sends,
 ) -> Result<(), NoMemory>
     requires { replica < replica_count state.old.f }
-    ensures same { IsSame state.old state.new }
-    ensures state { OnOk result (state.new ≡ record state.old { state = (reply_rule_of state.old.f state.old.state replica body.id body.delay (of_slow replica body)).0 }) }
-    ensures sends { OnOk result (sends.new ≡ sends.old ++ map (parcel (IsProxy state.old.me)) (reply_rule_of state.old.f state.old.state replica body.id body.delay (of_slow replica body)).1) }
+    ensures same { IsSameProxy state.old state.new }
+    ensures state { OnOk result (state.new ≡ record state.old {
+      state = (proxies.reply_rule state.old.f state.old.state
+          replica body.id body.delay (of_slow replica body)).0;
+    }) }
+    ensures sends { OnOk result (sends.new ≡ sends.old
+        ++ map (parcel (actors.Proxy state.old.me))
+        (proxies.reply_rule state.old.f state.old.state replica body.id body.delay (of_slow replica body)).1) }
 {
     let reply = Reply::Slow {
         replica,
@@ -105,10 +117,11 @@ fn handle(state: &mut ProxyState, envelope: Envelope, sends: &mut Sends) -> Resu
     requires from { HasAddress envelope.from }
     requires message { Fits envelope.message }
     requires sender { IsTrue (is_in_cluster state.old.f envelope.from) }
-    requires vector { IsTrue (is_sized state.old.f (vector_of envelope.message)) }
-    ensures same { IsSame state.old state.new }
+    requires vector { IsTrue (is_sized state.old.f (message_vector envelope.message)) }
+    ensures same { IsSameProxy state.old state.new }
     ensures state { OnOk result (state.new ≡ record state.old { state = (proxy_message state.old.f state.old.state envelope.from envelope.message).0 }) }
-    ensures sends { OnOk result (sends.new ≡ sends.old ++ map (parcel (IsProxy state.old.me)) (proxy_message state.old.f state.old.state envelope.from envelope.message).1) }
+    ensures sends { OnOk result (sends.new ≡ sends.old
+        ++ map (parcel (actors.Proxy state.old.me)) (proxy_message state.old.f state.old.state envelope.from envelope.message).1) }
 {
     match (envelope.from, envelope.message) {
         (Actor::Client(client), Message::Request(body)) => stamp_rule(state, client, body, sends),
@@ -123,9 +136,15 @@ fn handle(state: &mut ProxyState, envelope: Envelope, sends: &mut Sends) -> Resu
 }
 
 fn deliver(state: &mut ProxyState, p: &Parcel, sends: &mut Sends) -> Result<(), NoMemory>
-    ensures same { IsSame state.old state.new }
-    ensures state { OnOk result (state.new ≡ record state.old { state = (envelope_step (group_of state.old.f) (IsProxy state.old.me) state.old.state (received state.old.f (IsProxy state.old.me) p.now)).0 }) }
-    ensures sends { OnOk result (sends.new ≡ sends.old ++ map (parcel (IsProxy state.old.me)) (envelope_step (group_of state.old.f) (IsProxy state.old.me) state.old.state (received state.old.f (IsProxy state.old.me) p.now)).1) }
+    ensures same { IsSameProxy state.old state.new }
+    ensures state { OnOk result (state.new ≡ record state.old {
+      state = (envelope_step (group_with_cluster state.old.f)
+          (actors.Proxy state.old.me) state.old.state (accepted_envelope state.old.f (actors.Proxy state.old.me) p.now)).0;
+    }) }
+    ensures sends { OnOk result (sends.new ≡ sends.old
+        ++ map (parcel (actors.Proxy state.old.me))
+        (envelope_step (group_with_cluster state.old.f) (actors.Proxy state.old.me) state.old.state
+        (accepted_envelope state.old.f (actors.Proxy state.old.me) p.now)).1) }
 {
     match heard(state.allocator(), state.name(), p)? {
         None => Ok(()),
@@ -139,7 +158,7 @@ fn deliver(state: &mut ProxyState, p: &Parcel, sends: &mut Sends) -> Result<(), 
 }
 
 fn tick(state: &mut ProxyState, clock: u64)
-    ensures { state.new ≡ record state.old { state = ticked state.old.state clock } }
+    ensures { state.new ≡ record state.old { state = proxy_after_tick state.old.state clock } }
 {
     if !state.is_down() {
         clock_rule(state, clock);
@@ -147,9 +166,13 @@ fn tick(state: &mut ProxyState, clock: u64)
 }
 
 fn take(state: &mut ProxyState, event: &Event, sends: &mut Sends) -> Result<(), NoMemory>
-    ensures same { IsSame state.old state.new }
-    ensures state { OnOk result (state.new ≡ record state.old { state = (node_step (group_of state.old.f) (IsProxy state.old.me) state.old.state event.now).0 }) }
-    ensures sends { OnOk result (sends.new ≡ sends.old ++ (node_step (group_of state.old.f) (IsProxy state.old.me) state.old.state event.now).1) }
+    ensures same { IsSameProxy state.old state.new }
+    ensures state { OnOk result (state.new ≡ record state.old {
+      state = (node_step (group_with_cluster state.old.f)
+          (actors.Proxy state.old.me) state.old.state event.now).0;
+    }) }
+    ensures sends { OnOk result (sends.new ≡ sends.old
+        ++ (node_step (group_with_cluster state.old.f) (actors.Proxy state.old.me) state.old.state event.now).1) }
 {
     match event {
         Event::Deliver(p) => deliver(state, p, sends),
@@ -171,9 +194,9 @@ fn take(state: &mut ProxyState, event: &Event, sends: &mut Sends) -> Result<(), 
 
 impl Core for Proxy {
     ghost use Rattle.std.specs.Prelude.{◌≡◌};
-    ghost use Rattle.nz_base.specs.declared.actor.Actor.TheVariants.{Proxy as IsProxy};
+    ghost use Rattle.nz_base.specs.declared.actor.Actor.TheVariants as actors;
 
-    ghost meaning = { λ p. record { actor = IsProxy p.seat.me; state = p.seat.state } };
+    ghost meaning = { λ p. record { actor = actors.Proxy p.seat.me; state = p.seat.state } };
 
     ghost live = { λ p. p.live };
 

@@ -1,7 +1,7 @@
 //! What a proxy knows of a request.
 
 ghost use Rattle.std.specs.Prelude.{◌≡◌, ℕ, IfOk, OnOk};
-ghost use Rattle.nz_proxy.specs.Standings.{IsNotable, IsFit, HasFitAnswer, noted, told};
+ghost use Rattle.nz_proxy.specs.Standings.{IsNotable, IsFitStanding, HasFitAnswer, standing_with_reply, answer_after_reply};
 
 use nz_base::NoMemory;
 use nz_machine::{Reply, copy_answer};
@@ -21,9 +21,9 @@ impl Standing {
     /// Notes a reply to an open request. Where the replies decide now, gives the answer for the client.
     pub fn note(&mut self, alloc: Global, reply: Reply) -> Result<Option<(Answer, Path)>, NoMemory>
         requires { IsNotable self.old reply }
-        ensures standing { OnOk result (self.new ≡ noted self.old reply) }
-        ensures told { IfOk result (λ answer. answer ≡ told self.old reply) }
-        ensures fit { (f : ℕ) → HasFitAnswer reply → IsFit f self.old → IsFit f self.new }
+        ensures standing { OnOk result (self.new ≡ standing_with_reply self.old reply) }
+        ensures told { IfOk result (λ answer. answer ≡ answer_after_reply self.old reply) }
+        ensures fit { (f : ℕ) → HasFitAnswer reply → IsFitStanding f self.old → IsFitStanding f self.new }
     {
         match self {
             Standing::Decided { .. } => Ok(None),

@@ -4,18 +4,21 @@ ghost use Rattle.std.specs.Prelude.{◌≡◌, ◌+◌, ◌-◌, ◌^◌, ◌<�
 ghost use Rattle.std.specs.Option.{option_map};
 ghost use Rattle.nz_base.specs.Actor.{HasAddress};
 ghost use Rattle.nz_base.specs.Cluster.{replica_count};
-ghost use Rattle.nz_base.specs.declared.actor.Actor.TheVariants.{Proxy as IsProxy};
-ghost use Rattle.nz_msg.specs.Fields.{answer as an_answer, command as a_command};
-ghost use Rattle.nz_msg.specs.Messages.{Fits, request as a_request, timed as a_timed};
-ghost use Rattle.nz_machine.specs.State.{Standing as Known, Open as IsOpen};
-ghost use Rattle.nz_machine.specs.Proxies.{first_proxy, margin, with_standing, standing_of, answer_to, timed_to, timed_to_all, stamp_rule as stamp_rule_of, noted_in, reply_rule as reply_rule_of, clock_rule as clock_rule_of, crashed_proxy, restarted_proxy};
+ghost use Rattle.nz_base.specs.declared.actor.Actor.TheVariants as actors;
+ghost use Rattle.nz_msg.specs.Fields as fields;
+ghost use Rattle.nz_msg.specs.Messages as messages;
+ghost use Rattle.nz_msg.specs.Messages.{Fits};
+ghost use Rattle.nz_machine.specs.State.{Standing as StandingModel, Open as OpenModel};
+ghost use Rattle.nz_machine.specs.Proxies as proxies;
+ghost use Rattle.nz_machine.specs.Proxies.{first_proxy, margin, with_standing, standing_of, answer_to_client, timed_to};
+ghost use Rattle.nz_machine.specs.Proxies.{timed_to_all, after_replica_reply, crashed_proxy, restarted_proxy};
 ghost use Rattle.nz_machine.specs.Replicas.{numbers_below};
 ghost use Rattle.nz_machine.specs.Step.{parcel};
 ghost use Rattle.nz_quorum.specs.Tallies.{IsOfCluster, replica_of};
-ghost use Rattle.nz_window.specs.Samples.{bound_of, sampled};
-ghost use Rattle.nz_proxy.specs.Standings.{known, IsFit, HasFitAnswer, answers_to};
+ghost use Rattle.nz_window.specs.Samples.{bound_of, with_sample};
+ghost use Rattle.nz_proxy.specs.Standings.{known_standing, IsFitStanding, HasFitAnswer, answers_to_client};
 ghost use Rattle.nz_proxy.specs.Sending.{to_each};
-ghost use Rattle.nz_proxy.specs.Seats.{IsSame};
+ghost use Rattle.nz_proxy.specs.Seats.{IsSameProxy};
 
 use crate::standing::Standing;
 use indexmap::IndexMap;
@@ -47,14 +50,18 @@ pub struct ProxyState {
 }
 
 impl Model for ProxyState {
-    ghost use Rattle.nz_proxy.specs.Standings.{known_all};
-    ghost use Rattle.nz_proxy.specs.Seats.{ProxySeat, IsKept};
+    ghost use Rattle.nz_proxy.specs.Standings.{known_standings};
+    ghost use Rattle.nz_proxy.specs.Seats.{ProxySeat, IsKeptProxy};
 
     ghost Value = { ProxySeat };
 
-    ghost view = { λ s. record { f = s.cluster; me = s.me; state = record { is_down = s.is_down; clock = s.clock; samples = s.window; standings = known_all s.standings.entries } } };
+    ghost view = { λ s. record {
+      f = s.cluster;
+      me = s.me;
+      state = record { is_down = s.is_down; clock = s.clock; samples = s.window; standings = known_standings s.standings.entries };
+    } };
 
-    ghost invariant = { λ s. IsKept s.cluster s.me s.clock s.window s.standings.entries };
+    ghost invariant = { λ s. IsKeptProxy s.cluster s.me s.clock s.window s.standings.entries };
 }
 
 impl ProxyState {
@@ -76,7 +83,7 @@ impl ProxyState {
 
     /// The actor's name.
     pub fn name(&self) -> Actor
-        ensures name { result ≡ IsProxy self.now.me }
+        ensures name { result ≡ actors.Proxy self.now.me }
         ensures address { HasAddress result }
     {
         Actor::Proxy(self.me)
@@ -117,8 +124,8 @@ impl ProxyState {
 
     /// What is known of a request.
     fn standing(&self, id: Id) -> Option<&Standing>
-        ensures value { option_map {U = Known} (λ s. known s.now) result ≡ standing_of self.now.state id }
-        ensures fit { IfSome result (λ s. IsFit self.now.f s.now) }
+        ensures value { option_map {U = StandingModel} (λ s. known_standing s.now) result ≡ standing_of self.now.state id }
+        ensures fit { IfSome result (λ s. IsFitStanding self.now.f s.now) }
     {
         self.standings.get(&id)
     }
@@ -133,9 +140,9 @@ impl ProxyState {
 
     fn set_standing(&mut self, id: Id, standing: Standing) -> Result<(), NoMemory>
         requires client { id.client ≤ 63 }
-        requires fit { IsFit self.old.f standing }
-        ensures same { IsSame self.old self.new }
-        ensures state { OnOk result (self.new ≡ record self.old { state = with_standing self.old.state id (known standing) }) }
+        requires fit { IsFitStanding self.old.f standing }
+        ensures same { IsSameProxy self.old self.new }
+        ensures state { OnOk result (self.new ≡ record self.old { state = with_standing self.old.state id (known_standing standing) }) }
     {
         self.standings.insert(id, standing)?;
         Ok(())
@@ -143,7 +150,7 @@ impl ProxyState {
 
     fn sample(&mut self, replica: u8, delay: u32)
         requires { replica < replica_count self.old.f }
-        ensures { self.new ≡ record self.old { state = record self.old.state { samples = sampled self.old.state.samples replica delay } } }
+        ensures { self.new ≡ record self.old { state = record self.old.state { samples = with_sample self.old.state.samples replica delay } } }
     {
         self.window.sample(replica, delay);
     }
@@ -152,10 +159,11 @@ impl ProxyState {
     fn note(&mut self, id: Id, reply: Reply) -> Result<Option<(Answer, Path)>, NoMemory>
         requires reply { IsOfCluster self.old.f reply }
         requires answer { HasFitAnswer reply }
-        ensures same { IsSame self.old self.new }
-        ensures state { IfOk result (λ told. noted_in self.old.f self.old.state id reply (standing_of self.old.state id) ≡ (self.new.state, answers_to id told)) }
+        ensures same { IsSameProxy self.old self.new }
+        ensures state { IfOk result (λ told. after_replica_reply self.old.f self.old.state id reply
+            (standing_of self.old.state id) ≡ (self.new.state, answers_to_client id told)) }
         ensures client { IfOk result (λ told. IsSome told → id.client ≤ 63) }
-        ensures fit { IfOk result (λ told. IfSome told (λ t. an_answer.fits t.0)) }
+        ensures fit { IfOk result (λ told. IfSome told (λ t. fields.answer.fits t.0)) }
     {
         let alloc = self.alloc;
         match self.standings.get_mut(&id) {
@@ -173,8 +181,8 @@ fn send_answer(
     sends: &mut Sends,
 ) -> Result<(), NoMemory>
     requires client { id.client ≤ 63 }
-    requires answer { an_answer.fits answer }
-    ensures { OnOk result (sends.new ≡ sends.old ++ map (parcel (IsProxy state.now.me)) (answer_to id answer path ∷ [])) }
+    requires answer { fields.answer.fits answer }
+    ensures { OnOk result (sends.new ≡ sends.old ++ map (parcel (actors.Proxy state.now.me)) (answer_to_client id answer path ∷ [])) }
 {
     let message = Message::Answer(AnswerBody {
         num: id.num,
@@ -186,9 +194,14 @@ fn send_answer(
 }
 
 fn timed(state: &ProxyState, id: Id, command: Blob) -> TimedBody
-    requires { a_command.fits command }
-    ensures value { result ≡ record { sent = state.now.state.clock; deadline = state.now.state.clock + bound_of state.now.state.samples + margin; id = id; command = command } }
-    ensures fit { a_timed.fits result }
+    requires { fields.command.fits command }
+    ensures value { result ≡ record {
+      sent = state.now.state.clock;
+      deadline = state.now.state.clock + bound_of state.now.state.samples + margin;
+      id = id;
+      command = command;
+    } }
+    ensures fit { messages.timed.fits result }
 {
     TimedBody {
         sent: state.clock,
@@ -205,7 +218,8 @@ fn send_to_replicas(
     sends: &mut Sends,
 ) -> Result<(), NoMemory>
     requires { Fits message.now }
-    ensures { OnOk result (sends.new ≡ sends.old ++ map (parcel (IsProxy state.now.me)) (to_each message.now (numbers_below (replica_count state.now.f)))) }
+    ensures { OnOk result (sends.new ≡ sends.old
+        ++ map (parcel (actors.Proxy state.now.me)) (to_each message.now (numbers_below (replica_count state.now.f)))) }
 {
     let cluster = state.cluster();
     for replica in 0..cluster.n() {
@@ -217,8 +231,8 @@ fn send_to_replicas(
 
 /// Sends the request to each replica, stamped with its deadline.
 fn send_to_all(state: &ProxyState, id: Id, command: Blob, sends: &mut Sends) -> Result<(), NoMemory>
-    requires { a_command.fits command }
-    ensures { OnOk result (sends.new ≡ sends.old ++ map (parcel (IsProxy state.now.me)) (timed_to_all state.now.f state.now.state id command)) }
+    requires { fields.command.fits command }
+    ensures { OnOk result (sends.new ≡ sends.old ++ map (parcel (actors.Proxy state.now.me)) (timed_to_all state.now.f state.now.state id command)) }
 {
     let message = Message::Timed(timed(state, id, command));
     send_to_replicas(state, &message, sends)
@@ -233,10 +247,11 @@ pub fn stamp_rule(
     sends: &mut Sends,
 ) -> Result<(), NoMemory>
     requires client { client ≤ 63 }
-    requires body { a_request.fits body }
-    ensures same { IsSame state.old state.new }
-    ensures state { OnOk result (state.new ≡ record state.old { state = (stamp_rule_of state.old.f state.old.state client body).0 }) }
-    ensures sends { OnOk result (sends.new ≡ sends.old ++ map (parcel (IsProxy state.old.me)) (stamp_rule_of state.old.f state.old.state client body).1) }
+    requires body { messages.request.fits body }
+    ensures same { IsSameProxy state.old state.new }
+    ensures state { OnOk result (state.new ≡ record state.old { state = (proxies.stamp_rule state.old.f state.old.state client body).0 }) }
+    ensures sends { OnOk result (sends.new ≡ sends.old
+        ++ map (parcel (actors.Proxy state.old.me)) (proxies.stamp_rule state.old.f state.old.state client body).1) }
 {
     let id = Id {
         client: u32::from(client),
@@ -270,9 +285,10 @@ pub fn reply_rule(
     requires replica { replica < replica_count state.old.f }
     requires reply { IsOfCluster state.old.f reply }
     requires answer { HasFitAnswer reply }
-    ensures same { IsSame state.old state.new }
-    ensures state { OnOk result (state.new ≡ record state.old { state = (reply_rule_of state.old.f state.old.state replica id delay reply).0 }) }
-    ensures sends { OnOk result (sends.new ≡ sends.old ++ map (parcel (IsProxy state.old.me)) (reply_rule_of state.old.f state.old.state replica id delay reply).1) }
+    ensures same { IsSameProxy state.old state.new }
+    ensures state { OnOk result (state.new ≡ record state.old { state = (proxies.reply_rule state.old.f state.old.state replica id delay reply).0 }) }
+    ensures sends { OnOk result (sends.new ≡ sends.old
+        ++ map (parcel (actors.Proxy state.old.me)) (proxies.reply_rule state.old.f state.old.state replica id delay reply).1) }
 {
     state.sample(replica, delay);
     match state.note(id, reply)? {
@@ -284,7 +300,7 @@ pub fn reply_rule(
 /// The rule for a tick.
 #[tactic(auto, unfolding(nz_machine::specs::Proxies::clock_rule))]
 pub fn clock_rule(state: &mut ProxyState, clock: u64)
-    ensures { state.new ≡ record state.old { state = clock_rule_of state.old.state clock } }
+    ensures { state.new ≡ record state.old { state = proxies.clock_rule state.old.state clock } }
 {
     state.clock = clock.min(LAST_CLOCK);
 }

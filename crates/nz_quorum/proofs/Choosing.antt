@@ -53,7 +53,8 @@ behind_one p x xs y lesser first = record {
 }
 
 -- before others of no lesser view
-before_others : (p : Reply → Bool) (x : Reply) (xs : List Reply) → p x ≡ true → ((y : Reply) → Has xs y → p y ≡ true → view_of x ≤ view_of y) → IsFirst p (x ∷ xs) x
+before_others : (p : Reply → Bool) (x : Reply) (xs : List Reply) → p x ≡ true
+    → ((y : Reply) → Has xs y → p y ≡ true → view_of x ≤ view_of y) → IsFirst p (x ∷ xs) x
 before_others p x xs passes least = record {
   before = [];
   behind = xs;
@@ -66,7 +67,8 @@ before_others p x xs passes least = record {
   first = λ z has there. absurd has;
 }
 
-first_of_two : (p : Reply → Bool) (x : Reply) (xs : List Reply) (y : Reply) (rest : Option Reply) → p x ≡ true → first_of_least_view (filter p xs) ≡ rest → Some (of_lesser_view x rest) ≡ Some y
+first_of_two : (p : Reply → Bool) (x : Reply) (xs : List Reply) (y : Reply) (rest : Option Reply) → p x ≡ true
+    → first_of_least_view (filter p xs) ≡ rest → Some (of_lesser_view x rest) ≡ Some y
     → ((z : Reply) → first_of_least_view (filter p xs) ≡ Some z → IsFirst p xs z) → IsFirst p (x ∷ xs) y
 first_of_two p x xs y None passes is e ih =
     let same : x ≡ y = cc in
@@ -94,7 +96,8 @@ first_is p (x ∷ xs) y e =
       | inr away ↦ behind_one p x xs y (λ here. clash (p x) here away) (ih y (rw away at e))
     ]
 
-some_first : (p : Reply → Bool) (xs : List Reply) (y : Reply) (o : Option Reply) → first_of_least_view (filter p xs) ≡ o → Has xs y → p y ≡ true → (x : Reply) × (o ≡ Some x)
+some_first : (p : Reply → Bool) (xs : List Reply) (y : Reply) (o : Option Reply)
+    → first_of_least_view (filter p xs) ≡ o → Has xs y → p y ≡ true → (x : Reply) × (o ≡ Some x)
 some_first p xs y None is has passes = absurd (none_passes p xs y is has passes)
 some_first p xs y (Some x) is has passes = (x, refl)
 
@@ -104,26 +107,35 @@ has_middle (b ∷ before) x behind = inr (has_middle before x behind)
 
 -- ---- the decision
 
-pub fast_decides : (f : ℕ) (replies : List Reply) (lead : Reply) → lead_of Fast f replies ≡ Some lead → decision f replies ≡ Some (record { path = Fast; reply = lead })
+pub fast_decides : (f : ℕ) (replies : List Reply) (lead : Reply) → lead_of Fast f replies ≡ Some lead
+    → decision f replies ≡ Some (record { path = Fast; reply = lead })
 unfolding decision
 fast_decides f replies lead e = ap (λ o. fast_or o (slow_or_none (lead_of Slow f replies))) e
 
-pub slow_decides : (f : ℕ) (replies : List Reply) (o : Option Reply) → lead_of Fast f replies ≡ None → lead_of Slow f replies ≡ o → decision f replies ≡ slow_or_none o
+pub slow_decides : (f : ℕ) (replies : List Reply) (o : Option Reply) → lead_of Fast f replies ≡ None
+    → lead_of Slow f replies ≡ o → decision f replies ≡ slow_or_none o
 unfolding decision
 slow_decides f replies o e k = ap (λ x. fast_or x (slow_or_none (lead_of Slow f replies))) e ∙ ap slow_or_none k
 
 -- by a fast quorum, or where there is none by a slow one
 abbrev Ways : ℕ → List Reply → Chosen → Type 0
-Ways f replies chosen = ((lead_of Fast f replies ≡ Some chosen.reply) × (chosen.path ≡ Fast)) ⊎ ((lead_of Fast f replies ≡ None) × (lead_of Slow f replies ≡ Some chosen.reply) × (chosen.path ≡ Slow))
+Ways f replies chosen =
+    ((lead_of Fast f replies ≡ Some chosen.reply) × (chosen.path ≡ Fast))
+    ⊎ ((lead_of Fast f replies ≡ None) × (lead_of Slow f replies ≡ Some chosen.reply) × (chosen.path ≡ Slow))
 
 decided_by : (f : ℕ) (replies : List Reply) (chosen : Chosen) → decision f replies ≡ Some chosen → Ways f replies chosen
 unfolding decision
 decided_by f replies chosen e = by (lead_of Fast f replies) (lead_of Slow f replies) refl refl e
   where
-    by : (fast slow : Option Reply) → lead_of Fast f replies ≡ fast → lead_of Slow f replies ≡ slow → fast_or fast (slow_or_none slow) ≡ Some chosen → Ways f replies chosen
+    by : (fast slow : Option Reply) → lead_of Fast f replies ≡ fast → lead_of Slow f replies ≡ slow
+        → fast_or fast (slow_or_none slow) ≡ Some chosen → Ways f replies chosen
     by None None a b h = absurd cc
-    by None (Some lead) a b h = (let same : record { path = Slow; reply = lead } ≡ chosen = cc in inr (a, b ∙ ap (λ (c : Chosen). Some c.reply) same, sym (ap (λ (c : Chosen). c.path) same)))
-    by (Some lead) slow a b h = (let same : record { path = Fast; reply = lead } ≡ chosen = cc in inl (a ∙ ap (λ (c : Chosen). Some c.reply) same, sym (ap (λ (c : Chosen). c.path) same)))
+    by None (Some lead) a b h =
+        (let same : record { path = Slow; reply = lead } ≡ chosen = cc in
+        inr (a, b ∙ ap (λ (c : Chosen). Some c.reply) same, sym (ap (λ (c : Chosen). c.path) same)))
+    by (Some lead) slow a b h =
+        (let same : record { path = Fast; reply = lead } ≡ chosen = cc in
+        inl (a ∙ ap (λ (c : Chosen). Some c.reply) same, sym (ap (λ (c : Chosen). c.path) same)))
 
 lead_is : (path : Path) (f : ℕ) (replies : List Reply) (lead : Reply) → lead_of path f replies ≡ Some lead → IsFirstOfLeastView path f replies lead
 lead_is path f replies lead e =
@@ -133,14 +145,19 @@ lead_is path f replies lead e =
 lead_has : (path : Path) (f : ℕ) (replies : List Reply) (lead : Reply) → lead_of path f replies ≡ Some lead → HasQuorum path f replies
 lead_has path f replies lead e =
     let first = first_is (has_quorum path f replies) replies lead e in
-    record { reply = lead; noted = subst (λ (xs : List Reply). Has xs lead) (sym first.split) (has_middle first.before lead first.behind); quorum = first.passes }
+    record {
+      reply = lead;
+      noted = subst (λ (xs : List Reply). Has xs lead) (sym first.split) (has_middle first.before lead first.behind);
+      quorum = first.passes;
+    }
 
 no_lead : (path : Path) (f : ℕ) (replies : List Reply) → lead_of path f replies ≡ None → HasQuorum path f replies → ⊥
 no_lead path f replies e h = none_passes (has_quorum path f replies) replies h.reply e h.noted h.quorum
 
 -- ---- the laws
 
-pub chosen_is_first : (f : ℕ) (replies : List Reply) (chosen : Chosen) → decision f replies ≡ Some chosen → IsFirstOfLeastView chosen.path f replies chosen.reply
+pub chosen_is_first : (f : ℕ) (replies : List Reply) (chosen : Chosen) → decision f replies ≡ Some chosen
+    → IsFirstOfLeastView chosen.path f replies chosen.reply
 chosen_is_first f replies chosen e =
     elim (decided_by f replies chosen e) [
       | inl fast ↦ subst (λ (p : Path). IsFirstOfLeastView p f replies chosen.reply) (sym fast.1) (lead_is Fast f replies chosen.reply fast.0)

@@ -1,5 +1,6 @@
 -- The set of those that support a leader's reply, against the counts that define a quorum.
-use Rattle.std.proofs.Common.{◌≡◌, ℕ, suc, ◌+◌, ◌<◌, Bool, true, false, ◌&&◌, ◌||◌, eqb, nat_le, List, [], ◌∷◌, length, get_or, drop, refl, sym, ap, ◌∙◌, arith, add-one, drop-cons, inl, inr, Option}
+use Rattle.std.proofs.Common.{◌≡◌, ℕ, suc, ◌+◌, ◌<◌, Bool, true, false, ◌&&◌, ◌||◌, eqb, nat_le, List, [], ◌∷◌, length}
+use Rattle.std.proofs.Common.{get_or, drop, refl, sym, ap, ◌∙◌, arith, add-one, drop-cons, inl, inr, Option}
 use Rattle.std.specs.List.{list_any, AllByRecursion}
 use Rattle.std.proofs.lemmas.Bool.{cases_eq, eq-eqb, ne_eqb, eqb-true}
 use Rattle.nz_base.specs.Cluster.{replica_count, leader_of}
@@ -47,11 +48,13 @@ and_false : (a : Bool) → (a && false) ≡ false
 and_false true = refl
 and_false false = refl
 
-agrees : (r view : ℕ) (digest vector : List ℕ) (answer : Option Answer) (x : ℕ) (reply : Reply) → backs paths.Fast (Fast r view digest vector answer) x reply ≡ agrees_of view digest vector x reply
+agrees : (r view : ℕ) (digest vector : List ℕ) (answer : Option Answer) (x : ℕ) (reply : Reply)
+    → backs paths.Fast (Fast r view digest vector answer) x reply ≡ agrees_of view digest vector x reply
 agrees r view digest vector answer x (Fast s w d u b) = refl
 agrees r view digest vector answer x (Slow s w) = refl
 
-is_slow : (r view : ℕ) (digest vector : List ℕ) (answer : Option Answer) (x : ℕ) (reply : Reply) → backs paths.Slow (Fast r view digest vector answer) x reply ≡ is_slow_of view x reply
+is_slow : (r view : ℕ) (digest vector : List ℕ) (answer : Option Answer) (x : ℕ) (reply : Reply)
+    → backs paths.Slow (Fast r view digest vector answer) x reply ≡ is_slow_of view x reply
 is_slow r view digest vector answer x (Fast s w d u b) = and_false (eqb s x)
 is_slow r view digest vector answer x (Slow s w) = refl
 
@@ -65,14 +68,17 @@ same_stand : (path : Path) (f : ℕ) (replies : List Reply) (lead : Reply) (x : 
 same_stand path f replies (Slow r view) x h = absurd cc
 same_stand paths.Fast f replies (Fast r view digest vector answer) x h =
     let turn = eqb_turn (leader_of f view) x in
-    let any = any_same (backs paths.Fast (Fast r view digest vector answer) x) (agrees_of view digest vector x) replies (agrees r view digest vector answer x) in
+    let any =
+    any_same (backs paths.Fast (Fast r view digest vector answer) x) (agrees_of view digest vector x) replies
+    (agrees r view digest vector answer x) in
     rw (turn, any) refl
 same_stand paths.Slow f replies (Fast r view digest vector answer) x h =
     let turn = eqb_turn (leader_of f view) x in
     let any = any_same (backs paths.Slow (Fast r view digest vector answer) x) (is_slow_of view x) replies (is_slow r view digest vector answer x) in
     rw (turn, any) refl
 
-any_below : (path : Path) (f : ℕ) (replies : List Reply) (lead : Reply) (x : ℕ) → AllByRecursion (IsOfCluster f) replies → list_any (backs path lead x) replies ≡ true → x < replica_count f
+any_below : (path : Path) (f : ℕ) (replies : List Reply) (lead : Reply) (x : ℕ)
+    → AllByRecursion (IsOfCluster f) replies → list_any (backs path lead x) replies ≡ true → x < replica_count f
 any_below path f [] lead x of_cluster h = absurd cc
 any_below path f (r ∷ replies) lead x of_cluster h =
     elim (or_cases (backs path lead x r) (list_any (backs path lead x) replies) h) [
@@ -86,7 +92,8 @@ any_below path f (r ∷ replies) lead x of_cluster h =
 pub leader_below : (f view : ℕ) → leader_of f view < replica_count f
 leader_below f view = omega arith
 
-pub count_supporters : (path : Path) (f : ℕ) (replies : List Reply) (lead : Reply) (set : List ℕ) → leader_of f (view_of lead) < replica_count f → AllByRecursion (IsOfCluster f) replies → IsChoice 9 set
+pub count_supporters : (path : Path) (f : ℕ) (replies : List Reply) (lead : Reply) (set : List ℕ)
+    → leader_of f (view_of lead) < replica_count f → AllByRecursion (IsOfCluster f) replies → IsChoice 9 set
     → ((x : ℕ) → is_in set x ≡ (eqb (leader_of f (view_of lead)) x || list_any (backs path lead x) replies)) → is_of_leader f lead ≡ true
     → length set ≡ count_below (replica_count f) (stands path f replies lead)
 count_supporters path f replies lead set leader of_cluster choice members leads =
@@ -100,6 +107,7 @@ count_supporters path f replies lead set leader of_cluster choice members leads 
     sym listed ∙ counted
 
 -- a lead has a quorum where enough support it
-pub quorum_counts : (path : Path) (f : ℕ) (replies : List Reply) (lead : Reply) → is_of_leader f lead ≡ true → nat_le (quorum_size path f) (count_below (replica_count f) (stands path f replies lead)) ≡ has_quorum path f replies lead
+pub quorum_counts : (path : Path) (f : ℕ) (replies : List Reply) (lead : Reply) → is_of_leader f lead ≡ true
+    → nat_le (quorum_size path f) (count_below (replica_count f) (stands path f replies lead)) ≡ has_quorum path f replies lead
 quorum_counts paths.Fast f replies lead leads = rw leads refl
 quorum_counts paths.Slow f replies lead leads = rw leads refl

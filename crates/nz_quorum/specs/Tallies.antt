@@ -18,14 +18,14 @@ replica_of (Fast replica view digest vector answer) = replica
 replica_of (Slow replica view) = replica
 
 -- The crash vector of a fast reply.
-abbrev pub vector_of : Reply → Option (List ℕ)
-vector_of (Fast replica view digest vector answer) = Some vector
-vector_of (Slow replica view) = None
+abbrev pub reply_vector : Reply → Option (List ℕ)
+reply_vector (Fast replica view digest vector answer) = Some vector
+reply_vector (Slow replica view) = None
 
 -- A reply of a replica of the cluster, whose vector has a counter for each replica.
 pub record IsOfCluster (f : ℕ) (reply : Reply) : Type 0 where
   pub replica : replica_of reply < replica_count f
-  pub vector : IfSome (vector_of reply) (λ vector. length vector ≡ replica_count f)
+  pub vector : IfSome (reply_vector reply) (λ vector. length vector ≡ replica_count f)
 
 -- How many replicas a quorum of this path has.
 abbrev pub quorum_size : Path → ℕ → ℕ

@@ -6,8 +6,10 @@ ghost use Rattle.std.specs.Option.{option_copied};
 ghost use Rattle.nz_base.specs.Cluster.{leader_of};
 ghost use Rattle.nz_math.specs.Count.{is_in};
 ghost use Rattle.nz_machine.specs.Quorums.{view_of, is_of_leader};
-ghost use Rattle.nz_quorum.specs.Tallies.{replica_of, IsOfCluster, quorum_size, has_quorum as has_quorum_of, lead_of};
-ghost use Rattle.nz_quorum.specs.Support.{supports as supports_of, least_so_far};
+ghost use Rattle.nz_quorum.specs.Tallies as tallies;
+ghost use Rattle.nz_quorum.specs.Tallies.{replica_of, IsOfCluster, quorum_size, lead_of};
+ghost use Rattle.nz_quorum.specs.Support as support;
+ghost use Rattle.nz_quorum.specs.Support.{least_so_far};
 
 use nz_base::Cluster;
 use nz_machine::Reply;
@@ -47,7 +49,7 @@ fn is_lead(cluster: Cluster, reply: &Reply) -> bool
 
 /// Whether the sender of the reply supports a leader's reply in a quorum of this path.
 fn supports(path: Path, lead: &Reply, reply: &Reply) -> bool
-    ensures { result ≡ supports_of path lead.now reply.now }
+    ensures { result ≡ support.supports path lead.now reply.now }
 {
     match (lead, reply) {
         (Reply::Fast { view: v, .. }, Reply::Slow { view: w, .. }) => w == v,
@@ -72,7 +74,8 @@ fn supports(path: Path, lead: &Reply, reply: &Reply) -> bool
 /// The leader, and the senders of the replies that support its reply.
 fn supporters(cluster: Cluster, replies: &[Reply], path: Path, lead: &Reply) -> ReplicaSet
     requires { AllByRecursion (IsOfCluster cluster) replies.now }
-    ensures { (x : ℕ) → is_in result x ≡ ((leader_of cluster (view_of lead.now) == x) || list_any (λ r. (replica_of r == x) && supports_of path lead.now r) replies.now) }
+    ensures { (x : ℕ) → is_in result x ≡ ((leader_of cluster (view_of lead.now) == x)
+        || list_any (λ r. (replica_of r == x) && support.supports path lead.now r) replies.now) }
 {
     let mut set = ReplicaSet::new();
     set.insert(cluster.leader(view_of_reply(lead)));
@@ -96,7 +99,7 @@ fn size_of(cluster: Cluster, path: Path) -> u8
 /// Whether it is a leader's reply that has a quorum of this path.
 fn has_quorum(cluster: Cluster, replies: &[Reply], path: Path, lead: &Reply) -> bool
     requires { AllByRecursion (IsOfCluster cluster) replies.now }
-    ensures { result ≡ has_quorum_of path cluster replies.now lead.now }
+    ensures { result ≡ tallies.has_quorum path cluster replies.now lead.now }
 {
     is_lead(cluster, lead)
         && supporters(cluster, replies, path, lead).count() >= size_of(cluster, path)

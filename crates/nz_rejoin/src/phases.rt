@@ -2,13 +2,14 @@
 
 ghost use Rattle.std.specs.Prelude.{◌≡◌, ◌≢◌, ◌<◌, ◌≤◌, ◌==◌, ◌&&◌, nat_le, length, IsTrue, IsFalse, OnOk};
 ghost use Rattle.nz_base.specs.Cluster.{replica_count, leader_of};
-ghost use Rattle.nz_base.specs.declared.actor.Actor.TheVariants.{Replica as IsReplica};
+ghost use Rattle.nz_base.specs.declared.actor.Actor.TheVariants as actors;
 ghost use Rattle.nz_msg.specs.Messages.{vector_tell, rejoin_tell, state_tell};
 ghost use Rattle.nz_msg.specs.declared.message.Message.TheVariants.{VectorTell, RejoinTell, StateTell};
 ghost use Rattle.nz_machine.specs.declared.data.Phase.TheVariants as phases;
 ghost use Rattle.nz_machine.specs.Replicas.{last_view};
 ghost use Rattle.nz_machine.specs.Adopting.{normal_in};
-ghost use Rattle.nz_machine.specs.Rejoining.{awaits, ask_views as ask_views_of, after_vectors, ask_log as ask_log_of, after_views, vector_tell_rule, rejoin_tell_rule, state_tell_rule};
+ghost use Rattle.nz_machine.specs.Rejoining as rejoining;
+ghost use Rattle.nz_machine.specs.Rejoining.{awaits, after_vectors, after_views, vector_tell_rule, rejoin_tell_rule, state_tell_rule};
 ghost use Rattle.nz_machine.specs.Does.{Does, DoesSilently};
 ghost use Rattle.nz_machine.specs.Step.{replica_message, is_in_cluster};
 
@@ -20,7 +21,7 @@ use nz_msg::{RejoinTellBody, StateTellBody, VectorTellBody};
 
 /// The second phase starts with nothing collected: the others are asked for their views.
 pub(super) fn ask_views(state: &mut ReplicaState, sends: &mut Sends) -> Result<(), NoMemory>
-    ensures { let s = state.old in OnOk result (Does s state.new sends.old sends.new (ask_views_of s.f s.me s.state)) }
+    ensures { let s = state.old in OnOk result (Does s state.new sends.old sends.new (rejoining.ask_views s.f s.me s.state)) }
 {
     state.start_views();
     state.send_to_others(&state.rejoin_ask(), sends)
@@ -82,7 +83,7 @@ pub fn on_vector_tell(
 /// The third phase: the leader of the view is asked for its log.
 fn ask_log(state: &mut ReplicaState, view: u64, sends: &mut Sends) -> Result<(), NoMemory>
     requires { view ≤ last_view }
-    ensures { let s = state.old in OnOk result (Does s state.new sends.old sends.new (ask_log_of s.f s.state view)) }
+    ensures { let s = state.old in OnOk result (Does s state.new sends.old sends.new (rejoining.ask_log s.f s.state view)) }
 {
     // f is at most 4, so the number is at most 8.
     let _most = state.cluster().f();
@@ -152,7 +153,9 @@ pub fn on_rejoin_tell(
 /// Whether this is the log that the replica waits for: from the leader of the wanted view or a later one, for this
 /// restart.
 fn is_wanted(state: &ReplicaState, sender: u8, body: &StateTellBody) -> bool
-    ensures { let s = state.now in result ≡ (awaits phases.Log s.state body.now.nonce && (nat_le s.state.rejoin.wanted body.now.view && (sender == leader_of s.f body.now.view))) }
+    ensures { let s = state.now in
+        result ≡ (awaits phases.Log s.state body.now.nonce
+        && (nat_le s.state.rejoin.wanted body.now.view && (sender == leader_of s.f body.now.view))) }
 {
     state.awaits(Phase::Log, body.nonce)
         && state.wanted() <= body.view
@@ -193,7 +196,7 @@ pub fn on_state_tell(
     body: &StateTellBody,
 ) -> Result<(), NoMemory>
     requires member { IsTrue (is_in_cluster state.old.f from) }
-    requires other { from ≢ IsReplica state.old.me }
+    requires other { from ≢ actors.Replica state.old.me }
     requires vector { length body.now.vector ≡ replica_count state.old.f }
     requires fits { state_tell.fits body.now }
     ensures { let s = state.old in OnOk result (DoesSilently s state.new (replica_message s.f s.me s.state from (StateTell body.now))) }

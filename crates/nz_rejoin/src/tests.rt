@@ -3,9 +3,9 @@
 
 ghost use Rattle.std.specs.Prelude.{◌≡◌, ◌≢◌, ◌&&◌, IsTrue};
 ghost use Rattle.nz_base.specs.Actor.{HasAddress};
-ghost use Rattle.nz_base.specs.declared.actor.Actor.TheVariants.{Replica as IsReplica};
+ghost use Rattle.nz_base.specs.declared.actor.Actor.TheVariants as actors;
 ghost use Rattle.nz_msg.specs.Messages.{Fits};
-ghost use Rattle.nz_machine.specs.Step.{is_in_cluster, is_sized, vector_of};
+ghost use Rattle.nz_machine.specs.Step.{is_in_cluster, is_sized, message_vector};
 
 use super::*;
 use nz_base::{Actor, Blob, Cluster, Entry, EntryList, Key, List, NoMemory};
@@ -79,9 +79,9 @@ fn handle(
     message: &Message,
     sends: &mut Sends,
 ) -> Result<(), NoMemory>
-    requires other { from ≢ IsReplica state.old.me }
+    requires other { from ≢ actors.Replica state.old.me }
     requires fits { Fits message.now }
-    requires counted { IsTrue (is_in_cluster state.old.f from && is_sized state.old.f (vector_of message.now)) }
+    requires counted { IsTrue (is_in_cluster state.old.f from && is_sized state.old.f (message_vector message.now)) }
 {
     match message {
         Message::VectorTell(body) => on_vector_tell(state, from, body, sends),

@@ -2,7 +2,8 @@
 
 ghost use Rattle.std.specs.Prelude.{IsTrue, OnOk};
 ghost use Rattle.nz_machine.specs.Replicas.{is_rejoining};
-ghost use Rattle.nz_machine.specs.Rejoining.{restart_rule, ask_again as ask_again_in, rejoin_timer as rejoin_timer_of};
+ghost use Rattle.nz_machine.specs.Rejoining as rejoining;
+ghost use Rattle.nz_machine.specs.Rejoining.{restart_rule};
 ghost use Rattle.nz_machine.specs.Does.{Does};
 
 use super::phases::ask_views;
@@ -23,7 +24,7 @@ pub fn restart(state: &mut ReplicaState, nonce: u64, sends: &mut Sends) -> Resul
 
 /// In each phase what was asked is asked again; from the third the replica goes back to the second.
 fn ask_again(state: &mut ReplicaState, sends: &mut Sends) -> Result<(), NoMemory>
-    ensures { let s = state.old in OnOk result (Does s state.new sends.old sends.new (ask_again_in s.state.rejoin.phase s.f s.me s.state)) }
+    ensures { let s = state.old in OnOk result (Does s state.new sends.old sends.new (rejoining.ask_again s.state.rejoin.phase s.f s.me s.state)) }
 {
     match state.phase() {
         Phase::Vectors => state.send_to_others(&state.vector_ask(), sends),
@@ -35,7 +36,7 @@ fn ask_again(state: &mut ReplicaState, sends: &mut Sends) -> Result<(), NoMemory
 /// After each period a replica that rejoins asks again.
 pub fn rejoin_timer(state: &mut ReplicaState, sends: &mut Sends) -> Result<(), NoMemory>
     requires { IsTrue (is_rejoining state.old.state.status) }
-    ensures { let s = state.old in OnOk result (Does s state.new sends.old sends.new (rejoin_timer_of s.f s.me s.state)) }
+    ensures { let s = state.old in OnOk result (Does s state.new sends.old sends.new (rejoining.rejoin_timer s.f s.me s.state)) }
 {
     if state.count_rejoining() {
         return ask_again(state, sends);

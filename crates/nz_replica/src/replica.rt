@@ -3,12 +3,15 @@
 ghost use Rattle.std.specs.Prelude.{◌≡◌, ◌≢◌, ◌<◌, ◌&&◌, true, IsTrue, IfOk, OnOk};
 ghost use Rattle.nz_base.specs.Actor.{HasAddress};
 ghost use Rattle.nz_base.specs.Cluster.{replica_count};
-ghost use Rattle.nz_base.specs.declared.actor.Actor.TheVariants.{Replica as IsReplica};
+ghost use Rattle.nz_base.specs.declared.actor.Actor.TheVariants as actors;
 ghost use Rattle.nz_msg.specs.Messages.{Fits};
 ghost use Rattle.nz_machine.specs.State.{Group};
-ghost use Rattle.nz_machine.specs.Replicas.{first_replica, is_down as is_down_in, is_rejoining as is_rejoining_in};
+ghost use Rattle.nz_machine.specs.Replicas as replicas;
+ghost use Rattle.nz_machine.specs.Replicas.{first_replica};
 ghost use Rattle.nz_machine.specs.Does.{Does};
-ghost use Rattle.nz_machine.specs.Step.{event_step, envelope_step, replica_message, mode_timer as mode_timer_in, tick_rule, received, parcel, is_in_cluster, is_sized, vector_of};
+ghost use Rattle.nz_machine.specs.Step as step_words;
+ghost use Rattle.nz_machine.specs.Step.{event_step, envelope_step, replica_message, tick_rule, accepted_envelope};
+ghost use Rattle.nz_machine.specs.Step.{parcel, is_in_cluster, is_sized, message_vector};
 ghost use Rattle.nz_replica.specs.Seats.{IsOf};
 
 use nz_base::{Actor, Cluster, NoMemory};
@@ -48,7 +51,8 @@ impl Replica {
     /// A replica in its first state.
     pub fn new(alloc: Global, cluster: Cluster, me: u8) -> Result<Replica, NoMemory>
         requires { me < replica_count cluster }
-        ensures { IfOk result (λ replica. replica ≡ record { f = cluster; seat = record { f = cluster; me = me; state = first_replica cluster }; live = true }) }
+        ensures { IfOk result (λ replica. replica
+            ≡ record { f = cluster; seat = record { f = cluster; me = me; state = first_replica cluster }; live = true }) }
     {
         Ok(Replica {
             cluster,
@@ -77,14 +81,14 @@ impl Replica {
 
     /// Whether it is out of service.
     pub fn is_down(&self) -> bool
-        ensures { result ≡ is_down_in self.now.seat.state.status }
+        ensures { result ≡ replicas.is_down self.now.seat.state.status }
     {
         self.state.is_down()
     }
 
     /// Whether it is on the way back after a crash.
     pub fn is_rejoining(&self) -> bool
-        ensures { result ≡ is_rejoining_in self.now.seat.state.status }
+        ensures { result ≡ replicas.is_rejoining self.now.seat.state.status }
     {
         self.state.is_rejoining()
     }
@@ -93,10 +97,11 @@ impl Replica {
 /// Which rule handles a message.
 fn handle(state: &mut ReplicaState, envelope: &Envelope, sends: &mut Sends) -> Result<(), NoMemory>
     requires from { HasAddress envelope.now.from }
-    requires other { envelope.now.from ≢ IsReplica state.old.me }
+    requires other { envelope.now.from ≢ actors.Replica state.old.me }
     requires fits { Fits envelope.now.message }
-    requires counted { IsTrue (is_in_cluster state.old.f envelope.now.from && is_sized state.old.f (vector_of envelope.now.message)) }
-    ensures { let s = state.old in OnOk result (Does s state.new sends.old sends.new (replica_message s.f s.me s.state envelope.now.from envelope.now.message)) }
+    requires counted { IsTrue (is_in_cluster state.old.f envelope.now.from && is_sized state.old.f (message_vector envelope.now.message)) }
+    ensures { let s = state.old in
+        OnOk result (Does s state.new sends.old sends.new (replica_message s.f s.me s.state envelope.now.from envelope.now.message)) }
 {
     let from = envelope.from;
     match &envelope.message {
@@ -123,7 +128,10 @@ fn handle(state: &mut ReplicaState, envelope: &Envelope, sends: &mut Sends) -> R
 }
 
 fn deliver(state: &mut ReplicaState, p: &Parcel, sends: &mut Sends) -> Result<(), NoMemory>
-    ensures { let s = state.old in (g : Group) → IsOf g s → OnOk result (Does s state.new sends.old sends.new (envelope_step g (IsReplica s.me) s.state (received g.f (IsReplica s.me) p.now))) }
+    ensures { let s = state.old in
+        (g : Group) → IsOf g s
+        → OnOk result (Does s state.new sends.old sends.new
+        (envelope_step g (actors.Replica s.me) s.state (accepted_envelope g.f (actors.Replica s.me) p.now))) }
 {
     match heard(state.allocator(), state.name(), p)? {
         None => Ok(()),
@@ -138,7 +146,7 @@ fn deliver(state: &mut ReplicaState, p: &Parcel, sends: &mut Sends) -> Result<()
 
 /// What a replica does at a tick after its releases, by its mode.
 fn mode_timer(state: &mut ReplicaState, sends: &mut Sends) -> Result<(), NoMemory>
-    ensures { let s = state.old in OnOk result (Does s state.new sends.old sends.new (mode_timer_in s.state.status s.f s.me s.state)) }
+    ensures { let s = state.old in OnOk result (Does s state.new sends.old sends.new (step_words.mode_timer s.state.status s.f s.me s.state)) }
 {
     if state.is_normal() {
         if state.leads() {
@@ -165,7 +173,8 @@ fn tick_and_count(state: &mut ReplicaState, clock: u64, sends: &mut Sends) -> Re
 
 #[tactic(auto, unfolding(nz_machine::specs::Rejoining::crash_rule))]
 fn take(state: &mut ReplicaState, event: &Event, sends: &mut Sends) -> Result<(), NoMemory>
-    ensures { let s = state.old in (g : Group) → IsOf g s → OnOk result (Does s state.new sends.old sends.new (event_step g (IsReplica s.me) s.state event.now)) }
+    ensures { let s = state.old in
+        (g : Group) → IsOf g s → OnOk result (Does s state.new sends.old sends.new (event_step g (actors.Replica s.me) s.state event.now)) }
 {
     match event {
         Event::Deliver(p) => deliver(state, p, sends),
@@ -182,9 +191,9 @@ fn take(state: &mut ReplicaState, event: &Event, sends: &mut Sends) -> Result<()
 
 impl Core for Replica {
     ghost use Rattle.std.specs.Prelude.{◌≡◌};
-    ghost use Rattle.nz_base.specs.declared.actor.Actor.TheVariants.{Replica as IsReplica};
+    ghost use Rattle.nz_base.specs.declared.actor.Actor.TheVariants as actors;
 
-    ghost meaning = { λ r. record { actor = IsReplica r.seat.me; state = r.seat.state } };
+    ghost meaning = { λ r. record { actor = actors.Replica r.seat.me; state = r.seat.state } };
 
     ghost live = { λ r. r.live };
 

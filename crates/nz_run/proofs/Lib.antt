@@ -1,10 +1,10 @@
 -- The modules of this crate's proofs.
 pub mod Scheduling
-pub mod Fine
-pub mod Fresh
-pub mod Casting
+pub mod DueMayHappen
+pub mod FreshNonces
+pub mod CoreSteps
 pub mod Turning
-pub mod Casts
+pub mod AllCores
 pub mod Replaying
-pub mod Fewer
-pub mod Firsts
+pub mod DealtShares
+pub mod FirstCores

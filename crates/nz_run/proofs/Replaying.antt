@@ -1,5 +1,6 @@
 -- Records that are scheduled, of which those of each actor are a replay, are a run.
-use Rattle.std.proofs.Common.{◌≡◌, ℕ, zero, suc, ◌+◌, ◌<◌, ◌≤◌, eqb, cond, Bool, true, false, List, [], ◌∷◌, ◌++◌, map, refl, sym, ap, ◌∙◌, subst, arith, append-nil}
+use Rattle.std.proofs.Common.{◌≡◌, ℕ, zero, suc, ◌+◌, ◌<◌, ◌≤◌, eqb, cond, Bool, true, false, List}
+use Rattle.std.proofs.Common.{[], ◌∷◌, ◌++◌, map, refl, sym, ap, ◌∙◌, subst, arith, append-nil}
 use Rattle.std.specs.Prelude.{reverse, IsPermutation}
 use Rattle.std.specs.List.{AllByRecursion, sum_by}
 use Rattle.std.proofs.lemmas.Bool.{eqb-true}
@@ -26,10 +27,10 @@ use Rattle.nz_machine.specs.Schedule.{group_of, item_of, due, ScheduledTo, IsPla
 use Rattle.nz_machine.proofs.Runs.{acts, stays, on_cond}
 use Rattle.nz_fabric.specs.Replays.{IsReplay}
 use Rattle.nz_fabric.specs.Rows.{of_actor}
-use Rattle.nz_machine.proofs.Each.{all_append}
+use Rattle.nz_machine.proofs.EachItem.{all_append}
 use Rattle.nz_run.specs.Stages.{AllReplay}
-use Rattle.nz_run.proofs.Fine.{IsFine, ItemIsFine}
-use Rattle.nz_run.proofs.Fresh.{IsAbove, IsBefore, AreApart, due_apart, finished_not, here_is_fine}
+use Rattle.nz_run.proofs.DueMayHappen.{IsFine, ItemIsFine}
+use Rattle.nz_run.proofs.FreshNonces.{IsAbove, IsBefore, AreApart, due_apart, finished_not, here_is_fine}
 use Rattle.nz_run.proofs.Turning.{IsNot, may_turn}
 
 -- ---- each nonce once
@@ -68,7 +69,8 @@ all_above n (i ∷ is) h =
     let ih = all_above n is h.1 in
     omega (arith, a, w, ih)
 
-most_once : (n : ℕ) (e : Event) (is : List Item) → AllByRecursion (λ (j : Item). IsBefore e j.event) is → sum_by (item_weight n) is ≤ 1 → weight n e + sum_by (item_weight n) is ≤ 1
+most_once : (n : ℕ) (e : Event) (is : List Item) → AllByRecursion (λ (j : Item). IsBefore e j.event) is
+    → sum_by (item_weight n) is ≤ 1 → weight n e + sum_by (item_weight n) is ≤ 1
 most_once n (Deliver p) is h rest = omega (arith, rest)
 most_once n (Cut p kept) is h rest = omega (arith, rest)
 most_once n (Tick clock) is h rest = omega (arith, rest)
@@ -116,7 +118,9 @@ tick_is_fresh s tick now older same =
     are_fresh now (λ n.
     let once = apart_once n (due s tick older) (due_apart s tick older) in
     let moved = sum_by-IsPermutation (item_weight n) (due s tick older) (map item_of (reverse now)) same in
-    let turned = sum_by-IsPermutation (item_weight n) (map item_of now) (map item_of (reverse now)) (IsPermutation-map item_of now (reverse now) (IsPermutation-reverse now)) in
+    let turned =
+    sum_by-IsPermutation (item_weight n) (map item_of now) (map item_of (reverse now))
+    (IsPermutation-map item_of now (reverse now) (IsPermutation-reverse now)) in
     omega (arith, once, moved, turned))
 
 -- ---- the records of one actor
@@ -141,7 +145,8 @@ all_back g [] older h = h
 all_back g (r ∷ now) older h = all_back g now older (λ a member. replay_back g a r (now ++ older) (h a member))
 
 -- what an actor sends is what it sends after its own records
-replay_sends : (g : Group) (a : Actor) (r : Record) (J : List Record) → r.actor ≡ a → IsReplay g a (of_actor a (r ∷ J)) → r.sends ≡ (node_step g a (state_after g a J) r.event).1
+replay_sends : (g : Group) (a : Actor) (r : Record) (J : List Record) → r.actor ≡ a
+    → IsReplay g a (of_actor a (r ∷ J)) → r.sends ≡ (node_step g a (state_after g a J) r.event).1
 replay_sends g a r J is h =
     let own = of_actor a J in
     let here : of_actor a (r ∷ J) ≡ r ∷ own = ap (λ (b : Bool). cond b (r ∷ own) own) (ap (λ (b : Actor). actor_eq b a) is ∙ actor_eq_self a) in
@@ -150,7 +155,8 @@ replay_sends g a r J is h =
 
 -- ---- the run
 
-world_tick : (s : Scenario) (tick : ℕ) (older now : List Record) → IsPlayable s → World (group_of s) older → AllByRecursion (λ (r : Record). ItemIsFine s (suc tick) older (item_of r)) now → AreFresh now
+world_tick : (s : Scenario) (tick : ℕ) (older now : List Record) → IsPlayable s → World (group_of s) older
+    → AllByRecursion (λ (r : Record). ItemIsFine s (suc tick) older (item_of r)) now → AreFresh now
     → ((n : ℕ) (r : Record) → ItemIsFine s (suc tick) older (item_of r) → r.event ≡ Restart n → AllByRecursion (IsNot n) older)
     → AllReplay (group_of s) (now ++ older) → World (group_of s) (now ++ older)
 world_tick s tick older [] play w fine fresh past replay = w
@@ -174,7 +180,8 @@ on_bool : (P : Bool → Type 0) (b : Bool) → P true → P false → P b
 on_bool P true x y = x
 on_bool P false x y = y
 
-reverse_by : (a : Actor) (r : Record) (own turned : List Record) → reverse own ≡ turned → reverse (cond (actor_eq r.actor a) (r ∷ own) own) ≡ turned ++ cond (actor_eq r.actor a) (r ∷ []) []
+reverse_by : (a : Actor) (r : Record) (own turned : List Record) → reverse own ≡ turned
+    → reverse (cond (actor_eq r.actor a) (r ∷ own) own) ≡ turned ++ cond (actor_eq r.actor a) (r ∷ []) []
 reverse_by a r own turned e =
     on_bool (λ (b : Bool). reverse (cond b (r ∷ own) own) ≡ turned ++ cond b (r ∷ []) []) (actor_eq r.actor a)
     (reverse_onto own r [] ∙ ap (λ (L : List Record). L ++ r ∷ []) e) (e ∙ sym (append-nil turned))
@@ -189,16 +196,20 @@ reverse_own a (r ∷ rs) =
     reverse_by a r own (of_actor a (reverse rs)) ih ∙ sym turned ∙ ap (of_actor a) (sym (reverse_onto rs r []))
 
 -- a lane, the oldest first or the newest first
-pub own_newest : (a : Actor) (J lane : List Record) → (lane ≡ of_actor a (reverse J) → reverse lane ≡ of_actor a J) × (reverse lane ≡ of_actor a J → lane ≡ of_actor a (reverse J))
+pub own_newest : (a : Actor) (J lane : List Record)
+    → (lane ≡ of_actor a (reverse J) → reverse lane ≡ of_actor a J) × (reverse lane ≡ of_actor a J → lane ≡ of_actor a (reverse J))
 own_newest a J lane =
     let turned : reverse (of_actor a (reverse J)) ≡ of_actor a J = reverse_own a (reverse J) ∙ ap (of_actor a) (reverse-reverse J) in (
       (λ e. ap reverse {x = lane} {y = of_actor a (reverse J)} e ∙ turned),
-      (λ e. sym (reverse-reverse lane) ∙ ap reverse {x = reverse lane} {y = reverse (of_actor a (reverse J))} (e ∙ sym turned) ∙ reverse-reverse (of_actor a (reverse J))),
+      (λ e. sym (reverse-reverse lane)
+          ∙ ap reverse {x = reverse lane} {y = reverse (of_actor a (reverse J))} (e ∙ sym turned) ∙ reverse-reverse (of_actor a (reverse J))),
     )
 
 -- each sort's actors are all
-pub all_replay : (s : Scenario) (J : List Record) → IsPlayable s → ((k : ℕ) → k < replica_count s.cluster → IsReplay (group_of s) (actors.Replica k) (of_actor (actors.Replica k) J))
-    → ((k : ℕ) → k < s.proxies → IsReplay (group_of s) (actors.Proxy k) (of_actor (actors.Proxy k) J)) → ((k : ℕ) → k < s.clients → IsReplay (group_of s) (actors.Client k) (of_actor (actors.Client k) J))
+pub all_replay : (s : Scenario) (J : List Record) → IsPlayable s
+    → ((k : ℕ) → k < replica_count s.cluster → IsReplay (group_of s) (actors.Replica k) (of_actor (actors.Replica k) J))
+    → ((k : ℕ) → k < s.proxies → IsReplay (group_of s) (actors.Proxy k) (of_actor (actors.Proxy k) J))
+    → ((k : ℕ) → k < s.clients → IsReplay (group_of s) (actors.Client k) (of_actor (actors.Client k) J))
     → AllReplay (group_of s) J
 all_replay s J play replicas proxies clients (actors.Replica k) lt = replicas k lt
 all_replay s J play replicas proxies clients (actors.Proxy k) lt = proxies k lt

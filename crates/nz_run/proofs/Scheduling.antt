@@ -28,7 +28,11 @@ scheduled_in_order s (suc tick) J (now, (older, (t, before))) = (
   (
     older,
     (
-      record { whole = t.whole; here = t.here; items = subst (λ (is : List Item). IsPermutation is (map item_of (reverse now))) t.items (IsPermutation-refl (map item_of (reverse now))) },
+      record {
+        whole = t.whole;
+        here = t.here;
+        items = subst (λ (is : List Item). IsPermutation is (map item_of (reverse now))) t.items (IsPermutation-refl (map item_of (reverse now)));
+      },
       scheduled_in_order s tick older before,
     ),
   ),

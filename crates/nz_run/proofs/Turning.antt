@@ -13,16 +13,16 @@ use Rattle.nz_machine.specs.declared.journal.Item.{Item}
 use Rattle.nz_machine.specs.State.{Group}
 use Rattle.nz_machine.specs.World.{sent_in, Has, IsMember, MayHappen, Restarts, World}
 use Rattle.nz_machine.specs.Schedule.{group_of, item_of, due, IsPlayable}
-use Rattle.nz_machine.proofs.Each.{all_append, all_imply}
+use Rattle.nz_machine.proofs.EachItem.{all_append, all_imply}
 use Rattle.nz_machine.proofs.Runs.{has_right}
-use Rattle.nz_machine.proofs.Members.{receiver_is_member}
+use Rattle.nz_machine.proofs.ParcelMembers.{receiver_is_member}
 use Rattle.nz_fabric.specs.declared.turn.Turn.{Turn}
-use Rattle.nz_fabric.specs.States.{State, records_of, IsBegun, IsKept, IsNext, IsQuiet, item_in, with_taken, with_recorded}
+use Rattle.nz_fabric.specs.States.{State, records_of, IsBegun, IsKeptRun, IsNextTurn, IsQuiet, item_in, with_taken, with_recorded}
 use Rattle.nz_run.specs.declared.cast.Cast.{Cast}
 use Rattle.nz_run.specs.Casts.{record_of, sends_of, IsCast, IsUnderWay}
 use Rattle.nz_run.proofs.Scheduling.{scheduled_in_order}
-use Rattle.nz_run.proofs.Fine.{IsFine, ItemIsFine, due_is_fine, few_restarts}
-use Rattle.nz_run.proofs.Fresh.{got, here_not, finished_not}
+use Rattle.nz_run.proofs.DueMayHappen.{IsFine, ItemIsFine, due_is_fine, few_restarts}
+use Rattle.nz_run.proofs.FreshNonces.{got, here_not, finished_not}
 
 sent_before : (now older : List Record) (p : Parcel) → Has (sent_in older) p → Has (sent_in (now ++ older)) p
 sent_before [] older p h = h
@@ -36,8 +36,11 @@ record IsTurn (s : Scenario) (tick : ℕ) (finished here : List Record) (i : Ite
   fine : ItemIsFine s tick finished i
   fresh : (nonce : ℕ) → i.event ≡ Restart nonce → AllByRecursion (IsNot nonce) (here ++ finished)
 
-is_turn : (s : Scenario) (tick : ℕ) (finished here : List Record) (items : List Item) (i : Item) → IsPlayable s → IsBegun s tick finished items → map item_of (reverse here) ≡ take (length here) items → slice_get items (length here) ≡ Some i → IsTurn s tick finished here i
-is_turn s zero finished here items i play (none, nothing) so_far at = absurd (none-some i (sym (ap (λ (is : List Item). slice_get is (length here)) nothing) ∙ at))
+is_turn : (s : Scenario) (tick : ℕ) (finished here : List Record) (items : List Item) (i : Item) → IsPlayable s
+    → IsBegun s tick finished items → map item_of (reverse here) ≡ take (length here) items
+    → slice_get items (length here) ≡ Some i → IsTurn s tick finished here i
+is_turn s zero finished here items i play (none, nothing) so_far at =
+    absurd (none-some i (sym (ap (λ (is : List Item). slice_get is (length here)) nothing) ∙ at))
 is_turn s (suc tick) finished here items i play (order, are_due) so_far at =
     let now : slice_get (due s (suc tick) finished) (length here) ≡ Some i = sym (ap (λ (is : List Item). slice_get is (length here)) are_due) ∙ at in
     let fine = got (ItemIsFine s (suc tick) finished) (due s (suc tick) finished) (length here) i (due_is_fine s (suc tick) finished play) now in
@@ -53,7 +56,8 @@ pub record MayTurn (s : Scenario) (J : List Record) (a : Actor) (e : Event) : Ty
   pub member : IsMember (group_of s) a
   pub event : MayHappen J a e
 
-pub may_turn : (s : Scenario) (tick : ℕ) (finished here : List Record) (a : Actor) (e : Event) → IsPlayable s → World (group_of s) (here ++ finished) → IsFine s tick finished a e
+pub may_turn : (s : Scenario) (tick : ℕ) (finished here : List Record) (a : Actor) (e : Event) → IsPlayable s
+    → World (group_of s) (here ++ finished) → IsFine s tick finished a e
     → ((nonce : ℕ) → e ≡ Restart nonce → AllByRecursion (IsNot nonce) (here ++ finished)) → MayTurn s (here ++ finished) a e
 may_turn s tick finished here a (Deliver p) play w fine fresh =
     let sent = sent_before here finished p fine.1 in
@@ -72,14 +76,16 @@ may_turn s tick finished here a (Restart nonce) play w fine fresh = record {
   );
 }
 
-pub next_may_turn : (f : State) (turn : Turn) → IsKept f → World (group_of f.scenario) (records_of f) → IsNext f turn → MayTurn f.scenario (records_of f) turn.actor turn.event
+pub next_may_turn : (f : State) (turn : Turn) → IsKeptRun f → World (group_of f.scenario) (records_of f)
+    → IsNextTurn f turn → MayTurn f.scenario (records_of f) turn.actor turn.event
 next_may_turn f turn k w n =
     let t = is_turn f.scenario f.tick f.finished f.here f.items (item_in turn) k.playable k.begun k.in_order n.item in
     may_turn f.scenario f.tick f.finished f.here turn.actor turn.event k.playable w t.fine t.fresh
 
 -- the record of the turn goes on with the run
-pub under_way_now : (f : State) (cast cast' : Cast) (turn : Turn) (sends : List Parcel) → IsKept f → IsUnderWay f cast → IsNext f turn
-    → ((g : Group) (J : List Record) (tick : ℕ) → IsCast g J cast → IsMember g turn.actor → (sends ≡ sends_of g J turn.actor turn.event) × IsCast g (record_of tick turn.actor turn.event sends ∷ J) cast')
+pub under_way_now : (f : State) (cast cast' : Cast) (turn : Turn) (sends : List Parcel) → IsKeptRun f → IsUnderWay f cast → IsNextTurn f turn
+    → ((g : Group) (J : List Record) (tick : ℕ) → IsCast g J cast → IsMember g turn.actor
+    → (sends ≡ sends_of g J turn.actor turn.event) × IsCast g (record_of tick turn.actor turn.event sends ∷ J) cast')
     → IsUnderWay (with_recorded turn sends (with_taken f)) cast'
 under_way_now f cast cast' turn sends k u n step =
     let may = next_may_turn f turn k u.world n in

@@ -17,7 +17,7 @@ use Rattle.nz_machine.specs.Schedule.{group_of}
 use Rattle.nz_fabric.specs.States.{State, records_of}
 use Rattle.nz_replica.specs.Seats.{ReplicaView}
 use Rattle.nz_proxy.specs.Seats.{ProxyView}
-use Rattle.nz_client.specs.Seats.{ClientView, IsOf}
+use Rattle.nz_client.specs.Seats.{ClientView, IsClientInGroup}
 use Rattle.nz_run.specs.declared.cast.Cast.{Cast}
 
 -- The actor's core: its state is the actor's after the records, and it is live.
@@ -63,7 +63,7 @@ client_node c = record { actor = actors.Client c.seat.me; state = c.seat.state }
 
 -- The client is of the group: its script, the window and the number of proxies.
 abbrev pub ClientFits : ClientView → Group → Type 0
-ClientFits c g = IsOf g c.seat
+ClientFits c g = IsClientInGroup g c.seat
 
 -- What the cores begin with.
 abbrev pub new_replica : ℕ → ℕ → ReplicaView
@@ -75,7 +75,8 @@ new_proxy f me = record { seat = record { f = f; me = me; state = first_proxy f 
 
 -- The core of a client at the start.
 abbrev pub new_client : Scenario → ℕ → ClientView
-new_client s me = record { seat = record { me = me; proxies = s.proxies; window = s.window; script = script_of (group_of s) me; state = first_client }; live = true }
+new_client s me =
+    record { seat = record { me = me; proxies = s.proxies; window = s.window; script = script_of (group_of s) me; state = first_client }; live = true }
 
 -- Every actor of the group has its core.
 pub record IsCast (g : Group) (J : List Record) (cast : Cast) : Type 0 where

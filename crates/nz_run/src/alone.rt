@@ -18,7 +18,8 @@ fn play_next(alone: &mut Alone, cast: &mut Cast) -> Result<bool, NoMemory>
     requires quiet { IsQuiet alone.old }
     requires under_way { IsUnderWay alone.old cast.old }
     ensures { IfOk result (λ more. MatchBool more
-        (IsQuiet alone.new × (IsUnderWay alone.new cast.new × ((alone.new ≡ record alone.old { here = alone.new.here; next = alone.old.next + 1 }) × (alone.old.next < length alone.old.items))))
+        (IsQuiet alone.new × (IsUnderWay alone.new cast.new
+        × ((alone.new ≡ record alone.old { here = alone.new.here; next = alone.old.next + 1 }) × (alone.old.next < length alone.old.items))))
         ((alone.new ≡ alone.old) × ((cast.new ≡ cast.old) × (alone.old.next ≡ length alone.old.items)))) }
 {
     alone.kept();

@@ -3,7 +3,7 @@
 ghost use Rattle.std.specs.Prelude.{◌≡◌, ◌<◌, ◌==◌, ◌∷◌, [], ℕ, List, length, map, get_or, true, IfOk, OnOk};
 ghost use Rattle.nz_base.specs.Actor.{actor_eq};
 ghost use Rattle.nz_base.specs.Cluster.{replica_count};
-ghost use Rattle.nz_base.specs.declared.actor.Actor.{Actor as Actors};
+ghost use Rattle.nz_base.specs.declared.actor.Actor.{Actor as ActorModel};
 ghost use Rattle.nz_machine.specs.declared.event.Record.{Record};
 ghost use Rattle.nz_machine.specs.Replicas.{numbers_below};
 ghost use Rattle.nz_machine.specs.Schedule.{group_of, IsPlayable};
@@ -72,8 +72,10 @@ fn step_at<C: Core>(cores: &mut Vec<C>, place: u8, event: &Event) -> Result<Send
     requires place { place < length cores.old.items }
     requires live { (d : C) → C.live (get_or cores.old.items place d) ≡ true }
     ensures length { length cores.new.items ≡ length cores.old.items }
-    ensures step { IfOk result (λ sends. (g : Group) (named : ℕ → Actors) (J : List Record) (tick : ℕ) → ((i k : ℕ) → actor_eq (named i) (named k) ≡ (i == k)) → AreAt C.meaning C.live C.fits g named J cores.old.items
-        → (sends ≡ sends_of g J (named place) event.now) × AreAt C.meaning C.live C.fits g named (record_of tick (named place) event.now sends ∷ J) cores.new.items) }
+    ensures step { IfOk result (λ sends. (g : Group) (named : ℕ → ActorModel) (J : List Record) (tick : ℕ)
+        → ((i k : ℕ) → actor_eq (named i) (named k) ≡ (i == k)) → AreAt C.meaning C.live C.fits g named J cores.old.items
+        → (sends ≡ sends_of g J (named place) event.now)
+        × AreAt C.meaning C.live C.fits g named (record_of tick (named place) event.now sends ∷ J) cores.new.items) }
 {
     cores[usize::from(place)].step(event)
 }

@@ -2,7 +2,7 @@
 
 ghost use Rattle.std.specs.Prelude.{◌≡◌, ◌+◌, ◌<◌, ◌↔◌, All, ℕ, IfOk, IsTrue};
 ghost use Rattle.nz_machine.specs.Schedule.{group_of, IsPlayable};
-ghost use Rattle.nz_fabric.specs.Dues.{named};
+ghost use Rattle.nz_fabric.specs.Dues.{actor_of_sort};
 ghost use Rattle.nz_fabric.specs.Replays.{IsReplay};
 ghost use Rattle.nz_fabric.specs.Rows.{of_actor};
 ghost use Rattle.nz_fabric.specs.States.{records_of};
@@ -117,8 +117,9 @@ fn all_agree<N: Name, C: Core>(
     sort: Sort,
     count: u8,
 ) -> bool
-    ensures own { IsTrue result ↔ AreOwn (λ s. s.now) (records_of fabric.now.run) (named sort) count states.now }
-    ensures replay { IsTrue result → (k : ℕ) → k < count → IsReplay (group_of N.scenario) (named sort k) (of_actor (named sort k) (records_of fabric.now.run)) }
+    ensures own { IsTrue result ↔ AreOwn (λ s. s.now) (records_of fabric.now.run) (actor_of_sort sort) count states.now }
+    ensures replay { IsTrue result → (k : ℕ) → k < count
+        → IsReplay (group_of N.scenario) (actor_of_sort sort k) (of_actor (actor_of_sort sort k) (records_of fabric.now.run)) }
 {
     if states.len() != usize::from(count) {
         return false;
@@ -139,7 +140,8 @@ fn cells_agree<N: Name, C: Core>(
     sort: Sort,
     count: u8,
 ) -> Result<bool, NoMemory>
-    ensures { IfOk result (λ agree. IsTrue agree → (k : ℕ) → k < count → IsReplay (group_of N.scenario) (named sort k) (of_actor (named sort k) (records_of fabric.now.run))) }
+    ensures { IfOk result (λ agree. IsTrue agree → (k : ℕ) → k < count
+        → IsReplay (group_of N.scenario) (actor_of_sort sort k) (of_actor (actor_of_sort sort k) (records_of fabric.now.run))) }
 {
     let states = states_of(alloc, cells)?;
     Ok(all_agree(fabric, states.as_slice(), sort, count))

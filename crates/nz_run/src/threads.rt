@@ -98,7 +98,8 @@ fn run_named<N: Name + Send + Sync, R: Threads + Wait + Sync, G: Gate + Sync>(
     requires scenario { scenario.now ≡ N.scenario }
     requires playable { IsPlayable scenario.now }
     requires count { (0 < count) × (count ≤ 16) }
-    ensures { IfOk result (λ o. IfSome o (λ journal. (journal.scenario ≡ scenario.now) × (Scheduled scenario.now (run_in journal) × World (group_in journal) (run_in journal)))) }
+    ensures { IfOk result (λ o. IfSome o (λ journal. (journal.scenario ≡ scenario.now)
+        × (Scheduled scenario.now (run_in journal) × World (group_in journal) (run_in journal)))) }
 {
     let (state, share) = FabricState::<N>::new(alloc, blank, scenario.copy(alloc)?)?;
     let mut stage = Stage::<N>::new(alloc, scenario)?;

@@ -47,7 +47,9 @@ pub fn work_all<N: Name + Send + Sync, R: Threads + Wait + Sync, G: Gate + Sync>
     gate: &G,
 )
     requires { All (λ w. w.share.amount ≡ 0) workers.old }
-    ensures { (k : ℕ) (d : _) → k < length workers.old → ((slice_index_or workers.new k d).share.amount ≡ 0) × ((slice_index_or workers.new k d).share.parts ≡ (slice_index_or workers.old k d).share.parts) }
+    ensures { (k : ℕ) (d : _) → k < length workers.old
+        → ((slice_index_or workers.new k d).share.amount ≡ 0)
+        × ((slice_index_or workers.new k d).share.parts ≡ (slice_index_or workers.old k d).share.parts) }
 {
     thread::for_each_mut(
         rt,

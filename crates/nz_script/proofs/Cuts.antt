@@ -1,5 +1,6 @@
 -- Lines and words, by the first newline or space.
-use Rattle.std.proofs.Common.{◌≡◌, ◌≢◌, ℕ, Bool, true, false, cond, List, [], ◌∷◌, ◌++◌, Option, Some, None, refl, sym, ap, subst, ◌∙◌, arith, length, take, drop, get_or, zero, suc, ◌<◌, ◌≤◌, take_all, length-drop, length-append, add-one, ◌+◌, ◌-◌}
+use Rattle.std.proofs.Common.{◌≡◌, ◌≢◌, ℕ, Bool, true, false, cond, List, [], ◌∷◌, ◌++◌, Option, Some, None, refl, sym, ap, subst, ◌∙◌, arith}
+use Rattle.std.proofs.Common.{length, take, drop, get_or, zero, suc, ◌<◌, ◌≤◌, take_all, length-drop, length-append, add-one, ◌+◌, ◌-◌}
 use Rattle.std.specs.Prelude.{◌==◌, ◌||◌}
 use Rattle.std.specs.List.{list_any}
 use Rattle.std.proofs.lemmas.Option.{none-some, same_Some}
@@ -34,7 +35,8 @@ rest_is l k = take_all (length l - (k + 1)) (drop (k + 1) l) (omega (arith, leng
 pub shorter : (at : ℕ) (rest word behind : List ℕ) → cut at rest ≡ Some (word, behind) → length behind < length rest
 shorter at rest word behind parts = omega (arith, ap length (cut-takes at rest (word, behind) parts), length-append word (at ∷ behind))
 
-lacks_step : (b x : ℕ) (xs : List ℕ) (t : Bool) (o : Option (List ℕ × List ℕ)) (p : List ℕ × List ℕ) → (x == b) ≡ t → ((q : List ℕ × List ℕ) → o ≡ Some q → Lacks b q.0) → cond t (Some ([], xs)) (with_front x o) ≡ Some p → Lacks b p.0
+lacks_step : (b x : ℕ) (xs : List ℕ) (t : Bool) (o : Option (List ℕ × List ℕ)) (p : List ℕ × List ℕ) → (x == b) ≡ t
+    → ((q : List ℕ × List ℕ) → o ≡ Some q → Lacks b q.0) → cond t (Some ([], xs)) (with_front x o) ≡ Some p → Lacks b p.0
 lacks_step b x xs true o p t ih e = subst (λ (q : List ℕ × List ℕ). Lacks b q.0) (same_Some _ _ e) tt
 lacks_step b x xs false None p t ih e = absurd (none-some _ e)
 lacks_step b x xs false (Some q) p t ih e = subst (λ (q : List ℕ × List ℕ). Lacks b q.0) (same_Some _ _ e) (eqb-false x b t, ih q refl)
@@ -44,7 +46,8 @@ pub cut-lacks : (b : ℕ) (l : List ℕ) (p : List ℕ × List ℕ) → cut b l 
 cut-lacks b [] p e = absurd cc
 cut-lacks b (x ∷ xs) p e = lacks_step b x xs (x == b) (cut b xs) p refl (cut-lacks b xs) e
 
-none_step : (b x : ℕ) (xs : List ℕ) (t : Bool) (o : Option (List ℕ × List ℕ)) → (x == b) ≡ t → (o ≡ None → Lacks b xs) → cond t (Some ([], xs)) (with_front x o) ≡ None → Lacks b (x ∷ xs)
+none_step : (b x : ℕ) (xs : List ℕ) (t : Bool) (o : Option (List ℕ × List ℕ)) → (x == b) ≡ t → (o ≡ None → Lacks b xs)
+    → cond t (Some ([], xs)) (with_front x o) ≡ None → Lacks b (x ∷ xs)
 none_step b x xs true o t ih e = absurd (none-some _ (sym e))
 none_step b x xs false (Some q) t ih e = absurd (none-some _ (sym e))
 none_step b x xs false None t ih e = (eqb-false x b t, ih refl)
@@ -62,7 +65,8 @@ other x b h = grind (arith, h)
 -- a word that ends where the rest begins
 pub words-word : (x : ℕ) (xs t : List ℕ) → Lacks space (x ∷ xs) → is_word_end t ≡ true → words_in ((x ∷ xs) ++ t) ≡ (x ∷ xs) ∷ words_in t
 words-word x [] t h ends = rw (other x space h.0, ends) refl
-words-word x (y ∷ ys) t h ends = rw (other x space h.0, other y space h.1.0) (ap (onto_first x) (sym (rw (other y space h.1.0) refl) ∙ words-word y ys t h.1 ends))
+words-word x (y ∷ ys) t h ends =
+    rw (other x space h.0, other y space h.1.0) (ap (onto_first x) (sym (rw (other y space h.1.0) refl) ∙ words-word y ys t h.1 ends))
 
 -- no word comes before a space that is first
 pub words-skip : (l w r : List ℕ) → (length w == 0) ≡ true → cut space l ≡ Some (w, r) → words_in l ≡ words_in r
@@ -97,7 +101,8 @@ lines-none l e = lines-lacking l (none-lacks newline l e)
 
 any-line : (w r : List ℕ) → list_any (λ b. b == newline) (w ++ newline ∷ r) ≡ true
 any-line [] r = refl
-any-line (c ∷ cs) r = let ih = any-line cs r in elim (c == newline) as (λ (t : Bool). (t || list_any (λ b. b == newline) (cs ++ newline ∷ r)) ≡ true) [ true ↦ refl | false ↦ ih ]
+any-line (c ∷ cs) r = let ih = any-line cs r in
+    elim (c == newline) as (λ (t : Bool). (t || list_any (λ b. b == newline) (cs ++ newline ∷ r)) ≡ true) [ true ↦ refl | false ↦ ih ]
 
 any-lacking : (l : List ℕ) → Lacks newline l → list_any (λ b. b == newline) l ≡ false
 any-lacking [] h = refl

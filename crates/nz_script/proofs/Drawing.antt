@@ -1,5 +1,6 @@
 -- What is drawn one after another is the drawn list, and what is drawn can be spelled.
-use Rattle.std.proofs.Common.{◌≡◌, ℕ, zero, suc, ◌+◌, ◌-◌, ◌<◌, ◌≤◌, ◌^◌, Bool, true, false, cond, List, [], ◌∷◌, ◌++◌, refl, sym, ap, ◌∙◌, arith, length, append_assoc}
+use Rattle.std.proofs.Common.{◌≡◌, ℕ, zero, suc, ◌+◌, ◌-◌, ◌<◌, ◌≤◌, ◌^◌, Bool, true, false, cond, List}
+use Rattle.std.proofs.Common.{[], ◌∷◌, ◌++◌, refl, sym, ap, ◌∙◌, arith, length, append_assoc}
 use Rattle.std.specs.Prelude.{◌==◌}
 use Rattle.std.specs.List.{list_all}
 use Rattle.std.specs.Char.{is_ascii_digit}
@@ -12,7 +13,8 @@ use Rattle.nz_store.specs.declared.command.Command.{Command}
 use Rattle.nz_store.specs.Grammar.{IsValid, is_graphic}
 use Rattle.nz_store.specs.Reading.{is_text, is_key_text, is_value_text, has_spelling}
 use Rattle.nz_store.proofs.Texts.{tells_valid}
-use Rattle.nz_script.specs.Draws.{next, after, key_of, value_of, command_for, request_for, requests_for, script_for, scripts_for, fault_for, faults_for}
+use Rattle.nz_script.specs.Draws.{next, draws_after, drawn_key, drawn_value, command_for, request_for}
+use Rattle.nz_script.specs.Draws.{requests_for, script_for, scripts_for, fault_for, faults_for}
 use Rattle.nz_script.proofs.Numerals.{own, all-digits}
 
 gap : (j n : ℕ) → j < n → n - j ≡ suc (n - (j + 1))
@@ -32,10 +34,11 @@ next_request x i n front whole r lt same inv =
     ∙ ap (λ (y : Request). front ++ y ∷ requests_for (next (next x)) (i + 1) (n - (i + 1))) same
     ∙ ap (λ (m : ℕ). front ++ requests_for x i m) (sym (gap i n lt)) ∙ inv
 
-pub next_state : (x i n whole : ℕ) → i < n → after (n - i) x ≡ whole → after (n - (i + 1)) (next (next x)) ≡ whole
-next_state x i n whole lt inv = ap (λ (m : ℕ). after m x) (sym (gap i n lt)) ∙ inv
+pub next_state : (x i n whole : ℕ) → i < n → draws_after (n - i) x ≡ whole → draws_after (n - (i + 1)) (next (next x)) ≡ whole
+next_state x i n whole lt inv = ap (λ (m : ℕ). draws_after m x) (sym (gap i n lt)) ∙ inv
 
-pub next_script : (client n : ℕ) (requests : List Request) (front whole : List (List Request)) (s : List Request) → client < n → s ≡ script_for client 0 requests
+pub next_script : (client n : ℕ) (requests : List Request) (front whole : List (List Request)) (s : List Request)
+    → client < n → s ≡ script_for client 0 requests
     → front ++ scripts_for client (n - client) requests ≡ whole → (front ++ s ∷ []) ++ scripts_for (client + 1) (n - (client + 1)) requests ≡ whole
 next_script client n requests front whole s lt same inv =
     append_assoc front (s ∷ []) (scripts_for (client + 1) (n - (client + 1)) requests)
@@ -67,12 +70,13 @@ decimal_short n small = length-decimal-le 20 n (omega arith) (omega (arith, smal
 
 lettered_text : (most letter n : ℕ) → 21 ≤ most → is_graphic letter ≡ true → n < 2 ^ 64 → is_text most (letter ∷ decimal n) ≡ true
 lettered_text most letter n long graphic small =
-    and_from _ _ (and_from _ _ (le-leb 1 (suc (length (decimal n))) (omega arith)) (le-leb (suc (length (decimal n))) most (omega (arith, long, decimal_short n small)))) (and_from _ _ graphic (decimal_graphic n small))
+    and_from _ _ (and_from _ _ (le-leb 1 (suc (length (decimal n))) (omega arith))
+    (le-leb (suc (length (decimal n))) most (omega (arith, long, decimal_short n small)))) (and_from _ _ graphic (decimal_graphic n small))
 
-key_text : (b : ℕ) → b < 2 ^ 64 → is_key_text (key_of b) ≡ true
+key_text : (b : ℕ) → b < 2 ^ 64 → is_key_text (drawn_key b) ≡ true
 key_text b small = lettered_text 32 107 b (omega arith) refl small
 
-value_text : (i : ℕ) → i < 2 ^ 64 → is_value_text (value_of i) ≡ true
+value_text : (i : ℕ) → i < 2 ^ 64 → is_value_text (drawn_value i) ≡ true
 value_text i small = and_from _ _ (lettered_text 256 118 i (omega arith) refl small) refl
 
 choice : (t : Bool) (x y : Command) → has_spelling x ≡ true → has_spelling y ≡ true → has_spelling (cond t x y) ≡ true

@@ -1,7 +1,7 @@
 -- How the words of a line are read.
 use Rattle.std.proofs.Common.{◌≡◌, ℕ, zero, suc, ◌<◌, List, [], ◌∷◌, ◌++◌, None, refl, sym, ap, ◌∙◌, arith, length, map, drop}
 use Rattle.std.specs.Option.{option_map}
-use Rattle.nz_script.specs.declared.shape.Form.{Form}
+use Rattle.nz_script.specs.declared.line_forms.Form.{Form}
 use Rattle.nz_script.specs.declared.word.Word.{Word}
 use Rattle.nz_script.specs.Commands.{fits_first}
 use Rattle.nz_script.specs.Lines.{fits}
@@ -23,7 +23,10 @@ first-short (f ∷ fs) zero lt = refl
 first-short (f ∷ fs) (suc i) lt = first-short fs i (omega (arith, lt))
 
 -- words that lack one do not fit
-pub first_lacking : {R : Type 0} (now : R → List ℕ) (forms : List Form) (i : ℕ) (rest : List R) (whole : List (List ℕ)) (front : List Word) → i < length forms → length rest < 1
-    → option_map (λ (x : List Word × List (List ℕ)). (front ++ x.0, x.1)) (fits_first (drop i forms) (map now rest)) ≡ fits_first forms whole → None ≡ fits_first forms whole
-first_lacking now forms i [] whole front lt none inv = sym (ap (option_map (λ (x : List Word × List (List ℕ)). (front ++ x.0, x.1))) (first-short forms i lt)) ∙ inv
+pub first_lacking : {R : Type 0} (now : R → List ℕ) (forms : List Form) (i : ℕ) (rest : List R) (whole : List (List ℕ)) (front : List Word)
+    → i < length forms → length rest < 1
+    → option_map (λ (x : List Word × List (List ℕ)). (front ++ x.0, x.1)) (fits_first (drop i forms) (map now rest)) ≡ fits_first forms whole
+    → None ≡ fits_first forms whole
+first_lacking now forms i [] whole front lt none inv =
+    sym (ap (option_map (λ (x : List Word × List (List ℕ)). (front ++ x.0, x.1))) (first-short forms i lt)) ∙ inv
 first_lacking now forms i (r ∷ rest) whole front lt none inv = absurd (omega (arith, none))

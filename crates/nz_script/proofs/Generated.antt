@@ -9,23 +9,27 @@ use Rattle.nz_base.specs.declared.scenario.Request.{Request}
 use Rattle.nz_store.specs.Grammar.{spelling}
 use Rattle.nz_store.proofs.Spellings.{reading_from_spells}
 use Rattle.nz_script.specs.declared.group.Group.{Group}
-use Rattle.nz_script.specs.Draws.{next, drawn, command_for, request_for, requests_for, script_for, scripts_for, faults_for, after, generated}
-use Rattle.nz_script.specs.Valid.{group_of, is_request, are_requests, calls_known, IsRunnable}
+use Rattle.nz_script.specs.Draws.{next, draw_after, command_for, request_for, requests_for, script_for, scripts_for, faults_for, draws_after, scenario_of_seed}
+use Rattle.nz_script.specs.Valid.{group_of_scenario, is_request, are_requests, calls_known, IsRunnable}
 use Rattle.nz_script.proofs.Drawing.{command_for_is_valid, length-requests_for}
 
 -- ---- requests
 
 request_is_one : (x i : ℕ) → i < 2 ^ 64 → is_request (request_for x i) ≡ true
 request_is_one x i small =
-    let c = command_for (drawn (next x) % 4) (drawn (next (next x)) % 16) i in
-    let back = reading_from_spells (spelling c) c (record { valid = command_for_is_valid (drawn (next x) % 4) (drawn (next (next x)) % 16) i (omega arith) small; whole = refl }) in
+    let c = command_for (draw_after (next x) % 4) (draw_after (next (next x)) % 16) i in
+    let back =
+    reading_from_spells (spelling c) c
+    (record { valid = command_for_is_valid (draw_after (next x) % 4) (draw_after (next (next x)) % 16) i (omega arith) small; whole = refl }) in
     ap is_some back
 
 requests_are_some : (x i n : ℕ) → i + n < 2 ^ 64 → are_requests (requests_for x i n) ≡ true
 requests_are_some x i zero small = refl
-requests_are_some x i (suc n) small = and_from _ _ (request_is_one x i (omega (arith, small))) (requests_are_some (next (next x)) (i + 1) n (omega (arith, small)))
+requests_are_some x i (suc n) small =
+    and_from _ _ (request_is_one x i (omega (arith, small))) (requests_are_some (next (next x)) (i + 1) n (omega (arith, small)))
 
-taken_or_not : (taken : Bool) (r : Request) (rest : List Request) → is_request r ≡ true → are_requests rest ≡ true → are_requests (cond taken (r ∷ rest) rest) ≡ true
+taken_or_not : (taken : Bool) (r : Request) (rest : List Request) → is_request r ≡ true → are_requests rest ≡ true
+    → are_requests (cond taken (r ∷ rest) rest) ≡ true
 taken_or_not true r rest e h = and_from _ _ e h
 taken_or_not false r rest e h = h
 
@@ -49,7 +53,9 @@ held i client (suc n) rs = length (script_for client i rs) + held i (client + 1)
 held_is : (client n : ℕ) (rs : List Request) → sum_by length (scripts_for client n rs) ≡ held 0 client n rs
 unfolding held
 held_is client zero rs = refl
-held_is client (suc n) rs = sum_by-cons length (script_for client 0 rs) (scripts_for (client + 1) n rs) ∙ ap (λ (m : ℕ). length (script_for client 0 rs) + m) (held_is (client + 1) n rs)
+held_is client (suc n) rs =
+    sum_by-cons length (script_for client 0 rs) (scripts_for (client + 1) n rs)
+    ∙ ap (λ (m : ℕ). length (script_for client 0 rs) + m) (held_is (client + 1) n rs)
 
 -- one of n clients from this one on has the number
 owned : ℕ → ℕ → ℕ → ℕ
@@ -112,7 +118,7 @@ faults_call_nobody g count x j (suc n) = faults_call_nobody g count (next (next 
 
 -- ---- all of it
 
-pub generated_runnable : (seed count : ℕ) → count ≤ 2000 → IsRunnable (generated seed count)
+pub generated_runnable : (seed count : ℕ) → count ≤ 2000 → IsRunnable (scenario_of_seed seed count)
 generated_runnable seed count few =
     let rs = requests_for seed 0 count in
     let scripts = scripts_for 0 16 rs in
@@ -120,14 +126,16 @@ generated_runnable seed count few =
     let held_all = held_few 0 0 16 rs in
     let long = length-requests_for seed 0 count in
     let total : sum_by length scripts ≤ 2000 = omega (arith, few, all, held_all, long) in
-    let lost = faults_long count (after count seed) 0 (count / 50) in
-    let short : length (faults_for count (after count seed) 0 (count / 50)) ≤ 40 = omega (arith, lost, few) in
+    let lost = faults_long count (draws_after count seed) 0 (count / 50) in
+    let short : length (faults_for count (draws_after count seed) 0 (count / 50)) ≤ 40 = omega (arith, lost, few) in
     record {
       group = refl;
       requests = scripts_are_some 0 16 rs (requests_are_some seed 0 count (omega (arith, few)));
       few = and_from _ _ (and_from _ _ (le-leb (sum_by length scripts) 2000 total) (le-leb (sum_by length scripts * 1000) 2000000 (omega (arith, total))))
-          (and_from _ _ (le-leb _ 1000 (omega (arith, short))) (le-leb (sum_by length scripts * length (faults_for count (after count seed) 0 (count / 50))) 200000 (product (sum_by length scripts) (length (faults_for count (after count seed) 0 (count / 50))) total short)));
-      calls = faults_call_nobody (group_of (generated seed count)) count (after count seed) 0 (count / 50);
+          (and_from _ _ (le-leb _ 1000 (omega (arith, short)))
+          (le-leb (sum_by length scripts * length (faults_for count (draws_after count seed) 0 (count / 50))) 200000
+          (product (sum_by length scripts) (length (faults_for count (draws_after count seed) 0 (count / 50))) total short)));
+      calls = faults_call_nobody (group_of_scenario (scenario_of_seed seed count)) count (draws_after count seed) 0 (count / 50);
     }
   where
     product : (a b : ℕ) → a ≤ 2000 → b ≤ 40 → a * b ≤ 200000

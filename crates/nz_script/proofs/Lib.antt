@@ -1,18 +1,18 @@
 -- The modules of this crate's proofs.
 pub mod Cuts
 pub mod Numerals
-pub mod Passing
+pub mod LineTests
 pub mod Fitting
-pub mod Steps
+pub mod LinesLeft
 pub mod Written
 pub mod Drawing
-pub mod Rooms
+pub mod RoomLeft
 pub mod Readable
-pub mod Again
+pub mod ReadAgain
 pub mod Sections
 pub mod Blocks
 pub mod Mishaps
-pub mod Back
-pub mod Sound
+pub mod RoundTrip
+pub mod ReadIsPlayable
 pub mod Generated
 pub mod Asking

@@ -1,5 +1,6 @@
 -- The faults of a valid scenario are taken in, line by line.
-use Rattle.std.proofs.Common.{◌≡◌, ℕ, ◌+◌, ◌*◌, ◌≤◌, Bool, true, cond, List, [], ◌∷◌, ◌++◌, Option, Some, None, refl, sym, ap, subst, ◌∙◌, arith, length, map, append_assoc, length-append}
+use Rattle.std.proofs.Common.{◌≡◌, ℕ, ◌+◌, ◌*◌, ◌≤◌, Bool, true, cond, List, [], ◌∷◌, ◌++◌, Option, Some, None}
+use Rattle.std.proofs.Common.{refl, sym, ap, subst, ◌∙◌, arith, length, map, append_assoc, length-append}
 use Rattle.std.specs.Prelude.{◌&&◌, nat_le}
 use Rattle.std.specs.List.{list_all}
 use Rattle.std.proofs.Math.Nat.{mul-le-mul_left}
@@ -10,21 +11,22 @@ use Rattle.nz_base.specs.declared.scenario.Skew.{Skew}
 use Rattle.nz_base.specs.declared.scenario.Request.{Request}
 use Rattle.nz_base.specs.declared.scenario.Fault.{Fault}
 use Rattle.nz_base.specs.declared.scenario.Fault.TheVariants as fault
-use Rattle.nz_base.specs.Actor.{number_of as actor_number, is_within as is_between}
-use Rattle.nz_script.specs.declared.shape.Place.TheVariants as place
-use Rattle.nz_script.specs.declared.shape.Mishap.{Mishap}
-use Rattle.nz_script.specs.declared.shape.Mishap.TheVariants as mishap
-use Rattle.nz_script.specs.declared.shape.Form.TheVariants as form
+use Rattle.nz_base.specs.Actor.{number_of, is_within}
+use Rattle.nz_script.specs.declared.line_forms.Place.TheVariants as place
+use Rattle.nz_script.specs.declared.line_forms.Mishap.{Mishap}
+use Rattle.nz_script.specs.declared.line_forms.Mishap.TheVariants as mishap
+use Rattle.nz_script.specs.declared.line_forms.Form.TheVariants as form
 use Rattle.nz_script.specs.declared.word.Word.TheVariants as word
 use Rattle.nz_script.specs.declared.group.Group.{Group}
 use Rattle.nz_script.specs.declared.draft.Draft.{Draft}
 use Rattle.nz_script.specs.Shapes.{forms_of}
 use Rattle.nz_script.specs.Forms.{actors_as}
-use Rattle.nz_script.specs.Drafts.{version_has, in_order, is_new_skew, has_room, knows, is_server, is_replica, is_known, all_known, all_within, is_span, fault_in, has_room_for_faults, with_words}
+use Rattle.nz_script.specs.Drafts.{version_has, keeps_order, is_new_skew, has_room_for_line, knows, is_server, is_replica}
+use Rattle.nz_script.specs.Drafts.{is_known, all_known, all_within, is_span, fault_in, has_room_for_faults, with_words}
 use Rattle.nz_script.specs.Texts.{actors_of, fault_line}
 use Rattle.nz_script.specs.Valid.{is_sound}
 use Rattle.nz_script.proofs.Readable.{IsReadAs, number_read, one_actor_read, actors_read, everyone_read, server_read, replica_read, kind_read}
-use Rattle.nz_script.proofs.Again.{AreReadAs, AreTaken, after_lines}
+use Rattle.nz_script.proofs.ReadAgain.{AreReadAs, AreTaken, after_lines}
 use Rattle.nz_script.proofs.Sections.{a_draft, kept, no_fault, between_most, known_small, IsTakenTo, IsSmall}
 
 -- the sort of the fault's line
@@ -49,7 +51,7 @@ half a b e = (and_parts a b e).0
 rest : (a b : Bool) → (a && b) ≡ true → b ≡ true
 rest a b e = (and_parts a b e).1
 
-number : (l m n : ℕ) → m ≤ 16777216 → is_between l m n ≡ true → n ≤ 16777216
+number : (l m n : ℕ) → m ≤ 16777216 → is_within l m n ≡ true → n ≤ 16777216
 number l m n h e = omega (arith, h, between_most l m n e)
 
 number_again : (n : ℕ) → n ≤ 16777216 → cond (nat_le n 4294967295) n 4294967295 ≡ n
@@ -60,16 +62,16 @@ reads_number l m n h = number_read l m n (omega (arith, h))
 
 -- who sends, who gets and which kind
 record IsParcel (a b : Actor) (k : ℕ) : Type 0 where
-  from : actor_number a ≤ 99
-  to : actor_number b ≤ 99
+  from : number_of a ≤ 99
+  to : number_of b ≤ 99
   low : 1 ≤ k
   high : k ≤ 18
 
-parcel : (g : Group) (a b : Actor) (k : ℕ) (more : Bool) → IsSmall g → (knows g a && (knows g b && (is_between 1 18 k && more))) ≡ true → IsParcel a b k
+parcel : (g : Group) (a b : Actor) (k : ℕ) (more : Bool) → IsSmall g → (knows g a && (knows g b && (is_within 1 18 k && more))) ≡ true → IsParcel a b k
 parcel g a b k more small e =
-    let p = and_parts (knows g a) (knows g b && (is_between 1 18 k && more)) e in
-    let q = and_parts (knows g b) (is_between 1 18 k && more) p.1 in
-    let r = and_parts (nat_le 1 k) (nat_le k 18) (half (is_between 1 18 k) more q.1) in
+    let p = and_parts (knows g a) (knows g b && (is_within 1 18 k && more)) e in
+    let q = and_parts (knows g b) (is_within 1 18 k && more) p.1 in
+    let r = and_parts (nat_le 1 k) (nat_le k 18) (half (is_within 1 18 k) more q.1) in
     record { from = known_small g a small p.0; to = known_small g b small q.0; low = leb-true 1 k r.0; high = leb-true k 18 r.1 }
 
 actors_part : (g : Group) (o : Option Actor) → IsSmall g → is_known g form.Actors (actors_of o) ≡ true → IsReadAs form.Actors (actors_of o)
@@ -92,28 +94,31 @@ wide n = cond (nat_le n 4294967295) n 4294967295
 fault_read : (g : Group) (f : Fault) → IsSmall g → known g f ≡ true → within f ≡ true → IsFaultRead f
 fault_read g (fault.Drop a b k n) small e h =
     let q = parcel g a b k true small e in
-    let c = number 1 1000000 n (omega arith) (half (is_between 1 1000000 n) true h) in
-    record { reads = (one_actor_read a q.from, (one_actor_read b q.to, (kind_read k q.low q.high, (reads_number 1 1000000 n c, tt)))); again = ap (λ (m : ℕ). fault.Drop a b k m) (number_again n c) }
+    let c = number 1 1000000 n (omega arith) (half (is_within 1 1000000 n) true h) in
+    record {
+      reads = (one_actor_read a q.from, (one_actor_read b q.to, (kind_read k q.low q.high, (reads_number 1 1000000 n c, tt))));
+      again = ap (λ (m : ℕ). fault.Drop a b k m) (number_again n c);
+    }
 fault_read g (fault.Hold a b k n d) small e h =
     let q = parcel g a b k true small e in
-    let c = number 1 1000000 n (omega arith) (half (is_between 1 1000000 n) (is_between 1 20000 d && true) h) in
-    let l = number 1 20000 d (omega arith) (half (is_between 1 20000 d) true (rest (is_between 1 1000000 n) (is_between 1 20000 d && true) h)) in
+    let c = number 1 1000000 n (omega arith) (half (is_within 1 1000000 n) (is_within 1 20000 d && true) h) in
+    let l = number 1 20000 d (omega arith) (half (is_within 1 20000 d) true (rest (is_within 1 1000000 n) (is_within 1 20000 d && true) h)) in
     record {
       reads = (one_actor_read a q.from, (one_actor_read b q.to, (kind_read k q.low q.high, (reads_number 1 1000000 n c, (reads_number 1 20000 d l, tt)))));
       again = ap (λ (m : ℕ). fault.Hold a b k m (wide d)) (number_again n c) ∙ ap (λ (m : ℕ). fault.Hold a b k n m) (number_again d l);
     }
 fault_read g (fault.Twice a b k n d) small e h =
     let q = parcel g a b k true small e in
-    let c = number 1 1000000 n (omega arith) (half (is_between 1 1000000 n) (is_between 0 20000 d && true) h) in
-    let l = number 0 20000 d (omega arith) (half (is_between 0 20000 d) true (rest (is_between 1 1000000 n) (is_between 0 20000 d && true) h)) in
+    let c = number 1 1000000 n (omega arith) (half (is_within 1 1000000 n) (is_within 0 20000 d && true) h) in
+    let l = number 0 20000 d (omega arith) (half (is_within 0 20000 d) true (rest (is_within 1 1000000 n) (is_within 0 20000 d && true) h)) in
     record {
       reads = (one_actor_read a q.from, (one_actor_read b q.to, (kind_read k q.low q.high, (reads_number 1 1000000 n c, (reads_number 0 20000 d l, tt)))));
       again = ap (λ (m : ℕ). fault.Twice a b k m (wide d)) (number_again n c) ∙ ap (λ (m : ℕ). fault.Twice a b k n m) (number_again d l);
     }
 fault_read g (fault.Cut a b k n d) small e h =
     let q = parcel g a b k true small e in
-    let c = number 1 1000000 n (omega arith) (half (is_between 1 1000000 n) (is_between 0 16777216 d && true) h) in
-    let l = number 0 16777216 d (omega arith) (half (is_between 0 16777216 d) true (rest (is_between 1 1000000 n) (is_between 0 16777216 d && true) h)) in
+    let c = number 1 1000000 n (omega arith) (half (is_within 1 1000000 n) (is_within 0 16777216 d && true) h) in
+    let l = number 0 16777216 d (omega arith) (half (is_within 0 16777216 d) true (rest (is_within 1 1000000 n) (is_within 0 16777216 d && true) h)) in
     record {
       reads = (one_actor_read a q.from, (one_actor_read b q.to, (kind_read k q.low q.high, (reads_number 1 1000000 n c, (reads_number 0 16777216 d l, tt)))));
       again = ap (λ (m : ℕ). fault.Cut a b k m (wide d)) (number_again n c) ∙ ap (λ (m : ℕ). fault.Cut a b k n m) (number_again d l);
@@ -121,8 +126,8 @@ fault_read g (fault.Cut a b k n d) small e h =
 fault_read g (fault.Block a b first last) small e h =
     let p = and_parts (is_known g form.Actors (actors_of a)) (is_known g form.Actors (actors_of b) && true) e in
     let q = half (is_known g form.Actors (actors_of b)) true p.1 in
-    let c = number 1 20000 first (omega arith) (half (is_between 1 20000 first) (is_between 1 20000 last && true) h) in
-    let l = number 1 20000 last (omega arith) (half (is_between 1 20000 last) true (rest (is_between 1 20000 first) (is_between 1 20000 last && true) h)) in
+    let c = number 1 20000 first (omega arith) (half (is_within 1 20000 first) (is_within 1 20000 last && true) h) in
+    let l = number 1 20000 last (omega arith) (half (is_within 1 20000 last) true (rest (is_within 1 20000 first) (is_within 1 20000 last && true) h)) in
     record {
       reads = (actors_part g a small p.0, (actors_part g b small q, (reads_number 1 20000 first c, (reads_number 1 20000 last l, tt))));
       again = ap (λ (o : Option Actor). fault.Block o (actors_as (Some (actors_of b))) (wide first) (wide last)) (actors_again a)
@@ -131,22 +136,32 @@ fault_read g (fault.Block a b first last) small e h =
     }
 fault_read g (fault.Crash a t) small e h =
     let p = half (is_server a && knows g a) true e in
-    let c = number 1 20000 t (omega arith) (half (is_between 1 20000 t) true h) in
-    record { reads = (server_read a (known_small g a small (rest (is_server a) (knows g a) p)), (reads_number 1 20000 t c, tt)); again = ap (λ (m : ℕ). fault.Crash a m) (number_again t c) }
+    let c = number 1 20000 t (omega arith) (half (is_within 1 20000 t) true h) in
+    record {
+      reads = (server_read a (known_small g a small (rest (is_server a) (knows g a) p)), (reads_number 1 20000 t c, tt));
+      again = ap (λ (m : ℕ). fault.Crash a m) (number_again t c);
+    }
 fault_read g (fault.Restart a t) small e h =
     let p = half (is_server a && knows g a) true e in
-    let c = number 1 20000 t (omega arith) (half (is_between 1 20000 t) true h) in
-    record { reads = (server_read a (known_small g a small (rest (is_server a) (knows g a) p)), (reads_number 1 20000 t c, tt)); again = ap (λ (m : ℕ). fault.Restart a m) (number_again t c) }
+    let c = number 1 20000 t (omega arith) (half (is_within 1 20000 t) true h) in
+    record {
+      reads = (server_read a (known_small g a small (rest (is_server a) (knows g a) p)), (reads_number 1 20000 t c, tt));
+      again = ap (λ (m : ℕ). fault.Restart a m) (number_again t c);
+    }
 fault_read g (fault.Alarm a t) small e h =
     let p = half (is_replica a && knows g a) true e in
-    let c = number 1 20000 t (omega arith) (half (is_between 1 20000 t) true h) in
-    record { reads = (replica_read a (known_small g a small (rest (is_replica a) (knows g a) p)), (reads_number 1 20000 t c, tt)); again = ap (λ (m : ℕ). fault.Alarm a m) (number_again t c) }
+    let c = number 1 20000 t (omega arith) (half (is_within 1 20000 t) true h) in
+    record {
+      reads = (replica_read a (known_small g a small (rest (is_replica a) (knows g a) p)), (reads_number 1 20000 t c, tt));
+      again = ap (λ (m : ℕ). fault.Alarm a m) (number_again t c);
+    }
 
 -- the draft after the blocks
 abbrev pub mishaps : ℕ → Group → ℕ → List Skew → List (List Request) → ℕ → List Fault → Draft
 mishaps v g t ks ss r fs = a_draft place.Mishaps v g t ks ss [] 0 r fs
 
-ordered : (v : ℕ) (g : Group) (t : ℕ) (ks : List Skew) (ss : List (List Request)) (r : ℕ) (fs : List Fault) (f : Fault) → in_order (mishaps v g t ks ss r fs) (fault_line f) ≡ true
+ordered : (v : ℕ) (g : Group) (t : ℕ) (ks : List Skew) (ss : List (List Request)) (r : ℕ) (fs : List Fault) (f : Fault)
+    → keeps_order (mishaps v g t ks ss r fs) (fault_line f) ≡ true
 ordered v g t ks ss r fs (fault.Drop a b k n) = refl
 ordered v g t ks ss r fs (fault.Hold a b k n x) = refl
 ordered v g t ks ss r fs (fault.Twice a b k n x) = refl
@@ -176,7 +191,7 @@ no_skew d (fault.Crash a x) = refl
 no_skew d (fault.Restart a x) = refl
 no_skew d (fault.Alarm a x) = refl
 
-room_of : (d : Draft) (f : Fault) → has_room d (fault_line f).verb ≡ has_room_for_faults d.requests (length d.faults + 1)
+room_of : (d : Draft) (f : Fault) → has_room_for_line d (fault_line f).verb ≡ has_room_for_faults d.requests (length d.faults + 1)
 room_of d (fault.Drop a b k n) = refl
 room_of d (fault.Hold a b k n x) = refl
 room_of d (fault.Twice a b k n x) = refl
@@ -186,7 +201,9 @@ room_of d (fault.Crash a x) = refl
 room_of d (fault.Restart a x) = refl
 room_of d (fault.Alarm a x) = refl
 
-with_fault : (v : ℕ) (g : Group) (t : ℕ) (ks : List Skew) (ss : List (List Request)) (r : ℕ) (fs : List Fault) (f : Fault) → with_words (mishaps v g t ks ss r fs) (fault_line f).verb (fault_line f).words ≡ mishaps v g t ks ss r (fs ++ fault_in (mishap_of f) (fault_line f).words ∷ [])
+with_fault : (v : ℕ) (g : Group) (t : ℕ) (ks : List Skew) (ss : List (List Request)) (r : ℕ) (fs : List Fault) (f : Fault)
+    → with_words (mishaps v g t ks ss r fs) (fault_line f).verb (fault_line f).words
+    ≡ mishaps v g t ks ss r (fs ++ fault_in (mishap_of f) (fault_line f).words ∷ [])
 with_fault v g t ks ss r fs (fault.Drop a b k n) = refl
 with_fault v g t ks ss r fs (fault.Hold a b k n x) = refl
 with_fault v g t ks ss r fs (fault.Twice a b k n x) = refl
@@ -199,9 +216,11 @@ with_fault v g t ks ss r fs (fault.Alarm a x) = refl
 fewer_faults : (r a b : ℕ) → a ≤ b → has_room_for_faults r b ≡ true → has_room_for_faults r a ≡ true
 fewer_faults r a b h e =
     let p = and_parts (nat_le b 1000) (nat_le (r * b) 200000) e in
-    and_from _ _ (le-leb a 1000 (omega (arith, h, leb-true b 1000 p.0))) (le-leb (r * a) 200000 (omega (arith, mul-le-mul_left r h, leb-true (r * b) 200000 p.1)))
+    and_from _ _ (le-leb a 1000 (omega (arith, h, leb-true b 1000 p.0)))
+    (le-leb (r * a) 200000 (omega (arith, mul-le-mul_left r h, leb-true (r * b) 200000 p.1)))
 
-pub faults_taken : (v : ℕ) (g : Group) (t : ℕ) (ks : List Skew) (ss : List (List Request)) (r : ℕ) (done fs : List Fault) → IsSmall g → list_all (λ f. is_sound g (fault_line f)) fs ≡ true
+pub faults_taken : (v : ℕ) (g : Group) (t : ℕ) (ks : List Skew) (ss : List (List Request)) (r : ℕ) (done fs : List Fault) → IsSmall g
+    → list_all (λ f. is_sound g (fault_line f)) fs ≡ true
     → has_room_for_faults r (length done + length fs) ≡ true → IsTakenTo (mishaps v g t ks ss r done) (map fault_line fs) (mishaps v g t ks ss r (done ++ fs))
 faults_taken v g t ks ss r done [] small e room = record { taken = tt; after = ap (mishaps v g t ks ss r) (sym (append-nil done)) }
 faults_taken v g t ks ss r done (f ∷ fs) small e room =
@@ -217,7 +236,8 @@ faults_taken v g t ks ss r done (f ∷ fs) small e room =
     record {
       taken = (
         x.reads,
-        no_fault (mishaps v g t ks ss r done) (fault_line f) (any_version v f) (ordered v g t ks ss r done f) (and_from _ _ q.0 (no_skew (mishaps v g t ks ss r done) f))
+        no_fault (mishaps v g t ks ss r done) (fault_line f) (any_version v f) (ordered v g t ks ss r done f)
+            (and_from _ _ q.0 (no_skew (mishaps v g t ks ss r done) f))
             (and_from _ _ q.1 (room_of (mishaps v g t ks ss r done) f ∙ fewer_faults r (length done + 1) (length done + length (f ∷ fs)) (omega arith) room)),
         subst (λ (d : Draft). AreTaken d (map fault_line fs)) (sym step) more.taken,
       );

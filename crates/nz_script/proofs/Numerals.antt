@@ -31,7 +31,8 @@ pub numeral_parts : (word : List ℕ) → is_numeral word ≡ true → IsNumeral
 numeral_parts word e = record { some = grind (arith, e); short = grind (arith, e); digits = grind (arith, e) }
 
 pub numeral_is_utf8 : (word : List ℕ) → is_numeral word ≡ true → IsUtf8 word
-numeral_is_utf8 word e = IsUtf8-from_ascii word (IsAscii-from_all word (All-from_recursion (λ b. b < 128) word (digits_are_ascii word (numeral_parts word e).digits)))
+numeral_is_utf8 word e =
+    IsUtf8-from_ascii word (IsAscii-from_all word (All-from_recursion (λ b. b < 128) word (digits_are_ascii word (numeral_parts word e).digits)))
 
 pub parsed : {E : Type 0} (word : List ℕ) (r : Result ℕ E) → is_numeral word ≡ true → ParsesUnsigned 64 10 word r → r ≡ Ok (read_on 0 word)
 parsed word r e h =

@@ -7,29 +7,29 @@ use Rattle.nz_base.specs.declared.scenario.Skew.{Skew}
 use Rattle.nz_base.specs.declared.scenario.Fault.{Fault}
 use Rattle.nz_base.specs.declared.scenario.Fault.TheVariants as fault
 use Rattle.nz_base.specs.declared.scenario.Scenario.{Scenario}
-use Rattle.nz_base.specs.Actor.{actor_eq, is_within as is_between}
+use Rattle.nz_base.specs.Actor.{actor_eq, is_within}
 use Rattle.nz_base.specs.Cluster.{replica_count}
 use Rattle.nz_store.specs.declared.command.Command.{Command}
 use Rattle.nz_store.specs.declared.command.Command.TheVariants as command
 use Rattle.nz_store.specs.Grammar.{spelling}
 use Rattle.nz_store.specs.Reading.{is_key_text, is_value_text}
-use Rattle.nz_script.specs.declared.shape.Place.TheVariants as place
-use Rattle.nz_script.specs.declared.shape.Head.{Head}
-use Rattle.nz_script.specs.declared.shape.Head.TheVariants as head
-use Rattle.nz_script.specs.declared.shape.Ask.{Ask}
-use Rattle.nz_script.specs.declared.shape.Ask.TheVariants.{Put, Get, Del, Cas}
-use Rattle.nz_script.specs.declared.shape.Mishap.{Mishap}
-use Rattle.nz_script.specs.declared.shape.Mishap.TheVariants as mishap
-use Rattle.nz_script.specs.declared.shape.Verb.{Verb}
-use Rattle.nz_script.specs.declared.shape.Verb.TheVariants as verb
-use Rattle.nz_script.specs.declared.shape.Form.{Form}
-use Rattle.nz_script.specs.declared.shape.Form.TheVariants as form
+use Rattle.nz_script.specs.declared.line_forms.Place.TheVariants as place
+use Rattle.nz_script.specs.declared.line_forms.Head.{Head}
+use Rattle.nz_script.specs.declared.line_forms.Head.TheVariants as head
+use Rattle.nz_script.specs.declared.line_forms.Ask.{Ask}
+use Rattle.nz_script.specs.declared.line_forms.Ask.TheVariants.{Put, Get, Del, Cas}
+use Rattle.nz_script.specs.declared.line_forms.Mishap.{Mishap}
+use Rattle.nz_script.specs.declared.line_forms.Mishap.TheVariants as mishap
+use Rattle.nz_script.specs.declared.line_forms.Verb.{Verb}
+use Rattle.nz_script.specs.declared.line_forms.Verb.TheVariants as verb
+use Rattle.nz_script.specs.declared.line_forms.Form.{Form}
+use Rattle.nz_script.specs.declared.line_forms.Form.TheVariants as form
 use Rattle.nz_script.specs.declared.word.Word.{Word}
 use Rattle.nz_script.specs.declared.word.Word.TheVariants as word
 use Rattle.nz_script.specs.declared.line.Line.{Line}
 use Rattle.nz_script.specs.declared.group.Group.{Group}
 use Rattle.nz_script.specs.declared.draft.Draft.{Draft}
-use Rattle.nz_script.specs.Shapes.{rank_of, place_of, forms_of}
+use Rattle.nz_script.specs.Shapes.{place_rank, verb_place, forms_of}
 use Rattle.nz_script.specs.Forms.{number_in, byte_in, units_in, actor_in, actors_in, kind_in, text_in, choice_in}
 
 -- ---- version
@@ -54,8 +54,8 @@ is_in_turn d verb.Client words = is_turn d words
 is_in_turn d _ words = true
 
 -- The line is in its place.
-abbrev pub in_order : Draft → Line → Bool
-in_order d line = (rank_of d.place == rank_of (place_of line.verb)) && is_in_turn d line.verb line.words
+abbrev pub keeps_order : Draft → Line → Bool
+keeps_order d line = (place_rank d.place == place_rank (verb_place line.verb)) && is_in_turn d line.verb line.words
 
 -- ---- names
 
@@ -91,7 +91,7 @@ suits _ a = true
 abbrev pub is_known : Group → Form → Word → Bool
 is_known g f (word.Named a) = suits f a && knows g a
 is_known g f (word.Kind None) = false
-is_known g f (word.Kind (Some kind)) = is_between 1 18 kind
+is_known g f (word.Kind (Some kind)) = is_within 1 18 kind
 is_known g f _ = true
 
 -- Whether the actors and kinds in the words, each of its form, are there.
@@ -126,9 +126,9 @@ has_units (word.Units back n) = nat_le n 4611686018427387904
 has_units _ = false
 
 -- Whether the word is a key.
-abbrev pub has_key : Word → Bool
-has_key (word.Text text) = is_key_text text
-has_key _ = false
+abbrev pub is_key_word : Word → Bool
+is_key_word (word.Text text) = is_key_text text
+is_key_word _ = false
 
 -- Whether the word is a value.
 abbrev pub has_value : Word → Bool
@@ -141,19 +141,19 @@ has_choice word.Nothing = true
 has_choice w = has_value w
 
 -- The number or the length is in the range of the form.
-abbrev pub is_within : Form → Word → Bool
-is_within (form.Number least most) w = has_number least most w
-is_within form.Units w = has_units w
-is_within form.Key w = has_key w
-is_within form.Value w = has_value w
-is_within form.Choice w = has_choice w
-is_within _ w = true
+abbrev pub word_within : Form → Word → Bool
+word_within (form.Number least most) w = has_number least most w
+word_within form.Units w = has_units w
+word_within form.Key w = is_key_word w
+word_within form.Value w = has_value w
+word_within form.Choice w = has_choice w
+word_within _ w = true
 
 -- Whether the words, each of its form, are within their limits.
 abbrev pub all_within : List Form → List Word → Bool
 all_within [] words = true
 all_within (f ∷ forms) [] = false
-all_within (f ∷ forms) (w ∷ words) = is_within f w && all_within forms words
+all_within (f ∷ forms) (w ∷ words) = word_within f w && all_within forms words
 
 -- 2,000 requests and 2,000,000 requests times ticks.
 abbrev pub has_room_for_requests : ℕ → ℕ → Bool
@@ -164,10 +164,10 @@ abbrev pub has_room_for_faults : ℕ → ℕ → Bool
 has_room_for_faults requests faults = nat_le faults 1000 && nat_le (requests * faults) 200000
 
 -- With this line there are not too many of its sort.
-abbrev pub has_room : Draft → Verb → Bool
-has_room d (verb.Ask a) = has_room_for_requests (d.requests + 1) d.ticks
-has_room d (verb.Mishap m) = has_room_for_faults d.requests (length d.faults + 1)
-has_room d _ = true
+abbrev pub has_room_for_line : Draft → Verb → Bool
+has_room_for_line d (verb.Ask a) = has_room_for_requests (d.requests + 1) d.ticks
+has_room_for_line d (verb.Mishap m) = has_room_for_faults d.requests (length d.faults + 1)
+has_room_for_line d _ = true
 
 -- The ticks of a block are in order.
 abbrev pub is_span : Verb → List Word → Bool
@@ -176,16 +176,16 @@ is_span _ words = true
 
 -- Its numbers and lengths are in range, and so are the sums and the products with it.
 abbrev pub within_limits : Draft → Line → Bool
-within_limits d line = (all_within (forms_of line.verb) line.words && is_span line.verb line.words) && has_room d line.verb
+within_limits d line = (all_within (forms_of line.verb) line.words && is_span line.verb line.words) && has_room_for_line d line.verb
 
 -- ---- what a line adds
 
 -- The command that the words spell, by its first word.
-abbrev pub command_in : Ask → List Word → Command
-command_in Put words = command.Put (text_in 0 words) (text_in 1 words)
-command_in Get words = command.Get (text_in 0 words)
-command_in Del words = command.Del (text_in 0 words)
-command_in Cas words = command.Cas (text_in 0 words) (choice_in 1 words) (choice_in 2 words)
+abbrev pub command_asked : Ask → List Word → Command
+command_asked Put words = command.Put (text_in 0 words) (text_in 1 words)
+command_asked Get words = command.Get (text_in 0 words)
+command_asked Del words = command.Del (text_in 0 words)
+command_asked Cas words = command.Cas (text_in 0 words) (choice_in 1 words) (choice_in 2 words)
 
 -- The fault that the words spell, by its first word.
 abbrev pub fault_in : Mishap → List Word → Fault
@@ -229,7 +229,7 @@ abbrev pub with_words : Draft → Verb → List Word → Draft
 with_words d (verb.Head h) words = with_head d h words
 with_words d verb.Skew words = record d { skews = d.skews ++ skew_in words ∷ [] }
 with_words d verb.Client words = record d { place = place.Block }
-with_words d (verb.Ask a) words = with_request d (command_in a words)
+with_words d (verb.Ask a) words = with_request d (command_asked a words)
 with_words d verb.Wait words = record d { wait = number_in 0 words }
 with_words d verb.End words = with_script d
 with_words d (verb.Mishap m) words = record d { faults = d.faults ++ fault_in m words ∷ [] }
@@ -237,8 +237,8 @@ with_words d verb.Done words = record d { place = place.Behind }
 
 -- Before the first line: the window is 1 where no line gives it, and the other numbers of the head are set before
 -- they are used.
-abbrev pub start : Draft
-start = record {
+abbrev pub first_draft : Draft
+first_draft = record {
   place = place.Version;
   version = 1;
   group = record { cluster = 1; proxies = 1; clients = 1; window = 1 };

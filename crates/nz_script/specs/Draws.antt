@@ -15,33 +15,33 @@ unfoldable pub next : ℕ → ℕ
 next x = (x * 6364136223846793005 + 1442695040888963407) % 2 ^ 64
 
 -- The number that the draw gives which led to this state.
-abbrev pub drawn : ℕ → ℕ
-drawn x = x / 2 ^ 33
+abbrev pub draw_after : ℕ → ℕ
+draw_after x = x / 2 ^ 33
 
 -- The state after this many pairs of draws.
-abbrev pub after : ℕ → ℕ → ℕ
-after zero x = x
-after (suc n) x = after n (next (next x))
+abbrev pub draws_after : ℕ → ℕ → ℕ
+draws_after zero x = x
+draws_after (suc n) x = draws_after n (next (next x))
 
 -- `kB`.
-abbrev pub key_of : ℕ → List ℕ
-key_of b = 107 ∷ decimal b
+abbrev pub drawn_key : ℕ → List ℕ
+drawn_key b = 107 ∷ decimal b
 
 -- `vI`.
-abbrev pub value_of : ℕ → List ℕ
-value_of i = 118 ∷ decimal i
+abbrev pub drawn_value : ℕ → List ℕ
+drawn_value i = 118 ∷ decimal i
 
 -- Put, get, del or cas from absent, by a; the key is by b and the value by i.
 abbrev pub command_for : ℕ → ℕ → ℕ → Command
 command_for a b i =
-    if a == 0 then command.Put (key_of b) (value_of i)
-    else (if a == 1 then command.Get (key_of b)
-    else (if a == 2 then command.Del (key_of b)
-    else command.Cas (key_of b) None (Some (value_of i))))
+    if a == 0 then command.Put (drawn_key b) (drawn_value i)
+    else (if a == 1 then command.Get (drawn_key b)
+    else (if a == 2 then command.Del (drawn_key b)
+    else command.Cas (drawn_key b) None (Some (drawn_value i))))
 
 -- Request i, of the two draws after this state.
 abbrev pub request_for : ℕ → ℕ → Request
-request_for x i = record { wait = 0; command = spelling (command_for (drawn (next x) % 4) (drawn (next (next x)) % 16) i) }
+request_for x i = record { wait = 0; command = spelling (command_for (draw_after (next x) % 4) (draw_after (next (next x)) % 16) i) }
 
 -- The requests from i on, two draws each.
 abbrev pub requests_for : ℕ → ℕ → ℕ → List Request
@@ -60,7 +60,7 @@ scripts_for client (suc n) requests = script_for client 0 requests ∷ scripts_f
 
 -- Fault j: the timed message of a drawn request to a drawn replica is lost.
 abbrev pub fault_for : ℕ → ℕ → ℕ → Fault
-fault_for count x j = fault.Drop (Proxy (j % 2)) (Replica (drawn (next x) % 5)) 2 (1 + drawn (next (next x)) % count)
+fault_for count x j = fault.Drop (Proxy (j % 2)) (Replica (draw_after (next x) % 5)) 2 (1 + draw_after (next (next x)) % count)
 
 -- The faults from j on, two draws each.
 abbrev pub faults_for : ℕ → ℕ → ℕ → ℕ → List Fault
@@ -69,8 +69,8 @@ faults_for count x j (suc n) = fault_for count x j ∷ faults_for count (next (n
 
 -- f is 2, and there are 2 proxies, 16 clients with one request open at a time, 1,000 ticks, and a fault for each 50
 -- requests.
-abbrev pub generated : ℕ → ℕ → Scenario
-generated seed count = record {
+abbrev pub scenario_of_seed : ℕ → ℕ → Scenario
+scenario_of_seed seed count = record {
   cluster = 2;
   proxies = 2;
   clients = 16;
@@ -78,5 +78,5 @@ generated seed count = record {
   ticks = 1000;
   skews = [];
   scripts = scripts_for 0 16 (requests_for seed 0 count);
-  faults = faults_for count (after count seed) 0 (count / 50);
+  faults = faults_for count (draws_after count seed) 0 (count / 50);
 }

@@ -3,8 +3,8 @@ use Rattle.std.specs.Prelude.{ℕ, Bool, true, false, nat_le, ◌==◌, if◌the
 use Rattle.std.specs.Str.{bytes_eq}
 use Rattle.nz_base.specs.declared.actor.Actor.{Actor}
 use Rattle.nz_base.specs.declared.actor.Actor.TheVariants as actor
-use Rattle.nz_script.specs.declared.shape.Form.{Form}
-use Rattle.nz_script.specs.declared.shape.Form.TheVariants as form
+use Rattle.nz_script.specs.declared.line_forms.Form.{Form}
+use Rattle.nz_script.specs.declared.line_forms.Form.TheVariants as form
 use Rattle.nz_script.specs.declared.word.Word.{Word}
 use Rattle.nz_script.specs.declared.word.Word.TheVariants.{Number, Units, Named, Everyone, Kind, Text, Nothing}
 use Rattle.nz_script.specs.Bytes.{minus, number_of}
@@ -17,8 +17,8 @@ abbrev pub ◌>>=◌ : {A B : Type 0} → Option A → (A → Option B) → Opti
 None >>= f = None
 
 -- The sort that a letter names, and the number.
-abbrev pub lettered : ℕ → ℕ → Option Actor
-lettered letter n =
+abbrev pub actor_of_letter : ℕ → ℕ → Option Actor
+actor_of_letter letter n =
     if letter == 114 then Some (actor.Replica n)
     else (if letter == 112 then Some (actor.Proxy n)
     else (if letter == 99 then Some (actor.Client n) else None))
@@ -26,7 +26,7 @@ lettered letter n =
 -- An actor is named by `r`, `p` or `c` and a number of one or two digits.
 unfoldable pub actor_named : List ℕ → Option Actor
 actor_named [] = None
-actor_named (letter ∷ digits) = number_of digits >>= λ n. if nat_le n 99 then lettered letter n else None
+actor_named (letter ∷ digits) = number_of digits >>= λ n. if nat_le n 99 then actor_of_letter letter n else None
 
 -- A word as a number.
 unfoldable pub number_word : List ℕ → Option Word
@@ -85,12 +85,12 @@ abbrev pub byte_in : ℕ → List Word → ℕ
 byte_in place words = number_as 255 (slice_get words place)
 
 -- A number of units, below 0 where the clock is behind.
-abbrev pub signed : Bool → ℕ → ℤ
-signed back n = if back then neg_ℤ (pos n) else pos n
+abbrev pub with_sign : Bool → ℕ → ℤ
+with_sign back n = if back then neg_ℤ (pos n) else pos n
 
 -- The skew that a word is.
 abbrev pub units_as : Option Word → ℤ
-units_as (Some (Units back n)) = if nat_le n 4611686018427387904 then signed back n else pos 0
+units_as (Some (Units back n)) = if nat_le n 4611686018427387904 then with_sign back n else pos 0
 units_as _ = pos 0
 
 -- The skew in a place of the words.

@@ -1,8 +1,8 @@
 -- The shape of a line: what the bytes of a line are, by the table.
 use Rattle.std.specs.Prelude.{ℕ, if◌then◌else◌, List, [], ◌∷◌, Option, Some, None}
 use Rattle.std.specs.List.{list_all}
-use Rattle.nz_script.specs.declared.shape.Form.{Form}
-use Rattle.nz_script.specs.declared.shape.Verb.{Verb}
+use Rattle.nz_script.specs.declared.line_forms.Form.{Form}
+use Rattle.nz_script.specs.declared.line_forms.Verb.{Verb}
 use Rattle.nz_script.specs.declared.word.Word.{Word}
 use Rattle.nz_script.specs.declared.line.Line.{Line}
 use Rattle.nz_script.specs.Bytes.{is_printed, words_in}

@@ -2,7 +2,9 @@
 use Rattle.std.specs.Prelude.{ℕ, ◌==◌, if◌then◌else◌, List, [], ◌∷◌, Option, Some, None, codes}
 use Rattle.std.specs.Str.{bytes_eq}
 use Rattle.nz_script.specs.declared.message.Message.{Message}
-use Rattle.nz_script.specs.declared.message.Message.TheVariants.{Request, Timed, FastReply, SlowReply, Answer, LogMod, Fetch, FetchReply, SyncReport, ViewAsk, ViewChange, StartView, VectorAsk, VectorTell, RejoinAsk, RejoinTell, StateAsk, StateTell}
+use Rattle.nz_script.specs.declared.message.Message.TheVariants.{Request, Timed, FastReply, SlowReply, Answer, LogMod, Fetch, FetchReply}
+use Rattle.nz_script.specs.declared.message.Message.TheVariants.{SyncReport, ViewAsk, ViewChange, StartView, VectorAsk, VectorTell}
+use Rattle.nz_script.specs.declared.message.Message.TheVariants.{RejoinAsk, RejoinTell, StateAsk, StateTell}
 
 -- The number and the name of each.
 abbrev pub row_of : Message → ℕ × List ℕ
@@ -27,12 +29,14 @@ row_of StateTell = (18, codes "state-tell")
 
 -- All kinds of messages, by number.
 abbrev pub messages : List Message
-messages = Request ∷ Timed ∷ FastReply ∷ SlowReply ∷ Answer ∷ LogMod ∷ Fetch ∷ FetchReply ∷ SyncReport ∷ ViewAsk ∷ ViewChange ∷ StartView ∷ VectorAsk ∷ VectorTell ∷ RejoinAsk ∷ RejoinTell ∷ StateAsk ∷ StateTell ∷ []
+messages =
+    Request ∷ Timed ∷ FastReply ∷ SlowReply ∷ Answer ∷ LogMod ∷ Fetch ∷ FetchReply ∷ SyncReport ∷ ViewAsk ∷ ViewChange
+    ∷ StartView ∷ VectorAsk ∷ VectorTell ∷ RejoinAsk ∷ RejoinTell ∷ StateAsk ∷ StateTell ∷ []
 
 -- The number of the kind with this name, among some kinds.
-abbrev pub kind_in : List Message → List ℕ → Option ℕ
-kind_in [] name = None
-kind_in (message ∷ others) name = if bytes_eq (row_of message).1 name then Some (row_of message).0 else kind_in others name
+abbrev pub kind_of_message : List Message → List ℕ → Option ℕ
+kind_of_message [] name = None
+kind_of_message (message ∷ others) name = if bytes_eq (row_of message).1 name then Some (row_of message).0 else kind_of_message others name
 
 -- The name of the kind with this number, among some kinds.
 abbrev pub name_in : List Message → ℕ → List ℕ
@@ -41,7 +45,7 @@ name_in (message ∷ others) kind = if (row_of message).0 == kind then (row_of m
 
 -- The number of the kind with this name.
 unfoldable pub kind_named : List ℕ → Option ℕ
-kind_named name = kind_in messages name
+kind_named name = kind_of_message messages name
 
 -- The name of the kind with this number.
 unfoldable pub name_of : ℕ → List ℕ

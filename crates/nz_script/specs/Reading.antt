@@ -8,9 +8,9 @@ use Rattle.nz_script.specs.declared.faults.ScriptFault.TheVariants.{Refusal}
 use Rattle.nz_script.specs.declared.line.Line.{Line}
 use Rattle.nz_script.specs.declared.draft.Draft.{Draft}
 use Rattle.nz_script.specs.Bytes.{lines_in, tail_in}
-use Rattle.nz_script.specs.Shapes.{rank_of}
+use Rattle.nz_script.specs.Shapes.{place_rank}
 use Rattle.nz_script.specs.Lines.{line_of}
-use Rattle.nz_script.specs.Drafts.{version_has, in_order, names_known, within_limits, with_words, start, scenario_of}
+use Rattle.nz_script.specs.Drafts.{version_has, keeps_order, names_known, within_limits, with_words, first_draft, scenario_of}
 
 -- An empty line, or one that begins with `#`.
 abbrev pub is_passed_over : List ℕ → Bool
@@ -21,28 +21,28 @@ is_passed_over (byte ∷ bytes) = byte == 35
 abbrev pub fault_of : Draft → Line → Option Kind
 fault_of d line =
     if not (version_has d.version line.verb) then Some Syntax
-    else (if not (in_order d line) then Some Order
+    else (if not (keeps_order d line) then Some Order
     else (if not (names_known d line) then Some Name
     else (if not (within_limits d line) then Some Limit else None)))
 
 -- The draft with a line, unless the line is at fault.
-abbrev pub taken : Draft → Line → Option Kind → Result Draft Kind
-taken d line (Some kind) = Err kind
-taken d line None = Ok (with_words d line.verb line.words)
+abbrev pub draft_if_sound : Draft → Line → Option Kind → Result Draft Kind
+draft_if_sound d line (Some kind) = Err kind
+draft_if_sound d line None = Ok (with_words d line.verb line.words)
 
 -- The same of a line that may have no shape.
 abbrev pub taken_if_shaped : Draft → Option Line → Result Draft Kind
 taken_if_shaped d None = Err Syntax
-taken_if_shaped d (Some line) = taken d line (fault_of d line)
+taken_if_shaped d (Some line) = draft_if_sound d line (fault_of d line)
 
 -- What has been read with one line more, or what is wrong with that line.
-unfoldable pub step : Draft → List ℕ → Result Draft Kind
-step d bytes = if is_passed_over bytes then Ok d else taken_if_shaped d (line_of bytes)
+unfoldable pub draft_after_line : Draft → List ℕ → Result Draft Kind
+draft_after_line d bytes = if is_passed_over bytes then Ok d else taken_if_shaped d (line_of bytes)
 
 -- What has been read with the line, or what is wrong with it.
-abbrev pub outcome : Option Kind → Draft → Result Draft Kind
-outcome None d = Ok d
-outcome (Some kind) d = Err kind
+abbrev pub draft_or_kind : Option Kind → Draft → Result Draft Kind
+draft_or_kind None d = Ok d
+draft_or_kind (Some kind) d = Err kind
 
 -- A text has at most this many bytes.
 abbrev pub most_bytes : ℕ
@@ -50,24 +50,24 @@ most_bytes = 1048576
 
 -- After the last newline: an input that goes on past the most bytes is at its limit in this line, a line without its
 -- newline is no line, and a text that ends before its last line lacks this one.
-abbrev pub ending : Bool → List ℕ → ℕ → Draft → Result Scenario ScriptFault
-ending long tail n d =
+abbrev pub scenario_at_end : Bool → List ℕ → ℕ → Draft → Result Scenario ScriptFault
+scenario_at_end long tail n d =
     if long then Err (Refusal n Limit)
     else (if not (length tail == 0) then Err (Refusal n Syntax)
-    else (if rank_of d.place == 9 then Ok (scenario_of d) else Err (Refusal n Order)))
+    else (if place_rank d.place == 9 then Ok (scenario_of d) else Err (Refusal n Order)))
 
 -- The answer to the lines after, where nothing is wrong with line n.
-abbrev pub behind : ℕ → (Draft → Result Scenario ScriptFault) → Result Draft Kind → Result Scenario ScriptFault
-behind n further (Err kind) = Err (Refusal n kind)
-behind n further (Ok next) = further next
+abbrev pub if_taken : ℕ → (Draft → Result Scenario ScriptFault) → Result Draft Kind → Result Scenario ScriptFault
+if_taken n further (Err kind) = Err (Refusal n kind)
+if_taken n further (Ok next) = further next
 
 -- The lines from line n on, and what follows the last newline.
-abbrev pub reading : Bool → List ℕ → ℕ → Draft → List (List ℕ) → Result Scenario ScriptFault
-reading long tail n d [] = ending long tail n d
-reading long tail n d (line ∷ lines) = behind n (λ next. reading long tail (n + 1) next lines) (step d line)
+abbrev pub scenario_from : Bool → List ℕ → ℕ → Draft → List (List ℕ) → Result Scenario ScriptFault
+scenario_from long tail n d [] = scenario_at_end long tail n d
+scenario_from long tail n d (line ∷ lines) = if_taken n (λ next. scenario_from long tail (n + 1) next lines) (draft_after_line d line)
 
 -- The scenario that the bytes are the text of, or the first bad line with its kind.
 unfoldable pub scenario : List ℕ → Result Scenario ScriptFault
 scenario bytes =
     let text = take most_bytes bytes in
-    reading (nat_lt most_bytes (length bytes)) (tail_in text) 1 start (lines_in text)
+    scenario_from (nat_lt most_bytes (length bytes)) (tail_in text) 1 first_draft (lines_in text)

@@ -1,31 +1,31 @@
 -- The table of lines: by their first word, where they may come and what follows.
 use Rattle.std.specs.Prelude.{ℕ, if◌then◌else◌, List, [], ◌∷◌, Option, Some, None, codes}
 use Rattle.std.specs.Str.{bytes_eq}
-use Rattle.nz_script.specs.declared.shape.Place.{Place}
-use Rattle.nz_script.specs.declared.shape.Place.TheVariants as place
-use Rattle.nz_script.specs.declared.shape.Head.{Head}
-use Rattle.nz_script.specs.declared.shape.Head.TheVariants as head
-use Rattle.nz_script.specs.declared.shape.Ask.{Ask}
-use Rattle.nz_script.specs.declared.shape.Ask.TheVariants.{Put, Get, Del, Cas}
-use Rattle.nz_script.specs.declared.shape.Mishap.{Mishap}
-use Rattle.nz_script.specs.declared.shape.Mishap.TheVariants as mishap
-use Rattle.nz_script.specs.declared.shape.Verb.{Verb}
-use Rattle.nz_script.specs.declared.shape.Verb.TheVariants as verb
-use Rattle.nz_script.specs.declared.shape.Form.{Form}
-use Rattle.nz_script.specs.declared.shape.Form.TheVariants as form
+use Rattle.nz_script.specs.declared.line_forms.Place.{Place}
+use Rattle.nz_script.specs.declared.line_forms.Place.TheVariants as place
+use Rattle.nz_script.specs.declared.line_forms.Head.{Head}
+use Rattle.nz_script.specs.declared.line_forms.Head.TheVariants as head
+use Rattle.nz_script.specs.declared.line_forms.Ask.{Ask}
+use Rattle.nz_script.specs.declared.line_forms.Ask.TheVariants.{Put, Get, Del, Cas}
+use Rattle.nz_script.specs.declared.line_forms.Mishap.{Mishap}
+use Rattle.nz_script.specs.declared.line_forms.Mishap.TheVariants as mishap
+use Rattle.nz_script.specs.declared.line_forms.Verb.{Verb}
+use Rattle.nz_script.specs.declared.line_forms.Verb.TheVariants as verb
+use Rattle.nz_script.specs.declared.line_forms.Form.{Form}
+use Rattle.nz_script.specs.declared.line_forms.Form.TheVariants as form
 
 -- The places in the order of a text.
-abbrev pub rank_of : Place → ℕ
-rank_of place.Version = 0
-rank_of place.Faulty = 1
-rank_of place.Proxies = 2
-rank_of place.Clients = 3
-rank_of place.Ticks = 4
-rank_of place.Window = 5
-rank_of place.Between = 6
-rank_of place.Block = 7
-rank_of place.Mishaps = 8
-rank_of place.Behind = 9
+abbrev pub place_rank : Place → ℕ
+place_rank place.Version = 0
+place_rank place.Faulty = 1
+place_rank place.Proxies = 2
+place_rank place.Clients = 3
+place_rank place.Ticks = 4
+place_rank place.Window = 5
+place_rank place.Between = 6
+place_rank place.Block = 7
+place_rank place.Mishaps = 8
+place_rank place.Behind = 9
 
 -- A tick, or a number of ticks.
 abbrev pub tick : Form
@@ -74,12 +74,12 @@ shape_of (verb.Mishap m) = mishap_shape_of m
 shape_of verb.Done = (codes "done", place.Mishaps, [])
 
 -- The first word of a line.
-abbrev pub word_of : Verb → List ℕ
-word_of v = (shape_of v).0
+abbrev pub verb_word : Verb → List ℕ
+verb_word v = (shape_of v).0
 
 -- Where the line may come.
-abbrev pub place_of : Verb → Place
-place_of v = (shape_of v).1
+abbrev pub verb_place : Verb → Place
+verb_place v = (shape_of v).1
 
 -- The forms of its other words.
 abbrev pub forms_of : Verb → List Form
@@ -96,7 +96,7 @@ verbs =
 -- The sort of line with this first word, among some sorts.
 abbrev pub verb_in : List Verb → List ℕ → Option Verb
 verb_in [] word = None
-verb_in (verb ∷ others) word = if bytes_eq (word_of verb) word then Some verb else verb_in others word
+verb_in (verb ∷ others) word = if bytes_eq (verb_word verb) word then Some verb else verb_in others word
 
 -- The sort of the lines with this first word.
 unfoldable pub verb_of : List ℕ → Option Verb

@@ -14,8 +14,8 @@ abbrev pub choice_len : Option (List ℕ) → ℕ
 choice_len choice = length (word_text (choice_of choice))
 
 -- The length of a choice, and the bytes after it.
-abbrev pub sized : Option (List ℕ) × List ℕ → ℕ × List ℕ
-sized x = (choice_len x.0, x.1)
+abbrev pub size_of_word : Option (List ℕ) × List ℕ → ℕ × List ℕ
+size_of_word x = (choice_len x.0, x.1)
 
 -- The length of a command's line, without its newline.
 abbrev pub command_len : Command → ℕ

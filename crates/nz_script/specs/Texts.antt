@@ -11,16 +11,16 @@ use Rattle.nz_base.specs.declared.scenario.Scenario.{Scenario}
 use Rattle.nz_store.specs.declared.command.Command.{Command}
 use Rattle.nz_store.specs.declared.command.Command.TheVariants as command
 use Rattle.nz_store.specs.Reading.{command_of}
-use Rattle.nz_script.specs.declared.shape.Head.TheVariants as head
-use Rattle.nz_script.specs.declared.shape.Ask.TheVariants.{Put, Get, Del, Cas}
-use Rattle.nz_script.specs.declared.shape.Mishap.TheVariants as mishap
-use Rattle.nz_script.specs.declared.shape.Verb.{Verb}
-use Rattle.nz_script.specs.declared.shape.Verb.TheVariants as verb
+use Rattle.nz_script.specs.declared.line_forms.Head.TheVariants as head
+use Rattle.nz_script.specs.declared.line_forms.Ask.TheVariants.{Put, Get, Del, Cas}
+use Rattle.nz_script.specs.declared.line_forms.Mishap.TheVariants as mishap
+use Rattle.nz_script.specs.declared.line_forms.Verb.{Verb}
+use Rattle.nz_script.specs.declared.line_forms.Verb.TheVariants as verb
 use Rattle.nz_script.specs.declared.word.Word.{Word}
 use Rattle.nz_script.specs.declared.word.Word.TheVariants as word
 use Rattle.nz_script.specs.declared.line.Line.{Line}
 use Rattle.nz_script.specs.Bytes.{space, newline, minus}
-use Rattle.nz_script.specs.Shapes.{word_of}
+use Rattle.nz_script.specs.Shapes.{verb_word}
 use Rattle.nz_script.specs.Messages.{name_of}
 use Rattle.nz_script.specs.Lines.{a_line}
 
@@ -58,7 +58,7 @@ words_text (w ∷ words) = space ∷ (word_text w ++ words_text words)
 
 -- The one spelling of a line, without its newline.
 abbrev pub line_text : Line → List ℕ
-line_text line = word_of line.verb ++ words_text line.words
+line_text line = verb_word line.verb ++ words_text line.words
 
 -- Each line with its newline.
 abbrev pub text_of_lines : List Line → List ℕ
@@ -140,9 +140,12 @@ actors_of (Some a) = word.Named a
 -- The line of a fault.
 abbrev pub fault_line : Fault → Line
 fault_line (fault.Drop from to kind count) = a_line (verb.Mishap mishap.Drop) (word.Named from ∷ word.Named to ∷ word.Kind (Some kind) ∷ word.Number count ∷ [])
-fault_line (fault.Hold from to kind count by) = a_line (verb.Mishap mishap.Hold) (word.Named from ∷ word.Named to ∷ word.Kind (Some kind) ∷ word.Number count ∷ word.Number by ∷ [])
-fault_line (fault.Twice from to kind count by) = a_line (verb.Mishap mishap.Twice) (word.Named from ∷ word.Named to ∷ word.Kind (Some kind) ∷ word.Number count ∷ word.Number by ∷ [])
-fault_line (fault.Cut from to kind count keep) = a_line (verb.Mishap mishap.Cut) (word.Named from ∷ word.Named to ∷ word.Kind (Some kind) ∷ word.Number count ∷ word.Number keep ∷ [])
+fault_line (fault.Hold from to kind count by) =
+    a_line (verb.Mishap mishap.Hold) (word.Named from ∷ word.Named to ∷ word.Kind (Some kind) ∷ word.Number count ∷ word.Number by ∷ [])
+fault_line (fault.Twice from to kind count by) =
+    a_line (verb.Mishap mishap.Twice) (word.Named from ∷ word.Named to ∷ word.Kind (Some kind) ∷ word.Number count ∷ word.Number by ∷ [])
+fault_line (fault.Cut from to kind count keep) =
+    a_line (verb.Mishap mishap.Cut) (word.Named from ∷ word.Named to ∷ word.Kind (Some kind) ∷ word.Number count ∷ word.Number keep ∷ [])
 fault_line (fault.Block from to first last) = a_line (verb.Mishap mishap.Block) (actors_of from ∷ actors_of to ∷ word.Number first ∷ word.Number last ∷ [])
 fault_line (fault.Crash a tick) = a_line (verb.Mishap mishap.Crash) (word.Named a ∷ word.Number tick ∷ [])
 fault_line (fault.Restart a tick) = a_line (verb.Mishap mishap.Restart) (word.Named a ∷ word.Number tick ∷ [])

@@ -15,8 +15,8 @@ use Rattle.nz_script.specs.Drafts.{knows, all_known, all_within, is_span, has_sk
 use Rattle.nz_script.specs.Texts.{skew_line, fault_line, text_of}
 
 -- Who takes part in a scenario.
-abbrev pub group_of : Scenario → Group
-group_of s = record { cluster = s.cluster; proxies = s.proxies; clients = s.clients; window = s.window }
+abbrev pub group_of_scenario : Scenario → Group
+group_of_scenario s = record { cluster = s.cluster; proxies = s.proxies; clients = s.clients; window = s.window }
 
 -- The actors of the line are of the group and of their sorts, and its numbers are in the ranges of the table.
 abbrev pub is_sound : Group → Line → Bool
@@ -25,7 +25,9 @@ is_sound g line = all_known g (forms_of line.verb) line.words && (all_within (fo
 -- f is 1 to 4, there are 1 to 8 proxies and 1 to 64 clients with a script each, 1 to 20,000 ticks, and a window of 1
 -- to 16.
 abbrev pub has_group : Scenario → Bool
-has_group s = ((is_within 1 4 s.cluster && is_within 1 8 s.proxies) && (is_within 1 64 s.clients && is_within 1 20000 s.ticks)) && (is_within 1 16 s.window && (length s.scripts == s.clients))
+has_group s =
+    ((is_within 1 4 s.cluster && is_within 1 8 s.proxies) && (is_within 1 64 s.clients && is_within 1 20000 s.ticks))
+    && (is_within 1 16 s.window && (length s.scripts == s.clients))
 
 -- No clock has two skews.
 abbrev pub are_apart : List Skew → Bool
@@ -34,7 +36,7 @@ are_apart (s ∷ skews) = not (has_skew skews s.actor) && are_apart skews
 
 -- Whether each skew's line is sound, and no actor has two.
 abbrev pub has_skews : Scenario → Bool
-has_skews s = list_all (λ k. is_sound (group_of s) (skew_line k)) s.skews && are_apart s.skews
+has_skews s = list_all (λ k. is_sound (group_of_scenario s) (skew_line k)) s.skews && are_apart s.skews
 
 -- A request waits at most 20,000 ticks, and its bytes are those of a command.
 abbrev pub is_request : Request → Bool
@@ -45,16 +47,16 @@ abbrev pub are_requests : List Request → Bool
 are_requests script = list_all is_request script
 
 -- How many requests there are in all.
-abbrev pub request_count : List (List Request) → ℕ
-request_count scripts = sum_by length scripts
+abbrev pub requests_in_all : List (List Request) → ℕ
+requests_in_all scripts = sum_by length scripts
 
 -- The sums and the products are within the limits.
 abbrev pub has_few : Scenario → Bool
-has_few s = has_room_for_requests (request_count s.scripts) s.ticks && has_room_for_faults (request_count s.scripts) (length s.faults)
+has_few s = has_room_for_requests (requests_in_all s.scripts) s.ticks && has_room_for_faults (requests_in_all s.scripts) (length s.faults)
 
 -- Whether each fault's line is sound.
 abbrev pub has_faults : Scenario → Bool
-has_faults s = list_all (λ f. is_sound (group_of s) (fault_line f)) s.faults
+has_faults s = list_all (λ f. is_sound (group_of_scenario s) (fault_line f)) s.faults
 
 -- The text has at most 1,048,576 bytes.
 abbrev pub is_short : Scenario → Bool
@@ -81,4 +83,4 @@ pub record IsRunnable (s : Scenario) : Type 0 where
   pub group : IsTrue (has_group s)
   pub requests : IsTrue (list_all are_requests s.scripts)
   pub few : IsTrue (has_few s)
-  pub calls : IsTrue (list_all (calls_known (group_of s)) s.faults)
+  pub calls : IsTrue (list_all (calls_known (group_of_scenario s)) s.faults)

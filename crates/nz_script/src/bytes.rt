@@ -4,7 +4,8 @@ ghost use Rattle.std.specs.Prelude.{◌≡◌, ◌<◌, ◌∷◌, [], length, M
 ghost use Rattle.std.specs.Char.{is_ascii_digit};
 ghost use Rattle.std.specs.List.{list_all};
 ghost use Rattle.std.specs.Option.{option_map};
-ghost use Rattle.nz_script.specs.Bytes.{cut, words_in, is_without_leading_zero as has_no_leading_zero, is_numeral as is_numeral_word, number_of as number_in};
+ghost use Rattle.nz_script.specs.Bytes as bytes_words;
+ghost use Rattle.nz_script.specs.Bytes.{cut, words_in};
 
 /// What is before and after the first byte that is `at`.
 pub fn cut_at(bytes: &[u8], at: u8) -> Option<(&[u8], &[u8])>
@@ -46,7 +47,7 @@ fn are_digits(word: &[u8]) -> bool
 }
 
 fn is_without_leading_zero(word: &[u8]) -> bool
-    ensures { result ≡ has_no_leading_zero word.now }
+    ensures { result ≡ bytes_words.is_without_leading_zero word.now }
 {
     match word {
         [first, _, ..] => *first != b'0',
@@ -63,7 +64,7 @@ fn is_short(word: &[u8]) -> bool
 
 /// Whether the word has 1 to 19 digits, the first not `0` unless it is alone.
 fn is_numeral(word: &[u8]) -> bool
-    ensures { result ≡ is_numeral_word word.now }
+    ensures { result ≡ bytes_words.is_numeral word.now }
 {
     is_short(word) && (are_digits(word) && is_without_leading_zero(word))
 }
@@ -71,7 +72,7 @@ fn is_numeral(word: &[u8]) -> bool
 #[tactic(auto, unfolding(crate::specs::Bytes::number_of))]
 /// The number that the word is the numeral of.
 pub fn number_of(word: &[u8]) -> Option<u64>
-    ensures { result ≡ number_in word.now }
+    ensures { result ≡ bytes_words.number_of word.now }
 {
     if !is_numeral(word) {
         return None;

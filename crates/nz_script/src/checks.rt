@@ -5,14 +5,16 @@ ghost use Rattle.nz_base.specs.Actor.{actor_eq};
 ghost use Rattle.nz_store.specs.Reading.{is_key_text, is_value_text};
 ghost use Rattle.nz_store.specs.Grammar.{is_graphic};
 ghost use Rattle.std.specs.List.{list_all};
-ghost use Rattle.nz_script.specs.Drafts.{version_has as has_version, is_turn as turn_is, is_in_turn as line_is_in_turn, in_order as order_is_kept, suits as form_suits, is_known as word_is_known, all_known, has_skew as skew_is_there, is_new_skew as skew_is_new, names_known as names_are_known, has_number as number_is, has_units as units_are, has_value as value_is, has_key as key_is, has_choice as choice_is, is_within as word_is_within, all_within, has_room_for_requests, has_room_for_faults, has_room as room_is_left, is_span as span_is, within_limits as limits_are_kept};
-ghost use Rattle.nz_script.specs.Reading.{fault_of as first_fault};
+ghost use Rattle.nz_script.specs.Drafts as drafts;
+ghost use Rattle.nz_script.specs.Drafts.{keeps_order, all_known, names_known, is_key_word, word_within, all_within, has_room_for_requests};
+ghost use Rattle.nz_script.specs.Drafts.{has_room_for_faults, has_room_for_line, within_limits};
+ghost use Rattle.nz_script.specs.Reading as reading;
 
 use super::draft::Draft;
 use super::faults::Kind;
 use super::group::{Group, knows};
 use super::line::Line;
-use super::shape::{Form, Head, Mishap, Verb};
+use super::line_forms::{Form, Head, Mishap, Verb};
 use super::word::{Word, actor_at, number_at};
 use nz_base::{Actor, Skew};
 
@@ -26,7 +28,7 @@ const MOST_CHANCES: u64 = 200_000;
 
 /// Whether a text of this version has lines of this sort. In version 1 the word `window` is unknown.
 fn version_has(version: u8, verb: Verb) -> bool
-    ensures { result ≡ has_version version verb }
+    ensures { result ≡ drafts.version_has version verb }
 {
     match verb {
         Verb::Head(Head::Window) => version == 2,
@@ -35,7 +37,7 @@ fn version_has(version: u8, verb: Verb) -> bool
 }
 
 fn is_turn(draft: &Draft, words: &[Word]) -> bool
-    ensures { result ≡ turn_is draft.now words.now }
+    ensures { result ≡ drafts.is_turn draft.now words.now }
 {
     match words {
         [Word::Named(Actor::Client(number)), ..] => {
@@ -46,7 +48,7 @@ fn is_turn(draft: &Draft, words: &[Word]) -> bool
 }
 
 fn is_in_turn(draft: &Draft, verb: Verb, words: &[Word]) -> bool
-    ensures { result ≡ line_is_in_turn draft.now verb words.now }
+    ensures { result ≡ drafts.is_in_turn draft.now verb words.now }
 {
     match verb {
         Verb::Skew => draft.scripts.len() == 0,
@@ -56,13 +58,13 @@ fn is_in_turn(draft: &Draft, verb: Verb, words: &[Word]) -> bool
 }
 
 fn is_in_order(draft: &Draft, line: &Line) -> bool
-    ensures { result ≡ order_is_kept draft.now line.now }
+    ensures { result ≡ keeps_order draft.now line.now }
 {
     draft.place.is(line.verb.shape().1) && is_in_turn(draft, line.verb, line.words.as_slice())
 }
 
 fn suits(form: Form, actor: Actor) -> bool
-    ensures { result ≡ form_suits form actor }
+    ensures { result ≡ drafts.suits form actor }
 {
     match (form, actor) {
         (Form::Server, Actor::Client(_)) => false,
@@ -73,7 +75,7 @@ fn suits(form: Form, actor: Actor) -> bool
 }
 
 fn is_known(group: &Group, form: Form, word: &Word) -> bool
-    ensures { result ≡ word_is_known group.now form word.now }
+    ensures { result ≡ drafts.is_known group.now form word.now }
 {
     match word {
         Word::Named(actor) => suits(form, *actor) && knows(group, *actor),
@@ -102,13 +104,13 @@ fn is_same_actor(one: Actor, other: Actor) -> bool
 }
 
 pub fn has_skew(skews: &[Skew], actor: Actor) -> bool
-    ensures { result ≡ skew_is_there skews.now actor }
+    ensures { result ≡ drafts.has_skew skews.now actor }
 {
     skews.iter().any(|skew| is_same_actor(skew.actor, actor))
 }
 
 fn is_new_skew(draft: &Draft, verb: Verb, words: &[Word]) -> bool
-    ensures { result ≡ skew_is_new draft.now verb words.now }
+    ensures { result ≡ drafts.is_new_skew draft.now verb words.now }
 {
     match verb {
         Verb::Skew => !has_skew(draft.skews.as_slice(), actor_at(words, 0)),
@@ -117,7 +119,7 @@ fn is_new_skew(draft: &Draft, verb: Verb, words: &[Word]) -> bool
 }
 
 fn has_known_names(draft: &Draft, line: &Line) -> bool
-    ensures { result ≡ names_are_known draft.now line.now }
+    ensures { result ≡ names_known draft.now line.now }
 {
     are_known(&draft.group, line.verb.shape().2, line.words.as_slice())
         && is_new_skew(draft, line.verb, line.words.as_slice())
@@ -130,7 +132,7 @@ fn are_graphic(bytes: &[u8]) -> bool
 }
 
 fn has_number(least: u32, most: u32, word: &Word) -> bool
-    ensures { result ≡ number_is least most word.now }
+    ensures { result ≡ drafts.has_number least most word.now }
 {
     match word {
         Word::Number(number) => u64::from(least) <= *number && *number <= u64::from(most),
@@ -139,7 +141,7 @@ fn has_number(least: u32, most: u32, word: &Word) -> bool
 }
 
 fn has_units(word: &Word) -> bool
-    ensures { result ≡ units_are word.now }
+    ensures { result ≡ drafts.has_units word.now }
 {
     match word {
         Word::Units { back: _, number } => *number <= 4_611_686_018_427_387_904,
@@ -162,7 +164,7 @@ pub fn is_value(bytes: &[u8]) -> bool
 }
 
 fn has_key(word: &Word) -> bool
-    ensures { result ≡ key_is word.now }
+    ensures { result ≡ is_key_word word.now }
 {
     match word {
         Word::Text(text) => is_key(text.as_slice()),
@@ -171,7 +173,7 @@ fn has_key(word: &Word) -> bool
 }
 
 fn has_value(word: &Word) -> bool
-    ensures { result ≡ value_is word.now }
+    ensures { result ≡ drafts.has_value word.now }
 {
     match word {
         Word::Text(text) => is_value(text.as_slice()),
@@ -180,7 +182,7 @@ fn has_value(word: &Word) -> bool
 }
 
 fn has_choice(word: &Word) -> bool
-    ensures { result ≡ choice_is word.now }
+    ensures { result ≡ drafts.has_choice word.now }
 {
     match word {
         Word::Nothing => true,
@@ -189,7 +191,7 @@ fn has_choice(word: &Word) -> bool
 }
 
 fn is_within(form: Form, word: &Word) -> bool
-    ensures { result ≡ word_is_within form word.now }
+    ensures { result ≡ word_within form word.now }
 {
     match form {
         Form::Number { least, most } => has_number(least, most, word),
@@ -230,7 +232,7 @@ pub fn fits_faults(requests: u64, faults: u64) -> bool
 }
 
 fn has_room(draft: &Draft, verb: Verb) -> bool
-    ensures { result ≡ room_is_left draft.now verb }
+    ensures { result ≡ has_room_for_line draft.now verb }
 {
     let requests = u64::from(draft.requests);
     match verb {
@@ -241,7 +243,7 @@ fn has_room(draft: &Draft, verb: Verb) -> bool
 }
 
 pub fn is_span(verb: Verb, words: &[Word]) -> bool
-    ensures { result ≡ span_is verb words.now }
+    ensures { result ≡ drafts.is_span verb words.now }
 {
     match verb {
         Verb::Mishap(Mishap::Block) => number_at(words, 2) <= number_at(words, 3),
@@ -250,7 +252,7 @@ pub fn is_span(verb: Verb, words: &[Word]) -> bool
 }
 
 fn is_within_limits(draft: &Draft, line: &Line) -> bool
-    ensures { result ≡ limits_are_kept draft.now line.now }
+    ensures { result ≡ within_limits draft.now line.now }
 {
     let words = line.words.as_slice();
     are_within(line.verb.shape().2, words)
@@ -260,7 +262,7 @@ fn is_within_limits(draft: &Draft, line: &Line) -> bool
 
 /// What is wrong with the line: the first test that fails.
 pub fn fault_of(draft: &Draft, line: &Line) -> Option<Kind>
-    ensures { result ≡ first_fault draft.now line.now }
+    ensures { result ≡ reading.fault_of draft.now line.now }
 {
     if !version_has(draft.version, line.verb) {
         return Some(Kind::Syntax);

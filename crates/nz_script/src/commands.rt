@@ -3,11 +3,12 @@
 ghost use Rattle.std.specs.Prelude.{◌≡◌, map, IfOk, IfSome};
 ghost use Rattle.std.specs.Option.{option_map};
 ghost use Rattle.nz_store.specs.Grammar.{IsValid};
-ghost use Rattle.nz_script.specs.Commands.{fits_first, asked as asked_by, command_of_sort, command_first as command_at_front};
+ghost use Rattle.nz_script.specs.Commands as commands;
+ghost use Rattle.nz_script.specs.Commands.{fits_first, ask_of_verb, command_of_sort};
 
 use super::checks::are_within;
 use super::draft::command_of;
-use super::shape::{Ask, Form, Verb, verb_of};
+use super::line_forms::{Ask, Form, Verb, verb_of};
 use super::word::{Word, WordList, word_of};
 use nz_base::NoMemory;
 use nz_store::Command;
@@ -37,7 +38,7 @@ fn words_first<'a, 'b>(
 }
 
 fn asked(verb: Verb) -> Option<Ask>
-    ensures { result ≡ asked_by verb }
+    ensures { result ≡ ask_of_verb verb }
 {
     match verb {
         Verb::Ask(ask) => Some(ask),
@@ -70,7 +71,7 @@ pub fn command_first<'a, 'b>(
     alloc: Global,
     words: &'a [&'b [u8]],
 ) -> Result<Option<(Command, &'a [&'b [u8]])>, NoMemory>
-    ensures value { IfOk result (λ command. option_map (λ x. (x.0, map (λ w. w.now) x.1.now)) command ≡ command_at_front (map (λ w. w.now) words.now)) }
+    ensures value { IfOk result (λ command. option_map (λ x. (x.0, map (λ w. w.now) x.1.now)) command ≡ commands.command_first (map (λ w. w.now) words.now)) }
     ensures valid { IfOk result (λ command. IfSome command (λ x. IsValid x.0)) }
 {
     let [first, more @ ..] = words else {

@@ -3,10 +3,11 @@
 ghost use Rattle.std.specs.Prelude.{◌≡◌, ◌+◌, ◌<◌, ◌≤◌, IfOk, IsTrue, OnOk};
 ghost use Rattle.nz_store.specs.Grammar.{IsValid};
 ghost use Rattle.nz_script.specs.Shapes.{forms_of, head_shape_of};
-ghost use Rattle.nz_script.specs.Drafts.{all_within, has_room, command_in, fault_in, skew_in, with_head, with_request, with_script, with_words, start, scenario_of};
+ghost use Rattle.nz_script.specs.Drafts.{all_within, has_room_for_line, command_asked, fault_in, skew_in, with_head};
+ghost use Rattle.nz_script.specs.Drafts.{with_request, with_script, with_words, first_draft, scenario_of};
 
 use super::group::Group;
-use super::shape::{Ask, Head, Mishap, Place, Verb};
+use super::line_forms::{Ask, Head, Mishap, Place, Verb};
 use super::word::{
     Word, actor_at, actors_at, byte_at, choice_at, kind_at, number_at, text_at, units_at,
 };
@@ -39,7 +40,7 @@ pub struct Draft {
 
 /// The command that the words mean.
 pub fn command_of(alloc: Global, ask: Ask, words: &[Word]) -> Result<Command, NoMemory>
-    ensures { IfOk result (λ command. command ≡ command_in ask words.now) }
+    ensures { IfOk result (λ command. command ≡ command_asked ask words.now) }
 {
     let key = text_at(alloc, words, 0)?;
     match ask {
@@ -133,7 +134,7 @@ fn cluster_of(f: u8) -> Cluster
 impl Draft {
     /// Before the first line.
     pub fn new(alloc: Global) -> Draft
-        ensures { result ≡ start }
+        ensures { result ≡ first_draft }
     {
         Draft {
             place: Place::Version,
@@ -221,7 +222,7 @@ impl Draft {
     /// Takes a line in that has passed its tests.
     pub fn take(&mut self, alloc: Global, verb: Verb, words: &[Word]) -> Result<(), NoMemory>
         requires within { IsTrue (all_within (forms_of verb) words.now) }
-        requires room { IsTrue (has_room self.old verb) }
+        requires room { IsTrue (has_room_for_line self.old verb) }
         ensures { OnOk result (self.new ≡ with_words self.old verb words.now) }
     {
         match verb {

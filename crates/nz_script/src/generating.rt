@@ -3,7 +3,9 @@
 ghost use Rattle.std.specs.Prelude.{◌≡◌, ◌+◌, ◌*◌, ◌/◌, ◌<◌, ◌≤◌, ◌^◌, length, IfOk, OnOk, ◌∷◌};
 ghost use Rattle.std.specs.Fmt.{decimal};
 ghost use Rattle.nz_store.specs.Grammar.{spelling, IsValid};
-ghost use Rattle.nz_script.specs.Draws.{next as next_of, drawn, after, key_of as key_for, value_of as value_for, command_for, request_for, requests_for, script_for, scripts_for, fault_for, faults_for, generated};
+ghost use Rattle.nz_script.specs.Draws as draws_words;
+ghost use Rattle.nz_script.specs.Draws.{draw_after, draws_after, drawn_key, drawn_value, command_for, request_for, requests_for};
+ghost use Rattle.nz_script.specs.Draws.{script_for, scripts_for, fault_for, faults_for, scenario_of_seed};
 
 use nz_base::{
     Actor, Blob, Cluster, Fault, FaultList, NoMemory, Request, RequestList, Scenario, ScriptList,
@@ -21,8 +23,8 @@ struct Draws {
 impl Draws {
     #[tactic(auto, unfolding(crate::specs::Draws::next))]
     fn next(&mut self) -> u64
-        ensures state { self.new.state ≡ next_of self.old.state }
-        ensures number { result ≡ drawn (next_of self.old.state) }
+        ensures state { self.new.state ≡ draws_words.next self.old.state }
+        ensures number { result ≡ draw_after (draws_words.next self.old.state) }
     {
         self.state = self
             .state
@@ -67,7 +69,7 @@ fn command_of(alloc: Global, a: u64, b: u64, i: u64) -> Result<Command, NoMemory
 
 fn request_of(alloc: Global, draws: &mut Draws, i: u64) -> Result<Request, NoMemory>
     requires { i < 2000 }
-    ensures state { draws.new.state ≡ next_of (next_of draws.old.state) }
+    ensures state { draws.new.state ≡ draws_words.next (draws_words.next draws.old.state) }
     ensures request { IfOk result (λ request. request ≡ request_for draws.old.state i) }
 {
     let a = draws.next() % 4;
@@ -82,7 +84,7 @@ fn request_of(alloc: Global, draws: &mut Draws, i: u64) -> Result<Request, NoMem
 
 fn requests_of(alloc: Global, draws: &mut Draws, count: u32) -> Result<RequestList, NoMemory>
     requires { count ≤ 2000 }
-    ensures state { OnOk result (draws.new.state ≡ after count draws.old.state) }
+    ensures state { OnOk result (draws.new.state ≡ draws_after count draws.old.state) }
     ensures requests { IfOk result (λ requests. requests ≡ requests_for draws.old.state 0 count) }
 {
     let mut requests = RequestList::new(alloc);
@@ -120,7 +122,7 @@ fn scripts_of(alloc: Global, requests: &[Request]) -> Result<ScriptList, NoMemor
 
 fn fault_of(draws: &mut Draws, count: u32, j: u32) -> Fault
     requires { 1 ≤ count }
-    ensures state { draws.new.state ≡ next_of (next_of draws.old.state) }
+    ensures state { draws.new.state ≡ draws_words.next (draws_words.next draws.old.state) }
     ensures fault { result ≡ fault_for count draws.old.state j }
 {
     let replica = (draws.next() % 5) as u8;
@@ -148,7 +150,7 @@ fn faults_of(alloc: Global, draws: &mut Draws, count: u32) -> Result<FaultList, 
 pub fn generate(alloc: Global, seed: u64, count: u32) -> Result<Scenario, NoMemory>
     requires some { 1 ≤ count }
     requires few { count ≤ 2000 }
-    ensures { IfOk result (λ scenario. scenario ≡ generated seed count) }
+    ensures { IfOk result (λ scenario. scenario ≡ scenario_of_seed seed count) }
 {
     let Some(cluster) = Cluster::new(2) else {
         unreachable!()

@@ -1,7 +1,7 @@
 //! Who takes part, as the head of a scenario says.
 
 ghost use Rattle.std.specs.Prelude.{◌≡◌};
-ghost use Rattle.nz_script.specs.Drafts.{knows as knows_actor};
+ghost use Rattle.nz_script.specs.Drafts as drafts;
 
 use nz_base::{Actor, Cluster};
 
@@ -16,7 +16,7 @@ pub struct Group {
 
 /// Whether the actor is of the group.
 pub fn knows(group: &Group, actor: Actor) -> bool
-    ensures { result ≡ knows_actor group.now actor }
+    ensures { result ≡ drafts.knows group.now actor }
 {
     match actor {
         Actor::Replica(number) => number < group.cluster.n(),

@@ -1,23 +1,23 @@
 //! What holds of the definitions. Each law is the contract of a function that does nothing.
 ghost use Rattle.std.specs.Prelude.{◌≡◌, ◌≤◌, ℕ, List, length, Ok};
-ghost use Rattle.nz_base.specs.declared.scenario.Scenario.{Scenario as AScenario};
-ghost use Rattle.nz_script.specs.Draws.{generated};
+ghost use Rattle.nz_base.specs.declared.scenario.Scenario.{Scenario};
+ghost use Rattle.nz_script.specs.Draws.{scenario_of_seed};
 ghost use Rattle.nz_script.specs.Reading.{most_bytes, scenario};
 ghost use Rattle.nz_script.specs.Texts.{text_of};
 ghost use Rattle.nz_script.specs.Valid.{IsValid, IsRunnable};
 
 /// The text of a valid scenario is read as that scenario.
 pub fn texts_are_read_back()
-    ensures { (s : AScenario) → IsValid s → scenario (text_of s) ≡ Ok s }
+    ensures { (s : Scenario) → IsValid s → scenario (text_of s) ≡ Ok s }
 {}
 
 /// What is read can be run, and is not too long.
 pub fn what_is_read_can_be_run()
-    ensures run { (bytes : List ℕ) (s : AScenario) → scenario bytes ≡ Ok s → IsRunnable s }
-    ensures short { (bytes : List ℕ) (s : AScenario) → scenario bytes ≡ Ok s → length bytes ≤ most_bytes }
+    ensures run { (bytes : List ℕ) (s : Scenario) → scenario bytes ≡ Ok s → IsRunnable s }
+    ensures short { (bytes : List ℕ) (s : Scenario) → scenario bytes ≡ Ok s → length bytes ≤ most_bytes }
 {}
 
 /// What a seed draws can be run.
 pub fn what_is_drawn_can_be_run()
-    ensures { (seed count : ℕ) → count ≤ 2000 → IsRunnable (generated seed count) }
+    ensures { (seed count : ℕ) → count ≤ 2000 → IsRunnable (scenario_of_seed seed count) }
 {}

@@ -3,6 +3,7 @@
 
 mod bytes;
 mod checks;
+mod command_len;
 mod commands;
 mod draft;
 mod faults;
@@ -10,12 +11,11 @@ mod generating;
 mod group;
 mod laws;
 mod line;
+mod line_forms;
 mod message;
 mod printing;
 mod reading;
-mod shape;
 mod sizes;
-mod spelled;
 mod validity;
 mod word;
 

@@ -3,10 +3,11 @@
 ghost use Rattle.std.specs.Prelude.{◌≡◌, IfOk};
 ghost use Rattle.std.specs.List.{list_all};
 ghost use Rattle.nz_script.specs.Bytes.{is_printed, words_in};
-ghost use Rattle.nz_script.specs.Lines.{fits, line_of as line_for};
+ghost use Rattle.nz_script.specs.Lines as lines;
+ghost use Rattle.nz_script.specs.Lines.{fits};
 
 use super::bytes::next_word;
-use super::shape::{Form, Verb, verb_of};
+use super::line_forms::{Form, Verb, verb_of};
 use super::word::{WordList, word_of};
 use nz_base::NoMemory;
 use std::alloc::Global;
@@ -49,7 +50,7 @@ fn words_of(alloc: Global, forms: &[Form], line: &[u8]) -> Result<Option<WordLis
 /// The line that the bytes are, by the table of shapes: None where they have no shape of it.
 #[tactic(auto, unfolding(crate::specs::Lines::line_of))]
 pub fn line_of(alloc: Global, bytes: &[u8]) -> Result<Option<Line>, NoMemory>
-    ensures { IfOk result (λ line. line ≡ line_for bytes.now) }
+    ensures { IfOk result (λ line. line ≡ lines.line_of bytes.now) }
 {
     if !are_printed(bytes) {
         return Ok(None);

@@ -1,7 +1,8 @@
 //! The kinds of messages by number and name.
 
 ghost use Rattle.std.specs.Prelude.{◌≡◌};
-ghost use Rattle.nz_script.specs.Messages.{row_of, kind_named as kind_for, name_of as name_for, kind_in as kind_among, name_in as name_among};
+ghost use Rattle.nz_script.specs.Messages as messages_words;
+ghost use Rattle.nz_script.specs.Messages.{row_of, kind_of_message};
 
 /// A kind of message.
 #[derive(Clone, Copy, Debug)]
@@ -84,7 +85,7 @@ impl Message {
 }
 
 fn kind_in(messages: &[Message], name: &[u8]) -> Option<u8>
-    ensures { result ≡ kind_among messages.now name.now }
+    ensures { result ≡ kind_of_message messages.now name.now }
 {
     let [message, others @ ..] = messages else {
         return None;
@@ -98,7 +99,7 @@ fn kind_in(messages: &[Message], name: &[u8]) -> Option<u8>
 }
 
 fn name_in(messages: &[Message], kind: u8) -> &'static [u8]
-    ensures { result.now ≡ name_among messages.now kind }
+    ensures { result.now ≡ messages_words.name_in messages.now kind }
 {
     let [message, others @ ..] = messages else {
         return b"";
@@ -114,7 +115,7 @@ fn name_in(messages: &[Message], kind: u8) -> &'static [u8]
 #[tactic(auto, unfolding(crate::specs::Messages::kind_named))]
 /// The number of the kind with this name.
 pub fn kind_named(name: &[u8]) -> Option<u8>
-    ensures { result ≡ kind_for name.now }
+    ensures { result ≡ messages_words.kind_named name.now }
 {
     kind_in(&MESSAGES, name)
 }
@@ -122,7 +123,7 @@ pub fn kind_named(name: &[u8]) -> Option<u8>
 #[tactic(auto, unfolding(crate::specs::Messages::name_of))]
 /// The name of the kind with this number, empty where there is none.
 pub fn name_of(kind: u8) -> &'static [u8]
-    ensures { result.now ≡ name_for kind }
+    ensures { result.now ≡ messages_words.name_of kind }
 {
     name_in(&MESSAGES, kind)
 }

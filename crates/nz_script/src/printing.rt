@@ -4,14 +4,16 @@ ghost use Rattle.std.specs.Prelude.{◌≡◌, ◌++◌, ◌∷◌, [], IfOk, On
 ghost use Rattle.std.specs.Fmt.{decimal};
 ghost use Rattle.nz_store.specs.Reading.{command_of};
 ghost use Rattle.nz_script.specs.Lines.{a_line};
-ghost use Rattle.nz_script.specs.Texts.{actor_text, word_text, words_text, line_text, text_of_lines, number_line, version_of as version_for, window_lines, head_lines, units_of as units_word_of, skew_line, choice_of as choice_word_of, actors_of as actors_word_of, command_line, wait_lines, lines_of_command, request_lines, script_lines, scripts_lines, fault_line, text_of};
-ghost use Rattle.nz_script.specs.declared.shape.Verb.TheVariants as verb;
+ghost use Rattle.nz_script.specs.Texts as texts;
+ghost use Rattle.nz_script.specs.Texts.{actor_text, word_text, words_text, line_text, text_of_lines, number_line, window_lines, head_lines, skew_line};
+ghost use Rattle.nz_script.specs.Texts.{command_line, wait_lines, lines_of_command, request_lines, script_lines, scripts_lines, fault_line, text_of};
+ghost use Rattle.nz_script.specs.declared.line_forms.Verb.TheVariants as verb;
 ghost use Rattle.nz_script.specs.declared.word.Word.TheVariants as word;
 ghost use Rattle.nz_script.specs.Valid.{IsValid};
-ghost use Rattle.nz_script.specs.Reading.{scenario as scenario_in};
+ghost use Rattle.nz_script.specs.Reading as reading;
 
+use super::line_forms::{Ask, Head, Mishap, Verb};
 use super::message::name_of;
-use super::shape::{Ask, Head, Mishap, Verb};
 use super::word::Word;
 use nz_base::{Actor, Blob, Fault, NoMemory, Request, RequestList, Scenario, Skew};
 use nz_store::{Blob as Text, Command, read_command};
@@ -107,7 +109,7 @@ fn put_number_line(
 
 /// Version 1 is that of the texts where each client has at most one request open.
 pub fn version_of(window: u8) -> u32
-    ensures { result ≡ version_for window }
+    ensures { result ≡ texts.version_of window }
 {
     if window == 1 { 1 } else { 2 }
 }
@@ -149,7 +151,7 @@ fn put_head(alloc: Global, out: &mut Vec<u8>, scenario: &Scenario) -> Result<(),
 }
 
 pub fn units_of(units: i64) -> Word
-    ensures { result ≡ units_word_of units }
+    ensures { result ≡ texts.units_of units }
 {
     Word::Units {
         back: units < 0,
@@ -172,7 +174,7 @@ fn put_skews(alloc: Global, out: &mut Vec<u8>, skews: &[Skew]) -> Result<(), NoM
 }
 
 fn choice_of(choice: Option<Text>) -> Word
-    ensures { result ≡ choice_word_of choice }
+    ensures { result ≡ texts.choice_of choice }
 {
     match choice {
         None => Word::Nothing,
@@ -263,7 +265,7 @@ fn number(number: u32) -> Word
 }
 
 pub fn actors_of(actors: Option<Actor>) -> Word
-    ensures { result ≡ actors_word_of actors }
+    ensures { result ≡ texts.actors_of actors }
 {
     match actors {
         None => Word::Everyone,
@@ -288,7 +290,7 @@ fn parcel_words(from: Actor, to: Actor, kind: u8, count: u32, last: Word) -> [Wo
 }
 
 fn block_words(from: Option<Actor>, to: Option<Actor>, first: u32, last: u32) -> [Word; 5]
-    ensures { result ≡ actors_word_of from ∷ actors_word_of to ∷ word.Number first ∷ word.Number last ∷ word.Nothing ∷ [] }
+    ensures { result ≡ texts.actors_of from ∷ texts.actors_of to ∷ word.Number first ∷ word.Number last ∷ word.Nothing ∷ [] }
 {
     let nothing = Word::Nothing;
     [
@@ -402,7 +404,7 @@ fn put_faults(alloc: Global, out: &mut Vec<u8>, faults: &[Fault]) -> Result<(), 
 pub fn print(alloc: Global, scenario: &Scenario) -> Result<Blob, NoMemory>
     requires { IsValid scenario.now }
     ensures text { IfOk result (λ text. text ≡ text_of scenario.now) }
-    ensures read_back { IfOk result (λ text. scenario_in text ≡ Ok scenario.now) }
+    ensures read_back { IfOk result (λ text. reading.scenario text ≡ Ok scenario.now) }
 {
     let mut out = Vec::new(alloc);
     put_head(alloc, &mut out, scenario)?;

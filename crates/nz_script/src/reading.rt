@@ -2,8 +2,9 @@
 
 ghost use Rattle.std.specs.Prelude.{◌≡◌, ◌≢◌, ◌≤◌, ℕ, Bool, List, length, nat_lt, take, IfOk, IfErr, OnErr, Option, Some, None, Result, Ok, Err};
 ghost use Rattle.nz_script.specs.Bytes.{lines_in, tail_in};
-ghost use Rattle.nz_script.specs.Reading.{is_passed_over as line_is_passed_over, step as step_of, outcome, ending as ending_of, reading, scenario};
-ghost use Rattle.nz_script.specs.Drafts.{start};
+ghost use Rattle.nz_script.specs.Reading as reading;
+ghost use Rattle.nz_script.specs.Reading.{draft_after_line, draft_or_kind, scenario_at_end, scenario_from, scenario};
+ghost use Rattle.nz_script.specs.Drafts.{first_draft};
 ghost use Rattle.nz_script.specs.declared.faults.ScriptFault.TheVariants as script_fault;
 
 use super::bytes::cut_at;
@@ -11,7 +12,7 @@ use super::checks::fault_of;
 use super::draft::Draft;
 use super::faults::{Kind, ScriptFault};
 use super::line::line_of;
-use super::shape::Place;
+use super::line_forms::Place;
 use nz_base::{NoMemory, Scenario};
 use std::alloc::Global;
 
@@ -19,7 +20,7 @@ use std::alloc::Global;
 pub const MOST_BYTES: usize = 1_048_576;
 
 fn is_passed_over(line: &[u8]) -> bool
-    ensures { result ≡ line_is_passed_over line.now }
+    ensures { result ≡ reading.is_passed_over line.now }
 {
     match line {
         [] => true,
@@ -28,9 +29,9 @@ fn is_passed_over(line: &[u8]) -> bool
 }
 
 /// Takes the line in, or says what is wrong with it.
-#[tactic(auto, unfolding(crate::specs::Reading::step))]
+#[tactic(auto, unfolding(crate::specs::Reading::draft_after_line))]
 fn step(alloc: Global, draft: &mut Draft, bytes: &[u8]) -> Result<Option<Kind>, NoMemory>
-    ensures { IfOk result (λ refused. step_of draft.old bytes.now ≡ outcome refused draft.new) }
+    ensures { IfOk result (λ refused. draft_after_line draft.old bytes.now ≡ draft_or_kind refused draft.new) }
 {
     if is_passed_over(bytes) {
         return Ok(None);
@@ -49,7 +50,7 @@ fn step(alloc: Global, draft: &mut Draft, bytes: &[u8]) -> Result<Option<Kind>, 
 
 /// What is answered at the end of the text, in the line after the last newline.
 fn ending(long: bool, tail: &[u8], line: u32, draft: Draft) -> Result<Scenario, ScriptFault>
-    ensures { result ≡ ending_of long tail.now line draft }
+    ensures { result ≡ scenario_at_end long tail.now line draft }
 {
     if long {
         return Err(ScriptFault::Refusal {
@@ -79,7 +80,7 @@ fn read_text(
     text: &[u8],
 ) -> Result<Result<Scenario, ScriptFault>, NoMemory>
     requires { length text.now ≤ 1048576 }
-    ensures { IfOk result (λ answer. answer ≡ reading long (tail_in text.now) 1 start (lines_in text.now)) }
+    ensures { IfOk result (λ answer. answer ≡ scenario_from long (tail_in text.now) 1 first_draft (lines_in text.now)) }
 {
     let mut draft = Draft::new(alloc);
     let mut rest = text;

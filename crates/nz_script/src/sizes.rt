@@ -4,13 +4,14 @@ ghost use Rattle.std.specs.Prelude.{◌≡◌, ◌≤◌, ◌∷◌, [], length,
 ghost use Rattle.std.specs.Fmt.{decimal};
 ghost use Rattle.nz_store.specs.Reading.{command_of};
 ghost use Rattle.nz_script.specs.Lines.{a_line};
-ghost use Rattle.nz_script.specs.Texts.{actor_text, word_text, words_text, text_of_lines, window_lines, head_lines, number_line, skew_line, wait_lines, lines_of_command, request_lines, script_lines, scripts_lines, fault_line, text_of};
+ghost use Rattle.nz_script.specs.Texts.{actor_text, word_text, words_text, text_of_lines, window_lines, head_lines, number_line, skew_line};
+ghost use Rattle.nz_script.specs.Texts.{wait_lines, lines_of_command, request_lines, script_lines, scripts_lines, fault_line, text_of};
 ghost use Rattle.nz_script.specs.Sizes.{room_after};
 
+use super::command_len::spelled_len;
+use super::line_forms::{Head, Verb};
 use super::message::name_of;
 use super::printing::{fault_parts, units_of, version_of};
-use super::shape::{Head, Verb};
-use super::spelled::spelled_len;
 use super::word::Word;
 use nz_base::{Actor, Fault, Request, RequestList, Scenario, Skew};
 

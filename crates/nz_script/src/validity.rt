@@ -2,18 +2,19 @@
 
 ghost use Rattle.std.specs.Prelude.{◌≡◌, ◌↔◌, ◌≤◌, ◌<◌, ◌^◌, IsTrue, length};
 ghost use Rattle.std.specs.List.{list_all};
-ghost use Rattle.nz_base.specs.Actor.{is_within as is_between_of};
-ghost use Rattle.nz_base.specs.declared.scenario.Scenario.{Scenario as AScenario};
+ghost use Rattle.nz_base.specs.Actor.{is_within};
+ghost use Rattle.nz_base.specs.declared.scenario.Scenario.{Scenario as ScenarioModel};
 ghost use Rattle.nz_script.specs.Lines.{a_line};
 ghost use Rattle.nz_script.specs.Texts.{skew_line, fault_line};
-ghost use Rattle.nz_script.specs.Valid.{group_of as group_in, is_sound as line_is_sound, has_group as group_is, are_apart as skews_are_apart, has_skews as skews_are, is_request as request_is, are_requests as requests_are, request_count as count_of, has_few as few_are, has_faults as faults_are, is_short as text_is_short, is_valid as scenario_is_valid, IsValid};
+ghost use Rattle.nz_script.specs.Valid as valid;
+ghost use Rattle.nz_script.specs.Valid.{group_of_scenario, requests_in_all, has_faults, IsValid};
 
 use super::checks::{are_known, are_within, fits_faults, fits_requests, has_skew, is_span};
+use super::command_len::spelled_len;
 use super::group::Group;
+use super::line_forms::Verb;
 use super::printing::{fault_parts, units_of};
-use super::shape::Verb;
 use super::sizes::scenario_room;
-use super::spelled::spelled_len;
 use super::word::Word;
 use nz_base::{Fault, Request, RequestList, Scenario, Skew};
 
@@ -28,7 +29,7 @@ pub trait ValidScenario {
 }
 
 fn group_of(scenario: &Scenario) -> Group
-    ensures { result ≡ group_in scenario.now }
+    ensures { result ≡ group_of_scenario scenario.now }
 {
     Group {
         cluster: scenario.cluster,
@@ -39,13 +40,13 @@ fn group_of(scenario: &Scenario) -> Group
 }
 
 fn is_between(least: u32, most: u32, number: u32) -> bool
-    ensures { result ≡ is_between_of least most number }
+    ensures { result ≡ is_within least most number }
 {
     least <= number && number <= most
 }
 
 fn has_group(scenario: &Scenario) -> bool
-    ensures { result ≡ group_is scenario.now }
+    ensures { result ≡ valid.has_group scenario.now }
 {
     let few = is_between(1, 4, u32::from(scenario.cluster.f()))
         && is_between(1, 8, u32::from(scenario.proxies));
@@ -57,14 +58,14 @@ fn has_group(scenario: &Scenario) -> bool
 
 /// Whether the actors of the line are there and its numbers in range.
 fn is_sound(group: &Group, verb: Verb, words: &[Word]) -> bool
-    ensures { result ≡ line_is_sound group.now (a_line verb words.now) }
+    ensures { result ≡ valid.is_sound group.now (a_line verb words.now) }
 {
     let forms = verb.shape().2;
     are_known(group, forms, words) && (are_within(forms, words) && is_span(verb, words))
 }
 
 fn is_sound_skew(group: &Group, skew: &Skew) -> bool
-    ensures { result ≡ line_is_sound group.now (skew_line skew.now) }
+    ensures { result ≡ valid.is_sound group.now (skew_line skew.now) }
 {
     is_sound(
         group,
@@ -74,7 +75,7 @@ fn is_sound_skew(group: &Group, skew: &Skew) -> bool
 }
 
 fn are_apart(skews: &[Skew]) -> bool
-    ensures { result ≡ skews_are_apart skews.now }
+    ensures { result ≡ valid.are_apart skews.now }
 {
     for i in 0..skews.len() {
         if has_skew(&skews[i + 1..], skews[i].actor) {
@@ -85,32 +86,32 @@ fn are_apart(skews: &[Skew]) -> bool
 }
 
 fn are_sound_skews(group: &Group, skews: &[Skew]) -> bool
-    ensures { result ≡ list_all (λ k. line_is_sound group.now (skew_line k)) skews.now }
+    ensures { result ≡ list_all (λ k. valid.is_sound group.now (skew_line k)) skews.now }
 {
     skews.iter().all(|skew| is_sound_skew(group, skew))
 }
 
 fn has_skews(scenario: &Scenario) -> bool
-    ensures { result ≡ skews_are scenario.now }
+    ensures { result ≡ valid.has_skews scenario.now }
 {
     let skews = scenario.skews.as_slice();
     are_sound_skews(&group_of(scenario), skews) && are_apart(skews)
 }
 
 fn is_request(request: &Request) -> bool
-    ensures { result ≡ request_is request.now }
+    ensures { result ≡ valid.is_request request.now }
 {
     request.wait <= 20_000 && spelled_len(request.command.as_slice()).is_some()
 }
 
 fn are_requests(script: &[Request]) -> bool
-    ensures { result ≡ requests_are script.now }
+    ensures { result ≡ valid.are_requests script.now }
 {
     script.iter().all(is_request)
 }
 
 fn are_scripts(scripts: &[RequestList]) -> bool
-    ensures { result ≡ list_all requests_are scripts.now }
+    ensures { result ≡ list_all valid.are_requests scripts.now }
 {
     scripts.iter().all(|script| are_requests(script.as_slice()))
 }
@@ -118,7 +119,7 @@ fn are_scripts(scripts: &[RequestList]) -> bool
 /// How many requests there are in all.
 fn request_count(scripts: &[RequestList]) -> u64
     requires { length scripts.now ≤ 255 }
-    ensures value { result ≡ count_of scripts.now }
+    ensures value { result ≡ requests_in_all scripts.now }
     ensures bound { result < 2 ^ 40 }
 {
     let mut count = 0;
@@ -130,7 +131,7 @@ fn request_count(scripts: &[RequestList]) -> u64
 
 fn has_few(scenario: &Scenario) -> bool
     requires { length scenario.now.scripts ≤ 255 }
-    ensures { result ≡ few_are scenario.now }
+    ensures { result ≡ valid.has_few scenario.now }
 {
     let requests = request_count(scenario.scripts.as_slice());
     fits_requests(requests, scenario.ticks)
@@ -138,27 +139,27 @@ fn has_few(scenario: &Scenario) -> bool
 }
 
 fn is_sound_fault(group: &Group, fault: &Fault) -> bool
-    ensures { result ≡ line_is_sound group.now (fault_line fault.now) }
+    ensures { result ≡ valid.is_sound group.now (fault_line fault.now) }
 {
     let (verb, words, len) = fault_parts(fault);
     is_sound(group, verb, &words[..len])
 }
 
 fn are_sound_faults(group: &Group, faults: &[Fault]) -> bool
-    ensures { result ≡ list_all (λ f. line_is_sound group.now (fault_line f)) faults.now }
+    ensures { result ≡ list_all (λ f. valid.is_sound group.now (fault_line f)) faults.now }
 {
     faults.iter().all(|fault| is_sound_fault(group, fault))
 }
 
 fn is_short(scenario: &Scenario) -> bool
     requires { length scenario.now.scripts ≤ 255 }
-    ensures { result ≡ text_is_short scenario.now }
+    ensures { result ≡ valid.is_short scenario.now }
 {
     scenario_room(1_048_576, scenario).is_some()
 }
 
 fn is_valid(scenario: &Scenario) -> bool
-    ensures { result ≡ scenario_is_valid scenario.now }
+    ensures { result ≡ valid.is_valid scenario.now }
 {
     let first = has_group(scenario) && has_skews(scenario);
     if !first {

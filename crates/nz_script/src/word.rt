@@ -2,12 +2,13 @@
 
 ghost use Rattle.std.specs.Prelude.{◌≡◌, IfOk, slice_get};
 ghost use Rattle.std.specs.Option.{option_copied};
-ghost use Rattle.nz_script.specs.Forms.{lettered as lettered_as, actor_named, number_word as number_as, units_word as units_as, actor_word as actor_as, actors_word as actors_as, value_word as value_as, choice_word as choice_as, word_of as word_for, number_in, byte_in, units_in, actor_in, actors_in, kind_in, text_in, choice_in};
+ghost use Rattle.nz_script.specs.Forms as forms;
+ghost use Rattle.nz_script.specs.Forms.{actor_of_letter, actor_named, number_in, byte_in, units_in, actor_in, actors_in, kind_in, text_in, choice_in};
 ghost use Rattle.nz_script.specs.declared.word.Word.TheVariants.{Text};
 
 use super::bytes::number_of;
+use super::line_forms::Form;
 use super::message::kind_named;
-use super::shape::Form;
 use nz_base::{Actor, List, NoMemory};
 use nz_store::Blob;
 use std::alloc::Global;
@@ -29,7 +30,7 @@ pub enum Word {
 pub type WordList = List<Word>;
 
 fn lettered(letter: u8, number: u8) -> Option<Actor>
-    ensures { result ≡ lettered_as letter number }
+    ensures { result ≡ actor_of_letter letter number }
 {
     match letter {
         b'r' => Some(Actor::Replica(number)),
@@ -57,7 +58,7 @@ fn actor_of(bytes: &[u8]) -> Option<Actor>
 
 #[tactic(auto, unfolding(crate::specs::Forms::number_word))]
 fn number_word(bytes: &[u8]) -> Option<Word>
-    ensures { result ≡ number_as bytes.now }
+    ensures { result ≡ forms.number_word bytes.now }
 {
     let number = number_of(bytes)?;
     Some(Word::Number(number))
@@ -65,7 +66,7 @@ fn number_word(bytes: &[u8]) -> Option<Word>
 
 #[tactic(auto, unfolding(crate::specs::Forms::units_word))]
 fn units_word(bytes: &[u8]) -> Option<Word>
-    ensures { result ≡ units_as bytes.now }
+    ensures { result ≡ forms.units_word bytes.now }
 {
     let [byte, rest @ ..] = bytes else {
         return None;
@@ -84,7 +85,7 @@ fn units_word(bytes: &[u8]) -> Option<Word>
 
 #[tactic(auto, unfolding(crate::specs::Forms::actor_word))]
 fn actor_word(bytes: &[u8]) -> Option<Word>
-    ensures { result ≡ actor_as bytes.now }
+    ensures { result ≡ forms.actor_word bytes.now }
 {
     let actor = actor_of(bytes)?;
     Some(Word::Named(actor))
@@ -92,7 +93,7 @@ fn actor_word(bytes: &[u8]) -> Option<Word>
 
 #[tactic(auto, unfolding(crate::specs::Forms::actors_word))]
 fn actors_word(bytes: &[u8]) -> Option<Word>
-    ensures { result ≡ actors_as bytes.now }
+    ensures { result ≡ forms.actors_word bytes.now }
 {
     if bytes == b"*".as_slice() {
         return Some(Word::Everyone);
@@ -107,7 +108,7 @@ fn text_word(alloc: Global, bytes: &[u8]) -> Result<Word, NoMemory>
 }
 
 fn value_word(alloc: Global, bytes: &[u8]) -> Result<Option<Word>, NoMemory>
-    ensures { IfOk result (λ word. word ≡ value_as bytes.now) }
+    ensures { IfOk result (λ word. word ≡ forms.value_word bytes.now) }
 {
     if bytes == b"-".as_slice() {
         return Ok(None);
@@ -116,7 +117,7 @@ fn value_word(alloc: Global, bytes: &[u8]) -> Result<Option<Word>, NoMemory>
 }
 
 fn choice_word(alloc: Global, bytes: &[u8]) -> Result<Word, NoMemory>
-    ensures { IfOk result (λ word. word ≡ choice_as bytes.now) }
+    ensures { IfOk result (λ word. word ≡ forms.choice_word bytes.now) }
 {
     if bytes == b"-".as_slice() {
         return Ok(Word::Nothing);
@@ -126,7 +127,7 @@ fn choice_word(alloc: Global, bytes: &[u8]) -> Result<Word, NoMemory>
 
 /// What the bytes mean as a word of this form: None where they have not its shape.
 pub fn word_of(alloc: Global, form: Form, bytes: &[u8]) -> Result<Option<Word>, NoMemory>
-    ensures { IfOk result (λ word. word ≡ word_for form bytes.now) }
+    ensures { IfOk result (λ word. word ≡ forms.word_of form bytes.now) }
 {
     match form {
         Form::Number { least: _, most: _ } => Ok(number_word(bytes)),

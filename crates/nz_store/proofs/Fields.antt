@@ -1,5 +1,6 @@
 -- What is read of one field is its spelling, and what is spelled is read again.
-use Rattle.std.proofs.Common.{◌≡◌, ℕ, zero, suc, ◌+◌, ◌*◌, ◌/◌, ◌%◌, ◌<◌, ◌≤◌, Bool, true, false, cond, ltb, List, [], ◌∷◌, ◌++◌, length, take, drop, Option, Some, None, refl, sym, ap, subst, arith}
+use Rattle.std.proofs.Common.{◌≡◌, ℕ, zero, suc, ◌+◌, ◌*◌, ◌/◌, ◌%◌, ◌<◌, ◌≤◌, Bool, true, false, cond, ltb, List}
+use Rattle.std.proofs.Common.{[], ◌∷◌, ◌++◌, length, take, drop, Option, Some, None, refl, sym, ap, subst, arith}
 use Rattle.std.proofs.lemmas.Bool.{ltb-true, ltb-false, le-ltb, lt-ltb}
 use Rattle.std.proofs.lemmas.List.{take_at, drop_at, take-append-drop, length-append, length-take}
 use Rattle.nz_store.specs.Grammar.{IsKey, IsValue, IsChoice, key_spelling, value_spelling, choice_spelling}
@@ -37,7 +38,8 @@ text_takes test n bytes x e =
     let g = not_refused (ltb (length bytes) n) (cond (test (take n bytes)) (Some (take n bytes, drop n bytes)) None) x e in
     let h = passed (test (take n bytes)) (Some (take n bytes, drop n bytes)) x g.1 in
     let enough : n ≤ length bytes = ltb-false _ _ g.0 in
-    let made : IsTextAt test n bytes (take n bytes) (drop n bytes) = record { parts = sym (take-append-drop n bytes); long = omega (arith, length-take n bytes); passes = h.0 } in
+    let made : IsTextAt test n bytes (take n bytes) (drop n bytes) =
+    record { parts = sym (take-append-drop n bytes); long = omega (arith, length-take n bytes); passes = h.0 } in
     subst (λ (p : List ℕ × List ℕ). IsTextAt test n bytes p.0 p.1) (some_is (take n bytes, drop n bytes) x h.1) made
 
 text_again : (test : List ℕ → Bool) (n : ℕ) (text rest : List ℕ) → n ≡ length text → test text ≡ true → text_at test n (text ++ rest) ≡ Some (text, rest)
@@ -86,7 +88,8 @@ choice_takes (zero ∷ bytes) x e =
 choice_takes (suc zero ∷ bytes) x e =
     let b = bind_some (value_at bytes) (λ v. Some (Some v.0, v.1)) x e in
     let t = value_takes bytes b.0 b.1 in
-    subst (λ (p : Option (List ℕ) × List ℕ). (1 ∷ bytes ≡ choice_spelling p.0 ++ p.1) × IsChoice p.0) (some_is (Some b.0.0, b.0.1) x b.2) (ap (λ (l : List ℕ). 1 ∷ l) t.0, t.1)
+    subst (λ (p : Option (List ℕ) × List ℕ). (1 ∷ bytes ≡ choice_spelling p.0 ++ p.1) × IsChoice p.0)
+    (some_is (Some b.0.0, b.0.1) x b.2) (ap (λ (l : List ℕ). 1 ∷ l) t.0, t.1)
 choice_takes (suc (suc n) ∷ bytes) x e = absurd cc
 
 pub choice_again : (value : Option (List ℕ)) (rest : List ℕ) → IsChoice value → choice_at (choice_spelling value ++ rest) ≡ Some (value, rest)

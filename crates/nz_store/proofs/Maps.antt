@@ -42,14 +42,19 @@ exchanged true true x y z apart = absurd (apart refl refl)
 exchanged true false x y z apart = refl
 exchanged false c x y z apart = refl
 
-pub value_of-with_value : (s : Entries) (key value other : List ℕ) → value_of (with_value s key value) other ≡ cond (bytes_eq other key) (Some value) (value_of s other)
+pub value_of-with_value : (s : Entries) (key value other : List ℕ)
+    → value_of (with_value s key value) other ≡ cond (bytes_eq other key) (Some value) (value_of s other)
 value_of-with_value [] key value other = refl
 value_of-with_value (e ∷ es) key value other =
-    elim (bytes_cmp key e.0) as (λ (o : Ordering). bytes_cmp key e.0 ≡ o → value_of (match_ordering o ((key, value) ∷ e ∷ es) ((e.0, value) ∷ es) (e ∷ with_value es key value)) other ≡ cond (bytes_eq other key) (Some value) (value_of (e ∷ es) other)) [
+    elim (bytes_cmp key e.0) as (λ (o : Ordering). bytes_cmp key e.0 ≡ o
+    → value_of (match_ordering o ((key, value) ∷ e ∷ es) ((e.0, value) ∷ es) (e ∷ with_value es key value)) other
+    ≡ cond (bytes_eq other key) (Some value) (value_of (e ∷ es) other)) [
       | Less ↦ λ is. refl
       | Equal ↦ λ is.
           let same : e.0 ≡ key = sym (same_bytes key e.0 is) in
-          subst (λ (k : List ℕ). cond (bytes_eq other k) (Some value) (value_of es other) ≡ cond (bytes_eq other key) (Some value) (cond (bytes_eq other k) (Some e.1) (value_of es other))) (sym same) (overwritten (bytes_eq other key) (Some value) (Some e.1) (value_of es other))
+          subst (λ (k : List ℕ). cond (bytes_eq other k) (Some value) (value_of es other)
+          ≡ cond (bytes_eq other key) (Some value) (cond (bytes_eq other k) (Some e.1) (value_of es other)))
+          (sym same) (overwritten (bytes_eq other key) (Some value) (Some e.1) (value_of es other))
       | Greater ↦ λ is.
           ap (λ (o : Option (List ℕ)). cond (bytes_eq other e.0) (Some e.1) o) (value_of-with_value es key value other)
           ∙ exchanged (bytes_eq other e.0) (bytes_eq other key) (Some e.1) (Some value) (value_of es other)
@@ -63,11 +68,14 @@ pub value_of-without : (s : Entries) (key other : List ℕ) → value_of (withou
 value_of-without [] key other =
     elim (bytes_eq other key) as (λ (b : Bool). nothing ≡ cond b nothing nothing) [ true ↦ refl | false ↦ refl ]
 value_of-without (e ∷ es) key other =
-    elim (bytes_eq key e.0) as (λ (b : Bool). bytes_eq key e.0 ≡ b → value_of (cond (not b) (e ∷ without es key) (without es key)) other ≡ cond (bytes_eq other key) None (value_of (e ∷ es) other)) [
+    elim (bytes_eq key e.0) as (λ (b : Bool). bytes_eq key e.0 ≡ b
+    → value_of (cond (not b) (e ∷ without es key) (without es key)) other ≡ cond (bytes_eq other key) None (value_of (e ∷ es) other)) [
       | true ↦ λ is.
           let same : e.0 ≡ key = sym ((bytes_eq-Decides key e.0).0 is) in
           value_of-without es key other
-          ∙ subst (λ (k : List ℕ). cond (bytes_eq other key) None (value_of es other) ≡ cond (bytes_eq other key) None (cond (bytes_eq other k) (Some e.1) (value_of es other))) (sym same) (overwritten (bytes_eq other key) None (Some e.1) (value_of es other))
+          ∙ subst (λ (k : List ℕ). cond (bytes_eq other key) None (value_of es other)
+          ≡ cond (bytes_eq other key) None (cond (bytes_eq other k) (Some e.1) (value_of es other))) (sym same)
+          (overwritten (bytes_eq other key) None (Some e.1) (value_of es other))
       | false ↦ λ is.
           ap (λ (o : Option (List ℕ)). cond (bytes_eq other e.0) (Some e.1) o) (value_of-without es key other)
           ∙ exchanged (bytes_eq other e.0) (bytes_eq other key) (Some e.1) None (value_of es other)
@@ -107,10 +115,15 @@ pub IsMap-with_value : (s : Entries) (key value : List ℕ) → IsMap s → IsMa
 unfolding IsStrictlySortedBy
 IsMap-with_value [] key value h = (tt, tt)
 IsMap-with_value (e ∷ es) key value h =
-    elim (bytes_cmp key e.0) as (λ (o : Ordering). bytes_cmp key e.0 ≡ o → IsMap (match_ordering o ((key, value) ∷ e ∷ es) ((e.0, value) ∷ es) (e ∷ with_value es key value))) [
+    elim (bytes_cmp key e.0) as (λ (o : Ordering). bytes_cmp key e.0 ≡ o
+    → IsMap (match_ordering o ((key, value) ∷ e ∷ es) ((e.0, value) ∷ es) (e ∷ with_value es key value))) [
       | Less ↦ λ is. ((is, lower key e.0 es is h.0), h)
       | Equal ↦ λ is. h
-      | Greater ↦ λ is. (above-with_value e.0 es key value (nat_list_cmp_total.antisymm e.0 key ∙ ap ordering_reverse is) h.0, IsMap-with_value es key value h.1)
+      | Greater ↦
+          λ is. (
+            above-with_value e.0 es key value (nat_list_cmp_total.antisymm e.0 key ∙ ap ordering_reverse is) h.0,
+            IsMap-with_value es key value h.1,
+          )
     ] refl
 
 pub IsMap-without : (s : Entries) (key : List ℕ) → IsMap s → IsMap (without s key)

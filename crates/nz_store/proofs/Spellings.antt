@@ -1,5 +1,6 @@
 -- Reading finds exactly the commands that are spelled.
-use Rattle.std.proofs.Common.{◌≡◌, ℕ, Bool, true, false, cond, eqb, List, [], ◌∷◌, ◌++◌, length, Option, Some, None, refl, sym, ap, subst, ◌∙◌, append_assoc, ◌⊎◌, inl, inr, ◌↔◌}
+use Rattle.std.proofs.Common.{◌≡◌, ℕ, Bool, true, false, cond, eqb, List, [], ◌∷◌, ◌++◌, length, Option}
+use Rattle.std.proofs.Common.{Some, None, refl, sym, ap, subst, ◌∙◌, append_assoc, ◌⊎◌, inl, inr, ◌↔◌}
 use Rattle.std.specs.Prelude.{IsNone}
 use Rattle.std.proofs.lemmas.Bool.{eqb-true}
 use Rattle.std.proofs.lemmas.List.{append-nil, nil_from_length}
@@ -22,7 +23,8 @@ pub record IsReadAt (bytes : List ℕ) (c : Command) (rest : List ℕ) : Type 0 
   pub valid : IsValid c
 
 -- a command of a kind, whose key was read
-put_takes : (key bytes : List ℕ) (x : Command × List ℕ) → IsKey key → (value_at bytes >>= λ v. Some (Put key v.0, v.1)) ≡ Some x → IsReadAt (1 ∷ (key_spelling key ++ bytes)) x.0 x.1
+put_takes : (key bytes : List ℕ) (x : Command × List ℕ) → IsKey key
+    → (value_at bytes >>= λ v. Some (Put key v.0, v.1)) ≡ Some x → IsReadAt (1 ∷ (key_spelling key ++ bytes)) x.0 x.1
 put_takes key bytes x h e =
     let b = bind_some (value_at bytes) (λ v. Some (Put key v.0, v.1)) x e in
     let t = value_takes bytes b.0 b.1 in
@@ -39,7 +41,9 @@ del_takes : (key bytes : List ℕ) (x : Command × List ℕ) → IsKey key → s
 del_takes key bytes x h e =
     subst (λ (p : Command × List ℕ). IsReadAt (3 ∷ (key_spelling key ++ bytes)) p.0 p.1) (some_is (Del key, bytes) x e) (record { parts = refl; valid = h })
 
-cas_takes : (key bytes : List ℕ) (x : Command × List ℕ) → IsKey key → (choice_at bytes >>= λ old. choice_at old.1 >>= λ new. Some (Cas key old.0 new.0, new.1)) ≡ Some x → IsReadAt (4 ∷ (key_spelling key ++ bytes)) x.0 x.1
+cas_takes : (key bytes : List ℕ) (x : Command × List ℕ) → IsKey key
+    → (choice_at bytes >>= λ old. choice_at old.1 >>= λ new. Some (Cas key old.0 new.0, new.1)) ≡ Some x
+    → IsReadAt (4 ∷ (key_spelling key ++ bytes)) x.0 x.1
 cas_takes key bytes x h e =
     let a = bind_some (choice_at bytes) (λ old. choice_at old.1 >>= λ new. Some (Cas key old.0 new.0, new.1)) x e in
     let b = bind_some (choice_at a.0.1) (λ new. Some (Cas key a.0.0 new.0, new.1)) x a.2 in
@@ -54,7 +58,8 @@ cas_takes key bytes x h e =
     subst (λ (p : Command × List ℕ). IsReadAt (4 ∷ (key_spelling key ++ bytes)) p.0 p.1) (some_is (Cas key a.0.0 b.0.0, b.0.1) x b.2) made
 
 -- the same, whatever the kind
-kind_takes : (kind : ℕ) (key bytes : List ℕ) (x : Command × List ℕ) → IsKey key → body_at kind key bytes ≡ Some x → IsReadAt (kind ∷ (key_spelling key ++ bytes)) x.0 x.1
+kind_takes : (kind : ℕ) (key bytes : List ℕ) (x : Command × List ℕ) → IsKey key → body_at kind key bytes ≡ Some x
+    → IsReadAt (kind ∷ (key_spelling key ++ bytes)) x.0 x.1
 unfolding body_at
 kind_takes kind key bytes x h e =
     let Read : ℕ → Type 0 = λ k. IsReadAt (k ∷ (key_spelling key ++ bytes)) x.0 x.1 in
@@ -81,14 +86,20 @@ command_takes (kind ∷ bytes) x e =
 pub command_again : (c : Command) (rest : List ℕ) → IsValid c → command_at (spelling c ++ rest) ≡ Some (c, rest)
 unfolding command_at body_at
 command_again (Put key value) rest h =
-    let regrouped : spelling (Put key value) ++ rest ≡ 1 ∷ (key_spelling key ++ (value_spelling value ++ rest)) = ap (λ (l : List ℕ). 1 ∷ l) (append_assoc (key_spelling key) (value_spelling value) rest) in
+    let regrouped : spelling (Put key value) ++ rest ≡ 1 ∷ (key_spelling key ++ (value_spelling value ++ rest)) =
+    ap (λ (l : List ℕ). 1 ∷ l) (append_assoc (key_spelling key) (value_spelling value) rest) in
     ap command_at regrouped ∙ rw (key_again key (value_spelling value ++ rest) h.0, value_again value rest h.1) refl
 command_again (Get key) rest h = rw (key_again key rest h) refl
 command_again (Del key) rest h = rw (key_again key rest h) refl
 command_again (Cas key old new) rest h =
     let regrouped : spelling (Cas key old new) ++ rest ≡ 4 ∷ (key_spelling key ++ (choice_spelling old ++ (choice_spelling new ++ rest))) =
-    ap (λ (l : List ℕ). 4 ∷ l) (append_assoc (key_spelling key) (choice_spelling old ++ choice_spelling new) rest ∙ ap (λ (l : List ℕ). key_spelling key ++ l) (append_assoc (choice_spelling old) (choice_spelling new) rest)) in
-    ap command_at regrouped ∙ rw (key_again key (choice_spelling old ++ (choice_spelling new ++ rest)) h.0, choice_again old (choice_spelling new ++ rest) h.1, choice_again new rest h.2) refl
+    ap (λ (l : List ℕ). 4 ∷ l) (append_assoc (key_spelling key) (choice_spelling old ++ choice_spelling new) rest
+    ∙ ap (λ (l : List ℕ). key_spelling key ++ l) (append_assoc (choice_spelling old) (choice_spelling new) rest)) in
+    ap command_at regrouped ∙ rw (
+      key_again key (choice_spelling old ++ (choice_spelling new ++ rest)) h.0,
+      choice_again old (choice_spelling new ++ rest) h.1,
+      choice_again new rest h.2,
+    ) refl
 
 all_takes : (o : Option (Command × List ℕ)) (c : Command) → all_of o ≡ Some c → o ≡ Some (c, [])
 all_takes None c e = absurd cc

@@ -13,7 +13,7 @@ use Rattle.std.specs.BTreeMap.{insert_entry, is_at}
 use Rattle.std.proofs.lemmas.Map.Text.{is_eq-slice_cmp}
 use Rattle.std.proofs.lemmas.Slice.Eq.{bytes_eq-Decides}
 use Rattle.nz_store.specs.Entries.{Entries, value_of, with_value, without}
-use Rattle.nz_store.specs.Table.{entries_of, key_cmp}
+use Rattle.nz_store.specs.Table.{entries_of, table_key_cmp}
 
 -- how the table looks some bytes up
 abbrev pub compare : List ℕ → Vec ℕ → Ordering
@@ -23,28 +23,38 @@ pub looked_up : (es : List (Vec ℕ × List ℕ)) (key : List ℕ) → lookup (i
 looked_up [] key = refl
 looked_up (e ∷ es) key = rw (is_eq-slice_cmp key e.0.items) (ap (λ (o : Option (List ℕ)). cond (bytes_eq key e.0.items) (Some e.1) o) (looked_up es key))
 
-pub inserted : (es : List (Vec ℕ × List ℕ)) (key : Vec ℕ) (value : List ℕ) → entries_of (insert_entry key_cmp es key value) ≡ with_value (entries_of es) key.items value
+pub inserted : (es : List (Vec ℕ × List ℕ)) (key : Vec ℕ) (value : List ℕ)
+    → entries_of (insert_entry table_key_cmp es key value) ≡ with_value (entries_of es) key.items value
 inserted [] key value = refl
 inserted (e ∷ es) key value =
-    elim (key_cmp key e.0) as (λ (o : Ordering). entries_of (match_ordering o ((key, value) ∷ e ∷ es) ((e.0, value) ∷ es) (e ∷ insert_entry key_cmp es key value)) ≡ match_ordering o ((key.items, value) ∷ entries_of (e ∷ es)) ((e.0.items, value) ∷ entries_of es) ((e.0.items, e.1) ∷ with_value (entries_of es) key.items value)) [
+    elim (table_key_cmp key e.0) as
+    (λ (o : Ordering). entries_of (match_ordering o ((key, value) ∷ e ∷ es) ((e.0, value) ∷ es)
+    (e ∷ insert_entry table_key_cmp es key value))
+    ≡ match_ordering o ((key.items, value) ∷ entries_of (e ∷ es)) ((e.0.items, value) ∷ entries_of es)
+    ((e.0.items, e.1) ∷ with_value (entries_of es) key.items value)) [
       | Less ↦ refl
       | Equal ↦ refl
       | Greater ↦ ap (λ (l : Entries). (e.0.items, e.1) ∷ l) (inserted es key value)
     ]
 
 -- entries at other keys stay
-others_stay : (es : List (Vec ℕ × List ℕ)) (key : List ℕ) → AllByRecursion (λ k. compare key k ≡ Less) (keys_of es) → without (entries_of es) key ≡ entries_of es
+others_stay : (es : List (Vec ℕ × List ℕ)) (key : List ℕ) → AllByRecursion (λ k. compare key k ≡ Less) (keys_of es)
+    → without (entries_of es) key ≡ entries_of es
 others_stay [] key h = refl
 others_stay (e ∷ es) key h =
     let other : bytes_eq key e.0.items ≡ false = sym (is_eq-slice_cmp key e.0.items) ∙ ap is_eq h.0 in
     rw other (ap (λ (l : Entries). (e.0.items, e.1) ∷ l) (others_stay es key h.1))
 
-pub removed : (es : List (Vec ℕ × List ℕ)) (key : List ℕ) → IsStrictlySortedBy key_cmp (keys_of es) → entries_of (remove_entry (is_at (compare key)) es) ≡ without (entries_of es) key
+pub removed : (es : List (Vec ℕ × List ℕ)) (key : List ℕ) → IsStrictlySortedBy table_key_cmp (keys_of es)
+    → entries_of (remove_entry (is_at (compare key)) es) ≡ without (entries_of es) key
 unfolding IsStrictlySortedBy
 removed [] key h = refl
 removed (e ∷ es) key h =
     rw (is_eq-slice_cmp key e.0.items)
-    (elim (bytes_eq key e.0.items) as (λ (b : Bool). bytes_eq key e.0.items ≡ b → entries_of (cond b es (e ∷ remove_entry (is_at (compare key)) es)) ≡ cond (not b) ((e.0.items, e.1) ∷ without (entries_of es) key) (without (entries_of es) key)) [
+    (elim (bytes_eq key e.0.items) as
+    (λ (b : Bool). bytes_eq key e.0.items ≡ b
+    → entries_of (cond b es (e ∷ remove_entry (is_at (compare key)) es))
+    ≡ cond (not b) ((e.0.items, e.1) ∷ without (entries_of es) key) (without (entries_of es) key)) [
       | true ↦ λ same.
           let key_is : key ≡ e.0.items = (bytes_eq-Decides key e.0.items).0 same in
           sym (others_stay es key (subst (λ (k : List ℕ). AllByRecursion (λ x. compare k x ≡ Less) (keys_of es)) (sym key_is) h.0))

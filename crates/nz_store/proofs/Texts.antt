@@ -58,7 +58,9 @@ value_from_test bytes e =
     record { some = t.some; short = t.short; graphic = t.graphic; other = differs (bytes_eq bytes dash) (bytes ≡ dash) (bytes_eq-Decides bytes dash) parts.1 }
 
 pub test_from_value : (bytes : List ℕ) → IsValue bytes → is_value_text bytes ≡ true
-test_from_value bytes h = both (is_text 256 bytes) (not (bytes_eq bytes dash)) (test_from_text 256 bytes h.some h.short h.graphic) (is_not (bytes_eq bytes dash) (bytes ≡ dash) (bytes_eq-Decides bytes dash) h.other)
+test_from_value bytes h =
+    both (is_text 256 bytes) (not (bytes_eq bytes dash)) (test_from_text 256 bytes h.some h.short h.graphic)
+    (is_not (bytes_eq bytes dash) (bytes ≡ dash) (bytes_eq-Decides bytes dash) h.other)
 
 choice_from_test : (value : Option (List ℕ)) → is_choice_text value ≡ true → IsChoice value
 choice_from_test None e = tt

@@ -30,7 +30,8 @@ unfolding replies_from
 length-replies_from s [] = refl
 length-replies_from s (x ∷ xs) = ap suc (length-replies_from (apply_bytes s x).0 xs)
 
-slice_get-replies_from : (s : Entries) (xs : List (List ℕ)) (i : ℕ) → slice_get (replies_from s xs) i ≡ option_map (λ x. (apply_bytes (store_from s (take i xs)) x).1) (slice_get xs i)
+slice_get-replies_from : (s : Entries) (xs : List (List ℕ)) (i : ℕ)
+    → slice_get (replies_from s xs) i ≡ option_map (λ x. (apply_bytes (store_from s (take i xs)) x).1) (slice_get xs i)
 unfolding replies_from store_from
 slice_get-replies_from s [] i = refl
 slice_get-replies_from s (x ∷ xs) zero = refl

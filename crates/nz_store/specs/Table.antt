@@ -12,9 +12,9 @@ abbrev pub entries_of : List (Vec ℕ × List ℕ) → Entries
 entries_of table = map (λ e. (e.0.items, e.1)) table
 
 -- Keys are compared by their bytes.
-abbrev pub key_cmp : Vec ℕ → Vec ℕ → Ordering
-key_cmp a b = slice_cmp nat_cmp a.items b.items
+abbrev pub table_key_cmp : Vec ℕ → Vec ℕ → Ordering
+table_key_cmp a b = slice_cmp nat_cmp a.items b.items
 
 -- The table's keys rise.
 pub record IsInOrder (table : BTreeMap (Vec ℕ) (List ℕ)) : Type 0 where
-  pub ordered : IsOrdered key_cmp table
+  pub ordered : IsOrdered table_key_cmp table

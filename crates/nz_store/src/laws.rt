@@ -2,7 +2,7 @@
 //! function that does nothing.
 ghost use Rattle.std.specs.Prelude.{◌≡◌, ◌↔◌, ◌<◌, ℕ, List, [], ◌∷◌, ◌++◌, length, slice_get, Some, None, if◌then◌else◌};
 ghost use Rattle.std.specs.Str.{bytes_eq};
-ghost use Rattle.nz_store.specs.declared.command.Command.{Command as ACommand};
+ghost use Rattle.nz_store.specs.declared.command.Command.{Command};
 ghost use Rattle.nz_store.specs.Grammar.{IsValid, Spells, spelling};
 ghost use Rattle.nz_store.specs.Reading.{command_of};
 ghost use Rattle.nz_store.specs.Entries.{Entries, IsMap, value_of, with_value, without};
@@ -10,21 +10,22 @@ ghost use Rattle.nz_store.specs.Sequence.{apply_bytes, store_from, store_after, 
 
 /// A command has one spelling, which is read back, and bytes spell one command at most.
 pub fn one_spelling()
-    ensures read { (bytes : List ℕ) (c : ACommand) → (command_of bytes ≡ Some c) ↔ Spells c bytes }
-    ensures back { (c : ACommand) → IsValid c → command_of (spelling c) ≡ Some c }
-    ensures bytes { (c : ACommand) (bytes others : List ℕ) → Spells c bytes → Spells c others → bytes ≡ others }
-    ensures command { (c d : ACommand) (bytes : List ℕ) → Spells c bytes → Spells d bytes → c ≡ d }
+    ensures read { (bytes : List ℕ) (c : Command) → (command_of bytes ≡ Some c) ↔ Spells c bytes }
+    ensures back { (c : Command) → IsValid c → command_of (spelling c) ≡ Some c }
+    ensures bytes { (c : Command) (bytes others : List ℕ) → Spells c bytes → Spells c others → bytes ≡ others }
+    ensures command { (c d : Command) (bytes : List ℕ) → Spells c bytes → Spells d bytes → c ≡ d }
 {}
 
 /// No command begins another.
 pub fn no_command_begins_another()
-    ensures { (c d : ACommand) (front rest : List ℕ) → Spells c front → Spells d (front ++ rest) → rest ≡ [] }
+    ensures { (c d : Command) (front rest : List ℕ) → Spells c front → Spells d (front ++ rest) → rest ≡ [] }
 {}
 
 /// A value that was set or removed is so at its key and at no other, and a store that began empty
 /// has each key once.
 pub fn store_is_a_map()
-    ensures set { (s : Entries) (key value other : List ℕ) → value_of (with_value s key value) other ≡ (if bytes_eq other key then Some value else value_of s other) }
+    ensures set { (s : Entries) (key value other : List ℕ)
+        → value_of (with_value s key value) other ≡ (if bytes_eq other key then Some value else value_of s other) }
     ensures removed { (s : Entries) (key other : List ℕ) → value_of (without s key) other ≡ (if bytes_eq other key then None else value_of s other) }
     ensures once { (list : List (List ℕ)) → IsMap (store_after list) }
 {}

@@ -4,8 +4,9 @@ ghost use Rattle.std.specs.Prelude.{◌≡◌, ◌↔◌, IfOk, IsNone, Some};
 ghost use Rattle.std.specs.List.{list_all};
 ghost use Rattle.std.specs.Option.{option_map};
 ghost use Rattle.nz_store.specs.Grammar.{is_graphic, Spells};
-ghost use Rattle.nz_store.specs.Reading.{is_text as is_text_of, is_key_text, is_value_text, text_at as text_in, key_at as key_in, value_at as value_in, choice_at as choice_in, body_at as body_in, command_of, all_of};
-ghost use Rattle.nz_store.specs.declared.command.Command.{Command as ACommand};
+ghost use Rattle.nz_store.specs.Reading as reading;
+ghost use Rattle.nz_store.specs.Reading.{is_key_text, is_value_text, text_at, command_of, all_of};
+ghost use Rattle.nz_store.specs.declared.command.Command.{Command as CommandModel};
 
 use crate::blob::Blob;
 use crate::command::Command;
@@ -19,7 +20,7 @@ fn are_graphic(bytes: &[u8]) -> bool
 }
 
 fn is_text(bytes: &[u8], most: usize) -> bool
-    ensures { result ≡ is_text_of most bytes.now }
+    ensures { result ≡ reading.is_text most bytes.now }
 {
     let len = bytes.len();
     1 <= len && len <= most && are_graphic(bytes)
@@ -39,7 +40,7 @@ pub(crate) fn is_value(bytes: &[u8]) -> bool
 
 #[tactic(auto, unfolding(crate::specs::Reading::key_at))]
 fn key_at(bytes: &[u8]) -> Option<(&[u8], &[u8])>
-    ensures { option_map (λ x. (x.0.now, x.1.now)) result ≡ key_in bytes.now }
+    ensures { option_map (λ x. (x.0.now, x.1.now)) result ≡ reading.key_at bytes.now }
 {
     let [len, rest @ ..] = bytes else {
         return None;
@@ -54,7 +55,7 @@ fn key_at(bytes: &[u8]) -> Option<(&[u8], &[u8])>
 
 #[tactic(auto, unfolding(crate::specs::Reading::value_at))]
 fn value_at(bytes: &[u8]) -> Option<(&[u8], &[u8])>
-    ensures { option_map (λ x. (x.0.now, x.1.now)) result ≡ value_in bytes.now }
+    ensures { option_map (λ x. (x.0.now, x.1.now)) result ≡ reading.value_at bytes.now }
 {
     let [high, low, rest @ ..] = bytes else {
         return None;
@@ -73,7 +74,7 @@ fn value_at(bytes: &[u8]) -> Option<(&[u8], &[u8])>
 
 #[tactic(auto, unfolding(crate::specs::Reading::choice_at))]
 fn choice_at(bytes: &[u8]) -> Option<(Option<&[u8]>, &[u8])>
-    ensures { option_map (λ x. (option_map (λ v. v.now) x.0, x.1.now)) result ≡ choice_in bytes.now }
+    ensures { option_map (λ x. (option_map (λ v. v.now) x.0, x.1.now)) result ≡ reading.choice_at bytes.now }
 {
     match bytes {
         [0, rest @ ..] => Some((None, rest)),
@@ -97,7 +98,7 @@ fn kept(alloc: Global, value: Option<&[u8]>) -> Result<Option<Blob>, NoMemory>
 
 #[tactic(auto, unfolding(crate::specs::Reading::body_at))]
 fn put_of(alloc: Global, key: &[u8], bytes: &[u8]) -> Result<Option<Command>, NoMemory>
-    ensures { IfOk result (λ found. found ≡ all_of (body_in 1 key.now bytes.now)) }
+    ensures { IfOk result (λ found. found ≡ all_of (reading.body_at 1 key.now bytes.now)) }
 {
     let Some((value, rest)) = value_at(bytes) else {
         return Ok(None);
@@ -112,7 +113,7 @@ fn put_of(alloc: Global, key: &[u8], bytes: &[u8]) -> Result<Option<Command>, No
 
 #[tactic(auto, unfolding(crate::specs::Reading::body_at))]
 fn cas_of(alloc: Global, key: &[u8], bytes: &[u8]) -> Result<Option<Command>, NoMemory>
-    ensures { IfOk result (λ found. found ≡ all_of (body_in 4 key.now bytes.now)) }
+    ensures { IfOk result (λ found. found ≡ all_of (reading.body_at 4 key.now bytes.now)) }
 {
     let Some((old, rest)) = choice_at(bytes) else {
         return Ok(None);
@@ -131,7 +132,7 @@ fn cas_of(alloc: Global, key: &[u8], bytes: &[u8]) -> Result<Option<Command>, No
 
 #[tactic(auto, unfolding(crate::specs::Reading::body_at))]
 fn body_of(alloc: Global, kind: u8, key: &[u8], bytes: &[u8]) -> Result<Option<Command>, NoMemory>
-    ensures { IfOk result (λ found. found ≡ all_of (body_in kind key.now bytes.now)) }
+    ensures { IfOk result (λ found. found ≡ all_of (reading.body_at kind key.now bytes.now)) }
 {
     match kind {
         1 => put_of(alloc, key, bytes),
@@ -164,8 +165,8 @@ fn found(alloc: Global, bytes: &[u8]) -> Result<Option<Command>, NoMemory>
 /// The command that the bytes spell, all of them: None where they spell none.
 pub fn read_command(alloc: Global, bytes: &[u8]) -> Result<Option<Command>, NoMemory>
     ensures found { IfOk result (λ found. found ≡ command_of bytes.now) }
-    ensures some { IfOk result (λ found. (c : ACommand) → (found ≡ Some c) ↔ Spells c bytes.now) }
-    ensures none { IfOk result (λ found. IsNone found ↔ ((c : ACommand) → ¬ Spells c bytes.now)) }
+    ensures some { IfOk result (λ found. (c : CommandModel) → (found ≡ Some c) ↔ Spells c bytes.now) }
+    ensures none { IfOk result (λ found. IsNone found ↔ ((c : CommandModel) → ¬ Spells c bytes.now)) }
 {
     found(alloc, bytes)
 }

@@ -4,7 +4,8 @@ ghost use Rattle.std.specs.Prelude.{◌≡◌, OnOk, IfOk, OnErr, Option, ℕ, L
 ghost use Rattle.std.specs.Option.{option_copied, option_eq};
 ghost use Rattle.std.specs.Str.{bytes_eq};
 ghost use Rattle.nz_store.specs.Entries.{empty, value_of, with_value, without, with_choice};
-ghost use Rattle.nz_store.specs.Sequence.{apply as apply_of, apply_bytes as apply_bytes_of, value_answer, removal_answer, refusal_answer, swap as swap_of};
+ghost use Rattle.nz_store.specs.Sequence as sequence;
+ghost use Rattle.nz_store.specs.Sequence.{value_answer, removal_answer, refusal_answer, swap};
 ghost use Rattle.nz_store.specs.Table.{entries_of, IsInOrder};
 
 use crate::blob::Blob;
@@ -112,7 +113,7 @@ fn compare_and_set(
     new: &Option<Blob>,
 ) -> Result<Answer, NoMemory>
     requires { IsInOrder table.old }
-    ensures ok { IfOk result (λ answer. (entries_of table.new.entries, answer) ≡ swap_of (entries_of table.old.entries) key.now old.now new.now) }
+    ensures ok { IfOk result (λ answer. (entries_of table.new.entries, answer) ≡ swap (entries_of table.old.entries) key.now old.now new.now) }
     ensures err { OnErr result (table.new.entries ≡ table.old.entries) }
     ensures order { IsInOrder table.new }
 {
@@ -156,8 +157,8 @@ impl Store {
     /// Applies the command, and answers it.
     #[tactic(auto, unfolding(crate::specs::Sequence::apply))]
     pub fn apply(&mut self, command: &Command) -> Result<Answer, NoMemory>
-        ensures store { OnOk result (self.new ≡ (apply_of self.old command.now).0) }
-        ensures answer { IfOk result (λ answer. answer ≡ (apply_of self.old command.now).1) }
+        ensures store { OnOk result (self.new ≡ (sequence.apply self.old command.now).0) }
+        ensures answer { IfOk result (λ answer. answer ≡ (sequence.apply self.old command.now).1) }
         ensures err { OnErr result (self.new ≡ self.old) }
     {
         match command {
@@ -177,8 +178,8 @@ impl Store {
     /// are answered Absent.
     #[tactic(auto, unfolding(crate::specs::Sequence::apply_bytes))]
     pub fn apply_bytes(&mut self, bytes: &[u8]) -> Result<Answer, NoMemory>
-        ensures store { OnOk result (self.new ≡ (apply_bytes_of self.old bytes.now).0) }
-        ensures answer { IfOk result (λ answer. answer ≡ (apply_bytes_of self.old bytes.now).1) }
+        ensures store { OnOk result (self.new ≡ (sequence.apply_bytes self.old bytes.now).0) }
+        ensures answer { IfOk result (λ answer. answer ≡ (sequence.apply_bytes self.old bytes.now).1) }
         ensures err { OnErr result (self.new ≡ self.old) }
     {
         match read_command(self.alloc, bytes)? {

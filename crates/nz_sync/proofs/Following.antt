@@ -1,5 +1,6 @@
 -- What a follower sends once it took the keys of a log modification.
-use Rattle.std.proofs.Common.{◌↔◌, IsTrue, length-drop, ◌≡◌, ℕ, ◌+◌, ◌-◌, ◌<◌, ◌≤◌, Bool, false, cond, min, List, [], ◌∷◌, ◌++◌, length, map, drop, get_or, drop-cons, add-one, Option, Some, refl, sym, ap, subst, ◌∙◌, inl, inr, arith, append_assoc}
+use Rattle.std.proofs.Common.{◌↔◌, IsTrue, length-drop, ◌≡◌, ℕ, ◌+◌, ◌-◌, ◌<◌, ◌≤◌, Bool, false, cond, min, List, [], ◌∷◌, ◌++◌, length, map}
+use Rattle.std.proofs.Common.{drop, get_or, drop-cons, add-one, Option, Some, refl, sym, ap, subst, ◌∙◌, inl, inr, arith, append_assoc}
 use Rattle.std.specs.Prelude.{nat_lt, slice_get}
 use Rattle.std.specs.Map.{lookup}
 use Rattle.std.specs.List.{flat_map}
@@ -15,16 +16,18 @@ use Rattle.nz_base.specs.declared.key.Key.{Key}
 use Rattle.nz_base.specs.declared.key.Entry.{Entry}
 use Rattle.nz_base.specs.Key.{id_eq, id_of}
 use Rattle.nz_log.specs.Synced.{synced_part}
-use Rattle.nz_msg.specs.Fields.{keys as keys_field, key as key_field}
+use Rattle.nz_msg.specs.Fields as fields
+use Rattle.nz_msg.specs.Fields.{key}
 use Rattle.nz_msg.specs.declared.message.LogModBody.{LogModBody}
 use Rattle.nz_machine.specs.declared.event.Parcel.{Parcel}
 use Rattle.nz_machine.specs.State.{ReplicaData, Out}
 use Rattle.nz_machine.specs.Replicas.{slow_replies}
 use Rattle.nz_machine.specs.Facts.{ReplicaModel}
-use Rattle.nz_machine.specs.LogMods.{kept_late, kept_all, sync_keys, replies_since, missing_ids, fetch_from, sync_report_to, taken_in, taken_from}
+use Rattle.nz_machine.specs.LogMods.{with_late_entry, with_late_entries, sync_keys, replies_since, missing_ids}
+use Rattle.nz_machine.specs.LogMods.{fetch_from, sync_report_to, after_taking_keys, after_log_mod}
 use Rattle.nz_machine.specs.Step.{parcel}
-use Rattle.nz_machine.proofs.Pieces.{all_drop}
-use Rattle.nz_machine.proofs.Fields.{keys_of_fit, few_keys}
+use Rattle.nz_machine.proofs.ListParts.{all_drop}
+use Rattle.nz_machine.proofs.SentFields.{keys_of_fit, few_keys}
 use Rattle.nz_machine.proofs.FitReplicas.{AreLeft}
 
 -- ---- the slow replies, one after the other
@@ -34,7 +37,9 @@ synced_at : (s : ReplicaData) (place : ℕ) (e : Entry) → place < s.log.synced
 synced_at s place e low at =
     let within : place < length s.log.entries = slice_get_within s.log.entries place e at in
     let long = length-take s.log.synced s.log.entries in
-    let here : get_or (synced_part s.log) place e ≡ e = get_or-take s.log.synced s.log.entries place e low ∙ sym (unwrap_or-slice_get s.log.entries place e) ∙ ap (λ (o : Option Entry). unwrap_or o e) at in
+    let here : get_or (synced_part s.log) place e ≡ e =
+    get_or-take s.log.synced s.log.entries place e low ∙ sym (unwrap_or-slice_get s.log.entries place e)
+    ∙ ap (λ (o : Option Entry). unwrap_or o e) at in
     drop-cons (synced_part s.log) place e (omega (arith, within, long))
     ∙ (λ i. here i ∷ drop (sym (add-one place) i) (synced_part s.log))
 
@@ -44,7 +49,8 @@ pub one_replied : (s : ReplicaData) (me : ℕ) (sends after : List Parcel) (plac
 one_replied s me sends after place e low at is =
     let own = slow_replies s (id_of e.key) (lookup (id_eq (id_of e.key)) s.origin) in
     let rest = replies_since s (place + 1) in
-    let all : replies_since s place ≡ own ++ rest = ap (flat_map (λ (x : Entry). slow_replies s (id_of x.key) (lookup (id_eq (id_of x.key)) s.origin))) (synced_at s place e low at) in
+    let all : replies_since s place ≡ own ++ rest =
+    ap (flat_map (λ (x : Entry). slow_replies s (id_of x.key) (lookup (id_eq (id_of x.key)) s.origin))) (synced_at s place e low at) in
     ap (λ (xs : List Parcel). xs ++ map (parcel (Replica me)) rest) is
     ∙ append_assoc sends (map (parcel (Replica me)) own) (map (parcel (Replica me)) rest)
     ∙ ap (λ (xs : List Parcel). sends ++ xs) (sym (map-append (parcel (Replica me)) own rest))
@@ -61,19 +67,23 @@ drop_min xs m =
           ap (λ (n : ℕ). drop n xs) same ∙ drop_of_length-le xs (omega arith) ∙ sym (drop_of_length-le xs past)
     ]
 
-pub taken_is : (leader : ℕ) (b : LogModBody) (s : ReplicaData) (keys : List Key) (n : ℕ) → nat_lt s.log.synced b.start ≡ false → keys ≡ drop n b.keys → n ≡ min (s.log.synced - b.start) (length b.keys)
-    → taken_from leader b s ≡ taken_in s leader b.commit (sync_keys s keys)
+pub taken_is : (leader : ℕ) (b : LogModBody) (s : ReplicaData) (keys : List Key) (n : ℕ)
+    → nat_lt s.log.synced b.start ≡ false → keys ≡ drop n b.keys → n ≡ min (s.log.synced - b.start) (length b.keys)
+    → after_log_mod leader b s ≡ after_taking_keys s leader b.commit (sync_keys s keys)
 taken_is leader b s keys n within left is =
-    ap (λ (t : Bool). cond t (s, sync_report_to leader s ∷ []) (taken_in s leader b.commit (sync_keys s (drop (s.log.synced - b.start) b.keys)))) within
-    ∙ ap (λ (ks : List Key). taken_in s leader b.commit (sync_keys s ks)) (sym (left ∙ ap (λ (k : ℕ). drop k b.keys) is ∙ drop_min b.keys (s.log.synced - b.start)))
+    ap (λ (t : Bool). cond t (s, sync_report_to leader s ∷ [])
+    (after_taking_keys s leader b.commit (sync_keys s (drop (s.log.synced - b.start) b.keys)))) within
+    ∙ ap (λ (ks : List Key). after_taking_keys s leader b.commit (sync_keys s ks))
+    (sym (left ∙ ap (λ (k : ℕ). drop k b.keys) is ∙ drop_min b.keys (s.log.synced - b.start)))
 
-pub keys_left : (n : ℕ) (keys left : List Key) → left ≡ drop n keys → keys_field.fits keys → AreLeft left 64
+pub keys_left : (n : ℕ) (keys left : List Key) → left ≡ drop n keys → fields.keys.fits keys → AreLeft left 64
 keys_left n keys left is fits =
     let few = few_keys keys fits in
     let fewer = length-drop n keys in
-    subst (λ (ks : List Key). AreLeft ks 64) (sym is) (record { few = omega (arith, few, fewer); all = all_drop key_field.fits n keys (keys_of_fit keys fits) })
+    subst (λ (ks : List Key). AreLeft ks 64) (sym is) (record { few = omega (arith, few, fewer); all = all_drop key.fits n keys (keys_of_fit keys fits) })
 
-all_sent : (f : Out → Parcel) (sends first second third : List Parcel) (a b c : List Out) → first ≡ sends ++ map f a → second ≡ first ++ map f b → third ≡ second ++ map f c
+all_sent : (f : Out → Parcel) (sends first second third : List Parcel) (a b c : List Out) → first ≡ sends ++ map f a
+    → second ≡ first ++ map f b → third ≡ second ++ map f c
     → third ≡ sends ++ map f (a ++ (b ++ c))
 all_sent f sends first second third a b c one two three =
     three ∙ ap (λ (xs : List Parcel). xs ++ map f c) (two ∙ ap (λ (xs : List Parcel). xs ++ map f b) one)
@@ -82,21 +92,25 @@ all_sent f sends first second third a b c one two three =
     ∙ ap (λ (xs : List Parcel). sends ++ xs) (sym (map-append f a (b ++ c) ∙ ap (λ (xs : List Parcel). map f a ++ xs) (map-append f b c)))
 
 -- what is sent after the taking of keys: replies, a fetch and a report
-pub taken_sends : (f me leader : ℕ) (b : LogModBody) (s : ReplicaData) (keys : List Key) (seat : ReplicaModel) (ids : List Id) (synced : ℕ) (sends first second third : List Parcel)
-    → taken_from leader b s ≡ taken_in s leader b.commit (sync_keys s keys)
-    → seat ≡ record { f = f; me = me; state = (taken_in s leader b.commit (sync_keys s keys)).0 }
+pub taken_sends : (f me leader : ℕ) (b : LogModBody) (s : ReplicaData) (keys : List Key) (seat : ReplicaModel)
+    (ids : List Id) (synced : ℕ) (sends first second third : List Parcel)
+    → after_log_mod leader b s ≡ after_taking_keys s leader b.commit (sync_keys s keys)
+    → seat ≡ record { f = f; me = me; state = (after_taking_keys s leader b.commit (sync_keys s keys)).0 }
     → ids ≡ missing_ids seat.state (sync_keys s keys).1 → synced ≡ s.log.synced
     → first ≡ sends ++ map (parcel (Replica seat.me)) (replies_since seat.state synced)
     → second ≡ first ++ map (parcel (Replica seat.me)) (fetch_from leader seat.state ids)
     → third ≡ second ++ map (parcel (Replica seat.me)) (sync_report_to leader seat.state ∷ [])
-    → third ≡ sends ++ map (parcel (Replica me)) (taken_from leader b s).1
+    → third ≡ sends ++ map (parcel (Replica me)) (after_log_mod leader b s).1
 taken_sends f me leader b s keys seat ids synced sends first second third whole is missing count one two three =
     let left = (sync_keys s keys).1 in
-    all_sent (parcel (Replica seat.me)) sends first second third (replies_since seat.state synced) (fetch_from leader seat.state ids) (sync_report_to leader seat.state ∷ []) one two three
-    ∙ (λ i. sends ++ map (parcel (Replica seat.me)) (replies_since seat.state (count i) ++ (fetch_from leader seat.state (missing i) ++ sync_report_to leader seat.state ∷ [])))
+    all_sent (parcel (Replica seat.me)) sends first second third (replies_since seat.state synced)
+    (fetch_from leader seat.state ids) (sync_report_to leader seat.state ∷ []) one two three
+    ∙ (λ i. sends ++ map (parcel (Replica seat.me))
+    (replies_since seat.state (count i) ++ (fetch_from leader seat.state (missing i) ++ sync_report_to leader seat.state ∷ [])))
     ∙ (λ i.
     let now : ReplicaModel = is i in
-    sends ++ map (parcel (Replica now.me)) (replies_since now.state s.log.synced ++ (fetch_from leader now.state (missing_ids now.state left) ++ sync_report_to leader now.state ∷ [])))
+    sends ++ map (parcel (Replica now.me))
+    (replies_since now.state s.log.synced ++ (fetch_from leader now.state (missing_ids now.state left) ++ sync_report_to leader now.state ∷ [])))
     ∙ ap (λ (t : ReplicaData × List Out). sends ++ map (parcel (Replica me)) t.1) (sym whole)
 
 pub some_left : (ids : List Id) (b : Bool) → (IsTrue b ↔ (ids ≡ [])) → b ≡ false → 1 ≤ length ids
@@ -105,14 +119,16 @@ some_left (i ∷ ids) b h some = omega arith
 
 -- ---- entries that were fetched
 
-pub next_kept : (s : ReplicaData) (es : List Entry) (i : ℕ) (e : Entry) → i < length es → e ≡ get_or es i e → kept_all s (drop i es) ≡ kept_all (kept_late s e) (drop (i + 1) es)
-unfolding kept_all
+pub next_kept : (s : ReplicaData) (es : List Entry) (i : ℕ) (e : Entry) → i < length es → e ≡ get_or es i e
+    → with_late_entries s (drop i es) ≡ with_late_entries (with_late_entry s e) (drop (i + 1) es)
+unfolding with_late_entries
 next_kept s es i e within is =
-    ap (kept_all s) (drop-cons es i e within ∙ (λ j. sym is j ∷ drop (sym (add-one i) j) es))
+    ap (with_late_entries s) (drop-cons es i e within ∙ (λ j. sym is j ∷ drop (sym (add-one i) j) es))
 
-pub all_kept : (seat first : ReplicaModel) (es : List Entry) (i : ℕ) → length es ≤ i → seat.f ≡ first.f → seat.me ≡ first.me → kept_all seat.state (drop i es) ≡ kept_all first.state es
-    → seat ≡ record first { state = kept_all first.state es }
-unfolding kept_all
+pub all_kept : (seat first : ReplicaModel) (es : List Entry) (i : ℕ) → length es ≤ i → seat.f ≡ first.f
+    → seat.me ≡ first.me → with_late_entries seat.state (drop i es) ≡ with_late_entries first.state es
+    → seat ≡ record first { state = with_late_entries first.state es }
+unfolding with_late_entries
 all_kept seat first es i past size number is =
-    let last : seat.state ≡ kept_all first.state es = sym (ap (kept_all seat.state) (drop_of_length-le es past)) ∙ is in
+    let last : seat.state ≡ with_late_entries first.state es = sym (ap (with_late_entries seat.state) (drop_of_length-le es past)) ∙ is in
     λ j. record { f = size j; me = number j; state = last j }

@@ -1,3 +1,3 @@
 -- The modules of this crate's proofs.
 pub mod Following
-pub mod Tellings
+pub mod Broadcasts

@@ -3,12 +3,13 @@
 ghost use Rattle.std.specs.Prelude.{◌≡◌, ◌<◌, ◌≤◌, ◌++◌, [], map, length, filter, IfOk, OnOk};
 ghost use Rattle.std.specs.List.{AllByRecursion};
 ghost use Rattle.nz_base.specs.Actor.{HasAddress};
-ghost use Rattle.nz_base.specs.declared.actor.Actor.TheVariants.{Replica as IsReplica};
-ghost use Rattle.nz_msg.specs.Fields.{entries as entries_field};
+ghost use Rattle.nz_base.specs.declared.actor.Actor.TheVariants as actors;
+ghost use Rattle.nz_msg.specs.Fields as fields;
 ghost use Rattle.nz_msg.specs.Messages.{fetch, fetch_reply};
 ghost use Rattle.nz_msg.specs.declared.message.Message.TheVariants.{Fetch, FetchReply};
 ghost use Rattle.nz_machine.specs.Facts.{FitsEntry};
-ghost use Rattle.nz_machine.specs.LogMods.{is_asked as is_asked_of, fetch_rule, kept_late, kept_all, fetch_reply_rule};
+ghost use Rattle.nz_machine.specs.LogMods as log_mods;
+ghost use Rattle.nz_machine.specs.LogMods.{fetch_rule, with_late_entry, with_late_entries, fetch_reply_rule};
 ghost use Rattle.nz_machine.specs.Does.{Does, DoesSilently};
 ghost use Rattle.nz_machine.specs.Step.{parcel, replica_message};
 
@@ -17,7 +18,7 @@ use nz_machine::{ReplicaState, Sends, send};
 use nz_msg::{FetchBody, FetchReplyBody, Message};
 
 fn is_asked(ids: &[Id], entry: &Entry) -> bool
-    ensures { result ≡ is_asked_of ids.now entry.now }
+    ensures { result ≡ log_mods.is_asked ids.now entry.now }
 {
     for id in ids {
         if *id == entry.key.id() {
@@ -30,8 +31,8 @@ fn is_asked(ids: &[Id], entry: &Entry) -> bool
 /// Copies of the log's entries with these ids.
 fn asked(state: &ReplicaState, ids: &[Id]) -> Result<EntryList, NoMemory>
     requires { length ids.now ≤ 64 }
-    ensures value { IfOk result (λ list. list ≡ filter (is_asked_of ids.now) state.now.state.log.entries) }
-    ensures fits { IfOk result (entries_field 0 64).fits }
+    ensures value { IfOk result (λ list. list ≡ filter (log_mods.is_asked ids.now) state.now.state.log.entries) }
+    ensures fits { IfOk result (fields.entries 0 64).fits }
 {
     state.has_facts();
     let alloc = state.allocator();
@@ -87,7 +88,7 @@ pub fn on_fetch(
 /// Keeps a fetched entry where its id is held nowhere and there is room.
 fn keep(state: &mut ReplicaState, entry: &Entry) -> Result<(), NoMemory>
     requires { FitsEntry entry.now }
-    ensures { OnOk result (state.new ≡ record state.old { state = kept_late state.old.state entry.now }) }
+    ensures { OnOk result (state.new ≡ record state.old { state = with_late_entry state.old.state entry.now }) }
 {
     if state.holds(entry.key.id()) || state.is_full() {
         return Ok(());
@@ -98,7 +99,7 @@ fn keep(state: &mut ReplicaState, entry: &Entry) -> Result<(), NoMemory>
 
 fn keep_each(state: &mut ReplicaState, entries: &[Entry]) -> Result<(), NoMemory>
     requires { AllByRecursion FitsEntry entries.now }
-    ensures { OnOk result (state.new ≡ record state.old { state = kept_all state.old.state entries.now }) }
+    ensures { OnOk result (state.new ≡ record state.old { state = with_late_entries state.old.state entries.now }) }
 {
     for entry in entries {
         keep(state, entry)?;

@@ -2,12 +2,12 @@
 //! reports.
 #![tactic(auto)]
 
+mod broadcast;
 mod fetches;
 mod log_mods;
-mod reports;
-mod telling;
+mod sync_reports;
 
+pub use broadcast::tell_others;
 pub use fetches::{on_fetch, on_fetch_reply};
 pub use log_mods::on_log_mod;
-pub use reports::on_sync_report;
-pub use telling::tell_others;
+pub use sync_reports::on_sync_report;

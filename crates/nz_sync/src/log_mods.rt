@@ -4,15 +4,16 @@ ghost use Rattle.std.specs.Prelude.{◌≡◌, ◌<◌, ◌≤◌, ◌∷◌, �
 ghost use Rattle.std.specs.List.{AllByRecursion};
 ghost use Rattle.nz_base.specs.Actor.{HasAddress};
 ghost use Rattle.nz_base.specs.Cluster.{replica_count, leader_of};
-ghost use Rattle.nz_base.specs.declared.actor.Actor.TheVariants.{Replica as IsReplica};
-ghost use Rattle.nz_cv.specs.Vectors.{is_stray as is_stray_of};
-ghost use Rattle.nz_msg.specs.Fields.{id as id_field};
+ghost use Rattle.nz_base.specs.declared.actor.Actor.TheVariants as actors;
+ghost use Rattle.nz_cv.specs.Vectors as vectors;
+ghost use Rattle.nz_msg.specs.Fields as fields;
 ghost use Rattle.nz_msg.specs.Messages.{log_mod};
 ghost use Rattle.nz_msg.specs.declared.message.Message.TheVariants.{LogMod};
 ghost use Rattle.nz_machine.specs.Replicas.{is_normal, leads, hears_leader};
 ghost use Rattle.nz_machine.specs.Views.{enter_view};
 ghost use Rattle.nz_machine.specs.Vectors.{unless_stray};
-ghost use Rattle.nz_machine.specs.LogMods.{replies_since as replies_since_of, fetch_from, sync_report_to, taken_from, after_hearing, hears_later_leader as hears_later_leader_of, log_mod_rule};
+ghost use Rattle.nz_machine.specs.LogMods as log_mods;
+ghost use Rattle.nz_machine.specs.LogMods.{replies_since, fetch_from, sync_report_to, after_log_mod, after_hearing, log_mod_rule};
 ghost use Rattle.nz_machine.specs.Does.{Does};
 ghost use Rattle.nz_machine.specs.Step.{parcel, replica_message, is_in_cluster};
 
@@ -23,7 +24,7 @@ use nz_msg::{FetchBody, LogModBody, Message, SyncReportBody};
 /// Tells the leader how much of the log agrees with its own.
 fn report(state: &ReplicaState, leader: u8, sends: &mut Sends) -> Result<(), NoMemory>
     requires { leader ≤ 8 }
-    ensures { OnOk result (sends.new ≡ sends.old ++ map (parcel (IsReplica state.now.me)) (sync_report_to leader state.now.state ∷ [])) }
+    ensures { OnOk result (sends.new ≡ sends.old ++ map (parcel (actors.Replica state.now.me)) (sync_report_to leader state.now.state ∷ [])) }
 {
     let message = Message::SyncReport(SyncReportBody {
         view: state.view(),
@@ -37,8 +38,8 @@ fn report(state: &ReplicaState, leader: u8, sends: &mut Sends) -> Result<(), NoM
 fn fetch(state: &ReplicaState, leader: u8, ids: IdList, sends: &mut Sends) -> Result<(), NoMemory>
     requires leader { leader ≤ 8 }
     requires few { length ids ≤ 64 }
-    requires fit { AllByRecursion id_field.fits ids }
-    ensures { OnOk result (sends.new ≡ sends.old ++ map (parcel (IsReplica state.now.me)) (fetch_from leader state.now.state ids)) }
+    requires fit { AllByRecursion fields.id.fits ids }
+    ensures { OnOk result (sends.new ≡ sends.old ++ map (parcel (actors.Replica state.now.me)) (fetch_from leader state.now.state ids)) }
 {
     if ids.is_empty() {
         return Ok(());
@@ -53,7 +54,7 @@ fn fetch(state: &ReplicaState, leader: u8, ids: IdList, sends: &mut Sends) -> Re
 
 /// Sends the slow replies for the entries that are synced since a count.
 fn reply_since(state: &ReplicaState, count: u32, sends: &mut Sends) -> Result<(), NoMemory>
-    ensures { OnOk result (sends.new ≡ sends.old ++ map (parcel (IsReplica state.now.me)) (replies_since_of state.now.state count)) }
+    ensures { OnOk result (sends.new ≡ sends.old ++ map (parcel (actors.Replica state.now.me)) (replies_since state.now.state count)) }
 {
     state.has_facts();
     for place in count..state.log().synced() {
@@ -74,7 +75,7 @@ fn take_keys(
     requires follows { IsFalse (leads state.old.f state.old.me state.old.state) }
     requires fits { log_mod.fits body.now }
     requires within { IsFalse (nat_lt state.old.state.log.synced body.now.start) }
-    ensures { let s = state.old in OnOk result (Does s state.new sends.old sends.new (taken_from leader body.now s.state)) }
+    ensures { let s = state.old in OnOk result (Does s state.new sends.old sends.new (after_log_mod leader body.now s.state)) }
 {
     let synced = state.log().synced();
     let skipped = (synced - body.start).min(body.keys.len());
@@ -95,7 +96,7 @@ fn take(
     requires normal { IsTrue (is_normal state.old.state.status) }
     requires follows { IsFalse (leads state.old.f state.old.me state.old.state) }
     requires fits { log_mod.fits body.now }
-    ensures { let s = state.old in OnOk result (Does s state.new sends.old sends.new (taken_from leader body.now s.state)) }
+    ensures { let s = state.old in OnOk result (Does s state.new sends.old sends.new (after_log_mod leader body.now s.state)) }
 {
     if state.log().synced() < body.start {
         return report(state, leader, sends);
@@ -105,7 +106,7 @@ fn take(
 
 /// Whether the leader of a later view is heard.
 fn hears_later_leader(state: &ReplicaState, view: u64, sender: u8) -> bool
-    ensures { result ≡ hears_later_leader_of state.now.f state.now.state view sender }
+    ensures { result ≡ log_mods.hears_later_leader state.now.f state.now.state view sender }
 {
     state.is_up() && state.view() < view && sender == state.cluster().leader(view)
 }
@@ -114,7 +115,7 @@ fn hears_later_leader(state: &ReplicaState, view: u64, sender: u8) -> bool
 fn is_stray(state: &ReplicaState, sender: u8, body: &LogModBody) -> bool
     requires sender { sender < replica_count state.now.f }
     requires vector { length body.now.vector ≡ replica_count state.now.f }
-    ensures { result ≡ is_stray_of body.now.vector sender state.now.state.vector }
+    ensures { result ≡ vectors.is_stray body.now.vector sender state.now.state.vector }
 {
     state.has_facts();
     body.vector.is_stray(sender, state.vector())
@@ -130,8 +131,10 @@ fn enter(
     requires sender { sender < replica_count state.old.f }
     requires vector { length body.now.vector ≡ replica_count state.old.f }
     requires fits { log_mod.fits body.now }
-    requires later { IsTrue (hears_later_leader_of state.old.f state.old.state body.now.view sender) }
-    ensures { let s = state.old in OnOk result (Does s state.new sends.old sends.new (unless_stray s.me s.state sender body.now.vector (enter_view s.f s.me body.now.view))) }
+    requires later { IsTrue (log_mods.hears_later_leader state.old.f state.old.state body.now.view sender) }
+    ensures { let s = state.old in
+        OnOk result (Does s state.new sends.old sends.new
+        (unless_stray s.me s.state sender body.now.vector (enter_view s.f s.me body.now.view))) }
 {
     if is_stray(state, sender, body) {
         return Ok(());
@@ -152,7 +155,9 @@ fn follow(
     requires vector { length body.now.vector ≡ replica_count state.old.f }
     requires fits { log_mod.fits body.now }
     requires follows { IsTrue (hears_leader state.old.f state.old.me state.old.state body.now.view sender) }
-    ensures { let s = state.old in OnOk result (Does s state.new sends.old sends.new (unless_stray s.me s.state sender body.now.vector (λ t. taken_from sender body.now (after_hearing t)))) }
+    ensures { let s = state.old in
+        OnOk result (Does s state.new sends.old sends.new
+        (unless_stray s.me s.state sender body.now.vector (λ t. after_log_mod sender body.now (after_hearing t)))) }
 {
     if is_stray(state, sender, body) {
         return Ok(());

@@ -2,13 +2,13 @@
 use Rattle.std.proofs.Common.{◌≡◌, ℕ, ◌+◌, ◌<◌, List, [], ◌∷◌, ◌++◌, length, map, take, reverse, get_or, sym, ap, subst, ◌∙◌}
 use Rattle.std.proofs.lemmas.List.{map-append}
 use Rattle.nz_machine.specs.declared.event.Record.{Record}
-use Rattle.nz_machine.specs.declared.telling.Progress.{Progress}
-use Rattle.nz_machine.specs.declared.telling.Telling.{Telling}
+use Rattle.nz_machine.specs.declared.client_progress.Progress.{Progress}
+use Rattle.nz_machine.specs.declared.client_progress.Telling.{Telling}
 use Rattle.nz_machine.specs.State.{Group}
-use Rattle.nz_machine.specs.Events.{Told, events, told_by}
-use Rattle.nz_machine.specs.Telling.{told_of, AreAfter}
+use Rattle.nz_machine.specs.Events.{ClientEvent, events, client_events}
+use Rattle.nz_machine.specs.ClientProgress.{events_of_telling, AreAfter}
 use Rattle.nz_machine.specs.World.{World}
-use Rattle.nz_machine.proofs.Fronts.{one_record, world_with}
+use Rattle.nz_machine.proofs.JournalPrefixes.{one_record, world_with}
 use Rattle.nz_text.specs.declared.printed.Event.{Event}
 use Rattle.nz_text.specs.Text.{event_of, events_in}
 
@@ -20,19 +20,23 @@ pub record AreRead (g : Group) (J : List Record) (clients : List Progress) (told
 pub none_read : (g : Group) (clients : List Progress) (told : List Event) → AreAfter g [] clients → told ≡ [] → AreRead g [] clients told
 none_read g clients told h is = record { standing = h; told_all = is }
 
-read_on : (g : Group) (r : Record) (J : List Record) (clients after : List Progress) (t : Telling) (told new : List Event) → AreRead g J clients told → told_of g t ≡ told_by g r.actor r J → AreAfter g (r ∷ J) after
-    → new ≡ told ++ map event_of (told_of g t) → AreRead g (r ∷ J) after new
+read_on : (g : Group) (r : Record) (J : List Record) (clients after : List Progress) (t : Telling) (told new : List Event)
+    → AreRead g J clients told → events_of_telling g t ≡ client_events g r.actor r J → AreAfter g (r ∷ J) after
+    → new ≡ told ++ map event_of (events_of_telling g t) → AreRead g (r ∷ J) after new
 read_on g r J clients after t told new h tells now is = record {
   standing = now;
-  told_all = is ∙ ap (λ (E : List Event). E ++ map event_of (told_of g t)) h.told_all ∙ ap (λ (T : List Told). events_in g J ++ map event_of T) tells ∙ sym (map-append event_of (events g J) (told_by g r.actor r J));
+  told_all =
+      is ∙ ap (λ (E : List Event). E ++ map event_of (events_of_telling g t)) h.told_all
+      ∙ ap (λ (T : List ClientEvent). events_in g J ++ map event_of T) tells ∙ sym (map-append event_of (events g J) (client_events g r.actor r J));
 }
 
 -- one record more
-pub next_read : (g : Group) (rs : List Record) (i : ℕ) (r : Record) (clients after : List Progress) (t : Telling) (told new : List Event) → World g (reverse rs) → i < length rs → r ≡ get_or rs i r
+pub next_read : (g : Group) (rs : List Record) (i : ℕ) (r : Record) (clients after : List Progress) (t : Telling) (told new : List Event)
+    → World g (reverse rs) → i < length rs → r ≡ get_or rs i r
     → AreRead g (reverse (take i rs)) clients told
-    → ((h : Group) (J : List Record) → World h (r ∷ J) → AreAfter h J clients → told_of h t ≡ told_by h r.actor r J)
+    → ((h : Group) (J : List Record) → World h (r ∷ J) → AreAfter h J clients → events_of_telling h t ≡ client_events h r.actor r J)
     → ((h : Group) (J : List Record) → World h (r ∷ J) → AreAfter h J clients → AreAfter h (r ∷ J) after)
-    → new ≡ told ++ map event_of (told_of g t) → AreRead g (reverse (take (i + 1) rs)) after new
+    → new ≡ told ++ map event_of (events_of_telling g t) → AreRead g (reverse (take (i + 1) rs)) after new
 next_read g rs i r clients after t told new w lt at h tells stands is =
     let J = reverse (take i rs) in
     let world = world_with g rs i r w lt at in

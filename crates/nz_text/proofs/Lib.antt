@@ -2,6 +2,6 @@
 mod Events
 mod Opens
 mod Pieces
-mod Steps
+mod TextLinesLeft
 pub mod ReadBack
 pub mod Whole

@@ -1,5 +1,6 @@
 -- Each line that is written is read again.
-use Rattle.std.proofs.Common.{◌≡◌, ℕ, ◌+◌, ◌-◌, ◌<◌, ◌^◌, Bool, true, cond, List, [], ◌∷◌, ◌++◌, map, Option, Some, None, refl, sym, ap, subst, ◌∙◌, arith, append_assoc}
+use Rattle.std.proofs.Common.{◌≡◌, ℕ, ◌+◌, ◌-◌, ◌<◌, ◌^◌, Bool, true, cond, List, [], ◌∷◌, ◌++◌, map}
+use Rattle.std.proofs.Common.{Option, Some, None, refl, sym, ap, subst, ◌∙◌, arith, append_assoc}
 use Rattle.std.specs.Prelude.{nat_le, codes}
 use Rattle.std.specs.Fmt.{decimal}
 use Rattle.std.specs.List.{list_all, AllByRecursion}
@@ -13,13 +14,13 @@ use Rattle.nz_store.specs.Reading.{has_spelling, command_of}
 use Rattle.nz_msg.specs.declared.message.Path.{Path}
 use Rattle.nz_msg.specs.declared.message.Path.TheVariants.{Fast, Slow}
 use Rattle.nz_script.specs.declared.word.Word.{Word}
-use Rattle.nz_script.specs.Bytes.{space, newline as line_end, Lacks, lines_in, tail_in}
+use Rattle.nz_script.specs.Bytes.{space, newline, Lacks, lines_in, tail_in}
 use Rattle.nz_script.specs.Forms.{◌>>=◌}
-use Rattle.nz_script.specs.declared.shape.Form.{Form}
-use Rattle.nz_script.specs.declared.shape.Verb.TheVariants as verb
-use Rattle.nz_script.specs.Shapes.{word_of, ask_shape_of}
+use Rattle.nz_script.specs.declared.line_forms.Form.{Form}
+use Rattle.nz_script.specs.declared.line_forms.Verb.TheVariants as verb
+use Rattle.nz_script.specs.Shapes.{verb_word, ask_shape_of}
 use Rattle.nz_script.specs.Texts.{word_text, words_text, command_line}
-use Rattle.nz_script.proofs.Again.{AreReadAs, first_word, graphic_lacks_space, graphic_are_printed, printed_lacks_newline}
+use Rattle.nz_script.proofs.ReadAgain.{AreReadAs, first_word, graphic_lacks_space, graphic_are_printed, printed_lacks_newline}
 use Rattle.nz_script.proofs.Asking.{command_words, command_again, asked_by}
 use Rattle.nz_script.proofs.Cuts.{lines-line, tail-line}
 use Rattle.nz_script.proofs.Drawing.{decimal_graphic}
@@ -30,8 +31,9 @@ use Rattle.nz_text.specs.declared.line.Line.{Line}
 use Rattle.nz_text.specs.declared.line.Line.TheVariants as line
 use Rattle.nz_text.specs.declared.printed.Event.TheVariants.{Send, Accept}
 use Rattle.nz_text.specs.Fit.{FitsId, FitsAnswer}
-use Rattle.nz_text.specs.Text.{newline, id_text, found_text, answer_text, path_text, event_line, open_line, at_line}
-use Rattle.nz_text.specs.Reading.{pieces_in, number_in, id_first, answer_first, path_of, alone, send_of, accept_of, given, executed_of, placed, line_of, with_line, step, behind, reading}
+use Rattle.nz_text.specs.Text.{text_newline, id_text, found_text, answer_text, path_text, event_line, open_line, at_line}
+use Rattle.nz_text.specs.Reading.{pieces_in, number_in_digits, id_first, answer_first, path_of, alone, send_of, accept_of, answer_in_words}
+use Rattle.nz_text.specs.Reading.{executed_of, at_in_words, line_in_words, with_line, draft_after_bytes, if_read, printed_from}
 use Rattle.nz_text.proofs.Pieces.{pieces-word, pieces-last}
 
 -- ---- words with one space before each
@@ -42,12 +44,13 @@ tail_text (w ∷ ws) = space ∷ (w ++ tail_text ws)
 
 tail-append : (xs ys : List (List ℕ)) → tail_text (xs ++ ys) ≡ tail_text xs ++ tail_text ys
 tail-append [] ys = refl
-tail-append (x ∷ xs) ys = ap (λ (l : List ℕ). space ∷ (x ++ l)) (tail-append xs ys) ∙ ap (λ (l : List ℕ). space ∷ l) (sym (append_assoc x (tail_text xs) (tail_text ys)))
+tail-append (x ∷ xs) ys =
+    ap (λ (l : List ℕ). space ∷ (x ++ l)) (tail-append xs ys) ∙ ap (λ (l : List ℕ). space ∷ l) (sym (append_assoc x (tail_text xs) (tail_text ys)))
 
 -- no space and no newline is in the word
 pub record IsPlain (w : List ℕ) : Type 0 where
   pub no_space : Lacks space w
-  pub no_newline : Lacks line_end w
+  pub no_newline : Lacks newline w
 
 graphic_plain : (w : List ℕ) → list_all is_graphic w ≡ true → IsPlain w
 graphic_plain w e = record { no_space = graphic_lacks_space w e; no_newline = printed_lacks_newline w (graphic_are_printed w e) }
@@ -60,33 +63,34 @@ lacks-append : (b : ℕ) (xs ys : List ℕ) → Lacks b xs → Lacks b ys → La
 lacks-append b [] ys h k = k
 lacks-append b (x ∷ xs) ys h k = (h.0, lacks-append b xs ys h.1 k)
 
-lacks_newline : (w : List ℕ) (ws : List (List ℕ)) → AllByRecursion IsPlain (w ∷ ws) → Lacks line_end (w ++ tail_text ws)
-lacks_newline w [] h = lacks-append line_end w [] h.0.no_newline tt
-lacks_newline w (v ∷ ws) h = lacks-append line_end w (space ∷ (v ++ tail_text ws)) h.0.no_newline ((λ e. absurd cc), lacks_newline v ws h.1)
+lacks_newline : (w : List ℕ) (ws : List (List ℕ)) → AllByRecursion IsPlain (w ∷ ws) → Lacks newline (w ++ tail_text ws)
+lacks_newline w [] h = lacks-append newline w [] h.0.no_newline tt
+lacks_newline w (v ∷ ws) h = lacks-append newline w (space ∷ (v ++ tail_text ws)) h.0.no_newline ((λ e. absurd cc), lacks_newline v ws h.1)
 
 -- the bytes are the line with its newline
 pub record IsLine (bytes : List ℕ) (x : Line) : Type 0 where
   pub first : List ℕ
   pub words : List (List ℕ)
-  pub spelled : bytes ≡ (first ++ tail_text words) ++ newline
+  pub spelled : bytes ≡ (first ++ tail_text words) ++ text_newline
   pub plain : AllByRecursion IsPlain (first ∷ words)
-  pub says : line_of (first ∷ words) ≡ Some x
+  pub says : line_in_words (first ∷ words) ≡ Some x
 
-line_step : (bytes : List ℕ) (x : Line) (h : IsLine bytes x) (d : Draft) → step d (h.first ++ tail_text h.words) ≡ with_line d x
-unfolding step
+line_step : (bytes : List ℕ) (x : Line) (h : IsLine bytes x) (d : Draft) → draft_after_bytes d (h.first ++ tail_text h.words) ≡ with_line d x
+unfolding draft_after_bytes
 line_step bytes x h d =
-    ap (λ (ps : List (List ℕ)). line_of ps >>= λ l. with_line d l) (pieces_again h.first h.words h.plain) ∙ ap (λ (o : Option Line). o >>= λ l. with_line d l) h.says
+    ap (λ (ps : List (List ℕ)). line_in_words ps >>= λ l. with_line d l) (pieces_again h.first h.words h.plain)
+    ∙ ap (λ (o : Option Line). o >>= λ l. with_line d l) h.says
 
 -- the first line is read, and the rest goes on
 pub line_read : (bytes rest : List ℕ) (n : ℕ) (d next : Draft) (x : Line) → IsLine bytes x → with_line d x ≡ Some next
-    → reading (tail_in (bytes ++ rest)) n d (lines_in (bytes ++ rest)) ≡ reading (tail_in rest) (n + 1) next (lines_in rest)
+    → printed_from (tail_in (bytes ++ rest)) n d (lines_in (bytes ++ rest)) ≡ printed_from (tail_in rest) (n + 1) next (lines_in rest)
 line_read bytes rest n d next x h e =
     let w = h.first ++ tail_text h.words in
-    let whole : bytes ++ rest ≡ w ++ line_end ∷ rest = ap (λ (l : List ℕ). l ++ rest) h.spelled ∙ append_assoc w newline rest in
-    ap (λ (l : List ℕ). reading (tail_in l) n d (lines_in l)) whole
-    ∙ ap (λ (t : List ℕ). reading t n d (lines_in (w ++ line_end ∷ rest))) (tail-line w rest)
-    ∙ ap (λ (ls : List (List ℕ)). reading (tail_in rest) n d ls) (lines-line w rest (lacks_newline h.first h.words h.plain))
-    ∙ ap (behind n (λ d. reading (tail_in rest) (n + 1) d (lines_in rest))) (line_step bytes x h d ∙ e)
+    let whole : bytes ++ rest ≡ w ++ newline ∷ rest = ap (λ (l : List ℕ). l ++ rest) h.spelled ∙ append_assoc w text_newline rest in
+    ap (λ (l : List ℕ). printed_from (tail_in l) n d (lines_in l)) whole
+    ∙ ap (λ (t : List ℕ). printed_from t n d (lines_in (w ++ newline ∷ rest))) (tail-line w rest)
+    ∙ ap (λ (ls : List (List ℕ)). printed_from (tail_in rest) n d ls) (lines-line w rest (lacks_newline h.first h.words h.plain))
+    ∙ ap (if_read n (λ d. printed_from (tail_in rest) (n + 1) d (lines_in rest))) (line_step bytes x h d ∙ e)
 
 -- ---- what fits
 
@@ -102,8 +106,10 @@ client_plain n h = let p = number_plain n h in record { no_space = ((λ e. absur
 within : (n : ℕ) → n < 2 ^ 32 → nat_le n (2 ^ 32 - 1) ≡ true
 within n h = grind (arith, h)
 
-number_again : (n : ℕ) → n < 2 ^ 32 → number_in (decimal n) ≡ Some n
-number_again n h = ap (λ (o : Option ℕ). o >>= λ n. cond (nat_le n (2 ^ 32 - 1)) (Some n) None) (number_of-decimal n (omega (arith, h))) ∙ ap (λ (b : Bool). cond b (Some n) None) (within n h)
+number_again : (n : ℕ) → n < 2 ^ 32 → number_in_digits (decimal n) ≡ Some n
+number_again n h =
+    ap (λ (o : Option ℕ). o >>= λ n. cond (nat_le n (2 ^ 32 - 1)) (Some n) None) (number_of-decimal n (omega (arith, h)))
+    ∙ ap (λ (b : Bool). cond b (Some n) None) (within n h)
 
 -- the two words of an id
 abbrev id_words : Id → List (List ℕ)
@@ -115,16 +121,21 @@ id_plain id h = (client_plain id.client (omega (arith, h.client)), (number_plain
 id_again : (id : Id) (more : List (List ℕ)) → FitsId id → id_first (client_word id.client ∷ decimal id.num ∷ more) ≡ Some (id, more)
 unfolding id_first
 id_again id more h =
-    ap (λ (o : Option ℕ). (o >>= λ c. number_in (decimal id.num) >>= λ n. Some (record { client = c; num = n })) >>= λ i. Some (i, more)) (number_again id.client h.client)
+    ap (λ (o : Option ℕ). (o >>= λ c. number_in_digits (decimal id.num) >>= λ n. Some
+    (record { client = c; num = n })) >>= λ i. Some (i, more)) (number_again id.client h.client)
     ∙ ap (λ (o : Option ℕ). (o >>= λ n. Some (record { client = id.client; num = n })) >>= λ i. Some (i, more)) (number_again id.num h.num)
 
 -- the id's words, with words and a newline after them
-id_spelled : (id : Id) (ws : List (List ℕ)) (T : List ℕ) → T ≡ tail_text ws → id_text id ++ (T ++ newline) ≡ tail_text (client_word id.client ∷ decimal id.num ∷ ws) ++ newline
+id_spelled : (id : Id) (ws : List (List ℕ)) (T : List ℕ) → T ≡ tail_text ws
+    → id_text id ++ (T ++ text_newline) ≡ tail_text (client_word id.client ∷ decimal id.num ∷ ws) ++ text_newline
 id_spelled id ws T is =
     let D = decimal id.client in
     let N = decimal id.num in
-    ap (λ (l : List ℕ). id_text id ++ (l ++ newline)) is
-    ∙ ap (λ (l : List ℕ). space ∷ 99 ∷ l) (append_assoc D (space ∷ N) (tail_text ws ++ newline) ∙ ap (λ (l : List ℕ). D ++ (space ∷ l)) (sym (append_assoc N (tail_text ws) newline)) ∙ sym (append_assoc D (space ∷ (N ++ tail_text ws)) newline))
+    ap (λ (l : List ℕ). id_text id ++ (l ++ text_newline)) is
+    ∙ ap (λ (l : List ℕ). space ∷ 99 ∷ l)
+    (append_assoc D (space ∷ N) (tail_text ws ++ text_newline)
+    ∙ ap (λ (l : List ℕ). D ++ (space ∷ l)) (sym (append_assoc N (tail_text ws) text_newline))
+    ∙ sym (append_assoc D (space ∷ (N ++ tail_text ws)) text_newline))
 
 -- ---- commands
 
@@ -141,7 +152,7 @@ words_tail (w ∷ words) = ap (λ (l : List ℕ). space ∷ (word_text w ++ l)) 
 
 found_spelled : (bytes : List ℕ) (h : IsCommand bytes) → found_text (command_of bytes) ≡ tail_text (command_words h.command)
 found_spelled bytes h =
-    ap found_text h.found ∙ ap (λ (l : List ℕ). space ∷ (word_of (command_line h.command).verb ++ l)) (words_tail (command_line h.command).words)
+    ap found_text h.found ∙ ap (λ (l : List ℕ). space ∷ (verb_word (command_line h.command).verb ++ l)) (words_tail (command_line h.command).words)
 
 all_plain : (forms : List Form) (words : List Word) → AreReadAs forms words → AllByRecursion IsPlain (map word_text words)
 all_plain [] [] r = tt
@@ -152,7 +163,8 @@ all_plain (f ∷ fs) (v ∷ vs) r = (graphic_plain (word_text v) r.0.word.graphi
 command_plain : (c : Command) → has_spelling c ≡ true → AllByRecursion IsPlain (command_words c)
 command_plain c e =
     let h = asked_by c e in
-    subst (λ l. AllByRecursion IsPlain (word_of l.verb ∷ map word_text l.words)) (sym h.line) (graphic_plain (word_of (verb.Ask h.ask)) (first_word (verb.Ask h.ask)).word.graphic, all_plain (ask_shape_of h.ask).2 h.words h.read)
+    subst (λ l. AllByRecursion IsPlain (verb_word l.verb ∷ map word_text l.words)) (sym h.line)
+    (graphic_plain (verb_word (verb.Ask h.ask)) (first_word (verb.Ask h.ask)).word.graphic, all_plain (ask_shape_of h.ask).2 h.words h.read)
 
 plain-append : (xs ys : List (List ℕ)) → AllByRecursion IsPlain xs → AllByRecursion IsPlain ys → AllByRecursion IsPlain (xs ++ ys)
 plain-append [] ys h k = k
@@ -208,8 +220,9 @@ path_again Slow = refl
 
 -- ---- lines
 
-send_says : (id : Id) (bytes : List ℕ) (h : IsCommand bytes) → FitsId id → line_of (codes "send" ∷ client_word id.client ∷ decimal id.num ∷ command_words h.command) ≡ Some (line.Event (Send id bytes))
-unfolding line_of
+send_says : (id : Id) (bytes : List ℕ) (h : IsCommand bytes) → FitsId id
+    → line_in_words (codes "send" ∷ client_word id.client ∷ decimal id.num ∷ command_words h.command) ≡ Some (line.Event (Send id bytes))
+unfolding line_in_words
 send_says id bytes h fits =
     ap (λ (o : Option (Id × List (List ℕ))). o >>= λ i. send_of i.0 i.1) (id_again id (command_words h.command) fits)
     ∙ ap (λ (ws : List (List ℕ)). send_of id ws) (sym (append-nil (command_words h.command)))
@@ -225,11 +238,13 @@ send_line id bytes h fits = record {
   says = send_says id bytes h fits;
 }
 
-accept_says : (id : Id) (a : Answer) (p : Path) → FitsId id → FitsAnswer a → line_of (codes "accept" ∷ client_word id.client ∷ decimal id.num ∷ (answer_words a ++ path_word p ∷ [])) ≡ Some (line.Event (Accept id a p))
-unfolding line_of
+accept_says : (id : Id) (a : Answer) (p : Path) → FitsId id → FitsAnswer a
+    → line_in_words (codes "accept" ∷ client_word id.client ∷ decimal id.num ∷ (answer_words a ++ path_word p ∷ [])) ≡ Some (line.Event (Accept id a p))
+unfolding line_in_words
 accept_says id a p fits h =
     ap (λ (o : Option (Id × List (List ℕ))). o >>= λ i. accept_of i.0 i.1) (id_again id (answer_words a ++ path_word p ∷ []) fits)
-    ∙ ap (λ (o : Option (Answer × List (List ℕ))). o >>= λ x. path_of x.1 >>= λ path. Some (line.Event (Accept id x.0 path))) (answer_again a (path_word p ∷ []) h)
+    ∙ ap (λ (o : Option (Answer × List (List ℕ))). o >>= λ x. path_of x.1 >>= λ path. Some
+    (line.Event (Accept id x.0 path))) (answer_again a (path_word p ∷ []) h)
     ∙ ap (λ (o : Option Path). o >>= λ path. Some (line.Event (Accept id a path))) (path_again p)
 
 pub accept_line : (id : Id) (a : Answer) (p : Path) → FitsId id → FitsAnswer a → IsLine (event_line (Accept id a p)) (line.Event (Accept id a p))
@@ -238,15 +253,20 @@ accept_line id a p fits h =
     record {
       first = codes "accept";
       words = client_word id.client ∷ decimal id.num ∷ (answer_words a ++ path_word p ∷ []);
-      spelled = ap (λ (l : List ℕ). codes "accept" ++ (id_text id ++ l)) (sym (append_assoc (answer_text a) (path_text p) newline))
+      spelled = ap (λ (l : List ℕ). codes "accept" ++ (id_text id ++ l)) (sym (append_assoc (answer_text a) (path_text p) text_newline))
           ∙ ap (λ (l : List ℕ). codes "accept" ++ l) (id_spelled id (answer_words a ++ path_word p ∷ []) T
-          (ap (λ (l : List ℕ). l ++ path_text p) (answer_spelled a) ∙ ap (λ (l : List ℕ). tail_text (answer_words a) ++ l) (path_spelled p) ∙ sym (tail-append (answer_words a) (path_word p ∷ []))));
-      plain = (graphic_plain _ refl, plain-append (id_words id) (answer_words a ++ path_word p ∷ []) (id_plain id fits) (plain-append (answer_words a) (path_word p ∷ []) (answer_plain a h) (path_plain p, tt)));
+          (ap (λ (l : List ℕ). l ++ path_text p) (answer_spelled a)
+          ∙ ap (λ (l : List ℕ). tail_text (answer_words a) ++ l) (path_spelled p) ∙ sym (tail-append (answer_words a) (path_word p ∷ []))));
+      plain = (
+        graphic_plain _ refl,
+        plain-append (id_words id) (answer_words a ++ path_word p ∷ []) (id_plain id fits)
+            (plain-append (answer_words a) (path_word p ∷ []) (answer_plain a h) (path_plain p, tt)),
+      );
       says = accept_says id a p fits h;
     }
 
-open_says : (id : Id) → FitsId id → line_of (codes "open" ∷ id_words id) ≡ Some (line.Open id)
-unfolding line_of
+open_says : (id : Id) → FitsId id → line_in_words (codes "open" ∷ id_words id) ≡ Some (line.Open id)
+unfolding line_in_words
 open_says id fits = ap (λ (o : Option (Id × List (List ℕ))). o >>= λ i. alone (line.Open i.0) i.1) (id_again id [] fits)
 
 pub open_line_is : (id : Id) → FitsId id → IsLine (open_line id) (line.Open id)
@@ -258,48 +278,61 @@ open_line_is id fits = record {
   says = open_says id fits;
 }
 
-given_again : (a : Answer) → FitsAnswer a → given (codes "gives" ∷ answer_words a) ≡ Some a
-unfolding given
-given_again a h = ap (λ (ws : List (List ℕ)). answer_first ws >>= λ x. alone x.0 x.1) (sym (append-nil (answer_words a))) ∙ ap (λ (o : Option (Answer × List (List ℕ))). o >>= λ x. alone x.0 x.1) (answer_again a [] h)
+given_again : (a : Answer) → FitsAnswer a → answer_in_words (codes "gives" ∷ answer_words a) ≡ Some a
+unfolding answer_in_words
+given_again a h =
+    ap (λ (ws : List (List ℕ)). answer_first ws >>= λ x. alone x.0 x.1) (sym (append-nil (answer_words a)))
+    ∙ ap (λ (o : Option (Answer × List (List ℕ))). o >>= λ x. alone x.0 x.1) (answer_again a [] h)
 
-executed_again : (id : Id) (bytes : List ℕ) (a : Answer) (h : IsCommand bytes) → FitsAnswer a → executed_of id (command_words h.command ++ codes "gives" ∷ answer_words a) ≡ Some (record { id = id; command = bytes; answer = a })
+executed_again : (id : Id) (bytes : List ℕ) (a : Answer) (h : IsCommand bytes) → FitsAnswer a
+    → executed_of id (command_words h.command ++ codes "gives" ∷ answer_words a) ≡ Some (record { id = id; command = bytes; answer = a })
 executed_again id bytes a h fits =
-    ap (λ (o : Option (Command × List (List ℕ))). o >>= λ c. given c.1 >>= λ answer. Some (record { id = id; command = spelling c.0; answer = answer })) (command_again h.command (codes "gives" ∷ answer_words a) h.spelled)
+    ap (λ (o : Option (Command × List (List ℕ))). o >>= λ c. answer_in_words c.1 >>= λ answer. Some
+    (record { id = id; command = spelling c.0; answer = answer })) (command_again h.command (codes "gives" ∷ answer_words a) h.spelled)
     ∙ ap (λ (o : Option Answer). o >>= λ answer. Some (record { id = id; command = spelling h.command; answer = answer })) (given_again a fits)
     ∙ ap (λ (b : List ℕ). Some (record { id = id; command = b; answer = a })) (sym h.whole)
 
 placed_again : (place : ℕ) (e : Executed) (h : IsCommand e.command) → place < 2 ^ 63 → FitsId e.id → FitsAnswer e.answer
-    → placed (decimal place ∷ client_word e.id.client ∷ decimal e.id.num ∷ (command_words h.command ++ codes "gives" ∷ answer_words e.answer)) ≡ Some (line.At place e)
-unfolding placed
+    → at_in_words (decimal place ∷ client_word e.id.client ∷ decimal e.id.num
+    ∷ (command_words h.command ++ codes "gives" ∷ answer_words e.answer)) ≡ Some (line.At place e)
+unfolding at_in_words
 placed_again place e h few fits a =
     let ws = command_words h.command ++ codes "gives" ∷ answer_words e.answer in
-    ap (λ (o : Option ℕ). o >>= λ n. id_first (client_word e.id.client ∷ decimal e.id.num ∷ ws) >>= λ i. executed_of i.0 i.1 >>= λ x. Some (line.At n x)) (number_of-decimal place few)
+    ap (λ (o : Option ℕ). o >>= λ n. id_first
+    (client_word e.id.client ∷ decimal e.id.num ∷ ws) >>= λ i. executed_of i.0 i.1 >>= λ x. Some (line.At n x)) (number_of-decimal place few)
     ∙ ap (λ (o : Option (Id × List (List ℕ))). o >>= λ i. executed_of i.0 i.1 >>= λ x. Some (line.At place x)) (id_again e.id ws fits)
     ∙ ap (λ (o : Option Executed). o >>= λ x. Some (line.At place x)) (executed_again e.id e.command e.answer h a)
 
 at_says : (place : ℕ) (e : Executed) (h : IsCommand e.command) → place < 2 ^ 63 → FitsId e.id → FitsAnswer e.answer
-    → line_of (codes "at" ∷ decimal place ∷ client_word e.id.client ∷ decimal e.id.num ∷ (command_words h.command ++ codes "gives" ∷ answer_words e.answer)) ≡ Some (line.At place e)
-unfolding line_of
+    → line_in_words (codes "at" ∷ decimal place ∷ client_word e.id.client ∷ decimal e.id.num
+    ∷ (command_words h.command ++ codes "gives" ∷ answer_words e.answer)) ≡ Some (line.At place e)
+unfolding line_in_words
 at_says place e h few fits a = placed_again place e h few fits a
 
 -- the part of the line after the id
-at_rest : (e : Executed) (h : IsCommand e.command) → found_text (command_of e.command) ++ (codes " gives" ++ answer_text e.answer) ≡ tail_text (command_words h.command ++ codes "gives" ∷ answer_words e.answer)
+at_rest : (e : Executed) (h : IsCommand e.command)
+    → found_text (command_of e.command) ++ (codes " gives" ++ answer_text e.answer)
+    ≡ tail_text (command_words h.command ++ codes "gives" ∷ answer_words e.answer)
 at_rest e h =
-    ap (λ (l : List ℕ). l ++ (codes " gives" ++ answer_text e.answer)) (found_spelled e.command h) ∙ ap (λ (l : List ℕ). tail_text (command_words h.command) ++ (codes " gives" ++ l)) (answer_spelled e.answer)
+    ap (λ (l : List ℕ). l ++ (codes " gives" ++ answer_text e.answer)) (found_spelled e.command h)
+    ∙ ap (λ (l : List ℕ). tail_text (command_words h.command) ++ (codes " gives" ++ l)) (answer_spelled e.answer)
     ∙ sym (tail-append (command_words h.command) (codes "gives" ∷ answer_words e.answer))
 
 at_spelled : (place : ℕ) (e : Executed) (h : IsCommand e.command)
-    → at_line place e ≡ (codes "at" ++ tail_text (decimal place ∷ client_word e.id.client ∷ decimal e.id.num ∷ (command_words h.command ++ codes "gives" ∷ answer_words e.answer))) ++ newline
+    → at_line place e ≡ (codes "at"
+    ++ tail_text (decimal place ∷ client_word e.id.client ∷ decimal e.id.num
+    ∷ (command_words h.command ++ codes "gives" ∷ answer_words e.answer))) ++ text_newline
 at_spelled place e h =
     let F = found_text (command_of e.command) in
     let G = codes " gives" ++ answer_text e.answer in
     let ws = command_words h.command ++ codes "gives" ∷ answer_words e.answer in
     let tail = tail_text (client_word e.id.client ∷ decimal e.id.num ∷ ws) in
-    ap (λ (l : List ℕ). codes "at " ++ (decimal place ++ (id_text e.id ++ l))) (sym (append_assoc F G newline))
+    ap (λ (l : List ℕ). codes "at " ++ (decimal place ++ (id_text e.id ++ l))) (sym (append_assoc F G text_newline))
     ∙ ap (λ (l : List ℕ). codes "at " ++ (decimal place ++ l)) (id_spelled e.id ws (F ++ G) (at_rest e h))
-    ∙ ap (λ (l : List ℕ). codes "at " ++ l) (sym (append_assoc (decimal place) tail newline))
+    ∙ ap (λ (l : List ℕ). codes "at " ++ l) (sym (append_assoc (decimal place) tail text_newline))
 
-pub at_line_is : (place : ℕ) (e : Executed) → IsCommand e.command → place < 2 ^ 63 → FitsId e.id → FitsAnswer e.answer → IsLine (at_line place e) (line.At place e)
+pub at_line_is : (place : ℕ) (e : Executed) → IsCommand e.command → place < 2 ^ 63 → FitsId e.id → FitsAnswer e.answer
+    → IsLine (at_line place e) (line.At place e)
 at_line_is place e h few fits a = record {
   first = codes "at";
   words = decimal place ∷ client_word e.id.client ∷ decimal e.id.num ∷ (command_words h.command ++ codes "gives" ∷ answer_words e.answer);
@@ -309,12 +342,13 @@ at_line_is place e h few fits a = record {
     (
       number_plain place few,
       plain-append (id_words e.id) (command_words h.command ++ codes "gives" ∷ answer_words e.answer) (id_plain e.id fits)
-          (plain-append (command_words h.command) (codes "gives" ∷ answer_words e.answer) (command_plain h.command h.spelled) (graphic_plain _ refl, answer_plain e.answer a)),
+          (plain-append (command_words h.command) (codes "gives" ∷ answer_words e.answer)
+          (command_plain h.command h.spelled) (graphic_plain _ refl, answer_plain e.answer a)),
     ),
   );
   says = at_says place e h few fits a;
 }
 
 pub end_line_is : IsLine (codes "end\n") line.End
-unfolding line_of
+unfolding line_in_words
 end_line_is = record { first = codes "end"; words = []; spelled = refl; plain = (graphic_plain _ refl, tt); says = refl }

@@ -14,11 +14,11 @@ use Rattle.nz_msg.specs.declared.message.Path.TheVariants.{Fast, Slow}
 use Rattle.nz_machine.specs.declared.event.Record.{Record}
 use Rattle.nz_machine.specs.declared.journal.Executed.{Executed}
 use Rattle.nz_machine.specs.State.{Group}
-use Rattle.nz_machine.specs.Events.{Told, Sent, Accepted, events}
+use Rattle.nz_machine.specs.Events.{ClientEvent, Sent, Accepted, events}
 use Rattle.nz_machine.specs.History.{history}
-use Rattle.nz_machine.specs.Journals.{executed}
-use Rattle.nz_text.specs.declared.counting.Sort.{Sort}
-use Rattle.nz_text.specs.declared.counting.Sort.TheVariants as sort
+use Rattle.nz_machine.specs.Journals.{executed_entries}
+use Rattle.nz_text.specs.declared.summaries.Sort.{Sort}
+use Rattle.nz_text.specs.declared.summaries.Sort.TheVariants as sort
 use Rattle.nz_text.specs.declared.printed.Event.{Event}
 use Rattle.nz_text.specs.declared.printed.Event.TheVariants.{Send, Accept}
 use Rattle.nz_text.specs.declared.printed.Printed.{Printed}
@@ -26,8 +26,8 @@ use Rattle.nz_text.specs.declared.printed.Printed.{Printed}
 -- ---- lines
 
 -- What ends each line.
-abbrev pub newline : List ℕ
-newline = codes "\n"
+abbrev pub text_newline : List ℕ
+text_newline = codes "\n"
 
 -- A client and its number of the request, after a space.
 abbrev pub id_text : Id → List ℕ
@@ -52,16 +52,18 @@ path_text Slow = codes " slow"
 
 -- The line of an event: a request that was sent, or an answer that was accepted, and how it was decided.
 abbrev pub event_line : Event → List ℕ
-event_line (Send id command) = codes "send" ++ (id_text id ++ (found_text (command_of command) ++ newline))
-event_line (Accept id answer path) = codes "accept" ++ (id_text id ++ (answer_text answer ++ (path_text path ++ newline)))
+event_line (Send id command) = codes "send" ++ (id_text id ++ (found_text (command_of command) ++ text_newline))
+event_line (Accept id answer path) = codes "accept" ++ (id_text id ++ (answer_text answer ++ (path_text path ++ text_newline)))
 
 -- The line of a request without an acceptance.
 abbrev pub open_line : Id → List ℕ
-open_line id = codes "open" ++ (id_text id ++ newline)
+open_line id = codes "open" ++ (id_text id ++ text_newline)
 
 -- The line of the history's entry at this place, counted from 1.
 abbrev pub at_line : ℕ → Executed → List ℕ
-at_line place e = codes "at " ++ (decimal place ++ (id_text e.id ++ (found_text (command_of e.command) ++ (codes " gives" ++ (answer_text e.answer ++ newline)))))
+at_line place e =
+    codes "at " ++ (decimal place ++ (id_text e.id
+    ++ (found_text (command_of e.command) ++ (codes " gives" ++ (answer_text e.answer ++ text_newline)))))
 
 -- The lines of entries, the first of which has this place.
 abbrev pub at_lines : ℕ → List Executed → List ℕ
@@ -69,13 +71,13 @@ at_lines place [] = []
 at_lines place (e ∷ es) = at_line place e ++ at_lines (suc place) es
 
 -- The events, then the open requests, then the history, then the end.
-abbrev pub text_of : Printed → List ℕ
-text_of p = flat_map event_line p.events ++ (flat_map open_line p.unanswered ++ (at_lines 1 p.history ++ codes "end\n"))
+abbrev pub text_of_printed : Printed → List ℕ
+text_of_printed p = flat_map event_line p.events ++ (flat_map open_line p.unanswered ++ (at_lines 1 p.history ++ codes "end\n"))
 
 -- ---- what is printed of a run
 
 -- An event of the run, as a text has it.
-abbrev pub event_of : Told → Event
+abbrev pub event_of : ClientEvent → Event
 event_of (Sent id command) = Send id command
 event_of (Accepted id answer path) = Accept id answer path
 
@@ -98,38 +100,38 @@ abbrev pub events_in : Group → List Record → List Event
 events_in g J = map event_of (events g J)
 
 -- What is printed of a run: its events, its open requests, and its history with the answers of one store.
-abbrev pub printed : Group → List Record → Printed
-printed g J = record { events = events_in g J; unanswered = unanswered_in (events_in g J); history = executed (history g J) }
+abbrev pub printed_of_run : Group → List Record → Printed
+printed_of_run g J = record { events = events_in g J; unanswered = unanswered_in (events_in g J); history = executed_entries (history g J) }
 
 -- The text of a run.
 abbrev pub text : Group → List Record → List ℕ
-text g J = text_of (printed g J)
+text g J = text_of_printed (printed_of_run g J)
 
 -- ---- the summary
 
 -- The event is of this sort.
-abbrev pub is_of : Sort → Event → Bool
-is_of sort.Sent (Send id command) = true
-is_of sort.Accepted (Accept id answer path) = true
-is_of sort.Fast (Accept id answer Fast) = true
-is_of sort.Slow (Accept id answer Slow) = true
-is_of _ _ = false
+abbrev pub is_event_of : Sort → Event → Bool
+is_event_of sort.Sent (Send id command) = true
+is_event_of sort.Accepted (Accept id answer path) = true
+is_event_of sort.Fast (Accept id answer Fast) = true
+is_event_of sort.Slow (Accept id answer Slow) = true
+is_event_of _ _ = false
 
 -- A name and how many there are.
 abbrev pub count_line : List ℕ → ℕ → List ℕ
-count_line name count = name ++ (codes " " ++ (decimal count ++ newline))
+count_line name count = name ++ (codes " " ++ (decimal count ++ text_newline))
 
 -- How many lines of each sort the text has.
 abbrev pub summary_of : Printed → List ℕ
 summary_of p =
-    count_line (codes "sent") (count_by (is_of sort.Sent) p.events)
-    ++ (count_line (codes "accepted") (count_by (is_of sort.Accepted) p.events)
-    ++ (count_line (codes "fast") (count_by (is_of sort.Fast) p.events)
-    ++ (count_line (codes "slow") (count_by (is_of sort.Slow) p.events)
+    count_line (codes "sent") (count_by (is_event_of sort.Sent) p.events)
+    ++ (count_line (codes "accepted") (count_by (is_event_of sort.Accepted) p.events)
+    ++ (count_line (codes "fast") (count_by (is_event_of sort.Fast) p.events)
+    ++ (count_line (codes "slow") (count_by (is_event_of sort.Slow) p.events)
     ++ (count_line (codes "open") (length p.unanswered)
     ++ (count_line (codes "history") (length p.history)
     ++ codes "end\n")))))
 
 -- The summary of a run.
 abbrev pub summary : Group → List Record → List ℕ
-summary g J = summary_of (printed g J)
+summary g J = summary_of (printed_of_run g J)

@@ -7,11 +7,11 @@ use Rattle.nz_machine.specs.declared.event.Event.{Event}
 use Rattle.nz_machine.specs.declared.event.Event.TheVariants.{Deliver, Cut, Tick, Alarm, Crash, Restart}
 use Rattle.nz_machine.specs.declared.event.Parcel.{Parcel}
 use Rattle.nz_machine.specs.declared.event.Record.{Record}
-use Rattle.nz_machine.specs.Schedule.{kind_of}
+use Rattle.nz_machine.specs.Schedule.{kind_in_frame}
 
 -- The kind of a parcel's message, and its sender. What is no frame has no name.
 abbrev pub parcel_text : Parcel → List ℕ
-parcel_text p = kind_text (kind_of p.frame) ++ (codes " " ++ actor_text p.from)
+parcel_text p = kind_text (kind_in_frame p.frame) ++ (codes " " ++ actor_text p.from)
 
 -- What happened, with the clock's reading, how many bytes came, or the nonce.
 abbrev pub what_text : Event → List ℕ

@@ -2,7 +2,7 @@
 
 ghost use Rattle.std.specs.Prelude.{◌≡◌, IfOk};
 ghost use Rattle.nz_text.specs.declared.line.Line.TheVariants as line;
-ghost use Rattle.nz_text.specs.Reading.{rank_of, start, with_line, step as step_by, outcome};
+ghost use Rattle.nz_text.specs.Reading.{stage_rank, empty_draft, with_line, draft_after_bytes, draft_if_good};
 
 use super::line::{Line, line_of};
 use super::printed::{Event, EventList, Printed};
@@ -28,7 +28,7 @@ pub struct Draft {
 
 impl Stage {
     pub fn rank(self) -> u8
-        ensures { result ≡ rank_of self }
+        ensures { result ≡ stage_rank self }
     {
         match self {
             Stage::Events => 0,
@@ -42,7 +42,7 @@ impl Stage {
 impl Draft {
     /// Before the first line.
     pub fn new(alloc: Global) -> Draft
-        ensures { result ≡ start }
+        ensures { result ≡ empty_draft }
     {
         Draft {
             stage: Stage::Events,
@@ -55,7 +55,7 @@ impl Draft {
     }
 
     fn take_event(&mut self, event: Event) -> Result<bool, NoMemory>
-        ensures { IfOk result (λ good. with_line self.old (line.Event event) ≡ outcome good self.new) }
+        ensures { IfOk result (λ good. with_line self.old (line.Event event) ≡ draft_if_good good self.new) }
     {
         if self.stage.rank() != 0 {
             return Ok(false);
@@ -65,7 +65,7 @@ impl Draft {
     }
 
     fn take_open(&mut self, id: Id) -> Result<bool, NoMemory>
-        ensures { IfOk result (λ good. with_line self.old (line.Open id) ≡ outcome good self.new) }
+        ensures { IfOk result (λ good. with_line self.old (line.Open id) ≡ draft_if_good good self.new) }
     {
         if self.stage.rank() > 1 {
             return Ok(false);
@@ -76,7 +76,7 @@ impl Draft {
     }
 
     fn take_executed(&mut self, place: u64, executed: Executed) -> Result<bool, NoMemory>
-        ensures { IfOk result (λ good. with_line self.old (line.At place executed) ≡ outcome good self.new) }
+        ensures { IfOk result (λ good. with_line self.old (line.At place executed) ≡ draft_if_good good self.new) }
     {
         let next = u64::from(self.printed.history.len()) + 1;
         if self.stage.rank() > 2 || place != next {
@@ -88,7 +88,7 @@ impl Draft {
     }
 
     fn take_end(&mut self) -> bool
-        ensures { with_line self.old line.End ≡ outcome result self.new }
+        ensures { with_line self.old line.End ≡ draft_if_good result self.new }
     {
         if self.stage.rank() > 2 {
             return false;
@@ -98,7 +98,7 @@ impl Draft {
     }
 
     fn take(&mut self, next: Line) -> Result<bool, NoMemory>
-        ensures { IfOk result (λ good. with_line self.old next ≡ outcome good self.new) }
+        ensures { IfOk result (λ good. with_line self.old next ≡ draft_if_good good self.new) }
     {
         match next {
             Line::Event(event) => self.take_event(event),
@@ -109,9 +109,9 @@ impl Draft {
     }
 
     /// Takes a line in, if the bytes are one that may come here.
-    #[tactic(auto, unfolding(crate::specs::Reading::step))]
+    #[tactic(auto, unfolding(crate::specs::Reading::draft_after_bytes))]
     pub fn step(&mut self, alloc: Global, bytes: &[u8]) -> Result<bool, NoMemory>
-        ensures { IfOk result (λ good. step_by self.old bytes.now ≡ outcome good self.new) }
+        ensures { IfOk result (λ good. draft_after_bytes self.old bytes.now ≡ draft_if_good good self.new) }
     {
         match line_of(alloc, bytes)? {
             None => Ok(false),

@@ -2,7 +2,9 @@
 ghost use Rattle.std.specs.Prelude.{◌≡◌, map, IfOk, Some, None};
 ghost use Rattle.std.specs.Option.{option_map};
 ghost use Rattle.nz_store.specs.Grammar.{IsValid, spelling};
-ghost use Rattle.nz_text.specs.Reading.{pieces_in, number_in, client_in, id_of_words, id_first as id_at_front, value_first as value_at_front, answer_first as answer_at_front, path_of as path_for, alone, send_of, accept_of, given as given_by, executed_of as executed_by, sent as sent_by, accepted as accepted_by, opened as opened_by, placed as placed_by, line_of as line_for};
+ghost use Rattle.nz_text.specs.Reading as reading;
+ghost use Rattle.nz_text.specs.Reading.{pieces_in, number_in_digits, client_in, id_of_words, alone, send_of, accept_of, answer_in_words};
+ghost use Rattle.nz_text.specs.Reading.{send_in_words, accept_in_words, open_in_words, at_in_words, line_in_words};
 ghost use Rattle.nz_text.specs.declared.line.Line.TheVariants as line;
 
 use super::printed::Event;
@@ -38,7 +40,7 @@ fn pieces<'a>(alloc: Global, line: &'a [u8]) -> Result<Vec<&'a [u8]>, NoMemory>
 }
 
 fn number(word: &[u8]) -> Option<u32>
-    ensures { result ≡ number_in word.now }
+    ensures { result ≡ number_in_digits word.now }
 {
     let number = number_of(word)?;
     if number <= 4_294_967_295 {
@@ -71,7 +73,7 @@ fn id(client_word: &[u8], num_word: &[u8]) -> Option<Id>
 
 #[tactic(auto, unfolding(crate::specs::Reading::id_first))]
 fn id_first<'a, 'b>(words: &'a [&'b [u8]]) -> Option<(Id, &'a [&'b [u8]])>
-    ensures { option_map (λ x. (x.0, map (λ w. w.now) x.1.now)) result ≡ id_at_front (map (λ w. w.now) words.now) }
+    ensures { option_map (λ x. (x.0, map (λ w. w.now) x.1.now)) result ≡ reading.id_first (map (λ w. w.now) words.now) }
 {
     let [client_word, num_word, more @ ..] = words else {
         return None;
@@ -84,7 +86,7 @@ fn value_first<'a, 'b>(
     alloc: Global,
     words: &'a [&'b [u8]],
 ) -> Result<Option<(Answer, &'a [&'b [u8]])>, NoMemory>
-    ensures { IfOk result (λ answer. option_map (λ x. (x.0, map (λ w. w.now) x.1.now)) answer ≡ value_at_front (map (λ w. w.now) words.now)) }
+    ensures { IfOk result (λ answer. option_map (λ x. (x.0, map (λ w. w.now) x.1.now)) answer ≡ reading.value_first (map (λ w. w.now) words.now)) }
 {
     let [value, more @ ..] = words else {
         return Ok(None);
@@ -102,7 +104,7 @@ fn answer_first<'a, 'b>(
     alloc: Global,
     words: &'a [&'b [u8]],
 ) -> Result<Option<(Answer, &'a [&'b [u8]])>, NoMemory>
-    ensures { IfOk result (λ answer. option_map (λ x. (x.0, map (λ w. w.now) x.1.now)) answer ≡ answer_at_front (map (λ w. w.now) words.now)) }
+    ensures { IfOk result (λ answer. option_map (λ x. (x.0, map (λ w. w.now) x.1.now)) answer ≡ reading.answer_first (map (λ w. w.now) words.now)) }
 {
     let [word, more @ ..] = words else {
         return Ok(None);
@@ -124,7 +126,7 @@ fn answer_first<'a, 'b>(
 
 #[tactic(auto, unfolding(crate::specs::Reading::path_of))]
 fn path_of(words: &[&[u8]]) -> Option<Path>
-    ensures { result ≡ path_for (map (λ w. w.now) words.now) }
+    ensures { result ≡ reading.path_of (map (λ w. w.now) words.now) }
 {
     let [word] = words else {
         return None;
@@ -175,9 +177,9 @@ fn accept_line(alloc: Global, id: Id, words: &[&[u8]]) -> Result<Option<Line>, N
 }
 
 /// The answer after the word `gives`.
-#[tactic(auto, unfolding(crate::specs::Reading::given))]
+#[tactic(auto, unfolding(crate::specs::Reading::answer_in_words))]
 fn given(alloc: Global, words: &[&[u8]]) -> Result<Option<Answer>, NoMemory>
-    ensures { IfOk result (λ answer. answer ≡ given_by (map (λ w. w.now) words.now)) }
+    ensures { IfOk result (λ answer. answer ≡ answer_in_words (map (λ w. w.now) words.now)) }
 {
     let [word, more @ ..] = words else {
         return Ok(None);
@@ -195,7 +197,7 @@ fn given(alloc: Global, words: &[&[u8]]) -> Result<Option<Answer>, NoMemory>
 }
 
 fn executed_of(alloc: Global, id: Id, words: &[&[u8]]) -> Result<Option<Executed>, NoMemory>
-    ensures { IfOk result (λ executed. executed ≡ executed_by id (map (λ w. w.now) words.now)) }
+    ensures { IfOk result (λ executed. executed ≡ reading.executed_of id (map (λ w. w.now) words.now)) }
 {
     let Some((command, rest)) = command_first(alloc, words)? else {
         return Ok(None);
@@ -212,7 +214,7 @@ fn executed_of(alloc: Global, id: Id, words: &[&[u8]]) -> Result<Option<Executed
 }
 
 fn sent(alloc: Global, words: &[&[u8]]) -> Result<Option<Line>, NoMemory>
-    ensures { IfOk result (λ line. line ≡ sent_by (map (λ w. w.now) words.now)) }
+    ensures { IfOk result (λ line. line ≡ send_in_words (map (λ w. w.now) words.now)) }
 {
     match id_first(words) {
         None => Ok(None),
@@ -221,7 +223,7 @@ fn sent(alloc: Global, words: &[&[u8]]) -> Result<Option<Line>, NoMemory>
 }
 
 fn accepted(alloc: Global, words: &[&[u8]]) -> Result<Option<Line>, NoMemory>
-    ensures { IfOk result (λ line. line ≡ accepted_by (map (λ w. w.now) words.now)) }
+    ensures { IfOk result (λ line. line ≡ accept_in_words (map (λ w. w.now) words.now)) }
 {
     match id_first(words) {
         None => Ok(None),
@@ -230,7 +232,7 @@ fn accepted(alloc: Global, words: &[&[u8]]) -> Result<Option<Line>, NoMemory>
 }
 
 fn opened(words: &[&[u8]]) -> Option<Line>
-    ensures { result ≡ opened_by (map (λ w. w.now) words.now) }
+    ensures { result ≡ open_in_words (map (λ w. w.now) words.now) }
 {
     let (id, rest) = id_first(words)?;
     match rest {
@@ -239,9 +241,9 @@ fn opened(words: &[&[u8]]) -> Option<Line>
     }
 }
 
-#[tactic(auto, unfolding(crate::specs::Reading::placed))]
+#[tactic(auto, unfolding(crate::specs::Reading::at_in_words))]
 fn placed(alloc: Global, words: &[&[u8]]) -> Result<Option<Line>, NoMemory>
-    ensures { IfOk result (λ line. line ≡ placed_by (map (λ w. w.now) words.now)) }
+    ensures { IfOk result (λ line. line ≡ at_in_words (map (λ w. w.now) words.now)) }
 {
     let [place, more @ ..] = words else {
         return Ok(None);
@@ -268,9 +270,9 @@ fn ended(words: &[&[u8]]) -> Option<Line>
 }
 
 /// What the words say as a line.
-#[tactic(auto, unfolding(crate::specs::Reading::line_of))]
+#[tactic(auto, unfolding(crate::specs::Reading::line_in_words))]
 fn line_of_words(alloc: Global, words: &[&[u8]]) -> Result<Option<Line>, NoMemory>
-    ensures { IfOk result (λ line. line ≡ line_for (map (λ w. w.now) words.now)) }
+    ensures { IfOk result (λ line. line ≡ line_in_words (map (λ w. w.now) words.now)) }
 {
     let [first, more @ ..] = words else {
         return Ok(None);
@@ -295,7 +297,7 @@ fn line_of_words(alloc: Global, words: &[&[u8]]) -> Result<Option<Line>, NoMemor
 
 /// What the bytes say as a line, without its newline.
 pub fn line_of(alloc: Global, bytes: &[u8]) -> Result<Option<Line>, NoMemory>
-    ensures { IfOk result (λ line. line ≡ line_for (pieces_in bytes.now)) }
+    ensures { IfOk result (λ line. line ≡ line_in_words (pieces_in bytes.now)) }
 {
     let words = pieces(alloc, bytes)?;
     line_of_words(alloc, &words)

@@ -2,7 +2,7 @@
 ghost use Rattle.std.specs.Prelude.{◌≡◌, ◌++◌, ◌<◌, ◌^◌, length, OnOk};
 ghost use Rattle.std.specs.List.{flat_map};
 ghost use Rattle.nz_store.specs.Reading.{command_of};
-ghost use Rattle.nz_text.specs.Text.{id_text, found_text, answer_text, path_text, event_line, open_line as line_of_open, at_line as line_at, at_lines as lines_from};
+ghost use Rattle.nz_text.specs.Text.{id_text, found_text, answer_text, path_text, event_line, open_line, at_line, at_lines};
 
 use super::printed::Event;
 use nz_base::{Id, NoMemory};
@@ -87,7 +87,7 @@ pub fn put_events(alloc: Global, out: &mut Vec<u8>, events: &[Event]) -> Result<
 }
 
 fn put_open(alloc: Global, out: &mut Vec<u8>, id: Id) -> Result<(), NoMemory>
-    ensures { OnOk result (out.new.items ≡ out.old.items ++ line_of_open id) }
+    ensures { OnOk result (out.new.items ≡ out.old.items ++ open_line id) }
 {
     put(out, b"open")?;
     put_id(alloc, out, id)?;
@@ -96,7 +96,7 @@ fn put_open(alloc: Global, out: &mut Vec<u8>, id: Id) -> Result<(), NoMemory>
 
 /// Writes a line for each open request.
 pub fn put_opens(alloc: Global, out: &mut Vec<u8>, ids: &[Id]) -> Result<(), NoMemory>
-    ensures { OnOk result (out.new.items ≡ out.old.items ++ flat_map line_of_open ids.now) }
+    ensures { OnOk result (out.new.items ≡ out.old.items ++ flat_map open_line ids.now) }
 {
     for id in ids {
         put_open(alloc, out, *id)?;
@@ -105,7 +105,7 @@ pub fn put_opens(alloc: Global, out: &mut Vec<u8>, ids: &[Id]) -> Result<(), NoM
 }
 
 fn put_at(alloc: Global, out: &mut Vec<u8>, place: u32, executed: &Executed) -> Result<(), NoMemory>
-    ensures { OnOk result (out.new.items ≡ out.old.items ++ line_at place executed.now) }
+    ensures { OnOk result (out.new.items ≡ out.old.items ++ at_line place executed.now) }
 {
     put(out, b"at ")?;
     put_number(alloc, out, u64::from(place))?;
@@ -119,7 +119,7 @@ fn put_at(alloc: Global, out: &mut Vec<u8>, place: u32, executed: &Executed) -> 
 /// Writes a line for each entry of the history, with its place from 1.
 pub fn put_history(alloc: Global, out: &mut Vec<u8>, history: &[Executed]) -> Result<(), NoMemory>
     requires { length history.now < 2 ^ 32 }
-    ensures { OnOk result (out.new.items ≡ out.old.items ++ lines_from 1 history.now) }
+    ensures { OnOk result (out.new.items ≡ out.old.items ++ at_lines 1 history.now) }
 {
     let mut place = 0;
     for executed in history {

@@ -2,7 +2,7 @@
 
 ghost use Rattle.std.specs.Prelude.{◌≡◌, ◌≢◌, ◌<◌, length, IfOk, IfErr, Ok, Err};
 ghost use Rattle.nz_script.specs.Bytes.{lines_in, tail_in};
-ghost use Rattle.nz_text.specs.Reading.{start, ending as ending_by, reading, printed_in};
+ghost use Rattle.nz_text.specs.Reading.{empty_draft, printed_at_end, printed_from, printed_in};
 ghost use Rattle.nz_text.specs.declared.fault.TextFault.TheVariants as text_fault;
 
 use super::draft::Draft;
@@ -14,7 +14,7 @@ use std::alloc::Global;
 
 /// The answer at the end of the text, in the line after the last newline.
 fn ending(tail: &[u8], line: u32, draft: Draft) -> Result<Printed, TextFault>
-    ensures { result ≡ ending_by tail.now line draft }
+    ensures { result ≡ printed_at_end tail.now line draft }
 {
     if tail.is_empty() && draft.stage.rank() == 3 {
         Ok(draft.printed)
@@ -25,7 +25,7 @@ fn ending(tail: &[u8], line: u32, draft: Draft) -> Result<Printed, TextFault>
 
 fn read_lines(alloc: Global, text: &[u8]) -> Result<Result<Printed, TextFault>, NoMemory>
     requires { length text.now < 4294967295 }
-    ensures { IfOk result (λ answer. answer ≡ reading (tail_in text.now) 1 start (lines_in text.now)) }
+    ensures { IfOk result (λ answer. answer ≡ printed_from (tail_in text.now) 1 empty_draft (lines_in text.now)) }
 {
     let mut draft = Draft::new(alloc);
     let mut rest = text;

@@ -1,8 +1,8 @@
 //! Texts and traces, and first bad lines.
 
-use super::counting::count;
-use super::printing::spell;
-use super::running::unanswered_of;
+use super::run_events::unanswered_of;
+use super::summaries::count;
+use super::texts::spell;
 use super::*;
 use bytes::Bytes;
 use nz_base::{Actor, Blob, Cluster, FaultList, Id, NoMemory, Scenario, ScriptList, SkewList};

@@ -16,10 +16,11 @@ use Rattle.nz_store.specs.declared.command.Answer.{Answer}
 use Rattle.nz_store.specs.Grammar.{IsValue, IsChoice, IsValid}
 use Rattle.nz_store.specs.Reading.{command_of}
 use Rattle.nz_store.specs.Entries.{Entries, empty, value_of, with_value, with_choice}
-use Rattle.nz_store.specs.Sequence.{value_answer, removal_answer, refusal_answer, swap, apply, apply_found, apply_bytes, store_from, store_after, answer_after, reply}
+use Rattle.nz_store.specs.Sequence.{value_answer, removal_answer, refusal_answer, swap, apply, apply_found}
+use Rattle.nz_store.specs.Sequence.{apply_bytes, store_from, store_after, answer_after, reply}
 use Rattle.nz_store.proofs.Spellings.{spells_from_reading}
 use Rattle.nz_store.proofs.Texts.{test_from_value}
-use Rattle.nz_machine.proofs.Each.{all_filter}
+use Rattle.nz_machine.proofs.EachItem.{all_filter}
 use Rattle.nz_text.specs.Fit.{FitsAnswer}
 
 -- an entry of a store has a value of the grammar
@@ -42,7 +43,8 @@ value_put Greater e key value rest new all more own = (all.0, more)
 
 value_with : (store : Entries) (key value : List ℕ) → HaveValues store → IsValue value → HaveValues (with_value store key value)
 value_with [] key value all own = (own, tt)
-value_with (e ∷ store) key value all own = value_put (slice_cmp nat_cmp key e.0) e key value store (with_value store key value) all (value_with store key value all.1 own) own
+value_with (e ∷ store) key value all own =
+    value_put (slice_cmp nat_cmp key e.0) e key value store (with_value store key value) all (value_with store key value all.1 own) own
 
 value_choice : (store : Entries) (key : List ℕ) (value : Option (List ℕ)) → HaveValues store → IsChoice value → HaveValues (with_choice store key value)
 value_choice store key None all own = all_filter HasValue _ store all

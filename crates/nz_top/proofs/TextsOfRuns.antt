@@ -13,19 +13,20 @@ use Rattle.nz_store.specs.Reading.{command_of}
 use Rattle.nz_store.specs.Sequence.{reply}
 use Rattle.nz_msg.specs.declared.envelope.Envelope.{Envelope}
 use Rattle.nz_msg.specs.declared.message.Message.{Message}
-use Rattle.nz_msg.specs.declared.message.Message.TheVariants.{Answer as Answered}
+use Rattle.nz_msg.specs.declared.message.Message.TheVariants as messages
 use Rattle.nz_machine.specs.declared.event.Record.{Record}
 use Rattle.nz_machine.specs.State.{ClientData, Group}
 use Rattle.nz_machine.specs.Replicas.{commands}
 use Rattle.nz_machine.specs.Step.{script_of}
 use Rattle.nz_machine.specs.World.{state_after, Has, IsAsked, IsGroup, IsMember, World}
-use Rattle.nz_machine.specs.Events.{Told, Sent, Accepted, id_at, command_of_request, read_in, accepted_in, accepted_by, sent_after, sent_by, told_by, events}
+use Rattle.nz_machine.specs.Events.{ClientEvent, Sent, Accepted, id_at, command_of_request, read_in, accepted_in}
+use Rattle.nz_machine.specs.Events.{accepted_by, sent_after, sent_by, client_events, events}
 use Rattle.nz_machine.specs.History.{history}
 use Rattle.nz_machine.specs.OneHistory.{Precedes}
-use Rattle.nz_machine.specs.Journals.{answered, executed_from}
+use Rattle.nz_machine.specs.Journals.{executed_if_answered, executed_from}
 use Rattle.nz_machine.proofs.Runs.{all_has, on_cond, group_of}
-use Rattle.nz_machine.proofs.Each.{all_append}
-use Rattle.nz_machine.proofs.Pieces.{all_map, all_flat_map}
+use Rattle.nz_machine.proofs.EachItem.{all_append}
+use Rattle.nz_machine.proofs.ListParts.{all_map, all_flat_map}
 use Rattle.nz_machine.proofs.FitRuns.{FitsState, all_fit}
 use Rattle.nz_machine.proofs.FitClients.{client_of}
 use Rattle.nz_laws_commit.proofs.Counts.{are_once}
@@ -33,7 +34,7 @@ use Rattle.nz_lin.proofs.Histories.{history_is, history_sent, history_few}
 use Rattle.nz_text.specs.declared.printed.Event.{Event}
 use Rattle.nz_text.specs.declared.printed.Event.TheVariants.{Send, Accept}
 use Rattle.nz_text.specs.Fit.{FitsId, FitsEvent, FitsExecuted, FitsPrinted}
-use Rattle.nz_text.specs.Text.{event_of, accepts_it, open_in, events_in, printed, text}
+use Rattle.nz_text.specs.Text.{event_of, accepts_it, open_in, events_in, printed_of_run, text}
 use Rattle.nz_text.specs.Reading.{printed_in}
 use Rattle.nz_text.proofs.Whole.{read_back}
 use Rattle.nz_top.proofs.Answers.{reply_fits}
@@ -41,17 +42,20 @@ use Rattle.nz_top.proofs.Answers.{reply_fits}
 -- ---- requests
 
 -- a request that was sent has an id and a command
-abbrev FitsSent : Told → Type 0
+abbrev FitsSent : ClientEvent → Type 0
 FitsSent (Sent id command) = FitsId id × IsSome (command_of command)
 FitsSent (Accepted id answer path) = Unit {0}
 
-command_fits : (script : List Request) (i : ℕ) → i < length script → AllByRecursion IsAsked script → IsSome (command_of (command_of_request (slice_get script i)))
+command_fits : (script : List Request) (i : ℕ) → i < length script → AllByRecursion IsAsked script
+    → IsSome (command_of (command_of_request (slice_get script i)))
 command_fits [] i lt all = absurd (omega (arith, lt))
 command_fits (r ∷ script) zero lt all = all.0.command
 command_fits (r ∷ script) (suc i) lt all = command_fits script i (omega (arith, lt)) all.1
 
 accepted_fit : (c : ℕ) (before after : ClientData) (m : Message) → AllByRecursion FitsSent (accepted_in c before after m)
-accepted_fit c before after (Answered b) = on_cond (AllByRecursion FitsSent) (nat_lt before.accepted after.accepted) (Accepted (id_at c b.num) b.answer b.path ∷ []) [] (λ _. (tt, tt)) (λ _. tt)
+accepted_fit c before after (messages.Answer b) =
+    on_cond (AllByRecursion FitsSent) (nat_lt before.accepted after.accepted)
+    (Accepted (id_at c b.num) b.answer b.path ∷ []) [] (λ _. (tt, tt)) (λ _. tt)
 accepted_fit c before after _ = tt
 
 read_fit : (c : ℕ) (before after : ClientData) (o : Option Envelope) → AllByRecursion FitsSent (accepted_by c before after o)
@@ -61,10 +65,16 @@ read_fit c before after (Some e) = accepted_fit c before after e.message
 sent_fits : (c : ℕ) (script : List Request) (num more : ℕ) → c ≤ 63 → length script ≤ 2000 → AllByRecursion IsAsked script → more ≤ length script - num
     → AllByRecursion FitsSent (sent_after c script num more)
 sent_fits c script num zero address short all few = tt
-sent_fits c script num (suc more) address short all few =
-    ((record { client = omega (arith, address); num = omega (arith, short, few) }, command_fits script (num + 1 - 1) (omega (arith, few)) all), sent_fits c script (num + 1) more address short all (omega (arith, few)))
+sent_fits c script num (suc more) address short all few = (
+  (
+    record { client = omega (arith, address); num = omega (arith, short, few) },
+    command_fits script (num + 1 - 1) (omega (arith, few)) all,
+  ),
+  sent_fits c script (num + 1) more address short all (omega (arith, few)),
+)
 
-told_fits : (g : Group) (a : Actor) (r : Record) (J : List Record) → IsGroup g → IsMember g a → FitsState g a (state_after g a (r ∷ J)) → AllByRecursion FitsSent (told_by g a r J)
+told_fits : (g : Group) (a : Actor) (r : Record) (J : List Record) → IsGroup g → IsMember g a
+    → FitsState g a (state_after g a (r ∷ J)) → AllByRecursion FitsSent (client_events g a r J)
 told_fits g (Replica m) r J group member h = tt
 told_fits g (Proxy p) r J group member h = tt
 told_fits g (Client c) r J group member h =
@@ -73,14 +83,18 @@ told_fits g (Client c) r J group member h =
     let script = script_of g c in
     let client = client_of g c group member in
     let sent = h.sent in
-    all_append FitsSent (accepted_by c before after (read_in g (Client c) r.event)) (sent_by c script before after) (read_fit c before after (read_in g (Client c) r.event))
+    all_append FitsSent (accepted_by c before after (read_in g (Client c) r.event)) (sent_by c script before after)
+    (read_fit c before after (read_in g (Client c) r.event))
     (sent_fits c script before.sent (after.sent - before.sent) client.address client.short client.commands (omega (arith, sent)))
 
 sent_fit : (g : Group) (J : List Record) → World g J → AllByRecursion FitsSent (events g J)
 sent_fit g [] w = tt
-sent_fit g (r ∷ J) w = all_append FitsSent (events g J) (told_by g r.actor r J) (sent_fit g J w.1) (told_fits g r.actor r J (group_of g J w.1) w.0.member ((all_fit g (r ∷ J) w).states r.actor))
+sent_fit g (r ∷ J) w =
+    all_append FitsSent (events g J) (client_events g r.actor r J) (sent_fit g J w.1)
+    (told_fits g r.actor r J (group_of g J w.1) w.0.member ((all_fit g (r ∷ J) w).states r.actor))
 
-request_fits : (g : Group) (J : List Record) (id : Id) (command : List ℕ) → World g J → Has (events g J) (Sent id command) → FitsId id × IsSome (command_of command)
+request_fits : (g : Group) (J : List Record) (id : Id) (command : List ℕ) → World g J
+    → Has (events g J) (Sent id command) → FitsId id × IsSome (command_of command)
 request_fits g J id command w h = all_has FitsSent (events g J) (Sent id command) (sent_fit g J w) h
 
 -- ---- events
@@ -90,13 +104,16 @@ first_has [] x y h = absurd h
 first_has (z ∷ zs) x y (inl h) = inl h.0
 first_has (z ∷ zs) x y (inr h) = inr (first_has zs x y h)
 
-event_fits : (g : Group) (J : List Record) (t : Told) → World g J → Has (events g J) t → FitsEvent (event_of t)
+event_fits : (g : Group) (J : List Record) (t : ClientEvent) → World g J → Has (events g J) t → FitsEvent (event_of t)
 event_fits g J (Sent id command) w h = request_fits g J id command w h
 event_fits g J (Accepted id answer path) w h =
     let request = (are_once g J).in_order id answer path h in
     let covered = (history_is g J w).covers id answer path h in
-    let by = covered.given.from.answered in
-    ((request_fits g J id request.0 w (first_has (events g J) (Sent id request.0) (Accepted id answer path) request.1)).0, reply_fits (commands covered.prefix) by.place answer by.answered)
+    let by = covered.given.from.answered in (
+      (request_fits g J id request.0 w
+          (first_has (events g J) (Sent id request.0) (Accepted id answer path) request.1)).0,
+      reply_fits (commands covered.prefix) by.place answer by.answered,
+    )
 
 all_by : {X : Type 0} (P : X → Type 0) (xs : List X) → ((x : X) → Has xs x → P x) → AllByRecursion P xs
 all_by P [] h = tt
@@ -122,22 +139,25 @@ IsRequest e = FitsId (id_of e.key) × IsSome (command_of e.command)
 requests : (g : Group) (J : List Record) → World g J → AllByRecursion IsRequest (history g J)
 requests g J w = all_by IsRequest (history g J) (λ e h. request_fits g J (id_of e.key) e.command w (history_sent g J w e h))
 
-answered_fits : (H : List Entry) (place : ℕ) (e : Entry) (o : Option Answer) → reply (commands H) place ≡ o → IsRequest e → AllByRecursion FitsExecuted (answered e o)
+answered_fits : (H : List Entry) (place : ℕ) (e : Entry) (o : Option Answer) → reply (commands H) place ≡ o
+    → IsRequest e → AllByRecursion FitsExecuted (executed_if_answered e o)
 answered_fits H place e None is h = tt
 answered_fits H place e (Some a) is h = (record { id = h.0; command = h.1; answer = reply_fits (commands H) place a is }, tt)
 
 executed_fit : (H : List Entry) (place : ℕ) (es : List Entry) → AllByRecursion IsRequest es → AllByRecursion FitsExecuted (executed_from H place es)
 executed_fit H place [] h = tt
-executed_fit H place (e ∷ es) h = all_append FitsExecuted (answered e (reply (commands H) place)) (executed_from H (suc place) es) (answered_fits H place e (reply (commands H) place) refl h.0) (executed_fit H (suc place) es h.1)
+executed_fit H place (e ∷ es) h =
+    all_append FitsExecuted (executed_if_answered e (reply (commands H) place)) (executed_from H (suc place) es)
+    (answered_fits H place e (reply (commands H) place) refl h.0) (executed_fit H (suc place) es h.1)
 
-one_answered : (e : Entry) (o : Option Answer) → length (answered e o) ≤ 1
+one_answered : (e : Entry) (o : Option Answer) → length (executed_if_answered e o) ≤ 1
 one_answered e None = omega arith
 one_answered e (Some a) = omega arith
 
 few_executed : (H : List Entry) (place : ℕ) (es : List Entry) → length (executed_from H place es) ≤ length es
 few_executed H place [] = omega arith
 few_executed H place (e ∷ es) =
-    let own = answered e (reply (commands H) place) in
+    let own = executed_if_answered e (reply (commands H) place) in
     let all = length-append own (executed_from H (suc place) es) in
     let one = one_answered e (reply (commands H) place) in
     let more = few_executed H (suc place) es in
@@ -145,7 +165,7 @@ few_executed H place (e ∷ es) =
 
 -- ---- the whole
 
-fits : (g : Group) (J : List Record) → World g J → FitsPrinted (printed g J)
+fits : (g : Group) (J : List Record) → World g J → FitsPrinted (printed_of_run g J)
 fits g J w =
     let own = events_fit g J w in
     let few = history_few g J w in
@@ -157,5 +177,5 @@ fits g J w =
       few = omega (arith, few, executed_few);
     }
 
-pub texts_are_read : (g : Group) (J : List Record) → World g J → printed_in (text g J) ≡ Ok (printed g J)
-texts_are_read g J w = read_back (printed g J) (fits g J w)
+pub texts_are_read : (g : Group) (J : List Record) → World g J → printed_in (text g J) ≡ Ok (printed_of_run g J)
+texts_are_read g J w = read_back (printed_of_run g J) (fits g J w)

@@ -2,12 +2,12 @@
 use Rattle.std.specs.Prelude.{ℕ, ◌≡◌, ◌⊎◌, List, [], ◌++◌, Option, Some, None, Ok, Err, IsSome, IsNone, IfSome, IsTrue, codes}
 use Rattle.std.specs.Fmt.{decimal}
 use Rattle.nz_edge.specs.Faults.{Rose}
-use Rattle.nz_edge.specs.Told.{Gains}
+use Rattle.nz_edge.specs.Exposed.{Gains}
 use Rattle.nz_base.specs.declared.scenario.Scenario.{Scenario}
 use Rattle.nz_script.specs.declared.faults.Kind.{Kind}
 use Rattle.nz_script.specs.declared.faults.Kind.TheVariants.{Syntax, Order, Name, Limit}
 use Rattle.nz_script.specs.declared.faults.ScriptFault.TheVariants.{Refusal}
-use Rattle.nz_script.specs.Draws.{generated}
+use Rattle.nz_script.specs.Draws.{scenario_of_seed}
 use Rattle.nz_script.specs.Reading.{scenario}
 use Rattle.nz_machine.specs.declared.journal.Journal.{Journal}
 use Rattle.nz_machine.specs.Journals.{group_in, run_in}
@@ -46,7 +46,7 @@ IsRefused (Some bytes) = (line : ℕ) × ((kind : Kind) × (scenario (input byte
 abbrev pub Plays : Command → Option (List ℕ) → Scenario → Type 0
 Plays (Run workers) left s = ReadsAs left s
 Plays (Trace workers) left s = ReadsAs left s
-Plays (Gen seed count) left s = s ≡ generated seed count
+Plays (Gen seed count) left s = s ≡ scenario_of_seed seed count
 
 -- What is left of the input then: nothing, or all of it where it is not read.
 abbrev pub HasRead : Command → Option (List ℕ) → Option (List ℕ) → Type 0
@@ -102,9 +102,9 @@ printed_by (Gen seed count) j = summary (group_in j) (run_in j)
 printed_by (Trace workers) j = trace (run_in j) ++ (codes "text\n" ++ text (group_in j) (run_in j))
 
 -- What the command prints of a journal, nothing where there is no command.
-abbrev pub printed : Option Command → Journal → List ℕ
-printed None j = []
-printed (Some command) j = printed_by command j
+abbrev pub output_of : Option Command → Journal → List ℕ
+output_of None j = []
+output_of (Some command) j = printed_by command j
 
 -- The codes that the program ends with.
 abbrev pub code_of : Status → ℕ

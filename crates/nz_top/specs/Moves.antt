@@ -1,6 +1,6 @@
 -- Bytes that are moved out of a source or into a sink.
 use Rattle.std.specs.Prelude.{ℕ, ◌≡◌, List, ◌++◌, length, take, Option}
-use Rattle.nz_edge.specs.Told.{Loses, Gains}
+use Rattle.nz_edge.specs.Exposed.{Loses, Gains}
 
 -- An input is looked at up to this many bytes.
 abbrev pub most_input : ℕ

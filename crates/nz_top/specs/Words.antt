@@ -20,31 +20,31 @@ abbrev pub workers_at : List ℕ → Option ℕ
 workers_at word = if bytes_eq (take 10 word) (codes "--workers=") then workers_in (drop 10 word) else None
 
 -- `run` prints the text of the run, and `trace` its records before that.
-abbrev pub named : List ℕ → ℕ → Option Command
-named word workers = if bytes_eq word (codes "run") then Some (Run workers) else (if bytes_eq word (codes "trace") then Some (Trace workers) else None)
+abbrev pub command_named : List ℕ → ℕ → Option Command
+command_named word workers = if bytes_eq word (codes "run") then Some (Run workers) else (if bytes_eq word (codes "trace") then Some (Trace workers) else None)
 
 -- The command of a first word and a number of workers.
-abbrev pub played : List ℕ → Option ℕ → Option Command
-played word None = None
-played word (Some workers) = named word workers
+abbrev pub play_command : List ℕ → Option ℕ → Option Command
+play_command word None = None
+play_command word (Some workers) = command_named word workers
 
 -- The command `gen`, of a seed and a count.
-abbrev pub drawn : Option ℕ → Option ℕ → Option Command
-drawn (Some seed) (Some count) = Some (Gen seed count)
-drawn _ _ = None
+abbrev pub gen_command : Option ℕ → Option ℕ → Option Command
+gen_command (Some seed) (Some count) = Some (Gen seed count)
+gen_command _ _ = None
 
 -- `gen SEED COUNT` plays the scenario that the seed draws, with this many requests, and prints its summary.
 abbrev pub of_three : List ℕ → List ℕ → List ℕ → Option Command
 of_three word second third =
-    if bytes_eq word (codes "gen") then drawn (number_of second) (up_to 2000 (number_of third))
-    else (if bytes_eq second (codes "--workers") then played word (workers_in third) else None)
+    if bytes_eq word (codes "gen") then gen_command (number_of second) (up_to 2000 (number_of third))
+    else (if bytes_eq second (codes "--workers") then play_command word (workers_in third) else None)
 
 -- The command that the words call: with no other number there is one worker.
-abbrev pub command_of : List (List ℕ) → Option Command
-command_of (word ∷ []) = named word 1
-command_of (word ∷ option ∷ []) = played word (workers_at option)
-command_of (word ∷ second ∷ third ∷ []) = of_three word second third
-command_of _ = None
+abbrev pub command_of_words : List (List ℕ) → Option Command
+command_of_words (word ∷ []) = command_named word 1
+command_of_words (word ∷ option ∷ []) = play_command word (workers_at option)
+command_of_words (word ∷ second ∷ third ∷ []) = of_three word second third
+command_of_words _ = None
 
 -- The commands that read a scenario from the source.
 abbrev pub reads : Command → Bool

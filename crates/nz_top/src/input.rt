@@ -1,9 +1,9 @@
 //! Reading the input.
 ghost use Rattle.std.specs.Prelude.{◌≡◌, ◌<◌, ◌≤◌, ◌+◌, [], length, vec_len, IfOk, IfSome, Err};
 ghost use Rattle.nz_edge.specs.Faults.{Rose};
-ghost use Rattle.nz_edge.specs.Told.{Loses};
+ghost use Rattle.nz_edge.specs.Exposed.{Loses};
 ghost use Rattle.nz_top.specs.Moves.{most_input, Moved};
-ghost use Rattle.nz_top.specs.declared.input.Stop.TheVariants.{Fault as IsFault};
+ghost use Rattle.nz_top.specs.declared.input.Stop.TheVariants as stops;
 
 use nz_edge::Source;
 use std::alloc::Global;
@@ -30,7 +30,7 @@ fn read_piece<S: Source>(
     ensures moved { IfOk result (λ count. Moved (S.left source.old) (S.left source.new) taken.old.items taken.new.items count) }
     ensures within { IfOk result (λ count. count ≤ length piece.old) }
     ensures end { IfOk result (λ count. count ≡ 0 → IfSome (S.left source.old) (λ bytes. bytes ≡ [])) }
-    ensures fault { result ≡ Err IsFault → Rose (S.faults source.old) (S.faults source.new) }
+    ensures fault { result ≡ Err stops.Fault → Rose (S.faults source.old) (S.faults source.new) }
     ensures counts { S.faults source.old ≤ S.faults source.new }
 {
     match source.read(piece) {
@@ -50,7 +50,7 @@ fn read_pieces<S: Source>(alloc: Global, source: &mut S, piece: &mut [u8]) -> Re
     ensures lost { IfOk result (λ bytes. Loses (S.left source.old) (S.left source.new) bytes.items) }
     ensures most { IfOk result (λ bytes. length bytes.items ≤ most_input) }
     ensures end { IfOk result (λ bytes. length bytes.items < most_input → IfSome (S.left source.new) (λ rest. rest ≡ [])) }
-    ensures fault { result ≡ Err IsFault → Rose (S.faults source.old) (S.faults source.new) }
+    ensures fault { result ≡ Err stops.Fault → Rose (S.faults source.old) (S.faults source.new) }
     ensures counts { S.faults source.old ≤ S.faults source.new }
 {
     let mut bytes = Vec::new(alloc);
@@ -70,7 +70,7 @@ pub fn read_input<S: Source>(alloc: Global, source: &mut S) -> Result<Vec<u8>, S
     ensures lost { IfOk result (λ bytes. Loses (S.left source.old) (S.left source.new) bytes.items) }
     ensures most { IfOk result (λ bytes. length bytes.items ≤ most_input) }
     ensures end { IfOk result (λ bytes. length bytes.items < most_input → IfSome (S.left source.new) (λ rest. rest ≡ [])) }
-    ensures fault { result ≡ Err IsFault → Rose (S.faults source.old) (S.faults source.new) }
+    ensures fault { result ≡ Err stops.Fault → Rose (S.faults source.old) (S.faults source.new) }
     ensures counts { S.faults source.old ≤ S.faults source.new }
 {
     let mut piece = [0; PIECE];

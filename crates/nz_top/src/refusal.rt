@@ -1,6 +1,6 @@
 //! The line of a refusal, which takes no memory.
 ghost use Rattle.std.specs.Prelude.{◌≡◌};
-ghost use Rattle.nz_top.specs.Calls.{kind_name as kind_name_of, refusal_line as refusal_line_of};
+ghost use Rattle.nz_top.specs.Calls as calls;
 
 use arrayvec::ArrayString;
 use itoa::Buffer;
@@ -10,7 +10,7 @@ use nz_script::Kind;
 const LONGEST: usize = 32;
 
 fn kind_name(kind: Kind) -> &'static str
-    ensures { result.now ≡ kind_name_of kind }
+    ensures { result.now ≡ calls.kind_name kind }
 {
     match kind {
         Kind::Syntax => "syntax",
@@ -23,7 +23,7 @@ fn kind_name(kind: Kind) -> &'static str
 #[tactic(auto, unfolding(crate::specs::Calls::refusal_line))]
 /// The line that reports a bad line of the input, counted from 1, and what is wrong in it.
 pub fn refusal_line(line: u32, kind: Kind) -> ArrayString<LONGEST>
-    ensures { result.bytes ≡ refusal_line_of line kind }
+    ensures { result.bytes ≡ calls.refusal_line line kind }
 {
     let mut text = ArrayString::new();
     text.push_str("refused line ");

@@ -1,7 +1,7 @@
 //! The top call.
 ghost use Rattle.std.specs.Prelude.{◌≡◌, ◌≤◌, ◌⊎◌, ◌↔◌, [], None, IfOk, IfErr, IfSome, OnOk, OnSome, Some, IsSome, IsTrue, codes};
 ghost use Rattle.nz_edge.specs.Faults.{Rose};
-ghost use Rattle.nz_edge.specs.Told.{Gains};
+ghost use Rattle.nz_edge.specs.Exposed.{Gains};
 ghost use Rattle.nz_machine.specs.Events.{events};
 ghost use Rattle.nz_machine.specs.History.{history};
 ghost use Rattle.nz_machine.specs.Journals.{group_in, run_in};
@@ -9,10 +9,12 @@ ghost use Rattle.nz_machine.specs.OneHistory.{Lin, NoCollision};
 ghost use Rattle.nz_machine.specs.Schedule.{IsPlayable, InOrder, Scheduled};
 ghost use Rattle.nz_machine.specs.World.{World};
 ghost use Rattle.nz_top.specs.declared.status.Status.TheVariants as status;
-ghost use Rattle.nz_top.specs.Calls.{CanPlay, Explains, HasRead, HasRun, IsPlayed, IsReadable, IsRefused, IsRun, Plays, Reads, ReadsAs, TellsBadLine, WritesLine, printed, printed_by, refusal_line as refusal_line_of};
+ghost use Rattle.nz_top.specs.Calls as calls;
+ghost use Rattle.nz_top.specs.Calls.{CanPlay, Explains, HasRead, HasRun, IsPlayed, IsReadable, IsRefused, IsRun};
+ghost use Rattle.nz_top.specs.Calls.{Plays, Reads, ReadsAs, TellsBadLine, WritesLine, output_of, printed_by};
 ghost use Rattle.nz_top.specs.Moves.{TakesFront};
-ghost use Rattle.nz_top.specs.declared.words.Command.{Command as Commands};
-ghost use Rattle.nz_top.specs.Words.{command_of, reads, IsAlone, IsCalled};
+ghost use Rattle.nz_top.specs.declared.words.Command.{Command as CommandModel};
+ghost use Rattle.nz_top.specs.Words.{command_of_words, reads, IsAlone, IsCalled};
 
 use crate::input::{Stop, read_input};
 use crate::output::write_all;
@@ -45,7 +47,8 @@ fn scenario_of<S: Source>(alloc: Global, source: &mut S) -> Result<Scenario, NoS
     ensures found { IfOk result (ReadsAs (S.left source.old)) }
     ensures playable { IfOk result IsPlayable }
     ensures end { OnOk result (IfSome (S.left source.new) (λ rest. rest ≡ [])) }
-    ensures none { (command : Commands) → IsTrue (reads command) → IfErr result (Explains command (S.left source.old) (S.faults source.old) (S.faults source.new)) }
+    ensures none { (command : CommandModel) → IsTrue (reads command)
+        → IfErr result (Explains command (S.left source.old) (S.faults source.old) (S.faults source.new)) }
     ensures counts { S.faults source.old ≤ S.faults source.new }
 {
     let bytes = match read_input(alloc, source) {
@@ -92,7 +95,7 @@ fn refuse<O: Sink>(out: &mut O, line: &[u8])
 
 /// Reports the bad line of the input.
 fn tell_bad_line<O: Sink>(out: &mut O, line: u32, kind: Kind)
-    ensures line { WritesLine (refusal_line_of line kind) (O.taken out.old) (O.taken out.new) (O.faults out.old) (O.faults out.new) }
+    ensures line { WritesLine (calls.refusal_line line kind) (O.taken out.old) (O.taken out.new) (O.faults out.old) (O.faults out.new) }
     ensures counts { O.faults out.old ≤ O.faults out.new }
 {
     refuse(out, refusal_line(line, kind).as_bytes());
@@ -196,30 +199,37 @@ pub fn nezha<R: Threads + Wait + Sync, S: Source, O: Sink, G: Gate + Sync>(
     gate: &G,
 ) -> Outcome
     // When each answer comes.
-    ensures usage { (result.status ≡ status.Usage) ↔ (command_of words.now ≡ None) }
-    ensures reading { (result.status ≡ status.BadScenario) ⊎ (result.status ≡ status.ReadFault) → Reads (command_of words.now) }
-    ensures refused { Reads (command_of words.now) → ¬ Rose (S.faults source.old) (S.faults source.new) → IsRefused (S.left source.old)
+    ensures usage { (result.status ≡ status.Usage) ↔ (command_of_words words.now ≡ None) }
+    ensures reading { (result.status ≡ status.BadScenario) ⊎ (result.status ≡ status.ReadFault) → Reads (command_of_words words.now) }
+    ensures refused { Reads (command_of_words words.now) → ¬ Rose (S.faults source.old) (S.faults source.new) → IsRefused (S.left source.old)
         → (result.status ≡ status.BadScenario) ⊎ (result.status ≡ status.NoMemory) }
     ensures read_fault { result.status ≡ status.ReadFault → Rose (S.faults source.old) (S.faults source.new) }
     ensures write_fault { result.status ≡ status.WriteFault → Rose (O.faults out.old) (O.faults out.new) }
-    ensures no_memory { result.status ≡ status.NoMemory → IsSome (command_of words.now) }
-    ensures complete { CanPlay (command_of words.now) (S.left source.old) (S.faults source.old) (S.faults source.new) → ¬ Rose (O.faults out.old) (O.faults out.new)
-        → ((result.status ≡ status.Done) × IfSome result.journal (λ journal. Gains (O.taken out.old) (O.taken out.new) (printed (command_of words.now) journal))) ⊎ (result.status ≡ status.NoMemory) }
+    ensures no_memory { result.status ≡ status.NoMemory → IsSome (command_of_words words.now) }
+    ensures complete { CanPlay (command_of_words words.now) (S.left source.old) (S.faults source.old) (S.faults source.new)
+        → ¬ Rose (O.faults out.old) (O.faults out.new)
+        → ((result.status ≡ status.Done)
+        × IfSome result.journal (λ journal. Gains (O.taken out.old) (O.taken out.new)
+        (output_of (command_of_words words.now) journal))) ⊎ (result.status ≡ status.NoMemory) }
 
     // The run, and the scenario that it is a run of.
     ensures run { HasRun result.status result.journal }
-    ensures scenario { IfSome result.journal (λ journal. IfSome (command_of words.now) (λ command. Plays command (S.left source.old) journal.scenario)) }
-    ensures whole_input { OnSome result.journal (IfSome (command_of words.now) (λ command. HasRead command (S.left source.old) (S.left source.new))) }
+    ensures scenario { IfSome result.journal (λ journal. IfSome (command_of_words words.now) (λ command. Plays command (S.left source.old) journal.scenario)) }
+    ensures whole_input { OnSome result.journal (IfSome (command_of_words words.now) (λ command. HasRead command (S.left source.old) (S.left source.new))) }
     ensures world { IfSome result.journal (λ journal. World (group_in journal) (run_in journal)) }
     ensures scheduled { IfSome result.journal (λ journal. Scheduled journal.scenario (run_in journal)) }
-    ensures in_order { IsAlone (command_of words.now) → IfSome result.journal (λ journal. InOrder journal.scenario (run_in journal)) }
-    ensures one_history { IfSome result.journal (λ journal. NoCollision (group_in journal) (run_in journal) → Lin (events (group_in journal) (run_in journal)) (history (group_in journal) (run_in journal))) }
+    ensures in_order { IsAlone (command_of_words words.now) → IfSome result.journal (λ journal. InOrder journal.scenario (run_in journal)) }
+    ensures one_history { IfSome result.journal (λ journal. NoCollision (group_in journal) (run_in journal)
+        → Lin (events (group_in journal) (run_in journal)) (history (group_in journal) (run_in journal))) }
 
     // What is written.
-    ensures usage_line { result.status ≡ status.Usage → WritesLine (codes "refused words\n") (O.taken out.old) (O.taken out.new) (O.faults out.old) (O.faults out.new) }
-    ensures bad_line { result.status ≡ status.BadScenario → TellsBadLine (S.left source.old) (O.taken out.old) (O.taken out.new) (O.faults out.old) (O.faults out.new) }
-    ensures text { result.status ≡ status.Done → IfSome result.journal (λ journal. Gains (O.taken out.old) (O.taken out.new) (printed (command_of words.now) journal)) }
-    ensures front { IfSome result.journal (λ journal. TakesFront (O.taken out.old) (O.taken out.new) (printed (command_of words.now) journal)) }
+    ensures usage_line { result.status ≡ status.Usage
+        → WritesLine (codes "refused words\n") (O.taken out.old) (O.taken out.new) (O.faults out.old) (O.faults out.new) }
+    ensures bad_line { result.status ≡ status.BadScenario
+        → TellsBadLine (S.left source.old) (O.taken out.old) (O.taken out.new) (O.faults out.old) (O.faults out.new) }
+    ensures text { result.status ≡ status.Done
+        → IfSome result.journal (λ journal. Gains (O.taken out.old) (O.taken out.new) (output_of (command_of_words words.now) journal)) }
+    ensures front { IfSome result.journal (λ journal. TakesFront (O.taken out.old) (O.taken out.new) (output_of (command_of_words words.now) journal)) }
     ensures unwritten { (result.status ≡ status.ReadFault) ⊎ (result.status ≡ status.NoMemory) → O.taken out.new ≡ O.taken out.old }
     ensures counts { (S.faults source.old ≤ S.faults source.new) × (O.faults out.old ≤ O.faults out.new) }
 {

@@ -1,6 +1,7 @@
 //! The words of a call.
 ghost use Rattle.std.specs.Prelude.{◌≡◌, ◌<◌, ◌≤◌, IfOk, IfSome, map};
-ghost use Rattle.nz_top.specs.Words.{up_to as up_to_of, workers_in as workers_in_of, workers_at as workers_at_of, named as named_of, played as played_of, drawn as drawn_of, of_three as of_three_of, workers_of, command_of, IsCalled};
+ghost use Rattle.nz_top.specs.Words as words_words;
+ghost use Rattle.nz_top.specs.Words.{up_to, command_named, play_command, gen_command, workers_of, command_of_words, IsCalled};
 
 use nz_base::{Blob, List, NoMemory};
 use nz_script::number_of;
@@ -48,7 +49,7 @@ impl Model for Words {
 }
 
 fn workers_in(numeral: &[u8]) -> Option<u8>
-    ensures value { result ≡ workers_in_of numeral.now }
+    ensures value { result ≡ words_words.workers_in numeral.now }
     ensures some { IfSome result (λ workers. 1 ≤ workers) }
     ensures few { IfSome result (λ workers. workers ≤ 16) }
 {
@@ -59,7 +60,7 @@ fn workers_in(numeral: &[u8]) -> Option<u8>
 }
 
 fn workers_at(word: &[u8]) -> Option<u8>
-    ensures value { result ≡ workers_at_of word.now }
+    ensures value { result ≡ words_words.workers_at word.now }
     ensures some { IfSome result (λ workers. 1 ≤ workers) }
     ensures few { IfSome result (λ workers. workers ≤ 16) }
 {
@@ -71,7 +72,7 @@ fn workers_at(word: &[u8]) -> Option<u8>
 
 fn named(word: &[u8], workers: u8) -> Option<Command>
     requires { (1 ≤ workers) × (workers ≤ 16) }
-    ensures value { result ≡ named_of word.now workers }
+    ensures value { result ≡ command_named word.now workers }
     ensures called { IfSome result IsCalled }
 {
     if word == b"run".as_slice() {
@@ -85,7 +86,7 @@ fn named(word: &[u8], workers: u8) -> Option<Command>
 
 fn played(word: &[u8], workers: Option<u8>) -> Option<Command>
     requires { IfSome workers (λ n. (1 ≤ n) × (n ≤ 16)) }
-    ensures value { result ≡ played_of word.now workers }
+    ensures value { result ≡ play_command word.now workers }
     ensures called { IfSome result IsCalled }
 {
     match workers {
@@ -95,7 +96,7 @@ fn played(word: &[u8], workers: Option<u8>) -> Option<Command>
 }
 
 fn counted(number: Option<u64>) -> Option<u32>
-    ensures value { result ≡ up_to_of 2000 number }
+    ensures value { result ≡ up_to 2000 number }
     ensures some { IfSome result (λ count. 1 ≤ count) }
     ensures few { IfSome result (λ count. count ≤ 2000) }
 {
@@ -107,7 +108,7 @@ fn counted(number: Option<u64>) -> Option<u32>
 
 fn drawn(seed: Option<u64>, count: Option<u32>) -> Option<Command>
     requires { IfSome count (λ n. (1 ≤ n) × (n ≤ 2000)) }
-    ensures value { result ≡ drawn_of seed count }
+    ensures value { result ≡ gen_command seed count }
     ensures called { IfSome result IsCalled }
 {
     match (seed, count) {
@@ -117,7 +118,7 @@ fn drawn(seed: Option<u64>, count: Option<u32>) -> Option<Command>
 }
 
 fn of_three(word: &[u8], second: &[u8], third: &[u8]) -> Option<Command>
-    ensures value { result ≡ of_three_of word.now second.now third.now }
+    ensures value { result ≡ words_words.of_three word.now second.now third.now }
     ensures called { IfSome result IsCalled }
 {
     if word == b"gen".as_slice() {
@@ -142,7 +143,7 @@ impl Words {
 
     /// The command that the words call, if they call one.
     pub fn command(&self) -> Option<Command>
-        ensures value { result ≡ command_of self.now }
+        ensures value { result ≡ command_of_words self.now }
         ensures called { IfSome result IsCalled }
     {
         match self.words.as_slice() {

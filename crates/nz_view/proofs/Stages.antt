@@ -26,7 +26,8 @@ later_view f me view s low =
     ]
 
 -- who leads the view leads it then
-pub leads_later : (old new : ReplicaModel) (before after : List Parcel) (view : ℕ) → Does old new before after (enter_later old.f old.me view old.state) → old.state.view ≤ view
+pub leads_later : (old new : ReplicaModel) (before after : List Parcel) (view : ℕ)
+    → Does old new before after (enter_later old.f old.me view old.state) → old.state.view ≤ view
     → leader_of old.f view ≡ old.me → leads new.f new.me new.state ≡ true
 leads_later old new before after view done low own =
     ap (λ (m : ReplicaModel). leads m.f m.me m.state) done.state
@@ -35,8 +36,10 @@ leads_later old new before after view done low own =
 
 -- ---- a view that starts
 
-pub starts : (old mid new : ReplicaModel) (sender : ℕ) (b : StartViewBody) → may_start old.state b.view ≡ true → sender ≡ leader_of old.f b.view → is_stray b.vector sender old.state.vector ≡ false
-    → mid ≡ record old { state = with_vector old.me old.state b.vector } → new ≡ record mid { state = after_start mid.state b } → DoesSilently old new (start_view_rule old.f old.me old.state sender b)
+pub starts : (old mid new : ReplicaModel) (sender : ℕ) (b : StartViewBody) → may_start old.state b.view ≡ true
+    → sender ≡ leader_of old.f b.view → is_stray b.vector sender old.state.vector ≡ false
+    → mid ≡ record old { state = with_vector old.me old.state b.vector }
+    → new ≡ record mid { state = after_start mid.state b } → DoesSilently old new (start_view_rule old.f old.me old.state sender b)
 unfolding start_view_rule
 starts old mid new sender b may from fresh one two =
     let s = old.state in
@@ -46,6 +49,8 @@ starts old mid new sender b may from fresh one two =
     ap (λ (x : Bool). cond x (unless_stray old.me s sender b.vector (λ t. (after_start t b, []))) (s, [])) both
     ∙ ap (λ (x : Bool). cond x (s, []) end) fresh in
     record {
-      state = two ∙ ap (λ (m : ReplicaModel). record m { state = after_start m.state b }) one ∙ ap (λ (u : ReplicaData × List Out). record old { state = u.0 }) (sym rule);
+      state =
+          two ∙ ap (λ (m : ReplicaModel). record m { state = after_start m.state b }) one
+          ∙ ap (λ (u : ReplicaData × List Out). record old { state = u.0 }) (sym rule);
       silent = ap (λ (u : ReplicaData × List Out). u.1) rule;
     }

@@ -3,12 +3,13 @@
 ghost use Rattle.std.specs.Prelude.{◌≡◌, ◌≢◌, ◌≤◌, ◌<◌, ◌==◌, length, IsTrue, IsFalse, OnOk};
 ghost use Rattle.nz_base.specs.Actor.{HasAddress};
 ghost use Rattle.nz_base.specs.Cluster.{replica_count, leader_of};
-ghost use Rattle.nz_base.specs.declared.actor.Actor.TheVariants.{Replica as IsReplica};
+ghost use Rattle.nz_base.specs.declared.actor.Actor.TheVariants as actors;
 ghost use Rattle.nz_msg.specs.Messages.{view_change};
 ghost use Rattle.nz_msg.specs.declared.message.Message.TheVariants.{ViewChange};
 ghost use Rattle.nz_machine.specs.Replicas.{is_changing, is_up, leads, ◌and_then◌};
-ghost use Rattle.nz_machine.specs.Views.{enter_later as enter_later_of};
-ghost use Rattle.nz_machine.specs.Begins.{begin as begin_of, collect as collect_of, hear_report as hear_report_of, may_lead as may_lead_of, view_change_rule};
+ghost use Rattle.nz_machine.specs.Views as views;
+ghost use Rattle.nz_machine.specs.Begins as begins;
+ghost use Rattle.nz_machine.specs.Begins.{view_change_rule};
 ghost use Rattle.nz_machine.specs.Does.{Does};
 ghost use Rattle.nz_machine.specs.Step.{replica_message, is_in_cluster};
 
@@ -22,7 +23,7 @@ use nz_msg::ViewChangeBody;
 fn begin(state: &mut ReplicaState, sends: &mut Sends) -> Result<(), NoMemory>
     requires changing { IsTrue (is_changing state.old.state.status) }
     requires leads { IsTrue (leads state.old.f state.old.me state.old.state) }
-    ensures { let s = state.old in OnOk result (Does s state.new sends.old sends.new (begin_of s.f s.me s.state)) }
+    ensures { let s = state.old in OnOk result (Does s state.new sends.old sends.new (begins.begin s.f s.me s.state)) }
 {
     if !state.begin()? {
         return Ok(());
@@ -44,7 +45,7 @@ fn collect(
     requires fits { view_change.fits body.now }
     requires changing { IsTrue (is_changing state.old.state.status) }
     requires leads { IsTrue (leads state.old.f state.old.me state.old.state) }
-    ensures { let s = state.old in OnOk result (Does s state.new sends.old sends.new (collect_of s.f s.me sender body.now s.state)) }
+    ensures { let s = state.old in OnOk result (Does s state.new sends.old sends.new (begins.collect s.f s.me sender body.now s.state)) }
 {
     if state.collect(sender, body)? != usize::from(state.cluster().f()) {
         return Ok(());
@@ -65,7 +66,7 @@ fn hear_report(
     requires vector { length body.now.vector ≡ replica_count state.old.f }
     requires fits { view_change.fits body.now }
     requires leads { IsTrue (leads state.old.f state.old.me state.old.state) }
-    ensures { let s = state.old in OnOk result (Does s state.new sends.old sends.new (hear_report_of s.f s.me sender body.now s.state)) }
+    ensures { let s = state.old in OnOk result (Does s state.new sends.old sends.new (begins.hear_report s.f s.me sender body.now s.state)) }
 {
     if state.is_changing() {
         return collect(state, sender, body, sends);
@@ -89,7 +90,9 @@ fn take_report(
     requires up { IsTrue (is_up state.old.state.status) }
     requires low { state.old.state.view ≤ body.now.view }
     requires leads { leader_of state.old.f body.now.view ≡ state.old.me }
-    ensures { let s = state.old in OnOk result (Does s state.new sends.old sends.new (enter_later_of s.f s.me body.now.view s.state and_then hear_report_of s.f s.me sender body.now)) }
+    ensures { let s = state.old in
+        OnOk result (Does s state.new sends.old sends.new
+        (views.enter_later s.f s.me body.now.view s.state and_then begins.hear_report s.f s.me sender body.now)) }
 {
     enter_later(state, body.view, sends)?;
     hear_report(state, sender, body, sends)
@@ -97,7 +100,7 @@ fn take_report(
 
 /// Whether the replica leads the view, and the view is its own or a later one.
 fn may_lead(state: &ReplicaState, view: u64) -> bool
-    ensures { result ≡ may_lead_of state.now.f state.now.me state.now.state view }
+    ensures { result ≡ begins.may_lead state.now.f state.now.me state.now.state view }
 {
     state.is_up()
         && Actor::Replica(state.cluster().leader(view)).is(&state.name())
@@ -136,7 +139,7 @@ pub fn on_view_change(
 ) -> Result<(), NoMemory>
     requires from { HasAddress from }
     requires member { IsTrue (is_in_cluster state.old.f from) }
-    requires other { from ≢ IsReplica state.old.me }
+    requires other { from ≢ actors.Replica state.old.me }
     requires vector { length body.now.vector ≡ replica_count state.old.f }
     requires fits { view_change.fits body.now }
     ensures { let s = state.old in OnOk result (Does s state.new sends.old sends.new (replica_message s.f s.me s.state from (ViewChange body.now))) }

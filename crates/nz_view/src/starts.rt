@@ -2,12 +2,14 @@
 
 ghost use Rattle.std.specs.Prelude.{◌≡◌, ◌≢◌, ◌<◌, ◌==◌, length, IsTrue, IsFalse, OnOk};
 ghost use Rattle.nz_base.specs.Cluster.{replica_count, leader_of};
-ghost use Rattle.nz_base.specs.declared.actor.Actor.TheVariants.{Replica as IsReplica};
-ghost use Rattle.nz_msg.specs.Fields.{view as view_field};
+ghost use Rattle.nz_base.specs.declared.actor.Actor.TheVariants as actors;
+ghost use Rattle.nz_msg.specs.Fields as fields;
 ghost use Rattle.nz_msg.specs.Messages.{view_ask, start_view};
 ghost use Rattle.nz_msg.specs.declared.message.Message.TheVariants.{ViewAsk, StartView};
-ghost use Rattle.nz_machine.specs.Views.{enter_later as enter_later_of, view_ask_rule};
-ghost use Rattle.nz_machine.specs.Adopting.{may_start as may_start_of, start_view_rule, after_start};
+ghost use Rattle.nz_machine.specs.Views as views;
+ghost use Rattle.nz_machine.specs.Views.{view_ask_rule};
+ghost use Rattle.nz_machine.specs.Adopting as adopting;
+ghost use Rattle.nz_machine.specs.Adopting.{start_view_rule, after_start};
 ghost use Rattle.nz_machine.specs.Does.{Does, DoesSilently};
 ghost use Rattle.nz_machine.specs.Step.{replica_message, is_in_cluster};
 
@@ -17,8 +19,8 @@ use nz_msg::{StartViewBody, ViewAskBody};
 
 /// The view is entered where it is later than the replica's own.
 pub fn enter_later(state: &mut ReplicaState, view: u64, sends: &mut Sends) -> Result<(), NoMemory>
-    requires { view_field.fits view }
-    ensures { let s = state.old in OnOk result (Does s state.new sends.old sends.new (enter_later_of s.f s.me view s.state)) }
+    requires { fields.view.fits view }
+    ensures { let s = state.old in OnOk result (Does s state.new sends.old sends.new (views.enter_later s.f s.me view s.state)) }
 {
     if view <= state.view() {
         return Ok(());
@@ -55,7 +57,7 @@ pub fn on_view_ask(
 
 /// Whether a view may start here: a later one, or the one of the view change.
 fn may_start(state: &ReplicaState, view: u64) -> bool
-    ensures { result ≡ may_start_of state.now.state view }
+    ensures { result ≡ adopting.may_start state.now.state view }
 {
     state.is_up() && (state.view() < view || view == state.view() && state.is_changing())
 }
@@ -97,7 +99,7 @@ pub fn on_start_view(
     body: &StartViewBody,
 ) -> Result<(), NoMemory>
     requires member { IsTrue (is_in_cluster state.old.f from) }
-    requires other { from ≢ IsReplica state.old.me }
+    requires other { from ≢ actors.Replica state.old.me }
     requires vector { length body.now.vector ≡ replica_count state.old.f }
     requires fits { start_view.fits body.now }
     ensures { let s = state.old in OnOk result (DoesSilently s state.new (replica_message s.f s.me s.state from (StartView body.now))) }

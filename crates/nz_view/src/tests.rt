@@ -2,9 +2,9 @@
 
 ghost use Rattle.std.specs.Prelude.{◌≡◌, ◌≢◌, ◌&&◌, IsTrue};
 ghost use Rattle.nz_base.specs.Actor.{HasAddress};
-ghost use Rattle.nz_base.specs.declared.actor.Actor.TheVariants.{Replica as IsReplica};
+ghost use Rattle.nz_base.specs.declared.actor.Actor.TheVariants as actors;
 ghost use Rattle.nz_msg.specs.Messages.{Fits};
-ghost use Rattle.nz_machine.specs.Step.{is_in_cluster, is_sized, vector_of};
+ghost use Rattle.nz_machine.specs.Step.{is_in_cluster, is_sized, message_vector};
 
 mod long;
 
@@ -59,9 +59,9 @@ fn handle(
     sends: &mut Sends,
 ) -> Result<(), NoMemory>
     requires from { HasAddress from }
-    requires other { from ≢ IsReplica state.old.me }
+    requires other { from ≢ actors.Replica state.old.me }
     requires fits { Fits message.now }
-    requires counted { IsTrue (is_in_cluster state.old.f from && is_sized state.old.f (vector_of message.now)) }
+    requires counted { IsTrue (is_in_cluster state.old.f from && is_sized state.old.f (message_vector message.now)) }
 {
     match message {
         Message::ViewAsk(body) => on_view_ask(state, from, body, sends),

@@ -2,7 +2,8 @@
 
 ghost use Rattle.std.specs.Prelude.{◌≡◌, IsTrue, OnOk};
 ghost use Rattle.nz_machine.specs.Replicas.{is_changing, is_normal};
-ghost use Rattle.nz_machine.specs.Views.{enter_next as enter_next_of, quiet_timer as quiet_timer_of, change_timer as change_timer_of, alarm_rule};
+ghost use Rattle.nz_machine.specs.Views as views;
+ghost use Rattle.nz_machine.specs.Views.{alarm_rule};
 ghost use Rattle.nz_machine.specs.Does.{Does};
 
 use nz_base::NoMemory;
@@ -13,7 +14,7 @@ const ASK_PERIOD: u8 = 5;
 
 /// The next view is entered, where there is one.
 fn enter_next(state: &mut ReplicaState, sends: &mut Sends) -> Result<(), NoMemory>
-    ensures { let s = state.old in OnOk result (Does s state.new sends.old sends.new (enter_next_of s.f s.me s.state)) }
+    ensures { let s = state.old in OnOk result (Does s state.new sends.old sends.new (views.enter_next s.f s.me s.state)) }
 {
     if !state.has_next_view() {
         return Ok(());
@@ -25,7 +26,7 @@ fn enter_next(state: &mut ReplicaState, sends: &mut Sends) -> Result<(), NoMemor
 /// A follower in normal operation counts the ticks since it heard from its leader.
 pub fn quiet_timer(state: &mut ReplicaState, sends: &mut Sends) -> Result<(), NoMemory>
     requires { IsTrue (is_normal state.old.state.status) }
-    ensures { let s = state.old in OnOk result (Does s state.new sends.old sends.new (quiet_timer_of s.f s.me s.state)) }
+    ensures { let s = state.old in OnOk result (Does s state.new sends.old sends.new (views.quiet_timer s.f s.me s.state)) }
 {
     if state.count_quiet() {
         return enter_next(state, sends);
@@ -37,7 +38,7 @@ pub fn quiet_timer(state: &mut ReplicaState, sends: &mut Sends) -> Result<(), No
 /// the way the replica asks again now and then.
 pub fn change_timer(state: &mut ReplicaState, sends: &mut Sends) -> Result<(), NoMemory>
     requires { IsTrue (is_changing state.old.state.status) }
-    ensures { let s = state.old in OnOk result (Does s state.new sends.old sends.new (change_timer_of s.f s.me s.state)) }
+    ensures { let s = state.old in OnOk result (Does s state.new sends.old sends.new (views.change_timer s.f s.me s.state)) }
 {
     let since = state.count_changing();
     if since == MOST_QUIET {

@@ -1,6 +1,6 @@
 -- The definitions at samples worked by hand.
 use Rattle.std.proofs.Common.{◌≡◌, [], ◌∷◌, refl}
-use Rattle.nz_window.specs.Samples.{sampled, median, bound_of}
+use Rattle.nz_window.specs.Samples.{with_sample, median, bound_of}
 
 pub median_of_three : median (40 ∷ 10 ∷ 30 ∷ []) ≡ 30
 median_of_three = refl
@@ -15,5 +15,5 @@ greatest_of_three = refl
 pub one_without_samples : bound_of ((40 ∷ []) ∷ [] ∷ (60 ∷ []) ∷ []) ≡ 10000
 one_without_samples = refl
 
-pub second_replica_sampled : sampled ([] ∷ (7 ∷ []) ∷ []) 1 50000 ≡ [] ∷ (7 ∷ 10000 ∷ []) ∷ []
+pub second_replica_sampled : with_sample ([] ∷ (7 ∷ []) ∷ []) 1 50000 ≡ [] ∷ (7 ∷ 10000 ∷ []) ∷ []
 second_replica_sampled = refl

@@ -1,10 +1,11 @@
 -- A sample pushed among 32 that are kept.
 use Rattle.std.proofs.Common.{◌≡◌, ℕ, ◌-◌, ◌<◌, ◌≤◌, List, [], ◌∷◌, ◌++◌, min, take, drop, set, replicate, length, get_or, arith, sym, ◌∙◌, ap, ⊎_elim}
 use Rattle.std.proofs.lemmas.Bool.{cases_lt}
-use Rattle.std.proofs.lemmas.List.{get_or-replicate, get_or_past, length-replicate, set_at, take_all, length-append, length-take-le, get_or-take, get_or_default}
+use Rattle.std.proofs.lemmas.List.{get_or-replicate, get_or_past, length-replicate, set_at, take_all}
+use Rattle.std.proofs.lemmas.List.{length-append, length-take-le, get_or-take, get_or_default}
 use Rattle.std.proofs.Math.Seq.{take-set-lt}
 use Rattle.nz_window.specs.Layout.{IsLaidOut}
-use Rattle.nz_window.specs.Samples.{last_32, sampled}
+use Rattle.nz_window.specs.Samples.{last_32, with_sample}
 
 pub get_or-zeros : (n k : ℕ) → get_or (replicate {A = ℕ} n 0) k 0 ≡ 0
 get_or-zeros n k = ⊎_elim (λ (h : k < n). get_or-replicate n k 0 0 h)
@@ -24,9 +25,10 @@ pushed-full (oldest ∷ others) turned old count delay laid_out full shows turn 
     ∙ ap (λ (n : ℕ). drop n (oldest ∷ (others ++ delay ∷ []))) (let one : length (oldest ∷ (others ++ delay ∷ [])) - 32 ≡ 1 = omega arith in one))
 
 -- a sample pushed to one of the replicas in use
-pub take-sampled : (replicas window : List (List ℕ)) (size replica delay clamped : ℕ) (was pushed : List ℕ) → take size replicas ≡ window → size ≤ length replicas
+pub take-sampled : (replicas window : List (List ℕ)) (size replica delay clamped : ℕ) (was pushed : List ℕ)
+    → take size replicas ≡ window → size ≤ length replicas
     → replica < length window → clamped ≡ min delay 10000 → pushed ≡ last_32 (get_or replicas replica was ++ clamped ∷ [])
-    → take size (set replicas replica pushed) ≡ sampled window replica delay
+    → take size (set replicas replica pushed) ≡ with_sample window replica delay
 take-sampled replicas window size replica delay clamped was pushed shows most within is_clamped is_pushed =
     let shown : length (take size replicas) ≡ size = length-take-le size replicas most in
     let long : length (take size replicas) ≡ length window = ap length shows in

@@ -25,8 +25,10 @@ pub with_zeros-take : (places : List ℕ) (count : ℕ) → IsLaidOut places cou
 with_zeros-take places count laid_out =
     let shown : length (take count places) ≡ count = length-samples places count laid_out in
     ext_get_or 0 (with_zeros (take count places)) places (grind (arith, common_steps)) (λ i h. ⊎_elim
-    (λ (below : i < count). rw (get_or_append_left (take count places) (replicate (32 - length (take count places)) 0) 0 i (omega arith)) (get_or-take count places i 0 below))
-    (λ (above : count ≤ i). rw (get_or-append_right (take count places) (replicate (32 - length (take count places)) 0) count i 0 shown above) (grind (arith, common_steps, laid_out.zeros i above)))
+    (λ (below : i < count). rw (get_or_append_left (take count places)
+    (replicate (32 - length (take count places)) 0) 0 i (omega arith)) (get_or-take count places i 0 below))
+    (λ (above : count ≤ i). rw (get_or-append_right (take count places)
+    (replicate (32 - length (take count places)) 0) count i 0 shown above) (grind (arith, common_steps, laid_out.zeros i above)))
     (cases_lt i count))
 
 -- Nine replicas, of which the first are in use.

@@ -2,7 +2,7 @@
 #![tactic(auto)]
 
 ghost use Rattle.std.specs.Prelude.{◌≡◌, ℕ, ◌<◌, ◌≤◌, length, replicate, []};
-ghost use Rattle.nz_window.specs.Samples.{sampled, bound_of};
+ghost use Rattle.nz_window.specs.Samples.{with_sample, bound_of};
 
 pub mod laws;
 mod recent;
@@ -50,7 +50,7 @@ impl Window {
     /// Takes in one delay, in clock units, measured to the replica with this number.
     pub fn sample(&mut self, replica: u8, delay: u32)
         requires { replica < length self.old }
-        ensures { self.new ≡ sampled self.old replica delay }
+        ensures { self.new ≡ with_sample self.old replica delay }
     {
         self.replicas[replica as usize].push(delay.min(MOST_DELAY));
     }

@@ -26,7 +26,10 @@ impl Model for Recent {
 
     ghost inverse = { λ samples. record { samples = with_zeros samples; count = length samples } };
 
-    ghost inverse_ok = { λ r laid_out. λ i. record { samples = with_zeros-take r.samples r.count laid_out i; count = length-samples r.samples r.count laid_out i } };
+    ghost inverse_ok = { λ r laid_out. λ i. record {
+      samples = with_zeros-take r.samples r.count laid_out i;
+      count = length-samples r.samples r.count laid_out i;
+    } };
 }
 
 impl Recent {

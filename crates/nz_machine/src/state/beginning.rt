@@ -6,7 +6,8 @@ ghost use Rattle.nz_merge.specs.Merged.{AreFit, merged};
 ghost use Rattle.nz_msg.specs.Messages.{view_change};
 ghost use Rattle.nz_machine.specs.Facts.{IsCarried};
 ghost use Rattle.nz_machine.specs.Replicas.{most_entries};
-ghost use Rattle.nz_machine.specs.Begins.{with_report, without_strays, changes_of, after_begin, begin as begin_of};
+ghost use Rattle.nz_machine.specs.Begins as begins;
+ghost use Rattle.nz_machine.specs.Begins.{with_report, without_strays, changes_of, after_begin};
 
 use super::super::collecting::{
     adopt, all_changes, clear_reports, drop_stray_reports, execute_all, greatest_commit,
@@ -99,7 +100,7 @@ impl ReplicaState {
 
     /// The leader begins its view with the merged log. Whether a log has room for it.
     pub fn begin(&mut self) -> Result<bool, NoMemory>
-        ensures state { OnOk result (self.new ≡ record self.old { state = (begin_of self.old.f self.old.me self.old.state).0 }) }
+        ensures state { OnOk result (self.new ≡ record self.old { state = (begins.begin self.old.f self.old.me self.old.state).0 }) }
         ensures begun { IfOk result (λ begun. begun ≡ not (nat_lt most_entries (length (merged self.old.f (changes_of self.old.me self.old.state))))) }
     {
         let changes = self.changes()?;

@@ -1,14 +1,14 @@
 //! The messages by which replicas change views and rejoin, and how they are sent.
 
 ghost use Rattle.std.specs.Prelude.{◌≡◌, ◌≤◌, ◌++◌, map, IfOk, OnOk};
-ghost use Rattle.nz_base.specs.declared.actor.Actor.TheVariants.{Replica as IsReplica};
+ghost use Rattle.nz_base.specs.declared.actor.Actor.TheVariants as actors;
 ghost use Rattle.nz_msg.specs.Messages.{Fits};
 ghost use Rattle.nz_msg.specs.declared.message.Message.TheVariants.{VectorTell};
 ghost use Rattle.nz_machine.specs.Step.{parcel};
 ghost use Rattle.nz_machine.specs.Replicas.{to_others, to_replica};
-ghost use Rattle.nz_machine.specs.Views.{view_ask as view_ask_of, view_change as view_change_of, view_calls};
-ghost use Rattle.nz_machine.specs.Adopting.{start_view as start_view_of};
-ghost use Rattle.nz_machine.specs.Rejoining.{vector_ask as vector_ask_of, rejoin_ask as rejoin_ask_of, rejoin_tell as rejoin_tell_of, state_ask as state_ask_of, state_tell as state_tell_of};
+ghost use Rattle.nz_machine.specs.Views.{view_ask_message, view_change_message, view_calls};
+ghost use Rattle.nz_machine.specs.Adopting.{start_view_message};
+ghost use Rattle.nz_machine.specs.Rejoining.{vector_ask_message, rejoin_ask_message, rejoin_tell_message, state_ask_message, state_tell_message};
 
 use super::super::event::Sends;
 use super::super::sending::send;
@@ -24,7 +24,7 @@ impl ReplicaState {
     pub fn send_to(&self, replica: u8, message: &Message, sends: &mut Sends) -> Result<(), NoMemory>
         requires replica { replica ≤ 8 }
         requires message { Fits message.now }
-        ensures { OnOk result (sends.new ≡ sends.old ++ map (parcel (IsReplica self.now.me)) (to_replica replica message.now)) }
+        ensures { OnOk result (sends.new ≡ sends.old ++ map (parcel (actors.Replica self.now.me)) (to_replica replica message.now)) }
     {
         let to = Actor::Replica(replica);
         send(self.allocator(), self.name(), to, message, sends)
@@ -33,7 +33,7 @@ impl ReplicaState {
     /// Sends the message to each of the others.
     pub fn send_to_others(&self, message: &Message, sends: &mut Sends) -> Result<(), NoMemory>
         requires { Fits message.now }
-        ensures { OnOk result (sends.new ≡ sends.old ++ map (parcel (IsReplica self.now.me)) (to_others self.now.f self.now.me message.now)) }
+        ensures { OnOk result (sends.new ≡ sends.old ++ map (parcel (actors.Replica self.now.me)) (to_others self.now.f self.now.me message.now)) }
     {
         // f is at most 4, so each number is at most 8.
         let _most = self.parts.cluster.f();
@@ -47,7 +47,7 @@ impl ReplicaState {
 
     /// The others are asked to enter the view.
     pub fn view_ask(&self) -> Message
-        ensures value { result ≡ view_ask_of self.now.state }
+        ensures value { result ≡ view_ask_message self.now.state }
         ensures fits { Fits result }
     {
         Message::ViewAsk(ViewAskBody { view: self.view() })
@@ -55,7 +55,7 @@ impl ReplicaState {
 
     /// What the replica reports to the leader of its view.
     pub fn view_change(&self) -> Result<Message, NoMemory>
-        ensures value { IfOk result (λ message. message ≡ view_change_of self.now.state) }
+        ensures value { IfOk result (λ message. message ≡ view_change_message self.now.state) }
         ensures fits { IfOk result Fits }
     {
         Ok(Message::ViewChange(ViewChangeBody {
@@ -70,7 +70,7 @@ impl ReplicaState {
 
     /// The others are asked to enter the view, and its leader, if another, gets the report.
     pub fn call_for_view(&self, sends: &mut Sends) -> Result<(), NoMemory>
-        ensures { OnOk result (sends.new ≡ sends.old ++ map (parcel (IsReplica self.now.me)) (view_calls self.now.f self.now.me self.now.state)) }
+        ensures { OnOk result (sends.new ≡ sends.old ++ map (parcel (actors.Replica self.now.me)) (view_calls self.now.f self.now.me self.now.state)) }
     {
         self.send_to_others(&self.view_ask(), sends)?;
         if self.leads() {
@@ -84,7 +84,7 @@ impl ReplicaState {
 
     /// What the leader of a view sends to start it.
     pub fn start_view(&self) -> Result<Message, NoMemory>
-        ensures value { IfOk result (λ message. message ≡ start_view_of self.now.state) }
+        ensures value { IfOk result (λ message. message ≡ start_view_message self.now.state) }
         ensures fits { IfOk result Fits }
     {
         Ok(Message::StartView(StartViewBody {
@@ -97,7 +97,7 @@ impl ReplicaState {
 
     /// In the first phase of a rejoin the others are asked for their vectors.
     pub fn vector_ask(&self) -> Message
-        ensures value { result ≡ vector_ask_of self.now.state }
+        ensures value { result ≡ vector_ask_message self.now.state }
         ensures fits { Fits result }
     {
         Message::VectorAsk(VectorAskBody {
@@ -118,7 +118,7 @@ impl ReplicaState {
 
     /// In the second phase of a rejoin the others are asked for their views. They get the new counter with it.
     pub fn rejoin_ask(&self) -> Message
-        ensures value { result ≡ rejoin_ask_of self.now.state }
+        ensures value { result ≡ rejoin_ask_message self.now.state }
         ensures fits { Fits result }
     {
         Message::RejoinAsk(RejoinAskBody {
@@ -129,7 +129,7 @@ impl ReplicaState {
 
     /// The answer to a rejoin-ask, with its nonce.
     pub fn rejoin_tell(&self, nonce: u64) -> Message
-        ensures value { result ≡ rejoin_tell_of self.now.state nonce }
+        ensures value { result ≡ rejoin_tell_message self.now.state nonce }
         ensures fits { Fits result }
     {
         Message::RejoinTell(RejoinTellBody {
@@ -141,7 +141,7 @@ impl ReplicaState {
 
     /// In the third phase of a rejoin the leader of the wanted view is asked.
     pub fn state_ask(&self) -> Message
-        ensures value { result ≡ state_ask_of self.now.state }
+        ensures value { result ≡ state_ask_message self.now.state }
         ensures fits { Fits result }
     {
         Message::StateAsk(StateAskBody {
@@ -153,7 +153,7 @@ impl ReplicaState {
 
     /// The answer to a state-ask, with its nonce.
     pub fn state_tell(&self, nonce: u64) -> Result<Message, NoMemory>
-        ensures value { IfOk result (λ message. message ≡ state_tell_of self.now.state nonce) }
+        ensures value { IfOk result (λ message. message ≡ state_tell_message self.now.state nonce) }
         ensures fits { IfOk result Fits }
     {
         Ok(Message::StateTell(StateTellBody {

@@ -6,7 +6,9 @@ ghost use Rattle.nz_base.specs.Cluster.{replica_count};
 ghost use Rattle.nz_msg.specs.Messages.{rejoin_tell};
 ghost use Rattle.nz_machine.specs.Parts.{since_counted};
 ghost use Rattle.nz_machine.specs.Replicas.{last_view, crashed_replica, is_rejoining};
-ghost use Rattle.nz_machine.specs.Rejoining.{rejoin_period, last_counter, restarted_replica, awaits as awaits_in, with_teller, with_new_counter, with_tell, with_tells, latest_view as latest_view_of, ask_views, ask_log};
+ghost use Rattle.nz_machine.specs.Rejoining as rejoining;
+ghost use Rattle.nz_machine.specs.Rejoining.{rejoin_period, last_counter, restarted_replica, with_teller};
+ghost use Rattle.nz_machine.specs.Rejoining.{with_new_counter, with_tell, with_tells, ask_views, ask_log};
 
 use super::super::collecting::{latest, note_teller, with_told};
 use super::super::data::{Phase, Status, ToldView};
@@ -51,7 +53,7 @@ impl ReplicaState {
 
     /// Whether the replica rejoins, is in this phase, and gave this nonce.
     pub fn awaits(&self, phase: Phase, nonce: u64) -> bool
-        ensures { result ≡ awaits_in phase self.now.state nonce }
+        ensures { result ≡ rejoining.awaits phase self.now.state nonce }
     {
         self.is_rejoining() && self.parts.rejoin.phase == phase && nonce == self.parts.rejoin.nonce
     }
@@ -128,7 +130,7 @@ impl ReplicaState {
 
     /// The latest view that was told.
     pub fn latest_view(&self) -> u64
-        ensures value { result ≡ latest_view_of self.now.state }
+        ensures value { result ≡ rejoining.latest_view self.now.state }
         ensures last { result ≤ last_view }
     {
         latest(self.parts.rejoin.tells.as_slice())

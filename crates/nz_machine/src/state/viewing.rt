@@ -7,7 +7,8 @@ ghost use Rattle.nz_machine.specs.Does.{Does};
 ghost use Rattle.nz_machine.specs.Parts.{since_counted};
 ghost use Rattle.nz_machine.specs.Replicas.{last_view, is_changing};
 ghost use Rattle.nz_machine.specs.LogMods.{after_hearing};
-ghost use Rattle.nz_machine.specs.Views.{most_quiet, in_view_change, enter_view as enter_view_of};
+ghost use Rattle.nz_machine.specs.Views as views;
+ghost use Rattle.nz_machine.specs.Views.{most_quiet, in_view_change};
 ghost use Rattle.nz_machine.specs.Adopting.{normal_in};
 
 use super::super::collecting::adopt;
@@ -74,7 +75,7 @@ impl ReplicaState {
     pub fn enter_view(&mut self, view: u64, sends: &mut Sends) -> Result<(), NoMemory>
         requires later { self.old.state.view ≤ view }
         requires last { view ≤ last_view }
-        ensures { let s = self.old in OnOk result (Does s self.new sends.old sends.new (enter_view_of s.f s.me view s.state)) }
+        ensures { let s = self.old in OnOk result (Does s self.new sends.old sends.new (views.enter_view s.f s.me view s.state)) }
     {
         self.enter(view);
         self.call_for_view(sends)

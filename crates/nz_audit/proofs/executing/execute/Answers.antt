@@ -4,8 +4,8 @@ use Rattle.nz_base.specs.declared.key.Entry.{Entry}
 use Rattle.nz_store.specs.Entries.{Entries}
 use Rattle.nz_store.specs.Sequence.{store_after, apply_bytes}
 use Rattle.nz_machine.specs.Replicas.{commands}
-use Rattle.nz_machine.specs.Journals.{executed}
-use Rattle.nz_sync.proofs.Tellings.{next_taken}
+use Rattle.nz_machine.specs.Journals.{executed_entries}
+use Rattle.nz_sync.proofs.Broadcasts.{next_taken}
 use Rattle.nz_machine.proofs.Stores.{store_pushed}
 use Rattle.nz_audit.proofs.Executions.{store_first, executed_more}
 use Rattle.nz_audit.proofs.executing.execute.Goals as goal
@@ -19,9 +19,15 @@ loop-place-preserved c =
     let es = take c.loop-place.place c.args.log.now.entries in
     let next = next_taken c.args.log.now.entries c.loop-place.place e c.get-entry.ensures in
     let bytes = c.as_slice.ensures in
-    let answer = c.in-Ok.ensures.answer ∙ ap (λ (b : List ℕ). (apply_bytes c.loop-place.store b).1) bytes ∙ ap (λ (s : Entries). (apply_bytes s e.command).1) c.loop-place.invariant.store in
+    let answer =
+    c.in-Ok.ensures.answer ∙ ap (λ (b : List ℕ). (apply_bytes c.loop-place.store b).1) bytes
+    ∙ ap (λ (s : Entries). (apply_bytes s e.command).1) c.loop-place.invariant.store in
     record {
-      store = c.in-Ok.ensures.store ∙ ap (λ (b : List ℕ). (apply_bytes c.loop-place.store b).0) bytes ∙ ap (λ (s : Entries). (apply_bytes s e.command).0) c.loop-place.invariant.store
+      store =
+          c.in-Ok.ensures.store ∙ ap (λ (b : List ℕ). (apply_bytes c.loop-place.store b).0) bytes
+          ∙ ap (λ (s : Entries). (apply_bytes s e.command).0) c.loop-place.invariant.store
           ∙ sym (store_pushed es e) ∙ ap (λ (l : List Entry). store_after (commands l)) (sym next);
-      history = c.in_ok-push.ensures.ok ∙ executed_more es e c.loop-place.history _ c.loop-place.invariant.history c.id.ensures c.in_ok-copy.ensures answer ∙ ap executed (sym next);
+      history =
+          c.in_ok-push.ensures.ok ∙ executed_more es e c.loop-place.history _ c.loop-place.invariant.history c.id.ensures
+          c.in_ok-copy.ensures answer ∙ ap executed_entries (sym next);
     }

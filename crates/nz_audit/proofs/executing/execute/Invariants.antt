@@ -2,11 +2,11 @@
 use Rattle.std.proofs.Common.{◌≡◌, take}
 use Rattle.nz_store.specs.Sequence.{store_after}
 use Rattle.nz_machine.specs.Replicas.{commands}
-use Rattle.nz_machine.specs.Journals.{executed}
+use Rattle.nz_machine.specs.Journals.{executed_entries}
 use Rattle.nz_audit.proofs.executing.execute.Given as goal
 
 abbrev pub invariant-loop-place : goal.invariant-loop-place
 invariant-loop-place l = record {
   store : l.store ≡ store_after (commands (take l.place l.log.entries));
-  history : l.history ≡ executed (take l.place l.log.entries);
+  history : l.history ≡ executed_entries (take l.place l.log.entries);
 }

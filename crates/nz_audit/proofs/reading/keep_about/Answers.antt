@@ -13,5 +13,6 @@ returns-then-branch-clause-table c = λ done r J run h.
 pub returns-clause-table : goal.returns-clause-table
 returns-clause-table c = on_ok_weaker c.keep.result (λ kept done r J run h.
     let g = group_in c.args.journal.now in
-    table_keeps g c.args.parcel.now c.args.id done r J c.args.sendings.now.kept.entries c.keep.new.self.kept.entries c.in_ok-source.source c.requires.about (sym c.in_ok-has.ensures ∙ c.if-branch.false)
+    table_keeps g c.args.parcel.now c.args.id done r J c.args.sendings.now.kept.entries c.keep.new.self.kept.entries
+    c.in_ok-source.source c.requires.about (sym c.in_ok-has.ensures ∙ c.if-branch.false)
     (c.in_ok-source.ensures.source ∙ ap (source_sent g c.args.id c.args.parcel.now.from) run) kept h) c.keep.ensures

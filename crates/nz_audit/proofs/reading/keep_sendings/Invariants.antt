@@ -11,5 +11,7 @@ use Rattle.nz_audit.proofs.reading.keep_sendings.Given as goal
 abbrev pub invariant-loop-parcel : goal.invariant-loop-parcel
 invariant-loop-parcel l = record {
   cores : (k : ℕ) → IsCoreIfAny (group_in l.journal) (run_up_to l.journal l.records) k (get nat_eq l.cores k);
-  table : (J : List Record) → run_up_to l.journal l.records ≡ l.next ∷ J → IsTable (group_in l.journal) J l.fn.sendings.kept.entries → IsTableWith (group_in l.journal) (take l.parcel-index l.next.sends) l.next J l.sendings.kept.entries;
+  table : (J : List Record) → run_up_to l.journal l.records ≡ l.next ∷ J
+      → IsTable (group_in l.journal) J l.fn.sendings.kept.entries
+      → IsTableWith (group_in l.journal) (take l.parcel-index l.next.sends) l.next J l.sendings.kept.entries;
 }

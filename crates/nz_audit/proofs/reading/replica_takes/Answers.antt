@@ -16,4 +16,5 @@ returns-in-Some c = on_ok_weaker c.replay_one.result (λ taken g J k by h.
 pub returns-in-None : goal.returns-in-None
 returns-in-None c = λ g J k by h.
     subst (IsCoreIfAny g (c.args.next.now ∷ J) k) (sym (ap (λ m. get nat_eq m k) c.get_mut.follows.holds-at-none))
-    (core_absent g c.args.next.now J k c.args.number (get nat_eq c.args.cores.now k) by (λ same. ap (get nat_eq c.args.cores.now) (sym same) ∙ sym c.in-None.ensures.value) h)
+    (core_absent g c.args.next.now J k c.args.number (get nat_eq c.args.cores.now k) by
+    (λ same. ap (get nat_eq c.args.cores.now) (sym same) ∙ sym c.in-None.ensures.value) h)

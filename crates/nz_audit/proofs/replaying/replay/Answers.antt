@@ -8,7 +8,8 @@ use Rattle.nz_audit.proofs.Replays.{core_first, run_then}
 use Rattle.nz_audit.proofs.replaying.replay.Goals as goal
 
 pub loop-place-init : goal.loop-place-init
-loop-place-init c = let g = group_in c.args.journal.now in subst (λ (x : ReplicaView). IsCore g [] c.args.number x) (sym c.in_ok-core.ensures) (core_first g c.args.number)
+loop-place-init c = let g = group_in c.args.journal.now in
+    subst (λ (x : ReplicaView). IsCore g [] c.args.number x) (sym c.in_ok-core.ensures) (core_first g c.args.number)
 
 pub loop-place-preserved : goal.loop-place-preserved
 loop-place-preserved c =

@@ -8,4 +8,5 @@ use Rattle.nz_buffers.proofs.places.put_by_key.Goals as goal
 pub returns-clause-ok : goal.returns-clause-ok
 returns-clause-ok c =
     let es = c.args.entries.now.items in
-    c.in_ok-insert.ensures.items ∙ ap (λ (k : ℕ). insert es k c.args.entry) (c.key_place-place.ensures.place ∙ ap (λ xs. key_place_from 0 xs c.args.entry.key) c.deref.ensures.value) ∙ insert_by_key_at es c.args.entry
+    c.in_ok-insert.ensures.items ∙ ap (λ (k : ℕ). insert es k c.args.entry)
+    (c.key_place-place.ensures.place ∙ ap (λ xs. key_place_from 0 xs c.args.entry.key) c.deref.ensures.value) ∙ insert_by_key_at es c.args.entry

@@ -19,7 +19,8 @@ returns-in-Some-clause-value c =
 
 pub returns-in-Some-clause-held : goal.returns-in-Some-clause-held
 returns-in-Some-clause-held c = (
-  λ _. sym (find_held c.args.entries.now.items c.args.id) ∙ ap is_some (taken_at c.args.entries.now.items c.args.id c.in-Some.place c.remove.result c.requires (at c)).0,
+  λ _. sym (find_held c.args.entries.now.items c.args.id)
+      ∙ ap is_some (taken_at c.args.entries.now.items c.args.id c.in-Some.place c.remove.result c.requires (at c)).0,
   λ _. refl,
 )
 

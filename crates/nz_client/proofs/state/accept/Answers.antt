@@ -11,7 +11,8 @@ pub invariant_of-state : goal.invariant_of-state
 invariant_of-state c =
     let k = c.state.invariant in
     let xs : List Attempt = c.state.inside.attempts.items in
-    let awaited : is_open c.args.num xs ≡ true = subst (λ (seat : ClientSeat). is_open c.args.num seat.state.attempts ≡ true) (sym c.state.view_is) c.requires in
+    let awaited : is_open c.args.num xs ≡ true =
+    subst (λ (seat : ClientSeat). is_open c.args.num seat.state.attempts ≡ true) (sym c.state.view_is) c.requires in
     let less = less_open c.args.num xs awaited in
     let in_turn = k.in_turn in
     let few = k.few in

@@ -6,4 +6,5 @@ use Rattle.nz_machine.specs.Step.{parcel}
 use Rattle.nz_client.proofs.state.retry_all.Given as goal
 
 abbrev pub invariant-loop-attempt : goal.invariant-loop-attempt
-invariant-loop-attempt l = l.sends ≡ l.initial.sends ++ map (parcel (Client l.state.me)) (retries l.state.proxies l.state.script (take l.attempt-index l.attempt-items))
+invariant-loop-attempt l =
+    l.sends ≡ l.initial.sends ++ map (parcel (Client l.state.me)) (retries l.state.proxies l.state.script (take l.attempt-index l.attempt-items))

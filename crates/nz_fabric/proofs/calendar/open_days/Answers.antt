@@ -14,11 +14,15 @@ days-preserved c =
     let days = c.days.days.items in
     let v = c.new.result in
     let opened : days_of c.push.new.self.items ≡ days_of days ++ [] ∷ [] =
-    ap days_of c.in_ok-push.ensures.items ∙ map-append (λ (v : Vec Item Global). v.items) days (v ∷ []) ∙ ap (λ (x : List Item). days_of days ++ x ∷ []) c.new.ensures.items in
+    ap days_of c.in_ok-push.ensures.items ∙ map-append (λ (v : Vec Item Global). v.items) days (v ∷ [])
+    ∙ ap (λ (x : List Item). days_of days ++ x ∷ []) c.new.ensures.items in
     record {
       same = λ t. ap (λ (D : List (List Item)). items_in D t) opened ∙ one_empty (days_of days) t ∙ c.days.invariant.same t;
-      rooms = λ n t h. subst (λ (days : List (Vec Item Global)). HasRoomFor n days t) (sym c.in_ok-push.ensures.items) (room_more n days v t (c.days.invariant.rooms n t h));
+      rooms =
+          λ n t h. subst (λ (days : List (Vec Item Global)). HasRoomFor n days t) (sym c.in_ok-push.ensures.items)
+          (room_more n days v t (c.days.invariant.rooms n t h));
     }
 
 pub returns-in_err-push-clause-rooms : goal.returns-in_err-push-clause-rooms
-returns-in_err-push-clause-rooms c = λ n t h. subst (λ (days : List (Vec Item Global)). HasRoomFor n days t) (sym c.in_err-push.ensures.items) (c.days.invariant.rooms n t h)
+returns-in_err-push-clause-rooms c =
+    λ n t h. subst (λ (days : List (Vec Item Global)). HasRoomFor n days t) (sym c.in_err-push.ensures.items) (c.days.invariant.rooms n t h)

@@ -1,7 +1,7 @@
 -- What the loops of the function of this folder keep.
 use Rattle.std.proofs.Common.{◌≡◌, ◌-◌, ◌++◌, ℕ, length}
 use Rattle.nz_fabric.specs.Calendars.{items_in}
-use Rattle.nz_fabric.specs.Posting.{days_of, arriving, HasRooms, AreShort}
+use Rattle.nz_fabric.specs.Posting.{days_of, items_arriving, HasRooms, AreShort}
 use Rattle.nz_fabric.proofs.calendar.place_all.Given as goal
 
 abbrev pub invariant-loop-arrival : goal.invariant-loop-arrival
@@ -9,5 +9,5 @@ invariant-loop-arrival l = record {
   whole : l.yielded ++ l.arrival-iterator.rest.items ≡ l.fn.arrivals.items;
   short : AreShort l.days.items;
   rooms : HasRooms (length l.fn.arrivals.items - length l.yielded) l.days.items l.fn.arrivals.items;
-  placed : (t : ℕ) → items_in (days_of l.days.items) t ≡ items_in (days_of l.fn.days.items) t ++ arriving t l.yielded;
+  placed : (t : ℕ) → items_in (days_of l.days.items) t ≡ items_in (days_of l.fn.days.items) t ++ items_arriving t l.yielded;
 }

@@ -6,6 +6,8 @@ use Rattle.nz_fabric.proofs.calendar.reserve_all.Goals as goal
 pub loop-arrival-preserved : goal.loop-arrival-preserved
 loop-arrival-preserved c = record {
   same = λ t. c.reserve.ensures.same t ∙ c.loop-arrival.invariant.same t;
-  rooms = rooms_more (length c.args.arrivals.now) c.loop-arrival.days.items c.reserve.new.days.items c.args.arrivals.now c.loop-arrival.arrival-index c.arrival-item.result c.loop-arrival-test.true c.arrival-item.is c.reserve.ensures.rooms c.in_ok-reserve.ensures.room
+  rooms =
+      rooms_more (length c.args.arrivals.now) c.loop-arrival.days.items c.reserve.new.days.items c.args.arrivals.now
+      c.loop-arrival.arrival-index c.arrival-item.result c.loop-arrival-test.true c.arrival-item.is c.reserve.ensures.rooms c.in_ok-reserve.ensures.room
       c.loop-arrival.invariant.rooms;
 }

@@ -2,8 +2,8 @@
 use Rattle.std.proofs.Common.{◌≡◌, ◌++◌, map}
 use Rattle.nz_machine.specs.Replicas.{numbers_below}
 use Rattle.nz_machine.specs.Schedule.{tick_item}
-use Rattle.nz_fabric.specs.Dues.{named}
+use Rattle.nz_fabric.specs.Dues.{actor_of_sort}
 use Rattle.nz_fabric.proofs.due.push_sort.Given as goal
 
 abbrev pub invariant-loop-number : goal.invariant-loop-number
-invariant-loop-number l = l.items.items ≡ l.initial.items.items ++ map (tick_item l.scenario l.tick) (map (named l.sort) (numbers_below l.number))
+invariant-loop-number l = l.items.items ≡ l.initial.items.items ++ map (tick_item l.scenario l.tick) (map (actor_of_sort l.sort) (numbers_below l.number))

@@ -7,5 +7,7 @@ use Rattle.nz_fabric.proofs.faults.deliveries_of.Goals as goal
 
 pub loop-fault-preserved : goal.loop-fault-preserved
 loop-fault-preserved c = λ earlier h.
-    one_line c.args.tick earlier c.args.parcel.now c.args.faults.now (whole_in (c.args.tick + 1) ∷ []) c.loop-fault.fault-index _ c.loop-fault.deliveries.items c.faulted.new.deliveries.items c.loop-fault-test.true
-    (get_or_default c.args.faults.now c.loop-fault.fault-index _ _ c.loop-fault-test.true) (c.loop-fault.invariant earlier h) (λ ds e. c.in_ok-faulted.ensures earlier ds h e)
+    one_line c.args.tick earlier c.args.parcel.now c.args.faults.now
+    (whole_in (c.args.tick + 1) ∷ []) c.loop-fault.fault-index _ c.loop-fault.deliveries.items c.faulted.new.deliveries.items c.loop-fault-test.true
+    (get_or_default c.args.faults.now c.loop-fault.fault-index _ _ c.loop-fault-test.true)
+    (c.loop-fault.invariant earlier h) (λ ds e. c.in_ok-faulted.ensures earlier ds h e)

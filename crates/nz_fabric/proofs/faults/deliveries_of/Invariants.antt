@@ -1,10 +1,10 @@
 -- What the loops of the function of this folder keep.
 use Rattle.std.proofs.Common.{◌≡◌, ◌+◌, List, [], ◌∷◌, map, take}
 use Rattle.nz_machine.specs.declared.event.Parcel.{Parcel}
-use Rattle.nz_machine.specs.Schedule.{whole_in, faulted_by}
-use Rattle.nz_fabric.specs.Posting.{stored, HasNumber}
+use Rattle.nz_machine.specs.Schedule.{whole_in, after_faults}
+use Rattle.nz_fabric.specs.Posting.{delivery_as_stored, HasNumber}
 use Rattle.nz_fabric.proofs.faults.deliveries_of.Given as goal
 
 abbrev pub invariant-loop-fault : goal.invariant-loop-fault
 invariant-loop-fault l = (earlier : List Parcel) → HasNumber earlier l.parcel l.number
-    → l.deliveries.items ≡ map stored (faulted_by l.tick earlier l.parcel (take l.fault-index l.faults) (whole_in (l.tick + 1) ∷ []))
+    → l.deliveries.items ≡ map delivery_as_stored (after_faults l.tick earlier l.parcel (take l.fault-index l.faults) (whole_in (l.tick + 1) ∷ []))

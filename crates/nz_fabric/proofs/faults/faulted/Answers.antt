@@ -1,12 +1,15 @@
 -- What the function of this folder owes, proved.
 use Rattle.std.proofs.Common.{◌∙◌, map, sym, ap, true, false}
-use Rattle.nz_fabric.specs.Posting.{stored}
+use Rattle.nz_fabric.specs.Posting.{delivery_as_stored}
 use Rattle.nz_fabric.proofs.Numbering.{faulted_is}
 use Rattle.nz_fabric.proofs.faults.faulted.Goals as goal
 
 pub returns-in_ok-strike : goal.returns-in_ok-strike
 returns-in_ok-strike c = λ earlier ds h e.
-    c.in_ok-strike.ensures ds e ∙ ap (map stored) (sym (faulted_is c.args.tick earlier c.args.parcel.now c.args.fault ds true (sym (c.strikes.ensures earlier h) ∙ c.if-strikes.true)))
+    c.in_ok-strike.ensures ds e ∙ ap (map delivery_as_stored)
+    (sym (faulted_is c.args.tick earlier c.args.parcel.now c.args.fault ds true (sym (c.strikes.ensures earlier h) ∙ c.if-strikes.true)))
 
 pub returns-else-strikes : goal.returns-else-strikes
-returns-else-strikes c = λ earlier ds h e. e ∙ ap (map stored) (sym (faulted_is c.args.tick earlier c.args.parcel.now c.args.fault ds false (sym (c.strikes.ensures earlier h) ∙ c.if-strikes.false)))
+returns-else-strikes c =
+    λ earlier ds h e. e ∙ ap (map delivery_as_stored)
+    (sym (faulted_is c.args.tick earlier c.args.parcel.now c.args.fault ds false (sym (c.strikes.ensures earlier h) ∙ c.if-strikes.false)))

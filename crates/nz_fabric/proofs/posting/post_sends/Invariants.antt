@@ -5,4 +5,6 @@ use Rattle.nz_fabric.specs.Calendars.{StandsFor}
 use Rattle.nz_fabric.proofs.posting.post_sends.Given as goal
 
 abbrev pub invariant-loop-parcel : goal.invariant-loop-parcel
-invariant-loop-parcel l = (L : List Posted) (now : ℕ) → StandsFor l.scenario L now l.initial.calendar → StandsFor l.scenario (L ++ map (posted_in l.tick) (take l.parcel-index l.sends)) now l.calendar
+invariant-loop-parcel l =
+    (L : List Posted) (now : ℕ) → StandsFor l.scenario L now l.initial.calendar
+    → StandsFor l.scenario (L ++ map (posted_in l.tick) (take l.parcel-index l.sends)) now l.calendar

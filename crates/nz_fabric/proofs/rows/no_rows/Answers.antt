@@ -13,7 +13,9 @@ rows-preserved c =
     let rows = c.rows.rows.items in
     let i = c.rows.invariant in
     let opened : rows_of c.push_reserved.new.self.items ≡ rows_of rows ++ [] ∷ [] =
-    ap rows_of c.push_reserved.ensures.items ∙ map-append (λ (v : Vec Record Global). v.items) rows (c.new.result ∷ []) ∙ ap (λ (x : List Record). rows_of rows ++ x ∷ []) c.new.ensures.items in
+    ap rows_of c.push_reserved.ensures.items
+    ∙ map-append (λ (v : Vec Record Global). v.items) rows (c.new.result ∷ [])
+    ∙ ap (λ (x : List Record). rows_of rows ++ x ∷ []) c.new.ensures.items in
     record {
       room = omega (arith, i.room, c.push_reserved.ensures.capacity);
       many = omega (arith, c.push_reserved.ensures.len, c.rows-test.true, c.len.ensures);

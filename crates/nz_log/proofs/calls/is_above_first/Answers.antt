@@ -10,4 +10,5 @@ returns-in-Some g c =
     let checked = c.in-Some.ensures in
     let next : c.in-Some.last + 1 ≡ c.args.count = omega (arith, checked.0, checked.1) in
     let x = c.get.result.now in
-    c.is_below.ensures.value ∙ above_first es c.args.count c.in-Some.last c.args.key.now x c.requires next (sym (get_or_from_slice_get es c.in-Some.last x x c.get.ensures))
+    c.is_below.ensures.value ∙ above_first es c.args.count c.in-Some.last c.args.key.now x c.requires next
+    (sym (get_or_from_slice_get es c.in-Some.last x x c.get.ensures))

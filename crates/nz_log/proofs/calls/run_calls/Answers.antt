@@ -16,7 +16,9 @@ loop-call-preserved g c =
     let call = c.call-item.result in
     let items : c.as_slice-call-items.result.now ≡ calls = c.as_slice-call-items.ensures in
     let xs = c.as_slice-call-items.result.now in
-    let more : take (n + 1) calls ≡ take n calls ++ call ∷ [] = subst (λ (ys : List LogCall). take (n + 1) ys ≡ take n ys ++ call ∷ []) items (take_more xs n call c.loop-call-test.true ∙ ap (λ (x : LogCall). take n xs ++ x ∷ []) (sym c.call-item.is)) in
+    let more : take (n + 1) calls ≡ take n calls ++ call ∷ [] =
+    subst (λ (ys : List LogCall). take (n + 1) ys ≡ take n ys ++ call ∷ []) items
+    (take_more xs n call c.loop-call-test.true ∙ ap (λ (x : LogCall). take n xs ++ x ∷ []) (sym c.call-item.is)) in
     record {
       answers = c.in_ok-push.ensures.ok
           ∙ ap (λ (answer : LogAnswer). c.loop-call.answers ++ answer ∷ []) c.in_ok-make_call.ensures.answer

@@ -22,17 +22,33 @@ loop-place-preserved c =
     let below : place < c.len-place-end.result = c.loop-place-test.true in
     let down : kept ≤ place = c.loop-place.invariant.down in
     let within : place < length es = omega (arith, long, end, below) in
-    let other : id_eq (id_of key) (id_of x.key) ≡ false = ap (λ (i : Id). id_eq i (id_of x.key)) (sym c.id.ensures) ∙ ap (id_eq c.id.result) (sym c.id-in-loop-place.ensures) ∙ sym c.eq.ensures ∙ c.if-eq.false in
-    let along : IsAlong key es kept place (get id_eq c.loop-place.places) whole = record { same = c.loop-place.invariant.same; midway = c.loop-place.invariant.midway } in
+    let other : id_eq (id_of key) (id_of x.key) ≡ false =
+    ap (λ (i : Id). id_eq i (id_of x.key)) (sym c.id.ensures)
+    ∙ ap (id_eq c.id.result) (sym c.id-in-loop-place.ensures) ∙ sym c.eq.ensures ∙ c.if-eq.false in
+    let along : IsAlong key es kept place (get id_eq c.loop-place.places) whole =
+    record { same = c.loop-place.invariant.same; midway = c.loop-place.invariant.midway } in
     elim c.if-is_below.branch [
       | then-is_below w ↦
-          let now = along_stays key es kept place (get id_eq c.loop-place.places) whole x within c.get.ensures along w.move_down.new.self (get id_eq w.set_place.new.places) (omega (arith, down, within)) other (sym w.if-is_below.ensures.value) (w.move_down.ensures.moved x ∙ ap (λ (y : Entry). take kept es ++ y ∷ []) (sym c.get.ensures)) w.move_down.ensures.above
+          let now =
+          along_stays key es kept place (get id_eq c.loop-place.places) whole x within c.get.ensures along
+          w.move_down.new.self (get id_eq w.set_place.new.places) (omega (arith, down, within)) other
+          (sym w.if-is_below.ensures.value)
+          (w.move_down.ensures.moved x ∙ ap (λ (y : Entry). take kept es ++ y ∷ []) (sym c.get.ensures)) w.move_down.ensures.above
           (λ i. w.set_place.ensures i ∙ ap (λ (j : Id). if id_eq j i then Some kept else get id_eq c.loop-place.places i) w.id-then-is_below.ensures) in
-          let all : IsAlong key c.if-is_below.entries c.if-is_below.kept (place + 1) (get id_eq c.if-is_below.places) whole = rw (w.entries-is, w.kept-is, w.places-is) now in
-          record { down = let k = w.kept-is in omega (arith, k, down); long = ap length w.entries-is ∙ w.move_down.ensures.len ∙ long; same = all.same; midway = all.midway }
+          let all : IsAlong key c.if-is_below.entries c.if-is_below.kept (place + 1) (get id_eq c.if-is_below.places) whole =
+          rw (w.entries-is, w.kept-is, w.places-is) now in
+          record {
+            down = let k = w.kept-is in omega (arith, k, down);
+            long = ap length w.entries-is ∙ w.move_down.ensures.len ∙ long;
+            same = all.same;
+            midway = all.midway;
+          }
       | else-is_below w ↦
-          let now = along_gone key es kept place (get id_eq c.loop-place.places) whole x within c.get.ensures along (get id_eq w.drop_place.new.places) other (sym w.if-is_below.ensures.value)
+          let now =
+          along_gone key es kept place (get id_eq c.loop-place.places) whole x within c.get.ensures along
+          (get id_eq w.drop_place.new.places) other (sym w.if-is_below.ensures.value)
           (λ i. w.drop_place.ensures i ∙ ap (λ (j : Id). if id_eq j i then None else get id_eq c.loop-place.places i) w.id-else-is_below.ensures) in
-          let all : IsAlong key c.if-is_below.entries c.if-is_below.kept (place + 1) (get id_eq c.if-is_below.places) whole = rw (w.entries-is, w.kept-is, w.places-is) now in
+          let all : IsAlong key c.if-is_below.entries c.if-is_below.kept (place + 1) (get id_eq c.if-is_below.places) whole =
+          rw (w.entries-is, w.kept-is, w.places-is) now in
           record { down = let k = w.kept-is in omega (arith, k, down); long = ap length w.entries-is ∙ long; same = all.same; midway = all.midway }
     ]

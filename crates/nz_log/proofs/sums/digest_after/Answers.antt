@@ -17,4 +17,5 @@ before c es old =
     ]
 
 pub returns : goal.returns
-returns c es old = c.fold_in.ensures ∙ ap (λ (d : List ℕ). xor_bytes d c.of_entry.result) (before c es old) ∙ ap (xor_bytes (digest_of_log es)) c.of_entry.ensures
+returns c es old =
+    c.fold_in.ensures ∙ ap (λ (d : List ℕ). xor_bytes d c.of_entry.result) (before c es old) ∙ ap (xor_bytes (digest_of_log es)) c.of_entry.ensures

@@ -20,6 +20,8 @@ loop-place-preserved c =
     let is = c.digest_after-digest.ensures (take place es) (subst (IsSummed (take place es)) (sym c.deref.ensures.value) c.loop-place.invariant.summed) in
     let pushed : IsSummed (take place es ++ x ∷ []) (ds ++ sum ∷ []) = sums_push (take place es) ds x sum c.loop-place.invariant.summed is in
     record {
-      summed = subst (λ (xs : List Entry). IsSummed xs c.push_reserved.new.self.items) (sym more) (subst (IsSummed (take place es ++ x ∷ [])) (sym c.push_reserved.ensures.items) pushed);
+      summed =
+          subst (λ (xs : List Entry). IsSummed xs c.push_reserved.new.self.items) (sym more)
+          (subst (IsSummed (take place es ++ x ∷ [])) (sym c.push_reserved.ensures.items) pushed);
       room = rw c.push_reserved.ensures.capacity c.loop-place.invariant.room;
     }

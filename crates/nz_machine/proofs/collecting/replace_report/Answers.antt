@@ -9,4 +9,5 @@ pub returns-clause-ok : goal.returns-clause-ok
 returns-clause-ok c =
     let test : Reported → Bool = λ r. not (r.change.sender == c.args.reported.change.sender) in
     c.push_reserved.ensures.items
-    ∙ ap (λ (xs : List Reported). xs ++ c.args.reported ∷ []) (filter_same _ test _ (λ x b f' k. search rules) _ _ c.retain.ensures.filtered ∙ ap (filter test) c.in_ok-reserve.ensures.items)
+    ∙ ap (λ (xs : List Reported). xs ++ c.args.reported ∷ [])
+    (filter_same _ test _ (λ x b f' k. search rules) _ _ c.retain.ensures.filtered ∙ ap (filter test) c.in_ok-reserve.ensures.items)

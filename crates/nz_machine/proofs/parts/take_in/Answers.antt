@@ -12,7 +12,8 @@ pub returns-clause-store : goal.returns-clause-store
 returns-clause-store c leads =
     let log = c.args.log.now.entries in
     let entry : Entry = c.args.entry in
-    let grown : c.sync_all.new.self.entries ≡ log ++ entry ∷ [] = ap (λ (l : Log). l.entries) c.sync_all.ensures ∙ ap (λ (l : Log). l.entries) c.in_ok-append.ensures.ok in
+    let grown : c.sync_all.new.self.entries ≡ log ++ entry ∷ [] =
+    ap (λ (l : Log). l.entries) c.sync_all.ensures ∙ ap (λ (l : Log). l.entries) c.in_ok-append.ensures.ok in
     c.in-Ok.ensures.store
     ∙ ap (λ (x : List ℕ). (apply_bytes c.args.store.now x).0) c.as_slice.ensures
     ∙ ap (λ (s : Entries). (apply_bytes s entry.command).0) (c.requires.store leads)

@@ -6,4 +6,5 @@ use Rattle.nz_merge.specs.Merged.{of_view, all_keys, put_all_in_order}
 use Rattle.nz_merge.proofs.parts.keys_in_order.Given as goal
 
 abbrev pub invariant-loop-change : goal.invariant-loop-change
-invariant-loop-change l = put_all_in_order l.keys.keys (flat_map (λ c. keys_of c.log) (of_view l.view (drop l.change-index l.changes))) ≡ all_keys (of_view l.view l.changes)
+invariant-loop-change l =
+    put_all_in_order l.keys.keys (flat_map (λ c. keys_of c.log) (of_view l.view (drop l.change-index l.changes))) ≡ all_keys (of_view l.view l.changes)

@@ -10,5 +10,6 @@ abbrev pub invariant-loop-change : goal.invariant-loop-change
 invariant-loop-change l = record {
   left_fit : AreFit (drop l.change-index l.changes);
   best_fit : IfSome l.best (λ c. IsFit c.now);
-  best : joined (option_copied l.best) (lowest (holders (of_view l.view (drop l.change-index l.changes)) l.key)) ≡ lowest (holders (of_view l.view l.changes) l.key);
+  best : joined (option_copied l.best) (lowest (holders (of_view l.view (drop l.change-index l.changes)) l.key))
+      ≡ lowest (holders (of_view l.view l.changes) l.key);
 }

@@ -11,10 +11,13 @@ returns-in-Err-clause-refused c = refused_by c.args.bytes.now c.in-Err.refusal c
 pub returns-in-Ok-message_of-clause-decoded : goal.returns-in-Ok-message_of-clause-decoded
 returns-in-Ok-message_of-clause-decoded c =
     let v = c.in-Ok.view in
-    decoded_by c.args.bytes.now v.kind v.from v.to v.body.now c.actor_of-from.result c.actor_of-to.result (Ok c.in-Ok-message_of.message) c.in-Ok.ensures.accepted c.in-Ok.ensures.frame c.actor_of-from.ensures c.actor_of-to.ensures c.in-Ok-message_of.ensures
+    decoded_by c.args.bytes.now v.kind v.from v.to v.body.now c.actor_of-from.result c.actor_of-to.result
+    (Ok c.in-Ok-message_of.message) c.in-Ok.ensures.accepted c.in-Ok.ensures.frame c.actor_of-from.ensures
+    c.actor_of-to.ensures c.in-Ok-message_of.ensures
 
 pub placed-requires-clause-fault : goal.placed-requires-clause-fault
-placed-requires-clause-fault c = let v = c.in-Ok.view in fault_placed c.args.bytes.now v.kind v.from v.to v.body.now c.in-Err-message_of.fault c.in-Ok.ensures.frame c.in-Err-message_of.ensures
+placed-requires-clause-fault c = let v = c.in-Ok.view in
+    fault_placed c.args.bytes.now v.kind v.from v.to v.body.now c.in-Err-message_of.fault c.in-Ok.ensures.frame c.in-Err-message_of.ensures
 
 pub placed-requires-clause-size : goal.placed-requires-clause-size
 placed-requires-clause-size c = let v = c.in-Ok.view in frame_small c.args.bytes.now v.kind v.from v.to v.body.now c.in-Ok.ensures.frame
@@ -23,4 +26,6 @@ pub returns-in-Err-message_of-clause-refused : goal.returns-in-Err-message_of-cl
 returns-in-Err-message_of-clause-refused c =
     let v = c.in-Ok.view in
     subst (λ (r : DecodeRefusal). IsRefusedAs c.args.bytes.now r) (sym c.placed.ensures)
-    (fault_refused c.args.bytes.now v.kind v.from v.to v.body.now c.actor_of-from.result c.actor_of-to.result c.in-Err-message_of.fault c.in-Ok.ensures.accepted c.in-Ok.ensures.frame c.actor_of-from.ensures c.actor_of-to.ensures c.in-Err-message_of.ensures)
+    (fault_refused c.args.bytes.now v.kind v.from v.to v.body.now c.actor_of-from.result c.actor_of-to.result
+    c.in-Err-message_of.fault c.in-Ok.ensures.accepted c.in-Ok.ensures.frame c.actor_of-from.ensures
+    c.actor_of-to.ensures c.in-Err-message_of.ensures)

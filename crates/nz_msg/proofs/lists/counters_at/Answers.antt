@@ -12,17 +12,27 @@ use Rattle.nz_msg.proofs.lists.counters_at.Goals as goal
 pub returns-in_err-counter : goal.returns-in_err-counter
 returns-in_err-counter c =
     let p = err_from_is_err_and c.from_residual.result c.from_residual.ensures.1 in
-    rw (p.1, p.2) (ends (λ _. u32) c.in_err-counter.field-0.0 (take c.loop-place.place c.loop-place.counters) c.args.size c.loop-place.place c.loop-place.rest.now (items_at (λ _. u32) [] c.args.size c.args.bytes.now) c.loop-place-test.true c.in_err-counter.ensures c.loop-place.invariant.told)
+    rw (p.1, p.2) (ends (λ _. u32) c.in_err-counter.field-0.0
+    (take c.loop-place.place c.loop-place.counters) c.args.size c.loop-place.place c.loop-place.rest.now
+    (items_at (λ _. u32) [] c.args.size c.args.bytes.now) c.loop-place-test.true c.in_err-counter.ensures c.loop-place.invariant.told)
 
 pub loop-place-preserved : goal.loop-place-preserved
 loop-place-preserved c =
     let l = c.loop-place in
-    let e : take (l.place + 1) (slice_set l.counters l.place c.in_ok-counter.counter) ≡ take l.place l.counters ++ c.in_ok-counter.counter ∷ [] = rw add-one (take-suc-set l.counters l.place c.in_ok-counter.counter (omega arith)) in
+    let e : take (l.place + 1) (slice_set l.counters l.place c.in_ok-counter.counter) ≡ take l.place l.counters ++ c.in_ok-counter.counter ∷ [] =
+    rw add-one (take-suc-set l.counters l.place c.in_ok-counter.counter (omega arith)) in
     let nine : length (slice_set l.counters l.place c.in_ok-counter.counter) ≡ 9 = omega (arith, length-set {A = ℕ}, l.invariant.nine) in
-    record { nine = nine; told = rw e (goes_on (λ _. u32) (take l.place l.counters) c.args.size l.place l.rest.now c.in_ok-counter.counter c.in_ok-counter.after.now (items_at (λ _. u32) [] c.args.size c.args.bytes.now) c.loop-place-test.true c.in_ok-counter.ensures l.invariant.told) }
+    record {
+      nine = nine;
+      told = rw e (goes_on (λ _. u32)
+          (take l.place l.counters) c.args.size l.place l.rest.now c.in_ok-counter.counter c.in_ok-counter.after.now
+          (items_at (λ _. u32) [] c.args.size c.args.bytes.now) c.loop-place-test.true c.in_ok-counter.ensures l.invariant.told);
+    }
 
 pub returns : goal.returns
 returns c =
     let l = c.loop-place in
     let same : l.place ≡ c.args.size = omega arith in
-    subst (λ (n : ℕ). items_at (λ _. u32) [] c.args.size c.args.bytes.now ≡ Ok (take n l.counters, l.rest.now)) same (is_done (λ _. u32) (take l.place l.counters) c.args.size l.place l.rest.now (items_at (λ _. u32) [] c.args.size c.args.bytes.now) c.loop-place-test.false l.invariant.told)
+    subst (λ (n : ℕ). items_at (λ _. u32) [] c.args.size c.args.bytes.now ≡ Ok (take n l.counters, l.rest.now)) same
+    (is_done (λ _. u32) (take l.place l.counters) c.args.size l.place l.rest.now
+    (items_at (λ _. u32) [] c.args.size c.args.bytes.now) c.loop-place-test.false l.invariant.told)

@@ -12,5 +12,6 @@ returns-then-is_below c =
     let key = c.args.key.now in
     let below : key_below c.in-Some.last.now.key key ≡ true = cc c.if-is_below.ensures.value in
     let above : is_above_last (keys_of before) key ≡ true = above_some before key c.in-Some.last.now (sym c.in-Some.ensures.value) ∙ below in
-    let held : c.contains.result ≡ has_id (keys_of before) (id_of key) = c.contains.ensures ∙ is_noted before c.args.ids.now.keys c.id.result c.requires ∙ ap (has_id (keys_of before)) c.id.ensures in
+    let held : c.contains.result ≡ has_id (keys_of before) (id_of key) =
+    c.contains.ensures ∙ is_noted before c.args.ids.now.keys c.id.result c.requires ∙ ap (has_id (keys_of before)) c.id.ensures in
     ap not held ∙ sym (follows_last before key c.requires.rising ∙ ap (λ b. b && not (has_id (keys_of before) (id_of key))) above)

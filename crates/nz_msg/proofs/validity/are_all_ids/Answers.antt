@@ -8,9 +8,11 @@ pub returns-then-not-is_id : goal.returns-then-not-is_id
 returns-then-not-is_id c = (
   λ h. absurd cc,
   λ h.
-      let clash : true ≡ false = sym (c.is_id.ensures.1 (fits_at (λ _. id) c.args.list.now c.loop-place.place _ c.loop-place-test.true h)) ∙ c.if-not-is_id.true in
+      let clash : true ≡ false =
+      sym (c.is_id.ensures.1 (fits_at (λ _. id) c.args.list.now c.loop-place.place _ c.loop-place-test.true h)) ∙ c.if-not-is_id.true in
       absurd cc,
 )
 
 pub loop-place-preserved : goal.loop-place-preserved
-loop-place-preserved c = fits_next (λ _. id) c.args.list.now c.loop-place.place _ c.loop-place-test.true c.loop-place.invariant (c.is_id.ensures.0 c.if-not-is_id.false)
+loop-place-preserved c =
+    fits_next (λ _. id) c.args.list.now c.loop-place.place _ c.loop-place-test.true c.loop-place.invariant (c.is_id.ensures.0 c.if-not-is_id.false)

@@ -8,9 +8,12 @@ pub returns-then-not-is_next_key : goal.returns-then-not-is_next_key
 returns-then-not-is_next_key c = (
   λ h. absurd cc,
   λ h.
-      let clash : true ≡ false = sym (c.is_next_key.ensures.1 (fits_at next_key c.args.list.now c.loop-place.place _ c.loop-place-test.true h)) ∙ c.if-not-is_next_key.true in
+      let clash : true ≡ false =
+      sym (c.is_next_key.ensures.1 (fits_at next_key c.args.list.now c.loop-place.place _ c.loop-place-test.true h)) ∙ c.if-not-is_next_key.true in
       absurd cc,
 )
 
 pub loop-place-preserved : goal.loop-place-preserved
-loop-place-preserved c = fits_next next_key c.args.list.now c.loop-place.place _ c.loop-place-test.true c.loop-place.invariant (c.is_next_key.ensures.0 c.if-not-is_next_key.false)
+loop-place-preserved c =
+    fits_next next_key c.args.list.now c.loop-place.place _ c.loop-place-test.true c.loop-place.invariant
+    (c.is_next_key.ensures.0 c.if-not-is_next_key.false)

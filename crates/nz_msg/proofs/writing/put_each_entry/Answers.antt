@@ -10,4 +10,7 @@ pub loop-entry-init : goal.loop-entry-init
 loop-entry-init c = adds_none next_entry c.args.out.now.items
 
 pub loop-entry-preserved : goal.loop-entry-preserved
-loop-entry-preserved c = adds_next next_entry c.args.out.now.items c.loop-entry.out.items c.put_entry.new.out.items c.args.list.now c.loop-entry.entry-index c.entry-item.result c.loop-entry-test.true c.loop-entry.invariant (subst (λ (e : Entry). Adds c.loop-entry.out.items c.put_entry.new.out.items ((next_entry []).put e)) c.entry-item.is c.in_ok-put_entry.ensures)
+loop-entry-preserved c =
+    adds_next next_entry c.args.out.now.items c.loop-entry.out.items c.put_entry.new.out.items c.args.list.now
+    c.loop-entry.entry-index c.entry-item.result c.loop-entry-test.true c.loop-entry.invariant
+    (subst (λ (e : Entry). Adds c.loop-entry.out.items c.put_entry.new.out.items ((next_entry []).put e)) c.entry-item.is c.in_ok-put_entry.ensures)

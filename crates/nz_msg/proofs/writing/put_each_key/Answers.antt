@@ -7,4 +7,6 @@ pub loop-k-init : goal.loop-k-init
 loop-k-init c = adds_none next_key c.args.out.now.items
 
 pub loop-k-preserved : goal.loop-k-preserved
-loop-k-preserved c = adds_next next_key c.args.out.now.items c.loop-k.out.items c.put_key.new.out.items c.args.list.now c.loop-k.k-index _ c.loop-k-test.true c.loop-k.invariant c.in_ok-put_key.ensures
+loop-k-preserved c =
+    adds_next next_key c.args.out.now.items c.loop-k.out.items c.put_key.new.out.items c.args.list.now c.loop-k.k-index _
+    c.loop-k-test.true c.loop-k.invariant c.in_ok-put_key.ensures

@@ -3,8 +3,8 @@ use Rattle.std.proofs.Common.{◌≡◌, List, [], ℕ, ap, sym, ◌∙◌, inl,
 use Rattle.nz_base.specs.declared.actor.Actor.{Actor}
 use Rattle.nz_base.specs.declared.actor.Actor.TheVariants.{Proxy}
 use Rattle.nz_machine.specs.State.{ProxyData, Out}
-use Rattle.nz_machine.specs.Step.{parcel, heard, received, envelope_step}
-use Rattle.nz_proxy.specs.Seats.{ProxySeat, group_of}
+use Rattle.nz_machine.specs.Step.{parcel, envelope_for, accepted_envelope, envelope_step}
+use Rattle.nz_proxy.specs.Seats.{ProxySeat, group_with_cluster}
 use Rattle.nz_proxy.proofs.Passing.{counts, nothing_sent, passed_over}
 use Rattle.nz_proxy.proofs.proxy.deliver.Goals as goal
 use Rattle.nz_proxy.proofs.proxy.deliver.Goals.{then-is_down-via-then-is_down, then-is_down-via-else-is_down+then-not-is_counted}
@@ -13,14 +13,17 @@ abbrev with_state : ProxySeat → ProxyData → ProxySeat
 with_state seat s = record seat { state = s }
 
 -- a proxy that is down, and a message that does not count
-nothing_done : (c : goal.Joined-envelope) → envelope_step (group_of c.args.state.now.f) (Proxy c.args.state.now.me) c.args.state.now.state (received c.args.state.now.f (Proxy c.args.state.now.me) c.args.p.now) ≡ (c.args.state.now.state, [])
+nothing_done : (c : goal.Joined-envelope)
+    → envelope_step (group_with_cluster c.args.state.now.f) (Proxy c.args.state.now.me) c.args.state.now.state
+    (accepted_envelope c.args.state.now.f (Proxy c.args.state.now.me) c.args.p.now) ≡ (c.args.state.now.state, [])
 nothing_done c =
     let seat = c.args.state.now in
-    let is = ap (λ (a : Actor). heard a c.args.p.now) (sym c.name.ensures.name) ∙ sym c.in_ok-heard.ensures.value ∙ c.in-Some.is in
+    let is = ap (λ (a : Actor). envelope_for a c.args.p.now) (sym c.name.ensures.name) ∙ sym c.in_ok-heard.ensures.value ∙ c.in-Some.is in
     elim c.then-is_down.branch [
       | then-is_down-via-then-is_down w ↦ passed_over seat.f seat.me seat.state _ c.in-Some.envelope is (inl (sym c.is_down.ensures ∙ w.if-is_down.true))
       | then-is_down-via-else-is_down+then-not-is_counted w ↦
-          passed_over seat.f seat.me seat.state _ c.in-Some.envelope is (inr (ap (λ (f : ℕ). counts f c.in-Some.envelope) (sym w.cluster.ensures) ∙ sym w.is_counted.ensures ∙ w.if-not-is_counted.true))
+          passed_over seat.f seat.me seat.state _ c.in-Some.envelope is
+          (inr (ap (λ (f : ℕ). counts f c.in-Some.envelope) (sym w.cluster.ensures) ∙ sym w.is_counted.ensures ∙ w.if-not-is_counted.true))
     ]
 
 pub returns-then-is_down-clause-state : goal.returns-then-is_down-clause-state

@@ -11,5 +11,6 @@ use Rattle.nz_quorum.proofs.quorum.lead.Given as goal
 abbrev pub invariant-loop-reply : goal.invariant-loop-reply
 invariant-loop-reply l = record {
   leads : IfSome l.best (λ r. is_of_leader l.fn.cluster r.now ≡ true);
-  best : joined (option_copied l.best) (first_of_least_view (filter (has_quorum l.path l.fn.cluster l.replies) (drop l.reply-index l.replies))) ≡ lead_of l.path l.fn.cluster l.replies;
+  best : joined (option_copied l.best)
+      (first_of_least_view (filter (has_quorum l.path l.fn.cluster l.replies) (drop l.reply-index l.replies))) ≡ lead_of l.path l.fn.cluster l.replies;
 }

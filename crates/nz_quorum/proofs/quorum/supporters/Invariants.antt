@@ -11,5 +11,7 @@ use Rattle.nz_quorum.proofs.quorum.supporters.Given as goal
 abbrev pub invariant-loop-reply : goal.invariant-loop-reply
 invariant-loop-reply l = record {
   of_cluster : AllByRecursion (IsOfCluster l.fn.cluster) (drop l.reply-index l.replies);
-  members : (x : ℕ) → (is_in l.set x || list_any (backs l.path l.lead x) (drop l.reply-index l.replies)) ≡ (eqb (leader_of l.fn.cluster (view_of l.lead)) x || list_any (backs l.path l.lead x) l.replies);
+  members : (x : ℕ)
+      → (is_in l.set x || list_any (backs l.path l.lead x) (drop l.reply-index l.replies))
+      ≡ (eqb (leader_of l.fn.cluster (view_of l.lead)) x || list_any (backs l.path l.lead x) l.replies);
 }

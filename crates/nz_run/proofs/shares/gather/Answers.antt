@@ -1,6 +1,6 @@
 -- What the function of this folder owes, proved.
 use Rattle.std.proofs.Common.{arith}
-use Rattle.nz_run.proofs.Fewer.{fewer}
+use Rattle.nz_run.proofs.DealtShares.{fewer}
 use Rattle.nz_run.proofs.shares.gather.Goals as goal
 
 pub gathered-preserved : goal.gathered-preserved

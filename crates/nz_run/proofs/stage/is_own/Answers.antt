@@ -22,5 +22,7 @@ returns-then-is-clause-replay g c =
     let J : List Record = records_of c.args.fabric.now.run in
     let group = group_of g.N.Name.scenario in
     let kept = c.lane.result.now in
-    let of : (b : Actor) → b ≡ c.args.actor → IsReplay group b (reverse kept) → IsReplay group c.args.actor (reverse kept) = λ b e. subst (λ (x : Actor). IsReplay group x (reverse kept)) e in
-    λ yes. subst (IsReplay group c.args.actor) ((own_newest c.args.actor J kept).0 (c.same_row.ensures.0 yes)) (of c.args.state.now.actor (sym c.actor.ensures ∙ c.is.ensures.same.0 c.if-is.true) c.lane.ensures.replay)
+    let of : (b : Actor) → b ≡ c.args.actor → IsReplay group b (reverse kept) → IsReplay group c.args.actor (reverse kept) =
+    λ b e. subst (λ (x : Actor). IsReplay group x (reverse kept)) e in
+    λ yes. subst (IsReplay group c.args.actor) ((own_newest c.args.actor J kept).0 (c.same_row.ensures.0 yes))
+    (of c.args.state.now.actor (sym c.actor.ensures ∙ c.is.ensures.same.0 c.if-is.true) c.lane.ensures.replay)

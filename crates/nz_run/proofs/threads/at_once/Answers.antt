@@ -1,6 +1,6 @@
 -- What the function of this folder owes, proved.
 use Rattle.std.proofs.Common.{◌≡◌, ◌∙◌, ap, arith, length, get_or}
-use Rattle.nz_run.proofs.Fewer.{written, all_idle, same_sum}
+use Rattle.nz_run.proofs.DealtShares.{written, all_idle, same_sum}
 use Rattle.nz_run.proofs.threads.at_once.Goals as goal
 
 pub gather-share-requires-clause-idle : goal.gather-share-requires-clause-idle
@@ -19,4 +19,5 @@ gather-share-requires-clause-parts g c =
     let is = c.as_mut_slice.ensures.value in
     let len : length ys ≡ length xs = c.work_all.auto.workers ∙ ap length is in
     let e = written xs ys c.deal.new.workers.len (omega arith) len in
-    rw e (same_sum (λ w. w.share.parts) xs ys len (λ k d lt. (c.work_all.ensures k d (omega (arith, ap length is))).1 ∙ ap (λ l. (get_or l k d).share.parts) is) ∙ c.deal.ensures.parts)
+    rw e (same_sum (λ w. w.share.parts) xs ys len
+    (λ k d lt. (c.work_all.ensures k d (omega (arith, ap length is))).1 ∙ ap (λ l. (get_or l k d).share.parts) is) ∙ c.deal.ensures.parts)

@@ -16,5 +16,11 @@ returns g c =
     let s = c.args.scenario.now in
     let same : j.scenario ≡ s = known.scenario ∙ name in
     let scheduled : Scheduled s (run_in j) = subst (λ (t : Scenario). Scheduled t (run_in j)) name known.scheduled in
-    let replay : AllReplay (group_of s) (run_in j) = subst (AllReplay (group_of s)) (sym known.records) (c.in_ok-agrees.ensures c.if-not-branch.false) in
-    (same, (scheduled, subst (λ (t : Scenario). World (group_of t) (run_in j)) (sym same) (world_now s s.ticks (run_in j) c.requires.playable scheduled replay)))
+    let replay : AllReplay (group_of s) (run_in j) = subst (AllReplay (group_of s)) (sym known.records) (c.in_ok-agrees.ensures c.if-not-branch.false) in (
+      same,
+      (
+        scheduled,
+        subst (λ (t : Scenario). World (group_of t) (run_in j)) (sym same)
+            (world_now s s.ticks (run_in j) c.requires.playable scheduled replay),
+      ),
+    )

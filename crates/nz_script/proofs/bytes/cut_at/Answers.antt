@@ -15,4 +15,5 @@ returns-then-place-bytes c =
     ]
 
 pub returns-else-place-bytes : goal.returns-else-place-bytes
-returns-else-place-bytes c = sym (cut-no_place c.args.at c.args.bytes.now c.loop-place.place (omega (arith, c.if-place-bytes.false)) c.loop-place.invariant.passed)
+returns-else-place-bytes c =
+    sym (cut-no_place c.args.at c.args.bytes.now c.loop-place.place (omega (arith, c.if-place-bytes.false)) c.loop-place.invariant.passed)

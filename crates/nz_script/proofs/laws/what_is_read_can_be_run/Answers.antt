@@ -1,5 +1,5 @@
 -- What the function of this folder owes, proved.
-use Rattle.nz_script.proofs.Sound.{read_runnable, read_short}
+use Rattle.nz_script.proofs.ReadIsPlayable.{read_runnable, read_short}
 use Rattle.nz_script.proofs.laws.what_is_read_can_be_run.Goals as goal
 
 pub returns-clause-run : goal.returns-clause-run

@@ -6,14 +6,15 @@ use Rattle.nz_base.specs.declared.scenario.Fault.{Fault}
 use Rattle.nz_script.specs.Texts.{text_of, text_of_lines, head_lines, skew_line, scripts_lines, fault_line}
 use Rattle.nz_script.specs.Reading.{scenario}
 use Rattle.nz_script.proofs.Written.{all_written}
-use Rattle.nz_script.proofs.Back.{read_back}
+use Rattle.nz_script.proofs.RoundTrip.{read_back}
 use Rattle.nz_script.proofs.printing.print.Goals as goal
 
 pub returns-clause-text : goal.returns-clause-text
 unfolding text_of
 returns-clause-text c =
     let s = c.args.scenario.now in
-    c.from_vec.ensures ∙ all_written c.new-out.result.items c.put_head.new.out.items c.put_skews.new.out.items c.put_scripts.new.out.items c.put_faults.new.out.items c.put_line.new.out.items
+    c.from_vec.ensures ∙ all_written c.new-out.result.items c.put_head.new.out.items c.put_skews.new.out.items
+    c.put_scripts.new.out.items c.put_faults.new.out.items c.put_line.new.out.items
     (head_lines s) (map skew_line s.skews) (scripts_lines 0 s.scripts) (map fault_line s.faults) _
     c.new-out.ensures.items c.in_ok-put_head.ensures
     (c.in_ok-put_skews.ensures ∙ ap (λ (x : List Skew). c.put_head.new.out.items ++ text_of_lines (map skew_line x)) c.as_slice.ensures)

@@ -3,7 +3,7 @@ use Rattle.std.proofs.Common.{◌≡◌, ◌<◌, ◌^◌, ◌+◌, arith, rules
 use Rattle.std.specs.Fmt.{decimal}
 use Rattle.std.proofs.lemmas.Fmt.{decimal_digit}
 use Rattle.nz_script.proofs.Drawing.{decimal_short}
-use Rattle.nz_script.proofs.Rooms.{length-decimal_step}
+use Rattle.nz_script.proofs.RoomLeft.{length-decimal_step}
 use Rattle.nz_script.proofs.sizes.decimal_len.Goals as goal
 
 pub overflow_add-len : goal.overflow_add-len

@@ -6,4 +6,6 @@ use Rattle.nz_script.proofs.sizes.faults_room.Given as goal
 
 -- what the lines that are left leave of the room that is left
 abbrev pub invariant-loop-fault : goal.invariant-loop-fault
-invariant-loop-fault l = room_after l.room (length (text_of_lines (map fault_line (drop l.fault-index l.faults)))) ≡ room_after l.fn.room (length (text_of_lines (map fault_line l.faults)))
+invariant-loop-fault l =
+    room_after l.room (length (text_of_lines (map fault_line (drop l.fault-index l.faults))))
+    ≡ room_after l.fn.room (length (text_of_lines (map fault_line l.faults)))

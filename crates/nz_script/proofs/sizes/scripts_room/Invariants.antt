@@ -7,6 +7,7 @@ use Rattle.nz_script.proofs.sizes.scripts_room.Given as goal
 -- what the lines that are left leave of the room that is left
 abbrev pub invariant-loop-script : goal.invariant-loop-script
 invariant-loop-script l = record {
-  left : room_after l.room (length (text_of_lines (scripts_lines l.client (drop l.script-index l.scripts)))) ≡ room_after l.fn.room (length (text_of_lines (scripts_lines 0 l.scripts)));
+  left : room_after l.room (length (text_of_lines (scripts_lines l.client (drop l.script-index l.scripts))))
+      ≡ room_after l.fn.room (length (text_of_lines (scripts_lines 0 l.scripts)));
   counted : l.client ≡ l.script-index;
 }

@@ -6,4 +6,6 @@ use Rattle.nz_script.proofs.sizes.skews_room.Given as goal
 
 -- what the lines that are left leave of the room that is left
 abbrev pub invariant-loop-skew : goal.invariant-loop-skew
-invariant-loop-skew l = room_after l.room (length (text_of_lines (map skew_line (drop l.skew-index l.skews)))) ≡ room_after l.fn.room (length (text_of_lines (map skew_line l.skews)))
+invariant-loop-skew l =
+    room_after l.room (length (text_of_lines (map skew_line (drop l.skew-index l.skews))))
+    ≡ room_after l.fn.room (length (text_of_lines (map skew_line l.skews)))

@@ -1,6 +1,6 @@
 -- What the loops of the function of this folder keep.
 use Rattle.std.proofs.Common.{◌≡◌, drop}
-use Rattle.nz_machine.specs.LogMods.{kept_all}
+use Rattle.nz_machine.specs.LogMods.{with_late_entries}
 use Rattle.nz_sync.proofs.fetches.keep_each.Given as goal
 
 -- the entries that are left lead to the end
@@ -8,5 +8,5 @@ abbrev pub invariant-loop-entry : goal.invariant-loop-entry
 invariant-loop-entry l = record {
   size : l.state.f ≡ l.initial.state.f;
   number : l.state.me ≡ l.initial.state.me;
-  state : kept_all l.state.state (drop l.entry-index l.entries) ≡ kept_all l.initial.state.state l.entries;
+  state : with_late_entries l.state.state (drop l.entry-index l.entries) ≡ with_late_entries l.initial.state.state l.entries;
 }

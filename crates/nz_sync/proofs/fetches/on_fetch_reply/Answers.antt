@@ -3,8 +3,9 @@ use Rattle.std.proofs.Common.{List, sym, subst}
 use Rattle.std.specs.List.{AllByRecursion}
 use Rattle.nz_base.specs.declared.key.Entry.{Entry}
 use Rattle.nz_machine.specs.Facts.{FitsEntry}
-use Rattle.nz_machine.proofs.Fields.{entries_of_fit}
+use Rattle.nz_machine.proofs.SentFields.{entries_of_fit}
 use Rattle.nz_sync.proofs.fetches.on_fetch_reply.Goals as goal
 
 pub keep_each-requires : goal.keep_each-requires
-keep_each-requires c = subst (λ (es : List Entry). AllByRecursion FitsEntry es) (sym c.as_slice.ensures) (entries_of_fit 0 64 c.args.body.now.entries c.requires.1)
+keep_each-requires c =
+    subst (λ (es : List Entry). AllByRecursion FitsEntry es) (sym c.as_slice.ensures) (entries_of_fit 0 64 c.args.body.now.entries c.requires.1)

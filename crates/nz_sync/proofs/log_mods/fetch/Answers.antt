@@ -1,7 +1,11 @@
 -- What the function of this folder owes, proved.
-use Rattle.nz_machine.proofs.Fields.{ids_fit}
+use Rattle.nz_machine.proofs.SentFields.{ids_fit}
 use Rattle.nz_sync.proofs.Following.{some_left}
 use Rattle.nz_sync.proofs.log_mods.fetch.Goals as goal
 
 pub send-requires-clause-message : goal.send-requires-clause-message
-send-requires-clause-message c = (c.view.ensures.fits, ids_fit c.args.ids (some_left c.args.ids c.is_empty.result c.is_empty.ensures c.if-is_empty.false) c.requires.few c.requires.fit)
+send-requires-clause-message c = (
+  c.view.ensures.fits,
+  ids_fit c.args.ids
+      (some_left c.args.ids c.is_empty.result c.is_empty.ensures c.if-is_empty.false) c.requires.few c.requires.fit,
+)

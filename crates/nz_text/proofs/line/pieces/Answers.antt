@@ -10,7 +10,11 @@ pub loop-piece-smaller : goal.loop-piece-smaller
 loop-piece-smaller c = shorter space c.loop-piece.rest.now c.in-Some.piece.now c.in-Some.behind.now (sym c.in-Some.ensures)
 
 pub loop-piece-preserved : goal.loop-piece-preserved
-loop-piece-preserved c = next_piece (λ p. p.now) c.loop-piece.pieces.items c.push.new.self.items c.in-Some.piece c.loop-piece.rest.now c.in-Some.behind.now (pieces_in c.args.line.now) (sym c.in-Some.ensures) c.in_ok-push.ensures.items c.loop-piece.invariant
+loop-piece-preserved c =
+    next_piece (λ p. p.now) c.loop-piece.pieces.items c.push.new.self.items c.in-Some.piece c.loop-piece.rest.now
+    c.in-Some.behind.now (pieces_in c.args.line.now) (sym c.in-Some.ensures) c.in_ok-push.ensures.items c.loop-piece.invariant
 
 pub returns : goal.returns
-returns c = last_piece (λ p. p.now) c.loop-piece.pieces.items c.push-2.new.self.items c.loop-piece.rest c.loop-piece.rest.now (pieces_in c.args.line.now) (sym c.in_default.ensures) refl c.in_ok-push-2.ensures.items c.loop-piece.invariant
+returns c =
+    last_piece (λ p. p.now) c.loop-piece.pieces.items c.push-2.new.self.items c.loop-piece.rest c.loop-piece.rest.now
+    (pieces_in c.args.line.now) (sym c.in_default.ensures) refl c.in_ok-push-2.ensures.items c.loop-piece.invariant

@@ -1,6 +1,6 @@
 -- What the loops of the function of this folder keep.
 use Rattle.std.proofs.Common.{◌≤◌, ◌-◌, vec_len, length}
-use Rattle.nz_edge.specs.Told.{Loses}
+use Rattle.nz_edge.specs.Exposed.{Loses}
 use Rattle.nz_top.specs.Moves.{most_input}
 use Rattle.nz_top.proofs.input.read_pieces.Given as goal
 

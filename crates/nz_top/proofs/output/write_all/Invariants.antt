@@ -1,6 +1,6 @@
 -- What the loops of the function of this folder keep.
 use Rattle.std.proofs.Common.{◌≤◌, ◌-◌, length, take}
-use Rattle.nz_edge.specs.Told.{Gains}
+use Rattle.nz_edge.specs.Exposed.{Gains}
 use Rattle.nz_top.proofs.output.write_all.Given as goal
 
 -- the sink took the bytes so far

@@ -12,4 +12,6 @@ pub returns-in-Ok-clause-one_history : goal.returns-in-Ok-clause-one_history
 returns-in-Ok-clause-one_history g c = IfSome_then c.answer.result.journal c.answer.ensures.is_run (λ j h. one_history (group_in j) (run_in j) h.world)
 
 pub returns-in-Err-Refused-clause-bad_line : goal.returns-in-Err-Refused-clause-bad_line
-returns-in-Err-Refused-clause-bad_line g c = λ _. line_told _ (g.S.Source.left c.args.source.now) _ _ _ _ _ _ _ _ _ _ c.in-Err-Refused.field-0 c.in-Err-Refused.field-0-is c.in-Err-Refused.line-is c.in-Err-Refused.kind-is c.in-Err-Refused.ensures.none c.tell_bad_line.ensures.line
+returns-in-Err-Refused-clause-bad_line g c =
+    λ _. line_told _ (g.S.Source.left c.args.source.now) _ _ _ _ _ _ _ _ _ _ c.in-Err-Refused.field-0
+    c.in-Err-Refused.field-0-is c.in-Err-Refused.line-is c.in-Err-Refused.kind-is c.in-Err-Refused.ensures.none c.tell_bad_line.ensures.line

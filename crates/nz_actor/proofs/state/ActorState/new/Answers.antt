@@ -11,5 +11,7 @@ pub invariant_of-result : goal.invariant_of-result
 invariant_of-result g c =
     let group = group_of g.N.Name.scenario in
     let core = c.args.core in
-    subst (λ (steps : List Record). IsLane group (g.C.Core.meaning core) (g.C.Core.live core) (g.C.Core.fits core group) (record { actor = c.actor-actor.result; live = true; steps = steps })) (sym (ap reverse c.new.ensures))
-    (lane_start group (g.C.Core.meaning core) (g.C.Core.live core) (g.C.Core.fits core group) c.actor-actor.result c.requires.fits c.requires.first c.requires.live c.actor-actor.ensures)
+    subst (λ (steps : List Record). IsLane group (g.C.Core.meaning core) (g.C.Core.live core)
+    (g.C.Core.fits core group) (record { actor = c.actor-actor.result; live = true; steps = steps })) (sym (ap reverse c.new.ensures))
+    (lane_start group (g.C.Core.meaning core) (g.C.Core.live core)
+    (g.C.Core.fits core group) c.actor-actor.result c.requires.fits c.requires.first c.requires.live c.actor-actor.ensures)

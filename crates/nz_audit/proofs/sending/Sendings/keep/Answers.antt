@@ -9,7 +9,7 @@ use Rattle.nz_base.specs.contracts.actor.ActorPartialEq
 use Rattle.nz_audit.specs.declared.sending.ParcelKey.{ParcelKey}
 use Rattle.nz_audit.specs.contracts.sending.ParcelKeyPartialEq
 use Rattle.nz_audit.specs.declared.source.Source.{Source}
-use Rattle.nz_audit.specs.Sources.{key_of, same_key, kept_of}
+use Rattle.nz_audit.specs.Sources.{parcel_key_of, same_key, kept_of}
 use Rattle.nz_audit.proofs.sending.Sendings.keep.Goals as goal
 
 -- the derived comparisons
@@ -34,6 +34,6 @@ found_same k (e ∷ es) = λ i. cond (same_keys k e.0 i) (Some e.1) (found_same 
 pub returns : goal.returns
 returns c = λ p.
     let old = c.args.self.now.kept.entries in
-    sym (found_same (key_of p) c.insert.new.self.entries) ∙ (c.in_ok-insert.ensures.updates).0 (key_of p)
-    ∙ (λ i. cond (same_keys c.in_ok-new.field-0 (key_of p) i) (Some c.args.source) (found_same (key_of p) old i))
-    ∙ ap (λ (k : ParcelKey). cond (same_key k (key_of p)) (Some c.args.source) (kept_of old p)) c.in_ok-new.ensures
+    sym (found_same (parcel_key_of p) c.insert.new.self.entries) ∙ (c.in_ok-insert.ensures.updates).0 (parcel_key_of p)
+    ∙ (λ i. cond (same_keys c.in_ok-new.field-0 (parcel_key_of p) i) (Some c.args.source) (found_same (parcel_key_of p) old i))
+    ∙ ap (λ (k : ParcelKey). cond (same_key k (parcel_key_of p)) (Some c.args.source) (kept_of old p)) c.in_ok-new.ensures

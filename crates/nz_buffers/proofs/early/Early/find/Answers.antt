@@ -21,5 +21,7 @@ returns-in-Some c =
 pub returns-in-None : goal.returns-in-None
 returns-in-None c =
     let i = c.args.id in
-    let is = sym (none_found (values_of c.self.inside.entries.entries) i (c.in-None.ensures.value ∙ c.self.invariant.found i)) ∙ ap (λ (xs : List Entry). find_id xs i) c.self.view_is in
+    let is =
+    sym (none_found (values_of c.self.inside.entries.entries) i (c.in-None.ensures.value ∙ c.self.invariant.found i))
+    ∙ ap (λ (xs : List Entry). find_id xs i) c.self.view_is in
     record { value = is; held = found_held None c.args.self.now i is }

@@ -6,7 +6,7 @@ use Rattle.nz_base.specs.declared.key.Key.{Key}
 use Rattle.nz_base.specs.declared.key.Entry.{Entry}
 use Rattle.nz_base.specs.Key.{key_cmp}
 use Rattle.nz_buffers.specs.Buffers.{find_id, without}
-use Rattle.nz_buffers.specs.Keeping.{IsKept}
+use Rattle.nz_buffers.specs.Keeping.{IsKeptBuffer}
 use Rattle.nz_buffers.proofs.Keeping.{lookup_is, removed_is, keys_tell, kept_removed, none_found, none_without, answer_held}
 use Rattle.nz_buffers.proofs.early.Early.remove.Goals as goal
 
@@ -15,7 +15,7 @@ invariant_of-self c =
     let i = c.args.id in
     let es = c.self.inside.entries.entries in
     let keys = c.self.inside.keys.entries in
-    subst (λ (xs : List (Key × Entry)). IsKept xs c.swap_remove.new.self.entries) (sym c.remove.ensures.entries)
+    subst (λ (xs : List (Key × Entry)). IsKeptBuffer xs c.swap_remove.new.self.entries) (sym c.remove.ensures.entries)
     (kept_removed es keys c.swap_remove.new.self.entries i c.in-Some.key c.self.invariant (sym c.in-Some.ensures.value) (λ j. c.in-Some.ensures.updates.0 j))
 
 pub returns-in-Some : goal.returns-in-Some
@@ -28,7 +28,9 @@ returns-in-Some c =
     record {
       value = is;
       held = answer_held c.remove.result c.args.self.now i is;
-      rest = ap values_of c.remove.ensures.entries ∙ removed_is (is_at (key_cmp k)) i es tells c.self.invariant.log.own_ids ∙ ap (λ (xs : List Entry). without xs i) c.self.view_is;
+      rest =
+          ap values_of c.remove.ensures.entries ∙ removed_is (is_at (key_cmp k)) i es tells c.self.invariant.log.own_ids
+          ∙ ap (λ (xs : List Entry). without xs i) c.self.view_is;
     }
 
 pub returns-in-None : goal.returns-in-None

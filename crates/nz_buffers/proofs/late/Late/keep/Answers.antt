@@ -18,8 +18,12 @@ invariant_of-self-2 c =
     let e = c.args.entry in
     let es = c.self.inside.entries.entries in
     let fresh = subst (λ (xs : List Entry). has_id (keys_of xs) (id_of e.key) ≡ false) (sym c.self.view_is) c.requires.fresh in
-    let none = lookup_is (id_eq (id_of e.key)) (id_of e.key) es (ids_tell (id_of e.key) es c.self.invariant.at) ∙ find_none (values_of es) (id_of e.key) fresh in
-    let is = c.in_ok-insert.ensures.entries ∙ ap (λ (i : Id). insert_entry id_eq es i e) c.id.ensures ∙ insert_entry-new id_eq c.self.inside.entries (id_of e.key) e none in
+    let none =
+    lookup_is (id_eq (id_of e.key)) (id_of e.key) es (ids_tell (id_of e.key) es c.self.invariant.at)
+    ∙ find_none (values_of es) (id_of e.key) fresh in
+    let is =
+    c.in_ok-insert.ensures.entries ∙ ap (λ (i : Id). insert_entry id_eq es i e) c.id.ensures
+    ∙ insert_entry-new id_eq c.self.inside.entries (id_of e.key) e none in
     subst AreByIds (sym is) (by_ids_push es e c.self.invariant fresh)
 
 pub returns-clause-ok : goal.returns-clause-ok
@@ -27,6 +31,10 @@ returns-clause-ok c =
     let e = c.args.entry in
     let es = c.self.inside.entries.entries in
     let fresh = subst (λ (xs : List Entry). has_id (keys_of xs) (id_of e.key) ≡ false) (sym c.self.view_is) c.requires.fresh in
-    let none = lookup_is (id_eq (id_of e.key)) (id_of e.key) es (ids_tell (id_of e.key) es c.self.invariant.at) ∙ find_none (values_of es) (id_of e.key) fresh in
-    let is = c.in_ok-insert.ensures.entries ∙ ap (λ (i : Id). insert_entry id_eq es i e) c.id.ensures ∙ insert_entry-new id_eq c.self.inside.entries (id_of e.key) e none in
+    let none =
+    lookup_is (id_eq (id_of e.key)) (id_of e.key) es (ids_tell (id_of e.key) es c.self.invariant.at)
+    ∙ find_none (values_of es) (id_of e.key) fresh in
+    let is =
+    c.in_ok-insert.ensures.entries ∙ ap (λ (i : Id). insert_entry id_eq es i e) c.id.ensures
+    ∙ insert_entry-new id_eq c.self.inside.entries (id_of e.key) e none in
     ap values_of is ∙ map-append (λ (p : Id × Entry). p.1) es ((id_of e.key, e) ∷ []) ∙ ap (λ (xs : List Entry). xs ++ e ∷ []) c.self.view_is

@@ -15,9 +15,13 @@ pub returns : goal.returns
 returns c =
     let es = c.self.inside.entries.entries in
     let i = c.args.id in
-    let is = c.shift_remove.ensures.value ∙ lookup_is (id_eq i) i es (ids_tell i es c.self.invariant.at) ∙ ap (λ (xs : List Entry). find_id xs i) c.self.view_is in
+    let is =
+    c.shift_remove.ensures.value ∙ lookup_is (id_eq i) i es (ids_tell i es c.self.invariant.at)
+    ∙ ap (λ (xs : List Entry). find_id xs i) c.self.view_is in
     record {
       value = is;
       held = answer_held c.shift_remove.result c.args.self.now i is;
-      rest = ap values_of c.shift_remove.ensures.entries ∙ removed_is (id_eq i) i es (ids_tell i es c.self.invariant.at) c.self.invariant.own ∙ ap (λ (xs : List Entry). without xs i) c.self.view_is;
+      rest =
+          ap values_of c.shift_remove.ensures.entries
+          ∙ removed_is (id_eq i) i es (ids_tell i es c.self.invariant.at) c.self.invariant.own ∙ ap (λ (xs : List Entry). without xs i) c.self.view_is;
     }

@@ -7,4 +7,5 @@ use Rattle.nz_buffers.proofs.list_early.ListEarlyEarlyRep.find.Goals as goal
 
 pub returns-clause-held : goal.returns-clause-held
 returns-clause-held c =
-    found_held c.find.result c.args.self.now c.args.id (c.find.ensures ∙ ap (λ (xs : List Entry). find_id xs c.args.id) (c.deref.ensures.value ∙ c.self.view_is))
+    found_held c.find.result c.args.self.now c.args.id
+    (c.find.ensures ∙ ap (λ (xs : List Entry). find_id xs c.args.id) (c.deref.ensures.value ∙ c.self.view_is))

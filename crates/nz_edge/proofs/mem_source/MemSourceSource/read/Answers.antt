@@ -1,7 +1,7 @@
 -- What the function of this folder owes, proved.
 use Rattle.std.proofs.Common.{rules}
 use Rattle.std.proofs.lemmas.Grind.{common_steps}
-use Rattle.nz_edge.proofs.Told.{loses_front}
+use Rattle.nz_edge.proofs.Exposed.{loses_front}
 use Rattle.nz_edge.proofs.mem_source.MemSourceSource.read.Goals as goal
 
 pub returns-clause-given : goal.returns-clause-given

@@ -16,7 +16,9 @@ invariant_of-self c =
     let unmarked : t.marked ≡ false = ap (λ (f : State). f.marked) c.self.view_is ∙ c.requires.quiet.unmarked in
     let rest = take_rest c.deref.result.now f.before ∙ ap (drop f.before) c.deref.ensures.value in
     let now = c.post_all.new.calendar in
-    held_marked t.scenario t.tick f.before (vec_capacity f.records) rs t.items.items t.next t.marked t.calendar now inv (over_some t f.before rs _ now unmarked inv.is_posted rest c.in_err-post_all.ensures.err)
+    held_marked t.scenario t.tick f.before
+    (vec_capacity f.records) rs t.items.items t.next t.marked t.calendar now inv
+    (over_some t f.before rs _ now unmarked inv.is_posted rest c.in_err-post_all.ensures.err)
 
 pub invariant_of-self-in_err-begin : goal.invariant_of-self-in_err-begin
 invariant_of-self-in_err-begin c =
@@ -28,7 +30,9 @@ invariant_of-self-in_err-begin c =
     let rest = take_rest c.deref.result.now f.before ∙ ap (drop f.before) c.deref.ensures.value in
     let now = c.post_all.new.calendar in
     subst (λ (t : Ticks). IsHeld (state_in t f.before rs) f.before (vec_capacity f.records) rs t.calendar) (sym c.in_err-begin.ensures.err)
-    (held_marked t.scenario t.tick f.before (vec_capacity f.records) rs t.items.items t.next t.marked t.calendar now inv (over_whole t f.before rs _ now unmarked inv.is_posted rest c.in_ok-post_all.ensures.ok))
+    (held_marked t.scenario t.tick f.before
+    (vec_capacity f.records) rs t.items.items t.next t.marked t.calendar now inv
+    (over_whole t f.before rs _ now unmarked inv.is_posted rest c.in_ok-post_all.ensures.ok))
 
 pub invariant_of-self-2 : goal.invariant_of-self-2
 invariant_of-self-2 c =
@@ -38,10 +42,14 @@ invariant_of-self-2 c =
     let inv = c.self.invariant in
     let unmarked : t.marked ≡ false = ap (λ (f : State). f.marked) c.self.view_is ∙ c.requires.quiet.unmarked in
     let rest = take_rest c.deref.result.now f.before ∙ ap (drop f.before) c.deref.ensures.value in
-    let begun = over_begun t f.before rs _ c.post_all.new.calendar c.begin.new.self unmarked inv.is_posted rest c.in_ok-post_all.ensures.ok c.in_ok-begin.ensures.ok in
+    let begun =
+    over_begun t f.before rs _ c.post_all.new.calendar c.begin.new.self unmarked inv.is_posted rest
+    c.in_ok-post_all.ensures.ok c.in_ok-begin.ensures.ok in
     let long : c.len-self-inside.result ≡ length rs = omega (arith, c.len-self-inside.ensures) in
     let lt : t.tick < t.scenario.ticks = (let k = inv.kept.in_run in let ne = c.if-self.false in omega (arith, k, ne)) in
-    held_next t.scenario t.tick f.before c.len-self-inside.result (vec_capacity f.records) rs t.items.items t.next t.marked t.calendar c.begin.new.self inv (subst IsDone (sym c.self.view_is) c.requires) lt begun long
+    held_next t.scenario t.tick f.before c.len-self-inside.result
+    (vec_capacity f.records) rs t.items.items t.next t.marked t.calendar c.begin.new.self inv
+    (subst IsDone (sym c.self.view_is) c.requires) lt begun long
 
 pub returns : goal.returns
 returns c =
@@ -51,7 +59,12 @@ returns c =
     let inv = c.self.invariant in
     let unmarked : t.marked ≡ false = ap (λ (f : State). f.marked) c.self.view_is ∙ c.requires.quiet.unmarked in
     let rest = take_rest c.deref.result.now f.before ∙ ap (drop f.before) c.deref.ensures.value in
-    let begun = over_begun t f.before rs _ c.post_all.new.calendar c.begin.new.self unmarked inv.is_posted rest c.in_ok-post_all.ensures.ok c.in_ok-begin.ensures.ok in
+    let begun =
+    over_begun t f.before rs _ c.post_all.new.calendar c.begin.new.self unmarked inv.is_posted rest
+    c.in_ok-post_all.ensures.ok c.in_ok-begin.ensures.ok in
     let long : c.len-self-inside.result ≡ length rs = omega (arith, c.len-self-inside.ensures) in
-    let lt : t.tick < t.scenario.ticks = (let k = inv.kept.in_run in let ne = c.if-self.false in omega (arith, k, ne)) in
-    (next_is t.scenario t.tick f.before c.len-self-inside.result rs t.items.items t.next t.marked c.begin.new.self begun long unmarked ∙ ap after_tick c.self.view_is, subst (λ (f : State). f.tick < f.scenario.ticks) c.self.view_is lt)
+    let lt : t.tick < t.scenario.ticks = (let k = inv.kept.in_run in let ne = c.if-self.false in omega (arith, k, ne)) in (
+      next_is t.scenario t.tick f.before c.len-self-inside.result rs t.items.items t.next t.marked c.begin.new.self
+          begun long unmarked ∙ ap after_tick c.self.view_is,
+      subst (λ (f : State). f.tick < f.scenario.ticks) c.self.view_is lt,
+    )

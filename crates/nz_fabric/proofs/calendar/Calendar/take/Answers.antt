@@ -11,7 +11,9 @@ pub from_vec-requires : goal.from_vec-requires
 from_vec-requires c =
     let f = c.self.inside in
     let lt : c.args.tick < length f.days.items = omega (arith, c.if-place-len.false, c.len.ensures) in
-    subst (λ (is : List Item). length is < 2 ^ 32) (day_is f.days.items c.args.tick c.index_mut.result.now lt c.index_mut.ensures.value ∙ ap (λ (v : Vec Item Global). v.items) (sym c.replace-day.ensures.value)) (c.self.invariant c.args.tick)
+    subst (λ (is : List Item). length is < 2 ^ 32)
+    (day_is f.days.items c.args.tick c.index_mut.result.now lt c.index_mut.ensures.value
+    ∙ ap (λ (v : Vec Item Global). v.items) (sym c.replace-day.ensures.value)) (c.self.invariant c.args.tick)
 
 pub invariant_of-self : goal.invariant_of-self
 invariant_of-self c =
@@ -23,4 +25,8 @@ invariant_of-self c =
 pub returns-clause-stands : goal.returns-clause-stands
 returns-clause-stands c = λ s L now h lt.
     let f = c.self.inside in
-    stands_by s L c.args.tick c.args.self.now _ (ap (λ (d : Dates). d.parcels) c.self.view_is) (ap (λ (d : Dates). d.counts) c.self.view_is) (λ t after. taken_later f.days.items c.args.tick t c.replace-day.new.dest after (ap (λ (v : Vec Item Global). v.items) c.replace-day.ensures.after ∙ c.new-2.ensures.items) ∙ ap (λ (d : Dates). items_in d.days t) c.self.view_is) (stands_later s L now c.args.tick c.args.self.now lt h)
+    stands_by s L c.args.tick c.args.self.now _ (ap (λ (d : Dates). d.parcels) c.self.view_is)
+    (ap (λ (d : Dates). d.counts) c.self.view_is)
+    (λ t after. taken_later f.days.items c.args.tick t c.replace-day.new.dest after
+    (ap (λ (v : Vec Item Global). v.items) c.replace-day.ensures.after ∙ c.new-2.ensures.items)
+    ∙ ap (λ (d : Dates). items_in d.days t) c.self.view_is) (stands_later s L now c.args.tick c.args.self.now lt h)

@@ -6,7 +6,8 @@ use Rattle.nz_fabric.proofs.Filing.{AreLeft}
 use Rattle.nz_fabric.proofs.rows.Rows.into_records.Given as goal
 
 abbrev pub invariant-left : goal.invariant-left
-invariant-left l = AreLeft l.fn.self.records l.order.items (rows_of l.rows.items) l.records.items × (vec_len l.records + vec_len l.order ≤ vec_capacity l.records)
+invariant-left l =
+    AreLeft l.fn.self.records l.order.items (rows_of l.rows.items) l.records.items × (vec_len l.records + vec_len l.order ≤ vec_capacity l.records)
 
 abbrev pub decreases-left : goal.decreases-left
 decreases-left l = vec_len l.order

@@ -14,7 +14,8 @@ invariant_of-self-in_err-reserve-2 c =
     let R = f.rows.items in
     let v = c.reserve-2.new.self in
     let same = same_rows R c.row_of.result c.index_mut.result.now v c.index_mut.ensures.value c.reserve-2.ensures.items in
-    subst (λ (rows : List (List Record)). AreRows c.reserve.new.self.items rows) (sym same) (subst (λ (order : List Place). AreRows order (rows_of R)) (sym c.reserve.ensures.items) c.self.invariant)
+    subst (λ (rows : List (List Record)). AreRows c.reserve.new.self.items rows) (sym same)
+    (subst (λ (order : List Place). AreRows order (rows_of R)) (sym c.reserve.ensures.items) c.self.invariant)
 
 pub returns-in_err-reserve-2-clause-records : goal.returns-in_err-reserve-2-clause-records
 returns-in_err-reserve-2-clause-records c =
@@ -22,7 +23,8 @@ returns-in_err-reserve-2-clause-records c =
     let R = f.rows.items in
     let v = c.reserve-2.new.self in
     let same = same_rows R c.row_of.result c.index_mut.result.now v c.index_mut.ensures.value c.reserve-2.ensures.items in
-    ap (λ (rows : List (List Record)). map (record_at rows) c.reserve.new.self.items) same ∙ ap (λ (order : List Place). map (record_at (rows_of R)) order) c.reserve.ensures.items ∙ ap (λ (f : Filed). f.records) c.self.view_is
+    ap (λ (rows : List (List Record)). map (record_at rows) c.reserve.new.self.items) same
+    ∙ ap (λ (order : List Place). map (record_at (rows_of R)) order) c.reserve.ensures.items ∙ ap (λ (f : Filed). f.records) c.self.view_is
 
 pub returns-in_err-reserve-2-clause-spares : goal.returns-in_err-reserve-2-clause-spares
 returns-in_err-reserve-2-clause-spares c = λ a.
@@ -33,7 +35,8 @@ returns-in_err-reserve-2-clause-spares c = λ a.
     let many = wide f.order.items R c.self.invariant in
     let long = ap length c.reserve-2.ensures.items in
     subst (λ (f : Filed). spare_of f a ≤ get_or (map spare_in (slice_set R c.row_of.result v)) (row_number a) 0) c.self.view_is
-    (spares_grow R c.row_of.result old v a (omega (arith, many, c.row_of.ensures.within)) c.index_mut.ensures.value (omega (arith, long, c.reserve-2.ensures.capacity)))
+    (spares_grow R c.row_of.result old v a (omega (arith, many, c.row_of.ensures.within)) c.index_mut.ensures.value
+    (omega (arith, long, c.reserve-2.ensures.capacity)))
 
 pub invariant_of-self-2 : goal.invariant_of-self-2
 invariant_of-self-2 c =
@@ -41,7 +44,8 @@ invariant_of-self-2 c =
     let R = f.rows.items in
     let v = c.reserve-2.new.self in
     let same = same_rows R c.row_of.result c.index_mut.result.now v c.index_mut.ensures.value c.reserve-2.ensures.items in
-    subst (λ (rows : List (List Record)). AreRows c.reserve.new.self.items rows) (sym same) (subst (λ (order : List Place). AreRows order (rows_of R)) (sym c.reserve.ensures.items) c.self.invariant)
+    subst (λ (rows : List (List Record)). AreRows c.reserve.new.self.items rows) (sym same)
+    (subst (λ (order : List Place). AreRows order (rows_of R)) (sym c.reserve.ensures.items) c.self.invariant)
 
 pub returns-clause-records : goal.returns-clause-records
 returns-clause-records c =
@@ -49,7 +53,8 @@ returns-clause-records c =
     let R = f.rows.items in
     let v = c.reserve-2.new.self in
     let same = same_rows R c.row_of.result c.index_mut.result.now v c.index_mut.ensures.value c.reserve-2.ensures.items in
-    ap (λ (rows : List (List Record)). map (record_at rows) c.reserve.new.self.items) same ∙ ap (λ (order : List Place). map (record_at (rows_of R)) order) c.reserve.ensures.items ∙ ap (λ (f : Filed). f.records) c.self.view_is
+    ap (λ (rows : List (List Record)). map (record_at rows) c.reserve.new.self.items) same
+    ∙ ap (λ (order : List Place). map (record_at (rows_of R)) order) c.reserve.ensures.items ∙ ap (λ (f : Filed). f.records) c.self.view_is
 
 pub returns-clause-spares : goal.returns-clause-spares
 returns-clause-spares c = λ a.
@@ -60,7 +65,8 @@ returns-clause-spares c = λ a.
     let many = wide f.order.items R c.self.invariant in
     let long = ap length c.reserve-2.ensures.items in
     subst (λ (f : Filed). spare_of f a ≤ get_or (map spare_in (slice_set R c.row_of.result v)) (row_number a) 0) c.self.view_is
-    (spares_grow R c.row_of.result old v a (omega (arith, many, c.row_of.ensures.within)) c.index_mut.ensures.value (omega (arith, long, c.reserve-2.ensures.capacity)))
+    (spares_grow R c.row_of.result old v a (omega (arith, many, c.row_of.ensures.within)) c.index_mut.ensures.value
+    (omega (arith, long, c.reserve-2.ensures.capacity)))
 
 pub returns-clause-spare : goal.returns-clause-spare
 returns-clause-spare c =

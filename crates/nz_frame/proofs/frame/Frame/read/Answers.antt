@@ -8,17 +8,21 @@ use Rattle.nz_frame.proofs.frame.Frame.read.Goals as goal
 pub returns-clause-frame : goal.returns-clause-frame
 returns-clause-frame c =
     let sizes = c.in_ok-check_length.ensures.ok in
-    is_frame c.args.bytes.now _ _ _ (λ i. omega (arith, c.type_inv.bytes i)) sizes.0 sizes.1 sizes.2 c.if-bytes-ne-VERSION.false (c.is_kind.ensures.0 c.if-not-is_kind.false)
-    c.in_ok-from.ensures.known c.in_ok-to.ensures.known c.in_ok-from.ensures.address c.in_ok-to.ensures.address (take_all _ _ (omega (arith, length-drop 10 c.args.bytes.now)))
+    is_frame c.args.bytes.now _ _ _
+    (λ i. omega (arith, c.type_inv.bytes i)) sizes.0 sizes.1 sizes.2 c.if-bytes-ne-VERSION.false (c.is_kind.ensures.0 c.if-not-is_kind.false)
+    c.in_ok-from.ensures.known c.in_ok-to.ensures.known c.in_ok-from.ensures.address c.in_ok-to.ensures.address
+    (take_all _ _ (omega (arith, length-drop 10 c.args.bytes.now)))
 
 pub returns-clause-every_frame : goal.returns-clause-every_frame
 returns-clause-every_frame c = λ kind from to body h. one_reading c.args.bytes.now _ _ _ _ kind from to body (returns-clause-frame c) h
 
 pub returns-in_err-check_length-clause-every_frame : goal.returns-in_err-check_length-clause-every_frame
-returns-in_err-check_length-clause-every_frame c = λ kind from to body h. absurd (never_refused c.args.bytes.now kind from to body _ h c.in_err-check_length.ensures.err)
+returns-in_err-check_length-clause-every_frame c =
+    λ kind from to body h. absurd (never_refused c.args.bytes.now kind from to body _ h c.in_err-check_length.ensures.err)
 
 pub returns-then-bytes-ne-VERSION-clause-every_frame : goal.returns-then-bytes-ne-VERSION-clause-every_frame
-returns-then-bytes-ne-VERSION-clause-every_frame c = λ kind from to body h. absurd (c.if-bytes-ne-VERSION.true (frame_version c.args.bytes.now kind from to body h))
+returns-then-bytes-ne-VERSION-clause-every_frame c =
+    λ kind from to body h. absurd (c.if-bytes-ne-VERSION.true (frame_version c.args.bytes.now kind from to body h))
 
 pub returns-then-not-is_kind-clause-every_frame : goal.returns-then-not-is_kind-clause-every_frame
 returns-then-not-is_kind-clause-every_frame c = λ kind from to body h.

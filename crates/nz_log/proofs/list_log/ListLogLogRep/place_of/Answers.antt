@@ -10,7 +10,8 @@ use Rattle.nz_log.proofs.list_log.ListLogLogRep.place_of.Goals as goal
 -- the place that is found is one in the log
 at : (c : goal.In-Some) → IsFirstPlace c.args.self.now.entries c.args.id c.in-Some.place
 at c =
-    subst (λ (xs : List Entry). IsFirstPlace xs c.args.id c.in-Some.place) (c.deref.ensures.value ∙ ap (λ (l : Log). l.entries) c.self.view_is) c.in-Some.ensures.found
+    subst (λ (xs : List Entry). IsFirstPlace xs c.args.id c.in-Some.place)
+    (c.deref.ensures.value ∙ ap (λ (l : Log). l.entries) c.self.view_is) c.in-Some.ensures.found
 
 pub returns-in-Some-clause-value : goal.returns-in-Some-clause-value
 returns-in-Some-clause-value c = sym (first_place c.args.self.now.entries c.args.id c.in-Some.place (at c))
@@ -20,5 +21,7 @@ returns-in-Some-clause-held c = (λ _. held_at c.args.self.now.entries c.args.id
 
 pub returns-in-None-clause-value : goal.returns-in-None-clause-value
 returns-in-None-clause-value c =
-    let away = subst (λ (xs : List Entry). has_id (keys_of xs) c.args.id ≡ false) (c.deref.ensures.value ∙ ap (λ (l : Log). l.entries) c.self.view_is) c.in-None.ensures.none in
+    let away =
+    subst (λ (xs : List Entry). has_id (keys_of xs) c.args.id ≡ false)
+    (c.deref.ensures.value ∙ ap (λ (l : Log). l.entries) c.self.view_is) c.in-None.ensures.none in
     sym (place_none c.args.self.now.entries c.args.id away)

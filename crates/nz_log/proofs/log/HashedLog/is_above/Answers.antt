@@ -12,4 +12,6 @@ returns-in-Some c =
     ∙ ap (λ (l : Log). is_above_last (keys_of l.entries) c.args.key.now) c.self.view_is
 
 pub returns-in-None : goal.returns-in-None
-returns-in-None c = sym (above_none c.self.inside.entries c.args.key.now (sym c.in-None.ensures)) ∙ ap (λ (l : Log). is_above_last (keys_of l.entries) c.args.key.now) c.self.view_is
+returns-in-None c =
+    sym (above_none c.self.inside.entries c.args.key.now (sym c.in-None.ensures))
+    ∙ ap (λ (l : Log). is_above_last (keys_of l.entries) c.args.key.now) c.self.view_is

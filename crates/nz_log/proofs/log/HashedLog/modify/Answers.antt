@@ -7,7 +7,7 @@ use Rattle.nz_base.specs.declared.key.Id.{Id}
 use Rattle.nz_base.specs.declared.key.Entry.{Entry}
 use Rattle.nz_base.specs.Key.{id_of, id_eq}
 use Rattle.nz_base.specs.Log.{keys_of, has_id, is_above_last}
-use Rattle.nz_log.specs.Synced.{Log, IsSound, synced_part, stays_behind, modified}
+use Rattle.nz_log.specs.Synced.{Log, IsSound, synced_part, stays_behind, log_with_synced}
 use Rattle.nz_log.specs.Keeping.{IsSummed}
 use Rattle.nz_log.proofs.Modifying.{kept_after, kept_long, modified_sound}
 use Rattle.nz_log.proofs.Keeping.{midway_put, sums_put}
@@ -18,7 +18,8 @@ keep_above-requires-clause-midway c =
     let e = c.args.entry in
     let log : Log = record { entries = c.self.inside.entries; synced = c.self.inside.synced } in
     let fresh = subst (λ (l : Log). has_id (keys_of (synced_part l)) (id_of e.key) ≡ false) (sym c.self.view_is) c.requires.fresh in
-    midway_put log e c.self.inside.digests.items c.self.inside.places.entries (λ i. lookup (id_eq i) c.set_place.new.places.entries) c.insert.new.self c.self.invariant fresh c.in_ok-insert.ensures.ok
+    midway_put log e c.self.inside.digests.items c.self.inside.places.entries
+    (λ i. lookup (id_eq i) c.set_place.new.places.entries) c.insert.new.self c.self.invariant fresh c.in_ok-insert.ensures.ok
     (λ i. c.set_place.ensures i
     ∙ ap (λ (j : Id). if id_eq j i then Some log.synced else lookup (id_eq i) c.reserve-2.new.self.entries) c.id.ensures
     ∙ ap (λ (m : List (Id × ℕ)). if id_eq (id_of e.key) i then Some log.synced else lookup (id_eq i) m) c.reserve-2.ensures.entries)
@@ -30,7 +31,8 @@ fold_from-requires-clause-room c =
     let place = c.self.inside.synced in
     let within = c.self.invariant.sound.within in
     let is = kept_after es place e c.insert.new.self c.keep_above.new.entries within c.in_ok-insert.ensures.ok c.keep_above.ensures.entries in
-    let long : length c.keep_above.new.entries ≤ length es + 1 = subst (λ (xs : List Entry). length xs ≤ length es + 1) (sym is) (kept_long es place e within) in
+    let long : length c.keep_above.new.entries ≤ length es + 1 =
+    subst (λ (xs : List Entry). length xs ≤ length es + 1) (sym is) (kept_long es place e within) in
     let count : length c.self.inside.digests.items ≡ length es = c.self.invariant.summed.count in
     let items : length c.reserve.new.self.items ≡ length c.self.inside.digests.items = ap length c.reserve.ensures.items in
     let size : length c.reserve.new.self.items ≡ vec_len c.reserve.new.self = sym c.reserve.new.self.ok.0 in
@@ -43,9 +45,12 @@ fold_from-requires-clause-before c =
     let es = c.self.inside.entries in
     let place = c.self.inside.synced in
     let log : Log = record { entries = es; synced = place } in
-    let is = kept_after es place e c.insert.new.self c.keep_above.new.entries c.self.invariant.sound.within c.in_ok-insert.ensures.ok c.keep_above.ensures.entries in
+    let is =
+    kept_after es place e c.insert.new.self c.keep_above.new.entries c.self.invariant.sound.within
+    c.in_ok-insert.ensures.ok c.keep_above.ensures.entries in
     subst (λ (ds : List (List ℕ)). IsSummed (take place c.keep_above.new.entries) (take place ds)) (sym c.reserve.ensures.items)
-    (sums_put log e c.self.inside.digests.items (filter (stays_behind e.key) (drop place es)) c.keep_above.new.entries c.self.invariant.sound c.self.invariant.summed is)
+    (sums_put log e c.self.inside.digests.items
+    (filter (stays_behind e.key) (drop place es)) c.keep_above.new.entries c.self.invariant.sound c.self.invariant.summed is)
 
 pub invariant_of-self-2 : goal.invariant_of-self-2
 invariant_of-self-2 c =
@@ -56,9 +61,13 @@ invariant_of-self-2 c =
     let above = subst (λ (l : Log). is_above_last (keys_of (synced_part l)) e.key ≡ true) (sym c.self.view_is) c.requires.above in
     let fresh = subst (λ (l : Log). has_id (keys_of (synced_part l)) (id_of e.key) ≡ false) (sym c.self.view_is) c.requires.fresh in
     let room = subst (λ (l : Log). length l.entries < 4096) (sym c.self.view_is) c.requires.room in
-    let is = kept_after es place e c.insert.new.self c.keep_above.new.entries c.self.invariant.sound.within c.in_ok-insert.ensures.ok c.keep_above.ensures.entries in
+    let is =
+    kept_after es place e c.insert.new.self c.keep_above.new.entries c.self.invariant.sound.within
+    c.in_ok-insert.ensures.ok c.keep_above.ensures.entries in
     record {
-      sound = subst (λ (xs : List Entry). IsSound (record { entries = xs; synced = place + 1 })) (sym is) (modified_sound log e c.self.invariant.sound above fresh room);
+      sound =
+          subst (λ (xs : List Entry). IsSound (record { entries = xs; synced = place + 1 })) (sym is)
+          (modified_sound log e c.self.invariant.sound above fresh room);
       summed = c.fold_from.ensures;
       found = c.keep_above.ensures.places;
     }
@@ -68,5 +77,7 @@ returns-clause-ok c =
     let e = c.args.entry in
     let es = c.self.inside.entries in
     let place = c.self.inside.synced in
-    let is = kept_after es place e c.insert.new.self c.keep_above.new.entries c.self.invariant.sound.within c.in_ok-insert.ensures.ok c.keep_above.ensures.entries in
-    ap (λ (xs : List Entry). record { entries = xs; synced = place + 1 }) is ∙ ap (λ (l : Log). modified l e) c.self.view_is
+    let is =
+    kept_after es place e c.insert.new.self c.keep_above.new.entries c.self.invariant.sound.within
+    c.in_ok-insert.ensures.ok c.keep_above.ensures.entries in
+    ap (λ (xs : List Entry). record { entries = xs; synced = place + 1 }) is ∙ ap (λ (l : Log). log_with_synced l e) c.self.view_is

@@ -8,14 +8,15 @@ use Rattle.nz_machine.specs.State.{ReplicaData}
 use Rattle.nz_machine.specs.Facts.{ReplicaModel, HasFacts, IsCarried}
 use Rattle.nz_machine.specs.Replicas.{most_entries}
 use Rattle.nz_machine.specs.Begins.{changes_of, after_begin}
-use Rattle.nz_machine.proofs.Words.{merged_carried}
-use Rattle.nz_machine.proofs.Calls.{begin_none, begun_state}
+use Rattle.nz_machine.proofs.WordsKeepFacts.{merged_carried}
+use Rattle.nz_machine.proofs.ViewInvariant.{begin_none, begun_state}
 use Rattle.nz_machine.proofs.state.ReplicaState.begin.Goals as goal
 
 pub returns-then-len-gt-MAX_ENTRIES-clause-state : goal.returns-then-len-gt-MAX_ENTRIES-clause-state
 returns-then-len-gt-MAX_ENTRIES-clause-state c =
     let v : ReplicaModel = c.args.self.now in
-    let log : c.in_ok-log.log ≡ merged v.f (changes_of v.me v.state) = c.in_ok-log.ensures ∙ (λ i. merged (c.self.view_is i).f (c.in_ok-changes.ensures.value i)) in
+    let log : c.in_ok-log.log ≡ merged v.f (changes_of v.me v.state) =
+    c.in_ok-log.ensures ∙ (λ i. merged (c.self.view_is i).f (c.in_ok-changes.ensures.value i)) in
     let long = ap length log in
     let is = c.len.ensures in
     let more = c.if-len-gt-MAX_ENTRIES.true in
@@ -25,7 +26,8 @@ returns-then-len-gt-MAX_ENTRIES-clause-state c =
 pub begin_with-requires : goal.begin_with-requires
 begin_with-requires c =
     let v : ReplicaModel = c.args.self.now in
-    let log : c.in_ok-log.log ≡ merged v.f (changes_of v.me v.state) = c.in_ok-log.ensures ∙ (λ i. merged (c.self.view_is i).f (c.in_ok-changes.ensures.value i)) in
+    let log : c.in_ok-log.log ≡ merged v.f (changes_of v.me v.state) =
+    c.in_ok-log.ensures ∙ (λ i. merged (c.self.view_is i).f (c.in_ok-changes.ensures.value i)) in
     let long = ap length log in
     let is = c.len.ensures in
     let more = c.if-len-gt-MAX_ENTRIES.false in
@@ -36,7 +38,8 @@ begin_with-requires c =
 pub returns-clause-state : goal.returns-clause-state
 returns-clause-state c =
     let v : ReplicaModel = c.args.self.now in
-    let log : c.in_ok-log.log ≡ merged v.f (changes_of v.me v.state) = c.in_ok-log.ensures ∙ (λ i. merged (c.self.view_is i).f (c.in_ok-changes.ensures.value i)) in
+    let log : c.in_ok-log.log ≡ merged v.f (changes_of v.me v.state) =
+    c.in_ok-log.ensures ∙ (λ i. merged (c.self.view_is i).f (c.in_ok-changes.ensures.value i)) in
     let known : c.greatest_commit.result ≡ greatest (map (λ (x : Change). x.commit) (changes_of v.me v.state)) =
     c.greatest_commit.ensures ∙ (λ i. greatest (map (λ (x : Change). x.commit) ((c.as_slice.ensures.value ∙ c.in_ok-changes.ensures.value) i))) in
     let long = ap length log in
@@ -44,4 +47,5 @@ returns-clause-state c =
     let more = c.if-len-gt-MAX_ENTRIES.false in
     let room : nat_lt most_entries (length (merged v.f (changes_of v.me v.state))) ≡ false = grind (arith, nat_tests, long, is, more) in
     c.in_ok-begin_with.ensures
-    ∙ ap (λ (t : ReplicaData). record { f = v.f; me = v.me; state = t }) ((λ i. after_begin v.f v.state (log i) (known i)) ∙ sym (begun_state v.f v.me v.state room))
+    ∙ ap (λ (t : ReplicaData). record { f = v.f; me = v.me; state = t })
+    ((λ i. after_begin v.f v.state (log i) (known i)) ∙ sym (begun_state v.f v.me v.state room))

@@ -7,9 +7,9 @@ use Rattle.nz_machine.specs.Facts.{ReplicaModel}
 use Rattle.nz_machine.specs.Replicas.{commands}
 use Rattle.nz_machine.specs.Parts.{data_of}
 use Rattle.nz_machine.specs.Begins.{after_begin}
-use Rattle.nz_machine.proofs.Kept.{kept_crashed}
-use Rattle.nz_machine.proofs.Synced.{kept_apart}
-use Rattle.nz_machine.proofs.Calls.{begun, kept_begin}
+use Rattle.nz_machine.proofs.StateInvariant.{kept_crashed}
+use Rattle.nz_machine.proofs.SyncInvariant.{kept_apart}
+use Rattle.nz_machine.proofs.ViewInvariant.{begun, kept_begin}
 use Rattle.nz_machine.proofs.state.ReplicaState.begin_with.Goals as goal
 
 pub adopt-requires-clause-apart : goal.adopt-requires-clause-apart
@@ -19,7 +19,8 @@ pub invariant_of-self : goal.invariant_of-self
 invariant_of-self c =
     let s : ReplicaData = data_of c.self.inside.parts in
     let committed : c.min-commit.result ≡ min (length c.args.log) c.args.commit = omega arith in
-    kept_begin c.self.inside.parts.cluster c.self.inside.parts.me s c.self.inside.parts.store c.in_ok-store.store c.adopt.new.log c.adopt.new.early c.adopt.new.late c.args.log c.args.commit c.min-commit.result
+    kept_begin c.self.inside.parts.cluster c.self.inside.parts.me s c.self.inside.parts.store c.in_ok-store.store
+    c.adopt.new.log c.adopt.new.early c.adopt.new.late c.args.log c.args.commit c.min-commit.result
     c.in_ok-store.results.items c.clear_reports.new.ack.items c.self.invariant c.requires (c.in-Ok.ensures s) committed
     (c.in_ok-store.ensures.answers ∙ ap (λ (es : List Entry). replies (commands es)) c.as_slice.ensures)
     (c.clear_reports.ensures ∙ ap (λ (n : ℕ). replicate n 0) c.self.invariant.facts.tables.acks)
@@ -33,7 +34,8 @@ returns-in-Ok c =
     let s : ReplicaData = data_of c.self.inside.parts in
     let committed : c.min-commit.result ≡ min (length c.args.log) c.args.commit = omega arith in
     ap (λ (t : ReplicaData). record { f = c.self.inside.parts.cluster; me = c.self.inside.parts.me; state = t })
-    (sym (begun c.self.inside.parts.cluster s c.adopt.new.log c.adopt.new.early c.adopt.new.late c.args.log c.args.commit c.min-commit.result c.in_ok-store.results.items c.clear_reports.new.ack.items (c.in-Ok.ensures s) committed
+    (sym (begun c.self.inside.parts.cluster s c.adopt.new.log c.adopt.new.early c.adopt.new.late c.args.log
+    c.args.commit c.min-commit.result c.in_ok-store.results.items c.clear_reports.new.ack.items (c.in-Ok.ensures s) committed
     (c.in_ok-store.ensures.answers ∙ ap (λ (es : List Entry). replies (commands es)) c.as_slice.ensures)
     (c.clear_reports.ensures ∙ ap (λ (n : ℕ). replicate n 0) c.self.invariant.facts.tables.acks)))
     ∙ ap (λ (v : ReplicaModel). record { f = v.f; me = v.me; state = after_begin v.f v.state c.args.log c.args.commit }) c.self.view_is

@@ -6,7 +6,7 @@ use Rattle.nz_machine.specs.declared.data.Reported.{Reported}
 use Rattle.nz_machine.specs.State.{ReplicaData}
 use Rattle.nz_machine.specs.Parts.{data_of}
 use Rattle.nz_machine.specs.Begins.{own_change}
-use Rattle.nz_machine.proofs.Words.{changes_fit, changes_own}
+use Rattle.nz_machine.proofs.WordsKeepFacts.{changes_fit, changes_own}
 use Rattle.nz_machine.proofs.state.ReplicaState.changes.Goals as goal
 
 pub all_changes-requires : goal.all_changes-requires
@@ -20,6 +20,12 @@ returns-clause-fit c =
     let s : ReplicaData = data_of c.self.inside.parts in
     subst AreFit
     (sym (c.in_ok-changes.ensures
-    ∙ (λ i. record { sender = c.self.inside.parts.me; last = c.self.inside.parts.last; synced = c.synced.ensures i; commit = c.self.inside.parts.commit; log = c.in_ok-entries.ensures i }
+    ∙ (λ i. record {
+      sender = c.self.inside.parts.me;
+      last = c.self.inside.parts.last;
+      synced = c.synced.ensures i;
+      commit = c.self.inside.parts.commit;
+      log = c.in_ok-entries.ensures i;
+    }
     ∷ map (λ (r : Reported). r.change) (c.deref.ensures.value i))))
     (changes_fit c.self.inside.parts.cluster c.self.inside.parts.me s c.self.invariant.facts)

@@ -7,9 +7,9 @@ use Rattle.nz_machine.specs.declared.data.Reported.{Reported}
 use Rattle.nz_machine.specs.State.{ReplicaData}
 use Rattle.nz_machine.specs.Facts.{ReplicaModel}
 use Rattle.nz_machine.specs.Parts.{data_of}
-use Rattle.nz_machine.proofs.Fields.{vector_counts}
+use Rattle.nz_machine.proofs.SentFields.{vector_counts}
 use Rattle.nz_machine.proofs.MoveFacts.{report_fits}
-use Rattle.nz_machine.proofs.Calls.{kept_collect}
+use Rattle.nz_machine.proofs.ViewInvariant.{kept_collect}
 use Rattle.nz_machine.proofs.state.ReplicaState.collect.Goals as goal
 
 pub invariant_of-self-2 : goal.invariant_of-self-2
@@ -24,4 +24,8 @@ invariant_of-self-2 c =
     (subst (λ (v : ReplicaModel). IsFalse (sender == v.me)) (sym c.self.view_is) c.requires.other) c.requires.fits counters in
     kept_collect c.self.inside.parts.cluster c.self.inside.parts.me s c.self.inside.parts.store sender b c.replace_report.new.changes.items c.self.invariant fit
     (c.in_ok-replace_report.ensures.ok
-    ∙ ap (λ (es : List Entry). filter (λ (r : Reported). not (r.change.sender == sender)) s.changes ++ record { vector = b.vector; change = record { sender = sender; last = b.last; synced = b.synced; commit = b.commit; log = es } } ∷ []) c.in_ok-copy.ensures)
+    ∙ ap (λ (es : List Entry). filter (λ (r : Reported). not (r.change.sender == sender)) s.changes
+    ++ record {
+      vector = b.vector;
+      change = record { sender = sender; last = b.last; synced = b.synced; commit = b.commit; log = es };
+    } ∷ []) c.in_ok-copy.ensures)

@@ -2,8 +2,8 @@
 use Rattle.std.proofs.Common.{◌≡◌, length, eq-eqb, sym, subst}
 use Rattle.nz_base.specs.Cluster.{replica_count}
 use Rattle.nz_machine.specs.Facts.{ReplicaModel}
-use Rattle.nz_machine.proofs.Fields.{vector_counts}
-use Rattle.nz_machine.proofs.Synced.{kept_vector}
+use Rattle.nz_machine.proofs.SentFields.{vector_counts}
+use Rattle.nz_machine.proofs.SyncInvariant.{kept_vector}
 use Rattle.nz_machine.proofs.state.ReplicaState.merge_vector.Goals as goal
 
 pub invariant_of-self : goal.invariant_of-self

@@ -2,8 +2,8 @@
 use Rattle.std.proofs.Common.{◌≡◌, ◌<◌, length, max, ap, ◌∙◌, eq-eqb, sym, subst}
 use Rattle.nz_base.specs.Cluster.{replica_count}
 use Rattle.nz_machine.specs.Facts.{ReplicaModel}
-use Rattle.nz_machine.proofs.Fields.{vector_counts}
-use Rattle.nz_machine.proofs.Rejoins.{kept_teller}
+use Rattle.nz_machine.proofs.SentFields.{vector_counts}
+use Rattle.nz_machine.proofs.RejoinInvariant.{kept_teller}
 use Rattle.nz_machine.proofs.state.ReplicaState.note_teller.Goals as goal
 
 pub invariant_of-self-2 : goal.invariant_of-self-2

@@ -6,7 +6,7 @@ use Rattle.nz_base.specs.Cluster.{replica_count}
 use Rattle.nz_cv.specs.Vectors.{is_stray}
 use Rattle.nz_machine.specs.declared.data.ToldView.{ToldView}
 use Rattle.nz_machine.specs.Facts.{ReplicaModel}
-use Rattle.nz_machine.proofs.Rejoins.{kept_tell}
+use Rattle.nz_machine.proofs.RejoinInvariant.{kept_tell}
 use Rattle.nz_machine.proofs.state.ReplicaState.note_view.Goals as goal
 
 pub invariant_of-self : goal.invariant_of-self
@@ -16,5 +16,8 @@ invariant_of-self c =
     let known = c.self.inside.parts.vector in
     let long = subst (λ (v : ReplicaModel). length b.vector ≡ replica_count v.f) (sym c.self.view_is) c.requires.vector in
     let member = subst (λ (v : ReplicaModel). c.args.sender < replica_count v.f) (sym c.self.view_is) c.requires.sender in
-    let is = c.in_ok-self-inside.ensures ∙ ap (λ (ts : List ToldView). filter (λ t. not (is_stray t.vector t.sender known)) (filter (λ t. not (t.sender == c.args.sender)) ts ++ told ∷ [])) c.as_slice.ensures in
+    let is =
+    c.in_ok-self-inside.ensures ∙ ap
+    (λ (ts : List ToldView). filter (λ t. not (is_stray t.vector t.sender known))
+    (filter (λ t. not (t.sender == c.args.sender)) ts ++ told ∷ [])) c.as_slice.ensures in
     kept_tell _ _ _ _ c.args.sender b _ c.self.invariant member c.requires.fits long is

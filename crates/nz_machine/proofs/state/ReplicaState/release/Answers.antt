@@ -2,8 +2,8 @@
 use Rattle.std.proofs.Common.{◌≡◌, Bool, true, sym, ap, subst, ◌∙◌}
 use Rattle.nz_machine.specs.Facts.{ReplicaModel}
 use Rattle.nz_machine.specs.Replicas.{is_normal, leads}
-use Rattle.nz_machine.specs.Releases.{appended, executed, first_may}
-use Rattle.nz_machine.proofs.Kept.{first_may_stand, room_left, kept_release, kept_crashed}
+use Rattle.nz_machine.specs.Releases.{log_with_entry, results_with_entry, first_may}
+use Rattle.nz_machine.proofs.StateInvariant.{first_may_stand, room_left, kept_release, kept_crashed}
 use Rattle.nz_machine.proofs.state.ReplicaState.release.Goals as goal
 
 pub take_in-requires-clause-above : goal.take_in-requires-clause-above
@@ -18,9 +18,10 @@ invariant_of-self c =
     let first = subst (λ (v : ReplicaModel). first_may v.state v.state.early ≡ true) (sym c.self.view_is) c.requires.first in
     let normal = subst (λ (v : ReplicaModel). is_normal v.state.status ≡ true) (sym c.self.view_is) c.requires.normal in
     let leading = subst (λ (v : ReplicaModel). c.leads-leads.result ≡ leads v.f v.me v.state) (sym c.self.view_is) c.leads-leads.ensures in
-    kept_release _ _ _ _ entry c.take_due.new.self _ _ _ c.self.invariant normal c.in-Some.ensures.rest (room_left _ _ _ _ entry c.take_due.new.self c.self.invariant c.in-Some.ensures.rest first)
-    (c.in-Ok.ensures.log ∙ ap (λ (b : Bool). appended b c.self.inside.parts.log entry) leading)
-    (c.in-Ok.ensures.results ∙ ap (λ (b : Bool). executed b c.self.inside.parts.results.items c.self.inside.parts.log.entries entry) leading)
+    kept_release _ _ _ _ entry c.take_due.new.self _ _ _ c.self.invariant normal c.in-Some.ensures.rest
+    (room_left _ _ _ _ entry c.take_due.new.self c.self.invariant c.in-Some.ensures.rest first)
+    (c.in-Ok.ensures.log ∙ ap (λ (b : Bool). log_with_entry b c.self.inside.parts.log entry) leading)
+    (c.in-Ok.ensures.results ∙ ap (λ (b : Bool). results_with_entry b c.self.inside.parts.results.items c.self.inside.parts.log.entries entry) leading)
     (λ normal lead. c.in-Ok.ensures.store (leading ∙ lead))
 
 pub invariant_of-self-in-Err : goal.invariant_of-self-in-Err

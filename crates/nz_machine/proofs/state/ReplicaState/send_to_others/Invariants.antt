@@ -8,4 +8,5 @@ use Rattle.nz_machine.proofs.state.ReplicaState.send_to_others.Given as goal
 
 abbrev pub invariant-loop-replica : goal.invariant-loop-replica
 invariant-loop-replica l =
-    l.sends ≡ l.initial.sends ++ map (parcel (Replica l.self.me)) (map (λ r. (Replica r, l.message)) (filter (λ r. not (r == l.self.me)) (numbers_below l.replica)))
+    l.sends ≡ l.initial.sends ++ map (parcel (Replica l.self.me))
+    (map (λ r. (Replica r, l.message)) (filter (λ r. not (r == l.self.me)) (numbers_below l.replica)))

@@ -5,9 +5,9 @@ use Rattle.nz_machine.specs.State.{ReplicaData}
 use Rattle.nz_machine.specs.Facts.{ReplicaModel}
 use Rattle.nz_machine.specs.Parts.{data_of}
 use Rattle.nz_machine.specs.Adopting.{normal_in}
-use Rattle.nz_machine.proofs.Kept.{kept_crashed}
-use Rattle.nz_machine.proofs.Synced.{kept_apart}
-use Rattle.nz_machine.proofs.Calls.{started, kept_start}
+use Rattle.nz_machine.proofs.StateInvariant.{kept_crashed}
+use Rattle.nz_machine.proofs.SyncInvariant.{kept_apart}
+use Rattle.nz_machine.proofs.ViewInvariant.{started, kept_start}
 use Rattle.nz_machine.proofs.state.ReplicaState.start.Goals as goal
 
 pub adopt-requires-clause-apart : goal.adopt-requires-clause-apart
@@ -16,8 +16,10 @@ adopt-requires-clause-apart c = kept_apart _ _ _ _ c.self.invariant
 pub invariant_of-self : goal.invariant_of-self
 invariant_of-self c =
     let s : ReplicaData = data_of c.self.inside.parts in
-    kept_start c.self.inside.parts.cluster c.self.inside.parts.me s c.self.inside.parts.store c.adopt.new.log c.adopt.new.early c.adopt.new.late c.args.log c.args.view c.args.commit c.self.invariant c.requires.view
-    (subst (λ (v : ReplicaModel). IsFalse (leader_of v.f c.args.view == v.me)) (sym c.self.view_is) c.requires.follows) c.requires.log c.requires.commit (c.in-Ok.ensures s)
+    kept_start c.self.inside.parts.cluster c.self.inside.parts.me s c.self.inside.parts.store c.adopt.new.log
+    c.adopt.new.early c.adopt.new.late c.args.log c.args.view c.args.commit c.self.invariant c.requires.view
+    (subst (λ (v : ReplicaModel). IsFalse (leader_of v.f c.args.view == v.me))
+    (sym c.self.view_is) c.requires.follows) c.requires.log c.requires.commit (c.in-Ok.ensures s)
 
 pub invariant_of-self-in-Err : goal.invariant_of-self-in-Err
 invariant_of-self-in-Err c = kept_crashed _ _ _ _ c.self.invariant.member c.forget.ensures

@@ -4,8 +4,8 @@ use Rattle.nz_machine.specs.State.{ReplicaData}
 use Rattle.nz_machine.specs.Facts.{ReplicaModel}
 use Rattle.nz_machine.specs.Parts.{data_of}
 use Rattle.nz_machine.specs.Replicas.{is_normal, leads}
-use Rattle.nz_machine.specs.LogMods.{sync_keys, overtaken, committed_to}
-use Rattle.nz_machine.proofs.Synced.{kept_apart, kept_sync, sync_state}
+use Rattle.nz_machine.specs.LogMods.{sync_keys, overtaken_to_late, committed_to}
+use Rattle.nz_machine.proofs.SyncInvariant.{kept_apart, kept_sync, sync_state}
 use Rattle.nz_machine.proofs.state.ReplicaState.take.Goals as goal
 
 pub sync_parts-requires-clause-apart : goal.sync_parts-requires-clause-apart
@@ -15,7 +15,8 @@ pub invariant_of-self : goal.invariant_of-self
 invariant_of-self c =
     let s : ReplicaData = data_of c.self.inside.parts in
     let committed : c.max-self-inside.result ≡ max c.self.inside.parts.commit (min c.args.commit c.sync_parts.new.log.synced) = omega arith in
-    kept_sync c.self.inside.parts.cluster c.self.inside.parts.me s c.self.inside.parts.store c.args.keys.now c.args.commit c.sync_parts.new.log c.sync_parts.new.early c.sync_parts.new.late c.max-self-inside.result c.self.invariant
+    kept_sync c.self.inside.parts.cluster c.self.inside.parts.me s c.self.inside.parts.store c.args.keys.now
+    c.args.commit c.sync_parts.new.log c.sync_parts.new.early c.sync_parts.new.late c.max-self-inside.result c.self.invariant
     (subst (λ (v : ReplicaModel). is_normal v.state.status ≡ true) (sym c.self.view_is) c.requires.normal)
     (subst (λ (v : ReplicaModel). IsFalse (leads v.f v.me v.state)) (sym c.self.view_is) c.requires.follows) c.requires.fit (c.in-Ok.ensures.parts s) committed
 
@@ -23,9 +24,15 @@ pub returns-in-Ok-clause-state : goal.returns-in-Ok-clause-state
 returns-in-Ok-clause-state c =
     let s : ReplicaData = data_of c.self.inside.parts in
     let committed : c.max-self-inside.result ≡ max c.self.inside.parts.commit (min c.args.commit c.sync_parts.new.log.synced) = omega arith in
-    let now = sync_state s c.args.keys.now c.args.commit c.sync_parts.new.log c.sync_parts.new.early c.sync_parts.new.late c.max-self-inside.result (c.in-Ok.ensures.parts s) committed in
+    let now =
+    sync_state s c.args.keys.now c.args.commit c.sync_parts.new.log c.sync_parts.new.early c.sync_parts.new.late
+    c.max-self-inside.result (c.in-Ok.ensures.parts s) committed in
     ap (λ (t : ReplicaData). record { f = c.self.inside.parts.cluster; me = c.self.inside.parts.me; state = t }) now
-    ∙ ap (λ (v : ReplicaModel). record { f = v.f; me = v.me; state = committed_to (overtaken (sync_keys v.state c.args.keys.now).0) c.args.commit }) c.self.view_is
+    ∙ ap (λ (v : ReplicaModel). record {
+      f = v.f;
+      me = v.me;
+      state = committed_to (overtaken_to_late (sync_keys v.state c.args.keys.now).0) c.args.commit;
+    }) c.self.view_is
 
 pub returns-in-Ok-clause-missing : goal.returns-in-Ok-clause-missing
 returns-in-Ok-clause-missing c =

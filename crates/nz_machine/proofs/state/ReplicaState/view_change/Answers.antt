@@ -2,7 +2,7 @@
 use Rattle.std.proofs.Common.{List, max, sym, subst, arith}
 use Rattle.nz_base.specs.declared.key.Entry.{Entry}
 use Rattle.nz_msg.specs.Fields.{entries}
-use Rattle.nz_machine.proofs.Fields.{view_fits}
+use Rattle.nz_machine.proofs.SentFields.{view_fits}
 use Rattle.nz_machine.proofs.FitReplicas.{own_log}
 use Rattle.nz_machine.proofs.state.ReplicaState.view_change.Goals as goal
 
@@ -18,5 +18,10 @@ returns-clause-fits c =
     let last = h.mode.last in
     let low = h.bounds.view in
     let log = own_log _ _ (max synced commit) _ h (omega (arith, known, within, is)) in
-    let told = subst (λ (es : List Entry). (entries (max synced commit) 4096).fits es) (sym c.in_ok-entries.ensures) log in
-    (c.view.ensures.fits, (view_fits c.self.inside.parts.last (omega (arith, last, low)), (c.vector.ensures.fits, ((omega (arith, within, few, is), omega (arith, known, within, few)), told))))
+    let told = subst (λ (es : List Entry). (entries (max synced commit) 4096).fits es) (sym c.in_ok-entries.ensures) log in (
+      c.view.ensures.fits,
+      (
+        view_fits c.self.inside.parts.last (omega (arith, last, low)),
+        (c.vector.ensures.fits, ((omega (arith, within, few, is), omega (arith, known, within, few)), told)),
+      ),
+    )

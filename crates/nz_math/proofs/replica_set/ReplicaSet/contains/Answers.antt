@@ -8,12 +8,16 @@ use Rattle.nz_math.proofs.replica_set.ReplicaSet.contains.Goals as goal
 
 pub returns-then-r-lt9 : goal.returns-then-r-lt9
 returns-then-r-lt9 c = record {
-  member = subst (λ (s : List ℕ). get_or c.self.inside.members c.args.r false ≡ is_in s c.args.r) c.self.view_is (mark_is c.self.inside.members c.args.r c.if-r-lt9.true);
+  member =
+      subst (λ (s : List ℕ). get_or c.self.inside.members c.args.r false ≡ is_in s c.args.r) c.self.view_is
+      (mark_is c.self.inside.members c.args.r c.if-r-lt9.true);
   numbers = subst (IsChoice 9) c.self.view_is (members_choice 9 _);
 }
 
 pub returns-else-r-lt9 : goal.returns-else-r-lt9
 returns-else-r-lt9 c = record {
-  member = rw (le-ltb c.args.r 9 c.if-r-lt9.false) (subst (λ (s : List ℕ). false ≡ is_in s c.args.r) c.self.view_is (sym (none_past c.self.inside.members c.args.r c.if-r-lt9.false)));
+  member =
+      rw (le-ltb c.args.r 9 c.if-r-lt9.false)
+      (subst (λ (s : List ℕ). false ≡ is_in s c.args.r) c.self.view_is (sym (none_past c.self.inside.members c.args.r c.if-r-lt9.false)));
   numbers = subst (IsChoice 9) c.self.view_is (members_choice 9 _);
 }

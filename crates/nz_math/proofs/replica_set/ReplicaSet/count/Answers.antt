@@ -15,8 +15,16 @@ overflow_add-count c = omega (arith, c.loop-r.invariant.0, count-le c.loop-r.r (
 pub loop-r-preserved : goal.loop-r-preserved
 loop-r-preserved c =
     elim c.if-contains.branch [
-      | then-contains w ↦ (w.count-is ∙ (let one = count_yes c.loop-r.r (is_in c.args.self.now) (sym w.if-contains.ensures.member) in omega (arith, one, c.loop-r.invariant.0)), λ h. c.contains.ensures.numbers)
-      | else-contains w ↦ (w.count-is ∙ (let same = count_no c.loop-r.r (is_in c.args.self.now) (sym w.if-contains.ensures.member) in omega (arith, same, c.loop-r.invariant.0)), λ h. c.contains.ensures.numbers)
+      | then-contains w ↦ (
+        w.count-is ∙ (let one = count_yes c.loop-r.r (is_in c.args.self.now) (sym w.if-contains.ensures.member) in
+            omega (arith, one, c.loop-r.invariant.0)),
+        λ h. c.contains.ensures.numbers,
+      )
+      | else-contains w ↦ (
+        w.count-is ∙ (let same = count_no c.loop-r.r (is_in c.args.self.now) (sym w.if-contains.ensures.member) in
+            omega (arith, same, c.loop-r.invariant.0)),
+        λ h. c.contains.ensures.numbers,
+      )
     ]
 
 pub returns : goal.returns

@@ -8,19 +8,20 @@ use Rattle.nz_base.specs.declared.memory.NoMemory.{NoMemory}
 use Rattle.nz_base.specs.Key.{id_eq}
 use Rattle.nz_store.specs.declared.command.Answer.{Answer}
 use Rattle.nz_msg.specs.declared.message.Path.{Path}
-use Rattle.nz_msg.specs.Fields.{answer as an_answer}
+use Rattle.nz_msg.specs.Fields.{answer}
 use Rattle.nz_machine.specs.State.{ProxyData}
-use Rattle.nz_machine.specs.Proxies.{noted_in, standing_of}
+use Rattle.nz_machine.specs.Proxies.{after_replica_reply, standing_of}
 use Rattle.nz_quorum.specs.Tallies.{IsOfCluster}
-use Rattle.nz_proxy.specs.Seats.{ProxySeat, IsKept}
+use Rattle.nz_proxy.specs.Seats.{ProxySeat, IsKeptProxy}
 use Rattle.nz_proxy.specs.declared.standing.Standing.{Standing}
 use Rattle.nz_proxy.specs.declared.state.ProxyState.TheInside.{Inside}
-use Rattle.nz_proxy.specs.Standings.{IsFitEntry, known_all, answers_to, noted, told}
+use Rattle.nz_proxy.specs.Standings.{IsFitEntry, known_standings, answers_to_client, standing_with_reply, answer_after_reply}
 use Rattle.nz_proxy.proofs.Tables.{fit_lookup, fit_set, IsFound}
 use Rattle.nz_proxy.proofs.Fitting.{notable, told_fits}
 use Rattle.nz_proxy.proofs.Noting.{on_ok, ok_map, ok_always, notes_none, notes_some}
 use Rattle.nz_proxy.proofs.state.ProxyState.note.Goals as goal
-use Rattle.nz_proxy.proofs.state.ProxyState.note.Goals.{in-None+in-Fast+in-Some+in-Value-1, in-None+in-Fast+in-Some+in-Done-1, in-None+in-Fast+in-None-1, in-None+in-Slow-1, in-Some}
+use Rattle.nz_proxy.proofs.state.ProxyState.note.Goals.{in-None+in-Fast+in-Some+in-Value-1, in-None+in-Fast+in-Some+in-Done-1}
+use Rattle.nz_proxy.proofs.state.ProxyState.note.Goals.{in-None+in-Fast+in-None-1, in-None+in-Slow-1, in-Some}
 
 -- what is found in the table
 found_in : (f : ℕ) (id : Id) (es : List (Id × Standing)) (s : Standing) → AllByRecursion (IsFitEntry f) es → Some s ≡ lookup (id_eq id) es → IsFound f id s
@@ -28,40 +29,49 @@ found_in f id es s all is = subst (λ (o : Option Standing). IfSome o (IsFound f
 
 pub note-requires : goal.note-requires
 note-requires c =
-    let found = found_in c.self.inside.cluster c.args.id c.self.inside.standings.entries c.in-Some.standing.now c.self.invariant.standings c.in-Some.ensures.value in
+    let found =
+    found_in c.self.inside.cluster c.args.id c.self.inside.standings.entries c.in-Some.standing.now
+    c.self.invariant.standings c.in-Some.ensures.value in
     notable c.self.inside.cluster c.in-Some.standing.now c.args.reply found.standing
     (subst (λ (f : ℕ). IsOfCluster f c.args.reply) (sym (ap (λ (s : ProxySeat). s.f) c.self.view_is)) c.requires.reply)
 
 -- ---- where the request is not known, nothing changes
 
-unchanged : (c : goal.Joined-get_mut) → c.match-get_mut.self-inside ≡ record c.self.inside { standings = c.get_mut.follows.lender-at-none } → c.match-get_mut.self-inside ≡ c.self.inside
+unchanged : (c : goal.Joined-get_mut)
+    → c.match-get_mut.self-inside ≡ record c.self.inside { standings = c.get_mut.follows.lender-at-none } → c.match-get_mut.self-inside ≡ c.self.inside
 unchanged c is = is ∙ ap (λ m. record c.self.inside { standings = m }) c.get_mut.follows.holds-at-none
 
-kept : (c : goal.Joined-get_mut) → c.match-get_mut.self-inside ≡ c.self.inside → IsKept c.match-get_mut.self-inside.cluster c.match-get_mut.self-inside.me c.match-get_mut.self-inside.clock c.match-get_mut.self-inside.window c.match-get_mut.self-inside.standings.entries
-kept c is = subst (λ (i : Inside). IsKept i.cluster i.me i.clock i.window i.standings.entries) (sym is) c.self.invariant
+kept : (c : goal.Joined-get_mut) → c.match-get_mut.self-inside ≡ c.self.inside
+    → IsKeptProxy c.match-get_mut.self-inside.cluster c.match-get_mut.self-inside.me c.match-get_mut.self-inside.clock
+    c.match-get_mut.self-inside.window c.match-get_mut.self-inside.standings.entries
+kept c is = subst (λ (i : Inside). IsKeptProxy i.cluster i.me i.clock i.window i.standings.entries) (sym is) c.self.invariant
 
 abbrev Outcome : Type 0
 Outcome = Result (Option (Answer × Path)) NoMemory
 
 -- what the rule gives, as it is told
 abbrev IsRule : (c : goal.Joined-get_mut) → Inside → Option (Answer × Path) → Type 0
-IsRule c i told = noted_in c.args.self.now.f c.args.self.now.state c.args.id c.args.reply (standing_of c.args.self.now.state c.args.id)
-    ≡ (record { is_down = i.is_down; clock = i.clock; samples = i.window; standings = known_all i.standings.entries }, answers_to c.args.id told)
+IsRule c i told = after_replica_reply c.args.self.now.f c.args.self.now.state c.args.id c.args.reply (standing_of c.args.self.now.state c.args.id)
+    ≡ (record { is_down = i.is_down; clock = i.clock; samples = i.window; standings = known_standings i.standings.entries }, answers_to_client c.args.id told)
 
-none_state : (c : goal.Joined-get_mut) → c.match-get_mut.self-inside ≡ c.self.inside → c.match-get_mut.result ≡ Ok None → None ≡ lookup (id_eq c.args.id) c.self.inside.standings.entries → IfOk c.match-get_mut.result (λ told. IsRule c c.match-get_mut.self-inside told)
+none_state : (c : goal.Joined-get_mut) → c.match-get_mut.self-inside ≡ c.self.inside
+    → c.match-get_mut.result ≡ Ok None → None ≡ lookup (id_eq c.args.id) c.self.inside.standings.entries
+    → IfOk c.match-get_mut.result (λ told. IsRule c c.match-get_mut.self-inside told)
 none_state c same is none =
     let i = c.self.inside in
-    let state : ProxyData = record { is_down = i.is_down; clock = i.clock; samples = i.window; standings = known_all i.standings.entries } in
+    let state : ProxyData = record { is_down = i.is_down; clock = i.clock; samples = i.window; standings = known_standings i.standings.entries } in
     let rule = notes_none i.cluster state i.standings.entries c.args.id c.args.reply (sym none) in
-    let now = subst (λ (s : ProxySeat). noted_in s.f s.state c.args.id c.args.reply (standing_of s.state c.args.id) ≡ (state, [])) c.self.view_is rule in
+    let now =
+    subst (λ (s : ProxySeat). after_replica_reply s.f s.state c.args.id c.args.reply (standing_of s.state c.args.id)
+    ≡ (state, [])) c.self.view_is rule in
     subst (λ (r : Outcome). IfOk r (λ told. IsRule c c.match-get_mut.self-inside told)) (sym is)
     (subst (λ (j : Inside). IsRule c j None) (sym same) now)
 
 none_client : (c : goal.Joined-get_mut) → c.match-get_mut.result ≡ Ok None → IfOk c.match-get_mut.result (λ told. IsSome told → c.args.id.client ≤ 63)
 none_client c is = subst (λ (r : Outcome). IfOk r (λ told. IsSome told → c.args.id.client ≤ 63)) (sym is) (λ h. absurd cc)
 
-none_fit : (c : goal.Joined-get_mut) → c.match-get_mut.result ≡ Ok None → IfOk c.match-get_mut.result (λ told. IfSome told (λ t. an_answer.fits t.0))
-none_fit c is = subst (λ (r : Outcome). IfOk r (λ told. IfSome told (λ t. an_answer.fits t.0))) (sym is) tt
+none_fit : (c : goal.Joined-get_mut) → c.match-get_mut.result ≡ Ok None → IfOk c.match-get_mut.result (λ told. IfSome told (λ t. answer.fits t.0))
+none_fit c is = subst (λ (r : Outcome). IfOk r (λ told. IfSome told (λ t. answer.fits t.0))) (sym is) tt
 
 -- ---- the clauses
 
@@ -77,8 +87,10 @@ invariant_of-self c =
           let found = found_in i.cluster c.args.id i.standings.entries w.in-Some.standing.now c.self.invariant.standings w.in-Some.ensures.value in
           let fit = w.note.ensures.fit i.cluster c.requires.answer found.standing in
           let entries = (c.get_mut.follows.holds w.note.new.self).0 in
-          let all = subst (λ (es : List (Id × Standing)). AllByRecursion (IsFitEntry i.cluster) es) (sym entries) (fit_set i.cluster i.standings.entries c.args.id w.note.new.self fit c.self.invariant.standings) in
-          subst (λ (j : Inside). IsKept j.cluster j.me j.clock j.window j.standings.entries) (sym w.self-inside-is)
+          let all =
+          subst (λ (es : List (Id × Standing)). AllByRecursion (IsFitEntry i.cluster) es) (sym entries)
+          (fit_set i.cluster i.standings.entries c.args.id w.note.new.self fit c.self.invariant.standings) in
+          subst (λ (j : Inside). IsKeptProxy j.cluster j.me j.clock j.window j.standings.entries) (sym w.self-inside-is)
           (record { named = c.self.invariant.named; in_time = c.self.invariant.in_time; window = c.self.invariant.window; standings = all })
     ]
 
@@ -91,14 +103,18 @@ returns-clause-state c =
       | in-None+in-Slow-1 w ↦ none_state c (unchanged c w.self-inside-is) w.result-is w.in-None.ensures.value
       | in-Some w ↦
           let i = c.self.inside in
-          let state : ProxyData = record { is_down = i.is_down; clock = i.clock; samples = i.window; standings = known_all i.standings.entries } in
+          let state : ProxyData = record { is_down = i.is_down; clock = i.clock; samples = i.window; standings = known_standings i.standings.entries } in
           let k = w.in-Some.standing.now in
           let found = found_in i.cluster c.args.id i.standings.entries k c.self.invariant.standings w.in-Some.ensures.value in
           let m = c.get_mut.follows.lender w.note.new.self in
           let entries = (c.get_mut.follows.holds w.note.new.self).0 in
-          let rule = on_ok w.note.result (w.note.new.self ≡ noted k c.args.reply) (λ t. t ≡ told k c.args.reply) (λ t. IsRule c (record i { standings = m }) t) w.note.ensures.standing w.note.ensures.told
-          (λ new_is t t_is. subst (λ (s : ProxySeat). noted_in s.f s.state c.args.id c.args.reply (standing_of s.state c.args.id) ≡ (record state { standings = known_all m.entries }, answers_to c.args.id t)) c.self.view_is
-          (notes_some i.cluster state i.standings.entries m.entries c.args.id k w.note.new.self c.args.reply t found.standing (sym w.in-Some.ensures.value) entries new_is t_is)) in
+          let rule =
+          on_ok w.note.result (w.note.new.self ≡ standing_with_reply k c.args.reply)
+          (λ t. t ≡ answer_after_reply k c.args.reply) (λ t. IsRule c (record i { standings = m }) t) w.note.ensures.standing w.note.ensures.told
+          (λ new_is t t_is. subst (λ (s : ProxySeat). after_replica_reply s.f s.state c.args.id c.args.reply
+          (standing_of s.state c.args.id) ≡ (record state { standings = known_standings m.entries }, answers_to_client c.args.id t)) c.self.view_is
+          (notes_some i.cluster state i.standings.entries m.entries c.args.id k w.note.new.self c.args.reply t
+          found.standing (sym w.in-Some.ensures.value) entries new_is t_is)) in
           subst (λ (r : Outcome). IfOk r (λ t. IsRule c c.match-get_mut.self-inside t)) (sym w.result-is)
           (subst (λ (j : Inside). IfOk w.note.result (λ t. IsRule c j t)) (sym w.self-inside-is) rule)
     ]
@@ -128,6 +144,9 @@ returns-clause-fit c =
           let k = w.in-Some.standing.now in
           let found = found_in i.cluster c.args.id i.standings.entries k c.self.invariant.standings w.in-Some.ensures.value in
           let fit = told_fits i.cluster k c.args.reply c.requires.answer found.standing in
-          let told_fit = ok_map w.note.result (λ t. t ≡ told k c.args.reply) (λ t. IfSome t (λ a. an_answer.fits a.0)) w.note.ensures.told (λ t is. subst (λ (o : Option (Answer × Path)). IfSome o (λ a. an_answer.fits a.0)) (sym is) fit) in
-          subst (λ (r : Outcome). IfOk r (λ t. IfSome t (λ a. an_answer.fits a.0))) (sym w.result-is) told_fit
+          let told_fit =
+          ok_map w.note.result (λ t. t ≡ answer_after_reply k c.args.reply)
+          (λ t. IfSome t (λ a. answer.fits a.0)) w.note.ensures.told
+          (λ t is. subst (λ (o : Option (Answer × Path)). IfSome o (λ a. answer.fits a.0)) (sym is) fit) in
+          subst (λ (r : Outcome). IfOk r (λ t. IfSome t (λ a. answer.fits a.0))) (sym w.result-is) told_fit
     ]

@@ -5,4 +5,6 @@ use Rattle.nz_replica.proofs.replica.ReplicaCore.step.Goals as goal
 
 -- a step leaves the cluster, as it says of any group with it
 pub invariant_of-self : goal.invariant_of-self
-invariant_of-self c = λ live. ap (λ (v : ReplicaModel). v.f) (c.in-Ok.ensures (record { f = c.self.inside.state.f; proxies = 0; window = 0; scripts = [] }) refl).state ∙ c.self.invariant live
+invariant_of-self c =
+    λ live. ap (λ (v : ReplicaModel). v.f)
+    (c.in-Ok.ensures (record { f = c.self.inside.state.f; proxies = 0; window = 0; scripts = [] }) refl).state ∙ c.self.invariant live

@@ -1,5 +1,5 @@
 -- What the function of this folder owes, proved.
-use Rattle.nz_run.proofs.Casts.{cast_begins}
+use Rattle.nz_run.proofs.AllCores.{cast_begins}
 use Rattle.nz_run.proofs.cast.Cast.new.Goals as goal
 
 pub returns : goal.returns

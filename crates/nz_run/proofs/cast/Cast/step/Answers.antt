@@ -1,8 +1,8 @@
 -- What the function of this folder owes, proved.
 use Rattle.std.proofs.Common.{refl}
 use Rattle.nz_base.specs.declared.actor.Actor.TheVariants as actors
-use Rattle.nz_run.proofs.Casting.{if_ok}
-use Rattle.nz_run.proofs.Casts.{replica_took, proxy_took, client_took}
+use Rattle.nz_run.proofs.CoreSteps.{if_ok}
+use Rattle.nz_run.proofs.AllCores.{replica_took, proxy_took, client_took}
 use Rattle.nz_run.proofs.cast.Cast.step.Goals as goal
 
 pub returns-in-Replica : goal.returns-in-Replica
@@ -28,6 +28,9 @@ returns-in-Client c =
     rw c.in-Client.is
     (if_ok c.step_at-in-Client.result _ _
     (λ sends h g J tick cast member.
-    let t = h g actors.Client J tick (λ i k. refl) cast.clients in
-    (t.0, client_took g J c.args.self.now c.step_at-in-Client.new.cores c.in-Client.number tick c.args.event.now sends cast t.1 c.step_at-in-Client.ensures.length))
+    let t = h g actors.Client J tick (λ i k. refl) cast.clients in (
+      t.0,
+      client_took g J c.args.self.now c.step_at-in-Client.new.cores c.in-Client.number tick c.args.event.now sends
+          cast t.1 c.step_at-in-Client.ensures.length,
+    ))
     c.step_at-in-Client.ensures.step)

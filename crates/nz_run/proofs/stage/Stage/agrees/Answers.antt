@@ -8,7 +8,7 @@ use Rattle.nz_machine.specs.Schedule.{group_of}
 use Rattle.nz_fabric.specs.Replays.{IsReplay}
 use Rattle.nz_fabric.specs.Rows.{of_actor}
 use Rattle.nz_fabric.specs.States.{records_of}
-use Rattle.nz_run.proofs.Casting.{if_ok}
+use Rattle.nz_run.proofs.CoreSteps.{if_ok}
 use Rattle.nz_run.proofs.Replaying.{all_replay}
 use Rattle.nz_run.proofs.stage.Stage.agrees.Goals as goal
 
@@ -21,4 +21,5 @@ returns g c =
     let replicas = subst (P actors.Replica c.n.result) name (c.in_ok-cells_agree.ensures c.if-not-branch.false) in
     let proxies = subst (P actors.Proxy s.proxies) name (c.in_ok-cells_agree-2.ensures c.if-not-branch-2.false) in
     if_ok c.cells_agree-3.result _ _
-    (λ agree own yes. all_replay s J c.requires.playable (λ k lt. replicas k (omega (arith, lt, c.n.ensures))) proxies (subst (P actors.Client s.clients) name (own yes))) c.cells_agree-3.ensures
+    (λ agree own yes. all_replay s J c.requires.playable (λ k lt. replicas k (omega (arith, lt, c.n.ensures))) proxies
+    (subst (P actors.Client s.clients) name (own yes))) c.cells_agree-3.ensures

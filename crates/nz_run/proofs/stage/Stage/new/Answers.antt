@@ -1,5 +1,5 @@
 -- What the function of this folder owes, proved.
-use Rattle.nz_run.proofs.Firsts.{replicas_first, proxies_first, clients_first}
+use Rattle.nz_run.proofs.FirstCores.{replicas_first, proxies_first, clients_first}
 use Rattle.nz_run.proofs.stage.Stage.new.Goals as goal
 
 pub cells_of-requires : goal.cells_of-requires

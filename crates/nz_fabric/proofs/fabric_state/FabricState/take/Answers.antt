@@ -1,0 +1,28 @@
+-- What the function of this folder owes, proved.
+use Rattle.std.proofs.Common.{◌+◌, ◌<◌, length, ap, arith}
+use Rattle.nz_fabric.specs.declared.open_turns.Running.{Running}
+use Rattle.nz_fabric.specs.States.{state_in}
+use Rattle.nz_fabric.proofs.Filing.{room_taken}
+use Rattle.nz_fabric.proofs.Sharing.{booked_taken}
+use Rattle.nz_fabric.proofs.fabric_state.FabricState.take.Goals as goal
+
+pub invariant_of-self-2 : goal.invariant_of-self-2
+invariant_of-self-2 g c =
+    let f = c.self.inside in
+    let t = f.ticks in
+    let inv = c.self.invariant in
+    let o : Running = record { number = c.len-2.result + c.len-3.result + 1; item = c.in_ok-item.item } in
+    let next = inv.1.accounted.next in
+    let lt : t.next < length t.items.items = omega (arith, next, c.if-self-len.false, c.len.ensures) in
+    let same = ap length c.reserve.ensures.records in (
+      inv.0,
+      rw (c.in_ok-push.ensures.items, c.reserve.ensures.records)
+          (booked_taken _ f.book.total c.add.new.self.total
+          (state_in t f.before f.rows.records) f.running.items o f.before f.rows.room c.reserve.new.self.room
+          f.rows.records t.calendar inv.1 lt c.in_ok-item.ensures
+          (omega (arith, c.if-taken.false, c.len-2.ensures, c.len-3.ensures))
+          (omega (arith, c.in_ok-reserve.ensures.more, c.len-4.ensures, same)) c.add.ensures.total),
+      rw (c.in_ok-push.ensures.items)
+          (room_taken f.running.items o f.rows c.reserve.new.self inv.2 c.reserve.ensures.spares
+          (omega (arith, c.in_ok-reserve.ensures.spare, c.len-4.ensures))),
+    )

@@ -1,0 +1,260 @@
+//! The network of a run on several threads, under its lock.
+
+ghost use Rattle.std.specs.Prelude.{◌≡◌, ◌⊎◌, ◌+◌, ◌<◌, ◌==◌, ◌↔◌, length, reverse, get_or, true, false};
+ghost use Rattle.std.specs.Prelude.{IsTrue, IfOk, IfSome, MatchBool, MatchOption, MatchResult};
+ghost use Rattle.std.specs.List.{position};
+ghost use Rattle.nz_machine.specs.Journals.{run_in};
+ghost use Rattle.nz_machine.specs.Schedule.{group_of, IsPlayable, Scheduled};
+ghost use Rattle.nz_fabric.specs.declared.open_turns.Running.{Running as RunningModel};
+ghost use Rattle.nz_fabric.specs.Rows.{of_actor};
+ghost use Rattle.nz_fabric.specs.Replays.{IsSentOn};
+ghost use Rattle.nz_fabric.specs.States.{records_of, with_mark};
+ghost use Rattle.nz_fabric.specs.Shared.{IsAccounted, IsNextOf, IsOver, MustWait, after_shared, without_turn, place_of_turn};
+ghost use Rattle.nz_fabric.specs.Shared.{shared_with, start_shared, with_given_up, with_opened, with_record};
+
+use crate::name::Name;
+use crate::open_turns::Running;
+use crate::rows::Rows;
+use crate::share::Share;
+use crate::ticks::Ticks;
+use crate::turn::Turn;
+use nz_base::{Actor, List, NoMemory, Scenario, TryCopy};
+use nz_machine::{Item, Journal, Record, RecordList, Sends};
+use std::alloc::Global;
+use std::marker::Model;
+use std::sync::ledger::{Blank, Book};
+
+/// The network of a run on several threads: what is due, the turns that are open, and the journal, in which the
+/// records of a tick are in any order.
+#[derive(Drop)]
+pub struct FabricState<N: Name> {
+    ticks: Ticks,
+    rows: Rows,
+    /// How many records there were before this tick.
+    before: usize,
+    running: Vec<Running>,
+    book: Book<N>,
+}
+
+impl<N: Name> Model for FabricState<N> {
+    ghost use Rattle.std.specs.Prelude.{◌≡◌};
+    ghost use Rattle.nz_fabric.specs.Rows.{HaveRoom};
+    ghost use Rattle.nz_fabric.specs.States.{state_in};
+    ghost use Rattle.nz_fabric.specs.Shared.{Shared, IsBooked, shared_with};
+
+    ghost Value = { Shared };
+
+    ghost view = { λ f. shared_with (state_in f.ticks f.before f.rows.records) f.running.items };
+
+    ghost invariant = { λ f. (N.parts ≡ 16) × IsBooked N.scenario f.book.total
+        (state_in f.ticks f.before f.rows.records) f.running.items f.before f.rows.room f.rows.records
+        f.ticks.calendar × HaveRoom f.running.items f.rows };
+}
+
+impl<N: Name> FabricState<N> {
+    /// A run that has not begun, and the whole share.
+    pub fn new(
+        alloc: Global,
+        blank: Blank,
+        scenario: Scenario,
+    ) -> Result<(FabricState<N>, Share<N>), NoMemory>
+        requires name { (blank.name ≡ N.name) × (blank.parts ≡ N.parts) × (blank.parts ≡ 16) }
+        requires scenario { scenario ≡ N.scenario }
+        requires playable { IsPlayable scenario }
+        ensures { IfOk result (λ r. (r.0 ≡ start_shared scenario) × (r.1.parts ≡ 16) × (r.1.amount ≡ 0)) }
+    {
+        let rows = Rows::new(alloc)?;
+        let (book, held) = blank.open::<N>();
+        let state = FabricState {
+            ticks: Ticks::new(alloc, scenario),
+            rows,
+            before: 0,
+            running: Vec::new(alloc),
+            book,
+        };
+        Ok((state, Share { held }))
+    }
+
+    /// The invariant of this type, for the caller's proof. Does nothing.
+    pub fn kept(&self)
+        ensures { IsAccounted N.scenario self.now }
+    {
+        let _ = &self.ticks;
+    }
+
+    /// The next due item of the tick. Its place in the journal is reserved here.
+    pub fn take(&mut self, share: &mut Share<N>) -> Result<Option<Turn>, NoMemory>
+        ensures { MatchResult result
+            (λ turn.
+            MatchOption turn
+            ((self.new ≡ self.old) × (share.new ≡ share.old) × ((self.old.run.marked ≡ true) ⊎ (self.old.run.next ≡ length self.old.run.items)))
+            (λ turn. (self.new ≡ with_opened turn self.old) × (share.new ≡ record share.old { amount = share.old.amount + 1 }) × IsNextOf self.old turn))
+            (λ _. (self.new ≡ self.old) × (share.new ≡ share.old)) }
+    {
+        if self.ticks.marked || self.ticks.next == self.ticks.items.len() {
+            return Ok(None);
+        }
+        let taken = self.rows.len() + self.running.len();
+        if taken >= u32::MAX as usize {
+            return Err(NoMemory);
+        }
+        let item = self.ticks.next_item()?;
+        let actor = item.actor;
+        let event = item.event.copy(self.ticks.alloc)?;
+        let number = taken as u64 + 1;
+        self.rows.reserve(actor, self.running.len() + 1)?;
+        self.running.push(Running { number, item })?;
+        self.ticks.next += 1;
+        self.book.add(&mut share.held, 1);
+        Ok(Some(Turn {
+            number,
+            tick: self.ticks.tick,
+            actor,
+            event,
+        }))
+    }
+
+    /// The record of the turn is last in the journal. What it sends is of a step of the turn's actor.
+    pub fn record(&mut self, turn: Turn, sends: Sends, share: &mut Share<N>)
+        requires open { 0 < share.old.amount }
+        requires sent { IsSentOn (group_of N.scenario) turn.actor turn.event sends }
+        ensures recorded { self.new ≡ with_record turn.number sends self.old }
+        ensures share { (share.new.amount + 1 ≡ share.old.amount) × (share.new.parts ≡ share.old.parts) }
+    {
+        let number = turn.into_number();
+        self.book.audit(&mut share.held);
+        let Running { number: _, item } = close(&mut self.running, number);
+        let Item { actor, event } = item;
+        self.rows.push(Record {
+            tick: self.ticks.tick,
+            actor,
+            event,
+            sends,
+        });
+        self.book.sub(&mut share.held, 1);
+    }
+
+    /// Nothing is recorded, and no further turn is given.
+    pub fn give_up(&mut self, turn: Turn, share: &mut Share<N>)
+        requires { 0 < share.old.amount }
+        ensures given_up { self.new ≡ with_given_up turn.number self.old }
+        ensures share { (share.new.amount + 1 ≡ share.old.amount) × (share.new.parts ≡ share.old.parts) }
+    {
+        let number = turn.into_number();
+        self.book.audit(&mut share.held);
+        drop(close(&mut self.running, number));
+        self.ticks.marked = true;
+        self.book.sub(&mut share.held, 1);
+    }
+
+    /// Whether a turn was given up, or a tick could not begin.
+    pub fn is_marked(&self) -> bool
+        ensures { result ≡ self.now.run.marked }
+    {
+        self.ticks.marked
+    }
+
+    /// Whether all that is due in the tick was recorded.
+    pub fn is_over(&self) -> bool
+        ensures { IsTrue result ↔ IsOver self.now }
+    {
+        !self.ticks.marked && self.running.is_empty() && self.ticks.next == self.ticks.items.len()
+    }
+
+    /// How many items are due in the tick.
+    pub fn due(&self) -> usize
+        ensures { result ≡ length self.now.run.items }
+    {
+        self.ticks.items.len()
+    }
+
+    /// Whether there is nothing to take before an open turn is done.
+    pub fn must_wait(&self) -> bool
+        ensures { IsTrue result ↔ MustWait self.now }
+    {
+        !self.ticks.marked && !self.running.is_empty() && self.ticks.next == self.ticks.items.len()
+    }
+
+    /// Nothing changes. The amount of the whole share is the number of open turns.
+    pub fn audit(&mut self, share: &mut Share<N>)
+        requires { share.old.parts ≡ 16 }
+        ensures same { (self.new ≡ self.old) × (share.new ≡ share.old) }
+        ensures running { share.new.amount ≡ length self.new.running }
+    {
+        self.book.audit(&mut share.held);
+    }
+
+    /// Begins the next tick. False exactly where the last one was done. After `NoMemory` no further turn is given.
+    pub fn next_tick(&mut self) -> Result<bool, NoMemory>
+        requires { IsOver self.old }
+        ensures { MatchResult result
+            (λ more.
+            MatchBool more
+            ((self.new ≡ after_shared self.old) × (self.old.run.tick < self.old.run.scenario.ticks))
+            ((self.new ≡ self.old) × (self.old.run.tick ≡ self.old.run.scenario.ticks)))
+            (λ _. self.new ≡ shared_with (with_mark self.old.run) self.old.running) }
+    {
+        if self.ticks.tick == self.ticks.scenario.ticks {
+            return Ok(false);
+        }
+        self.ticks.marked = true;
+        let Ticks {
+            calendar,
+            scenario,
+            ..
+        } = &mut self.ticks;
+        self.rows.post_from(self.before, calendar, scenario)?;
+        self.ticks.begin()?;
+        self.before = self.rows.len();
+        Ok(true)
+    }
+
+    /// Whether the lane is the list of the actor's records in the journal.
+    pub fn same_row(&self, actor: Actor, lane: &RecordList) -> bool
+        ensures { IsTrue result ↔ (lane.now ≡ of_actor actor (reverse (records_of self.now.run))) }
+    {
+        self.rows.same_row(actor, lane.as_slice())
+    }
+
+    /// The scenario and the records, once the last tick was done.
+    pub fn into_journal(self) -> Result<Journal, NoMemory>
+        requires over { IsOver self }
+        requires last { self.run.tick ≡ self.run.scenario.ticks }
+        ensures scenario { IfOk result (λ journal. journal.scenario ≡ N.scenario) }
+        ensures records { IfOk result (λ journal. run_in journal ≡ records_of self.run) }
+        ensures scheduled { IfOk result (λ journal. Scheduled N.scenario (run_in journal)) }
+    {
+        let FabricState { ticks, rows, .. } = self;
+        let records = rows.into_records(ticks.alloc)?;
+        Ok(Journal {
+            scenario: ticks.scenario,
+            records: List::from_vec(records),
+        })
+    }
+}
+
+/// Takes out the open turn that a number names.
+fn close(running: &mut Vec<Running>, number: u64) -> Running
+    requires { 0 < length running.old.items }
+    ensures place { place_of_turn number running.old.items < length running.old.items }
+    ensures closed { running.new.items ≡ without_turn number running.old.items }
+    ensures turn { (d : RunningModel) → result ≡ get_or running.old.items (place_of_turn number running.old.items) d }
+{
+    let place = place_of(running.as_slice(), number);
+    running.remove(place)
+}
+
+fn place_of(running: &[Running], number: u64) -> usize
+    requires { 0 < length running.now }
+    ensures place { result ≡ place_of_turn number running.now }
+    ensures within { result < length running.now }
+{
+    find(running, number).unwrap_or(0)
+}
+
+fn find(running: &[Running], number: u64) -> Option<usize>
+    ensures place { result ≡ position (λ o. o.number == number) running.now }
+    ensures within { IfSome result (λ place. place < length running.now) }
+{
+    running.iter().position(|o| o.number == number)
+}

@@ -1,0 +1,67 @@
+-- Each rule by which followers agree with the leader keeps what a replica's state always has.
+use Rattle.std.proofs.Common.{◌≡◌, ℕ, ◌≤◌, true, List, [], ◌∷◌, ◌++◌, length, ◌∙◌, arith}
+use Rattle.std.specs.List.{AllByRecursion}
+use Rattle.nz_base.specs.declared.key.Key.{Key}
+use Rattle.nz_base.specs.declared.key.Entry.{Entry}
+use Rattle.nz_msg.specs.Codec.{ItemsFit}
+use Rattle.nz_msg.specs.Fields as fields
+use Rattle.nz_msg.specs.Fields.{next_key, next_entry}
+use Rattle.nz_msg.specs.Messages.{log_mod, fetch_reply}
+use Rattle.nz_msg.specs.declared.message.LogModBody.{LogModBody}
+use Rattle.nz_msg.specs.declared.message.FetchReplyBody.{FetchReplyBody}
+use Rattle.nz_machine.specs.State.{ReplicaData}
+use Rattle.nz_machine.specs.Facts.{FitsEntry, HasFacts}
+use Rattle.nz_machine.specs.Replicas.{most_entries, is_normal, leads}
+use Rattle.nz_machine.specs.LogMods.{with_ack, with_commit}
+use Rattle.nz_machine.proofs.Tables.{set_long, reported_low, noted_low}
+
+-- ---- what a message brings
+
+key_items : (before keys : List Key) → ItemsFit next_key before keys → AllByRecursion fields.key.fits keys
+key_items before [] fit = tt
+key_items before (k ∷ keys) fit = (fit.0.0, key_items (before ++ k ∷ []) keys fit.1)
+
+entry_items : (before es : List Entry) → ItemsFit next_entry before es → AllByRecursion FitsEntry es
+entry_items before [] fit = tt
+entry_items before (e ∷ es) fit = (record { key = fit.0.0.0; command = fit.0.1 }, entry_items (before ++ e ∷ []) es fit.1)
+
+pub keys_fit : (b : LogModBody) → log_mod.fits b → AllByRecursion fields.key.fits b.keys
+keys_fit b fits = key_items [] b.keys fits.1.1.1.1.1.1
+
+pub entries_fit : (b : FetchReplyBody) → fetch_reply.fits b → AllByRecursion FitsEntry b.entries
+entries_fit b fits = entry_items [] b.entries fits.1.1.1
+
+-- ---- sync reports
+
+-- the leader takes a report of at most its own log
+pub report_keeps : (f me : ℕ) (s : ReplicaData) (sender synced : ℕ) → HasFacts f me s → is_normal s.status ≡ true
+    → leads f me s ≡ true → synced ≤ length s.log.entries
+    → HasFacts f me (with_commit f me (with_ack s sender synced))
+report_keeps f me s sender synced h normal lead low =
+    let d = h.executed.led normal lead in
+    let few = h.entries.few in
+    let ack = (with_ack s sender synced).ack in
+    let all = noted_low (length s.log.entries) s.ack sender synced low d.acks in
+    let most = reported_low f me (length s.log.entries) ack all in
+    let agreed : s.log.synced ≡ length s.log.entries = d.synced in
+    let so_far : s.commit ≤ s.log.synced = h.commit in
+    record {
+      bounds = h.bounds;
+      mode = h.mode;
+      entries = h.entries;
+      commit = omega (arith, most, agreed, so_far);
+      tables =
+          record {
+            vector = h.tables.vector;
+            acks = set_long s.ack sender _ ∙ h.tables.acks;
+            few = noted_low most_entries s.ack sender synced (omega (arith, low, few)) h.tables.few;
+            origins = h.tables.origins;
+          };
+      executed = record {
+        answers = h.executed.answers;
+        led = λ n l. record { synced = d.synced; results = d.results; acks = all };
+        forgotten = h.executed.forgotten;
+      };
+      reports = h.reports;
+      rejoin = h.rejoin;
+    }

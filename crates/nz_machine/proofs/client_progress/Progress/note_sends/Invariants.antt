@@ -1,0 +1,7 @@
+-- What the loops of the function of this folder keep.
+use Rattle.std.proofs.Common.{take}
+use Rattle.nz_machine.proofs.NewRequests.{AreNoted}
+use Rattle.nz_machine.proofs.client_progress.Progress.note_sends.Given as goal
+
+abbrev pub invariant-loop-parcel : goal.invariant-loop-parcel
+invariant-loop-parcel l = AreNoted l.client l.initial.self (take l.parcel-index l.sends) l.self l.ids

@@ -1,7 +1,0 @@
--- What the loops of the function of this folder keep.
-use Rattle.std.proofs.Common.{◌≡◌, replicate}
-use Rattle.nz_machine.specs.Telling.{first_progress}
-use Rattle.nz_machine.proofs.telling.Clients.new.Given as goal
-
-abbrev pub invariant-loop : goal.invariant-loop
-invariant-loop l = l.progress.items ≡ replicate l.counter first_progress

@@ -1,0 +1,129 @@
+//! What a replica does to its state so that its log agrees with the leader's.
+
+ghost use Rattle.std.specs.Prelude.{◌≡◌, ◌<◌, ◌≤◌, length, drop, IsTrue, IsFalse, IfOk, OnOk, slice_index};
+ghost use Rattle.std.specs.List.{AllByRecursion};
+ghost use Rattle.nz_base.specs.Cluster.{replica_count};
+ghost use Rattle.nz_msg.specs.Fields as fields;
+ghost use Rattle.nz_machine.specs.Replicas as replicas;
+ghost use Rattle.nz_machine.specs.Replicas.{is_normal};
+ghost use Rattle.nz_machine.specs.Requests.{is_full};
+ghost use Rattle.nz_machine.specs.Vectors.{with_vector};
+ghost use Rattle.nz_machine.specs.LogMods.{is_held, with_ack, with_commit, sync_keys, overtaken_to_late, committed_to, missing_ids};
+
+use super::super::commit_quorum::reported;
+use super::super::parts::vector_fits;
+use super::super::sync_keys::sync_parts;
+use super::{ReplicaState, forget};
+use nz_base::{Id, IdList, Key, NoMemory};
+use nz_cv::CrashVector;
+use nz_log::MAX_ENTRIES;
+
+impl ReplicaState {
+    /// Takes in what a message's crash vector knows.
+    pub fn merge_vector(&mut self, vector: &CrashVector)
+        requires { length vector.now ≡ replica_count self.old.f }
+        ensures { self.new ≡ record self.old { state = with_vector self.old.me self.old.state vector.now } }
+    {
+        // Each of its counters has four bytes.
+        vector_fits(vector);
+        self.parts.vector.merge(vector, self.parts.me);
+    }
+
+    /// Whether an entry with the id is in log, early or late.
+    pub fn holds(&self, id: Id) -> bool
+        ensures { result ≡ is_held self.now.state id }
+    {
+        self.parts.log.place_of(id).is_some()
+            || self.parts.early.find(id).is_some()
+            || self.parts.late.find(id).is_some()
+    }
+
+    /// Whether log, early and late together hold as many entries as a log may.
+    pub fn is_full(&self) -> bool
+        ensures { result ≡ is_full self.now.state }
+    {
+        let waiting = self.parts.early.len().saturating_add(self.parts.late.len());
+        waiting.saturating_add(self.parts.log.len() as usize) >= MAX_ENTRIES as usize
+    }
+
+    /// How many entries of a replica's log agree with the leader's, as its reports say.
+    pub fn ack_of(&self, replica: u8) -> u32
+        requires { replica < replica_count self.now.f }
+        ensures { result ≡ slice_index self.now.state.ack replica }
+    {
+        self.parts.ack[replica as usize]
+    }
+
+    /// The ids of some keys that are found nowhere.
+    #[tactic(auto, using(crate::proofs::SyncInvariant::missing_held, crate::proofs::SyncInvariant::missing_more))]
+    pub fn missing(&self, keys: &[Key]) -> Result<IdList, NoMemory>
+        ensures { IfOk result (λ ids. ids ≡ missing_ids self.now.state keys.now) }
+    {
+        let mut ids = IdList::new(self.parts.alloc);
+        for key in keys {
+            let id = key.id();
+            if !self.holds(id) {
+                ids.push(id)?;
+            }
+        }
+        Ok(ids)
+    }
+
+    /// Notes how many entries of a replica's log agree, and commits what f others report.
+    pub fn note_report(&mut self, sender: u8, synced: u32)
+        requires normal { IsTrue (is_normal self.old.state.status) }
+        requires leads { IsTrue (replicas.leads self.old.f self.old.me self.old.state) }
+        requires sender { sender < replica_count self.old.f }
+        requires low { synced ≤ length self.old.state.log.entries }
+        ensures { self.new ≡ record self.old { state = with_commit self.old.f self.old.me (with_ack self.old.state sender synced) } }
+    {
+        let place = sender as usize;
+        self.parts.ack[place] = self.parts.ack[place].max(synced);
+        self.parts.commit = self.parts.commit.max(reported(
+            self.parts.cluster,
+            self.parts.me,
+            &self.parts.ack,
+        ));
+    }
+
+    /// Takes keys of the leader's log, and commits what the leader committed. Gives the place of the first
+    /// key that is missing, or their count.
+    fn take(&mut self, keys: &[Key], commit: u32) -> Result<usize, NoMemory>
+        requires normal { IsTrue (is_normal self.old.state.status) }
+        requires follows { IsFalse (replicas.leads self.old.f self.old.me self.old.state) }
+        requires fit { AllByRecursion fields.key.fits keys.now }
+        ensures within { IfOk result (λ place. place ≤ length keys.now) }
+        ensures state { OnOk result (self.new ≡ record self.old { state = committed_to (overtaken_to_late (sync_keys self.old.state keys.now).0) commit }) }
+        ensures missing { IfOk result (λ place. (sync_keys self.old.state keys.now).1 ≡ drop place keys.now) }
+    {
+        match sync_parts(
+            self.parts.alloc,
+            &mut self.parts.log,
+            &mut self.parts.early,
+            &mut self.parts.late,
+            keys,
+        ) {
+            Ok(place) => {
+                self.parts.commit = self.parts.commit.max(commit.min(self.parts.log.synced()));
+                Ok(place)
+            }
+            Err(error) => {
+                forget(&mut self.parts);
+                Err(error)
+            }
+        }
+    }
+
+    /// Takes keys of the leader's log, of which the first belongs to the first place that is not synced,
+    /// and commits what the leader committed. Gives the ids that are missing.
+    pub fn sync(&mut self, keys: &[Key], commit: u32) -> Result<IdList, NoMemory>
+        requires normal { IsTrue (is_normal self.old.state.status) }
+        requires follows { IsFalse (replicas.leads self.old.f self.old.me self.old.state) }
+        requires fit { AllByRecursion fields.key.fits keys.now }
+        ensures state { OnOk result (self.new ≡ record self.old { state = committed_to (overtaken_to_late (sync_keys self.old.state keys.now).0) commit }) }
+        ensures missing { IfOk result (λ ids. ids ≡ missing_ids self.new.state (sync_keys self.old.state keys.now).1) }
+    {
+        let place = self.take(keys, commit)?;
+        self.missing(&keys[place..])
+    }
+}

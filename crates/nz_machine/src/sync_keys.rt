@@ -1,0 +1,201 @@
+//! How a follower takes the keys of a log modification, on the parts of its state.
+
+ghost use Rattle.std.specs.Prelude.{◌≡◌, ◌<◌, ◌≤◌, ◌∷◌, ◌++◌, List, not, length, drop, filter, IsTrue, IsFalse, IfOk, OnOk};
+ghost use Rattle.std.specs.Option.{option_copied, option_map};
+ghost use Rattle.std.specs.List.{AllByRecursion};
+ghost use Rattle.nz_base.specs.Key.{key_below, id_of};
+ghost use Rattle.nz_base.specs.Log.{keys_of, has_id, is_above_last, AreRising, HaveOwnIds};
+ghost use Rattle.nz_base.specs.declared.key.Key.{Key as KeyModel};
+ghost use Rattle.nz_base.specs.declared.key.Entry.{Entry as EntryModel};
+ghost use Rattle.nz_log.specs.Synced.{synced_part, unsynced_part, log_with_synced, displaced_entries};
+ghost use Rattle.nz_buffers.specs.Buffers.{find_id, without};
+ghost use Rattle.nz_msg.specs.Fields as fields;
+ghost use Rattle.nz_machine.specs.State.{ReplicaData};
+ghost use Rattle.nz_machine.specs.Facts.{FitsEntry, AreApart};
+ghost use Rattle.nz_machine.specs.LogMods.{sync_keys, overtaken_to_late};
+ghost use Rattle.nz_machine.specs.Taking.{may_join, found_in, with_parts, after_first};
+
+use super::parts::last_key;
+use nz_base::{Blob, Entry, EntryList, Id, Key, NoMemory, TryCopy};
+use nz_buffers::{Early, Late};
+use nz_log::{HashedLog, MAX_ENTRIES};
+use std::alloc::Global;
+
+/// What became of a key.
+pub enum Taken {
+    Synced,
+    /// No entry has its id.
+    Missing,
+    /// It may not be the next that is synced.
+    Refused,
+}
+
+/// Whether the key may be the next that is synced.
+fn may_sync(log: &HashedLog, key: &Key) -> bool
+    ensures { result ≡ may_join log.now key.now }
+{
+    log.is_above_synced(key) && !log.has_synced(key.id()) && log.len() < MAX_ENTRIES
+}
+
+/// The entry with the id beyond the synced ones of the log.
+fn find_unsynced(log: &HashedLog, id: Id) -> Option<&Entry>
+    requires { IsFalse (has_id (keys_of (synced_part log.now)) id) }
+    ensures { option_copied result ≡ find_id (unsynced_part log.now) id }
+{
+    match log.place_of(id) {
+        None => None,
+        Some(place) => Some(log.get(place)),
+    }
+}
+
+/// The command of the entry with the id: beyond the synced ones of the log, in early or in late.
+fn command_of(
+    alloc: Global,
+    log: &HashedLog,
+    early: &Early,
+    late: &Late,
+    id: Id,
+) -> Result<Option<Blob>, NoMemory>
+    requires { IsFalse (has_id (keys_of (synced_part log.now)) id) }
+    ensures { IfOk result (λ command. command ≡ option_map (λ (e : EntryModel). e.command) (found_in log.now early.now late.now id)) }
+{
+    let found = find_unsynced(log, id).or(early.find(id)).or(late.find(id));
+    match found {
+        None => Ok(None),
+        Some(entry) => Ok(Some(entry.command.copy(alloc)?)),
+    }
+}
+
+/// Puts the entries after the others.
+pub fn keep_each(late: &mut Late, entries: EntryList) -> Result<(), NoMemory>
+    requires { HaveOwnIds (keys_of (late.old ++ entries)) }
+    ensures { OnOk result (late.new ≡ late.old ++ entries) }
+{
+    for entry in entries.into_vec() {
+        late.keep(entry)?;
+    }
+    Ok(())
+}
+
+/// Puts the entry at the end of the synced part. What loses its place to it goes to late.
+fn sync_entry(
+    log: &mut HashedLog,
+    early: &mut Early,
+    late: &mut Late,
+    entry: Entry,
+) -> Result<(), NoMemory>
+    requires apart { AreApart log.old early.old late.old }
+    requires above { IsTrue (is_above_last (keys_of (synced_part log.old)) entry.key) }
+    requires fresh { IsFalse (has_id (keys_of (synced_part log.old)) (id_of entry.key)) }
+    requires room { length log.old.entries < MAX_ENTRIES }
+    ensures log { OnOk result (log.new ≡ log_with_synced log.old entry) }
+    ensures early { OnOk result (early.new ≡ without early.old (id_of entry.key)) }
+    ensures late { OnOk result (late.new ≡ without (late.old ++ displaced_entries log.old entry) (id_of entry.key)) }
+{
+    let id = entry.key.id();
+    let displaced = log.modify(entry)?;
+    let _ = early.remove(id);
+    let _ = late.remove(id);
+    keep_each(late, displaced)
+}
+
+/// Moves the early entries whose key is not above `last` to late.
+fn move_below(last: Key, early: &mut Early, late: &mut Late) -> Result<(), NoMemory>
+    requires waiting { AreRising (keys_of early.old) }
+    requires own { HaveOwnIds (keys_of (early.old ++ late.old)) }
+    ensures early { OnOk result (early.new ≡ filter (λ (e : EntryModel). key_below last e.key) early.old) }
+    ensures late { OnOk result (late.new ≡ late.old ++ filter (λ (e : EntryModel). not (key_below last e.key)) early.old) }
+{
+    'below: while let Some(entry) = early.take_below(last) {
+        late.keep(entry)?;
+    }
+    Ok(())
+}
+
+/// Takes one key, with the command that is found for its id.
+#[tactic(auto, unfolding(crate::specs::LogMods::sync_keys))]
+fn take_key(
+    alloc: Global,
+    log: &mut HashedLog,
+    early: &mut Early,
+    late: &mut Late,
+    key: Key,
+) -> Result<Taken, NoMemory>
+    requires apart { AreApart log.old early.old late.old }
+    requires fit { fields.key.fits key }
+    ensures apart { OnOk result (AreApart log.new early.new late.new) }
+    ensures taken { (s : ReplicaData) (keys : List KeyModel)
+        → IfOk result (λ taken. sync_keys (with_parts s log.old early.old late.old) (key ∷ keys)
+        ≡ after_first taken (with_parts s log.new early.new late.new) key keys) }
+{
+    if !may_sync(log, &key) {
+        return Ok(Taken::Refused);
+    }
+    match command_of(alloc, log, early, late, key.id())? {
+        None => Ok(Taken::Missing),
+        Some(command) => {
+            sync_entry(log, early, late, Entry { key, command })?;
+            Ok(Taken::Synced)
+        }
+    }
+}
+
+/// Takes the keys in turn. Gives the place of the first of them that is missing, or their count.
+fn take_keys(
+    alloc: Global,
+    log: &mut HashedLog,
+    early: &mut Early,
+    late: &mut Late,
+    keys: &[Key],
+) -> Result<usize, NoMemory>
+    requires apart { AreApart log.old early.old late.old }
+    requires fit { AllByRecursion fields.key.fits keys.now }
+    ensures apart { OnOk result (AreApart log.new early.new late.new) }
+    ensures within { IfOk result (λ place. place ≤ length keys.now) }
+    ensures taken { (s : ReplicaData)
+        → IfOk result (λ place. sync_keys (with_parts s log.old early.old late.old) keys.now
+        ≡ (with_parts s log.new early.new late.new, drop place keys.now)) }
+{
+    for (place, key) in keys.iter().enumerate() {
+        match take_key(alloc, log, early, late, *key)? {
+            Taken::Synced => (),
+            Taken::Missing => return Ok(place),
+            Taken::Refused => return Ok(keys.len()),
+        }
+    }
+    Ok(keys.len())
+}
+
+/// Moves the early entries whose key is not above the log's last to late.
+pub fn pass_over(log: &HashedLog, early: &mut Early, late: &mut Late) -> Result<(), NoMemory>
+    requires { AreApart log.now early.old late.old }
+    ensures early { OnOk result (early.new ≡ filter (λ (e : EntryModel). is_above_last (keys_of log.now.entries) e.key) early.old) }
+    ensures late { OnOk result (late.new ≡ late.old ++ filter (λ (e : EntryModel). not (is_above_last (keys_of log.now.entries) e.key)) early.old) }
+{
+    match last_key(log) {
+        None => Ok(()),
+        Some(last) => move_below(last, early, late),
+    }
+}
+
+/// Takes the keys, and moves what is no longer early to late. Gives the place of the first key that is missing, or
+/// their count.
+pub fn sync_parts(
+    alloc: Global,
+    log: &mut HashedLog,
+    early: &mut Early,
+    late: &mut Late,
+    keys: &[Key],
+) -> Result<usize, NoMemory>
+    requires apart { AreApart log.old early.old late.old }
+    requires fit { AllByRecursion fields.key.fits keys.now }
+    ensures within { IfOk result (λ place. place ≤ length keys.now) }
+    ensures parts { (s : ReplicaData)
+        → OnOk result (overtaken_to_late (sync_keys (with_parts s log.old early.old late.old) keys.now).0
+        ≡ with_parts s log.new early.new late.new) }
+    ensures missing { (s : ReplicaData) → IfOk result (λ place. (sync_keys (with_parts s log.old early.old late.old) keys.now).1 ≡ drop place keys.now) }
+{
+    let place = take_keys(alloc, log, early, late, keys)?;
+    pass_over(log, early, late)?;
+    Ok(place)
+}

@@ -1,0 +1,143 @@
+-- A list that enough of few logs begin with is what the merged log begins with.
+use Rattle.std.proofs.Common.{◌≡◌, ℕ, ◌+◌, ◌<◌, ◌≤◌, Bool, true, false, ◌&&◌, cond, List, [], ◌∷◌, ◌++◌}
+use Rattle.std.proofs.Common.{length, refl, sym, ap, subst, ◌∙◌, inl, inr, ◌⊎◌, append_assoc, arith}
+use Rattle.std.specs.Prelude.{map}
+use Rattle.std.specs.List.{filter, flat_map, AllByRecursion}
+use Rattle.std.proofs.lemmas.Bool.{le-leb, leb-true}
+use Rattle.std.proofs.lemmas.List.{map-append}
+use Rattle.nz_base.specs.declared.key.Key.{Key}
+use Rattle.nz_base.specs.declared.key.Entry.{Entry}
+use Rattle.nz_base.specs.Key.{key_eq}
+use Rattle.nz_base.specs.Log.{keys_of, has_key, AreRising, HaveOwnIds}
+use Rattle.nz_base.proofs.Names.{key_eq_self}
+use Rattle.nz_base.proofs.Booleans.{cases_bool, and_both, and_left, and_right}
+use Rattle.nz_base.proofs.Logs.{has_append, has_front, has_back, front_below, rising_front, own_front}
+use Rattle.nz_merge.specs.Merged.{begins_with, IsFit, merged_synced_part, holders, all_keys, later_keys, entry_in, merged_from, count_beginning}
+use Rattle.nz_merge.specs.declared.change.Change.{Change}
+use Rattle.nz_merge.proofs.Beginnings.{begins_append, rest_of, AreAmong}
+use Rattle.nz_merge.proofs.Ordering.{in_order_rising, has_in_order}
+use Rattle.nz_merge.proofs.Walk.{IsSettled, walk}
+
+-- ---- counting changes
+
+-- two tests that are passed by more than there are have one in common
+pub both_pass : {X : Type 0} (p q : X → Bool) (xs : List X) → length (filter p xs) + length (filter q xs) ≤ length xs + length (filter (λ x. p x && q x) xs)
+both_pass p q [] = omega arith
+both_pass p q (x ∷ xs) = by_tests (p x) (q x) x xs (filter p xs) (filter q xs) (filter (λ y. p y && q y) xs) (both_pass p q xs)
+  where
+    by_tests : {X : Type 0} (a b : Bool) (x : X) (xs ps qs bs : List X) → length ps + length qs ≤ length xs + length bs
+        → length (cond a (x ∷ ps) ps) + length (cond b (x ∷ qs) qs) ≤ length (x ∷ xs) + length (cond (a && b) (x ∷ bs) bs)
+    by_tests true true x xs ps qs bs h = omega (arith, h)
+    by_tests true false x xs ps qs bs h = omega (arith, h)
+    by_tests false true x xs ps qs bs h = omega (arith, h)
+    by_tests false false x xs ps qs bs h = omega (arith, h)
+
+-- some item passes
+pub some_pass : {X : Type 0} (Q : X → Type 0) (p : X → Bool) (xs : List X) → AllByRecursion Q xs → 0 < length (filter p xs) → (x : X) × Q x × (p x ≡ true)
+some_pass Q p [] each h = absurd (omega arith)
+some_pass Q p (x ∷ xs) each h =
+    elim (cases_bool (p x)) [
+      | inl here ↦ (x, each.0, here)
+      | inr away ↦ some_pass Q p xs each.1 (rw away at h)
+    ]
+
+-- a weaker test is passed by as many
+pub more_pass : {X : Type 0} (p q : X → Bool) (xs : List X) → ((x : X) → p x ≡ true → q x ≡ true) → length (filter p xs) ≤ length (filter q xs)
+more_pass p q [] h = omega arith
+more_pass p q (x ∷ xs) h = by_tests (p x) (q x) x (filter p xs) (filter q xs) (h x) (more_pass p q xs h)
+  where
+    by_tests : {X : Type 0} (a b : Bool) (x : X) (ps qs : List X) → (a ≡ true → b ≡ true) → length ps ≤ length qs
+        → length (cond a (x ∷ ps) ps) ≤ length (cond b (x ∷ qs) qs)
+    by_tests true true x ps qs k h = omega (arith, h)
+    by_tests true false x ps qs k h = absurd (let e = k refl in cc)
+    by_tests false true x ps qs k h = omega (arith, h)
+    by_tests false false x ps qs k h = h
+
+-- ---- keys of logs
+
+-- a key of a log that passes a test is among all keys
+pub among_all : (p : Change → Bool) (changes : List Change) (k : Key)
+    → ((c : Change) → p c ≡ true → has_key (keys_of c.log) k ≡ true) → 0 < length (filter p changes)
+    → has_key (flat_map (λ c. keys_of c.log) changes) k ≡ true
+among_all p [] k h some = absurd (omega arith)
+among_all p (c ∷ changes) k h some =
+    elim (cases_bool (p c)) [
+      | inl here ↦ has_front (keys_of c.log) (flat_map (λ d. keys_of d.log) changes) k (h c here)
+      | inr away ↦ has_back (keys_of c.log) (flat_map (λ d. keys_of d.log) changes) k (among_all p changes k h (rw away at some))
+    ]
+
+-- a key of a prefix is a key of what begins with it
+pub of_front : (keys front : List Key) (k : Key) → begins_with keys front ≡ true → has_key front k ≡ true → has_key keys k ≡ true
+of_front keys front k begins h =
+    let rest = rest_of keys front begins in
+    subst (λ (xs : List Key). has_key xs k ≡ true) (sym rest.1) (has_front front rest.0 k h)
+
+-- ---- a prefix that enough logs have
+
+pub settled : (limit : ℕ) (changes : List Change) (P : List Key) → AllByRecursion IsFit changes → 0 < limit
+    → length changes < limit + limit → limit ≤ count_beginning P changes → IsSettled limit changes P
+settled limit changes P fit positive few enough =
+    let begins : Change → Bool = λ c. begins_with (keys_of c.log) P in
+    let one = some_pass IsFit begins changes fit (omega (arith, enough)) in
+    let rest = rest_of (keys_of one.0.log) P one.2 in
+    record {
+      rising = rising_front P rest.0 (subst AreRising rest.1 one.1.log.rising);
+      own_ids = own_front P rest.0 (subst HaveOwnIds rest.1 one.1.log.own_ids);
+      held = λ k h.
+          let more = more_pass begins (λ c. has_key (keys_of c.log) k) changes (λ c b. of_front (keys_of c.log) P k b h) in
+          le-leb limit (length (holders changes k)) (omega (arith, enough, more));
+      closed = λ k h.
+          let held_by = leb-true limit (length (holders changes k)) h in
+          let common = both_pass begins (λ c. has_key (keys_of c.log) k) changes in
+          let both = some_pass IsFit (λ c. begins c && has_key (keys_of c.log) k) changes fit (omega (arith, enough, held_by, common)) in
+          let tail = rest_of (keys_of both.0.log) P (and_left (begins both.0) (has_key (keys_of both.0.log) k) both.2) in
+          elim (has_append P tail.0 k (subst (λ (xs : List Key). has_key xs k ≡ true) tail.1
+          (and_right (begins both.0) (has_key (keys_of both.0.log) k) both.2))) [
+            | inl inside ↦ inl inside
+            | inr behind ↦ inr (λ x there. front_below P tail.0 x k (subst AreRising tail.1 both.1.log.rising) there behind)
+          ];
+    }
+
+keys_entries : (changes : List Change) (keys : List Key) → keys_of (map (entry_in changes) keys) ≡ keys
+keys_entries changes [] = refl
+keys_entries changes (k ∷ keys) = ap (λ (xs : List Key). k ∷ xs) (keys_entries changes keys)
+
+-- the keys of the merged log
+pub merged_keys : (limit : ℕ) (changes : List Change)
+    → keys_of (merged_from limit changes)
+    ≡ keys_of (merged_synced_part changes) ++ later_keys limit changes (keys_of (merged_synced_part changes)) (all_keys changes)
+merged_keys limit changes =
+    let base = merged_synced_part changes in
+    let added = later_keys limit changes (keys_of base) (all_keys changes) in
+    map-append (λ (e : Entry). e.key) base (map (entry_in changes) added) ∙ ap (λ (xs : List Key). keys_of base ++ xs) (keys_entries changes added)
+
+pub begins_longer : (xs ys front : List Key) → begins_with xs front ≡ true → begins_with (xs ++ ys) front ≡ true
+begins_longer xs ys front h =
+    let rest = rest_of xs front h in
+    subst (λ (zs : List Key). begins_with zs front ≡ true)
+    (sym (ap (λ (zs : List Key). zs ++ ys) rest.1 ∙ append_assoc front rest.0 ys)) (begins_append front (rest.0 ++ ys))
+
+begins_further : (front xs rest : List Key) → begins_with xs rest ≡ true → begins_with (front ++ xs) (front ++ rest) ≡ true
+begins_further [] xs rest h = h
+begins_further (f ∷ front) xs rest h = and_both (key_eq f f) (begins_with (front ++ xs) (front ++ rest)) (key_eq_self f) (begins_further front xs rest h)
+
+pub begins_with_front : (limit : ℕ) (changes : List Change) (P : List Key) → AllByRecursion IsFit changes → 0 < limit
+    → length changes < limit + limit → limit ≤ count_beginning P changes
+    → (begins_with (keys_of (merged_synced_part changes)) P ≡ true) ⊎ (begins_with P (keys_of (merged_synced_part changes)) ≡ true)
+    → begins_with (keys_of (merged_from limit changes)) P ≡ true
+begins_with_front limit changes P fit positive few enough either =
+    let base = keys_of (merged_synced_part changes) in
+    let added = later_keys limit changes base (all_keys changes) in
+    let s = settled limit changes P fit positive few enough in
+    let whole : begins_with (base ++ added) P ≡ true = elim either [
+      | inl shorter ↦ begins_longer base added P shorter
+      | inr longer ↦
+          let rest = rest_of P base longer in
+          let among : AreAmong rest.0 (all_keys changes) = λ k h. has_in_order (flat_map (λ c. keys_of c.log) changes) k
+          (among_all (λ c. begins_with (keys_of c.log) P) changes k
+          (λ c b. of_front (keys_of c.log) P k b
+          (subst (λ (xs : List Key). has_key xs k ≡ true) (sym rest.1) (has_back base rest.0 k h))) (omega (arith, enough))) in
+          let walked = walk limit changes P base rest.0 (all_keys changes) s rest.1 (in_order_rising (flat_map (λ c. keys_of c.log) changes)) among in
+          subst (λ (xs : List Key). begins_with (base ++ added) xs ≡ true) (sym rest.1) (begins_further base added rest.0 walked)
+    ] in
+    subst (λ (xs : List Key). begins_with xs P ≡ true) (sym (merged_keys limit changes)) whole

@@ -1,0 +1,95 @@
+-- What the leader tells and gives, one key, one replica and one entry after the other.
+use Rattle.std.proofs.Common.{◌≡◌, ℕ, zero, suc, ◌+◌, ◌-◌, ◌≤◌, Bool, true, false, not, ◌==◌, min, List, [], ◌∷◌, ◌++◌, length, map}
+use Rattle.std.proofs.Common.{take, drop, get_or, Some, refl, sym, ap, ◌∙◌, inl, inr, arith, add-one, append_assoc, length-drop}
+use Rattle.std.specs.Prelude.{slice_get}
+use Rattle.std.specs.List.{filter}
+use Rattle.std.proofs.lemmas.Bool.{cases_lt}
+use Rattle.std.specs.Option.{option_map}
+use Rattle.std.proofs.lemmas.Option.{slice_get-map, slice_get_within, get_or_from_slice_get}
+use Rattle.std.proofs.lemmas.List.{append-nil, map-append, take_more, get_or-drop}
+use Rattle.std.proofs.lemmas.List.Elements.{filter-append}
+use Rattle.nz_base.specs.declared.actor.Actor.TheVariants.{Replica}
+use Rattle.nz_base.specs.declared.key.Key.{Key}
+use Rattle.nz_base.specs.declared.key.Entry.{Entry}
+use Rattle.nz_base.specs.Log.{keys_of}
+use Rattle.nz_machine.specs.declared.event.Parcel.{Parcel}
+use Rattle.nz_machine.specs.State.{Out}
+use Rattle.nz_machine.specs.Replicas.{numbers_below}
+use Rattle.nz_machine.specs.Step.{parcel}
+
+-- ---- items from a place on
+
+pub next_taken : {X : Type 0} (xs : List X) (i : ℕ) (x : X) → slice_get xs i ≡ Some x → take (i + 1) xs ≡ take i xs ++ x ∷ []
+next_taken xs i x at = take_more xs i x (slice_get_within xs i x at) ∙ ap (λ y. take i xs ++ y ∷ []) (get_or_from_slice_get xs i x x at)
+
+next_told : {X : Type 0} (xs : List X) (start place : ℕ) (x : X) → start ≤ place → slice_get xs place ≡ Some x
+    → take (place + 1 - start) (drop start xs) ≡ take (place - start) (drop start xs) ++ x ∷ []
+next_told xs start place x low at =
+    let n = place - start in
+    let within = slice_get_within xs place x at in
+    let long = length-drop start xs in
+    let one : place + 1 - start ≡ n + 1 = omega (arith, low) in
+    let back : start + n ≡ place = omega (arith, low) in
+    let here : get_or (drop start xs) n x ≡ x = get_or-drop start xs n x ∙ ap (λ (i : ℕ). get_or xs i x) back ∙ get_or_from_slice_get xs place x x at in
+    ap (λ (k : ℕ). take k (drop start xs)) one ∙ take_more (drop start xs) n x (omega (arith, within, long, low))
+    ∙ ap (λ y. take n (drop start xs) ++ y ∷ []) here
+
+pub next_key : (es : List Entry) (start place : ℕ) (e : Entry) → start ≤ place → slice_get es place ≡ Some e
+    → take (place + 1 - start) (drop start (keys_of es)) ≡ take (place - start) (drop start (keys_of es)) ++ e.key ∷ []
+next_key es start place e low at =
+    next_told (keys_of es) start place e.key low (slice_get-map (λ (e : Entry). e.key) es place ∙ ap (option_map (λ (e : Entry). e.key)) at)
+
+pub take_past : {X : Type 0} (n : ℕ) (xs : List X) → length xs ≤ n → take n xs ≡ xs
+take_past zero [] past = refl
+take_past (suc n) [] past = refl
+take_past zero (x ∷ xs) past = absurd (omega arith)
+take_past (suc n) (x ∷ xs) past = ap (λ ys. x ∷ ys) (take_past n xs (omega (arith, past)))
+
+pub all_told : (ks : List Key) (start place stop : ℕ) → stop ≡ min (length ks) (start + 64) → start ≤ place → stop ≤ place → (start ≤ stop → place ≤ stop)
+    → take (place - start) (drop start ks) ≡ take 64 (drop start ks)
+all_told ks start place stop is low past within =
+    let long = length-drop start ks in
+    elim (cases_lt 64 (length (drop start ks))) [
+      | inl more ↦
+          let high : place ≤ stop = within (omega (arith, is, long, more)) in
+          let same : place - start ≡ 64 = omega (arith, is, past, high, long, more) in
+          ap (λ (n : ℕ). take n (drop start ks)) same
+      | inr few ↦ take_past (place - start) (drop start ks) (omega (arith, is, past, long, few)) ∙ sym (take_past 64 (drop start ks) few)
+    ]
+
+-- ---- one replica after the other
+
+abbrev others_below : ℕ → ℕ → List ℕ
+others_below me n = filter (λ r. not (r == me)) (numbers_below n)
+
+others_next : (me n : ℕ) → others_below me (n + 1) ≡ others_below me n ++ filter (λ r. not (r == me)) (n ∷ [])
+others_next me n = ap (others_below me) (add-one n) ∙ filter-append (λ r. not (r == me)) (numbers_below n) (n ∷ [])
+
+other_next : (me n : ℕ) → (n == me) ≡ false → others_below me (n + 1) ≡ others_below me n ++ n ∷ []
+other_next me n other = others_next me n ∙ (rw other refl)
+
+pub other_told : (me n : ℕ) (tell : ℕ → Out) (before sends after : List Parcel) → (n == me) ≡ false
+    → sends ≡ before ++ map (parcel (Replica me)) (map tell (others_below me n))
+    → after ≡ sends ++ map (parcel (Replica me)) (tell n ∷ []) → after ≡ before ++ map (parcel (Replica me)) (map tell (others_below me (n + 1)))
+other_told me n tell before sends after other is next =
+    let first = map tell (others_below me n) in
+    let all : map tell (others_below me (n + 1)) ≡ first ++ tell n ∷ [] =
+    ap (map tell) (other_next me n other) ∙ map-append tell (others_below me n) (n ∷ []) in
+    next ∙ ap (λ (xs : List Parcel). xs ++ map (parcel (Replica me)) (tell n ∷ [])) is
+    ∙ append_assoc before (map (parcel (Replica me)) first) (map (parcel (Replica me)) (tell n ∷ []))
+    ∙ ap (λ (xs : List Parcel). before ++ xs) (sym (map-append (parcel (Replica me)) first (tell n ∷ [])))
+    ∙ ap (λ (xs : List Out). before ++ map (parcel (Replica me)) xs) (sym all)
+
+-- ---- the entries that are asked for
+
+next_asked : (p : Entry → Bool) (es : List Entry) (i : ℕ) (e : Entry) → slice_get es i ≡ Some e
+    → filter p (take (i + 1) es) ≡ filter p (take i es) ++ filter p (e ∷ [])
+next_asked p es i e at = ap (filter p) (next_taken es i e at) ∙ filter-append p (take i es) (e ∷ [])
+
+pub asked_in : (p : Entry → Bool) (es : List Entry) (i : ℕ) (e : Entry) → slice_get es i ≡ Some e → p e ≡ true
+    → filter p (take (i + 1) es) ≡ filter p (take i es) ++ e ∷ []
+asked_in p es i e at is = next_asked p es i e at ∙ (rw is refl)
+
+pub asked_out : (p : Entry → Bool) (es : List Entry) (i : ℕ) (e : Entry) → slice_get es i ≡ Some e → p e ≡ false
+    → filter p (take (i + 1) es) ≡ filter p (take i es)
+asked_out p es i e at not-is = next_asked p es i e at ∙ (rw not-is (append-nil (filter p (take i es))))

@@ -1,0 +1,61 @@
+//! What the leader sends the other replicas of its log.
+
+ghost use Rattle.std.specs.Prelude.{◌≡◌, ◌<◌, ◌∷◌, ◌++◌, [], map, take, drop, IfOk, OnOk};
+ghost use Rattle.nz_base.specs.Cluster.{replica_count};
+ghost use Rattle.nz_base.specs.Log.{keys_of};
+ghost use Rattle.nz_base.specs.declared.actor.Actor.TheVariants as actors;
+ghost use Rattle.nz_msg.specs.Fields as fields;
+ghost use Rattle.nz_machine.specs.LogMods.{most_keys, log_mod_to, log_mods_to_others};
+ghost use Rattle.nz_machine.specs.Step.{parcel};
+
+use nz_base::{Actor, KeyList, NoMemory};
+use nz_machine::{ReplicaState, Sends, send};
+use nz_msg::{LogModBody, Message};
+
+/// A log modification has at most this many keys.
+const MOST_KEYS: u32 = 64;
+
+/// The first keys of the log from a place on.
+fn keys_from(state: &ReplicaState, start: u32) -> Result<KeyList, NoMemory>
+    ensures value { IfOk result (λ keys. keys ≡ take most_keys (drop start (keys_of state.now.state.log.entries))) }
+    ensures fits { IfOk result fields.keys.fits }
+{
+    state.has_facts();
+    let end = state.log().len().min(start.saturating_add(MOST_KEYS));
+    let mut keys = KeyList::new(state.allocator());
+    for place in start..end {
+        keys.push(state.log().get(place).key)?;
+    }
+    Ok(keys)
+}
+
+/// Sends a replica the keys of the log, from where its own agrees.
+fn tell_one(state: &ReplicaState, replica: u8, sends: &mut Sends) -> Result<(), NoMemory>
+    requires { replica < replica_count state.now.f }
+    ensures { OnOk result (sends.new ≡ sends.old ++ map (parcel (actors.Replica state.now.me)) (log_mod_to state.now.state replica ∷ [])) }
+{
+    // f is at most 4, so the number is at most 8.
+    let _most = state.cluster().f();
+    let start = state.ack_of(replica);
+    let message = Message::LogMod(LogModBody {
+        view: state.view(),
+        vector: *state.vector(),
+        commit: state.commit(),
+        start,
+        keys: keys_from(state, start)?,
+    });
+    let to = Actor::Replica(replica);
+    send(state.allocator(), state.name(), to, &message, sends)
+}
+
+/// At a tick the leader in normal operation sends each of the others what its log has.
+pub fn tell_others(state: &ReplicaState, sends: &mut Sends) -> Result<(), NoMemory>
+    ensures { OnOk result (sends.new ≡ sends.old ++ map (parcel (actors.Replica state.now.me)) (log_mods_to_others state.now.f state.now.me state.now.state)) }
+{
+    for replica in 0..state.cluster().n() {
+        if !Actor::Replica(replica).is(&state.name()) {
+            tell_one(state, replica, sends)?;
+        }
+    }
+    Ok(())
+}

@@ -1,0 +1,96 @@
+//! The summary of a run.
+
+ghost use Rattle.std.specs.Prelude.{◌≡◌, ◌++◌, count_by, IfOk, OnOk};
+ghost use Rattle.nz_machine.specs.Journals.{group_in, run_in, history_in};
+ghost use Rattle.nz_machine.specs.World.{World};
+ghost use Rattle.nz_text.specs.Text as text;
+ghost use Rattle.nz_text.specs.Text.{is_event_of, count_line, summary_of};
+
+use super::printed::Event;
+use super::run_events::{events_of, unanswered_of};
+use nz_base::{Blob, IdList, NoMemory};
+use nz_machine::{History, Journal};
+use nz_msg::Path;
+use nz_script::{put, put_number};
+use std::alloc::Global;
+
+/// A sort of events.
+#[derive(Clone, Copy, Debug)]
+pub enum Sort {
+    Sent,
+    Accepted,
+    Fast,
+    Slow,
+}
+
+impl Sort {
+    fn has(self, event: &Event) -> bool
+        ensures { result ≡ is_event_of self event.now }
+    {
+        match (self, event) {
+            (Sort::Sent, Event::Send { .. }) => true,
+            (Sort::Accepted, Event::Accept { .. }) => true,
+            (
+                Sort::Fast,
+                Event::Accept {
+                    path: Path::Fast,
+                    ..
+                },
+            ) => true,
+            (
+                Sort::Slow,
+                Event::Accept {
+                    path: Path::Slow,
+                    ..
+                },
+            ) => true,
+            _ => false,
+        }
+    }
+
+    fn count(self, events: &[Event]) -> usize
+        ensures { result ≡ count_by (is_event_of self) events.now }
+    {
+        events.iter().filter(|event| self.has(event)).count()
+    }
+}
+
+fn put_count(alloc: Global, out: &mut Vec<u8>, name: &[u8], count: usize) -> Result<(), NoMemory>
+    ensures { OnOk result (out.new.items ≡ out.old.items ++ count_line name.now count) }
+{
+    put(out, name)?;
+    put(out, b" ")?;
+    put_number(alloc, out, count as u64)?;
+    put(out, b"\n")
+}
+
+/// The summary of these.
+pub fn count(
+    alloc: Global,
+    events: &[Event],
+    unanswered: &IdList,
+    history: &History,
+) -> Result<Blob, NoMemory>
+    ensures { IfOk result (λ bytes. bytes ≡ summary_of (record { events = events.now; unanswered = unanswered.now; history = history.now })) }
+{
+    let mut out = Vec::new(alloc);
+    put_count(alloc, &mut out, b"sent", Sort::Sent.count(events))?;
+    put_count(alloc, &mut out, b"accepted", Sort::Accepted.count(events))?;
+    put_count(alloc, &mut out, b"fast", Sort::Fast.count(events))?;
+    put_count(alloc, &mut out, b"slow", Sort::Slow.count(events))?;
+    put_count(alloc, &mut out, b"open", unanswered.len() as usize)?;
+    put_count(alloc, &mut out, b"history", history.len() as usize)?;
+    put(&mut out, b"end\n")?;
+    Ok(Blob::from_vec(out))
+}
+
+/// How many lines of each sort the text of the run has.
+pub fn summary(alloc: Global, journal: &Journal, history: &History) -> Result<Blob, NoMemory>
+    requires run { World (group_in journal.now) (run_in journal.now) }
+    requires history { history.now ≡ history_in journal.now }
+    ensures { IfOk result (λ bytes. bytes ≡ text.summary (group_in journal.now) (run_in journal.now)) }
+{
+    let events = events_of(alloc, journal)?;
+    let unanswered = unanswered_of(alloc, events.as_slice())?;
+    count(alloc, events.as_slice(), &unanswered, history)
+}

@@ -1,0 +1,86 @@
+//! The trace of a run.
+
+ghost use Rattle.std.specs.Prelude.{◌≡◌, ◌++◌, IfOk, OnOk};
+ghost use Rattle.std.specs.List.{flat_map};
+ghost use Rattle.nz_machine.specs.Journals.{run_in};
+ghost use Rattle.nz_text.specs.Trace as trace_words;
+ghost use Rattle.nz_text.specs.Trace.{parcel_text, what_text, sends_text, record_line};
+
+use nz_base::{Blob, NoMemory};
+use nz_machine::{Event, Journal, Parcel, Record, Sends, kind_of};
+use nz_script::{name_of, put, put_actor, put_number};
+use std::alloc::Global;
+
+fn put_parcel(alloc: Global, out: &mut Vec<u8>, parcel: &Parcel) -> Result<(), NoMemory>
+    ensures { OnOk result (out.new.items ≡ out.old.items ++ parcel_text parcel.now) }
+{
+    if let Some(kind) = kind_of(parcel.frame.as_slice()) {
+        put(out, name_of(kind))?;
+    }
+    put(out, b" ")?;
+    put_actor(alloc, out, parcel.from)
+}
+
+fn put_what(alloc: Global, out: &mut Vec<u8>, event: &Event) -> Result<(), NoMemory>
+    ensures { OnOk result (out.new.items ≡ out.old.items ++ what_text event.now) }
+{
+    match event {
+        Event::Deliver(parcel) => {
+            put(out, b"deliver ")?;
+            put_parcel(alloc, out, parcel)
+        }
+        Event::Cut(parcel, kept) => {
+            put(out, b"cut ")?;
+            put_parcel(alloc, out, parcel)?;
+            put(out, b" ")?;
+            put_number(alloc, out, u64::from(*kept))
+        }
+        Event::Tick(clock) => {
+            put(out, b"tick ")?;
+            put_number(alloc, out, *clock)
+        }
+        Event::Alarm => put(out, b"alarm"),
+        Event::Crash => put(out, b"crash"),
+        Event::Restart(nonce) => {
+            put(out, b"restart ")?;
+            put_number(alloc, out, *nonce)
+        }
+    }
+}
+
+fn put_sends(alloc: Global, out: &mut Vec<u8>, sends: &Sends) -> Result<(), NoMemory>
+    ensures { OnOk result (out.new.items ≡ out.old.items ++ sends_text sends.now) }
+{
+    put(out, b" -> ")?;
+    put_number(alloc, out, u64::from(sends.len()))?;
+    put(out, b"\n")
+}
+
+fn put_record(alloc: Global, out: &mut Vec<u8>, step: &Record) -> Result<(), NoMemory>
+    ensures { OnOk result (out.new.items ≡ out.old.items ++ record_line step.now) }
+{
+    put_number(alloc, out, u64::from(step.tick))?;
+    put(out, b" ")?;
+    put_actor(alloc, out, step.actor)?;
+    put(out, b" ")?;
+    put_what(alloc, out, &step.event)?;
+    put_sends(alloc, out, &step.sends)
+}
+
+fn put_records(alloc: Global, out: &mut Vec<u8>, records: &[Record]) -> Result<(), NoMemory>
+    ensures { OnOk result (out.new.items ≡ out.old.items ++ flat_map record_line records.now) }
+{
+    for step in records {
+        put_record(alloc, out, step)?;
+    }
+    Ok(())
+}
+
+/// The trace of the journal's run: a line for each record.
+pub fn trace(alloc: Global, journal: &Journal) -> Result<Blob, NoMemory>
+    ensures { IfOk result (λ bytes. bytes ≡ trace_words.trace (run_in journal.now)) }
+{
+    let mut out = Vec::new(alloc);
+    put_records(alloc, &mut out, journal.records.as_slice())?;
+    Ok(Blob::from_vec(out))
+}
