@@ -116,7 +116,7 @@ midway_end key settled f mid i = mid.right i (inl refl)
 
 -- ---- the beginning
 
-own_last : (xs ys : List Key) → HaveOwnIds (xs ++ ys) → HaveOwnIds ys
+pub own_last : (xs ys : List Key) → HaveOwnIds (xs ++ ys) → HaveOwnIds ys
 own_last [] ys own = own
 own_last (x ∷ xs) ys own = own_last xs ys own.1
 
@@ -175,7 +175,7 @@ pub record IsAlong (key : Key) (es : List Entry) (kept place : ℕ) (index : Id 
   pub same : take kept es ++ filter (stays_behind key) (drop place es) ≡ whole
   pub midway : IsMidway key (take kept es) (drop place es) index
 
-next_one : (es : List Entry) (place : ℕ) (x : Entry) → place < length es → x ≡ get_or es place x → drop place es ≡ x ∷ drop (place + 1) es
+pub next_one : (es : List Entry) (place : ℕ) (x : Entry) → place < length es → x ≡ get_or es place x → drop place es ≡ x ∷ drop (place + 1) es
 next_one es place x within is =
     let next : suc place ≡ place + 1 = omega arith in
     drop-cons es place x within ∙ ap (λ (y : Entry). y ∷ drop (suc place) es) (sym is) ∙ ap (λ (n : ℕ). x ∷ drop n es) next

@@ -15,13 +15,12 @@ use Rattle.nz_base.specs.Log.{keys_of, has_id, is_above_last, AreRising, HaveOwn
 use Rattle.nz_base.proofs.Names.{same_id, id_turn, id_turn_away}
 use Rattle.nz_base.proofs.Booleans.{cases_bool, neither_left}
 use Rattle.nz_base.proofs.Logs.{has_first, has_id-append, keys_append, front_below, above_last, above_some, own_id}
-use Rattle.std.proofs.Math.Seq.{take-append_seam}
 use Rattle.nz_log.specs.Places.{place_of}
-use Rattle.nz_log.specs.Synced.{Log, IsSound, synced_part, unsynced_part}
-use Rattle.nz_log.specs.Keeping.{IsKeptLog, IsSummed, IsMidway, digest_with}
+use Rattle.nz_log.specs.Synced.{Log, synced_part, unsynced_part}
+use Rattle.nz_log.specs.Keeping.{IsKeptLog, IsMidway, digest_with}
 use Rattle.nz_log.proofs.Placing.{place_found, place_held, held_at}
 use Rattle.nz_log.proofs.Indexing.{place_push_new, place_push_other, midway_start}
-use Rattle.nz_log.proofs.Summing.{sums_push, sums_take}
+use Rattle.nz_log.proofs.Summing.{sums_push}
 use Rattle.nz_log.proofs.Modifying.{pushed_sound, put_front, put_back}
 
 -- ---- look-ups
@@ -128,17 +127,6 @@ midway_put log e sums places now put kept fresh is index =
     (λ i. index i ∙ ap (λ (n : ℕ). if id_eq (id_of e.key) i then Some n else lookup (id_eq i) places) (sym long)) in
     subst (λ (xs : List Entry). IsMidway e.key xs (drop (log.synced + 1) put) now) (sym first)
     (subst (λ (xs : List Entry). IsMidway e.key (front ++ e ∷ []) xs now) (sym rest) mid)
-
--- the digests before the entry stay
-pub sums_put : (log : Log) (e : Entry) (sums : List (List ℕ)) (rest left : List Entry) → IsSound log
-    → IsSummed log.entries sums → left ≡ synced_part log ++ e ∷ rest
-    → IsSummed (take log.synced left) (take log.synced sums)
-sums_put log e sums rest left sound summed is =
-    let front = synced_part log in
-    let long : length front ≡ log.synced = length-take-le log.synced log.entries sound.within in
-    let first : take log.synced left ≡ front =
-    ap (take log.synced) is ∙ ap (λ (n : ℕ). take n (front ++ e ∷ rest)) (sym long) ∙ take-append_seam front (e ∷ rest) in
-    subst (λ (xs : List Entry). IsSummed xs (take log.synced sums)) (sym first) (sums_take log.entries sums log.synced summed sound.within)
 
 -- ---- the entries of a list, one after another
 

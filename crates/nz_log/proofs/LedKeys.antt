@@ -44,7 +44,7 @@ same_tails (x ∷ prefix) xs ys same = let tail : prefix ++ xs ≡ prefix ++ ys 
 -- ---- a key that is put where it is already
 
 -- entries of keys above, with other ids, stay
-all_stay : (key : Key) (es : List Entry) → ((x : Key) → has_key (keys_of es) x ≡ true → key_below key x ≡ true) → has_id (keys_of es) (id_of key) ≡ false
+pub all_stay : (key : Key) (es : List Entry) → ((x : Key) → has_key (keys_of es) x ≡ true → key_below key x ≡ true) → has_id (keys_of es) (id_of key) ≡ false
     → filter (stays_behind key) es ≡ es
 all_stay key [] above apart = refl
 all_stay key (e ∷ es) above apart =

@@ -5,8 +5,11 @@ pub mod Indexing
 pub mod Keeping
 pub mod Lists
 pub mod Modifying
+pub mod Next
 pub mod Moving
 pub mod Paging
 pub mod Placing
+pub mod Putting
+pub mod Replacing
 pub mod LedKeys
 pub mod Summing

@@ -1,5 +1,5 @@
 -- What a log keeps beside its entries: one digest at each place, and the place of each id.
-use Rattle.std.specs.Prelude.{◌≡◌, ℕ, ◌<◌, ◌⊎◌, true, false, List, length, slice_index_or, Option, IsSome}
+use Rattle.std.specs.Prelude.{◌≡◌, ℕ, ◌+◌, ◌<◌, ◌≤◌, ◌⊎◌, true, false, List, ◌++◌, length, take, drop, slice_index_or, Option, IsSome}
 use Rattle.std.specs.Map.{lookup}
 use Rattle.nz_base.specs.declared.key.Id.{Id}
 use Rattle.nz_base.specs.declared.key.Key.{Key}
@@ -24,6 +24,21 @@ pub record IsKeptLog (log : Log) (digests : List (List ℕ)) (places : List (Id 
   pub sound : IsSound log
   pub summed : IsSummed log.entries digests
   pub found : (i : Id) → lookup (id_eq i) places ≡ place_of log.entries i
+
+-- The first entries of both lists, this many, have the same keys.
+pub record HaveCommonPrefix (es fs : List Entry) (count : ℕ) : Type 0 where
+  pub within : count ≤ length es
+  pub fits : count ≤ length fs
+  pub same : keys_of (take count es) ≡ keys_of (take count fs)
+
+-- The entries without the one at a place.
+abbrev pub all_but : List Entry → ℕ → List Entry
+all_but es place = take place es ++ drop (place + 1) es
+
+-- The first entry that is not synced has the key.
+pub record IsNext (log : Log) (key : Key) : Type 0 where
+  pub within : log.synced < length log.entries
+  pub same : (d : Entry) → (slice_index_or log.entries log.synced d).key ≡ key
 
 -- In the midst of a modification: the index is right for the entries that have their places, and still has the ids of
 -- the others. The id of the key itself is among the first.

@@ -1,17 +1,18 @@
 //! A log in pages, with digests and an index of ids.
 
-ghost use Rattle.std.specs.Prelude.{◌≡◌, ◌↔◌, ◌<◌, ◌≤◌, [], ◌∷◌, ◌++◌, length, IsTrue, IsFalse, IsSome, Some, IfSome, IfOk, OnOk, OnErr, slice_get};
+ghost use Rattle.std.specs.Prelude.{◌≡◌, ◌↔◌, ◌+◌, ◌<◌, ◌≤◌, [], ◌∷◌, ◌++◌, length, take, IsTrue, IsFalse, IsSome, Some, IfSome, IfOk, OnOk, OnErr, slice_get};
 ghost use Rattle.std.specs.Option.{option_copied};
 ghost use Rattle.nz_base.specs.Key.{id_of};
 ghost use Rattle.nz_base.specs.Log.{keys_of, has_id, is_above_last, IsLog};
 ghost use Rattle.nz_log.specs.Places.{place_of, last_entry, digest_at};
 ghost use Rattle.nz_log.specs.Synced.{IsSound, synced_part, log_with_synced, displaced_entries, left_out};
+ghost use Rattle.nz_log.specs.Keeping.{IsNext, HaveCommonPrefix, digest_with};
 
 use super::MAX_ENTRIES;
 use super::index::{keep_above, set_place};
 use super::log_rep::{Allocating, LogRep};
 use super::pages::Pages;
-use super::sums::{digest_after, fold_from};
+use super::sums::{digest_after, put_digest};
 use indexmap::IndexMap;
 use nz_base::{Entry, EntryList, Id, Key, List, NoMemory, TryCopy};
 use nz_digest::Digest;
@@ -140,9 +141,21 @@ impl HashedLog {
         ensures ok { OnOk result (self.new ≡ record self.old { entries = self.old.entries ++ entry ∷ [] }) }
         ensures err { OnErr result (self.new ≡ self.old) }
     {
+        let digest = digest_after(&self.digests, &entry.key);
+        self.append_summed(entry, digest)
+    }
+
+    // Puts the entry last. The digest is that of the log with it.
+    fn append_summed(&mut self, entry: Entry, digest: Digest) -> Result<(), NoMemory>
+        requires above { IsTrue (is_above_last (keys_of self.old.entries) entry.key) }
+        requires fresh { IsFalse (has_id (keys_of self.old.entries) (id_of entry.key)) }
+        requires room { length self.old.entries < MAX_ENTRIES }
+        requires summed { digest ≡ digest_with self.old.entries entry.key }
+        ensures ok { OnOk result (self.new ≡ record self.old { entries = self.old.entries ++ entry ∷ [] }) }
+        ensures err { OnErr result (self.new ≡ self.old) }
+    {
         let place = self.len();
         let id = entry.key.id();
-        let digest = digest_after(&self.digests, &entry.key);
         self.digests.reserve(1)?;
         self.places.reserve(1)?;
         self.entries.push(entry)?;
@@ -169,6 +182,41 @@ impl HashedLog {
         ensures displaced { IfOk result (λ list. list ≡ displaced_entries self.old entry) }
         ensures err { OnErr result (self.new ≡ self.old) }
     {
+        if self.has_next(&entry.key) {
+            self.sync_next(entry);
+            return Ok(List::new(self.entries.alloc()));
+        }
+        self.put_in(entry)
+    }
+
+    // Whether the first entry that is not synced has the key.
+    fn has_next(&self, key: &Key) -> bool
+        ensures { IsTrue result ↔ IsNext self.now key.now }
+    {
+        let place = self.synced as usize;
+        place < self.entries.len() && self.entries.get(place).key == *key
+    }
+
+    // Puts the entry in the place of the first that is not synced, which has the same key. It joins
+    // the synced part, and neither the digests nor the places change.
+    fn sync_next(&mut self, entry: Entry)
+        requires { IsNext self.old entry.key }
+        ensures log { self.new ≡ log_with_synced self.old entry }
+        ensures none { displaced_entries self.old entry ≡ [] }
+    {
+        let _ = self.entries.replace(self.synced as usize, entry);
+        self.synced += 1;
+    }
+
+    // Puts the entry at the end of the synced part, as `modify` says.
+    fn put_in(&mut self, entry: Entry) -> Result<EntryList, NoMemory>
+        requires above { IsTrue (is_above_last (keys_of (synced_part self.old)) entry.key) }
+        requires fresh { IsFalse (has_id (keys_of (synced_part self.old)) (id_of entry.key)) }
+        requires room { length self.old.entries < MAX_ENTRIES }
+        ensures ok { OnOk result (self.new ≡ log_with_synced self.old entry) }
+        ensures displaced { IfOk result (λ list. list ≡ displaced_entries self.old entry) }
+        ensures err { OnErr result (self.new ≡ self.old) }
+    {
         let place = self.synced as usize;
         let key = entry.key;
         let displaced = self.entries.displaced_by(place, key)?;
@@ -176,9 +224,9 @@ impl HashedLog {
         self.places.reserve(1)?;
         self.entries.insert(place, entry)?;
         // Nothing takes memory any more.
+        put_digest(&mut self.digests, &self.entries, place, key);
         set_place(&mut self.places, key.id(), self.synced);
         keep_above(&mut self.entries, &mut self.places, place + 1, key);
-        fold_from(&mut self.digests, &self.entries, place);
         self.synced += 1;
         Ok(displaced)
     }
@@ -191,33 +239,65 @@ impl HashedLog {
         ensures left_out { IfOk result (λ old. old ≡ left_out self.old.entries list) }
         ensures err { OnErr result (self.new ≡ self.old) }
     {
-        let new = HashedLog::from_list(self.entries.alloc(), list)?;
-        let left_out = self.left_out(&new)?;
+        let common = self.common_prefix(list.as_slice());
+        let new = self.with_entries(common, list)?;
+        let left_out = self.left_out(common, &new)?;
         *self = new;
         Ok(left_out)
     }
 
-    // The log of these entries, all of which are synced.
-    fn from_list(alloc: Global, list: EntryList) -> Result<HashedLog, NoMemory>
+    // How many entries, from the first on, have the keys of those of the list.
+    fn common_prefix(&self, list: &[Entry]) -> usize
+        ensures { HaveCommonPrefix self.now.entries list.now result }
+    {
+        for (place, entry) in list.iter().enumerate() {
+            if place >= self.entries.len() || self.entries.get(place).key != entry.key {
+                return place;
+            }
+        }
+        list.len()
+    }
+
+    // The log of these entries, all of which are synced. The first of them, with the keys of as
+    // many of this log's, have the digests that they have here.
+    fn with_entries(&self, common: usize, list: EntryList) -> Result<HashedLog, NoMemory>
+        requires common { HaveCommonPrefix self.now.entries list common }
         requires log { IsLog list }
         requires few { length list ≤ MAX_ENTRIES }
         ensures { IfOk result (λ log. log ≡ record { entries = list; synced = length list }) }
     {
-        let mut log = HashedLog::new(alloc);
+        let mut log = HashedLog::new(self.entries.alloc());
         for entry in list.into_vec() {
-            log.append(entry)?;
+            let digest = self.digest_of_more(common, &log, &entry);
+            log.append_summed(entry, digest)?;
         }
         log.sync_all();
         Ok(log)
     }
 
-    // Copies of the entries whose ids are not in the other log.
-    fn left_out(&self, other: &HashedLog) -> Result<EntryList, NoMemory>
+    // The digest of another log with one more entry, which is this log's where the keys are.
+    fn digest_of_more(&self, common: usize, log: &HashedLog, entry: &Entry) -> Digest
+        requires within { common ≤ length self.now.entries }
+        requires same { length log.now.entries < common
+            → keys_of (take (length log.now.entries + 1) self.now.entries) ≡ keys_of (log.now.entries ++ entry.now ∷ []) }
+        ensures { result ≡ digest_with log.now.entries entry.now.key }
+    {
+        let place = log.entries.len();
+        if place < common {
+            self.digests[place]
+        } else {
+            digest_after(&log.digests, &entry.key)
+        }
+    }
+
+    // Copies of the entries whose ids are not in the other log, which has the first keys of this.
+    fn left_out(&self, common: usize, other: &HashedLog) -> Result<EntryList, NoMemory>
+        requires { HaveCommonPrefix self.now.entries other.now.entries common }
         ensures { IfOk result (λ list. list ≡ left_out self.now.entries other.now.entries) }
     {
         let alloc = self.entries.alloc();
         let mut list = List::new(alloc);
-        for place in 0..self.entries.len() {
+        for place in common..self.entries.len() {
             let entry = self.entries.get(place);
             if other.place_of(entry.key.id()).is_none() {
                 list.push(entry.copy(alloc)?)?;

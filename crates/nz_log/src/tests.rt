@@ -11,12 +11,16 @@ use std::test::*;
 type Row = (u64, u32, u32);
 
 fn entry(alloc: Global, row: Row) -> Result<Entry, NoMemory> {
+    entry_with(alloc, row, b"get a")
+}
+
+fn entry_with(alloc: Global, row: Row, command: &[u8]) -> Result<Entry, NoMemory> {
     let key = Key {
         deadline: row.0,
         client: row.1,
         num: row.2,
     };
-    let command = Blob::from_slice(alloc, b"get a")?;
+    let command = Blob::from_slice(alloc, command)?;
     Ok(Entry { key, command })
 }
 
@@ -197,4 +201,50 @@ fn check_calls<L: LogRep>(rt: &impl Abort, alloc: Global, log: &mut L) -> Result
 fn both_logs_answer_a_list_of_calls(rt: HostRuntime) -> Result<(), Fail> {
     check_calls(&rt, rt.alloc(), &mut HashedLog::new(rt.alloc()))?;
     check_calls(&rt, rt.alloc(), &mut ListLog::new(rt.alloc()))
+}
+
+// Asks for the digests and for the places.
+fn ask(calls: &mut LogCallList) -> Result<(), NoMemory> {
+    for place in 0..6 {
+        calls.push(LogCall::DigestAt(place))?;
+        calls.push(LogCall::PlaceOf(Id {
+            client: place,
+            num: 1,
+        }))?;
+    }
+    Ok(())
+}
+
+// The modifications: the key that is there with another command, two entries displaced, the id at
+// a later place, the id at this place, and nothing there. The lists: with a common prefix, and with
+// none.
+#[test]
+fn both_logs_answer_alike(rt: HostRuntime) -> Result<(), Fail> {
+    let alloc = rt.alloc();
+    let mut calls = List::new(alloc);
+    let rows = [(20, 1, 1), (30, 2, 1), (40, 3, 1), (50, 4, 1), (60, 5, 1)];
+    for row in rows {
+        calls.push(LogCall::Append(entry(alloc, row)?))?;
+    }
+    let rows = [(20, 1, 1), (45, 0, 1), (47, 5, 1), (52, 4, 1), (70, 2, 1)];
+    for row in rows {
+        calls.push(LogCall::Modify(entry_with(alloc, row, b"del a")?))?;
+        ask(&mut calls)?;
+    }
+    let lists: [&[Row]; 2] = [
+        &[(20, 1, 1), (45, 0, 1), (48, 5, 1), (90, 3, 1)],
+        &[(10, 3, 1), (45, 0, 1)],
+    ];
+    for rows in lists {
+        calls.push(LogCall::ReplaceAll(list_of(alloc, rows)?))?;
+        ask(&mut calls)?;
+    }
+    let mut hashed = HashedLog::new(alloc);
+    let mut plain = ListLog::new(alloc);
+    assert_eq!(rt;
+        run_calls(&mut hashed, &calls)?,
+        run_calls(&mut plain, &calls)?
+    );
+    assert_eq!(rt; hashed.entries()?, plain.entries()?);
+    Ok(())
 }

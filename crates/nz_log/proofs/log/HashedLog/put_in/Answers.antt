@@ -1,17 +1,17 @@
 -- What the function of this folder owes, proved.
-use Rattle.std.proofs.Common.{◌≡◌, ◌+◌, ◌<◌, ◌≤◌, true, false, List, ℕ, length, take, drop, sym, ap, subst, ◌∙◌, arith, Some, if◌then◌else◌}
-use Rattle.std.specs.List.{filter}
+use Rattle.std.proofs.Common.{◌≡◌, ◌+◌, ◌<◌, ◌≤◌, true, false, List, ℕ, length, sym, ap, subst, ◌∙◌, arith, Some, if◌then◌else◌}
 use Rattle.std.specs.Map.{lookup}
 use Rattle.std.specs.Vec.{vec_capacity, vec_len}
 use Rattle.nz_base.specs.declared.key.Id.{Id}
 use Rattle.nz_base.specs.declared.key.Entry.{Entry}
 use Rattle.nz_base.specs.Key.{id_of, id_eq}
 use Rattle.nz_base.specs.Log.{keys_of, has_id, is_above_last}
-use Rattle.nz_log.specs.Synced.{Log, IsSound, synced_part, stays_behind, log_with_synced}
+use Rattle.nz_log.specs.Synced.{Log, IsSound, synced_part, log_with_synced}
 use Rattle.nz_log.specs.Keeping.{IsSummed}
-use Rattle.nz_log.proofs.Modifying.{kept_after, kept_long, modified_sound}
-use Rattle.nz_log.proofs.Keeping.{midway_put, sums_put}
-use Rattle.nz_log.proofs.log.HashedLog.modify.Goals as goal
+use Rattle.nz_log.proofs.Modifying.{kept_after, modified_sound}
+use Rattle.nz_log.proofs.Keeping.{midway_put}
+use Rattle.nz_log.proofs.Putting.{put_long, put_here, put_others}
+use Rattle.nz_log.proofs.log.HashedLog.put_in.Goals as goal
 
 pub keep_above-requires-clause-midway : goal.keep_above-requires-clause-midway
 keep_above-requires-clause-midway c =
@@ -24,33 +24,26 @@ keep_above-requires-clause-midway c =
     ∙ ap (λ (j : Id). if id_eq j i then Some log.synced else lookup (id_eq i) c.reserve-2.new.self.entries) c.id.ensures
     ∙ ap (λ (m : List (Id × ℕ)). if id_eq (id_of e.key) i then Some log.synced else lookup (id_eq i) m) c.reserve-2.ensures.entries)
 
-pub fold_from-requires-clause-room : goal.fold_from-requires-clause-room
-fold_from-requires-clause-room c =
+pub put_digest-requires : goal.put_digest-requires
+put_digest-requires c =
     let e = c.args.entry in
     let es = c.self.inside.entries in
     let place = c.self.inside.synced in
-    let within = c.self.invariant.sound.within in
-    let is = kept_after es place e c.insert.new.self c.keep_above.new.entries within c.in_ok-insert.ensures.ok c.keep_above.ensures.entries in
-    let long : length c.keep_above.new.entries ≤ length es + 1 =
-    subst (λ (xs : List Entry). length xs ≤ length es + 1) (sym is) (kept_long es place e within) in
+    let within : place ≤ length es = c.self.invariant.sound.within in
+    let put = c.insert.new.self in
+    let is = c.in_ok-insert.ensures.ok in
+    let long : length put ≡ length es + 1 = put_long es put place e within is in
     let count : length c.self.inside.digests.items ≡ length es = c.self.invariant.summed.count in
     let items : length c.reserve.new.self.items ≡ length c.self.inside.digests.items = ap length c.reserve.ensures.items in
     let size : length c.reserve.new.self.items ≡ vec_len c.reserve.new.self = sym c.reserve.new.self.ok.0 in
     let ok : vec_len c.reserve.new.self + 1 ≤ vec_capacity c.reserve.new.self = c.in_ok-reserve.ensures.ok in
-    omega (arith, long, count, items, size, ok)
-
-pub fold_from-requires-clause-before : goal.fold_from-requires-clause-before
-fold_from-requires-clause-before c =
-    let e = c.args.entry in
-    let es = c.self.inside.entries in
-    let place = c.self.inside.synced in
-    let log : Log = record { entries = es; synced = place } in
-    let is =
-    kept_after es place e c.insert.new.self c.keep_above.new.entries c.self.invariant.sound.within
-    c.in_ok-insert.ensures.ok c.keep_above.ensures.entries in
-    subst (λ (ds : List (List ℕ)). IsSummed (take place c.keep_above.new.entries) (take place ds)) (sym c.reserve.ensures.items)
-    (sums_put log e c.self.inside.digests.items
-    (filter (stays_behind e.key) (drop place es)) c.keep_above.new.entries c.self.invariant.sound c.self.invariant.summed is)
+    record {
+      within = omega (arith, long, within);
+      room = omega (arith, long, count, items, size, ok);
+      here = put_here es put place e within is;
+      others = subst (λ (xs : List Entry). IsSummed xs c.reserve.new.self.items) (sym (put_others es put place e within is))
+          (subst (IsSummed es) (sym c.reserve.ensures.items) c.self.invariant.summed);
+    }
 
 pub invariant_of-self-2 : goal.invariant_of-self-2
 invariant_of-self-2 c =
@@ -68,7 +61,7 @@ invariant_of-self-2 c =
       sound =
           subst (λ (xs : List Entry). IsSound (record { entries = xs; synced = place + 1 })) (sym is)
           (modified_sound log e c.self.invariant.sound above fresh room);
-      summed = c.fold_from.ensures;
+      summed = subst (λ (xs : List Entry). IsSummed xs c.put_digest.new.digests.items) (sym c.keep_above.ensures.entries) c.put_digest.ensures;
       found = c.keep_above.ensures.places;
     }
 

@@ -1,7 +1,7 @@
 -- What the loops of the function of this folder keep.
 use Rattle.std.proofs.Common.{◌≡◌, ◌++◌}
 use Rattle.std.specs.Vec.Iter.{into_iter_items}
-use Rattle.nz_log.proofs.log.HashedLog.from_list.Given as goal
+use Rattle.nz_log.proofs.log.HashedLog.with_entries.Given as goal
 
 abbrev pub invariant-loop-entry : goal.invariant-loop-entry
 invariant-loop-entry l = record {

@@ -1,0 +1,82 @@
+-- Logs that have their first keys in common.
+use Rattle.std.proofs.Common.{◌≡◌, ℕ, suc, ◌+◌, ◌<◌, ◌≤◌, true, not, List, [], ◌∷◌, ◌++◌, length, take, drop}
+use Rattle.std.proofs.Common.{get_or, refl, sym, ap, subst, ◌∙◌, arith, append_assoc, length-append}
+use Rattle.std.specs.List.{filter}
+use Rattle.std.proofs.Math.Seq.{take-append_seam}
+use Rattle.std.proofs.lemmas.List.{take-append-drop, take-map, take-take, take_more}
+use Rattle.nz_base.specs.declared.key.Id.{Id}
+use Rattle.nz_base.specs.declared.key.Key.{Key}
+use Rattle.nz_base.specs.declared.key.Entry.{Entry}
+use Rattle.nz_base.specs.Key.{id_eq, id_of}
+use Rattle.nz_base.specs.Log.{keys_of, has_id}
+use Rattle.nz_base.proofs.Names.{id_eq_self}
+use Rattle.nz_base.proofs.Booleans.{or_left, or_right}
+use Rattle.nz_base.proofs.Logs.{keys_append, has_id-append}
+use Rattle.nz_log.specs.Places.{digest_of_log, digest_at}
+use Rattle.nz_log.specs.Synced.{left_out}
+use Rattle.nz_log.specs.Keeping.{HaveCommonPrefix, digest_with}
+use Rattle.nz_log.proofs.Digests.{digest_push}
+use Rattle.nz_log.proofs.Next.{digest_by_keys}
+
+-- one entry more has the same key
+pub common_more : (es fs : List Entry) (n : ℕ) (x y : Entry) → n < length es → n < length fs → x ≡ get_or es n x → y ≡ get_or fs n y → x.key ≡ y.key
+    → keys_of (take n es) ≡ keys_of (take n fs) → keys_of (take (n + 1) es) ≡ keys_of (take (n + 1) fs)
+common_more es fs n x y within fits at_es at_fs named same =
+    let left : take (n + 1) es ≡ take n es ++ x ∷ [] = take_more es n x within ∙ ap (λ (z : Entry). take n es ++ z ∷ []) (sym at_es) in
+    let right : take (n + 1) fs ≡ take n fs ++ y ∷ [] = take_more fs n y fits ∙ ap (λ (z : Entry). take n fs ++ z ∷ []) (sym at_fs) in
+    ap keys_of left
+    ∙ keys_append (take n es) (x ∷ [])
+    ∙ ap (λ (ks : List Key). ks ++ x.key ∷ []) same
+    ∙ ap (λ (k : Key). keys_of (take n fs) ++ k ∷ []) named
+    ∙ sym (keys_append (take n fs) (y ∷ []))
+    ∙ ap keys_of (sym right)
+
+-- fewer entries have the same keys too
+common_less : (es fs : List Entry) (m n : ℕ) → m ≤ n → keys_of (take n es) ≡ keys_of (take n fs) → keys_of (take m es) ≡ keys_of (take m fs)
+common_less es fs m n less same =
+    let name = λ (e : Entry). e.key in
+    ap keys_of (sym (take-take m n es less))
+    ∙ sym (take-map name m (take n es))
+    ∙ ap (take m) same
+    ∙ take-map name m (take n fs)
+    ∙ ap keys_of (take-take m n fs less)
+
+-- the first entries of a list, of which one is the next
+pub next_common : (es fs front : List Entry) (e : Entry) (back : List Entry) (count : ℕ)
+    → HaveCommonPrefix es fs count → front ++ e ∷ back ≡ fs → length front < count
+    → keys_of (take (length front + 1) es) ≡ keys_of (front ++ e ∷ [])
+next_common es fs front e back count common whole early =
+    let first = front ++ e ∷ [] in
+    let long : length first ≡ length front + 1 = length-append front (e ∷ []) in
+    let part : take (length front + 1) fs ≡ first =
+    ap (take (length front + 1)) (sym whole ∙ sym (append_assoc front (e ∷ []) back))
+    ∙ ap (λ (n : ℕ). take n (first ++ back)) (sym long)
+    ∙ take-append_seam first back in
+    common_less es fs (length front + 1) count (omega (arith, early)) common.same ∙ ap keys_of part
+
+-- the digest at a place is that of a list with the keys up to there
+pub digest_known : (es front : List Entry) (e : Entry)
+    → keys_of (take (length front + 1) es) ≡ keys_of (front ++ e ∷ []) → digest_at es (length front) ≡ digest_with front e.key
+digest_known es front e same =
+    let one : suc (length front) ≡ length front + 1 = omega arith in
+    ap (λ (n : ℕ). digest_of_log (take n es)) one
+    ∙ digest_by_keys (take (length front + 1) es) (front ++ e ∷ []) same
+    ∙ digest_push front e
+
+none_out : (xs : List Entry) (ks : List Key) → ((i : Id) → has_id (keys_of xs) i ≡ true → has_id ks i ≡ true)
+    → filter (λ (e : Entry). not (has_id ks (id_of e.key))) xs ≡ []
+none_out [] ks held = refl
+none_out (x ∷ xs) ks held =
+    let i = id_of x.key in
+    let here : has_id ks i ≡ true = held i (or_left (id_eq i i) (has_id (keys_of xs) i) (id_eq_self i)) in
+    rw here (none_out xs ks (λ j there. held j (or_right (id_eq j (id_of x.key)) (has_id (keys_of xs) j) there)))
+
+-- none of the common entries is left out
+pub none_left_out : (es fs : List Entry) (count : ℕ) → HaveCommonPrefix es fs count → left_out (take count es) fs ≡ []
+none_left_out es fs count common =
+    let front = keys_of (take count fs) in
+    let back = keys_of (drop count fs) in
+    let parts : keys_of fs ≡ front ++ back = ap keys_of (sym (take-append-drop count fs)) ∙ keys_append (take count fs) (drop count fs) in
+    none_out (take count es) (keys_of fs) (λ i there.
+    let first : has_id front i ≡ true = subst (λ (ks : List Key). has_id ks i ≡ true) common.same there in
+    ap (λ (ks : List Key). has_id ks i) parts ∙ has_id-append front back i ∙ or_left (has_id front i) (has_id back i) first)
