@@ -14,6 +14,7 @@ ghost use Rattle.nz_fabric.specs.Shared.{shared_with, start_shared, with_given_u
 
 use crate::name::Name;
 use crate::open_turns::Running;
+use crate::posting::post_all;
 use crate::rows::Rows;
 use crate::share::Share;
 use crate::ticks::Ticks;
@@ -203,7 +204,7 @@ impl<N: Name> FabricState<N> {
             scenario,
             ..
         } = &mut self.ticks;
-        self.rows.post_from(self.before, calendar, scenario)?;
+        post_all(calendar, scenario, self.rows.since(self.before))?;
         self.ticks.begin()?;
         self.before = self.rows.len();
         Ok(true)
@@ -225,10 +226,9 @@ impl<N: Name> FabricState<N> {
         ensures scheduled { IfOk result (λ journal. Scheduled N.scenario (run_in journal)) }
     {
         let FabricState { ticks, rows, .. } = self;
-        let records = rows.into_records(ticks.alloc)?;
         Ok(Journal {
             scenario: ticks.scenario,
-            records: List::from_vec(records),
+            records: List::from_vec(rows.into_records()),
         })
     }
 }

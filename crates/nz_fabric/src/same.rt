@@ -1,6 +1,7 @@
 //! Whether two lists of records are the same.
 
 ghost use Rattle.std.specs.Prelude.{◌≡◌, ◌↔◌, IsTrue};
+ghost use Rattle.nz_fabric.specs.Rows.{ArePlaced, records_at};
 
 use nz_machine::{Event, Parcel, Record};
 
@@ -47,15 +48,16 @@ fn same_record(a: &Record, b: &Record) -> bool
         && same_sends(a.sends.as_slice(), b.sends.as_slice())
 }
 
-/// Whether two lists of records are the same.
-pub fn same_records(a: &[Record], b: &[Record]) -> bool
-    ensures { IsTrue result ↔ (a.now ≡ b.now) }
+/// Whether these are the records at the places.
+pub fn same_records(lane: &[Record], records: &[Record], places: &[u32]) -> bool
+    requires { ArePlaced records.now places.now }
+    ensures { IsTrue result ↔ (lane.now ≡ records_at records.now places.now) }
 {
-    if a.len() != b.len() {
+    if lane.len() != places.len() {
         return false;
     }
-    for place in 0..a.len() {
-        if !same_record(&a[place], &b[place]) {
+    for at in 0..lane.len() {
+        if !same_record(&lane[at], &records[places[at] as usize]) {
             return false;
         }
     }

@@ -13,7 +13,7 @@ use Rattle.nz_fabric.proofs.fabric_state.FabricState.into_journal.Goals as goal
 pub returns-clause-records : goal.returns-clause-records
 returns-clause-records g c =
     let f = c.self.inside in
-    ap reverse (c.from_vec.ensures ∙ c.in_ok-records.ensures) ∙ sym (all_records f.before f.rows.records) ∙ ap (λ (f : Shared). records_of f.run) c.self.view_is
+    ap reverse (c.from_vec.ensures ∙ c.into_records.ensures) ∙ sym (all_records f.before f.rows.records) ∙ ap (λ (f : Shared). records_of f.run) c.self.view_is
 
 pub returns-clause-scheduled : goal.returns-clause-scheduled
 returns-clause-scheduled g c =
@@ -25,5 +25,5 @@ returns-clause-scheduled g c =
     let last : f.tick ≡ f.scenario.ticks = subst (λ (f : Shared). f.run.tick ≡ f.run.scenario.ticks) (sym c.self.view_is) c.requires.last in
     let whole : Scheduled f.scenario J = subst (λ (n : ℕ). ScheduledTo f.scenario n J) last order in
     subst (λ (J : List Record). Scheduled g.N.Name.scenario J)
-    (sym (ap reverse (c.from_vec.ensures ∙ c.in_ok-records.ensures) ∙ sym (all_records i.before i.rows.records)))
+    (sym (ap reverse (c.from_vec.ensures ∙ c.into_records.ensures) ∙ sym (all_records i.before i.rows.records)))
     (subst (λ (s : Scenario). Scheduled s J) k.scenario whole)

@@ -1,6 +1,5 @@
 -- What the function of this folder owes, proved.
-use Rattle.std.proofs.Common.{◌≡◌, ◌<◌, ◌∙◌, false, List, length, refl, sym, ap, subst, arith}
-use Rattle.std.specs.Prelude.{drop}
+use Rattle.std.proofs.Common.{◌≡◌, ◌<◌, ◌∙◌, false, List, length, sym, ap, subst, arith}
 use Rattle.nz_fabric.specs.declared.ticks.Ticks.{Ticks}
 use Rattle.nz_fabric.specs.States.{State, after_tick, state_in}
 use Rattle.nz_fabric.specs.declared.open_turns.Running.{Running}
@@ -16,8 +15,8 @@ invariant_of-self g c =
     let rs = f.rows.records in
     let inv = c.self.invariant.1 in
     let unmarked : t.marked ≡ false = ap (λ (f : Shared). f.run.marked) c.self.view_is ∙ c.requires.unmarked in
-    let now = c.post_from.new.calendar in
-    let posted = over_some t f.before rs (drop f.before rs) now unmarked inv.is_posted refl c.in_err-post_from.ensures.err in (
+    let now = c.post_all.new.calendar in
+    let posted = over_some t f.before rs _ now unmarked inv.is_posted c.since.ensures c.in_err-post_all.ensures.err in (
       c.self.invariant.0,
       booked_marked _ f.book.total t.scenario t.tick f.before f.rows.room rs t.items.items t.next
           t.marked f.running.items t.calendar now inv posted,
@@ -31,8 +30,8 @@ invariant_of-self-in_err-begin g c =
     let rs = f.rows.records in
     let inv = c.self.invariant.1 in
     let unmarked : t.marked ≡ false = ap (λ (f : Shared). f.run.marked) c.self.view_is ∙ c.requires.unmarked in
-    let now = c.post_from.new.calendar in
-    let posted = over_whole t f.before rs (drop f.before rs) now unmarked inv.is_posted refl c.in_ok-post_from.ensures.ok in
+    let now = c.post_all.new.calendar in
+    let posted = over_whole t f.before rs _ now unmarked inv.is_posted c.since.ensures c.in_ok-post_all.ensures.ok in
     let booked =
     booked_marked _ f.book.total t.scenario t.tick f.before f.rows.room rs t.items.items t.next t.marked
     f.running.items t.calendar now inv posted in (
@@ -50,8 +49,8 @@ invariant_of-self-2 g c =
     let inv = c.self.invariant.1 in
     let unmarked : t.marked ≡ false = ap (λ (f : Shared). f.run.marked) c.self.view_is ∙ c.requires.unmarked in
     let begun =
-    over_begun t f.before rs (drop f.before rs) c.post_from.new.calendar c.begin.new.self unmarked inv.is_posted refl
-    c.in_ok-post_from.ensures.ok c.in_ok-begin.ensures.ok in
+    over_begun t f.before rs _ c.post_all.new.calendar c.begin.new.self unmarked inv.is_posted c.since.ensures
+    c.in_ok-post_all.ensures.ok c.in_ok-begin.ensures.ok in
     let long : c.len-self-inside.result ≡ length rs = omega (arith, c.len-self-inside.ensures) in
     let lt : t.tick < t.scenario.ticks = (let k = inv.accounted.in_run in let ne = c.if-self.false in omega (arith, k, ne)) in
     let over = subst IsOver (sym c.self.view_is) c.requires in (
@@ -69,8 +68,8 @@ returns g c =
     let inv = c.self.invariant.1 in
     let unmarked : t.marked ≡ false = ap (λ (f : Shared). f.run.marked) c.self.view_is ∙ c.requires.unmarked in
     let begun =
-    over_begun t f.before rs (drop f.before rs) c.post_from.new.calendar c.begin.new.self unmarked inv.is_posted refl
-    c.in_ok-post_from.ensures.ok c.in_ok-begin.ensures.ok in
+    over_begun t f.before rs _ c.post_all.new.calendar c.begin.new.self unmarked inv.is_posted c.since.ensures
+    c.in_ok-post_all.ensures.ok c.in_ok-begin.ensures.ok in
     let long : c.len-self-inside.result ≡ length rs = omega (arith, c.len-self-inside.ensures) in
     let lt : t.tick < t.scenario.ticks = (let k = inv.accounted.in_run in let ne = c.if-self.false in omega (arith, k, ne)) in
     let over = subst IsOver (sym c.self.view_is) c.requires in (
