@@ -215,36 +215,53 @@ fn ask(calls: &mut LogCallList) -> Result<(), NoMemory> {
     Ok(())
 }
 
-// The modifications: the key that is there with another command, two entries displaced, the id at
-// a later place, the id at this place, and nothing there. The lists: with a common prefix, and with
-// none.
+fn put_appends(alloc: Global, calls: &mut LogCallList, rows: &[Row]) -> Result<(), NoMemory> {
+    for row in rows {
+        calls.push(LogCall::Append(entry(alloc, *row)?))?;
+    }
+    Ok(())
+}
+
+fn put_modifications(alloc: Global, calls: &mut LogCallList, rows: &[Row]) -> Result<(), NoMemory> {
+    for row in rows {
+        calls.push(LogCall::Modify(entry_with(alloc, *row, b"del a")?))?;
+        ask(calls)?;
+    }
+    Ok(())
+}
+
+fn put_list(alloc: Global, calls: &mut LogCallList, rows: &[Row]) -> Result<(), NoMemory> {
+    calls.push(LogCall::ReplaceAll(list_of(alloc, rows)?))?;
+    ask(calls)
+}
+
+const APPENDED: &[Row] = &[(20, 1, 1), (30, 2, 1), (40, 3, 1), (50, 4, 1), (60, 5, 1)];
+
+// The key that is there with another command, two entries displaced, the id at a later place, the id at this place,
+// and nothing there.
+const MODIFIED: &[Row] = &[(20, 1, 1), (45, 0, 1), (47, 5, 1), (52, 4, 1), (70, 2, 1)];
+
+const WITH_A_COMMON_PREFIX: &[Row] = &[(20, 1, 1), (45, 0, 1), (48, 5, 1), (90, 3, 1)];
+
+const WITH_NONE: &[Row] = &[(10, 3, 1), (45, 0, 1)];
+
+fn calls_of_each_case(alloc: Global) -> Result<LogCallList, NoMemory> {
+    let mut calls = List::new(alloc);
+    put_appends(alloc, &mut calls, APPENDED)?;
+    put_modifications(alloc, &mut calls, MODIFIED)?;
+    put_list(alloc, &mut calls, WITH_A_COMMON_PREFIX)?;
+    put_list(alloc, &mut calls, WITH_NONE)?;
+    Ok(calls)
+}
+
 #[test]
 fn both_logs_answer_alike(rt: HostRuntime) -> Result<(), Fail> {
     let alloc = rt.alloc();
-    let mut calls = List::new(alloc);
-    let rows = [(20, 1, 1), (30, 2, 1), (40, 3, 1), (50, 4, 1), (60, 5, 1)];
-    for row in rows {
-        calls.push(LogCall::Append(entry(alloc, row)?))?;
-    }
-    let rows = [(20, 1, 1), (45, 0, 1), (47, 5, 1), (52, 4, 1), (70, 2, 1)];
-    for row in rows {
-        calls.push(LogCall::Modify(entry_with(alloc, row, b"del a")?))?;
-        ask(&mut calls)?;
-    }
-    let lists: [&[Row]; 2] = [
-        &[(20, 1, 1), (45, 0, 1), (48, 5, 1), (90, 3, 1)],
-        &[(10, 3, 1), (45, 0, 1)],
-    ];
-    for rows in lists {
-        calls.push(LogCall::ReplaceAll(list_of(alloc, rows)?))?;
-        ask(&mut calls)?;
-    }
+    let calls = calls_of_each_case(alloc)?;
     let mut hashed = HashedLog::new(alloc);
     let mut plain = ListLog::new(alloc);
-    assert_eq!(rt;
-        run_calls(&mut hashed, &calls)?,
-        run_calls(&mut plain, &calls)?
-    );
+    let answers = run_calls(&mut hashed, &calls)?;
+    assert_eq!(rt; answers, run_calls(&mut plain, &calls)?);
     assert_eq!(rt; hashed.entries()?, plain.entries()?);
     Ok(())
 }
