@@ -33,7 +33,7 @@ fn digest_before(digests: &[Digest], place: usize) -> Digest
     }
 }
 
-// Whether an entry stays behind one with this key.
+// Whether an entry stays after one with this key.
 fn stays_behind(key: &Key, entry: &Entry) -> bool
     ensures { result ≡ stays_behind key.now entry.now }
 {
@@ -41,7 +41,7 @@ fn stays_behind(key: &Key, entry: &Entry) -> bool
 }
 
 /// An entry with this key was put in at a place, and the digests are those of the others. Puts in
-/// its digest, and keeps after it those of the entries that stay behind it. No hash is computed but
+/// its digest, and keeps after it those of the entries that stay. No hash is computed but
 /// the key's: another entry's is what it added to the digest before it.
 pub fn put_digest(digests: &mut Vec<Digest>, entries: &Pages, place: usize, key: Key)
     requires within { place < length entries.now }
