@@ -7,9 +7,9 @@ ghost use Rattle.nz_base.specs.declared.actor.Actor.TheVariants as actors;
 ghost use Rattle.nz_log.specs.Places.{last_entry};
 ghost use Rattle.nz_msg.specs.Messages.{timed};
 ghost use Rattle.nz_msg.specs.declared.message.Message.TheVariants.{Timed};
-ghost use Rattle.nz_machine.specs.Replicas.{key_with_deadline};
+ghost use Rattle.nz_machine.specs.Replicas as replicas;
 ghost use Rattle.nz_machine.specs.Requests as requests;
-ghost use Rattle.nz_machine.specs.Requests.{replies_at, after_restamp, after_placing, after_new_request, request_rule};
+ghost use Rattle.nz_machine.specs.Requests.{replies_at, after_restamp, after_placing, after_new_request};
 ghost use Rattle.nz_machine.specs.Does.{Does};
 ghost use Rattle.nz_machine.specs.Step.{parcel, replica_message};
 
@@ -22,8 +22,8 @@ use std::alloc::Global;
 /// Deadlines are below this, in clock units.
 const DEADLINES: u64 = 1 << 63;
 
-fn key_at(deadline: u64, id: Id) -> Key
-    ensures { result ≡ key_with_deadline deadline id }
+fn key_with_deadline(deadline: u64, id: Id) -> Key
+    ensures { result ≡ replicas.key_with_deadline deadline id }
 {
     Key {
         deadline,
@@ -36,7 +36,7 @@ fn entry_at(alloc: Global, deadline: u64, body: &TimedBody) -> Result<Entry, NoM
     ensures { IfOk result (λ entry. entry ≡ requests.entry_at deadline body.now) }
 {
     Ok(Entry {
-        key: key_at(deadline, body.id),
+        key: key_with_deadline(deadline, body.id),
         command: body.command.copy(alloc)?,
     })
 }
@@ -74,13 +74,15 @@ fn restamp(state: &mut ReplicaState, body: &TimedBody) -> Result<(), NoMemory>
 }
 
 /// A request that is neither logged nor early waits for its deadline, or is late.
-fn place(state: &mut ReplicaState, body: &TimedBody) -> Result<(), NoMemory>
+fn place_request(state: &mut ReplicaState, body: &TimedBody) -> Result<(), NoMemory>
     requires fits { timed.fits body.now }
     requires logged { IsFalse (has_id (keys_of state.old.state.log.entries) body.now.id) }
     requires held { IsFalse (has_id (keys_of state.old.state.early) body.now.id) }
     ensures { OnOk result (state.new ≡ record state.old { state = after_placing state.old.f state.old.me state.old.state body.now }) }
 {
-    let is_early = state.log().is_above(&key_at(body.deadline, body.id));
+    let is_early = state
+        .log()
+        .is_above(&key_with_deadline(body.deadline, body.id));
     if !is_early && state.leads() {
         return restamp(state, body);
     }
@@ -92,7 +94,8 @@ fn place(state: &mut ReplicaState, body: &TimedBody) -> Result<(), NoMemory>
     }
 }
 
-fn unlogged(state: &mut ReplicaState, body: &TimedBody) -> Result<(), NoMemory>
+/// A request that is early already, or finds no room, changes nothing. Any other is placed.
+fn take_new_request(state: &mut ReplicaState, body: &TimedBody) -> Result<(), NoMemory>
     requires fits { timed.fits body.now }
     requires logged { IsFalse (has_id (keys_of state.old.state.log.entries) body.now.id) }
     ensures { OnOk result (state.new ≡ record state.old { state = after_new_request state.old.f state.old.me state.old.state body.now }) }
@@ -100,11 +103,11 @@ fn unlogged(state: &mut ReplicaState, body: &TimedBody) -> Result<(), NoMemory>
     if state.early().find(body.id).is_some() || state.is_full() {
         return Ok(());
     }
-    place(state, body)
+    place_request(state, body)
 }
 
 /// Replies to a request whose entry is at this place in the log.
-fn reply(state: &ReplicaState, id: Id, place: u32, sends: &mut Sends) -> Result<(), NoMemory>
+fn reply_at(state: &ReplicaState, id: Id, place: u32, sends: &mut Sends) -> Result<(), NoMemory>
     requires { place < length state.now.state.log.entries }
     ensures { OnOk result (sends.new ≡ sends.old ++ map (parcel (actors.Replica state.now.me)) (replies_at state.now.f state.now.me state.now.state id place)) }
 {
@@ -115,8 +118,9 @@ fn reply(state: &ReplicaState, id: Id, place: u32, sends: &mut Sends) -> Result<
     }
 }
 
+/// In normal operation the origin is noted, and the request is replied to or goes to a buffer.
 #[tactic(auto, unfolding(nz_machine::specs::Requests::request_rule))]
-fn request(
+fn request_rule(
     state: &mut ReplicaState,
     proxy: u8,
     body: &TimedBody,
@@ -124,15 +128,15 @@ fn request(
 ) -> Result<(), NoMemory>
     requires proxy { proxy ≤ 7 }
     requires fits { timed.fits body.now }
-    ensures { let s = state.old in OnOk result (Does s state.new sends.old sends.new (request_rule s.f s.me s.state proxy body.now)) }
+    ensures { let s = state.old in OnOk result (Does s state.new sends.old sends.new (requests.request_rule s.f s.me s.state proxy body.now)) }
 {
     if !state.is_normal() {
         return Ok(());
     }
     state.note_origin(proxy, body)?;
     match state.log().place_of(body.id) {
-        Some(place) => reply(state, body.id, place, sends),
-        None => unlogged(state, body),
+        Some(place) => reply_at(state, body.id, place, sends),
+        None => take_new_request(state, body),
     }
 }
 
@@ -148,7 +152,7 @@ pub fn on_timed(
     ensures { let s = state.old in OnOk result (Does s state.new sends.old sends.new (replica_message s.f s.me s.state from (Timed body.now))) }
 {
     match from {
-        Actor::Proxy(proxy) => request(state, proxy, body, sends),
+        Actor::Proxy(proxy) => request_rule(state, proxy, body, sends),
         Actor::Replica(_) | Actor::Client(_) => Ok(()),
     }
 }

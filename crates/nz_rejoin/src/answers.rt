@@ -5,7 +5,7 @@ ghost use Rattle.nz_base.specs.Actor.{HasAddress};
 ghost use Rattle.nz_base.specs.Cluster.{replica_count};
 ghost use Rattle.nz_msg.specs.Messages.{vector_ask, rejoin_ask, state_ask};
 ghost use Rattle.nz_msg.specs.declared.message.Message.TheVariants.{VectorAsk, RejoinAsk, StateAsk};
-ghost use Rattle.nz_machine.specs.Rejoining.{vector_ask_rule, rejoin_ask_rule, state_ask_rule};
+ghost use Rattle.nz_machine.specs.Rejoining as rejoining;
 ghost use Rattle.nz_machine.specs.Does.{Does};
 ghost use Rattle.nz_machine.specs.Step.{replica_message, is_in_cluster};
 
@@ -15,7 +15,7 @@ use nz_msg::{RejoinAskBody, StateAskBody, VectorAskBody};
 
 /// A replica in normal operation tells its vector.
 #[tactic(auto, unfolding(nz_machine::specs::Rejoining::vector_ask_rule))]
-fn answer_vector_ask(
+fn vector_ask_rule(
     state: &ReplicaState,
     sender: u8,
     body: &VectorAskBody,
@@ -23,7 +23,7 @@ fn answer_vector_ask(
 ) -> Result<(), NoMemory>
     requires sender { sender ≤ 8 }
     requires fits { vector_ask.fits body.now }
-    ensures { let s = state.now in OnOk result (Does s s sends.old sends.new (vector_ask_rule s.state sender body.now)) }
+    ensures { let s = state.now in OnOk result (Does s s sends.old sends.new (rejoining.vector_ask_rule s.state sender body.now)) }
 {
     if !state.is_normal() {
         return Ok(());
@@ -43,14 +43,14 @@ pub fn on_vector_ask(
     ensures { let s = state.now in OnOk result (Does s s sends.old sends.new (replica_message s.f s.me s.state from (VectorAsk body.now))) }
 {
     match from {
-        Actor::Replica(sender) => answer_vector_ask(state, sender, body, sends),
+        Actor::Replica(sender) => vector_ask_rule(state, sender, body, sends),
         Actor::Proxy(_) | Actor::Client(_) => Ok(()),
     }
 }
 
 /// A replica in normal operation merges the vector of who rejoins, and tells its view with its own.
 #[tactic(auto, unfolding(nz_machine::specs::Rejoining::rejoin_ask_rule))]
-fn answer_rejoin_ask(
+fn rejoin_ask_rule(
     state: &mut ReplicaState,
     sender: u8,
     body: &RejoinAskBody,
@@ -60,7 +60,7 @@ fn answer_rejoin_ask(
     requires sender { sender < replica_count state.old.f }
     requires vector { length body.now.vector ≡ replica_count state.old.f }
     requires fits { rejoin_ask.fits body.now }
-    ensures { let s = state.old in OnOk result (Does s state.new sends.old sends.new (rejoin_ask_rule s.me s.state sender body.now)) }
+    ensures { let s = state.old in OnOk result (Does s state.new sends.old sends.new (rejoining.rejoin_ask_rule s.me s.state sender body.now)) }
 {
     state.has_facts();
     if !state.is_normal() || body.vector.is_stray(sender, state.vector()) {
@@ -84,14 +84,14 @@ pub fn on_rejoin_ask(
     ensures { let s = state.old in OnOk result (Does s state.new sends.old sends.new (replica_message s.f s.me s.state from (RejoinAsk body.now))) }
 {
     match from {
-        Actor::Replica(sender) => answer_rejoin_ask(state, sender, body, sends),
+        Actor::Replica(sender) => rejoin_ask_rule(state, sender, body, sends),
         Actor::Proxy(_) | Actor::Client(_) => Ok(()),
     }
 }
 
 /// The leader tells its log, in the view that is asked for or a later one.
 #[tactic(auto, unfolding(nz_machine::specs::Rejoining::state_ask_rule))]
-fn answer_state_ask(
+fn state_ask_rule(
     state: &mut ReplicaState,
     sender: u8,
     body: &StateAskBody,
@@ -101,7 +101,7 @@ fn answer_state_ask(
     requires sender { sender < replica_count state.old.f }
     requires vector { length body.now.vector ≡ replica_count state.old.f }
     requires fits { state_ask.fits body.now }
-    ensures { let s = state.old in OnOk result (Does s state.new sends.old sends.new (state_ask_rule s.f s.me s.state sender body.now)) }
+    ensures { let s = state.old in OnOk result (Does s state.new sends.old sends.new (rejoining.state_ask_rule s.f s.me s.state sender body.now)) }
 {
     state.has_facts();
     if !state.leads_view()
@@ -129,7 +129,7 @@ pub fn on_state_ask(
     ensures { let s = state.old in OnOk result (Does s state.new sends.old sends.new (replica_message s.f s.me s.state from (StateAsk body.now))) }
 {
     match from {
-        Actor::Replica(sender) => answer_state_ask(state, sender, body, sends),
+        Actor::Replica(sender) => state_ask_rule(state, sender, body, sends),
         Actor::Proxy(_) | Actor::Client(_) => Ok(()),
     }
 }

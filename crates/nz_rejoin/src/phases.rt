@@ -9,7 +9,7 @@ ghost use Rattle.nz_machine.specs.declared.data.Phase.TheVariants as phases;
 ghost use Rattle.nz_machine.specs.Replicas.{last_view};
 ghost use Rattle.nz_machine.specs.Adopting.{normal_in};
 ghost use Rattle.nz_machine.specs.Rejoining as rejoining;
-ghost use Rattle.nz_machine.specs.Rejoining.{awaits, after_vectors, after_views, vector_tell_rule, rejoin_tell_rule, state_tell_rule};
+ghost use Rattle.nz_machine.specs.Rejoining.{awaits};
 ghost use Rattle.nz_machine.specs.Does.{Does, DoesSilently};
 ghost use Rattle.nz_machine.specs.Step.{replica_message, is_in_cluster};
 
@@ -28,9 +28,13 @@ pub(super) fn ask_views(state: &mut ReplicaState, sends: &mut Sends) -> Result<(
 }
 
 /// With enough tellers the second phase starts, unless there is no greater counter.
-fn after_teller(state: &mut ReplicaState, tellers: usize, sends: &mut Sends) -> Result<(), NoMemory>
+fn after_vectors(
+    state: &mut ReplicaState,
+    tellers: usize,
+    sends: &mut Sends,
+) -> Result<(), NoMemory>
     requires { tellers ≡ length state.old.state.rejoin.tellers }
-    ensures { let s = state.old in OnOk result (Does s state.new sends.old sends.new (after_vectors s.f s.me s.state)) }
+    ensures { let s = state.old in OnOk result (Does s state.new sends.old sends.new (rejoining.after_vectors s.f s.me s.state)) }
 {
     if tellers >= usize::from(state.cluster().slow()) && state.take_new_counter() {
         return ask_views(state, sends);
@@ -40,7 +44,7 @@ fn after_teller(state: &mut ReplicaState, tellers: usize, sends: &mut Sends) -> 
 
 /// A vector is taken in the first phase, for this restart.
 #[tactic(auto, unfolding(nz_machine::specs::Rejoining::vector_tell_rule))]
-fn take_vector(
+fn vector_tell_rule(
     state: &mut ReplicaState,
     sender: u8,
     body: &VectorTellBody,
@@ -49,7 +53,7 @@ fn take_vector(
     requires sender { sender < replica_count state.old.f }
     requires vector { length body.now.vector ≡ replica_count state.old.f }
     requires fits { vector_tell.fits body.now }
-    ensures { let s = state.old in OnOk result (Does s state.new sends.old sends.new (vector_tell_rule s.f s.me s.state sender body.now)) }
+    ensures { let s = state.old in OnOk result (Does s state.new sends.old sends.new (rejoining.vector_tell_rule s.f s.me s.state sender body.now)) }
 {
     state.has_facts();
     if !state.awaits(Phase::Vectors, body.nonce) || body.vector.is_stray(sender, state.vector()) {
@@ -57,7 +61,7 @@ fn take_vector(
     }
     state.merge_vector(&body.vector);
     let tellers = state.note_teller(sender, &body.vector)?;
-    after_teller(state, tellers, sends)
+    after_vectors(state, tellers, sends)
 }
 
 /// What a replica does with a vector-tell. It takes them from replicas alone.
@@ -73,7 +77,7 @@ pub fn on_vector_tell(
     ensures { let s = state.old in OnOk result (Does s state.new sends.old sends.new (replica_message s.f s.me s.state from (VectorTell body.now))) }
 {
     match from {
-        Actor::Replica(sender) => take_vector(state, sender, body, sends),
+        Actor::Replica(sender) => vector_tell_rule(state, sender, body, sends),
         Actor::Proxy(_) | Actor::Client(_) => Ok(()),
     }
 }
@@ -93,9 +97,9 @@ fn ask_log(state: &mut ReplicaState, view: u64, sends: &mut Sends) -> Result<(),
 }
 
 /// With enough views the third phase starts. A replica that led the latest one itself waits until there is a later.
-fn after_view(state: &mut ReplicaState, tells: usize, sends: &mut Sends) -> Result<(), NoMemory>
+fn after_views(state: &mut ReplicaState, tells: usize, sends: &mut Sends) -> Result<(), NoMemory>
     requires { tells ≡ length state.old.state.rejoin.tells }
-    ensures { let s = state.old in OnOk result (Does s state.new sends.old sends.new (after_views s.f s.me s.state)) }
+    ensures { let s = state.old in OnOk result (Does s state.new sends.old sends.new (rejoining.after_views s.f s.me s.state)) }
 {
     if tells < usize::from(state.cluster().slow()) {
         return Ok(());
@@ -110,7 +114,7 @@ fn after_view(state: &mut ReplicaState, tells: usize, sends: &mut Sends) -> Resu
 
 /// A view is taken in the second phase, for this restart.
 #[tactic(auto, unfolding(nz_machine::specs::Rejoining::rejoin_tell_rule))]
-fn take_view(
+fn rejoin_tell_rule(
     state: &mut ReplicaState,
     sender: u8,
     body: &RejoinTellBody,
@@ -119,7 +123,7 @@ fn take_view(
     requires sender { sender < replica_count state.old.f }
     requires vector { length body.now.vector ≡ replica_count state.old.f }
     requires fits { rejoin_tell.fits body.now }
-    ensures { let s = state.old in OnOk result (Does s state.new sends.old sends.new (rejoin_tell_rule s.f s.me s.state sender body.now)) }
+    ensures { let s = state.old in OnOk result (Does s state.new sends.old sends.new (rejoining.rejoin_tell_rule s.f s.me s.state sender body.now)) }
 {
     state.has_facts();
     if !state.awaits(Phase::Views, body.nonce) || body.vector.is_stray(sender, state.vector()) {
@@ -127,7 +131,7 @@ fn take_view(
     }
     state.merge_vector(&body.vector);
     let tells = state.note_view(sender, body)?;
-    after_view(state, tells, sends)
+    after_views(state, tells, sends)
 }
 
 /// What a replica does with a rejoin-tell. It takes them from replicas alone.
@@ -143,7 +147,7 @@ pub fn on_rejoin_tell(
     ensures { let s = state.old in OnOk result (Does s state.new sends.old sends.new (replica_message s.f s.me s.state from (RejoinTell body.now))) }
 {
     match from {
-        Actor::Replica(sender) => take_view(state, sender, body, sends),
+        Actor::Replica(sender) => rejoin_tell_rule(state, sender, body, sends),
         Actor::Proxy(_) | Actor::Client(_) => Ok(()),
     }
 }
@@ -174,12 +178,16 @@ fn start(state: &mut ReplicaState, body: &StateTellBody) -> Result<(), NoMemory>
 
 /// The log that the replica waits for is taken.
 #[tactic(auto, unfolding(nz_machine::specs::Rejoining::state_tell_rule))]
-fn take_log(state: &mut ReplicaState, sender: u8, body: &StateTellBody) -> Result<(), NoMemory>
+fn state_tell_rule(
+    state: &mut ReplicaState,
+    sender: u8,
+    body: &StateTellBody,
+) -> Result<(), NoMemory>
     requires sender { sender < replica_count state.old.f }
     requires other { IsFalse (sender == state.old.me) }
     requires vector { length body.now.vector ≡ replica_count state.old.f }
     requires fits { state_tell.fits body.now }
-    ensures { let s = state.old in OnOk result (DoesSilently s state.new (state_tell_rule s.f s.me s.state sender body.now)) }
+    ensures { let s = state.old in OnOk result (DoesSilently s state.new (rejoining.state_tell_rule s.f s.me s.state sender body.now)) }
 {
     state.has_facts();
     if !is_wanted(state, sender, body) || body.vector.is_stray(sender, state.vector()) {
@@ -202,7 +210,7 @@ pub fn on_state_tell(
     ensures { let s = state.old in OnOk result (DoesSilently s state.new (replica_message s.f s.me s.state from (StateTell body.now))) }
 {
     match from {
-        Actor::Replica(sender) => take_log(state, sender, body),
+        Actor::Replica(sender) => state_tell_rule(state, sender, body),
         Actor::Proxy(_) | Actor::Client(_) => Ok(()),
     }
 }

@@ -10,7 +10,7 @@ ghost use Rattle.nz_machine.specs.Replicas as replicas;
 ghost use Rattle.nz_machine.specs.Replicas.{first_replica};
 ghost use Rattle.nz_machine.specs.Does.{Does};
 ghost use Rattle.nz_machine.specs.Step as step_words;
-ghost use Rattle.nz_machine.specs.Step.{event_step, envelope_step, replica_message, tick_rule, accepted_envelope};
+ghost use Rattle.nz_machine.specs.Step.{envelope_step, replica_message, accepted_envelope};
 ghost use Rattle.nz_machine.specs.Step.{parcel, is_in_cluster, is_sized, message_vector};
 ghost use Rattle.nz_replica.specs.Seats.{IsOf};
 
@@ -164,21 +164,21 @@ fn mode_timer(state: &mut ReplicaState, sends: &mut Sends) -> Result<(), NoMemor
 }
 
 /// Releases what is due, and then the mode's timer counts.
-fn tick_and_count(state: &mut ReplicaState, clock: u64, sends: &mut Sends) -> Result<(), NoMemory>
-    ensures { let s = state.old in OnOk result (Does s state.new sends.old sends.new (tick_rule s.f s.me s.state clock)) }
+fn tick_rule(state: &mut ReplicaState, clock: u64, sends: &mut Sends) -> Result<(), NoMemory>
+    ensures { let s = state.old in OnOk result (Does s state.new sends.old sends.new (step_words.tick_rule s.f s.me s.state clock)) }
 {
     tick(state, clock, sends)?;
     mode_timer(state, sends)
 }
 
 #[tactic(auto, unfolding(nz_machine::specs::Rejoining::crash_rule))]
-fn take(state: &mut ReplicaState, event: &Event, sends: &mut Sends) -> Result<(), NoMemory>
+fn event_step(state: &mut ReplicaState, event: &Event, sends: &mut Sends) -> Result<(), NoMemory>
     ensures { let s = state.old in
-        (g : Group) → IsOf g s → OnOk result (Does s state.new sends.old sends.new (event_step g (actors.Replica s.me) s.state event.now)) }
+        (g : Group) → IsOf g s → OnOk result (Does s state.new sends.old sends.new (step_words.event_step g (actors.Replica s.me) s.state event.now)) }
 {
     match event {
         Event::Deliver(p) => deliver(state, p, sends),
-        Event::Tick(clock) if !state.is_down() => tick_and_count(state, *clock, sends),
+        Event::Tick(clock) if !state.is_down() => tick_rule(state, *clock, sends),
         Event::Alarm => on_alarm(state, sends),
         Event::Crash => {
             state.crash();
@@ -201,7 +201,7 @@ impl Core for Replica {
 
     fn step(&mut self, event: &Event) -> Result<Sends, NoMemory> {
         let mut sends = Sends::new(self.state.allocator());
-        match take(&mut self.state, event, &mut sends) {
+        match event_step(&mut self.state, event, &mut sends) {
             Ok(()) => Ok(sends),
             Err(error) => {
                 self.live = false;

@@ -30,7 +30,7 @@ fn keys_from(state: &ReplicaState, start: u32) -> Result<KeyList, NoMemory>
 }
 
 /// Sends a replica the keys of the log, from where its own agrees.
-fn tell_one(state: &ReplicaState, replica: u8, sends: &mut Sends) -> Result<(), NoMemory>
+fn send_log_mod(state: &ReplicaState, replica: u8, sends: &mut Sends) -> Result<(), NoMemory>
     requires { replica < replica_count state.now.f }
     ensures { OnOk result (sends.new ≡ sends.old ++ map (parcel (actors.Replica state.now.me)) (log_mod_to state.now.state replica ∷ [])) }
 {
@@ -54,7 +54,7 @@ pub fn tell_others(state: &ReplicaState, sends: &mut Sends) -> Result<(), NoMemo
 {
     for replica in 0..state.cluster().n() {
         if !Actor::Replica(replica).is(&state.name()) {
-            tell_one(state, replica, sends)?;
+            send_log_mod(state, replica, sends)?;
         }
     }
     Ok(())

@@ -9,7 +9,7 @@ ghost use Rattle.nz_msg.specs.Messages.{fetch, fetch_reply};
 ghost use Rattle.nz_msg.specs.declared.message.Message.TheVariants.{Fetch, FetchReply};
 ghost use Rattle.nz_machine.specs.Facts.{FitsEntry};
 ghost use Rattle.nz_machine.specs.LogMods as log_mods;
-ghost use Rattle.nz_machine.specs.LogMods.{fetch_rule, with_late_entry, with_late_entries, fetch_reply_rule};
+ghost use Rattle.nz_machine.specs.LogMods.{with_late_entry, with_late_entries, fetch_reply_rule};
 ghost use Rattle.nz_machine.specs.Does.{Does, DoesSilently};
 ghost use Rattle.nz_machine.specs.Step.{parcel, replica_message};
 
@@ -29,7 +29,7 @@ fn is_asked(ids: &[Id], entry: &Entry) -> bool
 }
 
 /// Copies of the log's entries with these ids.
-fn asked(state: &ReplicaState, ids: &[Id]) -> Result<EntryList, NoMemory>
+fn asked_entries(state: &ReplicaState, ids: &[Id]) -> Result<EntryList, NoMemory>
     requires { length ids.now ≤ 64 }
     ensures value { IfOk result (λ list. list ≡ filter (log_mods.is_asked ids.now) state.now.state.log.entries) }
     ensures fits { IfOk result (fields.entries 0 64).fits }
@@ -46,8 +46,9 @@ fn asked(state: &ReplicaState, ids: &[Id]) -> Result<EntryList, NoMemory>
     Ok(entries)
 }
 
+/// The leader replies with the asked entries that its log has.
 #[tactic(auto, unfolding(nz_machine::specs::LogMods::fetch_rule))]
-fn reply(
+fn fetch_rule(
     state: &ReplicaState,
     sender: u8,
     body: &FetchBody,
@@ -55,14 +56,14 @@ fn reply(
 ) -> Result<(), NoMemory>
     requires sender { sender ≤ 8 }
     requires fits { fetch.fits body.now }
-    ensures { let s = state.now in OnOk result (Does s s sends.old sends.new (fetch_rule s.f s.me s.state sender body.now)) }
+    ensures { let s = state.now in OnOk result (Does s s sends.old sends.new (log_mods.fetch_rule s.f s.me s.state sender body.now)) }
 {
     if !state.leads_view() || body.view != state.view() {
         return Ok(());
     }
     let message = Message::FetchReply(FetchReplyBody {
         view: state.view(),
-        entries: asked(state, body.ids.as_slice())?,
+        entries: asked_entries(state, body.ids.as_slice())?,
     });
     let to = Actor::Replica(sender);
     send(state.allocator(), state.name(), to, &message, sends)
@@ -80,13 +81,13 @@ pub fn on_fetch(
     ensures { let s = state.now in OnOk result (Does s s sends.old sends.new (replica_message s.f s.me s.state from (Fetch body.now))) }
 {
     match from {
-        Actor::Replica(sender) => reply(state, sender, body, sends),
+        Actor::Replica(sender) => fetch_rule(state, sender, body, sends),
         Actor::Proxy(_) | Actor::Client(_) => Ok(()),
     }
 }
 
 /// Keeps a fetched entry where its id is held nowhere and there is room.
-fn keep(state: &mut ReplicaState, entry: &Entry) -> Result<(), NoMemory>
+fn keep_late_entry(state: &mut ReplicaState, entry: &Entry) -> Result<(), NoMemory>
     requires { FitsEntry entry.now }
     ensures { OnOk result (state.new ≡ record state.old { state = with_late_entry state.old.state entry.now }) }
 {
@@ -97,12 +98,13 @@ fn keep(state: &mut ReplicaState, entry: &Entry) -> Result<(), NoMemory>
     state.keep_late(entry)
 }
 
-fn keep_each(state: &mut ReplicaState, entries: &[Entry]) -> Result<(), NoMemory>
+/// Keeps each of the entries in turn.
+fn keep_late_entries(state: &mut ReplicaState, entries: &[Entry]) -> Result<(), NoMemory>
     requires { AllByRecursion FitsEntry entries.now }
     ensures { OnOk result (state.new ≡ record state.old { state = with_late_entries state.old.state entries.now }) }
 {
     for entry in entries {
-        keep(state, entry)?;
+        keep_late_entry(state, entry)?;
     }
     Ok(())
 }
@@ -119,7 +121,7 @@ pub fn on_fetch_reply(
 {
     match from {
         Actor::Replica(sender) if state.hears_leader(body.view, sender) => {
-            keep_each(state, body.entries.as_slice())
+            keep_late_entries(state, body.entries.as_slice())
         }
         _ => Ok(()),
     }

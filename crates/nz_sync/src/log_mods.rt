@@ -13,7 +13,7 @@ ghost use Rattle.nz_machine.specs.Replicas.{is_normal, leads, hears_leader};
 ghost use Rattle.nz_machine.specs.Views.{enter_view};
 ghost use Rattle.nz_machine.specs.Vectors.{unless_stray};
 ghost use Rattle.nz_machine.specs.LogMods as log_mods;
-ghost use Rattle.nz_machine.specs.LogMods.{replies_since, fetch_from, sync_report_to, after_log_mod, after_hearing, log_mod_rule};
+ghost use Rattle.nz_machine.specs.LogMods.{replies_since, fetch_from, sync_report_to, after_log_mod, after_hearing};
 ghost use Rattle.nz_machine.specs.Does.{Does};
 ghost use Rattle.nz_machine.specs.Step.{parcel, replica_message, is_in_cluster};
 
@@ -22,7 +22,7 @@ use nz_machine::{ReplicaState, Sends, send};
 use nz_msg::{FetchBody, LogModBody, Message, SyncReportBody};
 
 /// Tells the leader how much of the log agrees with its own.
-fn report(state: &ReplicaState, leader: u8, sends: &mut Sends) -> Result<(), NoMemory>
+fn send_sync_report(state: &ReplicaState, leader: u8, sends: &mut Sends) -> Result<(), NoMemory>
     requires { leader ≤ 8 }
     ensures { OnOk result (sends.new ≡ sends.old ++ map (parcel (actors.Replica state.now.me)) (sync_report_to leader state.now.state ∷ [])) }
 {
@@ -35,7 +35,12 @@ fn report(state: &ReplicaState, leader: u8, sends: &mut Sends) -> Result<(), NoM
 }
 
 /// Asks the leader for the entries with these ids, if there are any.
-fn fetch(state: &ReplicaState, leader: u8, ids: IdList, sends: &mut Sends) -> Result<(), NoMemory>
+fn send_fetch(
+    state: &ReplicaState,
+    leader: u8,
+    ids: IdList,
+    sends: &mut Sends,
+) -> Result<(), NoMemory>
     requires leader { leader ≤ 8 }
     requires few { length ids ≤ 64 }
     requires fit { AllByRecursion fields.id.fits ids }
@@ -81,12 +86,12 @@ fn take_keys(
     let skipped = (synced - body.start).min(body.keys.len());
     let missing = state.sync(&body.keys.as_slice()[skipped as usize..], body.commit)?;
     reply_since(state, synced, sends)?;
-    fetch(state, leader, missing, sends)?;
-    report(state, leader, sends)
+    send_fetch(state, leader, missing, sends)?;
+    send_sync_report(state, leader, sends)
 }
 
 /// What follows once the vector of a log modification was taken in.
-fn take(
+fn take_log_mod(
     state: &mut ReplicaState,
     leader: u8,
     body: &LogModBody,
@@ -99,7 +104,7 @@ fn take(
     ensures { let s = state.old in OnOk result (Does s state.new sends.old sends.new (after_log_mod leader body.now s.state)) }
 {
     if state.log().synced() < body.start {
-        return report(state, leader, sends);
+        return send_sync_report(state, leader, sends);
     }
     take_keys(state, leader, body, sends)
 }
@@ -122,7 +127,7 @@ fn is_stray(state: &ReplicaState, sender: u8, body: &LogModBody) -> bool
 }
 
 /// A log modification of a later view is a reason to enter it.
-fn enter(
+fn enter_unless_stray(
     state: &mut ReplicaState,
     sender: u8,
     body: &LogModBody,
@@ -144,7 +149,7 @@ fn enter(
 }
 
 /// A log modification of the leader is taken.
-fn follow(
+fn follow_unless_stray(
     state: &mut ReplicaState,
     sender: u8,
     body: &LogModBody,
@@ -164,11 +169,12 @@ fn follow(
     }
     state.merge_vector(&body.vector);
     state.hear_leader();
-    take(state, sender, body, sends)
+    take_log_mod(state, sender, body, sends)
 }
 
+/// One of a later view is a reason to enter it. One of the own view is taken.
 #[tactic(auto, unfolding(nz_machine::specs::LogMods::log_mod_rule))]
-fn log_mod(
+fn log_mod_rule(
     state: &mut ReplicaState,
     sender: u8,
     body: &LogModBody,
@@ -178,13 +184,13 @@ fn log_mod(
     requires sender { sender < replica_count state.old.f }
     requires vector { length body.now.vector ≡ replica_count state.old.f }
     requires fits { log_mod.fits body.now }
-    ensures { let s = state.old in OnOk result (Does s state.new sends.old sends.new (log_mod_rule s.f s.me s.state sender body.now)) }
+    ensures { let s = state.old in OnOk result (Does s state.new sends.old sends.new (log_mods.log_mod_rule s.f s.me s.state sender body.now)) }
 {
     if hears_later_leader(state, body.view, sender) {
-        return enter(state, sender, body, sends);
+        return enter_unless_stray(state, sender, body, sends);
     }
     if state.hears_leader(body.view, sender) {
-        return follow(state, sender, body, sends);
+        return follow_unless_stray(state, sender, body, sends);
     }
     Ok(())
 }
@@ -203,7 +209,7 @@ pub fn on_log_mod(
     ensures { let s = state.old in OnOk result (Does s state.new sends.old sends.new (replica_message s.f s.me s.state from (LogMod body.now))) }
 {
     match from {
-        Actor::Replica(sender) => log_mod(state, sender, body, sends),
+        Actor::Replica(sender) => log_mod_rule(state, sender, body, sends),
         Actor::Proxy(_) | Actor::Client(_) => Ok(()),
     }
 }

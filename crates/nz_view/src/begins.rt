@@ -9,7 +9,6 @@ ghost use Rattle.nz_msg.specs.declared.message.Message.TheVariants.{ViewChange};
 ghost use Rattle.nz_machine.specs.Replicas.{is_changing, is_up, leads, ◌and_then◌};
 ghost use Rattle.nz_machine.specs.Views as views;
 ghost use Rattle.nz_machine.specs.Begins as begins;
-ghost use Rattle.nz_machine.specs.Begins.{view_change_rule};
 ghost use Rattle.nz_machine.specs.Does.{Does};
 ghost use Rattle.nz_machine.specs.Step.{replica_message, is_in_cluster};
 
@@ -76,7 +75,7 @@ fn hear_report(
 }
 
 /// The view is entered if it is later, and the report is collected or answered.
-fn take_report(
+fn enter_and_hear_report(
     state: &mut ReplicaState,
     sender: u8,
     body: &ViewChangeBody,
@@ -107,8 +106,9 @@ fn may_lead(state: &ReplicaState, view: u64) -> bool
         && state.view() <= view
 }
 
+/// A report comes to the leader of its view, which is in no later one.
 #[tactic(auto, unfolding(nz_machine::specs::Begins::view_change_rule))]
-fn view_change(
+fn view_change_rule(
     state: &mut ReplicaState,
     sender: u8,
     body: &ViewChangeBody,
@@ -119,7 +119,7 @@ fn view_change(
     requires other { IsFalse (sender == state.old.me) }
     requires vector { length body.now.vector ≡ replica_count state.old.f }
     requires fits { view_change.fits body.now }
-    ensures { let s = state.old in OnOk result (Does s state.new sends.old sends.new (view_change_rule s.f s.me s.state sender body.now)) }
+    ensures { let s = state.old in OnOk result (Does s state.new sends.old sends.new (begins.view_change_rule s.f s.me s.state sender body.now)) }
 {
     state.has_facts();
     if !may_lead(state, body.view) || body.vector.is_stray(sender, state.vector()) {
@@ -127,7 +127,7 @@ fn view_change(
     }
     state.merge_vector(&body.vector);
     state.drop_strays();
-    take_report(state, sender, body, sends)
+    enter_and_hear_report(state, sender, body, sends)
 }
 
 /// What a replica does with a view-change. It takes them from other replicas alone.
@@ -145,7 +145,7 @@ pub fn on_view_change(
     ensures { let s = state.old in OnOk result (Does s state.new sends.old sends.new (replica_message s.f s.me s.state from (ViewChange body.now))) }
 {
     match from {
-        Actor::Replica(sender) => view_change(state, sender, body, sends),
+        Actor::Replica(sender) => view_change_rule(state, sender, body, sends),
         Actor::Proxy(_) | Actor::Client(_) => Ok(()),
     }
 }

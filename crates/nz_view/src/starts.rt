@@ -7,9 +7,8 @@ ghost use Rattle.nz_msg.specs.Fields as fields;
 ghost use Rattle.nz_msg.specs.Messages.{view_ask, start_view};
 ghost use Rattle.nz_msg.specs.declared.message.Message.TheVariants.{ViewAsk, StartView};
 ghost use Rattle.nz_machine.specs.Views as views;
-ghost use Rattle.nz_machine.specs.Views.{view_ask_rule};
 ghost use Rattle.nz_machine.specs.Adopting as adopting;
-ghost use Rattle.nz_machine.specs.Adopting.{start_view_rule, after_start};
+ghost use Rattle.nz_machine.specs.Adopting.{after_start};
 ghost use Rattle.nz_machine.specs.Does.{Does, DoesSilently};
 ghost use Rattle.nz_machine.specs.Step.{replica_message, is_in_cluster};
 
@@ -28,10 +27,15 @@ pub fn enter_later(state: &mut ReplicaState, view: u64, sends: &mut Sends) -> Re
     state.enter_view(view, sends)
 }
 
+/// A replica that is up enters the view that is asked for, where it is later.
 #[tactic(auto, unfolding(nz_machine::specs::Views::view_ask_rule))]
-fn view_ask(state: &mut ReplicaState, body: &ViewAskBody, sends: &mut Sends) -> Result<(), NoMemory>
+fn view_ask_rule(
+    state: &mut ReplicaState,
+    body: &ViewAskBody,
+    sends: &mut Sends,
+) -> Result<(), NoMemory>
     requires { view_ask.fits body.now }
-    ensures { let s = state.old in OnOk result (Does s state.new sends.old sends.new (view_ask_rule s.f s.me s.state body.now)) }
+    ensures { let s = state.old in OnOk result (Does s state.new sends.old sends.new (views.view_ask_rule s.f s.me s.state body.now)) }
 {
     if !state.is_up() {
         return Ok(());
@@ -50,7 +54,7 @@ pub fn on_view_ask(
     ensures { let s = state.old in OnOk result (Does s state.new sends.old sends.new (replica_message s.f s.me s.state from (ViewAsk body.now))) }
 {
     match from {
-        Actor::Replica(_) => view_ask(state, body, sends),
+        Actor::Replica(_) => view_ask_rule(state, body, sends),
         Actor::Proxy(_) | Actor::Client(_) => Ok(()),
     }
 }
@@ -73,13 +77,18 @@ fn start(state: &mut ReplicaState, body: &StartViewBody) -> Result<(), NoMemory>
     state.start(body.view, log, commit)
 }
 
+/// The log of the view's leader is adopted.
 #[tactic(auto, unfolding(nz_machine::specs::Adopting::start_view_rule))]
-fn start_view(state: &mut ReplicaState, sender: u8, body: &StartViewBody) -> Result<(), NoMemory>
+fn start_view_rule(
+    state: &mut ReplicaState,
+    sender: u8,
+    body: &StartViewBody,
+) -> Result<(), NoMemory>
     requires sender { sender < replica_count state.old.f }
     requires other { IsFalse (sender == state.old.me) }
     requires vector { length body.now.vector ≡ replica_count state.old.f }
     requires fits { start_view.fits body.now }
-    ensures { let s = state.old in OnOk result (DoesSilently s state.new (start_view_rule s.f s.me s.state sender body.now)) }
+    ensures { let s = state.old in OnOk result (DoesSilently s state.new (adopting.start_view_rule s.f s.me s.state sender body.now)) }
 {
     state.has_facts();
     if !may_start(state, body.view)
@@ -105,7 +114,7 @@ pub fn on_start_view(
     ensures { let s = state.old in OnOk result (DoesSilently s state.new (replica_message s.f s.me s.state from (StartView body.now))) }
 {
     match from {
-        Actor::Replica(sender) => start_view(state, sender, body),
+        Actor::Replica(sender) => start_view_rule(state, sender, body),
         Actor::Proxy(_) | Actor::Client(_) => Ok(()),
     }
 }

@@ -6,6 +6,6 @@ use Rattle.nz_machine.specs.Facts.{FitsEntry}
 use Rattle.nz_machine.proofs.SentFields.{entries_of_fit}
 use Rattle.nz_sync.proofs.fetches.on_fetch_reply.Goals as goal
 
-pub keep_each-requires : goal.keep_each-requires
-keep_each-requires c =
+pub keep_late_entries-requires : goal.keep_late_entries-requires
+keep_late_entries-requires c =
     subst (λ (es : List Entry). AllByRecursion FitsEntry es) (sym c.as_slice.ensures) (entries_of_fit 0 64 c.args.body.now.entries c.requires.1)

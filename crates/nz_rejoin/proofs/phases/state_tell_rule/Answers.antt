@@ -10,7 +10,7 @@ use Rattle.nz_machine.specs.Facts.{ReplicaModel}
 use Rattle.nz_machine.specs.Vectors.{with_vector}
 use Rattle.nz_machine.specs.Adopting.{normal_in}
 use Rattle.nz_machine.specs.Rejoining.{awaits, state_tell_rule}
-use Rattle.nz_rejoin.proofs.phases.take_log.Goals as goal
+use Rattle.nz_rejoin.proofs.phases.state_tell_rule.Goals as goal
 
 -- the log that is waited for is taken
 taken : (f me : ℕ) (s : ReplicaData) (sender : ℕ) (b : StateTellBody)

@@ -1,7 +1,7 @@
 -- What the loops of the function of this folder keep.
 use Rattle.std.proofs.Common.{◌≡◌, drop}
 use Rattle.nz_machine.specs.LogMods.{with_late_entries}
-use Rattle.nz_sync.proofs.fetches.keep_each.Given as goal
+use Rattle.nz_sync.proofs.fetches.keep_late_entries.Given as goal
 
 -- the entries that are left lead to the end
 abbrev pub invariant-loop-entry : goal.invariant-loop-entry

@@ -1,7 +1,7 @@
 -- What the function of this folder owes, proved.
 use Rattle.nz_machine.proofs.SentFields.{ids_fit}
 use Rattle.nz_sync.proofs.Following.{some_left}
-use Rattle.nz_sync.proofs.log_mods.fetch.Goals as goal
+use Rattle.nz_sync.proofs.log_mods.send_fetch.Goals as goal
 
 pub send-requires-clause-message : goal.send-requires-clause-message
 send-requires-clause-message c = (

@@ -4,7 +4,7 @@ use Rattle.std.proofs.lemmas.Result.{on_ok_weaker}
 use Rattle.nz_base.specs.Cluster.{leader_of}
 use Rattle.nz_cv.specs.Vectors.{is_stray}
 use Rattle.nz_view.proofs.Stages.{starts}
-use Rattle.nz_view.proofs.starts.start_view.Goals as goal
+use Rattle.nz_view.proofs.starts.start_view_rule.Goals as goal
 
 pub returns : goal.returns
 returns c =

@@ -2,7 +2,7 @@
 use Rattle.std.proofs.Common.{◌≡◌, take}
 use Rattle.std.specs.List.{filter}
 use Rattle.nz_machine.specs.LogMods.{is_asked}
-use Rattle.nz_sync.proofs.fetches.asked.Given as goal
+use Rattle.nz_sync.proofs.fetches.asked_entries.Given as goal
 
 abbrev pub invariant-loop-place : goal.invariant-loop-place
 invariant-loop-place l = l.entries ≡ filter (is_asked l.ids) (take l.place l.state.state.log.entries)

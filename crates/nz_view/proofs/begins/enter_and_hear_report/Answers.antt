@@ -1,6 +1,6 @@
 -- What the function of this folder owes, proved.
 use Rattle.nz_view.proofs.Stages.{leads_later}
-use Rattle.nz_view.proofs.begins.take_report.Goals as goal
+use Rattle.nz_view.proofs.begins.enter_and_hear_report.Goals as goal
 
 pub hear_report-requires-clause-leads : goal.hear_report-requires-clause-leads
 hear_report-requires-clause-leads c =
