@@ -149,7 +149,7 @@ def long_texts():
         comments = ("#" + "x" * 998 + "\n") * (lines - 1)
         comments += "#" + "x" * (size - len(short) - len(comments) - 2) + "\n"
         yield f"{size} bytes with comments before", comments + short
-        yield f"{size} bytes with comments behind", short + comments
+        yield f"{size} bytes with comments after", short + comments
     yield "1048577 empty lines", "\n" * 1048577
 
 

@@ -19,10 +19,10 @@ restarts_push (faults.Crash a t ∷ lines) line = restarts_push lines line
 restarts_push (faults.Restart a t ∷ lines) line = let ih = restarts_push lines line in omega (arith, ih)
 restarts_push (faults.Alarm a t ∷ lines) line = restarts_push lines line
 
-behind : (own : List Item) (tick n : ℕ) (lines : List Fault) (line : Fault)
+pushed_after : (own : List Item) (tick n : ℕ) (lines : List Fault) (line : Fault)
     → calls tick n (lines ++ line ∷ []) ≡ calls tick n lines ++ calls tick (n + restarts_in lines) (line ∷ [])
     → own ++ calls tick n (lines ++ line ∷ []) ≡ (own ++ calls tick n lines) ++ calls tick (n + restarts_in lines) (line ∷ [])
-behind own tick n lines line ih =
+pushed_after own tick n lines line ih =
     ap (λ (is : List Item). own ++ is) ih ∙ sym (append_assoc own (calls tick n lines) (calls tick (n + restarts_in lines) (line ∷ [])))
 
 pub calls_push : (tick n : ℕ) (lines : List Fault) (line : Fault)
@@ -33,11 +33,11 @@ calls_push tick n (faults.Hold from to kind count by ∷ lines) line = calls_pus
 calls_push tick n (faults.Twice from to kind count by ∷ lines) line = calls_push tick n lines line
 calls_push tick n (faults.Cut from to kind count keep ∷ lines) line = calls_push tick n lines line
 calls_push tick n (faults.Block from to first last ∷ lines) line = calls_push tick n lines line
-calls_push tick n (faults.Crash a t ∷ lines) line = behind (if_in tick t (item a Crash)) tick n lines line (calls_push tick n lines line)
+calls_push tick n (faults.Crash a t ∷ lines) line = pushed_after (if_in tick t (item a Crash)) tick n lines line (calls_push tick n lines line)
 calls_push tick n (faults.Restart a t ∷ lines) line =
-    behind (if_in tick t (item a (Restart (n + 1)))) tick (n + 1) lines line (calls_push tick (n + 1) lines line)
+    pushed_after (if_in tick t (item a (Restart (n + 1)))) tick (n + 1) lines line (calls_push tick (n + 1) lines line)
     ∙ ap (λ m. (if_in tick t (item a (Restart (n + 1))) ++ calls tick (n + 1) lines) ++ calls tick m (line ∷ [])) (omega arith)
-calls_push tick n (faults.Alarm a t ∷ lines) line = behind (if_in tick t (item a Alarm)) tick n lines line (calls_push tick n lines line)
+calls_push tick n (faults.Alarm a t ∷ lines) line = pushed_after (if_in tick t (item a Alarm)) tick n lines line (calls_push tick n lines line)
 
 -- one line more
 pub restarts_more : (lines : List Fault) (i : ℕ) (d : Fault) → i < length lines

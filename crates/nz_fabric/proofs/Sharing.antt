@@ -56,9 +56,9 @@ opened_one : (given_up : List Item) (running : List Running) (o : Running) (here
 opened_one given_up running o here taken h =
     let x = o.item in
     let items = map item_running running in
-    let front = IsPermutation-trans _ _ _ (IsPermutation-to_front taken x) (IsPermutation-cons x _ _ h) in
+    let to_start = IsPermutation-trans _ _ _ (IsPermutation-to_front taken x) (IsPermutation-cons x _ _ h) in
     let middle : IsPermutation (taken ++ x ∷ []) ((given_up ++ items) ++ x ∷ here) =
-    IsPermutation-trans _ _ _ front (IsPermutation-sym _ _ (IsPermutation-middle (given_up ++ items) x here)) in
+    IsPermutation-trans _ _ _ to_start (IsPermutation-sym _ _ (IsPermutation-middle (given_up ++ items) x here)) in
     let same : (given_up ++ items) ++ x ∷ here ≡ (given_up ++ map item_running (running ++ o ∷ [])) ++ here =
     sym (append_assoc (given_up ++ items) (x ∷ []) here)
     ∙ ap (λ (is : List Item). is ++ here)
@@ -111,9 +111,9 @@ closed_one given_up running here i o lt at =
     let rest = map item_running (remove running i) in
     let apart : IsPermutation (map item_running running) (o.item ∷ rest) =
     IsPermutation-map item_running running (o ∷ remove running i) (IsPermutation-remove running i o lt at) in
-    let front : IsPermutation (given_up ++ map item_running running) (o.item ∷ (given_up ++ rest)) =
+    let to_start : IsPermutation (given_up ++ map item_running running) (o.item ∷ (given_up ++ rest)) =
     IsPermutation-trans _ _ _ (IsPermutation-append_right given_up _ _ apart) (IsPermutation-middle given_up o.item rest) in
-    IsPermutation-append_left here _ _ front
+    IsPermutation-append_left here _ _ to_start
 
 one_fewer : (running : List Running) (i : ℕ) (o : Running) → i < length running → o ≡ get_or running i o → length (remove running i) + 1 ≡ length running
 one_fewer running i o lt at = let e = length_permutation running (o ∷ remove running i) (IsPermutation-remove running i o lt at) in omega (arith, e)

@@ -27,15 +27,15 @@ fit_note replies reply all fit =
       | inr new ↦ rw new (each_more replies reply all fit)
     ]
 
-middle : (before : List Reply) (reply : Reply) (behind : List Reply) → AllByRecursion HasFitAnswer (before ++ reply ∷ behind) → HasFitAnswer reply
-middle [] reply behind all = all.0
-middle (r ∷ before) reply behind all = middle before reply behind all.1
+middle : (before : List Reply) (reply : Reply) (rest_after : List Reply) → AllByRecursion HasFitAnswer (before ++ reply ∷ rest_after) → HasFitAnswer reply
+middle [] reply rest_after all = all.0
+middle (r ∷ before) reply rest_after all = middle before reply rest_after all.1
 
 chosen_fits : (f : ℕ) (replies : List Reply) (chosen : Chosen) → AllByRecursion HasFitAnswer replies
     → decision f replies ≡ Some chosen → HasFitAnswer chosen.reply
 chosen_fits f replies chosen all e =
     let first = chosen_is_first f replies chosen e in
-    middle first.before chosen.reply first.behind (subst (λ (rs : List Reply). AllByRecursion HasFitAnswer rs) first.noted all)
+    middle first.before chosen.reply first.rest_after (subst (λ (rs : List Reply). AllByRecursion HasFitAnswer rs) first.noted all)
 
 pub decided_fits : (f : ℕ) (replies : List Reply) (chosen : Chosen) (a : Answer) → AllByRecursion HasFitAnswer replies
     → decision f replies ≡ Some chosen → answer_in chosen.reply ≡ Some a → answer.fits a

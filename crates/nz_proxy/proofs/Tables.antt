@@ -64,14 +64,14 @@ fit_lookup f id (e ∷ es) all =
 
 -- ---- of what is lent
 
-pub known_behind : (o : Option (Bor Standing)) → option_map {U = StandingModel} (λ s. known_standing s.now) o ≡ option_map known_standing (option_copied o)
-known_behind None = refl
-known_behind (Some s) = refl
+pub known_borrowed : (o : Option (Bor Standing)) → option_map {U = StandingModel} (λ s. known_standing s.now) o ≡ option_map known_standing (option_copied o)
+known_borrowed None = refl
+known_borrowed (Some s) = refl
 
-pub fit_behind : (f : ℕ) (id : Id) (o : Option (Bor Standing)) (x : Option Standing) → option_copied o ≡ x
+pub fit_borrowed : (f : ℕ) (id : Id) (o : Option (Bor Standing)) (x : Option Standing) → option_copied o ≡ x
     → IfSome x (IsFound f id) → IfSome o (λ s. IsFitStanding f s.now)
-fit_behind f id None x e fit = tt
-fit_behind f id (Some s) x e fit = let found = subst (λ (y : Option Standing). IfSome y (IsFound f id)) (sym e) fit in found.standing
+fit_borrowed f id None x e fit = tt
+fit_borrowed f id (Some s) x e fit = let found = subst (λ (y : Option Standing). IfSome y (IsFound f id)) (sym e) fit in found.standing
 
 pub fit_set : (f : ℕ) (es : List (Id × Standing)) (id : Id) (s : Standing) → IsFitStanding f s
     → AllByRecursion (IsFitEntry f) es → AllByRecursion (IsFitEntry f) (set_value (id_eq id) es s)

@@ -16,8 +16,8 @@ use Rattle.nz_quorum.specs.Choices.{HasQuorum, IsFirstOfLeastView}
 -- of those that pass the test this is the first of the least view
 record IsFirst (p : Reply → Bool) (xs : List Reply) (x : Reply) : Type 0 where
   before : List Reply
-  behind : List Reply
-  split : xs ≡ before ++ x ∷ behind
+  rest_after : List Reply
+  split : xs ≡ before ++ x ∷ rest_after
   passes : p x ≡ true
   least : (y : Reply) → Has xs y → p y ≡ true → view_of x ≤ view_of y
   first : (y : Reply) → Has before y → p y ≡ true → view_of x < view_of y
@@ -36,10 +36,10 @@ none_passes p (x ∷ xs) y none has passes =
     ]
 
 -- after one that fails, or that is of a greater view
-behind_one : (p : Reply → Bool) (x : Reply) (xs : List Reply) (y : Reply) → (p x ≡ true → view_of y < view_of x) → IsFirst p xs y → IsFirst p (x ∷ xs) y
-behind_one p x xs y lesser first = record {
+after_one : (p : Reply → Bool) (x : Reply) (xs : List Reply) (y : Reply) → (p x ≡ true → view_of y < view_of x) → IsFirst p xs y → IsFirst p (x ∷ xs) y
+after_one p x xs y lesser first = record {
   before = x ∷ first.before;
-  behind = first.behind;
+  rest_after = first.rest_after;
   split = ap (λ (ys : List Reply). x ∷ ys) first.split;
   passes = first.passes;
   least = λ z has passes. elim has [
@@ -57,7 +57,7 @@ before_others : (p : Reply → Bool) (x : Reply) (xs : List Reply) → p x ≡ t
     → ((y : Reply) → Has xs y → p y ≡ true → view_of x ≤ view_of y) → IsFirst p (x ∷ xs) x
 before_others p x xs passes least = record {
   before = [];
-  behind = xs;
+  rest_after = xs;
   split = refl;
   passes = passes;
   least = λ z has there. elim has [
@@ -79,7 +79,7 @@ first_of_two p x xs y (Some d) passes is e ih =
       | inl lesser ↦
           let chosen : Some d ≡ Some y = rw lesser at e in
           let same : d ≡ y = cc in
-          subst (IsFirst p (x ∷ xs)) same (behind_one p x xs d (λ h. ltb-true (view_of d) (view_of x) lesser) found)
+          subst (IsFirst p (x ∷ xs)) same (after_one p x xs d (λ h. ltb-true (view_of d) (view_of x) lesser) found)
       | inr other ↦
           let chosen : Some x ≡ Some y = rw other at e in
           let same : x ≡ y = cc in
@@ -93,7 +93,7 @@ first_is p (x ∷ xs) y e =
     let ih = first_is p xs in
     elim (cases_bool (p x)) [
       | inl here ↦ first_of_two p x xs y (first_of_least_view (filter p xs)) here refl (rw here at e) ih
-      | inr away ↦ behind_one p x xs y (λ here. clash (p x) here away) (ih y (rw away at e))
+      | inr away ↦ after_one p x xs y (λ here. clash (p x) here away) (ih y (rw away at e))
     ]
 
 some_first : (p : Reply → Bool) (xs : List Reply) (y : Reply) (o : Option Reply)
@@ -101,9 +101,9 @@ some_first : (p : Reply → Bool) (xs : List Reply) (y : Reply) (o : Option Repl
 some_first p xs y None is has passes = absurd (none_passes p xs y is has passes)
 some_first p xs y (Some x) is has passes = (x, refl)
 
-has_middle : (before : List Reply) (x : Reply) (behind : List Reply) → Has (before ++ x ∷ behind) x
-has_middle [] x behind = inl refl
-has_middle (b ∷ before) x behind = inr (has_middle before x behind)
+has_middle : (before : List Reply) (x : Reply) (rest_after : List Reply) → Has (before ++ x ∷ rest_after) x
+has_middle [] x rest_after = inl refl
+has_middle (b ∷ before) x rest_after = inr (has_middle before x rest_after)
 
 -- ---- the decision
 
@@ -140,14 +140,14 @@ decided_by f replies chosen e = by (lead_of Fast f replies) (lead_of Slow f repl
 lead_is : (path : Path) (f : ℕ) (replies : List Reply) (lead : Reply) → lead_of path f replies ≡ Some lead → IsFirstOfLeastView path f replies lead
 lead_is path f replies lead e =
     let first = first_is (has_quorum path f replies) replies lead e in
-    record { before = first.before; behind = first.behind; noted = first.split; quorum = first.passes; least = first.least; first = first.first }
+    record { before = first.before; rest_after = first.rest_after; noted = first.split; quorum = first.passes; least = first.least; first = first.first }
 
 lead_has : (path : Path) (f : ℕ) (replies : List Reply) (lead : Reply) → lead_of path f replies ≡ Some lead → HasQuorum path f replies
 lead_has path f replies lead e =
     let first = first_is (has_quorum path f replies) replies lead e in
     record {
       reply = lead;
-      noted = subst (λ (xs : List Reply). Has xs lead) (sym first.split) (has_middle first.before lead first.behind);
+      noted = subst (λ (xs : List Reply). Has xs lead) (sym first.split) (has_middle first.before lead first.rest_after);
       quorum = first.passes;
     }
 

@@ -16,8 +16,8 @@ pub record HasQuorum (path : Path) (f : ℕ) (replies : List Reply) : Type 0 whe
 -- was noted before is of the same view.
 pub record IsFirstOfLeastView (path : Path) (f : ℕ) (replies : List Reply) (reply : Reply) : Type 0 where
   pub before : List Reply
-  pub behind : List Reply
-  pub noted : replies ≡ before ++ reply ∷ behind
+  pub rest_after : List Reply
+  pub noted : replies ≡ before ++ reply ∷ rest_after
   pub quorum : IsTrue (has_quorum path f replies reply)
   pub least : (other : Reply) → Has replies other → IsTrue (has_quorum path f replies other) → view_of reply ≤ view_of other
   pub first : (other : Reply) → Has before other → IsTrue (has_quorum path f replies other) → view_of reply < view_of other

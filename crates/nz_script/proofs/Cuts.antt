@@ -6,7 +6,7 @@ use Rattle.std.specs.List.{list_any}
 use Rattle.std.proofs.lemmas.Option.{none-some, same_Some}
 use Rattle.std.proofs.lemmas.Bool.{eqb-false}
 use Rattle.std.proofs.lemmas.List.{append-nil}
-use Rattle.nz_script.specs.Bytes.{space, newline, Lacks, cut, with_front, onto_first, lines_in, tail_in, is_word_end, words_in}
+use Rattle.nz_script.specs.Bytes.{space, newline, Lacks, cut, with_byte_before, onto_first, lines_in, tail_in, is_word_end, words_in}
 
 pub cut-takes : (b : ℕ) (l : List ℕ) (p : List ℕ × List ℕ) → cut b l ≡ Some p → l ≡ p.0 ++ b ∷ p.1
 cut-takes b [] p e = absurd cc
@@ -32,11 +32,11 @@ cut-no_place b l k all passed = cut-whole b (take k l) l passed (take_all k l al
 pub rest_is : (l : List ℕ) (k : ℕ) → take (length l - (k + 1)) (drop (k + 1) l) ≡ drop (suc k) l
 rest_is l k = take_all (length l - (k + 1)) (drop (k + 1) l) (omega (arith, length-drop (k + 1) l)) ∙ ap (λ (n : ℕ). drop n l) (add-one k)
 
-pub shorter : (at : ℕ) (rest word behind : List ℕ) → cut at rest ≡ Some (word, behind) → length behind < length rest
-shorter at rest word behind parts = omega (arith, ap length (cut-takes at rest (word, behind) parts), length-append word (at ∷ behind))
+pub shorter : (at : ℕ) (rest word later : List ℕ) → cut at rest ≡ Some (word, later) → length later < length rest
+shorter at rest word later parts = omega (arith, ap length (cut-takes at rest (word, later) parts), length-append word (at ∷ later))
 
 lacks_step : (b x : ℕ) (xs : List ℕ) (t : Bool) (o : Option (List ℕ × List ℕ)) (p : List ℕ × List ℕ) → (x == b) ≡ t
-    → ((q : List ℕ × List ℕ) → o ≡ Some q → Lacks b q.0) → cond t (Some ([], xs)) (with_front x o) ≡ Some p → Lacks b p.0
+    → ((q : List ℕ × List ℕ) → o ≡ Some q → Lacks b q.0) → cond t (Some ([], xs)) (with_byte_before x o) ≡ Some p → Lacks b p.0
 lacks_step b x xs true o p t ih e = subst (λ (q : List ℕ × List ℕ). Lacks b q.0) (same_Some _ _ e) tt
 lacks_step b x xs false None p t ih e = absurd (none-some _ e)
 lacks_step b x xs false (Some q) p t ih e = subst (λ (q : List ℕ × List ℕ). Lacks b q.0) (same_Some _ _ e) (eqb-false x b t, ih q refl)
@@ -47,7 +47,7 @@ cut-lacks b [] p e = absurd cc
 cut-lacks b (x ∷ xs) p e = lacks_step b x xs (x == b) (cut b xs) p refl (cut-lacks b xs) e
 
 none_step : (b x : ℕ) (xs : List ℕ) (t : Bool) (o : Option (List ℕ × List ℕ)) → (x == b) ≡ t → (o ≡ None → Lacks b xs)
-    → cond t (Some ([], xs)) (with_front x o) ≡ None → Lacks b (x ∷ xs)
+    → cond t (Some ([], xs)) (with_byte_before x o) ≡ None → Lacks b (x ∷ xs)
 none_step b x xs true o t ih e = absurd (none-some _ (sym e))
 none_step b x xs false (Some q) t ih e = absurd (none-some _ (sym e))
 none_step b x xs false None t ih e = (eqb-false x b t, ih refl)

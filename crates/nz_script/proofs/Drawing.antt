@@ -20,30 +20,30 @@ use Rattle.nz_script.proofs.Numerals.{own, all-digits}
 gap : (j n : ℕ) → j < n → n - j ≡ suc (n - (j + 1))
 gap j n lt = omega (arith, lt)
 
-pub next_fault : (count x j n : ℕ) (front whole : List Fault) (f : Fault) → j < n → f ≡ fault_for count x j → front ++ faults_for count x j (n - j) ≡ whole
-    → (front ++ f ∷ []) ++ faults_for count (next (next x)) (j + 1) (n - (j + 1)) ≡ whole
-next_fault count x j n front whole f lt same inv =
-    append_assoc front (f ∷ []) (faults_for count (next (next x)) (j + 1) (n - (j + 1)))
-    ∙ ap (λ (y : Fault). front ++ y ∷ faults_for count (next (next x)) (j + 1) (n - (j + 1))) same
-    ∙ ap (λ (m : ℕ). front ++ faults_for count x j m) (sym (gap j n lt)) ∙ inv
+pub next_fault : (count x j n : ℕ) (prefix whole : List Fault) (f : Fault) → j < n → f ≡ fault_for count x j → prefix ++ faults_for count x j (n - j) ≡ whole
+    → (prefix ++ f ∷ []) ++ faults_for count (next (next x)) (j + 1) (n - (j + 1)) ≡ whole
+next_fault count x j n prefix whole f lt same inv =
+    append_assoc prefix (f ∷ []) (faults_for count (next (next x)) (j + 1) (n - (j + 1)))
+    ∙ ap (λ (y : Fault). prefix ++ y ∷ faults_for count (next (next x)) (j + 1) (n - (j + 1))) same
+    ∙ ap (λ (m : ℕ). prefix ++ faults_for count x j m) (sym (gap j n lt)) ∙ inv
 
-pub next_request : (x i n : ℕ) (front whole : List Request) (r : Request) → i < n → r ≡ request_for x i → front ++ requests_for x i (n - i) ≡ whole
-    → (front ++ r ∷ []) ++ requests_for (next (next x)) (i + 1) (n - (i + 1)) ≡ whole
-next_request x i n front whole r lt same inv =
-    append_assoc front (r ∷ []) (requests_for (next (next x)) (i + 1) (n - (i + 1)))
-    ∙ ap (λ (y : Request). front ++ y ∷ requests_for (next (next x)) (i + 1) (n - (i + 1))) same
-    ∙ ap (λ (m : ℕ). front ++ requests_for x i m) (sym (gap i n lt)) ∙ inv
+pub next_request : (x i n : ℕ) (prefix whole : List Request) (r : Request) → i < n → r ≡ request_for x i → prefix ++ requests_for x i (n - i) ≡ whole
+    → (prefix ++ r ∷ []) ++ requests_for (next (next x)) (i + 1) (n - (i + 1)) ≡ whole
+next_request x i n prefix whole r lt same inv =
+    append_assoc prefix (r ∷ []) (requests_for (next (next x)) (i + 1) (n - (i + 1)))
+    ∙ ap (λ (y : Request). prefix ++ y ∷ requests_for (next (next x)) (i + 1) (n - (i + 1))) same
+    ∙ ap (λ (m : ℕ). prefix ++ requests_for x i m) (sym (gap i n lt)) ∙ inv
 
 pub next_state : (x i n whole : ℕ) → i < n → draws_after (n - i) x ≡ whole → draws_after (n - (i + 1)) (next (next x)) ≡ whole
 next_state x i n whole lt inv = ap (λ (m : ℕ). draws_after m x) (sym (gap i n lt)) ∙ inv
 
-pub next_script : (client n : ℕ) (requests : List Request) (front whole : List (List Request)) (s : List Request)
+pub next_script : (client n : ℕ) (requests : List Request) (prefix whole : List (List Request)) (s : List Request)
     → client < n → s ≡ script_for client 0 requests
-    → front ++ scripts_for client (n - client) requests ≡ whole → (front ++ s ∷ []) ++ scripts_for (client + 1) (n - (client + 1)) requests ≡ whole
-next_script client n requests front whole s lt same inv =
-    append_assoc front (s ∷ []) (scripts_for (client + 1) (n - (client + 1)) requests)
-    ∙ ap (λ (y : List Request). front ++ y ∷ scripts_for (client + 1) (n - (client + 1)) requests) same
-    ∙ ap (λ (m : ℕ). front ++ scripts_for client m requests) (sym (gap client n lt)) ∙ inv
+    → prefix ++ scripts_for client (n - client) requests ≡ whole → (prefix ++ s ∷ []) ++ scripts_for (client + 1) (n - (client + 1)) requests ≡ whole
+next_script client n requests prefix whole s lt same inv =
+    append_assoc prefix (s ∷ []) (scripts_for (client + 1) (n - (client + 1)) requests)
+    ∙ ap (λ (y : List Request). prefix ++ y ∷ scripts_for (client + 1) (n - (client + 1)) requests) same
+    ∙ ap (λ (m : ℕ). prefix ++ scripts_for client m requests) (sym (gap client n lt)) ∙ inv
 
 pub length-requests_for : (x i n : ℕ) → length (requests_for x i n) ≡ n
 length-requests_for x i zero = refl

@@ -12,10 +12,10 @@ fits-short (f ∷ fs) zero lt = refl
 fits-short (f ∷ fs) (suc i) lt = fits-short fs i (omega (arith, lt))
 
 -- a line that lacks a word does not fit
-pub word_lacking : (forms : List Form) (i : ℕ) (rest whole : List (List ℕ)) (front : List Word) → i < length forms → rest ≡ []
-    → option_map (λ (more : List Word). front ++ more) (fits (drop i forms) rest) ≡ fits forms whole → None ≡ fits forms whole
-word_lacking forms i rest whole front lt e inv =
-    sym (ap (option_map (λ (more : List Word). front ++ more)) (ap (fits (drop i forms)) e ∙ fits-short forms i lt)) ∙ inv
+pub word_lacking : (forms : List Form) (i : ℕ) (rest whole : List (List ℕ)) (prefix : List Word) → i < length forms → rest ≡ []
+    → option_map (λ (more : List Word). prefix ++ more) (fits (drop i forms) rest) ≡ fits forms whole → None ≡ fits forms whole
+word_lacking forms i rest whole prefix lt e inv =
+    sym (ap (option_map (λ (more : List Word). prefix ++ more)) (ap (fits (drop i forms)) e ∙ fits-short forms i lt)) ∙ inv
 
 first-short : (forms : List Form) (i : ℕ) → i < length forms → fits_first (drop i forms) [] ≡ None
 first-short [] i lt = absurd (omega (arith, lt))
@@ -23,10 +23,10 @@ first-short (f ∷ fs) zero lt = refl
 first-short (f ∷ fs) (suc i) lt = first-short fs i (omega (arith, lt))
 
 -- words that lack one do not fit
-pub first_lacking : {R : Type 0} (now : R → List ℕ) (forms : List Form) (i : ℕ) (rest : List R) (whole : List (List ℕ)) (front : List Word)
+pub first_lacking : {R : Type 0} (now : R → List ℕ) (forms : List Form) (i : ℕ) (rest : List R) (whole : List (List ℕ)) (prefix : List Word)
     → i < length forms → length rest < 1
-    → option_map (λ (x : List Word × List (List ℕ)). (front ++ x.0, x.1)) (fits_first (drop i forms) (map now rest)) ≡ fits_first forms whole
+    → option_map (λ (x : List Word × List (List ℕ)). (prefix ++ x.0, x.1)) (fits_first (drop i forms) (map now rest)) ≡ fits_first forms whole
     → None ≡ fits_first forms whole
-first_lacking now forms i [] whole front lt none inv =
-    sym (ap (option_map (λ (x : List Word × List (List ℕ)). (front ++ x.0, x.1))) (first-short forms i lt)) ∙ inv
-first_lacking now forms i (r ∷ rest) whole front lt none inv = absurd (omega (arith, none))
+first_lacking now forms i [] whole prefix lt none inv =
+    sym (ap (option_map (λ (x : List Word × List (List ℕ)). (prefix ++ x.0, x.1))) (first-short forms i lt)) ∙ inv
+first_lacking now forms i (r ∷ rest) whole prefix lt none inv = absurd (omega (arith, none))

@@ -177,9 +177,9 @@ least low high n e = leb-true low n (and_parts (nat_le low n) (nat_le n high) e)
 blank_room : (r t u : ℕ) → r ≡ 0 → has_room_for_requests r t ≡ true → has_room_for_requests r u ≡ true
 blank_room r t u e h = ap (λ (n : ℕ). has_room_for_requests n u) e ∙ and_from _ _ refl (le-leb (0 * u) 2000000 (omega arith))
 
-behind_ticks : (two : Bool) → place_rank (cond two place.Window place.Between) < 7
-behind_ticks true = omega arith
-behind_ticks false = omega arith
+after_ticks : (two : Bool) → place_rank (cond two place.Window place.Between) < 7
+after_ticks true = omega arith
+after_ticks false = omega arith
 
 any_window : (n : ℕ) → is_within 2 16 n ≡ true → is_within 1 16 n ≡ true
 any_window n e =
@@ -257,7 +257,7 @@ head_kept d head.Ticks words p e fits =
       faults = p.faults;
       place =
           at_head (place_rank d.place) (place_rank (cond (d.version == 2) place.Window place.Between)) d.group d.group
-          d.scripts d.block d.requests d.faults low (behind_ticks (d.version == 2)) (least 1 64 d.group.clients p.head.clients) p.place;
+          d.scripts d.block d.requests d.faults low (after_ticks (d.version == 2)) (least 1 64 d.group.clients p.head.clients) p.place;
     }
 head_kept d head.Window words p e fits =
     let low = low_rank d 5 e (omega arith) in
@@ -585,15 +585,15 @@ read_runnable bytes s e =
 
 -- ---- how long a text is
 
-long_behind : (n : ℕ) (s : Scenario) (further : Draft → Result Scenario ScriptFault) (answer : Result Draft Kind)
+long_after : (n : ℕ) (s : Scenario) (further : Draft → Result Scenario ScriptFault) (answer : Result Draft Kind)
     → ((next : Draft) → further next ≡ Ok s → ⊥) → if_taken n further answer ≡ Ok s → ⊥
-long_behind n s further (Ok next) later e = later next e
-long_behind n s further (Err kind) later e = absurd cc
+long_after n s further (Ok next) later e = later next e
+long_after n s further (Err kind) later e = absurd cc
 
 long_refused : (tail : List ℕ) (n : ℕ) (d : Draft) (lines : List (List ℕ)) (s : Scenario) → scenario_from true tail n d lines ≡ Ok s → ⊥
 long_refused tail n d [] s e = absurd cc
 long_refused tail n d (line ∷ lines) s e =
-    long_behind n s (λ next. scenario_from true tail (n + 1) next lines) (draft_after_line d line)
+    long_after n s (λ next. scenario_from true tail (n + 1) next lines) (draft_after_line d line)
     (λ next f. long_refused tail (n + 1) next lines s f) e
 
 not_above : (n m : ℕ) → nat_lt n m ≡ false → m ≤ n

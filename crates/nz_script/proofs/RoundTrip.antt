@@ -40,7 +40,7 @@ valid_parts s e =
 
 -- all that was read of a scenario
 abbrev whole : Scenario → Draft
-whole s = a_draft place.Behind (version_of s.window) (group_of_scenario s) s.ticks s.skews s.scripts [] 0 (requests_in_all s.scripts) s.faults
+whole s = a_draft place.Ended (version_of s.window) (group_of_scenario s) s.ticks s.skews s.scripts [] 0 (requests_in_all s.scripts) s.faults
 
 lines_taken : (s : Scenario) → IsValidIn s → IsTakenTo first_draft (lines_of s) (whole s)
 lines_taken s ok =

@@ -20,14 +20,14 @@ abbrev pub Lacks : ℕ → List ℕ → Type 0
 Lacks byte bytes = AllByRecursion (λ b. b ≢ byte) bytes
 
 -- The byte put before the first piece, if there is one.
-abbrev pub with_front : ℕ → Option (List ℕ × List ℕ) → Option (List ℕ × List ℕ)
-with_front x None = None
-with_front x (Some parts) = Some (x ∷ parts.0, parts.1)
+abbrev pub with_byte_before : ℕ → Option (List ℕ × List ℕ) → Option (List ℕ × List ℕ)
+with_byte_before x None = None
+with_byte_before x (Some parts) = Some (x ∷ parts.0, parts.1)
 
 -- What is before and after the first such byte.
 abbrev pub cut : ℕ → List ℕ → Option (List ℕ × List ℕ)
 cut at [] = None
-cut at (x ∷ xs) = if x == at then Some ([], xs) else with_front x (cut at xs)
+cut at (x ∷ xs) = if x == at then Some ([], xs) else with_byte_before x (cut at xs)
 
 -- The byte put before the first piece, if there is one.
 abbrev pub onto_first : ℕ → List (List ℕ) → List (List ℕ)

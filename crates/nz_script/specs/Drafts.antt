@@ -233,7 +233,7 @@ with_words d (verb.Ask a) words = with_request d (command_asked a words)
 with_words d verb.Wait words = record d { wait = number_in 0 words }
 with_words d verb.End words = with_script d
 with_words d (verb.Mishap m) words = record d { faults = d.faults ++ fault_in m words ∷ [] }
-with_words d verb.Done words = record d { place = place.Behind }
+with_words d verb.Done words = record d { place = place.Ended }
 
 -- Before the first line: the window is 1 where no line gives it, and the other numbers of the head are set before
 -- they are used.

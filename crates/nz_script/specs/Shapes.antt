@@ -25,7 +25,7 @@ place_rank place.Window = 5
 place_rank place.Between = 6
 place_rank place.Block = 7
 place_rank place.Mishaps = 8
-place_rank place.Behind = 9
+place_rank place.Ended = 9
 
 -- A tick, or a number of ticks.
 abbrev pub tick : Form

@@ -27,11 +27,11 @@ pub fn next_word(line: &[u8]) -> Option<(&[u8], &[u8])>
     ensures { MatchOption result (words_in line.now ≡ []) (λ x. words_in line.now ≡ x.0.now ∷ words_in x.1.now) }
 {
     let mut rest = line;
-    while let Some((word, behind)) = cut_at(rest, b' ') {
+    while let Some((word, later)) = cut_at(rest, b' ') {
         if !word.is_empty() {
-            return Some((word, behind));
+            return Some((word, later));
         }
-        rest = behind;
+        rest = later;
     }
     if rest.is_empty() {
         None

@@ -25,14 +25,14 @@ fn words_first<'a, 'b>(
     let mut meant = WordList::new(alloc);
     let mut rest = words;
     for form in forms {
-        let [bytes, behind @ ..] = rest else {
+        let [bytes, later @ ..] = rest else {
             return Ok(None);
         };
         let Some(word) = word_of(alloc, *form, bytes)? else {
             return Ok(None);
         };
         meant.push(word)?;
-        rest = behind;
+        rest = later;
     }
     Ok(Some((meant, rest)))
 }

@@ -236,7 +236,7 @@ impl Draft {
             Verb::Wait => self.wait = number_at(words, 0),
             Verb::End => self.take_script(alloc)?,
             Verb::Mishap(mishap) => self.faults.push(fault_of(mishap, words))?,
-            Verb::Done => self.place = Place::Behind,
+            Verb::Done => self.place = Place::Ended,
         }
         Ok(())
     }

@@ -32,14 +32,14 @@ fn words_of(alloc: Global, forms: &[Form], line: &[u8]) -> Result<Option<WordLis
     let mut words = WordList::new(alloc);
     let mut rest = line;
     for form in forms {
-        let Some((bytes, behind)) = next_word(rest) else {
+        let Some((bytes, later)) = next_word(rest) else {
             return Ok(None);
         };
         let Some(word) = word_of(alloc, *form, bytes)? else {
             return Ok(None);
         };
         words.push(word)?;
-        rest = behind;
+        rest = later;
     }
     match next_word(rest) {
         None => Ok(Some(words)),

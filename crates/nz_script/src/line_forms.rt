@@ -18,7 +18,7 @@ pub enum Place {
     Between,
     Block,
     Mishaps,
-    Behind,
+    Ended,
 }
 
 /// The first five lines, and the sixth of version 2.
@@ -129,7 +129,7 @@ impl Place {
             Place::Between => 6,
             Place::Block => 7,
             Place::Mishaps => 8,
-            Place::Behind => 9,
+            Place::Ended => 9,
         }
     }
 

@@ -64,7 +64,7 @@ fn ending(long: bool, tail: &[u8], line: u32, draft: Draft) -> Result<Scenario, 
             kind: Kind::Syntax,
         });
     }
-    if draft.place.is(Place::Behind) {
+    if draft.place.is(Place::Ended) {
         Ok(draft.into_scenario())
     } else {
         Err(ScriptFault::Refusal {
@@ -85,18 +85,18 @@ fn read_text(
     let mut draft = Draft::new(alloc);
     let mut rest = text;
     let mut line = 1;
-    while let Some((bytes, behind)) = cut_at(rest, b'\n') {
+    while let Some((bytes, later)) = cut_at(rest, b'\n') {
         if let Some(kind) = step(alloc, &mut draft, bytes)? {
             return Ok(Err(ScriptFault::Refusal { line, kind }));
         }
         line += 1;
-        rest = behind;
+        rest = later;
     }
     Ok(ending(long, rest, line, draft))
 }
 
 /// The first bytes, this many.
-fn front(bytes: &[u8], most: usize) -> &[u8]
+fn first_bytes(bytes: &[u8], most: usize) -> &[u8]
     ensures value { result.now ≡ take most bytes.now }
     ensures short { length result.now ≤ most }
 {
@@ -114,7 +114,7 @@ pub fn read(alloc: Global, bytes: &[u8]) -> Result<Scenario, ScriptFault>
     ensures refused { IfErr result (λ fault. fault ≢ script_fault.NoMemory → scenario bytes.now ≡ Err fault) }
 {
     let long = bytes.len() > MOST_BYTES;
-    match read_text(alloc, long, front(bytes, MOST_BYTES)) {
+    match read_text(alloc, long, first_bytes(bytes, MOST_BYTES)) {
         Ok(answer) => answer,
         Err(_) => Err(ScriptFault::NoMemory),
     }

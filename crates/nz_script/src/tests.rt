@@ -163,7 +163,7 @@ restart r2 4\n\
 alarm r0 5\n\
 \n\
 done\n\
-# behind the last line\n";
+# after the last line\n";
 
 const STRICT: &[u8] = b"nezha 1\n\
 f 1\n\
@@ -257,7 +257,7 @@ fn first_bad_lines(rt: HostRuntime) -> Result<(), Fail> {
     for (text, line, kind) in whole {
         assert_eq!(rt; read(rt.alloc(), text), refusal(line, kind));
     }
-    let behind_head: [(&[u8], u32, Kind); 12] = [
+    let after_head: [(&[u8], u32, Kind); 12] = [
         (b"end\ncrash r9 5\ndone\n", 8, Kind::Name),
         (b"get a\n", 8, Kind::Order),
         (b"put k\nend\ndone\n", 7, Kind::Syntax),
@@ -271,7 +271,7 @@ fn first_bad_lines(rt: HostRuntime) -> Result<(), Fail> {
         (b"end\nskew r0 1\n", 8, Kind::Order),
         (b"end\ndone\n# no newline", 9, Kind::Syntax),
     ];
-    for (rest, line, kind) in behind_head {
+    for (rest, line, kind) in after_head {
         let mut text = head.to_vec(rt.alloc())?;
         text.extend_from_slice(rest)?;
         assert_eq!(rt; read(rt.alloc(), &text), refusal(line, kind));

@@ -17,12 +17,12 @@ pieces-cut : (l w r : List ℕ) → cut space l ≡ Some (w, r) → pieces_in l 
 pieces-cut l w r e = ap pieces_in (cut-takes space l (w, r) e) ∙ pieces-word w r (cut-lacks space l (w, r) e)
 
 -- one word more, after a space
-pub next_piece : {R : Type 0} (now : R → List ℕ) (ps new : List R) (p : R) (rest behind : List ℕ) (whole : List (List ℕ))
-    → cut space rest ≡ Some (now p, behind) → new ≡ ps ++ p ∷ []
-    → map now ps ++ pieces_in rest ≡ whole → map now new ++ pieces_in behind ≡ whole
-next_piece now ps new p rest behind whole e is inv =
-    ap (λ xs. map now xs ++ pieces_in behind) is ∙ ap (λ (xs : List (List ℕ)). xs ++ pieces_in behind) (map-append now ps (p ∷ []))
-    ∙ append_assoc (map now ps) (now p ∷ []) (pieces_in behind) ∙ ap (λ (xs : List (List ℕ)). map now ps ++ xs) (sym (pieces-cut rest (now p) behind e)) ∙ inv
+pub next_piece : {R : Type 0} (now : R → List ℕ) (ps new : List R) (p : R) (rest later : List ℕ) (whole : List (List ℕ))
+    → cut space rest ≡ Some (now p, later) → new ≡ ps ++ p ∷ []
+    → map now ps ++ pieces_in rest ≡ whole → map now new ++ pieces_in later ≡ whole
+next_piece now ps new p rest later whole e is inv =
+    ap (λ xs. map now xs ++ pieces_in later) is ∙ ap (λ (xs : List (List ℕ)). xs ++ pieces_in later) (map-append now ps (p ∷ []))
+    ∙ append_assoc (map now ps) (now p ∷ []) (pieces_in later) ∙ ap (λ (xs : List (List ℕ)). map now ps ++ xs) (sym (pieces-cut rest (now p) later e)) ∙ inv
 
 -- the last word
 pub last_piece : {R : Type 0} (now : R → List ℕ) (ps new : List R) (p : R) (rest : List ℕ) (all : List (List ℕ))

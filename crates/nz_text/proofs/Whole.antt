@@ -121,8 +121,8 @@ history_read n s E U H0 (e ∷ H) place rest low is few h =
 end_read : (n : ℕ) (s : Stage) (E : List Event) (U : List Id) (H : List Executed) → nat_le (stage_rank s) 2 ≡ true
     → printed_from (tail_in (codes "end\n")) n (at s E U H) (lines_in (codes "end\n")) ≡ Ok (record { events = E; unanswered = U; history = H })
 end_read n s E U H low =
-    line_read (codes "end\n") [] n (at s E U H) (at stage.Behind E U H) line.End end_line_is
-    (ap (λ (b : Bool). cond b (Some (at stage.Behind E U H)) None) low)
+    line_read (codes "end\n") [] n (at s E U H) (at stage.Ended E U H) line.End end_line_is
+    (ap (λ (b : Bool). cond b (Some (at stage.Ended E U H)) None) low)
 
 pub read_back : (p : Printed) → FitsPrinted p → printed_in (text_of_printed p) ≡ Ok p
 unfolding printed_in

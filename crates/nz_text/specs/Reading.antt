@@ -125,7 +125,7 @@ abbrev pub stage_rank : Stage → ℕ
 stage_rank stage.Events = 0
 stage_rank stage.Opens = 1
 stage_rank stage.History = 2
-stage_rank stage.Behind = 3
+stage_rank stage.Ended = 3
 
 -- The line was good, and what was read with it; or it was not.
 abbrev pub draft_if_good : Bool → Draft → Option Draft
@@ -141,7 +141,7 @@ with_line d (line.Open id) =
 with_line d (line.At place x) =
     draft_if_good (nat_le (stage_rank d.stage) 2 && (place == length d.printed.history + 1))
     (record { stage = stage.History; printed = record d.printed { history = d.printed.history ++ x ∷ [] } })
-with_line d line.End = draft_if_good (nat_le (stage_rank d.stage) 2) (record d { stage = stage.Behind })
+with_line d line.End = draft_if_good (nat_le (stage_rank d.stage) 2) (record d { stage = stage.Ended })
 
 -- What was read with these bytes as a line, if they are one that may come here.
 unfoldable pub draft_after_bytes : Draft → List ℕ → Option Draft

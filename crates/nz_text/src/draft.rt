@@ -16,7 +16,7 @@ pub enum Stage {
     Events,
     Opens,
     History,
-    Behind,
+    Ended,
 }
 
 /// What was read of a text.
@@ -34,7 +34,7 @@ impl Stage {
             Stage::Events => 0,
             Stage::Opens => 1,
             Stage::History => 2,
-            Stage::Behind => 3,
+            Stage::Ended => 3,
         }
     }
 }
@@ -93,7 +93,7 @@ impl Draft {
         if self.stage.rank() > 2 {
             return false;
         }
-        self.stage = Stage::Behind;
+        self.stage = Stage::Ended;
         true
     }
 

@@ -31,9 +31,9 @@ fn pieces<'a>(alloc: Global, line: &'a [u8]) -> Result<Vec<&'a [u8]>, NoMemory>
 {
     let mut pieces = Vec::new(alloc);
     let mut rest = line;
-    while let Some((piece, behind)) = cut_at(rest, b' ') {
+    while let Some((piece, later)) = cut_at(rest, b' ') {
         pieces.push(piece)?;
-        rest = behind;
+        rest = later;
     }
     pieces.push(rest)?;
     Ok(pieces)

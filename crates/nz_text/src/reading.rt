@@ -30,13 +30,13 @@ fn read_lines(alloc: Global, text: &[u8]) -> Result<Result<Printed, TextFault>, 
     let mut draft = Draft::new(alloc);
     let mut rest = text;
     let mut line = 1;
-    while let Some((bytes, behind)) = cut_at(rest, b'\n') {
+    while let Some((bytes, later)) = cut_at(rest, b'\n') {
         let good = draft.step(alloc, bytes)?;
         if !good {
             return Ok(Err(TextFault::Bad { line }));
         }
         line += 1;
-        rest = behind;
+        rest = later;
     }
     Ok(ending(rest, line, draft))
 }

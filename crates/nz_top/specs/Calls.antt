@@ -21,7 +21,7 @@ use Rattle.nz_top.specs.declared.top.NoScenario.{NoScenario}
 use Rattle.nz_top.specs.declared.top.NoScenario.TheVariants as no_scenario
 use Rattle.nz_top.specs.declared.words.Command.{Command}
 use Rattle.nz_top.specs.declared.words.Command.TheVariants.{Run, Trace, Gen}
-use Rattle.nz_top.specs.Moves.{input, TakesFront}
+use Rattle.nz_top.specs.Moves.{input, TakesPrefix}
 use Rattle.nz_top.specs.Words.{reads}
 
 -- The source exposes its bytes, and those that are looked at are the text of this scenario.
@@ -74,7 +74,7 @@ Explains command left counted counts no_scenario.NoMemory = Unit {0}
 
 -- The line is written whole, or a prefix of it where the sink counted a fault.
 pub record WritesLine (line : List ℕ) (before after : Option (List ℕ)) (counted counts : ℕ) : Type 0 where
-  pub front : TakesFront before after line
+  pub prefix : TakesPrefix before after line
   pub whole : Rose counted counts ⊎ Gains before after line
 
 -- The name of a refusal's kind.

@@ -18,6 +18,6 @@ pub record Moved (before after : Option (List ℕ)) (old new : List ℕ) (count 
   pub kept : new ≡ old ++ bytes
 
 -- The sink took a prefix of the bytes.
-pub record TakesFront (before after : Option (List ℕ)) (bytes : List ℕ) : Type 0 where
+pub record TakesPrefix (before after : Option (List ℕ)) (bytes : List ℕ) : Type 0 where
   pub count : ℕ
   pub taken : Gains before after (take count bytes)

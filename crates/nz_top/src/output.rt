@@ -2,7 +2,7 @@
 ghost use Rattle.std.specs.Prelude.{◌≤◌, OnOk, OnErr};
 ghost use Rattle.nz_edge.specs.Faults.{Rose};
 ghost use Rattle.nz_edge.specs.Exposed.{Gains};
-ghost use Rattle.nz_top.specs.Moves.{TakesFront};
+ghost use Rattle.nz_top.specs.Moves.{TakesPrefix};
 
 use nz_edge::{Failed, Sink};
 
@@ -10,7 +10,7 @@ use nz_edge::{Failed, Sink};
 #[tactic(auto, using(nz_edge::proofs::Exposed::gains_further))]
 pub fn write_all<O: Sink>(out: &mut O, bytes: &[u8]) -> Result<(), Failed>
     ensures whole { OnOk result (Gains (O.taken out.old) (O.taken out.new) bytes.now) }
-    ensures front { TakesFront (O.taken out.old) (O.taken out.new) bytes.now }
+    ensures prefix { TakesPrefix (O.taken out.old) (O.taken out.new) bytes.now }
     ensures failed { OnErr result (Rose (O.faults out.old) (O.faults out.new)) }
     ensures counts { O.faults out.old ≤ O.faults out.new }
 {

@@ -12,7 +12,7 @@ ghost use Rattle.nz_top.specs.declared.status.Status.TheVariants as status;
 ghost use Rattle.nz_top.specs.Calls as calls;
 ghost use Rattle.nz_top.specs.Calls.{CanPlay, Explains, HasRead, HasRun, IsPlayed, IsReadable, IsRefused, IsRun};
 ghost use Rattle.nz_top.specs.Calls.{Plays, Reads, ReadsAs, TellsBadLine, WritesLine, output_of, printed_by};
-ghost use Rattle.nz_top.specs.Moves.{TakesFront};
+ghost use Rattle.nz_top.specs.Moves.{TakesPrefix};
 ghost use Rattle.nz_top.specs.declared.words.Command.{Command as CommandModel};
 ghost use Rattle.nz_top.specs.Words.{command_of_words, reads, IsAlone, IsCalled};
 
@@ -141,7 +141,7 @@ fn write_run<O: Sink>(journal: Journal, bytes: &[u8], out: &mut O) -> Outcome
     ensures played { (result.status ≡ status.Done) ⊎ (result.status ≡ status.WriteFault) }
     ensures done { result.status ≡ status.Done → Gains (O.taken out.old) (O.taken out.new) bytes.now }
     ensures write_fault { result.status ≡ status.WriteFault → Rose (O.faults out.old) (O.faults out.new) }
-    ensures front { TakesFront (O.taken out.old) (O.taken out.new) bytes.now }
+    ensures prefix { TakesPrefix (O.taken out.old) (O.taken out.new) bytes.now }
     ensures run { result.journal ≡ Some journal }
     ensures counts { O.faults out.old ≤ O.faults out.new }
 {
@@ -175,7 +175,7 @@ fn answer<O: Sink, R: Threads + Wait + Sync, G: Gate + Sync>(
     ensures is_run { IfSome result.journal IsRun }
     ensures in_order { IsAlone (Some command) → IfSome result.journal (λ journal. InOrder journal.scenario (run_in journal)) }
     ensures text { result.status ≡ status.Done → IfSome result.journal (λ journal. Gains (O.taken out.old) (O.taken out.new) (printed_by command journal)) }
-    ensures front { IfSome result.journal (λ journal. TakesFront (O.taken out.old) (O.taken out.new) (printed_by command journal)) }
+    ensures prefix { IfSome result.journal (λ journal. TakesPrefix (O.taken out.old) (O.taken out.new) (printed_by command journal)) }
     ensures counts { O.faults out.old ≤ O.faults out.new }
 {
     let Ok(journal) = play(rt, alloc, command, scenario, gate) else {
@@ -229,7 +229,7 @@ pub fn nezha<R: Threads + Wait + Sync, S: Source, O: Sink, G: Gate + Sync>(
         → TellsBadLine (S.left source.old) (O.taken out.old) (O.taken out.new) (O.faults out.old) (O.faults out.new) }
     ensures text { result.status ≡ status.Done
         → IfSome result.journal (λ journal. Gains (O.taken out.old) (O.taken out.new) (output_of (command_of_words words.now) journal)) }
-    ensures front { IfSome result.journal (λ journal. TakesFront (O.taken out.old) (O.taken out.new) (output_of (command_of_words words.now) journal)) }
+    ensures prefix { IfSome result.journal (λ journal. TakesPrefix (O.taken out.old) (O.taken out.new) (output_of (command_of_words words.now) journal)) }
     ensures unwritten { (result.status ≡ status.ReadFault) ⊎ (result.status ≡ status.NoMemory) → O.taken out.new ≡ O.taken out.old }
     ensures counts { (S.faults source.old ≤ S.faults source.new) × (O.faults out.old ≤ O.faults out.new) }
 {

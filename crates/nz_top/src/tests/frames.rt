@@ -40,8 +40,8 @@ fn bodies_with_a_wrong_byte(rt: HostRuntime) -> Result<(), Fail> {
     // A command that is shorter than its bytes.
     let mut request = REQUEST;
     request[15] = 2;
-    let behind = DecodeRefusal::BadBody { place: 18 };
-    assert!(rt; is_refused(rt.alloc(), &request, behind));
+    let after = DecodeRefusal::BadBody { place: 18 };
+    assert!(rt; is_refused(rt.alloc(), &request, after));
     // A view past the last.
     let mut view_ask = VIEW_ASK;
     view_ask[10] = 0x80;

@@ -6,15 +6,15 @@ use Rattle.nz_script.proofs.bytes.next_word.Goals as goal
 
 pub returns-then-not-is_empty : goal.returns-then-not-is_empty
 returns-then-not-is_empty c =
-    sym c.loop-word.invariant ∙ words-cut c.loop-word.rest.now c.in-Some.word.now c.in-Some.behind.now
+    sym c.loop-word.invariant ∙ words-cut c.loop-word.rest.now c.in-Some.word.now c.in-Some.later.now
     (first_of (cc, search rules)) (sym c.in-Some.ensures)
 
 pub loop-word-smaller : goal.loop-word-smaller
-loop-word-smaller c = shorter space c.loop-word.rest.now c.in-Some.word.now c.in-Some.behind.now (sym c.in-Some.ensures)
+loop-word-smaller c = shorter space c.loop-word.rest.now c.in-Some.word.now c.in-Some.later.now (sym c.in-Some.ensures)
 
 pub loop-word-preserved : goal.loop-word-preserved
 loop-word-preserved c =
-    sym (words-skip c.loop-word.rest.now c.in-Some.word.now c.in-Some.behind.now (first_of (cc, search rules))
+    sym (words-skip c.loop-word.rest.now c.in-Some.word.now c.in-Some.later.now (first_of (cc, search rules))
     (sym c.in-Some.ensures)) ∙ c.loop-word.invariant
 
 pub returns-else-is_empty : goal.returns-else-is_empty

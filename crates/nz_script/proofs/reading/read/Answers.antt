@@ -10,10 +10,10 @@ pub returns-in-Ok-clause-ok : goal.returns-in-Ok-clause-ok
 unfolding scenario
 returns-in-Ok-clause-ok c = answered_ok c.in-Ok.answer (scenario c.args.bytes.now)
     (c.in-Ok.ensures ∙ ap (λ (t : List ℕ). scenario_from (nat_lt 1048576 (length c.args.bytes.now))
-    (tail_in t) 1 first_draft (lines_in t)) c.front.ensures.value)
+    (tail_in t) 1 first_draft (lines_in t)) c.first_bytes.ensures.value)
 
 pub returns-in-Ok-clause-refused : goal.returns-in-Ok-clause-refused
 unfolding scenario
 returns-in-Ok-clause-refused c = answered_err c.in-Ok.answer (scenario c.args.bytes.now)
     (c.in-Ok.ensures ∙ ap (λ (t : List ℕ). scenario_from (nat_lt 1048576 (length c.args.bytes.now))
-    (tail_in t) 1 first_draft (lines_in t)) c.front.ensures.value)
+    (tail_in t) 1 first_draft (lines_in t)) c.first_bytes.ensures.value)

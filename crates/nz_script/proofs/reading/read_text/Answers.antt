@@ -9,24 +9,24 @@ use Rattle.nz_script.proofs.reading.read_text.Goals as goal
 
 pub returns-in-Some-2 : goal.returns-in-Some-2
 returns-in-Some-2 c =
-    bad_line c.args.long c.loop-bytes.rest.now c.in-Some.bytes.now c.in-Some.behind.now c.loop-bytes.line
+    bad_line c.args.long c.loop-bytes.rest.now c.in-Some.bytes.now c.in-Some.later.now c.loop-bytes.line
     c.loop-bytes.draft c.in-Some-2.kind _ (sym c.in-Some.ensures)
     (c.in_ok-kind.ensures ∙ ap (λ (o : Option Kind). draft_or_kind o c.step.new.draft) c.in-Some-2.is) c.loop-bytes.invariant.same
 
 pub loop-bytes-smaller : goal.loop-bytes-smaller
-loop-bytes-smaller c = shorter newline c.loop-bytes.rest.now c.in-Some.bytes.now c.in-Some.behind.now (sym c.in-Some.ensures)
+loop-bytes-smaller c = shorter newline c.loop-bytes.rest.now c.in-Some.bytes.now c.in-Some.later.now (sym c.in-Some.ensures)
 
 pub loop-bytes-preserved : goal.loop-bytes-preserved
 loop-bytes-preserved c = record {
   same =
-      good_line c.args.long c.loop-bytes.rest.now c.in-Some.bytes.now c.in-Some.behind.now c.loop-bytes.line
+      good_line c.args.long c.loop-bytes.rest.now c.in-Some.bytes.now c.in-Some.later.now c.loop-bytes.line
       c.loop-bytes.draft c.step.new.draft _ (sym c.in-Some.ensures)
       (c.in_ok-kind.ensures ∙ ap (λ (o : Option Kind). draft_or_kind o c.step.new.draft) c.in_default-2.is) c.loop-bytes.invariant.same;
   counted =
       omega (
         arith,
         c.loop-bytes.invariant.counted,
-        shorter newline c.loop-bytes.rest.now c.in-Some.bytes.now c.in-Some.behind.now (sym c.in-Some.ensures),
+        shorter newline c.loop-bytes.rest.now c.in-Some.bytes.now c.in-Some.later.now (sym c.in-Some.ensures),
       );
 }
 

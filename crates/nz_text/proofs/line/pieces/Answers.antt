@@ -7,12 +7,12 @@ use Rattle.nz_text.proofs.Pieces.{next_piece, last_piece}
 use Rattle.nz_text.proofs.line.pieces.Goals as goal
 
 pub loop-piece-smaller : goal.loop-piece-smaller
-loop-piece-smaller c = shorter space c.loop-piece.rest.now c.in-Some.piece.now c.in-Some.behind.now (sym c.in-Some.ensures)
+loop-piece-smaller c = shorter space c.loop-piece.rest.now c.in-Some.piece.now c.in-Some.later.now (sym c.in-Some.ensures)
 
 pub loop-piece-preserved : goal.loop-piece-preserved
 loop-piece-preserved c =
     next_piece (λ p. p.now) c.loop-piece.pieces.items c.push.new.self.items c.in-Some.piece c.loop-piece.rest.now
-    c.in-Some.behind.now (pieces_in c.args.line.now) (sym c.in-Some.ensures) c.in_ok-push.ensures.items c.loop-piece.invariant
+    c.in-Some.later.now (pieces_in c.args.line.now) (sym c.in-Some.ensures) c.in_ok-push.ensures.items c.loop-piece.invariant
 
 pub returns : goal.returns
 returns c =

@@ -8,22 +8,22 @@ use Rattle.nz_text.proofs.reading.read_lines.Goals as goal
 
 pub returns-then-not-good : goal.returns-then-not-good
 returns-then-not-good c =
-    bad_line c.loop-bytes.rest.now c.in-Some.bytes.now c.in-Some.behind.now c.loop-bytes.line c.loop-bytes.draft
+    bad_line c.loop-bytes.rest.now c.in-Some.bytes.now c.in-Some.later.now c.loop-bytes.line c.loop-bytes.draft
     c.step.new.self _ (sym c.in-Some.ensures)
     (c.in_ok-good.ensures ∙ ap (λ (b : Bool). draft_if_good b c.step.new.self) c.if-not-good.true) c.loop-bytes.invariant.same
 
 pub loop-bytes-smaller : goal.loop-bytes-smaller
-loop-bytes-smaller c = shorter newline c.loop-bytes.rest.now c.in-Some.bytes.now c.in-Some.behind.now (sym c.in-Some.ensures)
+loop-bytes-smaller c = shorter newline c.loop-bytes.rest.now c.in-Some.bytes.now c.in-Some.later.now (sym c.in-Some.ensures)
 
 pub loop-bytes-preserved : goal.loop-bytes-preserved
 loop-bytes-preserved c = record {
-  same = good_line c.loop-bytes.rest.now c.in-Some.bytes.now c.in-Some.behind.now c.loop-bytes.line c.loop-bytes.draft c.step.new.self _ (sym c.in-Some.ensures)
+  same = good_line c.loop-bytes.rest.now c.in-Some.bytes.now c.in-Some.later.now c.loop-bytes.line c.loop-bytes.draft c.step.new.self _ (sym c.in-Some.ensures)
       (c.in_ok-good.ensures ∙ ap (λ (b : Bool). draft_if_good b c.step.new.self) c.if-not-good.false) c.loop-bytes.invariant.same;
   counted =
       omega (
         arith,
         c.loop-bytes.invariant.counted,
-        shorter newline c.loop-bytes.rest.now c.in-Some.bytes.now c.in-Some.behind.now (sym c.in-Some.ensures),
+        shorter newline c.loop-bytes.rest.now c.in-Some.bytes.now c.in-Some.later.now (sym c.in-Some.ensures),
       );
 }
 

@@ -5,17 +5,17 @@ use Rattle.std.specs.Option.{option_map}
 use Rattle.nz_machine.specs.Proxies.{standing_of}
 use Rattle.nz_proxy.specs.Seats.{ProxySeat}
 use Rattle.nz_proxy.specs.Standings.{known_standing, IsFitStanding}
-use Rattle.nz_proxy.proofs.Tables.{known_lookup, known_behind, fit_lookup, fit_behind}
+use Rattle.nz_proxy.proofs.Tables.{known_lookup, known_borrowed, fit_lookup, fit_borrowed}
 use Rattle.nz_proxy.proofs.state.ProxyState.standing.Goals as goal
 
 pub returns-clause-value : goal.returns-clause-value
 returns-clause-value c =
-    known_behind c.get.result ∙ (ap (option_map known_standing) c.get.ensures.value
+    known_borrowed c.get.result ∙ (ap (option_map known_standing) c.get.ensures.value
     ∙ (known_lookup c.args.id c.self.inside.standings.entries ∙ ap (λ (s : ProxySeat). standing_of s.state c.args.id) c.self.view_is))
 
 pub returns-clause-fit : goal.returns-clause-fit
 returns-clause-fit c =
     let fit =
-    fit_behind c.self.inside.cluster c.args.id c.get.result _ c.get.ensures.value
+    fit_borrowed c.self.inside.cluster c.args.id c.get.result _ c.get.ensures.value
     (fit_lookup c.self.inside.cluster c.args.id c.self.inside.standings.entries c.self.invariant.standings) in
     subst (λ (f : ℕ). IfSome c.get.result (λ s. IsFitStanding f s.now)) (ap (λ (s : ProxySeat). s.f) c.self.view_is) fit
