@@ -24,8 +24,8 @@ has_later k keys x h = or_right (key_eq x k) (has_key keys x) h
 pub has_append : (xs ys : List Key) (x : Key) → has_key (xs ++ ys) x ≡ true → (has_key xs x ≡ true) ⊎ (has_key ys x ≡ true)
 has_append xs ys x h = or_cases (has_key xs x) (has_key ys x) (sym (list_any-append (key_eq x) xs ys) ∙ h)
 
-pub has_front : (xs ys : List Key) (x : Key) → has_key xs x ≡ true → has_key (xs ++ ys) x ≡ true
-has_front xs ys x h = list_any-append (key_eq x) xs ys ∙ or_left (has_key xs x) (has_key ys x) h
+pub has_in_prefix : (xs ys : List Key) (x : Key) → has_key xs x ≡ true → has_key (xs ++ ys) x ≡ true
+has_in_prefix xs ys x h = list_any-append (key_eq x) xs ys ∙ or_left (has_key xs x) (has_key ys x) h
 
 pub has_back : (xs ys : List Key) (x : Key) → has_key ys x ≡ true → has_key (xs ++ ys) x ≡ true
 has_back xs ys x h = list_any-append (key_eq x) xs ys ∙ or_right (has_key xs x) (has_key ys x) h
@@ -39,21 +39,21 @@ keys_append xs ys = map-append (λ (e : Entry). e.key) xs ys
 
 -- ---- rising keys
 
-pub rising_front : (xs ys : List Key) → AreRising (xs ++ ys) → AreRising xs
-rising_front [] ys r = tt
-rising_front (x ∷ xs) ys r = (λ k h. r.0 k (has_front xs ys k h), rising_front xs ys r.1)
+pub rising_prefix : (xs ys : List Key) → AreRising (xs ++ ys) → AreRising xs
+rising_prefix [] ys r = tt
+rising_prefix (x ∷ xs) ys r = (λ k h. r.0 k (has_in_prefix xs ys k h), rising_prefix xs ys r.1)
 
 pub rising_back : (xs ys : List Key) → AreRising (xs ++ ys) → AreRising ys
 rising_back [] ys r = r
 rising_back (x ∷ xs) ys r = rising_back xs ys r.1
 
 -- those of a prefix come before those of the rest
-pub front_below : (xs ys : List Key) (a b : Key) → AreRising (xs ++ ys) → has_key xs a ≡ true → has_key ys b ≡ true → key_below a b ≡ true
-front_below [] ys a b r ha hb = absurd cc
-front_below (x ∷ xs) ys a b r ha hb =
+pub prefix_below : (xs ys : List Key) (a b : Key) → AreRising (xs ++ ys) → has_key xs a ≡ true → has_key ys b ≡ true → key_below a b ≡ true
+prefix_below [] ys a b r ha hb = absurd cc
+prefix_below (x ∷ xs) ys a b r ha hb =
     elim (or_cases (key_eq a x) (has_key xs a) ha) [
       | inl same ↦ subst (λ (k : Key). key_below k b ≡ true) (sym (same_key a x same)) (r.0 b (has_back xs ys b hb))
-      | inr there ↦ front_below xs ys a b r.1 there hb
+      | inr there ↦ prefix_below xs ys a b r.1 there hb
     ]
 
 -- above the last of rising keys is above each of them
@@ -81,18 +81,18 @@ above_last (k ∷ l ∷ keys) key h = above_last (l ∷ keys) key (λ x there. h
 pub rising_join : (xs : List Key) (k : Key) (ys : List Key) → AreRising xs → AreRising ys
     → ((x : Key) → has_key xs x ≡ true → key_below x k ≡ true) → ((y : Key) → has_key ys y ≡ true → key_below k y ≡ true)
     → AreRising (xs ++ k ∷ ys)
-rising_join [] k ys front back lower upper = (upper, back)
-rising_join (x ∷ xs) k ys front back lower upper = (
+rising_join [] k ys prefix back lower upper = (upper, back)
+rising_join (x ∷ xs) k ys prefix back lower upper = (
   λ y there. elim (has_append xs (k ∷ ys) y there) [
-    | inl early ↦ front.0 y early
+    | inl early ↦ prefix.0 y early
     | inr late ↦
         let below : key_below x k ≡ true = lower x (has_first x xs) in
         elim (or_cases (key_eq y k) (has_key ys y) late) [
           | inl same ↦ subst (λ (z : Key). key_below x z ≡ true) (sym (same_key y k same)) below
-          | inr behind ↦ key_below-trans x k y below (upper y behind)
+          | inr after ↦ key_below-trans x k y below (upper y after)
         ]
   ],
-  rising_join xs k ys front.1 back (λ z there. lower z (has_later x xs z there)) upper,
+  rising_join xs k ys prefix.1 back (λ z there. lower z (has_later x xs z there)) upper,
 )
 
 pub rising_more : (keys : List Key) (key : Key) → AreRising keys → is_above_last keys key ≡ true → AreRising (keys ++ key ∷ [])
@@ -100,9 +100,9 @@ rising_more keys key r above = rising_join keys key [] r tt (λ x h. above_each 
 
 -- ---- ids
 
-pub own_front : (xs ys : List Key) → HaveOwnIds (xs ++ ys) → HaveOwnIds xs
-own_front [] ys own = tt
-own_front (x ∷ xs) ys own = (neither_left (has_id xs (id_of x)) (has_id ys (id_of x)) (sym (has_id-append xs ys (id_of x)) ∙ own.0), own_front xs ys own.1)
+pub own_ids_of_prefix : (xs ys : List Key) → HaveOwnIds (xs ++ ys) → HaveOwnIds xs
+own_ids_of_prefix [] ys own = tt
+own_ids_of_prefix (x ∷ xs) ys own = (neither_left (has_id xs (id_of x)) (has_id ys (id_of x)) (sym (has_id-append xs ys (id_of x)) ∙ own.0), own_ids_of_prefix xs ys own.1)
 
 -- the id of a key is not among those before it
 pub own_id : (xs : List Key) (k : Key) (ys : List Key) → HaveOwnIds (xs ++ k ∷ ys) → has_id xs (id_of k) ≡ false
@@ -122,10 +122,10 @@ own_id (x ∷ xs) k ys own =
 -- a prefix, a key whose id is nowhere else, and a rest
 pub own_join : (xs : List Key) (k : Key) (ys : List Key) → HaveOwnIds (xs ++ ys) → has_id xs (id_of k) ≡ false
     → has_id ys (id_of k) ≡ false → HaveOwnIds (xs ++ k ∷ ys)
-own_join [] k ys own front back = (back, own)
-own_join (x ∷ xs) k ys own front back =
-    let apart = id_turn_away (id_of k) (id_of x) (neither_left (id_eq (id_of k) (id_of x)) (has_id xs (id_of k)) front) in
-    let rest = neither_right (id_eq (id_of k) (id_of x)) (has_id xs (id_of k)) front in
+own_join [] k ys own prefix back = (back, own)
+own_join (x ∷ xs) k ys own prefix back =
+    let apart = id_turn_away (id_of k) (id_of x) (neither_left (id_eq (id_of k) (id_of x)) (has_id xs (id_of k)) prefix) in
+    let rest = neither_right (id_eq (id_of k) (id_of x)) (has_id xs (id_of k)) prefix in
     let parted : (has_id xs (id_of x) || has_id ys (id_of x)) ≡ false = sym (has_id-append xs ys (id_of x)) ∙ own.0 in
     let new : has_id (xs ++ k ∷ ys) (id_of x) ≡ false =
     has_id-append xs (k ∷ ys) (id_of x)

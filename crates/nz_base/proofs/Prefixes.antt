@@ -65,5 +65,5 @@ comparable_prefix xs ys zs (inl p) q = both_prefixes xs ys zs p q
 comparable_prefix xs ys zs (inr p) q = inr (prefix_then ys zs xs q p)
 
 -- the first items of a prefix are those of the list
-pub take_front : {X : Type 0} (n : ℕ) (xs ys : List X) → IsPrefix xs ys → n ≤ length xs → take n xs ≡ take n ys
-take_front n xs ys p le = sym (ap (take n) p.whole ∙ take-append-le n xs p.rest le)
+pub take_of_prefix : {X : Type 0} (n : ℕ) (xs ys : List X) → IsPrefix xs ys → n ≤ length xs → take n xs ≡ take n ys
+take_of_prefix n xs ys p le = sym (ap (take n) p.whole ∙ take-append-le n xs p.rest le)

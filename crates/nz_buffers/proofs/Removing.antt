@@ -30,19 +30,19 @@ find_none (e ∷ es) i h =
     (find_none es i (neither_right (id_eq i (id_of e.key)) (has_id (keys_of es) i) h))
 
 -- before the entry none has its id, and after it none has either
-taken_split : (front : List Entry) (e : Entry) (back : List Entry) (i : Id) → has_id (keys_of front) i ≡ false
+taken_split : (prefix : List Entry) (e : Entry) (back : List Entry) (i : Id) → has_id (keys_of prefix) i ≡ false
     → id_eq i (id_of e.key) ≡ true → has_id (keys_of back) i ≡ false
-    → (find_id (front ++ e ∷ back) i ≡ Some e) × (without (front ++ e ∷ back) i ≡ front ++ back)
-taken_split [] e back i away here behind = (rw here refl, rw here (without_none back i behind))
-taken_split (f ∷ front) e back i away here behind =
-    let rest = taken_split front e back i (neither_right (id_eq i (id_of f.key)) (has_id (keys_of front) i) away) here behind in
-    let apart = neither_left (id_eq i (id_of f.key)) (has_id (keys_of front) i) away in
+    → (find_id (prefix ++ e ∷ back) i ≡ Some e) × (without (prefix ++ e ∷ back) i ≡ prefix ++ back)
+taken_split [] e back i away here after = (rw here refl, rw here (without_none back i after))
+taken_split (f ∷ prefix) e back i away here after =
+    let rest = taken_split prefix e back i (neither_right (id_eq i (id_of f.key)) (has_id (keys_of prefix) i) away) here after in
+    let apart = neither_left (id_eq i (id_of f.key)) (has_id (keys_of prefix) i) away in
     (rw apart rest.0, rw apart (ap (λ (xs : List Entry). f ∷ xs) rest.1))
 
 -- the ids after an entry differ from its own
-behind_own : (front : List Key) (k : Key) (back : List Key) → HaveOwnIds (front ++ k ∷ back) → has_id back (id_of k) ≡ false
-behind_own [] k back own = own.0
-behind_own (f ∷ front) k back own = behind_own front k back own.1
+own_id_after : (prefix : List Key) (k : Key) (back : List Key) → HaveOwnIds (prefix ++ k ∷ back) → has_id back (id_of k) ≡ false
+own_id_after [] k back own = own.0
+own_id_after (f ∷ prefix) k back own = own_id_after prefix k back own.1
 
 split_at : (es : List Entry) (place : ℕ) (d : Entry) → place < length es → take place es ++ get_or es place d ∷ drop (suc place) es ≡ es
 split_at es place d h = ap (λ (xs : List Entry). take place es ++ xs) (sym (drop-cons es place d h)) ∙ take-append-drop place es
@@ -51,16 +51,16 @@ split_at es place d h = ap (λ (xs : List Entry). take place es ++ xs) (sym (dro
 pub taken_at : (es : List Entry) (i : Id) (place : ℕ) (d : Entry) → HaveOwnIds (keys_of es) → IsPlace es i place
     → (find_id es i ≡ Some (get_or es place d)) × (without es i ≡ remove es place)
 taken_at es i place d own at =
-    let front = take place es in
+    let prefix = take place es in
     let e = get_or es place d in
     let back = drop (suc place) es in
-    let split : front ++ e ∷ back ≡ es = split_at es place d at.within in
-    let parts : keys_of es ≡ keys_of front ++ e.key ∷ keys_of back = sym (ap keys_of split) ∙ map-append (λ (x : Entry). x.key) front (e ∷ back) in
-    let behind : has_id (keys_of back) i ≡ false =
+    let split : prefix ++ e ∷ back ≡ es = split_at es place d at.within in
+    let parts : keys_of es ≡ keys_of prefix ++ e.key ∷ keys_of back = sym (ap keys_of split) ∙ map-append (λ (x : Entry). x.key) prefix (e ∷ back) in
+    let after : has_id (keys_of back) i ≡ false =
     subst (λ (j : Id). has_id (keys_of back) j ≡ false) (sym (same_id i (id_of e.key) (at.here d)))
-    (behind_own (keys_of front) e.key (keys_of back) (subst HaveOwnIds parts own)) in
-    let both = taken_split front e back i at.front (at.here d) behind in
-    (subst (λ (xs : List Entry). find_id xs i ≡ Some e) split both.0, subst (λ (xs : List Entry). without xs i ≡ front ++ back) split both.1)
+    (own_id_after (keys_of prefix) e.key (keys_of back) (subst HaveOwnIds parts own)) in
+    let both = taken_split prefix e back i at.not_before (at.here d) after in
+    (subst (λ (xs : List Entry). find_id xs i ≡ Some e) split both.0, subst (λ (xs : List Entry). without xs i ≡ prefix ++ back) split both.1)
 
 -- it is found where the id is held
 pub find_held : (es : List Entry) (i : Id) → is_some (find_id es i) ≡ has_id (keys_of es) i

@@ -22,11 +22,11 @@ AreBytes-drop n bytes h i = rw get_or-drop (h (n + i))
 pub four_bytes : (bytes : List ℕ) → 4 ≤ length bytes → AreBytes bytes → big_bytes 4 (big_number 4 bytes) ++ drop 4 bytes ≡ bytes
 four_bytes bytes long fits =
     let value : big_number 4 bytes ≡ from_be_bytes w32 (take 4 bytes) = omega (arith, big_from-take 0 4 4 bytes (omega arith)) in
-    let front = be_bytes_4 (take 4 bytes) (big_number 4 bytes) (omega (arith, length-take 4 bytes)) (AreBytes-take 4 bytes fits) value in
-    ap (λ (xs : List ℕ). xs ++ drop 4 bytes) front ∙ take-append-drop 4 bytes
+    let prefix = be_bytes_4 (take 4 bytes) (big_number 4 bytes) (omega (arith, length-take 4 bytes)) (AreBytes-take 4 bytes fits) value in
+    ap (λ (xs : List ℕ). xs ++ drop 4 bytes) prefix ∙ take-append-drop 4 bytes
 
 pub two_bytes : (bytes : List ℕ) → 2 ≤ length bytes → AreBytes bytes → big_bytes 2 (big_number 2 bytes) ++ drop 2 bytes ≡ bytes
 two_bytes bytes long fits =
     let value : big_number 2 bytes ≡ from_be_bytes w16 (take 2 bytes) = omega (arith, big_from-take 0 2 2 bytes (omega arith)) in
-    let front = be_bytes_2 (take 2 bytes) (big_number 2 bytes) (omega (arith, length-take 2 bytes)) (AreBytes-take 2 bytes fits) value in
-    ap (λ (xs : List ℕ). xs ++ drop 2 bytes) front ∙ take-append-drop 2 bytes
+    let prefix = be_bytes_2 (take 2 bytes) (big_number 2 bytes) (omega (arith, length-take 2 bytes)) (AreBytes-take 2 bytes fits) value in
+    ap (λ (xs : List ℕ). xs ++ drop 2 bytes) prefix ∙ take-append-drop 2 bytes

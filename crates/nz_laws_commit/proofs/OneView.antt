@@ -13,7 +13,7 @@ use Rattle.nz_base.specs.Moments.{At}
 use Rattle.nz_base.specs.Prefixes.{IsPrefix, Comparable}
 use Rattle.nz_base.proofs.Booleans.{cases_bool}
 use Rattle.nz_base.proofs.Moments.{at_self, at_then, at_tail}
-use Rattle.nz_base.proofs.Prefixes.{prefix_same, prefix_then, prefix_take, prefix_length, take_front}
+use Rattle.nz_base.proofs.Prefixes.{prefix_same, prefix_then, prefix_take, prefix_length, take_of_prefix}
 use Rattle.nz_laws_commit.specs.States.{Status, Normal, ViewChange, Rejoining, Down, IsUp, LogState, Machine}
 use Rattle.nz_laws_commit.specs.Supports.{IsNormal, IsUpIn, keys_at}
 use Rattle.nz_laws_commit.specs.Machines.{GroupStates, leads_by, lead_of, start_of, machine_of}
@@ -129,12 +129,12 @@ module _ {R : Type 0} (g : GroupStates R) (J : List R) (m : FollowsRules g J) wh
         | inl leads ↦ let all = d.leads leads in omega (arith, all, room, more, count)
         | inr follows ↦ let same = d.follows follows in omega (arith, same)
       ] in
-      grown y r K v (omega (arith, view)) (omega (arith, last)) (λ e. synced) (λ e. take_front (g.state y K).synced (keys y K) (keys y (r ∷ K)) d.log room)
+      grown y r K v (omega (arith, view)) (omega (arith, last)) (λ e. synced) (λ e. take_of_prefix (g.state y K).synced (keys y K) (keys y (r ∷ K)) d.log room)
   grows_step y r K at (Entered d) v up now =
       let view = d.view in
       let last = d.last in
       let synced = d.synced in
-      let same = take_front (g.state y K).synced (keys y K) (keys y (r ∷ K)) d.log (within y K (at_tail J r K at) up) in
+      let same = take_of_prefix (g.state y K).synced (keys y K) (keys y (r ∷ K)) d.log (within y K (at_tail J r K at) up) in
       grown y r K v (omega (arith, view)) (omega (arith, last)) (λ e. omega (arith, synced)) (λ e. same)
   grows_step y r K at (Synced d) v up now =
       let view = d.view in
@@ -211,7 +211,7 @@ module _ {R : Type 0} (g : GroupStates R) (J : List R) (m : FollowsRules g J) wh
       → IsPrefix (keys y K) (keys y (r ∷ K)) → (g.state y K).synced ≤ length (keys y K) → HoldsStart y v (r ∷ K)
   kept y v r K at s synced log room =
       let same : part_of y K ≡ part_of y (r ∷ K) =
-      take_front (g.state y K).synced (keys y K) (keys y (r ∷ K)) log room ∙ ap (λ (n : ℕ). take n (keys y (r ∷ K))) (sym synced) in
+      take_of_prefix (g.state y K).synced (keys y K) (keys y (r ∷ K)) log room ∙ ap (λ (n : ℕ). take n (keys y (r ∷ K))) (sym synced) in
       carried y v r K s (omega (arith, synced)) (subst (λ (l : List Key). IsPrefix l (lead_of g v (r ∷ K))) same (still_led y v r K at s))
 
   -- all is synced, and it is the leader's log at a moment T after the view began

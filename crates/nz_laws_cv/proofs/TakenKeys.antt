@@ -10,7 +10,7 @@ use Rattle.nz_base.specs.Key.{id_of}
 use Rattle.nz_base.specs.Log.{keys_of, has_id, is_above_last}
 use Rattle.nz_base.specs.Prefixes.{IsPrefix}
 use Rattle.nz_base.proofs.Booleans.{and_left, and_right}
-use Rattle.nz_base.proofs.Prefixes.{prefix_self, prefix_then, prefix_take, prefix_length, take_front}
+use Rattle.nz_base.proofs.Prefixes.{prefix_self, prefix_then, prefix_take, prefix_length, take_of_prefix}
 use Rattle.nz_log.specs.Synced.{Log, IsSound, synced_part}
 use Rattle.nz_log.proofs.Modifying.{modified_sound}
 use Rattle.nz_log.proofs.LedKeys.{syncs, ModifiesLog, KeepsPrefixes, keeps, told_ahead}
@@ -107,7 +107,7 @@ taken s early start count sound le =
         record {
           synced = omega (arith, long, long_after, more);
           entries = sym (part_is s.log) ∙ sym (take-length A) ∙ ap (λ (n : ℕ). take n A) long
-              ∙ take_front s.log.synced A (keys_of t.log.entries) within (omega (arith, long));
+              ∙ take_of_prefix s.log.synced A (keys_of t.log.entries) within (omega (arith, long));
           part = λ lead prefix told. let k = beside lead prefix told in subst (λ (l : List Key). IsPrefix l lead) (part_is t.log) k.synced;
           prefixes = λ lead prefix told. (beside lead prefix told).prefixes;
         }

@@ -121,11 +121,11 @@ own_last [] ys own = own
 own_last (x ∷ xs) ys own = own_last xs ys own.1
 
 -- an id of the last entries is not among the first
-front_away : (xs ys : List Key) (i : Id) → HaveOwnIds (xs ++ ys) → has_id ys i ≡ true → has_id xs i ≡ false
-front_away [] ys i own there = refl
-front_away (x ∷ xs) ys i own there =
+away_in_prefix : (xs ys : List Key) (i : Id) → HaveOwnIds (xs ++ ys) → has_id ys i ≡ true → has_id xs i ≡ false
+away_in_prefix [] ys i own there = refl
+away_in_prefix (x ∷ xs) ys i own there =
     elim (cases_bool (id_eq i (id_of x))) [
-      | inr away ↦ rw away (front_away xs ys i own.1 there)
+      | inr away ↦ rw away (away_in_prefix xs ys i own.1 there)
       | inl here ↦
           clash (has_id (xs ++ ys) (id_of x))
           (subst (λ (j : Id). has_id (xs ++ ys) j ≡ true) (same_id i (id_of x) here)
@@ -133,40 +133,40 @@ front_away (x ∷ xs) ys i own there =
     ]
 
 -- an id that is not among the last entries has its place among the first
-place_front : (front back : List Entry) (i : Id) → has_id (keys_of back) i ≡ false → place_of (front ++ back) i ≡ place_of front i
-place_front [] back i away = place_none back i away
-place_front (f ∷ front) back i away = ap (λ (o : Option ℕ). if id_eq i (id_of f.key) then Some 0 else option_map suc o) (place_front front back i away)
+place_in_prefix : (prefix back : List Entry) (i : Id) → has_id (keys_of back) i ≡ false → place_of (prefix ++ back) i ≡ place_of prefix i
+place_in_prefix [] back i away = place_none back i away
+place_in_prefix (f ∷ prefix) back i away = ap (λ (o : Option ℕ). if id_eq i (id_of f.key) then Some 0 else option_map suc o) (place_in_prefix prefix back i away)
 
-pub midway_start : (front : List Entry) (e : Entry) (back : List Entry) (f g : Id → Option ℕ)
-    → HaveOwnIds (keys_of (front ++ back)) → has_id (keys_of front) (id_of e.key) ≡ false
-    → ((i : Id) → f i ≡ place_of (front ++ back) i) → ((i : Id) → g i ≡ (if id_eq (id_of e.key) i then Some (length front) else f i))
-    → IsMidway e.key (front ++ e ∷ []) back g
-midway_start front e back f g own fresh old now =
-    let parts : keys_of (front ++ back) ≡ keys_of front ++ keys_of back = keys_append front back in
+pub midway_start : (prefix : List Entry) (e : Entry) (back : List Entry) (f g : Id → Option ℕ)
+    → HaveOwnIds (keys_of (prefix ++ back)) → has_id (keys_of prefix) (id_of e.key) ≡ false
+    → ((i : Id) → f i ≡ place_of (prefix ++ back) i) → ((i : Id) → g i ≡ (if id_eq (id_of e.key) i then Some (length prefix) else f i))
+    → IsMidway e.key (prefix ++ e ∷ []) back g
+midway_start prefix e back f g own fresh old now =
+    let parts : keys_of (prefix ++ back) ≡ keys_of prefix ++ keys_of back = keys_append prefix back in
     let apart = subst HaveOwnIds parts own in
     record {
-      own = own_last (keys_of front) (keys_of back) apart;
-      apart = λ i there other. with_last i (id_turn_away (id_of e.key) i other) (front_away (keys_of front) (keys_of back) i apart there);
+      own = own_last (keys_of prefix) (keys_of back) apart;
+      apart = λ i there other. with_last i (id_turn_away (id_of e.key) i other) (away_in_prefix (keys_of prefix) (keys_of back) i apart there);
       held = λ i there. ap is_some (now i) ∙ elim (cases_bool (id_eq (id_of e.key) i)) [
         | inl here ↦ rw here refl
         | inr away ↦
-            rw away (ap is_some (old i) ∙ place_held (front ++ back) i ∙ ap (λ (ks : List Key). has_id ks i) parts
-            ∙ has_id-append (keys_of front) (keys_of back) i ∙ or_right (has_id (keys_of front) i) (has_id (keys_of back) i) there)
+            rw away (ap is_some (old i) ∙ place_held (prefix ++ back) i ∙ ap (λ (ks : List Key). has_id ks i) parts
+            ∙ has_id-append (keys_of prefix) (keys_of back) i ∙ or_right (has_id (keys_of prefix) i) (has_id (keys_of back) i) there)
       ];
       right = λ i known. now i ∙ elim (cases_bool (id_eq (id_of e.key) i)) [
         | inl here ↦
-            rw here (sym (place_push_new front e i
-            (subst (λ (j : Id). has_id (keys_of front) j ≡ false) (same_id (id_of e.key) i here) fresh) (id_turn (id_of e.key) i here)))
+            rw here (sym (place_push_new prefix e i
+            (subst (λ (j : Id). has_id (keys_of prefix) j ≡ false) (same_id (id_of e.key) i here) fresh) (id_turn (id_of e.key) i here)))
         | inr away ↦ rw away (old i ∙ elim known [
           | inr same ↦ clash (id_eq (id_of e.key) i) same away
-          | inl gone ↦ place_front front back i gone ∙ sym (place_push_other front e i (id_turn_away (id_of e.key) i away))
+          | inl gone ↦ place_in_prefix prefix back i gone ∙ sym (place_push_other prefix e i (id_turn_away (id_of e.key) i away))
         ])
       ];
     }
   where
-    with_last : (i : Id) → id_eq i (id_of e.key) ≡ false → has_id (keys_of front) i ≡ false → has_id (keys_of (front ++ e ∷ [])) i ≡ false
+    with_last : (i : Id) → id_eq i (id_of e.key) ≡ false → has_id (keys_of prefix) i ≡ false → has_id (keys_of (prefix ++ e ∷ [])) i ≡ false
     with_last i away free =
-        ap (λ (ks : List Key). has_id ks i) (keys_append front (e ∷ [])) ∙ has_id-append (keys_of front) (e.key ∷ []) i ∙ rw (free, away) refl
+        ap (λ (ks : List Key). has_id ks i) (keys_append prefix (e ∷ [])) ∙ has_id-append (keys_of prefix) (e.key ∷ []) i ∙ rw (free, away) refl
 
 -- ---- a step of the loop
 

@@ -14,14 +14,14 @@ use Rattle.nz_base.specs.Key.{key_below, id_eq, id_of}
 use Rattle.nz_base.specs.Log.{keys_of, has_id, is_above_last, AreRising, HaveOwnIds, IsLog}
 use Rattle.nz_base.proofs.Names.{same_id, id_turn, id_turn_away}
 use Rattle.nz_base.proofs.Booleans.{cases_bool, neither_left}
-use Rattle.nz_base.proofs.Logs.{has_first, has_id-append, keys_append, front_below, above_last, above_some, own_id}
+use Rattle.nz_base.proofs.Logs.{has_first, has_id-append, keys_append, prefix_below, above_last, above_some, own_id}
 use Rattle.nz_log.specs.Places.{place_of}
 use Rattle.nz_log.specs.Synced.{Log, synced_part, unsynced_part}
 use Rattle.nz_log.specs.Keeping.{IsKeptLog, IsMidway, digest_with}
 use Rattle.nz_log.proofs.Placing.{place_found, place_held, held_at}
 use Rattle.nz_log.proofs.Indexing.{place_push_new, place_push_other, midway_start}
 use Rattle.nz_log.proofs.Summing.{sums_push}
-use Rattle.nz_log.proofs.Modifying.{pushed_sound, put_front, put_back}
+use Rattle.nz_log.proofs.Modifying.{pushed_sound, put_prefix, put_back}
 
 -- ---- look-ups
 
@@ -113,27 +113,27 @@ pub midway_put : (log : Log) (e : Entry) (sums : List (List ℕ)) (places : List
     → ((i : Id) → now i ≡ (if id_eq (id_of e.key) i then Some log.synced else lookup (id_eq i) places))
     → IsMidway e.key (take (log.synced + 1) put) (drop (log.synced + 1) put) now
 midway_put log e sums places now put kept fresh is index =
-    let front = synced_part log in
+    let prefix = synced_part log in
     let back = unsynced_part log in
-    let whole : front ++ back ≡ log.entries = take-append-drop log.synced log.entries in
+    let whole : prefix ++ back ≡ log.entries = take-append-drop log.synced log.entries in
     let within = kept.sound.within in
-    let long : length front ≡ log.synced = length-take-le log.synced log.entries within in
-    let first : take (log.synced + 1) put ≡ front ++ e ∷ [] = ap (take (log.synced + 1)) is ∙ put_front log.entries log.synced e within in
+    let long : length prefix ≡ log.synced = length-take-le log.synced log.entries within in
+    let first : take (log.synced + 1) put ≡ prefix ++ e ∷ [] = ap (take (log.synced + 1)) is ∙ put_prefix log.entries log.synced e within in
     let rest : drop (log.synced + 1) put ≡ back = ap (drop (log.synced + 1)) is ∙ put_back log.entries log.synced e within in
     let own = subst (λ (xs : List Entry). HaveOwnIds (keys_of xs)) (sym whole) kept.sound.ordered.own_ids in
     let mid =
-    midway_start front e back (λ i. lookup (id_eq i) places) now own fresh
+    midway_start prefix e back (λ i. lookup (id_eq i) places) now own fresh
     (λ i. kept.found i ∙ ap (λ (xs : List Entry). place_of xs i) (sym whole))
     (λ i. index i ∙ ap (λ (n : ℕ). if id_eq (id_of e.key) i then Some n else lookup (id_eq i) places) (sym long)) in
     subst (λ (xs : List Entry). IsMidway e.key xs (drop (log.synced + 1) put) now) (sym first)
-    (subst (λ (xs : List Entry). IsMidway e.key (front ++ e ∷ []) xs now) (sym rest) mid)
+    (subst (λ (xs : List Entry). IsMidway e.key (prefix ++ e ∷ []) xs now) (sym rest) mid)
 
 -- ---- the entries of a list, one after another
 
-pub next_above : (front : List Entry) (e : Entry) (back : List Entry) → IsLog (front ++ e ∷ back) → is_above_last (keys_of front) e.key ≡ true
-next_above front e back log =
-    let rising = subst AreRising (keys_append front (e ∷ back)) log.rising in
-    above_last (keys_of front) e.key (λ x there. front_below (keys_of front) (keys_of (e ∷ back)) x e.key rising there (has_first e.key (keys_of back)))
+pub next_above : (prefix : List Entry) (e : Entry) (back : List Entry) → IsLog (prefix ++ e ∷ back) → is_above_last (keys_of prefix) e.key ≡ true
+next_above prefix e back log =
+    let rising = subst AreRising (keys_append prefix (e ∷ back)) log.rising in
+    above_last (keys_of prefix) e.key (λ x there. prefix_below (keys_of prefix) (keys_of (e ∷ back)) x e.key rising there (has_first e.key (keys_of back)))
 
-pub next_fresh : (front : List Entry) (e : Entry) (back : List Entry) → IsLog (front ++ e ∷ back) → has_id (keys_of front) (id_of e.key) ≡ false
-next_fresh front e back log = own_id (keys_of front) e.key (keys_of back) (subst HaveOwnIds (keys_append front (e ∷ back)) log.own_ids)
+pub next_fresh : (prefix : List Entry) (e : Entry) (back : List Entry) → IsLog (prefix ++ e ∷ back) → has_id (keys_of prefix) (id_of e.key) ≡ false
+next_fresh prefix e back log = own_id (keys_of prefix) e.key (keys_of back) (subst HaveOwnIds (keys_append prefix (e ∷ back)) log.own_ids)

@@ -8,7 +8,7 @@ use Rattle.nz_base.specs.Key.{key_below, key_eq, id_eq, id_of}
 use Rattle.nz_base.specs.Log.{keys_of, has_key, has_id, AreRising, HaveOwnIds, IsLog, is_above_last}
 use Rattle.nz_base.proofs.Names.{same_key}
 use Rattle.nz_base.proofs.Booleans.{cases_bool, or_cases, and_left, and_right, neither_left, neither_right}
-use Rattle.nz_base.proofs.Logs.{has_id-append, keys_append, above_each, rising_join, rising_front}
+use Rattle.nz_base.proofs.Logs.{has_id-append, keys_append, above_each, rising_join, rising_prefix}
 use Rattle.nz_base.proofs.Logs.{rising_back, own_join, has_id_filter, rising_filter, own_filter}
 use Rattle.nz_log.specs.Synced.{stays_behind}
 
@@ -52,23 +52,23 @@ own_back (x ∷ xs) p ys own =
     (new, own_back xs p ys own.1)
 
 -- an entry after a prefix, before what stays
-pub log_put : (front : List Entry) (e : Entry) (back : List Entry) → IsLog (front ++ back)
-    → is_above_last (keys_of front) e.key ≡ true → has_id (keys_of front) (id_of e.key) ≡ false
-    → IsLog (front ++ e ∷ filter (stays_behind e.key) back)
-log_put front e back log above fresh =
+pub log_put : (prefix : List Entry) (e : Entry) (back : List Entry) → IsLog (prefix ++ back)
+    → is_above_last (keys_of prefix) e.key ≡ true → has_id (keys_of prefix) (id_of e.key) ≡ false
+    → IsLog (prefix ++ e ∷ filter (stays_behind e.key) back)
+log_put prefix e back log above fresh =
     let kept = filter (stays_behind e.key) back in
-    let parts = keys_append front back in
-    let same = sym (keys_append front (e ∷ kept)) in
+    let parts = keys_append prefix back in
+    let same = sym (keys_append prefix (e ∷ kept)) in
     let rising = subst AreRising parts log.rising in
-    let lower = rising_front (keys_of front) (keys_of back) rising in
+    let lower = rising_prefix (keys_of prefix) (keys_of back) rising in
     record {
       rising =
-          subst AreRising same (rising_join (keys_of front) e.key (keys_of kept) lower
-          (rising_filter (stays_behind e.key) back (rising_back (keys_of front) (keys_of back) rising))
-          (λ x h. above_each (keys_of front) e.key x lower above h) (λ y h. stay_above e.key back y h));
+          subst AreRising same (rising_join (keys_of prefix) e.key (keys_of kept) lower
+          (rising_filter (stays_behind e.key) back (rising_back (keys_of prefix) (keys_of back) rising))
+          (λ x h. above_each (keys_of prefix) e.key x lower above h) (λ y h. stay_above e.key back y h));
       own_ids =
-          subst HaveOwnIds same (own_join (keys_of front) e.key (keys_of kept)
-          (own_back front (stays_behind e.key) back (subst HaveOwnIds parts log.own_ids)) fresh (stay_apart e.key back));
+          subst HaveOwnIds same (own_join (keys_of prefix) e.key (keys_of kept)
+          (own_back prefix (stays_behind e.key) back (subst HaveOwnIds parts log.own_ids)) fresh (stay_apart e.key back));
     }
 
 -- ---- the last entry

@@ -34,12 +34,12 @@ pub first_place : (es : List Entry) (i : Id) (place : ℕ) → IsFirstPlace es i
 first_place [] i place at = absurd (let none : place < 0 = at.at.within in omega arith)
 first_place (e ∷ es) i zero at = rw (at.at.here e) refl
 first_place (e ∷ es) i (suc place) at =
-    let away = neither_left (id_eq i (id_of e.key)) (has_id (keys_of (take place es)) i) at.front in
+    let away = neither_left (id_eq i (id_of e.key)) (has_id (keys_of (take place es)) i) at.not_before in
     let within : suc place < length (e ∷ es) = at.at.within in
     let rest : IsFirstPlace es i place =
     record {
       at = record { within = omega arith; here = at.at.here };
-      front = neither_right (id_eq i (id_of e.key)) (has_id (keys_of (take place es)) i) at.front;
+      not_before = neither_right (id_eq i (id_of e.key)) (has_id (keys_of (take place es)) i) at.not_before;
     } in
     rw away (ap (λ (o : Option ℕ). option_map suc o) (first_place es i place rest))
 

@@ -1,4 +1,4 @@
--- The digests where an entry is put in: those of the entries that stay behind it are folded anew, one after another.
+-- The digests where an entry is put in: those of the entries that stay after it are folded anew, one after another.
 use Rattle.std.proofs.Common.{◌≡◌, ◌≢◌, ℕ, suc, ◌+◌, ◌-◌, ◌<◌, ◌≤◌, Bool, true, false, List, [], ◌∷◌, ◌++◌, length, take, drop, get_or}
 use Rattle.std.proofs.Common.{set, cond, sym, ap, subst, ◌∙◌, arith, append_assoc, append-nil, length-append, length-drop}
 use Rattle.std.specs.List.{filter}
@@ -30,23 +30,23 @@ pub record IsFolding (es : List Entry) (place : ℕ) (key : Key) (from kept : �
   pub old : before ≡ digest_of_log (take from (all_but es place))
 
 module _ (es : List Entry) (place : ℕ) (key : Key) (within : place < length es) where
-  front_long : length (take place es) ≡ place
-  front_long = length-take-le place es (omega (arith, within))
+  prefix_long : length (take place es) ≡ place
+  prefix_long = length-take-le place es (omega (arith, within))
 
   pub others_long : length (all_but es place) + 1 ≡ length es
   others_long =
       let long : length (all_but es place) ≡ length (take place es) + length (drop (place + 1) es) = length-append (take place es) (drop (place + 1) es) in
-      let first : length (take place es) ≡ place = front_long in
+      let first : length (take place es) ≡ place = prefix_long in
       let last : length (drop (place + 1) es) ≡ length es - (place + 1) = length-drop (place + 1) es in
       omega (arith, long, first, last, within)
 
-  front_same : take place (all_but es place) ≡ take place es
-  front_same = ap (λ (n : ℕ). take n (all_but es place)) (sym front_long) ∙ take-append_seam (take place es) (drop (place + 1) es)
+  prefix_same_entries : take place (all_but es place) ≡ take place es
+  prefix_same_entries = ap (λ (n : ℕ). take n (all_but es place)) (sym prefix_long) ∙ take-append_seam (take place es) (drop (place + 1) es)
 
   other_at : (from : ℕ) (d : Entry) → place ≤ from → get_or (all_but es place) from d ≡ get_or es (from + 1) d
   other_at from d after =
       let far : place + 1 + (from - place) ≡ from + 1 = omega (arith, after) in
-      get_or-append_right (take place es) (drop (place + 1) es) place from d front_long after
+      get_or-append_right (take place es) (drop (place + 1) es) place from d prefix_long after
       ∙ get_or-drop (place + 1) es (from - place) d
       ∙ ap (λ (n : ℕ). get_or es n d) far
 
@@ -54,13 +54,13 @@ module _ (es : List Entry) (place : ℕ) (key : Key) (within : place < length es
       → settled es place key (from + 1) ≡ settled es place key from ++ cond (stays_behind key x) (x ∷ []) []
   next_settled from x after more is =
       let p = stays_behind key in
-      let front = take (from + 1) es in
+      let prefix = take (from + 1) es in
       let head = take (place + 1) es in
-      let long : length front ≡ from + 1 = length-take-le (from + 1) es (omega (arith, more)) in
-      ap (λ (xs : List Entry). head ++ filter p (drop (place + 1) xs)) (take_more es (from + 1) x more ∙ ap (λ (y : Entry). front ++ y ∷ []) (sym is))
-      ∙ ap (λ (xs : List Entry). head ++ filter p xs) (drop-append-le (place + 1) front (x ∷ []) (omega (arith, long, after)))
-      ∙ ap (λ (xs : List Entry). head ++ xs) (filter-append p (drop (place + 1) front) (x ∷ []))
-      ∙ sym (append_assoc head (filter p (drop (place + 1) front)) (cond (p x) (x ∷ []) []))
+      let long : length prefix ≡ from + 1 = length-take-le (from + 1) es (omega (arith, more)) in
+      ap (λ (xs : List Entry). head ++ filter p (drop (place + 1) xs)) (take_more es (from + 1) x more ∙ ap (λ (y : Entry). prefix ++ y ∷ []) (sym is))
+      ∙ ap (λ (xs : List Entry). head ++ filter p xs) (drop-append-le (place + 1) prefix (x ∷ []) (omega (arith, long, after)))
+      ∙ ap (λ (xs : List Entry). head ++ xs) (filter-append p (drop (place + 1) prefix) (x ∷ []))
+      ∙ sym (append_assoc head (filter p (drop (place + 1) prefix)) (cond (p x) (x ∷ []) []))
 
   pub fold_start : (ds : List (List ℕ)) (x : Entry) (before sum : List ℕ) → x ≡ get_or es place x → x.key ≡ key → IsSummed (all_but es place) ds
       → before ≡ digest_of_log (take place (all_but es place)) → sum ≡ xor_bytes before (digest_of_key key.deadline key.client key.num)
@@ -75,14 +75,14 @@ module _ (es : List Entry) (place : ℕ) (key : Key) (within : place < length es
       ∙ take_more es place x within
       ∙ ap (λ (y : Entry). take place es ++ y ∷ []) (sym is) in
       let fits : place ≤ length (all_but es place) = let long = others_long in omega (arith, long, within) in
-      let front : IsSummed (take place es) (take place ds) =
-      subst (λ (xs : List Entry). IsSummed xs (take place ds)) front_same (sums_take (all_but es place) ds place others fits) in
+      let prefix : IsSummed (take place es) (take place ds) =
+      subst (λ (xs : List Entry). IsSummed xs (take place ds)) prefix_same_entries (sums_take (all_but es place) ds place others fits) in
       let with : sum ≡ digest_with (take place es) x.key =
       folded
-      ∙ ap (λ (d : List ℕ). xor_bytes d (digest_of_key key.deadline key.client key.num)) (old ∙ ap digest_of_log front_same)
+      ∙ ap (λ (d : List ℕ). xor_bytes d (digest_of_key key.deadline key.client key.num)) (old ∙ ap digest_of_log prefix_same_entries)
       ∙ ap (digest_with (take place es)) (sym named) in
       record {
-        first = subst (λ (xs : List Entry). IsSummed xs (take place ds ++ sum ∷ [])) (sym whole) (sums_push (take place es) (take place ds) x sum front with);
+        first = subst (λ (xs : List Entry). IsSummed xs (take place ds ++ sum ∷ [])) (sym whole) (sums_push (take place es) (take place ds) x sum prefix with);
         folded = with ∙ sym (digest_push (take place es) x) ∙ ap digest_of_log (sym whole);
         rest = λ k after more d. others.sums k (let long = others_long in omega (arith, long, more)) d;
         old = old;
@@ -146,27 +146,27 @@ module _ (es : List Entry) (place : ℕ) (key : Key) (within : place < length es
 -- ---- an entry put in
 
 module _ (es put : List Entry) (place : ℕ) (e : Entry) (within : place ≤ length es) (is : put ≡ take place es ++ e ∷ drop place es) where
-  front_is : length (take place es) ≡ place
-  front_is = length-take-le place es within
+  prefix_is : length (take place es) ≡ place
+  prefix_is = length-take-le place es within
 
   pub put_long : length put ≡ length es + 1
   put_long =
       let long : length (take place es ++ e ∷ drop place es) ≡ length (take place es) + length (e ∷ drop place es) =
       length-append (take place es) (e ∷ drop place es) in
-      let first : length (take place es) ≡ place = front_is in
+      let first : length (take place es) ≡ place = prefix_is in
       let last : length (drop place es) ≡ length es - place = length-drop place es in
       ap length is ∙ omega (arith, long, first, last, within)
 
   pub put_here : (d : Entry) → (get_or put place d).key ≡ e.key
   put_here d =
       let there : get_or (take place es ++ e ∷ drop place es) place d ≡ e =
-      subst (λ (n : ℕ). get_or (take place es ++ e ∷ drop place es) n d ≡ e) front_is (get_or-append_seam (take place es) e (drop place es) d) in
+      subst (λ (n : ℕ). get_or (take place es ++ e ∷ drop place es) n d ≡ e) prefix_is (get_or-append_seam (take place es) e (drop place es) d) in
       ap (λ (xs : List Entry). (get_or xs place d).key) is ∙ ap (λ (x : Entry). x.key) there
 
   pub put_others : all_but put place ≡ es
   put_others =
       let first : take place (take place es ++ e ∷ drop place es) ≡ take place es =
-      ap (λ (n : ℕ). take n (take place es ++ e ∷ drop place es)) (sym front_is) ∙ take-append_seam (take place es) (e ∷ drop place es) in
+      ap (λ (n : ℕ). take n (take place es ++ e ∷ drop place es)) (sym prefix_is) ∙ take-append_seam (take place es) (e ∷ drop place es) in
       ap (λ (xs : List Entry). all_but xs place) is
       ∙ ap (λ (xs : List Entry). xs ++ drop (place + 1) (take place es ++ e ∷ drop place es)) first
       ∙ ap (λ (xs : List Entry). take place es ++ xs) (put_back es place e within)

@@ -42,26 +42,26 @@ common_less es fs m n less same =
     ∙ ap keys_of (take-take m n fs less)
 
 -- the first entries of a list, of which one is the next
-pub next_common : (es fs front : List Entry) (e : Entry) (back : List Entry) (count : ℕ)
-    → HaveCommonPrefix es fs count → front ++ e ∷ back ≡ fs → length front < count
-    → keys_of (take (length front + 1) es) ≡ keys_of (front ++ e ∷ [])
-next_common es fs front e back count common whole early =
-    let first = front ++ e ∷ [] in
-    let long : length first ≡ length front + 1 = length-append front (e ∷ []) in
-    let part : take (length front + 1) fs ≡ first =
-    ap (take (length front + 1)) (sym whole ∙ sym (append_assoc front (e ∷ []) back))
+pub next_common : (es fs prefix : List Entry) (e : Entry) (back : List Entry) (count : ℕ)
+    → HaveCommonPrefix es fs count → prefix ++ e ∷ back ≡ fs → length prefix < count
+    → keys_of (take (length prefix + 1) es) ≡ keys_of (prefix ++ e ∷ [])
+next_common es fs prefix e back count common whole early =
+    let first = prefix ++ e ∷ [] in
+    let long : length first ≡ length prefix + 1 = length-append prefix (e ∷ []) in
+    let part : take (length prefix + 1) fs ≡ first =
+    ap (take (length prefix + 1)) (sym whole ∙ sym (append_assoc prefix (e ∷ []) back))
     ∙ ap (λ (n : ℕ). take n (first ++ back)) (sym long)
     ∙ take-append_seam first back in
-    common_less es fs (length front + 1) count (omega (arith, early)) common.same ∙ ap keys_of part
+    common_less es fs (length prefix + 1) count (omega (arith, early)) common.same ∙ ap keys_of part
 
 -- the digest at a place is that of a list with the keys up to there
-pub digest_known : (es front : List Entry) (e : Entry)
-    → keys_of (take (length front + 1) es) ≡ keys_of (front ++ e ∷ []) → digest_at es (length front) ≡ digest_with front e.key
-digest_known es front e same =
-    let one : suc (length front) ≡ length front + 1 = omega arith in
+pub digest_known : (es prefix : List Entry) (e : Entry)
+    → keys_of (take (length prefix + 1) es) ≡ keys_of (prefix ++ e ∷ []) → digest_at es (length prefix) ≡ digest_with prefix e.key
+digest_known es prefix e same =
+    let one : suc (length prefix) ≡ length prefix + 1 = omega arith in
     ap (λ (n : ℕ). digest_of_log (take n es)) one
-    ∙ digest_by_keys (take (length front + 1) es) (front ++ e ∷ []) same
-    ∙ digest_push front e
+    ∙ digest_by_keys (take (length prefix + 1) es) (prefix ++ e ∷ []) same
+    ∙ digest_push prefix e
 
 none_out : (xs : List Entry) (ks : List Key) → ((i : Id) → has_id (keys_of xs) i ≡ true → has_id ks i ≡ true)
     → filter (λ (e : Entry). not (has_id ks (id_of e.key))) xs ≡ []
@@ -74,9 +74,9 @@ none_out (x ∷ xs) ks held =
 -- none of the common entries is left out
 pub none_left_out : (es fs : List Entry) (count : ℕ) → HaveCommonPrefix es fs count → left_out (take count es) fs ≡ []
 none_left_out es fs count common =
-    let front = keys_of (take count fs) in
+    let prefix = keys_of (take count fs) in
     let back = keys_of (drop count fs) in
-    let parts : keys_of fs ≡ front ++ back = ap keys_of (sym (take-append-drop count fs)) ∙ keys_append (take count fs) (drop count fs) in
+    let parts : keys_of fs ≡ prefix ++ back = ap keys_of (sym (take-append-drop count fs)) ∙ keys_append (take count fs) (drop count fs) in
     none_out (take count es) (keys_of fs) (λ i there.
-    let first : has_id front i ≡ true = subst (λ (ks : List Key). has_id ks i ≡ true) common.same there in
-    ap (λ (ks : List Key). has_id ks i) parts ∙ has_id-append front back i ∙ or_left (has_id front i) (has_id back i) first)
+    let first : has_id prefix i ≡ true = subst (λ (ks : List Key). has_id ks i ≡ true) common.same there in
+    ap (λ (ks : List Key). has_id ks i) parts ∙ has_id-append prefix back i ∙ or_left (has_id prefix i) (has_id back i) first)

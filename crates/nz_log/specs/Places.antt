@@ -21,7 +21,7 @@ pub record IsPlace (log : List Entry) (id : Id) (place : ℕ) : Type 0 where
 -- It does, and none before it.
 pub record IsFirstPlace (log : List Entry) (id : Id) (place : ℕ) : Type 0 where
   pub at : IsPlace log id place
-  pub front : has_id (keys_of (take place log)) id ≡ false
+  pub not_before : has_id (keys_of (take place log)) id ≡ false
 
 -- The last entry, if there is one.
 abbrev pub last_entry : List Entry → Option Entry

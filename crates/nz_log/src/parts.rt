@@ -84,7 +84,7 @@ pub fn copy_left_out(
 }
 
 // Removes the entries from a place on that do not stay after one with this key.
-fn remove_behind(entries: &mut Vec<Entry>, from: usize, key: Key)
+fn remove_after(entries: &mut Vec<Entry>, from: usize, key: Key)
     requires { from ≤ vec_len entries.old }
     ensures { entries.new.items ≡ take from entries.old.items
         ++ filter (stays_behind key) (drop from entries.old.items) }
@@ -110,6 +110,6 @@ pub fn put_at(entries: &mut Vec<Entry>, place: usize, entry: Entry) -> Result<()
 {
     let key = entry.key;
     entries.insert(place, entry)?;
-    remove_behind(entries, place + 1, key);
+    remove_after(entries, place + 1, key);
     Ok(())
 }

@@ -109,11 +109,11 @@ fn modifies(rt: HostRuntime) -> Result<(), Fail> {
         ),
         (&[], &[(10, 0, 1)], (10, 0, 2), &[(10, 0, 2)], &[(10, 0, 1)]),
     ];
-    for (synced, others, row, behind, displaced) in table {
+    for (synced, others, row, kept, displaced) in table {
         let mut log = log_of(alloc, synced, others)?;
         let answer = modify(&mut log, entry(alloc, row)?)?;
         assert_eq!(rt; answer, Some(list_of(alloc, displaced)?));
-        let expected = log_of(alloc, synced, behind)?;
+        let expected = log_of(alloc, synced, kept)?;
         assert_eq!(rt; log.entries()?, expected.entries()?);
         assert_eq!(rt; u64::from(log.synced()), u64::from(expected.synced()) + 1);
     }

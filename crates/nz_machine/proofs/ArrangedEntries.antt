@@ -8,12 +8,12 @@ use Rattle.nz_base.specs.Key.{key_below, id_eq, id_of}
 use Rattle.nz_base.specs.Log.{keys_of, has_id, is_above_last, AreRising, HaveOwnIds}
 use Rattle.nz_base.proofs.Booleans.{cases_bool, neither_left, neither_right, clash}
 use Rattle.nz_base.proofs.Names.{same_id}
-use Rattle.nz_base.proofs.Logs.{keys_append, has_id-append, rising_front, rising_back, has_first, front_below, above_last}
-use Rattle.nz_base.proofs.Logs.{above_each, own_front, own_id, own_push, own_filter, has_id_filter}
+use Rattle.nz_base.proofs.Logs.{keys_append, has_id-append, rising_prefix, rising_back, has_first, prefix_below, above_last}
+use Rattle.nz_base.proofs.Logs.{above_each, own_ids_of_prefix, own_id, own_push, own_filter, has_id_filter}
 use Rattle.nz_buffers.specs.Buffers.{insert_by_key, without}
 use Rattle.nz_buffers.proofs.Inserting.{has_key_insert, rising_insert, has_id_insert, own_insert}
 use Rattle.nz_machine.specs.Facts.{FitsEntry, AreArranged}
-use Rattle.nz_machine.proofs.EachItem.{all_append, all_front, all_back, all_filter, all_insert}
+use Rattle.nz_machine.proofs.EachItem.{all_append, all_of_prefix, all_back, all_filter, all_insert}
 use Rattle.nz_machine.proofs.KeysApart.{rising_both, own_apart, own_both, own_rest, none_of, has_id_inserted, gone_without}
 
 -- ---- its parts
@@ -57,14 +57,14 @@ pub arranged_early : (log early late : List Entry) (e : Entry) → AreArranged l
 arranged_early log early late e a fits above logged held =
     let i = id_of e.key in
     let rising = rising_parts log early late a in
-    let lower = rising_front (keys_of log) (keys_of early) rising in
+    let lower = rising_prefix (keys_of log) (keys_of early) rising in
     let upper = rising_back (keys_of log) (keys_of early) rising in
     let own = own_parts log early late a in
     let back = own_rest (keys_of log) (keys_of early ++ keys_of late) own in
     let more = insert_by_key early e in
     let fewer = without late i in
     let joined : HaveOwnIds (keys_of more ++ keys_of fewer) =
-    own_both (keys_of more) (keys_of fewer) (own_insert early e (own_front (keys_of early) (keys_of late) back) held)
+    own_both (keys_of more) (keys_of fewer) (own_insert early e (own_ids_of_prefix (keys_of early) (keys_of late) back) held)
     (own_filter _ late (own_rest (keys_of early) (keys_of late) back))
     (λ j there. elim (has_id_inserted early e j there) [
       | inl same ↦ subst (λ (k : Id). has_id (keys_of fewer) k ≡ false) (sym same) (gone_without late i)
@@ -74,18 +74,18 @@ arranged_early log early late e a fits above logged held =
       rising = subst AreRising (sym (keys_append log more)) (rising_both (keys_of log) (keys_of more) lower (rising_insert early e upper held)
           (λ x y first last. elim (has_key_insert early e y last) [
             | inl same ↦ subst (λ (k : Key). key_below x k ≡ true) (sym same) (above_each (keys_of log) e.key x lower above first)
-            | inr old ↦ front_below (keys_of log) (keys_of early) x y rising first old
+            | inr old ↦ prefix_below (keys_of log) (keys_of early) x y rising first old
           ]));
       own_ids =
           subst HaveOwnIds (sym (keys_of_all log more fewer))
-          (own_both (keys_of log) (keys_of more ++ keys_of fewer) (own_front (keys_of log) (keys_of early ++ keys_of late) own) joined
+          (own_both (keys_of log) (keys_of more ++ keys_of fewer) (own_ids_of_prefix (keys_of log) (keys_of early ++ keys_of late) own) joined
           (λ j there. none_of (keys_of more) (keys_of fewer) j
           (has_id_insert early e j (away_from_early log early late j a there)
           (another (keys_of log) j i there logged)) (has_id_filter _ late j (away_from_late log early late j a there))));
       fit =
           let rest = all_back FitsEntry log (early ++ late) a.fit in
-          all_append FitsEntry log (more ++ fewer) (all_front FitsEntry log (early ++ late) a.fit)
-          (all_append FitsEntry more fewer (all_insert FitsEntry early e (all_front FitsEntry early late rest) fits)
+          all_append FitsEntry log (more ++ fewer) (all_of_prefix FitsEntry log (early ++ late) a.fit)
+          (all_append FitsEntry more fewer (all_insert FitsEntry early e (all_of_prefix FitsEntry early late rest) fits)
           (all_filter FitsEntry _ late (all_back FitsEntry early late rest)));
     }
 
@@ -121,7 +121,7 @@ arranged_release log e es late a =
 pub first_above : (log : List Entry) (e : Entry) (es late : List Entry) → AreArranged log (e ∷ es) late → is_above_last (keys_of log) e.key ≡ true
 first_above log e es late a =
     above_last (keys_of log) e.key
-    (λ x there. front_below (keys_of log) (keys_of (e ∷ es)) x e.key (rising_parts log (e ∷ es) late a) there (has_first e.key (keys_of es)))
+    (λ x there. prefix_below (keys_of log) (keys_of (e ∷ es)) x e.key (rising_parts log (e ∷ es) late a) there (has_first e.key (keys_of es)))
 
 pub first_fresh : (log : List Entry) (e : Entry) (es late : List Entry) → AreArranged log (e ∷ es) late → has_id (keys_of log) (id_of e.key) ≡ false
 first_fresh log e es late a = own_id (keys_of log) e.key (keys_of es ++ keys_of late) (own_parts log (e ∷ es) late a)

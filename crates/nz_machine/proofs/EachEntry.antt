@@ -28,7 +28,7 @@ use Rattle.nz_machine.specs.World.{Has}
 use Rattle.nz_machine.specs.LogMods.{entry_of_id, or_else, synced_with, is_early_yet}
 use Rattle.nz_machine.specs.Step.{replica_message, tick_rule}
 use Rattle.nz_machine.proofs.Runs.{on_cond}
-use Rattle.nz_machine.proofs.EachItem.{all_append, all_front, all_back, all_filter, all_insert}
+use Rattle.nz_machine.proofs.EachItem.{all_append, all_of_prefix, all_back, all_filter, all_insert}
 use Rattle.nz_machine.proofs.ListParts.{all_take, all_drop, find_each}
 use Rattle.nz_machine.specs.Hearing.{Heard}
 use Rattle.nz_machine.proofs.Moves.{Brings, BringsLog, MaySync, HearsReport, Phase, Move, ToEarly, ToLate}
@@ -80,16 +80,16 @@ released_each P f me s e es h all =
 
 synced_each : (P : Entry → Type 0) (s : ReplicaData) (e : Entry) → P e → EachEntry P s → EachEntry P (synced_with s e)
 synced_each P s e own h =
-    let behind = all_drop P s.log.synced s.log.entries h.log in
+    let after = all_drop P s.log.synced s.log.entries h.log in
     record {
       log =
           all_append P (take s.log.synced s.log.entries) (e ∷ filter (stays_behind e.key) (unsynced_part s.log))
-          (all_take P s.log.synced s.log.entries h.log) (own, all_filter P (stays_behind e.key) (unsynced_part s.log) behind);
+          (all_take P s.log.synced s.log.entries h.log) (own, all_filter P (stays_behind e.key) (unsynced_part s.log) after);
       early = all_filter P _ s.early h.early;
       late =
           all_filter P _ (s.late ++ filter (is_displaced e.key) (unsynced_part s.log))
           (all_append P s.late (filter (is_displaced e.key) (unsynced_part s.log)) h.late
-          (all_filter P (is_displaced e.key) (unsynced_part s.log) behind));
+          (all_filter P (is_displaced e.key) (unsynced_part s.log) after));
       reports = h.reports;
     }
 
@@ -199,8 +199,8 @@ pub each_fits : (f me : ℕ) (s : ReplicaData) → HasFacts f me s → EachEntry
 each_fits f me s h =
     let rest = all_back FitsEntry s.log.entries (s.early ++ s.late) h.entries.arranged.fit in
     record {
-      log = all_front FitsEntry s.log.entries (s.early ++ s.late) h.entries.arranged.fit;
-      early = all_front FitsEntry s.early s.late rest;
+      log = all_of_prefix FitsEntry s.log.entries (s.early ++ s.late) h.entries.arranged.fit;
+      early = all_of_prefix FitsEntry s.early s.late rest;
       late = all_back FitsEntry s.early s.late rest;
       reports = each_report f me s.changes h.reports.each;
     }

@@ -8,12 +8,12 @@ use Rattle.nz_base.proofs.Booleans.{cases_bool}
 use Rattle.nz_buffers.specs.Buffers.{insert_by_key}
 
 pub all_append : {X : Type 0} (P : X → Type 0) (xs ys : List X) → AllByRecursion P xs → AllByRecursion P ys → AllByRecursion P (xs ++ ys)
-all_append P [] ys front back = back
-all_append P (x ∷ xs) ys front back = (front.0, all_append P xs ys front.1 back)
+all_append P [] ys prefix back = back
+all_append P (x ∷ xs) ys prefix back = (prefix.0, all_append P xs ys prefix.1 back)
 
-pub all_front : {X : Type 0} (P : X → Type 0) (xs ys : List X) → AllByRecursion P (xs ++ ys) → AllByRecursion P xs
-all_front P [] ys all = tt
-all_front P (x ∷ xs) ys all = (all.0, all_front P xs ys all.1)
+pub all_of_prefix : {X : Type 0} (P : X → Type 0) (xs ys : List X) → AllByRecursion P (xs ++ ys) → AllByRecursion P xs
+all_of_prefix P [] ys all = tt
+all_of_prefix P (x ∷ xs) ys all = (all.0, all_of_prefix P xs ys all.1)
 
 pub all_back : {X : Type 0} (P : X → Type 0) (xs ys : List X) → AllByRecursion P (xs ++ ys) → AllByRecursion P ys
 all_back P [] ys all = all

@@ -14,7 +14,7 @@ use Rattle.nz_base.specs.declared.key.Entry.{Entry}
 use Rattle.nz_base.specs.Key.{id_eq, id_of}
 use Rattle.nz_base.specs.Log.{keys_of, has_id, AreRising, HaveOwnIds}
 use Rattle.nz_base.proofs.Booleans.{or_cases, length-filter_le}
-use Rattle.nz_base.proofs.Logs.{rising_front, rising_back, own_front, rising_filter, own_filter, keys_append}
+use Rattle.nz_base.proofs.Logs.{rising_prefix, rising_back, own_ids_of_prefix, rising_filter, own_filter, keys_append}
 use Rattle.nz_base.proofs.Names.{same_id}
 use Rattle.nz_digest.proofs.Keys.{length-digest}
 use Rattle.nz_log.specs.Places.{place_of, entry_key}
@@ -51,7 +51,7 @@ use Rattle.nz_machine.specs.Shows.{IsOther, IsRest, log_mod_from, ShowsFast, Sho
 use Rattle.nz_machine.specs.Shows.{ShowsReport, ShowsViewAsk, ShowsViewChange, ShowsStartView, ShowsVectorAsk, ShowsVectorTell}
 use Rattle.nz_machine.specs.Shows.{ShowsRejoinAsk, ShowsRejoinTell, ShowsStateAsk, ShowsStateTell, ReplicaShows}
 use Rattle.nz_machine.proofs.Runs.{FitsOut, on_cond}
-use Rattle.nz_machine.proofs.EachItem.{all_append, all_front, all_filter, all_imply}
+use Rattle.nz_machine.proofs.EachItem.{all_append, all_of_prefix, all_filter, all_imply}
 use Rattle.nz_machine.proofs.KeysApart.{own_rest}
 use Rattle.nz_machine.proofs.ListParts.{all_take, all_drop, all_map, all_get, all_index, lookup_each, few_either, one_of_id}
 use Rattle.nz_machine.proofs.SentFields.{view_fits, ids_fit, vector_fits, AreInOrder, keys_fit, entries_fit, log_fits, keys_of_fit, few_keys, few_ids}
@@ -72,7 +72,7 @@ numbers_are_below (suc n) most le =
 
 -- each entry of the log fits
 log_each : (f me : ℕ) (s : ReplicaData) → HasFacts f me s → AllByRecursion FitsEntry s.log.entries
-log_each f me s h = all_front FitsEntry s.log.entries (s.early ++ s.late) h.entries.arranged.fit
+log_each f me s h = all_of_prefix FitsEntry s.log.entries (s.early ++ s.late) h.entries.arranged.fit
 
 -- the log of a replica
 pub record IsLedLog (s : ReplicaData) : Type 0 where
@@ -83,8 +83,8 @@ led_log f me s h =
     let rising = subst AreRising (keys_append s.log.entries s.early) h.entries.arranged.rising in
     let own = subst HaveOwnIds (keys_append s.log.entries (s.early ++ s.late)) h.entries.arranged.own_ids in
     let order : AreInOrder (keys_of s.log.entries) = record {
-      rising = rising_front (keys_of s.log.entries) (keys_of s.early) rising;
-      own_ids = own_front (keys_of s.log.entries) (keys_of (s.early ++ s.late)) own;
+      rising = rising_prefix (keys_of s.log.entries) (keys_of s.early) rising;
+      own_ids = own_ids_of_prefix (keys_of s.log.entries) (keys_of (s.early ++ s.late)) own;
     } in
     record { order = order }
 
@@ -92,8 +92,8 @@ order_take : (n : ℕ) (keys : List Key) → AreInOrder keys → AreInOrder (tak
 order_take n keys h =
     let whole = sym (take-append-drop n keys) in
     record {
-      rising = rising_front (take n keys) (drop n keys) (subst AreRising whole h.rising);
-      own_ids = own_front (take n keys) (drop n keys) (subst HaveOwnIds whole h.own_ids);
+      rising = rising_prefix (take n keys) (drop n keys) (subst AreRising whole h.rising);
+      own_ids = own_ids_of_prefix (take n keys) (drop n keys) (subst HaveOwnIds whole h.own_ids);
     }
 
 order_drop : (n : ℕ) (keys : List Key) → AreInOrder keys → AreInOrder (drop n keys)

@@ -12,12 +12,12 @@ world_before : (g : Group) (more J : List Record) → World g (more ++ J) → Wo
 world_before g [] J w = w
 world_before g (r ∷ more) J w = world_before g more J w.1
 
-world_front : (g : Group) (rs : List Record) (i : ℕ) → World g (reverse rs) → World g (reverse (take i rs))
-world_front g rs i w =
+world_of_prefix : (g : Group) (rs : List Record) (i : ℕ) → World g (reverse rs) → World g (reverse (take i rs))
+world_of_prefix g rs i w =
     world_before g (reverse (drop i rs)) (reverse (take i rs))
     (subst (World g) (ap reverse (sym (take-append-drop i rs)) ∙ reverse-append (take i rs) (drop i rs)) w)
 
 -- the records up to and with the one at a place
 pub world_with : (g : Group) (rs : List Record) (i : ℕ) (r : Record) → World g (reverse rs) → i < length rs
     → r ≡ get_or rs i r → World g (r ∷ reverse (take i rs))
-world_with g rs i r w lt is = subst (World g) (one_record rs i r lt is) (world_front g rs (i + 1) w)
+world_with g rs i r w lt is = subst (World g) (one_record rs i r lt is) (world_of_prefix g rs (i + 1) w)

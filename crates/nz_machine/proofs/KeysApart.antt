@@ -14,13 +14,13 @@ use Rattle.nz_buffers.specs.Buffers.{insert_by_key, without}
 
 pub rising_both : (xs ys : List Key) → AreRising xs → AreRising ys
     → ((a b : Key) → has_key xs a ≡ true → has_key ys b ≡ true → key_below a b ≡ true) → AreRising (xs ++ ys)
-rising_both [] ys front back below = back
-rising_both (x ∷ xs) ys front back below = (
+rising_both [] ys prefix back below = back
+rising_both (x ∷ xs) ys prefix back below = (
   λ k h. elim (has_append xs ys k h) [
-    | inl there ↦ front.0 k there
-    | inr behind ↦ below x k (has_first x xs) behind
+    | inl there ↦ prefix.0 k there
+    | inr after ↦ below x k (has_first x xs) after
   ],
-  rising_both xs ys front.1 back (λ a b ha hb. below a b (has_later x xs a ha) hb),
+  rising_both xs ys prefix.1 back (λ a b ha hb. below a b (has_later x xs a ha) hb),
 )
 
 -- ---- ids
@@ -33,15 +33,15 @@ own_apart (x ∷ xs) ys i own there =
       | inl here ↦
           let none : (has_id xs (id_of x) || has_id ys (id_of x)) ≡ false = sym (has_id-append xs ys (id_of x)) ∙ own.0 in
           subst (λ (j : Id). has_id ys j ≡ false) (sym (same_id i (id_of x) here)) (neither_right (has_id xs (id_of x)) (has_id ys (id_of x)) none)
-      | inr behind ↦ own_apart xs ys i own.1 behind
+      | inr after ↦ own_apart xs ys i own.1 after
     ]
 
 pub own_both : (xs ys : List Key) → HaveOwnIds xs → HaveOwnIds ys → ((i : Id) → has_id xs i ≡ true → has_id ys i ≡ false) → HaveOwnIds (xs ++ ys)
-own_both [] ys front back apart = back
-own_both (x ∷ xs) ys front back apart =
+own_both [] ys prefix back apart = back
+own_both (x ∷ xs) ys prefix back apart =
     let away : has_id ys (id_of x) ≡ false = apart (id_of x) (or_left (id_eq (id_of x) (id_of x)) (has_id xs (id_of x)) (id_eq_self (id_of x))) in
-    let none : has_id (xs ++ ys) (id_of x) ≡ false = has_id-append xs ys (id_of x) ∙ (rw (front.0, away) refl) in
-    (none, own_both xs ys front.1 back (λ i h. apart i (or_right (id_eq i (id_of x)) (has_id xs i) h)))
+    let none : has_id (xs ++ ys) (id_of x) ≡ false = has_id-append xs ys (id_of x) ∙ (rw (prefix.0, away) refl) in
+    (none, own_both xs ys prefix.1 back (λ i h. apart i (or_right (id_eq i (id_of x)) (has_id xs i) h)))
 
 pub own_rest : (xs ys : List Key) → HaveOwnIds (xs ++ ys) → HaveOwnIds ys
 own_rest [] ys own = own
@@ -49,7 +49,7 @@ own_rest (x ∷ xs) ys own = own_rest xs ys own.1
 
 -- no id of a list that has none of them
 pub none_of : (xs ys : List Key) (i : Id) → has_id xs i ≡ false → has_id ys i ≡ false → has_id (xs ++ ys) i ≡ false
-none_of xs ys i front back = has_id-append xs ys i ∙ (rw (front, back) refl)
+none_of xs ys i prefix back = has_id-append xs ys i ∙ (rw (prefix, back) refl)
 
 -- what was put in has the id, or another one
 pub has_id_inserted : (es : List Entry) (e : Entry) (i : Id) → has_id (keys_of (insert_by_key es e)) i ≡ true

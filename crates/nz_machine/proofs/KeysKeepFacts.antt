@@ -11,7 +11,7 @@ use Rattle.nz_base.specs.Key.{key_below, key_eq, id_eq, id_of}
 use Rattle.nz_base.specs.Log.{keys_of, has_key, has_id, is_above_last, AreRising, HaveOwnIds}
 use Rattle.nz_base.proofs.Booleans.{cases_bool, or_cases, and_left, and_right, clash}
 use Rattle.nz_base.proofs.Names.{same_id, same_key}
-use Rattle.nz_base.proofs.Logs.{keys_append, rising_front, rising_back, above_each, rising_filter, own_front}
+use Rattle.nz_base.proofs.Logs.{keys_append, rising_prefix, rising_back, above_each, rising_filter, own_ids_of_prefix}
 use Rattle.nz_log.specs.Synced.{Log, IsSound, synced_part, unsynced_part, stays_behind, is_displaced, log_with_synced, displaced_entries}
 use Rattle.nz_log.proofs.Modifying.{modified_sound}
 use Rattle.nz_buffers.specs.Buffers.{find_id, without}
@@ -20,7 +20,7 @@ use Rattle.nz_machine.specs.State.{ReplicaData}
 use Rattle.nz_machine.specs.Facts.{AreArranged, FitsEntry, AreHeld, HasFacts, AreApart}
 use Rattle.nz_machine.specs.Replicas.{most_entries, is_normal, is_up, leads}
 use Rattle.nz_machine.specs.LogMods.{or_else, entry_of_id, may_sync, synced_with, if_found, sync_keys, overtaken_to_late, committed_to}
-use Rattle.nz_machine.proofs.EachItem.{all_append, all_front, all_back, all_filter}
+use Rattle.nz_machine.proofs.EachItem.{all_append, all_of_prefix, all_back, all_filter}
 use Rattle.nz_machine.proofs.KeysApart.{rising_both}
 use Rattle.nz_machine.proofs.IdCounts.{times, times_all, times_append, times_filter, times_parts, times_never, times_none, own_times, times_own}
 use Rattle.nz_machine.proofs.Guards.{normal_up}
@@ -33,7 +33,7 @@ apart_held l es fs h =
     let own = subst HaveOwnIds (keys_append l.entries (es ++ fs)) h.arranged.own_ids in
     record {
       sound = record {
-        ordered = record { rising = rising_front (keys_of l.entries) (keys_of es) rising; own_ids = own_front (keys_of l.entries) (keys_of (es ++ fs)) own };
+        ordered = record { rising = rising_prefix (keys_of l.entries) (keys_of es) rising; own_ids = own_ids_of_prefix (keys_of l.entries) (keys_of (es ++ fs)) own };
         within = h.within;
         few = h.few;
       };
@@ -60,17 +60,17 @@ pub own_synced : (log : Log) (early late : List Entry) (e : Entry) → AreApart 
     → has_id (keys_of (synced_part log)) (id_of e.key) ≡ false → (i : Id)
     → times i ((log_with_synced log e).entries ++ (without early (id_of e.key) ++ without (late ++ displaced_entries log e) (id_of e.key))) ≤ 1
 own_synced log early late e a fresh i =
-    let front = synced_part log in
+    let prefix = synced_part log in
     let back = unsynced_part log in
     let kept = filter (stays_behind e.key) back in
     let own = id_of e.key in
     let sum = times_all i (log_with_synced log e).entries (without early own) (without (late ++ displaced_entries log e) own) in
-    let parts = times_append i front (e ∷ kept) in
+    let parts = times_append i prefix (e ∷ kept) in
     elim (cases_bool (id_eq i own)) [
       | inl here ↦
           let same : i ≡ own = same_id i own here in
           let first : times i (e ∷ kept) ≡ 1 + times i kept = rw here refl in
-          let n0 : times i front ≡ 0 = subst (λ (j : Id). times j front ≡ 0) (sym same) (times_none own front fresh) in
+          let n0 : times i prefix ≡ 0 = subst (λ (j : Id). times j prefix ≡ 0) (sym same) (times_none own prefix fresh) in
           let n1 : times i kept ≡ 0 = subst (λ (j : Id). times j kept ≡ 0) (sym same) (times_never own (stays_behind e.key) (other_stays e.key) back) in
           let n2 : times i (without early own) ≡ 0 =
           subst (λ (j : Id). times j (without early own) ≡ 0) (sym same)
@@ -95,21 +95,21 @@ pub apart_synced : (log : Log) (early late : List Entry) (e : Entry) → AreApar
     → is_above_last (keys_of (synced_part log)) e.key ≡ true → has_id (keys_of (synced_part log)) (id_of e.key) ≡ false → length log.entries < most_entries
     → AreApart (log_with_synced log e) (without early (id_of e.key)) (without (late ++ displaced_entries log e) (id_of e.key))
 apart_synced log early late e a fits above fresh room =
-    let front = synced_part log in
+    let prefix = synced_part log in
     let back = unsynced_part log in
-    let split : AllByRecursion FitsEntry (front ++ back) =
+    let split : AllByRecursion FitsEntry (prefix ++ back) =
     subst (λ (xs : List Entry). AllByRecursion FitsEntry xs) (sym (take-append-drop log.synced log.entries))
-    (all_front FitsEntry log.entries (early ++ late) a.fit) in
-    let fit_front = all_front FitsEntry front back split in
-    let fit_back = all_back FitsEntry front back split in
+    (all_of_prefix FitsEntry log.entries (early ++ late) a.fit) in
+    let fit_prefix = all_of_prefix FitsEntry prefix back split in
+    let fit_back = all_back FitsEntry prefix back split in
     let fit_rest = all_back FitsEntry log.entries (early ++ late) a.fit in
     record {
       sound = modified_sound log e a.sound above fresh room;
       waiting = rising_filter _ early a.waiting;
       own_ids = times_own _ (own_synced log early late e a fresh);
       fit = all_append FitsEntry (log_with_synced log e).entries _
-          (all_append FitsEntry front _ fit_front (fits, all_filter FitsEntry (stays_behind e.key) back fit_back))
-          (all_append FitsEntry _ _ (all_filter FitsEntry _ early (all_front FitsEntry early late fit_rest))
+          (all_append FitsEntry prefix _ fit_prefix (fits, all_filter FitsEntry (stays_behind e.key) back fit_back))
+          (all_append FitsEntry _ _ (all_filter FitsEntry _ early (all_of_prefix FitsEntry early late fit_rest))
           (all_filter FitsEntry _ (late ++ displaced_entries log e)
           (all_append FitsEntry late (displaced_entries log e) (all_back FitsEntry early late fit_rest)
           (all_filter FitsEntry (is_displaced e.key) back fit_back))));
@@ -133,7 +133,7 @@ first_fits (Some x) b e ha hb is = ha e is
 pub found_fits : (log : Log) (early late : List Entry) (i : Id) (e : Entry) → AreApart log early late
     → or_else (find_id (unsynced_part log) i) (or_else (find_id early i) (find_id late i)) ≡ Some e → FitsEntry e
 found_fits log early late i e a is =
-    let logged = all_front FitsEntry log.entries (early ++ late) a.fit in
+    let logged = all_of_prefix FitsEntry log.entries (early ++ late) a.fit in
     let rest = all_back FitsEntry log.entries (early ++ late) a.fit in
     let back =
     all_back FitsEntry (synced_part log) (unsynced_part log)
@@ -141,7 +141,7 @@ found_fits log early late i e a is =
     first_fits (find_id (unsynced_part log) i) (or_else (find_id early i) (find_id late i)) e
     (λ x h. find_fits (unsynced_part log) i x back h)
     (λ x h. first_fits (find_id early i) (find_id late i) x
-    (λ y k. find_fits early i y (all_front FitsEntry early late rest) k)
+    (λ y k. find_fits early i y (all_of_prefix FitsEntry early late rest) k)
     (λ y k. find_fits late i y (all_back FitsEntry early late rest) k) h)
     is
 
@@ -223,7 +223,7 @@ arranged_overtaken log early late a =
     let past : Entry → Bool = λ e. not (is_above_last keys e.key) in
     let lower : AreRising keys = a.sound.ordered.rising in
     let rest = all_back FitsEntry log.entries (early ++ late) a.fit in
-    let waited = all_front FitsEntry early late rest in
+    let waited = all_of_prefix FitsEntry early late rest in
     record {
       rising =
           subst AreRising (sym (keys_append log.entries (filter still early)))
@@ -236,7 +236,7 @@ arranged_overtaken log early late a =
           let old = own_times i (log.entries ++ (early ++ late)) a.own_ids in
           let old_sum = times_all i log.entries early late in
           omega (arith, sum, more, split, old, old_sum));
-      fit = all_append FitsEntry log.entries _ (all_front FitsEntry log.entries (early ++ late) a.fit)
+      fit = all_append FitsEntry log.entries _ (all_of_prefix FitsEntry log.entries (early ++ late) a.fit)
           (all_append FitsEntry _ _ (all_filter FitsEntry still early waited)
           (all_append FitsEntry late _ (all_back FitsEntry early late rest) (all_filter FitsEntry past early waited)));
     }

@@ -38,8 +38,8 @@ find_skips (x ∷ xs) ys i none =
     rw (neither_left (id_eq i (id_of x.key)) (has_id (keys_of xs) i) none)
     (find_skips xs ys i (neither_right (id_eq i (id_of x.key)) (has_id (keys_of xs) i) none))
 
-pub find_behind : (log : Log) (i : Id) → has_id (keys_of (synced_part log)) i ≡ false → find_id log.entries i ≡ find_id (unsynced_part log) i
-find_behind log i none =
+pub find_after_synced : (log : Log) (i : Id) → has_id (keys_of (synced_part log)) i ≡ false → find_id log.entries i ≡ find_id (unsynced_part log) i
+find_after_synced log i none =
     ap (λ (xs : List Entry). find_id xs i) (sym (take-append-drop log.synced log.entries)) ∙ find_skips (synced_part log) (unsynced_part log) i none
 
 pub find_nowhere : (es : List Entry) (i : Id) → place_of es i ≡ None → find_id es i ≡ None

@@ -31,7 +31,7 @@ use Rattle.nz_machine.specs.Adopting.{with_log, normal_in}
 use Rattle.nz_machine.specs.Begins.{report_of, with_report, without_strays, changes_of, after_begin}
 use Rattle.nz_machine.specs.Rejoining.{rejoin_period, last_counter, with_teller, with_new_counter, ask_views, with_tells, with_tell, latest_view, ask_log}
 use Rattle.nz_machine.proofs.Runs.{on_cond}
-use Rattle.nz_machine.proofs.EachItem.{all_append, all_front, all_filter, all_replicate}
+use Rattle.nz_machine.proofs.EachItem.{all_append, all_of_prefix, all_filter, all_replicate}
 use Rattle.nz_machine.proofs.ListParts.{all_index}
 use Rattle.nz_machine.proofs.Tables.{set_all}
 use Rattle.nz_machine.proofs.Stores.{answer_fits, replies_pushed}
@@ -113,14 +113,14 @@ start_keeps f me s view list commit h low away c committed = record {
   rejoin = h.rejoin;
 }
 
-replies_grow : (front rest : List Entry) → AllByRecursion answer.fits (replies (commands front))
-    → AllByRecursion answer.fits (replies (commands (front ++ rest)))
-replies_grow front [] all = subst (λ (l : List Entry). AllByRecursion answer.fits (replies (commands l))) (sym (append-nil front)) all
-replies_grow front (e ∷ rest) all =
+replies_grow : (prefix rest : List Entry) → AllByRecursion answer.fits (replies (commands prefix))
+    → AllByRecursion answer.fits (replies (commands (prefix ++ rest)))
+replies_grow prefix [] all = subst (λ (l : List Entry). AllByRecursion answer.fits (replies (commands l))) (sym (append-nil prefix)) all
+replies_grow prefix (e ∷ rest) all =
     let more =
-    subst (AllByRecursion answer.fits) (sym (replies_pushed front e))
-    (all_append answer.fits (replies (commands front)) _ all (answer_fits (commands front) e.command, tt)) in
-    subst (λ (l : List Entry). AllByRecursion answer.fits (replies (commands l))) (append_assoc front (e ∷ []) rest) (replies_grow (front ++ e ∷ []) rest more)
+    subst (AllByRecursion answer.fits) (sym (replies_pushed prefix e))
+    (all_append answer.fits (replies (commands prefix)) _ all (answer_fits (commands prefix) e.command, tt)) in
+    subst (λ (l : List Entry). AllByRecursion answer.fits (replies (commands l))) (append_assoc prefix (e ∷ []) rest) (replies_grow (prefix ++ e ∷ []) rest more)
 
 pub replies_fit : (log : List Entry) → AllByRecursion answer.fits (replies (commands log))
 unfolding replies_from
@@ -190,7 +190,7 @@ strays_keep f me s h =
 pub own_carried : (f me : ℕ) (s : ReplicaData) → HasFacts f me s → IsCarried s.log.entries
 own_carried f me s h = record {
   log = (apart_held s.log s.early s.late h.entries).sound.ordered;
-  fit = all_front FitsEntry s.log.entries (s.early ++ s.late) h.entries.arranged.fit;
+  fit = all_of_prefix FitsEntry s.log.entries (s.early ++ s.late) h.entries.arranged.fit;
   few = h.entries.few;
 }
 

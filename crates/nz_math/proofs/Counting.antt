@@ -193,7 +193,7 @@ unfolding members_below
 is_in-members zero p x = let past : ltb x 0 ≡ false = le-ltb x 0 (omega arith) in rw past refl
 is_in-members (suc n) p x =
     let split = is_in-append (members_below n p) (cond (p n) (n ∷ []) []) x in
-    let front = is_in-members n p x in
+    let prefix = is_in-members n p x in
     let last = last_is n x (p n) in
     elim (cases_eq n x) [
       | inl same ↦
@@ -201,11 +201,11 @@ is_in-members (suc n) p x =
           let below : ltb x n ≡ false = le-ltb x n (omega arith) in
           let within : ltb x (suc n) ≡ true = lt-ltb x (suc n) (omega arith) in
           let mark : p n ≡ p x = ap p same in
-          rw (split, front, last, here, below, within, mark) refl
+          rw (split, prefix, last, here, below, within, mark) refl
       | inr other ↦
           let apart : eqb n x ≡ false = ne_eqb n x other in
           let limit : ltb x (suc n) ≡ ltb x n = one_more n x other in
-          rw (split, front, last, apart, limit) (or_false (ltb x n && p x))
+          rw (split, prefix, last, apart, limit) (or_false (ltb x n && p x))
     ]
 
 distinct-append : (xs : List ℕ) (n : ℕ) → AreDistinct xs → is_in xs n ≡ false → AreDistinct (xs ++ n ∷ [])

@@ -18,7 +18,7 @@ use Rattle.nz_merge.specs.Merged.{merged_synced_part, threshold, merged, begins_
 use Rattle.nz_merge.specs.Sender.{senders}
 use Rattle.nz_merge.proofs.Beginnings.{begins_append, rest_of}
 use Rattle.nz_merge.proofs.Logs.{lowest_has}
-use Rattle.nz_merge.proofs.Merging.{front_stays, synced_front}
+use Rattle.nz_merge.proofs.Merging.{prefix_stays, synced_prefix}
 use Rattle.nz_merge.proofs.Senders.{contains_first, contains_later, pass_twice, fast_members}
 
 -- ---- the test of a beginning, and prefixes
@@ -129,7 +129,7 @@ base_of (x ∷ xs) some =
 
 pub synced_stays : (f : ℕ) (changes : List Change) (P : List Key)
     → IsPrefix P (keys_of (merged_synced_part (changes_kept changes))) → IsPrefix P (keys_of (merged f changes))
-synced_stays f changes P p = begun P (keys_of (merged f changes)) (synced_front f changes P (begins P (keys_of (merged_synced_part (changes_kept changes))) p))
+synced_stays f changes P p = begun P (keys_of (merged f changes)) (synced_prefix f changes P (begins P (keys_of (merged_synced_part (changes_kept changes))) p))
 
 -- a list that each report from a fast quorum begins with, and is of the greatest last view
 pub fast_count : (f : ℕ) (quorum : List ℕ) (changes : List Change) (P : List Key) → IsChoice (group_size f) quorum → fast_quorum f ≤ length quorum
@@ -152,4 +152,4 @@ fast_stays f changes P fit size enough either =
       | inl shorter ↦ inl (begins P base shorter)
       | inr longer ↦ inr (begins base P longer)
     ] in
-    begun P (keys_of (merged f changes)) (front_stays f changes P fit (omega (arith, size)) enough in_tests)
+    begun P (keys_of (merged f changes)) (prefix_stays f changes P fit (omega (arith, size)) enough in_tests)

@@ -12,21 +12,21 @@ use Rattle.nz_merge.specs.Merged.{begins_with}
 abbrev pub AreAmong : List Key → List Key → Type 0
 AreAmong xs ys = (x : Key) → has_key xs x ≡ true → has_key ys x ≡ true
 
-pub begins_append : (front rest : List Key) → begins_with (front ++ rest) front ≡ true
+pub begins_append : (prefix rest : List Key) → begins_with (prefix ++ rest) prefix ≡ true
 begins_append [] rest = refl
-begins_append (k ∷ front) rest = and_both (key_eq k k) (begins_with (front ++ rest) front) (key_eq_self k) (begins_append front rest)
+begins_append (k ∷ prefix) rest = and_both (key_eq k k) (begins_with (prefix ++ rest) prefix) (key_eq_self k) (begins_append prefix rest)
 
 -- what begins with a prefix is the prefix and a rest
-pub rest_of : (keys front : List Key) → begins_with keys front ≡ true → (rest : List Key) × (keys ≡ front ++ rest)
+pub rest_of : (keys prefix : List Key) → begins_with keys prefix ≡ true → (rest : List Key) × (keys ≡ prefix ++ rest)
 rest_of keys [] h = (keys, refl)
-rest_of [] (f ∷ front) h = absurd cc
-rest_of (k ∷ keys) (f ∷ front) h =
-    let more = rest_of keys front (and_right (key_eq f k) (begins_with keys front) h) in
-    (more.0, ap (λ (x : Key). x ∷ keys) (sym (same_key f k (and_left (key_eq f k) (begins_with keys front) h))) ∙ ap (λ (xs : List Key). f ∷ xs) more.1)
+rest_of [] (f ∷ prefix) h = absurd cc
+rest_of (k ∷ keys) (f ∷ prefix) h =
+    let more = rest_of keys prefix (and_right (key_eq f k) (begins_with keys prefix) h) in
+    (more.0, ap (λ (x : Key). x ∷ keys) (sym (same_key f k (and_left (key_eq f k) (begins_with keys prefix) h))) ∙ ap (λ (xs : List Key). f ∷ xs) more.1)
 
 -- the test says that the list is a prefix
-pub prefix_of_test : (front keys : List Key) → begins_with keys front ≡ true → IsPrefix front keys
-prefix_of_test front keys h = let more = rest_of keys front h in record { rest = more.0; whole = more.1 }
+pub prefix_of_test : (prefix keys : List Key) → begins_with keys prefix ≡ true → IsPrefix prefix keys
+prefix_of_test prefix keys h = let more = rest_of keys prefix h in record { rest = more.0; whole = more.1 }
 
-pub test_of_prefix : (front keys : List Key) → IsPrefix front keys → begins_with keys front ≡ true
-test_of_prefix front keys p = subst (λ (xs : List Key). begins_with xs front ≡ true) (sym p.whole) (begins_append front p.rest)
+pub test_of_prefix : (prefix keys : List Key) → IsPrefix prefix keys → begins_with keys prefix ≡ true
+test_of_prefix prefix keys p = subst (λ (xs : List Key). begins_with xs prefix ≡ true) (sym p.whole) (begins_append prefix p.rest)

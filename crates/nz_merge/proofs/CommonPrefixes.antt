@@ -11,7 +11,7 @@ use Rattle.nz_base.specs.Key.{key_eq}
 use Rattle.nz_base.specs.Log.{keys_of, has_key, AreRising, HaveOwnIds}
 use Rattle.nz_base.proofs.Names.{key_eq_self}
 use Rattle.nz_base.proofs.Booleans.{cases_bool, and_both, and_left, and_right}
-use Rattle.nz_base.proofs.Logs.{has_append, has_front, has_back, front_below, rising_front, own_front}
+use Rattle.nz_base.proofs.Logs.{has_append, has_in_prefix, has_back, prefix_below, rising_prefix, own_ids_of_prefix}
 use Rattle.nz_merge.specs.Merged.{begins_with, IsFit, merged_synced_part, holders, all_keys, later_keys, entry_in, merged_from, count_beginning}
 use Rattle.nz_merge.specs.declared.change.Change.{Change}
 use Rattle.nz_merge.proofs.Beginnings.{begins_append, rest_of, AreAmong}
@@ -62,15 +62,15 @@ pub among_all : (p : Change → Bool) (changes : List Change) (k : Key)
 among_all p [] k h some = absurd (omega arith)
 among_all p (c ∷ changes) k h some =
     elim (cases_bool (p c)) [
-      | inl here ↦ has_front (keys_of c.log) (flat_map (λ d. keys_of d.log) changes) k (h c here)
+      | inl here ↦ has_in_prefix (keys_of c.log) (flat_map (λ d. keys_of d.log) changes) k (h c here)
       | inr away ↦ has_back (keys_of c.log) (flat_map (λ d. keys_of d.log) changes) k (among_all p changes k h (rw away at some))
     ]
 
 -- a key of a prefix is a key of what begins with it
-pub of_front : (keys front : List Key) (k : Key) → begins_with keys front ≡ true → has_key front k ≡ true → has_key keys k ≡ true
-of_front keys front k begins h =
-    let rest = rest_of keys front begins in
-    subst (λ (xs : List Key). has_key xs k ≡ true) (sym rest.1) (has_front front rest.0 k h)
+pub has_of_prefix : (keys prefix : List Key) (k : Key) → begins_with keys prefix ≡ true → has_key prefix k ≡ true → has_key keys k ≡ true
+has_of_prefix keys prefix k begins h =
+    let rest = rest_of keys prefix begins in
+    subst (λ (xs : List Key). has_key xs k ≡ true) (sym rest.1) (has_in_prefix prefix rest.0 k h)
 
 -- ---- a prefix that enough logs have
 
@@ -81,10 +81,10 @@ settled limit changes P fit positive few enough =
     let one = some_pass IsFit begins changes fit (omega (arith, enough)) in
     let rest = rest_of (keys_of one.0.log) P one.2 in
     record {
-      rising = rising_front P rest.0 (subst AreRising rest.1 one.1.log.rising);
-      own_ids = own_front P rest.0 (subst HaveOwnIds rest.1 one.1.log.own_ids);
+      rising = rising_prefix P rest.0 (subst AreRising rest.1 one.1.log.rising);
+      own_ids = own_ids_of_prefix P rest.0 (subst HaveOwnIds rest.1 one.1.log.own_ids);
       held = λ k h.
-          let more = more_pass begins (λ c. has_key (keys_of c.log) k) changes (λ c b. of_front (keys_of c.log) P k b h) in
+          let more = more_pass begins (λ c. has_key (keys_of c.log) k) changes (λ c b. has_of_prefix (keys_of c.log) P k b h) in
           le-leb limit (length (holders changes k)) (omega (arith, enough, more));
       closed = λ k h.
           let held_by = leb-true limit (length (holders changes k)) h in
@@ -94,7 +94,7 @@ settled limit changes P fit positive few enough =
           elim (has_append P tail.0 k (subst (λ (xs : List Key). has_key xs k ≡ true) tail.1
           (and_right (begins both.0) (has_key (keys_of both.0.log) k) both.2))) [
             | inl inside ↦ inl inside
-            | inr behind ↦ inr (λ x there. front_below P tail.0 x k (subst AreRising tail.1 both.1.log.rising) there behind)
+            | inr after ↦ inr (λ x there. prefix_below P tail.0 x k (subst AreRising tail.1 both.1.log.rising) there after)
           ];
     }
 
@@ -111,21 +111,21 @@ merged_keys limit changes =
     let added = later_keys limit changes (keys_of base) (all_keys changes) in
     map-append (λ (e : Entry). e.key) base (map (entry_in changes) added) ∙ ap (λ (xs : List Key). keys_of base ++ xs) (keys_entries changes added)
 
-pub begins_longer : (xs ys front : List Key) → begins_with xs front ≡ true → begins_with (xs ++ ys) front ≡ true
-begins_longer xs ys front h =
-    let rest = rest_of xs front h in
-    subst (λ (zs : List Key). begins_with zs front ≡ true)
-    (sym (ap (λ (zs : List Key). zs ++ ys) rest.1 ∙ append_assoc front rest.0 ys)) (begins_append front (rest.0 ++ ys))
+pub begins_longer : (xs ys prefix : List Key) → begins_with xs prefix ≡ true → begins_with (xs ++ ys) prefix ≡ true
+begins_longer xs ys prefix h =
+    let rest = rest_of xs prefix h in
+    subst (λ (zs : List Key). begins_with zs prefix ≡ true)
+    (sym (ap (λ (zs : List Key). zs ++ ys) rest.1 ∙ append_assoc prefix rest.0 ys)) (begins_append prefix (rest.0 ++ ys))
 
-begins_further : (front xs rest : List Key) → begins_with xs rest ≡ true → begins_with (front ++ xs) (front ++ rest) ≡ true
+begins_further : (prefix xs rest : List Key) → begins_with xs rest ≡ true → begins_with (prefix ++ xs) (prefix ++ rest) ≡ true
 begins_further [] xs rest h = h
-begins_further (f ∷ front) xs rest h = and_both (key_eq f f) (begins_with (front ++ xs) (front ++ rest)) (key_eq_self f) (begins_further front xs rest h)
+begins_further (f ∷ prefix) xs rest h = and_both (key_eq f f) (begins_with (prefix ++ xs) (prefix ++ rest)) (key_eq_self f) (begins_further prefix xs rest h)
 
-pub begins_with_front : (limit : ℕ) (changes : List Change) (P : List Key) → AllByRecursion IsFit changes → 0 < limit
+pub begins_with_prefix : (limit : ℕ) (changes : List Change) (P : List Key) → AllByRecursion IsFit changes → 0 < limit
     → length changes < limit + limit → limit ≤ count_beginning P changes
     → (begins_with (keys_of (merged_synced_part changes)) P ≡ true) ⊎ (begins_with P (keys_of (merged_synced_part changes)) ≡ true)
     → begins_with (keys_of (merged_from limit changes)) P ≡ true
-begins_with_front limit changes P fit positive few enough either =
+begins_with_prefix limit changes P fit positive few enough either =
     let base = keys_of (merged_synced_part changes) in
     let added = later_keys limit changes base (all_keys changes) in
     let s = settled limit changes P fit positive few enough in
@@ -135,7 +135,7 @@ begins_with_front limit changes P fit positive few enough either =
           let rest = rest_of P base longer in
           let among : AreAmong rest.0 (all_keys changes) = λ k h. has_in_order (flat_map (λ c. keys_of c.log) changes) k
           (among_all (λ c. begins_with (keys_of c.log) P) changes k
-          (λ c b. of_front (keys_of c.log) P k b
+          (λ c b. has_of_prefix (keys_of c.log) P k b
           (subst (λ (xs : List Key). has_key xs k ≡ true) (sym rest.1) (has_back base rest.0 k h))) (omega (arith, enough))) in
           let walked = walk limit changes P base rest.0 (all_keys changes) s rest.1 (in_order_rising (flat_map (λ c. keys_of c.log) changes)) among in
           subst (λ (xs : List Key). begins_with (base ++ added) xs ≡ true) (sym rest.1) (begins_further base added rest.0 walked)

@@ -11,7 +11,7 @@ use Rattle.nz_base.specs.Key.{key_below, key_eq, id_eq, id_of}
 use Rattle.nz_base.specs.Log.{keys_of, has_key, has_id, AreRising, is_above_last}
 use Rattle.nz_base.proofs.Names.{same_key}
 use Rattle.nz_base.proofs.Booleans.{cases_bool, or_cases, or_left, or_right, and_both, and_left, clash}
-use Rattle.nz_base.proofs.Logs.{has_first, has_append, has_front, has_back, above_each, above_last}
+use Rattle.nz_base.proofs.Logs.{has_first, has_append, has_in_prefix, has_back, above_each, above_last}
 use Rattle.nz_base.proofs.Keys.{never_self}
 use Rattle.nz_merge.specs.Merged.{IsFit, greatest, lowest, synced_entries, merged_synced_part, holders, all_keys}
 use Rattle.nz_merge.specs.Merged.{is_taken, later_keys, command_of_key, command_of_change, entry_in, merged_from}
@@ -48,7 +48,7 @@ takes_held limit changes taken (c ∷ candidates) k r there enough below only =
             | inr away ↦ away
             | inl known ↦
                 let found = with_id taken (id_of k) known in
-                let itself : found.0 ≡ k = only found.0 (has_front taken (later_keys limit changes taken (c ∷ candidates)) found.0 found.1) found.2 in
+                let itself : found.0 ≡ k = only found.0 (has_in_prefix taken (later_keys limit changes taken (c ∷ candidates)) found.0 found.1) found.2 in
                 never_self k (subst (λ (x : Key). key_below x k ≡ true) itself (below found.0 found.1))
           ] in
           let joins : is_taken limit changes taken k ≡ true =
@@ -58,13 +58,13 @@ takes_held limit changes taken (c ∷ candidates) k r there enough below only =
           let joins_c : is_taken limit changes taken c ≡ true = subst (λ (x : Key). is_taken limit changes taken x ≡ true) same joins in
           rw joins_c (or_left (key_eq k c) (has_key (later_keys limit changes (taken ++ c ∷ []) candidates) k) equal)
       | inr other ↦
-          let behind : has_key candidates k ≡ true = elim (or_cases (key_eq k c) (has_key candidates k) there) [
+          let after : has_key candidates k ≡ true = elim (or_cases (key_eq k c) (has_key candidates k) there) [
             | inl equal ↦ clash (key_eq k c) equal other
             | inr rest ↦ rest
           ] in
-          let before : key_below c k ≡ true = r.0 k behind in
+          let before : key_below c k ≡ true = r.0 k after in
           elim (cases_bool (is_taken limit changes taken c)) [
-            | inr skipped ↦ rw skipped (takes_held limit changes taken candidates k r.1 behind enough below (rw skipped at only))
+            | inr skipped ↦ rw skipped (takes_held limit changes taken candidates k r.1 after enough below (rw skipped at only))
             | inl joins ↦
                 let more : (x : Key) → has_key (taken ++ c ∷ []) x ≡ true → key_below x k ≡ true = λ x h. elim (has_append taken (c ∷ []) x h) [
                   | inl early ↦ below x early
@@ -76,7 +76,7 @@ takes_held limit changes taken (c ∷ candidates) k r there enough below only =
                 let rest = later_keys limit changes (taken ++ c ∷ []) candidates in
                 let only_then : (x : Key) → has_key (taken ++ c ∷ rest) x ≡ true → id_eq (id_of k) (id_of x) ≡ true → x ≡ k = rw joins at only in
                 let found =
-                takes_held limit changes (taken ++ c ∷ []) candidates k r.1 behind enough more
+                takes_held limit changes (taken ++ c ∷ []) candidates k r.1 after enough more
                 (λ x h i. only_then x (subst (λ (xs : List Key). has_key xs x ≡ true) (append_assoc taken (c ∷ []) rest) h) i) in
                 rw joins (or_right (key_eq k c) (has_key rest k) found)
           ]

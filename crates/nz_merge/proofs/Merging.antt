@@ -10,7 +10,7 @@ use Rattle.nz_base.proofs.Booleans.{length-filter_le}
 use Rattle.nz_merge.specs.Merged.{begins_with, IsFit, AreFit, greatest, changes_kept, merged_synced_part, holders}
 use Rattle.nz_merge.specs.Merged.{all_keys, later_keys, entry_in, threshold, merged, count_beginning}
 use Rattle.nz_merge.specs.declared.change.Change.{Change}
-use Rattle.nz_merge.proofs.CommonPrefixes.{begins_longer, begins_with_front, merged_keys}
+use Rattle.nz_merge.proofs.CommonPrefixes.{begins_longer, begins_with_prefix, merged_keys}
 use Rattle.nz_merge.proofs.Logs.{all_filter, merged_log}
 use Rattle.nz_merge.proofs.Entries.{merged_has, merged_entries}
 
@@ -29,22 +29,22 @@ starts f changes = (
   refl,
 )
 
-pub synced_front : (f : ℕ) (changes : List Change) (front : List Key)
-    → begins_with (keys_of (merged_synced_part (changes_kept changes))) front ≡ true → begins_with (keys_of (merged f changes)) front ≡ true
+pub synced_prefix : (f : ℕ) (changes : List Change) (prefix : List Key)
+    → begins_with (keys_of (merged_synced_part (changes_kept changes))) prefix ≡ true → begins_with (keys_of (merged f changes)) prefix ≡ true
 unfolding merged
-synced_front f changes front h =
+synced_prefix f changes prefix h =
     let base = keys_of (merged_synced_part (changes_kept changes)) in
     rw (merged_keys (threshold f) (changes_kept changes))
-    (begins_longer base (later_keys (threshold f) (changes_kept changes) base (all_keys (changes_kept changes))) front h)
+    (begins_longer base (later_keys (threshold f) (changes_kept changes) base (all_keys (changes_kept changes))) prefix h)
 
-pub front_stays : (f : ℕ) (changes : List Change) (front : List Key) → AreFit changes → length changes ≤ f + 1
-    → threshold f ≤ count_beginning front (changes_kept changes)
-    → (begins_with (keys_of (merged_synced_part (changes_kept changes))) front ≡ true)
-    ⊎ (begins_with front (keys_of (merged_synced_part (changes_kept changes))) ≡ true) → begins_with (keys_of (merged f changes)) front ≡ true
+pub prefix_stays : (f : ℕ) (changes : List Change) (prefix : List Key) → AreFit changes → length changes ≤ f + 1
+    → threshold f ≤ count_beginning prefix (changes_kept changes)
+    → (begins_with (keys_of (merged_synced_part (changes_kept changes))) prefix ≡ true)
+    ⊎ (begins_with prefix (keys_of (merged_synced_part (changes_kept changes))) ≡ true) → begins_with (keys_of (merged f changes)) prefix ≡ true
 unfolding merged
-front_stays f changes front fit few enough either =
+prefix_stays f changes prefix fit few enough either =
     let fewer = length-filter_le (λ c. eqb c.last (greatest (map (λ d. d.last) changes))) changes in
-    begins_with_front (threshold f) (changes_kept changes) front (kept_fit IsFit changes fit) (omega arith) (omega (arith, few, fewer)) enough either
+    begins_with_prefix (threshold f) (changes_kept changes) prefix (kept_fit IsFit changes fit) (omega arith) (omega (arith, few, fewer)) enough either
 
 pub held_key : (f : ℕ) (changes : List Change) (key : Key) → AreFit changes
     → threshold f ≤ length (holders (changes_kept changes) key) → is_above_last (keys_of (merged_synced_part (changes_kept changes))) key ≡ true

@@ -6,7 +6,7 @@ use Rattle.nz_base.specs.Log.{has_key, has_id, AreRising, HaveOwnIds, is_above_l
 use Rattle.nz_base.proofs.Keys.{key_below-trans, never_both, never_self}
 use Rattle.nz_base.proofs.Names.{same_key}
 use Rattle.nz_base.proofs.Booleans.{cases_bool, or_cases, and_left, and_right, and_both, clash}
-use Rattle.nz_base.proofs.Logs.{has_first, has_later, has_append, has_back, front_below, rising_back, rising_front, above_each, above_last, own_id}
+use Rattle.nz_base.proofs.Logs.{has_first, has_later, has_append, has_back, prefix_below, rising_back, rising_prefix, above_each, above_last, own_id}
 use Rattle.nz_merge.specs.Merged.{begins_with, holders, is_taken, later_keys}
 use Rattle.nz_merge.specs.declared.change.Change.{Change}
 use Rattle.nz_merge.proofs.Beginnings.{AreAmong}
@@ -26,7 +26,7 @@ takes_next limit changes P taken r rest s parts =
     let rising : AreRising (taken ++ r ∷ rest) = subst AreRising parts s.rising in
     let own : HaveOwnIds (taken ++ r ∷ rest) = subst HaveOwnIds parts s.own_ids in
     let here : has_key P r ≡ true = subst (λ (xs : List Key). has_key xs r ≡ true) (sym parts) (has_back taken (r ∷ rest) r (has_first r rest)) in
-    let above : is_above_last taken r ≡ true = above_last taken r (λ x h. front_below taken (r ∷ rest) x r rising h (has_first r rest)) in
+    let above : is_above_last taken r ≡ true = above_last taken r (λ x h. prefix_below taken (r ∷ rest) x r rising h (has_first r rest)) in
     let fresh : has_id taken (id_of r) ≡ false = own_id taken r rest own in
     and_both (leb limit (length (holders changes r))) (is_above_last taken r && not (has_id taken (id_of r))) (s.held r here)
     (and_both (is_above_last taken r) (not (has_id taken (id_of r))) above (rw fresh refl))
@@ -36,7 +36,7 @@ skips_other : (limit : ℕ) (changes : List Change) (P taken : List Key) (r : Ke
     → IsSettled limit changes P → P ≡ taken ++ r ∷ rest → key_below k r ≡ true → is_taken limit changes taken k ≡ false
 skips_other limit changes P taken r rest k s parts before =
     let rising : AreRising (taken ++ r ∷ rest) = subst AreRising parts s.rising in
-    let behind : AreRising (r ∷ rest) = rising_back taken (r ∷ rest) rising in
+    let after : AreRising (r ∷ rest) = rising_back taken (r ∷ rest) rising in
     elim (cases_bool (is_taken limit changes taken k)) [
       | inr away ↦ away
       | inl joins ↦
@@ -50,11 +50,11 @@ skips_other limit changes P taken r rest k s parts before =
                 (has_back taken (r ∷ rest) r (has_first r rest))))
             | inl among ↦
                 elim (has_append taken (r ∷ rest) k (subst (λ (xs : List Key). has_key xs k ≡ true) parts among)) [
-                  | inl early ↦ never_self k (above_each taken k k (rising_front taken (r ∷ rest) rising) above early)
+                  | inl early ↦ never_self k (above_each taken k k (rising_prefix taken (r ∷ rest) rising) above early)
                   | inr late ↦
                       elim (or_cases (key_eq k r) (has_key rest k) late) [
                         | inl same ↦ never_self k (subst (λ (x : Key). key_below k x ≡ true) (sym (same_key k r same)) before)
-                        | inr last ↦ never_both k r before (behind.0 k last)
+                        | inr last ↦ never_both k r before (after.0 k last)
                       ]
                 ]
           ]
@@ -81,7 +81,7 @@ walk limit changes P taken [] candidates s parts rising among = begins_none (lat
 walk limit changes P taken (r ∷ rest) [] s parts rising among = absurd (let h = among r (has_first r rest) in cc)
 walk limit changes P taken (r ∷ rest) (k ∷ keys) s parts rising among =
     let whole : AreRising (taken ++ r ∷ rest) = subst AreRising parts s.rising in
-    let behind : AreRising (r ∷ rest) = rising_back taken (r ∷ rest) whole in
+    let after : AreRising (r ∷ rest) = rising_back taken (r ∷ rest) whole in
     elim (cases_bool (key_eq r k)) [
       | inl equal ↦
           let same : r ≡ k = same_key r k equal in
@@ -89,7 +89,7 @@ walk limit changes P taken (r ∷ rest) (k ∷ keys) s parts rising among =
           subst (λ (x : Key). is_taken limit changes taken x ≡ true) same (takes_next limit changes P taken r rest s parts) in
           let next : P ≡ (taken ++ k ∷ []) ++ rest = parts ∙ ap (λ (x : Key). taken ++ x ∷ rest) same ∙ sym (append_assoc taken (k ∷ []) rest) in
           let among_next : AreAmong rest keys = λ x h. elim (or_cases (key_eq x k) (has_key keys x) (among x (has_later r rest x h))) [
-            | inl first ↦ never_self r (subst (λ (y : Key). key_below r y ≡ true) (same_key x k first ∙ sym same) (behind.0 x h))
+            | inl first ↦ never_self r (subst (λ (y : Key). key_below r y ≡ true) (same_key x k first ∙ sym same) (after.0 x h))
             | inr there ↦ there
           ] in
           rw joins (and_both (key_eq r k) (begins_with (later_keys limit changes (taken ++ k ∷ []) keys) rest) equal
@@ -103,7 +103,7 @@ walk limit changes P taken (r ∷ rest) (k ∷ keys) s parts rising among =
           let skipped : is_taken limit changes taken k ≡ false = skips_other limit changes P taken r rest k s parts before in
           let before_all : (x : Key) → has_key (r ∷ rest) x ≡ true → key_below k x ≡ true = λ x h. elim (or_cases (key_eq x r) (has_key rest x) h) [
             | inl first ↦ subst (λ (y : Key). key_below k y ≡ true) (sym (same_key x r first)) before
-            | inr later_x ↦ key_below-trans k r x before (behind.0 x later_x)
+            | inr later_x ↦ key_below-trans k r x before (after.0 x later_x)
           ] in
           rw skipped (walk limit changes P taken (r ∷ rest) keys s parts rising.1 (among_rest r rest k keys among before_all))
     ]

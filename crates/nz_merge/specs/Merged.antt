@@ -128,9 +128,9 @@ merged f changes = merged_from (threshold f) (changes_kept changes)
 -- Whether one list of keys begins with another.
 abbrev pub begins_with : List Key → List Key → Bool
 begins_with keys [] = true
-begins_with [] (f ∷ front) = false
-begins_with (k ∷ keys) (f ∷ front) = key_eq f k && begins_with keys front
+begins_with [] (f ∷ prefix) = false
+begins_with (k ∷ keys) (f ∷ prefix) = key_eq f k && begins_with keys prefix
 
 -- How many of the logs begin with these keys.
 abbrev pub count_beginning : List Key → List Change → ℕ
-count_beginning front changes = length (filter (λ c. begins_with (keys_of c.log) front) changes)
+count_beginning prefix changes = length (filter (λ c. begins_with (keys_of c.log) prefix) changes)

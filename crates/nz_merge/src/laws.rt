@@ -18,19 +18,19 @@ pub fn merged_is_log()
 pub fn begins_with_synced_part()
     ensures entries { (f : ℕ) (changes : List Change)
         → (rest : List Entry) × (merged f changes ≡ merged_synced_part (changes_kept changes) ++ rest) }
-    ensures fronts { (f : ℕ) (changes : List Change) (front : List Key)
-        → IsTrue (begins_with (keys_of (merged_synced_part (changes_kept changes))) front)
-        → IsTrue (begins_with (keys_of (merged f changes)) front) }
+    ensures prefixes { (f : ℕ) (changes : List Change) (prefix : List Key)
+        → IsTrue (begins_with (keys_of (merged_synced_part (changes_kept changes))) prefix)
+        → IsTrue (begins_with (keys_of (merged f changes)) prefix) }
 {}
 
 /// Of at most f + 1 reports, let enough of the kept ones begin with some keys. Let these keys be a prefix of the
 /// synced part that is taken, or it a prefix of them. Then the merged log begins with them.
-pub fn front_stays()
-    ensures { (f : ℕ) (changes : List Change) (front : List Key) → AreFit changes
-        → length changes ≤ f + 1 → threshold f ≤ count_beginning front (changes_kept changes)
-        → IsTrue (begins_with (keys_of (merged_synced_part (changes_kept changes))) front)
-        ⊎ IsTrue (begins_with front (keys_of (merged_synced_part (changes_kept changes))))
-        → IsTrue (begins_with (keys_of (merged f changes)) front) }
+pub fn prefix_stays()
+    ensures { (f : ℕ) (changes : List Change) (prefix : List Key) → AreFit changes
+        → length changes ≤ f + 1 → threshold f ≤ count_beginning prefix (changes_kept changes)
+        → IsTrue (begins_with (keys_of (merged_synced_part (changes_kept changes))) prefix)
+        ⊎ IsTrue (begins_with prefix (keys_of (merged_synced_part (changes_kept changes))))
+        → IsTrue (begins_with (keys_of (merged f changes)) prefix) }
 {}
 
 /// A key that enough of the kept logs hold, after the synced part, is in the merged log if no other key with its id

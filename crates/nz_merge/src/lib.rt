@@ -10,6 +10,6 @@ mod tests;
 
 pub use change::{Change, ViewChanges};
 pub use laws::{
-    begins_with_synced_part, entries_come_from_logs, front_stays, held_key_stays, merged_is_log,
+    begins_with_synced_part, entries_come_from_logs, held_key_stays, merged_is_log, prefix_stays,
 };
 pub use new_log::merge;

@@ -83,8 +83,8 @@ one_byte (b ∷ bytes) long fits = let small : b < 256 = fits 0 in ap (λ (x : �
 eight_bytes : (bytes : List ℕ) → 8 ≤ length bytes → AreBytes bytes → big_bytes 8 (big_number 8 bytes) ++ drop 8 bytes ≡ bytes
 eight_bytes bytes long fits =
     let value : big_number 8 bytes ≡ from_be_bytes w64 (take 8 bytes) = omega (arith, big_from-take 0 8 8 bytes (omega arith)) in
-    let front = be_bytes_8 (take 8 bytes) (big_number 8 bytes) (omega (arith, length-take 8 bytes)) (AreBytes-take 8 bytes fits) value in
-    ap (λ (xs : List ℕ). xs ++ drop 8 bytes) front ∙ take-append-drop 8 bytes
+    let prefix = be_bytes_8 (take 8 bytes) (big_number 8 bytes) (omega (arith, length-take 8 bytes)) (AreBytes-take 8 bytes fits) value in
+    ap (λ (xs : List ℕ). xs ++ drop 8 bytes) prefix ∙ take-append-drop 8 bytes
 
 pub wide1 : IsWide 1
 wide1 = record { back = one_byte }
@@ -285,8 +285,8 @@ optional_again c size p None rest h = rw (flag_exact.again 0 rest (omega arith, 
 optional_again c size p (Some a) rest h = rw (flag_exact.again 1 (c.put a rest) (omega arith, refl), p.again a rest h) refl
 
 -- what is after the flag
-behind_flag : {A : Type 0} → Codec A → ℕ → List ℕ → Result (Option A × List ℕ) ℕ
-behind_flag c flag bytes = cond (eqb flag 0) (Ok (None, bytes)) (c.get bytes >>= λ a. Ok (Some a.0, a.1))
+after_flag : {A : Type 0} → Codec A → ℕ → List ℕ → Result (Option A × List ℕ) ℕ
+after_flag c flag bytes = cond (eqb flag 0) (Ok (None, bytes)) (c.get bytes >>= λ a. Ok (Some a.0, a.1))
 
 record IsFlagged {A : Type 0} (c : Codec A) (flag : ℕ) (bytes : List ℕ) (o : Option A) (rest : List ℕ) : Type 0 where
   spelled : number_bytes 1 flag ++ bytes ≡ optional_put c.put o rest
@@ -294,8 +294,8 @@ record IsFlagged {A : Type 0} (c : Codec A) (flag : ℕ) (bytes : List ℕ) (o :
   rest_fits : AreBytes rest
 
 flagged : {A : Type 0} (c : Codec A) (size : ℕ) → IsExact c size → (flag : ℕ) (bytes : List ℕ) (x : Option A × List ℕ)
-    → flag < 2 → AreBytes bytes → behind_flag c flag bytes ≡ Ok x → IsFlagged c flag bytes x.0 x.1
-unfolding behind_flag
+    → flag < 2 → AreBytes bytes → after_flag c flag bytes ≡ Ok x → IsFlagged c flag bytes x.0 x.1
+unfolding after_flag
 flagged {A} c size p zero bytes x small fits e =
     let made : IsFlagged c 0 bytes None bytes = record { spelled = refl; fit = tt; rest_fits = fits } in
     subst (λ (y : Option A × List ℕ). IsFlagged c 0 bytes y.0 y.1) (ok_is (None, bytes) x e) made
@@ -309,9 +309,9 @@ flagged c size p (suc (suc n)) bytes x small fits e = absurd (omega arith)
 
 optional_takes : {A : Type 0} (c : Codec A) (size : ℕ) → IsExact c size → (bytes : List ℕ) (x : Option A × List ℕ)
     → AreBytes bytes → optional_at c.get bytes ≡ Ok x → Takes (optional c) bytes x.0 x.1
-unfolding optional_at behind_flag
+unfolding optional_at after_flag
 optional_takes {A} c size p bytes x fits e =
-    let f = bind_ok (limited_at (is_in_range 0 1) (number_at 1) bytes) (λ flag. behind_flag c flag.0 flag.1) x e in
+    let f = bind_ok (limited_at (is_in_range 0 1) (number_at 1) bytes) (λ flag. after_flag c flag.0 flag.1) x e in
     let t = flag_exact.takes bytes f.0 fits f.1 in
     let range = t.fit.1 in
     let small : f.0.0 < 2 = grind (arith, nat_tests, range) in

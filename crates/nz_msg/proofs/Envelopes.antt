@@ -257,7 +257,7 @@ body_first (Some f) x place h = absurd cc
 
 -- where a body that is refused is at fault
 pub record IsInBody (bytes : List ℕ) (place : ℕ) : Type 0 where
-  pub behind_header : 10 ≤ place
+  pub after_header : 10 ≤ place
   pub in_frame : place ≤ length bytes
 
 pub place_in_body : (bytes : List ℕ) (place : ℕ) → AreBytes bytes → decode_of bytes ≡ Err (BadBody place) → IsInBody bytes place
@@ -273,4 +273,4 @@ place_in_body bytes place fits h =
     let inside = body_within (slice_index bytes 5) (drop 10 bytes) b.0 b.1 in
     let where_is = b.2 in
     let long = r.long in
-    record { behind_header = omega (arith, inside, where_is, long); in_frame = omega (arith, where_is) }
+    record { after_header = omega (arith, inside, where_is, long); in_frame = omega (arith, where_is) }

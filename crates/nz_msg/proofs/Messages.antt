@@ -288,14 +288,14 @@ body_long (RejoinTell b) h = let long = rejoin_tell_exact.long b [] h in omega a
 body_long (StateAsk b) h = let long = state_ask_exact.long b [] h in omega arith
 body_long (StateTell b) h = let long = state_tell_exact.long b [] h in omega arith
 
-left_behind : {A : Type 0} (x : A × List ℕ) (b : Bool) (make : A → Message) (most left : ℕ) → length x.1 ≤ most
+left_after : {A : Type 0} (x : A × List ℕ) (b : Bool) (make : A → Message) (most left : ℕ) → length x.1 ≤ most
     → cond b (Ok (make x.0)) (Err (length x.1)) ≡ Err left → left ≤ most
-left_behind x true make most left h e = absurd cc
-left_behind x false make most left h e = let same : length x.1 ≡ left = cc in omega arith
+left_after x true make most left h e = absurd cc
+left_after x false make most left h e = let same : length x.1 ≡ left = cc in omega arith
 
 left_within : {A : Type 0} (most : ℕ) (r : Result (A × List ℕ) ℕ) (make : A → Message) (left : ℕ) → IsWithin most r
     → (r >>= λ x. cond (eqb (length x.1) 0) (Ok (make x.0)) (Err (length x.1))) ≡ Err left → left ≤ most
-left_within most (Ok x) make left h e = left_behind x (eqb (length x.1) 0) make most left h e
+left_within most (Ok x) make left h e = left_after x (eqb (length x.1) 0) make most left h e
 left_within most (Err k) make left h e = let same : k ≡ left = cc in omega arith
 
 -- what is left is part of the bytes

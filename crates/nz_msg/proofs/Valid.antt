@@ -16,18 +16,18 @@ pub fits_next : {A : Type 0} (item : List A → Codec A) (xs : List A) (i : ℕ)
     → ItemsFit item [] (take i xs) → (item (take i xs)).fits (get_or xs i d) → ItemsFit item [] (take (i + 1) xs)
 fits_next {A} item xs i d lt h k = subst (λ (ys : List A). ItemsFit item [] ys) (sym (take_more xs i d lt)) (fits_one item [] (take i xs) (get_or xs i d) h k)
 
-fits_behind : {A : Type 0} (item : List A → Codec A) (before xs : List A) (i : ℕ) (d : A) → i < length xs
+fits_after : {A : Type 0} (item : List A → Codec A) (before xs : List A) (i : ℕ) (d : A) → i < length xs
     → ItemsFit item before xs → (item (before ++ take i xs)).fits (get_or xs i d)
-fits_behind item before [] i d lt h = absurd (omega arith)
-fits_behind {A} item before (x ∷ xs) zero d lt h = subst (λ (b : List A). (item b).fits x) (sym (append-nil before)) h.0
-fits_behind {A} item before (x ∷ xs) (suc i) d lt h =
+fits_after item before [] i d lt h = absurd (omega arith)
+fits_after {A} item before (x ∷ xs) zero d lt h = subst (λ (b : List A). (item b).fits x) (sym (append-nil before)) h.0
+fits_after {A} item before (x ∷ xs) (suc i) d lt h =
     subst (λ (b : List A). (item b).fits (get_or xs i d)) (append_assoc before (x ∷ []) (take i xs))
-    (fits_behind item (before ++ x ∷ []) xs i d (omega arith) h.1)
+    (fits_after item (before ++ x ∷ []) xs i d (omega arith) h.1)
 
 -- each item of those that fit
 pub fits_at : {A : Type 0} (item : List A → Codec A) (xs : List A) (i : ℕ) (d : A) → i < length xs
     → ItemsFit item [] xs → (item (take i xs)).fits (get_or xs i d)
-fits_at item xs i d lt h = fits_behind item [] xs i d lt h
+fits_at item xs i d lt h = fits_after item [] xs i d lt h
 
 -- numbers of 32 bits
 pub counters_fit : (before xs : List ℕ) → ((i : ℕ) → get_or xs i 0 < 2 ^ 32) → ItemsFit (λ _. u32) before xs

@@ -30,10 +30,10 @@ pub adds_next : {A : Type 0} (item : List A → Codec A) (old now next : List �
     → Adds now next ((item (take i xs)).put (get_or xs i d)) → Adds old next (items_put item [] (take (i + 1) xs))
 adds_next item old now next xs i d lt h k = rw (take_more xs i d lt) (adds_one item old now next (take i xs) (get_or xs i d) h k)
 
-commands_behind : (before xs : List Entry) → ItemsFit next_entry before xs → AllByRecursion (λ e. command.fits e.command) xs
-commands_behind before [] h = tt
-commands_behind before (x ∷ xs) h = (h.0.1, commands_behind (before ++ x ∷ []) xs h.1)
+commands_after : (before xs : List Entry) → ItemsFit next_entry before xs → AllByRecursion (λ e. command.fits e.command) xs
+commands_after before [] h = tt
+commands_after before (x ∷ xs) h = (h.0.1, commands_after (before ++ x ∷ []) xs h.1)
 
 -- the commands of a list of entries are in their range
 pub commands_fit : (xs : List Entry) → ItemsFit next_entry [] xs → All (λ e. command.fits e.command) xs
-commands_fit xs h = All-from_recursion (λ e. command.fits e.command) xs (commands_behind [] xs h)
+commands_fit xs h = All-from_recursion (λ e. command.fits e.command) xs (commands_after [] xs h)

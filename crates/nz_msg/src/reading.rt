@@ -176,9 +176,9 @@ pub fn digest_at(bytes: &[u8]) -> Result<(Digest, &[u8]), Fault>
     if bytes.len() < 20 {
         return Err(Fault::at(bytes));
     }
-    let (front, rest) = bytes.split_at(20);
+    let (prefix, rest) = bytes.split_at(20);
     let mut digest = [0; 20];
-    digest.copy_from_slice(front);
+    digest.copy_from_slice(prefix);
     Ok((Digest::from_bytes(digest), rest))
 }
 

@@ -14,7 +14,7 @@ use Rattle.nz_machine.specs.declared.event.Record.{Record}
 use Rattle.nz_machine.specs.declared.journal.Item.{Item}
 use Rattle.nz_machine.specs.Schedule.{item, item_of, if_in, calls, actors_of, tick_item, Delivery, delivery_item}
 use Rattle.nz_machine.specs.Schedule.{Posted, posted_by_run, arrivals, due, ScheduledTo, IsPlayable}
-use Rattle.nz_machine.proofs.EachItem.{all_append, all_front, all_back, all_imply}
+use Rattle.nz_machine.proofs.EachItem.{all_append, all_of_prefix, all_back, all_imply}
 use Rattle.nz_machine.proofs.Runs.{on_cond}
 use Rattle.nz_run.proofs.Scheduling.{all_permuted}
 use Rattle.nz_run.proofs.DueMayHappen.{IsCalled, IsFine, ItemIsFine, restart_tick, all_two, calls_called, due_is_fine}
@@ -172,7 +172,7 @@ all_reversed : {X : Type 0} (P : X → Type 0) (xs : List X) → AllByRecursion 
 all_reversed P [] h = tt
 all_reversed P (x ∷ xs) h =
     let whole = subst (AllByRecursion P) (reverse_onto xs x []) h in
-    ((all_back P (reverse xs) (x ∷ []) whole).0, all_reversed P xs (all_front P (reverse xs) (x ∷ []) whole))
+    ((all_back P (reverse xs) (x ∷ []) whole).0, all_reversed P xs (all_of_prefix P (reverse xs) (x ∷ []) whole))
 
 -- what holds of the first items holds of the records
 pub all_here : (P : Item → Type 0) (rs : List Record) (is : List Item) → map item_of (reverse rs) ≡ is

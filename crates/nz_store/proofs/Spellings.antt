@@ -133,9 +133,9 @@ pub some_from : (o : Option Command) (bytes : List ℕ) → o ≡ command_of byt
 some_from o bytes e c = (λ h. spells_from_reading bytes c (sym e ∙ h), λ h. e ∙ reading_from_spells bytes c h)
 
 -- no command begins another
-pub no_prefix : (c d : Command) (front rest : List ℕ) → Spells c front → Spells d (front ++ rest) → rest ≡ []
-no_prefix c d front rest p q =
-    let first : command_at (front ++ rest) ≡ Some (c, rest) = ap (λ (l : List ℕ). command_at (l ++ rest)) p.whole ∙ command_again c rest p.valid in
-    let second : command_at (front ++ rest) ≡ Some (d, []) = ap command_at (q.whole ∙ sym (append-nil (spelling d))) ∙ command_again d [] q.valid in
+pub no_prefix : (c d : Command) (prefix rest : List ℕ) → Spells c prefix → Spells d (prefix ++ rest) → rest ≡ []
+no_prefix c d prefix rest p q =
+    let first : command_at (prefix ++ rest) ≡ Some (c, rest) = ap (λ (l : List ℕ). command_at (l ++ rest)) p.whole ∙ command_again c rest p.valid in
+    let second : command_at (prefix ++ rest) ≡ Some (d, []) = ap command_at (q.whole ∙ sym (append-nil (spelling d))) ∙ command_again d [] q.valid in
     let both = some_is (c, rest) (d, []) (sym first ∙ second) in
     ap (λ (p : Command × List ℕ). p.1) both

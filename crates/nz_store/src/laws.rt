@@ -18,7 +18,7 @@ pub fn one_spelling()
 
 /// No command begins another.
 pub fn no_command_begins_another()
-    ensures { (c d : Command) (front rest : List ℕ) → Spells c front → Spells d (front ++ rest) → rest ≡ [] }
+    ensures { (c d : Command) (prefix rest : List ℕ) → Spells c prefix → Spells d (prefix ++ rest) → rest ≡ [] }
 {}
 
 /// A value that was set or removed is so at its key and at no other, and a store that began empty

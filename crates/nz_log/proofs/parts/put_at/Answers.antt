@@ -10,6 +10,6 @@ pub returns-clause-ok : goal.returns-clause-ok
 returns-clause-ok c =
     let within : c.args.place ≤ length c.args.entries.now.items = omega arith in
     let keeps = stays_behind c.args.entry.key in
-    c.remove_behind.ensures
+    c.remove_after.ensures
     ∙ ap (λ (xs : List Entry). take (c.args.place + 1) xs ++ filter keeps (drop (c.args.place + 1) xs)) c.in_ok-insert.ensures.items
     ∙ put_parts c.args.entries.now.items c.args.place c.args.entry keeps within

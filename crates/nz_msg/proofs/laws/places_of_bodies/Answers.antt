@@ -3,4 +3,4 @@ use Rattle.nz_msg.proofs.Envelopes as proofs
 use Rattle.nz_msg.proofs.laws.places_of_bodies.Goals as goal
 
 pub returns : goal.returns
-returns c = λ bytes place fits h. let p = proofs.place_in_body bytes place fits h in (p.behind_header, p.in_frame)
+returns c = λ bytes place fits h. let p = proofs.place_in_body bytes place fits h in (p.after_header, p.in_frame)

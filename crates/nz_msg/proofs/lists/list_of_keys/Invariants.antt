@@ -2,9 +2,9 @@
 use Rattle.std.proofs.Common.{◌≡◌, ◌-◌, []}
 use Rattle.nz_msg.specs.Codec.{items_at}
 use Rattle.nz_msg.specs.Fields.{next_key}
-use Rattle.nz_msg.proofs.Loops.{with_front}
+use Rattle.nz_msg.proofs.Loops.{with_earlier}
 use Rattle.nz_msg.proofs.lists.list_of_keys.Given as goal
 
 -- what was read, and what is read of the rest, is what is read of all
 abbrev pub invariant-loop : goal.invariant-loop
-invariant-loop l = with_front l.keys (items_at next_key l.keys (l.count - l.counter) l.rest) ≡ items_at next_key [] l.count l.bytes
+invariant-loop l = with_earlier l.keys (items_at next_key l.keys (l.count - l.counter) l.rest) ≡ items_at next_key [] l.count l.bytes

@@ -8,7 +8,7 @@ use Rattle.nz_base.specs.Log.{keys_of}
 use Rattle.nz_log.specs.Synced.{Log}
 use Rattle.nz_msg.specs.Fields.{keys}
 use Rattle.nz_machine.specs.Facts.{FitsEntry}
-use Rattle.nz_machine.proofs.EachItem.{all_front}
+use Rattle.nz_machine.proofs.EachItem.{all_of_prefix}
 use Rattle.nz_machine.proofs.FitReplicas.{led_log, told_keys_fit}
 use Rattle.nz_sync.proofs.Broadcasts.{next_key, all_told}
 use Rattle.nz_sync.proofs.broadcast.keys_from.Goals as goal
@@ -45,4 +45,4 @@ returns-clause-fits c =
     c.loop-place.auto.place-end in
     subst (λ (ks : List Key). keys.fits ks) (sym all)
     (told_keys_fit s c.args.start (led_log c.args.state.now.f c.args.state.now.me s facts)
-    (all_front FitsEntry es (s.early ++ s.late) facts.entries.arranged.fit))
+    (all_of_prefix FitsEntry es (s.early ++ s.late) facts.entries.arranged.fit))

@@ -2,7 +2,7 @@
 use Rattle.std.proofs.Common.{◌≡◌, ◌≤◌, ◌-◌, ◌++◌, take, drop, length}
 use Rattle.std.specs.List.{filter}
 use Rattle.nz_log.specs.Synced.{stays_behind}
-use Rattle.nz_log.proofs.parts.remove_behind.Given as goal
+use Rattle.nz_log.proofs.parts.remove_after.Given as goal
 
 -- what is before the place stays, and of the rest what passes
 abbrev pub invariant-loop-place : goal.invariant-loop-place
