@@ -14,7 +14,7 @@ use super::noting::{Noted, Notes};
 use super::source::Source;
 use indexmap::IndexMap;
 use nz_base::{Actor, Cluster, Id, NoMemory};
-use nz_machine::{Event, Parcel, Reply, heard, is_counted};
+use nz_machine::{Event, Parcel, Reply, heard, is_from_cluster};
 use nz_msg::{Envelope, Message};
 use std::alloc::Global;
 
@@ -132,7 +132,7 @@ impl ProxyNotes {
         match heard(alloc, Actor::Proxy(me), parcel)? {
             None => Ok(()),
             Some(envelope) => {
-                if self.is_down || !is_counted(cluster, &envelope) {
+                if self.is_down || !is_from_cluster(cluster, &envelope) {
                     return Ok(());
                 }
                 self.take_message(alloc, cluster, envelope, source)

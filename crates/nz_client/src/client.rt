@@ -72,7 +72,7 @@ impl Client {
     pub fn open(&self) -> Option<u32>
         ensures { result ≡ least_open self.now.seat.state.attempts }
     {
-        self.state.open()
+        self.state.least_open()
     }
 
     /// Whether the request of this number is open.

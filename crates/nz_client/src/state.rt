@@ -6,10 +6,11 @@ ghost use Rattle.std.specs.Option.{option_copied};
 ghost use Rattle.nz_base.specs.Actor.{HasAddress};
 ghost use Rattle.nz_base.specs.declared.actor.Actor.TheVariants as actors;
 ghost use Rattle.nz_machine.specs.Clients as clients;
-ghost use Rattle.nz_machine.specs.Clients.{first_client, patience, if_due, after_opening, attempt_after_wait, retries};
+ghost use Rattle.nz_machine.specs.Clients.{first_client, patience, if_due, after_opening, retries};
 ghost use Rattle.nz_machine.specs.Clients.{after_wait, request_again, without_attempt, after_acceptance};
 ghost use Rattle.nz_machine.specs.Step.{parcel};
-ghost use Rattle.nz_client.specs.Seats.{IsSendable, AreSendable, IsOfProxies, IsSameClient, least_open};
+ghost use Rattle.nz_client.specs.Seats as seats;
+ghost use Rattle.nz_client.specs.Seats.{IsSendable, AreSendable, IsOfProxies, IsSameClient};
 
 use nz_base::{Actor, NoMemory, Request, RequestList, TryCopy};
 use nz_machine::{Attempt, Sends, send};
@@ -90,8 +91,8 @@ impl ClientState {
     }
 
     /// The least number of an open request, if one is.
-    pub fn open(&self) -> Option<u32>
-        ensures { result ≡ least_open self.now.state.attempts }
+    pub fn least_open(&self) -> Option<u32>
+        ensures { result ≡ seats.least_open self.now.state.attempts }
     {
         match self.attempts.as_slice() {
             [] => None,
@@ -161,7 +162,7 @@ fn own_proxy(state: &ClientState) -> u8
 }
 
 /// Counts the next request as sent, to the client's own proxy.
-fn open(state: &mut ClientState) -> Result<(), NoMemory>
+fn open_request(state: &mut ClientState) -> Result<(), NoMemory>
     requires free { length state.old.state.attempts < state.old.window }
     requires there { state.old.state.sent < length state.old.script }
     ensures same { IsSameClient state.old state.new }
@@ -199,7 +200,7 @@ fn open_next(state: &mut ClientState, sends: &mut Sends) -> Result<(), NoMemory>
         Some(request) => {
             let proxy = own_proxy(state);
             ask(state, proxy, state.sent + 1, request, sends)?;
-            open(state)
+            open_request(state)
         }
     }
 }
@@ -283,11 +284,11 @@ fn retry_all(state: &ClientState, sends: &mut Sends) -> Result<(), NoMemory>
     Ok(())
 }
 
-/// An open request waits one tick more.
-fn waited(attempt: Attempt, proxies: u8) -> Attempt
+/// An open request, when it has waited one tick more.
+fn attempt_after_wait(attempt: Attempt, proxies: u8) -> Attempt
     requires most { proxies ≤ 8 }
     requires of_proxies { IsOfProxies proxies attempt }
-    ensures waited { result ≡ attempt_after_wait proxies attempt }
+    ensures waited { result ≡ clients.attempt_after_wait proxies attempt }
     ensures of_proxies { IsOfProxies proxies result }
 {
     let num = attempt.num;
@@ -311,11 +312,11 @@ fn waited(attempt: Attempt, proxies: u8) -> Attempt
 fn wait_each(attempts: &mut [Attempt], proxies: u8)
     requires most { proxies ≤ 8 }
     requires of_proxies { AllByRecursion (IsOfProxies proxies) attempts.old }
-    ensures waited { attempts.new ≡ map (attempt_after_wait proxies) attempts.old }
+    ensures waited { attempts.new ≡ map (clients.attempt_after_wait proxies) attempts.old }
     ensures of_proxies { AllByRecursion (IsOfProxies proxies) attempts.new }
 {
     for attempt in attempts.iter_mut() {
-        *attempt = waited(*attempt, proxies);
+        *attempt = attempt_after_wait(*attempt, proxies);
     }
 }
 

@@ -10,7 +10,7 @@ use nz_msg::{Envelope, Message};
 
 /// Whether a message counts: its sender is in the cluster, and its crash vector, if it has one, has a counter for
 /// each replica.
-pub fn is_counted(cluster: Cluster, envelope: &Envelope) -> bool
+pub fn is_from_cluster(cluster: Cluster, envelope: &Envelope) -> bool
     ensures { result ≡ (is_in_cluster cluster envelope.now.from && is_sized cluster (message_vector envelope.now.message)) }
 {
     is_sender(cluster, envelope.from) && is_sized_for(cluster, vector_of(&envelope.message))

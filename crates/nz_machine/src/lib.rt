@@ -27,7 +27,7 @@ pub use cores::Core;
 pub use data::{Attempt, Origin, Phase, Rejoin, Reported, Status, ToldView};
 pub use event::{Event, Parcel, Record, RecordList, Sends};
 pub use frame_kind::kind_of;
-pub use from_cluster::is_counted;
+pub use from_cluster::is_from_cluster;
 pub use journal::{Executed, History, Item, ItemList, Journal};
 pub use laws::{due_entries_are_released, facts_are_kept, receivers_take_part};
 pub use receiving::heard;

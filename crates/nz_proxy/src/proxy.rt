@@ -13,7 +13,7 @@ ghost use Rattle.nz_proxy.specs.Seats.{IsSameProxy, group_with_cluster, proxy_af
 
 use crate::state::{ProxyState, clock_rule, reply_rule, stamp_rule};
 use nz_base::{Actor, Cluster, NoMemory};
-use nz_machine::{Core, Event, Parcel, Reply, Sends, heard, is_counted};
+use nz_machine::{Core, Event, Parcel, Reply, Sends, heard, is_from_cluster};
 use nz_msg::{Envelope, FastReplyBody, Message, SlowReplyBody};
 use std::alloc::Global;
 use std::marker::Model;
@@ -149,7 +149,7 @@ fn deliver(state: &mut ProxyState, p: &Parcel, sends: &mut Sends) -> Result<(), 
     match heard(state.allocator(), state.name(), p)? {
         None => Ok(()),
         Some(envelope) => {
-            if state.is_down() || !is_counted(state.cluster(), &envelope) {
+            if state.is_down() || !is_from_cluster(state.cluster(), &envelope) {
                 return Ok(());
             }
             handle(state, envelope, sends)

@@ -10,7 +10,7 @@ ghost use Rattle.nz_machine.specs.Step.{is_in_cluster, is_sized, message_vector}
 use super::*;
 use nz_base::{Actor, Blob, Cluster, Entry, EntryList, Key, List, NoMemory};
 use nz_cv::CrashVector;
-use nz_machine::{Phase, ReplicaState, Sends, is_counted, kind_of};
+use nz_machine::{Phase, ReplicaState, Sends, is_from_cluster, kind_of};
 use nz_msg::{Envelope, Message, RejoinTellBody, StateTellBody, VectorTellBody};
 use std::alloc::Global;
 use std::test::*;
@@ -99,7 +99,10 @@ fn hear(
 ) -> Result<(), NoMemory> {
     let to = state.name();
     let envelope = Envelope { from, to, message };
-    if from.is(&to) || !envelope.message.is_valid() || !is_counted(state.cluster(), &envelope) {
+    if from.is(&to)
+        || !envelope.message.is_valid()
+        || !is_from_cluster(state.cluster(), &envelope)
+    {
         return Ok(());
     }
     handle(state, from, &envelope.message, sends)

@@ -16,7 +16,7 @@ ghost use Rattle.nz_replica.specs.Seats.{IsOf};
 
 use nz_base::{Actor, Cluster, NoMemory};
 use nz_log::HashedLog;
-use nz_machine::{Core, Event, Parcel, ReplicaState, Sends, heard, is_counted};
+use nz_machine::{Core, Event, Parcel, ReplicaState, Sends, heard, is_from_cluster};
 use nz_msg::{Envelope, Message};
 use nz_normal::{on_timed, tick};
 use nz_rejoin::{
@@ -136,7 +136,7 @@ fn deliver(state: &mut ReplicaState, p: &Parcel, sends: &mut Sends) -> Result<()
     match heard(state.allocator(), state.name(), p)? {
         None => Ok(()),
         Some(envelope) => {
-            if state.is_down() || !is_counted(state.cluster(), &envelope) {
+            if state.is_down() || !is_from_cluster(state.cluster(), &envelope) {
                 return Ok(());
             }
             handle(state, &envelope, sends)

@@ -11,7 +11,7 @@ mod long;
 use super::*;
 use nz_base::{Actor, Blob, Cluster, Entry, EntryList, Key, List, NoMemory};
 use nz_cv::CrashVector;
-use nz_machine::{ReplicaState, Sends, is_counted, kind_of};
+use nz_machine::{ReplicaState, Sends, is_from_cluster, kind_of};
 use nz_msg::{Envelope, Message, StartViewBody, ViewAskBody, ViewChangeBody};
 use std::alloc::Global;
 use std::test::*;
@@ -82,7 +82,7 @@ fn hear(
     if from.is(&to)
         || !from.has_address()
         || !envelope.message.is_valid()
-        || !is_counted(state.cluster(), &envelope)
+        || !is_from_cluster(state.cluster(), &envelope)
     {
         return Ok(());
     }

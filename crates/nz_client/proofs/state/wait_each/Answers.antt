@@ -7,8 +7,8 @@ use Rattle.nz_client.specs.Seats.{IsOfProxies}
 use Rattle.nz_client.proofs.Windows.{all_at, done_to, done_next, done_more, done_all, all_waited_fit}
 use Rattle.nz_client.proofs.state.wait_each.Goals as goal
 
-pub waited-requires-clause-of_proxies : goal.waited-requires-clause-of_proxies
-waited-requires-clause-of_proxies c =
+pub attempt_after_wait-requires-clause-of_proxies : goal.attempt_after_wait-requires-clause-of_proxies
+attempt_after_wait-requires-clause-of_proxies c =
     let xs = c.args.attempts.now in
     let i = c.loop-attempt.attempt-index in
     subst (IsOfProxies c.args.proxies)
@@ -20,7 +20,7 @@ loop-attempt-preserved c =
     let xs = c.args.attempts.now in
     let i = c.loop-attempt.attempt-index in
     let f = attempt_after_wait c.args.proxies in
-    ap (λ (a : Attempt). set c.loop-attempt.attempts i a) c.waited.ensures.waited
+    ap (λ (a : Attempt). set c.loop-attempt.attempts i a) c.attempt_after_wait.ensures.waited
     ∙ ap (λ (l : List Attempt). set l i (f (get_or l i _))) c.loop-attempt.invariant
     ∙ ap (λ (a : Attempt). set (done_to f i xs) i (f a)) (done_next f i xs _)
     ∙ done_more f i xs _ c.loop-attempt-test.true

@@ -7,7 +7,7 @@ use Rattle.nz_machine.specs.Step.{parcel, envelope_for, accepted_envelope, envel
 use Rattle.nz_proxy.specs.Seats.{ProxySeat, group_with_cluster}
 use Rattle.nz_proxy.proofs.Passing.{counts, nothing_sent, passed_over}
 use Rattle.nz_proxy.proofs.proxy.deliver.Goals as goal
-use Rattle.nz_proxy.proofs.proxy.deliver.Goals.{then-is_down-via-then-is_down, then-is_down-via-else-is_down+then-not-is_counted}
+use Rattle.nz_proxy.proofs.proxy.deliver.Goals.{then-is_down-via-then-is_down, then-is_down-via-else-is_down+then-not-is_from_cluster}
 
 abbrev with_state : ProxySeat → ProxyData → ProxySeat
 with_state seat s = record seat { state = s }
@@ -21,9 +21,9 @@ nothing_done c =
     let is = ap (λ (a : Actor). envelope_for a c.args.p.now) (sym c.name.ensures.name) ∙ sym c.in_ok-heard.ensures.value ∙ c.in-Some.is in
     elim c.then-is_down.branch [
       | then-is_down-via-then-is_down w ↦ passed_over seat.f seat.me seat.state _ c.in-Some.envelope is (inl (sym c.is_down.ensures ∙ w.if-is_down.true))
-      | then-is_down-via-else-is_down+then-not-is_counted w ↦
+      | then-is_down-via-else-is_down+then-not-is_from_cluster w ↦
           passed_over seat.f seat.me seat.state _ c.in-Some.envelope is
-          (inr (ap (λ (f : ℕ). counts f c.in-Some.envelope) (sym w.cluster.ensures) ∙ sym w.is_counted.ensures ∙ w.if-not-is_counted.true))
+          (inr (ap (λ (f : ℕ). counts f c.in-Some.envelope) (sym w.cluster.ensures) ∙ sym w.is_from_cluster.ensures ∙ w.if-not-is_from_cluster.true))
     ]
 
 pub returns-then-is_down-clause-state : goal.returns-then-is_down-clause-state
