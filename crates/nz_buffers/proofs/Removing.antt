@@ -12,7 +12,7 @@ use Rattle.nz_base.specs.Log.{keys_of, has_id, HaveOwnIds}
 use Rattle.nz_base.proofs.Names.{same_id}
 use Rattle.nz_base.proofs.Booleans.{cases_bool, neither_left, neither_right}
 use Rattle.nz_buffers.specs.Buffers.{find_id, without}
-use Rattle.nz_buffers.specs.Places.{IsPlace}
+use Rattle.nz_buffers.specs.Places.{IsFirstPlace}
 
 -- ---- the entry with an id
 
@@ -48,7 +48,7 @@ split_at : (es : List Entry) (place : ℕ) (d : Entry) → place < length es →
 split_at es place d h = ap (λ (xs : List Entry). take place es ++ xs) (sym (drop-cons es place d h)) ∙ take-append-drop place es
 
 -- the entry that is at the place is the one with the id, and the rest are the others
-pub taken_at : (es : List Entry) (i : Id) (place : ℕ) (d : Entry) → HaveOwnIds (keys_of es) → IsPlace es i place
+pub taken_at : (es : List Entry) (i : Id) (place : ℕ) (d : Entry) → HaveOwnIds (keys_of es) → IsFirstPlace es i place
     → (find_id es i ≡ Some (get_or es place d)) × (without es i ≡ remove es place)
 taken_at es i place d own at =
     let prefix = take place es in

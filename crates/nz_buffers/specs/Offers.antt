@@ -7,8 +7,8 @@ use Rattle.nz_buffers.specs.declared.early.Offer.TheVariants.{Taken, Late}
 use Rattle.nz_buffers.specs.Buffers.{is_past, insert_by_key}
 
 -- The answer: the entry comes back where its key is not above the last one.
-abbrev pub answer_to : Option Key → Entry → Offer
-answer_to last e = if is_past last e.key then Taken else Late e
+abbrev pub offer_answer : Option Key → Entry → Offer
+offer_answer last e = if is_past last e.key then Taken else Late e
 
 -- The early entries afterwards.
 abbrev pub after_offer : List Entry → Option Key → Entry → List Entry

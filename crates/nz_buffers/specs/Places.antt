@@ -7,7 +7,7 @@ use Rattle.nz_base.specs.Key.{key_below, id_eq, id_of}
 use Rattle.nz_base.specs.Log.{keys_of, has_id}
 
 -- The first entry with the id is at this place.
-pub record IsPlace (entries : List Entry) (id : Id) (place : ℕ) : Type 0 where
+pub record IsFirstPlace (entries : List Entry) (id : Id) (place : ℕ) : Type 0 where
   pub within : place < length entries
   pub not_before : has_id (keys_of (take place entries)) id ≡ false
   pub here : (d : Entry) → id_eq id (id_of (slice_index_or entries place d).key) ≡ true

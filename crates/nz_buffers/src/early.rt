@@ -7,7 +7,7 @@ ghost use Rattle.nz_base.specs.declared.key.Id.{Id as IdModel};
 ghost use Rattle.nz_base.specs.Key.{key_below, id_eq, id_of};
 ghost use Rattle.nz_base.specs.Log.{keys_of, has_id};
 ghost use Rattle.nz_buffers.specs.Buffers.{find_id, without, first_key, is_past, is_due, released, first_if};
-ghost use Rattle.nz_buffers.specs.Offers.{answer_to, after_offer};
+ghost use Rattle.nz_buffers.specs.Offers.{offer_answer, after_offer};
 
 use super::early_rep::EarlyRep;
 use indexmap::IndexMap;
@@ -81,7 +81,7 @@ impl Early {
     /// Takes the entry in if its key is above `last`, the last key of the log.
     pub fn offer(&mut self, entry: Entry, last: Option<Key>) -> Result<Offer, NoMemory>
         requires fresh { IsFalse (has_id (keys_of self.old) (id_of entry.key)) }
-        ensures answer { IfOk result (λ offer. offer ≡ answer_to last entry) }
+        ensures answer { IfOk result (λ offer. offer ≡ offer_answer last entry) }
         ensures late_takes_no_memory { IsFalse (is_past last entry.key) → IsOk result }
         ensures ok { OnOk result (self.new ≡ after_offer self.old last entry) }
         ensures err { OnErr result (self.new ≡ self.old) }

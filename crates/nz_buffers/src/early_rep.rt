@@ -6,7 +6,7 @@ ghost use Rattle.nz_base.specs.declared.key.Entry.{Entry as EntryModel};
 ghost use Rattle.nz_base.specs.Key.{key_below, id_of};
 ghost use Rattle.nz_base.specs.Log.{keys_of, has_id};
 ghost use Rattle.nz_buffers.specs.Buffers.{find_id, without, first_key, is_due, released, first_if, is_past};
-ghost use Rattle.nz_buffers.specs.Offers.{answer_to, after_offer};
+ghost use Rattle.nz_buffers.specs.Offers.{offer_answer, after_offer};
 
 use super::early::Offer;
 use nz_base::{Entry, Id, Key, NoMemory};
@@ -23,7 +23,7 @@ pub trait EarlyRep {
     /// Takes the entry in if its key is above `last`, the last key of the log.
     fn offer(&mut self, entry: Entry, last: Option<Key>) -> Result<Offer, NoMemory>
         requires fresh { IsFalse (has_id (keys_of (early self.old)) (id_of entry.key)) }
-        ensures answer { IfOk result (λ offer. offer ≡ answer_to last entry) }
+        ensures answer { IfOk result (λ offer. offer ≡ offer_answer last entry) }
         ensures late_takes_no_memory { IsFalse (is_past last entry.key) → IsOk result }
         ensures ok { OnOk result ((early self.new) ≡ after_offer (early self.old) last entry) }
         ensures err { OnErr result ((early self.new) ≡ (early self.old)) };

@@ -4,12 +4,12 @@ ghost use Rattle.std.specs.Prelude.{◌≡◌, ◌+◌, ◌≤◌, length, OnOk,
 ghost use Rattle.std.specs.Option.{option_copied};
 ghost use Rattle.nz_base.specs.Log.{keys_of, has_id, HaveOwnIds};
 ghost use Rattle.nz_buffers.specs.Buffers.{find_id, without, insert_by_key};
-ghost use Rattle.nz_buffers.specs.Places.{IsPlace, key_place_from};
+ghost use Rattle.nz_buffers.specs.Places.{IsFirstPlace, key_place_from};
 
 use nz_base::{Entry, Id, Key, NoMemory};
 
 fn place_of(entries: &[Entry], id: Id) -> Option<usize>
-    ensures found { IfSome result (λ place. IsPlace entries.now id place) }
+    ensures found { IfSome result (λ place. IsFirstPlace entries.now id place) }
     ensures none { IfNone result (IsFalse (has_id (keys_of entries.now) id)) }
 {
     for (place, entry) in entries.iter().enumerate() {

@@ -162,7 +162,7 @@ unfolding group play arrive come ticked put get first second first_entry second_
     number_bytes number_at run_at limited_at optional_at items_put items_at body_at envelope_for wait_rule accept_rule
     clock_rule stamp_rule reply_rule request_rule release_rule releases decision count_below key_bytes first_words
     schedule rounds compress hash_after digest_bytes sha1 apply apply_bytes store_from replies_from key_at value_at
-    choice_at command_of reading.body_at command_at
+    choice_at command_of reading.command_body_at command_at
 is_run =
     let start : IsGroup group =
     record {
@@ -226,7 +226,7 @@ unfolding group play arrive come ticked put get first second first_entry second_
     number_bytes number_at run_at limited_at optional_at items_put items_at body_at envelope_for wait_rule accept_rule
     clock_rule stamp_rule reply_rule request_rule release_rule releases decision count_below key_bytes first_words
     schedule rounds compress hash_after digest_bytes sha1 apply apply_bytes store_from replies_from key_at value_at
-    choice_at command_of reading.body_at command_at
+    choice_at command_of reading.command_body_at command_at
 as_worked =
     record {
       seen_once = refl;
@@ -255,7 +255,7 @@ unfolding first_list second_list group play arrive come ticked put get first sec
     decode_of frame refusal number_bytes number_at run_at limited_at optional_at items_put items_at body_at envelope_for
     wait_rule accept_rule clock_rule stamp_rule reply_rule request_rule release_rule releases decision count_below
     key_bytes first_words schedule rounds compress hash_after digest_bytes sha1 apply apply_bytes store_from replies_from
-    key_at value_at choice_at command_of reading.body_at command_at
+    key_at value_at choice_at command_of reading.command_body_at command_at
 lists = refl
 
 one_or_other : (keys : List EntryKey)

@@ -15,7 +15,7 @@ use Rattle.nz_machine.specs.History.{log_at}
 use Rattle.nz_machine.specs.OneHistory.{RepliesOver, HasReplyOver, NoCollision}
 use Rattle.nz_machine.proofs.Runs.{FitsOut, sent_by, sends_have, all_has, has_left, has_right}
 use Rattle.nz_machine.proofs.FitRuns.{Fitted, FittedState, fits_keep}
-use Rattle.nz_lin.specs.Replied.{list_read, replied_lists, AreApart}
+use Rattle.nz_lin.specs.Replied.{list_read, replied_lists, HaveOwnDigests}
 
 has_flat : {X Y : Type 0} (f : X → List Y) (xs : List X) (x : X) (y : Y) → Has xs x → Has (f x) y → Has (flat_map f xs) y
 has_flat f [] x y h k = absurd h
@@ -42,5 +42,5 @@ replies_listed g (r ∷ J) keys w (inl h) =
 replies_listed g (r ∷ J) keys w (inr h) =
     has_right (flat_map (λ p. list_read (log_at g r.actor (r ∷ J)) (decode_of p.frame)) r.sends) (replied_lists g J) keys (replies_listed g J keys w.1 h)
 
-pub no_collision_listed : (g : Group) (J : List Record) → World g J → AreApart (replied_lists g J) → NoCollision g J
+pub no_collision_listed : (g : Group) (J : List Record) → World g J → HaveOwnDigests (replied_lists g J) → NoCollision g J
 no_collision_listed g J w apart keys others h k same = apart keys others (replies_listed g J keys w h) (replies_listed g J others w k) same

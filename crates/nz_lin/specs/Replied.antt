@@ -30,5 +30,5 @@ replied_lists g [] = []
 replied_lists g (r ∷ J) = flat_map (λ p. list_read (log_at g r.actor (r ∷ J)) (decode_of p.frame)) r.sends ++ replied_lists g J
 
 -- No two different ones of the lists have one digest.
-abbrev pub AreApart : List (List EntryKey) → Type 0
-AreApart lists = (keys others : List EntryKey) → Has lists keys → Has lists others → digest keys ≡ digest others → keys ≡ others
+abbrev pub HaveOwnDigests : List (List EntryKey) → Type 0
+HaveOwnDigests lists = (keys others : List EntryKey) → Has lists keys → Has lists others → digest keys ≡ digest others → keys ≡ others

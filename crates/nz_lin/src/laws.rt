@@ -14,7 +14,7 @@ ghost use Rattle.nz_machine.specs.History.{log_at, history};
 ghost use Rattle.nz_machine.specs.OneHistory.{Lin, NoCollision, ArePaired};
 ghost use Rattle.nz_lin.specs.Laws.{IsDecoded};
 ghost use Rattle.nz_laws_commit.specs.Once.{AreOnce};
-ghost use Rattle.nz_lin.specs.Replied.{replied_lists, AreApart};
+ghost use Rattle.nz_lin.specs.Replied.{replied_lists, HaveOwnDigests};
 ghost use Rattle.nz_lin.specs.Snapshots.{IsSnapshot};
 
 /// Each parcel that was sent is decoded as one message, from its sender to its receiver.
@@ -47,7 +47,7 @@ pub fn once_each()
 /// The premise on digests holds of a run where no two different ones of the lists that its parcels say have one
 /// digest.
 pub fn premise_on_digests()
-    ensures { (g : Group) (J : List Record) → World g J → AreApart (replied_lists g J) → NoCollision g J }
+    ensures { (g : Group) (J : List Record) → World g J → HaveOwnDigests (replied_lists g J) → NoCollision g J }
 {}
 
 /// Where of any two accepted prefixes one begins with the other, the answers that clients accepted are those

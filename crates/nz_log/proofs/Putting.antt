@@ -12,7 +12,7 @@ use Rattle.nz_digest.specs.Digests.{digest_of_key, key_bytes, xor_bytes}
 use Rattle.nz_digest.proofs.Keys.{length-digest, length-sha1}
 use Rattle.nz_log.specs.Places.{digest_of_log, digest_at}
 use Rattle.nz_log.specs.Synced.{stays_behind}
-use Rattle.nz_log.specs.Keeping.{IsSummed, digest_with, all_but}
+use Rattle.nz_log.specs.Keeping.{IsSummed, digest_with, without_place}
 use Rattle.nz_log.proofs.Digests.{digest_push, digest_more, fold_over}
 use Rattle.nz_log.proofs.Modifying.{put_back}
 use Rattle.nz_log.proofs.Summing.{sums_push, sums_take}
@@ -26,24 +26,24 @@ settled es place key last = take (place + 1) es ++ filter (stays_behind key) (dr
 pub record IsFolding (es : List Entry) (place : ℕ) (key : Key) (from kept : ℕ) (ds : List (List ℕ)) (before sum : List ℕ) : Type 0 where
   pub first : IsSummed (settled es place key from) (take kept ds ++ sum ∷ [])
   pub folded : sum ≡ digest_of_log (settled es place key from)
-  pub rest : (k : ℕ) → from ≤ k → k + 1 < length es → (d : List ℕ) → get_or ds k d ≡ digest_at (all_but es place) k
-  pub old : before ≡ digest_of_log (take from (all_but es place))
+  pub rest : (k : ℕ) → from ≤ k → k + 1 < length es → (d : List ℕ) → get_or ds k d ≡ digest_at (without_place es place) k
+  pub old : before ≡ digest_of_log (take from (without_place es place))
 
 module _ (es : List Entry) (place : ℕ) (key : Key) (within : place < length es) where
   prefix_long : length (take place es) ≡ place
   prefix_long = length-take-le place es (omega (arith, within))
 
-  pub others_long : length (all_but es place) + 1 ≡ length es
+  pub others_long : length (without_place es place) + 1 ≡ length es
   others_long =
-      let long : length (all_but es place) ≡ length (take place es) + length (drop (place + 1) es) = length-append (take place es) (drop (place + 1) es) in
+      let long : length (without_place es place) ≡ length (take place es) + length (drop (place + 1) es) = length-append (take place es) (drop (place + 1) es) in
       let first : length (take place es) ≡ place = prefix_long in
       let last : length (drop (place + 1) es) ≡ length es - (place + 1) = length-drop (place + 1) es in
       omega (arith, long, first, last, within)
 
-  prefix_same_entries : take place (all_but es place) ≡ take place es
-  prefix_same_entries = ap (λ (n : ℕ). take n (all_but es place)) (sym prefix_long) ∙ take-append_seam (take place es) (drop (place + 1) es)
+  prefix_same_entries : take place (without_place es place) ≡ take place es
+  prefix_same_entries = ap (λ (n : ℕ). take n (without_place es place)) (sym prefix_long) ∙ take-append_seam (take place es) (drop (place + 1) es)
 
-  other_at : (from : ℕ) (d : Entry) → place ≤ from → get_or (all_but es place) from d ≡ get_or es (from + 1) d
+  other_at : (from : ℕ) (d : Entry) → place ≤ from → get_or (without_place es place) from d ≡ get_or es (from + 1) d
   other_at from d after =
       let far : place + 1 + (from - place) ≡ from + 1 = omega (arith, after) in
       get_or-append_right (take place es) (drop (place + 1) es) place from d prefix_long after
@@ -62,8 +62,8 @@ module _ (es : List Entry) (place : ℕ) (key : Key) (within : place < length es
       ∙ ap (λ (xs : List Entry). head ++ xs) (filter-append p (drop (place + 1) prefix) (x ∷ []))
       ∙ sym (append_assoc head (filter p (drop (place + 1) prefix)) (cond (p x) (x ∷ []) []))
 
-  pub fold_start : (ds : List (List ℕ)) (x : Entry) (before sum : List ℕ) → x ≡ get_or es place x → x.key ≡ key → IsSummed (all_but es place) ds
-      → before ≡ digest_of_log (take place (all_but es place)) → sum ≡ xor_bytes before (digest_of_key key.deadline key.client key.num)
+  pub fold_start : (ds : List (List ℕ)) (x : Entry) (before sum : List ℕ) → x ≡ get_or es place x → x.key ≡ key → IsSummed (without_place es place) ds
+      → before ≡ digest_of_log (take place (without_place es place)) → sum ≡ xor_bytes before (digest_of_key key.deadline key.client key.num)
       → IsFolding es place key place place ds before sum
   fold_start ds x before sum is named others old folded =
       let none : drop (place + 1) (take (place + 1) es) ≡ [] =
@@ -74,9 +74,9 @@ module _ (es : List Entry) (place : ℕ) (key : Key) (within : place < length es
       ∙ append-nil (take (place + 1) es)
       ∙ take_more es place x within
       ∙ ap (λ (y : Entry). take place es ++ y ∷ []) (sym is) in
-      let fits : place ≤ length (all_but es place) = let long = others_long in omega (arith, long, within) in
+      let fits : place ≤ length (without_place es place) = let long = others_long in omega (arith, long, within) in
       let prefix : IsSummed (take place es) (take place ds) =
-      subst (λ (xs : List Entry). IsSummed xs (take place ds)) prefix_same_entries (sums_take (all_but es place) ds place others fits) in
+      subst (λ (xs : List Entry). IsSummed xs (take place ds)) prefix_same_entries (sums_take (without_place es place) ds place others fits) in
       let with : sum ≡ digest_with (take place es) x.key =
       folded
       ∙ ap (λ (d : List ℕ). xor_bytes d (digest_of_key key.deadline key.client key.num)) (old ∙ ap digest_of_log prefix_same_entries)
@@ -91,10 +91,10 @@ module _ (es : List Entry) (place : ℕ) (key : Key) (within : place < length es
   -- one entry more
   module _ (from kept : ℕ) (ds : List (List ℕ)) (before sum next : List ℕ) (x : Entry) (after : place ≤ from) (more : from + 1 < length es) (is : x ≡ get_or es (from + 1) x)
       (read : next ≡ get_or ds from next) (folding : IsFolding es place key from kept ds before sum) where
-    next_old : next ≡ digest_of_log (take (from + 1) (all_but es place))
+    next_old : next ≡ digest_of_log (take (from + 1) (without_place es place))
     next_old =
         let one : suc from ≡ from + 1 = omega arith in
-        read ∙ folding.rest from (omega arith) more next ∙ ap (λ (n : ℕ). digest_of_log (take n (all_but es place))) one
+        read ∙ folding.rest from (omega arith) more next ∙ ap (λ (n : ℕ). digest_of_log (take n (without_place es place))) one
 
     pub fold_gone : stays_behind key x ≡ false → IsFolding es place key (from + 1) kept ds next sum
     fold_gone gone =
@@ -112,7 +112,7 @@ module _ (es : List Entry) (place : ℕ) (key : Key) (within : place < length es
     fold_stays stays down there =
         let all = settled es place key from in
         let own = digest_of_key x.key.deadline x.key.client x.key.num in
-        let others = all_but es place in
+        let others = without_place es place in
         let whole : settled es place key (from + 1) ≡ all ++ x ∷ [] =
         next_settled from x after more is ∙ ap (λ (b : Bool). all ++ cond b (x ∷ []) []) stays in
         let fits : from < length others = let long = others_long in omega (arith, long, more) in
@@ -163,11 +163,11 @@ module _ (es put : List Entry) (place : ℕ) (e : Entry) (within : place ≤ len
       subst (λ (n : ℕ). get_or (take place es ++ e ∷ drop place es) n d ≡ e) prefix_is (get_or-append_seam (take place es) e (drop place es) d) in
       ap (λ (xs : List Entry). (get_or xs place d).key) is ∙ ap (λ (x : Entry). x.key) there
 
-  pub put_others : all_but put place ≡ es
+  pub put_others : without_place put place ≡ es
   put_others =
       let first : take place (take place es ++ e ∷ drop place es) ≡ take place es =
       ap (λ (n : ℕ). take n (take place es ++ e ∷ drop place es)) (sym prefix_is) ∙ take-append_seam (take place es) (e ∷ drop place es) in
-      ap (λ (xs : List Entry). all_but xs place) is
+      ap (λ (xs : List Entry). without_place xs place) is
       ∙ ap (λ (xs : List Entry). xs ++ drop (place + 1) (take place es ++ e ∷ drop place es)) first
       ∙ ap (λ (xs : List Entry). take place es ++ xs) (put_back es place e within)
       ∙ take-append-drop place es

@@ -32,8 +32,8 @@ pub record HaveCommonPrefix (es fs : List Entry) (count : ℕ) : Type 0 where
   pub same : keys_of (take count es) ≡ keys_of (take count fs)
 
 -- The entries without the one at a place.
-abbrev pub all_but : List Entry → ℕ → List Entry
-all_but es place = take place es ++ drop (place + 1) es
+abbrev pub without_place : List Entry → ℕ → List Entry
+without_place es place = take place es ++ drop (place + 1) es
 
 -- The first entry that is not synced has the key.
 pub record IsNext (log : Log) (key : Key) : Type 0 where

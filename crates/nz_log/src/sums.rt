@@ -4,7 +4,7 @@ ghost use Rattle.std.specs.Prelude.{◌≡◌, ◌+◌, ◌≤◌, ◌<◌, ◌+
 ghost use Rattle.nz_base.specs.declared.key.Entry.{Entry as EntryModel};
 ghost use Rattle.nz_log.specs.Places.{digest_of_log};
 ghost use Rattle.nz_log.specs.Synced.{stays_behind};
-ghost use Rattle.nz_log.specs.Keeping.{IsSummed, digest_with, all_but};
+ghost use Rattle.nz_log.specs.Keeping.{IsSummed, digest_with, without_place};
 
 use super::pages::Pages;
 use nz_base::{Entry, Key};
@@ -47,7 +47,7 @@ pub fn put_digest(digests: &mut Vec<Digest>, entries: &Pages, place: usize, key:
     requires within { place < length entries.now }
     requires room { length entries.now ≤ vec_capacity digests.old }
     requires here { (d : EntryModel) → (slice_index_or entries.now place d).key ≡ key }
-    requires others { IsSummed (all_but entries.now place) digests.old.items }
+    requires others { IsSummed (without_place entries.now place) digests.old.items }
     ensures { IsSummed (take (place + 1) entries.now ++ filter (stays_behind key) (drop (place + 1) entries.now)) digests.new.items }
 {
     let mut before = digest_before(digests, place);

@@ -130,7 +130,7 @@ unfolding alarmed down deaf back told_once counted first_asked second_asked view
     all_tick opened stamped spread released replied accepted state_after encode_of decode_of frame refusal number_bytes
     number_at run_at limited_at optional_at items_put items_at body_at envelope_for incarnation start clock_rule wait_rule
     accept_rule stamp_rule reply_rule decision count_below key_bytes first_words schedule rounds compress hash_after
-    digest_bytes sha1 apply apply_bytes store_from replies_from key_at value_at choice_at command_of reading.body_at
+    digest_bytes sha1 apply apply_bytes store_from replies_from key_at value_at choice_at command_of reading.command_body_at
     command_at request_rule release_rule releases sync_keys log_mod_rule fetch_rule with_late_entries fetch_reply_rule
     sync_report_rule enter_view alarm_rule view_ask_rule start_view_rule begin view_change_rule crash_rule restart_rule
     vector_ask_rule vector_tell_rule rejoin_ask_rule rejoin_tell_rule state_ask_rule state_tell_rule merged later_keys
@@ -168,7 +168,7 @@ unfolding alarmed down deaf back told_once counted first_asked second_asked view
     all_tick opened stamped spread released replied accepted state_after encode_of decode_of frame refusal number_bytes
     number_at run_at limited_at optional_at items_put items_at body_at envelope_for incarnation start clock_rule wait_rule
     accept_rule stamp_rule reply_rule decision count_below key_bytes first_words schedule rounds compress hash_after
-    digest_bytes sha1 apply apply_bytes store_from replies_from key_at value_at choice_at command_of reading.body_at
+    digest_bytes sha1 apply apply_bytes store_from replies_from key_at value_at choice_at command_of reading.command_body_at
     command_at request_rule release_rule releases sync_keys log_mod_rule fetch_rule with_late_entries fetch_reply_rule
     sync_report_rule enter_view alarm_rule view_ask_rule start_view_rule begin view_change_rule crash_rule restart_rule
     vector_ask_rule vector_tell_rule rejoin_ask_rule rejoin_tell_rule state_ask_rule state_tell_rule merged later_keys

@@ -15,7 +15,7 @@ use Rattle.nz_base.proofs.Booleans.{and_both, neither_left, neither_right}
 use Rattle.nz_base.proofs.Logs.{has_first, has_back, has_id-append, keys_append}
 use Rattle.nz_store.specs.declared.command.Command.{Command}
 use Rattle.nz_store.specs.declared.command.Command.TheVariants.{Put, Get, Del, Cas}
-use Rattle.nz_store.specs.Grammar.{IsKey, IsValue, IsChoice, IsValid, key_spelling, value_spelling, choice_spelling, spelling}
+use Rattle.nz_store.specs.Grammar.{IsKey, IsValue, IsOptionalValue, IsValidCommand, key_spelling, value_spelling, choice_spelling, spelling}
 use Rattle.nz_store.specs.Reading.{command_of}
 use Rattle.nz_store.proofs.Spellings.{spells_from_reading}
 use Rattle.nz_msg.specs.Codec.{ItemsFit}
@@ -142,7 +142,7 @@ key_long k h = let short = h.short in omega (arith, short)
 value_long : (v : List ℕ) → IsValue v → length (value_spelling v) ≤ 258
 value_long v h = let short = h.short in omega (arith, short)
 
-choice_long : (o : Option (List ℕ)) → IsChoice o → length (choice_spelling o) ≤ 259
+choice_long : (o : Option (List ℕ)) → IsOptionalValue o → length (choice_spelling o) ≤ 259
 choice_long None h = omega arith
 choice_long (Some v) h = let long = value_long v h in omega (arith, long)
 
@@ -152,7 +152,7 @@ spelling_some (Get k) = omega arith
 spelling_some (Del k) = omega arith
 spelling_some (Cas k old new) = omega arith
 
-spelling_long : (c : Command) → IsValid c → length (spelling c) ≤ 552
+spelling_long : (c : Command) → IsValidCommand c → length (spelling c) ≤ 552
 spelling_long (Put k v) h =
     let first = key_long k h.0 in
     let second = value_long v h.1 in

@@ -15,7 +15,7 @@ use Rattle.nz_store.specs.declared.command.Command.{Command}
 use Rattle.nz_store.specs.declared.command.Command.TheVariants.{Put, Get, Del, Cas}
 use Rattle.nz_store.specs.declared.command.Answer.{Answer}
 use Rattle.nz_store.specs.declared.command.Answer.TheVariants.{Done, Value, Absent, Differs}
-use Rattle.nz_store.specs.Grammar.{IsValue, IsChoice, IsValid}
+use Rattle.nz_store.specs.Grammar.{IsValue, IsOptionalValue, IsValidCommand}
 use Rattle.nz_store.specs.Reading.{command_of}
 use Rattle.nz_store.specs.Entries.{Entries, empty, value_of, with_value, with_choice}
 use Rattle.nz_store.specs.Sequence.{value_answer, removal_answer, refusal_answer, swap, apply, apply_found}
@@ -63,7 +63,7 @@ short_with (e ∷ store) key value all own =
     short_put (slice_cmp nat_cmp key e.0) e key value store (with_value store key value) all
     (short_with store key value all.1 own) (record { some = own.some; short = own.short })
 
-short_choice : (store : Entries) (key : List ℕ) (value : Option (List ℕ)) → AreShort store → IsChoice value → AreShort (with_choice store key value)
+short_choice : (store : Entries) (key : List ℕ) (value : Option (List ℕ)) → AreShort store → IsOptionalValue value → AreShort (with_choice store key value)
 short_choice store key None all own = all_filter IsShort _ store all
 short_choice store key (Some value) all own = short_with store key value all own
 
@@ -83,14 +83,14 @@ refusal_fits : (value : Option (List ℕ)) → answer.fits (refusal_answer value
 refusal_fits None = absent_fits
 refusal_fits (Some value) = differs_fits
 
-swap_fits : (store : Entries) (key : List ℕ) (old new : Option (List ℕ)) → AreShort store → IsChoice new → Fitting (swap store key old new)
+swap_fits : (store : Entries) (key : List ℕ) (old new : Option (List ℕ)) → AreShort store → IsOptionalValue new → Fitting (swap store key old new)
 swap_fits store key old new all own =
     elim (cases_bool (option_eq bytes_eq (value_of store key) old)) [
       | inl same ↦ rw same (short_choice store key new all own, done_fits)
       | inr other ↦ rw other (all, refusal_fits (value_of store key))
     ]
 
-apply_fits : (store : Entries) (c : Command) → AreShort store → IsValid c → Fitting (apply store c)
+apply_fits : (store : Entries) (c : Command) → AreShort store → IsValidCommand c → Fitting (apply store c)
 unfolding apply
 apply_fits store (Put key value) all valid = (short_with store key value all valid.1, done_fits)
 apply_fits store (Get key) all valid = (all, read_fits store key all)

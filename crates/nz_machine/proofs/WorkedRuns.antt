@@ -169,7 +169,7 @@ never_restarted (r ∷ J) a nonce e =
     (λ h. not_restart r.event nonce (false_of (is_restart r.event) both.0) h.1, never_restarted J a nonce both.1)
 
 start_group : IsGroup group
-unfolding command_of command_at value_at key_at reading.body_at
+unfolding command_of command_at value_at key_at reading.command_body_at
 start_group =
     record {
       least_f = omega arith;
@@ -189,7 +189,7 @@ unfolding accepted replied released spread stamped opened play arrive come all_t
     frame refusal number_bytes number_at run_at limited_at optional_at items_put items_at body_at envelope_for clock_rule
     wait_rule accept_rule stamp_rule reply_rule decision count_below key_bytes first_words schedule rounds compress
     hash_after digest_bytes sha1 apply apply_bytes store_from replies_from key_at value_at choice_at command_of
-    reading.body_at command_at request_rule release_rule releases sync_keys log_mod_rule fetch_rule with_late_entries
+    reading.command_body_at command_at request_rule release_rule releases sync_keys log_mod_rule fetch_rule with_late_entries
     fetch_reply_rule sync_report_rule enter_view alarm_rule view_ask_rule start_view_rule begin view_change_rule
     crash_rule restart_rule vector_ask_rule vector_tell_rule rejoin_ask_rule rejoin_tell_rule state_ask_rule state_tell_rule merged later_keys
 is_accepted =

@@ -10,7 +10,7 @@ use Rattle.std.proofs.lemmas.Bool.{and_from, le-leb}
 use Rattle.nz_base.specs.declared.scenario.Request.{Request}
 use Rattle.nz_base.specs.declared.scenario.Fault.{Fault}
 use Rattle.nz_store.specs.declared.command.Command.{Command}
-use Rattle.nz_store.specs.Grammar.{IsValid, is_graphic}
+use Rattle.nz_store.specs.Grammar.{IsValidCommand, is_graphic}
 use Rattle.nz_store.specs.Reading.{is_text, is_key_text, is_value_text, has_spelling}
 use Rattle.nz_store.proofs.Texts.{tells_valid}
 use Rattle.nz_script.specs.Draws.{next, draws_after, drawn_key, drawn_value, command_for, request_for}
@@ -83,7 +83,7 @@ choice : (t : Bool) (x y : Command) → has_spelling x ≡ true → has_spelling
 choice true x y h k = h
 choice false x y h k = k
 
-pub command_for_is_valid : (a b i : ℕ) → b < 2 ^ 64 → i < 2 ^ 64 → IsValid (command_for a b i)
+pub command_for_is_valid : (a b i : ℕ) → b < 2 ^ 64 → i < 2 ^ 64 → IsValidCommand (command_for a b i)
 command_for_is_valid a b i sb si =
     (tells_valid (command_for a b i)).0 (
     choice (a == 0) _ _ (and_from _ _ (key_text b sb) (value_text i si)) (

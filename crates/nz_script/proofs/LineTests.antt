@@ -2,7 +2,7 @@
 use Rattle.std.proofs.Common.{◌≡◌, Bool, true, false, cond, not, List, [], ◌∷◌, Some, None, refl}
 use Rattle.std.specs.Prelude.{◌&&◌}
 use Rattle.std.proofs.lemmas.Bool.{false≢true, and_from, and_parts}
-use Rattle.nz_store.specs.Grammar.{IsValid}
+use Rattle.nz_store.specs.Grammar.{IsValidCommand}
 use Rattle.nz_store.specs.Reading.{is_key_text, is_value_text, is_choice_text, has_spelling}
 use Rattle.nz_store.proofs.Texts.{tells_valid}
 use Rattle.nz_script.specs.declared.faults.Kind.TheVariants as kind
@@ -63,7 +63,7 @@ spelled Cas (k ∷ old ∷ new ∷ more) e =
     and_from _ _ (and_from _ _ (key-text k p.0) (choice-text old q.0)) (choice-text new (and_parts (has_choice new) true q.1).0)
 
 -- a command whose key and values are in range can be spelled
-pub command_is_valid : (ask : Ask) (words : List Word) → all_within (ask_shape_of ask).2 words ≡ true → IsValid (command_asked ask words)
+pub command_is_valid : (ask : Ask) (words : List Word) → all_within (ask_shape_of ask).2 words ≡ true → IsValidCommand (command_asked ask words)
 command_is_valid ask words e = (tells_valid (command_asked ask words)).0 (spelled ask words e)
 
 last_passed : (k a b c : Bool)

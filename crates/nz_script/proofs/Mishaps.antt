@@ -23,7 +23,7 @@ use Rattle.nz_script.specs.Shapes.{forms_of}
 use Rattle.nz_script.specs.Forms.{actors_as}
 use Rattle.nz_script.specs.Drafts.{version_has, keeps_order, is_new_skew, has_room_for_line, knows, is_server, is_replica}
 use Rattle.nz_script.specs.Drafts.{is_known, all_known, all_within, is_span, fault_in, has_room_for_faults, with_words}
-use Rattle.nz_script.specs.Texts.{actors_of, fault_line}
+use Rattle.nz_script.specs.Texts.{actors_word, fault_line}
 use Rattle.nz_script.specs.Valid.{is_sound}
 use Rattle.nz_script.proofs.Readable.{IsReadAs, number_read, one_actor_read, actors_read, everyone_read, server_read, replica_read, kind_read}
 use Rattle.nz_script.proofs.ReadAgain.{AreReadAs, AreTaken, after_lines}
@@ -74,11 +74,11 @@ parcel g a b k more small e =
     let r = and_parts (nat_le 1 k) (nat_le k 18) (half (is_within 1 18 k) more q.1) in
     record { from = known_small g a small p.0; to = known_small g b small q.0; low = leb-true 1 k r.0; high = leb-true k 18 r.1 }
 
-actors_part : (g : Group) (o : Option Actor) → IsSmall g → is_known g form.Actors (actors_of o) ≡ true → IsReadAs form.Actors (actors_of o)
+actors_part : (g : Group) (o : Option Actor) → IsSmall g → is_known g form.Actors (actors_word o) ≡ true → IsReadAs form.Actors (actors_word o)
 actors_part g None small e = everyone_read
 actors_part g (Some a) small e = actors_read a (known_small g a small e)
 
-actors_again : (o : Option Actor) → actors_as (Some (actors_of o)) ≡ o
+actors_again : (o : Option Actor) → actors_as (Some (actors_word o)) ≡ o
 actors_again None = refl
 actors_again (Some a) = refl
 
@@ -124,13 +124,13 @@ fault_read g (fault.Cut a b k n d) small e h =
       again = ap (λ (m : ℕ). fault.Cut a b k m (wide d)) (number_again n c) ∙ ap (λ (m : ℕ). fault.Cut a b k n m) (number_again d l);
     }
 fault_read g (fault.Block a b first last) small e h =
-    let p = and_parts (is_known g form.Actors (actors_of a)) (is_known g form.Actors (actors_of b) && true) e in
-    let q = half (is_known g form.Actors (actors_of b)) true p.1 in
+    let p = and_parts (is_known g form.Actors (actors_word a)) (is_known g form.Actors (actors_word b) && true) e in
+    let q = half (is_known g form.Actors (actors_word b)) true p.1 in
     let c = number 1 20000 first (omega arith) (half (is_within 1 20000 first) (is_within 1 20000 last && true) h) in
     let l = number 1 20000 last (omega arith) (half (is_within 1 20000 last) true (rest (is_within 1 20000 first) (is_within 1 20000 last && true) h)) in
     record {
       reads = (actors_part g a small p.0, (actors_part g b small q, (reads_number 1 20000 first c, (reads_number 1 20000 last l, tt))));
-      again = ap (λ (o : Option Actor). fault.Block o (actors_as (Some (actors_of b))) (wide first) (wide last)) (actors_again a)
+      again = ap (λ (o : Option Actor). fault.Block o (actors_as (Some (actors_word b))) (wide first) (wide last)) (actors_again a)
           ∙ ap (λ (o : Option Actor). fault.Block a o (wide first) (wide last)) (actors_again b)
           ∙ ap (λ (m : ℕ). fault.Block a b m (wide last)) (number_again first c) ∙ ap (λ (m : ℕ). fault.Block a b first m) (number_again last l);
     }

@@ -133,9 +133,9 @@ scripts_lines client [] = []
 scripts_lines client (script ∷ scripts) = a_line verb.Client (word.Named (Client client) ∷ []) ∷ (script_lines script ++ scripts_lines (client + 1) scripts)
 
 -- An actor or everyone as a word.
-abbrev pub actors_of : Option Actor → Word
-actors_of None = word.Everyone
-actors_of (Some a) = word.Named a
+abbrev pub actors_word : Option Actor → Word
+actors_word None = word.Everyone
+actors_word (Some a) = word.Named a
 
 -- The line of a fault.
 abbrev pub fault_line : Fault → Line
@@ -146,7 +146,7 @@ fault_line (fault.Twice from to kind count by) =
     a_line (verb.Mishap mishap.Twice) (word.Named from ∷ word.Named to ∷ word.Kind (Some kind) ∷ word.Number count ∷ word.Number by ∷ [])
 fault_line (fault.Cut from to kind count keep) =
     a_line (verb.Mishap mishap.Cut) (word.Named from ∷ word.Named to ∷ word.Kind (Some kind) ∷ word.Number count ∷ word.Number keep ∷ [])
-fault_line (fault.Block from to first last) = a_line (verb.Mishap mishap.Block) (actors_of from ∷ actors_of to ∷ word.Number first ∷ word.Number last ∷ [])
+fault_line (fault.Block from to first last) = a_line (verb.Mishap mishap.Block) (actors_word from ∷ actors_word to ∷ word.Number first ∷ word.Number last ∷ [])
 fault_line (fault.Crash a tick) = a_line (verb.Mishap mishap.Crash) (word.Named a ∷ word.Number tick ∷ [])
 fault_line (fault.Restart a tick) = a_line (verb.Mishap mishap.Restart) (word.Named a ∷ word.Number tick ∷ [])
 fault_line (fault.Alarm a tick) = a_line (verb.Mishap mishap.Alarm) (word.Named a ∷ word.Number tick ∷ [])

@@ -60,10 +60,10 @@ fn choice_at(bytes: &[u8]) -> Option<(u32, &[u8])>
     }
 }
 
-#[tactic(auto, unfolding(nz_store::specs::Reading::body_at))]
+#[tactic(auto, unfolding(nz_store::specs::Reading::command_body_at))]
 fn put_len(key: &[u8], bytes: &[u8]) -> Option<u32>
     requires { length key.now ≤ 255 }
-    ensures { result ≡ option_map command_len (all_of (reading.body_at 1 key.now bytes.now)) }
+    ensures { result ≡ option_map command_len (all_of (reading.command_body_at 1 key.now bytes.now)) }
 {
     let (value, rest) = value_at(bytes)?;
     if !rest.is_empty() {
@@ -72,10 +72,10 @@ fn put_len(key: &[u8], bytes: &[u8]) -> Option<u32>
     Some(5 + key.len() as u32 + value.len() as u32)
 }
 
-#[tactic(auto, unfolding(nz_store::specs::Reading::body_at))]
+#[tactic(auto, unfolding(nz_store::specs::Reading::command_body_at))]
 fn cas_len(key: &[u8], bytes: &[u8]) -> Option<u32>
     requires { length key.now ≤ 255 }
-    ensures { result ≡ option_map command_len (all_of (reading.body_at 4 key.now bytes.now)) }
+    ensures { result ≡ option_map command_len (all_of (reading.command_body_at 4 key.now bytes.now)) }
 {
     let (old, rest) = choice_at(bytes)?;
     let (new, rest) = choice_at(rest)?;
@@ -85,10 +85,10 @@ fn cas_len(key: &[u8], bytes: &[u8]) -> Option<u32>
     Some(6 + key.len() as u32 + old + new)
 }
 
-#[tactic(auto, unfolding(nz_store::specs::Reading::body_at))]
+#[tactic(auto, unfolding(nz_store::specs::Reading::command_body_at))]
 fn body_len(kind: u8, key: &[u8], bytes: &[u8]) -> Option<u32>
     requires { length key.now ≤ 255 }
-    ensures { result ≡ option_map command_len (all_of (reading.body_at kind key.now bytes.now)) }
+    ensures { result ≡ option_map command_len (all_of (reading.command_body_at kind key.now bytes.now)) }
 {
     match kind {
         1 => put_len(key, bytes),

@@ -2,7 +2,7 @@
 
 ghost use Rattle.std.specs.Prelude.{◌≡◌, map, IfOk, IfSome};
 ghost use Rattle.std.specs.Option.{option_map};
-ghost use Rattle.nz_store.specs.Grammar.{IsValid};
+ghost use Rattle.nz_store.specs.Grammar.{IsValidCommand};
 ghost use Rattle.nz_script.specs.Commands as commands;
 ghost use Rattle.nz_script.specs.Commands.{fits_first, ask_of_verb, command_of_sort};
 
@@ -52,7 +52,7 @@ fn command_of_ask<'a, 'b>(
     words: &'a [&'b [u8]],
 ) -> Result<Option<(Command, &'a [&'b [u8]])>, NoMemory>
     ensures value { IfOk result (λ command. option_map (λ x. (x.0, map (λ w. w.now) x.1.now)) command ≡ command_of_sort ask (map (λ w. w.now) words.now)) }
-    ensures valid { IfOk result (λ command. IfSome command (λ x. IsValid x.0)) }
+    ensures valid { IfOk result (λ command. IfSome command (λ x. IsValidCommand x.0)) }
 {
     let forms = Verb::Ask(ask).shape().2;
     let Some((meant, rest)) = words_first(alloc, forms, words)? else {
@@ -72,7 +72,7 @@ pub fn command_first<'a, 'b>(
     words: &'a [&'b [u8]],
 ) -> Result<Option<(Command, &'a [&'b [u8]])>, NoMemory>
     ensures value { IfOk result (λ command. option_map (λ x. (x.0, map (λ w. w.now) x.1.now)) command ≡ commands.command_first (map (λ w. w.now) words.now)) }
-    ensures valid { IfOk result (λ command. IfSome command (λ x. IsValid x.0)) }
+    ensures valid { IfOk result (λ command. IfSome command (λ x. IsValidCommand x.0)) }
 {
     let [first, more @ ..] = words else {
         return Ok(None);

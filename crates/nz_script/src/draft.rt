@@ -1,7 +1,7 @@
 //! What was read of a scenario so far.
 
 ghost use Rattle.std.specs.Prelude.{◌≡◌, ◌+◌, ◌<◌, ◌≤◌, IfOk, IsTrue, OnOk};
-ghost use Rattle.nz_store.specs.Grammar.{IsValid};
+ghost use Rattle.nz_store.specs.Grammar.{IsValidCommand};
 ghost use Rattle.nz_script.specs.Shapes.{forms_of, head_shape_of};
 ghost use Rattle.nz_script.specs.Drafts.{all_within, has_room_for_line, command_asked, fault_in, skew_in, with_head};
 ghost use Rattle.nz_script.specs.Drafts.{with_request, with_script, with_words, first_draft, scenario_of};
@@ -192,7 +192,7 @@ impl Draft {
     }
 
     fn take_request(&mut self, alloc: Global, command: &Command) -> Result<(), NoMemory>
-        requires valid { IsValid command.now }
+        requires valid { IsValidCommand command.now }
         requires few { self.old.requests < 2000 }
         ensures { OnOk result (self.new ≡ with_request self.old command.now) }
     {

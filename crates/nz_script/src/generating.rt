@@ -2,7 +2,7 @@
 
 ghost use Rattle.std.specs.Prelude.{◌≡◌, ◌+◌, ◌*◌, ◌/◌, ◌<◌, ◌≤◌, ◌^◌, length, IfOk, OnOk, ◌∷◌};
 ghost use Rattle.std.specs.Fmt.{decimal};
-ghost use Rattle.nz_store.specs.Grammar.{spelling, IsValid};
+ghost use Rattle.nz_store.specs.Grammar.{spelling, IsValidCommand};
 ghost use Rattle.nz_script.specs.Draws as draws_words;
 ghost use Rattle.nz_script.specs.Draws.{draw_after, draws_after, drawn_key, drawn_value, command_for, request_for, requests_for};
 ghost use Rattle.nz_script.specs.Draws.{script_for, scripts_for, fault_for, faults_for, scenario_of_seed};

@@ -264,8 +264,8 @@ fn number(number: u32) -> Word
     Word::Number(u64::from(number))
 }
 
-pub fn actors_of(actors: Option<Actor>) -> Word
-    ensures { result ≡ texts.actors_of actors }
+pub fn actors_word(actors: Option<Actor>) -> Word
+    ensures { result ≡ texts.actors_word actors }
 {
     match actors {
         None => Word::Everyone,
@@ -290,12 +290,12 @@ fn parcel_words(from: Actor, to: Actor, kind: u8, count: u32, last: Word) -> [Wo
 }
 
 fn block_words(from: Option<Actor>, to: Option<Actor>, first: u32, last: u32) -> [Word; 5]
-    ensures { result ≡ texts.actors_of from ∷ texts.actors_of to ∷ word.Number first ∷ word.Number last ∷ word.Nothing ∷ [] }
+    ensures { result ≡ texts.actors_word from ∷ texts.actors_word to ∷ word.Number first ∷ word.Number last ∷ word.Nothing ∷ [] }
 {
     let nothing = Word::Nothing;
     [
-        actors_of(from),
-        actors_of(to),
+        actors_word(from),
+        actors_word(to),
         number(first),
         number(last),
         nothing,

@@ -3,7 +3,7 @@ use Rattle.std.proofs.Common.{◌≡◌, ℕ, zero, suc, ◌+◌, ◌*◌, ◌/�
 use Rattle.std.proofs.Common.{[], ◌∷◌, ◌++◌, length, take, drop, Option, Some, None, refl, sym, ap, subst, arith}
 use Rattle.std.proofs.lemmas.Bool.{ltb-true, ltb-false, le-ltb, lt-ltb}
 use Rattle.std.proofs.lemmas.List.{take_at, drop_at, take-append-drop, length-append, length-take}
-use Rattle.nz_store.specs.Grammar.{IsKey, IsValue, IsChoice, key_spelling, value_spelling, choice_spelling}
+use Rattle.nz_store.specs.Grammar.{IsKey, IsValue, IsOptionalValue, key_spelling, value_spelling, choice_spelling}
 use Rattle.nz_store.specs.Reading.{◌>>=◌, is_key_text, is_value_text, text_at, key_at, value_at, choice_at}
 use Rattle.nz_store.proofs.Texts.{key_from_test, test_from_key, value_from_test, test_from_value}
 
@@ -80,19 +80,19 @@ value_again value rest h =
     let below : ltb (length value % 256) 256 ≡ true = lt-ltb _ _ (omega arith) in
     rw below (text_again is_value_text (256 * (length value / 256) + length value % 256) value rest (omega arith) (test_from_value value h))
 
-pub choice_takes : (bytes : List ℕ) (x : Option (List ℕ) × List ℕ) → choice_at bytes ≡ Some x → (bytes ≡ choice_spelling x.0 ++ x.1) × IsChoice x.0
+pub choice_takes : (bytes : List ℕ) (x : Option (List ℕ) × List ℕ) → choice_at bytes ≡ Some x → (bytes ≡ choice_spelling x.0 ++ x.1) × IsOptionalValue x.0
 unfolding choice_at
 choice_takes [] x e = absurd cc
 choice_takes (zero ∷ bytes) x e =
-    subst (λ (p : Option (List ℕ) × List ℕ). (0 ∷ bytes ≡ choice_spelling p.0 ++ p.1) × IsChoice p.0) (some_is (None, bytes) x e) (refl, tt)
+    subst (λ (p : Option (List ℕ) × List ℕ). (0 ∷ bytes ≡ choice_spelling p.0 ++ p.1) × IsOptionalValue p.0) (some_is (None, bytes) x e) (refl, tt)
 choice_takes (suc zero ∷ bytes) x e =
     let b = bind_some (value_at bytes) (λ v. Some (Some v.0, v.1)) x e in
     let t = value_takes bytes b.0 b.1 in
-    subst (λ (p : Option (List ℕ) × List ℕ). (1 ∷ bytes ≡ choice_spelling p.0 ++ p.1) × IsChoice p.0)
+    subst (λ (p : Option (List ℕ) × List ℕ). (1 ∷ bytes ≡ choice_spelling p.0 ++ p.1) × IsOptionalValue p.0)
     (some_is (Some b.0.0, b.0.1) x b.2) (ap (λ (l : List ℕ). 1 ∷ l) t.0, t.1)
 choice_takes (suc (suc n) ∷ bytes) x e = absurd cc
 
-pub choice_again : (value : Option (List ℕ)) (rest : List ℕ) → IsChoice value → choice_at (choice_spelling value ++ rest) ≡ Some (value, rest)
+pub choice_again : (value : Option (List ℕ)) (rest : List ℕ) → IsOptionalValue value → choice_at (choice_spelling value ++ rest) ≡ Some (value, rest)
 unfolding choice_at
 choice_again None rest h = refl
 choice_again (Some value) rest h = rw (value_again value rest h) refl

@@ -16,7 +16,7 @@ use Rattle.nz_store.specs.declared.command.Command.TheVariants.{Put, Get, Del, C
 use Rattle.nz_store.specs.declared.command.Answer.{Answer}
 use Rattle.nz_store.specs.declared.command.Answer.TheVariants.{Done}
 use Rattle.nz_store.specs.Reading.{command_of}
-use Rattle.nz_store.specs.Entries.{Entries, empty, value_of, with_value, without, with_choice, IsMap}
+use Rattle.nz_store.specs.Entries.{Entries, empty, value_of, with_value, without_key, with_choice, IsMap}
 use Rattle.nz_store.specs.Sequence.{apply, apply_found, apply_bytes, refusal_answer, store_from, store_after}
 
 abbrev bytes_cmp : List ℕ → List ℕ → Ordering
@@ -64,12 +64,12 @@ value_of-with_value (e ∷ es) key value other =
 abbrev nothing : Option (List ℕ)
 nothing = None
 
-pub value_of-without : (s : Entries) (key other : List ℕ) → value_of (without s key) other ≡ cond (bytes_eq other key) None (value_of s other)
+pub value_of-without : (s : Entries) (key other : List ℕ) → value_of (without_key s key) other ≡ cond (bytes_eq other key) None (value_of s other)
 value_of-without [] key other =
     elim (bytes_eq other key) as (λ (b : Bool). nothing ≡ cond b nothing nothing) [ true ↦ refl | false ↦ refl ]
 value_of-without (e ∷ es) key other =
     elim (bytes_eq key e.0) as (λ (b : Bool). bytes_eq key e.0 ≡ b
-    → value_of (cond (not b) (e ∷ without es key) (without es key)) other ≡ cond (bytes_eq other key) None (value_of (e ∷ es) other)) [
+    → value_of (cond (not b) (e ∷ without_key es key) (without_key es key)) other ≡ cond (bytes_eq other key) None (value_of (e ∷ es) other)) [
       | true ↦ λ is.
           let same : e.0 ≡ key = sym ((bytes_eq-Decides key e.0).0 is) in
           value_of-without es key other
@@ -99,10 +99,10 @@ above-with_value low (e ∷ es) key value l h =
       | Greater ↦ (h.0, above-with_value low es key value l h.1)
     ]
 
-above-without : (low : List ℕ) (s : Entries) (key : List ℕ) → AllAbove low s → AllAbove low (without s key)
+above-without : (low : List ℕ) (s : Entries) (key : List ℕ) → AllAbove low s → AllAbove low (without_key s key)
 above-without low [] key h = tt
 above-without low (e ∷ es) key h =
-    elim (bytes_eq key e.0) as (λ (b : Bool). AllAbove low (cond (not b) (e ∷ without es key) (without es key))) [
+    elim (bytes_eq key e.0) as (λ (b : Bool). AllAbove low (cond (not b) (e ∷ without_key es key) (without_key es key))) [
       | true ↦ above-without low es key h.1
       | false ↦ (h.0, above-without low es key h.1)
     ]
@@ -126,11 +126,11 @@ IsMap-with_value (e ∷ es) key value h =
           )
     ] refl
 
-pub IsMap-without : (s : Entries) (key : List ℕ) → IsMap s → IsMap (without s key)
+pub IsMap-without : (s : Entries) (key : List ℕ) → IsMap s → IsMap (without_key s key)
 unfolding IsStrictlySortedBy
 IsMap-without [] key h = tt
 IsMap-without (e ∷ es) key h =
-    elim (bytes_eq key e.0) as (λ (b : Bool). IsMap (cond (not b) (e ∷ without es key) (without es key))) [
+    elim (bytes_eq key e.0) as (λ (b : Bool). IsMap (cond (not b) (e ∷ without_key es key) (without_key es key))) [
       | true ↦ IsMap-without es key h.1
       | false ↦ (above-without e.0 es key h.0, IsMap-without es key h.1)
     ]

@@ -6,8 +6,8 @@ use Rattle.std.proofs.lemmas.Bool.{eqb-true}
 use Rattle.std.proofs.lemmas.List.{append-nil, nil_from_length}
 use Rattle.nz_store.specs.declared.command.Command.{Command}
 use Rattle.nz_store.specs.declared.command.Command.TheVariants.{Put, Get, Del, Cas}
-use Rattle.nz_store.specs.Grammar.{IsKey, IsValid, Spells, key_spelling, value_spelling, choice_spelling, spelling}
-use Rattle.nz_store.specs.Reading.{◌>>=◌, key_at, value_at, choice_at, body_at, command_at, all_of, command_of}
+use Rattle.nz_store.specs.Grammar.{IsKey, IsValidCommand, Spells, key_spelling, value_spelling, choice_spelling, spelling}
+use Rattle.nz_store.specs.Reading.{◌>>=◌, key_at, value_at, choice_at, command_body_at, command_at, all_of, command_of}
 use Rattle.nz_store.proofs.Fields.{bind_some, some_is, passed, key_takes, key_again, value_takes, value_again, choice_takes, choice_again}
 
 -- one of two, by a test
@@ -20,7 +20,7 @@ some x = Some x
 
 pub record IsReadAt (bytes : List ℕ) (c : Command) (rest : List ℕ) : Type 0 where
   pub parts : bytes ≡ spelling c ++ rest
-  pub valid : IsValid c
+  pub valid : IsValidCommand c
 
 -- a command of a kind, whose key was read
 put_takes : (key bytes : List ℕ) (x : Command × List ℕ) → IsKey key
@@ -58,9 +58,9 @@ cas_takes key bytes x h e =
     subst (λ (p : Command × List ℕ). IsReadAt (4 ∷ (key_spelling key ++ bytes)) p.0 p.1) (some_is (Cas key a.0.0 b.0.0, b.0.1) x b.2) made
 
 -- the same, whatever the kind
-kind_takes : (kind : ℕ) (key bytes : List ℕ) (x : Command × List ℕ) → IsKey key → body_at kind key bytes ≡ Some x
+kind_takes : (kind : ℕ) (key bytes : List ℕ) (x : Command × List ℕ) → IsKey key → command_body_at kind key bytes ≡ Some x
     → IsReadAt (kind ∷ (key_spelling key ++ bytes)) x.0 x.1
-unfolding body_at
+unfolding command_body_at
 kind_takes kind key bytes x h e =
     let Read : ℕ → Type 0 = λ k. IsReadAt (k ∷ (key_spelling key ++ bytes)) x.0 x.1 in
     elim (chosen (eqb kind 1) _ _ (Some x) e) [
@@ -78,13 +78,13 @@ pub command_takes : (bytes : List ℕ) (x : Command × List ℕ) → command_at 
 unfolding command_at
 command_takes [] x e = absurd cc
 command_takes (kind ∷ bytes) x e =
-    let b = bind_some (key_at bytes) (λ key. body_at kind key.0 key.1) x e in
+    let b = bind_some (key_at bytes) (λ key. command_body_at kind key.0 key.1) x e in
     let t = key_takes bytes b.0 b.1 in
     let read = kind_takes kind b.0.0 b.0.1 x t.1 b.2 in
     subst (λ (l : List ℕ). IsReadAt (kind ∷ l) x.0 x.1) (sym t.0) read
 
-pub command_again : (c : Command) (rest : List ℕ) → IsValid c → command_at (spelling c ++ rest) ≡ Some (c, rest)
-unfolding command_at body_at
+pub command_again : (c : Command) (rest : List ℕ) → IsValidCommand c → command_at (spelling c ++ rest) ≡ Some (c, rest)
+unfolding command_at command_body_at
 command_again (Put key value) rest h =
     let regrouped : spelling (Put key value) ++ rest ≡ 1 ∷ (key_spelling key ++ (value_spelling value ++ rest)) =
     ap (λ (l : List ℕ). 1 ∷ l) (append_assoc (key_spelling key) (value_spelling value) rest) in

@@ -12,7 +12,7 @@ use Rattle.std.specs.Global.{Vec}
 use Rattle.std.specs.BTreeMap.{insert_entry, is_at}
 use Rattle.std.proofs.lemmas.Map.Text.{is_eq-slice_cmp}
 use Rattle.std.proofs.lemmas.Slice.Eq.{bytes_eq-Decides}
-use Rattle.nz_store.specs.Entries.{Entries, value_of, with_value, without}
+use Rattle.nz_store.specs.Entries.{Entries, value_of, with_value, without_key}
 use Rattle.nz_store.specs.Table.{entries_of, table_key_cmp}
 
 -- how the table looks some bytes up
@@ -39,14 +39,14 @@ inserted (e ∷ es) key value =
 
 -- entries at other keys stay
 others_stay : (es : List (Vec ℕ × List ℕ)) (key : List ℕ) → AllByRecursion (λ k. compare key k ≡ Less) (keys_of es)
-    → without (entries_of es) key ≡ entries_of es
+    → without_key (entries_of es) key ≡ entries_of es
 others_stay [] key h = refl
 others_stay (e ∷ es) key h =
     let other : bytes_eq key e.0.items ≡ false = sym (is_eq-slice_cmp key e.0.items) ∙ ap is_eq h.0 in
     rw other (ap (λ (l : Entries). (e.0.items, e.1) ∷ l) (others_stay es key h.1))
 
 pub removed : (es : List (Vec ℕ × List ℕ)) (key : List ℕ) → IsStrictlySortedBy table_key_cmp (keys_of es)
-    → entries_of (remove_entry (is_at (compare key)) es) ≡ without (entries_of es) key
+    → entries_of (remove_entry (is_at (compare key)) es) ≡ without_key (entries_of es) key
 unfolding IsStrictlySortedBy
 removed [] key h = refl
 removed (e ∷ es) key h =
@@ -54,7 +54,7 @@ removed (e ∷ es) key h =
     (elim (bytes_eq key e.0.items) as
     (λ (b : Bool). bytes_eq key e.0.items ≡ b
     → entries_of (cond b es (e ∷ remove_entry (is_at (compare key)) es))
-    ≡ cond (not b) ((e.0.items, e.1) ∷ without (entries_of es) key) (without (entries_of es) key)) [
+    ≡ cond (not b) ((e.0.items, e.1) ∷ without_key (entries_of es) key) (without_key (entries_of es) key)) [
       | true ↦ λ same.
           let key_is : key ≡ e.0.items = (bytes_eq-Decides key e.0.items).0 same in
           sym (others_stay es key (subst (λ (k : List ℕ). AllByRecursion (λ x. compare k x ≡ Less) (keys_of es)) (sym key_is) h.0))

@@ -9,7 +9,7 @@ use Rattle.std.proofs.lemmas.Slice.Eq.{bytes_eq-Decides}
 use Rattle.std.proofs.lemmas.List.Sums.{AllPass-from_list_all, list_all-from_AllPass}
 use Rattle.nz_store.specs.declared.command.Command.{Command}
 use Rattle.nz_store.specs.declared.command.Command.TheVariants.{Put, Get, Del, Cas}
-use Rattle.nz_store.specs.Grammar.{is_graphic, dash, IsKey, IsValue, IsChoice, IsValid}
+use Rattle.nz_store.specs.Grammar.{is_graphic, dash, IsKey, IsValue, IsOptionalValue, IsValidCommand}
 use Rattle.nz_store.specs.Reading.{is_text, is_key_text, is_value_text, is_choice_text, has_spelling}
 
 pub both_of : (a b : Bool) → (a && b) ≡ true → (a ≡ true) × (b ≡ true)
@@ -62,16 +62,16 @@ test_from_value bytes h =
     both (is_text 256 bytes) (not (bytes_eq bytes dash)) (test_from_text 256 bytes h.some h.short h.graphic)
     (is_not (bytes_eq bytes dash) (bytes ≡ dash) (bytes_eq-Decides bytes dash) h.other)
 
-choice_from_test : (value : Option (List ℕ)) → is_choice_text value ≡ true → IsChoice value
+choice_from_test : (value : Option (List ℕ)) → is_choice_text value ≡ true → IsOptionalValue value
 choice_from_test None e = tt
 choice_from_test (Some value) e = value_from_test value e
 
-test_from_choice : (value : Option (List ℕ)) → IsChoice value → is_choice_text value ≡ true
+test_from_choice : (value : Option (List ℕ)) → IsOptionalValue value → is_choice_text value ≡ true
 test_from_choice None h = refl
 test_from_choice (Some value) h = test_from_value value h
 
 -- the test of a command tells the commands that have a spelling
-pub tells_valid : (c : Command) → IsTrue (has_spelling c) ↔ IsValid c
+pub tells_valid : (c : Command) → IsTrue (has_spelling c) ↔ IsValidCommand c
 tells_valid (Put key value) = (
   (λ e. let p = both_of (is_key_text key) (is_value_text value) e in (key_from_test key p.0, value_from_test value p.1)),
   (λ h. both (is_key_text key) (is_value_text value) (test_from_key key h.0) (test_from_value value h.1)),

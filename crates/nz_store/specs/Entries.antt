@@ -24,13 +24,13 @@ abbrev pub with_value : Entries → List ℕ → List ℕ → Entries
 with_value entries key value = insert_entry (slice_cmp nat_cmp) entries key value
 
 -- The same map, but with no value at the key.
-abbrev pub without : Entries → List ℕ → Entries
-without entries key = filter (λ e. not (bytes_eq key e.0)) entries
+abbrev pub without_key : Entries → List ℕ → Entries
+without_key entries key = filter (λ e. not (bytes_eq key e.0)) entries
 
 -- The same map, but with this value or none at the key.
 abbrev pub with_choice : Entries → List ℕ → Option (List ℕ) → Entries
 with_choice entries key (Some value) = with_value entries key value
-with_choice entries key None = without entries key
+with_choice entries key None = without_key entries key
 
 -- Each key is there once, in the order of their bytes.
 abbrev pub IsMap : Entries → Type 0

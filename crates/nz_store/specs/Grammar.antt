@@ -26,16 +26,16 @@ pub record IsValue (value : List ℕ) : Type 0 where
   pub other : value ≢ dash
 
 -- No value, or a value.
-abbrev pub IsChoice : Option (List ℕ) → Type 0
-IsChoice None = Unit {0}
-IsChoice (Some value) = IsValue value
+abbrev pub IsOptionalValue : Option (List ℕ) → Type 0
+IsOptionalValue None = Unit {0}
+IsOptionalValue (Some value) = IsValue value
 
 -- The commands that have a spelling.
-abbrev pub IsValid : Command → Type 0
-IsValid (Put key value) = IsKey key × IsValue value
-IsValid (Get key) = IsKey key
-IsValid (Del key) = IsKey key
-IsValid (Cas key old new) = IsKey key × IsChoice old × IsChoice new
+abbrev pub IsValidCommand : Command → Type 0
+IsValidCommand (Put key value) = IsKey key × IsValue value
+IsValidCommand (Get key) = IsKey key
+IsValidCommand (Del key) = IsKey key
+IsValidCommand (Cas key old new) = IsKey key × IsOptionalValue old × IsOptionalValue new
 
 -- A key is spelled by its length in one byte, and its bytes.
 abbrev pub key_spelling : List ℕ → List ℕ
@@ -59,5 +59,5 @@ spelling (Cas key old new) = 4 ∷ (key_spelling key ++ (choice_spelling old ++ 
 
 -- The bytes are those of the command, and nothing follows.
 pub record Spells (command : Command) (bytes : List ℕ) : Type 0 where
-  pub valid : IsValid command
+  pub valid : IsValidCommand command
   pub whole : bytes ≡ spelling command

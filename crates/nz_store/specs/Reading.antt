@@ -60,8 +60,8 @@ choice_at (suc zero ∷ bytes) = value_at bytes >>= λ v. Some (Some v.0, v.1)
 choice_at (suc (suc n) ∷ bytes) = None
 
 -- The values of a command of this kind with this key, and the bytes after it.
-unfoldable pub body_at : ℕ → List ℕ → List ℕ → Option (Command × List ℕ)
-body_at kind key bytes =
+unfoldable pub command_body_at : ℕ → List ℕ → List ℕ → Option (Command × List ℕ)
+command_body_at kind key bytes =
     if kind == 1 then (value_at bytes >>= λ v. Some (Put key v.0, v.1))
     else (if kind == 2 then Some (Get key, bytes)
     else (if kind == 3 then Some (Del key, bytes)
@@ -70,7 +70,7 @@ body_at kind key bytes =
 -- A command, and the bytes after it.
 unfoldable pub command_at : List ℕ → Option (Command × List ℕ)
 command_at [] = None
-command_at (kind ∷ bytes) = key_at bytes >>= λ key. body_at kind key.0 key.1
+command_at (kind ∷ bytes) = key_at bytes >>= λ key. command_body_at kind key.0 key.1
 
 -- What was found, where nothing follows it.
 abbrev pub all_of : {A : Type 0} → Option (A × List ℕ) → Option A

@@ -7,7 +7,7 @@ use Rattle.nz_store.specs.declared.command.Command.TheVariants.{Put, Get, Del, C
 use Rattle.nz_store.specs.declared.command.Answer.{Answer}
 use Rattle.nz_store.specs.declared.command.Answer.TheVariants.{Done, Value, Absent, Differs}
 use Rattle.nz_store.specs.Reading.{command_of}
-use Rattle.nz_store.specs.Entries.{Entries, empty, value_of, with_value, without, with_choice}
+use Rattle.nz_store.specs.Entries.{Entries, empty, value_of, with_value, without_key, with_choice}
 
 -- What get answers.
 abbrev pub value_answer : Option (List ℕ) → Answer
@@ -34,7 +34,7 @@ swap store key old new =
 unfoldable pub apply : Entries → Command → Entries × Answer
 apply store (Put key value) = (with_value store key value, Done)
 apply store (Get key) = (store, value_answer (value_of store key))
-apply store (Del key) = (without store key, removal_answer (value_of store key))
+apply store (Del key) = (without_key store key, removal_answer (value_of store key))
 apply store (Cas key old new) = swap store key old new
 
 -- The same of a command that may not be there: nothing changes, and the answer is Absent.

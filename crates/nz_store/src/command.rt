@@ -55,12 +55,12 @@ impl Answer {
 }
 
 impl Command {
-    ghost use Rattle.nz_store.specs.Grammar.{IsValid};
+    ghost use Rattle.nz_store.specs.Grammar.{IsValidCommand};
 
     /// Whether the command has a spelling: a key of 1 to 32 bytes and values of 1 to 256 bytes,
     /// each byte from `0x21` to `0x7e`, and no value `-`.
     pub fn is_valid(&self) -> bool
-        ensures { IsTrue result ↔ IsValid self.now }
+        ensures { IsTrue result ↔ IsValidCommand self.now }
     {
         is_spelled(self)
     }

@@ -3,15 +3,15 @@
 ghost use Rattle.std.specs.Prelude.{◌≡◌, ◌↔◌, ◌<◌, ℕ, List, [], ◌∷◌, ◌++◌, length, slice_get, Some, None, if◌then◌else◌};
 ghost use Rattle.std.specs.Str.{bytes_eq};
 ghost use Rattle.nz_store.specs.declared.command.Command.{Command};
-ghost use Rattle.nz_store.specs.Grammar.{IsValid, Spells, spelling};
+ghost use Rattle.nz_store.specs.Grammar.{IsValidCommand, Spells, spelling};
 ghost use Rattle.nz_store.specs.Reading.{command_of};
-ghost use Rattle.nz_store.specs.Entries.{Entries, IsMap, value_of, with_value, without};
+ghost use Rattle.nz_store.specs.Entries.{Entries, IsMap, value_of, with_value, without_key};
 ghost use Rattle.nz_store.specs.Sequence.{apply_bytes, store_from, store_after, answer_after, reply, replies};
 
 /// A command has one spelling, which is read back, and bytes spell one command at most.
 pub fn one_spelling()
     ensures read { (bytes : List ℕ) (c : Command) → (command_of bytes ≡ Some c) ↔ Spells c bytes }
-    ensures back { (c : Command) → IsValid c → command_of (spelling c) ≡ Some c }
+    ensures back { (c : Command) → IsValidCommand c → command_of (spelling c) ≡ Some c }
     ensures bytes { (c : Command) (bytes others : List ℕ) → Spells c bytes → Spells c others → bytes ≡ others }
     ensures command { (c d : Command) (bytes : List ℕ) → Spells c bytes → Spells d bytes → c ≡ d }
 {}
@@ -26,7 +26,7 @@ pub fn no_command_begins_another()
 pub fn store_is_a_map()
     ensures set { (s : Entries) (key value other : List ℕ)
         → value_of (with_value s key value) other ≡ (if bytes_eq other key then Some value else value_of s other) }
-    ensures removed { (s : Entries) (key other : List ℕ) → value_of (without s key) other ≡ (if bytes_eq other key then None else value_of s other) }
+    ensures removed { (s : Entries) (key other : List ℕ) → value_of (without_key s key) other ≡ (if bytes_eq other key then None else value_of s other) }
     ensures once { (list : List (List ℕ)) → IsMap (store_after list) }
 {}
 

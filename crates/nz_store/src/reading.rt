@@ -96,9 +96,9 @@ fn kept(alloc: Global, value: Option<&[u8]>) -> Result<Option<Blob>, NoMemory>
     }
 }
 
-#[tactic(auto, unfolding(crate::specs::Reading::body_at))]
+#[tactic(auto, unfolding(crate::specs::Reading::command_body_at))]
 fn put_of(alloc: Global, key: &[u8], bytes: &[u8]) -> Result<Option<Command>, NoMemory>
-    ensures { IfOk result (λ found. found ≡ all_of (reading.body_at 1 key.now bytes.now)) }
+    ensures { IfOk result (λ found. found ≡ all_of (reading.command_body_at 1 key.now bytes.now)) }
 {
     let Some((value, rest)) = value_at(bytes) else {
         return Ok(None);
@@ -111,9 +111,9 @@ fn put_of(alloc: Global, key: &[u8], bytes: &[u8]) -> Result<Option<Command>, No
     Ok(Some(Command::Put { key, value }))
 }
 
-#[tactic(auto, unfolding(crate::specs::Reading::body_at))]
+#[tactic(auto, unfolding(crate::specs::Reading::command_body_at))]
 fn cas_of(alloc: Global, key: &[u8], bytes: &[u8]) -> Result<Option<Command>, NoMemory>
-    ensures { IfOk result (λ found. found ≡ all_of (reading.body_at 4 key.now bytes.now)) }
+    ensures { IfOk result (λ found. found ≡ all_of (reading.command_body_at 4 key.now bytes.now)) }
 {
     let Some((old, rest)) = choice_at(bytes) else {
         return Ok(None);
@@ -130,9 +130,9 @@ fn cas_of(alloc: Global, key: &[u8], bytes: &[u8]) -> Result<Option<Command>, No
     Ok(Some(Command::Cas { key, old, new }))
 }
 
-#[tactic(auto, unfolding(crate::specs::Reading::body_at))]
+#[tactic(auto, unfolding(crate::specs::Reading::command_body_at))]
 fn body_of(alloc: Global, kind: u8, key: &[u8], bytes: &[u8]) -> Result<Option<Command>, NoMemory>
-    ensures { IfOk result (λ found. found ≡ all_of (reading.body_at kind key.now bytes.now)) }
+    ensures { IfOk result (λ found. found ≡ all_of (reading.command_body_at kind key.now bytes.now)) }
 {
     match kind {
         1 => put_of(alloc, key, bytes),

@@ -3,7 +3,7 @@
 ghost use Rattle.std.specs.Prelude.{◌≡◌, OnOk, IfOk, OnErr, Option, ℕ, List};
 ghost use Rattle.std.specs.Option.{option_copied, option_eq};
 ghost use Rattle.std.specs.Str.{bytes_eq};
-ghost use Rattle.nz_store.specs.Entries.{empty, value_of, with_value, without, with_choice};
+ghost use Rattle.nz_store.specs.Entries.{empty, value_of, with_value, without_key, with_choice};
 ghost use Rattle.nz_store.specs.Sequence as sequence;
 ghost use Rattle.nz_store.specs.Sequence.{value_answer, removal_answer, refusal_answer, swap};
 ghost use Rattle.nz_store.specs.Table.{entries_of, IsInOrder};
@@ -38,7 +38,7 @@ fn set(alloc: Global, table: &mut Table, key: &Blob, value: &Blob) -> Result<(),
 
 fn remove(table: &mut Table, key: &Blob) -> Option<Blob>
     requires { IsInOrder table.old }
-    ensures table { entries_of table.new.entries ≡ without (entries_of table.old.entries) key.now }
+    ensures table { entries_of table.new.entries ≡ without_key (entries_of table.old.entries) key.now }
     ensures value { result ≡ value_of (entries_of table.old.entries) key.now }
     ensures order { IsInOrder table.new }
 {

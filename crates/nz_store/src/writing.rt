@@ -1,7 +1,7 @@
 //! Commands, written as bytes.
 
 ghost use Rattle.std.specs.Prelude.{◌≡◌, ◌++◌, ◌∷◌, OnOk, IfOk};
-ghost use Rattle.nz_store.specs.Grammar.{IsKey, IsValue, IsChoice, IsValid, Spells, key_spelling, value_spelling, choice_spelling};
+ghost use Rattle.nz_store.specs.Grammar.{IsKey, IsValue, IsOptionalValue, IsValidCommand, Spells, key_spelling, value_spelling, choice_spelling};
 
 use crate::blob::Blob;
 use crate::command::Command;
@@ -29,7 +29,7 @@ fn put_value(out: &mut Vec<u8>, value: &Blob) -> Result<(), NoMemory>
 }
 
 fn put_choice(out: &mut Vec<u8>, value: &Option<Blob>) -> Result<(), NoMemory>
-    requires { IsChoice value.now }
+    requires { IsOptionalValue value.now }
     ensures { OnOk result (out.new.items ≡ out.old.items ++ choice_spelling value.now) }
 {
     match value {
@@ -46,7 +46,7 @@ fn put_choice(out: &mut Vec<u8>, value: &Option<Blob>) -> Result<(), NoMemory>
 
 /// The one spelling of the command.
 pub fn write_command(alloc: Global, command: &Command) -> Result<Blob, NoMemory>
-    requires { IsValid command.now }
+    requires { IsValidCommand command.now }
     ensures { IfOk result (λ bytes. Spells command.now bytes) }
 {
     let mut out = Vec::new(alloc);

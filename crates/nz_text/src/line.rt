@@ -1,7 +1,7 @@
 //! What a line of a text says, by its words.
 ghost use Rattle.std.specs.Prelude.{◌≡◌, map, IfOk, Some, None};
 ghost use Rattle.std.specs.Option.{option_map};
-ghost use Rattle.nz_store.specs.Grammar.{IsValid, spelling};
+ghost use Rattle.nz_store.specs.Grammar.{IsValidCommand, spelling};
 ghost use Rattle.nz_text.specs.Reading as reading;
 ghost use Rattle.nz_text.specs.Reading.{pieces_in, number_in_digits, client_in, id_of_words, alone, send_of, accept_of, answer_in_words};
 ghost use Rattle.nz_text.specs.Reading.{send_in_words, accept_in_words, open_in_words, at_in_words, line_in_words};
@@ -142,7 +142,7 @@ fn path_of(words: &[&[u8]]) -> Option<Path>
 
 /// The one spelling of the command.
 fn spelled(alloc: Global, command: &Command) -> Result<Blob, NoMemory>
-    requires { IsValid command.now }
+    requires { IsValidCommand command.now }
     ensures { IfOk result (λ bytes. bytes ≡ spelling command.now) }
 {
     let bytes = write_command(alloc, command).map_err(|_| NoMemory)?;

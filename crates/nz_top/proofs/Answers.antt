@@ -13,7 +13,7 @@ use Rattle.nz_base.proofs.Booleans.{cases_bool}
 use Rattle.nz_store.specs.declared.command.Command.{Command}
 use Rattle.nz_store.specs.declared.command.Command.TheVariants.{Put, Get, Del, Cas}
 use Rattle.nz_store.specs.declared.command.Answer.{Answer}
-use Rattle.nz_store.specs.Grammar.{IsValue, IsChoice, IsValid}
+use Rattle.nz_store.specs.Grammar.{IsValue, IsOptionalValue, IsValidCommand}
 use Rattle.nz_store.specs.Reading.{command_of}
 use Rattle.nz_store.specs.Entries.{Entries, empty, value_of, with_value, with_choice}
 use Rattle.nz_store.specs.Sequence.{value_answer, removal_answer, refusal_answer, swap, apply, apply_found}
@@ -46,7 +46,7 @@ value_with [] key value all own = (own, tt)
 value_with (e ∷ store) key value all own =
     value_put (slice_cmp nat_cmp key e.0) e key value store (with_value store key value) all (value_with store key value all.1 own) own
 
-value_choice : (store : Entries) (key : List ℕ) (value : Option (List ℕ)) → HaveValues store → IsChoice value → HaveValues (with_choice store key value)
+value_choice : (store : Entries) (key : List ℕ) (value : Option (List ℕ)) → HaveValues store → IsOptionalValue value → HaveValues (with_choice store key value)
 value_choice store key None all own = all_filter HasValue _ store all
 value_choice store key (Some value) all own = value_with store key value all own
 
@@ -66,14 +66,14 @@ refusal_fits : (value : Option (List ℕ)) → FitsAnswer (refusal_answer value)
 refusal_fits None = tt
 refusal_fits (Some value) = tt
 
-swap_fits : (store : Entries) (key : List ℕ) (old new : Option (List ℕ)) → HaveValues store → IsChoice new → Answering (swap store key old new)
+swap_fits : (store : Entries) (key : List ℕ) (old new : Option (List ℕ)) → HaveValues store → IsOptionalValue new → Answering (swap store key old new)
 swap_fits store key old new all own =
     elim (cases_bool (option_eq bytes_eq (value_of store key) old)) [
       | inl same ↦ rw same (value_choice store key new all own, tt)
       | inr other ↦ rw other (all, refusal_fits (value_of store key))
     ]
 
-apply_fits : (store : Entries) (c : Command) → HaveValues store → IsValid c → Answering (apply store c)
+apply_fits : (store : Entries) (c : Command) → HaveValues store → IsValidCommand c → Answering (apply store c)
 unfolding apply
 apply_fits store (Put key value) all valid = (value_with store key value all valid.1, tt)
 apply_fits store (Get key) all valid = (all, read_fits store key all)

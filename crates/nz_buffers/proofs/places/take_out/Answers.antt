@@ -2,13 +2,13 @@
 use Rattle.std.proofs.Common.{◌≡◌, false, List, Some, is_some, sym, ap, subst, ◌∙◌, refl}
 use Rattle.nz_base.specs.declared.key.Entry.{Entry}
 use Rattle.nz_base.specs.Log.{keys_of, has_id}
-use Rattle.nz_buffers.specs.Places.{IsPlace}
+use Rattle.nz_buffers.specs.Places.{IsFirstPlace}
 use Rattle.nz_buffers.proofs.Removing.{taken_at, find_none, find_held, without_none}
 use Rattle.nz_buffers.proofs.places.take_out.Goals as goal
 
 -- the place is one of the vector's entries
-at : (c : goal.After-remove) → IsPlace c.args.entries.now.items c.args.id c.in-Some.place
-at c = subst (λ (xs : List Entry). IsPlace xs c.args.id c.in-Some.place) c.deref.ensures.value c.in-Some.ensures.found
+at : (c : goal.After-remove) → IsFirstPlace c.args.entries.now.items c.args.id c.in-Some.place
+at c = subst (λ (xs : List Entry). IsFirstPlace xs c.args.id c.in-Some.place) c.deref.ensures.value c.in-Some.ensures.found
 
 away : (c : goal.In-None) → has_id (keys_of c.args.entries.now.items) c.args.id ≡ false
 away c = subst (λ (xs : List Entry). has_id (keys_of xs) c.args.id ≡ false) c.deref.ensures.value c.in-None.ensures.none

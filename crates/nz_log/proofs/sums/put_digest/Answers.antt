@@ -6,7 +6,7 @@ use Rattle.std.proofs.lemmas.List.{get_or_default}
 use Rattle.nz_base.specs.declared.key.Entry.{Entry}
 use Rattle.nz_digest.specs.Digests.{xor_bytes}
 use Rattle.nz_log.specs.Synced.{stays_behind}
-use Rattle.nz_log.specs.Keeping.{IsSummed, all_but}
+use Rattle.nz_log.specs.Keeping.{IsSummed, without_place}
 use Rattle.nz_log.proofs.Putting.{IsFolding, fold_start, fold_gone, fold_stays, fold_end, others_long}
 use Rattle.nz_log.proofs.sums.put_digest.Goals as goal
 use Rattle.nz_log.proofs.sums.put_digest.Goals.{then-stays, else-stays}
@@ -20,8 +20,8 @@ loop-from-init c =
     let within = c.requires.within in
     let some : Entry = record { key = key; command = [] } in
     let x = get_or es place some in
-    let long : length (all_but es place) + 1 ≡ length es = others_long es place key within in
-    let old = c.digest_before-before.ensures (all_but es place) (subst (IsSummed (all_but es place)) (sym c.deref.ensures.value) c.requires.others) in
+    let long : length (without_place es place) + 1 ≡ length es = others_long es place key within in
+    let old = c.digest_before-before.ensures (without_place es place) (subst (IsSummed (without_place es place)) (sym c.deref.ensures.value) c.requires.others) in
     let folded = c.fold_in.ensures ∙ ap (xor_bytes c.digest_before-before.result) c.of_entry.ensures in
     record {
       down = omega arith;
@@ -45,8 +45,8 @@ loop-from-preserved c =
     let sum = c.loop-from.sum in
     let next = c.index.result.now in
     let x = c.get.result.now in
-    let old : length c.args.digests.now.items ≡ length (all_but es place) = c.requires.others.count in
-    let all : length (all_but es place) + 1 ≡ length es = others_long es place key within in
+    let old : length c.args.digests.now.items ≡ length (without_place es place) = c.requires.others.count in
+    let all : length (without_place es place) + 1 ≡ length es = others_long es place key within in
     let size : vec_len c.args.digests.now ≡ length c.args.digests.now.items = c.args.digests.now.ok.0 in
     let end : c.len-from-end.result ≡ vec_len c.args.digests.now = c.len-from-end.ensures in
     let below : from < c.len-from-end.result = c.loop-from-test.true in
@@ -94,8 +94,8 @@ returns c =
     let kept = c.loop-from.kept in
     let ds = c.loop-from.digests.items in
     let sum = c.loop-from.sum in
-    let old : length c.args.digests.now.items ≡ length (all_but es place) = c.requires.others.count in
-    let all : length (all_but es place) + 1 ≡ length es = others_long es place key within in
+    let old : length c.args.digests.now.items ≡ length (without_place es place) = c.requires.others.count in
+    let all : length (without_place es place) + 1 ≡ length es = others_long es place key within in
     let size : vec_len c.args.digests.now ≡ length c.args.digests.now.items = c.args.digests.now.ok.0 in
     let end : c.len-from-end.result ≡ vec_len c.args.digests.now = c.len-from-end.ensures in
     let done : c.len-from-end.result ≤ c.loop-from.from = c.loop-from-test.false in

@@ -1,6 +1,6 @@
 -- What the function of this folder owes, proved.
 use Rattle.std.proofs.Common.{◌≡◌, true, sym, ap, ◌∙◌, subst, List}
-use Rattle.nz_store.specs.Grammar.{IsValid}
+use Rattle.nz_store.specs.Grammar.{IsValidCommand}
 use Rattle.nz_script.specs.declared.line_forms.Form.{Form}
 use Rattle.nz_script.specs.declared.word.Word.{Word}
 use Rattle.nz_script.specs.Shapes.{ask_shape_of}
@@ -14,4 +14,4 @@ returns-clause-valid c =
     let within : all_within (ask_shape_of c.args.ask).2 words ≡ true =
     ap (λ (ws : List Word). all_within (ask_shape_of c.args.ask).2 ws) (sym c.as_slice.ensures)
     ∙ ap (λ (forms : List Form). all_within forms c.as_slice.result.now) (sym c.shape.ensures.forms) ∙ sym c.if-not-are_within.ensures in
-    subst IsValid (sym (c.in_ok-command.ensures ∙ ap (command_asked c.args.ask) c.as_slice-2.ensures)) (command_is_valid c.args.ask words within)
+    subst IsValidCommand (sym (c.in_ok-command.ensures ∙ ap (command_asked c.args.ask) c.as_slice-2.ensures)) (command_is_valid c.args.ask words within)
