@@ -100,9 +100,12 @@ rising_more keys key r above = rising_join keys key [] r tt (λ x h. above_each 
 
 -- ---- ids
 
-pub own_ids_of_prefix : (xs ys : List Key) → HaveOwnIds (xs ++ ys) → HaveOwnIds xs
-own_ids_of_prefix [] ys own = tt
-own_ids_of_prefix (x ∷ xs) ys own = (neither_left (has_id xs (id_of x)) (has_id ys (id_of x)) (sym (has_id-append xs ys (id_of x)) ∙ own.0), own_ids_of_prefix xs ys own.1)
+pub own_in_prefix : (xs ys : List Key) → HaveOwnIds (xs ++ ys) → HaveOwnIds xs
+own_in_prefix [] ys own = tt
+own_in_prefix (x ∷ xs) ys own = (
+  neither_left (has_id xs (id_of x)) (has_id ys (id_of x)) (sym (has_id-append xs ys (id_of x)) ∙ own.0),
+  own_in_prefix xs ys own.1,
+)
 
 -- the id of a key is not among those before it
 pub own_id : (xs : List Key) (k : Key) (ys : List Key) → HaveOwnIds (xs ++ k ∷ ys) → has_id xs (id_of k) ≡ false

@@ -8,7 +8,7 @@ use Rattle.nz_base.specs.declared.key.Id.{Id}
 use Rattle.nz_base.specs.declared.key.Entry.{Entry}
 use Rattle.nz_base.specs.Key.{id_of}
 use Rattle.nz_base.specs.Log.{keys_of, HaveOwnIds}
-use Rattle.nz_base.proofs.Logs.{own_ids_of_prefix, keys_append}
+use Rattle.nz_base.proofs.Logs.{own_in_prefix, keys_append}
 use Rattle.nz_store.specs.declared.command.Answer.{Answer}
 use Rattle.nz_msg.specs.declared.message.Path.{Path}
 use Rattle.nz_msg.specs.declared.envelope.Envelope.{Envelope}
@@ -69,7 +69,7 @@ given_own g J w v id a P h =
     let s = leader_at g v h.moment in
     let facts = facts_stay g h.moment (leader_of g.f v) (at_world g J h.moment w h.at) in
     let all = subst HaveOwnIds (keys_append s.log.entries (s.early ++ s.late)) facts.entries.arranged.own_ids in
-    own_prefix P s.log.entries h.from.prefix (own_ids_of_prefix (keys_of s.log.entries) (keys_of (s.early ++ s.late)) all)
+    own_prefix P s.log.entries h.from.prefix (own_in_prefix (keys_of s.log.entries) (keys_of (s.early ++ s.late)) all)
 
 pub given_few : (g : Group) (J : List Record) → World g J → (v : ℕ) (id : Id) (a : Answer) (P : List Entry) → IsGiven g J v id a P
     → length P ≤ most_entries

@@ -12,7 +12,7 @@ use Rattle.nz_base.specs.Key.{id_eq, id_of}
 use Rattle.nz_base.specs.Log.{keys_of, has_id, HaveOwnIds}
 use Rattle.nz_base.specs.Prefixes.{IsPrefix, Comparable}
 use Rattle.nz_base.proofs.Booleans.{cases_bool, clash, or_left, or_right}
-use Rattle.nz_base.proofs.Logs.{own_ids_of_prefix, keys_append}
+use Rattle.nz_base.proofs.Logs.{own_in_prefix, keys_append}
 use Rattle.nz_base.proofs.Names.{same_id, id_eq_self}
 use Rattle.nz_base.proofs.Prefixes.{prefix_none}
 use Rattle.nz_log.specs.Places.{place_of}
@@ -119,7 +119,7 @@ leader_own : (g : Group) (J : List Record) → World g J → (v : ℕ) → HaveO
 leader_own g J w v =
     let s = leader_at g v J in
     let facts = facts_stay g J (leader_of g.f v) w in
-    own_ids_of_prefix (keys_of s.log.entries) (keys_of (s.early ++ s.late))
+    own_in_prefix (keys_of s.log.entries) (keys_of (s.early ++ s.late))
     (subst HaveOwnIds (keys_append s.log.entries (s.early ++ s.late)) facts.entries.arranged.own_ids)
 
 pub lead_own : (g : Group) (J : List Record) → World g J → (v : ℕ) → HaveOwnIds (keys_of (lead g v J))

@@ -9,7 +9,7 @@ use Rattle.nz_base.specs.declared.key.Entry.{Entry}
 use Rattle.nz_base.specs.Key.{id_eq, id_of}
 use Rattle.nz_base.specs.Log.{keys_of, has_id, HaveOwnIds}
 use Rattle.nz_base.proofs.Booleans.{cases_bool, neither_left, neither_right, or_left, or_right}
-use Rattle.nz_base.proofs.Logs.{own_ids_of_prefix, keys_append}
+use Rattle.nz_base.proofs.Logs.{own_in_prefix, keys_append}
 use Rattle.nz_base.proofs.Names.{same_id, id_eq_self}
 use Rattle.nz_store.specs.declared.command.Answer.{Answer}
 use Rattle.nz_store.specs.Sequence.{reply}
@@ -113,7 +113,7 @@ pub has_place : (id : Id) (es : List Entry) (e : Entry) → Has es e → id_of e
 has_place id es e h s = some_of (place_of es id) (place_held es id ∙ held id es e h s)
 
 pub own_prefix : (xs ys : List Entry) → IsPrefix xs ys → HaveOwnIds (keys_of ys) → HaveOwnIds (keys_of xs)
-own_prefix xs ys p own = own_ids_of_prefix (keys_of xs) (keys_of p.rest) (subst HaveOwnIds (ap keys_of p.whole ∙ keys_append xs p.rest) own)
+own_prefix xs ys p own = own_in_prefix (keys_of xs) (keys_of p.rest) (subst HaveOwnIds (ap keys_of p.whole ∙ keys_append xs p.rest) own)
 
 -- ---- answers
 

@@ -135,7 +135,8 @@ away_in_prefix (x ∷ xs) ys i own there =
 -- an id that is not among the last entries has its place among the first
 place_in_prefix : (prefix back : List Entry) (i : Id) → has_id (keys_of back) i ≡ false → place_of (prefix ++ back) i ≡ place_of prefix i
 place_in_prefix [] back i away = place_none back i away
-place_in_prefix (f ∷ prefix) back i away = ap (λ (o : Option ℕ). if id_eq i (id_of f.key) then Some 0 else option_map suc o) (place_in_prefix prefix back i away)
+place_in_prefix (f ∷ prefix) back i away =
+    ap (λ (o : Option ℕ). if id_eq i (id_of f.key) then Some 0 else option_map suc o) (place_in_prefix prefix back i away)
 
 pub midway_start : (prefix : List Entry) (e : Entry) (back : List Entry) (f g : Id → Option ℕ)
     → HaveOwnIds (keys_of (prefix ++ back)) → has_id (keys_of prefix) (id_of e.key) ≡ false

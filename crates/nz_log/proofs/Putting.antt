@@ -35,7 +35,8 @@ module _ (es : List Entry) (place : ℕ) (key : Key) (within : place < length es
 
   pub others_long : length (without_place es place) + 1 ≡ length es
   others_long =
-      let long : length (without_place es place) ≡ length (take place es) + length (drop (place + 1) es) = length-append (take place es) (drop (place + 1) es) in
+      let long : length (without_place es place) ≡ length (take place es) + length (drop (place + 1) es) =
+      length-append (take place es) (drop (place + 1) es) in
       let first : length (take place es) ≡ place = prefix_long in
       let last : length (drop (place + 1) es) ≡ length es - (place + 1) = length-drop (place + 1) es in
       omega (arith, long, first, last, within)

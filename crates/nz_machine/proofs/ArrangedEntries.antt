@@ -9,7 +9,7 @@ use Rattle.nz_base.specs.Log.{keys_of, has_id, is_above_last, AreRising, HaveOwn
 use Rattle.nz_base.proofs.Booleans.{cases_bool, neither_left, neither_right, clash}
 use Rattle.nz_base.proofs.Names.{same_id}
 use Rattle.nz_base.proofs.Logs.{keys_append, has_id-append, rising_prefix, rising_back, has_first, prefix_below, above_last}
-use Rattle.nz_base.proofs.Logs.{above_each, own_ids_of_prefix, own_id, own_push, own_filter, has_id_filter}
+use Rattle.nz_base.proofs.Logs.{above_each, own_in_prefix, own_id, own_push, own_filter, has_id_filter}
 use Rattle.nz_buffers.specs.Buffers.{insert_by_key, without}
 use Rattle.nz_buffers.proofs.Inserting.{has_key_insert, rising_insert, has_id_insert, own_insert}
 use Rattle.nz_machine.specs.Facts.{FitsEntry, AreArranged}
@@ -64,7 +64,7 @@ arranged_early log early late e a fits above logged held =
     let more = insert_by_key early e in
     let fewer = without late i in
     let joined : HaveOwnIds (keys_of more ++ keys_of fewer) =
-    own_both (keys_of more) (keys_of fewer) (own_insert early e (own_ids_of_prefix (keys_of early) (keys_of late) back) held)
+    own_both (keys_of more) (keys_of fewer) (own_insert early e (own_in_prefix (keys_of early) (keys_of late) back) held)
     (own_filter _ late (own_rest (keys_of early) (keys_of late) back))
     (λ j there. elim (has_id_inserted early e j there) [
       | inl same ↦ subst (λ (k : Id). has_id (keys_of fewer) k ≡ false) (sym same) (gone_without late i)
@@ -78,7 +78,7 @@ arranged_early log early late e a fits above logged held =
           ]));
       own_ids =
           subst HaveOwnIds (sym (keys_of_all log more fewer))
-          (own_both (keys_of log) (keys_of more ++ keys_of fewer) (own_ids_of_prefix (keys_of log) (keys_of early ++ keys_of late) own) joined
+          (own_both (keys_of log) (keys_of more ++ keys_of fewer) (own_in_prefix (keys_of log) (keys_of early ++ keys_of late) own) joined
           (λ j there. none_of (keys_of more) (keys_of fewer) j
           (has_id_insert early e j (away_from_early log early late j a there)
           (another (keys_of log) j i there logged)) (has_id_filter _ late j (away_from_late log early late j a there))));

@@ -14,7 +14,7 @@ use Rattle.nz_base.specs.declared.key.Entry.{Entry}
 use Rattle.nz_base.specs.Key.{id_eq, id_of}
 use Rattle.nz_base.specs.Log.{keys_of, has_id, AreRising, HaveOwnIds}
 use Rattle.nz_base.proofs.Booleans.{or_cases, length-filter_le}
-use Rattle.nz_base.proofs.Logs.{rising_prefix, rising_back, own_ids_of_prefix, rising_filter, own_filter, keys_append}
+use Rattle.nz_base.proofs.Logs.{rising_prefix, rising_back, own_in_prefix, rising_filter, own_filter, keys_append}
 use Rattle.nz_base.proofs.Names.{same_id}
 use Rattle.nz_digest.proofs.Keys.{length-digest}
 use Rattle.nz_log.specs.Places.{place_of, entry_key}
@@ -84,7 +84,7 @@ led_log f me s h =
     let own = subst HaveOwnIds (keys_append s.log.entries (s.early ++ s.late)) h.entries.arranged.own_ids in
     let order : AreInOrder (keys_of s.log.entries) = record {
       rising = rising_prefix (keys_of s.log.entries) (keys_of s.early) rising;
-      own_ids = own_ids_of_prefix (keys_of s.log.entries) (keys_of (s.early ++ s.late)) own;
+      own_ids = own_in_prefix (keys_of s.log.entries) (keys_of (s.early ++ s.late)) own;
     } in
     record { order = order }
 
@@ -93,7 +93,7 @@ order_take n keys h =
     let whole = sym (take-append-drop n keys) in
     record {
       rising = rising_prefix (take n keys) (drop n keys) (subst AreRising whole h.rising);
-      own_ids = own_ids_of_prefix (take n keys) (drop n keys) (subst HaveOwnIds whole h.own_ids);
+      own_ids = own_in_prefix (take n keys) (drop n keys) (subst HaveOwnIds whole h.own_ids);
     }
 
 order_drop : (n : ℕ) (keys : List Key) → AreInOrder keys → AreInOrder (drop n keys)

@@ -11,7 +11,7 @@ use Rattle.nz_base.specs.Key.{key_below, key_eq, id_eq, id_of}
 use Rattle.nz_base.specs.Log.{keys_of, has_key, has_id, is_above_last, AreRising, HaveOwnIds}
 use Rattle.nz_base.proofs.Booleans.{cases_bool, or_cases, and_left, and_right, clash}
 use Rattle.nz_base.proofs.Names.{same_id, same_key}
-use Rattle.nz_base.proofs.Logs.{keys_append, rising_prefix, rising_back, above_each, rising_filter, own_ids_of_prefix}
+use Rattle.nz_base.proofs.Logs.{keys_append, rising_prefix, rising_back, above_each, rising_filter, own_in_prefix}
 use Rattle.nz_log.specs.Synced.{Log, IsSound, synced_part, unsynced_part, stays_behind, is_displaced, log_with_synced, displaced_entries}
 use Rattle.nz_log.proofs.Modifying.{modified_sound}
 use Rattle.nz_buffers.specs.Buffers.{find_id, without}
@@ -33,7 +33,10 @@ apart_held l es fs h =
     let own = subst HaveOwnIds (keys_append l.entries (es ++ fs)) h.arranged.own_ids in
     record {
       sound = record {
-        ordered = record { rising = rising_prefix (keys_of l.entries) (keys_of es) rising; own_ids = own_ids_of_prefix (keys_of l.entries) (keys_of (es ++ fs)) own };
+        ordered = record {
+          rising = rising_prefix (keys_of l.entries) (keys_of es) rising;
+          own_ids = own_in_prefix (keys_of l.entries) (keys_of (es ++ fs)) own;
+        };
         within = h.within;
         few = h.few;
       };

@@ -11,7 +11,7 @@ use Rattle.nz_base.specs.declared.key.Entry.{Entry}
 use Rattle.nz_base.specs.Key.{id_eq, id_of}
 use Rattle.nz_base.specs.Log.{keys_of, HaveOwnIds}
 use Rattle.nz_base.proofs.Booleans.{and_left, and_right}
-use Rattle.nz_base.proofs.Logs.{own_ids_of_prefix, keys_append}
+use Rattle.nz_base.proofs.Logs.{own_in_prefix, keys_append}
 use Rattle.nz_base.proofs.Prefixes.{prefix_self, prefix_more, prefix_then}
 use Rattle.nz_store.specs.declared.command.Answer.{Answer}
 use Rattle.nz_log.specs.Places.{place_of}
@@ -193,7 +193,7 @@ released_stands : (f me : ℕ) (s : ReplicaData) (e : Entry) (es : List Entry) �
 released_stands f me s e es own =
     let is = appended_is (leads f me s) s.log e in
     let entries = (after_release f me s e es).log.entries in
-    let own_log = own_ids_of_prefix (keys_of entries) (keys_of es) (subst HaveOwnIds (keys_append entries es) own) in
+    let own_log = own_in_prefix (keys_of entries) (keys_of es) (subst HaveOwnIds (keys_append entries es) own) in
     let last = place_at_end s.log.entries e (subst (λ (l : List Entry). HaveOwnIds (keys_of l)) is own_log) in
     let long = length-append s.log.entries (e ∷ []) in
     let at : length s.log.entries ≡ length (s.log.entries ++ e ∷ []) - 1 = omega (arith, long) in

@@ -10,7 +10,7 @@ use Rattle.nz_base.specs.declared.actor.Actor.TheVariants.{Replica, Proxy, Clien
 use Rattle.nz_base.specs.declared.key.Entry.{Entry}
 use Rattle.nz_base.specs.Log.{keys_of, HaveOwnIds}
 use Rattle.nz_base.proofs.Booleans.{and_left, and_right}
-use Rattle.nz_base.proofs.Logs.{own_ids_of_prefix, keys_append}
+use Rattle.nz_base.proofs.Logs.{own_in_prefix, keys_append}
 use Rattle.nz_store.proofs.Turns.{length-replies_from}
 use Rattle.nz_msg.specs.declared.message.Message.{Message}
 use Rattle.nz_msg.specs.declared.message.Message.TheVariants as messages
@@ -51,7 +51,7 @@ has_answers f me s h =
     (λ (l : List Entry). HaveOwnIds (keys_of l)) (sym (append_assoc s.log.entries s.early s.late)) h.entries.arranged.own_ids in
     record {
       last = λ normal. h.mode.normal normal;
-      own_ids = own_ids_of_prefix (keys_of (s.log.entries ++ s.early)) (keys_of s.late) (subst HaveOwnIds (keys_append (s.log.entries ++ s.early) s.late) apart);
+      own_ids = own_in_prefix (keys_of (s.log.entries ++ s.early)) (keys_of s.late) (subst HaveOwnIds (keys_append (s.log.entries ++ s.early) s.late) apart);
       count = λ normal lead. ap length (h.executed.led normal lead).results ∙ length-replies_from _ (commands s.log.entries) ∙ commands_long s.log.entries;
     }
 

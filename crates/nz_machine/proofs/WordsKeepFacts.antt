@@ -120,7 +120,8 @@ replies_grow prefix (e ∷ rest) all =
     let more =
     subst (AllByRecursion answer.fits) (sym (replies_pushed prefix e))
     (all_append answer.fits (replies (commands prefix)) _ all (answer_fits (commands prefix) e.command, tt)) in
-    subst (λ (l : List Entry). AllByRecursion answer.fits (replies (commands l))) (append_assoc prefix (e ∷ []) rest) (replies_grow (prefix ++ e ∷ []) rest more)
+    subst (λ (l : List Entry). AllByRecursion answer.fits (replies (commands l))) (append_assoc prefix (e ∷ []) rest)
+    (replies_grow (prefix ++ e ∷ []) rest more)
 
 pub replies_fit : (log : List Entry) → AllByRecursion answer.fits (replies (commands log))
 unfolding replies_from

@@ -11,7 +11,7 @@ use Rattle.nz_base.specs.Key.{key_eq}
 use Rattle.nz_base.specs.Log.{keys_of, has_key, AreRising, HaveOwnIds}
 use Rattle.nz_base.proofs.Names.{key_eq_self}
 use Rattle.nz_base.proofs.Booleans.{cases_bool, and_both, and_left, and_right}
-use Rattle.nz_base.proofs.Logs.{has_append, has_in_prefix, has_back, prefix_below, rising_prefix, own_ids_of_prefix}
+use Rattle.nz_base.proofs.Logs.{has_append, has_in_prefix, has_back, prefix_below, rising_prefix, own_in_prefix}
 use Rattle.nz_merge.specs.Merged.{begins_with, IsFit, merged_synced_part, holders, all_keys, later_keys, entry_in, merged_from, count_beginning}
 use Rattle.nz_merge.specs.declared.change.Change.{Change}
 use Rattle.nz_merge.proofs.Beginnings.{begins_append, rest_of, AreAmong}
@@ -82,7 +82,7 @@ settled limit changes P fit positive few enough =
     let rest = rest_of (keys_of one.0.log) P one.2 in
     record {
       rising = rising_prefix P rest.0 (subst AreRising rest.1 one.1.log.rising);
-      own_ids = own_ids_of_prefix P rest.0 (subst HaveOwnIds rest.1 one.1.log.own_ids);
+      own_ids = own_in_prefix P rest.0 (subst HaveOwnIds rest.1 one.1.log.own_ids);
       held = λ k h.
           let more = more_pass begins (λ c. has_key (keys_of c.log) k) changes (λ c b. has_of_prefix (keys_of c.log) P k b h) in
           le-leb limit (length (holders changes k)) (omega (arith, enough, more));

@@ -10,7 +10,7 @@ use Rattle.nz_base.specs.declared.key.Entry.{Entry}
 use Rattle.nz_base.specs.Key.{id_of}
 use Rattle.nz_base.specs.Log.{keys_of, has_id, AreRising, HaveOwnIds, IsLog, is_above_last}
 use Rattle.nz_base.proofs.Booleans.{cases_bool, and_left, and_right}
-use Rattle.nz_base.proofs.Logs.{rising_prefix, rising_more, own_ids_of_prefix, own_more}
+use Rattle.nz_base.proofs.Logs.{rising_prefix, rising_more, own_in_prefix, own_more}
 use Rattle.nz_merge.specs.Merged.{IsFit, greatest, lower, lowest, synced_entries, merged_synced_part, holders, all_keys, is_taken, later_keys, merged_from}
 use Rattle.nz_merge.specs.declared.change.Change.{Change}
 use Rattle.nz_merge.proofs.CommonPrefixes.{merged_keys}
@@ -65,7 +65,7 @@ prefix_log s log h =
     let parts : keys_of log ≡ keys_of (take s log) ++ keys_of (drop s log) =
     sym (ap keys_of (take-append-drop s log)) ∙ map-append (λ (e : Entry). e.key) (take s log) (drop s log) in (
       rising_prefix (keys_of (take s log)) (keys_of (drop s log)) (subst AreRising parts h.rising),
-      own_ids_of_prefix (keys_of (take s log)) (keys_of (drop s log)) (subst HaveOwnIds parts h.own_ids),
+      own_in_prefix (keys_of (take s log)) (keys_of (drop s log)) (subst HaveOwnIds parts h.own_ids),
     )
 
 base_of : (o : Option Change) → ((c : Change) → o ≡ Some c → IsFit c) → AreRising (keys_of (synced_entries o)) × HaveOwnIds (keys_of (synced_entries o))

@@ -46,5 +46,6 @@ pub is_done : {A : Type 0} (item : List A → Codec A) (prefix : List A) (count 
 unfolding items_at
 is_done {A} item prefix count i bytes total le so_far =
     let k : count - i ≡ 0 = omega arith in
-    let one : with_earlier prefix (items_at item prefix (count - i) bytes) ≡ Ok (prefix, bytes) = rw k (ap (λ (xs : List A). Ok (xs, bytes)) (append-nil prefix)) in
+    let one : with_earlier prefix (items_at item prefix (count - i) bytes) ≡ Ok (prefix, bytes) =
+    rw k (ap (λ (xs : List A). Ok (xs, bytes)) (append-nil prefix)) in
     sym so_far ∙ one

@@ -21,7 +21,8 @@ loop-from-init c =
     let some : Entry = record { key = key; command = [] } in
     let x = get_or es place some in
     let long : length (without_place es place) + 1 ≡ length es = others_long es place key within in
-    let old = c.digest_before-before.ensures (without_place es place) (subst (IsSummed (without_place es place)) (sym c.deref.ensures.value) c.requires.others) in
+    let old =
+    c.digest_before-before.ensures (without_place es place) (subst (IsSummed (without_place es place)) (sym c.deref.ensures.value) c.requires.others) in
     let folded = c.fold_in.ensures ∙ ap (xor_bytes c.digest_before-before.result) c.of_entry.ensures in
     record {
       down = omega arith;
