@@ -37,7 +37,7 @@ fn release_due(state: &mut ReplicaState, sends: &mut Sends) -> Result<(), NoMemo
     Ok(())
 }
 
-/// What a replica does when its clock reads this many clock units.
+/// The release rule: what a replica does when its clock reads this many clock units.
 #[tactic(auto, unfolding(nz_machine::specs::Releases::release_rule))]
 pub fn tick(state: &mut ReplicaState, clock: u64, sends: &mut Sends) -> Result<(), NoMemory>
     ensures { let s = state.old in OnOk result (Does s state.new sends.old sends.new (release_rule s.f s.me s.state clock)) }

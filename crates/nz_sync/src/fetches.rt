@@ -9,7 +9,7 @@ ghost use Rattle.nz_msg.specs.Messages.{fetch, fetch_reply};
 ghost use Rattle.nz_msg.specs.declared.message.Message.TheVariants.{Fetch, FetchReply};
 ghost use Rattle.nz_machine.specs.Facts.{FitsEntry};
 ghost use Rattle.nz_machine.specs.LogMods as log_mods;
-ghost use Rattle.nz_machine.specs.LogMods.{with_late_entry, with_late_entries, fetch_reply_rule};
+ghost use Rattle.nz_machine.specs.LogMods.{with_late_entry, with_late_entries};
 ghost use Rattle.nz_machine.specs.Does.{Does, DoesSilently};
 ghost use Rattle.nz_machine.specs.Step.{parcel, replica_message};
 
@@ -109,8 +109,23 @@ fn keep_late_entries(state: &mut ReplicaState, entries: &[Entry]) -> Result<(), 
     Ok(())
 }
 
-/// What a replica does with a fetch reply. It takes them from its leader alone, and sends nothing.
+/// A follower keeps in late what its leader sends.
 #[tactic(auto, unfolding(nz_machine::specs::LogMods::fetch_reply_rule))]
+fn fetch_reply_rule(
+    state: &mut ReplicaState,
+    sender: u8,
+    body: &FetchReplyBody,
+) -> Result<(), NoMemory>
+    requires { fetch_reply.fits body.now }
+    ensures { let s = state.old in OnOk result (DoesSilently s state.new (log_mods.fetch_reply_rule s.f s.me s.state sender body.now)) }
+{
+    if !state.hears_leader(body.view, sender) {
+        return Ok(());
+    }
+    keep_late_entries(state, body.entries.as_slice())
+}
+
+/// What a replica does with a fetch reply. It takes them from replicas alone, and sends nothing.
 pub fn on_fetch_reply(
     state: &mut ReplicaState,
     from: Actor,
@@ -120,9 +135,7 @@ pub fn on_fetch_reply(
     ensures { let s = state.old in OnOk result (DoesSilently s state.new (replica_message s.f s.me s.state from (FetchReply body.now))) }
 {
     match from {
-        Actor::Replica(sender) if state.hears_leader(body.view, sender) => {
-            keep_late_entries(state, body.entries.as_slice())
-        }
-        _ => Ok(()),
+        Actor::Replica(sender) => fetch_reply_rule(state, sender, body),
+        Actor::Proxy(_) | Actor::Client(_) => Ok(()),
     }
 }
