@@ -25,7 +25,7 @@ use Rattle.nz_machine.specs.Adopting.{with_log}
 use Rattle.nz_machine.specs.Begins.{report_of, changes_of, with_report}
 use Rattle.nz_machine.specs.Rejoining.{crash_rule, restart_rule}
 use Rattle.nz_machine.specs.World.{Has}
-use Rattle.nz_machine.specs.LogMods.{entry_of_id, or_else, synced_with, is_early_yet}
+use Rattle.nz_machine.specs.LogMods.{entry_of_id, or_else, synced_with, is_still_early}
 use Rattle.nz_machine.specs.Step.{replica_message, tick_rule}
 use Rattle.nz_machine.proofs.Runs.{on_cond}
 use Rattle.nz_machine.proofs.EachItem.{all_append, all_of_prefix, all_back, all_filter, all_insert}
@@ -149,8 +149,8 @@ each_kept P f me heard own s _ _ _ (Sync e m) h =
 each_kept P f me heard own s _ _ _ (Overtake told) h =
     record {
       log = h.log;
-      early = all_filter P (is_early_yet s) s.early h.early;
-      late = all_append P s.late (filter (λ e. not (is_early_yet s e)) s.early) h.late (all_filter P _ s.early h.early);
+      early = all_filter P (is_still_early s) s.early h.early;
+      late = all_append P s.late (filter (λ e. not (is_still_early s e)) s.early) h.late (all_filter P _ s.early h.early);
       reports = h.reports;
     }
 each_kept P f me heard own s _ _ _ (Enter view m) h = record { log = h.log; early = h.early; late = h.late; reports = tt }

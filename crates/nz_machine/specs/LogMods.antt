@@ -93,15 +93,15 @@ sync_keys s (key ∷ keys) =
     else (s, [])
 
 -- Early entries whose key is not above the last of the log go to late.
-abbrev pub is_early_yet : ReplicaData → Entry → Bool
-is_early_yet s e = is_above_last (keys_of s.log.entries) e.key
+abbrev pub is_still_early : ReplicaData → Entry → Bool
+is_still_early s e = is_above_last (keys_of s.log.entries) e.key
 
 -- Early entries that are not above the log's last go to late.
 abbrev pub overtaken_to_late : ReplicaData → ReplicaData
 overtaken_to_late s =
     record s {
-      early = filter (is_early_yet s) s.early;
-      late = s.late ++ filter (λ e. not (is_early_yet s e)) s.early;
+      early = filter (is_still_early s) s.early;
+      late = s.late ++ filter (λ e. not (is_still_early s e)) s.early;
     }
 
 -- What the leader committed is committed, as far as it is synced here.
