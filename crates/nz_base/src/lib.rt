@@ -7,6 +7,7 @@ mod blob;
 mod cluster;
 mod key;
 mod laws;
+mod limits;
 mod list;
 mod memory;
 mod scenario;
@@ -16,6 +17,10 @@ pub use blob::Blob;
 pub use cluster::Cluster;
 pub use key::{Entry, EntryList, Id, IdList, Key, KeyList};
 pub use laws::{actors_are_in_line, addresses_are_exact, keys_are_in_line};
+pub use limits::{
+    MAX_CLOCK, MAX_COMMAND, MAX_DEADLINE, MAX_DELAY, MAX_ENTRIES, MAX_KEYS, MAX_REPLICAS, MAX_VALUE,
+    MAX_VIEW,
+};
 pub use list::List;
 pub use memory::{NoMemory, TryCopy};
 pub use scenario::{Fault, FaultList, Request, RequestList, Scenario, ScriptList, Skew, SkewList};

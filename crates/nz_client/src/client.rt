@@ -10,14 +10,11 @@ ghost use Rattle.nz_machine.specs.Step.{node_step, envelope_step, client_message
 ghost use Rattle.nz_client.specs.Seats.{AreSendable, IsClientInGroup, IsSameClient, least_open};
 
 use crate::state::{ClientState, accept_rule, wait_rule};
-use nz_base::{Actor, NoMemory, RequestList};
+use nz_base::{Actor, MAX_COMMAND, NoMemory, RequestList};
 use nz_machine::{Core, Event, Parcel, Sends, heard};
 use nz_msg::{Envelope, Message};
 use std::alloc::Global;
 use std::marker::Model;
-
-/// A frame carries a command of at most this many bytes.
-const MAX_COMMAND: usize = 552;
 
 /// Whether frames can carry each request of a script.
 pub fn are_sendable(script: &RequestList) -> bool
@@ -32,7 +29,7 @@ pub fn are_sendable(script: &RequestList) -> bool
 fn is_command(bytes: &[u8]) -> bool
     ensures { IsTrue result ↔ command.fits bytes.now }
 {
-    1 <= bytes.len() && bytes.len() <= MAX_COMMAND
+    1 <= bytes.len() && bytes.len() <= usize::from(MAX_COMMAND)
 }
 
 /// A client, which sends the requests of its script in their order: each when its wait is over and fewer are

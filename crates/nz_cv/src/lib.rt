@@ -11,15 +11,15 @@ pub mod laws;
 
 use std::marker::Model;
 
-/// The most replicas that a cluster has.
-const MOST: usize = 9;
+/// The most replicas of a cluster. This crate has nothing below it: the same number is `nz_base::MAX_REPLICAS`.
+const MAX_REPLICAS: usize = 9;
 
 /// The crash counters of all replicas of a cluster, one at the place of each replica's number, as one
 /// replica knows them (Michael et al., DISC 2017). A counter rises each time its replica comes back
 /// having lost its memory, so a message with a lower counter was sent before that.
 #[derive(Clone, Copy, Debug)]
 pub struct CrashVector {
-    counters: [u32; MOST],
+    counters: [u32; MAX_REPLICAS],
     size: u8,
 }
 
@@ -48,7 +48,7 @@ impl CrashVector {
         ensures { result ≡ replicate size 0 }
     {
         CrashVector {
-            counters: [0; MOST],
+            counters: [0; MAX_REPLICAS],
             size,
         }
     }
@@ -77,7 +77,7 @@ impl CrashVector {
         if !matches!(counters.len(), 3 | 5 | 7 | 9) {
             return None;
         }
-        let mut laid_out = [0; MOST];
+        let mut laid_out = [0; MAX_REPLICAS];
         laid_out[..counters.len()].copy_from_slice(counters);
         Some(CrashVector {
             counters: laid_out,
@@ -165,7 +165,7 @@ fn is_stray_for_any(sender: u8, vector: &CrashVector, list: &[(u8, CrashVector)]
 }
 
 // Raises each counter to that of `others` where that is greater.
-fn raise(counters: &mut [u32; MOST], others: &[u32; MOST])
+fn raise(counters: &mut [u32; MAX_REPLICAS], others: &[u32; MAX_REPLICAS])
     ensures { counters.new ≡ greater_counters counters.old others.now }
 {
     for (place, counter) in counters.iter_mut().enumerate() {

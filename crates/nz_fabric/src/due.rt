@@ -6,15 +6,12 @@ ghost use Rattle.nz_machine.specs.Schedule as schedule;
 ghost use Rattle.nz_machine.specs.Schedule.{item, if_in, calls, skew_of, actors_of, tick_item};
 ghost use Rattle.nz_fabric.specs.Dues.{actor_of_sort, restarts_in};
 
-use nz_base::{Actor, Fault, NoMemory, Scenario, Skew};
+use nz_base::{Actor, Fault, MAX_CLOCK, NoMemory, Scenario, Skew};
 use nz_machine::{Event, Item};
 use std::alloc::Global;
 
 /// A tick in clock units.
 const UNITS: u64 = 1_000;
-
-/// Clocks stop here.
-const LAST_CLOCK: u64 = (1 << 62) - 1;
 
 /// The sorts of actors, in their order.
 #[derive(Clone, Copy, Debug)]
@@ -104,7 +101,7 @@ fn clock_at(scenario: &Scenario, tick: u32, actor: Actor) -> u64
     let units = units_of(scenario.skews.as_slice(), actor);
     (UNITS * u64::from(tick))
         .saturating_add_signed(units)
-        .min(LAST_CLOCK)
+        .min(MAX_CLOCK)
 }
 
 /// The clocks of the first actors of a sort.

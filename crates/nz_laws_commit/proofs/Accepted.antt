@@ -26,7 +26,6 @@ use Rattle.nz_machine.specs.Committed.{view_of_sender, accepted_view, AcceptsIn,
 use Rattle.nz_machine.specs.History.{ReplySource, source_of_sender, prefix_at_source, accepted_prefix, entries_or, prefix_in}
 use Rattle.nz_machine.specs.OneHistory.{IsAccepted}
 use Rattle.nz_machine.proofs.Runs.{acts_itself, delivered, has_left}
-use Rattle.nz_machine.specs.Replicas.{most_entries}
 use Rattle.nz_base.specs.Moments.{At}
 use Rattle.nz_base.proofs.Moments.{at_self}
 use Rattle.nz_machine.proofs.Moments.{at_world}
@@ -35,6 +34,7 @@ use Rattle.nz_machine.proofs.FitRuns.{Fitted, FittedState, fits_keep, all_fit}
 use Rattle.std.proofs.lemmas.Option.{none-some, same_Some}
 use Rattle.nz_machine.specs.Leading.{leader_at}
 use Rattle.nz_base.proofs.Prefixes.{prefix_length}
+use Rattle.nz_base.specs.declared.limits.TheConstants.{MAX_ENTRIES}
 use Rattle.nz_laws_commit.proofs.Places.{own_prefix}
 use Rattle.nz_laws_commit.proofs.ReadMessages.{told_at}
 use Rattle.nz_laws_commit.proofs.FactsStay.{facts_stay}
@@ -72,7 +72,7 @@ given_own g J w v id a P h =
     own_prefix P s.log.entries h.from.prefix (own_in_prefix (keys_of s.log.entries) (keys_of (s.early ++ s.late)) all)
 
 pub given_few : (g : Group) (J : List Record) → World g J → (v : ℕ) (id : Id) (a : Answer) (P : List Entry) → IsGiven g J v id a P
-    → length P ≤ most_entries
+    → length P ≤ MAX_ENTRIES
 given_few g J w v id a P h =
     let s = leader_at g v h.moment in
     let few = (facts_stay g h.moment (leader_of g.f v) (at_world g J h.moment w h.at)).entries.few in

@@ -9,6 +9,7 @@ use Rattle.nz_base.specs.declared.actor.Actor.TheVariants.{Replica}
 use Rattle.nz_base.specs.declared.key.Entry.{Entry}
 use Rattle.nz_base.proofs.Booleans.{cases_bool, clash}
 use Rattle.nz_base.proofs.Prefixes.{prefix_self, prefix_map}
+use Rattle.nz_base.specs.declared.limits.TheConstants.{MAX_KEYS}
 use Rattle.nz_log.specs.Synced.{Log}
 use Rattle.nz_log.specs.Synced as logs
 use Rattle.nz_msg.specs.declared.message.LogModBody.{LogModBody}
@@ -21,7 +22,6 @@ use Rattle.nz_machine.specs.declared.event.Record.{Record}
 use Rattle.nz_machine.specs.State.{Group}
 use Rattle.nz_machine.specs.Facts.{HasFacts}
 use Rattle.nz_machine.specs.Replicas.{is_normal, is_up, is_rejoining}
-use Rattle.nz_machine.specs.LogMods.{most_keys}
 use Rattle.nz_machine.specs.Shows.{ShowsLogMod}
 use Rattle.nz_machine.specs.World.{World}
 use Rattle.nz_machine.specs.Incarnations.{replica_at, is_restart}
@@ -78,7 +78,7 @@ pub record IsToldMod (g : Group) (K : List Record) (sender : ℕ) (b : LogModBod
   pub moment : At K told
   pub normal : is_normal (replica_at g sender told).status ≡ true
   pub view : (replica_at g sender told).view ≡ b.view
-  pub keys : b.keys ≡ take most_keys (drop b.start (keys_of (replica_at g sender told).log.entries))
+  pub keys : b.keys ≡ take MAX_KEYS (drop b.start (keys_of (replica_at g sender told).log.entries))
 
 -- a whole log is its sender's
 pub record IsToldLog (g : Group) (K : List Record) (sender named : ℕ) (list : List Entry) : Type 0 where
@@ -275,7 +275,7 @@ told_mod g y r K w a sender b heard =
       normal = shows.normal;
       view = ap (λ (x : LogModBody). x.view) same;
       keys = sym (ap (λ (x : LogModBody). x.keys) same)
-          ∙ ap (λ (n : ℕ). take most_keys (drop n (keys_of (replica_at g sender (s.newest ∷ s.older)).log.entries))) start;
+          ∙ ap (λ (n : ℕ). take MAX_KEYS (drop n (keys_of (replica_at g sender (s.newest ∷ s.older)).log.entries))) start;
     }
 
 told_start : (g : Group) (y : ℕ) (r : Record) (K : List Record) → World g (r ∷ K) → r.actor ≡ Replica y → (sender : ℕ) (b : StartViewBody)

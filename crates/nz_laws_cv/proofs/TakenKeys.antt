@@ -11,13 +11,14 @@ use Rattle.nz_base.specs.Log.{keys_of, has_id, is_above_last}
 use Rattle.nz_base.specs.Prefixes.{IsPrefix}
 use Rattle.nz_base.proofs.Booleans.{and_left, and_right}
 use Rattle.nz_base.proofs.Prefixes.{prefix_self, prefix_then, prefix_take, prefix_length, take_of_prefix}
+use Rattle.nz_base.specs.declared.limits.TheConstants.{MAX_KEYS}
 use Rattle.nz_log.specs.Synced.{Log, IsSound, synced_part}
 use Rattle.nz_log.proofs.Modifying.{modified_sound}
 use Rattle.nz_log.proofs.LedKeys.{syncs, ModifiesLog, KeepsPrefixes, keeps, told_ahead}
 use Rattle.nz_log.proofs.LedKeys as loops
 use Rattle.nz_msg.specs.declared.message.LogModBody.{LogModBody}
 use Rattle.nz_machine.specs.State.{ReplicaData}
-use Rattle.nz_machine.specs.LogMods.{most_keys, entry_of_id, may_sync, synced_with, if_found, sync_keys}
+use Rattle.nz_machine.specs.LogMods.{entry_of_id, may_sync, synced_with, if_found, sync_keys}
 use Rattle.nz_laws_cv.proofs.Turns.{seat_of, holding, Taken, Modifies}
 
 -- ---- what else is kept
@@ -117,5 +118,5 @@ pub modifies : (s : ReplicaData) (b : LogModBody) → b.start ≤ s.log.synced �
 modifies s b le = record {
   taken = λ sound early is.
       subst (λ (keys : List Key). Taken early s.log (sync_keys s (drop (s.log.synced - b.start) keys)).0.log) (sym is)
-      (taken s early b.start most_keys sound le);
+      (taken s early b.start MAX_KEYS sound le);
 }

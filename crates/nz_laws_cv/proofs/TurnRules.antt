@@ -8,6 +8,7 @@ use Rattle.nz_base.specs.declared.actor.Actor.{Actor}
 use Rattle.nz_base.specs.declared.actor.Actor.TheVariants.{Replica, Proxy}
 use Rattle.nz_base.specs.declared.key.Entry.{Entry}
 use Rattle.nz_base.proofs.Booleans.{and_left, and_right}
+use Rattle.nz_base.specs.declared.limits.TheConstants.{MAX_ENTRIES}
 use Rattle.nz_cv.specs.Vectors.{is_stray, merged_vector}
 use Rattle.nz_merge.specs.Merged.{merged, greatest}
 use Rattle.nz_merge.specs.declared.change.Change.{Change}
@@ -37,7 +38,7 @@ use Rattle.nz_machine.specs.declared.data.Phase.TheVariants as phases
 use Rattle.nz_machine.specs.declared.data.Reported.{Reported}
 use Rattle.nz_machine.specs.State.{ReplicaData, Out, Group}
 use Rattle.nz_machine.specs.Hearing.{Heard, heard_as, heard_at}
-use Rattle.nz_machine.specs.Replicas.{is_normal, is_changing, is_up, is_rejoining, is_down, leads, leads_view, hears_leader, most_entries}
+use Rattle.nz_machine.specs.Replicas.{is_normal, is_changing, is_up, is_rejoining, is_down, leads, leads_view, hears_leader}
 use Rattle.nz_machine.specs.Requests.{request_rule}
 use Rattle.nz_machine.specs.Releases.{release_rule}
 use Rattle.nz_machine.specs.LogMods.{after_hearing, hears_later_leader, sync_keys, after_log_mod, log_mod_rule, fetch_rule}
@@ -236,7 +237,7 @@ module _ (f me : ℕ) (e : Event) where
       let merged_log = merged f (changes_of me (with_report t sender b)) in
       on_cond (λ (x : ReplicaData × List Out). Turns heard s x.0) (eqb (length (with_change t.changes sender b)) f) (begin f me (with_report t sender b))
       (with_report t sender b, [])
-      (λ full. on_cond (λ (x : ReplicaData × List Out). Turns heard s x.0) (nat_lt most_entries (length merged_log)) (with_report t sender b, []) _
+      (λ full. on_cond (λ (x : ReplicaData × List Out). Turns heard s x.0) (nat_lt MAX_ENTRIES (length merged_log)) (with_report t sender b, []) _
       (λ _. going) (λ _. begun (eqb-true _ _ full)))
       (λ _. going)
 

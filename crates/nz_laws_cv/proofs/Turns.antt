@@ -8,6 +8,7 @@ use Rattle.nz_base.specs.Prefixes.{IsPrefix, Comparable}
 use Rattle.nz_base.specs.declared.key.Key.{Key}
 use Rattle.nz_base.specs.declared.key.Entry.{Entry}
 use Rattle.nz_base.specs.declared.actor.Actor.TheVariants.{Replica}
+use Rattle.nz_base.specs.declared.limits.TheConstants.{MAX_KEYS}
 use Rattle.nz_cv.specs.Vectors.{is_stray, merged_vector}
 use Rattle.nz_log.specs.Synced.{Log, IsSound}
 use Rattle.nz_merge.specs.declared.change.Change.{Change}
@@ -32,7 +33,6 @@ use Rattle.nz_machine.specs.declared.data.ToldView.{ToldView}
 use Rattle.nz_machine.specs.State.{ReplicaData}
 use Rattle.nz_machine.specs.Hearing.{Heard}
 use Rattle.nz_machine.specs.Replicas.{is_normal, is_changing, is_up, is_rejoining, is_down, crashed_replica}
-use Rattle.nz_machine.specs.LogMods.{most_keys}
 use Rattle.nz_machine.specs.Begins.{report_of}
 use Rattle.nz_machine.specs.Rejoining.{restarted_replica, is_phase}
 use Rattle.nz_machine.specs.Step.{message_vector}
@@ -151,7 +151,7 @@ pub record Taken (early : List Key) (a b : Log) : Type 0 where
 
 -- a log modification modifies a sound log by its keys, which are those of an earlier log from its start on
 pub record Modifies (b : LogModBody) (log changed : Log) : Type 0 where
-  pub taken : IsSound log → (early : List Key) → b.keys ≡ take most_keys (drop b.start early) → Taken early log changed
+  pub taken : IsSound log → (early : List Key) → b.keys ≡ take MAX_KEYS (drop b.start early) → Taken early log changed
 
 -- the log with which a replica enters a view: as it was, or with what was released in the same record
 pub data Grown (f me : ℕ) (s : Seat) : Log → Type 0 where

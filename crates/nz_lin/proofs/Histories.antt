@@ -16,8 +16,8 @@ use Rattle.nz_machine.specs.History.{prefix_in, longer, history}
 use Rattle.nz_machine.specs.Quorums.{view_of}
 use Rattle.nz_machine.specs.OneHistory.{Precedes, IsAccepted}
 use Rattle.nz_machine.proofs.Runs.{has_left, has_right, has_split}
-use Rattle.nz_machine.specs.Replicas.{most_entries}
 use Rattle.nz_base.proofs.Moments.{at_self}
+use Rattle.nz_base.specs.declared.limits.TheConstants.{MAX_ENTRIES}
 use Rattle.nz_laws_commit.proofs.Places.{absent_by}
 use Rattle.nz_laws_commit.proofs.Answering.{IsGiven, given_later}
 use Rattle.nz_laws_commit.proofs.Accepted.{gives, accepted_given, given_sent, given_own, given_few}
@@ -193,7 +193,7 @@ history_own g J w = elim (history_is g J w).ends [
   | inr l ↦ let h = accepted_given g J w (history g J) l in given_own g J w h.view h.id h.answer (history g J) h.given
 ]
 
-pub history_few : (g : Group) (J : List Record) → World g J → length (history g J) ≤ most_entries
+pub history_few : (g : Group) (J : List Record) → World g J → length (history g J) ≤ MAX_ENTRIES
 history_few g J w = elim (history_is g J w).ends [
   | inl none ↦ omega (arith, ap length none)
   | inr l ↦ let h = accepted_given g J w (history g J) l in given_few g J w h.view h.id h.answer (history g J) h.given

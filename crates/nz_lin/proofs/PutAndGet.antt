@@ -10,6 +10,7 @@ use Rattle.nz_base.specs.declared.actor.Actor.{Actor}
 use Rattle.nz_base.specs.declared.actor.Actor.TheVariants.{Replica, Proxy, Client}
 use Rattle.nz_base.specs.declared.key.Id.{Id}
 use Rattle.nz_base.specs.declared.key.Entry.{Entry}
+use Rattle.nz_base.specs.declared.limits.TheConstants.{MAX_CLOCK}
 use Rattle.nz_digest.specs.Digests.{EntryKey, key_bytes, digest}
 use Rattle.nz_log.specs.Places.{entry_key}
 use Rattle.nz_frame.specs.Grammar.{frame}
@@ -36,7 +37,6 @@ use Rattle.nz_machine.specs.Proxies.{stamp_rule, reply_rule, clock_rule}
 use Rattle.nz_machine.specs.Quorums.{decision}
 use Rattle.nz_machine.specs.Replicas.{commands}
 use Rattle.nz_machine.specs.Step.{envelope_for, node_step}
-use Rattle.nz_machine.specs.Replicas.{last_clock}
 use Rattle.nz_machine.specs.World.{state_after, sent_in, Has, IsGroup, IsMember, MayHappen, World}
 use Rattle.std.proofs.lemmas.Option.{none-some, same_Some}
 use Rattle.nz_machine.specs.Events.{Sent, Accepted, events}
@@ -148,7 +148,7 @@ came : (k : ℕ) (J : List Record) → World group J → ToMember (slice_get (se
 unfolding come
 came k J w to = arrived J k (slice_get (sent_in J) k) refl w to
 
-all_ticked : (clock : ℕ) (J : List Record) → World group J → clock ≤ last_clock → World group (ticked clock J)
+all_ticked : (clock : ℕ) (J : List Record) → World group J → clock ≤ MAX_CLOCK → World group (ticked clock J)
 unfolding group ticked
 all_ticked clock J w le =
     let zeroth = played J (Replica 0) (Tick clock) w (omega arith) le in

@@ -5,7 +5,7 @@ use Rattle.nz_base.specs.declared.key.Key.{Key}
 use Rattle.nz_base.specs.declared.key.Entry.{Entry}
 use Rattle.nz_base.specs.Key.{key_below, id_of}
 use Rattle.nz_base.specs.Log.{keys_of, has_id, is_above_last}
-use Rattle.nz_log.specs.declared.TheConstants.{MAX_ENTRIES}
+use Rattle.nz_base.specs.declared.limits.TheConstants.{MAX_ENTRIES}
 use Rattle.nz_log.specs.declared.calls.LogCall.{LogCall}
 use Rattle.nz_log.specs.declared.calls.LogCall.TheVariants.{Append, SyncAll, Modify, ReplaceAll, PlaceOf, DigestAt}
 use Rattle.nz_log.specs.declared.calls.LogAnswer.{LogAnswer}

@@ -4,7 +4,7 @@ use Rattle.nz_base.specs.declared.key.Key.{Key}
 use Rattle.nz_base.specs.declared.key.Entry.{Entry}
 use Rattle.nz_base.specs.Key.{key_below, id_eq, id_of}
 use Rattle.nz_base.specs.Log.{keys_of, has_id, IsLog}
-use Rattle.nz_log.specs.declared.TheConstants.{MAX_ENTRIES}
+use Rattle.nz_base.specs.declared.limits.TheConstants.{MAX_ENTRIES}
 
 -- The entries of a log, and how many of them, from the first on, agree with the leader's log.
 pub record Log : Type 0 where

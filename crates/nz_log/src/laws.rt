@@ -9,7 +9,7 @@ ghost use Rattle.nz_base.specs.Log.{keys_of, has_key, has_id, is_above_last, Hav
 ghost use Rattle.nz_log.specs.Places.{place_of, last_entry, IsPlace, digest_of_log, digest_at};
 ghost use Rattle.nz_log.specs.Synced.{Log, IsSound, synced_part, log_with_synced, displaced_entries};
 
-use super::MAX_ENTRIES;
+use nz_base::MAX_ENTRIES;
 
 /// A log with one more entry, of a greater key and a new id, is a log.
 pub fn appended_is_log()

@@ -21,7 +21,7 @@ pub use log::HashedLog;
 pub use log_rep::{Allocating, LogRep};
 
 /// The most entries that a log may have.
-pub const MAX_ENTRIES: u32 = 4096;
+pub const MAX_ENTRIES: u32 = nz_base::MAX_ENTRIES;
 
 /// The entries of a page of a log.
 const PAGE: usize = 256;

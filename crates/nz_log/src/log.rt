@@ -8,13 +8,12 @@ ghost use Rattle.nz_log.specs.Places.{place_of, last_entry, digest_at};
 ghost use Rattle.nz_log.specs.Synced.{IsSound, synced_part, log_with_synced, displaced_entries, left_out};
 ghost use Rattle.nz_log.specs.Keeping.{IsNext, HaveCommonPrefix, digest_with};
 
-use super::MAX_ENTRIES;
 use super::index::{keep_above, set_place};
 use super::log_rep::{Allocating, LogRep};
 use super::pages::Pages;
 use super::sums::{digest_after, put_digest};
 use indexmap::IndexMap;
-use nz_base::{Entry, EntryList, Id, Key, List, NoMemory, TryCopy};
+use nz_base::{Entry, EntryList, Id, Key, List, MAX_ENTRIES, NoMemory, TryCopy};
 use nz_digest::Digest;
 use std::alloc::Global;
 use std::marker::Model;

@@ -6,8 +6,7 @@ ghost use Rattle.nz_base.specs.Log.{keys_of, has_id, is_above_last, IsLog};
 ghost use Rattle.nz_log.specs.Places.{place_of, digest_at};
 ghost use Rattle.nz_log.specs.Synced.{Log, synced_part, log_with_synced, displaced_entries, left_out};
 
-use super::MAX_ENTRIES;
-use nz_base::{Entry, EntryList, Id, NoMemory};
+use nz_base::{Entry, EntryList, Id, MAX_ENTRIES, NoMemory};
 use nz_digest::Digest;
 use std::alloc::Global;
 

@@ -6,8 +6,7 @@ ghost use Rattle.nz_base.specs.Log.{keys_of, has_id, is_above_last};
 ghost use Rattle.nz_log.specs.Places.{IsFirstPlace, digest_of_log};
 ghost use Rattle.nz_log.specs.Synced.{stays_behind, is_displaced, left_out};
 
-use super::MAX_ENTRIES;
-use nz_base::{Entry, EntryList, Id, Key, List, NoMemory, TryCopy};
+use nz_base::{Entry, EntryList, Id, Key, List, MAX_ENTRIES, NoMemory, TryCopy};
 use nz_digest::Digest;
 use std::alloc::Global;
 

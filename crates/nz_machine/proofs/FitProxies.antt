@@ -8,6 +8,7 @@ use Rattle.nz_base.specs.declared.actor.Actor.{Actor}
 use Rattle.nz_base.specs.declared.actor.Actor.TheVariants.{Replica, Proxy, Client}
 use Rattle.nz_base.specs.declared.key.Id.{Id}
 use Rattle.nz_base.proofs.Booleans.{and_left, and_both}
+use Rattle.nz_base.specs.declared.limits.TheConstants.{MAX_CLOCK}
 use Rattle.nz_store.specs.declared.command.Answer.{Answer}
 use Rattle.nz_window.specs.Samples.{with_sample, IsWindow}
 use Rattle.nz_window.proofs.Bounds.{windows_start, windows_stay, bound_is_bounded}
@@ -20,7 +21,7 @@ use Rattle.nz_msg.specs.Messages.{request}
 use Rattle.nz_msg.specs.Fields.{id, u32, command, deadline, answer, path}
 use Rattle.nz_machine.specs.declared.reply.Reply.{Reply}
 use Rattle.nz_machine.specs.State.{ProxyData, Standing, Open, Decided, Out}
-use Rattle.nz_machine.specs.Replicas.{last_clock, numbers_below}
+use Rattle.nz_machine.specs.Replicas.{numbers_below}
 use Rattle.nz_machine.specs.Quorums.{Chosen, decision, answer_in, reply_eq, with_note}
 use Rattle.nz_machine.specs.Proxies.{with_standing, standing_of, answer_to_client, timed_to, timed_to_all, after_stamp, stamp_rule, after_chosen_answer}
 use Rattle.nz_machine.specs.Proxies.{after_choice, after_replica_reply, reply_rule, of_fast, of_slow, clock_rule, first_proxy, crashed_proxy}
@@ -51,7 +52,7 @@ pub record FitsStanding (e : Id × Standing) : Type 0 where
   pub answers : FitsAnswers e.1
 
 pub record FitsProxy (f : ℕ) (s : ProxyData) : Type 0 where
-  pub clock : s.clock ≤ last_clock
+  pub clock : s.clock ≤ MAX_CLOCK
   pub window : IsWindow s.samples (replica_count f)
   pub standings : AllByRecursion FitsStanding s.standings
 

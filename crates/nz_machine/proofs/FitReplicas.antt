@@ -16,6 +16,7 @@ use Rattle.nz_base.specs.Log.{keys_of, has_id, AreRising, HaveOwnIds}
 use Rattle.nz_base.proofs.Booleans.{or_cases, length-filter_le}
 use Rattle.nz_base.proofs.Logs.{rising_prefix, rising_back, own_in_prefix, rising_filter, own_filter, keys_append}
 use Rattle.nz_base.proofs.Names.{same_id}
+use Rattle.nz_base.specs.declared.limits.TheConstants.{MAX_ENTRIES, MAX_VIEW, MAX_KEYS}
 use Rattle.nz_digest.proofs.Keys.{length-digest}
 use Rattle.nz_log.specs.Places.{place_of, entry_key}
 use Rattle.nz_log.proofs.Placing.{place_held}
@@ -41,8 +42,8 @@ use Rattle.nz_msg.specs.declared.message.Message.TheVariants as messages
 use Rattle.nz_machine.specs.declared.data.Origin.{Origin}
 use Rattle.nz_machine.specs.State.{ReplicaData}
 use Rattle.nz_machine.specs.Facts.{FitsEntry, IsKnown, HasFacts}
-use Rattle.nz_machine.specs.Replicas.{last_view, most_entries, numbers_below, leads}
-use Rattle.nz_machine.specs.LogMods.{most_keys, sync_keys, missing_ids, is_asked, is_held}
+use Rattle.nz_machine.specs.Replicas.{numbers_below, leads}
+use Rattle.nz_machine.specs.LogMods.{sync_keys, missing_ids, is_asked, is_held}
 use Rattle.nz_machine.specs.Views.{view_change_message}
 use Rattle.nz_machine.specs.Adopting.{start_view_message}
 use Rattle.nz_machine.specs.Rejoining.{vector_ask_message, rejoin_ask_message, state_ask_message, rejoin_tell_message, state_tell_message}
@@ -109,12 +110,12 @@ keys_each es all = all_map key.fits (λ (e : Entry). e.key) es (all_imply FitsEn
 
 -- the keys of a log from a place on, as many as a log modification has
 pub told_keys_fit : (s : ReplicaData) (start : ℕ) → IsLedLog s → AllByRecursion FitsEntry s.log.entries
-    → keys.fits (take most_keys (drop start (keys_of s.log.entries)))
+    → keys.fits (take MAX_KEYS (drop start (keys_of s.log.entries)))
 told_keys_fit s start led all =
     let ks = keys_of s.log.entries in
-    let few : length (take most_keys (drop start ks)) ≤ 64 = let long = length-take most_keys (drop start ks) in omega (arith, long) in
-    let fit = all_take key.fits most_keys (drop start ks) (all_drop key.fits start ks (keys_each s.log.entries all)) in
-    keys_fit (take most_keys (drop start ks)) few (order_take most_keys (drop start ks) (order_drop start ks led.order)) fit
+    let few : length (take MAX_KEYS (drop start ks)) ≤ 64 = let long = length-take MAX_KEYS (drop start ks) in omega (arith, long) in
+    let fit = all_take key.fits MAX_KEYS (drop start ks) (all_drop key.fits start ks (keys_each s.log.entries all)) in
+    keys_fit (take MAX_KEYS (drop start ks)) few (order_take MAX_KEYS (drop start ks) (order_drop start ks led.order)) fit
 
 -- ---- ids that are missing
 
@@ -258,7 +259,7 @@ place_fits f me s i place h at = held_fits s.log.entries i (log_each f me s h) (
 origin_fits : (f me : ℕ) (s : ReplicaData) (i : Id) (origin : Origin) → HasFacts f me s → lookup (id_eq i) s.origin ≡ Some origin → IsKnown (i, origin)
 origin_fits f me s i origin h known = subst (λ o. IfSome o (λ v. IsKnown (i, v))) known (lookup_each IsKnown s.origin i h.tables.origins)
 
-fast_fits : (f me : ℕ) (before s : ReplicaData) (to : Actor) (b : FastReplyBody) → IsReplica f me → before.view ≤ last_view → HasFacts f me s
+fast_fits : (f me : ℕ) (before s : ReplicaData) (to : Actor) (b : FastReplyBody) → IsReplica f me → before.view ≤ MAX_VIEW → HasFacts f me s
     → ShowsFast f me before s to b → FitsOut (Replica me) (to, messages.FastReply b)
 fast_fits f me before s to b c low h w =
     let from = origin_fits f me s b.id w.origin h w.known in
@@ -305,7 +306,7 @@ log_mod_fits : (f me : ℕ) (s : ReplicaData) (to : Actor) (b : LogModBody) → 
     → FitsOut (Replica me) (to, messages.LogMod b)
 log_mod_fits f me s to b c h w =
     let start = slice_index s.ack w.receiver.replica in
-    let acked : start ≤ most_entries = all_index (λ n. n ≤ most_entries) s.ack w.receiver.replica 0 h.tables.few (omega arith) in
+    let acked : start ≤ MAX_ENTRIES = all_index (λ n. n ≤ MAX_ENTRIES) s.ack w.receiver.replica 0 h.tables.few (omega arith) in
     let commit = h.commit in
     let within = h.entries.within in
     let few = h.entries.few in

@@ -12,13 +12,14 @@ use Rattle.nz_base.specs.Log.{keys_of, has_key, has_id, is_above_last, AreRising
 use Rattle.nz_base.proofs.Booleans.{cases_bool, or_cases, and_left, and_right, clash}
 use Rattle.nz_base.proofs.Names.{same_id, same_key}
 use Rattle.nz_base.proofs.Logs.{keys_append, rising_prefix, rising_back, above_each, rising_filter, own_in_prefix}
+use Rattle.nz_base.specs.declared.limits.TheConstants.{MAX_ENTRIES}
 use Rattle.nz_log.specs.Synced.{Log, IsSound, synced_part, unsynced_part, stays_behind, is_displaced, log_with_synced, displaced_entries}
 use Rattle.nz_log.proofs.Modifying.{modified_sound}
 use Rattle.nz_buffers.specs.Buffers.{find_id, without}
 use Rattle.nz_msg.specs.Fields as fields
 use Rattle.nz_machine.specs.State.{ReplicaData}
 use Rattle.nz_machine.specs.Facts.{AreArranged, FitsEntry, AreHeld, HasFacts, AreApart}
-use Rattle.nz_machine.specs.Replicas.{most_entries, is_normal, is_up, leads}
+use Rattle.nz_machine.specs.Replicas.{is_normal, is_up, leads}
 use Rattle.nz_machine.specs.LogMods.{or_else, entry_of_id, may_sync, synced_with, if_found, sync_keys, overtaken_to_late, committed_to}
 use Rattle.nz_machine.proofs.EachItem.{all_append, all_of_prefix, all_back, all_filter}
 use Rattle.nz_machine.proofs.KeysApart.{rising_both}
@@ -95,7 +96,7 @@ own_synced log early late e a fresh i =
     ]
 
 pub apart_synced : (log : Log) (early late : List Entry) (e : Entry) → AreApart log early late → FitsEntry e
-    → is_above_last (keys_of (synced_part log)) e.key ≡ true → has_id (keys_of (synced_part log)) (id_of e.key) ≡ false → length log.entries < most_entries
+    → is_above_last (keys_of (synced_part log)) e.key ≡ true → has_id (keys_of (synced_part log)) (id_of e.key) ≡ false → length log.entries < MAX_ENTRIES
     → AreApart (log_with_synced log e) (without early (id_of e.key)) (without (late ++ displaced_entries log e) (id_of e.key))
 apart_synced log early late e a fits above fresh room =
     let prefix = synced_part log in
@@ -159,16 +160,16 @@ pub record HasTaken (s t : ReplicaData) : Type 0 where
 pub record MaySync (log : Log) (key : Key) : Type 0 where
   pub above : is_above_last (keys_of (synced_part log)) key ≡ true
   pub fresh : has_id (keys_of (synced_part log)) (id_of key) ≡ false
-  pub room : length log.entries < most_entries
+  pub room : length log.entries < MAX_ENTRIES
 
 pub may_sync_true : (log : Log) (key : Key)
     → (is_above_last (keys_of (synced_part log)) key
-    && (not (has_id (keys_of (synced_part log)) (id_of key)) && nat_lt (length log.entries) most_entries)) ≡ true
+    && (not (has_id (keys_of (synced_part log)) (id_of key)) && nat_lt (length log.entries) MAX_ENTRIES)) ≡ true
     → MaySync log key
 may_sync_true log key may =
     let above = is_above_last (keys_of (synced_part log)) key in
     let there = has_id (keys_of (synced_part log)) (id_of key) in
-    let room = nat_lt (length log.entries) most_entries in
+    let room = nat_lt (length log.entries) MAX_ENTRIES in
     let rest = and_right above (not there && room) may in
     record {
       above = and_left above (not there && room) may;

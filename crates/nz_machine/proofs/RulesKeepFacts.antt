@@ -13,6 +13,7 @@ use Rattle.nz_base.specs.Log.{keys_of, has_id, is_above_last}
 use Rattle.nz_base.proofs.Booleans.{and_both, and_right, clash}
 use Rattle.nz_base.proofs.Keys.{KeyBelow-test}
 use Rattle.nz_base.proofs.Logs.{above_none, above_some}
+use Rattle.nz_base.specs.declared.limits.TheConstants.{MAX_ENTRIES}
 use Rattle.nz_log.specs.Synced.{Log}
 use Rattle.nz_machine.specs.Vectors.{with_vector}
 use Rattle.nz_store.specs.Sequence.{replies_from, answer_after}
@@ -27,7 +28,7 @@ use Rattle.nz_machine.specs.declared.data.Status.{Status}
 use Rattle.nz_machine.specs.declared.data.Status.TheVariants.{Normal, Rejoining, Down}
 use Rattle.nz_machine.specs.State.{ReplicaData}
 use Rattle.nz_machine.specs.Facts.{FitsEntry, IsKnown, AreCounters, AreArranged, AreHeld, AreExecuted, HasFacts}
-use Rattle.nz_machine.specs.Replicas.{most_entries, is_normal, is_up, leads, key_with_deadline, commands, first_replica, crashed_replica}
+use Rattle.nz_machine.specs.Replicas.{is_normal, is_up, leads, key_with_deadline, commands, first_replica, crashed_replica}
 use Rattle.nz_machine.specs.Requests.{to_early, entry_at, next_deadline}
 use Rattle.nz_machine.specs.Rejoining.{restarted_replica}
 use Rattle.nz_machine.specs.Releases.{log_with_entry, results_with_entry, after_release, log_has_room, may_release, at_clock}
@@ -54,7 +55,7 @@ fresh_has_facts f me mode nonce low = record {
   tables = record {
     vector = record { size = length-replicate (replica_count f) 0; small = all_replicate (λ n. n < 2 ^ 32) (replica_count f) 0 (omega arith) };
     acks = length-replicate (replica_count f) 0;
-    few = all_replicate (λ n. n ≤ most_entries) (replica_count f) 0 (omega arith);
+    few = all_replicate (λ n. n ≤ MAX_ENTRIES) (replica_count f) 0 (omega arith);
     origins = tt;
   };
   executed =
@@ -144,10 +145,10 @@ early_keeps f me s e h fits above logged held =
 
 -- ---- an entry is released
 
-pub has_place_left : (s : ReplicaData) (e : Entry) → may_release s e ≡ true → length s.log.entries < most_entries
-has_place_left s e may = ltb-true (length s.log.entries) most_entries (and_right _ (log_has_room s) may)
+pub has_place_left : (s : ReplicaData) (e : Entry) → may_release s e ≡ true → length s.log.entries < MAX_ENTRIES
+has_place_left s e may = ltb-true (length s.log.entries) MAX_ENTRIES (and_right _ (log_has_room s) may)
 
-pub released_held : (b : Bool) (l : Log) (e : Entry) (es fs : List Entry) → length l.entries < most_entries → AreHeld l (e ∷ es) fs
+pub released_held : (b : Bool) (l : Log) (e : Entry) (es fs : List Entry) → length l.entries < MAX_ENTRIES → AreHeld l (e ∷ es) fs
     → AreHeld (log_with_entry b l e) es fs
 released_held true l e es fs room h =
     let long : length (l.entries ++ e ∷ []) ≡ length l.entries + 1 = length-append l.entries (e ∷ []) in
@@ -179,7 +180,7 @@ released_executed f me s e false normal follows h = record {
 }
 
 pub released_keeps : (f me : ℕ) (s : ReplicaData) (e : Entry) (es : List Entry) → HasFacts f me s → is_normal s.status ≡ true → s.early ≡ e ∷ es
-    → length s.log.entries < most_entries → HasFacts f me (after_release f me s e es)
+    → length s.log.entries < MAX_ENTRIES → HasFacts f me (after_release f me s e es)
 released_keeps f me s e es h normal is room =
     let more : s.commit ≤ (log_with_entry (leads f me s) s.log e).synced = grind (arith, h, length-append) in
     record {

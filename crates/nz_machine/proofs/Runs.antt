@@ -6,6 +6,7 @@ use Rattle.nz_base.specs.declared.actor.Actor.{Actor}
 use Rattle.nz_base.specs.Actor.{actor_eq, HasAddress}
 use Rattle.nz_base.proofs.Booleans.{and_right}
 use Rattle.nz_base.proofs.Names.{actor_eq_self, same_actor}
+use Rattle.nz_base.specs.declared.limits.TheConstants.{MAX_CLOCK}
 use Rattle.nz_msg.specs.declared.message.Message.{Message}
 use Rattle.nz_msg.specs.declared.envelope.Envelope.{Envelope}
 use Rattle.nz_msg.specs.Messages.{Fits}
@@ -16,7 +17,7 @@ use Rattle.nz_machine.specs.declared.event.Event.{Event}
 use Rattle.nz_machine.specs.declared.event.Event.TheVariants.{Deliver, Cut, Tick, Alarm, Crash, Restart}
 use Rattle.nz_machine.specs.declared.event.Record.{Record}
 use Rattle.nz_machine.specs.State.{ReplicaData, State, Group, Out}
-use Rattle.nz_machine.specs.Replicas.{last_clock, is_down}
+use Rattle.nz_machine.specs.Replicas.{is_down}
 use Rattle.nz_machine.specs.Step.{first, is_in_cluster, is_sized, message_vector, is_for, envelope_if_for, envelope_for, if_from_cluster}
 use Rattle.nz_machine.specs.Step.{accepted_envelope, message_step, envelope_step, tick_step, alarm_step, crash_step, restart_step, event_step, parcel}
 use Rattle.nz_machine.specs.World.{state_after, sent_in, Has, IsGroup, MayHappen, World}
@@ -195,7 +196,7 @@ module _ (g : Group) (P : List Record → Actor → Out → Type 0) (Q : List Re
         → Hears g.f r.actor from m → P J from (r.actor, m) → Q J r.actor (state_after g r.actor J)
         → state_after g r.actor (r ∷ J) ≡ (message_step g r.actor (state_after g r.actor J) from m).0
         → StepHas (r ∷ J) r.actor (message_step g r.actor (state_after g r.actor J) from m)
-    pub tick : (J : List Record) (r : Record) → World g (r ∷ J) → (c : ℕ) → c ≤ last_clock → Q J r.actor (state_after g r.actor J)
+    pub tick : (J : List Record) (r : Record) → World g (r ∷ J) → (c : ℕ) → c ≤ MAX_CLOCK → Q J r.actor (state_after g r.actor J)
         → state_after g r.actor (r ∷ J) ≡ (tick_step g r.actor (state_after g r.actor J) c).0
         → StepHas (r ∷ J) r.actor (tick_step g r.actor (state_after g r.actor J) c)
     pub alarm : (J : List Record) (r : Record) → World g (r ∷ J) → Q J r.actor (state_after g r.actor J)
@@ -298,7 +299,7 @@ module _ (g : Group) (P : List Record → Actor → Out → Type 0) (Q : List Re
         → Q J r.actor (state_after g r.actor J) → R J r.actor (state_after g r.actor J)
         → state_after g r.actor (r ∷ J) ≡ (message_step g r.actor (state_after g r.actor J) from m).0
         → StepHas g F R (r ∷ J) r.actor (message_step g r.actor (state_after g r.actor J) from m)
-    pub tick : (J : List Record) (r : Record) → World g (r ∷ J) → (c : ℕ) → c ≤ last_clock
+    pub tick : (J : List Record) (r : Record) → World g (r ∷ J) → (c : ℕ) → c ≤ MAX_CLOCK
         → Q J r.actor (state_after g r.actor J) → R J r.actor (state_after g r.actor J)
         → state_after g r.actor (r ∷ J) ≡ (tick_step g r.actor (state_after g r.actor J) c).0
         → StepHas g F R (r ∷ J) r.actor (tick_step g r.actor (state_after g r.actor J) c)

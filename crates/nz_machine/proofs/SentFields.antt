@@ -13,6 +13,7 @@ use Rattle.nz_base.specs.Key.{id_eq, id_of, key_below}
 use Rattle.nz_base.specs.Log.{keys_of, has_id, AreRising, HaveOwnIds}
 use Rattle.nz_base.proofs.Booleans.{and_both, neither_left, neither_right}
 use Rattle.nz_base.proofs.Logs.{has_first, has_back, has_id-append, keys_append}
+use Rattle.nz_base.specs.declared.limits.TheConstants.{MAX_VIEW}
 use Rattle.nz_store.specs.declared.command.Command.{Command}
 use Rattle.nz_store.specs.declared.command.Command.TheVariants.{Put, Get, Del, Cas}
 use Rattle.nz_store.specs.Grammar.{IsKey, IsValue, IsOptionalValue, IsValidCommand, key_spelling, value_spelling, choice_spelling, spelling}
@@ -22,11 +23,10 @@ use Rattle.nz_msg.specs.Codec.{ItemsFit}
 use Rattle.nz_msg.proofs.Fields.{within_most}
 use Rattle.nz_msg.specs.Fields.{u32, view, id, key, command, vector, may_follow, next_key, next_entry, ids, keys, entries, is_cluster_size}
 use Rattle.nz_machine.specs.Facts.{FitsEntry, AreCounters}
-use Rattle.nz_machine.specs.Replicas.{last_view}
 
 -- ---- numbers
 
-pub view_fits : (n : ℕ) → n ≤ last_view → view.fits n
+pub view_fits : (n : ℕ) → n ≤ MAX_VIEW → view.fits n
 view_fits n le = (omega (arith, le), and_both (nat_le 0 n) (nat_le n (2 ^ 62 - 1)) (le-leb 0 n (omega arith)) (le-leb n (2 ^ 62 - 1) (omega (arith, le))))
 
 -- ---- lists of single items

@@ -10,6 +10,7 @@ use Rattle.nz_base.specs.declared.key.Entry.{Entry}
 use Rattle.nz_base.specs.Key.{id_eq, id_of}
 use Rattle.nz_base.specs.Log.{keys_of, has_id, is_above_last}
 use Rattle.nz_base.proofs.Booleans.{cases_bool, and_right}
+use Rattle.nz_base.specs.declared.limits.TheConstants.{MAX_ENTRIES}
 use Rattle.nz_store.specs.Entries.{Entries, empty}
 use Rattle.nz_store.specs.Sequence.{store_after}
 use Rattle.nz_store.specs.declared.command.Answer.{Answer}
@@ -18,7 +19,7 @@ use Rattle.nz_buffers.specs.Buffers.{insert_by_key, without, is_due}
 use Rattle.nz_machine.specs.declared.data.Origin.{Origin}
 use Rattle.nz_machine.specs.State.{ReplicaData}
 use Rattle.nz_machine.specs.Facts.{AreArranged, FitsEntry, IsKnown, HasFacts, ReplicaModel, IsKeptReplica}
-use Rattle.nz_machine.specs.Replicas.{leads, is_normal, commands, most_entries, first_replica, crashed_replica}
+use Rattle.nz_machine.specs.Replicas.{leads, is_normal, commands, first_replica, crashed_replica}
 use Rattle.nz_machine.specs.Releases.{log_with_entry, results_with_entry, log_has_room, may_release, first_may}
 use Rattle.nz_machine.proofs.ArrangedEntries.{arranged_late, first_above, first_fresh}
 use Rattle.nz_machine.proofs.Stores.{no_store}
@@ -97,7 +98,7 @@ first_may_stand f me s store e es k is =
 
 pub kept_release : (f me : ℕ) (s : ReplicaData) (store : Entries) (e : Entry) (es : List Entry) (log : Log)
     (results : List Answer) (next : Entries) → IsKeptReplica f me s store → is_normal s.status ≡ true
-    → s.early ≡ e ∷ es → length s.log.entries < most_entries → log ≡ log_with_entry (leads f me s) s.log e
+    → s.early ≡ e ∷ es → length s.log.entries < MAX_ENTRIES → log ≡ log_with_entry (leads f me s) s.log e
     → results ≡ results_with_entry (leads f me s) s.results s.log.entries e
     → (IsTrue (is_normal s.status) → IsTrue (leads f me s) → next ≡ store_after (commands log.entries))
     → IsKeptReplica f me (record s { log = log; results = results; early = es }) next
@@ -112,7 +113,7 @@ kept_release f me s store e es log results next k normal is room log-is results-
     }
 
 pub room_left : (f me : ℕ) (s : ReplicaData) (store : Entries) (e : Entry) (es : List Entry)
-    → IsKeptReplica f me s store → s.early ≡ e ∷ es → first_may s s.early ≡ true → length s.log.entries < most_entries
+    → IsKeptReplica f me s store → s.early ≡ e ∷ es → first_may s s.early ≡ true → length s.log.entries < MAX_ENTRIES
 room_left f me s store e es k is first =
     let may : may_release s e ≡ true = sym (ap (first_may s) is) ∙ first in
     ltb-true _ _ (and_right (is_due s.clock e) (log_has_room s) may)

@@ -3,6 +3,7 @@ use Rattle.std.proofs.Common.{◌≡◌, ℕ, ◌≤◌, true, List, [], ◌∷�
 use Rattle.std.specs.List.{AllByRecursion}
 use Rattle.nz_base.specs.declared.key.Key.{Key}
 use Rattle.nz_base.specs.declared.key.Entry.{Entry}
+use Rattle.nz_base.specs.declared.limits.TheConstants.{MAX_ENTRIES}
 use Rattle.nz_msg.specs.Codec.{ItemsFit}
 use Rattle.nz_msg.specs.Fields as fields
 use Rattle.nz_msg.specs.Fields.{next_key, next_entry}
@@ -11,7 +12,7 @@ use Rattle.nz_msg.specs.declared.message.LogModBody.{LogModBody}
 use Rattle.nz_msg.specs.declared.message.FetchReplyBody.{FetchReplyBody}
 use Rattle.nz_machine.specs.State.{ReplicaData}
 use Rattle.nz_machine.specs.Facts.{FitsEntry, HasFacts}
-use Rattle.nz_machine.specs.Replicas.{most_entries, is_normal, leads}
+use Rattle.nz_machine.specs.Replicas.{is_normal, leads}
 use Rattle.nz_machine.specs.LogMods.{with_ack, with_commit}
 use Rattle.nz_machine.proofs.Tables.{set_long, reported_low, noted_low}
 
@@ -54,7 +55,7 @@ report_keeps f me s sender synced h normal lead low =
           record {
             vector = h.tables.vector;
             acks = set_long s.ack sender _ ∙ h.tables.acks;
-            few = noted_low most_entries s.ack sender synced (omega (arith, low, few)) h.tables.few;
+            few = noted_low MAX_ENTRIES s.ack sender synced (omega (arith, low, few)) h.tables.few;
             origins = h.tables.origins;
           };
       executed = record {

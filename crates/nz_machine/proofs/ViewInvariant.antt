@@ -4,6 +4,7 @@ use Rattle.std.specs.Prelude.{◌==◌, nat_lt, if◌then◌else◌}
 use Rattle.nz_base.specs.Cluster.{replica_count, leader_of}
 use Rattle.nz_base.specs.declared.key.Entry.{Entry}
 use Rattle.nz_base.proofs.Booleans.{clash}
+use Rattle.nz_base.specs.declared.limits.TheConstants.{MAX_ENTRIES, MAX_VIEW}
 use Rattle.nz_store.specs.Entries.{Entries}
 use Rattle.nz_store.specs.Sequence.{store_after, replies}
 use Rattle.nz_store.specs.declared.command.Answer.{Answer}
@@ -15,7 +16,7 @@ use Rattle.nz_machine.specs.declared.data.Status.TheVariants.{Normal, ViewChange
 use Rattle.nz_machine.specs.declared.data.Reported.{Reported}
 use Rattle.nz_machine.specs.State.{ReplicaData}
 use Rattle.nz_machine.specs.Facts.{IsCarried, FitsReport, HasFacts, IsKeptReplica}
-use Rattle.nz_machine.specs.Replicas.{last_view, most_entries, commands, is_normal, is_changing, is_rejoining}
+use Rattle.nz_machine.specs.Replicas.{commands, is_normal, is_changing, is_rejoining}
 use Rattle.nz_machine.specs.Views.{most_quiet}
 use Rattle.nz_machine.specs.Taking.{with_parts}
 use Rattle.nz_machine.specs.Adopting.{with_log, normal_in}
@@ -73,7 +74,7 @@ kept_rejoining f me s store n k rejoins is =
 -- ---- views
 
 pub kept_enter : (f me : ℕ) (s : ReplicaData) (store : Entries) (view : ℕ) (collected : List Reported)
-    → IsKeptReplica f me s store → s.view ≤ view → view ≤ last_view → collected ≡ []
+    → IsKeptReplica f me s store → s.view ≤ view → view ≤ MAX_VIEW → collected ≡ []
     → IsKeptReplica f me (record s { status = ViewChange; view = view; changes = collected; since = 0; quiet = 0 }) store
 kept_enter f me s store view collected k later low none = record {
   member = k.member;
@@ -90,7 +91,7 @@ pub started : (s : ReplicaData) (log : Log) (early late list : List Entry) (view
 started s log early late list view commit is = ap (λ (t : ReplicaData). record t { status = Normal; view = view; last = view; commit = commit; quiet = 0 }) is
 
 pub kept_start : (f me : ℕ) (s : ReplicaData) (store : Entries) (log : Log) (early late list : List Entry) (view commit : ℕ)
-    → IsKeptReplica f me s store → view ≤ last_view → IsFalse (leader_of f view == me)
+    → IsKeptReplica f me s store → view ≤ MAX_VIEW → IsFalse (leader_of f view == me)
     → IsCarried list → commit ≤ length list → with_log (with_parts s s.log s.early s.late) list ≡ with_parts s log early late
     → IsKeptReplica f me (record s { status = Normal; view = view; last = view; log = log; commit = commit; early = early; late = late; quiet = 0 }) store
 kept_start f me s store log early late list view commit k low away c committed is = record {
@@ -101,11 +102,11 @@ kept_start f me s store log early late list view commit k low away c committed i
 
 -- ---- the begin of a view
 
-pub begin_none : (f me : ℕ) (s : ReplicaData) → nat_lt most_entries (length (merged f (changes_of me s))) ≡ true → (begin f me s).0 ≡ s
+pub begin_none : (f me : ℕ) (s : ReplicaData) → nat_lt MAX_ENTRIES (length (merged f (changes_of me s))) ≡ true → (begin f me s).0 ≡ s
 unfolding begin
 begin_none f me s full = rw full refl
 
-pub begun_state : (f me : ℕ) (s : ReplicaData) → nat_lt most_entries (length (merged f (changes_of me s))) ≡ false
+pub begun_state : (f me : ℕ) (s : ReplicaData) → nat_lt MAX_ENTRIES (length (merged f (changes_of me s))) ≡ false
     → (begin f me s).0 ≡ after_begin f s (merged f (changes_of me s)) (greatest (map (λ c. c.commit) (changes_of me s)))
 unfolding begin
 begun_state f me s room = rw room refl

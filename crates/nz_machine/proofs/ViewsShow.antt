@@ -5,6 +5,7 @@ use Rattle.std.proofs.lemmas.Bool.Decides.{nat_tests}
 use Rattle.nz_base.specs.Cluster.{leader_of}
 use Rattle.nz_base.specs.declared.actor.Actor.TheVariants.{Replica}
 use Rattle.nz_base.specs.declared.key.Entry.{Entry}
+use Rattle.nz_base.specs.declared.limits.TheConstants.{MAX_ENTRIES}
 use Rattle.nz_merge.specs.Merged.{merged, greatest}
 use Rattle.nz_merge.specs.declared.change.Change.{Change}
 use Rattle.nz_msg.specs.declared.message.ViewAskBody.{ViewAskBody}
@@ -13,7 +14,7 @@ use Rattle.nz_msg.specs.declared.message.StartViewBody.{StartViewBody}
 use Rattle.nz_machine.specs.declared.data.Status.{Status}
 use Rattle.nz_machine.specs.declared.data.Status.TheVariants.{Normal, ViewChange, Rejoining, Down}
 use Rattle.nz_machine.specs.State.{ReplicaData, Out}
-use Rattle.nz_machine.specs.Replicas.{is_normal, is_changing, is_up, leads, leader, most_entries, to_others, to_replica}
+use Rattle.nz_machine.specs.Replicas.{is_normal, is_changing, is_up, leads, leader, to_others, to_replica}
 use Rattle.nz_machine.specs.Vectors.{with_vector}
 use Rattle.nz_machine.specs.Views.{in_view_change, view_ask_message, view_change_message, to_leader, view_calls}
 use Rattle.nz_machine.specs.Views.{enter_view, alarm_rule, view_ask_rule, quiet_timer, change_timer, most_quiet}
@@ -93,7 +94,7 @@ begin_shows f me heard before s lead =
     let changes = changes_of me s in
     let log = merged f changes in
     let begun = after_begin f s log (greatest (map (λ (c : Change). c.commit) changes)) in
-    on_cond (Shown f me heard before) (nat_lt most_entries (length log)) (s, []) (begun, to_others f me (start_view_message begun))
+    on_cond (Shown f me heard before) (nat_lt MAX_ENTRIES (length log)) (s, []) (begun, to_others f me (start_view_message begun))
     (λ _. silent f me heard before s)
     (λ _. record {
       shows = to_each f me (λ (o : Out). ReplicaShows f me heard before begun o.0 o.1) (λ r. (Replica r, start_view_message begun))

@@ -8,6 +8,7 @@ use Rattle.std.proofs.lemmas.List.{length-set, length-replicate}
 use Rattle.nz_base.specs.Cluster.{replica_count, leader_of}
 use Rattle.nz_base.specs.declared.key.Entry.{Entry}
 use Rattle.nz_base.proofs.Booleans.{clash}
+use Rattle.nz_base.specs.declared.limits.TheConstants.{MAX_ENTRIES, MAX_VIEW}
 use Rattle.nz_cv.specs.Vectors.{is_stray}
 use Rattle.nz_math.specs.Count.{AreDistinct}
 use Rattle.nz_merge.specs.Merged.{AreFit, greatest, merged}
@@ -24,7 +25,7 @@ use Rattle.nz_machine.specs.declared.data.Rejoin.{Rejoin}
 use Rattle.nz_machine.specs.declared.data.ToldView.{ToldView}
 use Rattle.nz_machine.specs.State.{ReplicaData}
 use Rattle.nz_machine.specs.Facts.{FitsEntry, AreCounters, IsCarried, FitsReport, FitsTold, AreHeld, IsRejoin, HasFacts}
-use Rattle.nz_machine.specs.Replicas.{last_view, most_entries, is_rejoining, commands}
+use Rattle.nz_machine.specs.Replicas.{is_rejoining, commands}
 use Rattle.nz_machine.specs.Views.{most_quiet, in_view_change}
 use Rattle.nz_machine.specs.LogMods.{after_hearing}
 use Rattle.nz_machine.specs.Adopting.{with_log, normal_in}
@@ -75,7 +76,7 @@ counted_low period n low = on_cond (λ m. m < period) (eqb (n + 1) period) 0 (n 
 
 -- ---- a view is entered
 
-pub enter_keeps : (f me : ℕ) (s : ReplicaData) (view : ℕ) → HasFacts f me s → s.view ≤ view → view ≤ last_view → HasFacts f me (in_view_change s view)
+pub enter_keeps : (f me : ℕ) (s : ReplicaData) (view : ℕ) → HasFacts f me s → s.view ≤ view → view ≤ MAX_VIEW → HasFacts f me (in_view_change s view)
 enter_keeps f me s view h later low =
     let before = h.mode.last in
     record {
@@ -99,7 +100,7 @@ adopted_held s list h c =
     let apart = apart_adopted s.log s.early s.late list (apart_held s.log s.early s.late h) c.log c.few c.fit in
     record { arranged = arranged_overtaken whole (left_out s.early list) (left_out (s.late ++ s.log.entries) list) apart; few = c.few; within = omega arith }
 
-pub start_keeps : (f me : ℕ) (s : ReplicaData) (view : ℕ) (list : List Entry) (commit : ℕ) → HasFacts f me s → view ≤ last_view
+pub start_keeps : (f me : ℕ) (s : ReplicaData) (view : ℕ) (list : List Entry) (commit : ℕ) → HasFacts f me s → view ≤ MAX_VIEW
     → IsFalse (leader_of f view == me)
     → IsCarried list → commit ≤ length list → HasFacts f me (normal_in s view list commit)
 start_keeps f me s view list commit h low away c committed = record {
@@ -136,7 +137,7 @@ begin_keeps f me s list commit h c = record {
   tables = record {
     vector = h.tables.vector;
     acks = length-replicate (replica_count f) 0;
-    few = all_replicate (λ n. n ≤ most_entries) (replica_count f) 0 (omega arith);
+    few = all_replicate (λ n. n ≤ MAX_ENTRIES) (replica_count f) 0 (omega arith);
     origins = h.tables.origins;
   };
   executed = record {
@@ -215,7 +216,7 @@ not_mine f me (r ∷ rs) all = let own = all.0.other in let rest = not_mine f me
 pub changes_own : (f me : ℕ) (s : ReplicaData) → HasFacts f me s → HaveOwnSenders (changes_of me s)
 changes_own f me s h = (not_mine f me s.changes h.reports.each, h.reports.own_senders)
 
-pub merged_carried : (f me : ℕ) (s : ReplicaData) → HasFacts f me s → length (merged f (changes_of me s)) ≤ most_entries
+pub merged_carried : (f me : ℕ) (s : ReplicaData) → HasFacts f me s → length (merged f (changes_of me s)) ≤ MAX_ENTRIES
     → IsCarried (merged f (changes_of me s))
 merged_carried f me s h few = record {
   log = merging.is_log f (changes_of me s) (changes_fit f me s h);
@@ -301,7 +302,7 @@ tells_keep f me s tells h each own =
 pub forget_keeps : (f me : ℕ) (s : ReplicaData) → HasFacts f me s → HasFacts f me (with_tells s [])
 forget_keeps f me s h = tells_keep f me s [] h tt tt
 
-pub tell_keeps : (f me : ℕ) (s : ReplicaData) (sender : ℕ) (b : RejoinTellBody) → HasFacts f me s → sender < replica_count f → b.view ≤ last_view
+pub tell_keeps : (f me : ℕ) (s : ReplicaData) (sender : ℕ) (b : RejoinTellBody) → HasFacts f me s → sender < replica_count f → b.view ≤ MAX_VIEW
     → AreCounters f b.vector
     → HasFacts f me (with_tell s sender b)
 tell_keeps f me s sender b h member low counters =
@@ -323,18 +324,18 @@ ask_views_keeps f me s h =
     (record { nonce = k.nonce; claim = k.claim; wanted = k.wanted; tellers = k.tellers; own_tellers = k.own_tellers; tells = tt; own_tells = tt })
 
 -- the leader of the view is asked for its log
-pub ask_log_keeps : (f me : ℕ) (s : ReplicaData) (view : ℕ) → HasFacts f me s → view ≤ last_view → HasFacts f me (ask_log f s view).0
+pub ask_log_keeps : (f me : ℕ) (s : ReplicaData) (view : ℕ) → HasFacts f me s → view ≤ MAX_VIEW → HasFacts f me (ask_log f s view).0
 ask_log_keeps f me s view h low =
     let k = h.rejoin in
     rejoin_keeps f me s (ask_log f s view).0.rejoin 0 h (omega arith)
     (record { nonce = k.nonce; claim = k.claim; wanted = low; tellers = k.tellers; own_tellers = k.own_tellers; tells = k.tells; own_tells = k.own_tells })
 
-greatest_low : (f : ℕ) (ts : List ToldView) → AllByRecursion (FitsTold f) ts → greatest (map (λ t. t.view) ts) ≤ last_view
+greatest_low : (f : ℕ) (ts : List ToldView) → AllByRecursion (FitsTold f) ts → greatest (map (λ t. t.view) ts) ≤ MAX_VIEW
 greatest_low f [] all = omega arith
 greatest_low f (t ∷ ts) all =
     let rest = greatest_low f ts all.1 in
     let own = all.0.view in
     omega (arith, rest, own)
 
-pub latest_low : (f me : ℕ) (s : ReplicaData) → HasFacts f me s → latest_view s ≤ last_view
+pub latest_low : (f me : ℕ) (s : ReplicaData) → HasFacts f me s → latest_view s ≤ MAX_VIEW
 latest_low f me s h = greatest_low f s.rejoin.tells h.rejoin.tells

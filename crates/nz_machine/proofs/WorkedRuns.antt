@@ -9,6 +9,7 @@ use Rattle.nz_base.specs.declared.actor.Actor.{Actor}
 use Rattle.nz_base.specs.declared.actor.Actor.TheVariants.{Replica, Proxy, Client}
 use Rattle.nz_base.specs.declared.key.Id.{Id}
 use Rattle.nz_base.specs.declared.key.Entry.{Entry}
+use Rattle.nz_base.specs.declared.limits.TheConstants.{MAX_CLOCK}
 use Rattle.nz_machine.specs.declared.event.Event.{Event}
 use Rattle.nz_machine.specs.declared.event.Event.TheVariants.{Deliver, Tick, Restart}
 use Rattle.nz_machine.specs.declared.event.Parcel.{Parcel}
@@ -40,7 +41,7 @@ use Rattle.nz_msg.specs.Envelope.{encode_of, decode_of}
 use Rattle.nz_msg.specs.Messages.{body_at}
 use Rattle.nz_machine.specs.Incarnations.{is_restart}
 use Rattle.nz_machine.specs.State.{ReplicaData}
-use Rattle.nz_machine.specs.Replicas.{first_replica, last_clock}
+use Rattle.nz_machine.specs.Replicas.{first_replica}
 use Rattle.nz_machine.specs.Step.{node_step, envelope_for}
 use Rattle.nz_machine.specs.World.{state_after, sent_in, Has, IsGroup, IsMember, Restarts, MayHappen, World}
 
@@ -147,7 +148,7 @@ pub came : (kind : ℕ) (from to : Actor) (J : List Record) → World group J �
 unfolding come
 came kind from to J w member = arrived J (is_of kind from to) (newest kind from to J) refl w member
 
-all_ticked : (clock : ℕ) (J : List Record) → World group J → clock ≤ last_clock → World group (all_tick clock J)
+all_ticked : (clock : ℕ) (J : List Record) → World group J → clock ≤ MAX_CLOCK → World group (all_tick clock J)
 unfolding all_tick
 all_ticked clock J w le =
     let zeroth = played J (Replica 0) (Tick clock) w (omega arith) le in

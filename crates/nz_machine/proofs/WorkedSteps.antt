@@ -5,6 +5,7 @@ use Rattle.std.specs.Prelude.{◌++◌}
 use Rattle.nz_base.specs.declared.actor.Actor.{Actor}
 use Rattle.nz_base.specs.declared.actor.Actor.TheVariants.{Replica, Proxy}
 use Rattle.nz_base.specs.declared.key.Entry.{Entry}
+use Rattle.nz_base.specs.declared.limits.TheConstants.{MAX_VIEW}
 use Rattle.nz_merge.specs.Merged.{merged, later_keys}
 use Rattle.nz_msg.specs.declared.message.Message.{Message}
 use Rattle.nz_msg.specs.declared.message.Message.TheVariants as messages
@@ -16,7 +17,7 @@ use Rattle.nz_machine.specs.declared.data.Phase.TheVariants as phases
 use Rattle.nz_machine.specs.declared.data.Rejoin.{Rejoin}
 use Rattle.nz_machine.specs.declared.data.Reported.{Reported}
 use Rattle.nz_machine.specs.State.{ReplicaData}
-use Rattle.nz_machine.specs.Replicas.{first_replica, last_view, crashed_replica}
+use Rattle.nz_machine.specs.Replicas.{first_replica, crashed_replica}
 use Rattle.nz_machine.specs.Requests.{request_rule}
 use Rattle.nz_machine.specs.Releases.{releases, release_rule}
 use Rattle.nz_machine.specs.LogMods.{log_mod_rule, fetch_rule, fetch_reply_rule, sync_report_rule}
@@ -157,9 +158,9 @@ record Views : Type 0 where
   -- One that asks for the own view is not followed.
   same_view : replica_message 1 2 changing (Replica 0) (messages.ViewAsk (record { view = 1 })) ≡ (changing, [])
   -- There is no view after the last: an alarm is nothing, quiet stays at 20, and since begins anew.
-  last_alarm : alarm_rule 1 0 (record normal { view = last_view }) ≡ (record normal { view = last_view }, [])
-  last_quiet : tick_rule 1 2 (record normal { view = last_view; quiet = 20 }) 0 ≡ (record normal { view = last_view; quiet = 20 }, [])
-  last_since : tick_rule 1 0 (record changing { view = last_view; since = 19 }) 0 ≡ (record changing { view = last_view; since = 0 }, [])
+  last_alarm : alarm_rule 1 0 (record normal { view = MAX_VIEW }) ≡ (record normal { view = MAX_VIEW }, [])
+  last_quiet : tick_rule 1 2 (record normal { view = MAX_VIEW; quiet = 20 }) 0 ≡ (record normal { view = MAX_VIEW; quiet = 20 }, [])
+  last_since : tick_rule 1 0 (record changing { view = MAX_VIEW; since = 19 }) 0 ≡ (record changing { view = MAX_VIEW; since = 0 }, [])
   -- Down, nothing is heard and no clock set.
   down : tick_step group (Replica 2) (crashed_replica 1) 7000 ≡ (crashed_replica 1, [])
   up : restart_rule 1 2 changing 7 ≡ (changing, [])

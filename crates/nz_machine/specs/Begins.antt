@@ -2,6 +2,7 @@
 use Rattle.std.specs.Prelude.{ℕ, Bool, not, ◌&&◌, ◌==◌, nat_le, nat_lt, min, List, [], ◌∷◌, ◌++◌, length, map, filter, replicate, if◌then◌else◌}
 use Rattle.nz_base.specs.Cluster.{replica_count, leader_of}
 use Rattle.nz_base.specs.declared.key.Entry.{Entry}
+use Rattle.nz_base.specs.declared.limits.TheConstants.{MAX_ENTRIES}
 use Rattle.nz_store.specs.Sequence.{replies}
 use Rattle.nz_cv.specs.Vectors.{is_stray}
 use Rattle.nz_merge.specs.declared.change.Change.{Change}
@@ -9,7 +10,7 @@ use Rattle.nz_merge.specs.Merged.{greatest, merged}
 use Rattle.nz_msg.specs.declared.message.ViewChangeBody.{ViewChangeBody}
 use Rattle.nz_machine.specs.State.{ReplicaData, Out}
 use Rattle.nz_machine.specs.declared.data.Reported.{Reported}
-use Rattle.nz_machine.specs.Replicas.{most_entries, is_changing, is_up, commands, to_others, to_replica, ◌and_then◌}
+use Rattle.nz_machine.specs.Replicas.{is_changing, is_up, commands, to_others, to_replica, ◌and_then◌}
 use Rattle.nz_machine.specs.Vectors.{unless_stray}
 use Rattle.nz_machine.specs.Views.{enter_later}
 use Rattle.nz_machine.specs.Adopting.{normal_in, start_view_message}
@@ -54,7 +55,7 @@ unfoldable pub begin : ℕ → ℕ → ReplicaData → ReplicaData × List Out
 begin f me s =
     let changes = changes_of me s in
     let log = merged f changes in
-    if nat_lt most_entries (length log) then (s, [])
+    if nat_lt MAX_ENTRIES (length log) then (s, [])
     else (let begun = after_begin f s log (greatest (map (λ c. c.commit) changes)) in (begun, to_others f me (start_view_message begun)))
 
 -- ---- the rule

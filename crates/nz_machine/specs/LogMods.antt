@@ -11,6 +11,7 @@ use Rattle.nz_base.specs.declared.actor.Actor.TheVariants.{Replica}
 use Rattle.nz_base.specs.declared.key.Id.{Id}
 use Rattle.nz_base.specs.declared.key.Key.{Key}
 use Rattle.nz_base.specs.declared.key.Entry.{Entry}
+use Rattle.nz_base.specs.declared.limits.TheConstants.{MAX_ENTRIES, MAX_KEYS}
 use Rattle.nz_window.specs.Samples.{numbers_in_order}
 use Rattle.nz_log.specs.Synced.{synced_part, unsynced_part, log_with_synced, displaced_entries}
 use Rattle.nz_buffers.specs.Buffers.{find_id, without}
@@ -20,14 +21,10 @@ use Rattle.nz_msg.specs.declared.message.FetchReplyBody.{FetchReplyBody}
 use Rattle.nz_msg.specs.declared.message.SyncReportBody.{SyncReportBody}
 use Rattle.nz_msg.specs.declared.message.Message.TheVariants.{LogMod, Fetch, FetchReply, SyncReport}
 use Rattle.nz_machine.specs.State.{ReplicaData, Out}
-use Rattle.nz_machine.specs.Replicas.{is_up, leads_view, hears_leader, most_entries, others, slow_replies}
+use Rattle.nz_machine.specs.Replicas.{is_up, leads_view, hears_leader, others, slow_replies}
 use Rattle.nz_machine.specs.Requests.{is_full}
 use Rattle.nz_machine.specs.Vectors.{unless_stray}
 use Rattle.nz_machine.specs.Views.{enter_view}
-
--- A log modification has at most this many keys, and a fetch at most this many ids.
-abbrev pub most_keys : ℕ
-most_keys = 64
 
 -- ---- what the leader sends
 
@@ -35,7 +32,7 @@ most_keys = 64
 abbrev pub log_mod_to : ReplicaData → ℕ → Out
 log_mod_to s r =
     let start = slice_index s.ack r in
-    let keys = take most_keys (drop start (keys_of s.log.entries)) in
+    let keys = take MAX_KEYS (drop start (keys_of s.log.entries)) in
     (Replica r, LogMod (record { view = s.view; vector = s.vector; commit = s.commit; start = start; keys = keys }))
 
 -- At a tick the leader in normal operation sends one to each of the others.
@@ -66,7 +63,7 @@ is_held s id = has_id (keys_of s.log.entries) id || (has_id (keys_of s.early) id
 abbrev pub may_sync : ReplicaData → Key → Bool
 may_sync s key =
     is_above_last (keys_of (synced_part s.log)) key
-    && (not (has_id (keys_of (synced_part s.log)) (id_of key)) && nat_lt (length s.log.entries) most_entries)
+    && (not (has_id (keys_of (synced_part s.log)) (id_of key)) && nat_lt (length s.log.entries) MAX_ENTRIES)
 
 -- The entry is put at the end of the synced part. What loses its place to it goes to late, and its id leaves
 -- the rest of the log, early and late.

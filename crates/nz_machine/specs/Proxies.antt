@@ -6,6 +6,7 @@ use Rattle.nz_base.specs.Cluster.{replica_count}
 use Rattle.nz_base.specs.Key.{id_eq}
 use Rattle.nz_base.specs.declared.actor.Actor.TheVariants.{Replica, Client}
 use Rattle.nz_base.specs.declared.key.Id.{Id}
+use Rattle.nz_base.specs.declared.limits.TheConstants.{MAX_CLOCK}
 use Rattle.nz_store.specs.declared.command.Answer.{Answer}
 use Rattle.nz_window.specs.Samples.{with_sample, bound_of}
 use Rattle.nz_msg.specs.declared.message.Path.{Path}
@@ -17,7 +18,7 @@ use Rattle.nz_msg.specs.declared.message.Message.TheVariants.{Timed}
 use Rattle.nz_machine.specs.declared.reply.Reply.{Reply}
 use Rattle.nz_machine.specs.declared.reply.Reply.TheVariants.{Fast, Slow}
 use Rattle.nz_machine.specs.State.{ProxyData, Standing, Open, Decided, Out}
-use Rattle.nz_machine.specs.Replicas.{last_clock, numbers_below}
+use Rattle.nz_machine.specs.Replicas.{numbers_below}
 use Rattle.nz_machine.specs.Quorums.{Chosen, decision, answer_in, with_note}
 
 -- Added to the bound on the delay, in clock units.
@@ -91,7 +92,7 @@ of_slow replica b = Slow replica b.view
 
 -- The clock becomes the reading.
 unfoldable pub clock_rule : ProxyData → ℕ → ProxyData
-clock_rule s clock = record s { clock = min clock last_clock }
+clock_rule s clock = record s { clock = min clock MAX_CLOCK }
 
 -- The state at the start.
 abbrev pub first_proxy : ℕ → ProxyData

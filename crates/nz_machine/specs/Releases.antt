@@ -3,12 +3,13 @@ use Rattle.std.specs.Prelude.{ℕ, ◌-◌, Bool, false, ◌&&◌, List, [], ◌
 use Rattle.std.specs.Map.{lookup}
 use Rattle.nz_base.specs.declared.key.Entry.{Entry}
 use Rattle.nz_base.specs.Key.{id_eq, id_of}
+use Rattle.nz_base.specs.declared.limits.TheConstants.{MAX_ENTRIES, MAX_CLOCK}
 use Rattle.nz_store.specs.Sequence.{answer_after}
 use Rattle.nz_store.specs.declared.command.Answer.{Answer}
 use Rattle.nz_log.specs.Synced.{Log}
 use Rattle.nz_buffers.specs.Buffers.{is_due}
 use Rattle.nz_machine.specs.State.{ReplicaData, Out}
-use Rattle.nz_machine.specs.Replicas.{last_clock, most_entries, is_normal, leads, commands, fast_replies}
+use Rattle.nz_machine.specs.Replicas.{is_normal, leads, commands, fast_replies}
 
 -- The log with one more entry. The leader's log agrees with itself.
 abbrev pub log_with_entry : Bool → Log → Entry → Log
@@ -31,7 +32,7 @@ after_release f me s e rest =
 
 -- Whether the log may have one more entry.
 abbrev pub log_has_room : ReplicaData → Bool
-log_has_room s = nat_lt (length s.log.entries) most_entries
+log_has_room s = nat_lt (length s.log.entries) MAX_ENTRIES
 
 -- What is sent when the entry was released as the log's last.
 abbrev pub release_replies : ℕ → ℕ → ReplicaData → Entry → List Out
@@ -57,7 +58,7 @@ releases f me s (e ∷ es) =
 
 -- The clock becomes the reading, and stops at its limit.
 abbrev pub at_clock : ReplicaData → ℕ → ReplicaData
-at_clock s clock = record s { clock = min clock last_clock }
+at_clock s clock = record s { clock = min clock MAX_CLOCK }
 
 -- The clock is set, and in normal operation what is due is released.
 unfoldable pub release_rule : ℕ → ℕ → ReplicaData → ℕ → ReplicaData × List Out

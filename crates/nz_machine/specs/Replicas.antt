@@ -1,5 +1,5 @@
 -- Definitions that several rules of a replica use.
-use Rattle.std.specs.Prelude.{ℕ, zero, suc, ◌-◌, ◌^◌, Bool, true, false, not, ◌&&◌, List, [], ◌∷◌, ◌++◌, replicate}
+use Rattle.std.specs.Prelude.{ℕ, zero, suc, Bool, true, false, not, ◌&&◌, List, [], ◌∷◌, ◌++◌, replicate}
 use Rattle.std.specs.Prelude.{map, filter, Option, Some, None, ◌==◌, if◌then◌else◌, slice_get}
 use Rattle.nz_base.specs.Cluster.{replica_count, leader_of}
 use Rattle.nz_base.specs.declared.actor.Actor.TheVariants.{Replica, Proxy}
@@ -20,18 +20,6 @@ use Rattle.nz_machine.specs.State.{ReplicaData, Out}
 abbrev pub numbers_below : ℕ → List ℕ
 numbers_below zero = []
 numbers_below (suc n) = numbers_below n ++ n ∷ []
-
--- Clocks stop here, in clock units.
-abbrev pub last_clock : ℕ
-last_clock = 2 ^ 62 - 1
-
--- Views stop here.
-abbrev pub last_view : ℕ
-last_view = 2 ^ 62 - 1
-
--- A log holds at most this many entries.
-abbrev pub most_entries : ℕ
-most_entries = 4096
 
 -- ---- modes
 

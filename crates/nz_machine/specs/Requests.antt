@@ -6,22 +6,19 @@ use Rattle.nz_base.specs.declared.key.Id.{Id}
 use Rattle.nz_base.specs.declared.key.Entry.{Entry}
 use Rattle.nz_base.specs.Key.{id_eq, id_of}
 use Rattle.nz_base.specs.Log.{keys_of, has_id, is_above_last}
+use Rattle.nz_base.specs.declared.limits.TheConstants.{MAX_ENTRIES, MAX_DELAY}
 use Rattle.nz_log.specs.Places.{place_of, last_entry}
 use Rattle.nz_buffers.specs.Buffers.{insert_by_key, without}
 use Rattle.nz_msg.specs.declared.message.TimedBody.{TimedBody}
 use Rattle.nz_machine.specs.declared.data.Origin.{Origin}
 use Rattle.nz_machine.specs.State.{ReplicaData, Out}
-use Rattle.nz_machine.specs.Replicas.{leads, most_entries, is_normal, key_with_deadline, fast_replies, slow_replies}
-
--- A delay counts up to this, in clock units.
-abbrev pub longest_delay : ℕ
-longest_delay = 10000
+use Rattle.nz_machine.specs.Replicas.{leads, is_normal, key_with_deadline, fast_replies, slow_replies}
 
 -- ---- where the request came from
 
 -- Where a request came from: the proxy, and how long it was on its way.
 abbrev pub origin_of : ReplicaData → ℕ → TimedBody → Origin
-origin_of s proxy b = record { proxy = proxy; delay = min (s.clock - b.sent) longest_delay }
+origin_of s proxy b = record { proxy = proxy; delay = min (s.clock - b.sent) MAX_DELAY }
 
 -- The request's origin is noted, in place of an earlier one.
 abbrev pub with_origin : ReplicaData → ℕ → TimedBody → ReplicaData
@@ -68,7 +65,7 @@ after_placing f me s b =
 
 -- Whether log, early and late together hold as many entries as a log may.
 abbrev pub is_full : ReplicaData → Bool
-is_full s = nat_le most_entries (length s.log.entries + length s.early + length s.late)
+is_full s = nat_le MAX_ENTRIES (length s.log.entries + length s.early + length s.late)
 
 -- A request that is early already, or finds no room, changes nothing. Any other is placed.
 abbrev pub after_new_request : ℕ → ℕ → ReplicaData → TimedBody → ReplicaData

@@ -10,6 +10,7 @@ use Rattle.nz_base.specs.declared.scenario.Skew.{Skew}
 use Rattle.nz_base.specs.declared.scenario.Fault.{Fault}
 use Rattle.nz_base.specs.declared.scenario.Fault.TheVariants as faults
 use Rattle.nz_base.specs.declared.scenario.Scenario.{Scenario}
+use Rattle.nz_base.specs.declared.limits.TheConstants.{MAX_CLOCK}
 use Rattle.nz_frame.specs.Refusal.{refusal}
 use Rattle.nz_frame.specs.declared.refusal.FrameRefusal.{FrameRefusal}
 use Rattle.nz_machine.specs.declared.event.Event.{Event}
@@ -18,7 +19,7 @@ use Rattle.nz_machine.specs.declared.event.Parcel.{Parcel}
 use Rattle.nz_machine.specs.declared.event.Record.{Record}
 use Rattle.nz_machine.specs.declared.journal.Item.{Item}
 use Rattle.nz_machine.specs.State.{Group}
-use Rattle.nz_machine.specs.Replicas.{last_clock, numbers_below}
+use Rattle.nz_machine.specs.Replicas.{numbers_below}
 use Rattle.nz_machine.specs.World.{IsGroup, IsMember}
 
 -- Who runs in a scenario.
@@ -58,7 +59,7 @@ skew_of a (s ∷ skews) = if actor_eq s.actor a then s.units else skew_of a skew
 
 -- A tick is 1,000 clock units.
 abbrev pub clock_at : Scenario → ℕ → Actor → ℕ
-clock_at s tick a = min (clock_with_skew (1000 * tick) (skew_of a s.skews)) last_clock
+clock_at s tick a = min (clock_with_skew (1000 * tick) (skew_of a s.skews)) MAX_CLOCK
 
 -- Replicas, proxies and clients, each by number.
 abbrev pub actors_of : Scenario → List Actor

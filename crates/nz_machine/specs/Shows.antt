@@ -9,6 +9,7 @@ use Rattle.nz_base.specs.declared.actor.Actor.{Actor}
 use Rattle.nz_base.specs.declared.actor.Actor.TheVariants.{Replica, Proxy, Client}
 use Rattle.nz_base.specs.declared.key.Key.{Key}
 use Rattle.nz_base.specs.declared.scenario.Request.{Request}
+use Rattle.nz_base.specs.declared.limits.TheConstants.{MAX_KEYS}
 use Rattle.nz_cv.specs.Vectors.{merged_vector}
 use Rattle.nz_window.specs.Samples.{bound_of}
 use Rattle.nz_log.specs.Places.{place_of, digest_at}
@@ -37,7 +38,7 @@ use Rattle.nz_machine.specs.declared.data.Phase.TheVariants as phases
 use Rattle.nz_machine.specs.declared.reply.Reply.{Reply}
 use Rattle.nz_machine.specs.State.{ReplicaData, ProxyData, ClientData, State, Open, Decided, Group}
 use Rattle.nz_machine.specs.Replicas.{is_normal, is_changing, is_up, is_rejoining, leads}
-use Rattle.nz_machine.specs.LogMods.{most_keys, is_held, is_asked}
+use Rattle.nz_machine.specs.LogMods.{is_held, is_asked}
 use Rattle.nz_machine.specs.Rejoining.{is_phase}
 use Rattle.nz_machine.specs.Proxies.{margin, standing_of}
 use Rattle.nz_machine.specs.Step.{script_of}
@@ -92,7 +93,7 @@ pub record ShowsSlow (f me : ℕ) (s : ReplicaData) (to : Actor) (b : SlowReplyB
 
 -- What a leader sends of its log, from a place on.
 abbrev pub log_mod_from : ReplicaData → ℕ → LogModBody
-log_mod_from s start = record { view = s.view; vector = s.vector; commit = s.commit; start = start; keys = take most_keys (drop start (keys_of s.log.entries)) }
+log_mod_from s start = record { view = s.view; vector = s.vector; commit = s.commit; start = start; keys = take MAX_KEYS (drop start (keys_of s.log.entries)) }
 
 -- A log modification has the keys of the leader's log, from where the receiver's agrees with it.
 pub record ShowsLogMod (f me : ℕ) (s : ReplicaData) (to : Actor) (b : LogModBody) : Type 0 where

@@ -5,12 +5,12 @@ use Rattle.nz_base.specs.declared.key.Key.{Key}
 use Rattle.nz_base.specs.declared.key.Entry.{Entry}
 use Rattle.nz_base.specs.Key.{id_of}
 use Rattle.nz_base.specs.Log.{keys_of, has_id, is_above_last}
+use Rattle.nz_base.specs.declared.limits.TheConstants.{MAX_ENTRIES}
 use Rattle.nz_log.specs.Synced.{Log, synced_part, unsynced_part}
 use Rattle.nz_buffers.specs.Buffers.{find_id}
 use Rattle.nz_machine.specs.declared.sync_keys.Taken.{Taken}
 use Rattle.nz_machine.specs.declared.sync_keys.Taken.TheVariants.{Synced, Missing, Refused}
 use Rattle.nz_machine.specs.State.{ReplicaData}
-use Rattle.nz_machine.specs.Replicas.{most_entries}
 use Rattle.nz_machine.specs.LogMods.{or_else, sync_keys}
 
 -- The state with these in place of its log, early and late.
@@ -21,7 +21,7 @@ with_parts s log early late = record s { log = log; early = early; late = late }
 abbrev pub may_join : Log → Key → Bool
 may_join log key =
     is_above_last (keys_of (synced_part log)) key
-    && (not (has_id (keys_of (synced_part log)) (id_of key)) && nat_lt (length log.entries) most_entries)
+    && (not (has_id (keys_of (synced_part log)) (id_of key)) && nat_lt (length log.entries) MAX_ENTRIES)
 
 -- The entry with the id beyond the synced ones, in early or in late.
 abbrev pub found_in : Log → List Entry → List Entry → Id → Option Entry

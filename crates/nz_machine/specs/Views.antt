@@ -1,11 +1,12 @@
 -- The rules by which a replica leaves its view for a later one, and its timers for that.
 use Rattle.std.specs.Prelude.{ℕ, ◌+◌, ◌%◌, ◌==◌, nat_lt, min, List, [], ◌++◌, if◌then◌else◌}
+use Rattle.nz_base.specs.declared.limits.TheConstants.{MAX_VIEW}
 use Rattle.nz_msg.specs.declared.message.Message.{Message}
 use Rattle.nz_msg.specs.declared.message.Message.TheVariants as messages
 use Rattle.nz_msg.specs.declared.message.ViewAskBody.{ViewAskBody}
 use Rattle.nz_machine.specs.declared.data.Status.TheVariants.{ViewChange}
 use Rattle.nz_machine.specs.State.{ReplicaData, Out}
-use Rattle.nz_machine.specs.Replicas.{last_view, is_up, leader, leads, to_others, to_replica}
+use Rattle.nz_machine.specs.Replicas.{is_up, leader, leads, to_others, to_replica}
 
 -- After this many ticks without its leader, or in one view change, a replica enters the next view.
 abbrev pub most_quiet : ℕ
@@ -45,7 +46,7 @@ enter_view f me view s = let entered = in_view_change s view in (entered, view_c
 
 -- The next view is entered, where there is one.
 abbrev pub enter_next : ℕ → ℕ → ReplicaData → ReplicaData × List Out
-enter_next f me s = if nat_lt s.view last_view then enter_view f me (s.view + 1) s else (s, [])
+enter_next f me s = if nat_lt s.view MAX_VIEW then enter_view f me (s.view + 1) s else (s, [])
 
 -- The view is entered where it is later than the replica's own.
 abbrev pub enter_later : ℕ → ℕ → ℕ → ReplicaData → ReplicaData × List Out

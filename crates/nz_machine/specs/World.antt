@@ -6,13 +6,13 @@ use Rattle.nz_base.specs.Cluster.{replica_count}
 use Rattle.nz_base.specs.declared.actor.Actor.{Actor}
 use Rattle.nz_base.specs.declared.actor.Actor.TheVariants.{Replica, Proxy, Client}
 use Rattle.nz_base.specs.declared.scenario.Request.{Request}
+use Rattle.nz_base.specs.declared.limits.TheConstants.{MAX_CLOCK}
 use Rattle.nz_store.specs.Reading.{command_of}
 use Rattle.nz_machine.specs.declared.event.Event.{Event}
 use Rattle.nz_machine.specs.declared.event.Event.TheVariants.{Deliver, Cut, Tick, Alarm, Crash, Restart}
 use Rattle.nz_machine.specs.declared.event.Parcel.{Parcel}
 use Rattle.nz_machine.specs.declared.event.Record.{Record}
 use Rattle.nz_machine.specs.State.{State, Group}
-use Rattle.nz_machine.specs.Replicas.{last_clock}
 use Rattle.nz_machine.specs.Step.{first, node_step}
 
 -- A request whose bytes are a command.
@@ -69,7 +69,7 @@ Restarts a nonce r = (r.actor ≡ a) × (r.event ≡ Restart nonce)
 abbrev pub MayHappen : List Record → Actor → Event → Type 0
 MayHappen J a (Deliver p) = (p.to ≡ a) × Has (sent_in J) p
 MayHappen J a (Cut p kept) = (p.to ≡ a) × Has (sent_in J) p
-MayHappen J a (Tick clock) = clock ≤ last_clock
+MayHappen J a (Tick clock) = clock ≤ MAX_CLOCK
 MayHappen J a Alarm = Unit {0}
 MayHappen J a Crash = Unit {0}
 MayHappen J a (Restart nonce) = (nonce < 2 ^ 64) × AllByRecursion (λ r. ¬ Restarts a nonce r) J

@@ -5,13 +5,10 @@ ghost use Rattle.nz_base.specs.Cluster.{replica_count};
 ghost use Rattle.nz_machine.specs.Replicas.{numbers_below};
 ghost use Rattle.nz_machine.specs.LogMods.{commit_point};
 
-use nz_base::Cluster;
-
-/// The most replicas that a cluster has.
-const MOST: usize = 9;
+use nz_base::{Cluster, MAX_REPLICAS};
 
 /// Puts what the other replicas report first, in the order of their numbers. Gives how many they are.
-fn gather(reports: &mut [u32; MOST], me: u8, ack: &[u32]) -> usize
+fn gather(reports: &mut [u32; MAX_REPLICAS], me: u8, ack: &[u32]) -> usize
     requires { length ack.now ≤ 9 }
     ensures within { result ≤ 9 }
     ensures reports { take result reports.new ≡ map (slice_index ack.now) (filter (λ r. not (r == me)) (numbers_below (length ack.now))) }
@@ -33,7 +30,7 @@ pub fn reported(cluster: Cluster, me: u8, ack: &[u32]) -> u32
     ensures { result ≡ commit_point cluster me ack.now }
 {
     let f = cluster.f();
-    let mut reports = [0; MOST];
+    let mut reports = [0; MAX_REPLICAS];
     let count = gather(&mut reports, me, ack);
     let ordered = &mut reports[..count];
     ordered.sort_unstable();

@@ -2,6 +2,7 @@
 ghost use Rattle.std.specs.Prelude.{◌≡◌, ℕ, List, ◌+◌, ◌≤◌, ◌<◌, ◌^◌, ◌==◌, ◌++◌, length, min, IsTrue, IsFalse};
 ghost use Rattle.nz_buffers.specs.Buffers.{released, held_back};
 ghost use Rattle.nz_base.specs.Cluster.{replica_count};
+ghost use Rattle.nz_base.specs.declared.limits.TheConstants.{MAX_ENTRIES, MAX_CLOCK};
 ghost use Rattle.nz_msg.specs.declared.message.TimedBody.{TimedBody};
 ghost use Rattle.nz_msg.specs.declared.message.LogModBody.{LogModBody};
 ghost use Rattle.nz_msg.specs.declared.message.FetchBody.{FetchBody};
@@ -34,7 +35,7 @@ ghost use Rattle.nz_machine.specs.declared.event.Record.{Record};
 ghost use Rattle.nz_machine.specs.State.{ReplicaData, Group};
 ghost use Rattle.nz_machine.specs.World.{World, sent_in, Has, IsMember};
 ghost use Rattle.nz_machine.specs.Facts.{HasFacts};
-ghost use Rattle.nz_machine.specs.Replicas.{first_replica, last_clock, most_entries, is_normal};
+ghost use Rattle.nz_machine.specs.Replicas.{first_replica, is_normal};
 ghost use Rattle.nz_machine.specs.Requests.{request_rule};
 ghost use Rattle.nz_machine.specs.Releases.{release_rule};
 ghost use Rattle.nz_machine.specs.LogMods.{log_mod_rule, fetch_rule, fetch_reply_rule, sync_report_rule};
@@ -101,11 +102,11 @@ pub fn facts_are_kept()
 /// Where the log has room for what is due, a replica in normal operation releases all of it.
 pub fn due_entries_are_released()
     ensures log { (f me : ℕ) (s : ReplicaData) (clock : ℕ) → HasFacts f me s → IsTrue (is_normal s.status)
-        → length s.log.entries + length (released s.early (min clock last_clock)) ≤ most_entries
-        → (release_rule f me s clock).0.log.entries ≡ s.log.entries ++ released s.early (min clock last_clock) }
+        → length s.log.entries + length (released s.early (min clock MAX_CLOCK)) ≤ MAX_ENTRIES
+        → (release_rule f me s clock).0.log.entries ≡ s.log.entries ++ released s.early (min clock MAX_CLOCK) }
     ensures early { (f me : ℕ) (s : ReplicaData) (clock : ℕ) → HasFacts f me s → IsTrue (is_normal s.status)
-        → length s.log.entries + length (released s.early (min clock last_clock)) ≤ most_entries
-        → (release_rule f me s clock).0.early ≡ held_back s.early (min clock last_clock) }
+        → length s.log.entries + length (released s.early (min clock MAX_CLOCK)) ≤ MAX_ENTRIES
+        → (release_rule f me s clock).0.early ≡ held_back s.early (min clock MAX_CLOCK) }
 {}
 
 /// In every run each parcel is for an actor of the group.

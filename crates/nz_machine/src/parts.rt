@@ -11,10 +11,10 @@ ghost use Rattle.nz_msg.specs.Fields as fields;
 ghost use Rattle.nz_machine.specs.Replicas.{commands};
 ghost use Rattle.nz_machine.specs.Releases.{log_with_entry, results_with_entry};
 
-use nz_base::{Entry, Key, NoMemory};
+use nz_base::{Entry, Key, MAX_ENTRIES, NoMemory};
 use nz_buffers::{Early, Late, Offer};
 use nz_cv::CrashVector;
-use nz_log::{HashedLog, MAX_ENTRIES};
+use nz_log::HashedLog;
 use nz_store::{Answer, Store};
 
 /// The key of the log's last entry.

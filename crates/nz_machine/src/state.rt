@@ -27,20 +27,15 @@ use super::answers::copy_answer;
 use super::data::{Origin, Phase, Rejoin, Reported, Status};
 use super::parts::{last_key, put_early, put_late, take_in, vector_fits};
 use indexmap::IndexMap;
-use nz_base::{Actor, Cluster, Entry, Id, List, NoMemory};
+use nz_base::{Actor, Cluster, Entry, Id, List, MAX_CLOCK, MAX_DELAY, MAX_ENTRIES, NoMemory};
 use nz_buffers::{Early, Late};
 use nz_cv::CrashVector;
-use nz_log::{HashedLog, MAX_ENTRIES};
+use nz_log::HashedLog;
 use nz_msg::TimedBody;
 use nz_store::{Answer, Store};
 use std::alloc::Global;
 use std::marker::Model;
 pub use viewing::MOST_QUIET;
-
-/// A delay counts up to this, in clock units.
-const LONGEST_DELAY: u64 = 10_000;
-/// Clocks stop here, in clock units.
-const LAST_CLOCK: u64 = (1 << 62) - 1;
 
 /// The parts of a replica's state.
 #[derive(Drop)]
@@ -336,11 +331,11 @@ impl ReplicaState {
         }
     }
 
-    /// The clock goes to this reading, in clock units, but not past 2^62 - 1.
+    /// The clock goes to this reading, in clock units, but not past the last one.
     pub fn set_clock(&mut self, clock: u64)
         ensures { self.new ≡ record self.old { state = at_clock self.old.state clock } }
     {
-        self.parts.clock = clock.min(LAST_CLOCK);
+        self.parts.clock = clock.min(MAX_CLOCK);
     }
 
     /// Keeps where a request came from.
@@ -352,7 +347,7 @@ impl ReplicaState {
             .parts
             .clock
             .saturating_sub(body.sent)
-            .min(LONGEST_DELAY) as u32;
+            .min(MAX_DELAY) as u32;
         self.parts.origin.insert(body.id, Origin { proxy, delay })?;
         Ok(())
     }

@@ -16,9 +16,9 @@ ghost use Rattle.nz_machine.specs.LogMods.{sync_keys, overtaken_to_late};
 ghost use Rattle.nz_machine.specs.Taking.{may_join, found_in, with_parts, after_first};
 
 use super::parts::last_key;
-use nz_base::{Blob, Entry, EntryList, Id, Key, NoMemory, TryCopy};
+use nz_base::{Blob, Entry, EntryList, Id, Key, MAX_ENTRIES, NoMemory, TryCopy};
 use nz_buffers::{Early, Late};
-use nz_log::{HashedLog, MAX_ENTRIES};
+use nz_log::HashedLog;
 use std::alloc::Global;
 
 /// What became of a key.

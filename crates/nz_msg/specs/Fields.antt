@@ -1,10 +1,11 @@
 -- The sorts of field that messages have.
-use Rattle.std.specs.Prelude.{ℕ, ◌^◌, ◌-◌, ◌%◌, Bool, true, false, not, ◌&&◌, ◌==◌, if◌then◌else◌, List, []}
+use Rattle.std.specs.Prelude.{ℕ, ◌%◌, Bool, true, false, not, ◌&&◌, ◌==◌, if◌then◌else◌, List, []}
 use Rattle.std.specs.Int.{is_in_range}
 use Rattle.std.specs.List.{list_all}
 use Rattle.nz_base.specs.declared.key.Id.{Id}
 use Rattle.nz_base.specs.declared.key.Key.{Key}
 use Rattle.nz_base.specs.declared.key.Entry.{Entry}
+use Rattle.nz_base.specs.declared.limits.TheConstants.{MAX_VIEW, MAX_DEADLINE, MAX_COMMAND, MAX_VALUE, MAX_KEYS, MAX_REPLICAS}
 use Rattle.nz_base.specs.Key.{key_below, id_of, id_eq}
 use Rattle.nz_store.specs.declared.command.Answer.{Answer}
 use Rattle.nz_store.specs.declared.command.Answer.TheVariants.{Done, Value, Absent, Differs}
@@ -20,13 +21,13 @@ u32 = number 4
 abbrev pub u64 : Codec ℕ
 u64 = number 8
 
--- A view: at most 2^62 - 1.
+-- A view, up to the last one.
 abbrev pub view : Codec ℕ
-view = number_within 8 0 (2 ^ 62 - 1)
+view = number_within 8 0 MAX_VIEW
 
--- A deadline: at most 2^63 - 1.
+-- A deadline, up to the last one.
 abbrev pub deadline : Codec ℕ
-deadline = number_within 8 0 (2 ^ 63 - 1)
+deadline = number_within 8 0 MAX_DEADLINE
 
 -- The client, and the number of its request.
 abbrev pub id : Codec Id
@@ -36,9 +37,9 @@ id = as_made (λ p. record { client = p.0; num = p.1 }) (λ i. (i.client, i.num)
 abbrev pub key : Codec Key
 key = as_made (λ p. record { deadline = p.0; client = p.1.0; num = p.1.1 }) (λ k. (k.deadline, (k.client, k.num))) (deadline then u32 then u32)
 
--- 1 to 552 bytes after a length of two bytes.
+-- At least one byte, and no more than the longest command has, after a length of two bytes.
 abbrev pub command : Codec (List ℕ)
-command = with_count (number_within 2 1 552) run
+command = with_count (number_within 2 1 MAX_COMMAND) run
 
 -- A digest of 20 bytes.
 abbrev pub digest : Codec (List ℕ)
@@ -46,7 +47,7 @@ digest = run 20
 
 -- A cluster has 3, 5, 7 or 9 replicas.
 abbrev pub is_cluster_size : ℕ → Bool
-is_cluster_size n = is_in_range 3 9 n && n % 2 == 1
+is_cluster_size n = is_in_range 3 MAX_REPLICAS n && n % 2 == 1
 
 -- The size of the cluster in one byte, and a counter for each replica.
 abbrev pub vector : Codec (List ℕ)
@@ -54,9 +55,9 @@ vector = with_count (with_limit is_cluster_size (number 1)) (items (λ _. u32))
 
 -- ---- answers
 
--- 1 to 256 bytes after a length of two bytes.
+-- At least one byte, and no more than the longest value has, after a length of two bytes.
 abbrev pub value : Codec (List ℕ)
-value = with_count (number_within 2 1 256) run
+value = with_count (number_within 2 1 MAX_VALUE) run
 
 -- The byte that says which answer it is, and the value of the one that has a value.
 abbrev pub answer_parts : Answer → ℕ × List ℕ
@@ -111,11 +112,11 @@ next_entry before = as_made (λ p. record { key = p.0; command = p.1 }) (λ e. (
 
 -- 1 to 64 ids after their count of one byte.
 abbrev pub ids : Codec (List Id)
-ids = with_count (number_within 1 1 64) (items (λ _. id))
+ids = with_count (number_within 1 1 MAX_KEYS) (items (λ _. id))
 
 -- At most 64 keys after their count of one byte.
 abbrev pub keys : Codec (List Key)
-keys = with_count (number_within 1 0 64) (items next_key)
+keys = with_count (number_within 1 0 MAX_KEYS) (items next_key)
 
 -- From least to most entries after their count of four bytes.
 abbrev pub entries : ℕ → ℕ → Codec (List Entry)

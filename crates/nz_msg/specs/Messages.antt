@@ -1,5 +1,6 @@
 -- Messages as the bodies of frames: the kinds, and the one spelling of each.
 use Rattle.std.specs.Prelude.{◌≡◌, ℕ, max, ◌==◌, if◌then◌else◌, List, [], length, Result, Ok, Err}
+use Rattle.nz_base.specs.declared.limits.TheConstants.{MAX_ENTRIES, MAX_KEYS}
 use Rattle.nz_msg.specs.declared.message.RequestBody.{RequestBody}
 use Rattle.nz_msg.specs.declared.message.TimedBody.{TimedBody}
 use Rattle.nz_msg.specs.declared.message.FastReplyBody.{FastReplyBody}
@@ -65,7 +66,7 @@ fetch = as_made (λ p. record { view = p.0; ids = p.1 }) (λ b. (b.view, b.ids))
 
 -- The body of a fetch-reply: the view, and at most 64 entries.
 abbrev pub fetch_reply : Codec FetchReplyBody
-fetch_reply = as_made (λ p. record { view = p.0; entries = p.1 }) (λ b. (b.view, b.entries)) (view then entries 0 64)
+fetch_reply = as_made (λ p. record { view = p.0; entries = p.1 }) (λ b. (b.view, b.entries)) (view then entries 0 MAX_KEYS)
 
 -- The body of a sync-report: the view, and how many entries are synced.
 abbrev pub sync_report : Codec SyncReportBody
@@ -80,13 +81,13 @@ abbrev pub view_change : Codec ViewChangeBody
 view_change =
     as_made (λ p. record { view = p.0; last = p.1.0; vector = p.1.1.0; synced = p.1.1.1.0.0; commit = p.1.1.1.0.1; entries = p.1.1.1.1 })
     (λ b. (b.view, (b.last, (b.vector, ((b.synced, b.commit), b.entries)))))
-    (view then view then vector then (u32 then u32) leading λ p. entries (max p.0 p.1) 4096)
+    (view then view then vector then (u32 then u32) leading λ p. entries (max p.0 p.1) MAX_ENTRIES)
 
--- The body of a start-view: the view, the vector, the commit, and no fewer entries than that, at most 4,096.
+-- The body of a start-view: the view, the vector, the commit, and no fewer entries than that, no more than a log has.
 abbrev pub start_view : Codec StartViewBody
 start_view =
     as_made (λ p. record { view = p.0; vector = p.1.0; commit = p.1.1.0; entries = p.1.1.1 }) (λ b. (b.view, (b.vector, (b.commit, b.entries))))
-    (view then vector then u32 leading λ commit. entries commit 4096)
+    (view then vector then u32 leading λ commit. entries commit MAX_ENTRIES)
 
 -- The body of a vector-ask: the nonce.
 abbrev pub vector_ask : Codec VectorAskBody
@@ -113,7 +114,7 @@ abbrev pub state_tell : Codec StateTellBody
 state_tell =
     as_made (λ p. record { nonce = p.0; view = p.1.0; vector = p.1.1.0; commit = p.1.1.1.0; entries = p.1.1.1.1 })
     (λ b. (b.nonce, (b.view, (b.vector, (b.commit, b.entries)))))
-    (u64 then view then vector then u32 leading λ commit. entries commit 4096)
+    (u64 then view then vector then u32 leading λ commit. entries commit MAX_ENTRIES)
 
 -- ---- the grammar
 

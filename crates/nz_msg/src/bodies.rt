@@ -19,13 +19,11 @@ use super::reading::{
     answer_at, answer_if_any, command_at, deadline_at, digest_at, id_at, path_at, u32_at, u64_at,
     view_at,
 };
+use nz_base::{MAX_ENTRIES, MAX_KEYS};
 use std::alloc::Global;
 
-/// The most entries that a log has.
-pub const MAX_ENTRIES: u32 = 4096;
-
-/// The most entries that answer a fetch.
-pub const MAX_FETCHED: u32 = 64;
+/// The most entries that answer a fetch: no more than the ids that it may ask for.
+pub const MAX_FETCHED: u32 = MAX_KEYS as u32;
 
 // Nothing follows the last field.
 fn end(rest: &[u8]) -> Result<(), Fault>

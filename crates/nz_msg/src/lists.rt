@@ -12,15 +12,9 @@ ghost use Rattle.nz_msg.specs.Reading.{Gives, AreNoted};
 use super::fault::Fault;
 use super::reading::{command_at, id_at, key_at, u8_at, u8_within, u32_at, u32_within};
 use indexmap::IndexSet;
-use nz_base::{Entry, EntryList, Id, IdList, Key, KeyList};
+use nz_base::{Entry, EntryList, Id, IdList, Key, KeyList, MAX_KEYS, MAX_REPLICAS};
 use nz_cv::CrashVector;
 use std::alloc::Global;
-
-/// The most replicas that a cluster has.
-const MOST: usize = 9;
-
-/// The most ids or keys that a message has, and the most entries that answer a fetch.
-pub const MAX_KEYS: u8 = 64;
 
 /// The fewest bytes of an id, a key and an entry: its key, the length of its command, and one byte.
 const ID_SIZE: u8 = 8;
@@ -62,11 +56,11 @@ fn size_at(bytes: &[u8]) -> Result<(u8, &[u8]), Fault>
     Ok((size, rest))
 }
 
-fn counters_at(size: u8, bytes: &[u8]) -> Result<([u32; MOST], &[u8]), Fault>
+fn counters_at(size: u8, bytes: &[u8]) -> Result<([u32; MAX_REPLICAS], &[u8]), Fault>
     requires { size ≤ 9 }
     ensures { Gives (λ x. (take size x.0, x.1.now)) result (items_at (λ _. u32) [] size bytes.now) }
 {
-    let mut counters = [0; MOST];
+    let mut counters = [0; MAX_REPLICAS];
     let mut rest = bytes;
     for place in 0..size {
         let (counter, after) = u32_at(rest)?;

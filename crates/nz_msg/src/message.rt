@@ -12,7 +12,7 @@ pub enum Path {
     Slow,
 }
 
-/// Client to proxy: a command of 1 to 552 bytes, as the client's request `num`.
+/// Client to proxy: a command of at least one byte and at most `MAX_COMMAND`, as the client's request `num`.
 #[derive(Debug, Drop)]
 pub struct RequestBody {
     pub num: u32,

@@ -8,21 +8,10 @@ ghost use Rattle.nz_msg.specs.Reading.{Gives};
 use super::fault::Fault;
 use super::message::Path;
 use byteorder::{BigEndian, ByteOrder};
-use nz_base::{Blob, Id, Key};
+use nz_base::{Blob, Id, Key, MAX_COMMAND, MAX_DEADLINE, MAX_VALUE, MAX_VIEW};
 use nz_digest::Digest;
 use nz_store::Answer;
 use std::alloc::Global;
-
-/// The greatest view.
-pub const MAX_VIEW: u64 = 4_611_686_018_427_387_903;
-
-/// The greatest deadline, in clock units.
-pub const MAX_DEADLINE: u64 = 9_223_372_036_854_775_807;
-
-/// The longest command and the longest value, in bytes.
-pub const MAX_COMMAND: u16 = 552;
-
-pub const MAX_VALUE: u16 = 256;
 
 #[tactic(auto, unfolding(crate::specs::Codec::number_at))]
 pub fn u8_at(bytes: &[u8]) -> Result<(u8, &[u8]), Fault>

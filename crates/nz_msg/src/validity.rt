@@ -6,15 +6,17 @@ ghost use Rattle.nz_msg.specs.Fields.{view, deadline, id, command, digest, vecto
 ghost use Rattle.nz_msg.specs.Messages.{request, timed, fast_reply, slow_reply, client_answer, log_mod, fetch, fetch_reply, sync_report};
 ghost use Rattle.nz_msg.specs.Messages.{view_change, start_view, vector_tell, vector_ask, rejoin_tell, state_ask, state_tell};
 
-use super::bodies::{MAX_ENTRIES, MAX_FETCHED};
-use super::lists::{MAX_KEYS, is_cluster_size, may_follow, may_follow_entries};
+use super::bodies::MAX_FETCHED;
+use super::lists::{is_cluster_size, may_follow, may_follow_entries};
 use super::message::{
     AnswerBody, FastReplyBody, FetchBody, FetchReplyBody, LogModBody, Message, RejoinTellBody,
     RequestBody, SlowReplyBody, StartViewBody, StateAskBody, StateTellBody, SyncReportBody,
     TimedBody, ViewChangeBody,
 };
-use super::reading::{MAX_COMMAND, MAX_DEADLINE, MAX_VALUE, MAX_VIEW};
-use nz_base::{Blob, Entry, EntryList, Id, IdList, Key, KeyList};
+use nz_base::{
+    Blob, Entry, EntryList, Id, IdList, Key, KeyList, MAX_COMMAND, MAX_DEADLINE, MAX_ENTRIES,
+    MAX_KEYS, MAX_VALUE, MAX_VIEW,
+};
 use nz_cv::CrashVector;
 use nz_digest::Digest;
 use nz_store::Answer;

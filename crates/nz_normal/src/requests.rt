@@ -13,14 +13,11 @@ ghost use Rattle.nz_machine.specs.Requests.{replies_at, after_restamp, after_pla
 ghost use Rattle.nz_machine.specs.Does.{Does};
 ghost use Rattle.nz_machine.specs.Step.{parcel, replica_message};
 
-use nz_base::{Actor, Entry, Id, Key, NoMemory, TryCopy};
+use nz_base::{Actor, Entry, Id, Key, MAX_DEADLINE, NoMemory, TryCopy};
 use nz_log::HashedLog;
 use nz_machine::{ReplicaState, Sends};
 use nz_msg::TimedBody;
 use std::alloc::Global;
-
-/// Deadlines are below this, in clock units.
-const DEADLINES: u64 = 1 << 63;
 
 fn key_with_deadline(deadline: u64, id: Id) -> Key
     ensures { result ≡ replicas.key_with_deadline deadline id }
@@ -48,7 +45,7 @@ fn next_deadline(log: &HashedLog) -> Option<u64>
     match log.last() {
         None => Some(1),
         Some(last) => {
-            if last.key.deadline < DEADLINES - 1 {
+            if last.key.deadline < MAX_DEADLINE {
                 Some(last.key.deadline + 1)
             } else {
                 None

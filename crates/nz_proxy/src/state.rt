@@ -22,7 +22,7 @@ ghost use Rattle.nz_proxy.specs.Seats.{IsSameProxy};
 
 use crate::standing::Standing;
 use indexmap::IndexMap;
-use nz_base::{Actor, Blob, Cluster, Id, NoMemory};
+use nz_base::{Actor, Blob, Cluster, Id, MAX_CLOCK, NoMemory};
 use nz_machine::{Reply, Sends, copy_answer, send};
 use nz_msg::{AnswerBody, Message, Path, RequestBody, TimedBody};
 use nz_quorum::Tally;
@@ -30,9 +30,6 @@ use nz_store::Answer;
 use nz_window::Window;
 use std::alloc::Global;
 use std::marker::Model;
-
-/// Clocks stop here.
-const LAST_CLOCK: u64 = (1 << 62) - 1;
 
 /// Added to the bound on the delay, in clock units.
 const MARGIN: u64 = 500;
@@ -302,5 +299,5 @@ pub fn reply_rule(
 pub fn clock_rule(state: &mut ProxyState, clock: u64)
     ensures { state.new ≡ record state.old { state = proxies.clock_rule state.old.state clock } }
 {
-    state.clock = clock.min(LAST_CLOCK);
+    state.clock = clock.min(MAX_CLOCK);
 }

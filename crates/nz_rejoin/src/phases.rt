@@ -3,10 +3,10 @@
 ghost use Rattle.std.specs.Prelude.{◌≡◌, ◌≢◌, ◌<◌, ◌≤◌, ◌==◌, ◌&&◌, nat_le, length, IsTrue, IsFalse, OnOk};
 ghost use Rattle.nz_base.specs.Cluster.{replica_count, leader_of};
 ghost use Rattle.nz_base.specs.declared.actor.Actor.TheVariants as actors;
+ghost use Rattle.nz_base.specs.declared.limits.TheConstants.{MAX_VIEW};
 ghost use Rattle.nz_msg.specs.Messages.{vector_tell, rejoin_tell, state_tell};
 ghost use Rattle.nz_msg.specs.declared.message.Message.TheVariants.{VectorTell, RejoinTell, StateTell};
 ghost use Rattle.nz_machine.specs.declared.data.Phase.TheVariants as phases;
-ghost use Rattle.nz_machine.specs.Replicas.{last_view};
 ghost use Rattle.nz_machine.specs.Adopting.{normal_in};
 ghost use Rattle.nz_machine.specs.Rejoining as rejoining;
 ghost use Rattle.nz_machine.specs.Rejoining.{awaits};
@@ -86,7 +86,7 @@ pub fn on_vector_tell(
 
 /// The third phase: the leader of the view is asked for its log.
 fn ask_log(state: &mut ReplicaState, view: u64, sends: &mut Sends) -> Result<(), NoMemory>
-    requires { view ≤ last_view }
+    requires { view ≤ MAX_VIEW }
     ensures { let s = state.old in OnOk result (Does s state.new sends.old sends.new (rejoining.ask_log s.f s.state view)) }
 {
     // f is at most 4, so the number is at most 8.

@@ -11,12 +11,13 @@ use Rattle.nz_base.specs.declared.actor.Actor.TheVariants as actors
 use Rattle.nz_base.specs.declared.scenario.Fault.{Fault}
 use Rattle.nz_base.specs.declared.scenario.Fault.TheVariants as faults
 use Rattle.nz_base.specs.declared.scenario.Scenario.{Scenario}
+use Rattle.nz_base.specs.declared.limits.TheConstants.{MAX_CLOCK}
 use Rattle.nz_machine.specs.declared.event.Event.{Event}
 use Rattle.nz_machine.specs.declared.event.Event.TheVariants.{Deliver, Cut, Tick, Alarm, Crash, Restart}
 use Rattle.nz_machine.specs.declared.event.Parcel.{Parcel}
 use Rattle.nz_machine.specs.declared.event.Record.{Record}
 use Rattle.nz_machine.specs.declared.journal.Item.{Item}
-use Rattle.nz_machine.specs.Replicas.{last_clock, numbers_below}
+use Rattle.nz_machine.specs.Replicas.{numbers_below}
 use Rattle.nz_machine.specs.World.{sent_in, Has, IsMember}
 use Rattle.nz_machine.specs.Schedule.{group_of, item, if_in, calls, actors_of, tick_item, Delivery, delivery_item, deliveries}
 use Rattle.nz_machine.specs.Schedule.{Posted, posted_in, posted_by_run, arrivals, due, NamesMember, IsPlayable}
@@ -44,7 +45,7 @@ IsCalled tick before lines (Restart nonce) = (before < nonce) × (restart_tick b
 abbrev pub IsFine : Scenario → ℕ → List Record → Actor → Event → Type 0
 IsFine s tick J a (Deliver p) = (p.to ≡ a) × Has (sent_in J) p
 IsFine s tick J a (Cut p kept) = (p.to ≡ a) × Has (sent_in J) p
-IsFine s tick J a (Tick clock) = IsMember (group_of s) a × (clock ≤ last_clock)
+IsFine s tick J a (Tick clock) = IsMember (group_of s) a × (clock ≤ MAX_CLOCK)
 IsFine s tick J a Alarm = IsMember (group_of s) a
 IsFine s tick J a Crash = IsMember (group_of s) a
 IsFine s tick J a (Restart nonce) = IsMember (group_of s) a × (restart_tick 0 s.faults nonce ≡ Some tick)

@@ -5,23 +5,20 @@ ghost use Rattle.nz_base.specs.Cluster.{replica_count};
 ghost use Rattle.nz_base.specs.Log.{keys_of};
 ghost use Rattle.nz_base.specs.declared.actor.Actor.TheVariants as actors;
 ghost use Rattle.nz_msg.specs.Fields as fields;
-ghost use Rattle.nz_machine.specs.LogMods.{most_keys, log_mod_to, log_mods_to_others};
+ghost use Rattle.nz_machine.specs.LogMods.{log_mod_to, log_mods_to_others};
 ghost use Rattle.nz_machine.specs.Step.{parcel};
 
-use nz_base::{Actor, KeyList, NoMemory};
+use nz_base::{Actor, KeyList, MAX_KEYS, NoMemory};
 use nz_machine::{ReplicaState, Sends, send};
 use nz_msg::{LogModBody, Message};
 
-/// A log modification has at most this many keys.
-const MOST_KEYS: u32 = 64;
-
 /// The first keys of the log from a place on.
 fn keys_from(state: &ReplicaState, start: u32) -> Result<KeyList, NoMemory>
-    ensures value { IfOk result (λ keys. keys ≡ take most_keys (drop start (keys_of state.now.state.log.entries))) }
+    ensures value { IfOk result (λ keys. keys ≡ take MAX_KEYS (drop start (keys_of state.now.state.log.entries))) }
     ensures fits { IfOk result fields.keys.fits }
 {
     state.has_facts();
-    let end = state.log().len().min(start.saturating_add(MOST_KEYS));
+    let end = state.log().len().min(start.saturating_add(u32::from(MAX_KEYS)));
     let mut keys = KeyList::new(state.allocator());
     for place in start..end {
         keys.push(state.log().get(place).key)?;

@@ -10,16 +10,17 @@ mod recent;
 use recent::Recent;
 use std::marker::Model;
 
-/// The most replicas that a cluster has.
-const MOST_REPLICAS: usize = 9;
+/// The most replicas of a cluster. This crate has nothing below it: the same number is `nz_base::MAX_REPLICAS`.
+const MAX_REPLICAS: usize = 9;
 
-/// What a sample counts as at most, and the bound while a replica has no sample, in clock units.
-const MOST_DELAY: u32 = 10_000;
+/// What a sample counts as at most, and the bound while a replica has no sample, in clock units:
+/// the same number as `nz_base::MAX_DELAY`.
+const MAX_DELAY: u32 = 10_000;
 
 /// The last 32 delays that a proxy measured to each replica, in clock units (Geng et al., PVLDB 16(4)).
 #[derive(Drop)]
 pub struct Window {
-    replicas: [Recent; MOST_REPLICAS],
+    replicas: [Recent; MAX_REPLICAS],
     size: u8,
 }
 
@@ -42,7 +43,7 @@ impl Window {
         ensures { result ≡ replicate size [] }
     {
         Window {
-            replicas: [Recent::new(); MOST_REPLICAS],
+            replicas: [Recent::new(); MAX_REPLICAS],
             size,
         }
     }
@@ -52,7 +53,7 @@ impl Window {
         requires { replica < length self.old }
         ensures { self.new ≡ with_sample self.old replica delay }
     {
-        self.replicas[replica as usize].push(delay.min(MOST_DELAY));
+        self.replicas[replica as usize].push(delay.min(MAX_DELAY));
     }
 
     /// The delay, in clock units, within which a message is taken to reach every replica.
@@ -64,7 +65,7 @@ impl Window {
         for recent in &self.replicas[..self.size as usize] {
             match recent.median() {
                 Some(median) => bound = bound.max(median),
-                None => return MOST_DELAY,
+                None => return MAX_DELAY,
             }
         }
         bound

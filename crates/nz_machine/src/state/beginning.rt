@@ -5,7 +5,6 @@ ghost use Rattle.nz_base.specs.Cluster.{replica_count};
 ghost use Rattle.nz_merge.specs.Merged.{AreFit, merged};
 ghost use Rattle.nz_msg.specs.Messages.{view_change};
 ghost use Rattle.nz_machine.specs.Facts.{IsCarried};
-ghost use Rattle.nz_machine.specs.Replicas.{most_entries};
 ghost use Rattle.nz_machine.specs.Begins as begins;
 ghost use Rattle.nz_machine.specs.Begins.{with_report, without_strays, changes_of, after_begin};
 
@@ -15,8 +14,7 @@ use super::super::collecting::{
 };
 use super::super::data::{Reported, Status};
 use super::{ReplicaState, forget};
-use nz_base::{EntryList, NoMemory, TryCopy};
-use nz_log::MAX_ENTRIES;
+use nz_base::{EntryList, MAX_ENTRIES, NoMemory, TryCopy};
 use nz_merge::{Change, ViewChanges, merge};
 use nz_msg::ViewChangeBody;
 
@@ -101,7 +99,7 @@ impl ReplicaState {
     /// The leader begins its view with the merged log. Whether a log has room for it.
     pub fn begin(&mut self) -> Result<bool, NoMemory>
         ensures state { OnOk result (self.new ≡ record self.old { state = (begins.begin self.old.f self.old.me self.old.state).0 }) }
-        ensures begun { IfOk result (λ begun. begun ≡ not (nat_lt most_entries (length (merged self.old.f (changes_of self.old.me self.old.state))))) }
+        ensures begun { IfOk result (λ begun. begun ≡ not (nat_lt MAX_ENTRIES (length (merged self.old.f (changes_of self.old.me self.old.state))))) }
     {
         let changes = self.changes()?;
         let log = merge(self.parts.alloc, self.parts.cluster, &changes)?;

@@ -3,9 +3,10 @@
 ghost use Rattle.std.specs.Prelude.{◌≡◌, ◌<◌, ◌≤◌, ◌+◌, ◌==◌, [], not, length, IsTrue, IfOk, OnOk};
 ghost use Rattle.std.specs.Bool.{OnTrue, OnFalse};
 ghost use Rattle.nz_base.specs.Cluster.{replica_count};
+ghost use Rattle.nz_base.specs.declared.limits.TheConstants.{MAX_VIEW};
 ghost use Rattle.nz_msg.specs.Messages.{rejoin_tell};
 ghost use Rattle.nz_machine.specs.Parts.{since_counted};
-ghost use Rattle.nz_machine.specs.Replicas.{last_view, crashed_replica, is_rejoining};
+ghost use Rattle.nz_machine.specs.Replicas.{crashed_replica, is_rejoining};
 ghost use Rattle.nz_machine.specs.Rejoining as rejoining;
 ghost use Rattle.nz_machine.specs.Rejoining.{rejoin_period, last_counter, restarted_replica, with_teller};
 ghost use Rattle.nz_machine.specs.Rejoining.{with_new_counter, with_tell, with_tells, ask_views, ask_log};
@@ -131,7 +132,7 @@ impl ReplicaState {
     /// The latest view that was told.
     pub fn latest_view(&self) -> u64
         ensures value { result ≡ rejoining.latest_view self.now.state }
-        ensures last { result ≤ last_view }
+        ensures last { result ≤ MAX_VIEW }
     {
         latest(self.parts.rejoin.tells.as_slice())
     }
@@ -145,7 +146,7 @@ impl ReplicaState {
 
     /// The third phase starts, in which the log of this view is wanted.
     pub fn start_log(&mut self, view: u64)
-        requires { view ≤ last_view }
+        requires { view ≤ MAX_VIEW }
         ensures { self.new ≡ record self.old { state = (ask_log self.old.f self.old.state view).0 } }
     {
         self.parts.since = 0;

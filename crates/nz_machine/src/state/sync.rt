@@ -14,9 +14,8 @@ use super::super::commit_quorum::reported;
 use super::super::parts::vector_fits;
 use super::super::sync_keys::sync_parts;
 use super::{ReplicaState, forget};
-use nz_base::{Id, IdList, Key, NoMemory};
+use nz_base::{Id, IdList, Key, MAX_ENTRIES, NoMemory};
 use nz_cv::CrashVector;
-use nz_log::MAX_ENTRIES;
 
 impl ReplicaState {
     /// Takes in what a message's crash vector knows.

@@ -5,7 +5,7 @@ ghost use Rattle.nz_base.specs.Cluster.{leader_of};
 ghost use Rattle.nz_machine.specs.Facts.{IsCarried};
 ghost use Rattle.nz_machine.specs.Does.{Does};
 ghost use Rattle.nz_machine.specs.Parts.{since_counted};
-ghost use Rattle.nz_machine.specs.Replicas.{last_view, is_changing};
+ghost use Rattle.nz_machine.specs.Replicas.{is_changing};
 ghost use Rattle.nz_machine.specs.LogMods.{after_hearing};
 ghost use Rattle.nz_machine.specs.Views as views;
 ghost use Rattle.nz_machine.specs.Views.{most_quiet, in_view_change};
@@ -15,19 +15,17 @@ use super::super::collecting::adopt;
 use super::super::data::Status;
 use super::super::event::Sends;
 use super::{ReplicaState, forget};
-use nz_base::{EntryList, NoMemory};
+use nz_base::{EntryList, MAX_VIEW, NoMemory};
 
 /// After this many ticks without its leader, or in one view change, a replica enters the next view.
 pub const MOST_QUIET: u8 = 20;
-/// Views stop here.
-const LAST_VIEW: u64 = (1 << 62) - 1;
 
 impl ReplicaState {
     /// Whether there is a view after this one.
     pub fn has_next_view(&self) -> bool
-        ensures { result ≡ nat_lt self.now.state.view last_view }
+        ensures { result ≡ nat_lt self.now.state.view MAX_VIEW }
     {
-        self.parts.view < LAST_VIEW
+        self.parts.view < MAX_VIEW
     }
 
     /// The follower has heard from its leader.
@@ -60,7 +58,7 @@ impl ReplicaState {
     /// The view change of a later view begins.
     fn enter(&mut self, view: u64)
         requires later { self.old.state.view ≤ view }
-        requires last { view ≤ last_view }
+        requires last { view ≤ MAX_VIEW }
         ensures { self.new ≡ record self.old { state = in_view_change self.old.state view } }
     {
         self.parts.status = Status::ViewChange;
@@ -74,7 +72,7 @@ impl ReplicaState {
     #[tactic(auto, unfolding(crate::specs::Views::enter_view))]
     pub fn enter_view(&mut self, view: u64, sends: &mut Sends) -> Result<(), NoMemory>
         requires later { self.old.state.view ≤ view }
-        requires last { view ≤ last_view }
+        requires last { view ≤ MAX_VIEW }
         ensures { let s = self.old in OnOk result (Does s self.new sends.old sends.new (views.enter_view s.f s.me view s.state)) }
     {
         self.enter(view);
@@ -83,7 +81,7 @@ impl ReplicaState {
 
     /// In normal operation in a view that another leads, with this log, of which this many entries are committed.
     pub fn start(&mut self, view: u64, log: EntryList, commit: u32) -> Result<(), NoMemory>
-        requires view { view ≤ last_view }
+        requires view { view ≤ MAX_VIEW }
         requires follows { IsFalse (leader_of self.old.f view == self.old.me) }
         requires log { IsCarried log }
         requires commit { commit ≤ length log }
