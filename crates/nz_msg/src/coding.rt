@@ -20,6 +20,9 @@ use nz_base::{Actor, NoMemory};
 use nz_frame::Frame;
 use std::alloc::Global;
 
+// Bytes that the body of almost every message needs no more than; the lists of a view change are longer.
+const ROOM: usize = 128;
+
 /// The one frame of the message from one actor to another.
 #[tactic(auto, unfolding(crate::specs::Envelope::encode_of))]
 pub fn encode(alloc: Global, from: Actor, to: Actor, message: &Message) -> Result<Bytes, NoMemory>
@@ -28,7 +31,7 @@ pub fn encode(alloc: Global, from: Actor, to: Actor, message: &Message) -> Resul
     requires to { HasAddress to }
     ensures { IfOk result (λ bytes. bytes ≡ encode_of from to message.now) }
 {
-    let mut body = Vec::new(alloc);
+    let mut body = Vec::with_capacity(alloc, ROOM)?;
     put_body(&mut body, message)?;
     match Frame::write(alloc, kind(message), from.address(), to.address(), &body) {
         Ok(bytes) => Ok(bytes),
