@@ -35,7 +35,6 @@ use nz_msg::TimedBody;
 use nz_store::{Answer, Store};
 use std::alloc::Global;
 use std::marker::Model;
-pub use viewing::MOST_QUIET;
 
 /// The parts of a replica's state.
 #[derive(Drop)]
