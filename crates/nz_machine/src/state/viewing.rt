@@ -17,7 +17,6 @@ use super::super::event::Sends;
 use super::{ReplicaState, forget};
 use nz_base::{EntryList, MAX_QUIET, MAX_VIEW, NoMemory};
 
-
 impl ReplicaState {
     /// Whether there is a view after this one.
     pub fn has_next_view(&self) -> bool
