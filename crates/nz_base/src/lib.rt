@@ -18,8 +18,9 @@ pub use cluster::Cluster;
 pub use key::{Entry, EntryList, Id, IdList, Key, KeyList};
 pub use laws::{actors_are_in_line, addresses_are_exact, keys_are_in_line};
 pub use limits::{
-    MAX_CLOCK, MAX_COMMAND, MAX_DEADLINE, MAX_DELAY, MAX_ENTRIES, MAX_KEYS, MAX_REPLICAS, MAX_VALUE,
-    MAX_VIEW,
+    ASK_PERIOD, MARGIN, MAX_CHANCES, MAX_CLIENTS, MAX_CLOCK, MAX_COMMAND, MAX_DEADLINE, MAX_DELAY,
+    MAX_ENTRIES, MAX_F, MAX_FAULTS, MAX_KEYS, MAX_PROXIES, MAX_QUIET, MAX_REPLICAS, MAX_REQUESTS,
+    MAX_TEXT, MAX_TICKS, MAX_TURNS, MAX_VALUE, MAX_VIEW, MAX_WINDOW, PATIENCE, REJOIN_PERIOD,
 };
 pub use list::List;
 pub use memory::{NoMemory, TryCopy};

@@ -26,3 +26,48 @@ pub const MAX_VALUE: u16 = 256;
 
 /// The most replicas of a cluster.
 pub const MAX_REPLICAS: usize = 9;
+
+/// Added to the bound on the delay when a proxy stamps a request, in clock units.
+pub const MARGIN: u64 = 500;
+
+/// After this many ticks without its leader, or in one view change, a replica enters the next view.
+pub const MAX_QUIET: u8 = 20;
+
+/// A replica in a view change asks the others for their views again after this many ticks.
+pub const ASK_PERIOD: u8 = 5;
+
+/// A replica that rejoins asks again after this many ticks.
+pub const REJOIN_PERIOD: u8 = 5;
+
+/// A client sends a request again after this many ticks without an answer.
+pub const PATIENCE: u32 = 30;
+
+/// The greatest f of a cluster of 2f + 1 replicas.
+pub const MAX_F: u32 = 4;
+
+/// The most proxies of a scenario.
+pub const MAX_PROXIES: u32 = 8;
+
+/// The most clients of a scenario.
+pub const MAX_CLIENTS: u32 = 64;
+
+/// The most requests that a client has open at once.
+pub const MAX_WINDOW: u32 = 16;
+
+/// The last tick of a scenario, and the most ticks that a request waits.
+pub const MAX_TICKS: u32 = 20_000;
+
+/// The most requests of a scenario.
+pub const MAX_REQUESTS: u64 = 2_000;
+
+/// The most requests times ticks of a scenario.
+pub const MAX_TURNS: u64 = 2_000_000;
+
+/// The most fault lines of a scenario.
+pub const MAX_FAULTS: u64 = 1_000;
+
+/// The most requests times fault lines of a scenario.
+pub const MAX_CHANCES: u64 = 200_000;
+
+/// The longest text of a scenario, in bytes.
+pub const MAX_TEXT: usize = 1_048_576;

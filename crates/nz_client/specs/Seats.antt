@@ -2,10 +2,10 @@
 use Rattle.std.specs.Prelude.{ℕ, Bool, ◌≡◌, ◌<◌, ◌≤◌, ◌+◌, ◌^◌, List, [], ◌∷◌, length, Option, Some, None}
 use Rattle.std.specs.List.{AllByRecursion}
 use Rattle.nz_base.specs.declared.scenario.Request.{Request}
+use Rattle.nz_base.specs.declared.limits.TheConstants.{PATIENCE}
 use Rattle.nz_msg.specs.Fields.{command}
 use Rattle.nz_machine.specs.declared.data.Attempt.{Attempt}
 use Rattle.nz_machine.specs.State.{ClientData, Group}
-use Rattle.nz_machine.specs.Clients.{patience}
 use Rattle.nz_machine.specs.Step.{script_of}
 
 -- The client's number, how many proxies there are, how many requests it may have open, its requests, and its state.
@@ -19,7 +19,7 @@ pub record ClientSeat : Type 0 where
 -- An open request was sent to one of the proxies, and waits not too long.
 pub record IsOfProxies (proxies : ℕ) (a : Attempt) : Type 0 where
   pub proxy : a.proxy < proxies
-  pub since : a.since < patience
+  pub since : a.since < PATIENCE
 
 -- A request that a frame can carry.
 pub record IsSendable (request : Request) : Type 0 where

@@ -6,20 +6,17 @@ ghost use Rattle.std.specs.Option.{option_copied};
 ghost use Rattle.nz_base.specs.Actor.{HasAddress};
 ghost use Rattle.nz_base.specs.declared.actor.Actor.TheVariants as actors;
 ghost use Rattle.nz_machine.specs.Clients as clients;
-ghost use Rattle.nz_machine.specs.Clients.{first_client, patience, if_due, after_opening, retries};
+ghost use Rattle.nz_machine.specs.Clients.{first_client, if_due, after_opening, retries};
 ghost use Rattle.nz_machine.specs.Clients.{after_wait, request_again, without_attempt, after_acceptance};
 ghost use Rattle.nz_machine.specs.Step.{parcel};
 ghost use Rattle.nz_client.specs.Seats as seats;
 ghost use Rattle.nz_client.specs.Seats.{IsSendable, AreSendable, IsOfProxies, IsSameClient};
 
-use nz_base::{Actor, NoMemory, Request, RequestList, TryCopy};
+use nz_base::{Actor, NoMemory, PATIENCE, Request, RequestList, TryCopy};
 use nz_machine::{Attempt, Sends, send};
 use nz_msg::{AnswerBody, Message, RequestBody};
 use std::alloc::Global;
 use std::marker::Model;
-
-/// An open request is sent again when this many ticks have passed.
-const PATIENCE: u32 = 30;
 
 /// The state of a client.
 #[derive(Drop)]
@@ -254,7 +251,7 @@ fn next_proxy(proxies: u8, proxy: u8) -> u8
 
 /// Whether the open request has waited long enough at the next tick.
 fn is_overdue(attempt: Attempt) -> bool
-    requires { attempt.since < patience }
+    requires { attempt.since < PATIENCE }
     ensures { result ≡ clients.is_overdue attempt }
 {
     attempt.since + 1 == PATIENCE

@@ -8,7 +8,7 @@ use Rattle.nz_base.specs.declared.actor.Actor.{Actor}
 use Rattle.nz_base.specs.declared.actor.Actor.TheVariants.{Replica, Proxy}
 use Rattle.nz_base.specs.declared.key.Entry.{Entry}
 use Rattle.nz_base.proofs.Booleans.{and_left, and_right}
-use Rattle.nz_base.specs.declared.limits.TheConstants.{MAX_ENTRIES}
+use Rattle.nz_base.specs.declared.limits.TheConstants.{MAX_ENTRIES, MAX_QUIET}
 use Rattle.nz_cv.specs.Vectors.{is_stray, merged_vector}
 use Rattle.nz_merge.specs.Merged.{merged, greatest}
 use Rattle.nz_merge.specs.declared.change.Change.{Change}
@@ -44,7 +44,7 @@ use Rattle.nz_machine.specs.Releases.{release_rule}
 use Rattle.nz_machine.specs.LogMods.{after_hearing, hears_later_leader, sync_keys, after_log_mod, log_mod_rule, fetch_rule}
 use Rattle.nz_machine.specs.LogMods.{with_late_entries, with_late_entry, fetch_reply_rule, sync_report_rule}
 use Rattle.nz_machine.specs.Vectors.{with_vector, unless_stray}
-use Rattle.nz_machine.specs.Views.{enter_view, alarm_rule, view_ask_rule, quiet_timer, change_timer, most_quiet}
+use Rattle.nz_machine.specs.Views.{enter_view, alarm_rule, view_ask_rule, quiet_timer, change_timer}
 use Rattle.nz_machine.specs.Adopting.{normal_in, after_start, start_view_rule}
 use Rattle.nz_machine.specs.Begins.{changes_of, after_begin, with_report, without_strays, collect, begin, view_change_rule}
 use Rattle.nz_machine.specs.Rejoining.{crash_rule, restart_rule, restarted_replica, with_teller, ask_views, with_new_counter, with_tells}
@@ -348,7 +348,7 @@ module _ (f me : ℕ) (e : Event) where
       → Turn f me e heard s (seat_of (quiet_timer f me t).0)
   unfolding enter_view
   quiet_turn heard s t is normal follows log =
-      let quiet = min (t.quiet + 1) most_quiet in
+      let quiet = min (t.quiet + 1) MAX_QUIET in
       let released : Turn f me e heard s (holding s t.log) = Release t.log normal (subst (λ (led : Bool). Appends led s.log t.log) (sym follows) log) in
       let stay : Turn f me e heard s (seat_of (record t { quiet = quiet })) = subst (λ (u : Seat). Turn f me e heard s u) (sym is) released in
       let enter : Turn f me e heard s (seat_of (enter_view f me (t.view + 1) (record t { quiet = quiet })).0) =

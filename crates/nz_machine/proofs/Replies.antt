@@ -13,6 +13,7 @@ use Rattle.nz_base.specs.Log.{keys_of, HaveOwnIds}
 use Rattle.nz_base.proofs.Booleans.{and_left, and_right}
 use Rattle.nz_base.proofs.Logs.{own_in_prefix, keys_append}
 use Rattle.nz_base.proofs.Prefixes.{prefix_self, prefix_more, prefix_then}
+use Rattle.nz_base.specs.declared.limits.TheConstants.{MAX_QUIET}
 use Rattle.nz_store.specs.declared.command.Answer.{Answer}
 use Rattle.nz_log.specs.Places.{place_of}
 use Rattle.nz_log.specs.Synced.{Log}
@@ -25,7 +26,7 @@ use Rattle.nz_machine.specs.Replicas.{is_normal, is_changing, is_up, is_rejoinin
 use Rattle.nz_machine.specs.Requests.{with_origin, replies_at, after_timed, after_new_request, request_rule}
 use Rattle.nz_machine.specs.Releases.{log_with_entry, results_with_entry, after_release, release_replies, may_release, releases, at_clock, release_rule}
 use Rattle.nz_machine.specs.LogMods.{log_mods_to_others}
-use Rattle.nz_machine.specs.Views.{enter_view, most_quiet}
+use Rattle.nz_machine.specs.Views.{enter_view}
 use Rattle.nz_machine.specs.Step.{mode_timer, tick_rule}
 use Rattle.nz_machine.specs.Hearing.{Heard}
 use Rattle.nz_machine.specs.Shows.{ReplicaShows}
@@ -253,7 +254,7 @@ unfolding enter_view
 timer_later f me before t Normal is normal view last =
     let stay : Later f me before t t = kept t refl refl refl refl last (normal_up t.status normal) (λ _. (normal, view)) in
     let away : leads f me t ≡ false → leads f me before ≡ true → ⊥ = λ no yes. false_true (sym no ∙ ap (λ v. eqb (leader_of f v) me) view ∙ yes) in
-    let quiet = record t { quiet = min (t.quiet + 1) most_quiet } in
+    let quiet = record t { quiet = min (t.quiet + 1) MAX_QUIET } in
     let wait : leads f me t ≡ false → Later f me before t quiet = λ no. kept quiet refl refl refl refl last (normal_up t.status normal)
     (λ yes. absurd (away no yes)) in
     let entered = (enter_view f me (t.view + 1) quiet).0 in

@@ -4,7 +4,7 @@ use Rattle.std.specs.Prelude.{◌==◌, nat_lt, if◌then◌else◌}
 use Rattle.nz_base.specs.Cluster.{replica_count, leader_of}
 use Rattle.nz_base.specs.declared.key.Entry.{Entry}
 use Rattle.nz_base.proofs.Booleans.{clash}
-use Rattle.nz_base.specs.declared.limits.TheConstants.{MAX_ENTRIES, MAX_VIEW}
+use Rattle.nz_base.specs.declared.limits.TheConstants.{MAX_ENTRIES, MAX_VIEW, MAX_QUIET, REJOIN_PERIOD}
 use Rattle.nz_store.specs.Entries.{Entries}
 use Rattle.nz_store.specs.Sequence.{store_after, replies}
 use Rattle.nz_store.specs.declared.command.Answer.{Answer}
@@ -17,11 +17,10 @@ use Rattle.nz_machine.specs.declared.data.Reported.{Reported}
 use Rattle.nz_machine.specs.State.{ReplicaData}
 use Rattle.nz_machine.specs.Facts.{IsCarried, FitsReport, HasFacts, IsKeptReplica}
 use Rattle.nz_machine.specs.Replicas.{commands, is_normal, is_changing, is_rejoining}
-use Rattle.nz_machine.specs.Views.{most_quiet}
 use Rattle.nz_machine.specs.Taking.{with_parts}
 use Rattle.nz_machine.specs.Adopting.{with_log, normal_in}
 use Rattle.nz_machine.specs.Begins.{report_of, with_report, without_strays, changes_of, after_begin, begin}
-use Rattle.nz_machine.specs.Rejoining.{rejoin_period, restarted_replica}
+use Rattle.nz_machine.specs.Rejoining.{restarted_replica}
 use Rattle.nz_machine.proofs.RulesKeepFacts.{restarted_has_facts}
 use Rattle.nz_machine.proofs.WordsKeepFacts.{quiet_keeps, since_keeps, counted_low, enter_keeps, start_keeps, begin_keeps, collect_keeps, strays_keep}
 
@@ -37,38 +36,38 @@ kept_facts f me s t store k facts status view log = record {
 
 -- ---- counts
 
-pub kept_quiet : (f me : ℕ) (s : ReplicaData) (store : Entries) (n : ℕ) → IsKeptReplica f me s store → n ≤ most_quiet
+pub kept_quiet : (f me : ℕ) (s : ReplicaData) (store : Entries) (n : ℕ) → IsKeptReplica f me s store → n ≤ MAX_QUIET
     → IsKeptReplica f me (record s { quiet = n }) store
 kept_quiet f me s store n k low = kept_facts f me s (record s { quiet = n }) store k (quiet_keeps f me s n k.facts low) refl refl refl
 
 -- one in a view change does not rejoin
-not_rejoining : (m : Status) (n : ℕ) → is_changing m ≡ true → is_rejoining m ≡ true → n < rejoin_period
+not_rejoining : (m : Status) (n : ℕ) → is_changing m ≡ true → is_rejoining m ≡ true → n < REJOIN_PERIOD
 not_rejoining Normal n a b = absurd cc
 not_rejoining ViewChange n a b = absurd cc
 not_rejoining Rejoining n a b = absurd cc
 not_rejoining Down n a b = absurd cc
 
-pub kept_since : (f me : ℕ) (s : ReplicaData) (store : Entries) (n : ℕ) → IsKeptReplica f me s store → n < most_quiet
-    → (IsTrue (is_rejoining s.status) → n < rejoin_period)
+pub kept_since : (f me : ℕ) (s : ReplicaData) (store : Entries) (n : ℕ) → IsKeptReplica f me s store → n < MAX_QUIET
+    → (IsTrue (is_rejoining s.status) → n < REJOIN_PERIOD)
     → IsKeptReplica f me (record s { since = n }) store
 kept_since f me s store n k low rejoins = kept_facts f me s (record s { since = n }) store k (since_keeps f me s n k.facts low rejoins) refl refl refl
 
 pub kept_changing : (f me : ℕ) (s : ReplicaData) (store : Entries) (n : ℕ) → IsKeptReplica f me s store
-    → is_changing s.status ≡ true → n ≡ (if s.since + 1 == most_quiet then 0 else s.since + 1)
+    → is_changing s.status ≡ true → n ≡ (if s.since + 1 == MAX_QUIET then 0 else s.since + 1)
     → IsKeptReplica f me (record s { since = n }) store
 kept_changing f me s store n k changing is =
-    kept_since f me s store n k (subst (λ (m : ℕ). m < most_quiet) (sym is)
-    (counted_low most_quiet s.since k.facts.mode.since)) (not_rejoining s.status n changing)
+    kept_since f me s store n k (subst (λ (m : ℕ). m < MAX_QUIET) (sym is)
+    (counted_low MAX_QUIET s.since k.facts.mode.since)) (not_rejoining s.status n changing)
 
 -- a rejoin's period is shorter
-period_low : (n : ℕ) → n < rejoin_period → n < most_quiet
+period_low : (n : ℕ) → n < REJOIN_PERIOD → n < MAX_QUIET
 period_low n low = omega (arith, low)
 
 pub kept_rejoining : (f me : ℕ) (s : ReplicaData) (store : Entries) (n : ℕ) → IsKeptReplica f me s store
-    → is_rejoining s.status ≡ true → n ≡ (if s.since + 1 == rejoin_period then 0 else s.since + 1)
+    → is_rejoining s.status ≡ true → n ≡ (if s.since + 1 == REJOIN_PERIOD then 0 else s.since + 1)
     → IsKeptReplica f me (record s { since = n }) store
 kept_rejoining f me s store n k rejoins is =
-    let low : n < rejoin_period = subst (λ (m : ℕ). m < rejoin_period) (sym is) (counted_low rejoin_period s.since (k.facts.mode.rejoining rejoins)) in
+    let low : n < REJOIN_PERIOD = subst (λ (m : ℕ). m < REJOIN_PERIOD) (sym is) (counted_low REJOIN_PERIOD s.since (k.facts.mode.rejoining rejoins)) in
     kept_since f me s store n k (period_low n low) (λ _. low)
 
 -- ---- views

@@ -5,7 +5,7 @@ use Rattle.std.proofs.lemmas.Bool.Decides.{nat_tests}
 use Rattle.nz_base.specs.Cluster.{leader_of}
 use Rattle.nz_base.specs.declared.actor.Actor.TheVariants.{Replica}
 use Rattle.nz_base.specs.declared.key.Entry.{Entry}
-use Rattle.nz_base.specs.declared.limits.TheConstants.{MAX_ENTRIES}
+use Rattle.nz_base.specs.declared.limits.TheConstants.{MAX_ENTRIES, MAX_QUIET}
 use Rattle.nz_merge.specs.Merged.{merged, greatest}
 use Rattle.nz_merge.specs.declared.change.Change.{Change}
 use Rattle.nz_msg.specs.declared.message.ViewAskBody.{ViewAskBody}
@@ -17,7 +17,7 @@ use Rattle.nz_machine.specs.State.{ReplicaData, Out}
 use Rattle.nz_machine.specs.Replicas.{is_normal, is_changing, is_up, leads, leader, to_others, to_replica}
 use Rattle.nz_machine.specs.Vectors.{with_vector}
 use Rattle.nz_machine.specs.Views.{in_view_change, view_ask_message, view_change_message, to_leader, view_calls}
-use Rattle.nz_machine.specs.Views.{enter_view, alarm_rule, view_ask_rule, quiet_timer, change_timer, most_quiet}
+use Rattle.nz_machine.specs.Views.{enter_view, alarm_rule, view_ask_rule, quiet_timer, change_timer}
 use Rattle.nz_machine.specs.Adopting.{start_view_message, start_view_rule, after_start}
 use Rattle.nz_machine.specs.Begins.{changes_of, after_begin, with_report, without_strays, collect, begin, view_change_rule}
 use Rattle.nz_machine.specs.Hearing.{Heard}
@@ -173,7 +173,7 @@ view_change_shows f me heard s sender b other =
 
 pub quiet_shows : (f me : ℕ) (heard : Heard) (before s : ReplicaData) → Shown f me heard before (quiet_timer f me s)
 quiet_shows f me heard before s =
-    let quiet = record s { quiet = min (s.quiet + 1) most_quiet } in
+    let quiet = record s { quiet = min (s.quiet + 1) MAX_QUIET } in
     let stay = silent f me heard before quiet in
     let enter = enter_shows f me heard before (s.view + 1) quiet in
     grind (arith, stay, enter)

@@ -8,7 +8,7 @@ use Rattle.std.proofs.lemmas.List.{length-set, length-replicate}
 use Rattle.nz_base.specs.Cluster.{replica_count, leader_of}
 use Rattle.nz_base.specs.declared.key.Entry.{Entry}
 use Rattle.nz_base.proofs.Booleans.{clash}
-use Rattle.nz_base.specs.declared.limits.TheConstants.{MAX_ENTRIES, MAX_VIEW}
+use Rattle.nz_base.specs.declared.limits.TheConstants.{MAX_ENTRIES, MAX_VIEW, MAX_QUIET, REJOIN_PERIOD}
 use Rattle.nz_cv.specs.Vectors.{is_stray}
 use Rattle.nz_math.specs.Count.{AreDistinct}
 use Rattle.nz_merge.specs.Merged.{AreFit, greatest, merged}
@@ -26,11 +26,11 @@ use Rattle.nz_machine.specs.declared.data.ToldView.{ToldView}
 use Rattle.nz_machine.specs.State.{ReplicaData}
 use Rattle.nz_machine.specs.Facts.{FitsEntry, AreCounters, IsCarried, FitsReport, FitsTold, AreHeld, IsRejoin, HasFacts}
 use Rattle.nz_machine.specs.Replicas.{is_rejoining, commands}
-use Rattle.nz_machine.specs.Views.{most_quiet, in_view_change}
+use Rattle.nz_machine.specs.Views.{in_view_change}
 use Rattle.nz_machine.specs.LogMods.{after_hearing}
 use Rattle.nz_machine.specs.Adopting.{with_log, normal_in}
 use Rattle.nz_machine.specs.Begins.{report_of, with_report, without_strays, changes_of, after_begin}
-use Rattle.nz_machine.specs.Rejoining.{rejoin_period, last_counter, with_teller, with_new_counter, ask_views, with_tells, with_tell, latest_view, ask_log}
+use Rattle.nz_machine.specs.Rejoining.{last_counter, with_teller, with_new_counter, ask_views, with_tells, with_tell, latest_view, ask_log}
 use Rattle.nz_machine.proofs.Runs.{on_cond}
 use Rattle.nz_machine.proofs.EachItem.{all_append, all_of_prefix, all_filter, all_replicate}
 use Rattle.nz_machine.proofs.ListParts.{all_index}
@@ -42,7 +42,7 @@ use Rattle.nz_machine.proofs.Distinct.{distinct_more, distinct_filter, distinct_
 
 -- ---- the counts of ticks
 
-pub quiet_keeps : (f me : ℕ) (s : ReplicaData) (n : ℕ) → HasFacts f me s → n ≤ most_quiet → HasFacts f me (record s { quiet = n })
+pub quiet_keeps : (f me : ℕ) (s : ReplicaData) (n : ℕ) → HasFacts f me s → n ≤ MAX_QUIET → HasFacts f me (record s { quiet = n })
 quiet_keeps f me s n h low = record {
   bounds = h.bounds;
   mode = record { last = h.mode.last; normal = h.mode.normal; quiet = low; since = h.mode.since; rejoining = h.mode.rejoining };
@@ -57,7 +57,7 @@ quiet_keeps f me s n h low = record {
 pub hearing_keeps : (f me : ℕ) (s : ReplicaData) → HasFacts f me s → HasFacts f me (after_hearing s)
 hearing_keeps f me s h = quiet_keeps f me s 0 h (omega arith)
 
-pub since_keeps : (f me : ℕ) (s : ReplicaData) (n : ℕ) → HasFacts f me s → n < most_quiet → (IsTrue (is_rejoining s.status) → n < rejoin_period)
+pub since_keeps : (f me : ℕ) (s : ReplicaData) (n : ℕ) → HasFacts f me s → n < MAX_QUIET → (IsTrue (is_rejoining s.status) → n < REJOIN_PERIOD)
     → HasFacts f me (record s { since = n })
 since_keeps f me s n h low rejoins = record {
   bounds = h.bounds;

@@ -6,7 +6,7 @@ use Rattle.nz_base.specs.Cluster.{replica_count}
 use Rattle.nz_base.specs.Key.{id_eq}
 use Rattle.nz_base.specs.declared.actor.Actor.TheVariants.{Replica, Client}
 use Rattle.nz_base.specs.declared.key.Id.{Id}
-use Rattle.nz_base.specs.declared.limits.TheConstants.{MAX_CLOCK}
+use Rattle.nz_base.specs.declared.limits.TheConstants.{MAX_CLOCK, MARGIN}
 use Rattle.nz_store.specs.declared.command.Answer.{Answer}
 use Rattle.nz_window.specs.Samples.{with_sample, bound_of}
 use Rattle.nz_msg.specs.declared.message.Path.{Path}
@@ -20,10 +20,6 @@ use Rattle.nz_machine.specs.declared.reply.Reply.TheVariants.{Fast, Slow}
 use Rattle.nz_machine.specs.State.{ProxyData, Standing, Open, Decided, Out}
 use Rattle.nz_machine.specs.Replicas.{numbers_below}
 use Rattle.nz_machine.specs.Quorums.{Chosen, decision, answer_in, with_note}
-
--- Added to the bound on the delay, in clock units.
-abbrev pub margin : ℕ
-margin = 500
 
 -- What is known of the request is this.
 abbrev pub with_standing : ProxyData → Id → Standing → ProxyData
@@ -42,7 +38,7 @@ answer_to_client id answer path = (Client id.client, messages.Answer (record { n
 -- A request is stamped with the clock, the bound on the delay and the margin.
 abbrev pub timed_to : ProxyData → Id → List ℕ → ℕ → Out
 timed_to s id command replica =
-    (Replica replica, Timed (record { sent = s.clock; deadline = s.clock + bound_of s.samples + margin; id = id; command = command }))
+    (Replica replica, Timed (record { sent = s.clock; deadline = s.clock + bound_of s.samples + MARGIN; id = id; command = command }))
 
 -- The stamped request, to each replica.
 abbrev pub timed_to_all : ℕ → ProxyData → Id → List ℕ → List Out

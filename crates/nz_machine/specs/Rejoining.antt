@@ -4,6 +4,7 @@ use Rattle.std.specs.Prelude.{ℕ, ◌+◌, ◌-◌, ◌^◌, Bool, true, false,
 use Rattle.std.specs.Prelude.{◌∷◌, ◌++◌, length, map, filter, if◌then◌else◌, slice_index, slice_set}
 use Rattle.std.specs.List.{list_any}
 use Rattle.nz_base.specs.Cluster.{leader_of, slow_size}
+use Rattle.nz_base.specs.declared.limits.TheConstants.{REJOIN_PERIOD}
 use Rattle.nz_cv.specs.Vectors.{is_stray}
 use Rattle.nz_merge.specs.Merged.{greatest}
 use Rattle.nz_msg.specs.declared.message.Message.{Message}
@@ -22,10 +23,6 @@ use Rattle.nz_machine.specs.declared.data.ToldView.{ToldView}
 use Rattle.nz_machine.specs.Replicas.{is_normal, is_rejoining, is_down, leads_view, first_replica, crashed_replica, to_others, to_replica}
 use Rattle.nz_machine.specs.Vectors.{unless_stray}
 use Rattle.nz_machine.specs.Adopting.{normal_in}
-
--- A replica that rejoins asks again after this many ticks.
-abbrev pub rejoin_period : ℕ
-rejoin_period = 5
 
 -- Counters of a crash vector stop here.
 abbrev pub last_counter : ℕ
@@ -193,4 +190,4 @@ ask_again Log f me s = ask_views f me s
 abbrev pub rejoin_timer : ℕ → ℕ → ReplicaData → ReplicaData × List Out
 rejoin_timer f me s =
     let later = record s { since = s.since + 1 } in
-    if later.since == rejoin_period then ask_again s.rejoin.phase f me (record later { since = 0 }) else (later, [])
+    if later.since == REJOIN_PERIOD then ask_again s.rejoin.phase f me (record later { since = 0 }) else (later, [])

@@ -10,7 +10,7 @@ use Rattle.nz_base.specs.declared.scenario.Skew.{Skew}
 use Rattle.nz_base.specs.declared.scenario.Fault.{Fault}
 use Rattle.nz_base.specs.declared.scenario.Fault.TheVariants as faults
 use Rattle.nz_base.specs.declared.scenario.Scenario.{Scenario}
-use Rattle.nz_base.specs.declared.limits.TheConstants.{MAX_CLOCK}
+use Rattle.nz_base.specs.declared.limits.TheConstants.{MAX_CLOCK, MAX_TICKS, MAX_FAULTS}
 use Rattle.nz_frame.specs.Refusal.{refusal}
 use Rattle.nz_frame.specs.declared.refusal.FrameRefusal.{FrameRefusal}
 use Rattle.nz_machine.specs.declared.event.Event.{Event}
@@ -229,11 +229,11 @@ NamesMember s (faults.Restart a t) = IsMember (group_of s) a
 NamesMember s (faults.Alarm a t) = IsMember (group_of s) a
 NamesMember s _ = Unit {0}
 
--- Its actors are a group, each client has a script, there are at most 20,000 ticks and 1,000 fault lines, and its
+-- Its actors are a group, each client has a script, its ticks and its fault lines are within their limits, and its
 -- faults are of its actors.
 pub record IsPlayable (s : Scenario) : Type 0 where
   pub group : IsGroup (group_of s)
   pub scripts : length s.scripts ≡ s.clients
-  pub ticks : s.ticks ≤ 20000
-  pub faults : length s.faults ≤ 1000
+  pub ticks : s.ticks ≤ MAX_TICKS
+  pub faults : length s.faults ≤ MAX_FAULTS
   pub members : AllByRecursion (NamesMember s) s.faults

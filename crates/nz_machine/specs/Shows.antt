@@ -9,7 +9,7 @@ use Rattle.nz_base.specs.declared.actor.Actor.{Actor}
 use Rattle.nz_base.specs.declared.actor.Actor.TheVariants.{Replica, Proxy, Client}
 use Rattle.nz_base.specs.declared.key.Key.{Key}
 use Rattle.nz_base.specs.declared.scenario.Request.{Request}
-use Rattle.nz_base.specs.declared.limits.TheConstants.{MAX_KEYS}
+use Rattle.nz_base.specs.declared.limits.TheConstants.{MAX_KEYS, MARGIN}
 use Rattle.nz_cv.specs.Vectors.{merged_vector}
 use Rattle.nz_window.specs.Samples.{bound_of}
 use Rattle.nz_log.specs.Places.{place_of, digest_at}
@@ -40,7 +40,7 @@ use Rattle.nz_machine.specs.State.{ReplicaData, ProxyData, ClientData, State, Op
 use Rattle.nz_machine.specs.Replicas.{is_normal, is_changing, is_up, is_rejoining, leads}
 use Rattle.nz_machine.specs.LogMods.{is_held, is_asked}
 use Rattle.nz_machine.specs.Rejoining.{is_phase}
-use Rattle.nz_machine.specs.Proxies.{margin, standing_of}
+use Rattle.nz_machine.specs.Proxies.{standing_of}
 use Rattle.nz_machine.specs.Step.{script_of}
 use Rattle.nz_machine.specs.World.{Has}
 use Rattle.nz_machine.specs.Events.{id_at}
@@ -247,7 +247,7 @@ pub record ShowsTimed (f : ℕ) (heard : Heard) (s : ProxyData) (to : Actor) (b 
   pub member : replica < replica_count f
   pub receiver : to ≡ Replica replica
   pub sent : b.sent ≡ s.clock
-  pub deadline : b.deadline ≡ s.clock + bound_of s.samples + margin
+  pub deadline : b.deadline ≡ s.clock + bound_of s.samples + MARGIN
 
 -- An answer is what the proxy decided.
 pub record ShowsAnswer (s : ProxyData) (to : Actor) (b : AnswerBody) : Type 0 where

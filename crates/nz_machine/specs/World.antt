@@ -6,7 +6,7 @@ use Rattle.nz_base.specs.Cluster.{replica_count}
 use Rattle.nz_base.specs.declared.actor.Actor.{Actor}
 use Rattle.nz_base.specs.declared.actor.Actor.TheVariants.{Replica, Proxy, Client}
 use Rattle.nz_base.specs.declared.scenario.Request.{Request}
-use Rattle.nz_base.specs.declared.limits.TheConstants.{MAX_CLOCK}
+use Rattle.nz_base.specs.declared.limits.TheConstants.{MAX_CLOCK, MAX_F, MAX_PROXIES, MAX_WINDOW, MAX_CLIENTS, MAX_REQUESTS}
 use Rattle.nz_store.specs.Reading.{command_of}
 use Rattle.nz_machine.specs.declared.event.Event.{Event}
 use Rattle.nz_machine.specs.declared.event.Event.TheVariants.{Deliver, Cut, Tick, Alarm, Crash, Restart}
@@ -23,18 +23,17 @@ pub record IsAsked (request : Request) : Type 0 where
 abbrev pub request_count : List (List Request) → ℕ
 request_count scripts = fold (λ n m. n + m) 0 (map length scripts)
 
--- A cluster of 3, 5, 7 or 9 replicas, 1 to 8 proxies, a window of 1 to 16, and 1 to 64 clients with at most 2,000
--- requests, each a command.
+-- f, the proxies, the window, the clients and their requests are each within their limits, and each request is a command.
 pub record IsGroup (g : Group) : Type 0 where
   pub least_f : 1 ≤ g.f
-  pub most_f : g.f ≤ 4
+  pub most_f : g.f ≤ MAX_F
   pub least_proxies : 1 ≤ g.proxies
-  pub most_proxies : g.proxies ≤ 8
+  pub most_proxies : g.proxies ≤ MAX_PROXIES
   pub least_window : 1 ≤ g.window
-  pub most_window : g.window ≤ 16
+  pub most_window : g.window ≤ MAX_WINDOW
   pub least_clients : 1 ≤ length g.scripts
-  pub most_clients : length g.scripts ≤ 64
-  pub few_requests : request_count g.scripts ≤ 2000
+  pub most_clients : length g.scripts ≤ MAX_CLIENTS
+  pub few_requests : request_count g.scripts ≤ MAX_REQUESTS
   pub commands : AllByRecursion (λ script. AllByRecursion IsAsked script) g.scripts
 
 -- An actor's state after the records.

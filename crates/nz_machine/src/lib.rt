@@ -33,7 +33,7 @@ pub use laws::{due_entries_are_released, facts_are_kept, receivers_take_part};
 pub use receiving::heard;
 pub use reply::{Reply, ReplyList};
 pub use sending::send;
-pub use state::{MOST_QUIET, ReplicaState};
+pub use state::ReplicaState;
 
 #[cfg(test)]
 mod tests;

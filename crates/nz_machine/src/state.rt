@@ -35,7 +35,6 @@ use nz_msg::TimedBody;
 use nz_store::{Answer, Store};
 use std::alloc::Global;
 use std::marker::Model;
-pub use viewing::MOST_QUIET;
 
 /// The parts of a replica's state.
 #[derive(Drop)]
@@ -343,11 +342,7 @@ impl ReplicaState {
         requires { proxy ≤ 7 }
         ensures { OnOk result (self.new ≡ record self.old { state = with_origin self.old.state proxy body.now }) }
     {
-        let delay = self
-            .parts
-            .clock
-            .saturating_sub(body.sent)
-            .min(MAX_DELAY) as u32;
+        let delay = self.parts.clock.saturating_sub(body.sent).min(MAX_DELAY) as u32;
         self.parts.origin.insert(body.id, Origin { proxy, delay })?;
         Ok(())
     }

@@ -10,7 +10,7 @@ ghost use Rattle.nz_msg.specs.Messages as messages;
 ghost use Rattle.nz_msg.specs.Messages.{Fits};
 ghost use Rattle.nz_machine.specs.State.{Standing as StandingModel, Open as OpenModel};
 ghost use Rattle.nz_machine.specs.Proxies as proxies;
-ghost use Rattle.nz_machine.specs.Proxies.{first_proxy, margin, with_standing, standing_of, answer_to_client, timed_to};
+ghost use Rattle.nz_machine.specs.Proxies.{first_proxy, with_standing, standing_of, answer_to_client, timed_to};
 ghost use Rattle.nz_machine.specs.Proxies.{timed_to_all, after_replica_reply, crashed_proxy, restarted_proxy};
 ghost use Rattle.nz_machine.specs.Replicas.{numbers_below};
 ghost use Rattle.nz_machine.specs.Step.{parcel};
@@ -22,7 +22,7 @@ ghost use Rattle.nz_proxy.specs.Seats.{IsSameProxy};
 
 use crate::standing::Standing;
 use indexmap::IndexMap;
-use nz_base::{Actor, Blob, Cluster, Id, MAX_CLOCK, NoMemory};
+use nz_base::{Actor, Blob, Cluster, Id, MARGIN, MAX_CLOCK, NoMemory};
 use nz_machine::{Reply, Sends, copy_answer, send};
 use nz_msg::{AnswerBody, Message, Path, RequestBody, TimedBody};
 use nz_quorum::Tally;
@@ -30,9 +30,6 @@ use nz_store::Answer;
 use nz_window::Window;
 use std::alloc::Global;
 use std::marker::Model;
-
-/// Added to the bound on the delay, in clock units.
-const MARGIN: u64 = 500;
 
 /// The state of a proxy.
 #[derive(Drop)]
@@ -129,7 +126,7 @@ impl ProxyState {
 
     /// The deadline of a request that is stamped now.
     fn deadline(&self) -> u64
-        ensures value { result ≡ self.now.state.clock + bound_of self.now.state.samples + margin }
+        ensures value { result ≡ self.now.state.clock + bound_of self.now.state.samples + MARGIN }
         ensures named { result ≤ 2 ^ 63 - 1 }
     {
         self.clock + u64::from(self.window.bound()) + MARGIN
@@ -194,7 +191,7 @@ fn timed(state: &ProxyState, id: Id, command: Blob) -> TimedBody
     requires { fields.command.fits command }
     ensures value { result ≡ record {
       sent = state.now.state.clock;
-      deadline = state.now.state.clock + bound_of state.now.state.samples + margin;
+      deadline = state.now.state.clock + bound_of state.now.state.samples + MARGIN;
       id = id;
       command = command;
     } }

@@ -13,6 +13,7 @@ use Rattle.nz_base.specs.declared.scenario.Fault.{Fault}
 use Rattle.nz_base.specs.declared.scenario.Scenario.{Scenario}
 use Rattle.nz_base.specs.Actor.{is_within}
 use Rattle.nz_base.specs.Cluster.{replica_count}
+use Rattle.nz_base.specs.declared.limits.TheConstants.{MAX_TEXT}
 use Rattle.nz_store.specs.Grammar.{spelling}
 use Rattle.nz_store.proofs.Spellings.{reading_from_spells}
 use Rattle.nz_script.specs.declared.faults.Kind.{Kind}
@@ -41,7 +42,7 @@ use Rattle.nz_script.specs.Lines.{line_of}
 use Rattle.nz_script.specs.Drafts.{version_has, keeps_order, names_known, within_limits, knows, suits, is_known, all_known}
 use Rattle.nz_script.specs.Drafts.{is_new_skew, all_within, has_number, has_room_for_line, has_room_for_requests, has_room_for_faults}
 use Rattle.nz_script.specs.Drafts.{is_in_turn, command_asked, fault_in, with_words, first_draft, scenario_of}
-use Rattle.nz_script.specs.Reading.{fault_of, draft_if_sound, taken_if_shaped, is_passed_over, draft_after_line, most_bytes, if_taken, scenario_from, scenario}
+use Rattle.nz_script.specs.Reading.{fault_of, draft_if_sound, taken_if_shaped, is_passed_over, draft_after_line, if_taken, scenario_from, scenario}
 use Rattle.nz_script.specs.Bytes.{lines_in, tail_in}
 use Rattle.nz_script.specs.Valid.{is_request, are_requests, requests_in_all, calls_known, IsRunnable}
 use Rattle.nz_script.proofs.LineTests.{passed_forms, passed_room, command_is_valid}
@@ -580,8 +581,8 @@ reading_runnable long tail n d (line ∷ lines) s p e =
 pub read_runnable : (bytes : List ℕ) (s : Scenario) → scenario bytes ≡ Ok s → IsRunnable s
 unfolding scenario
 read_runnable bytes s e =
-    reading_runnable (nat_lt most_bytes (length bytes)) (tail_in (take most_bytes bytes)) 1 first_draft
-    (lines_in (take most_bytes bytes)) s sound_at_start e
+    reading_runnable (nat_lt MAX_TEXT (length bytes)) (tail_in (take MAX_TEXT bytes)) 1 first_draft
+    (lines_in (take MAX_TEXT bytes)) s sound_at_start e
 
 -- ---- how long a text is
 
@@ -599,11 +600,11 @@ long_refused tail n d (line ∷ lines) s e =
 not_above : (n m : ℕ) → nat_lt n m ≡ false → m ≤ n
 not_above n m e = grind (arith, e)
 
-short_by : (bytes : List ℕ) (s : Scenario) (long : Bool) → nat_lt most_bytes (length bytes) ≡ long
-    → scenario_from long (tail_in (take most_bytes bytes)) 1 first_draft (lines_in (take most_bytes bytes)) ≡ Ok s → length bytes ≤ most_bytes
-short_by bytes s true is e = absurd (long_refused (tail_in (take most_bytes bytes)) 1 first_draft (lines_in (take most_bytes bytes)) s e)
-short_by bytes s false is e = not_above most_bytes (length bytes) is
+short_by : (bytes : List ℕ) (s : Scenario) (long : Bool) → nat_lt MAX_TEXT (length bytes) ≡ long
+    → scenario_from long (tail_in (take MAX_TEXT bytes)) 1 first_draft (lines_in (take MAX_TEXT bytes)) ≡ Ok s → length bytes ≤ MAX_TEXT
+short_by bytes s true is e = absurd (long_refused (tail_in (take MAX_TEXT bytes)) 1 first_draft (lines_in (take MAX_TEXT bytes)) s e)
+short_by bytes s false is e = not_above MAX_TEXT (length bytes) is
 
-pub read_short : (bytes : List ℕ) (s : Scenario) → scenario bytes ≡ Ok s → length bytes ≤ most_bytes
+pub read_short : (bytes : List ℕ) (s : Scenario) → scenario bytes ≡ Ok s → length bytes ≤ MAX_TEXT
 unfolding scenario
-read_short bytes s e = short_by bytes s (nat_lt most_bytes (length bytes)) refl e
+read_short bytes s e = short_by bytes s (nat_lt MAX_TEXT (length bytes)) refl e

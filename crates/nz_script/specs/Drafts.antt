@@ -9,6 +9,7 @@ use Rattle.nz_base.specs.declared.scenario.Fault.TheVariants as fault
 use Rattle.nz_base.specs.declared.scenario.Scenario.{Scenario}
 use Rattle.nz_base.specs.Actor.{actor_eq, is_within}
 use Rattle.nz_base.specs.Cluster.{replica_count}
+use Rattle.nz_base.specs.declared.limits.TheConstants.{MAX_REQUESTS, MAX_TURNS, MAX_FAULTS, MAX_CHANCES}
 use Rattle.nz_store.specs.declared.command.Command.{Command}
 use Rattle.nz_store.specs.declared.command.Command.TheVariants as command
 use Rattle.nz_store.specs.Grammar.{spelling}
@@ -155,13 +156,13 @@ all_within [] words = true
 all_within (f ∷ forms) [] = false
 all_within (f ∷ forms) (w ∷ words) = word_within f w && all_within forms words
 
--- 2,000 requests and 2,000,000 requests times ticks.
+-- No more requests, and no more requests times ticks, than a scenario has at most.
 abbrev pub has_room_for_requests : ℕ → ℕ → Bool
-has_room_for_requests requests ticks = nat_le requests 2000 && nat_le (requests * ticks) 2000000
+has_room_for_requests requests ticks = nat_le requests MAX_REQUESTS && nat_le (requests * ticks) MAX_TURNS
 
--- 1,000 faults and 200,000 requests times faults.
+-- No more faults, and no more requests times faults, than a scenario has at most.
 abbrev pub has_room_for_faults : ℕ → ℕ → Bool
-has_room_for_faults requests faults = nat_le faults 1000 && nat_le (requests * faults) 200000
+has_room_for_faults requests faults = nat_le faults MAX_FAULTS && nat_le (requests * faults) MAX_CHANCES
 
 -- With this line there are not too many of its sort.
 abbrev pub has_room_for_line : Draft → Verb → Bool

@@ -1,6 +1,7 @@
 -- A scenario, or the first bad line, line by line.
 use Rattle.std.specs.Prelude.{ℕ, ◌+◌, Bool, true, not, nat_lt, ◌==◌, if◌then◌else◌, List, [], ◌∷◌, length, take, Option, Some, None, Result, Ok, Err}
 use Rattle.nz_base.specs.declared.scenario.Scenario.{Scenario}
+use Rattle.nz_base.specs.declared.limits.TheConstants.{MAX_TEXT}
 use Rattle.nz_script.specs.declared.faults.Kind.{Kind}
 use Rattle.nz_script.specs.declared.faults.Kind.TheVariants.{Syntax, Order, Name, Limit}
 use Rattle.nz_script.specs.declared.faults.ScriptFault.{ScriptFault}
@@ -44,10 +45,6 @@ abbrev pub draft_or_kind : Option Kind → Draft → Result Draft Kind
 draft_or_kind None d = Ok d
 draft_or_kind (Some kind) d = Err kind
 
--- A text has at most this many bytes.
-abbrev pub most_bytes : ℕ
-most_bytes = 1048576
-
 -- After the last newline: an input that goes on past the most bytes is at its limit in this line, a line without its
 -- newline is no line, and a text that ends before its last line lacks this one.
 abbrev pub scenario_at_end : Bool → List ℕ → ℕ → Draft → Result Scenario ScriptFault
@@ -69,5 +66,5 @@ scenario_from long tail n d (line ∷ lines) = if_taken n (λ next. scenario_fro
 -- The scenario that the bytes are the text of, or the first bad line with its kind.
 unfoldable pub scenario : List ℕ → Result Scenario ScriptFault
 scenario bytes =
-    let text = take most_bytes bytes in
-    scenario_from (nat_lt most_bytes (length bytes)) (tail_in text) 1 first_draft (lines_in text)
+    let text = take MAX_TEXT bytes in
+    scenario_from (nat_lt MAX_TEXT (length bytes)) (tail_in text) 1 first_draft (lines_in text)

@@ -1,6 +1,7 @@
 -- The table of lines: by their first word, where they may come and what follows.
 use Rattle.std.specs.Prelude.{ℕ, if◌then◌else◌, List, [], ◌∷◌, Option, Some, None, codes}
 use Rattle.std.specs.Str.{bytes_eq}
+use Rattle.nz_base.specs.declared.limits.TheConstants.{MAX_F, MAX_PROXIES, MAX_CLIENTS, MAX_WINDOW, MAX_TICKS}
 use Rattle.nz_script.specs.declared.line_forms.Place.{Place}
 use Rattle.nz_script.specs.declared.line_forms.Place.TheVariants as place
 use Rattle.nz_script.specs.declared.line_forms.Head.{Head}
@@ -29,7 +30,7 @@ place_rank place.Ended = 9
 
 -- A tick, or a number of ticks.
 abbrev pub tick : Form
-tick = form.Number 1 20000
+tick = form.Number 1 MAX_TICKS
 
 -- Which parcel of those that match.
 abbrev pub count : Form
@@ -38,11 +39,11 @@ count = form.Number 1 1000000
 -- The first word, the place and the further words of the lines of the head.
 abbrev pub head_shape_of : Head → List ℕ × Place × List Form
 head_shape_of head.Version = (codes "nezha", place.Version, form.Number 1 2 ∷ [])
-head_shape_of head.Faulty = (codes "f", place.Faulty, form.Number 1 4 ∷ [])
-head_shape_of head.Proxies = (codes "proxies", place.Proxies, form.Number 1 8 ∷ [])
-head_shape_of head.Clients = (codes "clients", place.Clients, form.Number 1 64 ∷ [])
+head_shape_of head.Faulty = (codes "f", place.Faulty, form.Number 1 MAX_F ∷ [])
+head_shape_of head.Proxies = (codes "proxies", place.Proxies, form.Number 1 MAX_PROXIES ∷ [])
+head_shape_of head.Clients = (codes "clients", place.Clients, form.Number 1 MAX_CLIENTS ∷ [])
 head_shape_of head.Ticks = (codes "ticks", place.Ticks, tick ∷ [])
-head_shape_of head.Window = (codes "window", place.Window, form.Number 2 16 ∷ [])
+head_shape_of head.Window = (codes "window", place.Window, form.Number 2 MAX_WINDOW ∷ [])
 
 -- Those of the commands.
 abbrev pub ask_shape_of : Ask → List ℕ × Place × List Form
@@ -55,7 +56,7 @@ ask_shape_of Cas = (codes "cas", place.Block, form.Key ∷ form.Choice ∷ form.
 abbrev pub mishap_shape_of : Mishap → List ℕ × Place × List Form
 mishap_shape_of mishap.Drop = (codes "drop", place.Mishaps, form.Actor ∷ form.Actor ∷ form.Kind ∷ count ∷ [])
 mishap_shape_of mishap.Hold = (codes "hold", place.Mishaps, form.Actor ∷ form.Actor ∷ form.Kind ∷ count ∷ tick ∷ [])
-mishap_shape_of mishap.Twice = (codes "twice", place.Mishaps, form.Actor ∷ form.Actor ∷ form.Kind ∷ count ∷ form.Number 0 20000 ∷ [])
+mishap_shape_of mishap.Twice = (codes "twice", place.Mishaps, form.Actor ∷ form.Actor ∷ form.Kind ∷ count ∷ form.Number 0 MAX_TICKS ∷ [])
 mishap_shape_of mishap.Cut = (codes "cut", place.Mishaps, form.Actor ∷ form.Actor ∷ form.Kind ∷ count ∷ form.Number 0 16777216 ∷ [])
 mishap_shape_of mishap.Block = (codes "block", place.Mishaps, form.Actors ∷ form.Actors ∷ tick ∷ tick ∷ [])
 mishap_shape_of mishap.Crash = (codes "crash", place.Mishaps, form.Server ∷ tick ∷ [])

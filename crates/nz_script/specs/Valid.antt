@@ -7,6 +7,7 @@ use Rattle.nz_base.specs.declared.scenario.Fault.{Fault}
 use Rattle.nz_base.specs.declared.scenario.Fault.TheVariants as fault
 use Rattle.nz_base.specs.declared.scenario.Scenario.{Scenario}
 use Rattle.nz_base.specs.Actor.{is_within}
+use Rattle.nz_base.specs.declared.limits.TheConstants.{MAX_F, MAX_PROXIES, MAX_CLIENTS, MAX_WINDOW, MAX_TICKS, MAX_TEXT}
 use Rattle.nz_store.specs.Reading.{command_of}
 use Rattle.nz_script.specs.declared.line.Line.{Line}
 use Rattle.nz_script.specs.declared.group.Group.{Group}
@@ -22,12 +23,11 @@ group_of_scenario s = record { cluster = s.cluster; proxies = s.proxies; clients
 abbrev pub is_sound : Group → Line → Bool
 is_sound g line = all_known g (forms_of line.verb) line.words && (all_within (forms_of line.verb) line.words && is_span line.verb line.words)
 
--- f is 1 to 4, there are 1 to 8 proxies and 1 to 64 clients with a script each, 1 to 20,000 ticks, and a window of 1
--- to 16.
+-- f, the proxies, the clients with a script each, the ticks and the window are at least 1, and each within its limit.
 abbrev pub has_group : Scenario → Bool
 has_group s =
-    ((is_within 1 4 s.cluster && is_within 1 8 s.proxies) && (is_within 1 64 s.clients && is_within 1 20000 s.ticks))
-    && (is_within 1 16 s.window && (length s.scripts == s.clients))
+    ((is_within 1 MAX_F s.cluster && is_within 1 MAX_PROXIES s.proxies) && (is_within 1 MAX_CLIENTS s.clients && is_within 1 MAX_TICKS s.ticks))
+    && (is_within 1 MAX_WINDOW s.window && (length s.scripts == s.clients))
 
 -- No clock has two skews.
 abbrev pub are_apart : List Skew → Bool
@@ -38,9 +38,9 @@ are_apart (s ∷ skews) = not (has_skew skews s.actor) && are_apart skews
 abbrev pub has_skews : Scenario → Bool
 has_skews s = list_all (λ k. is_sound (group_of_scenario s) (skew_line k)) s.skews && are_apart s.skews
 
--- A request waits at most 20,000 ticks, and its bytes are those of a command.
+-- A request waits no more ticks than a scenario has at most, and its bytes are those of a command.
 abbrev pub is_request : Request → Bool
-is_request r = nat_le r.wait 20000 && is_some (command_of r.command)
+is_request r = nat_le r.wait MAX_TICKS && is_some (command_of r.command)
 
 -- Whether all requests of a script are commands that may wait so long.
 abbrev pub are_requests : List Request → Bool
@@ -60,7 +60,7 @@ has_faults s = list_all (λ f. is_sound (group_of_scenario s) (fault_line f)) s.
 
 -- The text has at most 1,048,576 bytes.
 abbrev pub is_short : Scenario → Bool
-is_short s = nat_le (length (text_of s)) 1048576
+is_short s = nat_le (length (text_of s)) MAX_TEXT
 
 -- The scenario is as a run asks, and its text can be read.
 abbrev pub is_valid : Scenario → Bool

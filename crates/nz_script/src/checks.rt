@@ -16,15 +16,7 @@ use super::group::{Group, knows};
 use super::line::Line;
 use super::line_forms::{Form, Head, Mishap, Verb};
 use super::word::{Word, actor_at, number_at};
-use nz_base::{Actor, Skew};
-
-const MOST_REQUESTS: u64 = 2_000;
-/// Requests times ticks.
-const MOST_TURNS: u64 = 2_000_000;
-
-const MOST_FAULTS: u64 = 1_000;
-/// Requests times faults.
-const MOST_CHANCES: u64 = 200_000;
+use nz_base::{Actor, MAX_CHANCES, MAX_FAULTS, MAX_REQUESTS, MAX_TURNS, Skew};
 
 /// Whether a text of this version has lines of this sort. In version 1 the word `window` is unknown.
 fn version_has(version: u8, verb: Verb) -> bool
@@ -220,7 +212,7 @@ pub fn fits_requests(requests: u64, ticks: u32) -> bool
     requires { requests < 2 ^ 40 }
     ensures { result ≡ has_room_for_requests requests ticks }
 {
-    requests <= MOST_REQUESTS && requests * u64::from(ticks) <= MOST_TURNS
+    requests <= MAX_REQUESTS && requests * u64::from(ticks) <= MAX_TURNS
 }
 
 /// Whether this many faults are within the limits.
@@ -228,7 +220,7 @@ pub fn fits_faults(requests: u64, faults: u64) -> bool
     requires { requests < 2 ^ 40 }
     ensures { result ≡ has_room_for_faults requests faults }
 {
-    faults <= MOST_FAULTS && requests * faults <= MOST_CHANCES
+    faults <= MAX_FAULTS && requests * faults <= MAX_CHANCES
 }
 
 fn has_room(draft: &Draft, verb: Verb) -> bool

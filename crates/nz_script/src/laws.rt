@@ -1,8 +1,9 @@
 //! What holds of the definitions. Each law is the contract of a function that does nothing.
 ghost use Rattle.std.specs.Prelude.{◌≡◌, ◌≤◌, ℕ, List, length, Ok};
 ghost use Rattle.nz_base.specs.declared.scenario.Scenario.{Scenario};
+ghost use Rattle.nz_base.specs.declared.limits.TheConstants.{MAX_TEXT};
 ghost use Rattle.nz_script.specs.Draws.{scenario_of_seed};
-ghost use Rattle.nz_script.specs.Reading.{most_bytes, scenario};
+ghost use Rattle.nz_script.specs.Reading.{scenario};
 ghost use Rattle.nz_script.specs.Texts.{text_of};
 ghost use Rattle.nz_script.specs.Valid.{IsValid, IsRunnable};
 
@@ -14,7 +15,7 @@ pub fn texts_are_read_back()
 /// What is read can be run, and is not too long.
 pub fn what_is_read_can_be_run()
     ensures run { (bytes : List ℕ) (s : Scenario) → scenario bytes ≡ Ok s → IsRunnable s }
-    ensures short { (bytes : List ℕ) (s : Scenario) → scenario bytes ≡ Ok s → length bytes ≤ most_bytes }
+    ensures short { (bytes : List ℕ) (s : Scenario) → scenario bytes ≡ Ok s → length bytes ≤ MAX_TEXT }
 {}
 
 /// What a seed draws can be run.

@@ -4,6 +4,8 @@ ghost use Rattle.std.specs.Prelude.{◌≡◌, ◌==◌};
 ghost use Rattle.nz_script.specs.Shapes as shapes;
 ghost use Rattle.nz_script.specs.Shapes.{verb_word, verb_place, forms_of, head_shape_of, ask_shape_of, mishap_shape_of, place_rank};
 
+use nz_base::{MAX_CLIENTS, MAX_F, MAX_PROXIES, MAX_TICKS, MAX_WINDOW};
+
 /// How far a text has come: which lines may come next.
 #[derive(Clone, Copy, Debug)]
 pub enum Place {
@@ -152,12 +154,12 @@ fn row(word: &'static [u8], place: Place, forms: &'static [Form]) -> Shape
 
 const TICK: Form = Form::Number {
     least: 1,
-    most: 20_000,
+    most: MAX_TICKS,
 };
 
 const DELAY: Form = Form::Number {
     least: 0,
-    most: 20_000,
+    most: MAX_TICKS,
 };
 
 const COUNT: Form = Form::Number {
@@ -170,13 +172,25 @@ const LENGTH: Form = Form::Number {
     most: 16_777_216,
 };
 
-const FAULTY: Form = Form::Number { least: 1, most: 4 };
+const FAULTY: Form = Form::Number {
+    least: 1,
+    most: MAX_F,
+};
 
-const PROXIES: Form = Form::Number { least: 1, most: 8 };
+const PROXIES: Form = Form::Number {
+    least: 1,
+    most: MAX_PROXIES,
+};
 
-const CLIENTS: Form = Form::Number { least: 1, most: 64 };
+const CLIENTS: Form = Form::Number {
+    least: 1,
+    most: MAX_CLIENTS,
+};
 
-const WINDOW: Form = Form::Number { least: 2, most: 16 };
+const WINDOW: Form = Form::Number {
+    least: 2,
+    most: MAX_WINDOW,
+};
 
 const VERSION: Form = Form::Number { least: 1, most: 2 };
 

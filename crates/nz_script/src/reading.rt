@@ -13,11 +13,8 @@ use super::draft::Draft;
 use super::faults::{Kind, ScriptFault};
 use super::line::line_of;
 use super::line_forms::Place;
-use nz_base::{NoMemory, Scenario};
+use nz_base::{MAX_TEXT, NoMemory, Scenario};
 use std::alloc::Global;
-
-/// A text has at most this many bytes.
-pub const MOST_BYTES: usize = 1_048_576;
 
 fn is_passed_over(line: &[u8]) -> bool
     ensures { result ≡ reading.is_passed_over line.now }
@@ -79,7 +76,7 @@ fn read_text(
     long: bool,
     text: &[u8],
 ) -> Result<Result<Scenario, ScriptFault>, NoMemory>
-    requires { length text.now ≤ 1048576 }
+    requires { length text.now ≤ MAX_TEXT }
     ensures { IfOk result (λ answer. answer ≡ scenario_from long (tail_in text.now) 1 first_draft (lines_in text.now)) }
 {
     let mut draft = Draft::new(alloc);
@@ -113,8 +110,8 @@ pub fn read(alloc: Global, bytes: &[u8]) -> Result<Scenario, ScriptFault>
     ensures ok { IfOk result (λ s. scenario bytes.now ≡ Ok s) }
     ensures refused { IfErr result (λ fault. fault ≢ script_fault.NoMemory → scenario bytes.now ≡ Err fault) }
 {
-    let long = bytes.len() > MOST_BYTES;
-    match read_text(alloc, long, first_bytes(bytes, MOST_BYTES)) {
+    let long = bytes.len() > MAX_TEXT;
+    match read_text(alloc, long, first_bytes(bytes, MAX_TEXT)) {
         Ok(answer) => answer,
         Err(_) => Err(ScriptFault::NoMemory),
     }

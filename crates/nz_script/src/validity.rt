@@ -16,7 +16,10 @@ use super::line_forms::Verb;
 use super::printing::{fault_parts, units_of};
 use super::sizes::scenario_room;
 use super::word::Word;
-use nz_base::{Fault, Request, RequestList, Scenario, Skew};
+use nz_base::{
+    Fault, MAX_CLIENTS, MAX_F, MAX_PROXIES, MAX_TEXT, MAX_TICKS, MAX_WINDOW, Request, RequestList,
+    Scenario, Skew,
+};
 
 /// A scenario that may be run and written.
 pub trait ValidScenario {
@@ -48,11 +51,11 @@ fn is_between(least: u32, most: u32, number: u32) -> bool
 fn has_group(scenario: &Scenario) -> bool
     ensures { result ≡ valid.has_group scenario.now }
 {
-    let few = is_between(1, 4, u32::from(scenario.cluster.f()))
-        && is_between(1, 8, u32::from(scenario.proxies));
-    let many = is_between(1, 64, u32::from(scenario.clients))
-        && is_between(1, 20_000, scenario.ticks);
-    let open = is_between(1, 16, u32::from(scenario.window));
+    let few = is_between(1, MAX_F, u32::from(scenario.cluster.f()))
+        && is_between(1, MAX_PROXIES, u32::from(scenario.proxies));
+    let many = is_between(1, MAX_CLIENTS, u32::from(scenario.clients))
+        && is_between(1, MAX_TICKS, scenario.ticks);
+    let open = is_between(1, MAX_WINDOW, u32::from(scenario.window));
     few && many && (open && scenario.scripts.len() == u32::from(scenario.clients))
 }
 
@@ -101,7 +104,7 @@ fn has_skews(scenario: &Scenario) -> bool
 fn is_request(request: &Request) -> bool
     ensures { result ≡ valid.is_request request.now }
 {
-    request.wait <= 20_000 && spelled_len(request.command.as_slice()).is_some()
+    request.wait <= MAX_TICKS && spelled_len(request.command.as_slice()).is_some()
 }
 
 fn are_requests(script: &[Request]) -> bool
@@ -155,7 +158,7 @@ fn is_short(scenario: &Scenario) -> bool
     requires { length scenario.now.scripts ≤ 255 }
     ensures { result ≡ valid.is_short scenario.now }
 {
-    scenario_room(1_048_576, scenario).is_some()
+    scenario_room(MAX_TEXT, scenario).is_some()
 }
 
 fn is_valid(scenario: &Scenario) -> bool

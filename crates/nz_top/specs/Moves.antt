@@ -1,10 +1,11 @@
 -- Bytes that are moved out of a source or into a sink.
-use Rattle.std.specs.Prelude.{ℕ, ◌≡◌, List, ◌++◌, length, take, Option}
+use Rattle.std.specs.Prelude.{ℕ, ◌≡◌, ◌+◌, List, ◌++◌, length, take, Option}
+use Rattle.nz_base.specs.declared.limits.TheConstants.{MAX_TEXT}
 use Rattle.nz_edge.specs.Exposed.{Loses, Gains}
 
--- An input is looked at up to this many bytes.
+-- An input is looked at up to this many bytes, one more than a scenario may have.
 abbrev pub most_input : ℕ
-most_input = 1048577
+most_input = MAX_TEXT + 1
 
 -- What is looked at of the bytes that a source has.
 abbrev pub input : List ℕ → List ℕ

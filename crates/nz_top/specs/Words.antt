@@ -2,6 +2,7 @@
 use Rattle.std.specs.Prelude.{◌≡◌, ℕ, ◌≤◌, Bool, true, false, List, [], ◌∷◌, take, drop, Option, Some, None, if◌then◌else◌, codes}
 use Rattle.std.specs.Str.{bytes_eq}
 use Rattle.nz_base.specs.Actor.{is_within}
+use Rattle.nz_base.specs.declared.limits.TheConstants.{MAX_REQUESTS}
 use Rattle.nz_script.specs.Bytes.{number_of}
 use Rattle.nz_top.specs.declared.words.Command.{Command}
 use Rattle.nz_top.specs.declared.words.Command.TheVariants.{Run, Trace, Gen}
@@ -36,7 +37,7 @@ gen_command _ _ = None
 -- `gen SEED COUNT` plays the scenario that the seed draws, with this many requests, and prints its summary.
 abbrev pub of_three : List ℕ → List ℕ → List ℕ → Option Command
 of_three word second third =
-    if bytes_eq word (codes "gen") then gen_command (number_of second) (up_to 2000 (number_of third))
+    if bytes_eq word (codes "gen") then gen_command (number_of second) (up_to MAX_REQUESTS (number_of third))
     else (if bytes_eq second (codes "--workers") then play_command word (workers_in third) else None)
 
 -- The command that the words call: with no other number there is one worker.
@@ -58,11 +59,11 @@ workers_of (Run workers) = workers
 workers_of (Trace workers) = workers
 workers_of (Gen seed count) = 1
 
--- A command that words can call: with 1 to 16 workers, or one that draws 1 to 2,000 requests.
+-- A command that words can call: with 1 to 16 workers, or one that draws at least one request and no more than a scenario has.
 abbrev pub IsCalled : Command → Type 0
 IsCalled (Run workers) = (1 ≤ workers) × (workers ≤ 16)
 IsCalled (Trace workers) = (1 ≤ workers) × (workers ≤ 16)
-IsCalled (Gen seed count) = (1 ≤ count) × (count ≤ 2000)
+IsCalled (Gen seed count) = (1 ≤ count) × (count ≤ MAX_REQUESTS)
 
 -- One worker plays it.
 abbrev pub IsAlone : Option Command → Type 0

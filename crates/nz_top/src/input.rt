@@ -5,11 +5,12 @@ ghost use Rattle.nz_edge.specs.Exposed.{Loses};
 ghost use Rattle.nz_top.specs.Moves.{most_input, Moved};
 ghost use Rattle.nz_top.specs.declared.input.Stop.TheVariants as stops;
 
+use nz_base::MAX_TEXT;
 use nz_edge::Source;
 use std::alloc::Global;
 
 /// An input is looked at up to this many bytes, one more than a scenario may have.
-const MOST_INPUT: usize = 1_048_577;
+const MAX_INPUT: usize = MAX_TEXT + 1;
 /// How much is asked of the source at a time.
 const PIECE: usize = 4_096;
 
@@ -54,8 +55,8 @@ fn read_pieces<S: Source>(alloc: Global, source: &mut S, piece: &mut [u8]) -> Re
     ensures counts { S.faults source.old ≤ S.faults source.new }
 {
     let mut bytes = Vec::new(alloc);
-    while bytes.len() < MOST_INPUT {
-        let room = (MOST_INPUT - bytes.len()).min(piece.len());
+    while bytes.len() < MAX_INPUT {
+        let room = (MAX_INPUT - bytes.len()).min(piece.len());
         match read_piece(source, &mut piece[..room], &mut bytes) {
             Err(stop) => return Err(stop),
             Ok(0) => return Ok(bytes),

@@ -3,7 +3,7 @@ ghost use Rattle.std.specs.Prelude.{◌≡◌, ◌<◌, ◌≤◌, IfOk, IfSome,
 ghost use Rattle.nz_top.specs.Words as words_words;
 ghost use Rattle.nz_top.specs.Words.{up_to, command_named, play_command, gen_command, workers_of, command_of_words, IsCalled};
 
-use nz_base::{Blob, List, NoMemory};
+use nz_base::{Blob, List, MAX_REQUESTS, NoMemory};
 use nz_script::number_of;
 use std::alloc::Global;
 use std::marker::Model;
@@ -15,7 +15,7 @@ pub enum Command {
     Run { workers: u8 },
     /// The same, and print each record of the run before that.
     Trace { workers: u8 },
-    /// Play the scenario that the seed draws, with this many requests, 1 to 2,000, and print its summary.
+    /// Play the scenario that the seed draws, with this many requests, at most `MAX_REQUESTS`, and print its summary.
     Gen { seed: u64, count: u32 },
 }
 
@@ -96,18 +96,18 @@ fn played(word: &[u8], workers: Option<u8>) -> Option<Command>
 }
 
 fn counted(number: Option<u64>) -> Option<u32>
-    ensures value { result ≡ up_to 2000 number }
+    ensures value { result ≡ up_to MAX_REQUESTS number }
     ensures some { IfSome result (λ count. 1 ≤ count) }
-    ensures few { IfSome result (λ count. count ≤ 2000) }
+    ensures few { IfSome result (λ count. count ≤ MAX_REQUESTS) }
 {
     match number {
-        Some(count @ 1..=2000) => Some(count as u32),
+        Some(count) if 1 <= count && count <= MAX_REQUESTS => Some(count as u32),
         _ => None,
     }
 }
 
 fn drawn(seed: Option<u64>, count: Option<u32>) -> Option<Command>
-    requires { IfSome count (λ n. (1 ≤ n) × (n ≤ 2000)) }
+    requires { IfSome count (λ n. (1 ≤ n) × (n ≤ MAX_REQUESTS)) }
     ensures value { result ≡ gen_command seed count }
     ensures called { IfSome result IsCalled }
 {

@@ -6,11 +6,8 @@ ghost use Rattle.nz_machine.specs.Views as views;
 ghost use Rattle.nz_machine.specs.Views.{alarm_rule};
 ghost use Rattle.nz_machine.specs.Does.{Does};
 
-use nz_base::NoMemory;
-use nz_machine::{MOST_QUIET, ReplicaState, Sends};
-
-/// In a view change it asks again each time that this many ticks have passed.
-const ASK_PERIOD: u8 = 5;
+use nz_base::{ASK_PERIOD, MAX_QUIET, NoMemory};
+use nz_machine::{ReplicaState, Sends};
 
 /// The next view is entered, where there is one.
 fn enter_next(state: &mut ReplicaState, sends: &mut Sends) -> Result<(), NoMemory>
@@ -41,7 +38,7 @@ pub fn change_timer(state: &mut ReplicaState, sends: &mut Sends) -> Result<(), N
     ensures { let s = state.old in OnOk result (Does s state.new sends.old sends.new (views.change_timer s.f s.me s.state)) }
 {
     let since = state.count_changing();
-    if since == MOST_QUIET {
+    if since == MAX_QUIET {
         return enter_next(state, sends);
     }
     if since % ASK_PERIOD == 0 {

@@ -3,24 +3,20 @@
 ghost use Rattle.std.specs.Prelude.{◌≡◌, ◌<◌, ◌≤◌, ◌+◌, ◌==◌, [], not, length, IsTrue, IfOk, OnOk};
 ghost use Rattle.std.specs.Bool.{OnTrue, OnFalse};
 ghost use Rattle.nz_base.specs.Cluster.{replica_count};
-ghost use Rattle.nz_base.specs.declared.limits.TheConstants.{MAX_VIEW};
 ghost use Rattle.nz_msg.specs.Messages.{rejoin_tell};
 ghost use Rattle.nz_machine.specs.Parts.{since_counted};
 ghost use Rattle.nz_machine.specs.Replicas.{crashed_replica, is_rejoining};
 ghost use Rattle.nz_machine.specs.Rejoining as rejoining;
-ghost use Rattle.nz_machine.specs.Rejoining.{rejoin_period, last_counter, restarted_replica, with_teller};
+ghost use Rattle.nz_machine.specs.Rejoining.{last_counter, restarted_replica, with_teller};
 ghost use Rattle.nz_machine.specs.Rejoining.{with_new_counter, with_tell, with_tells, ask_views, ask_log};
 
 use super::super::collecting::{latest, note_teller, with_told};
 use super::super::data::{Phase, Status, ToldView};
 use super::super::parts::vector_fits;
 use super::{ReplicaState, forget};
-use nz_base::{List, NoMemory};
+use nz_base::{List, MAX_VIEW, NoMemory, REJOIN_PERIOD};
 use nz_cv::CrashVector;
 use nz_msg::RejoinTellBody;
-
-/// A replica that rejoins asks again after this many ticks.
-const REJOIN_PERIOD: u8 = 5;
 
 impl ReplicaState {
     /// A replica that crashes forgets all.
@@ -62,8 +58,8 @@ impl ReplicaState {
     /// Counts a tick of the rejoin. Whether a period is over, after which the count begins anew.
     pub fn count_rejoining(&mut self) -> bool
         requires { IsTrue (is_rejoining self.old.state.status) }
-        ensures state { self.new ≡ record self.old { state = since_counted rejoin_period self.old.state } }
-        ensures value { result ≡ (self.old.state.since + 1 == rejoin_period) }
+        ensures state { self.new ≡ record self.old { state = since_counted REJOIN_PERIOD self.old.state } }
+        ensures value { result ≡ (self.old.state.since + 1 == REJOIN_PERIOD) }
     {
         let since = self.parts.since + 1;
         let is_over = since == REJOIN_PERIOD;

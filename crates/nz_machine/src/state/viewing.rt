@@ -8,17 +8,14 @@ ghost use Rattle.nz_machine.specs.Parts.{since_counted};
 ghost use Rattle.nz_machine.specs.Replicas.{is_changing};
 ghost use Rattle.nz_machine.specs.LogMods.{after_hearing};
 ghost use Rattle.nz_machine.specs.Views as views;
-ghost use Rattle.nz_machine.specs.Views.{most_quiet, in_view_change};
+ghost use Rattle.nz_machine.specs.Views.{in_view_change};
 ghost use Rattle.nz_machine.specs.Adopting.{normal_in};
 
 use super::super::collecting::adopt;
 use super::super::data::Status;
 use super::super::event::Sends;
 use super::{ReplicaState, forget};
-use nz_base::{EntryList, MAX_VIEW, NoMemory};
-
-/// After this many ticks without its leader, or in one view change, a replica enters the next view.
-pub const MOST_QUIET: u8 = 20;
+use nz_base::{EntryList, MAX_QUIET, MAX_VIEW, NoMemory};
 
 impl ReplicaState {
     /// Whether there is a view after this one.
@@ -37,21 +34,21 @@ impl ReplicaState {
 
     /// The follower counts a tick without its leader. Whether it has waited long enough.
     pub fn count_quiet(&mut self) -> bool
-        ensures state { let s = self.old.state in self.new ≡ record self.old { state = record s { quiet = min (s.quiet + 1) most_quiet } } }
-        ensures value { result ≡ (self.new.state.quiet == most_quiet) }
+        ensures state { let s = self.old.state in self.new ≡ record self.old { state = record s { quiet = min (s.quiet + 1) MAX_QUIET } } }
+        ensures value { result ≡ (self.new.state.quiet == MAX_QUIET) }
     {
-        self.parts.quiet = (self.parts.quiet + 1).min(MOST_QUIET);
-        self.parts.quiet == MOST_QUIET
+        self.parts.quiet = (self.parts.quiet + 1).min(MAX_QUIET);
+        self.parts.quiet == MAX_QUIET
     }
 
     /// Counts a tick of the view change, and gives how many there are. After the last the count begins anew.
     pub fn count_changing(&mut self) -> u8
         requires { IsTrue (is_changing self.old.state.status) }
-        ensures state { self.new ≡ record self.old { state = since_counted most_quiet self.old.state } }
+        ensures state { self.new ≡ record self.old { state = since_counted MAX_QUIET self.old.state } }
         ensures value { result ≡ self.old.state.since + 1 }
     {
         let since = self.parts.since + 1;
-        self.parts.since = if since == MOST_QUIET { 0 } else { since };
+        self.parts.since = if since == MAX_QUIET { 0 } else { since };
         since
     }
 
