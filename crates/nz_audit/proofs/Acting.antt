@@ -1,6 +1,7 @@
 -- What a reading has found stays true as it takes one more record.
 use Rattle.std.proofs.Common.{◌≡◌, ℕ, zero, suc, ◌+◌, ◌<◌, ◌≤◌, false, eqb, List, [], ◌∷◌, ◌++◌, length, take, reverse, get_or}
 use Rattle.std.proofs.Common.{Option, Some, None, Result, Ok, Err, refl, sym, ap, subst, ◌∙◌, inl, inr, arith, eqb-true}
+use Rattle.std.proofs.lemmas.Bool.{cases_Bool}
 use Rattle.std.specs.Prelude.{OnOk}
 use Rattle.std.specs.Option.{option_and_then, option_flatten}
 use Rattle.std.proofs.lemmas.List.{reverse-append, reverse-reverse, length-reverse, length-append}
@@ -8,7 +9,6 @@ use Rattle.nz_base.specs.Actor.{actor_eq}
 use Rattle.nz_base.specs.declared.actor.Actor.{Actor}
 use Rattle.nz_base.specs.declared.actor.Actor.TheVariants.{Proxy}
 use Rattle.nz_base.specs.declared.key.Id.{Id}
-use Rattle.nz_base.proofs.Booleans.{cases_bool}
 use Rattle.nz_machine.specs.declared.event.Event.{Event}
 use Rattle.nz_machine.specs.declared.event.Event.TheVariants.{Deliver, Cut, Tick, Alarm, Crash, Restart}
 use Rattle.nz_machine.specs.declared.event.Parcel.{Parcel}
@@ -77,7 +77,7 @@ pub proxy_takes_it : (g : Group) (k q f : ℕ) (r : Record) (J : List Record) (s
     → is_down_in own_after ≡ down_after r.event (is_down_in own_before)
     → ((id : Id) → known_to own_after id ≡ after_event f q s (is_down_in own_before) id r.event (known_to own_before id)) → IsProxy g J k before
     → IsProxy g (r ∷ J) k after
-proxy_takes_it g k q f r J s own_before own_after before after w by is_f from own others down known h = elim (cases_bool (eqb q k)) [
+proxy_takes_it g k q f r J s own_before own_after before after w by is_f from own others down known h = elim (cases_Bool (eqb q k)) [
   | inl same ↦
       let at = eqb-true q k same in
       let is = own at in

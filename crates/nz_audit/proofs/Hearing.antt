@@ -1,5 +1,6 @@
 -- What is heard of a parcel, and the source that a delivered parcel stands for.
 use Rattle.std.proofs.Common.{◌≡◌, ℕ, true, cond, not, ◌&&◌, List, ◌∷◌, Option, Some, None, Result, Ok, Err, refl, sym, ap, ◌∙◌}
+use Rattle.std.proofs.lemmas.Bool.{and_parts}
 use Rattle.std.specs.Prelude.{is_some}
 use Rattle.std.specs.Option.{option_map, option_flatten}
 use Rattle.std.proofs.lemmas.Option.{none-some, cond_some}
@@ -8,7 +9,6 @@ use Rattle.nz_base.specs.Key.{id_eq}
 use Rattle.nz_base.specs.declared.actor.Actor.{Actor}
 use Rattle.nz_base.specs.declared.actor.Actor.TheVariants.{Replica, Proxy}
 use Rattle.nz_base.specs.declared.key.Id.{Id}
-use Rattle.nz_base.proofs.Booleans.{and_left, and_right}
 use Rattle.nz_base.proofs.Names.{same_actor, same_id}
 use Rattle.nz_store.specs.declared.command.Answer.{Answer}
 use Rattle.nz_msg.specs.declared.envelope.Envelope.{Envelope}
@@ -48,13 +48,13 @@ heard_of me p e h = heard_by me p (decode_of p.frame) e h
 pub is_heard : (me : Actor) (p : Parcel) (e : Envelope) → envelope_for me p ≡ Some e → IsHeard me p e
 is_heard me p e h =
     let all = heard_of me p e h in
-    let rest = and_right (actor_eq e.from p.from) (actor_eq e.to p.to && (actor_eq e.to me && not (actor_eq e.from me))) all in
-    let last = and_right (actor_eq e.to p.to) (actor_eq e.to me && not (actor_eq e.from me)) rest in
-    let to = same_actor e.to p.to (and_left (actor_eq e.to p.to) (actor_eq e.to me && not (actor_eq e.from me)) rest) in
-    let own = same_actor e.to me (and_left (actor_eq e.to me) (not (actor_eq e.from me)) last) in
+    let rest = (and_parts (actor_eq e.from p.from) (actor_eq e.to p.to && (actor_eq e.to me && not (actor_eq e.from me))) all).1 in
+    let last = (and_parts (actor_eq e.to p.to) (actor_eq e.to me && not (actor_eq e.from me)) rest).1 in
+    let to = same_actor e.to p.to (and_parts (actor_eq e.to p.to) (actor_eq e.to me && not (actor_eq e.from me)) rest).0 in
+    let own = same_actor e.to me (and_parts (actor_eq e.to me) (not (actor_eq e.from me)) last).0 in
     record {
       heard = h;
-      from = same_actor e.from p.from (and_left (actor_eq e.from p.from) (actor_eq e.to p.to && (actor_eq e.to me && not (actor_eq e.from me))) all);
+      from = same_actor e.from p.from (and_parts (actor_eq e.from p.from) (actor_eq e.to p.to && (actor_eq e.to me && not (actor_eq e.from me))) all).0;
       to = sym to ∙ own;
       receiver = own;
     }

@@ -1,5 +1,6 @@
 -- What a record makes of what a proxy knows of a request: the sources that are kept are those of the definition.
 use Rattle.std.proofs.Common.{◌≡◌, ℕ, true, false, cond, eqb, List, [], ◌∷◌, ◌++◌, map, Option, Some, None, refl, sym, ap, ◌∙◌, inl, inr}
+use Rattle.std.proofs.lemmas.Bool.{cases_Bool, and_parts, or_left, or_right}
 use Rattle.std.specs.Prelude.{is_some}
 use Rattle.std.specs.List.{list_any}
 use Rattle.std.specs.Option.{option_map, option_and_then}
@@ -8,7 +9,6 @@ use Rattle.std.proofs.lemmas.Option.{none-some}
 use Rattle.nz_base.specs.declared.actor.Actor.TheVariants.{Proxy}
 use Rattle.nz_base.specs.declared.key.Id.{Id}
 use Rattle.nz_base.specs.Cluster.{leader_of}
-use Rattle.nz_base.proofs.Booleans.{cases_bool, and_right, or_left, or_right}
 use Rattle.nz_store.specs.declared.command.Answer.{Answer}
 use Rattle.nz_machine.specs.declared.event.Parcel.{Parcel}
 use Rattle.nz_machine.specs.declared.event.Record.{Record}
@@ -156,7 +156,7 @@ notes_then : (g : Group) (q : ℕ) (id : Id) (r : Record) (J : List Record) (p :
     → with_source (notes_of g q id J replies) reply source ≡ notes_of g q id (r ∷ J) (with_note replies reply)
 notes_then g q id r J p reply source replies b e =
     let still = all_still g q id r J replies e in
-    elim (cases_bool (list_any (reply_eq reply) replies)) [
+    elim (cases_Bool (list_any (reply_eq reply) replies)) [
       | inl there ↦ rw there (ap (λ (s : List (Option Source)). record { tally = record { f = g.f; replies = replies }; sources = s }) (sym still))
       | inr new ↦
           let own = new_source g q id r J p reply source b (ap (λ (o : Option Standing). list_any (reply_eq reply) (replies_of o)) e ∙ new) in
@@ -193,7 +193,7 @@ decides_now g q id r J p reply source replies chosen a b e d answer after =
 
 has_answer : (f : ℕ) (reply : Reply) → is_of_leader f reply ≡ true → answer_in reply ≡ None → ⊥
 has_answer f (Fast replica view digest vector answer) leads none =
-    let some = and_right (eqb replica (leader_of f view)) (is_some answer) leads in
+    let some = (and_parts (eqb replica (leader_of f view)) (is_some answer) leads).1 in
     let not : is_some answer ≡ false = ap is_some none in
     cc
 has_answer f (Slow replica view) leads none = cc

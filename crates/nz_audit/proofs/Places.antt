@@ -1,10 +1,10 @@
 -- The source of a noted reply, looked up by its place.
 use Rattle.std.proofs.Common.{◌≡◌, ℕ, ◌<◌, Bool, true, cond, List, [], ◌∷◌, map, length, get_or, Option, Some, None, sym, ap, ◌∙◌, inl, inr, arith, lt-ltb}
+use Rattle.std.proofs.lemmas.Bool.{cases_Bool}
 use Rattle.std.specs.List.{position, position_or_len}
 use Rattle.std.specs.Option.{option_map, option_flatten}
 use Rattle.std.proofs.lemmas.List.Quantifiers.{position-Some}
 use Rattle.std.proofs.lemmas.Option.{slice_get-map, slice_get-get_or}
-use Rattle.nz_base.proofs.Booleans.{cases_bool}
 use Rattle.nz_machine.specs.declared.reply.Reply.{Reply}
 use Rattle.nz_machine.specs.Quorums.{reply_eq}
 use Rattle.nz_machine.specs.World.{Has}
@@ -16,7 +16,7 @@ is_within : {X : Type 0} (p : X → Bool) (xs : List X) (x : X) → Has xs x →
 is_within p [] x h t = absurd h
 is_within p (y ∷ xs) x (inl e) t = let here : p y ≡ true = ap p e ∙ t in rw here (omega arith)
 is_within p (y ∷ xs) x (inr h) t =
-    elim (cases_bool (p y)) [ inl here ↦ rw here (omega arith) | inr away ↦ rw away (let k = is_within p xs x h t in omega (arith, k)) ]
+    elim (cases_Bool (p y)) [ inl here ↦ rw here (omega arith) | inr away ↦ rw away (let k = is_within p xs x h t in omega (arith, k)) ]
 
 has_place : {X : Type 0} (p : X → Bool) (xs : List X) (x : X) → Has xs x → p x ≡ true → (i : ℕ) × (position p xs ≡ Some i)
 has_place p xs x h t =

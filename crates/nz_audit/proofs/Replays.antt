@@ -1,9 +1,9 @@
 -- A core that takes the records of its replica goes through the replica's states.
 use Rattle.std.proofs.Common.{◌≡◌, ℕ, ◌+◌, true, false, cond, eqb, List, [], ◌∷◌, take, reverse}
 use Rattle.std.proofs.Common.{Option, Some, None, refl, sym, ap, subst, ◌∙◌, inl, inr, eqb-true}
+use Rattle.std.proofs.lemmas.Bool.{cases_Bool}
 use Rattle.std.specs.Prelude.{slice_get}
 use Rattle.std.proofs.lemmas.List.{reverse-append}
-use Rattle.nz_base.proofs.Booleans.{cases_bool}
 use Rattle.nz_base.specs.Actor.{actor_eq}
 use Rattle.nz_base.specs.declared.actor.Actor.{Actor}
 use Rattle.nz_base.specs.declared.actor.Actor.TheVariants.{Replica, Proxy, Client}
@@ -70,7 +70,7 @@ any_stays g m r J (Some core) other h = core_stays g m r J core other h
 pub core_takes : (g : Group) (r : Record) (J : List Record) (k m : ℕ) (old new : ReplicaView) (before after : Option ReplicaView)
     → r.actor ≡ Replica m → (m ≡ k → before ≡ Some old) → after ≡ cond (eqb m k) (Some new) before
     → (IsCore g J m old → IsCore g (r ∷ J) m new) → IsCoreIfAny g J k before → IsCoreIfAny g (r ∷ J) k after
-core_takes g r J k m old new before after by found is taken h = elim (cases_bool (eqb m k)) [
+core_takes g r J k m old new before after by found is taken h = elim (cases_Bool (eqb m k)) [
   | inl same ↦
       let at = eqb-true m k same in
       let h_old : IsCore g J k old = subst (IsCoreIfAny g J k) (found at) h in
@@ -83,7 +83,7 @@ core_takes g r J k m old new before after by found is taken h = elim (cases_bool
 
 pub core_put : (g : Group) (J : List Record) (k m : ℕ) (core : ReplicaView) (before after : Option ReplicaView) → after ≡ cond (eqb m k) (Some core) before
     → IsCore g J m core → IsCoreIfAny g J k before → IsCoreIfAny g J k after
-core_put g J k m core before after is at h = elim (cases_bool (eqb m k)) [
+core_put g J k m core before after is at h = elim (cases_Bool (eqb m k)) [
   | inl same ↦
       subst (IsCoreIfAny g J k) (sym (is ∙ ap (λ b. cond b (Some core) before) same)) (subst (λ (x : ℕ). IsCore g J x core) (eqb-true m k same) at)
   | inr other ↦ subst (IsCoreIfAny g J k) (sym (is ∙ ap (λ b. cond b (Some core) before) other)) h
@@ -91,7 +91,7 @@ core_put g J k m core before after is at h = elim (cases_bool (eqb m k)) [
 
 pub core_absent : (g : Group) (r : Record) (J : List Record) (k m : ℕ) (before : Option ReplicaView)
     → r.actor ≡ Replica m → (m ≡ k → before ≡ None) → IsCoreIfAny g J k before → IsCoreIfAny g (r ∷ J) k before
-core_absent g r J k m before by none h = elim (cases_bool (eqb m k)) [
+core_absent g r J k m before by none h = elim (cases_Bool (eqb m k)) [
   | inl same ↦ subst (IsCoreIfAny g (r ∷ J) k) (sym (none (eqb-true m k same))) tt
   | inr other ↦ any_stays g k r J before (ap (λ (a : Actor). actor_eq a (Replica k)) by ∙ other) h
 ]

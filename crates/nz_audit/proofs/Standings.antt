@@ -1,8 +1,8 @@
 -- What a message makes of what a proxy knows of a request, by the proxy's rules.
 use Rattle.std.proofs.Common.{◌≡◌, ℕ, false, cond, List, [], Option, Some, None, refl, subst, inl, inr}
+use Rattle.std.proofs.lemmas.Bool.{cases_Bool}
 use Rattle.nz_base.specs.declared.key.Id.{Id}
 use Rattle.nz_base.specs.Key.{id_eq}
-use Rattle.nz_base.proofs.Booleans.{cases_bool}
 use Rattle.nz_base.proofs.Names.{same_id, id_turn_away}
 use Rattle.nz_store.specs.declared.command.Answer.{Answer}
 use Rattle.nz_window.specs.Samples.{with_sample}
@@ -19,7 +19,7 @@ at_each : (id x : Id) (s t : ProxyData) (f : Option Standing → Option Standing
     → standing_of t id ≡ f (standing_of s id) → (id_eq x id ≡ false → standing_of t x ≡ standing_of s x)
     → standing_of t x ≡ cond (id_eq id x) (f (standing_of s x)) (standing_of s x)
 at_each id x s t f here away =
-    elim (cases_bool (id_eq id x)) [
+    elim (cases_Bool (id_eq id x)) [
       | inl same ↦ rw same (subst (λ (y : Id). standing_of t y ≡ f (standing_of s y)) (same_id id x same) here)
       | inr other ↦ rw other (away (id_turn_away id x other))
     ]

@@ -1,5 +1,6 @@
 -- The table of what was sent first, in the course of a record.
 use Rattle.std.proofs.Common.{◌≡◌, Bool, true, false, cond, ◌||◌, List, [], ◌∷◌, ◌++◌, Option, Some, None, refl, sym, ap, subst, ◌∙◌, inl, inr}
+use Rattle.std.proofs.lemmas.Bool.{cases_Bool}
 use Rattle.std.specs.Prelude.{is_some}
 use Rattle.std.specs.List.{list_any}
 use Rattle.std.specs.Option.{option_map}
@@ -7,7 +8,7 @@ use Rattle.std.proofs.lemmas.List.Folds.{list_any-append}
 use Rattle.std.proofs.lemmas.Option.{none-some}
 use mathlib.Core.Bool.{or-false, or-true}
 use Rattle.nz_base.specs.declared.key.Id.{Id}
-use Rattle.nz_base.proofs.Booleans.{cases_bool, clash}
+use Rattle.nz_base.proofs.Booleans.{true_and_false}
 use Rattle.nz_machine.specs.declared.event.Parcel.{Parcel}
 use Rattle.nz_machine.specs.declared.event.Record.{Record}
 use Rattle.nz_machine.specs.State.{Group}
@@ -51,7 +52,7 @@ still_other : (g : Group) (s p : Parcel) (done : List Parcel) (r : Record) (J : 
 still_other g s p done r J table h e = e ∙ ap (λ (o : Option (List Record)). stands_for g p o (about p)) (sym (with_other p s done r J h))
 
 by_parcel : (s p : Parcel) (P : Parcel → Type 0) → (s ≡ p → P p) → (parcel_eq p s ≡ false → P p) → P p
-by_parcel s p P same other = elim (cases_bool (parcel_eq p s)) [ inl e ↦ same (sym (same_parcel p s e)) | inr e ↦ other e ]
+by_parcel s p P same other = elim (cases_Bool (parcel_eq p s)) [ inl e ↦ same (sym (same_parcel p s e)) | inr e ↦ other e ]
 
 -- a parcel that stands for nothing
 pub table_passes : (g : Group) (s : Parcel) (done : List Parcel) (r : Record) (J : List Record) (table : List (ParcelKey × Option Source))
@@ -109,8 +110,8 @@ table_keeps g s id done r J old new value is away value_is kept h =
     }
   where
     apart : (p : Parcel) → parcel_eq p s ≡ false → parcel_eq s p ≡ false
-    apart p other = elim (cases_bool (parcel_eq s p)) [
-      | inl e ↦ absurd (clash (parcel_eq p s) (ap (λ (x : Parcel). parcel_eq p x) (same_parcel s p e) ∙ parcel_eq_self p) other)
+    apart p other = elim (cases_Bool (parcel_eq s p)) [
+      | inl e ↦ absurd (true_and_false (parcel_eq p s) (ap (λ (x : Parcel). parcel_eq p x) (same_parcel s p e) ∙ parcel_eq_self p) other)
       | inr e ↦ e
     ]
 

@@ -1,6 +1,7 @@
 -- Lists of keys and logs: parts of them, put together, filtered, and what comes last.
 use Rattle.std.proofs.Common.{◌≡◌, suc, ◌-◌, Bool, true, false, ◌||◌, List, [], ◌∷◌, ◌++◌, length, Some}
 use Rattle.std.proofs.Common.{None, slice_get, refl, sym, ap, subst, ◌∙◌, inl, inr, ◌⊎◌, arith}
+use Rattle.std.proofs.lemmas.Bool.{cases_Bool, or_cases, or_left, or_right, or_parts}
 use Rattle.std.specs.List.{filter}
 use Rattle.std.proofs.lemmas.List.{map-append, append-nil}
 use Rattle.std.proofs.lemmas.List.Folds.{list_any-append}
@@ -9,7 +10,7 @@ use Rattle.nz_base.specs.declared.key.Key.{Key}
 use Rattle.nz_base.specs.declared.key.Entry.{Entry}
 use Rattle.nz_base.specs.Key.{key_below, key_eq, id_eq, id_of}
 use Rattle.nz_base.specs.Log.{keys_of, has_key, has_id, AreRising, HaveOwnIds, IsLog, is_above_last}
-use Rattle.nz_base.proofs.Booleans.{cases_bool, or_cases, or_left, or_right, neither_left, neither_right, clash}
+use Rattle.nz_base.proofs.Booleans.{true_and_false}
 use Rattle.nz_base.proofs.Keys.{key_below-trans}
 use Rattle.nz_base.proofs.Names.{key_eq_self, same_key, id_eq_self, same_id, id_turn_away}
 
@@ -102,8 +103,7 @@ rising_more keys key r above = rising_join keys key [] r tt (λ x h. above_each 
 
 pub own_in_prefix : (xs ys : List Key) → HaveOwnIds (xs ++ ys) → HaveOwnIds xs
 own_in_prefix [] ys own = tt
-own_in_prefix (x ∷ xs) ys own = (
-  neither_left (has_id xs (id_of x)) (has_id ys (id_of x)) (sym (has_id-append xs ys (id_of x)) ∙ own.0),
+own_in_prefix (x ∷ xs) ys own = ((or_parts (has_id xs (id_of x)) (has_id ys (id_of x)) (sym (has_id-append xs ys (id_of x)) ∙ own.0)).0,
   own_in_prefix xs ys own.1,
 )
 
@@ -111,7 +111,7 @@ own_in_prefix (x ∷ xs) ys own = (
 pub own_id : (xs : List Key) (k : Key) (ys : List Key) → HaveOwnIds (xs ++ k ∷ ys) → has_id xs (id_of k) ≡ false
 own_id [] k ys own = refl
 own_id (x ∷ xs) k ys own =
-    elim (cases_bool (id_eq (id_of k) (id_of x))) [
+    elim (cases_Bool (id_eq (id_of k) (id_of x))) [
       | inr apart ↦ rw apart (own_id xs k ys own.1)
       | inl same ↦
           let turned : id_eq (id_of x) (id_of k) ≡ true =
@@ -119,7 +119,7 @@ own_id (x ∷ xs) k ys own =
           let there : has_id (xs ++ k ∷ ys) (id_of x) ≡ true =
           has_id-append xs (k ∷ ys) (id_of x)
           ∙ or_right (has_id xs (id_of x)) (has_id (k ∷ ys) (id_of x)) (or_left (id_eq (id_of x) (id_of k)) (has_id ys (id_of x)) turned) in
-          clash (has_id (xs ++ k ∷ ys) (id_of x)) there own.0
+          true_and_false (has_id (xs ++ k ∷ ys) (id_of x)) there own.0
     ]
 
 -- a prefix, a key whose id is nowhere else, and a rest
@@ -127,12 +127,12 @@ pub own_join : (xs : List Key) (k : Key) (ys : List Key) → HaveOwnIds (xs ++ y
     → has_id ys (id_of k) ≡ false → HaveOwnIds (xs ++ k ∷ ys)
 own_join [] k ys own prefix back = (back, own)
 own_join (x ∷ xs) k ys own prefix back =
-    let apart = id_turn_away (id_of k) (id_of x) (neither_left (id_eq (id_of k) (id_of x)) (has_id xs (id_of k)) prefix) in
-    let rest = neither_right (id_eq (id_of k) (id_of x)) (has_id xs (id_of k)) prefix in
+    let apart = id_turn_away (id_of k) (id_of x) (or_parts (id_eq (id_of k) (id_of x)) (has_id xs (id_of k)) prefix).0 in
+    let rest = (or_parts (id_eq (id_of k) (id_of x)) (has_id xs (id_of k)) prefix).1 in
     let parted : (has_id xs (id_of x) || has_id ys (id_of x)) ≡ false = sym (has_id-append xs ys (id_of x)) ∙ own.0 in
     let new : has_id (xs ++ k ∷ ys) (id_of x) ≡ false =
     has_id-append xs (k ∷ ys) (id_of x)
-    ∙ (rw (neither_left (has_id xs (id_of x)) (has_id ys (id_of x)) parted, apart) (neither_right (has_id xs (id_of x)) (has_id ys (id_of x)) parted)) in
+    ∙ (rw ((or_parts (has_id xs (id_of x)) (has_id ys (id_of x)) parted).0, apart) (or_parts (has_id xs (id_of x)) (has_id ys (id_of x)) parted).1) in
     (new, own_join xs k ys own.1 rest back)
 
 pub own_more : (keys : List Key) (key : Key) → HaveOwnIds keys → has_id keys (id_of key) ≡ false → HaveOwnIds (keys ++ key ∷ [])
@@ -156,7 +156,7 @@ log_push es e log above fresh =
 pub has_key_filter : (p : Entry → Bool) (es : List Entry) (x : Key) → has_key (keys_of (filter p es)) x ≡ true → has_key (keys_of es) x ≡ true
 has_key_filter p [] x h = h
 has_key_filter p (e ∷ es) x h =
-    elim (cases_bool (p e)) [
+    elim (cases_Bool (p e)) [
       | inl kept ↦ elim (or_cases (key_eq x e.key) (has_key (keys_of (filter p es)) x) (rw kept at h)) [
         | inl first ↦ or_left (key_eq x e.key) (has_key (keys_of es) x) first
         | inr there ↦ or_right (key_eq x e.key) (has_key (keys_of es) x) (has_key_filter p es x there)
@@ -167,16 +167,16 @@ has_key_filter p (e ∷ es) x h =
 pub has_id_filter : (p : Entry → Bool) (es : List Entry) (i : Id) → has_id (keys_of es) i ≡ false → has_id (keys_of (filter p es)) i ≡ false
 has_id_filter p [] i h = h
 has_id_filter p (e ∷ es) i h =
-    let rest = has_id_filter p es i (neither_right (id_eq i (id_of e.key)) (has_id (keys_of es) i) h) in
-    elim (cases_bool (p e)) [
-      | inl kept ↦ rw (kept, neither_left (id_eq i (id_of e.key)) (has_id (keys_of es) i) h) rest
+    let rest = has_id_filter p es i (or_parts (id_eq i (id_of e.key)) (has_id (keys_of es) i) h).1 in
+    elim (cases_Bool (p e)) [
+      | inl kept ↦ rw (kept, (or_parts (id_eq i (id_of e.key)) (has_id (keys_of es) i) h).0) rest
       | inr gone ↦ rw gone rest
     ]
 
 pub rising_filter : (p : Entry → Bool) (es : List Entry) → AreRising (keys_of es) → AreRising (keys_of (filter p es))
 rising_filter p [] r = tt
 rising_filter p (e ∷ es) r =
-    elim (cases_bool (p e)) [
+    elim (cases_Bool (p e)) [
       | inl kept ↦ rw kept (λ x h. r.0 x (has_key_filter p es x h), rising_filter p es r.1)
       | inr gone ↦ rw gone (rising_filter p es r.1)
     ]
@@ -184,7 +184,7 @@ rising_filter p (e ∷ es) r =
 pub own_filter : (p : Entry → Bool) (es : List Entry) → HaveOwnIds (keys_of es) → HaveOwnIds (keys_of (filter p es))
 own_filter p [] own = tt
 own_filter p (e ∷ es) own =
-    elim (cases_bool (p e)) [
+    elim (cases_Bool (p e)) [
       | inl kept ↦ rw kept (has_id_filter p es (id_of e.key) own.0, own_filter p es own.1)
       | inr gone ↦ rw gone (own_filter p es own.1)
     ]

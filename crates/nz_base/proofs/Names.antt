@@ -1,13 +1,13 @@
 -- The tests on actors, ids and keys say what they seem to say.
 use Rattle.std.proofs.Common.{◌≡◌, true, false, refl, ap, subst, inl, inr, arith}
-use Rattle.std.proofs.lemmas.Bool.{eqb-true, eq-eqb}
+use Rattle.std.proofs.lemmas.Bool.{eqb-true, eq-eqb, cases_Bool}
 use Rattle.nz_base.specs.declared.actor.Actor.{Actor}
 use Rattle.nz_base.specs.declared.actor.Actor.TheVariants.{Replica, Proxy, Client}
 use Rattle.nz_base.specs.declared.key.Id.{Id}
 use Rattle.nz_base.specs.declared.key.Key.{Key}
 use Rattle.nz_base.specs.Actor.{actor_eq}
 use Rattle.nz_base.specs.Key.{id_eq, key_eq}
-use Rattle.nz_base.proofs.Booleans.{cases_bool, clash}
+use Rattle.nz_base.proofs.Booleans.{true_and_false}
 
 pub actor_eq_self : (a : Actor) → actor_eq a a ≡ true
 actor_eq_self (Replica r) = eq-eqb r r refl
@@ -37,8 +37,8 @@ id_turn a b h = subst (λ (i : Id). id_eq i a ≡ true) (same_id a b h) (id_eq_s
 
 pub id_turn_away : (a b : Id) → id_eq a b ≡ false → id_eq b a ≡ false
 id_turn_away a b h =
-    elim (cases_bool (id_eq b a)) [
-      | inl same ↦ clash (id_eq a b) (id_turn b a same) h
+    elim (cases_Bool (id_eq b a)) [
+      | inl same ↦ true_and_false (id_eq a b) (id_turn b a same) h
       | inr away ↦ away
     ]
 

@@ -1,5 +1,6 @@
 -- An early entry goes to its place, and the others stay as they are.
 use Rattle.std.proofs.Common.{◌≡◌, ℕ, suc, Bool, true, false, cond, List, [], ◌∷◌, refl, sym, ap, subst, ◌∙◌, inl, inr, ◌⊎◌}
+use Rattle.std.proofs.lemmas.Bool.{cases_Bool, or_cases, or_left, or_right, or_parts}
 use Rattle.std.specs.List.{insert}
 use Rattle.nz_base.specs.declared.key.Id.{Id}
 use Rattle.nz_base.specs.declared.key.Key.{Key}
@@ -8,7 +9,7 @@ use Rattle.nz_base.specs.Key.{key_below, key_eq, id_eq, id_of}
 use Rattle.nz_base.specs.Log.{keys_of, has_key, has_id, AreRising, HaveOwnIds, IsLog}
 use Rattle.nz_base.proofs.Keys.{key_below-trans, key_below-total}
 use Rattle.nz_base.proofs.Names.{id_eq_self, same_key, id_turn_away}
-use Rattle.nz_base.proofs.Booleans.{cases_bool, or_cases, or_left, or_right, neither_left, neither_right, clash}
+use Rattle.nz_base.proofs.Booleans.{true_and_false}
 use Rattle.nz_buffers.specs.Buffers.{insert_by_key}
 use Rattle.nz_buffers.specs.Places.{key_place_from}
 
@@ -43,7 +44,7 @@ has_key_insert [] e x h =
       | inr none ↦ absurd cc
     ]
 has_key_insert (f ∷ fs) e x h =
-    elim (cases_bool (key_below e.key f.key)) [
+    elim (cases_Bool (key_below e.key f.key)) [
       | inl lower ↦ elim (or_cases (key_eq x e.key) (has_key (keys_of (f ∷ fs)) x) (rw lower at h)) [
         | inl first ↦ inl (same_key x e.key first)
         | inr there ↦ inr there
@@ -60,10 +61,10 @@ has_key_insert (f ∷ fs) e x h =
 -- a key that is not below another one with a different id is above it
 pub above_other : (a b : Key) → key_below a b ≡ false → id_eq (id_of a) (id_of b) ≡ false → key_below b a ≡ true
 above_other a b not_lower apart =
-    elim (cases_bool (key_below b a)) [
+    elim (cases_Bool (key_below b a)) [
       | inl higher ↦ higher
       | inr not_higher ↦
-          clash (id_eq (id_of a) (id_of b))
+          true_and_false (id_eq (id_of a) (id_of b))
           (subst (λ (k : Key). id_eq (id_of a) (id_of k) ≡ true) (key_below-total a b not_lower not_higher) (id_eq_self (id_of a))) apart
     ]
 
@@ -71,7 +72,7 @@ pub rising_insert : (es : List Entry) (e : Entry) → AreRising (keys_of es) →
     → AreRising (keys_of (insert_by_key es e))
 rising_insert [] e r fresh = (λ x h. absurd cc, tt)
 rising_insert (f ∷ fs) e r fresh =
-    elim (cases_bool (key_below e.key f.key)) [
+    elim (cases_Bool (key_below e.key f.key)) [
       | inl lower ↦ rw lower (
         λ x h. elim (or_cases (key_eq x f.key) (has_key (keys_of fs) x) h) [
           | inl first ↦ subst (λ (y : Key). key_below e.key y ≡ true) (sym (same_key x f.key first)) lower
@@ -80,8 +81,8 @@ rising_insert (f ∷ fs) e r fresh =
         r,
       )
       | inr not_lower ↦
-          let apart = neither_left (id_eq (id_of e.key) (id_of f.key)) (has_id (keys_of fs) (id_of e.key)) fresh in
-          let rest = neither_right (id_eq (id_of e.key) (id_of f.key)) (has_id (keys_of fs) (id_of e.key)) fresh in
+          let apart = (or_parts (id_eq (id_of e.key) (id_of f.key)) (has_id (keys_of fs) (id_of e.key)) fresh).0 in
+          let rest = (or_parts (id_eq (id_of e.key) (id_of f.key)) (has_id (keys_of fs) (id_of e.key)) fresh).1 in
           rw not_lower (
             λ x h. elim (has_key_insert fs e x h) [
               | inl own ↦ subst (λ (y : Key). key_below f.key y ≡ true) (sym own) (above_other e.key f.key not_lower apart)
@@ -97,19 +98,19 @@ pub has_id_insert : (es : List Entry) (e : Entry) (i : Id) → has_id (keys_of e
     → id_eq i (id_of e.key) ≡ false → has_id (keys_of (insert_by_key es e)) i ≡ false
 has_id_insert [] e i h apart = rw apart refl
 has_id_insert (f ∷ fs) e i h apart =
-    elim (cases_bool (key_below e.key f.key)) [
+    elim (cases_Bool (key_below e.key f.key)) [
       | inl lower ↦ rw (lower, apart) h
       | inr not_lower ↦
-          rw (not_lower, neither_left (id_eq i (id_of f.key)) (has_id (keys_of fs) i) h)
-          (has_id_insert fs e i (neither_right (id_eq i (id_of f.key)) (has_id (keys_of fs) i) h) apart)
+          rw (not_lower, (or_parts (id_eq i (id_of f.key)) (has_id (keys_of fs) i) h).0)
+          (has_id_insert fs e i (or_parts (id_eq i (id_of f.key)) (has_id (keys_of fs) i) h).1 apart)
     ]
 
 pub own_insert : (es : List Entry) (e : Entry) → HaveOwnIds (keys_of es) → has_id (keys_of es) (id_of e.key) ≡ false → HaveOwnIds (keys_of (insert_by_key es e))
 own_insert [] e own fresh = (refl, tt)
 own_insert (f ∷ fs) e own fresh =
-    let apart = neither_left (id_eq (id_of e.key) (id_of f.key)) (has_id (keys_of fs) (id_of e.key)) fresh in
-    let rest = neither_right (id_eq (id_of e.key) (id_of f.key)) (has_id (keys_of fs) (id_of e.key)) fresh in
-    elim (cases_bool (key_below e.key f.key)) [
+    let apart = (or_parts (id_eq (id_of e.key) (id_of f.key)) (has_id (keys_of fs) (id_of e.key)) fresh).0 in
+    let rest = (or_parts (id_eq (id_of e.key) (id_of f.key)) (has_id (keys_of fs) (id_of e.key)) fresh).1 in
+    elim (cases_Bool (key_below e.key f.key)) [
       | inl lower ↦ rw lower (fresh, own)
       | inr not_lower ↦ rw not_lower (has_id_insert fs e (id_of f.key) own.0 (id_turn_away (id_of e.key) (id_of f.key) apart), own_insert fs e own.1 rest)
     ]

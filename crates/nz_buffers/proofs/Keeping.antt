@@ -1,6 +1,7 @@
 -- Entries kept by their keys and by their ids, against the lists that clauses see.
 use Rattle.std.proofs.Common.{◌≡◌, Bool, true, false, not, List, [], ◌∷◌, ◌++◌, Option, Some, None, is_some, IsSome}
 use Rattle.std.proofs.Common.{IsTrue, ◌↔◌, arith, refl, sym, ap, subst, ◌∙◌, inl, inr, if◌then◌else◌}
+use Rattle.std.proofs.lemmas.Bool.{cases_Bool, or_parts}
 use Rattle.std.specs.List.{AllByRecursion}
 use Rattle.std.specs.Map.{lookup, values_of, remove_entry}
 use Rattle.std.specs.Option.{option_map}
@@ -17,7 +18,7 @@ use Rattle.nz_base.specs.declared.key.Entry.{Entry}
 use Rattle.nz_base.specs.Key.{key_cmp, key_below, id_eq, id_of}
 use Rattle.nz_base.specs.Log.{keys_of, has_id, HaveOwnIds, IsLog}
 use Rattle.nz_base.proofs.Names.{id_eq_self, same_id, id_turn, id_turn_away}
-use Rattle.nz_base.proofs.Booleans.{cases_bool, neither_left, neither_right, clash}
+use Rattle.nz_base.proofs.Booleans.{true_and_false}
 use Rattle.nz_base.proofs.Logs.{own_push, own_filter, log_filter}
 use Rattle.nz_buffers.specs.Buffers.{find_id, without, insert_by_key, first_key}
 use Rattle.nz_buffers.specs.Keeping.{IsAtItsKey, IsAtItsId, IsKeptBuffer, AreByIds}
@@ -33,7 +34,7 @@ Tells test i p = test p.0 ≡ id_eq i (id_of p.1.key)
 pub lookup_is : {K : Type 0} (test : K → Bool) (i : Id) (es : List (K × Entry)) → AllByRecursion (Tells test i) es → lookup test es ≡ find_id (values_of es) i
 lookup_is test i [] all = refl
 lookup_is test i (p ∷ es) all =
-    elim (cases_bool (id_eq i (id_of p.1.key))) [
+    elim (cases_Bool (id_eq i (id_of p.1.key))) [
       | inl here ↦ rw (all.0, here) refl
       | inr away ↦ rw (all.0, away) (lookup_is test i es all.1)
     ]
@@ -42,7 +43,7 @@ pub removed_is : {K : Type 0} (test : K → Bool) (i : Id) (es : List (K × Entr
     → values_of (remove_entry test es) ≡ without (values_of es) i
 removed_is test i [] all own = refl
 removed_is test i (p ∷ es) all own =
-    elim (cases_bool (id_eq i (id_of p.1.key))) [
+    elim (cases_Bool (id_eq i (id_of p.1.key))) [
       | inl here ↦
           rw (all.0, here) (sym (without_none (values_of es) i
           (subst (λ (j : Id). has_id (keys_of (values_of es)) j ≡ false) (sym (same_id i (id_of p.1.key) here)) own.0)))
@@ -53,7 +54,7 @@ pub all_removed : {K : Type 0} (P : K × Entry → Type 0) (test : K → Bool) (
     → AllByRecursion P es → AllByRecursion P (remove_entry test es)
 all_removed P test [] all = tt
 all_removed P test (p ∷ es) all =
-    elim (cases_bool (test p.0)) [
+    elim (cases_Bool (test p.0)) [
       | inl here ↦ rw here all.1
       | inr away ↦ rw away (all.0, all_removed P test es all.1)
     ]
@@ -102,7 +103,7 @@ is_equal Greater h = absurd cc
 found_id : (vs : List Entry) (i : Id) (k : Key) → option_map (λ (e : Entry). e.key) (find_id vs i) ≡ Some k → id_eq i (id_of k) ≡ true
 found_id [] i k h = absurd cc
 found_id (v ∷ vs) i k h =
-    elim (cases_bool (id_eq i (id_of v.key))) [
+    elim (cases_Bool (id_eq i (id_of v.key))) [
       | inl here ↦ let is : v.key ≡ k = some_key v.key k (rw here at h) in subst (λ (x : Key). id_eq i (id_of x) ≡ true) is here
       | inr away ↦ found_id vs i k (rw away at h)
     ]
@@ -112,19 +113,19 @@ found_id (v ∷ vs) i k h =
 
 tells_away : (i : Id) (k : Key) (p : Key × Entry) → id_eq i (id_of k) ≡ true → IsAtItsKey p → id_eq i (id_of p.1.key) ≡ false → Tells (is_at (key_cmp k)) i p
 tells_away i k p has at away =
-    elim (cases_bool (is_eq (key_cmp k p.0))) [
+    elim (cases_Bool (is_eq (key_cmp k p.0))) [
       | inr other ↦ other ∙ sym away
       | inl same ↦
           let is : k ≡ p.1.key = key_same k p.0 (is_equal (key_cmp k p.0) same) ∙ at in
-          clash (id_eq i (id_of p.1.key)) (subst (λ (x : Key). id_eq i (id_of x) ≡ true) is has) away
+          true_and_false (id_eq i (id_of p.1.key)) (subst (λ (x : Key). id_eq i (id_of x) ≡ true) is has) away
     ]
 
 none_tell : (i : Id) (k : Key) (es : List (Key × Entry)) → id_eq i (id_of k) ≡ true → AllByRecursion IsAtItsKey es → has_id (keys_of (values_of es)) i ≡ false
     → AllByRecursion (Tells (is_at (key_cmp k)) i) es
 none_tell i k [] has all away = tt
 none_tell i k (p ∷ es) has all away = (
-  tells_away i k p has all.0 (neither_left (id_eq i (id_of p.1.key)) (has_id (keys_of (values_of es)) i) away),
-  none_tell i k es has all.1 (neither_right (id_eq i (id_of p.1.key)) (has_id (keys_of (values_of es)) i) away),
+  tells_away i k p has all.0 (or_parts (id_eq i (id_of p.1.key)) (has_id (keys_of (values_of es)) i) away).0,
+  none_tell i k es has all.1 (or_parts (id_eq i (id_of p.1.key)) (has_id (keys_of (values_of es)) i) away).1,
 )
 
 pub keys_tell : (i : Id) (k : Key) (es : List (Key × Entry)) → AllByRecursion IsAtItsKey es
@@ -132,7 +133,7 @@ pub keys_tell : (i : Id) (k : Key) (es : List (Key × Entry)) → AllByRecursion
     → AllByRecursion (Tells (is_at (key_cmp k)) i) es
 keys_tell i k [] all own h = tt
 keys_tell i k (p ∷ es) all own h =
-    elim (cases_bool (id_eq i (id_of p.1.key))) [
+    elim (cases_Bool (id_eq i (id_of p.1.key))) [
       | inr away ↦ (tells_away i k p (found_id (values_of (p ∷ es)) i k h) all.0 away, keys_tell i k es all.1 own.1 (rw away at h))
       | inl here ↦
           let has = found_id (values_of (p ∷ es)) i k h in
@@ -155,7 +156,7 @@ kept_removed es keys now i k old here index =
     record {
       at = all_removed IsAtItsKey (is_at (key_cmp k)) es old.at;
       log = subst IsLog (sym is) (log_filter (λ (x : Entry). not (id_eq i (id_of x.key))) vs old.log);
-      found = λ j. index j ∙ elim (cases_bool (id_eq i j)) [
+      found = λ j. index j ∙ elim (cases_Bool (id_eq i j)) [
         | inl same ↦
             rw same (sym (ap (λ (xs : List Entry). option_map (λ (e : Entry). e.key) (find_id xs j)) is
             ∙ ap (option_map (λ (e : Entry). e.key)) (subst (λ (m : Id). find_id (without vs i) m ≡ None) (same_id i j same) (gone vs i))))
@@ -167,18 +168,18 @@ kept_removed es keys now i k old here index =
   where
     gone : (vs : List Entry) (i : Id) → find_id (without vs i) i ≡ None
     gone [] i = refl
-    gone (v ∷ vs) i = elim (cases_bool (id_eq i (id_of v.key))) [
+    gone (v ∷ vs) i = elim (cases_Bool (id_eq i (id_of v.key))) [
       | inl here ↦ rw here (gone vs i)
       | inr away ↦ rw away (rw away (gone vs i))
     ]
 
     stays : (vs : List Entry) (i j : Id) → id_eq i j ≡ false → find_id (without vs i) j ≡ find_id vs j
     stays [] i j other = refl
-    stays (v ∷ vs) i j other = elim (cases_bool (id_eq j (id_of v.key))) [
+    stays (v ∷ vs) i j other = elim (cases_Bool (id_eq j (id_of v.key))) [
       | inl here ↦
           let away : id_eq i (id_of v.key) ≡ false = subst (λ (m : Id). id_eq i m ≡ false) (same_id j (id_of v.key) here) other in
           rw away (rw here refl)
-      | inr apart ↦ elim (cases_bool (id_eq i (id_of v.key))) [
+      | inr apart ↦ elim (cases_Bool (id_eq i (id_of v.key))) [
         | inl here ↦ rw here (rw apart (stays vs i j other))
         | inr away ↦ rw away (rw apart (stays vs i j other))
       ]
@@ -190,7 +191,7 @@ pub kept_popped : (p : Key × Entry) (es : List (Key × Entry)) (keys now : List
 kept_popped p es keys now old index = record {
   at = old.at.1;
   log = record { rising = old.log.rising.1; own_ids = old.log.own_ids.1 };
-  found = λ i. index i ∙ ap (λ (k : Key). if id_eq (id_of k) i then None else lookup (id_eq i) keys) old.at.0 ∙ elim (cases_bool (id_eq (id_of p.1.key) i)) [
+  found = λ i. index i ∙ ap (λ (k : Key). if id_eq (id_of k) i then None else lookup (id_eq i) keys) old.at.0 ∙ elim (cases_Bool (id_eq (id_of p.1.key) i)) [
     | inl here ↦
         rw here (sym (ap (option_map (λ (e : Entry). e.key))
         (find_none (values_of es) i (subst (λ (j : Id). has_id (keys_of (values_of es)) j ≡ false)
@@ -204,7 +205,7 @@ kept_popped p es keys now old index = record {
 find_other : (vs : List Entry) (e : Entry) (i : Id) → id_eq i (id_of e.key) ≡ false → find_id (insert_by_key vs e) i ≡ find_id vs i
 find_other [] e i away = rw away refl
 find_other (v ∷ vs) e i away =
-    elim (cases_bool (key_below e.key v.key)) [
+    elim (cases_Bool (key_below e.key v.key)) [
       | inl lower ↦ rw lower (rw away refl)
       | inr higher ↦ rw higher (ap (λ (o : Option Entry). if id_eq i (id_of v.key) then Some v else o) (find_other vs e i away))
     ]
@@ -212,11 +213,11 @@ find_other (v ∷ vs) e i away =
 find_new : (vs : List Entry) (e : Entry) (i : Id) → id_eq i (id_of e.key) ≡ true → has_id (keys_of vs) i ≡ false → find_id (insert_by_key vs e) i ≡ Some e
 find_new [] e i here away = rw here refl
 find_new (v ∷ vs) e i here away =
-    elim (cases_bool (key_below e.key v.key)) [
+    elim (cases_Bool (key_below e.key v.key)) [
       | inl lower ↦ rw lower (rw here refl)
       | inr higher ↦
-          rw higher (rw (neither_left (id_eq i (id_of v.key)) (has_id (keys_of vs) i) away)
-          (find_new vs e i here (neither_right (id_eq i (id_of v.key)) (has_id (keys_of vs) i) away)))
+          rw higher (rw (or_parts (id_eq i (id_of v.key)) (has_id (keys_of vs) i) away).0
+          (find_new vs e i here (or_parts (id_eq i (id_of v.key)) (has_id (keys_of vs) i) away).1))
     ]
 
 -- Where the new entry goes, by the order of its key and the first one.
@@ -225,7 +226,7 @@ inserted : (es : List (Key × Entry)) (e : Entry) → AllByRecursion IsAtItsKey 
 inserted [] e all fresh = (refl, (refl, tt))
 inserted (p ∷ es) e all fresh =
     first (key_cmp e.key p.0) refl
-    (inserted es e all.1 (neither_right (id_eq (id_of e.key) (id_of p.1.key)) (has_id (keys_of (values_of es)) (id_of e.key)) fresh))
+    (inserted es e all.1 (or_parts (id_eq (id_of e.key) (id_of p.1.key)) (has_id (keys_of (values_of es)) (id_of e.key)) fresh).1)
   where
     first : (r : Ordering) → key_cmp e.key p.0 ≡ r
         → (values_of (insert_entry key_cmp es e.key e) ≡ insert_by_key (values_of es) e) × AllByRecursion IsAtItsKey (insert_entry key_cmp es e.key e)
@@ -235,9 +236,9 @@ inserted (p ∷ es) e all fresh =
         let below : key_below e.key p.1.key ≡ true = rw (ap (key_cmp e.key) (sym all.0) ∙ is) refl in
         (rw (is, below) refl, rw is (refl, all))
     first Equal is rest =
-        clash (id_eq (id_of e.key) (id_of p.1.key))
+        true_and_false (id_eq (id_of e.key) (id_of p.1.key))
         (subst (λ (k : Key). id_eq (id_of e.key) (id_of k) ≡ true) (key_same e.key p.0 is ∙ all.0)
-        (id_eq_self (id_of e.key))) (neither_left (id_eq (id_of e.key) (id_of p.1.key)) (has_id (keys_of (values_of es)) (id_of e.key)) fresh)
+        (id_eq_self (id_of e.key))) (or_parts (id_eq (id_of e.key) (id_of p.1.key)) (has_id (keys_of (values_of es)) (id_of e.key)) fresh).0
     first Greater is rest =
         let above : key_below e.key p.1.key ≡ false = rw (ap (key_cmp e.key) (sym all.0) ∙ is) refl in
         (rw (is, above) (ap (λ (xs : List Entry). p.1 ∷ xs) rest.0), rw is (all.0, rest.1))
@@ -255,7 +256,7 @@ kept_inserted es keys now e old fresh index =
     record {
       at = (inserted es e old.at fresh).1;
       log = subst IsLog (sym is) (log_insert (values_of es) e old.log fresh);
-      found = λ i. index i ∙ elim (cases_bool (id_eq (id_of e.key) i)) [
+      found = λ i. index i ∙ elim (cases_Bool (id_eq (id_of e.key) i)) [
         | inl here ↦
             let free : has_id (keys_of (values_of es)) i ≡ false =
             subst (λ (j : Id). has_id (keys_of (values_of es)) j ≡ false) (same_id (id_of e.key) i here) fresh in

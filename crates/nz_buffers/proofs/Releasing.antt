@@ -1,5 +1,6 @@
 -- The due entries come first.
 use Rattle.std.proofs.Common.{◌≡◌, ℕ, true, false, List, [], ◌∷◌, ◌++◌, refl, sym, ap, ◌∙◌, inl, inr, arith}
+use Rattle.std.proofs.lemmas.Bool.{cases_Bool, or_left, or_right}
 use Rattle.std.specs.List.{take_while}
 use Rattle.std.proofs.lemmas.Bool.Decides.{nat_tests}
 use Rattle.std.proofs.lemmas.List.Sums.{take_while-cons}
@@ -8,7 +9,6 @@ use Rattle.nz_base.specs.declared.key.Entry.{Entry}
 use Rattle.nz_base.specs.Key.{key_below, key_eq}
 use Rattle.nz_base.specs.Log.{keys_of, has_key, AreRising}
 use Rattle.nz_base.proofs.Names.{key_eq_self}
-use Rattle.nz_base.proofs.Booleans.{cases_bool, or_left, or_right}
 use Rattle.nz_buffers.specs.Buffers.{is_due, released, held_back}
 
 -- a key above one that is not due is not due
@@ -26,7 +26,7 @@ none_due clock e (f ∷ fs) h above =
 pub in_turn : (es : List Entry) (clock : ℕ) → AreRising (keys_of es) → take_while (is_due clock) es ≡ released es clock
 in_turn [] clock r = refl
 in_turn (e ∷ es) clock r =
-    take_while-cons (is_due clock) e es ∙ elim (cases_bool (is_due clock e)) [
+    take_while-cons (is_due clock) e es ∙ elim (cases_Bool (is_due clock e)) [
       | inl due ↦ rw due (ap (λ (xs : List Entry). e ∷ xs) (in_turn es clock r.1))
       | inr not_due ↦ rw not_due (sym (none_due clock e es not_due r.0).0)
     ]
@@ -34,7 +34,7 @@ in_turn (e ∷ es) clock r =
 pub left : (es : List Entry) (clock : ℕ) → AreRising (keys_of es) → es ≡ released es clock ++ held_back es clock
 left [] clock r = refl
 left (e ∷ es) clock r =
-    elim (cases_bool (is_due clock e)) [
+    elim (cases_Bool (is_due clock e)) [
       | inl due ↦ rw due (ap (λ (xs : List Entry). e ∷ xs) (left es clock r.1))
       | inr not_due ↦
           let none = none_due clock e es not_due r.0 in

@@ -1,6 +1,7 @@
 -- What a removal leaves.
 use Rattle.std.proofs.Common.{◌≡◌, ℕ, suc, ◌<◌, true, false, List, [], ◌∷◌, ◌++◌, length, take, drop, get_or, Option, Some}
 use Rattle.std.proofs.Common.{None, is_some, Bor, IsSome, IsTrue, ◌↔◌, drop-cons, refl, sym, ap, subst, ◌∙◌, inl, inr}
+use Rattle.std.proofs.lemmas.Bool.{cases_Bool, or_parts}
 use Rattle.std.specs.Option.{option_copied}
 use Rattle.std.specs.List.{remove}
 use Rattle.std.proofs.lemmas.List.{map-append, take-append-drop}
@@ -10,7 +11,6 @@ use Rattle.nz_base.specs.declared.key.Entry.{Entry}
 use Rattle.nz_base.specs.Key.{id_eq, id_of}
 use Rattle.nz_base.specs.Log.{keys_of, has_id, HaveOwnIds}
 use Rattle.nz_base.proofs.Names.{same_id}
-use Rattle.nz_base.proofs.Booleans.{cases_bool, neither_left, neither_right}
 use Rattle.nz_buffers.specs.Buffers.{find_id, without}
 use Rattle.nz_buffers.specs.Places.{IsFirstPlace}
 
@@ -20,14 +20,14 @@ use Rattle.nz_buffers.specs.Places.{IsFirstPlace}
 pub without_none : (es : List Entry) (i : Id) → has_id (keys_of es) i ≡ false → without es i ≡ es
 without_none [] i h = refl
 without_none (e ∷ es) i h =
-    rw (neither_left (id_eq i (id_of e.key)) (has_id (keys_of es) i) h)
-    (ap (λ (xs : List Entry). e ∷ xs) (without_none es i (neither_right (id_eq i (id_of e.key)) (has_id (keys_of es) i) h)))
+    rw (or_parts (id_eq i (id_of e.key)) (has_id (keys_of es) i) h).0
+    (ap (λ (xs : List Entry). e ∷ xs) (without_none es i (or_parts (id_eq i (id_of e.key)) (has_id (keys_of es) i) h).1))
 
 pub find_none : (es : List Entry) (i : Id) → has_id (keys_of es) i ≡ false → find_id es i ≡ None
 find_none [] i h = refl
 find_none (e ∷ es) i h =
-    rw (neither_left (id_eq i (id_of e.key)) (has_id (keys_of es) i) h)
-    (find_none es i (neither_right (id_eq i (id_of e.key)) (has_id (keys_of es) i) h))
+    rw (or_parts (id_eq i (id_of e.key)) (has_id (keys_of es) i) h).0
+    (find_none es i (or_parts (id_eq i (id_of e.key)) (has_id (keys_of es) i) h).1)
 
 -- before the entry none has its id, and after it none has either
 taken_split : (prefix : List Entry) (e : Entry) (back : List Entry) (i : Id) → has_id (keys_of prefix) i ≡ false
@@ -35,8 +35,8 @@ taken_split : (prefix : List Entry) (e : Entry) (back : List Entry) (i : Id) →
     → (find_id (prefix ++ e ∷ back) i ≡ Some e) × (without (prefix ++ e ∷ back) i ≡ prefix ++ back)
 taken_split [] e back i away here after = (rw here refl, rw here (without_none back i after))
 taken_split (f ∷ prefix) e back i away here after =
-    let rest = taken_split prefix e back i (neither_right (id_eq i (id_of f.key)) (has_id (keys_of prefix) i) away) here after in
-    let apart = neither_left (id_eq i (id_of f.key)) (has_id (keys_of prefix) i) away in
+    let rest = taken_split prefix e back i (or_parts (id_eq i (id_of f.key)) (has_id (keys_of prefix) i) away).1 here after in
+    let apart = (or_parts (id_eq i (id_of f.key)) (has_id (keys_of prefix) i) away).0 in
     (rw apart rest.0, rw apart (ap (λ (xs : List Entry). f ∷ xs) rest.1))
 
 -- the ids after an entry differ from its own
@@ -66,7 +66,7 @@ taken_at es i place d own at =
 pub find_held : (es : List Entry) (i : Id) → is_some (find_id es i) ≡ has_id (keys_of es) i
 find_held [] i = refl
 find_held (e ∷ es) i =
-    elim (cases_bool (id_eq i (id_of e.key))) [
+    elim (cases_Bool (id_eq i (id_of e.key))) [
       | inl here ↦ rw here refl
       | inr away ↦ rw away (find_held es i)
     ]

@@ -4,8 +4,7 @@ use Rattle.std.proofs.Common.{◌++◌, length, map, take, set, get_or, Option, 
 use Rattle.std.specs.Prelude.{slice_get}
 use Rattle.std.specs.List.{AllByRecursion, flat_map}
 use Rattle.std.proofs.lemmas.List.{length-append, map-append, append_assoc, append-nil, take_more, take_all}
-use Rattle.std.proofs.lemmas.Bool.{cases_lt, eq-eqb, false≢true}
-use Rattle.nz_base.proofs.Booleans.{cases_bool}
+use Rattle.std.proofs.lemmas.Bool.{cases_lt, eq-eqb, false≢true, cases_Bool}
 use Rattle.nz_base.specs.declared.actor.Actor.TheVariants.{Client}
 use Rattle.nz_base.specs.declared.scenario.Request.{Request}
 use Rattle.nz_base.specs.declared.limits.TheConstants.{PATIENCE}
@@ -29,7 +28,7 @@ without_short num (a ∷ xs) =
 
 pub less_open : (num : ℕ) (xs : List Attempt) → is_open num xs ≡ true → length (without_attempt num xs) + 1 ≤ length xs
 less_open num [] e = absurd cc
-less_open num (a ∷ xs) e = elim (cases_bool (eqb a.num num)) [
+less_open num (a ∷ xs) e = elim (cases_Bool (eqb a.num num)) [
   | inl t ↦
       let is = ap (λ (b : Bool). length (cond (not b) (a ∷ without_attempt num xs) (without_attempt num xs))) t in
       let rest = without_short num xs in

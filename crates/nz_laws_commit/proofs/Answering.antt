@@ -1,5 +1,6 @@
 -- A reply with an answer is read off the log of its view's leader.
 use Rattle.std.proofs.Common.{◌≡◌, ℕ, eqb, eq-eqb, eqb-true, Bool, true, false, cond, List, ◌∷◌, Option, Some, None, refl, sym, ap, subst, ◌∙◌}
+use Rattle.std.proofs.lemmas.Bool.{and_from}
 use Rattle.std.specs.Prelude.{slice_get}
 use Rattle.std.proofs.lemmas.Option.{none-some}
 use Rattle.nz_base.specs.Cluster.{leader_of}
@@ -7,7 +8,6 @@ use Rattle.nz_base.specs.declared.actor.Actor.{Actor}
 use Rattle.nz_base.specs.declared.actor.Actor.TheVariants.{Replica}
 use Rattle.nz_base.specs.declared.key.Id.{Id}
 use Rattle.nz_base.specs.declared.key.Entry.{Entry}
-use Rattle.nz_base.proofs.Booleans.{and_both}
 use Rattle.nz_store.specs.declared.command.Answer.{Answer}
 use Rattle.nz_store.proofs.Turns.{slice_get-replies}
 use Rattle.nz_msg.specs.declared.message.FastReplyBody.{FastReplyBody}
@@ -55,7 +55,7 @@ answers_shown g r J me to b a w h given =
     let now = h.led c.0 in
     let leader : leader_of g.f b.view ≡ me = ap (leader_of g.f) h.view ∙ eqb-true (leader_of g.f s.view) me c.0 in
     let lead : leads g.f me t ≡ true = ap (λ v. eqb (leader_of g.f v) me) now.1 ∙ c.0 in
-    let in_view : is_normal_in b.view t ≡ true = and_both (is_normal t.status) (eqb t.view b.view) now.0 (eq-eqb t.view b.view (now.1 ∙ sym h.view)) in
+    let in_view : is_normal_in b.view t ≡ true = and_from (is_normal t.status) (eqb t.view b.view) now.0 (eq-eqb t.view b.view (now.1 ∙ sym h.view)) in
     let results = ((facts_stay g (r ∷ J) me w).executed.led now.0 lead).results in
     let answered : IsAnswered t.log.entries b.id a = record {
       place = h.place;

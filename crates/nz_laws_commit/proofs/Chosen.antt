@@ -1,9 +1,9 @@
 -- The reply that decides has a quorum among the replies.
 use Rattle.std.proofs.Common.{◌≡◌, ℕ, Bool, true, false, cond, List, [], ◌∷◌, Option, Some, None, refl, sym, ap, ◌∙◌, inl, inr, ◌⊎◌}
+use Rattle.std.proofs.lemmas.Bool.{or_cases}
 use Rattle.std.specs.Prelude.{nat_lt}
 use Rattle.std.specs.List.{filter, list_any}
 use Rattle.std.proofs.lemmas.Option.{none-some, same_Some}
-use Rattle.nz_base.proofs.Booleans.{or_cases}
 use Rattle.nz_machine.specs.declared.reply.Reply.{Reply}
 use Rattle.nz_machine.specs.Quorums.{view_of, has_slow_quorum, has_fast_quorum, of_lesser_view, first_of_least_view}
 use Rattle.nz_machine.specs.Quorums.{fast_lead, slow_lead, Chosen, slow_or_none, fast_or, decision}

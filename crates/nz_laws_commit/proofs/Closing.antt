@@ -2,7 +2,7 @@
 -- incarnation, and a prefix that is comparable with the leader's log stays.
 use Rattle.std.proofs.Common.{◌≡◌, ℕ, suc, ◌≤◌, Bool, true, false, ◌&&◌, cond, eqb, List, [], ◌∷◌, take}
 use Rattle.std.proofs.Common.{Option, Some, None, refl, sym, ap, subst, ◌∙◌, arith, inl, inr, ◌⊎◌}
-use Rattle.std.proofs.lemmas.Bool.{eq-eqb, eqb-true}
+use Rattle.std.proofs.lemmas.Bool.{eq-eqb, eqb-true, cases_Bool, and_parts, and_from}
 use Rattle.std.proofs.lemmas.List.{take-take}
 use Rattle.std.proofs.lemmas.Option.{none-some, same_Some}
 use Rattle.std.specs.Option.{option_or}
@@ -11,7 +11,6 @@ use Rattle.nz_base.specs.Log.{keys_of}
 use Rattle.nz_base.specs.Cluster.{leader_of}
 use Rattle.nz_base.specs.Moments.{At}
 use Rattle.nz_base.specs.Prefixes.{IsPrefix, Comparable}
-use Rattle.nz_base.proofs.Booleans.{cases_bool, and_left, and_right, and_both}
 use Rattle.nz_base.proofs.Moments.{at_tail}
 use Rattle.nz_base.proofs.Prefixes.{prefix_self, prefix_same, prefix_none, prefix_then, comparable_prefix}
 use Rattle.nz_laws_commit.specs.States.{Status, Normal, ViewChange, Rejoining, Down, IsUp, LogState, Machine, place}
@@ -54,8 +53,8 @@ module _ {R : Type 0} (g : GroupStates R) where
   unfolding inc_of
   inc_restart m r K acts restarts down =
       let test : (g.by r m && (g.restarts r && is_down (g.state m K).status)) ≡ true =
-      and_both (g.by r m) (g.restarts r && is_down (g.state m K).status) acts
-      (and_both (g.restarts r) (is_down (g.state m K).status) restarts (ap is_down down)) in
+      and_from (g.by r m) (g.restarts r && is_down (g.state m K).status) acts
+      (and_from (g.restarts r) (is_down (g.state m K).status) restarts (ap is_down down)) in
       ap (λ (b : Bool). cond b (suc (inc_of g m K)) (inc_of g m K)) test
 
   pub inc_grows : (m : ℕ) (K L : List R) → At L K → inc_of g m K ≤ inc_of g m L
@@ -97,22 +96,22 @@ module _ {R : Type 0} (g : GroupStates R) where
     leads_is v r K e =
         let l = leader_of g.f v in
         let z = g.state l (r ∷ K) in
-        let rest = and_right (g.by r l) (is_normal z.status && eqb z.view v) e in
-        let status = and_left (is_normal z.status) (eqb z.view v) rest in
-        let view = and_right (is_normal z.status) (eqb z.view v) rest in
-        (and_left (g.by r l) (is_normal z.status && eqb z.view v) e, record { status = normal_is z.status status; view = eqb-true z.view v view })
+        let rest = (and_parts (g.by r l) (is_normal z.status && eqb z.view v) e).1 in
+        let status = (and_parts (is_normal z.status) (eqb z.view v) rest).0 in
+        let view = (and_parts (is_normal z.status) (eqb z.view v) rest).1 in
+        ((and_parts (g.by r l) (is_normal z.status && eqb z.view v) e).0, record { status = normal_is z.status status; view = eqb-true z.view v view })
 
     pub leads_test : (v : ℕ) (r : R) (K : List R) → g.by r (leader_of g.f v) ≡ true → IsNormal M (leader_of g.f v) v (r ∷ K) → leads_by g v r K ≡ true
     leads_test v r K acts n =
         let l = leader_of g.f v in
         let z = g.state l (r ∷ K) in
-        let normal = and_both (is_normal z.status) (eqb z.view v) (ap is_normal n.status) (eq-eqb z.view v n.view) in
-        and_both (g.by r l) (is_normal z.status && eqb z.view v) acts normal
+        let normal = and_from (is_normal z.status) (eqb z.view v) (ap is_normal n.status) (eq-eqb z.view v n.view) in
+        and_from (g.by r l) (is_normal z.status && eqb z.view v) acts normal
 
     pub lead_is : (v : ℕ) (K : List R) → At J K → IsNormal M (leader_of g.f v) v K → led_keys v K ≡ lead_of g v K
     unfolding lead_of
     lead_is v [] at n = ap keys_of (s.first (leader_of g.f v))
-    lead_is v (r ∷ K) at n = by_actor (cases_bool (g.by r (leader_of g.f v))) (lead_is v K (at_tail J r K at))
+    lead_is v (r ∷ K) at n = by_actor (cases_Bool (g.by r (leader_of g.f v))) (lead_is v K (at_tail J r K at))
       where
         by_actor : (g.by r (leader_of g.f v) ≡ true) ⊎ (g.by r (leader_of g.f v) ≡ false)
             → (IsNormal M (leader_of g.f v) v K → led_keys v K ≡ lead_of g v K)
@@ -177,7 +176,7 @@ module _ {R : Type 0} (g : GroupStates R) where
     down_step : (y : ℕ) (r : R) (K : List R) → At J (r ∷ K) → (g.state y K).status ≡ Down
         → ((g.state y (r ∷ K)).status ≡ Down) ⊎ (inc_of g y (r ∷ K) ≡ suc (inc_of g y K))
     down_step y r K at down =
-        elim (cases_bool (g.by r y)) [
+        elim (cases_Bool (g.by r y)) [
           | inr other ↦ inl (ap (λ (z : LogState). z.status) (s.stays y r K at other) ∙ down)
           | inl acts ↦ elim (s.rests y r K at acts down) [
             | inl still ↦ inl still
@@ -187,7 +186,7 @@ module _ {R : Type 0} (g : GroupStates R) where
 
     up_step : (y : ℕ) (r : R) (K : List R) → At J (r ∷ K) → IsUp (g.state y K).status → IsUp (g.state y (r ∷ K)).status ⊎ ((g.state y (r ∷ K)).status ≡ Down)
     up_step y r K at up =
-        elim (cases_bool (g.by r y)) [
+        elim (cases_Bool (g.by r y)) [
           | inr other ↦ inl (subst IsUp (sym (ap (λ (z : LogState). z.status) (s.stays y r K at other))) up)
           | inl acts ↦ s.falls y r K at acts up
         ]
@@ -260,7 +259,7 @@ module _ {R : Type 0} (g : GroupStates R) where
 
     grew_step : (y : ℕ) (r : R) (K : List R) → At J (r ∷ K) → IsUp (g.state y K).status → IsUp (g.state y (r ∷ K)).status → HasGrown M y K (r ∷ K)
     grew_step y r K at up now =
-        elim (cases_bool (g.by r y)) [
+        elim (cases_Bool (g.by r y)) [
           | inl acts ↦ s.grows y r K at acts up now
           | inr other ↦ grew_same y K (r ∷ K) (s.stays y r K at other)
         ]
@@ -283,7 +282,7 @@ module _ {R : Type 0} (g : GroupStates R) where
         → Comparable P (lead_of g v (r ∷ K))
         → IsPrefix P (keys_at M y (r ∷ K))
     fast_step y v P r K at up now prefix either =
-        elim (cases_bool (g.by r y)) [
+        elim (cases_Bool (g.by r y)) [
           | inl acts ↦ s.keeps y v P r K at acts up now prefix either
           | inr other ↦ subst (λ (z : LogState). IsPrefix P (keys_of z.log)) (sym (s.records.stays y r K at other)) prefix
         ]

@@ -1,6 +1,6 @@
 -- A quorum that was counted by a test on the replicas supports a prefix of the leader's log; and support stays.
 use Rattle.std.proofs.Common.{◌≡◌, ℕ, ◌≤◌, Bool, true, ltb, List, ◌∷◌, length, refl, sym, subst, ◌∙◌, arith, inl, inr, ◌⊎◌}
-use Rattle.std.proofs.lemmas.Bool.{lt-ltb}
+use Rattle.std.proofs.lemmas.Bool.{lt-ltb, and_parts}
 use Rattle.std.proofs.lemmas.List.{length-map}
 use Rattle.nz_base.specs.declared.key.Key.{Key}
 use Rattle.nz_base.specs.declared.key.Entry.{Entry}
@@ -10,7 +10,7 @@ use Rattle.nz_base.proofs.Moments.{at_self, at_then}
 use Rattle.nz_base.proofs.Prefixes.{prefix_then, prefix_length}
 use Rattle.nz_math.specs.Count.{count_below, is_in, IsChoice, members_below}
 use Rattle.nz_math.specs.Quorum.{group_size, slow_quorum, fast_quorum}
-use Rattle.nz_math.proofs.Counting.{count_same, count_choice, is_in-members, members_choice, and_right}
+use Rattle.nz_math.proofs.Counting.{count_same, count_choice, is_in-members, members_choice}
 use Rattle.nz_laws_commit.specs.States.{Machine}
 use Rattle.nz_laws_commit.specs.Supports.{HadSynced, FastReplied, IsLedAt, Support, keys_at, view_leader}
 use Rattle.nz_laws_commit.proofs.RunLaws.{RunLaws}
@@ -29,7 +29,7 @@ counted n k test enough =
     record {
       choice = choice;
       enough = omega (arith, enough, many, same);
-      each = λ y h. and_right (ltb y n) (test y) (sym (is_in-members n test y) ∙ h);
+      each = λ y h. (and_parts (ltb y n) (test y) (sym (is_in-members n test y) ∙ h)).1;
     }
 
 module _ {R : Type 0} (M : Machine R) (J : List R) (h : RunLaws M J) where

@@ -2,6 +2,7 @@
 -- what each begin merges.
 use Rattle.std.proofs.Common.{◌≡◌, ℕ, ◌<◌, Bool, true, false, cond, eqb, ◌&&◌, List, [], ◌∷◌, length, Option}
 use Rattle.std.proofs.Common.{Some, None, refl, sym, ap, subst, ◌∙◌, arith, inl, inr, ◌⊎◌, eq-eqb, eqb-true}
+use Rattle.std.proofs.lemmas.Bool.{cases_Bool, and_from}
 use Rattle.std.specs.Option.{option_map}
 use Rattle.std.proofs.lemmas.Option.{none-some, same_Some}
 use Rattle.nz_base.specs.Actor.{actor_eq}
@@ -11,7 +12,6 @@ use Rattle.nz_base.specs.Moments.{At}
 use Rattle.nz_base.specs.declared.actor.Actor.TheVariants.{Replica}
 use Rattle.nz_base.specs.declared.key.Key.{Key}
 use Rattle.nz_base.specs.declared.key.Entry.{Entry}
-use Rattle.nz_base.proofs.Booleans.{cases_bool, and_both}
 use Rattle.nz_base.proofs.Moments.{at_self, at_then, at_tail, at_shorter}
 use Rattle.nz_machine.specs.declared.event.Record.{Record}
 use Rattle.nz_machine.specs.State.{ReplicaData, Group}
@@ -86,7 +86,7 @@ module _ (g : Group) (J : List Record) (w : World g J) where
   -- who turns from rejoining to normal operation acts
   turned_by : (x : ℕ) (r : Record) (K : List Record) → is_rejoining (replica_at g x K).status ≡ true → is_normal (replica_at g x (r ∷ K)).status ≡ true
       → actor_eq r.actor (Replica x) ≡ true
-  turned_by x r K before after = elim (cases_bool (actor_eq r.actor (Replica x))) [
+  turned_by x r K before after = elim (cases_Bool (actor_eq r.actor (Replica x))) [
     | inl acts ↦ acts
     | inr other ↦
         let same = ap (λ (s : ReplicaData). is_normal s.status) (stays g (Replica x) r K other) in
@@ -139,7 +139,7 @@ module _ (g : Group) (J : List Record) (w : World g J) where
       let now : is_normal (replica_at g x (c.r ∷ c.before)).status ≡ true =
       status_normal (replica_at g x (c.r ∷ c.before)).status (subst (λ (L : List Record). status_of (replica_at g x L).status ≡ Normal) c.is c.normal) in
       subst (λ (L : List Record). completes g x L ≡ true) (sym c.is)
-      (and_both (is_rejoining (replica_at g x c.before).status) (is_normal (replica_at g x (c.r ∷ c.before)).status)
+      (and_from (is_rejoining (replica_at g x c.before).status) (is_normal (replica_at g x (c.r ∷ c.before)).status)
       (status_rejoining (replica_at g x c.before).status c.rejoining) now)
 
   -- ---- begins

@@ -1,6 +1,7 @@
 -- What the laws on logs read of the machine, in the machine's own words: statuses, incarnations, leaders' logs and
 -- begins.
 use Rattle.std.proofs.Common.{◌≡◌, ℕ, suc, Bool, true, false, not, ◌&&◌, cond, eqb, List, [], ◌∷◌, Option, Some, None, refl, sym, ap, ◌∙◌, inl, inr, eq-eqb}
+use Rattle.std.proofs.lemmas.Bool.{cases_Bool, and_from}
 use Rattle.std.specs.Option.{option_or, option_map}
 use Rattle.std.proofs.lemmas.Option.{none-some}
 use Rattle.nz_base.specs.Actor.{actor_eq}
@@ -9,7 +10,7 @@ use Rattle.nz_base.specs.Log.{keys_of}
 use Rattle.nz_base.specs.declared.actor.Actor.TheVariants.{Replica}
 use Rattle.nz_base.specs.declared.key.Key.{Key}
 use Rattle.nz_base.specs.declared.key.Entry.{Entry}
-use Rattle.nz_base.proofs.Booleans.{cases_bool, and_both, clash}
+use Rattle.nz_base.proofs.Booleans.{true_and_false}
 use Rattle.nz_machine.specs.declared.data.Status.{Status}
 use Rattle.nz_machine.specs.declared.data.Status.TheVariants as statuses
 use Rattle.nz_machine.specs.declared.event.Record.{Record}
@@ -102,9 +103,9 @@ normal_at_is g y v K n = is_in_view v (replica_at g y K) (status_normal (replica
 -- who leads now and did not before is the record's actor
 led_by : (g : Group) (v : ℕ) (r : Record) (K : List Record) → is_led g v (r ∷ K) ≡ true → is_led g v K ≡ false
     → actor_eq r.actor (Replica (leader_of g.f v)) ≡ true
-led_by g v r K led not_led = elim (cases_bool (actor_eq r.actor (Replica (leader_of g.f v)))) [
+led_by g v r K led not_led = elim (cases_Bool (actor_eq r.actor (Replica (leader_of g.f v)))) [
   | inl acts ↦ acts
-  | inr other ↦ clash (is_led g v K) (sym (ap (is_normal_in v) (stays g (Replica (leader_of g.f v)) r K other)) ∙ led) not_led
+  | inr other ↦ true_and_false (is_led g v K) (sym (ap (is_normal_in v) (stays g (Replica (leader_of g.f v)) r K other)) ∙ led) not_led
 ]
 
 -- ---- incarnations
@@ -149,7 +150,7 @@ not_led g v r J h = ap (λ b. cond b (leader_at g v (r ∷ J)).log.entries (lead
 
 -- by another's record it stays
 lead_stays : (g : Group) (v : ℕ) (r : Record) (K : List Record) → actor_eq r.actor (Replica (leader_of g.f v)) ≡ false → lead g v (r ∷ K) ≡ lead g v K
-lead_stays g v r K other = elim (cases_bool (is_led g v (r ∷ K))) [
+lead_stays g v r K other = elim (cases_Bool (is_led g v (r ∷ K))) [
   | inl led ↦
       let same = other_keys g v r K other in
       let before : is_led g v K ≡ true = sym (ap (is_normal_in v) same) ∙ led in
@@ -160,7 +161,7 @@ lead_stays g v r K other = elim (cases_bool (is_led g v (r ∷ K))) [
 pub lead_is : (g : Group) (v : ℕ) (K : List Record) → lead_of (states_of g) v K ≡ keys_of (lead g v K)
 unfolding lead_of lead
 lead_is g v [] = refl
-lead_is g v (r ∷ K) = elim (cases_bool (actor_eq r.actor (Replica (leader_of g.f v)))) [
+lead_is g v (r ∷ K) = elim (cases_Bool (actor_eq r.actor (Replica (leader_of g.f v)))) [
   | inl acts ↦
       let now = keys_of (leader_at g v (r ∷ K)).log.entries in
       let test : leads_by (states_of g) v r K ≡ is_led g v (r ∷ K) = leads_is g v r K ∙ ap (λ (b : Bool). b && is_led g v (r ∷ K)) acts in
@@ -187,12 +188,12 @@ led_begun g v [] led = (
   let zero_view : eqb v 0 ≡ true = eq-eqb v 0 (sym (normal_in_is v (leader_at g v []) led).1) in ap
       (λ (b : Bool). cond b (Some []) None) zero_view,
 )
-led_begun g v (r ∷ K) led = elim (cases_bool (is_led g v K)) [
+led_begun g v (r ∷ K) led = elim (cases_Bool (is_led g v K)) [
   | inl before ↦
       let old = led_begun g v K before in
       (old.0, ap (λ (o : Option (List Entry)). earlier_or o (cond (begins g v (r ∷ K)) (Some (leader_at g v (r ∷ K)).log.entries) None)) old.1)
   | inr away ↦
-      let now : begins g v (r ∷ K) ≡ true = and_both (not (is_led g v K)) (is_led g v (r ∷ K)) (ap not away) led in
+      let now : begins g v (r ∷ K) ≡ true = and_from (not (is_led g v K)) (is_led g v (r ∷ K)) (ap not away) led in
       first_of (start g v K) (leader_at g v (r ∷ K)).log.entries (begins g v (r ∷ K)) now
 ]
   where
@@ -205,7 +206,7 @@ led_test : (g : Group) (v : ℕ) (r : Record) (K : List Record) (a b : Bool) →
     → is_led g v K ≡ false → (a && b) ≡ b
 led_test g v r K true b acts led before = refl
 led_test g v r K false false acts led before = refl
-led_test g v r K false true acts led before = clash (actor_eq r.actor (Replica (leader_of g.f v))) (led_by g v r K led before) acts
+led_test g v r K false true acts led before = true_and_false (actor_eq r.actor (Replica (leader_of g.f v))) (led_by g v r K led before) acts
 
 some_keys : (b : Bool) (xs : List Entry) → (let none : Option (List Key) = None in cond b (Some (keys_of xs)) none) ≡ option_map keys_of (cond b (Some xs) None)
 some_keys true xs = refl

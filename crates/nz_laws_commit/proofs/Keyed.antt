@@ -2,6 +2,7 @@
 -- leader's.
 use Rattle.std.proofs.Common.{◌≡◌, ℕ, zero, suc, ◌<◌, eqb, Bool, true, false, cond, List, [], ◌∷◌, ◌++◌}
 use Rattle.std.proofs.Common.{take, Option, Some, None, refl, sym, ap, subst, ◌∙◌, arith, inl, inr, ◌⊎◌}
+use Rattle.std.proofs.lemmas.Bool.{cases_Bool, or_left, or_right}
 use Rattle.std.specs.Prelude.{slice_get}
 use Rattle.std.proofs.lemmas.Option.{none-some, same_Some}
 use Rattle.nz_base.specs.Cluster.{leader_of}
@@ -11,7 +12,7 @@ use Rattle.nz_base.specs.declared.key.Entry.{Entry}
 use Rattle.nz_base.specs.Key.{id_eq, id_of}
 use Rattle.nz_base.specs.Log.{keys_of, has_id, HaveOwnIds}
 use Rattle.nz_base.specs.Prefixes.{IsPrefix, Comparable}
-use Rattle.nz_base.proofs.Booleans.{cases_bool, clash, or_left, or_right}
+use Rattle.nz_base.proofs.Booleans.{true_and_false}
 use Rattle.nz_base.proofs.Logs.{own_in_prefix, keys_append}
 use Rattle.nz_base.proofs.Names.{same_id, id_eq_self}
 use Rattle.nz_base.proofs.Prefixes.{prefix_none}
@@ -108,7 +109,7 @@ pub lead_sent : (g : Group) (J : List Record) → World g J → (v : ℕ) → We
 unfolding lead
 lead_sent g [] w v e h = absurd h
 lead_sent g (r ∷ J) w v e h =
-    elim (cases_bool (is_led g v (r ∷ J))) [
+    elim (cases_Bool (is_led g v (r ∷ J))) [
       | inl led ↦ leader_sent g (r ∷ J) w v e (subst (λ (l : List Entry). Has l e) (led_log g v (r ∷ J) led) h)
       | inr away ↦ later_sent g r J e (lead_sent g J w.1 v e (subst (λ (l : List Entry). Has l e) (not_led g v r J away) h))
     ]
@@ -126,7 +127,7 @@ pub lead_own : (g : Group) (J : List Record) → World g J → (v : ℕ) → Hav
 unfolding lead
 lead_own g [] w v = tt
 lead_own g (r ∷ J) w v =
-    elim (cases_bool (is_led g v (r ∷ J))) [
+    elim (cases_Bool (is_led g v (r ∷ J))) [
       | inl led ↦ subst (λ (l : List Entry). HaveOwnIds (keys_of l)) (sym (led_log g v (r ∷ J) led)) (leader_own g (r ∷ J) w v)
       | inr away ↦ subst (λ (l : List Entry). HaveOwnIds (keys_of l)) (sym (not_led g v r J away)) (lead_own g J w.1 v)
     ]
@@ -175,8 +176,8 @@ pub one_place : (ks : List Key) (id : Id) (i j : ℕ) → HaveOwnIds ks → IsAt
 one_place [] id i j own a b = absurd (none-some a.key (sym (none_there i) ∙ a.at))
 one_place (x ∷ ks) id zero zero own a b = refl
 one_place (x ∷ ks) id zero (suc j) own a b =
-    clash (has_id ks (id_of x)) (at_has ks (id_of x) j b.key b.at (b.own ∙ sym a.own ∙ ap id_of (sym (same_Some x a.key a.at)))) own.0
+    true_and_false (has_id ks (id_of x)) (at_has ks (id_of x) j b.key b.at (b.own ∙ sym a.own ∙ ap id_of (sym (same_Some x a.key a.at)))) own.0
 one_place (x ∷ ks) id (suc i) zero own a b =
-    clash (has_id ks (id_of x)) (at_has ks (id_of x) i a.key a.at (a.own ∙ sym b.own ∙ ap id_of (sym (same_Some x b.key b.at)))) own.0
+    true_and_false (has_id ks (id_of x)) (at_has ks (id_of x) i a.key a.at (a.own ∙ sym b.own ∙ ap id_of (sym (same_Some x b.key b.at)))) own.0
 one_place (x ∷ ks) id (suc i) (suc j) own a b =
     ap suc (one_place ks id i j own.1 (record { key = a.key; at = a.at; own = a.own }) (record { key = b.key; at = b.at; own = b.own }))

@@ -1,7 +1,7 @@
 -- One view: from what each record does, what is synced is the leader's, and what a record leaves of a prefix.
 use Rattle.std.proofs.Common.{◌≡◌, ℕ, ◌<◌, ◌≤◌, Bool, true, false, cond, eqb, List, [], ◌∷◌, length, take}
 use Rattle.std.proofs.Common.{Option, Some, None, refl, sym, ap, subst, ◌∙◌, arith, inl, inr, ◌⊎◌}
-use Rattle.std.proofs.lemmas.Bool.{cases_eq, eq-eqb}
+use Rattle.std.proofs.lemmas.Bool.{cases_eq, eq-eqb, cases_Bool}
 use Rattle.std.proofs.lemmas.Option.{same_Some}
 use Rattle.std.proofs.lemmas.List.{length-map}
 use Rattle.std.specs.Option.{option_or}
@@ -11,7 +11,6 @@ use Rattle.nz_base.specs.Log.{keys_of}
 use Rattle.nz_base.specs.Cluster.{leader_of}
 use Rattle.nz_base.specs.Moments.{At}
 use Rattle.nz_base.specs.Prefixes.{IsPrefix, Comparable}
-use Rattle.nz_base.proofs.Booleans.{cases_bool}
 use Rattle.nz_base.proofs.Moments.{at_self, at_then, at_tail}
 use Rattle.nz_base.proofs.Prefixes.{prefix_same, prefix_then, prefix_take, prefix_length, take_of_prefix}
 use Rattle.nz_laws_commit.specs.States.{Status, Normal, ViewChange, Rejoining, Down, IsUp, LogState, Machine}
@@ -63,7 +62,7 @@ module _ {R : Type 0} (g : GroupStates R) (J : List R) (m : FollowsRules g J) wh
 
   modes : (y : ℕ) (K : List R) → At J K → (g.state y K).status ≡ Normal → (g.state y K).last ≡ (g.state y K).view
   modes y [] at n = m.first_last y ∙ sym (m.first_view y)
-  modes y (r ∷ K) at n = by_actor (cases_bool (g.by r y)) (modes y K (at_tail J r K at))
+  modes y (r ∷ K) at n = by_actor (cases_Bool (g.by r y)) (modes y K (at_tail J r K at))
     where
       by_actor : (g.by r y ≡ true) ⊎ (g.by r y ≡ false) → ((g.state y K).status ≡ Normal → (g.state y K).last ≡ (g.state y K).view)
           → (g.state y (r ∷ K)).last ≡ (g.state y (r ∷ K)).view
@@ -314,7 +313,7 @@ module _ {R : Type 0} (g : GroupStates R) (J : List R) (m : FollowsRules g J) wh
   holds_start : (v : ℕ) (K : List R) → At J K → HoldUpTo v K
   holds_start v [] at L here y up = subst (λ (x : List R). IsUpIn M y v x → HoldsStart y v x) (sym here) (holds_first y v) up
   holds_start v (r ∷ K) at L (inr older) y up = holds_start v K (at_tail J r K at) L older y up
-  holds_start v (r ∷ K) at L (inl here) y up = subst (HoldsStart y v) (sym here) (by_actor (cases_bool (g.by r y)) (holds_start v K (at_tail J r K at)))
+  holds_start v (r ∷ K) at L (inl here) y up = subst (HoldsStart y v) (sym here) (by_actor (cases_Bool (g.by r y)) (holds_start v K (at_tail J r K at)))
     where
       by_actor : (g.by r y ≡ true) ⊎ (g.by r y ≡ false) → HoldUpTo v K → HoldsStart y v (r ∷ K)
       by_actor (inl acts) rest = holds_step y v r K at acts (m.does y r K at acts) rest (subst (IsUpIn M y v) here up)

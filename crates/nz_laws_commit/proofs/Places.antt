@@ -1,6 +1,7 @@
 -- Prefixes of a log: places and answers in them are those of the log.
 use Rattle.std.proofs.Common.{◌≡◌, ℕ, zero, suc, ◌<◌, ◌≤◌, Bool, true, false, cond, List, [], ◌∷◌, ◌++◌, length, take}
 use Rattle.std.proofs.Common.{Option, Some, None, is_some, refl, sym, ap, subst, ◌∙◌, arith, inl, inr, ◌⊎◌}
+use Rattle.std.proofs.lemmas.Bool.{cases_Bool, or_parts, or_left, or_right}
 use Rattle.std.specs.Option.{option_map}
 use Rattle.std.proofs.lemmas.List.{map-append}
 use Rattle.std.proofs.lemmas.Option.{none-some, same_Some}
@@ -8,7 +9,6 @@ use Rattle.nz_base.specs.declared.key.Id.{Id}
 use Rattle.nz_base.specs.declared.key.Entry.{Entry}
 use Rattle.nz_base.specs.Key.{id_eq, id_of}
 use Rattle.nz_base.specs.Log.{keys_of, has_id, HaveOwnIds}
-use Rattle.nz_base.proofs.Booleans.{cases_bool, neither_left, neither_right, or_left, or_right}
 use Rattle.nz_base.proofs.Logs.{own_in_prefix, keys_append}
 use Rattle.nz_base.proofs.Names.{same_id, id_eq_self}
 use Rattle.nz_store.specs.declared.command.Answer.{Answer}
@@ -83,7 +83,7 @@ length_taken (suc n) (x ∷ xs) lt = let ih = length_taken n xs (omega (arith, l
 
 pub absent_by : (id : Id) (es : List Entry) → ((e : Entry) → Has es e → id_of e.key ≡ id → ⊥) → has_id (keys_of es) id ≡ false
 absent_by id [] f = refl
-absent_by id (e ∷ es) f = elim (cases_bool (id_eq id (id_of e.key))) [
+absent_by id (e ∷ es) f = elim (cases_Bool (id_eq id (id_of e.key))) [
   | inl here ↦ absurd (f e (inl refl) (sym (same_id id (id_of e.key) here)))
   | inr away ↦ rw away (absent_by id es (λ x h. f x (inr h)))
 ]
@@ -91,9 +91,9 @@ absent_by id (e ∷ es) f = elim (cases_bool (id_eq id (id_of e.key))) [
 absent_append : (id : Id) (xs rest : List Entry) (i : ℕ) → has_id (keys_of xs) id ≡ false → place_of (xs ++ rest) id ≡ Some i → length xs ≤ i
 absent_append id [] rest i h e = omega arith
 absent_append id (x ∷ xs) rest i h e = elim (place_cases (id_eq id (id_of x.key)) (place_of (xs ++ rest) id) i e) [
-  | inl k ↦ absurd (let away = neither_left (id_eq id (id_of x.key)) (has_id (keys_of xs) id) h in let both : true ≡ false = sym k.0 ∙ away in cc)
+  | inl k ↦ absurd (let away = (or_parts (id_eq id (id_of x.key)) (has_id (keys_of xs) id) h).0 in let both : true ≡ false = sym k.0 ∙ away in cc)
   | inr k ↦ let ih = absent_append id xs rest k.1.0
-      (neither_right (id_eq id (id_of x.key)) (has_id (keys_of xs) id) h) k.1.1.0 in let same = k.1.1.1 in omega (arith, ih, same)
+      (or_parts (id_eq id (id_of x.key)) (has_id (keys_of xs) id) h).1 k.1.1.0 in let same = k.1.1.1 in omega (arith, ih, same)
 ]
 
 -- it is after the prefix

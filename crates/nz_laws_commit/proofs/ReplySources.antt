@@ -1,5 +1,6 @@
 -- A reply that a proxy noted was brought to it, and has a source, at which it was read off its sender's log.
 use Rattle.std.proofs.Common.{◌≡◌, ℕ, Bool, true, false, cond, List, [], ◌∷◌, ◌++◌, Option, Some, None, refl, sym, ap, subst, ◌∙◌, inl, inr, ◌⊎◌}
+use Rattle.std.proofs.lemmas.Bool.{cases_Bool, or_cases}
 use Rattle.std.specs.List.{list_any}
 use Rattle.std.specs.Option.{option_map, option_and_then}
 use Rattle.std.proofs.lemmas.Option.{none-some, cond_some}
@@ -8,7 +9,6 @@ use Rattle.nz_base.specs.declared.actor.Actor.{Actor}
 use Rattle.nz_base.specs.declared.actor.Actor.TheVariants.{Replica, Proxy}
 use Rattle.nz_base.specs.declared.key.Id.{Id}
 use Rattle.nz_base.specs.Key.{id_eq}
-use Rattle.nz_base.proofs.Booleans.{cases_bool, or_cases}
 use Rattle.nz_base.proofs.Names.{same_id}
 use Rattle.nz_store.specs.declared.command.Answer.{Answer}
 use Rattle.nz_msg.specs.declared.message.Message.{Message}
@@ -121,7 +121,7 @@ pub moment_of : (g : Group) (q : ℕ) (id : Id) (r : Record) (J : List Record) (
     → (IsNoted reply (replies_of (standing_after g q id J)) → HasMoment g q id reply J) → IsNoted reply (with_note replies n) → HasMoment g q id reply (r ∷ J)
 moment_of g q id r J replies n reply by before heard old noted =
     let same : replies_of (standing_after g q id J) ≡ replies = ap replies_of before in
-    elim (cases_bool (list_any (reply_eq reply) (replies_of (standing_after g q id J)))) [
+    elim (cases_Bool (list_any (reply_eq reply) (replies_of (standing_after g q id J)))) [
       | inl there ↦ later g q id reply r J there (old there)
       | inr none ↦ elim (with_note_cases replies n reply (list_any (reply_eq n) replies) noted) [
         | inl there ↦ absurd (let t : true ≡ false = sym there ∙ ap (list_any (reply_eq reply)) (sym same) ∙ none in cc)

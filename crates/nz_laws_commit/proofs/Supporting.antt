@@ -4,7 +4,7 @@ use Rattle.std.proofs.Common.{◌≡◌, ℕ, suc, eqb, eqb-true, eq-eqb, true, 
 use Rattle.std.proofs.Common.{take, map, Option, Some, None, refl, sym, ap, subst, ◌∙◌, arith, inl, inr, ◌⊎◌}
 use Rattle.std.specs.List.{list_any}
 use Rattle.std.specs.Str.{bytes_eq}
-use Rattle.std.proofs.lemmas.Bool.{leb-true}
+use Rattle.std.proofs.lemmas.Bool.{leb-true, and_parts, or_cases}
 use Rattle.std.proofs.lemmas.List.{length-map}
 use Rattle.std.proofs.lemmas.Slice.Eq.{bytes_eq-Decides}
 use Rattle.nz_base.specs.Actor.{actor_eq}
@@ -16,7 +16,6 @@ use Rattle.nz_base.specs.declared.actor.Actor.TheVariants.{Replica}
 use Rattle.nz_base.specs.declared.key.Id.{Id}
 use Rattle.nz_base.specs.declared.key.Key.{Key}
 use Rattle.nz_base.specs.declared.key.Entry.{Entry}
-use Rattle.nz_base.proofs.Booleans.{and_left, and_right, or_cases}
 use Rattle.nz_base.proofs.Moments.{at_self}
 use Rattle.nz_base.proofs.Names.{actor_eq_self}
 use Rattle.nz_base.proofs.Prefixes.{prefix_then, prefix_take, prefix_map, prefix_none}
@@ -102,7 +101,7 @@ said_digest g J id m reply K s =
 
 slow_of : (view y : ℕ) (x : Reply) → is_slow_of view y x ≡ true → x ≡ Slow y view
 slow_of view y (Fast r v d u a) h = absurd cc
-slow_of view y (Slow r v) h = λ i. Slow (eqb-true r y (and_left (eqb r y) (eqb v view) h) i) (eqb-true v view (and_right (eqb r y) (eqb v view) h) i)
+slow_of view y (Slow r v) h = λ i. Slow (eqb-true r y (and_parts (eqb r y) (eqb v view) h).0 i) (eqb-true v view (and_parts (eqb r y) (eqb v view) h).1 i)
 
 -- a reply that agrees: a slow one, or a fast one with the digest and the vector
 abbrev Agrees : ℕ → List ℕ → List ℕ → ℕ → Reply → Type 0
@@ -110,15 +109,15 @@ Agrees view digest vector y x = (x ≡ Slow y view) ⊎ ((a : Option Answer) × 
 
 agrees : (view : ℕ) (digest vector : List ℕ) (y : ℕ) (x : Reply) → agrees_of view digest vector y x ≡ true → Agrees view digest vector y x
 agrees view digest vector y (Fast r v d u a) h =
-    let rest = and_right (eqb r y) (eqb v view && (bytes_eq d digest && bytes_eq u vector)) h in
-    let more = and_right (eqb v view) (bytes_eq d digest && bytes_eq u vector) rest in
-    let replica = eqb-true r y (and_left (eqb r y) (eqb v view && (bytes_eq d digest && bytes_eq u vector)) h) in
-    let views = eqb-true v view (and_left (eqb v view) (bytes_eq d digest && bytes_eq u vector) rest) in
-    let digests = same_bytes d digest (and_left (bytes_eq d digest) (bytes_eq u vector) more) in
-    let vectors = same_bytes u vector (and_right (bytes_eq d digest) (bytes_eq u vector) more) in
+    let rest = (and_parts (eqb r y) (eqb v view && (bytes_eq d digest && bytes_eq u vector)) h).1 in
+    let more = (and_parts (eqb v view) (bytes_eq d digest && bytes_eq u vector) rest).1 in
+    let replica = eqb-true r y (and_parts (eqb r y) (eqb v view && (bytes_eq d digest && bytes_eq u vector)) h).0 in
+    let views = eqb-true v view (and_parts (eqb v view) (bytes_eq d digest && bytes_eq u vector) rest).0 in
+    let digests = same_bytes d digest (and_parts (bytes_eq d digest) (bytes_eq u vector) more).0 in
+    let vectors = same_bytes u vector (and_parts (bytes_eq d digest) (bytes_eq u vector) more).1 in
     inr (a, λ i. Fast (replica i) (views i) (digests i) (vectors i) a)
 agrees view digest vector y (Slow r v) h = inl
-    (λ i. Slow (eqb-true r y (and_left (eqb r y) (eqb v view) h) i) (eqb-true v view (and_right (eqb r y) (eqb v view) h) i))
+    (λ i. Slow (eqb-true r y (and_parts (eqb r y) (eqb v view) h).0 i) (eqb-true v view (and_parts (eqb r y) (eqb v view) h).1 i))
 
 -- ---- the support
 
@@ -262,12 +261,12 @@ module _ (g : Group) (J : List Record) (w : World g J) (h : RunLaws (logs_of g) 
         let leads = is_of_leader g.f (Fast (leader_of g.f v) v d u a) in
         let many = count_below (replica_count g.f) (stands_slowly g.f backed.replies (Fast (leader_of g.f v) v d u a)) in
         slowly (logs_of g) J h v (keys_of P) moment led (stands_slowly g.f backed.replies (Fast (leader_of g.f v) v d u a))
-        (leb-true (slow_size g.f) many (and_right leads _ q)) each_slow
+        (leb-true (slow_size g.f) many (and_parts leads _ q).1) each_slow
     by_quorum (ByFast q) =
         let leads = is_of_leader g.f (Fast (leader_of g.f v) v d u a) in
         let many = count_below (replica_count g.f) (stands_fast g.f backed.replies (Fast (leader_of g.f v) v d u a)) in
         quickly (logs_of g) J h v (keys_of P) moment led (stands_fast g.f backed.replies (Fast (leader_of g.f v) v d u a))
-        (leb-true (fast_size g.f) many (and_right leads _ q))
+        (leb-true (fast_size g.f) many (and_parts leads _ q).1)
         (λ y test. subst (λ (x : List ℕ). (y ≡ leader_of g.f v) ⊎
         (HadSynced (logs_of g) v y (length (keys_of P)) J ⊎ FastReplied (logs_of g) v y (keys_of P) x J)) vector_is (each_fast y test))
 
@@ -284,15 +283,15 @@ module _ (g : Group) (J : List Record) (w : World g J) (h : RunLaws (logs_of g) 
       by_said (Slowly m by s) = not_slow (leader_of g.f v) v d u a m s.body.view s.reply_is
 
   leads_quorum : (replies : List Reply) (reply : Reply) → HasQuorum g.f replies reply → is_of_leader g.f reply ≡ true
-  leads_quorum replies reply (BySlow q) = and_left (is_of_leader g.f reply) _ q
-  leads_quorum replies reply (ByFast q) = and_left (is_of_leader g.f reply) _ q
+  leads_quorum replies reply (BySlow q) = (and_parts (is_of_leader g.f reply) _ q).0
+  leads_quorum replies reply (ByFast q) = (and_parts (is_of_leader g.f reply) _ q).0
 
   by_reply : (v : ℕ) (P : List Entry) (id : Id) (place : ℕ) → place_of P id ≡ Some place → length P ≡ suc place → (reply : Reply) (source : ReplySource)
       → view_of reply ≡ v → P ≡ prefix_at_source g id source → IsBacked g J id reply source → is_of_leader g.f reply ≡ true
       → Support (logs_of g) v (keys_of P) J
   by_reply v P id place stands ends (Slow r n) source view at_source backed leads = absurd cc
   by_reply v P id place stands ends (Fast r n d u a) source view at_source backed leads =
-      let leader : r ≡ leader_of g.f v = eqb-true r (leader_of g.f n) (and_left (eqb r (leader_of g.f n)) (is_some a) leads) ∙ ap (leader_of g.f) view in
+      let leader : r ≡ leader_of g.f v = eqb-true r (leader_of g.f n) (and_parts (eqb r (leader_of g.f n)) (is_some a) leads).0 ∙ ap (leader_of g.f) view in
       let same : Fast r n d u a ≡ Fast (leader_of g.f v) v d u a = λ i. Fast (leader i) (view i) d u a in
       by_source v P id place stands ends d u a source at_source (subst (λ (x : Reply). IsBacked g J id x source) same backed)
 

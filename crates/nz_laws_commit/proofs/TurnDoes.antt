@@ -1,5 +1,6 @@
 -- Each turn of a replica is one of the ways in which a record changes what the laws on logs read of its state.
 use Rattle.std.proofs.Common.{◌≡◌, ℕ, ◌<◌, eqb, true, false, List, ◌∷◌, length, take, drop, Some, refl, sym, ap, subst, ◌∙◌, inl, inr, arith, eqb-true, eq-eqb}
+use Rattle.std.proofs.lemmas.Bool.{cases_Bool}
 use Rattle.nz_base.specs.Actor.{actor_eq}
 use Rattle.nz_base.specs.Cluster.{leader_of}
 use Rattle.nz_base.specs.Log.{keys_of}
@@ -7,7 +8,7 @@ use Rattle.nz_base.specs.Moments.{At}
 use Rattle.nz_base.specs.Prefixes.{IsPrefix}
 use Rattle.nz_base.specs.declared.actor.Actor.TheVariants.{Replica}
 use Rattle.nz_base.specs.declared.key.Entry.{Entry}
-use Rattle.nz_base.proofs.Booleans.{cases_bool, clash}
+use Rattle.nz_base.proofs.Booleans.{true_and_false}
 use Rattle.nz_base.proofs.Prefixes.{prefix_self, prefix_map}
 use Rattle.nz_base.specs.declared.limits.TheConstants.{MAX_KEYS}
 use Rattle.nz_log.specs.Synced.{Log}
@@ -63,7 +64,7 @@ rejoining_not_down statuses.Rejoining e is = cc
 rejoining_not_down statuses.Down e is = cc
 
 differ : (a b : ℕ) → (a ≡ b → ⊥) → eqb a b ≡ false
-differ a b apart = elim (cases_bool (eqb a b)) [ inl e ↦ absurd (apart (eqb-true a b e)) | inr e ↦ e ]
+differ a b apart = elim (cases_Bool (eqb a b)) [ inl e ↦ absurd (apart (eqb-true a b e)) | inr e ↦ e ]
 
 -- ---- what is known before the record
 
@@ -156,7 +157,7 @@ module _ (g : Group) (y : ℕ) (r : Record) (K : List Record) (knows : KnowsLog 
           after = normal_status s.status hears.normal;
           view = refl;
           last = refl;
-          follows = λ leads. absurd (clash (eqb L y) (eq-eqb L y leads) hears.follows);
+          follows = λ leads. absurd (true_and_false (eqb L y) (eq-eqb L y leads) hears.follows);
           told = told.told;
           moment = told.moment;
           leader = is_normal_at g L s.view told.told told.normal (told.view ∙ hears.same);
@@ -309,5 +310,5 @@ record_does g J w y r K at by =
     let now = at_world g J (r ∷ K) w at in
     elim (steps g y r K) [
       | Acts a turn ↦ turn_does g y r K now a turn
-      | Rests other same ↦ clash (actor_eq r.actor (Replica y)) by other
+      | Rests other same ↦ true_and_false (actor_eq r.actor (Replica y)) by other
     ]

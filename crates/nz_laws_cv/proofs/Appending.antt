@@ -2,7 +2,7 @@
 use Rattle.std.proofs.Common.{◌≡◌, ℕ, Bool, true, false, List, [], ◌∷◌, length, refl, ◌∙◌}
 use Rattle.nz_base.specs.declared.key.Entry.{Entry}
 use Rattle.nz_base.proofs.Prefixes.{prefix_self, prefix_more, prefix_then}
-use Rattle.nz_base.proofs.Booleans.{clash}
+use Rattle.nz_base.proofs.Booleans.{true_and_false}
 use Rattle.nz_log.specs.Synced.{Log}
 use Rattle.nz_machine.specs.State.{ReplicaData, Out}
 use Rattle.nz_machine.specs.Replicas.{is_normal, leads}
@@ -58,5 +58,5 @@ pub no_release : (f me : ℕ) (s : ReplicaData) (clock : ℕ) → is_normal s.st
 unfolding release_rule
 no_release f me s clock h =
     on_cond (λ (t : ReplicaData × List Out). seat_of t.0 ≡ seat_of s) (is_normal s.status) (releases f me (at_clock s clock) s.early) (at_clock s clock, [])
-    (λ normal. clash (is_normal s.status) normal h)
+    (λ normal. true_and_false (is_normal s.status) normal h)
     (λ _. refl)

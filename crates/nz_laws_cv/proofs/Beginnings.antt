@@ -1,11 +1,12 @@
 -- Begins: from whose reports, and that who is Normal in a view above 0 finds it begun.
 use Rattle.std.proofs.Common.{◌≡◌, ℕ, ◌<◌, Bool, true, false, ◌&&◌, not, eqb, List, [], ◌∷◌, length}
 use Rattle.std.proofs.Common.{map, refl, sym, ap, subst, ◌∙◌, inl, inr, arith, eqb-true, eq-eqb}
+use Rattle.std.proofs.lemmas.Bool.{and_parts, and_from, cases_Bool, or_cases}
 use Rattle.std.specs.Prelude.{slice_index}
 use Rattle.std.proofs.lemmas.List.{length-map}
 use Rattle.nz_base.specs.Cluster.{replica_count, leader_of}
 use Rattle.nz_base.specs.declared.actor.Actor.TheVariants.{Replica}
-use Rattle.nz_base.proofs.Booleans.{and_left, and_right, and_both, clash, cases_bool, or_cases}
+use Rattle.nz_base.proofs.Booleans.{true_and_false}
 use Rattle.nz_msg.specs.declared.message.Message.TheVariants as messages
 use Rattle.nz_machine.specs.declared.event.Record.{Record}
 use Rattle.nz_machine.specs.State.{Group, ReplicaData}
@@ -39,10 +40,10 @@ use Rattle.nz_laws_cv.proofs.ViewNotions.{Begins, notions}
 use Rattle.nz_laws_cv.proofs.Grounds.{later_at, stays_at, claimed_at, completion_at}
 
 pub normal_in_is : (v : ℕ) (s : ReplicaData) → is_normal_in v s ≡ true → (is_normal s.status ≡ true) × (s.view ≡ v)
-normal_in_is v s h = (and_left (is_normal s.status) (eqb s.view v) h, eqb-true s.view v (and_right (is_normal s.status) (eqb s.view v) h))
+normal_in_is v s h = ((and_parts (is_normal s.status) (eqb s.view v) h).0, eqb-true s.view v (and_parts (is_normal s.status) (eqb s.view v) h).1)
 
 pub is_in_view : (v : ℕ) (s : ReplicaData) → is_normal s.status ≡ true → s.view ≡ v → is_normal_in v s ≡ true
-is_in_view v s normal view = and_both (is_normal s.status) (eqb s.view v) normal (eq-eqb s.view v view)
+is_in_view v s normal view = and_from (is_normal s.status) (eqb s.view v) normal (eq-eqb s.view v view)
 
 -- ---- the begin
 
@@ -64,8 +65,8 @@ turning_is g w (r ∷ K) some h = record {
   newest = r;
   older = K;
   is = refl;
-  led = and_right (not (is_led g w K)) (is_led g w (r ∷ K)) h;
-  not_led = not_true (is_led g w K) (and_left (not (is_led g w K)) (is_led g w (r ∷ K)) h);
+  led = (and_parts (not (is_led g w K)) (is_led g w (r ∷ K)) h).1;
+  not_led = not_true (is_led g w K) (and_parts (not (is_led g w K)) (is_led g w (r ∷ K)) h).0;
 }
 
 -- the record is a begin: who follows another one does not lead
@@ -74,7 +75,7 @@ begun_by : (g : Group) (w : ℕ) (r : Record) (K : List Record) → is_led g w (
     → IsBegun g.f (leader_of g.f w) r.event (heard_by g (leader_of g.f w) r.event) (seat_at g (leader_of g.f w) K) (seat_at g (leader_of g.f w) (r ∷ K))
 begun_by g w r K led not_led (Was normal same) =
     let now = normal_in_is w (replica_at g (leader_of g.f w) (r ∷ K)) led in
-    clash (is_led g w K) (is_in_view w (replica_at g (leader_of g.f w) K) normal (same ∙ now.1)) not_led
+    true_and_false (is_led g w K) (is_in_view w (replica_at g (leader_of g.f w) K) normal (same ∙ now.1)) not_led
 begun_by g w r K led not_led (arrivals.Begins b) = b
 begun_by g w r K led not_led (Starts sender b is leader view) =
     let now = normal_in_is w (replica_at g (leader_of g.f w) (r ∷ K)) led in
@@ -117,14 +118,14 @@ begun_turn g w r K led not_led =
       | Acts a turn ↦
           let now = normal_in_is w (replica_at g l (r ∷ K)) led in
           begun_by g w r K led not_led (arrives g.f l r.event (heard_by g l r.event) (seat_at g l K) (seat_at g l (r ∷ K)) turn now.0)
-      | Rests e same ↦ clash (is_led g w K) (sym (ap (λ (s : Seat). is_normal s.status && eqb s.view w) same) ∙ led) not_led
+      | Rests e same ↦ true_and_false (is_led g w K) (sym (ap (λ (s : Seat). is_normal s.status && eqb s.view w) same) ∙ led) not_led
     ]
 
 pub begin_of : (g : Group) (w : ℕ) (r : Record) (K : List Record) → World g (r ∷ K) → Shows g (r ∷ K) → is_led g w (r ∷ K) ≡ true → is_led g w K ≡ false
     → IsBeginOf g w r K
 begin_of g w r K world h led not_led = elim (steps g (leader_of g.f w) r K) [
   | Acts a turn ↦ begin_acts g w r K world h led not_led a (begun_turn g w r K led not_led)
-  | Rests e same ↦ clash (is_led g w K) (sym (ap (λ (s : Seat). is_normal s.status && eqb s.view w) same) ∙ led) not_led
+  | Rests e same ↦ true_and_false (is_led g w K) (sym (ap (λ (s : Seat). is_normal s.status && eqb s.view w) same) ∙ led) not_led
 ]
 
 module _ (g : Group) (J : List Record) (w : ℕ) (r : Record) (K : List Record) (world : World g (r ∷ K)) (shows : Shows g (r ∷ K))
@@ -148,7 +149,7 @@ module _ (g : Group) (J : List Record) (w : ℕ) (r : Record) (K : List Record) 
       (subst (λ (z : ℕ). z < replica_count g.f) t.is k.below, subst (λ (z : ℕ). ¬ (z ≡ l)) t.is k.other)
 
   leader_out : is_in (map reporter (replica_at g l B).changes) l ≡ false
-  leader_out = elim (cases_bool (is_in (map reporter (replica_at g l B).changes) l)) [
+  leader_out = elim (cases_Bool (is_in (map reporter (replica_at g l B).changes) l)) [
     | inl among ↦ absurd ((others_below l among).1 refl)
     | inr out ↦ out
   ]
@@ -227,7 +228,7 @@ module _ (g : Group) (J : List Record) (w : ℕ) (r : Record) (K : List Record) 
     leads = record { normal = now.0; view = now.1 };
     turns = λ s L e i.
         let back = sym (tail_is s L e) in
-        clash (is_led g w K) (subst (λ (x : List Record). is_led g w x ≡ true) back (is_in_view w (replica_at g l L) i.normal i.view)) not_led;
+        true_and_false (is_led g w K) (subst (λ (x : List Record). is_led g w x ≡ true) back (is_in_view w (replica_at g l L) i.normal i.view)) not_led;
     members = members_are;
     report = report_is at;
   }
@@ -268,7 +269,7 @@ module _ (g : Group) (r : Record) (J : List Record) (world : World g (r ∷ J)) 
   begins_now x v leads normal view some false was =
       let led : is_led g v (r ∷ J) ≡ true =
       subst (λ (z : ℕ). is_normal_in v (replica_at g z (r ∷ J)) ≡ true) (sym leads) (is_in_view v (replica_at g x (r ∷ J)) normal view) in
-      record { moment = r ∷ J; at = at_self (r ∷ J); is = and_both (not (is_led g v J)) (is_led g v (r ∷ J)) (ap not was) led }
+      record { moment = r ∷ J; at = at_self (r ∷ J); is = and_from (not (is_led g v J)) (is_led g v (r ∷ J)) (ap not was) led }
 
   arrived : (x v : ℕ) → r.actor ≡ Replica x → is_normal (replica_at g x (r ∷ J)).status ≡ true → (replica_at g x (r ∷ J)).view ≡ v → 0 < v
       → Arrives g.f x r.event (heard_by g x r.event) (seat_at g x J) (seat_at g x (r ∷ J)) → IsBegunBefore g v (r ∷ J)

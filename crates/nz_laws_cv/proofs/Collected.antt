@@ -3,7 +3,7 @@ use Rattle.std.proofs.Common.{◌≡◌, ℕ, zero, suc, ◌≤◌, ◌<◌, Boo
 use Rattle.std.specs.Prelude.{slice_index}
 use Rattle.nz_base.specs.Cluster.{replica_count, leader_of}
 use Rattle.nz_base.specs.declared.actor.Actor.TheVariants.{Replica}
-use Rattle.nz_base.proofs.Booleans.{clash}
+use Rattle.nz_base.proofs.Booleans.{true_and_false}
 use Rattle.nz_cv.specs.Vectors.{merged_vector}
 use Rattle.nz_msg.specs.declared.message.ViewChangeBody.{ViewChangeBody}
 use Rattle.nz_msg.specs.declared.message.StartViewBody.{StartViewBody}
@@ -184,7 +184,7 @@ rejoins_later g m (r ∷ K) w rejoins = elim (passing g m r K w) [
   | Gone inc goes normal ↦ elim (standing (replica_at g m K).status) [
     | IsUp up ↦ up_no_rejoin (replica_at g m (r ∷ K)).status (goes.stays_up up) rejoins
     | IsRejoining before ↦ let rest = rejoins_later g m K w.1 before in omega (arith, rest, inc)
-    | IsDown down ↦ clash (is_down (replica_at g m (r ∷ K)).status) (goes.down ∙ down) (rejoin_not_down (replica_at g m (r ∷ K)).status rejoins)
+    | IsDown down ↦ true_and_false (is_down (replica_at g m (r ∷ K)).status) (goes.down ∙ down) (rejoin_not_down (replica_at g m (r ∷ K)).status rejoins)
   ]
 ]
 
@@ -196,8 +196,8 @@ pub data WasUp (g : Group) (m : ℕ) (r : Record) (K : List Record) : Type 0 whe
 
 pub was_up : (g : Group) (m : ℕ) (r : Record) (K : List Record) → World g (r ∷ K) → up_at g m (r ∷ K) ≡ true → WasUp g m r K
 was_up g m r K w up = elim (passing g m r K w) [
-  | Woken nonce a e down is inc ↦ clash (up_at g m (r ∷ K)) up (ap (λ (s : Seat). is_up s.status) is)
-  | Fallen is inc ↦ clash (up_at g m (r ∷ K)) up (ap (λ (s : Seat). is_up s.status) is)
+  | Woken nonce a e down is inc ↦ true_and_false (up_at g m (r ∷ K)) up (ap (λ (s : Seat). is_up s.status) is)
+  | Fallen is inc ↦ true_and_false (up_at g m (r ∷ K)) up (ap (λ (s : Seat). is_up s.status) is)
   | Gone inc goes normal ↦ elim (standing (replica_at g m K).status) [
     | IsUp before ↦ StayedUp before inc goes
     | IsRejoining before ↦ Rejoined before (normal before up) inc goes

@@ -1,9 +1,8 @@
 -- The example has the ground: no premise contradicts the others.
 use Rattle.std.proofs.Common.{◌≡◌, ℕ, zero, suc, ◌<◌, ◌≤◌, true, false, ◌&&◌, ◌||◌, eqb, leb, List}
 use Rattle.std.proofs.Common.{[], ◌∷◌, length, refl, sym, ap, subst, ◌∙◌, inl, inr, ◌⊎◌, arith}
-use Rattle.std.proofs.lemmas.Bool.{cases_lt, cases_eq, eqb-true, ltb-true, lt-ltb, leb-true, le-leb}
+use Rattle.std.proofs.lemmas.Bool.{cases_lt, cases_eq, eqb-true, ltb-true, lt-ltb, leb-true, le-leb, and_from, and_parts, or_cases, or_left, or_right}
 use Rattle.nz_base.specs.Moments.{At}
-use Rattle.nz_base.proofs.Booleans.{and_both, and_left, and_right, or_cases, or_left, or_right}
 use Rattle.nz_base.proofs.Moments.{at_self, at_shorter, at_order, at_same}
 use Rattle.nz_math.proofs.Twos.{of_two, two_choice}
 use Rattle.nz_laws_cv.specs.Notions.{Notions, IsHeldByMany}
@@ -41,8 +40,8 @@ first_is zero [] h = refl
 first_is zero (r ∷ K) h = absurd cc
 first_is (suc n) [] h = absurd cc
 first_is (suc n) (r ∷ K) h =
-    let same = eqb-true n r (and_left (eqb n r) (are_first n K) h) in
-    let rest = first_is n K (and_right (eqb n r) (are_first n K) h) in
+    let same = eqb-true n r (and_parts (eqb n r) (are_first n K) h).0 in
+    let rest = first_is n K (and_parts (eqb n r) (are_first n K) h).1 in
     ap (λ (x : ℕ). x ∷ K) (sym same) ∙ ap (λ (l : List ℕ). n ∷ l) rest
 
 is_first : (K : List ℕ) → At run K → length K ≡ 9 → are_first 9 K ≡ true
@@ -131,7 +130,7 @@ modes = record {
   grows = λ x K L at older. inc_grows x (length K) (length L) (at_shorter L K older);
   stays = λ x r K at up. elim (stays x (length K) up) [
     | inl s ↦ inl (record { up = s.0; same = s.1 })
-    | inr c ↦ inr (and_both (eqb x 1) (are_first 9 (r ∷ K)) (subst (λ (y : ℕ). eqb y 1 ≡ true) (sym c.0) refl) (is_first (r ∷ K) at c.1))
+    | inr c ↦ inr (and_from (eqb x 1) (are_first 9 (r ∷ K)) (subst (λ (y : ℕ). eqb y 1 ≡ true) (sym c.0) refl) (is_first (r ∷ K) at c.1))
   ];
   mode = λ x K at h. mode x (length K) h;
   changing = λ x K at up. changing x (length K) up;
@@ -147,7 +146,7 @@ modes = record {
       let b = began x (length K) v (short K at) is.normal is.view more in
       let whole = at_same run K run at (at_self run) b.0 in
       let all = subst (λ (l : List ℕ). are_first 12 l ≡ true) (sym whole) refl in
-      (K, and_both (eqb v 1) (are_first 12 K) (subst (λ (y : ℕ). eqb y 1 ≡ true) (sym b.1) refl) all, at_self K);
+      (K, and_from (eqb v 1) (are_first 12 K) (subst (λ (y : ℕ). eqb y 1 ≡ true) (sym b.1) refl) all, at_self K);
 }
 
 own_zero : (x n : ℕ) → inc_after x n ≡ 0 → place_after x x n ≡ 0
@@ -189,8 +188,8 @@ pub record CompletesAt (m : ℕ) (C : List ℕ) : Type 0 where
 
 completes_is : (m : ℕ) (C : List ℕ) → completes_at m C ≡ true → CompletesAt m C
 completes_is m C h =
-    let is = first_is 9 C (and_right (eqb m 1) (are_first 9 C) h) in
-    record { who = eqb-true m 1 (and_left (eqb m 1) (are_first 9 C) h); at = subst (At run) (sym is) (at_number 12 9 (omega arith)); count = ap length is }
+    let is = first_is 9 C (and_parts (eqb m 1) (are_first 9 C) h).1 in
+    record { who = eqb-true m 1 (and_parts (eqb m 1) (are_first 9 C) h).0; at = subst (At run) (sym is) (at_number 12 9 (omega arith)); count = ap length is }
 
 pub record AnswersAt (y : ℕ) (T : List ℕ) : Type 0 where
   pub at : At run T
@@ -198,14 +197,14 @@ pub record AnswersAt (y : ℕ) (T : List ℕ) : Type 0 where
 
 answers_is : (m : ℕ) (C : List ℕ) (y : ℕ) (T : List ℕ) → answers_at m C y T ≡ true → AnswersAt y T
 answers_is m C y T h =
-    elim (or_cases (eqb y 0 && are_first 6 T) (eqb y 2 && are_first 7 T) (and_right (completes_at m C) _ h)) [
+    elim (or_cases (eqb y 0 && are_first 6 T) (eqb y 2 && are_first 7 T) (and_parts (completes_at m C) _ h).1) [
       | inl e ↦
-          let is = first_is 6 T (and_right (eqb y 0) (are_first 6 T) e) in
-          let who = eqb-true y 0 (and_left (eqb y 0) (are_first 6 T) e) in
+          let is = first_is 6 T (and_parts (eqb y 0) (are_first 6 T) e).1 in
+          let who = eqb-true y 0 (and_parts (eqb y 0) (are_first 6 T) e).0 in
           record { at = subst (At run) (sym is) (at_number 12 6 (omega arith)); answer = inl (who, ap length is) }
       | inr e ↦
-          let is = first_is 7 T (and_right (eqb y 2) (are_first 7 T) e) in
-          let who = eqb-true y 2 (and_left (eqb y 2) (are_first 7 T) e) in
+          let is = first_is 7 T (and_parts (eqb y 2) (are_first 7 T) e).1 in
+          let who = eqb-true y 2 (and_parts (eqb y 2) (are_first 7 T) e).0 in
           record { at = subst (At run) (sym is) (at_number 12 7 (omega arith)); answer = inr (who, ap length is) }
     ]
 
@@ -251,8 +250,8 @@ completed_one C h =
       normal = one_late (length C) (omega (arith, nine));
       follows = λ e. absurd (omega (arith, nine, e));
       answers = two_hold 0 2 (first_records 6) (first_records 7) (omega arith) (omega arith) (λ e. cc)
-          (and_both (completes_at 1 C) true h refl)
-          (and_both (completes_at 1 C) true h refl);
+          (and_from (completes_at 1 C) true h refl)
+          (and_from (completes_at 1 C) true h refl);
       answer = λ y T u. answered C nine y T (answers_is 1 C y T u);
       consistent = λ y x S T s t. elim (answers_is 1 C x T t).answer [
         | inl a ↦ off_one y x (length S) (length T) x (λ e. let z = a.0 in cc)
@@ -272,7 +271,7 @@ pub record BeginsAt (w : ℕ) (B : List ℕ) : Type 0 where
   pub whole : B ≡ run
 
 begins_is : (w : ℕ) (B : List ℕ) → begins_at w B ≡ true → BeginsAt w B
-begins_is w B h = record { view = eqb-true w 1 (and_left (eqb w 1) (are_first 12 B) h); whole = first_is 12 B (and_right (eqb w 1) (are_first 12 B) h) }
+begins_is w B h = record { view = eqb-true w 1 (and_parts (eqb w 1) (are_first 12 B) h).0; whole = first_is 12 B (and_parts (eqb w 1) (are_first 12 B) h).1 }
 
 pub record ReportsAt (B : List ℕ) (y : ℕ) (Q : List ℕ) : Type 0 where
   pub at : At B Q
@@ -280,15 +279,15 @@ pub record ReportsAt (B : List ℕ) (y : ℕ) (Q : List ℕ) : Type 0 where
 
 reports_is : (B : List ℕ) (y : ℕ) (Q : List ℕ) → reports_at 1 B y Q ≡ true → ReportsAt B y Q
 reports_is B y Q h =
-    let whole = (begins_is 1 B (and_left (begins_at 1 B) _ h)).whole in
-    elim (or_cases (eqb y 1 && are_first 12 Q) (eqb y 2 && are_first 11 Q) (and_right (begins_at 1 B) _ h)) [
+    let whole = (begins_is 1 B (and_parts (begins_at 1 B) _ h).0).whole in
+    elim (or_cases (eqb y 1 && are_first 12 Q) (eqb y 2 && are_first 11 Q) (and_parts (begins_at 1 B) _ h).1) [
       | inl e ↦
-          let same = first_is 12 Q (and_right (eqb y 1) (are_first 12 Q) e) ∙ sym whole in
-          record { at = subst (At B) (sym same) (at_self B); report = inl (eqb-true y 1 (and_left (eqb y 1) (are_first 12 Q) e), same) }
+          let same = first_is 12 Q (and_parts (eqb y 1) (are_first 12 Q) e).1 ∙ sym whole in
+          record { at = subst (At B) (sym same) (at_self B); report = inl (eqb-true y 1 (and_parts (eqb y 1) (are_first 12 Q) e).0, same) }
       | inr e ↦
-          let is = first_is 11 Q (and_right (eqb y 2) (are_first 11 Q) e) in
+          let is = first_is 11 Q (and_parts (eqb y 2) (are_first 11 Q) e).1 in
           let at = subst (λ (l : List ℕ). At l Q) (sym whole) (subst (At run) (sym is) (at_number 12 11 (omega arith))) in
-          record { at = at; report = inr (eqb-true y 2 (and_left (eqb y 2) (are_first 11 Q) e), ap length is) }
+          record { at = at; report = inr (eqb-true y 2 (and_parts (eqb y 2) (are_first 11 Q) e).0, ap length is) }
     ]
 
 reported : (B : List ℕ) → length B ≡ 12 → (y : ℕ) (Q : List ℕ) → ReportsAt B y Q → IsReport N run 1 B y Q
@@ -325,8 +324,8 @@ begun_one B h =
       leads = record { normal = one_late (length B) (omega (arith, twelve)); view = omega (arith, twelve) };
       turns = λ r K e is. let longer = ap length e in let view = is.view in omega (arith, longer, twelve, view);
       members = two_hold 1 2 B (first_records 11) (omega arith) (omega arith) (λ e. cc)
-          (and_both (begins_at 1 B) (are_first 12 B || false) h (or_left (are_first 12 B) false h))
-          (and_both (begins_at 1 B) true h refl);
+          (and_from (begins_at 1 B) (are_first 12 B || false) h (or_left (are_first 12 B) false h))
+          (and_from (begins_at 1 B) true h refl);
       report = λ y Q r. reported B twelve y Q (reports_is B y Q r);
     }
 

@@ -2,10 +2,9 @@
 use Rattle.std.proofs.Common.{◌≡◌, ℕ, ◌≤◌, ◌<◌, true, false, List, [], ◌∷◌, length, map, Some, refl, sym, ap, subst, ◌∙◌, inl, inr, ◌⊎◌, arith}
 use Rattle.std.specs.Prelude.{slice_index}
 use Rattle.std.proofs.lemmas.List.{length-map}
-use Rattle.std.proofs.lemmas.Bool.{cases_eq}
+use Rattle.std.proofs.lemmas.Bool.{cases_eq, and_parts, and_from}
 use Rattle.nz_base.specs.Cluster.{replica_count, leader_of}
 use Rattle.nz_base.specs.declared.actor.Actor.TheVariants.{Replica}
-use Rattle.nz_base.proofs.Booleans.{and_left, and_right, and_both}
 use Rattle.nz_msg.specs.declared.message.Message.TheVariants as messages
 use Rattle.nz_machine.specs.declared.event.Parcel.{Parcel}
 use Rattle.nz_machine.specs.declared.event.Record.{Record}
@@ -58,7 +57,7 @@ later_at g J w x K L at then same up_k up_l =
 
 completes_is : (g : Group) (x : ℕ) (r : Record) (K : List Record) → rejoining_at g x K ≡ true → is_normal (replica_at g x (r ∷ K)).status ≡ true
     → completes g x (r ∷ K) ≡ true
-completes_is g x r K before normal = and_both (rejoining_at g x K) (is_normal (replica_at g x (r ∷ K)).status) before normal
+completes_is g x r K before normal = and_from (rejoining_at g x K) (is_normal (replica_at g x (r ∷ K)).status) before normal
 
 pub stays_at : (g : Group) (J : List Record) → World g J → (x : ℕ) (r : Record) (K : List Record) → At J (r ∷ K) → up_at g x (r ∷ K) ≡ true
     → StaysUp (notions g J) x K (r ∷ K) ⊎ Completes g J x (r ∷ K)
@@ -182,8 +181,8 @@ completing_is g m (r ∷ K) h = record {
   newest = r;
   older = K;
   is = refl;
-  before = and_left (rejoining_at g m K) (is_normal (replica_at g m (r ∷ K)).status) h;
-  after = and_right (rejoining_at g m K) (is_normal (replica_at g m (r ∷ K)).status) h;
+  before = (and_parts (rejoining_at g m K) (is_normal (replica_at g m (r ∷ K)).status) h).0;
+  after = (and_parts (rejoining_at g m K) (is_normal (replica_at g m (r ∷ K)).status) h).1;
 }
 
 -- a moment is a source in the run so far

@@ -1,8 +1,8 @@
 -- Knowledge and views of the machine, in its own words.
 use Rattle.std.proofs.Common.{◌≡◌, ℕ, zero, suc, ◌≤◌, ◌<◌, true, not, List, [], ◌∷◌, length, refl, sym, ap, subst, ◌∙◌, inl, inr, ◌⊎◌, arith}
-use Rattle.std.proofs.lemmas.Bool.{cases_lt}
+use Rattle.std.proofs.lemmas.Bool.{cases_lt, and_parts}
 use Rattle.nz_base.specs.Cluster.{leader_of}
-use Rattle.nz_base.proofs.Booleans.{and_left, and_right, clash}
+use Rattle.nz_base.proofs.Booleans.{true_and_false}
 use Rattle.nz_machine.specs.declared.event.Record.{Record}
 use Rattle.nz_machine.specs.State.{Group}
 use Rattle.nz_machine.specs.Replicas.{is_normal, is_up}
@@ -69,12 +69,12 @@ knowledge_at g J w h =
 zero_once : (g : Group) (J : List Record) → HasViews (notions g J) J → (B : List Record) → At J B → begins g 0 B ≡ true → B ≡ []
 zero_once g J v [] at h = refl
 zero_once g J v (r ∷ K) at h =
-    let led = and_right (not (is_led g 0 K)) (is_led g 0 (r ∷ K)) h in
-    let not_led = not_true (is_led g 0 K) (and_left (not (is_led g 0 K)) (is_led g 0 (r ∷ K)) h) in
+    let led = (and_parts (not (is_led g 0 K)) (is_led g 0 (r ∷ K)) h).1 in
+    let not_led = not_true (is_led g 0 K) (and_parts (not (is_led g 0 K)) (is_led g 0 (r ∷ K)) h).0 in
     let now = normal_in_is 0 (replica_at g (leader_of g.f 0) (r ∷ K)) led in
     elim (v.begins_once 0 r K at (record { normal = now.0; view = now.1 })) [
       | inl b ↦ absurd (let none = b.later in omega (arith, none))
-      | inr was ↦ clash (is_led g 0 K) (is_in_view 0 (replica_at g (leader_of g.f 0) K) was.0.normal was.0.view) not_led
+      | inr was ↦ true_and_false (is_led g 0 K) (is_in_view 0 (replica_at g (leader_of g.f 0) K) was.0.normal was.0.view) not_led
     ]
 
 module _ (g : Group) (J : List Record) (w : World g J) (v : HasViews (notions g J) J) where

@@ -1,7 +1,7 @@
 -- Lists of what was collected, each item with the number of its sender.
 use Rattle.std.proofs.Common.{◌≡◌, ℕ, ◌≤◌, Bool, true, false, cond, eqb, List, [], ◌∷◌, map, refl, sym, ap, ◌∙◌, inl, inr, ◌⊎◌, arith, eqb-true}
+use Rattle.std.proofs.lemmas.Bool.{or_cases}
 use Rattle.std.specs.List.{filter}
-use Rattle.nz_base.proofs.Booleans.{or_cases}
 use Rattle.nz_merge.specs.Merged.{greatest}
 use Rattle.nz_machine.specs.World.{Has}
 use Rattle.nz_math.specs.Count.{is_in}

@@ -1,10 +1,10 @@
 -- A completion adopts the log that the leader of its view told at a moment of the same incarnation, with its own
 -- counter.
 use Rattle.std.proofs.Common.{◌≡◌, ℕ, ◌≤◌, ◌<◌, true, List, ◌∷◌, length, sym, ap, subst, ◌∙◌, inr, arith}
+use Rattle.std.proofs.lemmas.Bool.{and_parts}
 use Rattle.std.specs.Prelude.{slice_index}
 use Rattle.nz_base.specs.Cluster.{leader_of}
 use Rattle.nz_base.specs.declared.actor.Actor.TheVariants.{Replica}
-use Rattle.nz_base.proofs.Booleans.{and_left, and_right}
 use Rattle.nz_msg.specs.declared.message.Message.TheVariants as messages
 use Rattle.nz_machine.specs.declared.event.Record.{Record}
 use Rattle.nz_machine.specs.State.{Group}
@@ -80,8 +80,8 @@ returned g m r K w h rejoins normal a d =
 pub taken_from : (g : Group) (m : ℕ) (r : Record) (K : List Record) → World g (r ∷ K) → Shows g (r ∷ K) → completes g m (r ∷ K) ≡ true
     → (T : List Record) × IsTakenFrom g m (r ∷ K) T
 taken_from g m r K w h c =
-    let rejoins = and_left (rejoining_at g m K) (is_normal (replica_at g m (r ∷ K)).status) c in
-    let normal = and_right (rejoining_at g m K) (is_normal (replica_at g m (r ∷ K)).status) c in
+    let rejoins = (and_parts (rejoining_at g m K) (is_normal (replica_at g m (r ∷ K)).status) c).0 in
+    let normal = (and_parts (rejoining_at g m K) (is_normal (replica_at g m (r ∷ K)).status) c).1 in
     elim (steps g m r K) [
       | Acts a turn ↦ returned g m r K w h rejoins normal a
           (returns g.f m r.event (heard_by g m r.event) (seat_at g m K) (seat_at g m (r ∷ K)) turn rejoins normal)

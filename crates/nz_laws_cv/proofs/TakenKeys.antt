@@ -1,7 +1,7 @@
 -- What a log modification does to a log, beside any list in which its keys have their places.
 use Rattle.std.proofs.Common.{◌≡◌, ℕ, ◌-◌, ◌≤◌, not, Bool, true, false, cond, List, [], ◌∷◌, ◌++◌, length}
 use Rattle.std.proofs.Common.{take, drop, Option, Some, None, refl, sym, ap, subst, ◌∙◌, arith}
-use Rattle.std.proofs.lemmas.Bool.{ltb-true, not-true}
+use Rattle.std.proofs.lemmas.Bool.{ltb-true, not-true, and_parts}
 use Rattle.std.proofs.lemmas.List.{length-map, length-take-le, take-map}
 use Rattle.std.proofs.Math.Seq.{take-length}
 use Rattle.nz_base.specs.declared.key.Key.{Key}
@@ -9,7 +9,6 @@ use Rattle.nz_base.specs.declared.key.Entry.{Entry}
 use Rattle.nz_base.specs.Key.{id_of}
 use Rattle.nz_base.specs.Log.{keys_of, has_id, is_above_last}
 use Rattle.nz_base.specs.Prefixes.{IsPrefix}
-use Rattle.nz_base.proofs.Booleans.{and_left, and_right}
 use Rattle.nz_base.proofs.Prefixes.{prefix_self, prefix_then, prefix_take, prefix_length, take_of_prefix}
 use Rattle.nz_base.specs.declared.limits.TheConstants.{MAX_KEYS}
 use Rattle.nz_log.specs.Synced.{Log, IsSound, synced_part}
@@ -61,10 +60,10 @@ fits : ModifiesLog (λ (x : ReplicaData). x.log) may_sync entry_of_id synced_wit
 fits = record {
   is = λ s e. refl;
   sound = λ s e may sound.
-      let above = and_left (is_above_last (keys_of (synced_part s.log)) e.key) _ may in
-      let rest = and_right (is_above_last (keys_of (synced_part s.log)) e.key) _ may in
-      let fresh = not-true (has_id (keys_of (synced_part s.log)) (id_of e.key)) (and_left (not (has_id (keys_of (synced_part s.log)) (id_of e.key))) _ rest) in
-      let room = ltb-true (length s.log.entries) 4096 (and_right (not (has_id (keys_of (synced_part s.log)) (id_of e.key))) _ rest) in
+      let above = (and_parts (is_above_last (keys_of (synced_part s.log)) e.key) _ may).0 in
+      let rest = (and_parts (is_above_last (keys_of (synced_part s.log)) e.key) _ may).1 in
+      let fresh = not-true (has_id (keys_of (synced_part s.log)) (id_of e.key)) (and_parts (not (has_id (keys_of (synced_part s.log)) (id_of e.key))) _ rest).0 in
+      let room = ltb-true (length s.log.entries) 4096 (and_parts (not (has_id (keys_of (synced_part s.log)) (id_of e.key))) _ rest).1 in
       modified_sound s.log e sound above fresh room;
 }
 

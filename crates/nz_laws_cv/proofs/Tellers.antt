@@ -1,12 +1,13 @@
 -- Who told its vector in the first phase of a rejoin, and the own counter from the second phase on.
 use Rattle.std.proofs.Common.{◌≡◌, ℕ, ◌+◌, ◌≤◌, ◌<◌, Bool, true, false, cond, eqb, List, [], ◌∷◌, ◌++◌, length}
 use Rattle.std.proofs.Common.{max, Some, refl, sym, ap, subst, ◌∙◌, inl, inr, ◌⊎◌, arith, eqb-true}
+use Rattle.std.proofs.lemmas.Bool.{or_cases}
 use Rattle.std.specs.Prelude.{slice_index}
 use Rattle.std.specs.List.{list_any}
 use Rattle.std.proofs.lemmas.List.{get_or-set_same}
 use Rattle.nz_base.specs.Cluster.{replica_count, slow_size}
 use Rattle.nz_base.specs.declared.actor.Actor.TheVariants.{Replica}
-use Rattle.nz_base.proofs.Booleans.{or_cases, clash}
+use Rattle.nz_base.proofs.Booleans.{true_and_false}
 use Rattle.nz_cv.specs.Vectors.{merged_vector}
 use Rattle.nz_msg.specs.declared.message.VectorTellBody.{VectorTellBody}
 use Rattle.nz_msg.specs.declared.message.Message.{Message}
@@ -153,8 +154,8 @@ module _ (f me : ℕ) (Sent : ℕ → Message → Type 0) where
     tellers_kept s _ sound (HearVector sender b new ours) h = record {
       distinct = more_distinct s.rejoin.tellers sender h.distinct;
       told = more_told s sender b.vector h (hears_teller heard s sender b fit sent new ours);
-      counted = λ set. clash _ ours.in_phase set;
-      counter = λ set. clash _ ours.in_phase set;
+      counted = λ set. true_and_false _ ours.in_phase set;
+      counter = λ set. true_and_false _ ours.in_phase set;
     }
     tellers_kept s t sound (Count sender b new ours enough) h = record {
       distinct = more_distinct s.rejoin.tellers sender h.distinct;

@@ -1,13 +1,13 @@
 -- Each rule of a replica is one turn.
 use Rattle.std.proofs.Common.{◌≡◌, cond, ℕ, ◌+◌, ◌≤◌, ◌<◌, Bool, ◌&&◌, eqb, true, false, List, [], ◌∷◌, length, max}
 use Rattle.std.proofs.Common.{Option, Some, None, refl, sym, ap, subst, ◌∙◌, inl, inr, ◌⊎◌, arith, eqb-true}
+use Rattle.std.proofs.lemmas.Bool.{and_parts}
 use Rattle.std.specs.Prelude.{nat_lt, nat_le, min, map, drop, ◌-◌}
 use Rattle.std.proofs.lemmas.Bool.Decides.{nat_tests}
 use Rattle.nz_base.specs.Cluster.{leader_of, slow_size}
 use Rattle.nz_base.specs.declared.actor.Actor.{Actor}
 use Rattle.nz_base.specs.declared.actor.Actor.TheVariants.{Replica, Proxy}
 use Rattle.nz_base.specs.declared.key.Entry.{Entry}
-use Rattle.nz_base.proofs.Booleans.{and_left, and_right}
 use Rattle.nz_base.specs.declared.limits.TheConstants.{MAX_ENTRIES, MAX_QUIET}
 use Rattle.nz_cv.specs.Vectors.{is_stray, merged_vector}
 use Rattle.nz_merge.specs.Merged.{merged, greatest}
@@ -187,8 +187,8 @@ module _ (f me : ℕ) (e : Event) where
   sync_report_turn heard s sender b =
       on_cond (λ (x : ReplicaData × List Out). Turns heard s x.0) (leads_view f me s && (eqb b.view s.view && nat_le b.synced (length s.log.entries))) _ (s, [])
       (λ tested.
-      let led = and_left (leads_view f me s) _ tested in
-      Tally _ (and_left (is_normal s.status) (leads f me s) led) (and_right (is_normal s.status) (leads f me s) led) (omega arith))
+      let led = (and_parts (leads_view f me s) _ tested).0 in
+      Tally _ (and_parts (is_normal s.status) (leads f me s) led).0 (and_parts (is_normal s.status) (leads f me s) led).1 (omega arith))
       (λ _. Stays)
 
   pub view_ask_turn : (heard : Heard) (s : ReplicaData) (b : ViewAskBody) → Turns heard s (view_ask_rule f me s b).0

@@ -1,10 +1,11 @@
 -- Incarnations: what a record does to a replica, and what holds between two moments of one incarnation.
 use Rattle.std.proofs.Common.{◌≡◌, ℕ, suc, ◌≤◌, ◌<◌, Bool, true, false, cond, ◌&&◌, List, [], ◌∷◌, refl, sym, ap, subst, ◌∙◌, inl, inr, arith}
+use Rattle.std.proofs.lemmas.Bool.{and_parts, and_from}
 use Rattle.nz_base.specs.Actor.{actor_eq}
 use Rattle.nz_base.specs.Cluster.{replica_count}
 use Rattle.nz_base.specs.declared.actor.Actor.{Actor}
 use Rattle.nz_base.specs.declared.actor.Actor.TheVariants.{Replica}
-use Rattle.nz_base.proofs.Booleans.{and_left, and_right, and_both, clash}
+use Rattle.nz_base.proofs.Booleans.{true_and_false}
 use Rattle.nz_base.proofs.Names.{actor_eq_self, same_actor}
 use Rattle.nz_machine.specs.declared.event.Event.{Event}
 use Rattle.nz_machine.specs.declared.event.Event.TheVariants.{Deliver, Cut, Tick, Alarm, Crash, Restart}
@@ -79,22 +80,22 @@ woken_state f m nonce s h = grind (arith, h)
 is_back : (g : Group) (m : ℕ) (r : Record) (J : List Record) (nonce : ℕ) → r.actor ≡ Replica m → r.event ≡ Restart nonce
     → is_down (replica_at g m J).status ≡ true → comes_back g m r J ≡ true
 is_back g m r J nonce a e down =
-    and_both (actor_eq r.actor (Replica m)) (is_restart r.event && is_down (replica_at g m J).status)
+    and_from (actor_eq r.actor (Replica m)) (is_restart r.event && is_down (replica_at g m J).status)
     (ap (λ (x : Actor). actor_eq x (Replica m)) a ∙ actor_eq_self (Replica m))
-    (and_both (is_restart r.event) (is_down (replica_at g m J).status) (ap is_restart e) down)
+    (and_from (is_restart r.event) (is_down (replica_at g m J).status) (ap is_restart e) down)
 
 goes_on : (g : Group) (m : ℕ) (r : Record) (J : List Record) → r.actor ≡ Replica m → comes_back g m r J ≡ false
     → Course g.f m r.event (seat_at g m J) (seat_at g m (r ∷ J)) → Passing g m r J
 goes_on g m r J a b (Falls is) = Fallen is (inc_same g m r J b)
-goes_on g m r J a b (Wakes nonce e down) = clash (comes_back g m r J) (is_back g m r J nonce a e down) b
+goes_on g m r J a b (Wakes nonce e down) = true_and_false (comes_back g m r J) (is_back g m r J nonce a e down) b
 goes_on g m r J a b (GoesOn goes normal) = Gone (inc_same g m r J b) goes normal
 
 passing_by : (g : Group) (m : ℕ) (r : Record) (J : List Record) → World g (r ∷ J) → (b : Bool) → comes_back g m r J ≡ b → Passing g m r J
 passing_by g m r J w true b =
-    let rest = and_right (actor_eq r.actor (Replica m)) (is_restart r.event && is_down (replica_at g m J).status) b in
-    let mine = and_left (actor_eq r.actor (Replica m)) (is_restart r.event && is_down (replica_at g m J).status) b in
-    let restart = restart_of r.event (and_left (is_restart r.event) (is_down (replica_at g m J).status) rest) in
-    let down = and_right (is_restart r.event) (is_down (replica_at g m J).status) rest in
+    let rest = (and_parts (actor_eq r.actor (Replica m)) (is_restart r.event && is_down (replica_at g m J).status) b).1 in
+    let mine = (and_parts (actor_eq r.actor (Replica m)) (is_restart r.event && is_down (replica_at g m J).status) b).0 in
+    let restart = restart_of r.event (and_parts (is_restart r.event) (is_down (replica_at g m J).status) rest).0 in
+    let down = (and_parts (is_restart r.event) (is_down (replica_at g m J).status) rest).1 in
     let state : replica_at g m (r ∷ J) ≡ restarted_replica g.f restart.0 =
     acts g (Replica m) r J mine ∙ ap (λ (e : Event). (event_step g (Replica m) (replica_at g m J) e).0) restart.1
     ∙ woken_state g.f m restart.0 (replica_at g m J) down in
@@ -128,7 +129,7 @@ abbrev pub down_at : Group → ℕ → List Record → Bool
 down_at g m K = is_down (replica_at g m K).status
 
 pub crashed_down : {X : Type 0} (g : Group) (m : ℕ) (K : List Record) → seat_at g m K ≡ seat_of (crashed_replica g.f) → down_at g m K ≡ false → X
-crashed_down g m K is up = clash (down_at g m K) (ap (λ (s : Seat). is_down s.status) is) up
+crashed_down g m K is up = true_and_false (down_at g m K) (ap (λ (s : Seat). is_down s.status) is) up
 
 -- from a moment to a later one of the same incarnation, where it is not down
 pub goes_far : (g : Group) (m : ℕ) (L K : List Record) → World g L → At L K → incarnation g m K ≡ incarnation g m L → down_at g m L ≡ false

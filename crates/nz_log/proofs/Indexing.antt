@@ -1,6 +1,7 @@
 -- The index of a log, while its entries go to their places one after another.
 use Rattle.std.proofs.Common.{◌≡◌, ℕ, suc, ◌+◌, ◌<◌, ◌≤◌, take, drop, get_or, drop-cons, append_assoc, arith, true, false, List, [], ◌∷◌}
 use Rattle.std.proofs.Common.{◌++◌, length, filter, Option, Some, None, is_some, refl, sym, ap, subst, ◌∙◌, inl, inr, if◌then◌else◌}
+use Rattle.std.proofs.lemmas.Bool.{cases_Bool, or_left, or_right, or_parts}
 use Rattle.std.specs.Option.{option_map}
 use Rattle.std.proofs.lemmas.List.{length-take-le}
 use Rattle.nz_base.specs.declared.key.Id.{Id}
@@ -9,7 +10,7 @@ use Rattle.nz_base.specs.declared.key.Entry.{Entry}
 use Rattle.nz_base.specs.Key.{key_below, id_eq, id_of}
 use Rattle.nz_base.specs.Log.{keys_of, has_id, HaveOwnIds}
 use Rattle.nz_base.proofs.Names.{same_id, id_turn, id_turn_away, id_eq_self}
-use Rattle.nz_base.proofs.Booleans.{cases_bool, or_left, or_right, neither_left, neither_right, clash}
+use Rattle.nz_base.proofs.Booleans.{true_and_false}
 use Rattle.nz_base.proofs.Logs.{has_id-append, keys_append}
 use Rattle.nz_log.specs.Places.{place_of}
 use Rattle.nz_log.specs.Synced.{stays_behind}
@@ -26,13 +27,13 @@ pub place_push_new : (es : List Entry) (e : Entry) (i : Id) → has_id (keys_of 
     → id_eq i (id_of e.key) ≡ true → place_of (es ++ e ∷ []) i ≡ Some (length es)
 place_push_new [] e i away here = rw here refl
 place_push_new (f ∷ es) e i away here =
-    rw (neither_left (id_eq i (id_of f.key)) (has_id (keys_of es) i) away)
-    (ap (λ (o : Option ℕ). option_map suc o) (place_push_new es e i (neither_right (id_eq i (id_of f.key)) (has_id (keys_of es) i) away) here))
+    rw (or_parts (id_eq i (id_of f.key)) (has_id (keys_of es) i) away).0
+    (ap (λ (o : Option ℕ). option_map suc o) (place_push_new es e i (or_parts (id_eq i (id_of f.key)) (has_id (keys_of es) i) away).1 here))
 
 pub place_push_old : (es : List Entry) (e : Entry) (i : Id) → has_id (keys_of es) i ≡ true → place_of (es ++ e ∷ []) i ≡ place_of es i
 place_push_old [] e i there = absurd cc
 place_push_old (f ∷ es) e i there =
-    elim (cases_bool (id_eq i (id_of f.key))) [
+    elim (cases_Bool (id_eq i (id_of f.key))) [
       | inl here ↦ rw here refl
       | inr away ↦ rw away (ap (λ (o : Option ℕ). option_map suc o) (place_push_old es e i (rw away at there)))
     ]
@@ -47,7 +48,7 @@ midway_own key settled x rest f own mid = record {
   held = λ i there. mid.held i (or_right (id_eq i (id_of x.key)) (has_id (keys_of rest) i) there);
   right = λ i. elim [
     | inr same ↦ mid.right i (inr same)
-    | inl away ↦ elim (cases_bool (id_eq i (id_of x.key))) [
+    | inl away ↦ elim (cases_Bool (id_eq i (id_of x.key))) [
       | inl here ↦ mid.right i (inr (subst (λ (j : Id). id_eq (id_of key) j ≡ true) (sym (same_id i (id_of x.key) here)) own))
       | inr other ↦ mid.right i (inl (rw other away))
     ]
@@ -59,13 +60,13 @@ pub midway_gone : (key : Key) (settled : List Entry) (x : Entry) (rest : List En
 midway_gone key settled x rest f g other now mid = record {
   own = mid.own.1;
   apart = λ i there apart. mid.apart i (or_right (id_eq i (id_of x.key)) (has_id (keys_of rest) i) there) apart;
-  held = λ i there. elim (cases_bool (id_eq (id_of x.key) i)) [
+  held = λ i there. elim (cases_Bool (id_eq (id_of x.key) i)) [
     | inl here ↦
-        clash (has_id (keys_of rest) (id_of x.key))
+        true_and_false (has_id (keys_of rest) (id_of x.key))
         (subst (λ (j : Id). has_id (keys_of rest) j ≡ true) (sym (same_id (id_of x.key) i here)) there) mid.own.0
     | inr away ↦ ap is_some (now i) ∙ rw away (mid.held i (or_right (id_eq i (id_of x.key)) (has_id (keys_of rest) i) there))
   ];
-  right = λ i known. elim (cases_bool (id_eq (id_of x.key) i)) [
+  right = λ i known. elim (cases_Bool (id_eq (id_of x.key) i)) [
     | inl here ↦
         let is : id_of x.key ≡ i = same_id (id_of x.key) i here in
         let free : has_id (keys_of settled) i ≡ false =
@@ -88,19 +89,19 @@ midway_stays key settled x rest f g other now mid =
     record {
       own = mid.own.1;
       apart = λ i there apart.
-          let away : id_eq i (id_of x.key) ≡ false = elim (cases_bool (id_eq i (id_of x.key))) [
+          let away : id_eq i (id_of x.key) ≡ false = elim (cases_Bool (id_eq i (id_of x.key))) [
             | inl here ↦
-                clash (has_id (keys_of rest) (id_of x.key))
+                true_and_false (has_id (keys_of rest) (id_of x.key))
                 (subst (λ (j : Id). has_id (keys_of rest) j ≡ true) (same_id i (id_of x.key) here) there) mid.own.0
             | inr away ↦ away
           ] in
           let free = mid.apart i (or_right (id_eq i (id_of x.key)) (has_id (keys_of rest) i) there) apart in
           ap (λ (ks : List Key). has_id ks i) (keys_append settled (x ∷ [])) ∙ has_id-append (keys_of settled) (x.key ∷ []) i ∙ rw (free, away) refl;
-      held = λ i there. elim (cases_bool (id_eq (id_of x.key) i)) [
+      held = λ i there. elim (cases_Bool (id_eq (id_of x.key) i)) [
         | inl here ↦ ap is_some (now i) ∙ rw here refl
         | inr away ↦ ap is_some (now i) ∙ rw away (mid.held i (or_right (id_eq i (id_of x.key)) (has_id (keys_of rest) i) there))
       ];
-      right = λ i known. elim (cases_bool (id_eq (id_of x.key) i)) [
+      right = λ i known. elim (cases_Bool (id_eq (id_of x.key) i)) [
         | inl here ↦
             let free : has_id (keys_of settled) i ≡ false = subst (λ (j : Id). has_id (keys_of settled) j ≡ false) (same_id (id_of x.key) i here) first in
             now i ∙ rw here (sym (place_push_new settled x i free (id_turn (id_of x.key) i here)))
@@ -124,10 +125,10 @@ own_last (x ∷ xs) ys own = own_last xs ys own.1
 away_in_prefix : (xs ys : List Key) (i : Id) → HaveOwnIds (xs ++ ys) → has_id ys i ≡ true → has_id xs i ≡ false
 away_in_prefix [] ys i own there = refl
 away_in_prefix (x ∷ xs) ys i own there =
-    elim (cases_bool (id_eq i (id_of x))) [
+    elim (cases_Bool (id_eq i (id_of x))) [
       | inr away ↦ rw away (away_in_prefix xs ys i own.1 there)
       | inl here ↦
-          clash (has_id (xs ++ ys) (id_of x))
+          true_and_false (has_id (xs ++ ys) (id_of x))
           (subst (λ (j : Id). has_id (xs ++ ys) j ≡ true) (same_id i (id_of x) here)
           (has_id-append xs ys i ∙ or_right (has_id xs i) (has_id ys i) there)) own.0
     ]
@@ -148,18 +149,18 @@ midway_start prefix e back f g own fresh old now =
     record {
       own = own_last (keys_of prefix) (keys_of back) apart;
       apart = λ i there other. with_last i (id_turn_away (id_of e.key) i other) (away_in_prefix (keys_of prefix) (keys_of back) i apart there);
-      held = λ i there. ap is_some (now i) ∙ elim (cases_bool (id_eq (id_of e.key) i)) [
+      held = λ i there. ap is_some (now i) ∙ elim (cases_Bool (id_eq (id_of e.key) i)) [
         | inl here ↦ rw here refl
         | inr away ↦
             rw away (ap is_some (old i) ∙ place_held (prefix ++ back) i ∙ ap (λ (ks : List Key). has_id ks i) parts
             ∙ has_id-append (keys_of prefix) (keys_of back) i ∙ or_right (has_id (keys_of prefix) i) (has_id (keys_of back) i) there)
       ];
-      right = λ i known. now i ∙ elim (cases_bool (id_eq (id_of e.key) i)) [
+      right = λ i known. now i ∙ elim (cases_Bool (id_eq (id_of e.key) i)) [
         | inl here ↦
             rw here (sym (place_push_new prefix e i
             (subst (λ (j : Id). has_id (keys_of prefix) j ≡ false) (same_id (id_of e.key) i here) fresh) (id_turn (id_of e.key) i here)))
         | inr away ↦ rw away (old i ∙ elim known [
-          | inr same ↦ clash (id_eq (id_of e.key) i) same away
+          | inr same ↦ true_and_false (id_eq (id_of e.key) i) same away
           | inl gone ↦ place_in_prefix prefix back i gone ∙ sym (place_push_other prefix e i (id_turn_away (id_of e.key) i away))
         ])
       ];
@@ -190,7 +191,7 @@ module _ (key : Key) (es : List Entry) (kept place : ℕ) (f : Id → Option ℕ
   midway = subst (λ (xs : List Entry). IsMidway key (take kept es) xs f) (next_one es place x within is) along.midway
 
   dropped : id_eq (id_of key) (id_of x.key) ≡ true → filter (stays_behind key) (x ∷ drop (place + 1) es) ≡ filter (stays_behind key) (drop (place + 1) es)
-  dropped own = elim (cases_bool (key_below key x.key)) [
+  dropped own = elim (cases_Bool (key_below key x.key)) [
     | inl high ↦ rw (high, own) refl
     | inr low ↦ rw low refl
   ]

@@ -4,7 +4,7 @@ use Rattle.std.proofs.Common.{Option, Some, None, IfSome, is_some, refl, sym, ap
 use Rattle.std.specs.Prelude.{slice_get}
 use Rattle.std.specs.Option.{option_map}
 use Rattle.std.specs.Map.{lookup}
-use Rattle.std.proofs.lemmas.Bool.{cases_lt, ltb_from_iff}
+use Rattle.std.proofs.lemmas.Bool.{cases_lt, ltb_from_iff, cases_Bool, or_parts}
 use Rattle.std.proofs.lemmas.List.{length-take-le, get_or-take, take-append-drop}
 use Rattle.std.proofs.lemmas.Option.{slice_get_read}
 use Rattle.nz_base.specs.declared.key.Id.{Id}
@@ -13,7 +13,6 @@ use Rattle.nz_base.specs.declared.key.Entry.{Entry}
 use Rattle.nz_base.specs.Key.{key_below, id_eq, id_of}
 use Rattle.nz_base.specs.Log.{keys_of, has_id, is_above_last, AreRising, HaveOwnIds, IsLog}
 use Rattle.nz_base.proofs.Names.{same_id, id_turn, id_turn_away}
-use Rattle.nz_base.proofs.Booleans.{cases_bool, neither_left}
 use Rattle.nz_base.proofs.Logs.{has_first, has_id-append, keys_append, prefix_below, above_last, above_some, own_id}
 use Rattle.nz_log.specs.Places.{place_of}
 use Rattle.nz_log.specs.Synced.{Log, synced_part, unsynced_part}
@@ -47,7 +46,7 @@ late : (es : List Entry) (n : ℕ) (i : Id) (place : ℕ) → place_of es i ≡ 
 late es zero i place is above = refl
 late [] (suc n) i place is above = refl
 late (e ∷ es) (suc n) i place is above =
-    elim (cases_bool (id_eq i (id_of e.key))) [
+    elim (cases_Bool (id_eq i (id_of e.key))) [
       | inl here ↦ absurd (let first : 0 ≡ place = some_same 0 place (rw here at is) in omega (arith, first, above))
       | inr away ↦ rw away (further (place_of es i) place (late es n i) (rw away at is) above)
     ]
@@ -75,7 +74,7 @@ none_before es n i is =
     let parts : has_id (keys_of es) i ≡ _ =
     ap (λ (xs : List Entry). has_id (keys_of xs) i) (sym (take-append-drop n es))
     ∙ ap (λ (ks : List Key). has_id ks i) (keys_append (take n es) (drop n es)) ∙ has_id-append (keys_of (take n es)) (keys_of (drop n es)) i in
-    sym (neither_left (has_id (keys_of (take n es)) i) (has_id (keys_of (drop n es)) i) (sym parts ∙ away))
+    sym (or_parts (has_id (keys_of (take n es)) i) (has_id (keys_of (drop n es)) i) (sym parts ∙ away)).0
 
 -- the last of the first n entries
 pub above_first : (es : List Entry) (n : ℕ) (last : ℕ) (key : Key) (x : Entry) → n ≤ length es → last + 1 ≡ n
@@ -98,7 +97,7 @@ pub kept_push : (log : Log) (sums : List (List ℕ)) (places now : List (Id × �
 kept_push log sums places now e sum kept above fresh room is index = record {
   sound = pushed_sound log e kept.sound above fresh room;
   summed = sums_push log.entries sums e sum kept.summed is;
-  found = λ i. index i ∙ elim (cases_bool (id_eq (id_of e.key) i)) [
+  found = λ i. index i ∙ elim (cases_Bool (id_eq (id_of e.key) i)) [
     | inl here ↦
         rw here (sym (place_push_new log.entries e i
         (subst (λ (j : Id). has_id (keys_of log.entries) j ≡ false) (same_id (id_of e.key) i here) fresh) (id_turn (id_of e.key) i here)))

@@ -4,7 +4,7 @@ use Rattle.std.proofs.Common.{◌≡◌, ℕ, zero, suc, ◌+◌, ◌-◌, ◌�
 use Rattle.std.proofs.Common.{None, slice_get, refl, sym, ap, subst, ◌∙◌, arith, inl, inr, append_assoc, append-nil, take-append-drop}
 use Rattle.std.specs.List.{filter}
 use Rattle.std.proofs.Math.Seq.{drop-append_seam}
-use Rattle.std.proofs.lemmas.Bool.{cases_lt}
+use Rattle.std.proofs.lemmas.Bool.{cases_lt, cases_Bool}
 use Rattle.std.proofs.lemmas.Option.{same_Some}
 use Rattle.std.proofs.lemmas.List.{length-map, length-take-le, drop-drop, drop_all}
 use Rattle.nz_base.specs.declared.key.Key.{Key}
@@ -13,7 +13,7 @@ use Rattle.nz_base.specs.declared.key.Id.{Id}
 use Rattle.nz_base.specs.Key.{key_below, id_eq, id_of}
 use Rattle.nz_base.specs.Log.{keys_of, has_key, has_id, AreRising, HaveOwnIds}
 use Rattle.nz_base.specs.Prefixes.{IsPrefix, Comparable}
-use Rattle.nz_base.proofs.Booleans.{cases_bool, clash}
+use Rattle.nz_base.proofs.Booleans.{true_and_false}
 use Rattle.nz_base.proofs.Keys.{key_below-self}
 use Rattle.nz_base.proofs.Logs.{keys_append, has_first, has_later, rising_back}
 use Rattle.nz_base.proofs.Prefixes.{prefix_self, prefix_more, prefix_then, shorter_prefix}
@@ -48,8 +48,8 @@ pub all_stay : (key : Key) (es : List Entry) → ((x : Key) → has_key (keys_of
     → filter (stays_behind key) es ≡ es
 all_stay key [] above apart = refl
 all_stay key (e ∷ es) above apart =
-    let other : id_eq (id_of key) (id_of e.key) ≡ false = elim (cases_bool (id_eq (id_of key) (id_of e.key))) [
-      | inl same ↦ clash (has_id (keys_of (e ∷ es)) (id_of key)) (rw same refl) apart
+    let other : id_eq (id_of key) (id_of e.key) ≡ false = elim (cases_Bool (id_eq (id_of key) (id_of e.key))) [
+      | inl same ↦ true_and_false (has_id (keys_of (e ∷ es)) (id_of key)) (rw same refl) apart
       | inr away ↦ away
     ] in
     let rest = all_stay key es (λ x there. above x (has_later e.key (keys_of es) x there)) (rw other at apart) in

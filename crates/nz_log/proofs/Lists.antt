@@ -1,13 +1,12 @@
 -- Entries of a log, one more or fewer.
 use Rattle.std.proofs.Common.{◌≡◌, Bool, true, false, not, ◌||◌, List, [], ◌∷◌, ◌++◌, refl, sym, subst, ◌∙◌, inl, inr}
 use Rattle.std.specs.List.{filter}
-use Rattle.std.proofs.lemmas.Bool.{not-true}
+use Rattle.std.proofs.lemmas.Bool.{not-true, cases_Bool, or_cases, and_parts, or_parts}
 use Rattle.nz_base.specs.declared.key.Key.{Key}
 use Rattle.nz_base.specs.declared.key.Entry.{Entry}
 use Rattle.nz_base.specs.Key.{key_below, key_eq, id_eq, id_of}
 use Rattle.nz_base.specs.Log.{keys_of, has_key, has_id, AreRising, HaveOwnIds, IsLog, is_above_last}
 use Rattle.nz_base.proofs.Names.{same_key}
-use Rattle.nz_base.proofs.Booleans.{cases_bool, or_cases, and_left, and_right, neither_left, neither_right}
 use Rattle.nz_base.proofs.Logs.{has_id-append, keys_append, above_each, rising_join, rising_prefix}
 use Rattle.nz_base.proofs.Logs.{rising_back, own_join, has_id_filter, rising_filter, own_filter}
 use Rattle.nz_log.specs.Synced.{stays_behind}
@@ -16,12 +15,12 @@ use Rattle.nz_log.specs.Synced.{stays_behind}
 stay_above : (key : Key) (es : List Entry) (y : Key) → has_key (keys_of (filter (stays_behind key) es)) y ≡ true → key_below key y ≡ true
 stay_above key [] y h = absurd cc
 stay_above key (e ∷ es) y h =
-    elim (cases_bool (stays_behind key e)) [
+    elim (cases_Bool (stays_behind key e)) [
       | inr gone ↦ stay_above key es y (rw gone at h)
       | inl kept ↦ elim (or_cases (key_eq y e.key) (has_key (keys_of (filter (stays_behind key) es)) y) (rw kept at h)) [
         | inl first ↦
             subst (λ (z : Key). key_below key z ≡ true) (sym (same_key y e.key first))
-            (and_left (key_below key e.key) (not (id_eq (id_of key) (id_of e.key))) kept)
+            (and_parts (key_below key e.key) (not (id_eq (id_of key) (id_of e.key))) kept).0
         | inr there ↦ stay_above key es y there
       ]
     ]
@@ -29,13 +28,13 @@ stay_above key (e ∷ es) y h =
 stay_apart : (key : Key) (es : List Entry) → has_id (keys_of (filter (stays_behind key) es)) (id_of key) ≡ false
 stay_apart key [] = refl
 stay_apart key (e ∷ es) =
-    elim (cases_bool (stays_behind key e)) [
+    elim (cases_Bool (stays_behind key e)) [
       | inr gone ↦ rw gone (stay_apart key es)
       | inl kept ↦
           rw (
             kept,
             not-true (id_eq (id_of key) (id_of e.key))
-                (and_right (key_below key e.key) (not (id_eq (id_of key) (id_of e.key))) kept),
+                (and_parts (key_below key e.key) (not (id_eq (id_of key) (id_of e.key))) kept).1,
           ) (stay_apart key es)
     ]
 
@@ -47,8 +46,8 @@ own_back (x ∷ xs) p ys own =
     let parted : (has_id (keys_of xs) i || has_id (keys_of ys) i) ≡ false = sym (has_id-append (keys_of xs) (keys_of ys) i) ∙ own.0 in
     let new : has_id (keys_of xs ++ keys_of (filter p ys)) i ≡ false =
     has_id-append (keys_of xs) (keys_of (filter p ys)) i
-    ∙ (rw (neither_left (has_id (keys_of xs) i) (has_id (keys_of ys) i) parted)
-    (has_id_filter p ys i (neither_right (has_id (keys_of xs) i) (has_id (keys_of ys) i) parted))) in
+    ∙ (rw (or_parts (has_id (keys_of xs) i) (has_id (keys_of ys) i) parted).0
+    (has_id_filter p ys i (or_parts (has_id (keys_of xs) i) (has_id (keys_of ys) i) parted).1)) in
     (new, own_back xs p ys own.1)
 
 -- an entry after a prefix, before what stays

@@ -1,6 +1,7 @@
 -- A modification leaves a log, one entry more of which is synced.
 use Rattle.std.proofs.Common.{◌≡◌, ℕ, ◌+◌, ◌<◌, ◌≤◌, Bool, true, false, List, [], ◌∷◌, ◌++◌, length, take, drop}
 use Rattle.std.proofs.Common.{cond, sym, ap, subst, ◌∙◌, inl, inr, ◌⊎◌, arith, length-append, append_assoc}
+use Rattle.std.proofs.lemmas.Bool.{cases_Bool, or_cases, or_left, or_right}
 use Rattle.std.specs.List.{filter, insert}
 use Rattle.std.proofs.lemmas.List.{take-append-drop, length-take-le}
 use Rattle.std.proofs.Math.Seq.{take-append_seam, drop-append_seam}
@@ -9,7 +10,7 @@ use Rattle.nz_base.specs.declared.key.Entry.{Entry}
 use Rattle.nz_base.specs.Key.{key_below, key_eq, id_eq, id_of}
 use Rattle.nz_base.specs.Log.{keys_of, has_key, has_id, IsLog, is_above_last}
 use Rattle.nz_base.proofs.Names.{same_key}
-use Rattle.nz_base.proofs.Booleans.{cases_bool, or_cases, or_left, or_right, length-filter_le}
+use Rattle.nz_base.proofs.Booleans.{length-filter_le}
 use Rattle.nz_base.proofs.Logs.{has_append, has_in_prefix, has_back, keys_append, log_push}
 use Rattle.nz_log.specs.Synced.{Log, IsSound, synced_part, unsynced_part, stays_behind, is_displaced, log_with_synced, displaced_entries}
 use Rattle.nz_log.proofs.Lists.{log_put}
@@ -79,7 +80,7 @@ split_kept key (e ∷ es) x apart h =
       | inr there ↦ further (stays_behind key e) (is_displaced key e) (split_kept key es x apart there)
       | inl here ↦
           let other : id_eq (id_of key) (id_of e.key) ≡ false = subst (λ (k : Key). id_eq (id_of key) (id_of k) ≡ false) (same_key x e.key here) apart in
-          elim (cases_bool (key_below key e.key)) [
+          elim (cases_Bool (key_below key e.key)) [
             | inl above ↦ inl (rw (above, other) (or_left (key_eq x e.key) (has_key (keys_of (filter (stays_behind key) es)) x) here))
             | inr not_above ↦ inr (rw (not_above, other) (or_left (key_eq x e.key) (has_key (keys_of (filter (is_displaced key) es)) x) here))
           ]

@@ -1,19 +1,20 @@
 -- The place of an id.
 use Rattle.std.proofs.Common.{◌≡◌, ℕ, zero, suc, ◌<◌, true, false, List, [], ◌∷◌, length, take, Option, Some}
 use Rattle.std.proofs.Common.{None, IfSome, IfNone, is_some, refl, sym, ap, subst, ◌∙◌, inl, inr, arith}
+use Rattle.std.proofs.lemmas.Bool.{cases_Bool, or_left, or_right, or_parts}
 use Rattle.std.specs.Option.{option_map}
 use Rattle.nz_base.specs.declared.key.Id.{Id}
 use Rattle.nz_base.specs.declared.key.Entry.{Entry}
 use Rattle.nz_base.specs.Key.{id_eq, id_of}
 use Rattle.nz_base.specs.Log.{keys_of, has_id, HaveOwnIds}
 use Rattle.nz_base.proofs.Names.{same_id}
-use Rattle.nz_base.proofs.Booleans.{cases_bool, or_left, or_right, neither_left, neither_right, clash}
+use Rattle.nz_base.proofs.Booleans.{true_and_false}
 use Rattle.nz_log.specs.Places.{place_of, IsPlace, IsFirstPlace}
 
 pub place_held : (es : List Entry) (i : Id) → is_some (place_of es i) ≡ has_id (keys_of es) i
 place_held [] i = refl
 place_held (e ∷ es) i =
-    elim (cases_bool (id_eq i (id_of e.key))) [
+    elim (cases_Bool (id_eq i (id_of e.key))) [
       | inl here ↦ rw here refl
       | inr away ↦ rw away (mapped (place_of es i) ∙ place_held es i)
     ]
@@ -34,12 +35,12 @@ pub first_place : (es : List Entry) (i : Id) (place : ℕ) → IsFirstPlace es i
 first_place [] i place at = absurd (let none : place < 0 = at.at.within in omega arith)
 first_place (e ∷ es) i zero at = rw (at.at.here e) refl
 first_place (e ∷ es) i (suc place) at =
-    let away = neither_left (id_eq i (id_of e.key)) (has_id (keys_of (take place es)) i) at.not_before in
+    let away = (or_parts (id_eq i (id_of e.key)) (has_id (keys_of (take place es)) i) at.not_before).0 in
     let within : suc place < length (e ∷ es) = at.at.within in
     let rest : IsFirstPlace es i place =
     record {
       at = record { within = omega arith; here = at.at.here };
-      not_before = neither_right (id_eq i (id_of e.key)) (has_id (keys_of (take place es)) i) at.not_before;
+      not_before = (or_parts (id_eq i (id_of e.key)) (has_id (keys_of (take place es)) i) at.not_before).1;
     } in
     rw away (ap (λ (o : Option ℕ). option_map suc o) (first_place es i place rest))
 
@@ -49,7 +50,7 @@ some_same a b h = cc
 pub place_found : (es : List Entry) (i : Id) (place : ℕ) → place_of es i ≡ Some place → IsPlace es i place
 place_found [] i place h = absurd cc
 place_found (e ∷ es) i place h =
-    elim (cases_bool (id_eq i (id_of e.key))) [
+    elim (cases_Bool (id_eq i (id_of e.key))) [
       | inl here ↦
           let first : 0 ≡ place = some_same 0 place (rw here at h) in
           subst (λ (n : ℕ). IsPlace (e ∷ es) i n) first (record { within = omega arith; here = λ d. here })
@@ -77,10 +78,10 @@ place_only (e ∷ es) i zero own at = rw (at.here e) refl
 place_only (e ∷ es) i (suc place) own at =
     let within : suc place < length (e ∷ es) = at.within in
     let rest : IsPlace es i place = record { within = omega arith; here = at.here } in
-    elim (cases_bool (id_eq i (id_of e.key))) [
+    elim (cases_Bool (id_eq i (id_of e.key))) [
       | inr away ↦ rw away (ap (λ (o : Option ℕ). option_map suc o) (place_only es i place own.1 rest))
       | inl here ↦
-          clash (has_id (keys_of es) (id_of e.key))
+          true_and_false (has_id (keys_of es) (id_of e.key))
           (subst (λ (j : Id). has_id (keys_of es) j ≡ true) (same_id i (id_of e.key) here) (held_at es i place rest)) own.0
     ]
 

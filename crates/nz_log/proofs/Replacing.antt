@@ -1,6 +1,7 @@
 -- Logs that have their first keys in common.
 use Rattle.std.proofs.Common.{◌≡◌, ℕ, suc, ◌+◌, ◌<◌, ◌≤◌, true, not, List, [], ◌∷◌, ◌++◌, length, take, drop}
 use Rattle.std.proofs.Common.{get_or, refl, sym, ap, subst, ◌∙◌, arith, append_assoc, length-append}
+use Rattle.std.proofs.lemmas.Bool.{or_left, or_right}
 use Rattle.std.specs.List.{filter}
 use Rattle.std.proofs.Math.Seq.{take-append_seam}
 use Rattle.std.proofs.lemmas.List.{take-append-drop, take-map, take-take, take_more}
@@ -10,7 +11,6 @@ use Rattle.nz_base.specs.declared.key.Entry.{Entry}
 use Rattle.nz_base.specs.Key.{id_eq, id_of}
 use Rattle.nz_base.specs.Log.{keys_of, has_id}
 use Rattle.nz_base.proofs.Names.{id_eq_self}
-use Rattle.nz_base.proofs.Booleans.{or_left, or_right}
 use Rattle.nz_base.proofs.Logs.{keys_append, has_id-append}
 use Rattle.nz_log.specs.Places.{digest_of_log, digest_at}
 use Rattle.nz_log.specs.Synced.{left_out}

@@ -1,5 +1,6 @@
 -- What becomes of log, early and late where a list is put in the place of the log.
 use Rattle.std.proofs.Common.{◌≡◌, ℕ, ◌+◌, ◌<◌, true, false, not, ◌||◌, List, [], ◌∷◌, ◌++◌, length, take, get_or, refl, sym, ap, subst, ◌∙◌, inl, inr}
+use Rattle.std.proofs.lemmas.Bool.{cases_Bool, or_left, or_right}
 use Rattle.std.specs.List.{filter}
 use Rattle.std.proofs.lemmas.List.{take_more}
 use Rattle.std.proofs.lemmas.List.Elements.{filter-append}
@@ -8,7 +9,6 @@ use Rattle.nz_base.specs.declared.key.Key.{Key}
 use Rattle.nz_base.specs.declared.key.Entry.{Entry}
 use Rattle.nz_base.specs.Key.{id_eq, id_of}
 use Rattle.nz_base.specs.Log.{keys_of, has_id, is_above_last, HaveOwnIds}
-use Rattle.nz_base.proofs.Booleans.{cases_bool, or_left, or_right}
 use Rattle.nz_base.proofs.Names.{id_turn, id_turn_away}
 use Rattle.nz_base.proofs.Logs.{keys_append, has_id-append}
 use Rattle.nz_log.specs.Synced.{Log, left_out}
@@ -34,11 +34,11 @@ left_next [] xs x = refl
 left_next (e ∷ es) xs x =
     let i = id_of e.key in
     let more = has_id_more xs x i in
-    elim (cases_bool (has_id (keys_of xs) i)) [
+    elim (cases_Bool (has_id (keys_of xs) i)) [
       | inl held ↦
           let all : has_id (keys_of (xs ++ x ∷ [])) i ≡ true = more ∙ or_left (has_id (keys_of xs) i) (has_id (keys_of (x ∷ [])) i) held in
           rw (held, all) (left_next es xs x)
-      | inr none ↦ elim (cases_bool (id_eq (id_of x.key) i)) [
+      | inr none ↦ elim (cases_Bool (id_eq (id_of x.key) i)) [
         | inl same ↦
             let turned = id_turn (id_of x.key) i same in
             let all : has_id (keys_of (xs ++ x ∷ [])) i ≡ true =

@@ -1,12 +1,13 @@
 -- The entries of a replica, of which each id is in one place: the log, early after it, and late.
 use Rattle.std.proofs.Common.{◌≡◌, true, false, ◌||◌, List, [], ◌∷◌, ◌++◌, sym, ap, subst, ◌∙◌, inl, inr, append_assoc}
+use Rattle.std.proofs.lemmas.Bool.{cases_Bool, or_parts}
 use Rattle.std.specs.List.{AllByRecursion}
 use Rattle.nz_base.specs.declared.key.Id.{Id}
 use Rattle.nz_base.specs.declared.key.Key.{Key}
 use Rattle.nz_base.specs.declared.key.Entry.{Entry}
 use Rattle.nz_base.specs.Key.{key_below, id_eq, id_of}
 use Rattle.nz_base.specs.Log.{keys_of, has_id, is_above_last, AreRising, HaveOwnIds}
-use Rattle.nz_base.proofs.Booleans.{cases_bool, neither_left, neither_right, clash}
+use Rattle.nz_base.proofs.Booleans.{true_and_false}
 use Rattle.nz_base.proofs.Names.{same_id}
 use Rattle.nz_base.proofs.Logs.{keys_append, has_id-append, rising_prefix, rising_back, has_first, prefix_below, above_last}
 use Rattle.nz_base.proofs.Logs.{above_each, own_in_prefix, own_id, own_push, own_filter, has_id_filter}
@@ -33,21 +34,21 @@ away_from_early log early late i a there =
     let none : (has_id (keys_of early) i || has_id (keys_of late) i) ≡ false =
     sym (has_id-append (keys_of early) (keys_of late) i)
     ∙ own_apart (keys_of log) (keys_of early ++ keys_of late) i (own_parts log early late a) there in
-    neither_left (has_id (keys_of early) i) (has_id (keys_of late) i) none
+    (or_parts (has_id (keys_of early) i) (has_id (keys_of late) i) none).0
 
 away_from_late : (log early late : List Entry) (i : Id) → AreArranged log early late → has_id (keys_of log) i ≡ true → has_id (keys_of late) i ≡ false
 away_from_late log early late i a there =
     let none : (has_id (keys_of early) i || has_id (keys_of late) i) ≡ false =
     sym (has_id-append (keys_of early) (keys_of late) i)
     ∙ own_apart (keys_of log) (keys_of early ++ keys_of late) i (own_parts log early late a) there in
-    neither_right (has_id (keys_of early) i) (has_id (keys_of late) i) none
+    (or_parts (has_id (keys_of early) i) (has_id (keys_of late) i) none).1
 
 -- ---- an entry goes to early
 
 another : (keys : List Key) (i j : Id) → has_id keys i ≡ true → has_id keys j ≡ false → id_eq i j ≡ false
 another keys i j there none =
-    elim (cases_bool (id_eq i j)) [
-      | inl same ↦ clash (has_id keys j) (subst (λ (k : Id). has_id keys k ≡ true) (same_id i j same) there) none
+    elim (cases_Bool (id_eq i j)) [
+      | inl same ↦ true_and_false (has_id keys j) (subst (λ (k : Id). has_id keys k ≡ true) (same_id i j same) there) none
       | inr apart ↦ apart
     ]
 

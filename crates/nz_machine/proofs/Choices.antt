@@ -1,9 +1,9 @@
 -- The reply that decides is one of the replies, of the leader of its view, and has an answer.
 use Rattle.std.proofs.Common.{◌≡◌, ℕ, Bool, true, false, cond, List, [], ◌∷◌, Option, Some, None, refl, sym, ap, subst, ◌∙◌, inl, inr, ◌⊎◌}
+use Rattle.std.proofs.lemmas.Bool.{and_parts}
 use Rattle.std.specs.Prelude.{nat_lt}
 use Rattle.std.specs.List.{filter}
 use Rattle.std.proofs.lemmas.Option.{none-some, same_Some}
-use Rattle.nz_base.proofs.Booleans.{and_left}
 use Rattle.nz_machine.specs.declared.reply.Reply.{Reply}
 use Rattle.nz_machine.specs.Quorums.{view_of, is_of_leader, has_slow_quorum, has_fast_quorum, of_lesser_view, first_of_least_view}
 use Rattle.nz_machine.specs.Quorums.{fast_lead, slow_lead, Chosen, slow_or_none, fast_or, decision}
@@ -53,11 +53,11 @@ least_of p replies r e = filter_has p replies r (least_among (filter p replies) 
 
 fast_chosen : (f : ℕ) (replies : List Reply) (r : Reply) → fast_lead f replies ≡ Some r → IsChosen f replies r
 fast_chosen f replies r e = let t = least_of (has_fast_quorum f replies) replies r e in
-    record { among = t.among; leads = and_left (is_of_leader f r) _ t.passes }
+    record { among = t.among; leads = (and_parts (is_of_leader f r) _ t.passes).0 }
 
 slow_chosen : (f : ℕ) (replies : List Reply) (r : Reply) → slow_lead f replies ≡ Some r → IsChosen f replies r
 slow_chosen f replies r e = let t = least_of (has_slow_quorum f replies) replies r e in
-    record { among = t.among; leads = and_left (is_of_leader f r) _ t.passes }
+    record { among = t.among; leads = (and_parts (is_of_leader f r) _ t.passes).0 }
 
 same_chosen : (a b : Chosen) → Some a ≡ Some b → a.reply ≡ b.reply
 same_chosen a b e = ap (λ (c : Chosen). c.reply) (same_Some a b e)

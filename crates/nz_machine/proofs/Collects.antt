@@ -3,11 +3,11 @@ use Rattle.std.proofs.Common.{◌≡◌, ℕ, zero, suc, ◌+◌, ◌<◌, ◌�
 use Rattle.std.proofs.Common.{◌∷◌, ◌++◌, length, map, take, get_or, refl, sym, ap, subst, ◌∙◌, inl, inr, arith}
 use Rattle.std.specs.Prelude.{Result, Ok, Err, OnOk}
 use Rattle.std.specs.List.{filter}
-use Rattle.std.proofs.lemmas.Bool.{eqb-true, eq-eqb}
+use Rattle.std.proofs.lemmas.Bool.{eqb-true, eq-eqb, cases_Bool, or_parts}
 use Rattle.std.proofs.lemmas.List.{append-nil, map-append, take_more, take_all}
 use Rattle.std.proofs.lemmas.List.Elements.{filter-append}
 use Rattle.nz_base.specs.declared.key.Entry.{Entry}
-use Rattle.nz_base.proofs.Booleans.{cases_bool, clash, neither_left, neither_right}
+use Rattle.nz_base.proofs.Booleans.{true_and_false}
 use Rattle.nz_cv.specs.Vectors.{is_stray}
 use Rattle.nz_merge.specs.declared.change.Change.{Change}
 use Rattle.nz_merge.specs.Sender.{has_sender, HaveOwnSenders}
@@ -40,7 +40,7 @@ pub tells_stray : (known : List ℕ) (sender : ℕ) (tells : List ToldView) (i :
     → is_stray (get_or tells i d).vector (get_or tells i d).sender known ≡ true
     → tells_kept known sender (take (i + 1) tells) ≡ tells_kept known sender (take i tells)
 tells_stray known sender tells i d within stray =
-    elim (cases_bool ((get_or tells i d).sender == sender)) [
+    elim (cases_Bool ((get_or tells i d).sender == sender)) [
       | inl same ↦ tells_replaced known sender tells i d within same
       | inr other ↦
           ap (tells_kept known sender) (take_more tells i d within) ∙ tells_next known sender (take i tells) (get_or tells i d)
@@ -78,8 +78,8 @@ told_more known tells told place past fresh =
 
 sender_turned : (a b : ℕ) → (a == b) ≡ false → (b == a) ≡ false
 sender_turned a b h =
-    elim (cases_bool (b == a)) [
-      | inl same ↦ clash (a == b) (eq-eqb a b (sym (eqb-true b a same))) h
+    elim (cases_Bool (b == a)) [
+      | inl same ↦ true_and_false (a == b) (eq-eqb a b (sym (eqb-true b a same))) h
       | inr apart ↦ apart
     ]
 
@@ -90,8 +90,8 @@ own_sender (x ∷ xs) c ys own =
     rw (away, own_sender xs c ys own.1) refl
   where
     sender_away : (x : Change) (xs : List Change) (c : Change) (ys : List Change) → has_sender (xs ++ c ∷ ys) x.sender ≡ false → (x.sender == c.sender) ≡ false
-    sender_away x [] c ys none = sender_turned c.sender x.sender (neither_left (c.sender == x.sender) (has_sender ys x.sender) none)
-    sender_away x (z ∷ xs) c ys none = sender_away x xs c ys (neither_right (z.sender == x.sender) (has_sender (xs ++ c ∷ ys) x.sender) none)
+    sender_away x [] c ys none = sender_turned c.sender x.sender (or_parts (c.sender == x.sender) (has_sender ys x.sender) none).0
+    sender_away x (z ∷ xs) c ys none = sender_away x xs c ys (or_parts (z.sender == x.sender) (has_sender (xs ++ c ∷ ys) x.sender) none).1
 
 pub own_reported : (own : Change) (reports : List Reported) (i : ℕ) (d : Reported) → i < length reports → HaveOwnSenders (own ∷ map (λ r. r.change) reports)
     → has_sender (own ∷ map (λ (r : Reported). r.change) (take i reports)) (get_or reports i d).change.sender ≡ false

@@ -1,7 +1,8 @@
 -- Lists of what was collected, each item with the number of its sender, in which no sender is there twice.
 use Rattle.std.proofs.Common.{◌≡◌, ℕ, Bool, true, false, cond, ◌||◌, not, eqb, List, [], ◌∷◌, ◌++◌, map, refl, sym, ap, subst, ◌∙◌, inl, inr, arith}
+use Rattle.std.proofs.lemmas.Bool.{cases_Bool, or_cases, or_left, or_right, or_parts}
 use Rattle.std.specs.List.{filter, list_any}
-use Rattle.nz_base.proofs.Booleans.{cases_bool, or_cases, or_left, or_right, neither_left, neither_right, clash}
+use Rattle.nz_base.proofs.Booleans.{true_and_false}
 use Rattle.nz_math.specs.Count.{is_in, AreDistinct}
 use Rattle.nz_merge.specs.Sender.{has_sender, HaveOwnSenders}
 use Rattle.nz_merge.specs.declared.change.Change.{Change}
@@ -14,10 +15,10 @@ in_append (y ∷ xs) ys x = let rest = in_append xs ys x in grind (arith, rest)
 pub distinct_more : (xs : List ℕ) (y : ℕ) → AreDistinct xs → is_in xs y ≡ false → AreDistinct (xs ++ y ∷ [])
 distinct_more [] y d out = (refl, tt)
 distinct_more (x ∷ xs) y d out =
-    let apart : eqb x y ≡ false = neither_left (eqb x y) (is_in xs y) out in
+    let apart : eqb x y ≡ false = (or_parts (eqb x y) (is_in xs y) out).0 in
     let turned : eqb y x ≡ false = grind (arith, apart) in
     let none : is_in (xs ++ y ∷ []) x ≡ false = in_append xs (y ∷ []) x ∙ (let a = d.0 in grind (arith, a, turned)) in
-    (none, distinct_more xs y d.1 (neither_right (eqb x y) (is_in xs y) out))
+    (none, distinct_more xs y d.1 (or_parts (eqb x y) (is_in xs y) out).1)
 
 pub any_in : (xs : List ℕ) (y : ℕ) → list_any (λ t. eqb t y) xs ≡ is_in xs y
 any_in [] y = refl
@@ -36,8 +37,8 @@ module _ {X : Type 0} (key : X → ℕ) where
   ]
 
   not_in_filter : (p : X → Bool) (xs : List X) (y : ℕ) → is_in (map key xs) y ≡ false → is_in (map key (filter p xs)) y ≡ false
-  not_in_filter p xs y out = elim (cases_bool (is_in (map key (filter p xs)) y)) [
-    | inl among ↦ clash (is_in (map key xs) y) (in_filter p xs y among) out
+  not_in_filter p xs y out = elim (cases_Bool (is_in (map key (filter p xs)) y)) [
+    | inl among ↦ true_and_false (is_in (map key xs) y) (in_filter p xs y among) out
     | inr none ↦ none
   ]
 

@@ -2,12 +2,11 @@
 use Rattle.std.proofs.Common.{◌≡◌, ℕ, ◌-◌, ◌<◌, ◌≤◌, ◌^◌, List, [], ◌∷◌, ◌++◌, Option, Some, None, refl, arith}
 use Rattle.std.specs.Prelude.{IfSome, nat_lt, nat_le}
 use Rattle.std.specs.List.{AllByRecursion, list_any}
-use Rattle.std.proofs.lemmas.Bool.{ltb-true, le-leb}
+use Rattle.std.proofs.lemmas.Bool.{ltb-true, le-leb, and_parts, and_from}
 use Rattle.nz_base.specs.Cluster.{replica_count}
 use Rattle.nz_base.specs.declared.actor.Actor.{Actor}
 use Rattle.nz_base.specs.declared.actor.Actor.TheVariants.{Replica, Proxy, Client}
 use Rattle.nz_base.specs.declared.key.Id.{Id}
-use Rattle.nz_base.proofs.Booleans.{and_left, and_both}
 use Rattle.nz_base.specs.declared.limits.TheConstants.{MAX_CLOCK}
 use Rattle.nz_store.specs.declared.command.Answer.{Answer}
 use Rattle.nz_window.specs.Samples.{with_sample, IsWindow}
@@ -84,7 +83,7 @@ answer_to_fits f me i a p c client num fits = record { sender = c.address; recei
 
 deadline_fits : (n : ℕ) → n < 2 ^ 63 → deadline.fits n
 deadline_fits n low =
-    (omega (arith, low), and_both (nat_le 0 n) (nat_le n (2 ^ 63 - 1)) (le-leb 0 n (omega arith)) (le-leb n (2 ^ 63 - 1) (omega (arith, low))))
+    (omega (arith, low), and_from (nat_le 0 n) (nat_le n (2 ^ 63 - 1)) (le-leb 0 n (omega arith)) (le-leb n (2 ^ 63 - 1) (omega (arith, low))))
 
 timed_fits : (f me : ℕ) (s : ProxyData) (i : Id) (bytes : List ℕ) (r : ℕ) → IsProxy f me → FitsProxy f s → id.fits i
     → command.fits bytes → r < replica_count f → FitsOut (Proxy me) (timed_to s i bytes r)
@@ -174,12 +173,12 @@ pub proxy_message_fits : (f me : ℕ) (s : ProxyData) (from : Actor) (m : Messag
 proxy_message_fits f me s (Client k) (messages.Request b) c hears fit h = stamp_step f me s k b c h fit.sender fit.message
 proxy_message_fits f me s (Replica r) (messages.FastReply b) c hears fit h =
     reply_step f me s r b.id b.delay (of_fast r b) c h
-    (ltb-true r (replica_count f) (and_left (nat_lt r (replica_count f))
-    (is_sized f (message_vector (messages.FastReply b))) hears.counts)) (record { answer = fit.message.1.1.1.1.1 })
+    (ltb-true r (replica_count f) (and_parts (nat_lt r (replica_count f))
+    (is_sized f (message_vector (messages.FastReply b))) hears.counts).0) (record { answer = fit.message.1.1.1.1.1 })
 proxy_message_fits f me s (Replica r) (messages.SlowReply b) c hears fit h =
     reply_step f me s r b.id b.delay (of_slow r b) c h
-    (ltb-true r (replica_count f) (and_left (nat_lt r (replica_count f))
-    (is_sized f (message_vector (messages.SlowReply b))) hears.counts)) (record { answer = tt })
+    (ltb-true r (replica_count f) (and_parts (nat_lt r (replica_count f))
+    (is_sized f (message_vector (messages.SlowReply b))) hears.counts).0) (record { answer = tt })
 proxy_message_fits f me s _ _ c hears fit h = nothing f me s h
 
 pub proxy_tick_fits : (f : ℕ) (s : ProxyData) (clock : ℕ) → FitsProxy f s → FitsProxy f (clock_rule s clock)

@@ -1,6 +1,7 @@
 -- Each kind of message of a replica is one that frames can carry.
 use Rattle.std.proofs.Common.{◌≡◌, ℕ, zero, suc, ◌<◌, ◌≤◌, ◌^◌, max, not, cond, true, List, [], ◌∷◌, ◌++◌, length, take, drop, map, Some}
 use Rattle.std.proofs.Common.{None, is_some, refl, sym, ap, subst, ◌∙◌, inl, inr, arith, length-append, length-take, take-append-drop}
+use Rattle.std.proofs.lemmas.Bool.{or_cases}
 use Rattle.std.specs.Prelude.{IfSome, slice_index, slice_get}
 use Rattle.std.specs.List.{AllByRecursion, filter}
 use Rattle.std.specs.Map.{lookup}
@@ -13,7 +14,7 @@ use Rattle.nz_base.specs.declared.key.Key.{Key}
 use Rattle.nz_base.specs.declared.key.Entry.{Entry}
 use Rattle.nz_base.specs.Key.{id_eq, id_of}
 use Rattle.nz_base.specs.Log.{keys_of, has_id, AreRising, HaveOwnIds}
-use Rattle.nz_base.proofs.Booleans.{or_cases, length-filter_le}
+use Rattle.nz_base.proofs.Booleans.{length-filter_le}
 use Rattle.nz_base.proofs.Logs.{rising_prefix, rising_back, own_in_prefix, rising_filter, own_filter, keys_append}
 use Rattle.nz_base.proofs.Names.{same_id}
 use Rattle.nz_base.specs.declared.limits.TheConstants.{MAX_ENTRIES, MAX_VIEW, MAX_KEYS}

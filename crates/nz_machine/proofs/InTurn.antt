@@ -1,10 +1,10 @@
 -- A client's open requests have rising numbers of those that it sent, and with the accepted ones they are all of them.
 use Rattle.std.proofs.Common.{◌≡◌, ℕ, zero, suc, ◌+◌, ◌-◌, ◌%◌, ◌<◌, ◌≤◌, eqb, eqb-true, Bool, true, false, not, cond, ◌||◌, List}
 use Rattle.std.proofs.Common.{[], ◌∷◌, ◌++◌, length, map, Option, Some, None, refl, sym, ap, subst, ◌∙◌, inl, inr, arith}
+use Rattle.std.proofs.lemmas.Bool.{cases_Bool}
 use Rattle.std.specs.Prelude.{slice_get, nat_le}
 use Rattle.std.proofs.lemmas.List.{length-append, length-map}
 use Rattle.std.proofs.lemmas.Option.{none-some, same_Some}
-use Rattle.nz_base.proofs.Booleans.{cases_bool}
 use Rattle.nz_base.specs.declared.actor.Actor.{Actor}
 use Rattle.nz_base.specs.declared.actor.Actor.TheVariants.{Proxy, Client}
 use Rattle.nz_base.specs.declared.scenario.Request.{Request}
@@ -65,7 +65,7 @@ any_head num a xs b e = ap (λ (x : Bool). x || is_open num xs) e
 -- an open request is one of those that were sent
 pub open_within : (num low : ℕ) (xs : List Attempt) (high : ℕ) → Rises low xs high → is_open num xs ≡ true → (low < num) × (num ≤ high)
 open_within num low [] high h held = absurd cc
-open_within num low (a ∷ xs) high h held = elim (cases_bool (eqb a.num num)) [
+open_within num low (a ∷ xs) high h held = elim (cases_Bool (eqb a.num num)) [
   | inl t ↦ let same = eqb-true a.num num t in let below = h.0 in let rest = rises_most a.num xs high h.1 in
       (omega (arith, same, below), omega (arith, same, rest))
   | inr f ↦ let k = open_within num a.num xs high h.1 (sym (any_head num a xs false f) ∙ held) in let below = h.0 in let least = k.0 in
@@ -74,14 +74,14 @@ open_within num low (a ∷ xs) high h held = elim (cases_bool (eqb a.num num)) [
 
 -- a number above all is of none
 pub none_above : (num low : ℕ) (xs : List Attempt) (high : ℕ) → Rises low xs high → high < num → is_open num xs ≡ false
-none_above num low xs high h lt = elim (cases_bool (is_open num xs)) [
+none_above num low xs high h lt = elim (cases_Bool (is_open num xs)) [
   | inl t ↦ let k = open_within num low xs high h t in let most = k.1 in absurd (omega (arith, lt, most))
   | inr f ↦ f
 ]
 
 -- nor is one below all
 none_below : (num low : ℕ) (xs : List Attempt) (high : ℕ) → Rises low xs high → num ≤ low → is_open num xs ≡ false
-none_below num low xs high h le = elim (cases_bool (is_open num xs)) [
+none_below num low xs high h le = elim (cases_Bool (is_open num xs)) [
   | inl t ↦ let k = open_within num low xs high h t in let least = k.0 in absurd (omega (arith, le, least))
   | inr f ↦ f
 ]
@@ -97,7 +97,7 @@ closed_waited proxies num (a ∷ xs) =
     ∙ ap (λ (b : Bool). eqb a.num num || b) (closed_waited proxies num xs)
 
 closed_push : (num : ℕ) (xs : List Attempt) (a : Attempt) → num < a.num → is_open num xs ≡ false → is_open num (xs ++ a ∷ []) ≡ false
-closed_push num [] a lt h = elim (cases_bool (eqb a.num num)) [
+closed_push num [] a lt h = elim (cases_Bool (eqb a.num num)) [
   | inl t ↦ let same = eqb-true a.num num t in absurd (omega (arith, lt, same))
   | inr f ↦ any_head num a [] false f
 ]
@@ -114,7 +114,7 @@ closed_by num other (a ∷ xs) h =
 
 closed_now : (num : ℕ) (xs : List Attempt) → is_open num (without_attempt num xs) ≡ false
 closed_now num [] = refl
-closed_now num (a ∷ xs) = elim (cases_bool (eqb a.num num)) [
+closed_now num (a ∷ xs) = elim (cases_Bool (eqb a.num num)) [
   | inl t ↦ ap (λ (b : Bool). is_open num (cond (not b) (a ∷ without_attempt num xs) (without_attempt num xs))) t ∙ closed_now num xs
   | inr f ↦
       ap (λ (b : Bool). is_open num (cond (not b) (a ∷ without_attempt num xs) (without_attempt num xs))) f
@@ -131,7 +131,7 @@ none_without num (a ∷ xs) h =
 
 one_less : (num low : ℕ) (xs : List Attempt) (high : ℕ) → Rises low xs high → is_open num xs ≡ true → length (without_attempt num xs) + 1 ≡ length xs
 one_less num low [] high h held = absurd cc
-one_less num low (a ∷ xs) high h held = elim (cases_bool (eqb a.num num)) [
+one_less num low (a ∷ xs) high h held = elim (cases_Bool (eqb a.num num)) [
   | inl t ↦
       let same = eqb-true a.num num t in
       let rest = none_without num xs (none_below num a.num xs high h.1 (omega (arith, same))) in

@@ -1,11 +1,11 @@
 -- Keys of several lists that rise one after the other, and ids that are in one of them alone.
 use Rattle.std.proofs.Common.{◌≡◌, true, false, ◌||◌, List, [], ◌∷◌, ◌++◌, refl, sym, subst, ◌∙◌, inl, inr, ◌⊎◌}
+use Rattle.std.proofs.lemmas.Bool.{cases_Bool, or_cases, or_left, or_right, or_parts}
 use Rattle.nz_base.specs.declared.key.Id.{Id}
 use Rattle.nz_base.specs.declared.key.Key.{Key}
 use Rattle.nz_base.specs.declared.key.Entry.{Entry}
 use Rattle.nz_base.specs.Key.{key_below, id_eq, id_of}
 use Rattle.nz_base.specs.Log.{keys_of, has_key, has_id, AreRising, HaveOwnIds}
-use Rattle.nz_base.proofs.Booleans.{cases_bool, or_cases, or_left, or_right, neither_right}
 use Rattle.nz_base.proofs.Names.{same_id, id_eq_self}
 use Rattle.nz_base.proofs.Logs.{has_append, has_first, has_later, has_id-append}
 use Rattle.nz_buffers.specs.Buffers.{insert_by_key, without}
@@ -32,7 +32,7 @@ own_apart (x ∷ xs) ys i own there =
     elim (or_cases (id_eq i (id_of x)) (has_id xs i) there) [
       | inl here ↦
           let none : (has_id xs (id_of x) || has_id ys (id_of x)) ≡ false = sym (has_id-append xs ys (id_of x)) ∙ own.0 in
-          subst (λ (j : Id). has_id ys j ≡ false) (sym (same_id i (id_of x) here)) (neither_right (has_id xs (id_of x)) (has_id ys (id_of x)) none)
+          subst (λ (j : Id). has_id ys j ≡ false) (sym (same_id i (id_of x) here)) (or_parts (has_id xs (id_of x)) (has_id ys (id_of x)) none).1
       | inr after ↦ own_apart xs ys i own.1 after
     ]
 
@@ -60,7 +60,7 @@ has_id_inserted [] e i h =
       | inr none ↦ absurd cc
     ]
 has_id_inserted (f ∷ fs) e i h =
-    elim (cases_bool (key_below e.key f.key)) [
+    elim (cases_Bool (key_below e.key f.key)) [
       | inl lower ↦ elim (or_cases (id_eq i (id_of e.key)) (has_id (keys_of (f ∷ fs)) i) (rw lower at h)) [
         | inl here ↦ inl (same_id i (id_of e.key) here)
         | inr there ↦ inr there
@@ -78,7 +78,7 @@ has_id_inserted (f ∷ fs) e i h =
 pub gone_without : (es : List Entry) (i : Id) → has_id (keys_of (without es i)) i ≡ false
 gone_without [] i = refl
 gone_without (e ∷ es) i =
-    elim (cases_bool (id_eq i (id_of e.key))) [
+    elim (cases_Bool (id_eq i (id_of e.key))) [
       | inl here ↦ rw here (gone_without es i)
       | inr away ↦ rw (away, away) (gone_without es i)
     ]

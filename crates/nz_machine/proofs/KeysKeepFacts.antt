@@ -2,14 +2,14 @@
 use Rattle.std.proofs.Common.{◌≡◌, ℕ, ◌+◌, ◌<◌, ◌≤◌, Bool, true, false, not, max, min, nat_lt, ◌&&◌, List, [], ◌∷◌}
 use Rattle.std.proofs.Common.{◌++◌, length, Option, Some, None, refl, sym, ap, subst, ◌∙◌, inl, inr, arith}
 use Rattle.std.specs.List.{AllByRecursion, filter}
-use Rattle.std.proofs.lemmas.Bool.{ltb-true, not-true}
+use Rattle.std.proofs.lemmas.Bool.{ltb-true, not-true, cases_Bool, or_cases, and_parts}
 use Rattle.std.proofs.lemmas.List.{take-append-drop}
 use Rattle.nz_base.specs.declared.key.Id.{Id}
 use Rattle.nz_base.specs.declared.key.Key.{Key}
 use Rattle.nz_base.specs.declared.key.Entry.{Entry}
 use Rattle.nz_base.specs.Key.{key_below, key_eq, id_eq, id_of}
 use Rattle.nz_base.specs.Log.{keys_of, has_key, has_id, is_above_last, AreRising, HaveOwnIds}
-use Rattle.nz_base.proofs.Booleans.{cases_bool, or_cases, and_left, and_right, clash}
+use Rattle.nz_base.proofs.Booleans.{true_and_false}
 use Rattle.nz_base.proofs.Names.{same_id, same_key}
 use Rattle.nz_base.proofs.Logs.{keys_append, rising_prefix, rising_back, above_each, rising_filter, own_in_prefix}
 use Rattle.nz_base.specs.declared.limits.TheConstants.{MAX_ENTRIES}
@@ -49,10 +49,10 @@ apart_held l es fs h =
 -- ---- an entry is synced
 
 parted : (key : Key) (x : Entry) → stays_behind key x ≡ true → is_displaced key x ≡ false
-parted key x stays = let above = and_left (key_below key x.key) (not (id_eq (id_of key) (id_of x.key))) stays in rw above refl
+parted key x stays = let above = (and_parts (key_below key x.key) (not (id_eq (id_of key) (id_of x.key))) stays).0 in rw above refl
 
 other_stays : (key : Key) (x : Entry) → stays_behind key x ≡ true → id_eq (id_of key) (id_of x.key) ≡ false
-other_stays key x stays = not-true (id_eq (id_of key) (id_of x.key)) (and_right (key_below key x.key) (not (id_eq (id_of key) (id_of x.key))) stays)
+other_stays key x stays = not-true (id_eq (id_of key) (id_of x.key)) (and_parts (key_below key x.key) (not (id_eq (id_of key) (id_of x.key))) stays).1
 
 other_left : (i : Id) (x : Entry) → not (id_eq i (id_of x.key)) ≡ true → id_eq i (id_of x.key) ≡ false
 other_left i x left = not-true (id_eq i (id_of x.key)) left
@@ -70,7 +70,7 @@ own_synced log early late e a fresh i =
     let own = id_of e.key in
     let sum = times_all i (log_with_synced log e).entries (without early own) (without (late ++ displaced_entries log e) own) in
     let parts = times_append i prefix (e ∷ kept) in
-    elim (cases_bool (id_eq i own)) [
+    elim (cases_Bool (id_eq i own)) [
       | inl here ↦
           let same : i ≡ own = same_id i own here in
           let first : times i (e ∷ kept) ≡ 1 + times i kept = rw here refl in
@@ -124,7 +124,7 @@ apart_synced log early late e a fits above fresh room =
 find_fits : (es : List Entry) (i : Id) (e : Entry) → AllByRecursion FitsEntry es → find_id es i ≡ Some e → FitsEntry e
 find_fits [] i e all is = absurd cc
 find_fits (x ∷ xs) i e all is =
-    elim (cases_bool (id_eq i (id_of x.key))) [
+    elim (cases_Bool (id_eq i (id_of x.key))) [
       | inl here ↦ let same : Some x ≡ Some e = rw here at is in subst FitsEntry (let eq : x ≡ e = cc in eq) all.0
       | inr away ↦ find_fits xs i e all.1 (rw away at is)
     ]
@@ -170,11 +170,11 @@ may_sync_true log key may =
     let above = is_above_last (keys_of (synced_part log)) key in
     let there = has_id (keys_of (synced_part log)) (id_of key) in
     let room = nat_lt (length log.entries) MAX_ENTRIES in
-    let rest = and_right above (not there && room) may in
+    let rest = (and_parts above (not there && room) may).1 in
     record {
-      above = and_left above (not there && room) may;
-      fresh = not-true there (and_left (not there) room rest);
-      room = ltb-true _ _ (and_right (not there) room rest);
+      above = (and_parts above (not there && room) may).0;
+      fresh = not-true there (and_parts (not there) room rest).0;
+      room = ltb-true _ _ (and_parts (not there) room rest).1;
     }
 
 then_taken : (s t u : ReplicaData) → t ≡ record s { log = t.log; early = t.early; late = t.late } → s.log.synced ≤ t.log.synced → HasTaken t u → HasTaken s u
@@ -189,7 +189,7 @@ pub keys_taken : (s : ReplicaData) (keys : List Key) → AreApart s.log s.early 
 unfolding sync_keys
 keys_taken s [] a fit = record { same = refl; apart = a; more = omega arith }
 keys_taken s (k ∷ keys) a fit =
-    elim (cases_bool (may_sync s k)) [
+    elim (cases_Bool (may_sync s k)) [
       | inl may ↦ rw may (go (λ t apart. keys_taken t keys apart fit.1) (entry_of_id s (id_of k)) refl (may_sync_true s.log k may))
       | inr stop ↦ rw stop (record { same = refl; apart = a; more = omega arith })
     ]
@@ -210,7 +210,7 @@ early_above : (keys : List Key) (es : List Entry) (y : Key)
     → has_key (keys_of (filter (λ e. is_above_last keys e.key) es)) y ≡ true → is_above_last keys y ≡ true
 early_above keys [] y h = absurd cc
 early_above keys (e ∷ es) y h =
-    elim (cases_bool (is_above_last keys e.key)) [
+    elim (cases_Bool (is_above_last keys e.key)) [
       | inr gone ↦ early_above keys es y (rw gone at h)
       | inl kept ↦ elim (or_cases (key_eq y e.key) (has_key (keys_of (filter (λ x. is_above_last keys x.key) es)) y) (rw kept at h)) [
         | inl first ↦ subst (λ (z : Key). is_above_last keys z ≡ true) (sym (same_key y e.key first)) kept
@@ -260,8 +260,8 @@ follower_keeps f me s log early late commit h normal follows sound a low = recor
   tables = h.tables;
   executed = record {
     answers = h.executed.answers;
-    led = λ _ lead. clash (leads f me s) lead follows;
-    forgotten = λ away. clash (is_up s.status) (normal_up s.status normal) away;
+    led = λ _ lead. true_and_false (leads f me s) lead follows;
+    forgotten = λ away. true_and_false (is_up s.status) (normal_up s.status normal) away;
   };
   reports = h.reports;
   rejoin = h.rejoin;

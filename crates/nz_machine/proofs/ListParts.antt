@@ -1,5 +1,6 @@
 -- What holds of each item holds of each item of a part, and how long parts are.
 use Rattle.std.proofs.Common.{◌≡◌, ℕ, zero, suc, ◌+◌, ◌≤◌, Bool, true, false, List, [], ◌∷◌, length, take, drop, map, sym, subst, inl, inr, arith}
+use Rattle.std.proofs.lemmas.Bool.{cases_Bool, or_parts}
 use Rattle.std.specs.Prelude.{IfSome, slice_get, slice_index_or, ◌||◌}
 use Rattle.std.specs.List.{AllByRecursion, filter, flat_map}
 use Rattle.std.specs.Map.{lookup}
@@ -8,7 +9,6 @@ use Rattle.nz_base.specs.declared.key.Id.{Id}
 use Rattle.nz_base.specs.declared.key.Entry.{Entry}
 use Rattle.nz_base.specs.Key.{id_eq, id_of}
 use Rattle.nz_base.specs.Log.{keys_of, has_id, HaveOwnIds}
-use Rattle.nz_base.proofs.Booleans.{cases_bool, neither_left, neither_right}
 use Rattle.nz_base.proofs.Names.{same_id}
 use Rattle.nz_buffers.specs.Buffers.{find_id}
 use Rattle.nz_machine.proofs.EachItem.{all_append}
@@ -48,7 +48,7 @@ all_index P (x ∷ xs) (suc i) d all other = all_index P xs i d all.1 other
 pub find_each : (P : Entry → Type 0) (es : List Entry) (id : Id) → AllByRecursion P es → IfSome (find_id es id) (λ e. P e × (id_eq id (id_of e.key) ≡ true))
 find_each P [] id all = tt
 find_each P (e ∷ es) id all =
-    elim (cases_bool (id_eq id (id_of e.key))) [
+    elim (cases_Bool (id_eq id (id_of e.key))) [
       | inl here ↦ rw here (all.0, here)
       | inr away ↦ rw away (find_each P es id all.1)
     ]
@@ -57,7 +57,7 @@ find_each P (e ∷ es) id all =
 pub lookup_each : {V : Type 0} (P : Id × V → Type 0) (es : List (Id × V)) (id : Id) → AllByRecursion P es → IfSome (lookup (id_eq id) es) (λ v. P (id, v))
 lookup_each P [] id all = tt
 lookup_each P (e ∷ es) id all =
-    elim (cases_bool (id_eq id e.0)) [
+    elim (cases_Bool (id_eq id e.0)) [
       | inl here ↦ rw here (subst (λ (x : Id). P (x, e.1)) (sym (same_id id e.0 here)) all.0)
       | inr away ↦ rw away (lookup_each P es id all.1)
     ]
@@ -67,7 +67,7 @@ pub insert_each : {V : Type 0} (P : Id × V → Type 0) (es : List (Id × V)) (i
     → P (id, v) → AllByRecursion P (insert_entry id_eq es id v)
 insert_each P [] id v all own = (own, tt)
 insert_each P (e ∷ es) id v all own =
-    elim (cases_bool (id_eq id e.0)) [
+    elim (cases_Bool (id_eq id e.0)) [
       | inl here ↦ rw here (subst (λ (x : Id). P (x, v)) (same_id id e.0 here) own, all.1)
       | inr away ↦ rw away (all.0, insert_each P es id v all.1 own)
     ]
@@ -78,12 +78,12 @@ pub few_either : {X : Type 0} (p q : X → Bool) (xs : List X) → length (filte
 few_either p q [] = omega arith
 few_either p q (x ∷ xs) =
     let ih = few_either p q xs in
-    elim (cases_bool (p x)) [
-      | inl first ↦ elim (cases_bool (q x)) [
+    elim (cases_Bool (p x)) [
+      | inl first ↦ elim (cases_Bool (q x)) [
         | inl second ↦ rw (first, second) (omega (arith, ih))
         | inr none ↦ rw (first, none) (omega (arith, ih))
       ]
-      | inr other ↦ elim (cases_bool (q x)) [
+      | inr other ↦ elim (cases_Bool (q x)) [
         | inl second ↦ rw (other, second) (omega (arith, ih))
         | inr none ↦ rw (other, none) (omega (arith, ih))
       ]
@@ -92,14 +92,14 @@ few_either p q (x ∷ xs) =
 none_of_id : (id : Id) (es : List Entry) → has_id (keys_of es) id ≡ false → length (filter (λ e. id_eq id (id_of e.key)) es) ≤ 0
 none_of_id id [] none = omega arith
 none_of_id id (e ∷ es) none =
-    rw (neither_left (id_eq id (id_of e.key)) (has_id (keys_of es) id) none)
-    (none_of_id id es (neither_right (id_eq id (id_of e.key)) (has_id (keys_of es) id) none))
+    rw (or_parts (id_eq id (id_of e.key)) (has_id (keys_of es) id) none).0
+    (none_of_id id es (or_parts (id_eq id (id_of e.key)) (has_id (keys_of es) id) none).1)
 
 -- of one id there is one entry at most
 pub one_of_id : (id : Id) (es : List Entry) → HaveOwnIds (keys_of es) → length (filter (λ e. id_eq id (id_of e.key)) es) ≤ 1
 one_of_id id [] own = omega arith
 one_of_id id (e ∷ es) own =
-    elim (cases_bool (id_eq id (id_of e.key))) [
+    elim (cases_Bool (id_eq id (id_of e.key))) [
       | inl here ↦
           let none = none_of_id id es (subst (λ (i : Id). has_id (keys_of es) i ≡ false) (sym (same_id id (id_of e.key) here)) own.0) in
           rw here (omega (arith, none))

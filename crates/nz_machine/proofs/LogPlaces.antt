@@ -1,6 +1,7 @@
 -- The place of an id in a log, and in a longer one.
 use Rattle.std.proofs.Common.{◌≡◌, ℕ, zero, suc, ◌<◌, true, List, [], ◌∷◌, ◌++◌, length, take, Option}
 use Rattle.std.proofs.Common.{Some, None, is_some, refl, ap, ◌∙◌, inl, inr, arith, length-append}
+use Rattle.std.proofs.lemmas.Bool.{cases_Bool, or_left, or_right}
 use Rattle.std.specs.Prelude.{slice_get, slice_index_or}
 use Rattle.std.specs.Option.{option_map}
 use Rattle.std.proofs.lemmas.List.{take-append-le}
@@ -9,7 +10,6 @@ use Rattle.nz_base.specs.declared.key.Id.{Id}
 use Rattle.nz_base.specs.declared.key.Entry.{Entry}
 use Rattle.nz_base.specs.Key.{id_eq, id_of}
 use Rattle.nz_base.specs.Log.{keys_of, has_id, HaveOwnIds}
-use Rattle.nz_base.proofs.Booleans.{cases_bool, or_left, or_right}
 use Rattle.nz_base.proofs.Names.{id_eq_self}
 use Rattle.nz_log.specs.Places.{place_of, digest_at, digest_of_log}
 use Rattle.nz_log.proofs.Placing.{place_held, place_found, place_only}
@@ -28,7 +28,7 @@ get_kept {X} xs ys i p lt = ap (λ (l : List X). slice_get l i) p.whole ∙ get_
 place_append : (xs ys : List Entry) (id : Id) (i : ℕ) → place_of xs id ≡ Some i → place_of (xs ++ ys) id ≡ Some i
 place_append [] ys id i e = absurd cc
 place_append (x ∷ xs) ys id i e =
-    elim (cases_bool (id_eq id (id_of x.key))) [
+    elim (cases_Bool (id_eq id (id_of x.key))) [
       | inl here ↦ rw here (rw here at e)
       | inr away ↦ rw away (further (place_of xs id) (λ n. place_append xs ys id n) (rw away at e))
     ]

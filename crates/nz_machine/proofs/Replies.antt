@@ -3,14 +3,13 @@ use Rattle.std.proofs.Common.{◌≡◌, ℕ, ◌+◌, ◌-◌, ◌<◌, ◌&&�
 use Rattle.std.proofs.Common.{Option, Some, None, refl, sym, ap, subst, ◌∙◌, arith, ltb-true, append_assoc, length-append}
 use Rattle.std.specs.Prelude.{slice_get, nat_lt, min}
 use Rattle.std.specs.Map.{lookup}
-use Rattle.std.proofs.lemmas.Bool.{not-true}
+use Rattle.std.proofs.lemmas.Bool.{not-true, and_parts}
 use Rattle.nz_base.specs.Prefixes.{IsPrefix}
 use Rattle.nz_base.specs.Cluster.{leader_of}
 use Rattle.nz_base.specs.declared.key.Id.{Id}
 use Rattle.nz_base.specs.declared.key.Entry.{Entry}
 use Rattle.nz_base.specs.Key.{id_eq, id_of}
 use Rattle.nz_base.specs.Log.{keys_of, HaveOwnIds}
-use Rattle.nz_base.proofs.Booleans.{and_left, and_right}
 use Rattle.nz_base.proofs.Logs.{own_in_prefix, keys_append}
 use Rattle.nz_base.proofs.Prefixes.{prefix_self, prefix_more, prefix_then}
 use Rattle.nz_base.specs.declared.limits.TheConstants.{MAX_QUIET}
@@ -126,8 +125,8 @@ request_shows f me heard s proxy b a =
         on_cond (AllShow f me heard s own) (not (leads f me s) && nat_lt place s.log.synced) (slow_replies own b.id origin)
         (fast_replies f me own b.id place origin)
         (λ t.
-        let follows = not-true (leads f me s) (and_left (not (leads f me s)) (nat_lt place s.log.synced) t) in
-        let synced = ltb-true place s.log.synced (and_right (not (leads f me s)) (nat_lt place s.log.synced) t) in
+        let follows = not-true (leads f me s) (and_parts (not (leads f me s)) (nat_lt place s.log.synced) t).0 in
+        let synced = ltb-true place s.log.synced (and_parts (not (leads f me s)) (nat_lt place s.log.synced) t).1 in
         slow_shows f me heard s own b.id place origin normal follows at synced refl)
         (λ _. fast_shows f me heard s own own b.id place origin normal
         (record {

@@ -5,11 +5,10 @@ use Rattle.std.specs.Prelude.{slice_index}
 use Rattle.std.specs.List.{filter}
 use Rattle.std.specs.List.Sorted.{IsSorted}
 use Rattle.std.specs.Ordering.{nat_cmp}
-use Rattle.std.proofs.lemmas.Bool.{eqb-true}
+use Rattle.std.proofs.lemmas.Bool.{eqb-true, cases_Bool}
 use Rattle.std.proofs.lemmas.Bool.Decides.{nat_tests}
 use Rattle.std.proofs.lemmas.List.Elements.{filter-append}
 use Rattle.std.proofs.lemmas.List.Sorted.{IsNonDecreasingBy-from_sort}
-use Rattle.nz_base.proofs.Booleans.{cases_bool}
 use Rattle.nz_window.specs.Samples.{numbers_in_order}
 use Rattle.nz_window.proofs.Order.{in_order-unique}
 use Rattle.nz_machine.specs.Replicas.{numbers_below, others}
@@ -27,7 +26,7 @@ below_all me (suc n) low =
     let split =
     ap length (filter-append (λ r. not (r == me)) (numbers_below n) (n ∷ []))
     ∙ length-append (filter (λ r. not (r == me)) (numbers_below n)) (filter (λ r. not (r == me)) (n ∷ [])) in
-    elim (cases_bool (n == me)) [
+    elim (cases_Bool (n == me)) [
       | inl same ↦ let e : n ≡ me = eqb-true n me same in absurd (omega arith)
       | inr other ↦ let one : length (filter (λ r. not (r == me)) (n ∷ [])) ≡ 1 = rw other refl in omega (arith, rest, split, one)
     ]
@@ -41,7 +40,7 @@ others_count me (suc n) member =
     let split =
     ap length (filter-append (λ r. not (r == me)) (numbers_below n) (n ∷ []))
     ∙ length-append (filter (λ r. not (r == me)) (numbers_below n)) (filter (λ r. not (r == me)) (n ∷ [])) in
-    elim (cases_bool (n == me)) [
+    elim (cases_Bool (n == me)) [
       | inl same ↦
           let e : n ≡ me = eqb-true n me same in
           let all = below_all me n (omega arith) in

@@ -2,7 +2,7 @@
 use Rattle.std.proofs.Common.{◌≡◌, ℕ, ◌+◌, ◌-◌, ◌<◌, ◌≤◌, ◌^◌, Bool, true, false, List, [], ◌∷◌, ◌++◌, length}
 use Rattle.std.proofs.Common.{Option, Some, None, refl, sym, ap, subst, ◌∙◌, inl, arith, length-append}
 use Rattle.std.specs.Prelude.{nat_le}
-use Rattle.std.proofs.lemmas.Bool.{le-leb, ltb-true}
+use Rattle.std.proofs.lemmas.Bool.{le-leb, ltb-true, and_from, and_parts}
 use Rattle.std.proofs.lemmas.List.{length-replicate}
 use Rattle.indexmap.specs.IndexMap.{insert_entry}
 use Rattle.nz_base.specs.Cluster.{replica_count}
@@ -10,7 +10,7 @@ use Rattle.nz_base.specs.declared.key.Id.{Id}
 use Rattle.nz_base.specs.declared.key.Entry.{Entry}
 use Rattle.nz_base.specs.Key.{id_eq, id_of}
 use Rattle.nz_base.specs.Log.{keys_of, has_id, is_above_last}
-use Rattle.nz_base.proofs.Booleans.{and_both, and_right, clash}
+use Rattle.nz_base.proofs.Booleans.{true_and_false}
 use Rattle.nz_base.proofs.Keys.{KeyBelow-test}
 use Rattle.nz_base.proofs.Logs.{above_none, above_some}
 use Rattle.nz_base.specs.declared.limits.TheConstants.{MAX_ENTRIES}
@@ -146,7 +146,7 @@ early_keeps f me s e h fits above logged held =
 -- ---- an entry is released
 
 pub has_place_left : (s : ReplicaData) (e : Entry) → may_release s e ≡ true → length s.log.entries < MAX_ENTRIES
-has_place_left s e may = ltb-true (length s.log.entries) MAX_ENTRIES (and_right _ (log_has_room s) may)
+has_place_left s e may = ltb-true (length s.log.entries) MAX_ENTRIES (and_parts _ (log_has_room s) may).1
 
 pub released_held : (b : Bool) (l : Log) (e : Entry) (es fs : List Entry) → length l.entries < MAX_ENTRIES → AreHeld l (e ∷ es) fs
     → AreHeld (log_with_entry b l e) es fs
@@ -171,12 +171,12 @@ released_executed f me s e true normal lead h = record {
         results = ap (λ (xs : List Answer). xs ++ answer_after (commands s.log.entries) e.command ∷ []) d.results ∙ sym (replies_pushed s.log.entries e);
         acks = all_imply (λ n. n ≤ length s.log.entries) (λ n. n ≤ length (s.log.entries ++ e ∷ [])) (λ n le. omega (arith, long, le)) s.ack d.acks;
       };
-  forgotten = λ away. clash (is_up s.status) (normal_up s.status normal) away;
+  forgotten = λ away. true_and_false (is_up s.status) (normal_up s.status normal) away;
 }
 released_executed f me s e false normal follows h = record {
   answers = h.answers;
-  led = λ _ leading. clash (leads f me s) leading follows;
-  forgotten = λ away. clash (is_up s.status) (normal_up s.status normal) away;
+  led = λ _ leading. true_and_false (leads f me s) leading follows;
+  forgotten = λ away. true_and_false (is_up s.status) (normal_up s.status normal) away;
 }
 
 pub released_keeps : (f me : ℕ) (s : ReplicaData) (e : Entry) (es : List Entry) → HasFacts f me s → is_normal s.status ≡ true → s.early ≡ e ∷ es
@@ -203,7 +203,7 @@ entry_fits deadline b fits low =
       key = (
         (
           omega arith,
-          and_both (nat_le 0 deadline) (nat_le deadline (2 ^ 63 - 1))
+          and_from (nat_le 0 deadline) (nat_le deadline (2 ^ 63 - 1))
               (le-leb 0 deadline (omega arith)) (le-leb deadline (2 ^ 63 - 1) (omega arith)),
         ),
         fits.1.1.0,

@@ -1,10 +1,10 @@
 -- What a record does to the states, and the theorem that what each step keeps holds of every run.
 use Rattle.std.proofs.Common.{◌≡◌, ℕ, ◌≤◌, ◌<◌, ◌^◌, Bool, true, false, cond, ◌&&◌, not, List, [], ◌∷◌, ◌++◌}
 use Rattle.std.proofs.Common.{map, Option, Some, None, Ok, refl, sym, ap, subst, ◌∙◌, inl, inr, ◌⊎◌}
+use Rattle.std.proofs.lemmas.Bool.{and_parts}
 use Rattle.std.specs.List.{AllByRecursion}
 use Rattle.nz_base.specs.declared.actor.Actor.{Actor}
 use Rattle.nz_base.specs.Actor.{actor_eq, HasAddress}
-use Rattle.nz_base.proofs.Booleans.{and_right}
 use Rattle.nz_base.proofs.Names.{actor_eq_self, same_actor}
 use Rattle.nz_base.specs.declared.limits.TheConstants.{MAX_CLOCK}
 use Rattle.nz_msg.specs.declared.message.Message.{Message}
@@ -154,9 +154,9 @@ counted_is f a p e true true h k = inr (record {
   is = ap (λ b. if_from_cluster f (cond b (Some e) None)) h ∙ ap (λ c. cond c (Some e) None) k;
   hears = record {
     other =
-        and_right (actor_eq e.to a) (not (actor_eq e.from a))
-        (and_right (actor_eq e.to p.to) (actor_eq e.to a && not (actor_eq e.from a))
-        (and_right (actor_eq e.from p.from) (actor_eq e.to p.to && (actor_eq e.to a && not (actor_eq e.from a))) h));
+        (and_parts (actor_eq e.to a) (not (actor_eq e.from a))
+        (and_parts (actor_eq e.to p.to) (actor_eq e.to a && not (actor_eq e.from a))
+        (and_parts (actor_eq e.from p.from) (actor_eq e.to p.to && (actor_eq e.to a && not (actor_eq e.from a))) h).1).1).1;
     counts = k;
   };
 })

@@ -3,7 +3,7 @@ use Rattle.std.proofs.Common.{◌≡◌, ℕ, ◌-◌, ◌<◌, ◌≤◌, ◌^�
 use Rattle.std.proofs.Common.{Some, None, refl, sym, ap, subst, ◌∙◌, arith, IsTrue, length-append, append_assoc}
 use Rattle.std.specs.Prelude.{nat_le, IsSome}
 use Rattle.std.specs.List.{AllByRecursion}
-use Rattle.std.proofs.lemmas.Bool.{le-leb, eqb-true}
+use Rattle.std.proofs.lemmas.Bool.{le-leb, eqb-true, and_from, or_parts}
 use Rattle.std.proofs.lemmas.Bool.Decides.{nat_tests}
 use Rattle.nz_base.specs.Cluster.{replica_count}
 use Rattle.nz_base.specs.declared.key.Id.{Id}
@@ -11,7 +11,6 @@ use Rattle.nz_base.specs.declared.key.Key.{Key}
 use Rattle.nz_base.specs.declared.key.Entry.{Entry}
 use Rattle.nz_base.specs.Key.{id_eq, id_of, key_below}
 use Rattle.nz_base.specs.Log.{keys_of, has_id, AreRising, HaveOwnIds}
-use Rattle.nz_base.proofs.Booleans.{and_both, neither_left, neither_right}
 use Rattle.nz_base.proofs.Logs.{has_first, has_back, has_id-append, keys_append}
 use Rattle.nz_base.specs.declared.limits.TheConstants.{MAX_VIEW}
 use Rattle.nz_store.specs.declared.command.Command.{Command}
@@ -27,7 +26,7 @@ use Rattle.nz_machine.specs.Facts.{FitsEntry, AreCounters}
 -- ---- numbers
 
 pub view_fits : (n : ℕ) → n ≤ MAX_VIEW → view.fits n
-view_fits n le = (omega (arith, le), and_both (nat_le 0 n) (nat_le n (2 ^ 62 - 1)) (le-leb 0 n (omega arith)) (le-leb n (2 ^ 62 - 1) (omega (arith, le))))
+view_fits n le = (omega (arith, le), and_from (nat_le 0 n) (nat_le n (2 ^ 62 - 1)) (le-leb 0 n (omega arith)) (le-leb n (2 ^ 62 - 1) (omega (arith, le))))
 
 -- ---- lists of single items
 
@@ -36,7 +35,7 @@ ids_each before [] all = tt
 ids_each before (x ∷ xs) all = (all.0, ids_each (before ++ x ∷ []) xs all.1)
 
 within_count : (least most n : ℕ) → least ≤ n → n ≤ most → IsTrue (nat_le least n && nat_le n most)
-within_count least most n low high = and_both (nat_le least n) (nat_le n most) (le-leb least n low) (le-leb n most high)
+within_count least most n low high = and_from (nat_le least n) (nat_le n most) (le-leb least n low) (le-leb n most high)
 
 pub ids_fit : (xs : List Id) → 1 ≤ length xs → length xs ≤ 64 → AllByRecursion id.fits xs → ids.fits xs
 ids_fit xs some few all = ((omega (arith, few), within_count 1 64 (length xs) some few), (refl, ids_each [] xs all))
@@ -69,7 +68,7 @@ pub record AreInOrder (keys : List Key) : Type 0 where
 
 apart_from : (before : List Key) (k : Key) (ys : List Key) (i : Id) → has_id (before ++ k ∷ ys) i ≡ false → id_eq i (id_of k) ≡ false
 apart_from before k ys i h =
-    neither_left (id_eq i (id_of k)) (has_id ys i) (neither_right (has_id before i) (has_id (k ∷ ys) i) (sym (has_id-append before (k ∷ ys) i) ∙ h))
+    (or_parts (id_eq i (id_of k)) (has_id ys i) (or_parts (has_id before i) (has_id (k ∷ ys) i) (sym (has_id-append before (k ∷ ys) i) ∙ h)).1).0
 
 follows_all : (before : List Key) (k : Key) (ys : List Key) → AreRising (before ++ k ∷ ys)
     → HaveOwnIds (before ++ k ∷ ys) → may_follow (λ (x : Key). x) before k ≡ true

@@ -2,14 +2,13 @@
 use Rattle.std.proofs.Common.{◌≡◌, ℕ, ◌≤◌, ◌&&◌, not, Bool, true, false, cond, List, [], ◌∷◌, ◌++◌, length, Option, Some}
 use Rattle.std.proofs.Common.{None, Result, Ok, Err, refl, sym, ap, subst, ◌∙◌, arith, append_assoc, ltb-true}
 use Rattle.std.specs.List.{AllByRecursion}
-use Rattle.std.proofs.lemmas.Bool.{not-true}
+use Rattle.std.proofs.lemmas.Bool.{not-true, and_parts}
 use Rattle.nz_base.specs.Actor.{actor_eq}
 use Rattle.nz_base.specs.Cluster.{replica_count}
 use Rattle.nz_base.specs.declared.actor.Actor.{Actor}
 use Rattle.nz_base.specs.declared.actor.Actor.TheVariants.{Replica, Proxy, Client}
 use Rattle.nz_base.specs.declared.key.Entry.{Entry}
 use Rattle.nz_base.specs.Log.{keys_of, HaveOwnIds}
-use Rattle.nz_base.proofs.Booleans.{and_left, and_right}
 use Rattle.nz_base.proofs.Logs.{own_in_prefix, keys_append}
 use Rattle.nz_store.proofs.Turns.{length-replies_from}
 use Rattle.nz_msg.specs.declared.message.Message.{Message}
@@ -103,15 +102,15 @@ read_by f me p (Ok d) e says h = read_if (is_for me p d) refl h
     read_if false is h = absurd cc
     read_if true is h =
         let t = some_if (is_in_cluster f d.from && is_sized f (message_vector d.message)) d e h in
-        let rest = and_right (actor_eq d.to p.to) (actor_eq d.to me && not (actor_eq d.from me))
-        (and_right (actor_eq d.from p.from) (actor_eq d.to p.to && (actor_eq d.to me && not (actor_eq d.from me))) is) in
+        let rest = (and_parts (actor_eq d.to p.to) (actor_eq d.to me && not (actor_eq d.from me))
+        (and_parts (actor_eq d.from p.from) (actor_eq d.to p.to && (actor_eq d.to me && not (actor_eq d.from me))) is).1).1 in
         subst (IsRead f me p) t.1 (record {
           decodes = says;
-          same_from = and_left (actor_eq d.from p.from) (actor_eq d.to p.to && (actor_eq d.to me && not (actor_eq d.from me))) is;
-          to_me = and_left (actor_eq d.to me) (not (actor_eq d.from me)) rest;
-          other = not-true (actor_eq d.from me) (and_right (actor_eq d.to me) (not (actor_eq d.from me)) rest);
-          member = and_left (is_in_cluster f d.from) (is_sized f (message_vector d.message)) t.0;
-          sized = and_right (is_in_cluster f d.from) (is_sized f (message_vector d.message)) t.0;
+          same_from = (and_parts (actor_eq d.from p.from) (actor_eq d.to p.to && (actor_eq d.to me && not (actor_eq d.from me))) is).0;
+          to_me = (and_parts (actor_eq d.to me) (not (actor_eq d.from me)) rest).0;
+          other = not-true (actor_eq d.from me) (and_parts (actor_eq d.to me) (not (actor_eq d.from me)) rest).1;
+          member = (and_parts (is_in_cluster f d.from) (is_sized f (message_vector d.message)) t.0).0;
+          sized = (and_parts (is_in_cluster f d.from) (is_sized f (message_vector d.message)) t.0).1;
         })
 
 pub is_read : (f : ℕ) (me : Actor) (p : Parcel) (e : Envelope) → accepted_envelope f me p ≡ Some e → IsRead f me p e
@@ -126,7 +125,7 @@ fair_sender f me (Client c) other member = tt
 -- what is taken is from another, and a replica that sends it is of the cluster
 pub fair_hears : (f me : ℕ) (from : Actor) (m : Message) → Hears f (Replica me) from m → IsFair f me from
 fair_hears f me from m h =
-    fair_sender f me from (not-true (actor_eq from (Replica me)) h.other) (and_left (is_in_cluster f from) (is_sized f (message_vector m)) h.counts)
+    fair_sender f me from (not-true (actor_eq from (Replica me)) h.other) (and_parts (is_in_cluster f from) (is_sized f (message_vector m)) h.counts).0
 
 -- ---- any actor
 

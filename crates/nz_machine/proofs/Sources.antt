@@ -1,13 +1,13 @@
 -- A parcel that was sent has a source, and the source record sends it.
 use Rattle.std.proofs.Common.{◌≡◌, ℕ, Bool, true, false, cond, eqb, ◌&&◌, List, [], ◌∷◌, Option}
 use Rattle.std.proofs.Common.{Some, None, refl, sym, ap, ◌∙◌, inl, inr, ◌⊎◌, eq-eqb, eqb-true}
+use Rattle.std.proofs.lemmas.Bool.{and_parts, or_cases, or_left, or_right}
 use Rattle.std.specs.List.{list_any}
 use Rattle.std.specs.Option.{option_eq}
 use Rattle.std.specs.Str.{bytes_eq}
 use Rattle.std.proofs.lemmas.Slice.Eq.{bytes_eq-Decides}
 use Rattle.std.proofs.lemmas.Option.{none-some, same_Some}
 use Rattle.nz_base.specs.Actor.{actor_eq}
-use Rattle.nz_base.proofs.Booleans.{and_left, and_right, or_cases, or_left, or_right}
 use Rattle.nz_base.proofs.Names.{actor_eq_self, same_actor}
 use Rattle.nz_base.specs.Moments.{At}
 use Rattle.nz_base.proofs.Moments.{at_self}
@@ -59,15 +59,15 @@ reply_eq_self (Slow r v) = rw (eq-eqb r r refl, eq-eqb v v refl) refl
 
 pub same_reply : (a b : Reply) → reply_eq a b ≡ true → a ≡ b
 same_reply (Fast r v d u a) (Fast s w e x b) h =
-    let p = and_right (eqb r s) (eqb v w && (bytes_eq d e && (bytes_eq u x && option_eq answer_eq a b))) h in
-    let q = and_right (eqb v w) (bytes_eq d e && (bytes_eq u x && option_eq answer_eq a b)) p in
-    let t = and_right (bytes_eq d e) (bytes_eq u x && option_eq answer_eq a b) q in
-    λ i. Fast (eqb-true r s (and_left (eqb r s) (eqb v w && (bytes_eq d e && (bytes_eq u x && option_eq answer_eq a b))) h) i)
-    (eqb-true v w (and_left (eqb v w) (bytes_eq d e && (bytes_eq u x && option_eq answer_eq a b)) p) i)
-    (same_bytes d e (and_left (bytes_eq d e) (bytes_eq u x && option_eq answer_eq a b) q) i)
-    (same_bytes u x (and_left (bytes_eq u x) (option_eq answer_eq a b) t) i)
-    (same_choice a b (and_right (bytes_eq u x) (option_eq answer_eq a b) t) i)
-same_reply (Slow r v) (Slow s w) h = λ i. Slow (eqb-true r s (and_left (eqb r s) (eqb v w) h) i) (eqb-true v w (and_right (eqb r s) (eqb v w) h) i)
+    let p = (and_parts (eqb r s) (eqb v w && (bytes_eq d e && (bytes_eq u x && option_eq answer_eq a b))) h).1 in
+    let q = (and_parts (eqb v w) (bytes_eq d e && (bytes_eq u x && option_eq answer_eq a b)) p).1 in
+    let t = (and_parts (bytes_eq d e) (bytes_eq u x && option_eq answer_eq a b) q).1 in
+    λ i. Fast (eqb-true r s (and_parts (eqb r s) (eqb v w && (bytes_eq d e && (bytes_eq u x && option_eq answer_eq a b))) h).0 i)
+    (eqb-true v w (and_parts (eqb v w) (bytes_eq d e && (bytes_eq u x && option_eq answer_eq a b)) p).0 i)
+    (same_bytes d e (and_parts (bytes_eq d e) (bytes_eq u x && option_eq answer_eq a b) q).0 i)
+    (same_bytes u x (and_parts (bytes_eq u x) (option_eq answer_eq a b) t).0 i)
+    (same_choice a b (and_parts (bytes_eq u x) (option_eq answer_eq a b) t).1 i)
+same_reply (Slow r v) (Slow s w) h = λ i. Slow (eqb-true r s (and_parts (eqb r s) (eqb v w) h).0 i) (eqb-true v w (and_parts (eqb r s) (eqb v w) h).1 i)
 same_reply _ _ h = absurd cc
 
 pub parcel_eq_self : (p : Parcel) → parcel_eq p p ≡ true
@@ -75,10 +75,10 @@ parcel_eq_self p = rw (actor_eq_self p.from, actor_eq_self p.to, bytes_eq_self p
 
 pub same_parcel : (p q : Parcel) → parcel_eq p q ≡ true → p ≡ q
 same_parcel p q h =
-    let b = and_right (actor_eq p.from q.from) (actor_eq p.to q.to && bytes_eq p.frame q.frame) h in
-    let from = same_actor p.from q.from (and_left (actor_eq p.from q.from) (actor_eq p.to q.to && bytes_eq p.frame q.frame) h) in
-    let to = same_actor p.to q.to (and_left (actor_eq p.to q.to) (bytes_eq p.frame q.frame) b) in
-    let frame = same_bytes p.frame q.frame (and_right (actor_eq p.to q.to) (bytes_eq p.frame q.frame) b) in
+    let b = (and_parts (actor_eq p.from q.from) (actor_eq p.to q.to && bytes_eq p.frame q.frame) h).1 in
+    let from = same_actor p.from q.from (and_parts (actor_eq p.from q.from) (actor_eq p.to q.to && bytes_eq p.frame q.frame) h).0 in
+    let to = same_actor p.to q.to (and_parts (actor_eq p.to q.to) (bytes_eq p.frame q.frame) b).0 in
+    let frame = same_bytes p.frame q.frame (and_parts (actor_eq p.to q.to) (bytes_eq p.frame q.frame) b).1 in
     λ i. record { from = from i; to = to i; frame = frame i }
 
 -- ---- the record that sends it first

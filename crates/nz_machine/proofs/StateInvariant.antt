@@ -1,6 +1,6 @@
 -- What the code keeps of a replica, when one part of it changes.
 use Rattle.std.proofs.Common.{◌≡◌, ℕ, ◌<◌, ◌≤◌, true, false, List, [], ◌∷◌, ◌++◌, length, IsTrue, IsFalse, IfSome, refl, sym, ap, subst, ◌∙◌, inl, inr, cond}
-use Rattle.std.proofs.lemmas.Bool.{ltb-true}
+use Rattle.std.proofs.lemmas.Bool.{ltb-true, cases_Bool, and_parts}
 use Rattle.std.specs.List.{AllByRecursion}
 use Rattle.std.specs.Map.{lookup}
 use Rattle.indexmap.specs.IndexMap.{insert_entry}
@@ -9,7 +9,6 @@ use Rattle.nz_base.specs.declared.key.Id.{Id}
 use Rattle.nz_base.specs.declared.key.Entry.{Entry}
 use Rattle.nz_base.specs.Key.{id_eq, id_of}
 use Rattle.nz_base.specs.Log.{keys_of, has_id, is_above_last}
-use Rattle.nz_base.proofs.Booleans.{cases_bool, and_right}
 use Rattle.nz_base.specs.declared.limits.TheConstants.{MAX_ENTRIES}
 use Rattle.nz_store.specs.Entries.{Entries, empty}
 use Rattle.nz_store.specs.Sequence.{store_after}
@@ -37,7 +36,7 @@ kept_first f me s store member is none =
 pub is_known : (es : List (Id × Origin)) (id : Id) → AllByRecursion IsKnown es → IfSome (lookup (id_eq id) es) (λ o. o.proxy ≤ 7)
 is_known [] id all = tt
 is_known (e ∷ es) id all =
-    elim (cases_bool (id_eq id e.0)) [
+    elim (cases_Bool (id_eq id e.0)) [
       | inl here ↦ rw here all.0.proxy
       | inr away ↦ rw away (is_known es id all.1)
     ]
@@ -69,7 +68,7 @@ pub kept_late : (f me : ℕ) (s : ReplicaData) (store : Entries) (e : Entry) (la
     → IsFalse (has_id (keys_of s.log.entries) (id_of e.key)) → IsFalse (has_id (keys_of s.early) (id_of e.key))
     → late ≡ cond (has_id (keys_of s.late) (id_of e.key)) s.late (s.late ++ e ∷ []) → IsKeptReplica f me (record s { late = late }) store
 kept_late f me s store e late k fits logged held is =
-    elim (cases_bool (has_id (keys_of s.late) (id_of e.key))) [
+    elim (cases_Bool (has_id (keys_of s.late) (id_of e.key))) [
       | inl there ↦
           let same : late ≡ s.late = is ∙ (rw there refl) in
           subst (λ (xs : List Entry). IsKeptReplica f me (record s { late = xs }) store) (sym same) k
@@ -116,7 +115,7 @@ pub room_left : (f me : ℕ) (s : ReplicaData) (store : Entries) (e : Entry) (es
     → IsKeptReplica f me s store → s.early ≡ e ∷ es → first_may s s.early ≡ true → length s.log.entries < MAX_ENTRIES
 room_left f me s store e es k is first =
     let may : may_release s e ≡ true = sym (ap (first_may s) is) ∙ first in
-    ltb-true _ _ (and_right (is_due s.clock e) (log_has_room s) may)
+    ltb-true _ _ (and_parts (is_due s.clock e) (log_has_room s) may).1
 
 -- what ran out of memory has forgotten all
 pub kept_crashed : (f me : ℕ) (m : ReplicaModel) (store : Entries) → me < replica_count f

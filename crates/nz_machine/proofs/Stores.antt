@@ -1,6 +1,6 @@
 -- Frames can carry each answer of a store that commands made.
 use Rattle.std.proofs.Common.{◌≡◌, ℕ, ◌≤◌, List, [], ◌∷◌, ◌++◌, length, Option, Some, None, refl, ap, ◌∙◌, inl, inr, arith}
-use Rattle.std.proofs.lemmas.Bool.{le-leb}
+use Rattle.std.proofs.lemmas.Bool.{le-leb, cases_Bool, and_from}
 use Rattle.std.proofs.lemmas.List.{map-append}
 use Rattle.std.specs.Option.{option_eq}
 use Rattle.std.specs.List.{AllByRecursion}
@@ -10,7 +10,6 @@ use Rattle.std.specs.declared.cmp.Ordering.{Ordering}
 use Rattle.std.specs.declared.cmp.Ordering.TheVariants.{Less, Equal, Greater}
 use Rattle.std.specs.Cmp.Lexicographic.{slice_cmp}
 use Rattle.nz_base.specs.declared.key.Entry.{Entry}
-use Rattle.nz_base.proofs.Booleans.{cases_bool, and_both}
 use Rattle.nz_store.specs.declared.command.Command.{Command}
 use Rattle.nz_store.specs.declared.command.Command.TheVariants.{Put, Get, Del, Cas}
 use Rattle.nz_store.specs.declared.command.Answer.{Answer}
@@ -38,7 +37,7 @@ abbrev Fitting : Entries × Answer → Type 0
 Fitting t = AreShort t.0 × answer.fits t.1
 
 value_fits : (v : List ℕ) → 1 ≤ length v → length v ≤ 256 → answer.fits (Value v)
-value_fits v some short = ((omega arith, refl), ((omega arith, and_both _ _ (le-leb _ _ some) (le-leb _ _ short)), refl))
+value_fits v some short = ((omega arith, refl), ((omega arith, and_from _ _ (le-leb _ _ some) (le-leb _ _ short)), refl))
 
 done_fits : answer.fits Done
 done_fits = ((omega arith, refl), refl)
@@ -70,7 +69,7 @@ short_choice store key (Some value) all own = short_with store key value all own
 read_fits : (store : Entries) (key : List ℕ) → AreShort store → answer.fits (value_answer (value_of store key))
 read_fits [] key all = absent_fits
 read_fits (e ∷ store) key all =
-    elim (cases_bool (bytes_eq key e.0)) [
+    elim (cases_Bool (bytes_eq key e.0)) [
       | inl here ↦ rw here (value_fits e.1 all.0.some all.0.short)
       | inr away ↦ rw away (read_fits store key all.1)
     ]
@@ -85,7 +84,7 @@ refusal_fits (Some value) = differs_fits
 
 swap_fits : (store : Entries) (key : List ℕ) (old new : Option (List ℕ)) → AreShort store → IsOptionalValue new → Fitting (swap store key old new)
 swap_fits store key old new all own =
-    elim (cases_bool (option_eq bytes_eq (value_of store key) old)) [
+    elim (cases_Bool (option_eq bytes_eq (value_of store key) old)) [
       | inl same ↦ rw same (short_choice store key new all own, done_fits)
       | inr other ↦ rw other (all, refusal_fits (value_of store key))
     ]

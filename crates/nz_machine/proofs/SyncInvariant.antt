@@ -7,7 +7,7 @@ use Rattle.nz_base.specs.declared.key.Id.{Id}
 use Rattle.nz_base.specs.declared.key.Key.{Key}
 use Rattle.nz_base.specs.declared.key.Entry.{Entry}
 use Rattle.nz_base.specs.Key.{id_of}
-use Rattle.nz_base.proofs.Booleans.{clash}
+use Rattle.nz_base.proofs.Booleans.{true_and_false}
 use Rattle.nz_cv.specs.Vectors.{merged_vector}
 use Rattle.nz_store.specs.Entries.{Entries}
 use Rattle.nz_log.specs.Synced.{Log}
@@ -46,7 +46,7 @@ kept_sync f me s store keys commit log early late committed k normal follows fit
     record {
       member = k.member;
       facts = subst (λ (n : ℕ). HasFacts f me (record s { log = log; early = early; late = late; commit = n })) (sym committed-is) now;
-      store = λ normal lead. clash (leads f me s) lead follows;
+      store = λ normal lead. true_and_false (leads f me s) lead follows;
     }
 
 pub sync_state : (s : ReplicaData) (keys : List Key) (commit : ℕ) (log : Log) (early late : List Entry) (committed : ℕ)

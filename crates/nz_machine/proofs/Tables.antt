@@ -1,8 +1,8 @@
 -- Lists with a number for each replica: crash vectors, and how far logs agree, as reports say.
 use Rattle.std.proofs.Common.{◌≡◌, ℕ, zero, suc, ◌<◌, ◌≤◌, ◌^◌, max, nat_le, List, [], ◌∷◌, length, map, refl, sym, ap, ◌∙◌, inl, inr, arith}
+use Rattle.std.proofs.lemmas.Bool.{cases_Bool}
 use Rattle.std.specs.Prelude.{slice_index, slice_set}
 use Rattle.std.specs.List.{AllByRecursion}
-use Rattle.nz_base.proofs.Booleans.{cases_bool}
 use Rattle.nz_cv.specs.Vectors.{greater_counters, merged_vector}
 use Rattle.nz_window.specs.Samples.{with_number, numbers_in_order}
 use Rattle.nz_machine.specs.Facts.{AreCounters}
@@ -48,7 +48,7 @@ merged_counters f u v own p q = record {
 all_placed : (n x : ℕ) (ys : List ℕ) → x ≤ n → AllByRecursion (λ y. y ≤ n) ys → AllByRecursion (λ y. y ≤ n) (with_number x ys)
 all_placed n x [] low all = (low, tt)
 all_placed n x (y ∷ ys) low all =
-    elim (cases_bool (nat_le x y)) [
+    elim (cases_Bool (nat_le x y)) [
       | inl first ↦ rw first (low, all)
       | inr later ↦ rw later (all.0, all_placed n x ys low all.1)
     ]

@@ -1,6 +1,7 @@
 -- Taking keys one after the other, as the code does.
 use Rattle.std.proofs.Common.{◌≡◌, ℕ, suc, zero, ◌+◌, ◌<◌, ◌≤◌, Bool, true, false, not, List, [], ◌∷◌, ◌++◌, length, drop, get_or, drop-cons}
 use Rattle.std.proofs.Common.{add-one, Option, Some, None, is_some, refl, sym, ap, subst, ◌∙◌, inl, inr, arith, append_assoc}
+use Rattle.std.proofs.lemmas.Bool.{cases_Bool, and_parts, or_parts}
 use Rattle.std.specs.Prelude.{slice_get}
 use Rattle.std.specs.List.{filter}
 use Rattle.std.specs.Option.{option_map}
@@ -11,7 +12,6 @@ use Rattle.nz_base.specs.declared.key.Key.{Key}
 use Rattle.nz_base.specs.declared.key.Entry.{Entry}
 use Rattle.nz_base.specs.Key.{key_below, id_eq, id_of}
 use Rattle.nz_base.specs.Log.{keys_of, has_key, has_id, AreRising, HaveOwnIds}
-use Rattle.nz_base.proofs.Booleans.{cases_bool, and_right, neither_left, neither_right}
 use Rattle.nz_base.proofs.Keys.{key_below-trans}
 use Rattle.nz_base.proofs.Logs.{keys_append, has_first, has_later, own_id}
 use Rattle.nz_log.specs.Places.{place_of}
@@ -35,8 +35,8 @@ use Rattle.nz_machine.proofs.KeysKeepFacts.{own_synced, found_fits}
 find_skips : (xs ys : List Entry) (i : Id) → has_id (keys_of xs) i ≡ false → find_id (xs ++ ys) i ≡ find_id ys i
 find_skips [] ys i none = refl
 find_skips (x ∷ xs) ys i none =
-    rw (neither_left (id_eq i (id_of x.key)) (has_id (keys_of xs) i) none)
-    (find_skips xs ys i (neither_right (id_eq i (id_of x.key)) (has_id (keys_of xs) i) none))
+    rw (or_parts (id_eq i (id_of x.key)) (has_id (keys_of xs) i) none).0
+    (find_skips xs ys i (or_parts (id_eq i (id_of x.key)) (has_id (keys_of xs) i) none).1)
 
 pub find_after_synced : (log : Log) (i : Id) → has_id (keys_of (synced_part log)) i ≡ false → find_id log.entries i ≡ find_id (unsynced_part log) i
 find_after_synced log i none =
@@ -48,7 +48,7 @@ find_nowhere es i is = find_none es i (sym (place_held es i) ∙ ap is_some is)
 pub find_at : (es : List Entry) (i : Id) (place : ℕ) (e : Entry) → place_of es i ≡ Some place → slice_get es place ≡ Some e → find_id es i ≡ Some e
 find_at [] i place e is at = absurd cc
 find_at (x ∷ xs) i place e is at =
-    elim (cases_bool (id_eq i (id_of x.key))) [
+    elim (cases_Bool (id_eq i (id_of x.key))) [
       | inl here ↦
           let first : Some 0 ≡ Some place = rw here at is in
           let zero_place : place ≡ 0 = cc in
@@ -68,9 +68,9 @@ find_at (x ∷ xs) i place e is at =
 without_split : (key : Key) (es : List Entry) → without (filter (is_displaced key) es) (id_of key) ≡ filter (is_displaced key) es
 without_split key [] = refl
 without_split key (e ∷ es) =
-    elim (cases_bool (is_displaced key e)) [
+    elim (cases_Bool (is_displaced key e)) [
       | inl goes ↦
-          let apart : not (id_eq (id_of key) (id_of e.key)) ≡ true = and_right (not (key_below key e.key)) (not (id_eq (id_of key) (id_of e.key))) goes in
+          let apart : not (id_eq (id_of key) (id_of e.key)) ≡ true = (and_parts (not (key_below key e.key)) (not (id_eq (id_of key) (id_of e.key))) goes).1 in
           rw (goes, apart) (ap (λ (xs : List Entry). e ∷ xs) (without_split key es))
       | inr stays ↦ rw stays (without_split key es)
     ]
@@ -111,7 +111,7 @@ pub none_below : (last : Key) (es : List Entry) → AreRising (keys_of es) → f
     → (filter (λ e. key_below last e.key) es ≡ es) × (filter (λ e. not (key_below last e.key)) es ≡ [])
 none_below last [] rising is = (refl, refl)
 none_below last (e ∷ es) rising is =
-    elim (cases_bool (key_below last e.key)) [
+    elim (cases_Bool (key_below last e.key)) [
       | inr below ↦ absurd (let some : Some e ≡ None = rw below at is in cc)
       | inl above ↦
           let rest = all_above last es (λ x there. key_below-trans last e.key x above (rising.0 x there)) in
@@ -122,7 +122,7 @@ pub first_below : (last : Key) (es : List Entry) (e : Entry) (rest : List Entry)
     → first_if (λ x. not (key_below last x.key)) es ≡ Some e → key_below last e.key ≡ false
 first_below last es e rest is first =
     let one : first_if (λ x. not (key_below last x.key)) (e ∷ rest) ≡ Some e = ap (first_if (λ (x : Entry). not (key_below last x.key))) (sym is) ∙ first in
-    elim (cases_bool (key_below last e.key)) [
+    elim (cases_Bool (key_below last e.key)) [
       | inr below ↦ below
       | inl above ↦ absurd (let none : None ≡ Some e = rw above at one in cc)
     ]

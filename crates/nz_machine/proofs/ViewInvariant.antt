@@ -3,7 +3,7 @@ use Rattle.std.proofs.Common.{◌≡◌, ℕ, ◌+◌, ◌<◌, ◌≤◌, ◌^�
 use Rattle.std.specs.Prelude.{◌==◌, nat_lt, if◌then◌else◌}
 use Rattle.nz_base.specs.Cluster.{replica_count, leader_of}
 use Rattle.nz_base.specs.declared.key.Entry.{Entry}
-use Rattle.nz_base.proofs.Booleans.{clash}
+use Rattle.nz_base.proofs.Booleans.{true_and_false}
 use Rattle.nz_base.specs.declared.limits.TheConstants.{MAX_ENTRIES, MAX_VIEW, MAX_QUIET, REJOIN_PERIOD}
 use Rattle.nz_store.specs.Entries.{Entries}
 use Rattle.nz_store.specs.Sequence.{store_after, replies}
@@ -96,7 +96,7 @@ pub kept_start : (f me : ℕ) (s : ReplicaData) (store : Entries) (log : Log) (e
 kept_start f me s store log early late list view commit k low away c committed is = record {
   member = k.member;
   facts = subst (HasFacts f me) (started s log early late list view commit is) (start_keeps f me s view list commit k.facts low away c committed);
-  store = λ n l. clash (leader_of f view == me) l away;
+  store = λ n l. true_and_false (leader_of f view == me) l away;
 }
 
 -- ---- the begin of a view

@@ -7,7 +7,7 @@ use Rattle.std.proofs.lemmas.Bool.Decides.{nat_tests}
 use Rattle.std.proofs.lemmas.List.{length-set, length-replicate}
 use Rattle.nz_base.specs.Cluster.{replica_count, leader_of}
 use Rattle.nz_base.specs.declared.key.Entry.{Entry}
-use Rattle.nz_base.proofs.Booleans.{clash}
+use Rattle.nz_base.proofs.Booleans.{true_and_false}
 use Rattle.nz_base.specs.declared.limits.TheConstants.{MAX_ENTRIES, MAX_VIEW, MAX_QUIET, REJOIN_PERIOD}
 use Rattle.nz_cv.specs.Vectors.{is_stray}
 use Rattle.nz_math.specs.Count.{AreDistinct}
@@ -109,7 +109,7 @@ start_keeps f me s view list commit h low away c committed = record {
   entries = adopted_held s list h.entries c;
   commit = committed;
   tables = h.tables;
-  executed = record { answers = h.executed.answers; led = λ n lead. clash (leader_of f view == me) lead away; forgotten = λ down. absurd cc };
+  executed = record { answers = h.executed.answers; led = λ n lead. true_and_false (leader_of f view == me) lead away; forgotten = λ down. absurd cc };
   reports = h.reports;
   rejoin = h.rejoin;
 }

@@ -1,7 +1,7 @@
 -- Counting the members of sets below a limit.
 use Rattle.std.proofs.Common.{◌≡◌, ℕ, zero, suc, ◌+◌, ◌<◌, ◌≤◌, ◌⊎◌, Bool, true, false, not, ◌&&◌, ◌||◌, cond, eqb}
 use Rattle.std.proofs.Common.{ltb, List, [], ◌∷◌, ◌++◌, length, refl, sym, ap, subst, ◌∙◌, arith, inl, inr}
-use Rattle.std.proofs.lemmas.Bool.{cases_lt, cases_eq, eq-eqb, eqb-false, ne_eqb, lt-ltb, le-ltb, ltb-true}
+use Rattle.std.proofs.lemmas.Bool.{cases_lt, cases_eq, eq-eqb, eqb-false, ne_eqb, lt-ltb, le-ltb, ltb-true, cases_Bool, and_parts, not-true}
 use Rattle.std.proofs.lemmas.List.{append-nil}
 use Rattle.nz_math.specs.Count.{one_if, count_below, both, everyone, all_but, IsWithin, is_in, AreDistinct, IsChoice, members_below}
 
@@ -9,17 +9,9 @@ and_true : (a : Bool) → (a && true) ≡ a
 and_true true = refl
 and_true false = refl
 
-not_true : (a : Bool) → not a ≡ true → a ≡ false
-not_true true h = absurd cc
-not_true false h = refl
-
 one_at_most : (a : Bool) → one_if a ≤ 1
 one_at_most true = omega arith
 one_at_most false = omega arith
-
-cases_bool : (a : Bool) → (a ≡ true) ⊎ (a ≡ false)
-cases_bool true = inl refl
-cases_bool false = inr refl
 
 or_not : (a : Bool) → (a || not a) ≡ true
 or_not true = refl
@@ -151,21 +143,13 @@ pub some_member : (n : ℕ) (p : ℕ → Bool) → 0 < count_below n p → (x : 
 unfolding count_below
 some_member zero p h = absurd (omega arith)
 some_member (suc n) p h =
-    elim (cases_bool (p n)) [
+    elim (cases_Bool (p n)) [
       | inl yes_p ↦ (n, omega arith, yes_p)
       | inr no_p ↦
           let fewer : 0 < count_below n p = (let last : one_if (p n) ≡ 0 = ap one_if no_p in omega (arith, last)) in
           let found = some_member n p fewer in
           (found.0, omega (arith, found.1), found.2)
     ]
-
-pub and_left : (a b : Bool) → (a && b) ≡ true → a ≡ true
-and_left true b h = refl
-and_left false b h = absurd cc
-
-pub and_right : (a b : Bool) → (a && b) ≡ true → b ≡ true
-and_right true b h = h
-and_right false b h = absurd cc
 
 -- a set of more members than a list has one that is not in the list
 pub member_outside : (n : ℕ) (p : ℕ → Bool) (left : List ℕ) → length left < count_below n p → (x : ℕ) × (x < n) × (p x ≡ true) × (is_in left x ≡ false)
@@ -174,8 +158,8 @@ member_outside n p (m ∷ left) h =
     let fewer = count_drop n m p in
     let found = member_outside n (λ x. p x && not (eqb m x)) left (omega (arith, fewer)) in
     let x = found.0 in
-    let apart : eqb m x ≡ false = not_true (eqb m x) (and_right (p x) (not (eqb m x)) found.2) in
-    (x, found.1, and_left (p x) (not (eqb m x)) found.2, rw apart found.3)
+    let apart : eqb m x ≡ false = not-true (eqb m x) (and_parts (p x) (not (eqb m x)) found.2).1 in
+    (x, found.1, (and_parts (p x) (not (eqb m x)) found.2).0, rw apart found.3)
 
 -- ---- the list of a set's members
 
@@ -230,7 +214,7 @@ distinct-members (suc n) p =
 pub members_choice : (n : ℕ) (p : ℕ → Bool) → IsChoice n (members_below n p)
 members_choice n p = record {
   distinct = distinct-members n p;
-  below = λ x h. ltb-true x n (and_left (ltb x n) (p x) (sym (is_in-members n p x) ∙ h));
+  below = λ x h. ltb-true x n (and_parts (ltb x n) (p x) (sym (is_in-members n p x) ∙ h)).0;
 }
 
 pub count-le : (n : ℕ) (p : ℕ → Bool) → count_below n p ≤ n

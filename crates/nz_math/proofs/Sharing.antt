@@ -1,8 +1,9 @@
 -- How many members two quorums share.
 use Rattle.std.proofs.Common.{◌≡◌, ℕ, ◌+◌, ◌*◌, ◌<◌, ◌≤◌, Bool, false, List, length, refl, arith}
+use Rattle.std.proofs.lemmas.Bool.{and_parts}
 use Rattle.nz_math.specs.Count.{count_below, both, everyone, all_but, is_in, IsChoice, AreTwoAmong, IsShared}
 use Rattle.nz_math.specs.Quorum.{half_up, group_size, slow_quorum, fast_quorum}
-use Rattle.nz_math.proofs.Counting.{counting, count_everyone, count_all_but, count_choice, member_outside, and_left, and_right, within_all_but}
+use Rattle.nz_math.proofs.Counting.{counting, count_everyone, count_all_but, count_choice, member_outside, within_all_but}
 
 -- what two sets have more than the third, they share
 pub at_least : (size n k : ℕ) (p q : ℕ → Bool) → AreTwoAmong size n p q → size + k ≤ count_below n p + count_below n q → k ≤ count_below n (both p q)
@@ -35,8 +36,8 @@ shared n xs ys left h =
     let found = member_outside n (both (is_in xs) (is_in ys)) left h in (
       found.0,
       record {
-        in_first = and_left (is_in xs found.0) (is_in ys found.0) found.2;
-        in_second = and_right (is_in xs found.0) (is_in ys found.0) found.2;
+        in_first = (and_parts (is_in xs found.0) (is_in ys found.0) found.2).0;
+        in_second = (and_parts (is_in xs found.0) (is_in ys found.0) found.2).1;
         apart = found.3;
       },
     )

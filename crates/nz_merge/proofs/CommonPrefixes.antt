@@ -3,14 +3,13 @@ use Rattle.std.proofs.Common.{◌≡◌, ℕ, ◌+◌, ◌<◌, ◌≤◌, Bool,
 use Rattle.std.proofs.Common.{length, refl, sym, ap, subst, ◌∙◌, inl, inr, ◌⊎◌, append_assoc, arith}
 use Rattle.std.specs.Prelude.{map}
 use Rattle.std.specs.List.{filter, flat_map, AllByRecursion}
-use Rattle.std.proofs.lemmas.Bool.{le-leb, leb-true}
+use Rattle.std.proofs.lemmas.Bool.{le-leb, leb-true, cases_Bool, and_from, and_parts}
 use Rattle.std.proofs.lemmas.List.{map-append}
 use Rattle.nz_base.specs.declared.key.Key.{Key}
 use Rattle.nz_base.specs.declared.key.Entry.{Entry}
 use Rattle.nz_base.specs.Key.{key_eq}
 use Rattle.nz_base.specs.Log.{keys_of, has_key, AreRising, HaveOwnIds}
 use Rattle.nz_base.proofs.Names.{key_eq_self}
-use Rattle.nz_base.proofs.Booleans.{cases_bool, and_both, and_left, and_right}
 use Rattle.nz_base.proofs.Logs.{has_append, has_in_prefix, has_back, prefix_below, rising_prefix, own_in_prefix}
 use Rattle.nz_merge.specs.Merged.{begins_with, IsFit, merged_synced_part, holders, all_keys, later_keys, entry_in, merged_from, count_beginning}
 use Rattle.nz_merge.specs.declared.change.Change.{Change}
@@ -36,7 +35,7 @@ both_pass p q (x ∷ xs) = by_tests (p x) (q x) x xs (filter p xs) (filter q xs)
 pub some_pass : {X : Type 0} (Q : X → Type 0) (p : X → Bool) (xs : List X) → AllByRecursion Q xs → 0 < length (filter p xs) → (x : X) × Q x × (p x ≡ true)
 some_pass Q p [] each h = absurd (omega arith)
 some_pass Q p (x ∷ xs) each h =
-    elim (cases_bool (p x)) [
+    elim (cases_Bool (p x)) [
       | inl here ↦ (x, each.0, here)
       | inr away ↦ some_pass Q p xs each.1 (rw away at h)
     ]
@@ -61,7 +60,7 @@ pub among_all : (p : Change → Bool) (changes : List Change) (k : Key)
     → has_key (flat_map (λ c. keys_of c.log) changes) k ≡ true
 among_all p [] k h some = absurd (omega arith)
 among_all p (c ∷ changes) k h some =
-    elim (cases_bool (p c)) [
+    elim (cases_Bool (p c)) [
       | inl here ↦ has_in_prefix (keys_of c.log) (flat_map (λ d. keys_of d.log) changes) k (h c here)
       | inr away ↦ has_back (keys_of c.log) (flat_map (λ d. keys_of d.log) changes) k (among_all p changes k h (rw away at some))
     ]
@@ -90,9 +89,9 @@ settled limit changes P fit positive few enough =
           let held_by = leb-true limit (length (holders changes k)) h in
           let common = both_pass begins (λ c. has_key (keys_of c.log) k) changes in
           let both = some_pass IsFit (λ c. begins c && has_key (keys_of c.log) k) changes fit (omega (arith, enough, held_by, common)) in
-          let tail = rest_of (keys_of both.0.log) P (and_left (begins both.0) (has_key (keys_of both.0.log) k) both.2) in
+          let tail = rest_of (keys_of both.0.log) P (and_parts (begins both.0) (has_key (keys_of both.0.log) k) both.2).0 in
           elim (has_append P tail.0 k (subst (λ (xs : List Key). has_key xs k ≡ true) tail.1
-          (and_right (begins both.0) (has_key (keys_of both.0.log) k) both.2))) [
+          (and_parts (begins both.0) (has_key (keys_of both.0.log) k) both.2).1)) [
             | inl inside ↦ inl inside
             | inr after ↦ inr (λ x there. prefix_below P tail.0 x k (subst AreRising tail.1 both.1.log.rising) there after)
           ];
@@ -119,7 +118,7 @@ begins_longer xs ys prefix h =
 
 begins_further : (prefix xs rest : List Key) → begins_with xs rest ≡ true → begins_with (prefix ++ xs) (prefix ++ rest) ≡ true
 begins_further [] xs rest h = h
-begins_further (f ∷ prefix) xs rest h = and_both (key_eq f f) (begins_with (prefix ++ xs) (prefix ++ rest)) (key_eq_self f) (begins_further prefix xs rest h)
+begins_further (f ∷ prefix) xs rest h = and_from (key_eq f f) (begins_with (prefix ++ xs) (prefix ++ rest)) (key_eq_self f) (begins_further prefix xs rest h)
 
 pub begins_with_prefix : (limit : ℕ) (changes : List Change) (P : List Key) → AllByRecursion IsFit changes → 0 < limit
     → length changes < limit + limit → limit ≤ count_beginning P changes

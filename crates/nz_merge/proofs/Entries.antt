@@ -3,14 +3,14 @@ use Rattle.std.proofs.Common.{◌≡◌, ℕ, zero, suc, ◌<◌, ◌≤◌, Boo
 use Rattle.std.proofs.Common.{length, leb, Option, Some, None, refl, sym, subst, inl, inr, append_assoc, arith}
 use Rattle.std.specs.Prelude.{map, take}
 use Rattle.std.specs.List.{filter, flat_map, AllByRecursion}
-use Rattle.std.proofs.lemmas.Bool.{le-leb, leb-true}
+use Rattle.std.proofs.lemmas.Bool.{le-leb, leb-true, cases_Bool, or_cases, or_left, or_right, and_from, and_parts}
 use Rattle.nz_base.specs.declared.key.Key.{Key}
 use Rattle.nz_base.specs.declared.key.Id.{Id}
 use Rattle.nz_base.specs.declared.key.Entry.{Entry}
 use Rattle.nz_base.specs.Key.{key_below, key_eq, id_eq, id_of}
 use Rattle.nz_base.specs.Log.{keys_of, has_key, has_id, AreRising, is_above_last}
 use Rattle.nz_base.proofs.Names.{same_key}
-use Rattle.nz_base.proofs.Booleans.{cases_bool, or_cases, or_left, or_right, and_both, and_left, clash}
+use Rattle.nz_base.proofs.Booleans.{true_and_false}
 use Rattle.nz_base.proofs.Logs.{has_first, has_append, has_in_prefix, has_back, above_each, above_last}
 use Rattle.nz_base.proofs.Keys.{never_self}
 use Rattle.nz_merge.specs.Merged.{IsFit, greatest, lowest, synced_entries, merged_synced_part, holders, all_keys}
@@ -26,7 +26,7 @@ use Rattle.nz_merge.proofs.Logs.{base_log, lowest_has, all_filter}
 with_id : (keys : List Key) (i : Id) → has_id keys i ≡ true → (k : Key) × (has_key keys k ≡ true) × (id_eq i (id_of k) ≡ true)
 with_id [] i h = absurd cc
 with_id (k ∷ keys) i h =
-    elim (cases_bool (id_eq i (id_of k))) [
+    elim (cases_Bool (id_eq i (id_of k))) [
       | inl here ↦ (k, has_first k keys, here)
       | inr away ↦ let found = with_id keys i (rw away at h) in (found.0, or_right (key_eq found.0 k) (has_key keys found.0) found.1, found.2)
     ]
@@ -40,11 +40,11 @@ pub takes_held : (limit : ℕ) (changes : List Change) (taken candidates : List 
 unfolding later_keys
 takes_held limit changes taken [] k r there enough below only = absurd cc
 takes_held limit changes taken (c ∷ candidates) k r there enough below only =
-    elim (cases_bool (key_eq k c)) [
+    elim (cases_Bool (key_eq k c)) [
       | inl equal ↦
           let same : k ≡ c = same_key k c equal in
           let above : is_above_last taken k ≡ true = above_last taken k below in
-          let fresh : has_id taken (id_of k) ≡ false = elim (cases_bool (has_id taken (id_of k))) [
+          let fresh : has_id taken (id_of k) ≡ false = elim (cases_Bool (has_id taken (id_of k))) [
             | inr away ↦ away
             | inl known ↦
                 let found = with_id taken (id_of k) known in
@@ -52,18 +52,18 @@ takes_held limit changes taken (c ∷ candidates) k r there enough below only =
                 never_self k (subst (λ (x : Key). key_below x k ≡ true) itself (below found.0 found.1))
           ] in
           let joins : is_taken limit changes taken k ≡ true =
-          and_both (leb limit (length (holders changes k)))
+          and_from (leb limit (length (holders changes k)))
           (is_above_last taken k && not (has_id taken (id_of k))) enough
-          (and_both (is_above_last taken k) (not (has_id taken (id_of k))) above (rw fresh refl)) in
+          (and_from (is_above_last taken k) (not (has_id taken (id_of k))) above (rw fresh refl)) in
           let joins_c : is_taken limit changes taken c ≡ true = subst (λ (x : Key). is_taken limit changes taken x ≡ true) same joins in
           rw joins_c (or_left (key_eq k c) (has_key (later_keys limit changes (taken ++ c ∷ []) candidates) k) equal)
       | inr other ↦
           let after : has_key candidates k ≡ true = elim (or_cases (key_eq k c) (has_key candidates k) there) [
-            | inl equal ↦ clash (key_eq k c) equal other
+            | inl equal ↦ true_and_false (key_eq k c) equal other
             | inr rest ↦ rest
           ] in
           let before : key_below c k ≡ true = r.0 k after in
-          elim (cases_bool (is_taken limit changes taken c)) [
+          elim (cases_Bool (is_taken limit changes taken c)) [
             | inr skipped ↦ rw skipped (takes_held limit changes taken candidates k r.1 after enough below (rw skipped at only))
             | inl joins ↦
                 let more : (x : Key) → has_key (taken ++ c ∷ []) x ≡ true → key_below x k ≡ true = λ x h. elim (has_append taken (c ∷ []) x h) [
@@ -124,7 +124,7 @@ entry_at : (Q : Entry → Type 0) (key : Key) (log : List Entry) → AllByRecurs
     → has_key (keys_of log) key ≡ true → Q (record { key = key; command = command_of_key key log })
 entry_at Q key [] each h = absurd cc
 entry_at Q key (e ∷ log) each h =
-    elim (cases_bool (key_eq key e.key)) [
+    elim (cases_Bool (key_eq key e.key)) [
       | inl same ↦ rw same (subst (λ (k : Key). Q (record { key = k; command = e.command })) (sym (same_key key e.key same)) each.0)
       | inr other ↦ rw other (entry_at Q key log each.1 (rw other at h))
     ]
@@ -137,7 +137,7 @@ pub record IsHolder (Q : Entry → Type 0) (key : Key) (c : Change) : Type 0 whe
 are_holders : (Q : Entry → Type 0) (key : Key) (changes : List Change) → EachEntry Q changes → AllByRecursion (IsHolder Q key) (holders changes key)
 are_holders Q key [] each = tt
 are_holders Q key (c ∷ changes) each =
-    elim (cases_bool (has_key (keys_of c.log) key)) [
+    elim (cases_Bool (has_key (keys_of c.log) key)) [
       | inl here ↦ rw here (record { each = each.0; holds = here }, are_holders Q key changes each.1)
       | inr away ↦ rw away (are_holders Q key changes each.1)
     ]
@@ -154,12 +154,12 @@ later_entries : (Q : Entry → Type 0) (limit : ℕ) (changes : List Change) (ta
 unfolding later_keys
 later_entries Q limit changes taken [] each positive = tt
 later_entries Q limit changes taken (k ∷ candidates) each positive =
-    elim (cases_bool (is_taken limit changes taken k)) [
+    elim (cases_Bool (is_taken limit changes taken k)) [
       | inr skipped ↦ rw skipped (later_entries Q limit changes taken candidates each positive)
       | inl joins ↦
           let enough =
           leb-true limit (length (holders changes k))
-          (and_left (leb limit (length (holders changes k))) (is_above_last taken k && not (has_id taken (id_of k))) joins) in
+          (and_parts (leb limit (length (holders changes k))) (is_above_last taken k && not (has_id taken (id_of k))) joins).0 in
           rw joins (
             by_holder Q k (holders changes k) (are_holders Q k changes each) (omega (arith, enough)),
             later_entries Q limit changes (taken ++ k ∷ []) candidates each positive,

@@ -4,12 +4,11 @@ use Rattle.std.proofs.Common.{ltb, Option, Some, None, refl, sym, ap, subst, ◌
 use Rattle.std.specs.Prelude.{map, take, drop}
 use Rattle.std.specs.List.{filter, AllByRecursion}
 use Rattle.std.proofs.lemmas.List.{map-append, append-nil, take-append-drop}
-use Rattle.std.proofs.lemmas.Bool.{not-true}
+use Rattle.std.proofs.lemmas.Bool.{not-true, cases_Bool, and_parts}
 use Rattle.nz_base.specs.declared.key.Key.{Key}
 use Rattle.nz_base.specs.declared.key.Entry.{Entry}
 use Rattle.nz_base.specs.Key.{id_of}
 use Rattle.nz_base.specs.Log.{keys_of, has_id, AreRising, HaveOwnIds, IsLog, is_above_last}
-use Rattle.nz_base.proofs.Booleans.{cases_bool, and_left, and_right}
 use Rattle.nz_base.proofs.Logs.{rising_prefix, rising_more, own_in_prefix, own_more}
 use Rattle.nz_merge.specs.Merged.{IsFit, greatest, lower, lowest, synced_entries, merged_synced_part, holders, all_keys, is_taken, later_keys, merged_from}
 use Rattle.nz_merge.specs.declared.change.Change.{Change}
@@ -21,12 +20,12 @@ pub taken_log : (limit : ℕ) (changes : List Change) (taken candidates : List K
 unfolding later_keys
 taken_log limit changes taken [] r own = (subst AreRising (sym (append-nil taken)) r, subst HaveOwnIds (sym (append-nil taken)) own)
 taken_log limit changes taken (k ∷ keys) r own =
-    elim (cases_bool (is_taken limit changes taken k)) [
+    elim (cases_Bool (is_taken limit changes taken k)) [
       | inr skipped ↦ rw skipped (taken_log limit changes taken keys r own)
       | inl joins ↦
-          let tests = and_right (leb limit (length (holders changes k))) (is_above_last taken k && not (has_id taken (id_of k))) joins in
-          let above = and_left (is_above_last taken k) (not (has_id taken (id_of k))) tests in
-          let fresh = not-true (has_id taken (id_of k)) (and_right (is_above_last taken k) (not (has_id taken (id_of k))) tests) in
+          let tests = (and_parts (leb limit (length (holders changes k))) (is_above_last taken k && not (has_id taken (id_of k))) joins).1 in
+          let above = (and_parts (is_above_last taken k) (not (has_id taken (id_of k))) tests).0 in
+          let fresh = not-true (has_id taken (id_of k)) (and_parts (is_above_last taken k) (not (has_id taken (id_of k))) tests).1 in
           let both = taken_log limit changes (taken ++ k ∷ []) keys (rising_more taken k r above) (own_more taken k own fresh) in
           let regroup : (taken ++ k ∷ []) ++ later_keys limit changes (taken ++ k ∷ []) keys
           ≡ taken ++ k ∷ later_keys limit changes (taken ++ k ∷ []) keys =

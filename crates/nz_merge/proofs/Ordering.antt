@@ -1,11 +1,12 @@
 -- Keys put in order rise, and are the keys that were put.
 use Rattle.std.proofs.Common.{◌≡◌, true, false, List, [], ◌∷◌, ◌++◌, refl, sym, subst, inl, inr, ◌⊎◌}
+use Rattle.std.proofs.lemmas.Bool.{cases_Bool, or_cases, or_left}
 use Rattle.nz_base.specs.declared.key.Key.{Key}
 use Rattle.nz_base.specs.Key.{key_below, key_eq}
 use Rattle.nz_base.specs.Log.{has_key, AreRising}
 use Rattle.nz_base.proofs.Keys.{key_below-trans, key_below-total}
 use Rattle.nz_base.proofs.Names.{key_eq_self, same_key}
-use Rattle.nz_base.proofs.Booleans.{cases_bool, or_cases, or_left, clash}
+use Rattle.nz_base.proofs.Booleans.{true_and_false}
 use Rattle.nz_base.proofs.Logs.{has_first, has_later}
 use Rattle.nz_merge.specs.Merged.{put_in_order, put_all_in_order, sorted_keys}
 
@@ -16,16 +17,16 @@ put_cases : (P : List Key → Type 0) (key k : Key) (keys : List Key)
     → (key_below k key ≡ true → P (k ∷ put_in_order key keys))
     → P (put_in_order key (k ∷ keys))
 put_cases P key k keys below same above =
-    elim (cases_bool (key_below key k)) [
+    elim (cases_Bool (key_below key k)) [
       | inl lower ↦ rw lower (below lower)
       | inr not_lower ↦
-          elim (cases_bool (key_eq key k)) [
+          elim (cases_Bool (key_eq key k)) [
             | inl equal ↦ rw (not_lower, equal) (same (same_key key k equal))
             | inr other ↦
-                let higher : key_below k key ≡ true = elim (cases_bool (key_below k key)) [
+                let higher : key_below k key ≡ true = elim (cases_Bool (key_below k key)) [
                   | inl yes_higher ↦ yes_higher
                   | inr not_higher ↦
-                      clash (key_eq key k) (subst (λ (x : Key). key_eq key x ≡ true)
+                      true_and_false (key_eq key k) (subst (λ (x : Key). key_eq key x ≡ true)
                       (key_below-total key k not_lower not_higher) (key_eq_self key)) other
                 ] in
                 rw (not_lower, other) (above higher)

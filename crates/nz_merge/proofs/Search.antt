@@ -7,7 +7,7 @@ use Rattle.std.specs.Ordering.{is_lt, ordering_index}
 use Rattle.std.specs.declared.cmp.Ordering.{Ordering}
 use Rattle.std.specs.declared.cmp.Ordering.TheVariants.{Less, Equal, Greater}
 use Rattle.std.specs.List.Sorted.{IsBinarySearchResult, IsSearchInRange, IsNonDecreasingBy}
-use Rattle.std.proofs.lemmas.Bool.{cases_lt, cases_eq}
+use Rattle.std.proofs.lemmas.Bool.{cases_lt, cases_eq, cases_Bool, or_left, or_right}
 use Rattle.std.proofs.lemmas.Bool.Decides.{nat_tests}
 use Rattle.nz_base.specs.declared.key.Key.{Key}
 use Rattle.nz_base.specs.declared.key.Entry.{Entry}
@@ -15,7 +15,7 @@ use Rattle.nz_base.specs.Key.{key_cmp, key_below, key_eq}
 use Rattle.nz_base.specs.Log.{keys_of, has_key, AreRising}
 use Rattle.nz_base.proofs.Keys.{key_below-self, key_below-trans}
 use Rattle.nz_base.proofs.Names.{key_eq_self, same_key}
-use Rattle.nz_base.proofs.Booleans.{cases_bool, or_left, or_right, clash}
+use Rattle.nz_base.proofs.Booleans.{true_and_false}
 use Rattle.nz_base.proofs.Logs.{has_first}
 use Rattle.nz_merge.specs.Merged.{command_of_key}
 
@@ -49,7 +49,7 @@ rising_at (e ∷ log) (suc i) (suc j) d r lt h = rising_at log i j d r.1 (omega 
 pub place_has : (log : List Entry) (key : Key) (d : Entry) → has_key (keys_of log) key ≡ true → (i : ℕ) × (i < length log) × ((get_or log i d).key ≡ key)
 place_has [] key d h = absurd cc
 place_has (e ∷ log) key d h =
-    elim (cases_bool (key_eq key e.key)) [
+    elim (cases_Bool (key_eq key e.key)) [
       | inl same ↦ (0, omega arith, sym (same_key key e.key same))
       | inr other ↦ let found = place_has log key d (rw other at h) in (suc found.0, omega (arith, found.1), found.2)
     ]
@@ -90,7 +90,7 @@ search_found log key (Ok i) range h = (range, at_place log i range h)
 pub search_none : (log : List Entry) (key : Key) (r : Result ℕ ℕ) → IsBinarySearchResult (λ e. key_cmp e.key key) log r
     → IfNone (result_ok r) (AreRising (keys_of log) → has_key (keys_of log) key ≡ false)
 search_none log key (Ok i) h = tt
-search_none log key (Err i) h = λ rising. elim (cases_bool (has_key (keys_of log) key)) [
+search_none log key (Err i) h = λ rising. elim (cases_Bool (has_key (keys_of log) key)) [
   | inr away ↦ away
   | inl there ↦
       let d : Entry = record { key = key; command = [] } in
@@ -120,8 +120,8 @@ search_tells log key (Err i) range h rising = let none = search_none log key (Er
 pub command_none : (log : List Entry) (key : Key) → has_key (keys_of log) key ≡ false → command_of_key key log ≡ []
 command_none [] key h = refl
 command_none (e ∷ log) key h =
-    elim (cases_bool (key_eq key e.key)) [
-      | inl same ↦ clash (has_key (keys_of (e ∷ log)) key) (or_left (key_eq key e.key) (has_key (keys_of log) key) same) h
+    elim (cases_Bool (key_eq key e.key)) [
+      | inl same ↦ true_and_false (has_key (keys_of (e ∷ log)) key) (or_left (key_eq key e.key) (has_key (keys_of log) key) same) h
       | inr other ↦ rw other (command_none log key (rw other at h))
     ]
 
@@ -134,10 +134,10 @@ command_found (e ∷ log) zero key d r lt h =
     rw equal refl
 command_found (e ∷ log) (suc p) key d r lt h =
     let there = has_slice log p key h in
-    let other : key_eq key e.key ≡ false = elim (cases_bool (key_eq key e.key)) [
+    let other : key_eq key e.key ≡ false = elim (cases_Bool (key_eq key e.key)) [
       | inr away ↦ away
       | inl equal ↦
           let below : key_below e.key e.key ≡ true = r.0 e.key (subst (λ (k : Key). has_key (keys_of log) k ≡ true) (same_key key e.key equal) there) in
-          clash (key_below e.key e.key) below (key_below-self e.key)
+          true_and_false (key_below e.key e.key) below (key_below-self e.key)
     ] in
     rw other (command_found log p key d r.1 (omega arith) h)

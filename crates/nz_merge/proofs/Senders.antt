@@ -2,9 +2,8 @@
 use Rattle.std.proofs.Common.{◌≡◌, ℕ, zero, suc, ◌+◌, ◌<◌, ◌≤◌, Bool, true, false, ◌&&◌, ◌||◌, cond}
 use Rattle.std.proofs.Common.{eqb, List, [], ◌∷◌, length, refl, sym, ap, ◌∙◌, arith, inl, inr}
 use Rattle.std.specs.List.{filter, Contains}
-use Rattle.std.proofs.lemmas.Bool.{cases_eq, eq-eqb, ne_eqb}
+use Rattle.std.proofs.lemmas.Bool.{cases_eq, eq-eqb, ne_eqb, cases_Bool, or_right}
 use Rattle.std.proofs.lemmas.List.{length-map}
-use Rattle.nz_base.proofs.Booleans.{cases_bool, or_right}
 use Rattle.nz_math.specs.Count.{count_below, both, everyone, is_in, IsChoice}
 use Rattle.nz_math.specs.Quorum.{group_size, slow_quorum, fast_quorum, half_up}
 use Rattle.nz_math.proofs.Counting.{counting, count_same, count_everyone, count_add, count_none, count_choice}
@@ -34,7 +33,7 @@ pub pass_twice : {X : Type 0} (p a b : X → Bool) (xs : List X) → ((x : X) �
 pass_twice p a b [] h = omega arith
 pass_twice p a b (x ∷ xs) h =
     let rest = pass_twice p a b xs (λ y there. h y (contains_later x xs y there)) in
-    elim (cases_bool (p x)) [
+    elim (cases_Bool (p x)) [
       | inl here ↦ let two = h x (contains_first x xs) here in rw (here, two.0, two.1) (omega (arith, rest))
       | inr away ↦ rw away (skip_twice a (b x) x (filter b xs) (length (filter p xs)) rest)
     ]
@@ -81,7 +80,7 @@ count_senders n test (c ∷ changes) h =
     let rest = count_senders n test changes (record { distinct = h.distinct.1; below = below }) in
     let own : eqb c.sender c.sender ≡ true = eq-eqb c.sender c.sender refl in
     let low : c.sender < n = h.below c.sender (rw own refl) in
-    elim (cases_bool (test c.sender)) [
+    elim (cases_Bool (test c.sender)) [
       | inl here ↦
           let same = count_same n (both (is_in (senders (c ∷ changes))) test) (λ x. eqb c.sender x || later x)
           (λ x lt. pass_first test c.sender x (is_in (senders changes) x) here) in

@@ -1,13 +1,12 @@
 -- One turn of going through the keys.
 use Rattle.std.proofs.Common.{◌≡◌, ℕ, ◌≤◌, ◌<◌, Bool, true, false, ◌&&◌, not, List, [], ◌∷◌, ◌++◌, length, leb, refl, sym, ap, subst, ◌∙◌, append_assoc}
 use Rattle.std.specs.Prelude.{map}
-use Rattle.std.proofs.lemmas.Bool.{le-leb, lt-leb}
+use Rattle.std.proofs.lemmas.Bool.{le-leb, lt-leb, and_from}
 use Rattle.std.proofs.lemmas.List.{map-append, append-nil}
 use Rattle.nz_base.specs.declared.key.Key.{Key}
 use Rattle.nz_base.specs.declared.key.Entry.{Entry}
 use Rattle.nz_base.specs.Key.{id_of}
 use Rattle.nz_base.specs.Log.{keys_of, has_id, is_above_last}
-use Rattle.nz_base.proofs.Booleans.{and_both}
 use Rattle.nz_merge.specs.Merged.{holders, is_taken, later_keys, entry_in, merged_synced_part, all_keys}
 use Rattle.nz_merge.specs.Merged.{merged_from, merged, threshold, greatest, of_view, changes_kept}
 use Rattle.nz_merge.specs.declared.change.Change.{Change}
@@ -22,7 +21,7 @@ pub take_turn : (limit : ℕ) (changes : List Change) (log : List Entry) (key : 
 unfolding later_keys
 take_turn limit changes log key keys total enough follows h =
     let joins : is_taken limit changes (keys_of log) key ≡ true =
-    and_both (leb limit (length (holders changes key)))
+    and_from (leb limit (length (holders changes key)))
     (is_above_last (keys_of log) key && not (has_id (keys_of log) (id_of key))) (le-leb limit (length (holders changes key)) enough) follows in
     let added : keys_of (log ++ entry_in changes key ∷ []) ≡ keys_of log ++ key ∷ [] = map-append (λ (e : Entry). e.key) log (entry_in changes key ∷ []) in
     let rest = map (entry_in changes) (later_keys limit changes (keys_of log ++ key ∷ []) keys) in

@@ -1,11 +1,12 @@
 -- Going through the keys in turn takes a prefix that enough logs have.
 use Rattle.std.proofs.Common.{◌≡◌, ℕ, true, false, ◌&&◌, not, List, [], ◌∷◌, ◌++◌, length, leb, refl, sym, ap, subst, ◌∙◌, inl, inr, ◌⊎◌, append_assoc}
+use Rattle.std.proofs.lemmas.Bool.{cases_Bool, or_cases, and_parts, and_from}
 use Rattle.nz_base.specs.declared.key.Key.{Key}
 use Rattle.nz_base.specs.Key.{key_below, key_eq, id_of}
 use Rattle.nz_base.specs.Log.{has_key, has_id, AreRising, HaveOwnIds, is_above_last}
 use Rattle.nz_base.proofs.Keys.{key_below-trans, never_both, never_self}
 use Rattle.nz_base.proofs.Names.{same_key}
-use Rattle.nz_base.proofs.Booleans.{cases_bool, or_cases, and_left, and_right, and_both, clash}
+use Rattle.nz_base.proofs.Booleans.{true_and_false}
 use Rattle.nz_base.proofs.Logs.{has_first, has_later, has_append, has_back, prefix_below, rising_back, rising_prefix, above_each, above_last, own_id}
 use Rattle.nz_merge.specs.Merged.{begins_with, holders, is_taken, later_keys}
 use Rattle.nz_merge.specs.declared.change.Change.{Change}
@@ -28,8 +29,8 @@ takes_next limit changes P taken r rest s parts =
     let here : has_key P r ≡ true = subst (λ (xs : List Key). has_key xs r ≡ true) (sym parts) (has_back taken (r ∷ rest) r (has_first r rest)) in
     let above : is_above_last taken r ≡ true = above_last taken r (λ x h. prefix_below taken (r ∷ rest) x r rising h (has_first r rest)) in
     let fresh : has_id taken (id_of r) ≡ false = own_id taken r rest own in
-    and_both (leb limit (length (holders changes r))) (is_above_last taken r && not (has_id taken (id_of r))) (s.held r here)
-    (and_both (is_above_last taken r) (not (has_id taken (id_of r))) above (rw fresh refl))
+    and_from (leb limit (length (holders changes r))) (is_above_last taken r && not (has_id taken (id_of r))) (s.held r here)
+    (and_from (is_above_last taken r) (not (has_id taken (id_of r))) above (rw fresh refl))
 
 -- a key before the next one of P is not taken
 skips_other : (limit : ℕ) (changes : List Change) (P taken : List Key) (r : Key) (rest : List Key) (k : Key)
@@ -37,13 +38,13 @@ skips_other : (limit : ℕ) (changes : List Change) (P taken : List Key) (r : Ke
 skips_other limit changes P taken r rest k s parts before =
     let rising : AreRising (taken ++ r ∷ rest) = subst AreRising parts s.rising in
     let after : AreRising (r ∷ rest) = rising_back taken (r ∷ rest) rising in
-    elim (cases_bool (is_taken limit changes taken k)) [
+    elim (cases_Bool (is_taken limit changes taken k)) [
       | inr away ↦ away
       | inl joins ↦
-          let enough = and_left (leb limit (length (holders changes k))) (is_above_last taken k && not (has_id taken (id_of k))) joins in
+          let enough = (and_parts (leb limit (length (holders changes k))) (is_above_last taken k && not (has_id taken (id_of k))) joins).0 in
           let above =
-          and_left (is_above_last taken k) (not (has_id taken (id_of k)))
-          (and_right (leb limit (length (holders changes k))) (is_above_last taken k && not (has_id taken (id_of k))) joins) in
+          (and_parts (is_above_last taken k) (not (has_id taken (id_of k)))
+          (and_parts (leb limit (length (holders changes k))) (is_above_last taken k && not (has_id taken (id_of k))) joins).1).0 in
           elim (s.closed k enough) [
             | inr all ↦
                 never_both k r before (all r (subst (λ (xs : List Key). has_key xs r ≡ true) (sym parts)
@@ -82,7 +83,7 @@ walk limit changes P taken (r ∷ rest) [] s parts rising among = absurd (let h 
 walk limit changes P taken (r ∷ rest) (k ∷ keys) s parts rising among =
     let whole : AreRising (taken ++ r ∷ rest) = subst AreRising parts s.rising in
     let after : AreRising (r ∷ rest) = rising_back taken (r ∷ rest) whole in
-    elim (cases_bool (key_eq r k)) [
+    elim (cases_Bool (key_eq r k)) [
       | inl equal ↦
           let same : r ≡ k = same_key r k equal in
           let joins : is_taken limit changes taken k ≡ true =
@@ -92,11 +93,11 @@ walk limit changes P taken (r ∷ rest) (k ∷ keys) s parts rising among =
             | inl first ↦ never_self r (subst (λ (y : Key). key_below r y ≡ true) (same_key x k first ∙ sym same) (after.0 x h))
             | inr there ↦ there
           ] in
-          rw joins (and_both (key_eq r k) (begins_with (later_keys limit changes (taken ++ k ∷ []) keys) rest) equal
+          rw joins (and_from (key_eq r k) (begins_with (later_keys limit changes (taken ++ k ∷ []) keys) rest) equal
           (walk limit changes P (taken ++ k ∷ []) rest keys s next rising.1 among_next))
       | inr other ↦
           let there : has_key keys r ≡ true = elim (or_cases (key_eq r k) (has_key keys r) (among r (has_first r rest))) [
-            | inl equal ↦ clash (key_eq r k) equal other
+            | inl equal ↦ true_and_false (key_eq r k) equal other
             | inr there ↦ there
           ] in
           let before : key_below k r ≡ true = rising.0 r there in

@@ -1,5 +1,6 @@
 -- Whether an entry may follow others, told by the last of them and by the ids of all.
 use Rattle.std.proofs.Common.{◌≡◌, Bool, true, false, not, ◌&&◌, ◌||◌, List, [], ◌∷◌, ◌++◌, map, refl, sym, ap, subst, ◌∙◌, inl, inr}
+use Rattle.std.proofs.lemmas.Bool.{cases_Bool, or_parts, and_parts}
 use Rattle.std.specs.Prelude.{if◌then◌else◌}
 use Rattle.std.specs.List.{list_any}
 use Rattle.std.proofs.lemmas.List.{map-append}
@@ -9,7 +10,7 @@ use Rattle.nz_base.specs.declared.key.Key.{Key}
 use Rattle.nz_base.specs.declared.key.Entry.{Entry}
 use Rattle.nz_base.specs.Key.{key_below, id_eq, id_of}
 use Rattle.nz_base.specs.Log.{keys_of, has_key, has_id, AreRising, is_above_last}
-use Rattle.nz_base.proofs.Booleans.{cases_bool, neither_left, neither_right, and_left, and_right, clash}
+use Rattle.nz_base.proofs.Booleans.{true_and_false}
 use Rattle.nz_base.proofs.Names.{id_turn_away}
 use Rattle.nz_base.proofs.Logs.{has_first, has_later, above_each, rising_more, keys_append}
 use Rattle.nz_msg.specs.Fields.{may_follow}
@@ -23,24 +24,24 @@ not_true true h = absurd cc
 not_true false h = refl
 
 false_from : (b c : Bool) → (b ≡ true → c ≡ true) → c ≡ false → b ≡ false
-false_from true c h k = clash c (h refl) k
+false_from true c h k = true_and_false c (h refl) k
 false_from false c h k = refl
 
 -- what follows entries is above the last of them
 pub follows_above : (before : List Entry) (k : Key) → follows before k ≡ true → is_above_last (keys_of before) k ≡ true
 follows_above [] k h = refl
-follows_above (a ∷ []) k h = and_left _ _ (and_left _ _ h)
-follows_above (a ∷ b ∷ before) k h = follows_above (b ∷ before) k (and_right _ _ h)
+follows_above (a ∷ []) k h = (and_parts _ _ (and_parts _ _ h).0).0
+follows_above (a ∷ b ∷ before) k h = follows_above (b ∷ before) k (and_parts _ _ h).1
 
 -- and its id is none of theirs
 pub follows_fresh : (before : List Entry) (k : Key) → follows before k ≡ true → has_id (keys_of before) (id_of k) ≡ false
 follows_fresh [] k h = refl
 follows_fresh (a ∷ before) k h =
-    let own = and_left (key_below a.key k && not (id_eq (id_of a.key) (id_of k))) (follows before k) h in
+    let own = (and_parts (key_below a.key k && not (id_eq (id_of a.key) (id_of k))) (follows before k) h).0 in
     let away =
     id_turn_away (id_of a.key) (id_of k)
-    (not_true (id_eq (id_of a.key) (id_of k)) (and_right (key_below a.key k) (not (id_eq (id_of a.key) (id_of k))) own)) in
-    rw away (follows_fresh before k (and_right (key_below a.key k && not (id_eq (id_of a.key) (id_of k))) (follows before k) h))
+    (not_true (id_eq (id_of a.key) (id_of k)) (and_parts (key_below a.key k) (not (id_eq (id_of a.key) (id_of k))) own).1) in
+    rw away (follows_fresh before k (and_parts (key_below a.key k && not (id_eq (id_of a.key) (id_of k))) (follows before k) h).1)
 
 follows_all : (before : List Entry) (k : Key) → ((x : Key) → has_key (keys_of before) x ≡ true → key_below x k ≡ true)
     → has_id (keys_of before) (id_of k) ≡ false → follows before k ≡ true
@@ -48,25 +49,25 @@ follows_all [] k below fresh = refl
 follows_all (a ∷ before) k below fresh =
     let first : key_below a.key k ≡ true = below a.key (has_first a.key (keys_of before)) in
     let other : id_eq (id_of a.key) (id_of k) ≡ false =
-    id_turn_away (id_of k) (id_of a.key) (neither_left (id_eq (id_of k) (id_of a.key)) (has_id (keys_of before) (id_of k)) fresh) in
+    id_turn_away (id_of k) (id_of a.key) (or_parts (id_eq (id_of k) (id_of a.key)) (has_id (keys_of before) (id_of k)) fresh).0 in
     rw (first, other) (follows_all before k (λ x h. below x (has_later a.key (keys_of before) x h))
-    (neither_right (id_eq (id_of k) (id_of a.key)) (has_id (keys_of before) (id_of k)) fresh))
+    (or_parts (id_eq (id_of k) (id_of a.key)) (has_id (keys_of before) (id_of k)) fresh).1)
 
 -- the last of rising keys tells for all of them
 pub follows_last : (before : List Entry) (k : Key) → AreRising (keys_of before)
     → follows before k ≡ (is_above_last (keys_of before) k && not (has_id (keys_of before) (id_of k)))
 follows_last before k rising =
-    elim (cases_bool (is_above_last (keys_of before) k)) [
+    elim (cases_Bool (is_above_last (keys_of before) k)) [
       | inr under ↦ rw under (false_from (follows before k) (is_above_last (keys_of before) k) (follows_above before k) under)
-      | inl above ↦ elim (cases_bool (has_id (keys_of before) (id_of k))) [
+      | inl above ↦ elim (cases_Bool (has_id (keys_of before) (id_of k))) [
         | inr fresh ↦ rw (above, fresh) (follows_all before k (λ x h. above_each (keys_of before) k x rising above h) fresh)
         | inl there ↦ rw (above, there) (repeats there)
       ]
     ]
   where
     repeats : has_id (keys_of before) (id_of k) ≡ true → follows before k ≡ false
-    repeats there = elim (cases_bool (follows before k)) [
-      | inl next ↦ clash (has_id (keys_of before) (id_of k)) there (follows_fresh before k next)
+    repeats there = elim (cases_Bool (follows before k)) [
+      | inl next ↦ true_and_false (has_id (keys_of before) (id_of k)) there (follows_fresh before k next)
       | inr stays ↦ stays
     ]
 

@@ -1,8 +1,8 @@
 -- What is kept stays of the cluster, with answers that frames can carry.
 use Rattle.std.proofs.Common.{◌≡◌, ℕ, List, [], ◌∷◌, ◌++◌, Option, Some, None, refl, sym, subst, inl, inr}
+use Rattle.std.proofs.lemmas.Bool.{cases_Bool}
 use Rattle.std.specs.Prelude.{IfSome}
 use Rattle.std.specs.List.{AllByRecursion, list_any}
-use Rattle.nz_base.proofs.Booleans.{cases_bool}
 use Rattle.nz_store.specs.declared.command.Answer.{Answer}
 use Rattle.nz_msg.specs.declared.message.Path.{Path}
 use Rattle.nz_msg.specs.Fields.{answer}
@@ -22,7 +22,7 @@ each_more (r ∷ replies) reply all fit = (all.0, each_more replies reply all.1 
 pub fit_note : (replies : List Reply) (reply : Reply) → AllByRecursion HasFitAnswer replies → HasFitAnswer reply
     → AllByRecursion HasFitAnswer (with_note replies reply)
 fit_note replies reply all fit =
-    elim (cases_bool (list_any (reply_eq reply) replies)) [
+    elim (cases_Bool (list_any (reply_eq reply) replies)) [
       | inl there ↦ rw there all
       | inr new ↦ rw new (each_more replies reply all fit)
     ]

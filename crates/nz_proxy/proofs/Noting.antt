@@ -1,12 +1,12 @@
 -- Noting a reply where it is kept is what the machine's rule does with it.
 use Rattle.std.proofs.Common.{◌≡◌, ℕ, List, [], ◌∷◌, Option, Some, None, Result, Ok, Err, refl, sym, ap, ◌∙◌, inl, inr}
+use Rattle.std.proofs.lemmas.Bool.{cases_Bool}
 use Rattle.std.specs.Prelude.{IfOk, OnOk, is_some}
 use Rattle.std.specs.Map.{lookup, set_value}
 use Rattle.std.specs.Option.{option_map}
 use Rattle.indexmap.specs.IndexMap.{insert_entry}
 use Rattle.nz_base.specs.declared.key.Id.{Id}
 use Rattle.nz_base.specs.Key.{id_eq}
-use Rattle.nz_base.proofs.Booleans.{cases_bool}
 use Rattle.nz_store.specs.declared.command.Answer.{Answer}
 use Rattle.nz_msg.specs.declared.message.Path.{Path}
 use Rattle.nz_machine.specs.declared.reply.Reply.{Reply}
@@ -37,7 +37,7 @@ ok_always (Err e) P f = tt
 insert_same : (es : List (Id × StandingModel)) (id : Id) (s : StandingModel) → lookup (id_eq id) es ≡ Some s → insert_entry id_eq es id s ≡ es
 insert_same [] id s h = absurd cc
 insert_same (e ∷ es) id s h =
-    elim (cases_bool (id_eq id e.0)) [
+    elim (cases_Bool (id_eq id e.0)) [
       | inl here ↦
           let found : Some e.1 ≡ Some s = rw here at h in
           let same : e.1 ≡ s = cc in

@@ -1,8 +1,8 @@
 -- What a proxy passes over changes nothing.
 use Rattle.std.proofs.Common.{◌≡◌, ◌⊎◌, ℕ, Bool, true, false, ◌&&◌, List, [], ◌++◌, Option, Some, map, refl, sym, ap, ◌∙◌, inl, inr}
+use Rattle.std.proofs.lemmas.Bool.{cases_Bool}
 use Rattle.std.proofs.lemmas.List.{append-nil}
 use Rattle.nz_base.specs.declared.actor.Actor.TheVariants.{Proxy}
-use Rattle.nz_base.proofs.Booleans.{cases_bool}
 use Rattle.nz_msg.specs.declared.envelope.Envelope.{Envelope}
 use Rattle.nz_machine.specs.declared.event.Parcel.{Parcel}
 use Rattle.nz_machine.specs.State.{ProxyData, Out}
@@ -21,7 +21,7 @@ pub passed_over : (f me : ℕ) (s : ProxyData) (o : Option Envelope) (e : Envelo
 passed_over f me s o e is (inr stray) = ap (λ x. envelope_step (group_with_cluster f) (Proxy me) s (if_from_cluster f x)) is ∙ (rw stray refl)
 passed_over f me s o e is (inl down) =
     ap (λ x. envelope_step (group_with_cluster f) (Proxy me) s (if_from_cluster f x)) is
-    ∙ elim (cases_bool (counts f e)) [
+    ∙ elim (cases_Bool (counts f e)) [
       | inl here ↦ rw (here, down) refl
       | inr stray ↦ rw stray refl
     ]

@@ -1,5 +1,6 @@
 -- What the code keeps, against what the machine says is known.
 use Rattle.std.proofs.Common.{◌≡◌, ℕ, ◌≤◌, List, [], ◌∷◌, Option, Some, None, refl, sym, ap, subst, inl, inr, Bor}
+use Rattle.std.proofs.lemmas.Bool.{cases_Bool}
 use Rattle.std.specs.Prelude.{IfSome, IsSome}
 use Rattle.std.specs.List.{AllByRecursion}
 use Rattle.std.specs.Map.{lookup, set_value}
@@ -7,7 +8,6 @@ use Rattle.std.specs.Option.{option_map, option_copied}
 use Rattle.indexmap.specs.IndexMap.{insert_entry}
 use Rattle.nz_base.specs.declared.key.Id.{Id}
 use Rattle.nz_base.specs.Key.{id_eq}
-use Rattle.nz_base.proofs.Booleans.{cases_bool}
 use Rattle.nz_base.proofs.Names.{same_id}
 use Rattle.nz_machine.specs.State.{Standing as StandingModel}
 use Rattle.nz_proxy.specs.declared.standing.Standing.{Standing}
@@ -16,7 +16,7 @@ use Rattle.nz_proxy.specs.Standings.{known_standing, known_standings, IsFitStand
 pub known_lookup : (id : Id) (es : List (Id × Standing)) → option_map known_standing (lookup (id_eq id) es) ≡ lookup (id_eq id) (known_standings es)
 known_lookup id [] = refl
 known_lookup id (e ∷ es) =
-    elim (cases_bool (id_eq id e.0)) [
+    elim (cases_Bool (id_eq id e.0)) [
       | inl here ↦ rw here refl
       | inr away ↦ rw away (known_lookup id es)
     ]
@@ -25,7 +25,7 @@ pub known_insert : (es : List (Id × Standing)) (id : Id) (s : Standing)
     → known_standings (insert_entry id_eq es id s) ≡ insert_entry id_eq (known_standings es) id (known_standing s)
 known_insert [] id s = refl
 known_insert (e ∷ es) id s =
-    elim (cases_bool (id_eq id e.0)) [
+    elim (cases_Bool (id_eq id e.0)) [
       | inl here ↦ rw here refl
       | inr away ↦ rw away (ap (λ (rest : List (Id × StandingModel)). (e.0, known_standing e.1) ∷ rest) (known_insert es id s))
     ]
@@ -35,7 +35,7 @@ pub set_is_insert : (es : List (Id × Standing)) (id : Id) (s : Standing) → Is
     → set_value (id_eq id) es s ≡ insert_entry id_eq es id s
 set_is_insert [] id s there = absurd cc
 set_is_insert (e ∷ es) id s there =
-    elim (cases_bool (id_eq id e.0)) [
+    elim (cases_Bool (id_eq id e.0)) [
       | inl here ↦ rw here refl
       | inr away ↦ rw away (ap (λ (rest : List (Id × Standing)). e ∷ rest) (set_is_insert es id s (rw away at there)))
     ]
@@ -44,7 +44,7 @@ pub fit_insert : (f : ℕ) (es : List (Id × Standing)) (id : Id) (s : Standing)
     → AllByRecursion (IsFitEntry f) es → AllByRecursion (IsFitEntry f) (insert_entry id_eq es id s)
 fit_insert f [] id s client fit all = (record { client = client; standing = fit }, tt)
 fit_insert f (e ∷ es) id s client fit all =
-    elim (cases_bool (id_eq id e.0)) [
+    elim (cases_Bool (id_eq id e.0)) [
       | inl here ↦ rw here (record { client = all.0.client; standing = fit }, all.1)
       | inr away ↦ rw away (all.0, fit_insert f es id s client fit all.1)
     ]
@@ -57,7 +57,7 @@ pub record IsFound (f : ℕ) (id : Id) (s : Standing) : Type 0 where
 pub fit_lookup : (f : ℕ) (id : Id) (es : List (Id × Standing)) → AllByRecursion (IsFitEntry f) es → IfSome (lookup (id_eq id) es) (IsFound f id)
 fit_lookup f id [] all = tt
 fit_lookup f id (e ∷ es) all =
-    elim (cases_bool (id_eq id e.0)) [
+    elim (cases_Bool (id_eq id e.0)) [
       | inl here ↦ rw here (record { client = subst (λ (i : Id). i.client ≤ 63) (sym (same_id id e.0 here)) all.0.client; standing = all.0.standing })
       | inr away ↦ rw away (fit_lookup f id es all.1)
     ]
@@ -77,7 +77,7 @@ pub fit_set : (f : ℕ) (es : List (Id × Standing)) (id : Id) (s : Standing) �
     → AllByRecursion (IsFitEntry f) es → AllByRecursion (IsFitEntry f) (set_value (id_eq id) es s)
 fit_set f [] id s fit all = tt
 fit_set f (e ∷ es) id s fit all =
-    elim (cases_bool (id_eq id e.0)) [
+    elim (cases_Bool (id_eq id e.0)) [
       | inl here ↦ rw here (record { client = all.0.client; standing = fit }, all.1)
       | inr away ↦ rw away (all.0, fit_set f es id s fit all.1)
     ]

@@ -1,8 +1,8 @@
 -- What is chosen of the replies, by cases, and what the choice has.
 use Rattle.std.proofs.Common.{◌≡◌, ℕ, ◌<◌, ◌≤◌, ◌⊎◌, Bool, true, ltb, List, [], ◌∷◌, ◌++◌, Option, Some, None, refl, sym, ap, subst, ◌∙◌, arith, inl, inr}
 use Rattle.std.specs.List.{filter}
-use Rattle.std.proofs.lemmas.Bool.{ltb-true, ltb-false}
-use Rattle.nz_base.proofs.Booleans.{cases_bool, clash}
+use Rattle.std.proofs.lemmas.Bool.{ltb-true, ltb-false, cases_Bool}
+use Rattle.nz_base.proofs.Booleans.{true_and_false}
 use Rattle.nz_msg.specs.declared.message.Path.{Path}
 use Rattle.nz_msg.specs.declared.message.Path.TheVariants.{Fast, Slow}
 use Rattle.nz_machine.specs.declared.reply.Reply.{Reply}
@@ -25,12 +25,12 @@ record IsFirst (p : Reply → Bool) (xs : List Reply) (x : Reply) : Type 0 where
 none_passes : (p : Reply → Bool) (xs : List Reply) (y : Reply) → first_of_least_view (filter p xs) ≡ None → Has xs y → p y ≡ true → ⊥
 none_passes p [] y none has passes = has
 none_passes p (x ∷ xs) y none has passes =
-    elim (cases_bool (p x)) [
+    elim (cases_Bool (p x)) [
       | inl here ↦ (let e : Some (of_lesser_view x (first_of_least_view (filter p xs))) ≡ None = rw here at none in absurd cc)
       | inr away ↦
           let rest : first_of_least_view (filter p xs) ≡ None = rw away at none in
           elim has [
-            | inl same ↦ clash (p y) passes (ap p (sym same) ∙ away)
+            | inl same ↦ true_and_false (p y) passes (ap p (sym same) ∙ away)
             | inr later ↦ none_passes p xs y rest later passes
           ]
     ]
@@ -75,7 +75,7 @@ first_of_two p x xs y None passes is e ih =
     subst (IsFirst p (x ∷ xs)) same (before_others p x xs passes (λ z has there. absurd (none_passes p xs z is has there)))
 first_of_two p x xs y (Some d) passes is e ih =
     let found = ih d is in
-    elim (cases_bool (ltb (view_of d) (view_of x))) [
+    elim (cases_Bool (ltb (view_of d) (view_of x))) [
       | inl lesser ↦
           let chosen : Some d ≡ Some y = rw lesser at e in
           let same : d ≡ y = cc in
@@ -91,9 +91,9 @@ first_is : (p : Reply → Bool) (xs : List Reply) (y : Reply) → first_of_least
 first_is p [] y e = absurd cc
 first_is p (x ∷ xs) y e =
     let ih = first_is p xs in
-    elim (cases_bool (p x)) [
+    elim (cases_Bool (p x)) [
       | inl here ↦ first_of_two p x xs y (first_of_least_view (filter p xs)) here refl (rw here at e) ih
-      | inr away ↦ after_one p x xs y (λ here. clash (p x) here away) (ih y (rw away at e))
+      | inr away ↦ after_one p x xs y (λ here. true_and_false (p x) here away) (ih y (rw away at e))
     ]
 
 some_first : (p : Reply → Bool) (xs : List Reply) (y : Reply) (o : Option Reply)

@@ -2,9 +2,8 @@
 use Rattle.std.proofs.Common.{◌≡◌, ℕ, suc, ◌+◌, ◌<◌, Bool, true, false, ◌&&◌, ◌||◌, eqb, nat_le, List, [], ◌∷◌, length}
 use Rattle.std.proofs.Common.{get_or, drop, refl, sym, ap, ◌∙◌, arith, add-one, drop-cons, inl, inr, Option}
 use Rattle.std.specs.List.{list_any, AllByRecursion}
-use Rattle.std.proofs.lemmas.Bool.{cases_eq, eq-eqb, ne_eqb, eqb-true}
+use Rattle.std.proofs.lemmas.Bool.{cases_eq, eq-eqb, ne_eqb, eqb-true, or_cases, and_parts}
 use Rattle.nz_base.specs.Cluster.{replica_count, leader_of}
-use Rattle.nz_base.proofs.Booleans.{or_cases, and_left}
 use Rattle.nz_math.specs.Count.{count_below, is_in, IsChoice}
 use Rattle.nz_math.proofs.Counting.{count_same, count_of_list}
 use Rattle.nz_store.specs.declared.command.Answer.{Answer}
@@ -83,7 +82,7 @@ any_below path f [] lead x of_cluster h = absurd cc
 any_below path f (r ∷ replies) lead x of_cluster h =
     elim (or_cases (backs path lead x r) (list_any (backs path lead x) replies) h) [
       | inl here ↦
-          let same = eqb-true (replica_of r) x (and_left (eqb (replica_of r) x) (supports path lead r) here) in
+          let same = eqb-true (replica_of r) x (and_parts (eqb (replica_of r) x) (supports path lead r) here).0 in
           let below = of_cluster.0.replica in
           omega (arith, same, below)
       | inr later ↦ any_below path f replies lead x of_cluster.1 later

@@ -9,7 +9,7 @@ use Rattle.std.proofs.lemmas.Bool.{cases_lt}
 use Rattle.std.proofs.lemmas.Option.{slice_get_within, unwrap_or-slice_get}
 use Rattle.std.specs.Option.{unwrap_or}
 use Rattle.std.proofs.lemmas.List.{map-append, length-take, get_or-take}
-use Rattle.nz_base.proofs.Booleans.{clash}
+use Rattle.nz_base.proofs.Booleans.{true_and_false}
 use Rattle.nz_base.specs.declared.actor.Actor.TheVariants.{Replica}
 use Rattle.nz_base.specs.declared.key.Id.{Id}
 use Rattle.nz_base.specs.declared.key.Key.{Key}
@@ -114,7 +114,7 @@ taken_sends f me leader b s keys seat ids synced sends first second third whole 
     ∙ ap (λ (t : ReplicaData × List Out). sends ++ map (parcel (Replica me)) t.1) (sym whole)
 
 pub some_left : (ids : List Id) (b : Bool) → (IsTrue b ↔ (ids ≡ [])) → b ≡ false → 1 ≤ length ids
-some_left [] b h some = clash b (h.1 refl) some
+some_left [] b h some = true_and_false b (h.1 refl) some
 some_left (i ∷ ids) b h some = omega arith
 
 -- ---- entries that were fetched

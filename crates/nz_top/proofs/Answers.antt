@@ -1,5 +1,6 @@
 -- Each value that a store answers was put there by a command, so that a text can say it.
 use Rattle.std.proofs.Common.{◌≡◌, ℕ, List, [], ◌∷◌, Option, Some, None, refl, subst, inl, inr}
+use Rattle.std.proofs.lemmas.Bool.{cases_Bool}
 use Rattle.std.proofs.lemmas.Option.{none-some, same_Some}
 use Rattle.std.specs.Prelude.{take, slice_get}
 use Rattle.std.specs.Option.{option_eq, option_map}
@@ -9,7 +10,6 @@ use Rattle.std.specs.Ordering.{nat_cmp, match_ordering}
 use Rattle.std.specs.declared.cmp.Ordering.{Ordering}
 use Rattle.std.specs.declared.cmp.Ordering.TheVariants.{Less, Equal, Greater}
 use Rattle.std.specs.Cmp.Lexicographic.{slice_cmp}
-use Rattle.nz_base.proofs.Booleans.{cases_bool}
 use Rattle.nz_store.specs.declared.command.Command.{Command}
 use Rattle.nz_store.specs.declared.command.Command.TheVariants.{Put, Get, Del, Cas}
 use Rattle.nz_store.specs.declared.command.Answer.{Answer}
@@ -53,7 +53,7 @@ value_choice store key (Some value) all own = value_with store key value all own
 read_fits : (store : Entries) (key : List ℕ) → HaveValues store → FitsAnswer (value_answer (value_of store key))
 read_fits [] key all = tt
 read_fits (e ∷ store) key all =
-    elim (cases_bool (bytes_eq key e.0)) [
+    elim (cases_Bool (bytes_eq key e.0)) [
       | inl here ↦ rw here (test_from_value e.1 all.0)
       | inr away ↦ rw away (read_fits store key all.1)
     ]
@@ -68,7 +68,7 @@ refusal_fits (Some value) = tt
 
 swap_fits : (store : Entries) (key : List ℕ) (old new : Option (List ℕ)) → HaveValues store → IsOptionalValue new → Answering (swap store key old new)
 swap_fits store key old new all own =
-    elim (cases_bool (option_eq bytes_eq (value_of store key) old)) [
+    elim (cases_Bool (option_eq bytes_eq (value_of store key) old)) [
       | inl same ↦ rw same (value_choice store key new all own, tt)
       | inr other ↦ rw other (all, refusal_fits (value_of store key))
     ]

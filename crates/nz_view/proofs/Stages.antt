@@ -1,8 +1,8 @@
 -- What the stages of a rule come to.
 use Rattle.std.proofs.Common.{◌≡◌, ℕ, ◌≤◌, Bool, true, false, ◌&&◌, ◌==◌, cond, List, [], sym, ap, ◌∙◌, inl, inr, arith, eq-eqb}
+use Rattle.std.proofs.lemmas.Bool.{cases_Bool}
 use Rattle.std.specs.Prelude.{nat_lt}
 use Rattle.std.proofs.lemmas.Bool.Decides.{nat_tests}
-use Rattle.nz_base.proofs.Booleans.{cases_bool}
 use Rattle.nz_base.specs.Cluster.{leader_of}
 use Rattle.nz_cv.specs.Vectors.{is_stray}
 use Rattle.nz_msg.specs.declared.message.StartViewBody.{StartViewBody}
@@ -20,7 +20,7 @@ use Rattle.nz_machine.specs.Does.{Does, DoesSilently}
 later_view : (f me view : ℕ) (s : ReplicaData) → s.view ≤ view → (enter_later f me view s).0.view ≡ view
 unfolding enter_view
 later_view f me view s low =
-    elim (cases_bool (nat_lt s.view view)) [
+    elim (cases_Bool (nat_lt s.view view)) [
       | inl later ↦ ap (λ (b : Bool). (cond b (enter_view f me view s) (s, [])).0.view) later
       | inr over ↦ ap (λ (b : Bool). (cond b (enter_view f me view s) (s, [])).0.view) over ∙ grind (arith, nat_tests, over, low)
     ]
