@@ -158,7 +158,7 @@ fn is_short(scenario: &Scenario) -> bool
     requires { length scenario.now.scripts ≤ 255 }
     ensures { result ≡ valid.is_short scenario.now }
 {
-    scenario_room(MAX_TEXT, scenario).is_some()
+    scenario_room(MAX_TEXT as u32, scenario).is_some()
 }
 
 fn is_valid(scenario: &Scenario) -> bool
