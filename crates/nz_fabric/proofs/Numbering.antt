@@ -1,6 +1,7 @@
 -- The number of a parcel among those of its sender, receiver and kind, and what fault lines make of its deliveries.
 use Rattle.std.proofs.Common.{◌≡◌, ℕ, ◌+◌, ◌-◌, ◌<◌, ◌≤◌, eqb, min, Bool, true, false, cond, Option, Some, None, List, [], ◌∷◌}
 use Rattle.std.proofs.Common.{◌++◌, length, map, refl, sym, ap, ◌∙◌, subst, arith, length-append, append-nil, take_all}
+use Rattle.std.proofs.Math.Bool.{and-true, and-false}
 use Rattle.std.specs.Prelude.{◌^◌, ◌&&◌, filter, take, drop, get_or, unwrap_or, MatchOption}
 use Rattle.std.specs.Map.{lookup}
 use Rattle.std.proofs.lemmas.Bool.{eqb-true}
@@ -35,16 +36,8 @@ held_is by (d ∷ ds) = let ih = held_is by ds in let this = put_off_is by d in 
 -- ---- the parcel that a line strikes
 
 same_test : (b : Bool) (n m count : ℕ) → (b ≡ true → n ≡ m) → (eqb n count && b) ≡ (b && eqb m count)
-same_test true n m count h = rw (h refl) (and_true (eqb m count))
-  where
-    and_true : (b : Bool) → (b && true) ≡ b
-    and_true true = refl
-    and_true false = refl
-same_test false n m count h = and_false (eqb n count)
-  where
-    and_false : (b : Bool) → (b && false) ≡ false
-    and_false true = refl
-    and_false false = refl
+same_test true n m count h = rw (h refl) (and-true (eqb m count))
+same_test false n m count h = and-false (eqb n count)
 
 pub struck_by_number : (from to : Actor) (kind count number : ℕ) (earlier : List Parcel) (p : Parcel) → HasNumber earlier p number
     → (eqb number count && is_parcel_of from to kind p) ≡ is_nth from to kind count earlier p

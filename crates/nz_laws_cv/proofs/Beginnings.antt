@@ -1,7 +1,7 @@
 -- Begins: from whose reports, and that who is Normal in a view above 0 finds it begun.
 use Rattle.std.proofs.Common.{◌≡◌, ℕ, ◌<◌, Bool, true, false, ◌&&◌, not, eqb, List, [], ◌∷◌, length}
 use Rattle.std.proofs.Common.{map, refl, sym, ap, subst, ◌∙◌, inl, inr, arith, eqb-true, eq-eqb}
-use Rattle.std.proofs.lemmas.Bool.{and_parts, and_from, cases_Bool, or_cases}
+use Rattle.std.proofs.lemmas.Bool.{and_parts, and_from, cases_Bool, or_cases, not-true}
 use Rattle.std.specs.Prelude.{slice_index}
 use Rattle.std.proofs.lemmas.List.{length-map}
 use Rattle.nz_base.specs.Cluster.{replica_count, leader_of}
@@ -55,10 +55,6 @@ pub record IsTurning (g : Group) (w : ℕ) (B : List Record) : Type 0 where
   pub led : is_led g w (newest ∷ older) ≡ true
   pub not_led : is_led g w older ≡ false
 
-pub not_true : (b : Bool) → not b ≡ true → b ≡ false
-not_true true h = absurd cc
-not_true false h = refl
-
 pub turning_is : (g : Group) (w : ℕ) (B : List Record) → 0 < w → begins g w B ≡ true → IsTurning g w B
 turning_is g w [] some h = absurd (let e = eqb-true w 0 h in omega (arith, e, some))
 turning_is g w (r ∷ K) some h = record {
@@ -66,7 +62,7 @@ turning_is g w (r ∷ K) some h = record {
   older = K;
   is = refl;
   led = (and_parts (not (is_led g w K)) (is_led g w (r ∷ K)) h).1;
-  not_led = not_true (is_led g w K) (and_parts (not (is_led g w K)) (is_led g w (r ∷ K)) h).0;
+  not_led = not-true (is_led g w K) (and_parts (not (is_led g w K)) (is_led g w (r ∷ K)) h).0;
 }
 
 -- the record is a begin: who follows another one does not lead

@@ -1,6 +1,6 @@
 -- Knowledge and views of the machine, in its own words.
 use Rattle.std.proofs.Common.{◌≡◌, ℕ, zero, suc, ◌≤◌, ◌<◌, true, not, List, [], ◌∷◌, length, refl, sym, ap, subst, ◌∙◌, inl, inr, ◌⊎◌, arith}
-use Rattle.std.proofs.lemmas.Bool.{cases_lt, and_parts}
+use Rattle.std.proofs.lemmas.Bool.{cases_lt, and_parts, not-true}
 use Rattle.nz_base.specs.Cluster.{leader_of}
 use Rattle.nz_base.proofs.Booleans.{true_and_false}
 use Rattle.nz_machine.specs.declared.event.Record.{Record}
@@ -22,7 +22,7 @@ use Rattle.nz_laws_cv.proofs.SentShows.{Shows}
 use Rattle.nz_laws_cv.proofs.Showing.{shows}
 use Rattle.nz_laws_cv.proofs.ViewNotions.{notions}
 use Rattle.nz_laws_cv.proofs.Grounds.{completing_is}
-use Rattle.nz_laws_cv.proofs.Beginnings.{normal_in_is, is_in_view, views_at, not_true}
+use Rattle.nz_laws_cv.proofs.Beginnings.{normal_in_is, is_in_view, views_at}
 
 lower_by : (a b : ℕ) → a ≤ b → (a ≡ b → ⊥) → (a < b) ⊎ (a ≡ b) → a < b
 lower_by a b le apart (inl lt) = lt
@@ -70,7 +70,7 @@ zero_once : (g : Group) (J : List Record) → HasViews (notions g J) J → (B : 
 zero_once g J v [] at h = refl
 zero_once g J v (r ∷ K) at h =
     let led = (and_parts (not (is_led g 0 K)) (is_led g 0 (r ∷ K)) h).1 in
-    let not_led = not_true (is_led g 0 K) (and_parts (not (is_led g 0 K)) (is_led g 0 (r ∷ K)) h).0 in
+    let not_led = not-true (is_led g 0 K) (and_parts (not (is_led g 0 K)) (is_led g 0 (r ∷ K)) h).0 in
     let now = normal_in_is 0 (replica_at g (leader_of g.f 0) (r ∷ K)) led in
     elim (v.begins_once 0 r K at (record { normal = now.0; view = now.1 })) [
       | inl b ↦ absurd (let none = b.later in omega (arith, none))

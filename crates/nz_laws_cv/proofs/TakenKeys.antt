@@ -62,7 +62,9 @@ fits = record {
   sound = λ s e may sound.
       let above = (and_parts (is_above_last (keys_of (synced_part s.log)) e.key) _ may).0 in
       let rest = (and_parts (is_above_last (keys_of (synced_part s.log)) e.key) _ may).1 in
-      let fresh = not-true (has_id (keys_of (synced_part s.log)) (id_of e.key)) (and_parts (not (has_id (keys_of (synced_part s.log)) (id_of e.key))) _ rest).0 in
+      let fresh =
+      not-true (has_id (keys_of (synced_part s.log)) (id_of e.key))
+      (and_parts (not (has_id (keys_of (synced_part s.log)) (id_of e.key))) _ rest).0 in
       let room = ltb-true (length s.log.entries) 4096 (and_parts (not (has_id (keys_of (synced_part s.log)) (id_of e.key))) _ rest).1 in
       modified_sound s.log e sound above fresh room;
 }

@@ -1,7 +1,7 @@
 -- The conditions of calls to a log, and lists of calls.
-use Rattle.std.proofs.Common.{◌≡◌, ℕ, ◌+◌, ◌<◌, Bool, true, false, not, List, [], ◌∷◌, ◌++◌, length, take}
+use Rattle.std.proofs.Common.{◌≡◌, ℕ, ◌+◌, ◌<◌, true, false, not, List, [], ◌∷◌, ◌++◌, length, take}
 use Rattle.std.proofs.Common.{drop, get_or, suc, drop-cons, refl, sym, ap, subst, ◌∙◌, inl, inr}
-use Rattle.std.proofs.lemmas.Bool.{cases_Bool, or_cases, or_left, or_right, and_parts, and_from}
+use Rattle.std.proofs.lemmas.Bool.{cases_Bool, or_cases, or_left, or_right, and_parts, and_from, not-true}
 use Rattle.std.specs.List.{list_all}
 use Rattle.nz_base.specs.declared.key.Key.{Key}
 use Rattle.nz_base.specs.declared.key.Entry.{Entry}
@@ -44,14 +44,10 @@ rises_test : (ks : List Key) → AreRising ks → are_rising ks ≡ true
 rises_test [] h = refl
 rises_test (k ∷ ks) h = and_from (list_all (key_below k) ks) (are_rising ks) (all_below k ks h.0) (rises_test ks h.1)
 
-not_false : (b : Bool) → not b ≡ true → b ≡ false
-not_false true h = absurd cc
-not_false false h = refl
-
 owns : (ks : List Key) → have_own_ids ks ≡ true → HaveOwnIds ks
 owns [] h = tt
 owns (k ∷ ks) h = (
-  not_false (has_id ks (id_of k)) (and_parts (not (has_id ks (id_of k))) (have_own_ids ks) h).0,
+  not-true (has_id ks (id_of k)) (and_parts (not (has_id ks (id_of k))) (have_own_ids ks) h).0,
   owns ks (and_parts (not (has_id ks (id_of k))) (have_own_ids ks) h).1,
 )
 
@@ -94,7 +90,7 @@ log_more es place e within is log may =
     let more : take (place + 1) es ≡ take place es ++ e ∷ [] = take_more es place e within ∙ ap (λ (x : Entry). take place es ++ x ∷ []) (sym is) in
     subst IsLog (sym more) (log_push (take place es) e log
     (and_parts (is_above_last (keys_of (take place es)) e.key) (not (has_id (keys_of (take place es)) (id_of e.key))) may).0
-    (not_false (has_id (keys_of (take place es)) (id_of e.key))
+    (not-true (has_id (keys_of (take place es)) (id_of e.key))
     (and_parts (is_above_last (keys_of (take place es)) e.key) (not (has_id (keys_of (take place es)) (id_of e.key))) may).1))
 
 pub log_stops : (es : List Entry) (place : ℕ) (e : Entry) → place < length es → e ≡ get_or es place e

@@ -1,6 +1,6 @@
 -- The entries that a frame carries are a log.
-use Rattle.std.proofs.Common.{◌≡◌, ℕ, ◌≤◌, ◌&&◌, not, Bool, true, false, List, [], ◌∷◌, ◌++◌, length, refl, sym, subst, append_assoc, arith}
-use Rattle.std.proofs.lemmas.Bool.{and_parts}
+use Rattle.std.proofs.Common.{◌≡◌, ℕ, ◌≤◌, ◌&&◌, not, true, false, List, [], ◌∷◌, ◌++◌, length, refl, sym, subst, append_assoc, arith}
+use Rattle.std.proofs.lemmas.Bool.{and_parts, not-true}
 use Rattle.std.proofs.lemmas.Bool.Decides.{nat_tests}
 use Rattle.std.proofs.lemmas.List.{append-nil}
 use Rattle.nz_base.specs.declared.key.Key.{Key}
@@ -20,17 +20,13 @@ is_above [] k h = refl
 is_above (a ∷ []) k h = (and_parts _ _ (and_parts _ _ h).0).0
 is_above (a ∷ b ∷ before) k h = is_above (b ∷ before) k (and_parts _ _ h).1
 
-not_true : (b : Bool) → not b ≡ true → b ≡ false
-not_true true h = absurd cc
-not_true false h = refl
-
 is_fresh : (before : List Entry) (k : Key) → may_follow (λ (e : Entry). e.key) before k ≡ true → has_id (keys_of before) (id_of k) ≡ false
 is_fresh [] k h = refl
 is_fresh (a ∷ before) k h =
     let own = (and_parts (key_below a.key k && not (id_eq (id_of a.key) (id_of k))) (may_follow (λ (e : Entry). e.key) before k) h).0 in
     let away =
     id_turn_away (id_of a.key) (id_of k)
-    (not_true (id_eq (id_of a.key) (id_of k)) (and_parts (key_below a.key k) (not (id_eq (id_of a.key) (id_of k))) own).1) in
+    (not-true (id_eq (id_of a.key) (id_of k)) (and_parts (key_below a.key k) (not (id_eq (id_of a.key) (id_of k))) own).1) in
     rw away (is_fresh before k (and_parts (key_below a.key k && not (id_eq (id_of a.key) (id_of k))) (may_follow (λ (e : Entry). e.key) before k) h).1)
 
 log_each : (before xs : List Entry) → IsLog before → ItemsFit next_entry before xs → IsLog (before ++ xs)

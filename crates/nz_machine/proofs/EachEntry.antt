@@ -2,6 +2,7 @@
 use Rattle.std.proofs.Common.{◌≡◌, ℕ, true, not, List, [], ◌∷◌, ◌++◌, map, take, Option, Some, None, refl, sym, subst, inl, inr}
 use Rattle.std.specs.Prelude.{IfSome, ◌==◌}
 use Rattle.std.specs.List.{AllByRecursion, filter}
+use Rattle.std.specs.Option.{option_or}
 use Rattle.nz_base.specs.declared.actor.Actor.{Actor}
 use Rattle.nz_base.specs.declared.actor.Actor.TheVariants.{Replica}
 use Rattle.nz_base.specs.declared.key.Id.{Id}
@@ -25,7 +26,7 @@ use Rattle.nz_machine.specs.Adopting.{with_log}
 use Rattle.nz_machine.specs.Begins.{report_of, changes_of, with_report}
 use Rattle.nz_machine.specs.Rejoining.{crash_rule, restart_rule}
 use Rattle.nz_machine.specs.World.{Has}
-use Rattle.nz_machine.specs.LogMods.{entry_of_id, or_else, synced_with, is_still_early}
+use Rattle.nz_machine.specs.LogMods.{entry_of_id, synced_with, is_still_early}
 use Rattle.nz_machine.specs.Step.{replica_message, tick_rule}
 use Rattle.nz_machine.proofs.Runs.{on_cond}
 use Rattle.nz_machine.proofs.EachItem.{all_append, all_of_prefix, all_back, all_filter, all_insert}
@@ -57,14 +58,14 @@ EachEntry P s = Each P s.log s.early s.late s.changes
 abbrev pub IsFoundFor : (Entry → Type 0) → Id → Entry → Type 0
 IsFoundFor P id e = P e × (id_eq id (id_of e.key) ≡ true)
 
-either_found : (R : Entry → Type 0) (first second : Option Entry) → IfSome first R → IfSome second R → IfSome (or_else first second) R
+either_found : (R : Entry → Type 0) (first second : Option Entry) → IfSome first R → IfSome second R → IfSome (option_or first second) R
 either_found R None second p q = q
 either_found R (Some e) second p q = p
 
 pub found_each : (P : Entry → Type 0) (s : ReplicaData) (id : Id) → EachEntry P s → IfSome (entry_of_id s id) (IsFoundFor P id)
 found_each P s id h =
     either_found (IsFoundFor P id) (find_id (unsynced_part s.log) id)
-    (or_else (find_id s.early id) (find_id s.late id)) (find_each P (unsynced_part s.log) id (all_drop P s.log.synced s.log.entries h.log))
+    (option_or (find_id s.early id) (find_id s.late id)) (find_each P (unsynced_part s.log) id (all_drop P s.log.synced s.log.entries h.log))
     (either_found (IsFoundFor P id) (find_id s.early id) (find_id s.late id) (find_each P s.early id h.early) (find_each P s.late id h.late))
 
 pub released_each : (P : Entry → Type 0) (f me : ℕ) (s : ReplicaData) (e : Entry) (es : List Entry) → EachEntry P s → AllByRecursion P (e ∷ es)

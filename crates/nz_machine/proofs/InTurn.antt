@@ -1,7 +1,7 @@
 -- A client's open requests have rising numbers of those that it sent, and with the accepted ones they are all of them.
 use Rattle.std.proofs.Common.{◌≡◌, ℕ, zero, suc, ◌+◌, ◌-◌, ◌%◌, ◌<◌, ◌≤◌, eqb, eqb-true, Bool, true, false, not, cond, ◌||◌, List}
 use Rattle.std.proofs.Common.{[], ◌∷◌, ◌++◌, length, map, Option, Some, None, refl, sym, ap, subst, ◌∙◌, inl, inr, arith}
-use Rattle.std.proofs.lemmas.Bool.{cases_Bool}
+use Rattle.std.proofs.lemmas.Bool.{cases_Bool, or_parts}
 use Rattle.std.specs.Prelude.{slice_get, nat_le}
 use Rattle.std.proofs.lemmas.List.{length-append, length-map}
 use Rattle.std.proofs.lemmas.Option.{none-some, same_Some}
@@ -86,10 +86,6 @@ none_below num low xs high h le = elim (cases_Bool (is_open num xs)) [
   | inr f ↦ f
 ]
 
-or_false : (a b : Bool) → (a || b) ≡ false → (a ≡ false) × (b ≡ false)
-or_false true b e = absurd cc
-or_false false b e = (refl, e)
-
 closed_waited : (proxies num : ℕ) (xs : List Attempt) → is_open num (map (attempt_after_wait proxies) xs) ≡ is_open num xs
 closed_waited proxies num [] = refl
 closed_waited proxies num (a ∷ xs) =
@@ -102,13 +98,13 @@ closed_push num [] a lt h = elim (cases_Bool (eqb a.num num)) [
   | inr f ↦ any_head num a [] false f
 ]
 closed_push num (b ∷ xs) a lt h =
-    let k = or_false (eqb b.num num) (is_open num xs) h in any_head num b (xs ++ a ∷ []) false k.0 ∙ closed_push num xs a lt k.1
+    let k = or_parts (eqb b.num num) (is_open num xs) h in any_head num b (xs ++ a ∷ []) false k.0 ∙ closed_push num xs a lt k.1
 
 -- what is closed stays closed without another, and that one is closed
 closed_by : (num other : ℕ) (xs : List Attempt) → is_open num xs ≡ false → is_open num (without_attempt other xs) ≡ false
 closed_by num other [] h = refl
 closed_by num other (a ∷ xs) h =
-    let k = or_false (eqb a.num num) (is_open num xs) h in
+    let k = or_parts (eqb a.num num) (is_open num xs) h in
     on_cond (λ (l : List Attempt). is_open num l ≡ false) (not (eqb a.num other)) (a ∷ without_attempt other xs) (without_attempt other xs)
     (λ _. any_head num a (without_attempt other xs) false k.0 ∙ closed_by num other xs k.1) (λ _. closed_by num other xs k.1)
 
@@ -126,7 +122,7 @@ closed_now num (a ∷ xs) = elim (cases_Bool (eqb a.num num)) [
 pub none_without : (num : ℕ) (xs : List Attempt) → is_open num xs ≡ false → without_attempt num xs ≡ xs
 none_without num [] h = refl
 none_without num (a ∷ xs) h =
-    let k = or_false (eqb a.num num) (is_open num xs) h in
+    let k = or_parts (eqb a.num num) (is_open num xs) h in
     ap (λ (b : Bool). cond (not b) (a ∷ without_attempt num xs) (without_attempt num xs)) k.0 ∙ ap (λ (l : List Attempt). a ∷ l) (none_without num xs k.1)
 
 one_less : (num low : ℕ) (xs : List Attempt) (high : ℕ) → Rises low xs high → is_open num xs ≡ true → length (without_attempt num xs) + 1 ≡ length xs

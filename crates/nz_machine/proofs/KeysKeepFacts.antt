@@ -2,6 +2,7 @@
 use Rattle.std.proofs.Common.{◌≡◌, ℕ, ◌+◌, ◌<◌, ◌≤◌, Bool, true, false, not, max, min, nat_lt, ◌&&◌, List, [], ◌∷◌}
 use Rattle.std.proofs.Common.{◌++◌, length, Option, Some, None, refl, sym, ap, subst, ◌∙◌, inl, inr, arith}
 use Rattle.std.specs.List.{AllByRecursion, filter}
+use Rattle.std.specs.Option.{option_or}
 use Rattle.std.proofs.lemmas.Bool.{ltb-true, not-true, cases_Bool, or_cases, and_parts}
 use Rattle.std.proofs.lemmas.List.{take-append-drop}
 use Rattle.nz_base.specs.declared.key.Id.{Id}
@@ -20,7 +21,7 @@ use Rattle.nz_msg.specs.Fields as fields
 use Rattle.nz_machine.specs.State.{ReplicaData}
 use Rattle.nz_machine.specs.Facts.{AreArranged, FitsEntry, AreHeld, HasFacts, AreApart}
 use Rattle.nz_machine.specs.Replicas.{is_normal, is_up, leads}
-use Rattle.nz_machine.specs.LogMods.{or_else, entry_of_id, may_sync, synced_with, if_found, sync_keys, overtaken_to_late, committed_to}
+use Rattle.nz_machine.specs.LogMods.{entry_of_id, may_sync, synced_with, if_found, sync_keys, overtaken_to_late, committed_to}
 use Rattle.nz_machine.proofs.EachItem.{all_append, all_of_prefix, all_back, all_filter}
 use Rattle.nz_machine.proofs.KeysApart.{rising_both}
 use Rattle.nz_machine.proofs.IdCounts.{times, times_all, times_append, times_filter, times_parts, times_never, times_none, own_times, times_own}
@@ -130,19 +131,19 @@ find_fits (x ∷ xs) i e all is =
     ]
 
 first_fits : (a b : Option Entry) (e : Entry) → ((x : Entry) → a ≡ Some x → FitsEntry x)
-    → ((x : Entry) → b ≡ Some x → FitsEntry x) → or_else a b ≡ Some e → FitsEntry e
+    → ((x : Entry) → b ≡ Some x → FitsEntry x) → option_or a b ≡ Some e → FitsEntry e
 first_fits None b e ha hb is = hb e is
 first_fits (Some x) b e ha hb is = ha e is
 
 pub found_fits : (log : Log) (early late : List Entry) (i : Id) (e : Entry) → AreApart log early late
-    → or_else (find_id (unsynced_part log) i) (or_else (find_id early i) (find_id late i)) ≡ Some e → FitsEntry e
+    → option_or (find_id (unsynced_part log) i) (option_or (find_id early i) (find_id late i)) ≡ Some e → FitsEntry e
 found_fits log early late i e a is =
     let logged = all_of_prefix FitsEntry log.entries (early ++ late) a.fit in
     let rest = all_back FitsEntry log.entries (early ++ late) a.fit in
     let back =
     all_back FitsEntry (synced_part log) (unsynced_part log)
     (subst (λ (xs : List Entry). AllByRecursion FitsEntry xs) (sym (take-append-drop log.synced log.entries)) logged) in
-    first_fits (find_id (unsynced_part log) i) (or_else (find_id early i) (find_id late i)) e
+    first_fits (find_id (unsynced_part log) i) (option_or (find_id early i) (find_id late i)) e
     (λ x h. find_fits (unsynced_part log) i x back h)
     (λ x h. first_fits (find_id early i) (find_id late i) x
     (λ y k. find_fits early i y (all_of_prefix FitsEntry early late rest) k)

@@ -3,6 +3,7 @@
 use Rattle.std.specs.Prelude.{ℕ, ◌-◌, Bool, not, ◌&&◌, ◌||◌, ◌==◌, nat_lt, nat_le, max, min, List, [], ◌∷◌, ◌++◌, length}
 use Rattle.std.specs.Prelude.{map, take, drop, filter, Option, Some, None, if◌then◌else◌, slice_index, slice_set}
 use Rattle.std.specs.List.{list_any, flat_map}
+use Rattle.std.specs.Option.{option_or}
 use Rattle.std.specs.Map.{lookup}
 use Rattle.nz_base.specs.Cluster.{leader_of}
 use Rattle.nz_base.specs.Key.{id_eq, id_of}
@@ -45,14 +46,9 @@ log_mods_to_others f me s = map (log_mod_to s) (others f me)
 abbrev pub sync_report_to : ℕ → ReplicaData → Out
 sync_report_to leader s = (Replica leader, SyncReport (record { view = s.view; synced = s.log.synced }))
 
--- The first of two that is there.
-abbrev pub or_else : Option Entry → Option Entry → Option Entry
-or_else None second = second
-or_else (Some e) second = Some e
-
 -- The entry with the id beyond the synced ones, in early or in late.
 abbrev pub entry_of_id : ReplicaData → Id → Option Entry
-entry_of_id s id = or_else (find_id (unsynced_part s.log) id) (or_else (find_id s.early id) (find_id s.late id))
+entry_of_id s id = option_or (find_id (unsynced_part s.log) id) (option_or (find_id s.early id) (find_id s.late id))
 
 -- Whether the id is in log, early or late.
 abbrev pub is_held : ReplicaData → Id → Bool

@@ -1,5 +1,6 @@
 -- `sync_keys` on log, early and late alone, as taking.rt computes it.
 use Rattle.std.specs.Prelude.{Bool, not, ◌&&◌, nat_lt, List, [], ◌∷◌, Option, length}
+use Rattle.std.specs.Option.{option_or}
 use Rattle.nz_base.specs.declared.key.Id.{Id}
 use Rattle.nz_base.specs.declared.key.Key.{Key}
 use Rattle.nz_base.specs.declared.key.Entry.{Entry}
@@ -11,7 +12,7 @@ use Rattle.nz_buffers.specs.Buffers.{find_id}
 use Rattle.nz_machine.specs.declared.sync_keys.Taken.{Taken}
 use Rattle.nz_machine.specs.declared.sync_keys.Taken.TheVariants.{Synced, Missing, Refused}
 use Rattle.nz_machine.specs.State.{ReplicaData}
-use Rattle.nz_machine.specs.LogMods.{or_else, sync_keys}
+use Rattle.nz_machine.specs.LogMods.{sync_keys}
 
 -- The state with these in place of its log, early and late.
 abbrev pub with_parts : ReplicaData → Log → List Entry → List Entry → ReplicaData
@@ -25,7 +26,7 @@ may_join log key =
 
 -- The entry with the id beyond the synced ones, in early or in late.
 abbrev pub found_in : Log → List Entry → List Entry → Id → Option Entry
-found_in log early late id = or_else (find_id (unsynced_part log) id) (or_else (find_id early id) (find_id late id))
+found_in log early late id = option_or (find_id (unsynced_part log) id) (option_or (find_id early id) (find_id late id))
 
 -- How the taking of keys goes on, once it is known what became of the first.
 abbrev pub after_first : Taken → ReplicaData → Key → List Key → ReplicaData × List Key

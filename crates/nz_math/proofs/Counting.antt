@@ -1,47 +1,21 @@
 -- Counting the members of sets below a limit.
-use Rattle.std.proofs.Common.{◌≡◌, ℕ, zero, suc, ◌+◌, ◌<◌, ◌≤◌, ◌⊎◌, Bool, true, false, not, ◌&&◌, ◌||◌, cond, eqb}
+use Rattle.std.proofs.Common.{◌≡◌, ℕ, zero, suc, ◌+◌, ◌<◌, ◌≤◌, Bool, true, false, not, ◌&&◌, ◌||◌, cond, eqb}
 use Rattle.std.proofs.Common.{ltb, List, [], ◌∷◌, ◌++◌, length, refl, sym, ap, subst, ◌∙◌, arith, inl, inr}
-use Rattle.std.proofs.lemmas.Bool.{cases_lt, cases_eq, eq-eqb, eqb-false, ne_eqb, lt-ltb, le-ltb, ltb-true, cases_Bool, and_parts, not-true}
+use Rattle.std.proofs.Math.Bool.{and-true, and-false, or-false, or_assoc, or-not_self}
+use Rattle.std.proofs.lemmas.Bool.{cases_lt, cases_eq, eq-eqb, eqb-false, ne_eqb, lt-ltb, le-ltb, ltb-true}
+use Rattle.std.proofs.lemmas.Bool.{cases_Bool, and_parts, not-true, or_right, or_parts}
 use Rattle.std.proofs.lemmas.List.{append-nil}
 use Rattle.nz_math.specs.Count.{one_if, count_below, both, everyone, all_but, IsWithin, is_in, AreDistinct, IsChoice, members_below}
-
-and_true : (a : Bool) → (a && true) ≡ a
-and_true true = refl
-and_true false = refl
 
 one_at_most : (a : Bool) → one_if a ≤ 1
 one_at_most true = omega arith
 one_at_most false = omega arith
-
-or_not : (a : Bool) → (a || not a) ≡ true
-or_not true = refl
-or_not false = refl
-
-or_right : (a b : Bool) → b ≡ true → (a || b) ≡ true
-or_right true b h = refl
-or_right false b h = h
 
 later : (y : ℕ) (ys : List ℕ) (x : ℕ) → is_in ys x ≡ true → is_in (y ∷ ys) x ≡ true
 later y ys x h = or_right (eqb y x) (is_in ys x) h
 
 first : (y : ℕ) (ys : List ℕ) → is_in (y ∷ ys) y ≡ true
 first y ys = let same : eqb y y ≡ true = eq-eqb y y refl in rw same refl
-
-and_false : (a : Bool) → (a && false) ≡ false
-and_false true = refl
-and_false false = refl
-
-or_false : (a : Bool) → (a || false) ≡ a
-or_false true = refl
-or_false false = refl
-
-or_assoc : (a b c : Bool) → (a || (b || c)) ≡ ((a || b) || c)
-or_assoc true b c = refl
-or_assoc false b c = refl
-
-or_both : (a b : Bool) → (a || b) ≡ false → (a ≡ false) × (b ≡ false)
-or_both true b h = absurd cc
-or_both false b h = (refl, h)
 
 one_more : (n x : ℕ) → (n ≡ x → ⊥) → ltb x (suc n) ≡ ltb x n
 one_more n x other =
@@ -128,13 +102,13 @@ count_drop (suc n) m p =
       | inl same ↦
           let rest : count_below n p ≡ count_below n (λ x. p x && not (eqb m x)) =
           count_same n p (λ x. p x && not (eqb m x))
-          (λ x below. let differs : eqb m x ≡ false = ne_eqb m x (λ e. absurd (omega arith)) in rw differs (sym (and_true (p x)))) in
+          (λ x below. let differs : eqb m x ≡ false = ne_eqb m x (λ e. absurd (omega arith)) in rw differs (sym (and-true (p x)))) in
           let last = one_at_most (p n) in
           omega (arith, rest, last)
       | inr other ↦
           let differs : eqb m n ≡ false = ne_eqb m n other in
           let rest = count_drop n m p in
-          let last : one_if (p n && not (eqb m n)) ≡ one_if (p n) = rw differs (ap one_if (and_true (p n))) in
+          let last : one_if (p n && not (eqb m n)) ≡ one_if (p n) = rw differs (ap one_if (and-true (p n))) in
           omega (arith, rest, last)
     ]
 
@@ -165,12 +139,12 @@ member_outside n p (m ∷ left) h =
 
 is_in-append : (xs ys : List ℕ) (x : ℕ) → is_in (xs ++ ys) x ≡ (is_in xs x || is_in ys x)
 is_in-append [] ys x = refl
-is_in-append (y ∷ xs) ys x = ap (λ (b : Bool). eqb y x || b) (is_in-append xs ys x) ∙ or_assoc (eqb y x) (is_in xs x) (is_in ys x)
+is_in-append (y ∷ xs) ys x = ap (λ (b : Bool). eqb y x || b) (is_in-append xs ys x) ∙ sym (or_assoc (eqb y x) (is_in xs x) (is_in ys x))
 
 -- whether the last number is the one that is looked for
 last_is : (n x : ℕ) (b : Bool) → is_in (cond b (n ∷ []) []) x ≡ (eqb n x && b)
-last_is n x true = or_false (eqb n x) ∙ sym (and_true (eqb n x))
-last_is n x false = sym (and_false (eqb n x))
+last_is n x true = or-false (eqb n x) ∙ sym (and-true (eqb n x))
+last_is n x false = sym (and-false (eqb n x))
 
 pub is_in-members : (n : ℕ) (p : ℕ → Bool) (x : ℕ) → is_in (members_below n p) x ≡ (ltb x n && p x)
 unfolding members_below
@@ -189,13 +163,13 @@ is_in-members (suc n) p x =
       | inr other ↦
           let apart : eqb n x ≡ false = ne_eqb n x other in
           let limit : ltb x (suc n) ≡ ltb x n = one_more n x other in
-          rw (split, prefix, last, apart, limit) (or_false (ltb x n && p x))
+          rw (split, prefix, last, apart, limit) (or-false (ltb x n && p x))
     ]
 
 distinct-append : (xs : List ℕ) (n : ℕ) → AreDistinct xs → is_in xs n ≡ false → AreDistinct (xs ++ n ∷ [])
 distinct-append [] n d h = (refl, tt)
 distinct-append (y ∷ xs) n d h =
-    let parts = or_both (eqb y n) (is_in xs n) h in
+    let parts = or_parts (eqb y n) (is_in xs n) h in
     let own : is_in (xs ++ n ∷ []) y ≡ false =
     rw (is_in-append xs (n ∷ []) y, d.0) (let apart : eqb n y ≡ false = ne_eqb n y (λ e. eqb-false y n parts.0 (sym e)) in rw apart refl) in
     (own, distinct-append xs n d.1 parts.1)
@@ -243,5 +217,5 @@ within_all_but n m p apart x lt h =
 pub count_all_but : (n m : ℕ) → m < n → count_below n (all_but m) + 1 ≡ n
 count_all_but n m lt =
     let one = count_add n m (all_but m) lt (let same : eqb m m ≡ true = eq-eqb m m refl in rw same refl) in
-    let whole = count_same n (λ x. eqb m x || all_but m x) everyone (λ x below. or_not (eqb m x)) in
+    let whole = count_same n (λ x. eqb m x || all_but m x) everyone (λ x below. or-not_self (eqb m x)) in
     omega (arith, one, whole, count_everyone n)

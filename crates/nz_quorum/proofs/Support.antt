@@ -1,6 +1,7 @@
 -- The set of those that support a leader's reply, against the counts that define a quorum.
 use Rattle.std.proofs.Common.{◌≡◌, ℕ, suc, ◌+◌, ◌<◌, Bool, true, false, ◌&&◌, ◌||◌, eqb, nat_le, List, [], ◌∷◌, length}
 use Rattle.std.proofs.Common.{get_or, drop, refl, sym, ap, ◌∙◌, arith, add-one, drop-cons, inl, inr, Option}
+use Rattle.std.proofs.Math.Bool.{and-false}
 use Rattle.std.specs.List.{list_any, AllByRecursion}
 use Rattle.std.proofs.lemmas.Bool.{cases_eq, eq-eqb, ne_eqb, eqb-true, or_cases, and_parts}
 use Rattle.nz_base.specs.Cluster.{replica_count, leader_of}
@@ -43,10 +44,6 @@ eqb_turn a b =
       | inr other ↦ ne_eqb a b other ∙ sym (ne_eqb b a (λ e. other (sym e)))
     ]
 
-and_false : (a : Bool) → (a && false) ≡ false
-and_false true = refl
-and_false false = refl
-
 agrees : (r view : ℕ) (digest vector : List ℕ) (answer : Option Answer) (x : ℕ) (reply : Reply)
     → backs paths.Fast (Fast r view digest vector answer) x reply ≡ agrees_of view digest vector x reply
 agrees r view digest vector answer x (Fast s w d u b) = refl
@@ -54,7 +51,7 @@ agrees r view digest vector answer x (Slow s w) = refl
 
 is_slow : (r view : ℕ) (digest vector : List ℕ) (answer : Option Answer) (x : ℕ) (reply : Reply)
     → backs paths.Slow (Fast r view digest vector answer) x reply ≡ is_slow_of view x reply
-is_slow r view digest vector answer x (Fast s w d u b) = and_false (eqb s x)
+is_slow r view digest vector answer x (Fast s w d u b) = and-false (eqb s x)
 is_slow r view digest vector answer x (Slow s w) = refl
 
 -- whether a replica supports the lead in a quorum of this path
