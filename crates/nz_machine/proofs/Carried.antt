@@ -17,8 +17,11 @@ use Rattle.nz_machine.proofs.SentFields.{entries_of_fit}
 
 is_above : (before : List Entry) (k : Key) → may_follow (λ (e : Entry). e.key) before k ≡ true → is_above_last (keys_of before) k ≡ true
 is_above [] k h = refl
-is_above (a ∷ []) k h = (and_parts _ _ (and_parts _ _ h).0).0
-is_above (a ∷ b ∷ before) k h = is_above (b ∷ before) k (and_parts _ _ h).1
+is_above (a ∷ []) k h =
+    (and_parts (key_below a.key k) (not (id_eq (id_of a.key) (id_of k)))
+    (and_parts (key_below a.key k && not (id_eq (id_of a.key) (id_of k))) (may_follow (λ (e : Entry). e.key) [] k) h).0).0
+is_above (a ∷ b ∷ before) k h =
+    is_above (b ∷ before) k (and_parts (key_below a.key k && not (id_eq (id_of a.key) (id_of k))) (may_follow (λ (e : Entry). e.key) (b ∷ before) k) h).1
 
 is_fresh : (before : List Entry) (k : Key) → may_follow (λ (e : Entry). e.key) before k ≡ true → has_id (keys_of before) (id_of k) ≡ false
 is_fresh [] k h = refl

@@ -1,6 +1,6 @@
 -- Whether an entry may follow others, told by the last of them and by the ids of all.
 use Rattle.std.proofs.Common.{◌≡◌, Bool, true, false, not, ◌&&◌, ◌||◌, List, [], ◌∷◌, ◌++◌, map, refl, sym, ap, subst, ◌∙◌, inl, inr}
-use Rattle.std.proofs.lemmas.Bool.{cases_Bool, or_parts, and_parts}
+use Rattle.std.proofs.lemmas.Bool.{cases_Bool, or_parts, and_parts, not-true}
 use Rattle.std.specs.Prelude.{if◌then◌else◌}
 use Rattle.std.specs.List.{list_any}
 use Rattle.std.proofs.lemmas.List.{map-append}
@@ -19,10 +19,6 @@ use Rattle.nz_msg.specs.Reading.{AreNoted}
 abbrev follows : List Entry → Key → Bool
 follows before k = may_follow (λ (e : Entry). e.key) before k
 
-not_true : (b : Bool) → not b ≡ true → b ≡ false
-not_true true h = absurd cc
-not_true false h = refl
-
 false_from : (b c : Bool) → (b ≡ true → c ≡ true) → c ≡ false → b ≡ false
 false_from true c h k = true_and_false c (h refl) k
 false_from false c h k = refl
@@ -30,8 +26,11 @@ false_from false c h k = refl
 -- what follows entries is above the last of them
 pub follows_above : (before : List Entry) (k : Key) → follows before k ≡ true → is_above_last (keys_of before) k ≡ true
 follows_above [] k h = refl
-follows_above (a ∷ []) k h = (and_parts _ _ (and_parts _ _ h).0).0
-follows_above (a ∷ b ∷ before) k h = follows_above (b ∷ before) k (and_parts _ _ h).1
+follows_above (a ∷ []) k h =
+    (and_parts (key_below a.key k) (not (id_eq (id_of a.key) (id_of k)))
+    (and_parts (key_below a.key k && not (id_eq (id_of a.key) (id_of k))) (follows [] k) h).0).0
+follows_above (a ∷ b ∷ before) k h =
+    follows_above (b ∷ before) k (and_parts (key_below a.key k && not (id_eq (id_of a.key) (id_of k))) (follows (b ∷ before) k) h).1
 
 -- and its id is none of theirs
 pub follows_fresh : (before : List Entry) (k : Key) → follows before k ≡ true → has_id (keys_of before) (id_of k) ≡ false
@@ -40,7 +39,7 @@ follows_fresh (a ∷ before) k h =
     let own = (and_parts (key_below a.key k && not (id_eq (id_of a.key) (id_of k))) (follows before k) h).0 in
     let away =
     id_turn_away (id_of a.key) (id_of k)
-    (not_true (id_eq (id_of a.key) (id_of k)) (and_parts (key_below a.key k) (not (id_eq (id_of a.key) (id_of k))) own).1) in
+    (not-true (id_eq (id_of a.key) (id_of k)) (and_parts (key_below a.key k) (not (id_eq (id_of a.key) (id_of k))) own).1) in
     rw away (follows_fresh before k (and_parts (key_below a.key k && not (id_eq (id_of a.key) (id_of k))) (follows before k) h).1)
 
 follows_all : (before : List Entry) (k : Key) → ((x : Key) → has_key (keys_of before) x ≡ true → key_below x k ≡ true)
