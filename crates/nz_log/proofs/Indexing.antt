@@ -27,7 +27,7 @@ pub place_push_new : (es : List Entry) (e : Entry) (i : Id) → has_id (keys_of 
     → id_eq i (id_of e.key) ≡ true → place_of (es ++ e ∷ []) i ≡ Some (length es)
 place_push_new [] e i away here = rw here refl
 place_push_new (f ∷ es) e i away here =
-    rw (or_parts (id_eq i (id_of f.key)) (has_id (keys_of es) i) away).0
+    rw ((or_parts (id_eq i (id_of f.key)) (has_id (keys_of es) i) away).0)
     (ap (λ (o : Option ℕ). option_map suc o) (place_push_new es e i (or_parts (id_eq i (id_of f.key)) (has_id (keys_of es) i) away).1 here))
 
 pub place_push_old : (es : List Entry) (e : Entry) (i : Id) → has_id (keys_of es) i ≡ true → place_of (es ++ e ∷ []) i ≡ place_of es i

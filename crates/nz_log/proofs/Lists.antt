@@ -46,7 +46,7 @@ own_back (x ∷ xs) p ys own =
     let parted : (has_id (keys_of xs) i || has_id (keys_of ys) i) ≡ false = sym (has_id-append (keys_of xs) (keys_of ys) i) ∙ own.0 in
     let new : has_id (keys_of xs ++ keys_of (filter p ys)) i ≡ false =
     has_id-append (keys_of xs) (keys_of (filter p ys)) i
-    ∙ (rw (or_parts (has_id (keys_of xs) i) (has_id (keys_of ys) i) parted).0
+    ∙ (rw ((or_parts (has_id (keys_of xs) i) (has_id (keys_of ys) i) parted).0)
     (has_id_filter p ys i (or_parts (has_id (keys_of xs) i) (has_id (keys_of ys) i) parted).1)) in
     (new, own_back xs p ys own.1)
 
