@@ -216,7 +216,7 @@ find_new (v ∷ vs) e i here away =
     elim (cases_Bool (key_below e.key v.key)) [
       | inl lower ↦ rw lower (rw here refl)
       | inr higher ↦
-          rw higher (rw (or_parts (id_eq i (id_of v.key)) (has_id (keys_of vs) i) away).0
+          rw higher (rw ((or_parts (id_eq i (id_of v.key)) (has_id (keys_of vs) i) away).0)
           (find_new vs e i here (or_parts (id_eq i (id_of v.key)) (has_id (keys_of vs) i) away).1))
     ]
 

@@ -20,13 +20,13 @@ use Rattle.nz_buffers.specs.Places.{IsFirstPlace}
 pub without_none : (es : List Entry) (i : Id) → has_id (keys_of es) i ≡ false → without es i ≡ es
 without_none [] i h = refl
 without_none (e ∷ es) i h =
-    rw (or_parts (id_eq i (id_of e.key)) (has_id (keys_of es) i) h).0
+    rw ((or_parts (id_eq i (id_of e.key)) (has_id (keys_of es) i) h).0)
     (ap (λ (xs : List Entry). e ∷ xs) (without_none es i (or_parts (id_eq i (id_of e.key)) (has_id (keys_of es) i) h).1))
 
 pub find_none : (es : List Entry) (i : Id) → has_id (keys_of es) i ≡ false → find_id es i ≡ None
 find_none [] i h = refl
 find_none (e ∷ es) i h =
-    rw (or_parts (id_eq i (id_of e.key)) (has_id (keys_of es) i) h).0
+    rw ((or_parts (id_eq i (id_of e.key)) (has_id (keys_of es) i) h).0)
     (find_none es i (or_parts (id_eq i (id_of e.key)) (has_id (keys_of es) i) h).1)
 
 -- before the entry none has its id, and after it none has either

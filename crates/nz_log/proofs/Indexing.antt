@@ -13,7 +13,7 @@ use Rattle.nz_base.proofs.Names.{same_id, id_turn, id_turn_away, id_eq_self}
 use Rattle.nz_base.proofs.Booleans.{true_and_false}
 use Rattle.nz_base.proofs.Logs.{has_id-append, keys_append}
 use Rattle.nz_log.specs.Places.{place_of}
-use Rattle.nz_log.specs.Synced.{stays_behind}
+use Rattle.nz_log.specs.Synced.{stays_after}
 use Rattle.nz_log.specs.Keeping.{IsMidway}
 use Rattle.nz_log.proofs.Placing.{place_none, place_held}
 
@@ -27,7 +27,7 @@ pub place_push_new : (es : List Entry) (e : Entry) (i : Id) → has_id (keys_of 
     → id_eq i (id_of e.key) ≡ true → place_of (es ++ e ∷ []) i ≡ Some (length es)
 place_push_new [] e i away here = rw here refl
 place_push_new (f ∷ es) e i away here =
-    rw (or_parts (id_eq i (id_of f.key)) (has_id (keys_of es) i) away).0
+    rw ((or_parts (id_eq i (id_of f.key)) (has_id (keys_of es) i) away).0)
     (ap (λ (o : Option ℕ). option_map suc o) (place_push_new es e i (or_parts (id_eq i (id_of f.key)) (has_id (keys_of es) i) away).1 here))
 
 pub place_push_old : (es : List Entry) (e : Entry) (i : Id) → has_id (keys_of es) i ≡ true → place_of (es ++ e ∷ []) i ≡ place_of es i
@@ -174,7 +174,7 @@ midway_start prefix e back f g own fresh old now =
 
 -- The entries up to `kept` have their places, those from `place` on are to come, and together they give the whole.
 pub record IsAlong (key : Key) (es : List Entry) (kept place : ℕ) (index : Id → Option ℕ) (whole : List Entry) : Type 0 where
-  pub same : take kept es ++ filter (stays_behind key) (drop place es) ≡ whole
+  pub same : take kept es ++ filter (stays_after key) (drop place es) ≡ whole
   pub midway : IsMidway key (take kept es) (drop place es) index
 
 pub next_one : (es : List Entry) (place : ℕ) (x : Entry) → place < length es → x ≡ get_or es place x → drop place es ≡ x ∷ drop (place + 1) es
@@ -184,13 +184,13 @@ next_one es place x within is =
 
 module _ (key : Key) (es : List Entry) (kept place : ℕ) (f : Id → Option ℕ) (whole : List Entry) (x : Entry) (within : place < length es) (is : x ≡ get_or es place x)
     (along : IsAlong key es kept place f whole) where
-  before : take kept es ++ filter (stays_behind key) (x ∷ drop (place + 1) es) ≡ whole
-  before = ap (λ (xs : List Entry). take kept es ++ filter (stays_behind key) xs) (sym (next_one es place x within is)) ∙ along.same
+  before : take kept es ++ filter (stays_after key) (x ∷ drop (place + 1) es) ≡ whole
+  before = ap (λ (xs : List Entry). take kept es ++ filter (stays_after key) xs) (sym (next_one es place x within is)) ∙ along.same
 
   midway : IsMidway key (take kept es) (x ∷ drop (place + 1) es) f
   midway = subst (λ (xs : List Entry). IsMidway key (take kept es) xs f) (next_one es place x within is) along.midway
 
-  dropped : id_eq (id_of key) (id_of x.key) ≡ true → filter (stays_behind key) (x ∷ drop (place + 1) es) ≡ filter (stays_behind key) (drop (place + 1) es)
+  dropped : id_eq (id_of key) (id_of x.key) ≡ true → filter (stays_after key) (x ∷ drop (place + 1) es) ≡ filter (stays_after key) (drop (place + 1) es)
   dropped own = elim (cases_Bool (key_below key x.key)) [
     | inl high ↦ rw (high, own) refl
     | inr low ↦ rw low refl
@@ -215,14 +215,14 @@ module _ (key : Key) (es : List Entry) (kept place : ℕ) (f : Id → Option ℕ
       → ((i : Id) → g i ≡ (if id_eq (id_of x.key) i then Some kept else f i)) → IsAlong key new (kept + 1) (place + 1) g whole
   along_stays new g down other high first back now =
       let long : length (take kept es) ≡ kept = length-take-le kept es down in
-      let left : filter (stays_behind key) (x ∷ drop (place + 1) es) ≡ x ∷ filter (stays_behind key) (drop (place + 1) es) = rw (high, other) refl in
+      let left : filter (stays_after key) (x ∷ drop (place + 1) es) ≡ x ∷ filter (stays_after key) (drop (place + 1) es) = rw (high, other) refl in
       let moved : IsMidway key (take kept es ++ x ∷ []) (drop (place + 1) es) g =
       midway_stays key (take kept es) x (drop (place + 1) es) f g other
       (λ i. now i ∙ ap (λ (n : ℕ). if id_eq (id_of x.key) i then Some n else f i) (sym long)) midway in
       record {
-        same = ap (λ (xs : List Entry). xs ++ filter (stays_behind key) (drop (place + 1) new)) first
-            ∙ ap (λ (xs : List Entry). (take kept es ++ x ∷ []) ++ filter (stays_behind key) xs) back
-            ∙ append_assoc (take kept es) (x ∷ []) (filter (stays_behind key) (drop (place + 1) es))
+        same = ap (λ (xs : List Entry). xs ++ filter (stays_after key) (drop (place + 1) new)) first
+            ∙ ap (λ (xs : List Entry). (take kept es ++ x ∷ []) ++ filter (stays_after key) xs) back
+            ∙ append_assoc (take kept es) (x ∷ []) (filter (stays_after key) (drop (place + 1) es))
             ∙ ap (λ (xs : List Entry). take kept es ++ xs) (sym left)
             ∙ before;
         midway =

@@ -17,7 +17,7 @@ use Rattle.nz_base.proofs.Booleans.{true_and_false}
 use Rattle.nz_base.proofs.Keys.{key_below-self}
 use Rattle.nz_base.proofs.Logs.{keys_append, has_first, has_later, rising_back}
 use Rattle.nz_base.proofs.Prefixes.{prefix_self, prefix_more, prefix_then, shorter_prefix}
-use Rattle.nz_log.specs.Synced.{Log, IsSound, synced_part, unsynced_part, stays_behind, log_with_synced}
+use Rattle.nz_log.specs.Synced.{Log, IsSound, synced_part, unsynced_part, stays_after, log_with_synced}
 use Rattle.nz_log.proofs.Modifying.{synced_more}
 
 -- ---- lists that go on after a prefix
@@ -45,7 +45,7 @@ same_tails (x ∷ prefix) xs ys same = let tail : prefix ++ xs ≡ prefix ++ ys 
 
 -- entries of keys above, with other ids, stay
 pub all_stay : (key : Key) (es : List Entry) → ((x : Key) → has_key (keys_of es) x ≡ true → key_below key x ≡ true) → has_id (keys_of es) (id_of key) ≡ false
-    → filter (stays_behind key) es ≡ es
+    → filter (stays_after key) es ≡ es
 all_stay key [] above apart = refl
 all_stay key (e ∷ es) above apart =
     let other : id_eq (id_of key) (id_of e.key) ≡ false = elim (cases_Bool (id_eq (id_of key) (id_of e.key))) [
@@ -57,7 +57,7 @@ all_stay key (e ∷ es) above apart =
 
 -- the entry with the key goes, and those after it stay
 none_goes : (es : List Entry) (key : Key) (more : List Key) → keys_of es ≡ key ∷ more → AreRising (keys_of es) → HaveOwnIds (keys_of es)
-    → key ∷ keys_of (filter (stays_behind key) es) ≡ keys_of es
+    → key ∷ keys_of (filter (stays_after key) es) ≡ keys_of es
 none_goes [] key more e rising own = absurd cc
 none_goes (x ∷ es) key more e rising own =
     let head : x.key ≡ key = cc in
@@ -87,8 +87,8 @@ module _ (log : Log) (e : Entry) (lead : List Key) (sound : IsSound log) (more :
   parts : keys_of log.entries ≡ keys_of (synced_part log) ++ keys_of (unsynced_part log)
   parts = sym (ap keys_of (take-append-drop log.synced log.entries)) ∙ keys_append (synced_part log) (unsynced_part log)
 
-  after : keys_of (log_with_synced log e).entries ≡ keys_of (synced_part log) ++ e.key ∷ keys_of (filter (stays_behind e.key) (unsynced_part log))
-  after = keys_append (synced_part log) (e ∷ filter (stays_behind e.key) (unsynced_part log))
+  after : keys_of (log_with_synced log e).entries ≡ keys_of (synced_part log) ++ e.key ∷ keys_of (filter (stays_after e.key) (unsynced_part log))
+  after = keys_append (synced_part log) (e ∷ filter (stays_after e.key) (unsynced_part log))
 
   pub synced_stays : IsPrefix (keys_of (synced_part (log_with_synced log e))) lead
   synced_stays =
@@ -101,7 +101,7 @@ module _ (log : Log) (e : Entry) (lead : List Key) (sound : IsSound log) (more :
       → IsPrefix P (keys_of (log_with_synced log e).entries)
   beyond P p either [] whole =
       let same : P ≡ keys_of (synced_part log) = whole ∙ append-nil (keys_of (synced_part log)) in
-      let tail = e.key ∷ keys_of (filter (stays_behind e.key) (unsynced_part log)) in
+      let tail = e.key ∷ keys_of (filter (stays_after e.key) (unsynced_part log)) in
       record { rest = tail; whole = after ∙ ap (λ (l : List Key). l ++ tail) (sym same) }
   beyond P p either (x ∷ rest) whole =
       let A = keys_of (synced_part log) in
@@ -124,7 +124,7 @@ module _ (log : Log) (e : Entry) (lead : List Key) (sound : IsSound log) (more :
       let part : IsPrefix A (keys_of log.entries) = record { rest = keys_of (unsynced_part log); whole = parts } in
       elim (cases_lt (length A) (length P)) [
         | inr short ↦
-            let tail = e.key ∷ keys_of (filter (stays_behind e.key) (unsynced_part log)) in
+            let tail = e.key ∷ keys_of (filter (stays_after e.key) (unsynced_part log)) in
             subst (IsPrefix P) (sym after) (prefix_then P A (A ++ tail) (shorter_prefix P A (keys_of log.entries) p part short) (prefix_more A tail))
         | inl deep ↦ let q = shorter_prefix A P (keys_of log.entries) part p (omega (arith, deep)) in beyond P p either q.rest q.whole
       ]

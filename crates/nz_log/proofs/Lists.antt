@@ -9,15 +9,15 @@ use Rattle.nz_base.specs.Log.{keys_of, has_key, has_id, AreRising, HaveOwnIds, I
 use Rattle.nz_base.proofs.Names.{same_key}
 use Rattle.nz_base.proofs.Logs.{has_id-append, keys_append, above_each, rising_join, rising_prefix}
 use Rattle.nz_base.proofs.Logs.{rising_back, own_join, has_id_filter, rising_filter, own_filter}
-use Rattle.nz_log.specs.Synced.{stays_behind}
+use Rattle.nz_log.specs.Synced.{stays_after}
 
 -- what stays after a key is above it, and of other ids
-stay_above : (key : Key) (es : List Entry) (y : Key) → has_key (keys_of (filter (stays_behind key) es)) y ≡ true → key_below key y ≡ true
+stay_above : (key : Key) (es : List Entry) (y : Key) → has_key (keys_of (filter (stays_after key) es)) y ≡ true → key_below key y ≡ true
 stay_above key [] y h = absurd cc
 stay_above key (e ∷ es) y h =
-    elim (cases_Bool (stays_behind key e)) [
+    elim (cases_Bool (stays_after key e)) [
       | inr gone ↦ stay_above key es y (rw gone at h)
-      | inl kept ↦ elim (or_cases (key_eq y e.key) (has_key (keys_of (filter (stays_behind key) es)) y) (rw kept at h)) [
+      | inl kept ↦ elim (or_cases (key_eq y e.key) (has_key (keys_of (filter (stays_after key) es)) y) (rw kept at h)) [
         | inl first ↦
             subst (λ (z : Key). key_below key z ≡ true) (sym (same_key y e.key first))
             (and_parts (key_below key e.key) (not (id_eq (id_of key) (id_of e.key))) kept).0
@@ -25,10 +25,10 @@ stay_above key (e ∷ es) y h =
       ]
     ]
 
-stay_apart : (key : Key) (es : List Entry) → has_id (keys_of (filter (stays_behind key) es)) (id_of key) ≡ false
+stay_apart : (key : Key) (es : List Entry) → has_id (keys_of (filter (stays_after key) es)) (id_of key) ≡ false
 stay_apart key [] = refl
 stay_apart key (e ∷ es) =
-    elim (cases_Bool (stays_behind key e)) [
+    elim (cases_Bool (stays_after key e)) [
       | inr gone ↦ rw gone (stay_apart key es)
       | inl kept ↦
           rw (
@@ -46,16 +46,16 @@ own_back (x ∷ xs) p ys own =
     let parted : (has_id (keys_of xs) i || has_id (keys_of ys) i) ≡ false = sym (has_id-append (keys_of xs) (keys_of ys) i) ∙ own.0 in
     let new : has_id (keys_of xs ++ keys_of (filter p ys)) i ≡ false =
     has_id-append (keys_of xs) (keys_of (filter p ys)) i
-    ∙ (rw (or_parts (has_id (keys_of xs) i) (has_id (keys_of ys) i) parted).0
+    ∙ (rw ((or_parts (has_id (keys_of xs) i) (has_id (keys_of ys) i) parted).0)
     (has_id_filter p ys i (or_parts (has_id (keys_of xs) i) (has_id (keys_of ys) i) parted).1)) in
     (new, own_back xs p ys own.1)
 
 -- an entry after a prefix, before what stays
 pub log_put : (prefix : List Entry) (e : Entry) (back : List Entry) → IsLog (prefix ++ back)
     → is_above_last (keys_of prefix) e.key ≡ true → has_id (keys_of prefix) (id_of e.key) ≡ false
-    → IsLog (prefix ++ e ∷ filter (stays_behind e.key) back)
+    → IsLog (prefix ++ e ∷ filter (stays_after e.key) back)
 log_put prefix e back log above fresh =
-    let kept = filter (stays_behind e.key) back in
+    let kept = filter (stays_after e.key) back in
     let parts = keys_append prefix back in
     let same = sym (keys_append prefix (e ∷ kept)) in
     let rising = subst AreRising parts log.rising in
@@ -63,11 +63,11 @@ log_put prefix e back log above fresh =
     record {
       rising =
           subst AreRising same (rising_join (keys_of prefix) e.key (keys_of kept) lower
-          (rising_filter (stays_behind e.key) back (rising_back (keys_of prefix) (keys_of back) rising))
+          (rising_filter (stays_after e.key) back (rising_back (keys_of prefix) (keys_of back) rising))
           (λ x h. above_each (keys_of prefix) e.key x lower above h) (λ y h. stay_above e.key back y h));
       own_ids =
           subst HaveOwnIds same (own_join (keys_of prefix) e.key (keys_of kept)
-          (own_back prefix (stays_behind e.key) back (subst HaveOwnIds parts log.own_ids)) fresh (stay_apart e.key back));
+          (own_back prefix (stays_after e.key) back (subst HaveOwnIds parts log.own_ids)) fresh (stay_apart e.key back));
     }
 
 -- ---- the last entry

@@ -12,7 +12,7 @@ use Rattle.nz_base.specs.Log.{keys_of, has_key, has_id, IsLog, is_above_last}
 use Rattle.nz_base.proofs.Names.{same_key}
 use Rattle.nz_base.proofs.Booleans.{length-filter_le}
 use Rattle.nz_base.proofs.Logs.{has_append, has_in_prefix, has_back, keys_append, log_push}
-use Rattle.nz_log.specs.Synced.{Log, IsSound, synced_part, unsynced_part, stays_behind, is_displaced, log_with_synced, displaced_entries}
+use Rattle.nz_log.specs.Synced.{Log, IsSound, synced_part, unsynced_part, stays_after, is_displaced, log_with_synced, displaced_entries}
 use Rattle.nz_log.proofs.Lists.{log_put}
 
 -- an entry is put in at a place, and of what then follows it some goes
@@ -50,10 +50,10 @@ pub modified_sound : (log : Log) (e : Entry) → IsSound log → is_above_last (
 modified_sound log e sound above fresh room =
     let prefix = synced_part log in
     let back = unsynced_part log in
-    let kept = filter (stays_behind e.key) back in
+    let kept = filter (stays_after e.key) back in
     let long : length (prefix ++ e ∷ kept) ≡ length prefix + length (e ∷ kept) = length-append prefix (e ∷ kept) in
     let whole : length prefix + length back ≡ length log.entries = sym (length-append prefix back) ∙ ap length (parts_of log) in
-    let few : length kept ≤ length back = length-filter_le (stays_behind e.key) back in
+    let few : length kept ≤ length back = length-filter_le (stays_after e.key) back in
     let lead : length prefix ≡ log.synced = length-synced_part log sound in
     record {
       ordered = log_put prefix e back (subst IsLog (sym (parts_of log)) sound.ordered) above fresh;
@@ -64,7 +64,7 @@ modified_sound log e sound above fresh room =
 pub synced_more : (log : Log) (e : Entry) → IsSound log → synced_part (log_with_synced log e) ≡ synced_part log ++ e ∷ []
 synced_more log e sound =
     let prefix = synced_part log ++ e ∷ [] in
-    let kept = filter (stays_behind e.key) (unsynced_part log) in
+    let kept = filter (stays_after e.key) (unsynced_part log) in
     let long : length prefix ≡ log.synced + 1 = length-append (synced_part log) (e ∷ []) ∙ ap (λ (n : ℕ). n + 1) (length-synced_part log sound) in
     ap (λ (xs : List Entry). take (log.synced + 1) xs) (sym (append_assoc (synced_part log) (e ∷ []) kept))
     ∙ ap (λ (n : ℕ). take n (prefix ++ kept)) (sym long)
@@ -73,15 +73,15 @@ synced_more log e sound =
 -- ---- what becomes of the old entries
 
 split_kept : (key : Key) (es : List Entry) (x : Key) → id_eq (id_of key) (id_of x) ≡ false → has_key (keys_of es) x ≡ true
-    → (has_key (keys_of (filter (stays_behind key) es)) x ≡ true) ⊎ (has_key (keys_of (filter (is_displaced key) es)) x ≡ true)
+    → (has_key (keys_of (filter (stays_after key) es)) x ≡ true) ⊎ (has_key (keys_of (filter (is_displaced key) es)) x ≡ true)
 split_kept key [] x apart h = absurd cc
 split_kept key (e ∷ es) x apart h =
     elim (or_cases (key_eq x e.key) (has_key (keys_of es) x) h) [
-      | inr there ↦ further (stays_behind key e) (is_displaced key e) (split_kept key es x apart there)
+      | inr there ↦ further (stays_after key e) (is_displaced key e) (split_kept key es x apart there)
       | inl here ↦
           let other : id_eq (id_of key) (id_of e.key) ≡ false = subst (λ (k : Key). id_eq (id_of key) (id_of k) ≡ false) (same_key x e.key here) apart in
           elim (cases_Bool (key_below key e.key)) [
-            | inl above ↦ inl (rw (above, other) (or_left (key_eq x e.key) (has_key (keys_of (filter (stays_behind key) es)) x) here))
+            | inl above ↦ inl (rw (above, other) (or_left (key_eq x e.key) (has_key (keys_of (filter (stays_after key) es)) x) here))
             | inr not_above ↦ inr (rw (not_above, other) (or_left (key_eq x e.key) (has_key (keys_of (filter (is_displaced key) es)) x) here))
           ]
     ]
@@ -90,10 +90,10 @@ split_kept key (e ∷ es) x apart h =
     later true few there = or_right (key_eq x e.key) (has_key (keys_of few) x) there
     later false few there = there
 
-    further : (b d : Bool) → (has_key (keys_of (filter (stays_behind key) es)) x ≡ true) ⊎ (has_key (keys_of (filter (is_displaced key) es)) x ≡ true)
-        → (has_key (keys_of (cond b (e ∷ filter (stays_behind key) es) (filter (stays_behind key) es))) x ≡ true)
+    further : (b d : Bool) → (has_key (keys_of (filter (stays_after key) es)) x ≡ true) ⊎ (has_key (keys_of (filter (is_displaced key) es)) x ≡ true)
+        → (has_key (keys_of (cond b (e ∷ filter (stays_after key) es) (filter (stays_after key) es))) x ≡ true)
         ⊎ (has_key (keys_of (cond d (e ∷ filter (is_displaced key) es) (filter (is_displaced key) es))) x ≡ true)
-    further b d (inl stays) = inl (later b (filter (stays_behind key) es) stays)
+    further b d (inl stays) = inl (later b (filter (stays_after key) es) stays)
     further b d (inr goes) = inr (later d (filter (is_displaced key) es) goes)
 
 pub none_lost : (log : Log) (e : Entry) (x : Key) → has_key (keys_of log.entries) x ≡ true → id_eq (id_of e.key) (id_of x) ≡ false
@@ -101,7 +101,7 @@ pub none_lost : (log : Log) (e : Entry) (x : Key) → has_key (keys_of log.entri
 none_lost log e x h apart =
     let prefix = synced_part log in
     let back = unsynced_part log in
-    let kept = filter (stays_behind e.key) back in
+    let kept = filter (stays_after e.key) back in
     let parts : keys_of log.entries ≡ keys_of prefix ++ keys_of back = sym (ap keys_of (parts_of log)) ∙ keys_append prefix back in
     let whole = sym (keys_append prefix (e ∷ kept)) in
     elim (has_append (keys_of prefix) (keys_of back) x (subst (λ (ks : List Key). has_key ks x ≡ true) parts h)) [
@@ -134,11 +134,11 @@ put_back es place e within =
     ∙ ap (λ (n : ℕ). drop n (prefix ++ back)) (sym long) ∙ drop-append_seam prefix back
 
 pub kept_after : (es : List Entry) (place : ℕ) (e : Entry) (put left : List Entry) → place ≤ length es → put ≡ take place es ++ e ∷ drop place es
-    → left ≡ take (place + 1) put ++ filter (stays_behind e.key) (drop (place + 1) put)
-    → left ≡ take place es ++ e ∷ filter (stays_behind e.key) (drop place es)
+    → left ≡ take (place + 1) put ++ filter (stays_after e.key) (drop (place + 1) put)
+    → left ≡ take place es ++ e ∷ filter (stays_after e.key) (drop place es)
 kept_after es place e put left within is kept =
     kept
-    ∙ ap (λ (xs : List Entry). take (place + 1) xs ++ filter (stays_behind e.key) (drop (place + 1) xs)) is
-    ∙ ap (λ (xs : List Entry). xs ++ filter (stays_behind e.key) (drop (place + 1) (take place es ++ e ∷ drop place es))) (put_prefix es place e within)
-    ∙ ap (λ (xs : List Entry). (take place es ++ e ∷ []) ++ filter (stays_behind e.key) xs) (put_back es place e within)
-    ∙ append_assoc (take place es) (e ∷ []) (filter (stays_behind e.key) (drop place es))
+    ∙ ap (λ (xs : List Entry). take (place + 1) xs ++ filter (stays_after e.key) (drop (place + 1) xs)) is
+    ∙ ap (λ (xs : List Entry). xs ++ filter (stays_after e.key) (drop (place + 1) (take place es ++ e ∷ drop place es))) (put_prefix es place e within)
+    ∙ ap (λ (xs : List Entry). (take place es ++ e ∷ []) ++ filter (stays_after e.key) xs) (put_back es place e within)
+    ∙ append_assoc (take place es) (e ∷ []) (filter (stays_after e.key) (drop place es))

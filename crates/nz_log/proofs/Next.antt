@@ -14,7 +14,7 @@ use Rattle.nz_base.proofs.Keys.{key_below-self}
 use Rattle.nz_base.proofs.Logs.{keys_append, has_first, has_later, rising_back}
 use Rattle.nz_digest.specs.Digests.{EntryKey, digest}
 use Rattle.nz_log.specs.Places.{place_of, entry_key, digest_of_log}
-use Rattle.nz_log.specs.Synced.{Log, IsSound, synced_part, unsynced_part, stays_behind, is_displaced, log_with_synced, displaced_entries}
+use Rattle.nz_log.specs.Synced.{Log, IsSound, synced_part, unsynced_part, stays_after, is_displaced, log_with_synced, displaced_entries}
 use Rattle.nz_log.specs.Keeping.{IsKeptLog, IsSummed, IsNext}
 use Rattle.nz_log.proofs.Indexing.{next_one, own_last}
 use Rattle.nz_log.proofs.LedKeys.{all_stay}
@@ -107,8 +107,8 @@ module _ (log : Log) (e : Entry) (sound : IsSound log) (next : IsNext log e.key)
   pub modified_in_place : log_with_synced log e ≡ record { entries = set log.entries log.synced e; synced = log.synced + 1 }
   modified_in_place =
       let low : key_below e.key head.key ≡ false = ap (key_below e.key) (next.same e) ∙ key_below-self e.key in
-      let kept : filter (stays_behind e.key) (unsynced_part log) ≡ rest =
-      ap (filter (stays_behind e.key)) unsynced_is ∙ rw low (all_stay e.key rest above apart) in
+      let kept : filter (stays_after e.key) (unsynced_part log) ≡ rest =
+      ap (filter (stays_after e.key)) unsynced_is ∙ rw low (all_stay e.key rest above apart) in
       let now = set log.entries log.synced e in
       let whole : synced_part log ++ e ∷ rest ≡ now =
       sym (append_assoc (synced_part log) (e ∷ []) rest)

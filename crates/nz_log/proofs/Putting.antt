@@ -11,7 +11,7 @@ use Rattle.nz_base.specs.declared.key.Entry.{Entry}
 use Rattle.nz_digest.specs.Digests.{digest_of_key, key_bytes, xor_bytes}
 use Rattle.nz_digest.proofs.Keys.{length-digest, length-sha1}
 use Rattle.nz_log.specs.Places.{digest_of_log, digest_at}
-use Rattle.nz_log.specs.Synced.{stays_behind}
+use Rattle.nz_log.specs.Synced.{stays_after}
 use Rattle.nz_log.specs.Keeping.{IsSummed, digest_with, without_place}
 use Rattle.nz_log.proofs.Digests.{digest_push, digest_more, fold_over}
 use Rattle.nz_log.proofs.Modifying.{put_back}
@@ -19,7 +19,7 @@ use Rattle.nz_log.proofs.Summing.{sums_push, sums_take}
 
 -- The entry that was put in and those before it, and of those after it, up to and with a place, the ones that stay.
 abbrev pub settled : List Entry → ℕ → Key → ℕ → List Entry
-settled es place key last = take (place + 1) es ++ filter (stays_behind key) (drop (place + 1) (take (last + 1) es))
+settled es place key last = take (place + 1) es ++ filter (stays_after key) (drop (place + 1) (take (last + 1) es))
 
 -- The digests while they are folded anew: the first are those of the settled entries but the last, whose digest is the sum, and
 -- those from here on are still the old ones.
@@ -52,9 +52,9 @@ module _ (es : List Entry) (place : ℕ) (key : Key) (within : place < length es
       ∙ ap (λ (n : ℕ). get_or es n d) far
 
   next_settled : (from : ℕ) (x : Entry) → place ≤ from → from + 1 < length es → x ≡ get_or es (from + 1) x
-      → settled es place key (from + 1) ≡ settled es place key from ++ cond (stays_behind key x) (x ∷ []) []
+      → settled es place key (from + 1) ≡ settled es place key from ++ cond (stays_after key x) (x ∷ []) []
   next_settled from x after more is =
-      let p = stays_behind key in
+      let p = stays_after key in
       let prefix = take (from + 1) es in
       let head = take (place + 1) es in
       let long : length prefix ≡ from + 1 = length-take-le (from + 1) es (omega (arith, more)) in
@@ -71,7 +71,7 @@ module _ (es : List Entry) (place : ℕ) (key : Key) (within : place < length es
       drop_all (place + 1) (take (place + 1) es)
       (let long : length (take (place + 1) es) ≡ place + 1 = length-take-le (place + 1) es (omega (arith, within)) in omega (arith, long)) in
       let whole : settled es place key place ≡ take place es ++ x ∷ [] =
-      ap (λ (xs : List Entry). take (place + 1) es ++ filter (stays_behind key) xs) none
+      ap (λ (xs : List Entry). take (place + 1) es ++ filter (stays_after key) xs) none
       ∙ append-nil (take (place + 1) es)
       ∙ take_more es place x within
       ∙ ap (λ (y : Entry). take place es ++ y ∷ []) (sym is) in
@@ -97,7 +97,7 @@ module _ (es : List Entry) (place : ℕ) (key : Key) (within : place < length es
         let one : suc from ≡ from + 1 = omega arith in
         read ∙ folding.rest from (omega arith) more next ∙ ap (λ (n : ℕ). digest_of_log (take n (without_place es place))) one
 
-    pub fold_gone : stays_behind key x ≡ false → IsFolding es place key (from + 1) kept ds next sum
+    pub fold_gone : stays_after key x ≡ false → IsFolding es place key (from + 1) kept ds next sum
     fold_gone gone =
         let same : settled es place key (from + 1) ≡ settled es place key from =
         next_settled from x after more is ∙ ap (λ (b : Bool). settled es place key from ++ cond b (x ∷ []) []) gone ∙ append-nil (settled es place key from) in
@@ -108,7 +108,7 @@ module _ (es : List Entry) (place : ℕ) (key : Key) (within : place < length es
           old = next_old;
         }
 
-    pub fold_stays : stays_behind key x ≡ true → kept ≤ from → from < length ds
+    pub fold_stays : stays_after key x ≡ true → kept ≤ from → from < length ds
         → IsFolding es place key (from + 1) (kept + 1) (set ds kept sum) next (xor_bytes (xor_bytes sum before) next)
     fold_stays stays down there =
         let all = settled es place key from in
@@ -139,9 +139,9 @@ module _ (es : List Entry) (place : ℕ) (key : Key) (within : place < length es
         }
 
   pub fold_end : (from kept : ℕ) (ds : List (List ℕ)) (before sum : List ℕ) → length es ≤ from + 1 → IsFolding es place key from kept ds before sum
-      → IsSummed (take (place + 1) es ++ filter (stays_behind key) (drop (place + 1) es)) (take kept ds ++ sum ∷ [])
+      → IsSummed (take (place + 1) es ++ filter (stays_after key) (drop (place + 1) es)) (take kept ds ++ sum ∷ [])
   fold_end from kept ds before sum end folding =
-      subst (λ (xs : List Entry). IsSummed (take (place + 1) es ++ filter (stays_behind key) (drop (place + 1) xs))
+      subst (λ (xs : List Entry). IsSummed (take (place + 1) es ++ filter (stays_after key) (drop (place + 1) xs))
       (take kept ds ++ sum ∷ [])) (take_all (from + 1) es end) folding.first
 
 -- ---- an entry put in

@@ -28,8 +28,8 @@ abbrev pub unsynced_part : Log → List Entry
 unsynced_part log = drop log.synced log.entries
 
 -- Whether an entry stays after one with this key: its key is above, and its id is another.
-abbrev pub stays_behind : Key → Entry → Bool
-stays_behind key x = key_below key x.key && not (id_eq (id_of key) (id_of x.key))
+abbrev pub stays_after : Key → Entry → Bool
+stays_after key x = key_below key x.key && not (id_eq (id_of key) (id_of x.key))
 
 -- Whether it loses its place to one with this key: its key is not above, and its id is another.
 abbrev pub is_displaced : Key → Entry → Bool
@@ -38,7 +38,7 @@ is_displaced key x = not (key_below key x.key) && not (id_eq (id_of key) (id_of 
 -- The log with the entry as the last of its synced part.
 abbrev pub log_with_synced : Log → Entry → Log
 log_with_synced log e =
-    record { entries = synced_part log ++ e ∷ filter (stays_behind e.key) (unsynced_part log); synced = log.synced + 1 }
+    record { entries = synced_part log ++ e ∷ filter (stays_after e.key) (unsynced_part log); synced = log.synced + 1 }
 
 -- The entries that lose their places to it.
 abbrev pub displaced_entries : Log → Entry → List Entry

@@ -5,7 +5,7 @@ ghost use Rattle.indexmap.specs.IndexMap.{get, spare};
 ghost use Rattle.nz_base.specs.declared.key.Id.{Id as IdModel};
 ghost use Rattle.nz_base.specs.Key.{id_eq};
 ghost use Rattle.nz_log.specs.Places.{place_of};
-ghost use Rattle.nz_log.specs.Synced.{stays_behind};
+ghost use Rattle.nz_log.specs.Synced.{stays_after};
 ghost use Rattle.nz_log.specs.Keeping.{IsMidway};
 
 use super::pages::Pages;
@@ -32,7 +32,7 @@ pub fn keep_above(entries: &mut Pages, places: &mut IndexMap<Id, u32>, from: usi
     requires within { from ≤ length entries.old }
     requires few { length entries.old < 2 ^ 32 }
     requires midway { IsMidway key (take from entries.old) (drop from entries.old) (get id_eq places.old) }
-    ensures entries { entries.new ≡ take from entries.old ++ filter (stays_behind key) (drop from entries.old) }
+    ensures entries { entries.new ≡ take from entries.old ++ filter (stays_after key) (drop from entries.old) }
     ensures places { (i : IdModel) → get id_eq places.new i ≡ place_of entries.new i }
 {
     let mut kept = from;

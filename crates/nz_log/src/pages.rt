@@ -4,6 +4,7 @@ ghost use Rattle.std.specs.Option.{option_copied};
 ghost use Rattle.nz_log.specs.Places.{last_entry};
 ghost use Rattle.nz_log.specs.Synced.{is_displaced};
 
+use super::parts::is_displaced;
 use super::PAGE;
 use nz_base::{Blob, Entry, EntryList, Key, List, NoMemory, TryCopy};
 use std::alloc::Global;
@@ -153,7 +154,7 @@ impl Pages {
         let mut list = List::new(alloc);
         for place in from..self.len() {
             let entry = self.get(place);
-            if !key.is_below(&entry.key) && key.id() != entry.key.id() {
+            if is_displaced(&key, entry) {
                 list.push(entry.copy(alloc)?)?;
             }
         }

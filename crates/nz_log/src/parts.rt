@@ -4,7 +4,7 @@ ghost use Rattle.std.specs.Prelude.{◌≡◌, ◌↔◌, ◌+◌, ◌≤◌, �
 ghost use Rattle.std.specs.Prelude.{IfOk, OnOk, OnErr, IfSome, IfNone, IsSome, IsTrue, IsFalse};
 ghost use Rattle.nz_base.specs.Log.{keys_of, has_id, is_above_last};
 ghost use Rattle.nz_log.specs.Places.{IsFirstPlace, digest_of_log};
-ghost use Rattle.nz_log.specs.Synced.{stays_behind, is_displaced, left_out};
+ghost use Rattle.nz_log.specs.Synced.{stays_after, is_displaced, left_out};
 
 use nz_base::{Entry, EntryList, Id, Key, List, MAX_ENTRIES, NoMemory, TryCopy};
 use nz_digest::Digest;
@@ -52,13 +52,27 @@ pub fn is_above(entries: &[Entry], key: &Key) -> bool
     }
 }
 
+/// Whether an entry stays after one with this key.
+pub fn stays_after(key: &Key, entry: &Entry) -> bool
+    ensures { result ≡ stays_after key.now entry.now }
+{
+    key.is_below(&entry.key) && key.id() != entry.key.id()
+}
+
+/// Whether an entry loses its place to one with this key.
+pub fn is_displaced(key: &Key, entry: &Entry) -> bool
+    ensures { result ≡ is_displaced key.now entry.now }
+{
+    !key.is_below(&entry.key) && key.id() != entry.key.id()
+}
+
 /// Copies of the entries that lose their places to one with this key.
 pub fn copy_displaced(alloc: Global, entries: &[Entry], key: Key) -> Result<EntryList, NoMemory>
     ensures { IfOk result (λ list. list ≡ filter (is_displaced key) entries.now) }
 {
     let mut list = List::new(alloc);
     for entry in entries {
-        if !key.is_below(&entry.key) && key.id() != entry.key.id() {
+        if is_displaced(&key, entry) {
             list.push(entry.copy(alloc)?)?;
         }
     }
@@ -82,16 +96,15 @@ pub fn copy_left_out(
     Ok(list)
 }
 
-// Removes the entries from a place on that do not stay after one with this key.
-fn remove_after(entries: &mut Vec<Entry>, from: usize, key: Key)
+// Of the entries from a place on keeps those that stay after one with this key.
+fn keep_after(entries: &mut Vec<Entry>, from: usize, key: Key)
     requires { from ≤ vec_len entries.old }
     ensures { entries.new.items ≡ take from entries.old.items
-        ++ filter (stays_behind key) (drop from entries.old.items) }
+        ++ filter (stays_after key) (drop from entries.old.items) }
 {
     let mut place = from;
     while place < entries.len() {
-        let other = &entries[place].key;
-        if key.is_below(other) && key.id() != other.id() {
+        if stays_after(&key, &entries[place]) {
             place += 1;
         } else {
             entries.remove(place);
@@ -104,11 +117,11 @@ pub fn put_at(entries: &mut Vec<Entry>, place: usize, entry: Entry) -> Result<()
     requires within { place ≤ vec_len entries.old }
     requires few { vec_len entries.old < MAX_ENTRIES }
     ensures ok { OnOk result (entries.new.items ≡ take place entries.old.items
-        ++ entry ∷ filter (stays_behind entry.key) (drop place entries.old.items)) }
+        ++ entry ∷ filter (stays_after entry.key) (drop place entries.old.items)) }
     ensures err { OnErr result (entries.new.items ≡ entries.old.items) }
 {
     let key = entry.key;
     entries.insert(place, entry)?;
-    remove_after(entries, place + 1, key);
+    keep_after(entries, place + 1, key);
     Ok(())
 }

@@ -3,11 +3,12 @@
 ghost use Rattle.std.specs.Prelude.{◌≡◌, ◌+◌, ◌≤◌, ◌<◌, ◌++◌, length, take, drop, filter, slice_index_or, vec_capacity, List};
 ghost use Rattle.nz_base.specs.declared.key.Entry.{Entry as EntryModel};
 ghost use Rattle.nz_log.specs.Places.{digest_of_log};
-ghost use Rattle.nz_log.specs.Synced.{stays_behind};
+ghost use Rattle.nz_log.specs.Synced.{stays_after};
 ghost use Rattle.nz_log.specs.Keeping.{IsSummed, digest_with, without_place};
 
 use super::pages::Pages;
-use nz_base::{Entry, Key};
+use super::parts::stays_after;
+use nz_base::Key;
 use nz_digest::Digest;
 
 /// The last of the digests with one more entry folded in.
@@ -33,13 +34,6 @@ fn digest_before(digests: &[Digest], place: usize) -> Digest
     }
 }
 
-// Whether an entry stays after one with this key.
-fn stays_behind(key: &Key, entry: &Entry) -> bool
-    ensures { result ≡ stays_behind key.now entry.now }
-{
-    key.is_below(&entry.key) && key.id() != entry.key.id()
-}
-
 /// An entry with this key was put in at a place, and the digests are those of the others. Puts in
 /// its digest, and keeps after it those of the entries that stay. No hash is computed but
 /// the key's: another entry's is what it added to the digest before it.
@@ -48,7 +42,7 @@ pub fn put_digest(digests: &mut Vec<Digest>, entries: &Pages, place: usize, key:
     requires room { length entries.now ≤ vec_capacity digests.old }
     requires here { (d : EntryModel) → (slice_index_or entries.now place d).key ≡ key }
     requires others { IsSummed (without_place entries.now place) digests.old.items }
-    ensures { IsSummed (take (place + 1) entries.now ++ filter (stays_behind key) (drop (place + 1) entries.now)) digests.new.items }
+    ensures { IsSummed (take (place + 1) entries.now ++ filter (stays_after key) (drop (place + 1) entries.now)) digests.new.items }
 {
     let mut before = digest_before(digests, place);
     let mut sum = before;
@@ -56,7 +50,7 @@ pub fn put_digest(digests: &mut Vec<Digest>, entries: &Pages, place: usize, key:
     let mut kept = place;
     for from in place..digests.len() {
         let after = digests[from];
-        let stays = stays_behind(&key, entries.get(from + 1));
+        let stays = stays_after(&key, entries.get(from + 1));
         if stays {
             digests[kept] = sum;
             kept += 1;

@@ -11,7 +11,7 @@ use Rattle.nz_base.specs.Key.{id_eq, id_of}
 use Rattle.nz_merge.specs.Merged.{merged}
 use Rattle.nz_merge.specs.declared.change.Change.{Change}
 use Rattle.nz_merge.proofs.Merging as merging
-use Rattle.nz_log.specs.Synced.{Log, unsynced_part, stays_behind, is_displaced, left_out}
+use Rattle.nz_log.specs.Synced.{Log, unsynced_part, stays_after, is_displaced, left_out}
 use Rattle.nz_buffers.specs.Buffers.{find_id}
 use Rattle.nz_msg.specs.declared.message.ViewChangeBody.{ViewChangeBody}
 use Rattle.nz_msg.specs.declared.message.Message.{Message}
@@ -84,8 +84,8 @@ synced_each P s e own h =
     let after = all_drop P s.log.synced s.log.entries h.log in
     record {
       log =
-          all_append P (take s.log.synced s.log.entries) (e ∷ filter (stays_behind e.key) (unsynced_part s.log))
-          (all_take P s.log.synced s.log.entries h.log) (own, all_filter P (stays_behind e.key) (unsynced_part s.log) after);
+          all_append P (take s.log.synced s.log.entries) (e ∷ filter (stays_after e.key) (unsynced_part s.log))
+          (all_take P s.log.synced s.log.entries h.log) (own, all_filter P (stays_after e.key) (unsynced_part s.log) after);
       early = all_filter P _ s.early h.early;
       late =
           all_filter P _ (s.late ++ filter (is_displaced e.key) (unsynced_part s.log))

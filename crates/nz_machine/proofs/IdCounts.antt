@@ -58,7 +58,7 @@ pub times_none : (i : Id) (xs : List Entry) → has_id (keys_of xs) i ≡ false 
 times_none i [] none = refl
 times_none i (x ∷ xs) none =
     let rest = times_none i xs (or_parts (id_eq i (id_of x.key)) (has_id (keys_of xs) i) none).1 in
-    rw (or_parts (id_eq i (id_of x.key)) (has_id (keys_of xs) i) none).0 (omega (arith, rest))
+    rw ((or_parts (id_eq i (id_of x.key)) (has_id (keys_of xs) i) none).0) (omega (arith, rest))
 
 pub none_times : (i : Id) (xs : List Entry) → times i xs ≡ 0 → has_id (keys_of xs) i ≡ false
 none_times i [] none = refl

@@ -14,7 +14,7 @@ use Rattle.nz_base.proofs.Booleans.{true_and_false}
 use Rattle.nz_base.proofs.Names.{same_id, same_key}
 use Rattle.nz_base.proofs.Logs.{keys_append, rising_prefix, rising_back, above_each, rising_filter, own_in_prefix}
 use Rattle.nz_base.specs.declared.limits.TheConstants.{MAX_ENTRIES}
-use Rattle.nz_log.specs.Synced.{Log, IsSound, synced_part, unsynced_part, stays_behind, is_displaced, log_with_synced, displaced_entries}
+use Rattle.nz_log.specs.Synced.{Log, IsSound, synced_part, unsynced_part, stays_after, is_displaced, log_with_synced, displaced_entries}
 use Rattle.nz_log.proofs.Modifying.{modified_sound}
 use Rattle.nz_buffers.specs.Buffers.{find_id, without}
 use Rattle.nz_msg.specs.Fields as fields
@@ -49,10 +49,10 @@ apart_held l es fs h =
 
 -- ---- an entry is synced
 
-parted : (key : Key) (x : Entry) → stays_behind key x ≡ true → is_displaced key x ≡ false
+parted : (key : Key) (x : Entry) → stays_after key x ≡ true → is_displaced key x ≡ false
 parted key x stays = let above = (and_parts (key_below key x.key) (not (id_eq (id_of key) (id_of x.key))) stays).0 in rw above refl
 
-other_stays : (key : Key) (x : Entry) → stays_behind key x ≡ true → id_eq (id_of key) (id_of x.key) ≡ false
+other_stays : (key : Key) (x : Entry) → stays_after key x ≡ true → id_eq (id_of key) (id_of x.key) ≡ false
 other_stays key x stays = not-true (id_eq (id_of key) (id_of x.key)) (and_parts (key_below key x.key) (not (id_eq (id_of key) (id_of x.key))) stays).1
 
 other_left : (i : Id) (x : Entry) → not (id_eq i (id_of x.key)) ≡ true → id_eq i (id_of x.key) ≡ false
@@ -67,7 +67,7 @@ pub own_synced : (log : Log) (early late : List Entry) (e : Entry) → AreApart 
 own_synced log early late e a fresh i =
     let prefix = synced_part log in
     let back = unsynced_part log in
-    let kept = filter (stays_behind e.key) back in
+    let kept = filter (stays_after e.key) back in
     let own = id_of e.key in
     let sum = times_all i (log_with_synced log e).entries (without early own) (without (late ++ displaced_entries log e) own) in
     let parts = times_append i prefix (e ∷ kept) in
@@ -76,7 +76,7 @@ own_synced log early late e a fresh i =
           let same : i ≡ own = same_id i own here in
           let first : times i (e ∷ kept) ≡ 1 + times i kept = rw here refl in
           let n0 : times i prefix ≡ 0 = subst (λ (j : Id). times j prefix ≡ 0) (sym same) (times_none own prefix fresh) in
-          let n1 : times i kept ≡ 0 = subst (λ (j : Id). times j kept ≡ 0) (sym same) (times_never own (stays_behind e.key) (other_stays e.key) back) in
+          let n1 : times i kept ≡ 0 = subst (λ (j : Id). times j kept ≡ 0) (sym same) (times_never own (stays_after e.key) (other_stays e.key) back) in
           let n2 : times i (without early own) ≡ 0 =
           subst (λ (j : Id). times j (without early own) ≡ 0) (sym same)
           (times_never own (λ x. not (id_eq own (id_of x.key))) (other_left own) early) in
@@ -86,7 +86,7 @@ own_synced log early late e a fresh i =
           omega (arith, sum, parts, first, n0, n1, n2, n3)
       | inr away ↦
           let first : times i (e ∷ kept) ≡ 0 + times i kept = rw away refl in
-          let split = times_parts i (stays_behind e.key) (is_displaced e.key) (parted e.key) back in
+          let split = times_parts i (stays_after e.key) (is_displaced e.key) (parted e.key) back in
           let n2 = times_filter i (λ x. not (id_eq own (id_of x.key))) early in
           let n3 = times_filter i (λ x. not (id_eq own (id_of x.key))) (late ++ displaced_entries log e) in
           let n4 = times_append i late (displaced_entries log e) in
@@ -113,7 +113,7 @@ apart_synced log early late e a fits above fresh room =
       waiting = rising_filter _ early a.waiting;
       own_ids = times_own _ (own_synced log early late e a fresh);
       fit = all_append FitsEntry (log_with_synced log e).entries _
-          (all_append FitsEntry prefix _ fit_prefix (fits, all_filter FitsEntry (stays_behind e.key) back fit_back))
+          (all_append FitsEntry prefix _ fit_prefix (fits, all_filter FitsEntry (stays_after e.key) back fit_back))
           (all_append FitsEntry _ _ (all_filter FitsEntry _ early (all_of_prefix FitsEntry early late fit_rest))
           (all_filter FitsEntry _ (late ++ displaced_entries log e)
           (all_append FitsEntry late (displaced_entries log e) (all_back FitsEntry early late fit_rest)

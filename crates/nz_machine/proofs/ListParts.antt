@@ -92,7 +92,7 @@ few_either p q (x ∷ xs) =
 none_of_id : (id : Id) (es : List Entry) → has_id (keys_of es) id ≡ false → length (filter (λ e. id_eq id (id_of e.key)) es) ≤ 0
 none_of_id id [] none = omega arith
 none_of_id id (e ∷ es) none =
-    rw (or_parts (id_eq id (id_of e.key)) (has_id (keys_of es) id) none).0
+    rw ((or_parts (id_eq id (id_of e.key)) (has_id (keys_of es) id) none).0)
     (none_of_id id es (or_parts (id_eq id (id_of e.key)) (has_id (keys_of es) id) none).1)
 
 -- of one id there is one entry at most

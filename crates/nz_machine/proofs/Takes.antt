@@ -35,7 +35,7 @@ use Rattle.nz_machine.proofs.KeysKeepFacts.{own_synced, found_fits}
 find_skips : (xs ys : List Entry) (i : Id) → has_id (keys_of xs) i ≡ false → find_id (xs ++ ys) i ≡ find_id ys i
 find_skips [] ys i none = refl
 find_skips (x ∷ xs) ys i none =
-    rw (or_parts (id_eq i (id_of x.key)) (has_id (keys_of xs) i) none).0
+    rw ((or_parts (id_eq i (id_of x.key)) (has_id (keys_of xs) i) none).0)
     (find_skips xs ys i (or_parts (id_eq i (id_of x.key)) (has_id (keys_of xs) i) none).1)
 
 pub find_after_synced : (log : Log) (i : Id) → has_id (keys_of (synced_part log)) i ≡ false → find_id log.entries i ≡ find_id (unsynced_part log) i

@@ -4,7 +4,7 @@ use Rattle.indexmap.specs.IndexMap.{get}
 use Rattle.nz_base.specs.declared.key.Id.{Id}
 use Rattle.nz_base.specs.declared.key.Entry.{Entry}
 use Rattle.nz_base.specs.Key.{id_eq, id_of}
-use Rattle.nz_log.specs.Synced.{stays_behind}
+use Rattle.nz_log.specs.Synced.{stays_after}
 use Rattle.nz_log.proofs.Indexing.{IsAlong, along_stays, along_gone}
 use Rattle.nz_log.proofs.index.keep_above.Goals as goal
 use Rattle.nz_log.proofs.index.keep_above.Goals.{then-is_below, else-is_below}
@@ -16,7 +16,7 @@ loop-place-preserved c =
     let place = c.loop-place.place in
     let x = c.get.result.now in
     let key = c.args.key in
-    let whole = take c.args.from c.args.entries.now ++ filter (stays_behind key) (drop c.args.from c.args.entries.now) in
+    let whole = take c.args.from c.args.entries.now ++ filter (stays_after key) (drop c.args.from c.args.entries.now) in
     let long : length es ≡ length c.args.entries.now = c.loop-place.invariant.long in
     let end : c.len-place-end.result ≡ length c.args.entries.now = c.len-place-end.ensures in
     let below : place < c.len-place-end.result = c.loop-place-test.true in

@@ -5,7 +5,7 @@ use Rattle.std.specs.Vec.{vec_len}
 use Rattle.std.proofs.lemmas.List.{get_or_default}
 use Rattle.nz_base.specs.declared.key.Entry.{Entry}
 use Rattle.nz_digest.specs.Digests.{xor_bytes}
-use Rattle.nz_log.specs.Synced.{stays_behind}
+use Rattle.nz_log.specs.Synced.{stays_after}
 use Rattle.nz_log.specs.Keeping.{IsSummed, without_place}
 use Rattle.nz_log.proofs.Putting.{IsFolding, fold_start, fold_gone, fold_stays, fold_end, others_long}
 use Rattle.nz_log.proofs.sums.put_digest.Goals as goal
@@ -59,7 +59,7 @@ loop-from-preserved c =
     let folding = c.loop-from.invariant.folding in
     elim c.if-stays.branch [
       | then-stays w ↦
-          let stays : stays_behind key x ≡ true = sym c.stays_behind-stays.ensures ∙ w.if-stays.true in
+          let stays : stays_after key x ≡ true = sym c.stays_after-stays.ensures ∙ w.if-stays.true in
           let now = fold_stays es place key within from kept ds before sum next x after more c.get.ensures c.index.ensures folding stays down there in
           let items : c.if-stays.digests.items ≡ set ds kept sum = ap (λ v. v.items) w.digests-is in
           let sums : c.if-stays.sum ≡ xor_bytes (xor_bytes sum before) next =
@@ -73,7 +73,7 @@ loop-from-preserved c =
                 (subst (λ (l : List (List ℕ)). IsFolding es place key (from + 1) (kept + 1) l next (xor_bytes (xor_bytes sum before) next)) (sym items) now));
           }
       | else-stays w ↦
-          let gone : stays_behind key x ≡ false = sym c.stays_behind-stays.ensures ∙ w.if-stays.false in
+          let gone : stays_after key x ≡ false = sym c.stays_after-stays.ensures ∙ w.if-stays.false in
           let now = fold_gone es place key within from kept ds before sum next x after more c.get.ensures c.index.ensures folding gone in
           let items : c.if-stays.digests.items ≡ ds = ap (λ v. v.items) w.digests-is in
           record {
@@ -101,5 +101,5 @@ returns c =
     let end : c.len-from-end.result ≡ vec_len c.args.digests.now = c.len-from-end.ensures in
     let done : c.len-from-end.result ≤ c.loop-from.from = c.loop-from-test.false in
     let items = c.push_reserved.ensures.items ∙ ap (λ (l : List (List ℕ)). l ++ sum ∷ []) c.truncate.ensures.items in
-    subst (IsSummed (take (place + 1) es ++ filter (stays_behind key) (drop (place + 1) es))) (sym items)
+    subst (IsSummed (take (place + 1) es ++ filter (stays_after key) (drop (place + 1) es))) (sym items)
     (fold_end es place key within c.loop-from.from kept ds c.loop-from.before sum (omega (arith, old, all, size, end, done)) c.loop-from.invariant.folding)

@@ -1,0 +1,21 @@
+-- What the loops of the function of this folder keep.
+use Rattle.std.proofs.Common.{◌≡◌, ◌≤◌, ◌-◌, ◌++◌, take, drop, length}
+use Rattle.std.specs.List.{filter}
+<<<<<<<< HEAD:crates/nz_log/proofs/parts/keep_after/Invariants.antt
+use Rattle.nz_log.specs.Synced.{stays_after}
+use Rattle.nz_log.proofs.parts.keep_after.Given as goal
+========
+use Rattle.nz_log.specs.Synced.{stays_after}
+use Rattle.nz_log.proofs.parts.keep_after.Given as goal
+>>>>>>>> ed731f6412389146d2da9b9a7fed2905d546ec76:crates/nz_log/proofs/parts/keep_after/Invariants.antt
+
+-- what is before the place stays, and of the rest what passes
+abbrev pub invariant-loop-place : goal.invariant-loop-place
+invariant-loop-place l = record {
+  within : l.place ≤ length l.entries.items;
+  kept : take l.place l.entries.items ++ filter (stays_after l.key) (drop l.place l.entries.items)
+      ≡ take l.from l.initial.entries.items ++ filter (stays_after l.key) (drop l.from l.initial.entries.items);
+}
+
+abbrev pub decreases-loop-place : goal.decreases-loop-place
+decreases-loop-place l = length l.entries.items - l.place
