@@ -1,13 +1,8 @@
 -- What the loops of the function of this folder keep.
 use Rattle.std.proofs.Common.{◌≡◌, ◌≤◌, ◌-◌, ◌++◌, take, drop, length}
 use Rattle.std.specs.List.{filter}
-<<<<<<<< HEAD:crates/nz_log/proofs/parts/keep_after/Invariants.antt
 use Rattle.nz_log.specs.Synced.{stays_after}
 use Rattle.nz_log.proofs.parts.keep_after.Given as goal
-========
-use Rattle.nz_log.specs.Synced.{stays_after}
-use Rattle.nz_log.proofs.parts.keep_after.Given as goal
->>>>>>>> ed731f6412389146d2da9b9a7fed2905d546ec76:crates/nz_log/proofs/parts/keep_after/Invariants.antt
 
 -- what is before the place stays, and of the rest what passes
 abbrev pub invariant-loop-place : goal.invariant-loop-place
