@@ -3,6 +3,7 @@ use Rattle.std.proofs.Common.{◌≡◌, ℕ, suc, ◌+◌, ◌-◌, ◌<◌, Bo
 use Rattle.std.proofs.Common.{zero, Option, Some, None, refl, sym, ap, subst, ◌∙◌, arith, lt-ltb, ltb-true}
 use Rattle.std.specs.Prelude.{nat_lt}
 use Rattle.std.specs.Option.{option_map, option_and_then, option_flatten}
+use Rattle.std.proofs.lemmas.Bool.{cond_both}
 use Rattle.nz_base.specs.declared.actor.Actor.{Actor}
 use Rattle.nz_base.specs.declared.actor.Actor.TheVariants.{Replica, Proxy, Client}
 use Rattle.nz_base.specs.declared.key.Id.{Id}
@@ -26,7 +27,7 @@ use Rattle.nz_machine.specs.Events.{ClientEvent, Accepted, id_at, read_in, accep
 use Rattle.nz_machine.specs.ClientProgress.{acceptance_events, request_events, events_of_telling}
 use Rattle.nz_machine.specs.History.{ReplySource, source, log_at, cut_at, cut_after, source_of_sender, accepted_source}
 use Rattle.nz_machine.specs.History.{prefix_at_source, accepted_prefix, entries_or, prefix_in, longer, history}
-use Rattle.nz_machine.proofs.Runs.{acts_itself, on_cond}
+use Rattle.nz_machine.proofs.Runs.{acts_itself}
 use Rattle.nz_machine.proofs.Accepting.{client_accepts}
 use Rattle.nz_audit.specs.declared.source.Source.{Source}
 use Rattle.nz_audit.specs.declared.sending.ParcelKey.{ParcelKey}
@@ -50,7 +51,7 @@ leads_later g r J es s h =
     }
 
 none_is_longer : (old : List Entry) → longer old [] ≡ old
-none_is_longer old = on_cond (λ (x : List Entry). x ≡ old) (nat_lt (length old) 0) [] old (λ t. absurd (omega (arith, ltb-true (length old) 0 t))) (λ _. refl)
+none_is_longer old = cond_both (nat_lt (length old) 0) [] old (λ (x : List Entry). x ≡ old) (λ t. absurd (omega (arith, ltb-true (length old) 0 t))) (λ _. refl)
 
 any_is_longer : (new : List Entry) → longer [] new ≡ new
 any_is_longer [] = refl
@@ -129,8 +130,8 @@ record IsAcceptedAs (c : ℕ) (s t : ClientData) (m : Message) (id : Id) : Type 
 answer_begins : (c : ℕ) (script : List Request) (s t : ClientData) (m : Message) (id : Id) → Begins (accepted_in c s t m ++ sent_by c script s t) id
     → IsAcceptedAs c s t m id
 answer_begins c script s t (Answer b) id =
-    on_cond (λ (l : List ClientEvent). Begins (l ++ sent_by c script s t) id → IsAcceptedAs c s t (Answer b) id) (nat_lt s.accepted t.accepted)
-    (Accepted (id_at c b.num) b.answer b.path ∷ []) []
+    cond_both (nat_lt s.accepted t.accepted)
+    (Accepted (id_at c b.num) b.answer b.path ∷ []) [] (λ (l : List ClientEvent). Begins (l ++ sent_by c script s t) id → IsAcceptedAs c s t (Answer b) id)
     (λ lt h. record { risen = ltb-true s.accepted t.accepted lt; body = b; message = refl; own = h }) (λ _ h. absurd (sent_begins c script s t id h))
 answer_begins c script s t _ id = λ h. absurd (sent_begins c script s t id h)
 

@@ -4,7 +4,7 @@ use Rattle.std.proofs.Common.{◌++◌, length, map, take, set, get_or, Option, 
 use Rattle.std.specs.Prelude.{slice_get}
 use Rattle.std.specs.List.{AllByRecursion, flat_map}
 use Rattle.std.proofs.lemmas.List.{length-append, map-append, append_assoc, append-nil, take_more, take_all}
-use Rattle.std.proofs.lemmas.Bool.{cases_lt, eq-eqb, false≢true, cases_Bool}
+use Rattle.std.proofs.lemmas.Bool.{cases_lt, eq-eqb, false≢true, cases_Bool, cond_both}
 use Rattle.nz_base.specs.declared.actor.Actor.TheVariants.{Client}
 use Rattle.nz_base.specs.declared.scenario.Request.{Request}
 use Rattle.nz_base.specs.declared.limits.TheConstants.{PATIENCE}
@@ -14,7 +14,6 @@ use Rattle.nz_machine.specs.State.{ClientData, Out}
 use Rattle.nz_machine.specs.Clients.{if_due, after_opening, open_next, fill_places, is_overdue}
 use Rattle.nz_machine.specs.Clients.{attempt_after_wait, retry, retries, is_open, without_attempt}
 use Rattle.nz_machine.specs.Step.{parcel}
-use Rattle.nz_machine.proofs.Runs.{on_cond}
 use Rattle.nz_client.specs.Seats.{ClientSeat, IsOfProxies}
 
 -- ---- without an open request there is at least one less
@@ -23,8 +22,8 @@ without_short : (num : ℕ) (xs : List Attempt) → length (without_attempt num 
 without_short num [] = omega arith
 without_short num (a ∷ xs) =
     let rest = without_short num xs in
-    on_cond (λ (l : List Attempt). length l ≤ length (a ∷ xs)) (not (eqb a.num num)) (a ∷ without_attempt num xs)
-    (without_attempt num xs) (λ _. omega (arith, rest)) (λ _. omega (arith, rest))
+    cond_both (not (eqb a.num num)) (a ∷ without_attempt num xs)
+    (without_attempt num xs) (λ (l : List Attempt). length l ≤ length (a ∷ xs)) (λ _. omega (arith, rest)) (λ _. omega (arith, rest))
 
 pub less_open : (num : ℕ) (xs : List Attempt) → is_open num xs ≡ true → length (without_attempt num xs) + 1 ≤ length xs
 less_open num [] e = absurd cc
@@ -42,7 +41,7 @@ less_open num (a ∷ xs) e = elim (cases_Bool (eqb a.num num)) [
 pub all_without : (P : Attempt → Type 0) (num : ℕ) (xs : List Attempt) → AllByRecursion P xs → AllByRecursion P (without_attempt num xs)
 all_without P num [] h = tt
 all_without P num (a ∷ xs) h =
-    on_cond (AllByRecursion P) (not (eqb a.num num)) (a ∷ without_attempt num xs) (without_attempt num xs)
+    cond_both (not (eqb a.num num)) (a ∷ without_attempt num xs) (without_attempt num xs) (AllByRecursion P)
     (λ _. (h.0, all_without P num xs h.1)) (λ _. all_without P num xs h.1)
 
 -- ---- an element at a place

@@ -2,6 +2,7 @@
 use Rattle.std.proofs.Common.{◌≡◌, ℕ, zero, suc, ◌+◌, ◌-◌, ◌%◌, ◌<◌, ◌≤◌, List, [], ◌∷◌, length, Option, Some, None, refl, arith}
 use Rattle.std.specs.Prelude.{slice_get}
 use Rattle.std.specs.List.{AllByRecursion}
+use Rattle.std.proofs.lemmas.Bool.{cond_both}
 use Rattle.nz_base.specs.declared.actor.Actor.{Actor}
 use Rattle.nz_base.specs.declared.actor.Actor.TheVariants.{Proxy}
 use Rattle.nz_base.specs.declared.scenario.Request.{Request}
@@ -15,7 +16,6 @@ use Rattle.nz_machine.specs.Clients.{if_due, after_opening, open_next, fill_plac
 use Rattle.nz_machine.specs.Clients.{request_again, retry, retries, wait_rule, is_open, after_acceptance, accept_rule}
 use Rattle.nz_machine.specs.Step.{client_message}
 use Rattle.nz_machine.specs.Events.{script_command}
-use Rattle.nz_machine.proofs.Runs.{on_cond}
 use Rattle.nz_machine.proofs.EachItem.{all_append, all_imply}
 use Rattle.nz_machine.proofs.InTurn.{Rises, rises_most, InTurn, if_due_is}
 use Rattle.nz_machine.proofs.ProgressIsTold.{own_command}
@@ -92,7 +92,7 @@ retries_asked proxies low script (a ∷ xs) high sent h le =
     let above = h.0 in
     let most = rises_most a.num xs high h.1 in
     all_append (λ (o : Out). AskedFrom script sent o.1) (retry proxies script a) (retries proxies script xs)
-    (on_cond (AllAsked script sent) (is_overdue a) _ []
+    (cond_both (is_overdue a) _ [] (AllAsked script sent)
     (λ _. again_asked ((a.proxy + 1) % proxies) a.num sent script (slice_get script (a.num - 1))
     (omega (arith, above)) (omega (arith, most, le)) refl) (λ _. tt))
     (retries_asked proxies a.num script xs high sent h.1 le)
@@ -114,7 +114,7 @@ accept_asked : (window proxies me : ℕ) (script : List Request) (s : ClientData
 unfolding accept_rule
 accept_asked window proxies me script s b =
     let now = after_acceptance b.num s in
-    on_cond (λ (t : ClientData × List Out). AllAsked script t.0.sent t.1) (is_open b.num s.attempts) (fill_window window proxies me script now) (s, [])
+    cond_both (is_open b.num s.attempts) (fill_window window proxies me script now) (s, []) (λ (t : ClientData × List Out). AllAsked script t.0.sent t.1)
     (λ _. places_asked (window - length now.attempts) proxies me script now) (λ _. tt)
 
 pub message_asked : (window proxies me : ℕ) (script : List Request) (s : ClientData) (from : Actor) (m : Message)

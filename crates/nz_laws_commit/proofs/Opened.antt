@@ -1,7 +1,7 @@
 -- At each moment a client has at most as many requests open as its window has places.
 use Rattle.std.proofs.Common.{◌≡◌, ℕ, zero, suc, ◌+◌, ◌-◌, ◌<◌, ◌≤◌, eqb, eqb-true, Bool, true, false, cond, nat_lt, List}
 use Rattle.std.proofs.Common.{[], ◌∷◌, ◌++◌, Option, Some, None, refl, sym, ap, subst, ◌∙◌, arith, inl, inr, ◌⊎◌, lt-ltb}
-use Rattle.std.proofs.lemmas.Bool.{cases_lt, eq-eqb}
+use Rattle.std.proofs.lemmas.Bool.{cases_lt, eq-eqb, cond_both}
 use Rattle.nz_base.specs.Actor.{actor_eq}
 use Rattle.nz_base.specs.declared.actor.Actor.{Actor}
 use Rattle.nz_base.specs.declared.actor.Actor.TheVariants.{Replica, Proxy, Client}
@@ -17,7 +17,7 @@ use Rattle.nz_machine.specs.State.{ClientData, Group}
 use Rattle.nz_machine.specs.Step.{script_of, accepted_envelope, envelope_step, event_step}
 use Rattle.nz_machine.specs.World.{state_after}
 use Rattle.nz_machine.specs.Events.{ClientEvent, Sent, Accepted, id_at, read_in, accepted_in, accepted_by, sent_after, sent_by, client_events, events}
-use Rattle.nz_machine.proofs.Runs.{acts_itself, stays, on_cond}
+use Rattle.nz_machine.proofs.Runs.{acts_itself, stays}
 use Rattle.nz_machine.proofs.InTurn.{InTurn, tick_fills}
 use Rattle.nz_machine.proofs.Accepting.{client_accepts}
 use Rattle.nz_laws_commit.specs.Once.{count_sent, count_accepted}
@@ -46,7 +46,7 @@ few_after : (c k : ℕ) (script : List Request) (n more : ℕ) → count_sent c 
 few_after c k script n zero = omega arith
 few_after c k script n (suc more) =
     let rest = few_after c k script (n + 1) more in
-    on_cond (λ (m : ℕ). m ≤ suc more) (eqb k c) (suc (count_sent c (sent_after k script (n + 1) more))) (count_sent c (sent_after k script (n + 1) more))
+    cond_both (eqb k c) (suc (count_sent c (sent_after k script (n + 1) more))) (count_sent c (sent_after k script (n + 1) more)) (λ (m : ℕ). m ≤ suc more)
     (λ _. omega (arith, rest)) (λ _. omega (arith, rest))
 
 -- and none by another one
@@ -58,8 +58,8 @@ none_after c k script n (suc more) e =
 
 none_sent_in : (c k : ℕ) (before after : ClientData) (m : Message) → count_sent c (accepted_in k before after m) ≡ 0
 none_sent_in c k before after (Answer b) =
-    on_cond (λ (E : List ClientEvent). count_sent c E ≡ 0) (nat_lt before.accepted after.accepted)
-    (Accepted (id_at k b.num) b.answer b.path ∷ []) [] (λ _. refl) (λ _. refl)
+    cond_both (nat_lt before.accepted after.accepted)
+    (Accepted (id_at k b.num) b.answer b.path ∷ []) [] (λ (E : List ClientEvent). count_sent c E ≡ 0) (λ _. refl) (λ _. refl)
 none_sent_in c k before after _ = refl
 
 none_sent : (c k : ℕ) (before after : ClientData) (o : Option Envelope) → count_sent c (accepted_by k before after o) ≡ 0

@@ -1,6 +1,7 @@
 -- Each command in a message or with a replica was sent by its client before, under its id.
 use Rattle.std.proofs.Common.{◌≡◌, ℕ, List, [], ◌∷◌, ◌++◌, Some, None, sym, subst}
 use Rattle.std.specs.List.{AllByRecursion}
+use Rattle.std.proofs.lemmas.Bool.{cond_both}
 use Rattle.nz_base.specs.declared.actor.Actor.{Actor}
 use Rattle.nz_base.specs.declared.actor.Actor.TheVariants.{Replica, Proxy, Client}
 use Rattle.nz_base.specs.declared.key.Id.{Id}
@@ -23,7 +24,7 @@ use Rattle.nz_machine.specs.Shows.{ReplicaShows, ProxyShows}
 use Rattle.nz_machine.specs.Step.{first, script_of, replica_message, message_step, tick_rule, tick_step, alarm_step, crash_step, restart_step}
 use Rattle.nz_machine.specs.World.{state_after, Has, World}
 use Rattle.nz_machine.specs.Events.{ClientEvent, Sent, id_at, client_events, events}
-use Rattle.nz_machine.proofs.Runs.{group_of, KeepsMore, holds, keeps_both, all_has, has_left, on_cond}
+use Rattle.nz_machine.proofs.Runs.{group_of, KeepsMore, holds, keeps_both, all_has, has_left}
 use Rattle.nz_machine.proofs.EachItem.{all_filter, all_imply}
 use Rattle.nz_machine.proofs.Moves.{Brings}
 use Rattle.nz_machine.proofs.EachEntry.{IsOwn, EachEntry, message_each, tick_each, alarm_each, none_each, crash_each, restart_each}
@@ -208,7 +209,7 @@ message_step_sent : (g : Group) (E : List ClientEvent) (a : Actor) (s : State a)
     → Known g E a s (message_step g a s from m).0 → MessageSent E from m → StateSent E a s → StepSent E a (message_step g a s from m)
 message_step_sent g E (Replica r) s from m fair may known sent h =
     replica_step_sent g E r (Some (from, m)) s (message_step g (Replica r) s from m) (message_step_shows g (Replica r) s from m fair may)
-    (on_cond (λ (t : ReplicaData × List Out). EachEntry (WasSent E) t.0) (is_down s.status) (s, []) (replica_message g.f r s from m) (λ _. h)
+    (cond_both (is_down s.status) (s, []) (replica_message g.f r s from m) (λ (t : ReplicaData × List Out). EachEntry (WasSent E) t.0) (λ _. h)
     (λ _. replica_sent E g.f r s from m sent h))
 message_step_sent g E (Proxy p) s from m fair may known sent h =
     proxy_step_sent g E p (Some (from, m)) s (message_step g (Proxy p) s from m) sent (message_step_shows g (Proxy p) s from m fair may)
@@ -222,7 +223,7 @@ tick_step_sent : (g : Group) (E : List ClientEvent) (a : Actor) (s : State a) (c
     → StepSent E a (tick_step g a s clock)
 tick_step_sent g E (Replica r) s clock may known h =
     replica_step_sent g E r None s (tick_step g (Replica r) s clock) (tick_step_shows g (Replica r) s clock may)
-    (on_cond (λ (t : ReplicaData × List Out). EachEntry (WasSent E) t.0) (is_down s.status) (s, []) (tick_rule g.f r s clock) (λ _. h)
+    (cond_both (is_down s.status) (s, []) (tick_rule g.f r s clock) (λ (t : ReplicaData × List Out). EachEntry (WasSent E) t.0) (λ _. h)
     (λ _. tick_each (WasSent E) g.f r s clock (own_sent E g.f r None (λ e none. absurd none)) h))
 tick_step_sent g E (Proxy p) s clock may known h = proxy_step_sent g E p None s (tick_step g (Proxy p) s clock) tt (tick_step_shows g (Proxy p) s clock may)
 tick_step_sent g E (Client c) s clock may known h =

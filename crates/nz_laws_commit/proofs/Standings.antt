@@ -1,6 +1,7 @@
 -- What a step does to what a proxy knows of a request.
 use Rattle.std.proofs.Common.{◌≡◌, ℕ, Bool, true, false, cond, List, [], Option, Some, None, refl, sym, ap, subst, ◌∙◌}
 use Rattle.std.specs.Map.{lookup}
+use Rattle.std.proofs.lemmas.Bool.{cond_both}
 use Rattle.indexmap.specs.IndexMap.{insert_entry}
 use Rattle.nz_base.specs.declared.actor.Actor.{Actor}
 use Rattle.nz_base.specs.declared.actor.Actor.TheVariants.{Replica, Proxy, Client}
@@ -23,7 +24,6 @@ use Rattle.nz_machine.specs.Proxies.{after_replica_reply, reply_rule, of_fast, o
 use Rattle.nz_machine.specs.Step.{proxy_message, accepted_envelope, envelope_step, event_step}
 use Rattle.nz_machine.specs.Events.{read_in}
 use Rattle.nz_machine.specs.History.{reply_in, reply_read}
-use Rattle.nz_machine.proofs.Runs.{on_cond}
 use Rattle.nz_machine.proofs.Lookups.{lookup_inserted, lookup_other}
 
 -- ---- moves of a standing
@@ -103,7 +103,7 @@ message_moves f s x _ _ = Stays refl
 -- a proxy that is down hears nothing
 up_moves : (f : ℕ) (heard : Option Reply) (s : ProxyData) (x : Id) (t : ProxyData × List Out) → Moves f heard (standing_of s x) (standing_of t.0 x)
     → Moves f heard (standing_of s x) (standing_of (cond s.is_down (s, []) t).0 x)
-up_moves f heard s x t h = on_cond (λ (u : ProxyData × List Out). Moves f heard (standing_of s x) (standing_of u.0 x)) s.is_down (s, []) t (λ _. Stays refl)
+up_moves f heard s x t h = cond_both s.is_down (s, []) t (λ (u : ProxyData × List Out). Moves f heard (standing_of s x) (standing_of u.0 x)) (λ _. Stays refl)
     (λ _. h)
 
 envelope_moves : (g : Group) (q : ℕ) (s : ProxyData) (x : Id) (o : Option Envelope)
@@ -119,5 +119,5 @@ event_moves g q s x (Cut p kept) = Stays refl
 event_moves g q s x (Tick clock) = up_moves g.f None s x (clock_rule s clock, []) (Stays refl)
 event_moves g q s x Alarm = Stays refl
 event_moves g q s x Crash = Forgets refl
-event_moves g q s x (Restart nonce) = on_cond (λ (t : ProxyData). Moves g.f None (standing_of s x) (standing_of t x)) s.is_down (first_proxy g.f) s
+event_moves g q s x (Restart nonce) = cond_both s.is_down (first_proxy g.f) s (λ (t : ProxyData). Moves g.f None (standing_of s x) (standing_of t x))
     (λ _. Forgets refl) (λ _. Stays refl)

@@ -1,5 +1,6 @@
 -- What a tick releases: entries are appended to the log, and nothing else changes that turns speak of.
 use Rattle.std.proofs.Common.{◌≡◌, ℕ, Bool, true, false, List, [], ◌∷◌, length, refl, ◌∙◌}
+use Rattle.std.proofs.lemmas.Bool.{cond_both}
 use Rattle.nz_base.specs.declared.key.Entry.{Entry}
 use Rattle.nz_base.proofs.Prefixes.{prefix_self, prefix_more, prefix_then}
 use Rattle.nz_base.proofs.Booleans.{true_and_false}
@@ -7,7 +8,6 @@ use Rattle.nz_log.specs.Synced.{Log}
 use Rattle.nz_machine.specs.State.{ReplicaData, Out}
 use Rattle.nz_machine.specs.Replicas.{is_normal, leads}
 use Rattle.nz_machine.specs.Releases.{log_with_entry, after_release, releases, release_rule, may_release, at_clock}
-use Rattle.nz_machine.proofs.Runs.{on_cond}
 use Rattle.nz_laws_cv.proofs.Turns.{seat_of, holding, Appends}
 
 -- one entry more
@@ -39,7 +39,7 @@ pub releases_are : (f me : ℕ) (s : ReplicaData) (es : List Entry) → IsReleas
 unfolding releases
 releases_are f me s [] = record { seat = refl; log = appends_none (leads f me s) s.log }
 releases_are f me s (e ∷ es) =
-    on_cond (λ (t : ReplicaData × List Out). IsRelease f me s t.0) (may_release s e) _ (s, [])
+    cond_both (may_release s e) _ (s, []) (λ (t : ReplicaData × List Out). IsRelease f me s t.0)
     (λ _. let rest = releases_are f me (after_release f me s e es) es in record {
       seat = rest.seat;
       log = appends_then (leads f me s) s.log e (releases f me (after_release f me s e es) es).0.log rest.log;
@@ -49,7 +49,7 @@ releases_are f me s (e ∷ es) =
 pub release_is : (f me : ℕ) (s : ReplicaData) (clock : ℕ) → IsRelease f me s (release_rule f me s clock).0
 unfolding release_rule
 release_is f me s clock =
-    on_cond (λ (t : ReplicaData × List Out). IsRelease f me s t.0) (is_normal s.status) (releases f me (at_clock s clock) s.early) (at_clock s clock, [])
+    cond_both (is_normal s.status) (releases f me (at_clock s clock) s.early) (at_clock s clock, []) (λ (t : ReplicaData × List Out). IsRelease f me s t.0)
     (λ _. let all = releases_are f me (at_clock s clock) s.early in record { seat = all.seat; log = all.log })
     (λ _. record { seat = refl; log = appends_none (leads f me s) s.log })
 
@@ -57,6 +57,6 @@ release_is f me s clock =
 pub no_release : (f me : ℕ) (s : ReplicaData) (clock : ℕ) → is_normal s.status ≡ false → seat_of (release_rule f me s clock).0 ≡ seat_of s
 unfolding release_rule
 no_release f me s clock h =
-    on_cond (λ (t : ReplicaData × List Out). seat_of t.0 ≡ seat_of s) (is_normal s.status) (releases f me (at_clock s clock) s.early) (at_clock s clock, [])
+    cond_both (is_normal s.status) (releases f me (at_clock s clock) s.early) (at_clock s clock, []) (λ (t : ReplicaData × List Out). seat_of t.0 ≡ seat_of s)
     (λ normal. true_and_false (is_normal s.status) normal h)
     (λ _. refl)

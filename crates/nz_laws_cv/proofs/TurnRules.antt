@@ -1,7 +1,7 @@
 -- Each rule of a replica is one turn.
 use Rattle.std.proofs.Common.{◌≡◌, cond, ℕ, ◌+◌, ◌≤◌, ◌<◌, Bool, ◌&&◌, eqb, true, false, List, [], ◌∷◌, length, max}
 use Rattle.std.proofs.Common.{Option, Some, None, refl, sym, ap, subst, ◌∙◌, inl, inr, ◌⊎◌, arith, eqb-true}
-use Rattle.std.proofs.lemmas.Bool.{and_parts}
+use Rattle.std.proofs.lemmas.Bool.{and_parts, cond_both}
 use Rattle.std.specs.Prelude.{nat_lt, nat_le, min, map, drop, ◌-◌}
 use Rattle.std.proofs.lemmas.Bool.Decides.{nat_tests}
 use Rattle.nz_base.specs.Cluster.{leader_of, slow_size}
@@ -51,7 +51,7 @@ use Rattle.nz_machine.specs.Rejoining.{crash_rule, restart_rule, restarted_repli
 use Rattle.nz_machine.specs.Rejoining.{ask_log, ask_again, with_tell, latest_view, vector_ask_rule, vector_tell_rule, rejoin_ask_rule}
 use Rattle.nz_machine.specs.Rejoining.{rejoin_tell_rule, state_ask_rule, state_tell_rule, rejoin_timer, is_phase}
 use Rattle.nz_machine.specs.Step.{replica_message, tick_rule, mode_timer, accepted_envelope, envelope_step, event_step}
-use Rattle.nz_machine.proofs.Runs.{on_cond, unless_down}
+use Rattle.nz_machine.proofs.Runs.{unless_down}
 use Rattle.nz_machine.proofs.Guards.{HearsLeader, hears_leader_parts}
 use Rattle.nz_laws_cv.proofs.Turns.{Seat, seat_of, merging, holding, committing, entering, starting, with_changes, fresh_changes, with_change}
 use Rattle.nz_laws_cv.proofs.Turns.{begun_log, begun_commit, more_tellers, Appends, Same, More, IsNew, MayLead, Base, Anew, Going}
@@ -154,7 +154,7 @@ module _ (f me : ℕ) (e : Event) where
       let is : IsNew heard (seat_of s) sender (messages.LogMod b) b.vector = record { is = refl; carries = refl; new = new } in
       let t = after_hearing (with_vector me s b.vector) in
       let u = (sync_keys t (drop (t.log.synced - b.start) b.keys)).0 in
-      on_cond (λ (x : ReplicaData × List Out). Turns heard s x.0) (nat_lt s.log.synced b.start) _ _
+      cond_both (nat_lt s.log.synced b.start) _ _ (λ (x : ReplicaData × List Out). Turns heard s x.0)
       (λ _. Merge sender (messages.LogMod b) b.vector is hears.normal)
       (λ within.
       subst (λ (x : Seat). Turn f me e heard (seat_of s) (committing x (max x.commit (min b.commit x.log.synced))))
@@ -165,27 +165,27 @@ module _ (f me : ℕ) (e : Event) where
   unfolding log_mod_rule enter_view
   log_mod_turn s sender b =
       let heard : Heard = Some (Replica sender, messages.LogMod b) in
-      on_cond (λ (x : ReplicaData × List Out). Turns heard s x.0) (hears_later_leader f s b.view sender)
+      cond_both (hears_later_leader f s b.view sender)
       (unless_stray me s sender b.vector (enter_view f me b.view))
-      (cond (hears_leader f me s b.view sender) (unless_stray me s sender b.vector (λ (t : ReplicaData). after_log_mod sender b (after_hearing t))) (s, []))
+      (cond (hears_leader f me s b.view sender) (unless_stray me s sender b.vector (λ (t : ReplicaData). after_log_mod sender b (after_hearing t))) (s, [])) (λ (x : ReplicaData × List Out). Turns heard s x.0)
       (λ later.
       let parts = hears_later_parts f s b.view sender later in
-      on_cond (λ (x : ReplicaData × List Out). Turns heard s x.0) (is_stray b.vector sender s.vector)
-      (s, []) (enter_view f me b.view (with_vector me s b.vector)) (λ _. Stays)
+      cond_both (is_stray b.vector sender s.vector)
+      (s, []) (enter_view f me b.view (with_vector me s b.vector)) (λ (x : ReplicaData × List Out). Turns heard s x.0) (λ _. Stays)
       (λ new. Follow sender (messages.LogMod b) b.vector (record { is = refl; carries = refl; new = new }) b.view parts.up parts.later))
       (λ _.
-      on_cond (λ (x : ReplicaData × List Out). Turns heard s x.0) (hears_leader f me s b.view sender)
-      (unless_stray me s sender b.vector (λ (t : ReplicaData). after_log_mod sender b (after_hearing t))) (s, [])
+      cond_both (hears_leader f me s b.view sender)
+      (unless_stray me s sender b.vector (λ (t : ReplicaData). after_log_mod sender b (after_hearing t))) (s, []) (λ (x : ReplicaData × List Out). Turns heard s x.0)
       (λ hears.
-      on_cond (λ (x : ReplicaData × List Out). Turns heard s x.0) (is_stray b.vector sender s.vector)
-      (s, []) (after_log_mod sender b (after_hearing (with_vector me s b.vector))) (λ _. Stays)
+      cond_both (is_stray b.vector sender s.vector)
+      (s, []) (after_log_mod sender b (after_hearing (with_vector me s b.vector))) (λ (x : ReplicaData × List Out). Turns heard s x.0) (λ _. Stays)
       (λ new. own_turn s sender b new (hears_leader_parts f me s b.view sender hears)))
       (λ _. Stays))
 
   pub sync_report_turn : (heard : Heard) (s : ReplicaData) (sender : ℕ) (b : SyncReportBody) → Turns heard s (sync_report_rule f me s sender b).0
   unfolding sync_report_rule
   sync_report_turn heard s sender b =
-      on_cond (λ (x : ReplicaData × List Out). Turns heard s x.0) (leads_view f me s && (eqb b.view s.view && nat_le b.synced (length s.log.entries))) _ (s, [])
+      cond_both (leads_view f me s && (eqb b.view s.view && nat_le b.synced (length s.log.entries))) _ (s, []) (λ (x : ReplicaData × List Out). Turns heard s x.0)
       (λ tested.
       let led = (and_parts (leads_view f me s) _ tested).0 in
       Tally _ (and_parts (is_normal s.status) (leads f me s) led).0 (and_parts (is_normal s.status) (leads f me s) led).1 (omega arith))
@@ -235,9 +235,9 @@ module _ (f me : ℕ) (e : Event) where
       (with_change u.changes sender b)))
       (sym is) (λ full. Begin sender b new may base on full) in
       let merged_log = merged f (changes_of me (with_report t sender b)) in
-      on_cond (λ (x : ReplicaData × List Out). Turns heard s x.0) (eqb (length (with_change t.changes sender b)) f) (begin f me (with_report t sender b))
-      (with_report t sender b, [])
-      (λ full. on_cond (λ (x : ReplicaData × List Out). Turns heard s x.0) (nat_lt MAX_ENTRIES (length merged_log)) (with_report t sender b, []) _
+      cond_both (eqb (length (with_change t.changes sender b)) f) (begin f me (with_report t sender b))
+      (with_report t sender b, []) (λ (x : ReplicaData × List Out). Turns heard s x.0)
+      (λ full. cond_both (nat_lt MAX_ENTRIES (length merged_log)) (with_report t sender b, []) _ (λ (x : ReplicaData × List Out). Turns heard s x.0)
       (λ _. going) (λ _. begun (eqb-true _ _ full)))
       (λ _. going)
 
@@ -360,7 +360,7 @@ module _ (f me : ℕ) (e : Event) where
   normal_turn heard s t is normal =
       let view : t.view ≡ s.view = ap (λ (x : Seat). x.view) is.seat in
       let leads_as : leads f me t ≡ leads f me s = ap (λ (v : ℕ). eqb (leader_of f v) me) view in
-      on_cond (λ (x : ReplicaData × List Out). Turns heard s x.0) (leads f me t) _ (quiet_timer f me t)
+      cond_both (leads f me t) _ (quiet_timer f me t) (λ (x : ReplicaData × List Out). Turns heard s x.0)
       (λ _. subst (λ (u : Seat). Turn f me e heard (seat_of s) u) (sym is.seat) (Release t.log normal is.log))
       (λ follows.
       let others = sym leads_as ∙ follows in

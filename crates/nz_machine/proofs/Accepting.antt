@@ -1,5 +1,6 @@
 -- A client accepts only a proxy's answer to an open request.
 use Rattle.std.proofs.Common.{◌≡◌, ℕ, ◌<◌, true, List, [], Some, refl, arith}
+use Rattle.std.proofs.lemmas.Bool.{cond_both}
 use Rattle.nz_base.specs.declared.actor.Actor.{Actor}
 use Rattle.nz_base.specs.declared.actor.Actor.TheVariants.{Proxy, Client}
 use Rattle.nz_base.specs.declared.scenario.Request.{Request}
@@ -10,7 +11,6 @@ use Rattle.nz_msg.specs.declared.envelope.Envelope.{Envelope}
 use Rattle.nz_machine.specs.State.{ClientData, Group, Out}
 use Rattle.nz_machine.specs.Clients.{fill_window, is_open, after_acceptance, accept_rule}
 use Rattle.nz_machine.specs.Step.{script_of, client_message, envelope_step}
-use Rattle.nz_machine.proofs.Runs.{on_cond}
 
 -- the message is a proxy's answer to an open request
 pub record IsAnswerTo (s : ClientData) (from : Actor) (m : Message) : Type 0 where
@@ -25,8 +25,8 @@ accept_is : (window proxies me p : ℕ) (script : List Request) (s : ClientData)
     → IsAnswerTo s (Proxy p) (Answer b)
 unfolding accept_rule
 accept_is window proxies me p script s b =
-    on_cond (λ (t : ClientData × List Out). s.accepted < t.0.accepted → IsAnswerTo s (Proxy p) (Answer b)) (is_open b.num s.attempts)
-    (fill_window window proxies me script (after_acceptance b.num s)) (s, [])
+    cond_both (is_open b.num s.attempts)
+    (fill_window window proxies me script (after_acceptance b.num s)) (s, []) (λ (t : ClientData × List Out). s.accepted < t.0.accepted → IsAnswerTo s (Proxy p) (Answer b))
     (λ t _. record { proxy = p; body = b; sender = refl; message = refl; held = t }) (λ _ lt. absurd (omega (arith, lt)))
 
 message_accepts : (window proxies me : ℕ) (script : List Request) (s : ClientData) (from : Actor) (m : Message)

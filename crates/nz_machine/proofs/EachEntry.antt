@@ -3,6 +3,7 @@ use Rattle.std.proofs.Common.{◌≡◌, ℕ, true, not, List, [], ◌∷◌, �
 use Rattle.std.specs.Prelude.{IfSome, ◌==◌}
 use Rattle.std.specs.List.{AllByRecursion, filter}
 use Rattle.std.specs.Option.{option_or}
+use Rattle.std.proofs.lemmas.Bool.{cond_both}
 use Rattle.nz_base.specs.declared.actor.Actor.{Actor}
 use Rattle.nz_base.specs.declared.actor.Actor.TheVariants.{Replica}
 use Rattle.nz_base.specs.declared.key.Id.{Id}
@@ -28,7 +29,6 @@ use Rattle.nz_machine.specs.Rejoining.{crash_rule, restart_rule}
 use Rattle.nz_machine.specs.World.{Has}
 use Rattle.nz_machine.specs.LogMods.{entry_of_id, synced_with, is_still_early}
 use Rattle.nz_machine.specs.Step.{replica_message, tick_rule}
-use Rattle.nz_machine.proofs.Runs.{on_cond}
 use Rattle.nz_machine.proofs.EachItem.{all_append, all_of_prefix, all_back, all_filter, all_insert}
 use Rattle.nz_machine.proofs.ListParts.{all_take, all_drop, find_each}
 use Rattle.nz_machine.specs.Hearing.{Heard}
@@ -73,7 +73,7 @@ pub released_each : (P : Entry → Type 0) (f me : ℕ) (s : ReplicaData) (e : E
 released_each P f me s e es h all =
     let grown = all_append P s.log.entries (e ∷ []) h.log (all.0, tt) in
     record {
-      log = on_cond (λ (l : Log). AllByRecursion P l.entries) (leads f me s) _ _ (λ _. grown) (λ _. grown);
+      log = cond_both (leads f me s) _ _ (λ (l : Log). AllByRecursion P l.entries) (λ _. grown) (λ _. grown);
       early = all.1;
       late = h.late;
       reports = h.reports;
@@ -187,7 +187,7 @@ crash_each P f s = record { log = tt; early = tt; late = tt; reports = tt }
 pub restart_each : (P : Entry → Type 0) (f me : ℕ) (s : ReplicaData) (nonce : ℕ) → EachEntry P s → EachEntry P (restart_rule f me s nonce).0
 unfolding restart_rule
 restart_each P f me s nonce h =
-    on_cond (λ (t : ReplicaData × List Out). EachEntry P t.0) (is_down s.status) _ (s, [])
+    cond_both (is_down s.status) _ (s, []) (λ (t : ReplicaData × List Out). EachEntry P t.0)
     (λ _. record { log = tt; early = tt; late = tt; reports = tt }) (λ _. h)
 
 -- ---- entries that fit

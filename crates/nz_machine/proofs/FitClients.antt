@@ -2,6 +2,7 @@
 use Rattle.std.proofs.Common.{◌≡◌, ℕ, zero, suc, ◌+◌, ◌-◌, ◌%◌, ◌<◌, ◌≤◌, List, [], ◌∷◌, length, map, Option, Some, None, refl, subst, arith}
 use Rattle.std.specs.Prelude.{IfSome, slice_get, slice_index_or, fold}
 use Rattle.std.specs.List.{AllByRecursion}
+use Rattle.std.proofs.lemmas.Bool.{cond_both}
 use Rattle.nz_base.specs.declared.actor.Actor.{Actor}
 use Rattle.nz_base.specs.declared.actor.Actor.TheVariants.{Proxy, Client}
 use Rattle.nz_base.specs.declared.scenario.Request.{Request}
@@ -14,7 +15,7 @@ use Rattle.nz_machine.specs.Clients.{ask, if_due, after_opening, open_next, fill
 use Rattle.nz_machine.specs.Clients.{request_again, retry, retries, wait_rule, is_open, after_acceptance, accept_rule}
 use Rattle.nz_machine.specs.Step.{script_of, client_message}
 use Rattle.nz_machine.specs.World.{IsAsked, IsGroup}
-use Rattle.nz_machine.proofs.Runs.{FitsOut, AllFit, on_cond}
+use Rattle.nz_machine.proofs.Runs.{FitsOut, AllFit}
 use Rattle.nz_machine.proofs.EachItem.{all_append}
 use Rattle.nz_machine.proofs.ListParts.{all_get, all_index}
 use Rattle.nz_machine.proofs.SentFields.{command_fits}
@@ -78,7 +79,7 @@ again_fits proxies me script proxy num i (Some r) c below few e = let short = c.
 retry_fits : (proxies me : ℕ) (script : List Request) (a : Attempt) → IsClient proxies me script
     → a.num ≤ length script → AllFit (Client me) (retry proxies script a)
 retry_fits proxies me script a c few =
-    on_cond (AllFit (Client me)) (is_overdue a) _ []
+    cond_both (is_overdue a) _ [] (AllFit (Client me))
     (λ _. again_fits proxies me script ((a.proxy + 1) % proxies) a.num (a.num - 1) (slice_get script (a.num - 1)) c
     (own_proxy proxies (a.proxy + 1) c.some) few refl)
     (λ _. tt)
@@ -112,7 +113,7 @@ accept_sends : (window proxies me : ℕ) (script : List Request) (s : ClientData
 unfolding accept_rule
 accept_sends window proxies me script s b c =
     let now = after_acceptance b.num s in
-    on_cond (λ (t : ClientData × List Out). AllFit (Client me) t.1) (is_open b.num s.attempts) (fill_window window proxies me script now) (s, [])
+    cond_both (is_open b.num s.attempts) (fill_window window proxies me script now) (s, []) (λ (t : ClientData × List Out). AllFit (Client me) t.1)
     (λ _. places_fit (window - length now.attempts) proxies me script now c) (λ _. tt)
 
 message_sends : (window proxies me : ℕ) (script : List Request) (s : ClientData) (from : Actor) (m : Message) → IsClient proxies me script

@@ -2,7 +2,7 @@
 use Rattle.std.proofs.Common.{◌≡◌, ℕ, ◌-◌, ◌<◌, ◌≤◌, ◌^◌, List, [], ◌∷◌, ◌++◌, Option, Some, None, refl, arith}
 use Rattle.std.specs.Prelude.{IfSome, nat_lt, nat_le}
 use Rattle.std.specs.List.{AllByRecursion, list_any}
-use Rattle.std.proofs.lemmas.Bool.{ltb-true, le-leb, and_parts, and_from}
+use Rattle.std.proofs.lemmas.Bool.{ltb-true, le-leb, and_parts, and_from, cond_both}
 use Rattle.nz_base.specs.Cluster.{replica_count}
 use Rattle.nz_base.specs.declared.actor.Actor.{Actor}
 use Rattle.nz_base.specs.declared.actor.Actor.TheVariants.{Replica, Proxy, Client}
@@ -25,7 +25,7 @@ use Rattle.nz_machine.specs.Quorums.{Chosen, decision, answer_in, reply_eq, with
 use Rattle.nz_machine.specs.Proxies.{with_standing, standing_of, answer_to_client, timed_to, timed_to_all, after_stamp, stamp_rule, after_chosen_answer}
 use Rattle.nz_machine.specs.Proxies.{after_choice, after_replica_reply, reply_rule, of_fast, of_slow, clock_rule, first_proxy, crashed_proxy}
 use Rattle.nz_machine.specs.Step.{proxy_message, is_sized, message_vector}
-use Rattle.nz_machine.proofs.Runs.{FitsOut, AllFit, Hears, on_cond, all_has}
+use Rattle.nz_machine.proofs.Runs.{FitsOut, AllFit, Hears, all_has}
 use Rattle.nz_machine.proofs.EachItem.{all_append, all_imply}
 use Rattle.nz_machine.proofs.ListParts.{all_map, lookup_each, insert_each}
 use Rattle.nz_machine.proofs.FitReplicas.{numbers_are_below}
@@ -128,7 +128,7 @@ stamp_step f me s client b c h known fits =
 
 noted_all : (replies : List Reply) (r : Reply) → AllByRecursion FitsReply replies → FitsReply r → AllByRecursion FitsReply (with_note replies r)
 noted_all replies r all own =
-    on_cond (AllByRecursion FitsReply) (list_any (reply_eq r) replies) replies (replies ++ r ∷ []) (λ _. all)
+    cond_both (list_any (reply_eq r) replies) replies (replies ++ r ∷ []) (AllByRecursion FitsReply) (λ _. all)
     (λ _. all_append FitsReply replies (r ∷ []) all (own, tt))
 
 answered_step : (f me : ℕ) (s : ProxyData) (i : Id) (replies : List Reply) (p : Path) (o : Option Answer)

@@ -1,7 +1,7 @@
 -- Each kind of message of a replica is one that frames can carry.
 use Rattle.std.proofs.Common.{◌≡◌, ℕ, zero, suc, ◌<◌, ◌≤◌, ◌^◌, max, not, cond, true, List, [], ◌∷◌, ◌++◌, length, take, drop, map, Some}
 use Rattle.std.proofs.Common.{None, is_some, refl, sym, ap, subst, ◌∙◌, inl, inr, arith, length-append, length-take, take-append-drop}
-use Rattle.std.proofs.lemmas.Bool.{or_cases}
+use Rattle.std.proofs.lemmas.Bool.{or_cases, cond_both}
 use Rattle.std.specs.Prelude.{IfSome, slice_index, slice_get}
 use Rattle.std.specs.List.{AllByRecursion, filter}
 use Rattle.std.specs.Map.{lookup}
@@ -52,7 +52,7 @@ use Rattle.nz_machine.specs.Hearing.{Heard}
 use Rattle.nz_machine.specs.Shows.{IsOther, IsRest, log_mod_from, ShowsFast, ShowsSlow, ShowsLogMod, ShowsFetch, ShowsFetchReply}
 use Rattle.nz_machine.specs.Shows.{ShowsReport, ShowsViewAsk, ShowsViewChange, ShowsStartView, ShowsVectorAsk, ShowsVectorTell}
 use Rattle.nz_machine.specs.Shows.{ShowsRejoinAsk, ShowsRejoinTell, ShowsStateAsk, ShowsStateTell, ReplicaShows}
-use Rattle.nz_machine.proofs.Runs.{FitsOut, on_cond}
+use Rattle.nz_machine.proofs.Runs.{FitsOut}
 use Rattle.nz_machine.proofs.EachItem.{all_append, all_of_prefix, all_filter, all_imply}
 use Rattle.nz_machine.proofs.KeysApart.{own_rest}
 use Rattle.nz_machine.proofs.ListParts.{all_take, all_drop, all_map, all_get, all_index, lookup_each, few_either, one_of_id}
@@ -267,7 +267,7 @@ fast_fits f me before s to b c low h w =
     let slow = from.delay in
     let delay = w.delay in
     let answers : IfSome (cond (leads f me before) (slice_get s.results w.place) None) answer.fits =
-    on_cond (λ o. IfSome o answer.fits) (leads f me before) (slice_get s.results w.place) None (λ _. all_get answer.fits s.results w.place h.executed.answers)
+    cond_both (leads f me before) (slice_get s.results w.place) None (λ o. IfSome o answer.fits) (λ _. all_get answer.fits s.results w.place h.executed.answers)
     (λ _. tt) in
     record {
       sender = own_address f me c;

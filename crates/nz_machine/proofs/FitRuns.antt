@@ -1,5 +1,6 @@
 -- In every run each parcel is of a message that a frame can carry, and each state fits.
 use Rattle.std.proofs.Common.{◌≡◌, ℕ, ◌<◌, ◌≤◌, ◌^◌, Bool, true, false, List, [], ◌∷◌, refl, sym, ap, subst, ◌∙◌, arith, inl, inr}
+use Rattle.std.proofs.lemmas.Bool.{cond_both}
 use Rattle.nz_base.specs.Cluster.{replica_count}
 use Rattle.nz_base.specs.declared.actor.Actor.{Actor}
 use Rattle.nz_base.specs.declared.actor.Actor.TheVariants.{Replica, Proxy, Client}
@@ -10,7 +11,7 @@ use Rattle.nz_machine.specs.Proxies.{first_proxy, clock_rule}
 use Rattle.nz_machine.specs.Step.{first, script_of, proxy_message, replica_message, tick_rule, message_step, tick_step, alarm_step, crash_step, restart_step}
 use Rattle.nz_machine.specs.Facts.{HasFacts}
 use Rattle.nz_machine.specs.World.{state_after, IsGroup, IsMember, World}
-use Rattle.nz_machine.proofs.Runs.{FitsOut, AllFit, Hears, Holds, Keeps, holds, on_cond, unless_down, group_of}
+use Rattle.nz_machine.proofs.Runs.{FitsOut, AllFit, Hears, Holds, Keeps, holds, unless_down, group_of}
 use Rattle.nz_machine.proofs.FitReplicas.{IsReplica}
 use Rattle.nz_machine.proofs.FitSteps.{ReplicaStep, message_fits, tick_fits, alarm_fits, crash_fits, restart_fits}
 use Rattle.nz_machine.proofs.RulesKeepFacts.{first_has_facts}
@@ -89,7 +90,7 @@ restart_step_fits : (g : Group) (a : Actor) (s : State a) (nonce : ℕ) → IsGr
 restart_step_fits g (Replica r) s nonce group member small h =
     let t = restart_fits g.f r s nonce (replica_of g r group member) small h in record { state = t.state; sends = t.sends }
 restart_step_fits g (Proxy p) s nonce group member small h =
-    record { state = on_cond (FitsProxy g.f) s.is_down (first_proxy g.f) s (λ _. first_proxy_fits g.f) (λ _. h); sends = tt }
+    record { state = cond_both s.is_down (first_proxy g.f) s (FitsProxy g.f) (λ _. first_proxy_fits g.f) (λ _. h); sends = tt }
 restart_step_fits g (Client c) s nonce group member small h = record { state = h; sends = tt }
 
 pub fits_keep : (g : Group) → Keeps g (Fitted g) (FittedState g)

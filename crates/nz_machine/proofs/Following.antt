@@ -4,7 +4,7 @@ use Rattle.std.proofs.Common.{Option, Some, None, refl, sym, ap, subst, ◌∙�
 use Rattle.std.specs.Prelude.{nat_lt}
 use Rattle.std.specs.List.{AllByRecursion, filter, flat_map}
 use Rattle.std.specs.Map.{lookup}
-use Rattle.std.proofs.lemmas.Bool.{not-true}
+use Rattle.std.proofs.lemmas.Bool.{not-true, cond_both}
 use Rattle.std.proofs.lemmas.Bool.Decides.{nat_tests}
 use Rattle.nz_base.specs.Cluster.{leader_of}
 use Rattle.nz_base.specs.declared.actor.Actor.TheVariants.{Replica}
@@ -30,7 +30,6 @@ use Rattle.nz_machine.specs.Vectors.{with_vector}
 use Rattle.nz_machine.specs.World.{Has}
 use Rattle.nz_machine.specs.Hearing.{Heard}
 use Rattle.nz_machine.specs.Shows.{IsOther, IsRest, ReplicaShows}
-use Rattle.nz_machine.proofs.Runs.{on_cond}
 use Rattle.nz_machine.proofs.EachItem.{all_append}
 use Rattle.nz_machine.proofs.LogPlaces.{place_kept, place_within, has_place}
 use Rattle.nz_machine.proofs.Shows.{AllShow, Shown, silent, other_is, leader_below}
@@ -189,7 +188,7 @@ taken_shows f me leader before s b w =
     let keys = drop (s.log.synced - b.start) b.keys in
     let t = sync_keys s keys in
     let after = committed_to (overtaken_to_late t.0) b.commit in
-    on_cond (Shown f me heard before) (nat_lt s.log.synced b.start) (s, sync_report_to leader s ∷ []) (after_taking_keys s leader b.commit t)
+    cond_both (nat_lt s.log.synced b.start) (s, sync_report_to leader s ∷ []) (after_taking_keys s leader b.commit t) (Shown f me heard before)
     (λ _. record { shows = report_shows f me leader heard before s w })
     (λ _.
     let follows = still_follows f me leader s after (sync_seat s keys) w in
@@ -240,6 +239,6 @@ pub kept_missing : (s : ReplicaData) (ids : List Id) → AllByRecursion (λ (id 
 kept_missing s [] = tt
 kept_missing s (id ∷ ids) =
     let rest = kept_missing s ids in
-    on_cond (AllByRecursion (λ (x : Id). is_held s x ≡ false)) (not (is_held s id)) (id ∷ filter (λ x. not (is_held s x)) ids)
-    (filter (λ x. not (is_held s x)) ids)
+    cond_both (not (is_held s id)) (id ∷ filter (λ x. not (is_held s x)) ids)
+    (filter (λ x. not (is_held s x)) ids) (AllByRecursion (λ (x : Id). is_held s x ≡ false))
     (λ t. (not-true (is_held s id) t, rest)) (λ _. rest)

@@ -1,7 +1,7 @@
 -- A client's open requests have rising numbers of those that it sent, and with the accepted ones they are all of them.
 use Rattle.std.proofs.Common.{◌≡◌, ℕ, zero, suc, ◌+◌, ◌-◌, ◌%◌, ◌<◌, ◌≤◌, eqb, eqb-true, Bool, true, false, not, cond, ◌||◌, List}
 use Rattle.std.proofs.Common.{[], ◌∷◌, ◌++◌, length, map, Option, Some, None, refl, sym, ap, subst, ◌∙◌, inl, inr, arith}
-use Rattle.std.proofs.lemmas.Bool.{cases_Bool, or_parts}
+use Rattle.std.proofs.lemmas.Bool.{cases_Bool, or_parts, cond_both}
 use Rattle.std.specs.Prelude.{slice_get, nat_le}
 use Rattle.std.proofs.lemmas.List.{length-append, length-map}
 use Rattle.std.proofs.lemmas.Option.{none-some, same_Some}
@@ -19,7 +19,6 @@ use Rattle.nz_machine.specs.State.{ClientData, Group, Out}
 use Rattle.nz_machine.specs.Clients.{if_due, after_opening, open_next, fill_places, fill_window, is_overdue, attempt_after_wait, after_wait}
 use Rattle.nz_machine.specs.Clients.{wait_rule, is_open, without_attempt, after_acceptance, accept_rule, first_client}
 use Rattle.nz_machine.specs.Step.{script_of, client_message, accepted_envelope, envelope_step, event_step}
-use Rattle.nz_machine.proofs.Runs.{on_cond}
 
 -- ---- rising numbers
 
@@ -41,7 +40,7 @@ rises_push low [] high a h lt = (omega (arith, h, lt), omega arith)
 rises_push low (b ∷ xs) high a h lt = (h.0, rises_push b.num xs high a h.1 lt)
 
 pub waited_num : (proxies : ℕ) (a : Attempt) → (attempt_after_wait proxies a).num ≡ a.num
-waited_num proxies a = on_cond (λ (x : Attempt). x.num ≡ a.num) (is_overdue a) _ _ (λ _. refl) (λ _. refl)
+waited_num proxies a = cond_both (is_overdue a) _ _ (λ (x : Attempt). x.num ≡ a.num) (λ _. refl) (λ _. refl)
 
 rises_waited : (proxies low : ℕ) (xs : List Attempt) (high : ℕ) → Rises low xs high → Rises low (map (attempt_after_wait proxies) xs) high
 rises_waited proxies low [] high h = h
@@ -54,7 +53,7 @@ rises_without num low [] high h = h
 rises_without num low (a ∷ xs) high h =
     let rest = rises_without num a.num xs high h.1 in
     let below = h.0 in
-    on_cond (λ (l : List Attempt). Rises low l high) (not (eqb a.num num)) (a ∷ without_attempt num xs) (without_attempt num xs) (λ _. (h.0, rest))
+    cond_both (not (eqb a.num num)) (a ∷ without_attempt num xs) (without_attempt num xs) (λ (l : List Attempt). Rises low l high) (λ _. (h.0, rest))
     (λ _. rises_lower a.num low (without_attempt num xs) high (omega (arith, below)) rest)
 
 -- ---- which are open
@@ -105,7 +104,7 @@ closed_by : (num other : ℕ) (xs : List Attempt) → is_open num xs ≡ false �
 closed_by num other [] h = refl
 closed_by num other (a ∷ xs) h =
     let k = or_parts (eqb a.num num) (is_open num xs) h in
-    on_cond (λ (l : List Attempt). is_open num l ≡ false) (not (eqb a.num other)) (a ∷ without_attempt other xs) (without_attempt other xs)
+    cond_both (not (eqb a.num other)) (a ∷ without_attempt other xs) (without_attempt other xs) (λ (l : List Attempt). is_open num l ≡ false)
     (λ _. any_head num a (without_attempt other xs) false k.0 ∙ closed_by num other xs k.1) (λ _. closed_by num other xs k.1)
 
 closed_now : (num : ℕ) (xs : List Attempt) → is_open num (without_attempt num xs) ≡ false
@@ -295,7 +294,7 @@ pub answer_takes : (window proxies me : ℕ) (script : List Request) (s : Client
 unfolding accept_rule
 answer_takes window proxies me script s b h =
     let now = after_acceptance b.num s in
-    on_cond (λ (t : ClientData × List Out). Takes window script s b t.0) (is_open b.num s.attempts) (fill_window window proxies me script now) (s, [])
+    cond_both (is_open b.num s.attempts) (fill_window window proxies me script now) (s, []) (λ (t : ClientData × List Out). Takes window script s b t.0)
     (λ held.
     let t = window_filled window proxies me script now (accepted_in_turn window b.num script s held h) in
     let within = (open_within b.num 0 s.attempts s.sent h.rising held).1 in

@@ -4,6 +4,7 @@ use Rattle.std.proofs.Common.{length, map, Option, Some, None, refl, ap, subst, 
 use Rattle.std.specs.Prelude.{slice_get}
 use Rattle.std.specs.List.{AllByRecursion}
 use Rattle.std.specs.Map.{lookup}
+use Rattle.std.proofs.lemmas.Bool.{cond_both}
 use Rattle.indexmap.specs.IndexMap.{insert_entry}
 use Rattle.nz_base.specs.Cluster.{replica_count}
 use Rattle.nz_base.specs.Key.{id_eq}
@@ -30,7 +31,7 @@ use Rattle.nz_machine.specs.Step.{proxy_message, client_message}
 use Rattle.nz_machine.specs.Hearing.{Heard}
 use Rattle.nz_machine.specs.Shows.{ProxyShows, ClientShows}
 use Rattle.nz_machine.specs.World.{Has}
-use Rattle.nz_machine.proofs.Runs.{on_cond, has_left, has_right}
+use Rattle.nz_machine.proofs.Runs.{has_left, has_right}
 use Rattle.nz_machine.proofs.EachItem.{all_append, all_imply}
 use Rattle.nz_machine.proofs.Lookups.{lookup_inserted}
 use Rattle.nz_machine.proofs.ListParts.{all_map}
@@ -182,7 +183,7 @@ again_shows proxies script t proxy num (Some r) member e h =
 retry_shows : (proxies : ℕ) (script : List Request) (t : ClientData) (a : Attempt) → 1 ≤ proxies
     → Has t.attempts (attempt_after_wait proxies a) → AllShow proxies script t (retry proxies script a)
 retry_shows proxies script t a any h =
-    on_cond (AllShow proxies script t) (is_overdue a) _ []
+    cond_both (is_overdue a) _ [] (AllShow proxies script t)
     (λ late. again_shows proxies script t ((a.proxy + 1) % proxies) a.num (slice_get script (a.num - 1)) (own_proxy proxies (a.proxy + 1) any) refl
     (subst (λ (b : Bool). Has t.attempts
     (cond b (record { num = a.num; proxy = (a.proxy + 1) % proxies; since = 0 })
@@ -214,7 +215,7 @@ accept_shows : (window proxies me : ℕ) (script : List Request) (s : ClientData
 unfolding accept_rule
 accept_shows window proxies me script s b any =
     let now = after_acceptance b.num s in
-    on_cond (ClientShown proxies script) (is_open b.num s.attempts) (fill_window window proxies me script now) (s, [])
+    cond_both (is_open b.num s.attempts) (fill_window window proxies me script now) (s, []) (ClientShown proxies script)
     (λ _. record { shows = places_show (window - length now.attempts) proxies me script now any }) (λ _. record { shows = tt })
 
 pub client_message_shows : (window proxies me : ℕ) (script : List Request) (s : ClientData) (from : Actor) (m : Message) → 1 ≤ proxies

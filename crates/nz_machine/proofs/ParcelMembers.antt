@@ -3,6 +3,7 @@ use Rattle.std.proofs.Common.{◌≡◌, ℕ, ◌<◌, List, [], ◌∷◌, leng
 use Rattle.std.specs.Prelude.{IfSome}
 use Rattle.std.specs.List.{AllByRecursion}
 use Rattle.std.specs.Map.{lookup}
+use Rattle.std.proofs.lemmas.Bool.{cond_both}
 use Rattle.nz_base.specs.Key.{id_eq}
 use Rattle.nz_base.specs.declared.actor.Actor.{Actor}
 use Rattle.nz_base.specs.declared.actor.Actor.TheVariants.{Replica, Proxy, Client}
@@ -28,7 +29,7 @@ use Rattle.nz_machine.specs.Step.{first, replica_message, proxy_message, message
 use Rattle.nz_machine.specs.World.{state_after, sent_in, Has, IsMember, World}
 use Rattle.nz_machine.specs.Hearing.{Heard}
 use Rattle.nz_machine.specs.Shows.{ReplicaShows, ProxyShows, ClientShows, Shows}
-use Rattle.nz_machine.proofs.Runs.{sent_from, KeepsMore, keeps_both, holds, group_of, on_cond}
+use Rattle.nz_machine.proofs.Runs.{sent_from, KeepsMore, keeps_both, holds, group_of}
 use Rattle.nz_machine.proofs.EachItem.{all_imply}
 use Rattle.nz_machine.proofs.ListParts.{lookup_each, insert_each}
 use Rattle.nz_machine.proofs.Moves.{Phase, Move, NoteOrigin, Closed}
@@ -132,7 +133,7 @@ replica_crashes g s = record { origins = tt }
 replica_restarts : (g : Group) (me : ℕ) (s : ReplicaData) (nonce : ℕ) → KnowsProxies g s → KnowsProxies g (restart_rule g.f me s nonce).0
 unfolding restart_rule
 replica_restarts g me s nonce h =
-    on_cond (λ (t : ReplicaData × List Out). KnowsProxies g t.0) (is_down s.status) _ (s, []) (λ _. record { origins = tt }) (λ _. h)
+    cond_both (is_down s.status) _ (s, []) (λ (t : ReplicaData × List Out). KnowsProxies g t.0) (λ _. record { origins = tt }) (λ _. h)
 
 -- ---- proxies: only a request makes a standing
 
@@ -187,18 +188,18 @@ proxy_ticks g s clock h = record { standings = h.standings }
 
 takes : (g : Group) (a : Actor) (s : State a) (from : Actor) (m : Message) → IsMember g from → Knows g a s → Knows g a (message_step g a s from m).0
 takes g (Replica r) s from m member h =
-    on_cond (λ (t : ReplicaData × List Out). KnowsProxies g t.0) (is_down s.status) (s, []) (replica_message g.f r s from m) (λ _. h)
+    cond_both (is_down s.status) (s, []) (replica_message g.f r s from m) (λ (t : ReplicaData × List Out). KnowsProxies g t.0) (λ _. h)
     (λ _. replica_takes g r s from m member h)
 takes g (Proxy p) s from m member h =
-    on_cond (λ (t : ProxyData × List Out). KnowsClients g t.0) s.is_down (s, []) (proxy_message g.f s from m) (λ _. h) (λ _. proxy_takes g s from m member h)
+    cond_both s.is_down (s, []) (proxy_message g.f s from m) (λ (t : ProxyData × List Out). KnowsClients g t.0) (λ _. h) (λ _. proxy_takes g s from m member h)
 takes g (Client c) s from m member h = tt
 
 ticks : (g : Group) (a : Actor) (s : State a) (clock : ℕ) → Knows g a s → Knows g a (tick_step g a s clock).0
 ticks g (Replica r) s clock h =
-    on_cond (λ (t : ReplicaData × List Out). KnowsProxies g t.0) (is_down s.status) (s, []) (tick_rule g.f r s clock) (λ _. h)
+    cond_both (is_down s.status) (s, []) (tick_rule g.f r s clock) (λ (t : ReplicaData × List Out). KnowsProxies g t.0) (λ _. h)
     (λ _. replica_ticks g r s clock h)
 ticks g (Proxy p) s clock h =
-    on_cond (λ (t : ProxyData × List Out). KnowsClients g t.0) s.is_down (s, []) (clock_rule s clock, []) (λ _. h) (λ _. proxy_ticks g s clock h)
+    cond_both s.is_down (s, []) (clock_rule s clock, []) (λ (t : ProxyData × List Out). KnowsClients g t.0) (λ _. h) (λ _. proxy_ticks g s clock h)
 ticks g (Client c) s clock h = tt
 
 alarms : (g : Group) (a : Actor) (s : State a) → Knows g a s → Knows g a (alarm_step g a s).0
@@ -213,7 +214,7 @@ crashes g (Client c) s h = tt
 
 restarts : (g : Group) (a : Actor) (s : State a) (nonce : ℕ) → Knows g a s → Knows g a (restart_step g a s nonce).0
 restarts g (Replica r) s nonce h = replica_restarts g r s nonce h
-restarts g (Proxy p) s nonce h = on_cond (KnowsClients g) s.is_down (first_proxy g.f) s (λ _. record { standings = tt }) (λ _. h)
+restarts g (Proxy p) s nonce h = cond_both s.is_down (first_proxy g.f) s (KnowsClients g) (λ _. record { standings = tt }) (λ _. h)
 restarts g (Client c) s nonce h = tt
 
 starts : (g : Group) (a : Actor) → Knows g a (first g a)

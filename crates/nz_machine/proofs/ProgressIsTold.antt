@@ -3,7 +3,7 @@ use Rattle.std.proofs.Common.{◌≡◌, ℕ, zero, suc, ◌+◌, ◌-◌, ◌%�
 use Rattle.std.proofs.Common.{List, [], ◌∷◌, ◌++◌, length, map, set, replicate, Option, Some, None, refl, sym, ap, subst, ◌∙◌, arith, lt-ltb}
 use Rattle.std.specs.Prelude.{slice_get, filter}
 use Rattle.std.specs.List.{AllByRecursion, list_any}
-use Rattle.std.proofs.lemmas.Bool.{le-ltb, eq-eqb, false≢true}
+use Rattle.std.proofs.lemmas.Bool.{le-ltb, eq-eqb, false≢true, cond_both}
 use Rattle.std.proofs.lemmas.List.{length-set, length-replicate, map-append}
 use Rattle.std.proofs.lemmas.Option.{same_Some}
 use Rattle.nz_base.specs.Actor.{actor_eq}
@@ -33,7 +33,7 @@ use Rattle.nz_machine.specs.ClientProgress.{Progress, first_progress, acceptance
 use Rattle.nz_machine.specs.ClientProgress.{progress_of, acceptance_in, acceptance_read, acceptance_of, with_answer, num_in, num_read, num_of}
 use Rattle.nz_machine.specs.ClientProgress.{new_in, with_num, new_among, with_all, after_client_record, AreAfter, IsNoneOf}
 use Rattle.nz_machine.specs.World.{state_after, IsMember, World}
-use Rattle.nz_machine.proofs.Runs.{FitsOut, AllFit, acts_itself, stays, on_cond, sends_have}
+use Rattle.nz_machine.proofs.Runs.{FitsOut, AllFit, acts_itself, stays, sends_have}
 use Rattle.nz_machine.proofs.EachItem.{all_append}
 use Rattle.nz_machine.proofs.InTurn.{Rises, rises_most, InTurn, waited_num}
 use Rattle.nz_machine.proofs.FitRuns.{Fitted, FittedState, fits_keep, all_fit}
@@ -161,7 +161,7 @@ retries_old : (proxies : ℕ) (script : List Request) (low : ℕ) (xs : List Att
 retries_old proxies script low [] high h = tt
 retries_old proxies script low (a ∷ xs) high h =
     all_append (λ (o : Out). IsOld high (num_in o.1)) (retry proxies script a) (retries proxies script xs)
-    (on_cond (AreOld high) (is_overdue a) _ []
+    (cond_both (is_overdue a) _ [] (AreOld high)
     (λ _. again_old high ((a.proxy + 1) % proxies) a.num (slice_get script (a.num - 1)) (rises_most a.num xs high h.1)) (λ _. tt))
     (retries_old proxies script a.num xs high h.1)
 

@@ -1,6 +1,7 @@
 -- What the rules of rejoins send is what the states before and after show.
 use Rattle.std.proofs.Common.{◌≡◌, ℕ, ◌+◌, ◌≤◌, eqb, true, false, [], Some, refl, ap, arith}
 use Rattle.std.proofs.lemmas.Bool.Decides.{nat_tests}
+use Rattle.std.proofs.lemmas.Bool.{cond_both}
 use Rattle.nz_base.specs.Cluster.{leader_of}
 use Rattle.nz_base.specs.declared.actor.Actor.TheVariants.{Replica}
 use Rattle.nz_msg.specs.declared.message.VectorAskBody.{VectorAskBody}
@@ -22,7 +23,6 @@ use Rattle.nz_machine.specs.Rejoining.{ask_views, rejoin_timer, with_teller, wit
 use Rattle.nz_machine.specs.Rejoining.{latest_view, vector_tell_rule, rejoin_tell_rule, state_tell_rule}
 use Rattle.nz_machine.specs.Hearing.{Heard}
 use Rattle.nz_machine.specs.Shows.{ReplicaShows}
-use Rattle.nz_machine.proofs.Runs.{on_cond}
 use Rattle.nz_machine.proofs.Shows.{Shown, silent, other_is, leader_below, to_each}
 
 -- ---- crashes
@@ -37,7 +37,7 @@ pub restart_shows : (f me : ℕ) (heard : Heard) (s : ReplicaData) (nonce : ℕ)
 unfolding restart_rule
 restart_shows f me heard s nonce =
     let back = restarted_replica f nonce in
-    on_cond (Shown f me heard s) (is_down s.status) (back, to_others f me (vector_ask_message back)) (s, [])
+    cond_both (is_down s.status) (back, to_others f me (vector_ask_message back)) (s, []) (Shown f me heard s)
     (λ _. record {
       shows = to_each f me (λ (o : Out). ReplicaShows f me heard s back o.0 o.1) (λ r. (Replica r, vector_ask_message back))
           (λ r other. record { rejoining = refl; in_phase = refl; receiver = other; read = refl });
@@ -71,7 +71,7 @@ pub vector_ask_shows : (f me : ℕ) (s : ReplicaData) (sender : ℕ) (b : Vector
 unfolding vector_ask_rule
 vector_ask_shows f me s sender b =
     let heard : Heard = Some (Replica sender, messages.VectorAsk b) in
-    on_cond (Shown f me heard s) (is_normal s.status) _ (s, [])
+    cond_both (is_normal s.status) _ (s, []) (Shown f me heard s)
     (λ normal. record { shows = (record { normal = normal; asker = sender; ask = b; hears = refl; receiver = refl; read = refl }, tt) })
     (λ _. silent f me heard s s)
 

@@ -3,7 +3,7 @@ use Rattle.std.proofs.Common.{◌≡◌, ℕ, ◌+◌, ◌-◌, ◌<◌, ◌&&�
 use Rattle.std.proofs.Common.{Option, Some, None, refl, sym, ap, subst, ◌∙◌, arith, ltb-true, append_assoc, length-append}
 use Rattle.std.specs.Prelude.{slice_get, nat_lt, min}
 use Rattle.std.specs.Map.{lookup}
-use Rattle.std.proofs.lemmas.Bool.{not-true, and_parts}
+use Rattle.std.proofs.lemmas.Bool.{not-true, and_parts, cond_both}
 use Rattle.nz_base.specs.Prefixes.{IsPrefix}
 use Rattle.nz_base.specs.Cluster.{leader_of}
 use Rattle.nz_base.specs.declared.key.Id.{Id}
@@ -29,7 +29,6 @@ use Rattle.nz_machine.specs.Views.{enter_view}
 use Rattle.nz_machine.specs.Step.{mode_timer, tick_rule}
 use Rattle.nz_machine.specs.Hearing.{Heard}
 use Rattle.nz_machine.specs.Shows.{ReplicaShows}
-use Rattle.nz_machine.proofs.Runs.{on_cond}
 use Rattle.nz_machine.proofs.EachItem.{all_append}
 use Rattle.nz_machine.proofs.LogPlaces.{get_kept, place_kept, place_within, digest_kept, place_at_end}
 use Rattle.nz_machine.proofs.Shows.{AllShow, Shown, silent, log_mods_show}
@@ -113,7 +112,7 @@ pub request_shows : (f me : ℕ) (heard : Heard) (s : ReplicaData) (proxy : ℕ)
     → Shown f me heard s (request_rule f me s proxy b)
 unfolding request_rule
 request_shows f me heard s proxy b a =
-    on_cond (Shown f me heard s) (is_normal s.status) (after_timed f me own b (place_of s.log.entries b.id)) (s, [])
+    cond_both (is_normal s.status) (after_timed f me own b (place_of s.log.entries b.id)) (s, []) (Shown f me heard s)
     (λ normal. found normal (place_of s.log.entries b.id) refl) (λ _. silent f me heard s s)
   where
     own : ReplicaData
@@ -122,8 +121,8 @@ request_shows f me heard s proxy b a =
     replies : is_normal s.status ≡ true → (place : ℕ) → place_of s.log.entries b.id ≡ Some place → AllShow f me heard s own (replies_at f me own b.id place)
     replies normal place at =
         let origin = lookup (id_eq b.id) own.origin in
-        on_cond (AllShow f me heard s own) (not (leads f me s) && nat_lt place s.log.synced) (slow_replies own b.id origin)
-        (fast_replies f me own b.id place origin)
+        cond_both (not (leads f me s) && nat_lt place s.log.synced) (slow_replies own b.id origin)
+        (fast_replies f me own b.id place origin) (AllShow f me heard s own)
         (λ t.
         let follows = not-true (leads f me s) (and_parts (not (leads f me s)) (nat_lt place s.log.synced) t).0 in
         let synced = ltb-true place s.log.synced (and_parts (not (leads f me s)) (nat_lt place s.log.synced) t).1 in
@@ -178,7 +177,7 @@ unfolding releases
 releases_later f me before s t [] l = l
 releases_later f me before s t (e ∷ es) l =
     let next = after_release f me s e es in
-    on_cond (λ (x : ReplicaData × List Out). Later f me before x.0 t → Later f me before s t) (may_release s e) _ (s, [])
+    cond_both (may_release s e) _ (s, []) (λ (x : ReplicaData × List Out). Later f me before x.0 t → Later f me before s t)
     (λ _ l. released_later f me before s t e es (releases_later f me before next t es l)) (λ _ l. l) l
 
 -- once it is released, an entry is last, and the ids are those of before
@@ -206,7 +205,7 @@ unfolding releases
 releases_show f me heard before s t [] normal l own answered = tt
 releases_show f me heard before s t (e ∷ es) normal l own answered =
     let next = after_release f me s e es in
-    on_cond (λ (x : ReplicaData × List Out). Later f me before x.0 t → AllShow f me heard before t x.1) (may_release s e) _ (s, [])
+    cond_both (may_release s e) _ (s, []) (λ (x : ReplicaData × List Out). Later f me before x.0 t → AllShow f me heard before t x.1)
     (λ _ l.
     let now = releases_later f me before next t es l in
     let apart = released_own f me s e es own in
@@ -284,8 +283,8 @@ release_shows : (f me : ℕ) (heard : Heard) (s : ReplicaData) (clock : ℕ) →
 unfolding release_rule
 release_shows f me heard s clock a =
     let now = at_clock s clock in
-    on_cond (λ (x : ReplicaData × List Out). AllShow f me heard s (mode_timer x.0.status f me x.0).0 x.1) (is_normal s.status)
-    (releases f me now s.early) (now, [])
+    cond_both (is_normal s.status)
+    (releases f me now s.early) (now, []) (λ (x : ReplicaData × List Out). AllShow f me heard s (mode_timer x.0.status f me x.0).0 x.1)
     (λ normal.
     let same = releases_mode f me now s.early in
     let t = (releases f me now s.early).0 in

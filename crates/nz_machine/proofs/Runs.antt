@@ -1,7 +1,7 @@
 -- What a record does to the states, and the theorem that what each step keeps holds of every run.
 use Rattle.std.proofs.Common.{◌≡◌, ℕ, ◌≤◌, ◌<◌, ◌^◌, Bool, true, false, cond, ◌&&◌, not, List, [], ◌∷◌, ◌++◌}
 use Rattle.std.proofs.Common.{map, Option, Some, None, Ok, refl, sym, ap, subst, ◌∙◌, inl, inr, ◌⊎◌}
-use Rattle.std.proofs.lemmas.Bool.{and_parts}
+use Rattle.std.proofs.lemmas.Bool.{and_parts, cond_both}
 use Rattle.std.specs.List.{AllByRecursion}
 use Rattle.nz_base.specs.declared.actor.Actor.{Actor}
 use Rattle.nz_base.specs.Actor.{actor_eq, HasAddress}
@@ -77,13 +77,9 @@ all_has P (z ∷ xs) x all (inr h) = all_has P xs x all.1 h
 
 -- ---- choices
 
-pub on_cond : {X : Type 0} (P : X → Type 0) (b : Bool) (x y : X) → (b ≡ true → P x) → (b ≡ false → P y) → P (cond b x y)
-on_cond P true x y f h = f refl
-on_cond P false x y f h = h refl
-
 -- what is down does nothing
 pub unless_down : (P : ReplicaData × List Out → Type 0) (s : ReplicaData) (t : ReplicaData × List Out) → P (s, []) → P t → P (cond (is_down s.status) (s, []) t)
-unless_down P s t h k = on_cond P (is_down s.status) (s, []) t (λ _. h) (λ _. k)
+unless_down P s t h k = cond_both (is_down s.status) (s, []) t P (λ _. h) (λ _. k)
 
 -- ---- sends
 

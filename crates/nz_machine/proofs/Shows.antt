@@ -2,7 +2,7 @@
 use Rattle.std.proofs.Common.{◌≡◌, ℕ, zero, suc, ◌<◌, not, eqb, Bool, true, false, List, [], ◌∷◌, map, refl, ap, arith}
 use Rattle.std.specs.Prelude.{slice_index}
 use Rattle.std.specs.List.{AllByRecursion, filter}
-use Rattle.std.proofs.lemmas.Bool.{not-true}
+use Rattle.std.proofs.lemmas.Bool.{not-true, cond_both}
 use Rattle.nz_base.specs.Cluster.{replica_count, leader_of}
 use Rattle.nz_base.specs.declared.actor.Actor.TheVariants.{Replica}
 use Rattle.nz_machine.specs.State.{ReplicaData, Out}
@@ -10,7 +10,6 @@ use Rattle.nz_machine.specs.Replicas.{is_normal, leads, numbers_below, others}
 use Rattle.nz_machine.specs.LogMods.{log_mod_to, log_mods_to_others}
 use Rattle.nz_machine.specs.Hearing.{Heard}
 use Rattle.nz_machine.specs.Shows.{IsOther, log_mod_from, ReplicaShows}
-use Rattle.nz_machine.proofs.Runs.{on_cond}
 use Rattle.nz_machine.proofs.EachItem.{all_append}
 use Rattle.nz_machine.proofs.ListParts.{all_map}
 
@@ -42,7 +41,7 @@ all_kept : (P Q : ℕ → Type 0) (test : ℕ → Bool) (ns : List ℕ) → AllB
 all_kept P Q test [] all each = tt
 all_kept P Q test (n ∷ ns) all each =
     let rest = all_kept P Q test ns all.1 each in
-    on_cond (AllByRecursion Q) (test n) (n ∷ filter test ns) (filter test ns) (λ t. (each n all.0 t, rest)) (λ _. rest)
+    cond_both (test n) (n ∷ filter test ns) (filter test ns) (AllByRecursion Q) (λ t. (each n all.0 t, rest)) (λ _. rest)
 
 -- what holds of what is sent to any other holds of what is sent to all
 pub to_each : (f me : ℕ) (P : Out → Type 0) (make : ℕ → Out) → ((r : ℕ) → IsOther f me (Replica r) → P (make r)) → AllByRecursion P (map make (others f me))

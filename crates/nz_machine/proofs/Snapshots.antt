@@ -2,7 +2,7 @@
 use Rattle.std.proofs.Common.{◌≡◌, ℕ, ◌≤◌, ◌&&◌, not, Bool, true, false, cond, List, [], ◌∷◌, ◌++◌, length, Option, Some}
 use Rattle.std.proofs.Common.{None, Result, Ok, Err, refl, sym, ap, subst, ◌∙◌, arith, append_assoc, ltb-true}
 use Rattle.std.specs.List.{AllByRecursion}
-use Rattle.std.proofs.lemmas.Bool.{not-true, and_parts}
+use Rattle.std.proofs.lemmas.Bool.{not-true, and_parts, cond_both}
 use Rattle.nz_base.specs.Actor.{actor_eq}
 use Rattle.nz_base.specs.Cluster.{replica_count}
 use Rattle.nz_base.specs.declared.actor.Actor.{Actor}
@@ -28,7 +28,7 @@ use Rattle.nz_machine.specs.Step.{script_of, replica_message, proxy_message, acc
 use Rattle.nz_machine.specs.Step.{tick_rule, tick_step, alarm_step, crash_step, restart_step, event_step}
 use Rattle.nz_machine.specs.Hearing.{Heard, heard_as, heard_at}
 use Rattle.nz_machine.specs.Shows.{IsOther, Shows}
-use Rattle.nz_machine.proofs.Runs.{Hears, on_cond}
+use Rattle.nz_machine.proofs.Runs.{Hears}
 use Rattle.nz_machine.proofs.Shows.{Shown, silent}
 use Rattle.nz_machine.proofs.ViewsShow.{alarm_shows, view_ask_shows, start_view_silent, view_change_shows}
 use Rattle.nz_machine.proofs.RejoinsShow.{crash_silent, restart_shows, vector_ask_shows, vector_tell_shows, rejoin_ask_shows}
@@ -156,19 +156,19 @@ quiet g a heard before s = record { shows = tt }
 pub message_step_shows : (g : Group) (a : Actor) (s : State a) (from : Actor) (m : Message) → IsFairTo g a from → MayShow g a s
     → StepShows g a (Some (from, m)) s (message_step g a s from m)
 message_step_shows g (Replica r) s from m fair may =
-    on_cond (StepShows g (Replica r) (Some (from, m)) s) (is_down s.status) (s, []) (replica_message g.f r s from m)
+    cond_both (is_down s.status) (s, []) (replica_message g.f r s from m) (StepShows g (Replica r) (Some (from, m)) s)
     (λ _. quiet g (Replica r) (Some (from, m)) s s) (λ _. record { shows = (message_shows g.f r s from m fair may).shows })
 message_step_shows g (Proxy p) s from m fair may =
-    on_cond (StepShows g (Proxy p) (Some (from, m)) s) s.is_down (s, []) (proxy_message g.f s from m) (λ _. quiet g (Proxy p) (Some (from, m)) s s)
+    cond_both s.is_down (s, []) (proxy_message g.f s from m) (StepShows g (Proxy p) (Some (from, m)) s) (λ _. quiet g (Proxy p) (Some (from, m)) s s)
     (λ up. record { shows = (proxy_message_shows g.f s from m up).shows })
 message_step_shows g (Client c) s from m fair may = record { shows = (client_message_shows g.window g.proxies c (script_of g c) s from m may).shows }
 
 pub tick_step_shows : (g : Group) (a : Actor) (s : State a) (clock : ℕ) → MayShow g a s → StepShows g a None s (tick_step g a s clock)
 tick_step_shows g (Replica r) s clock may =
-    on_cond (StepShows g (Replica r) None s) (is_down s.status) (s, []) (tick_rule g.f r s clock) (λ _. quiet g (Replica r) None s s)
+    cond_both (is_down s.status) (s, []) (tick_rule g.f r s clock) (StepShows g (Replica r) None s) (λ _. quiet g (Replica r) None s s)
     (λ _. record { shows = (tick_shows g.f r None s clock may).shows })
 tick_step_shows g (Proxy p) s clock may =
-    on_cond (StepShows g (Proxy p) None s) s.is_down (s, []) (clock_rule s clock, []) (λ _. quiet g (Proxy p) None s s)
+    cond_both s.is_down (s, []) (clock_rule s clock, []) (StepShows g (Proxy p) None s) (λ _. quiet g (Proxy p) None s s)
     (λ _. quiet g (Proxy p) None s (clock_rule s clock))
 tick_step_shows g (Client c) s clock may = record { shows = (wait_shows g.window g.proxies c (script_of g c) s may).shows }
 

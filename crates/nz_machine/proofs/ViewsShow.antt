@@ -2,6 +2,7 @@
 use Rattle.std.proofs.Common.{◌≡◌, ℕ, ◌+◌, eqb, true, false, List, [], ◌++◌, length, map, refl, arith}
 use Rattle.std.specs.Prelude.{nat_lt, min}
 use Rattle.std.proofs.lemmas.Bool.Decides.{nat_tests}
+use Rattle.std.proofs.lemmas.Bool.{cond_both}
 use Rattle.nz_base.specs.Cluster.{leader_of}
 use Rattle.nz_base.specs.declared.actor.Actor.TheVariants.{Replica}
 use Rattle.nz_base.specs.declared.key.Entry.{Entry}
@@ -22,7 +23,6 @@ use Rattle.nz_machine.specs.Adopting.{start_view_message, start_view_rule, after
 use Rattle.nz_machine.specs.Begins.{changes_of, after_begin, with_report, without_strays, collect, begin, view_change_rule}
 use Rattle.nz_machine.specs.Hearing.{Heard}
 use Rattle.nz_machine.specs.Shows.{IsOther, ReplicaShows}
-use Rattle.nz_machine.proofs.Runs.{on_cond}
 use Rattle.nz_machine.proofs.EachItem.{all_append}
 use Rattle.nz_machine.proofs.Shows.{AllShow, Shown, silent, other_is, leader_below, to_each}
 
@@ -37,7 +37,7 @@ asks_show f me heard before s t up view =
 report_shows : (f me : ℕ) (heard : Heard) (before s : ReplicaData) → is_changing s.status ≡ true
     → AllShow f me heard before s (to_leader f me s (view_change_message s))
 report_shows f me heard before s changing =
-    on_cond (AllShow f me heard before s) (leads f me s) [] (to_replica (leader f s) (view_change_message s)) (λ _. tt)
+    cond_both (leads f me s) [] (to_replica (leader f s) (view_change_message s)) (AllShow f me heard before s) (λ _. tt)
     (λ away. (
       record {
         changing = changing;
@@ -94,7 +94,7 @@ begin_shows f me heard before s lead =
     let changes = changes_of me s in
     let log = merged f changes in
     let begun = after_begin f s log (greatest (map (λ (c : Change). c.commit) changes)) in
-    on_cond (Shown f me heard before) (nat_lt MAX_ENTRIES (length log)) (s, []) (begun, to_others f me (start_view_message begun))
+    cond_both (nat_lt MAX_ENTRIES (length log)) (s, []) (begun, to_others f me (start_view_message begun)) (Shown f me heard before)
     (λ _. silent f me heard before s)
     (λ _. record {
       shows = to_each f me (λ (o : Out). ReplicaShows f me heard before begun o.0 o.1) (λ r. (Replica r, start_view_message begun))
@@ -105,7 +105,7 @@ collect_shows : (f me : ℕ) (heard : Heard) (before : ReplicaData) (sender : �
     → Shown f me heard before (collect f me sender b s)
 collect_shows f me heard before sender b s lead =
     let more = with_report s sender b in
-    on_cond (Shown f me heard before) (eqb (length more.changes) f) (begin f me more) (more, []) (λ _. begin_shows f me heard before more lead)
+    cond_both (eqb (length more.changes) f) (begin f me more) (more, []) (Shown f me heard before) (λ _. begin_shows f me heard before more lead)
     (λ _. silent f me heard before more)
 
 -- the replica is still up in the view
@@ -123,7 +123,7 @@ begin_in f me s changing =
 collect_in : (f me sender : ℕ) (b : ViewChangeBody) (s : ReplicaData) → is_changing s.status ≡ true → IsIn s.view (collect f me sender b s).0
 collect_in f me sender b s changing =
     let more = with_report s sender b in
-    on_cond (λ (t : ReplicaData × List Out). IsIn s.view t.0) (eqb (length more.changes) f) (begin f me more) (more, [])
+    cond_both (eqb (length more.changes) f) (begin f me more) (more, []) (λ (t : ReplicaData × List Out). IsIn s.view t.0)
     (λ _. begin_in f me more changing) (λ _. record { up = changing_up s.status changing; same = refl })
 
 -- a view that is entered and collected for, or begun
@@ -138,7 +138,7 @@ entered_shows f me heard before sender b s lead changing =
       shows = all_append Shows (view_calls f me s) (collect f me sender b s).1
           (all_append Shows (to_others f me (view_ask_message s)) (to_leader f me s (view_change_message s))
           (asks_show f me heard before s end there.up there.same)
-          (on_cond (AllShow f me heard before end) (leads f me s) [] (to_replica (leader f s) (view_change_message s)) (λ _. tt) (λ away. absurd cc)))
+          (cond_both (leads f me s) [] (to_replica (leader f s) (view_change_message s)) (AllShow f me heard before end) (λ _. tt) (λ away. absurd cc)))
           (collect_shows f me heard before sender b s lead).shows;
     }
 

@@ -5,6 +5,7 @@ use Rattle.std.specs.Prelude.{◌==◌, if◌then◌else◌, slice_index}
 use Rattle.std.specs.List.{AllByRecursion, filter, list_any}
 use Rattle.std.proofs.lemmas.Bool.Decides.{nat_tests}
 use Rattle.std.proofs.lemmas.List.{length-set, length-replicate}
+use Rattle.std.proofs.lemmas.Bool.{cond_both}
 use Rattle.nz_base.specs.Cluster.{replica_count, leader_of}
 use Rattle.nz_base.specs.declared.key.Entry.{Entry}
 use Rattle.nz_base.proofs.Booleans.{true_and_false}
@@ -31,7 +32,6 @@ use Rattle.nz_machine.specs.LogMods.{after_hearing}
 use Rattle.nz_machine.specs.Adopting.{with_log, normal_in}
 use Rattle.nz_machine.specs.Begins.{report_of, with_report, without_strays, changes_of, after_begin}
 use Rattle.nz_machine.specs.Rejoining.{last_counter, with_teller, with_new_counter, ask_views, with_tells, with_tell, latest_view, ask_log}
-use Rattle.nz_machine.proofs.Runs.{on_cond}
 use Rattle.nz_machine.proofs.EachItem.{all_append, all_of_prefix, all_filter, all_replicate}
 use Rattle.nz_machine.proofs.ListParts.{all_index}
 use Rattle.nz_machine.proofs.Tables.{set_all}
@@ -72,7 +72,7 @@ since_keeps f me s n h low rejoins = record {
 
 -- a count that begins anew at the end of its period
 pub counted_low : (period n : ℕ) → n < period → (if n + 1 == period then 0 else n + 1) < period
-counted_low period n low = on_cond (λ m. m < period) (eqb (n + 1) period) 0 (n + 1) (λ _. omega (arith, low)) (λ more. grind (arith, nat_tests, low, more))
+counted_low period n low = cond_both (eqb (n + 1) period) 0 (n + 1) (λ m. m < period) (λ _. omega (arith, low)) (λ more. grind (arith, nat_tests, low, more))
 
 -- ---- a view is entered
 
@@ -261,10 +261,10 @@ teller_keeps f me s sender vector h member counters =
       claim = omega (arith, claim, told);
       wanted = k.wanted;
       tellers =
-          on_cond (AllByRecursion (λ n. n < replica_count f)) known r.tellers (r.tellers ++ sender ∷ []) (λ _. k.tellers)
+          cond_both known r.tellers (r.tellers ++ sender ∷ []) (AllByRecursion (λ n. n < replica_count f)) (λ _. k.tellers)
           (λ _. all_append (λ n. n < replica_count f) r.tellers (sender ∷ []) k.tellers (member, tt));
       own_tellers =
-          on_cond AreDistinct known r.tellers (r.tellers ++ sender ∷ []) (λ _. k.own_tellers)
+          cond_both known r.tellers (r.tellers ++ sender ∷ []) AreDistinct (λ _. k.own_tellers)
           (λ new. distinct_more r.tellers sender k.own_tellers (sym (any_in r.tellers sender) ∙ new));
       tells = k.tells;
       own_tells = k.own_tells;

@@ -2,7 +2,7 @@
 use Rattle.std.proofs.Common.{◌≡◌, ℕ, ◌+◌, ◌<◌, ◌≤◌, eqb, cond, List, [], ◌∷◌, ◌++◌, length, map, Option, Some, None, refl, ap, ◌∙◌, arith, inl, inr}
 use Rattle.std.specs.Prelude.{◌^◌, filter}
 use Rattle.std.specs.List.{AllByRecursion}
-use Rattle.std.proofs.lemmas.Bool.{eqb-true}
+use Rattle.std.proofs.lemmas.Bool.{eqb-true, cond_both}
 use Rattle.std.proofs.lemmas.Bool.Decides.{nat_tests}
 use Rattle.std.proofs.lemmas.Option.{none-some}
 use Rattle.nz_base.specs.Cluster.{replica_count}
@@ -24,7 +24,7 @@ use Rattle.nz_machine.specs.Schedule.{Posted, posted_in, posted_by_run, arrivals
 use Rattle.nz_machine.proofs.EachItem.{all_append, all_imply}
 use Rattle.nz_machine.proofs.ListParts.{all_map}
 use Rattle.nz_machine.proofs.FitReplicas.{numbers_are_below}
-use Rattle.nz_machine.proofs.Runs.{has_left, has_right, on_cond}
+use Rattle.nz_machine.proofs.Runs.{has_left, has_right}
 
 -- the tick of the restart line with a nonce, after this many others
 abbrev pub restart_tick : ℕ → List Fault → ℕ → Option ℕ
@@ -61,8 +61,7 @@ restart_most before (faults.Block from to first last ∷ lines) nonce t e = let 
 restart_most before (faults.Crash a at ∷ lines) nonce t e = let ih = restart_most before lines nonce t e in omega (arith, ih)
 restart_most before (faults.Alarm a at ∷ lines) nonce t e = let ih = restart_most before lines nonce t e in omega (arith, ih)
 restart_most before (faults.Restart a at ∷ lines) nonce t e =
-    on_cond (λ (o : Option ℕ). o ≡ Some t → nonce ≤ before + length (faults.Restart a at ∷ lines))
-    (eqb nonce (before + 1)) (Some at) (restart_tick (before + 1) lines nonce)
+    cond_both (eqb nonce (before + 1)) (Some at) (restart_tick (before + 1) lines nonce) (λ (o : Option ℕ). o ≡ Some t → nonce ≤ before + length (faults.Restart a at ∷ lines))
     (λ own _. let same = eqb-true nonce (before + 1) own in omega (arith, same))
     (λ _ later. let ih = restart_most (before + 1) lines nonce t later in omega (arith, ih)) e
 
@@ -72,15 +71,15 @@ few_restarts s nonce t play e = let most = restart_most 0 s.faults nonce t e in 
 -- ---- calls
 
 all_if : (P : Item → Type 0) (tick t : ℕ) (i : Item) → (t ≡ tick → P i) → AllByRecursion P (if_in tick t i)
-all_if P tick t i h = on_cond (AllByRecursion P) (eqb t tick) (i ∷ []) [] (λ e. (h (eqb-true t tick e), tt)) (λ _. tt)
+all_if P tick t i h = cond_both (eqb t tick) (i ∷ []) [] (AllByRecursion P) (λ e. (h (eqb-true t tick e), tt)) (λ _. tt)
 
 later_tick : (nonce n : ℕ) (t : ℕ) (rest : Option ℕ) → n + 1 < nonce → cond (eqb nonce (n + 1)) (Some t) rest ≡ rest
 later_tick nonce n t rest lt =
-    on_cond (λ (o : Option ℕ). o ≡ rest) (eqb nonce (n + 1)) (Some t) rest
+    cond_both (eqb nonce (n + 1)) (Some t) rest (λ (o : Option ℕ). o ≡ rest)
     (λ e. absurd (let same = eqb-true nonce (n + 1) e in omega (arith, same, lt))) (λ _. refl)
 
 own_tick : (n : ℕ) (t : ℕ) (rest : Option ℕ) → cond (eqb (n + 1) (n + 1)) (Some t) rest ≡ Some t
-own_tick n t rest = on_cond (λ (o : Option ℕ). o ≡ Some t) (eqb (n + 1) (n + 1)) (Some t) rest (λ _. refl) (λ e. absurd (grind (arith, nat_tests)))
+own_tick n t rest = cond_both (eqb (n + 1) (n + 1)) (Some t) rest (λ (o : Option ℕ). o ≡ Some t) (λ _. refl) (λ e. absurd (grind (arith, nat_tests)))
 
 past_restart : (tick before : ℕ) (a : Actor) (t : ℕ) (lines : List Fault) (e : Event)
     → IsCalled tick (before + 1) lines e → IsCalled tick before (faults.Restart a t ∷ lines) e

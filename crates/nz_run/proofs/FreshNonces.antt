@@ -4,6 +4,7 @@ use Rattle.std.specs.Prelude.{take, reverse, slice_get, IsPermutation}
 use Rattle.std.specs.List.{AllByRecursion}
 use Rattle.std.proofs.lemmas.Grind.{reverse_onto}
 use Rattle.std.proofs.lemmas.Option.{none-some, same_Some}
+use Rattle.std.proofs.lemmas.Bool.{cond_both}
 use Rattle.nz_base.specs.declared.actor.Actor.{Actor}
 use Rattle.nz_base.specs.declared.scenario.Fault.{Fault}
 use Rattle.nz_base.specs.declared.scenario.Fault.TheVariants as faults
@@ -15,7 +16,6 @@ use Rattle.nz_machine.specs.declared.journal.Item.{Item}
 use Rattle.nz_machine.specs.Schedule.{item, item_of, if_in, calls, actors_of, tick_item, Delivery, delivery_item}
 use Rattle.nz_machine.specs.Schedule.{Posted, posted_by_run, arrivals, due, ScheduledTo, IsPlayable}
 use Rattle.nz_machine.proofs.EachItem.{all_append, all_of_prefix, all_back, all_imply}
-use Rattle.nz_machine.proofs.Runs.{on_cond}
 use Rattle.nz_run.proofs.Scheduling.{all_permuted}
 use Rattle.nz_run.proofs.DueMayHappen.{IsCalled, IsFine, ItemIsFine, restart_tick, all_two, calls_called, due_is_fine}
 
@@ -71,7 +71,7 @@ after_other (Restart nonce) (i ∷ is) h = absurd h
 
 apart_if : (tick t : ℕ) (i : Item) (is : List Item) → AllByRecursion (λ (j : Item). IsBefore i.event j.event) is → AreApart is → AreApart (if_in tick t i ++ is)
 apart_if tick t i is first rest =
-    on_cond (λ (own : List Item). AreApart (own ++ is)) (Rattle.std.proofs.Common.eqb t tick) (i ∷ []) [] (λ _. (first, rest)) (λ _. rest)
+    cond_both (Rattle.std.proofs.Common.eqb t tick) (i ∷ []) [] (λ (own : List Item). AreApart (own ++ is)) (λ _. (first, rest)) (λ _. rest)
 
 calls_apart : (tick before : ℕ) (lines : List Fault) → AreApart (calls tick before lines)
 calls_apart tick before [] = tt

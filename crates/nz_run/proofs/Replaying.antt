@@ -3,7 +3,7 @@ use Rattle.std.proofs.Common.{◌≡◌, ℕ, zero, suc, ◌+◌, ◌<◌, ◌�
 use Rattle.std.proofs.Common.{[], ◌∷◌, ◌++◌, map, refl, sym, ap, ◌∙◌, subst, arith, append-nil}
 use Rattle.std.specs.Prelude.{reverse, IsPermutation}
 use Rattle.std.specs.List.{AllByRecursion, sum_by}
-use Rattle.std.proofs.lemmas.Bool.{eqb-true}
+use Rattle.std.proofs.lemmas.Bool.{eqb-true, cond_both}
 use Rattle.std.proofs.lemmas.Bool.Decides.{nat_tests}
 use Rattle.std.proofs.lemmas.Grind.{reverse_onto}
 use Rattle.std.proofs.lemmas.List.{reverse-reverse}
@@ -24,7 +24,7 @@ use Rattle.nz_machine.specs.State.{Group}
 use Rattle.nz_machine.specs.Step.{node_step, event_step}
 use Rattle.nz_machine.specs.World.{state_after, World}
 use Rattle.nz_machine.specs.Schedule.{group_of, item_of, due, ScheduledTo, IsPlayable}
-use Rattle.nz_machine.proofs.Runs.{acts, stays, on_cond}
+use Rattle.nz_machine.proofs.Runs.{acts, stays}
 use Rattle.nz_fabric.specs.Replays.{IsReplay}
 use Rattle.nz_fabric.specs.Rows.{of_actor}
 use Rattle.nz_machine.proofs.EachItem.{all_append}
@@ -48,7 +48,7 @@ abbrev item_weight : ℕ → Item → ℕ
 item_weight n i = weight n i.event
 
 own_weight : (n : ℕ) → weight n (Restart n) ≡ 1
-own_weight n = on_cond (λ (k : ℕ). k ≡ 1) (eqb n n) 1 0 (λ _. refl) (λ e. absurd (grind (arith, nat_tests)))
+own_weight n = cond_both (eqb n n) 1 0 (λ (k : ℕ). k ≡ 1) (λ _. refl) (λ e. absurd (grind (arith, nat_tests)))
 
 above_weight : (n : ℕ) (e : Event) → IsAbove n e → weight n e ≡ 0
 above_weight n (Deliver p) h = refl
@@ -56,7 +56,7 @@ above_weight n (Cut p kept) h = refl
 above_weight n (Tick clock) h = refl
 above_weight n Alarm h = refl
 above_weight n Crash h = refl
-above_weight n (Restart m) h = on_cond (λ (k : ℕ). k ≡ 0) (eqb m n) 1 0 (λ e. absurd (let same = eqb-true m n e in omega (arith, same, h))) (λ _. refl)
+above_weight n (Restart m) h = cond_both (eqb m n) 1 0 (λ (k : ℕ). k ≡ 0) (λ e. absurd (let same = eqb-true m n e in omega (arith, same, h))) (λ _. refl)
 
 sum_first : (n : ℕ) (i : Item) (is : List Item) → sum_by (item_weight n) (i ∷ is) ≡ item_weight n i + sum_by (item_weight n) is
 sum_first n i is = let a = sum_by-append (item_weight n) (i ∷ []) is in omega (arith, a)
@@ -77,7 +77,7 @@ most_once n (Tick clock) is h rest = omega (arith, rest)
 most_once n Alarm is h rest = omega (arith, rest)
 most_once n Crash is h rest = omega (arith, rest)
 most_once n (Restart m) is h rest =
-    on_cond (λ (k : ℕ). k + sum_by (item_weight n) is ≤ 1) (eqb m n) 1 0
+    cond_both (eqb m n) 1 0 (λ (k : ℕ). k + sum_by (item_weight n) is ≤ 1)
     (λ e. let none = all_above n is (subst (λ (k : ℕ). AllByRecursion (λ (j : Item). IsAbove k j.event) is) (eqb-true m n e) h) in omega (arith, none))
     (λ _. omega (arith, rest))
 
@@ -131,14 +131,14 @@ own_state g a [] = refl
 own_state g a (r ∷ J) =
     let own = of_actor a J in
     let ih = own_state g a J in
-    on_cond (λ (L : List Record). state_after g a L ≡ state_after g a (r ∷ J)) (actor_eq r.actor a) (r ∷ own) own
+    cond_both (actor_eq r.actor a) (r ∷ own) own (λ (L : List Record). state_after g a L ≡ state_after g a (r ∷ J))
     (λ e. acts g a r own e ∙ ap (λ (s : _). (event_step g a s r.event).0) ih ∙ sym (acts g a r J e))
     (λ e. ih ∙ sym (stays g a r J e))
 
 replay_back : (g : Group) (a : Actor) (r : Record) (J : List Record) → IsReplay g a (of_actor a (r ∷ J)) → IsReplay g a (of_actor a J)
 replay_back g a r J =
     let own = of_actor a J in
-    on_cond (λ (L : List Record). IsReplay g a L → IsReplay g a own) (actor_eq r.actor a) (r ∷ own) own (λ _ h. h.1.1) (λ _ h. h)
+    cond_both (actor_eq r.actor a) (r ∷ own) own (λ (L : List Record). IsReplay g a L → IsReplay g a own) (λ _ h. h.1.1) (λ _ h. h)
 
 all_back : (g : Group) (now older : List Record) → AllReplay g (now ++ older) → AllReplay g older
 all_back g [] older h = h

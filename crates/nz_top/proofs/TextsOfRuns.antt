@@ -2,6 +2,7 @@
 use Rattle.std.proofs.Common.{◌≡◌, ℕ, zero, suc, ◌+◌, ◌-◌, ◌<◌, ◌≤◌, List, [], ◌∷◌, length, Option, Some, None, refl, arith, inl, inr, length-append}
 use Rattle.std.specs.Prelude.{Ok, IsSome, nat_lt, slice_get}
 use Rattle.std.specs.List.{AllByRecursion, list_any}
+use Rattle.std.proofs.lemmas.Bool.{cond_both}
 use Rattle.nz_base.specs.Key.{id_of}
 use Rattle.nz_base.specs.declared.actor.Actor.{Actor}
 use Rattle.nz_base.specs.declared.actor.Actor.TheVariants.{Replica, Proxy, Client}
@@ -24,7 +25,7 @@ use Rattle.nz_machine.specs.Events.{accepted_by, sent_after, sent_by, client_eve
 use Rattle.nz_machine.specs.History.{history}
 use Rattle.nz_machine.specs.OneHistory.{Precedes}
 use Rattle.nz_machine.specs.Journals.{executed_if_answered, executed_from}
-use Rattle.nz_machine.proofs.Runs.{all_has, on_cond, group_of}
+use Rattle.nz_machine.proofs.Runs.{all_has, group_of}
 use Rattle.nz_machine.proofs.EachItem.{all_append}
 use Rattle.nz_machine.proofs.ListParts.{all_map, all_flat_map}
 use Rattle.nz_machine.proofs.FitRuns.{FitsState, all_fit}
@@ -54,8 +55,8 @@ command_fits (r ∷ script) (suc i) lt all = command_fits script i (omega (arith
 
 accepted_fit : (c : ℕ) (before after : ClientData) (m : Message) → AllByRecursion FitsSent (accepted_in c before after m)
 accepted_fit c before after (messages.Answer b) =
-    on_cond (AllByRecursion FitsSent) (nat_lt before.accepted after.accepted)
-    (Accepted (id_at c b.num) b.answer b.path ∷ []) [] (λ _. (tt, tt)) (λ _. tt)
+    cond_both (nat_lt before.accepted after.accepted)
+    (Accepted (id_at c b.num) b.answer b.path ∷ []) [] (AllByRecursion FitsSent) (λ _. (tt, tt)) (λ _. tt)
 accepted_fit c before after _ = tt
 
 read_fit : (c : ℕ) (before after : ClientData) (o : Option Envelope) → AllByRecursion FitsSent (accepted_by c before after o)
@@ -123,7 +124,7 @@ events_fit : (g : Group) (J : List Record) → World g J → AllByRecursion Fits
 events_fit g J w = all_map FitsEvent event_of (events g J) (all_by (λ t. FitsEvent (event_of t)) (events g J) (λ t h. event_fits g J t w h))
 
 open_fits : (E : List Event) (e : Event) → FitsEvent e → AllByRecursion FitsId (open_in E e)
-open_fits E (Send id command) h = on_cond (AllByRecursion FitsId) (list_any (accepts_it id) E) [] (id ∷ []) (λ _. tt) (λ _. (h.0, tt))
+open_fits E (Send id command) h = cond_both (list_any (accepts_it id) E) [] (id ∷ []) (AllByRecursion FitsId) (λ _. tt) (λ _. (h.0, tt))
 open_fits E (Accept id answer path) h = tt
 
 each_open : (E es : List Event) → AllByRecursion FitsEvent es → AllByRecursion (λ e. AllByRecursion FitsId (open_in E e)) es
