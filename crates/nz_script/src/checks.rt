@@ -50,7 +50,7 @@ fn is_in_turn(draft: &Draft, verb: Verb, words: &[Word]) -> bool
 fn is_in_order(draft: &Draft, line: &Line) -> bool
     ensures { result ≡ keeps_order draft.now line.now }
 {
-    draft.place.is(line.verb.shape().1) && is_in_turn(draft, line.verb, line.words.as_slice())
+    draft.place.is(line.verb.shape().place) && is_in_turn(draft, line.verb, line.words.as_slice())
 }
 
 fn suits(form: Form, actor: Actor) -> bool
@@ -111,7 +111,7 @@ fn is_new_skew(draft: &Draft, verb: Verb, words: &[Word]) -> bool
 fn has_known_names(draft: &Draft, line: &Line) -> bool
     ensures { result ≡ names_known draft.now line.now }
 {
-    are_known(&draft.group, line.verb.shape().2, line.words.as_slice())
+    are_known(&draft.group, line.verb.shape().forms, line.words.as_slice())
         && is_new_skew(draft, line.verb, line.words.as_slice())
 }
 
@@ -225,7 +225,7 @@ fn is_within_limits(draft: &Draft, line: &Line) -> bool
     ensures { result ≡ within_limits draft.now line.now }
 {
     let words = line.words.as_slice();
-    are_within(line.verb.shape().2, words)
+    are_within(line.verb.shape().forms, words)
         && is_span(line.verb, words)
         && has_room(draft, line.verb)
 }
