@@ -2,7 +2,7 @@
 ghost use Rattle.std.specs.Prelude.{◌≡◌, ◌≤◌};
 ghost use Rattle.std.specs.Option.{option_map};
 ghost use Rattle.nz_store.specs.Grammar.{IsOptionalValue, IsValidCommand};
-ghost use Rattle.nz_store.specs.Reading.{command_of, command_owned};
+ghost use Rattle.nz_store.specs.Reading.{command_owned};
 ghost use Rattle.nz_script.specs.Sizes as sizes;
 ghost use Rattle.nz_script.specs.Sizes.{choice_len};
 
@@ -11,7 +11,7 @@ use nz_store::{CommandRef, command_in};
 /// How long the choice is as a word of a line.
 fn word_len(choice: Option<&[u8]>) -> u32
     requires { IsOptionalValue (option_map (λ v. v.now) choice) }
-    ensures value { result ≡ choice_len (option_map (λ v. v.now) choice) }
+    ensures value { result ≡ choice_len (option_map (λ v. v.now) choice.entry) }
     ensures short { result ≤ 256 }
 {
     match choice {
@@ -22,7 +22,7 @@ fn word_len(choice: Option<&[u8]>) -> u32
 
 fn command_len(command: CommandRef<'_>) -> u32
     requires { IsValidCommand (command_owned command) }
-    ensures { result ≡ sizes.command_len (command_owned command) }
+    ensures { result ≡ sizes.command_len (command_owned command.entry) }
 {
     match command {
         CommandRef::Put { key, value } => 5 + key.len() as u32 + value.len() as u32,

@@ -156,7 +156,7 @@ fn kept(alloc: Global, value: Option<&[u8]>) -> Result<Option<Blob>, NoMemory>
 impl CommandRef<'_> {
     /// The same command, with a key and values of its own.
     pub fn copy(self, alloc: Global) -> Result<Command, NoMemory>
-        ensures { IfOk result (λ command. command ≡ command_owned self) }
+        ensures { IfOk result (λ command. command ≡ command_owned self.entry) }
     {
         match self {
             CommandRef::Put { key, value } => {
