@@ -1,5 +1,4 @@
 -- The modules of this crate's definitions.
 pub mod Merged
 pub mod Sender
-pub mod Lower
 pub mod Fit

@@ -38,6 +38,11 @@ abbrev pub lower : Change → Option Change → Change
 lower c None = c
 lower c (Some d) = if nat_lt d.sender c.sender then d else c
 
+-- The lower of the best so far and one more: the code goes through the changes from the first on.
+abbrev pub lower_of : Option Change → Change → Change
+lower_of None c = c
+lower_of (Some b) c = if nat_lt c.sender b.sender then c else b
+
 -- The report of the lowest sender, if there is one.
 abbrev pub lowest : List Change → Option Change
 lowest [] = None

@@ -4,8 +4,7 @@ ghost use Rattle.std.specs.Prelude.{◌≡◌, ◌+◌, ◌≤◌, ◌<◌, ◌&
 ghost use Rattle.std.specs.Option.{option_copied};
 ghost use Rattle.nz_base.specs.Key.{id_of};
 ghost use Rattle.nz_base.specs.Log.{keys_of, has_key, has_id, AreRising, is_above_last};
-ghost use Rattle.nz_merge.specs.Lower.{lower_of};
-ghost use Rattle.nz_merge.specs.Merged.{AreFit, command_of_key, put_all_in_order, IsFit, greatest, of_view, lowest};
+ghost use Rattle.nz_merge.specs.Merged.{AreFit, command_of_key, put_all_in_order, IsFit, greatest, of_view, lower_of, lowest};
 ghost use Rattle.nz_merge.specs.Merged.{with_synced, merged_synced_part, holders, all_keys, entry_in};
 
 use super::change::Change;

@@ -40,8 +40,8 @@ pub record IsAskedBy (c : Command) : Type 0 where
   pub ask : Ask
   pub words : List Word
   pub line : command_line c ≡ a_line (verb.Ask ask) words
-  pub read : AreReadAs (ask_shape_of ask).2 words
-  pub within : all_within (ask_shape_of ask).2 words ≡ true
+  pub read : AreReadAs (ask_shape_of ask).forms words
+  pub within : all_within (ask_shape_of ask).forms words ≡ true
   pub means : command_asked ask words ≡ c
 
 cas_again : (key : List ℕ) (old new : Option (List ℕ)) → command_asked Cas (word.Text key ∷ choice_of old ∷ choice_of new ∷ []) ≡ command.Cas key old new
@@ -77,8 +77,8 @@ asked_by (command.Cas key old new) e =
 
 sort_again : (c : Command) (h : IsAskedBy c) (more : List (List ℕ)) → command_of_sort h.ask (map word_text h.words ++ more) ≡ Some (c, more)
 sort_again c h more =
-    ap (λ (o : Option (List Word × List (List ℕ))). o >>= λ x. cond (all_within (ask_shape_of h.ask).2 x.0)
-    (Some (command_asked h.ask x.0, x.1)) None) (first_again (ask_shape_of h.ask).2 h.words more h.read)
+    ap (λ (o : Option (List Word × List (List ℕ))). o >>= λ x. cond (all_within (ask_shape_of h.ask).forms x.0)
+    (Some (command_asked h.ask x.0, x.1)) None) (first_again (ask_shape_of h.ask).forms h.words more h.read)
     ∙ ap (λ (b : Bool). cond b (Some (command_asked h.ask h.words, more)) None) h.within ∙ ap (λ (d : Command). Some (d, more)) h.means
 
 words_first_again : (c : Command) (h : IsAskedBy c) (more : List (List ℕ))

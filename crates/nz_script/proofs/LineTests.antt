@@ -44,7 +44,7 @@ choice-text Everyone e = absurd (false≢true e)
 choice-text (Kind k) e = absurd (false≢true e)
 choice-text Nothing e = refl
 
-spelled : (ask : Ask) (words : List Word) → all_within (ask_shape_of ask).2 words ≡ true → has_spelling (command_asked ask words) ≡ true
+spelled : (ask : Ask) (words : List Word) → all_within (ask_shape_of ask).forms words ≡ true → has_spelling (command_asked ask words) ≡ true
 spelled Put [] e = absurd (false≢true e)
 spelled Put (k ∷ []) e = absurd (false≢true (and_parts (is_key_word k) false e).1)
 spelled Put (k ∷ v ∷ more) e =
@@ -63,7 +63,7 @@ spelled Cas (k ∷ old ∷ new ∷ more) e =
     and_from _ _ (and_from _ _ (key-text k p.0) (choice-text old q.0)) (choice-text new (and_parts (has_choice new) true q.1).0)
 
 -- a command whose key and values are in range can be spelled
-pub command_is_valid : (ask : Ask) (words : List Word) → all_within (ask_shape_of ask).2 words ≡ true → IsValidCommand (command_asked ask words)
+pub command_is_valid : (ask : Ask) (words : List Word) → all_within (ask_shape_of ask).forms words ≡ true → IsValidCommand (command_asked ask words)
 command_is_valid ask words e = (tells_valid (command_asked ask words)).0 (spelled ask words e)
 
 last_passed : (k a b c : Bool)

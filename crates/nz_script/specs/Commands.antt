@@ -24,7 +24,7 @@ ask_of_verb _ = None
 -- A command of this sort, with its key and its values in range, and the words after it.
 abbrev pub command_of_sort : Ask → List (List ℕ) → Option (Command × List (List ℕ))
 command_of_sort ask words =
-    fits_first (ask_shape_of ask).2 words >>= λ x. if all_within (ask_shape_of ask).2 x.0 then Some (command_asked ask x.0, x.1) else None
+    fits_first (ask_shape_of ask).forms words >>= λ x. if all_within (ask_shape_of ask).forms x.0 then Some (command_asked ask x.0, x.1) else None
 
 -- The command whose words come first, and the words after it.
 unfoldable pub command_first : List (List ℕ) → Option (Command × List (List ℕ))

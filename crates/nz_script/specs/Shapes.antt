@@ -36,55 +36,65 @@ tick = form.Number 1 MAX_TICKS
 abbrev pub count : Form
 count = form.Number 1 1000000
 
--- The first word, the place and the further words of the lines of the head.
-abbrev pub head_shape_of : Head → List ℕ × Place × List Form
-head_shape_of head.Version = (codes "nezha", place.Version, form.Number 1 2 ∷ [])
-head_shape_of head.Faulty = (codes "f", place.Faulty, form.Number 1 MAX_F ∷ [])
-head_shape_of head.Proxies = (codes "proxies", place.Proxies, form.Number 1 MAX_PROXIES ∷ [])
-head_shape_of head.Clients = (codes "clients", place.Clients, form.Number 1 MAX_CLIENTS ∷ [])
-head_shape_of head.Ticks = (codes "ticks", place.Ticks, tick ∷ [])
-head_shape_of head.Window = (codes "window", place.Window, form.Number 2 MAX_WINDOW ∷ [])
+-- The first word of a line, where the line may come, and the forms of its other words.
+pub record LineShape : Type 0 where
+  pub word : List ℕ
+  pub place : Place
+  pub forms : List Form
 
--- Those of the commands.
-abbrev pub ask_shape_of : Ask → List ℕ × Place × List Form
-ask_shape_of Put = (codes "put", place.Block, form.Key ∷ form.Value ∷ [])
-ask_shape_of Get = (codes "get", place.Block, form.Key ∷ [])
-ask_shape_of Del = (codes "del", place.Block, form.Key ∷ [])
-ask_shape_of Cas = (codes "cas", place.Block, form.Key ∷ form.Choice ∷ form.Choice ∷ [])
+-- A shape of these parts.
+abbrev pub shape : List ℕ → Place → List Form → LineShape
+shape word place forms = record { word = word; place = place; forms = forms }
 
--- Those of the faults.
-abbrev pub mishap_shape_of : Mishap → List ℕ × Place × List Form
-mishap_shape_of mishap.Drop = (codes "drop", place.Mishaps, form.Actor ∷ form.Actor ∷ form.Kind ∷ count ∷ [])
-mishap_shape_of mishap.Hold = (codes "hold", place.Mishaps, form.Actor ∷ form.Actor ∷ form.Kind ∷ count ∷ tick ∷ [])
-mishap_shape_of mishap.Twice = (codes "twice", place.Mishaps, form.Actor ∷ form.Actor ∷ form.Kind ∷ count ∷ form.Number 0 MAX_TICKS ∷ [])
-mishap_shape_of mishap.Cut = (codes "cut", place.Mishaps, form.Actor ∷ form.Actor ∷ form.Kind ∷ count ∷ form.Number 0 16777216 ∷ [])
-mishap_shape_of mishap.Block = (codes "block", place.Mishaps, form.Actors ∷ form.Actors ∷ tick ∷ tick ∷ [])
-mishap_shape_of mishap.Crash = (codes "crash", place.Mishaps, form.Server ∷ tick ∷ [])
-mishap_shape_of mishap.Restart = (codes "restart", place.Mishaps, form.Server ∷ tick ∷ [])
-mishap_shape_of mishap.Alarm = (codes "alarm", place.Mishaps, form.Replica ∷ tick ∷ [])
+-- The shapes of the lines of the head.
+abbrev pub head_shape_of : Head → LineShape
+head_shape_of head.Version = shape (codes "nezha") place.Version (form.Number 1 2 ∷ [])
+head_shape_of head.Faulty = shape (codes "f") place.Faulty (form.Number 1 MAX_F ∷ [])
+head_shape_of head.Proxies = shape (codes "proxies") place.Proxies (form.Number 1 MAX_PROXIES ∷ [])
+head_shape_of head.Clients = shape (codes "clients") place.Clients (form.Number 1 MAX_CLIENTS ∷ [])
+head_shape_of head.Ticks = shape (codes "ticks") place.Ticks (tick ∷ [])
+head_shape_of head.Window = shape (codes "window") place.Window (form.Number 2 MAX_WINDOW ∷ [])
 
--- The first word, the place and the further words of each line.
-abbrev pub shape_of : Verb → List ℕ × Place × List Form
+-- The shapes of the commands.
+abbrev pub ask_shape_of : Ask → LineShape
+ask_shape_of Put = shape (codes "put") place.Block (form.Key ∷ form.Value ∷ [])
+ask_shape_of Get = shape (codes "get") place.Block (form.Key ∷ [])
+ask_shape_of Del = shape (codes "del") place.Block (form.Key ∷ [])
+ask_shape_of Cas = shape (codes "cas") place.Block (form.Key ∷ form.Choice ∷ form.Choice ∷ [])
+
+-- The shapes of the faults.
+abbrev pub mishap_shape_of : Mishap → LineShape
+mishap_shape_of mishap.Drop = shape (codes "drop") place.Mishaps (form.Actor ∷ form.Actor ∷ form.Kind ∷ count ∷ [])
+mishap_shape_of mishap.Hold = shape (codes "hold") place.Mishaps (form.Actor ∷ form.Actor ∷ form.Kind ∷ count ∷ tick ∷ [])
+mishap_shape_of mishap.Twice = shape (codes "twice") place.Mishaps (form.Actor ∷ form.Actor ∷ form.Kind ∷ count ∷ form.Number 0 MAX_TICKS ∷ [])
+mishap_shape_of mishap.Cut = shape (codes "cut") place.Mishaps (form.Actor ∷ form.Actor ∷ form.Kind ∷ count ∷ form.Number 0 16777216 ∷ [])
+mishap_shape_of mishap.Block = shape (codes "block") place.Mishaps (form.Actors ∷ form.Actors ∷ tick ∷ tick ∷ [])
+mishap_shape_of mishap.Crash = shape (codes "crash") place.Mishaps (form.Server ∷ tick ∷ [])
+mishap_shape_of mishap.Restart = shape (codes "restart") place.Mishaps (form.Server ∷ tick ∷ [])
+mishap_shape_of mishap.Alarm = shape (codes "alarm") place.Mishaps (form.Replica ∷ tick ∷ [])
+
+-- The shape of each line.
+abbrev pub shape_of : Verb → LineShape
 shape_of (verb.Head h) = head_shape_of h
-shape_of verb.Skew = (codes "skew", place.Between, form.Server ∷ form.Units ∷ [])
-shape_of verb.Client = (codes "client", place.Between, form.Client ∷ [])
+shape_of verb.Skew = shape (codes "skew") place.Between (form.Server ∷ form.Units ∷ [])
+shape_of verb.Client = shape (codes "client") place.Between (form.Client ∷ [])
 shape_of (verb.Ask a) = ask_shape_of a
-shape_of verb.Wait = (codes "wait", place.Block, tick ∷ [])
-shape_of verb.End = (codes "end", place.Block, [])
+shape_of verb.Wait = shape (codes "wait") place.Block (tick ∷ [])
+shape_of verb.End = shape (codes "end") place.Block []
 shape_of (verb.Mishap m) = mishap_shape_of m
-shape_of verb.Done = (codes "done", place.Mishaps, [])
+shape_of verb.Done = shape (codes "done") place.Mishaps []
 
 -- The first word of a line.
 abbrev pub verb_word : Verb → List ℕ
-verb_word v = (shape_of v).0
+verb_word v = (shape_of v).word
 
 -- Where the line may come.
 abbrev pub verb_place : Verb → Place
-verb_place v = (shape_of v).1
+verb_place v = (shape_of v).place
 
 -- The forms of its other words.
 abbrev pub forms_of : Verb → List Form
-forms_of v = (shape_of v).2
+forms_of v = (shape_of v).forms
 
 -- All sorts of lines.
 abbrev pub verbs : List Verb

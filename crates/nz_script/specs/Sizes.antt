@@ -13,10 +13,6 @@ room_after room n = if nat_le n room then Some (room - n) else None
 abbrev pub choice_len : Option (List ℕ) → ℕ
 choice_len choice = length (word_text (choice_of choice))
 
--- The length of a choice, and the bytes after it.
-abbrev pub size_of_word : Option (List ℕ) × List ℕ → ℕ × List ℕ
-size_of_word x = (choice_len x.0, x.1)
-
 -- The length of a command's line, without its newline.
 abbrev pub command_len : Command → ℕ
 command_len c = length (line_text (command_line c))

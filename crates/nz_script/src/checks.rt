@@ -2,9 +2,6 @@
 
 ghost use Rattle.std.specs.Prelude.{◌≡◌, ◌<◌, ◌^◌};
 ghost use Rattle.nz_base.specs.Actor.{actor_eq};
-ghost use Rattle.nz_store.specs.Reading.{is_key_text, is_value_text};
-ghost use Rattle.nz_store.specs.Grammar.{is_graphic};
-ghost use Rattle.std.specs.List.{list_all};
 ghost use Rattle.nz_script.specs.Drafts as drafts;
 ghost use Rattle.nz_script.specs.Drafts.{keeps_order, all_known, names_known, is_key_word, word_within, all_within, has_room_for_requests};
 ghost use Rattle.nz_script.specs.Drafts.{has_room_for_faults, has_room_for_line, within_limits};
@@ -17,6 +14,7 @@ use super::line::Line;
 use super::line_forms::{Form, Head, Mishap, Verb};
 use super::word::{Word, actor_at, number_at};
 use nz_base::{Actor, MAX_CHANCES, MAX_FAULTS, MAX_REQUESTS, MAX_TURNS, Skew};
+use nz_store::{is_key, is_value};
 
 /// Whether a text of this version has lines of this sort. In version 1 the word `window` is unknown.
 fn version_has(version: u8, verb: Verb) -> bool
@@ -52,7 +50,7 @@ fn is_in_turn(draft: &Draft, verb: Verb, words: &[Word]) -> bool
 fn is_in_order(draft: &Draft, line: &Line) -> bool
     ensures { result ≡ keeps_order draft.now line.now }
 {
-    draft.place.is(line.verb.shape().1) && is_in_turn(draft, line.verb, line.words.as_slice())
+    draft.place.is(line.verb.shape().place) && is_in_turn(draft, line.verb, line.words.as_slice())
 }
 
 fn suits(form: Form, actor: Actor) -> bool
@@ -113,14 +111,8 @@ fn is_new_skew(draft: &Draft, verb: Verb, words: &[Word]) -> bool
 fn has_known_names(draft: &Draft, line: &Line) -> bool
     ensures { result ≡ names_known draft.now line.now }
 {
-    are_known(&draft.group, line.verb.shape().2, line.words.as_slice())
+    are_known(&draft.group, line.verb.shape().forms, line.words.as_slice())
         && is_new_skew(draft, line.verb, line.words.as_slice())
-}
-
-fn are_graphic(bytes: &[u8]) -> bool
-    ensures { result ≡ list_all is_graphic bytes.now }
-{
-    bytes.iter().all(|b| b.is_ascii_graphic())
 }
 
 fn has_number(least: u32, most: u32, word: &Word) -> bool
@@ -139,20 +131,6 @@ fn has_units(word: &Word) -> bool
         Word::Units { back: _, number } => *number <= 4_611_686_018_427_387_904,
         _ => false,
     }
-}
-
-pub fn is_key(bytes: &[u8]) -> bool
-    ensures { result ≡ is_key_text bytes.now }
-{
-    let len = bytes.len();
-    1 <= len && len <= 32 && are_graphic(bytes)
-}
-
-pub fn is_value(bytes: &[u8]) -> bool
-    ensures { result ≡ is_value_text bytes.now }
-{
-    let len = bytes.len();
-    1 <= len && len <= 256 && are_graphic(bytes) && bytes != b"-".as_slice()
 }
 
 fn has_key(word: &Word) -> bool
@@ -247,7 +225,7 @@ fn is_within_limits(draft: &Draft, line: &Line) -> bool
     ensures { result ≡ within_limits draft.now line.now }
 {
     let words = line.words.as_slice();
-    are_within(line.verb.shape().2, words)
+    are_within(line.verb.shape().forms, words)
         && is_span(line.verb, words)
         && has_room(draft, line.verb)
 }

@@ -54,7 +54,7 @@ fn command_of_ask<'a, 'b>(
     ensures value { IfOk result (λ command. option_map (λ x. (x.0, map (λ w. w.now) x.1.now)) command ≡ command_of_sort ask (map (λ w. w.now) words.now)) }
     ensures valid { IfOk result (λ command. IfSome command (λ x. IsValidCommand x.0)) }
 {
-    let forms = Verb::Ask(ask).shape().2;
+    let forms = Verb::Ask(ask).shape().forms;
     let Some((meant, rest)) = words_first(alloc, forms, words)? else {
         return Ok(None);
     };

@@ -156,7 +156,7 @@ impl Draft {
     }
 
     fn take_head(&mut self, head: Head, words: &[Word])
-        requires { IsTrue (all_within (head_shape_of head).2 words.now) }
+        requires { IsTrue (all_within (head_shape_of head).forms words.now) }
         ensures { self.new ≡ with_head self.old head words.now }
     {
         match head {

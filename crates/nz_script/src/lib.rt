@@ -20,7 +20,6 @@ mod validity;
 mod word;
 
 pub use bytes::{cut_at, number_of};
-pub use checks::is_value;
 pub use commands::command_first;
 pub use faults::{Kind, ScriptFault};
 pub use generating::generate;

@@ -61,7 +61,7 @@ pub fn line_of(alloc: Global, bytes: &[u8]) -> Result<Option<Line>, NoMemory>
     let Some(verb) = verb_of(first) else {
         return Ok(None);
     };
-    let Some(words) = words_of(alloc, verb.shape().2, rest)? else {
+    let Some(words) = words_of(alloc, verb.shape().forms, rest)? else {
         return Ok(None);
     };
     Ok(Some(Line { verb, words }))

@@ -142,14 +142,20 @@ impl Place {
     }
 }
 
-type Shape = (&'static [u8], Place, &'static [Form]);
+/// The first word of a line, where the line may come, and the forms of the words that follow.
+#[derive(Clone, Copy, Debug)]
+pub struct Shape {
+    pub word: &'static [u8],
+    pub place: Place,
+    pub forms: &'static [Form],
+}
 
 fn row(word: &'static [u8], place: Place, forms: &'static [Form]) -> Shape
-    ensures word { result.0.now ≡ word.now }
-    ensures place { result.1 ≡ place }
-    ensures forms { result.2.now ≡ forms.now }
+    ensures word { result.word.now ≡ word.now }
+    ensures place { result.place ≡ place }
+    ensures forms { result.forms.now ≡ forms.now }
 {
-    (word, place, forms)
+    Shape { word, place, forms }
 }
 
 const TICK: Form = Form::Number {
@@ -194,11 +200,11 @@ const WINDOW: Form = Form::Number {
 
 const VERSION: Form = Form::Number { least: 1, most: 2 };
 
-/// The first words of the lines, where these may come, and the forms of the words that follow.
+/// The shapes of the lines of the head.
 fn head_shape(head: Head) -> Shape
-    ensures word { result.0.now ≡ (head_shape_of head).0 }
-    ensures place { result.1 ≡ (head_shape_of head).1 }
-    ensures forms { result.2.now ≡ (head_shape_of head).2 }
+    ensures word { result.word.now ≡ (head_shape_of head).word }
+    ensures place { result.place ≡ (head_shape_of head).place }
+    ensures forms { result.forms.now ≡ (head_shape_of head).forms }
 {
     match head {
         Head::Version => row(b"nezha", Place::Version, &[VERSION]),
@@ -211,9 +217,9 @@ fn head_shape(head: Head) -> Shape
 }
 
 fn ask_shape(ask: Ask) -> Shape
-    ensures word { result.0.now ≡ (ask_shape_of ask).0 }
-    ensures place { result.1 ≡ (ask_shape_of ask).1 }
-    ensures forms { result.2.now ≡ (ask_shape_of ask).2 }
+    ensures word { result.word.now ≡ (ask_shape_of ask).word }
+    ensures place { result.place ≡ (ask_shape_of ask).place }
+    ensures forms { result.forms.now ≡ (ask_shape_of ask).forms }
 {
     match ask {
         Ask::Put => row(b"put", Place::Block, &[Form::Key, Form::Value]),
@@ -228,9 +234,9 @@ fn ask_shape(ask: Ask) -> Shape
 }
 
 fn mishap_shape(mishap: Mishap) -> Shape
-    ensures word { result.0.now ≡ (mishap_shape_of mishap).0 }
-    ensures place { result.1 ≡ (mishap_shape_of mishap).1 }
-    ensures forms { result.2.now ≡ (mishap_shape_of mishap).2 }
+    ensures word { result.word.now ≡ (mishap_shape_of mishap).word }
+    ensures place { result.place ≡ (mishap_shape_of mishap).place }
+    ensures forms { result.forms.now ≡ (mishap_shape_of mishap).forms }
 {
     let place = Place::Mishaps;
     match mishap {
@@ -262,11 +268,11 @@ fn mishap_shape(mishap: Mishap) -> Shape
 }
 
 impl Verb {
-    /// The first word of such a line, where it may come, and the forms of the words that follow.
+    /// The shape of such a line.
     pub fn shape(self) -> Shape
-        ensures word { result.0.now ≡ verb_word self }
-        ensures place { result.1 ≡ verb_place self }
-        ensures forms { result.2.now ≡ forms_of self }
+        ensures word { result.word.now ≡ verb_word self }
+        ensures place { result.place ≡ verb_place self }
+        ensures forms { result.forms.now ≡ forms_of self }
     {
         match self {
             Verb::Head(head) => head_shape(head),
@@ -287,7 +293,7 @@ fn verb_in(verbs: &[Verb], word: &[u8]) -> Option<Verb>
     let [verb, others @ ..] = verbs else {
         return None;
     };
-    if verb.shape().0 == word {
+    if verb.shape().word == word {
         Some(*verb)
     } else {
         verb_in(others, word)

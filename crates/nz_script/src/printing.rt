@@ -83,7 +83,7 @@ fn put_words(alloc: Global, out: &mut Vec<u8>, words: &[Word]) -> Result<(), NoM
 fn put_shaped(alloc: Global, out: &mut Vec<u8>, verb: Verb, words: &[Word]) -> Result<(), NoMemory>
     ensures { OnOk result (out.new.items ≡ out.old.items ++ line_text (a_line verb words.now)) }
 {
-    put(out, verb.shape().0)?;
+    put(out, verb.shape().word)?;
     put_words(alloc, out, words)
 }
 

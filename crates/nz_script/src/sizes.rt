@@ -91,7 +91,7 @@ fn words_room(room: u32, words: &[Word]) -> Option<u32>
 fn line_room(room: u32, verb: Verb, words: &[Word]) -> Option<u32>
     ensures { result ≡ room_after room (length (text_of_lines (a_line verb words.now ∷ []))) }
 {
-    let room = bytes_room(room, verb.shape().0)?;
+    let room = bytes_room(room, verb.shape().word)?;
     let room = words_room(room, words)?;
     taken(room, 1)
 }

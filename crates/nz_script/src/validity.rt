@@ -63,7 +63,7 @@ fn has_group(scenario: &Scenario) -> bool
 fn is_sound(group: &Group, verb: Verb, words: &[Word]) -> bool
     ensures { result ≡ valid.is_sound group.now (a_line verb words.now) }
 {
-    let forms = verb.shape().2;
+    let forms = verb.shape().forms;
     are_known(group, forms, words) && (are_within(forms, words) && is_span(verb, words))
 }
 

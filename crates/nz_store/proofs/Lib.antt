@@ -5,4 +5,5 @@ pub mod Spellings
 pub mod Tables
 pub mod Maps
 pub mod Turns
+pub mod ValidAnswers
 pub mod Session

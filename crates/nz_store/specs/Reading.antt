@@ -2,8 +2,11 @@
 use Rattle.std.specs.Prelude.{ℕ, zero, suc, ◌+◌, ◌*◌, Bool, true, ◌&&◌, not, nat_lt, nat_le, ◌==◌, if◌then◌else◌}
 use Rattle.std.specs.Prelude.{List, [], ◌∷◌, length, take, drop, Option, Some, None}
 use Rattle.std.specs.List.{list_all}
+use Rattle.std.specs.Option.{option_map}
 use Rattle.std.specs.Str.{bytes_eq}
 use Rattle.nz_store.specs.declared.command.Command.{Command}
+use Rattle.nz_store.specs.declared.command.CommandRef.{CommandRef}
+use Rattle.nz_store.specs.declared.command.CommandRef.TheVariants as lent
 use Rattle.nz_store.specs.declared.command.Command.TheVariants.{Put, Get, Del, Cas}
 use Rattle.nz_store.specs.Grammar.{is_graphic, dash}
 
@@ -80,3 +83,10 @@ all_of (Some found) = if length found.1 == 0 then Some found.0 else None
 -- The command that the bytes spell.
 unfoldable pub command_of : List ℕ → Option Command
 command_of bytes = all_of (command_at bytes)
+
+-- A command whose key and values are lent, with its own.
+abbrev pub command_owned : CommandRef → Command
+command_owned (lent.Put key value) = Put key.now value.now
+command_owned (lent.Get key) = Get key.now
+command_owned (lent.Del key) = Del key.now
+command_owned (lent.Cas key old new) = Cas key.now (option_map (λ v. v.now) old) (option_map (λ v. v.now) new)

@@ -32,6 +32,26 @@ pub enum Command {
     },
 }
 
+/// A command whose key and values are some bytes of somebody else's.
+#[derive(Clone, Copy, Debug)]
+pub enum CommandRef<'a> {
+    Put {
+        key: &'a [u8],
+        value: &'a [u8],
+    },
+    Get {
+        key: &'a [u8],
+    },
+    Del {
+        key: &'a [u8],
+    },
+    Cas {
+        key: &'a [u8],
+        old: Option<&'a [u8]>,
+        new: Option<&'a [u8]>,
+    },
+}
+
 /// What the store answers to a command.
 #[derive(Debug, Drop)]
 pub enum Answer {

@@ -10,9 +10,9 @@ mod store;
 mod writing;
 
 pub use blob::Blob;
-pub use command::{Answer, Command};
+pub use command::{Answer, Command, CommandRef};
 pub use error::NoMemory;
-pub use reading::read_command;
+pub use reading::{command_in, is_key, is_value, read_command};
 pub use store::Store;
 pub use writing::write_command;
 

@@ -164,7 +164,7 @@ command_plain : (c : Command) → has_spelling c ≡ true → AllByRecursion IsP
 command_plain c e =
     let h = asked_by c e in
     subst (λ l. AllByRecursion IsPlain (verb_word l.verb ∷ map word_text l.words)) (sym h.line)
-    (graphic_plain (verb_word (verb.Ask h.ask)) (first_word (verb.Ask h.ask)).word.graphic, all_plain (ask_shape_of h.ask).2 h.words h.read)
+    (graphic_plain (verb_word (verb.Ask h.ask)) (first_word (verb.Ask h.ask)).word.graphic, all_plain (ask_shape_of h.ask).forms h.words h.read)
 
 plain-append : (xs ys : List (List ℕ)) → AllByRecursion IsPlain xs → AllByRecursion IsPlain ys → AllByRecursion IsPlain (xs ++ ys)
 plain-append [] ys h k = k

@@ -11,8 +11,8 @@ use super::printed::Event;
 use nz_base::{Blob, Id, NoMemory};
 use nz_machine::Executed;
 use nz_msg::Path;
-use nz_script::{command_first, cut_at, is_value, number_of};
-use nz_store::{Answer, Blob as Value, Command, write_command};
+use nz_script::{command_first, cut_at, number_of};
+use nz_store::{Answer, Blob as Value, Command, is_value, write_command};
 use std::alloc::Global;
 
 /// A line of a text.

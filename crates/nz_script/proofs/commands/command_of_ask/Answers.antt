@@ -11,7 +11,7 @@ use Rattle.nz_script.proofs.commands.command_of_ask.Goals as goal
 pub returns-clause-valid : goal.returns-clause-valid
 returns-clause-valid c =
     let words : List Word = c.in-Some.meant in
-    let within : all_within (ask_shape_of c.args.ask).2 words ≡ true =
-    ap (λ (ws : List Word). all_within (ask_shape_of c.args.ask).2 ws) (sym c.as_slice.ensures)
+    let within : all_within (ask_shape_of c.args.ask).forms words ≡ true =
+    ap (λ (ws : List Word). all_within (ask_shape_of c.args.ask).forms ws) (sym c.as_slice.ensures)
     ∙ ap (λ (forms : List Form). all_within forms c.as_slice.result.now) (sym c.shape.ensures.forms) ∙ sym c.if-not-are_within.ensures in
     subst IsValidCommand (sym (c.in_ok-command.ensures ∙ ap (command_asked c.args.ask) c.as_slice-2.ensures)) (command_is_valid c.args.ask words within)
