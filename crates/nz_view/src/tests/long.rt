@@ -1,12 +1,13 @@
 //! Views that start and begin with logs of 2,000 entries. What comes of it was worked out apart from the program.
 
-use super::{are_sent, hear, vector};
+use super::{are_sent, first_state, hear, vector};
 use crate::on_alarm;
 use nz_base::{Actor, Blob, Cluster, Entry, EntryList, Key, List, NoMemory};
 use nz_machine::{ReplicaState, Sends};
 use nz_msg::{Message, StartViewBody, ViewChangeBody};
 use nz_store::Answer;
 use std::alloc::Global;
+use std::process::Abort;
 use std::test::*;
 
 const COUNT: u32 = 2_000;
@@ -87,25 +88,53 @@ fn change(
     }))
 }
 
-// A follower with the first log, of which 1,500 entries are committed, in view 3.
-fn follower(alloc: Global, cluster: Cluster, sends: &mut Sends) -> Result<ReplicaState, NoMemory> {
-    let mut state = ReplicaState::new(alloc, cluster, 1 % cluster.n())?;
-    let message = start(alloc, cluster, 3, false, 1_500)?;
-    hear(&mut state, Actor::Replica(0), message, sends)?;
-    Ok(state)
+fn hear_start(
+    alloc: Global,
+    state: &mut ReplicaState,
+    view: u64,
+    other: bool,
+    commit: u32,
+    sends: &mut Sends,
+) -> Result<(), NoMemory> {
+    let message = start(alloc, state.cluster(), view, other, commit)?;
+    hear(state, Actor::Replica(0), message, sends)
+}
+
+// It follows with the first log, of which 1,500 entries are committed, in view 3.
+fn follow(alloc: Global, state: &mut ReplicaState, sends: &mut Sends) -> Result<(), NoMemory> {
+    hear_start(alloc, state, 3, false, 1_500, sends)
+}
+
+fn hear_change(alloc: Global, state: &mut ReplicaState, sends: &mut Sends) -> Result<(), NoMemory> {
+    let message = change(alloc, state.cluster(), 4, 3, 1_700)?;
+    hear(state, Actor::Replica(2), message, sends)
+}
+
+fn check_followed(rt: &impl Abort, state: &ReplicaState) {
+    assert!(rt; has_log(state, false) && state.late().is_empty());
+}
+
+fn check_adopted(rt: &impl Abort, state: &ReplicaState, sends: &Sends) {
+    assert!(rt; has_log(state, true));
+    assert!(rt; has_late(state));
+    assert_eq!(rt; (state.view(), state.commit(), sends.len()), (6, 1_500, 0));
+}
+
+fn check_adopts(rt: &impl Abort, alloc: Global, state: &mut ReplicaState) -> Result<(), Fail> {
+    let mut sends = List::new(alloc);
+    follow(alloc, state, &mut sends)?;
+    check_followed(rt, state);
+    hear_start(alloc, state, 6, true, 1_000, &mut sends)?;
+    check_adopted(rt, state, &sends);
+    Ok(())
 }
 
 #[test]
 fn long_log_is_adopted(rt: HostRuntime) -> Result<(), Fail> {
-    let cluster = Cluster::new(1).ok_or("f is from 1 to 4")?;
-    let mut sends = List::new(rt.alloc());
-    let mut state = follower(rt.alloc(), cluster, &mut sends)?;
-    assert!(rt; has_log(&state, false) && state.late().is_empty());
-    let message = start(rt.alloc(), cluster, 6, true, 1_000)?;
-    hear(&mut state, Actor::Replica(0), message, &mut sends)?;
-    assert!(rt; has_log(&state, true));
-    assert!(rt; has_late(&state));
-    assert_eq!(rt; (state.view(), state.commit(), sends.len()), (6, 1_500, 0));
+    let mut states = first_state(rt.alloc(), 1, 1)?;
+    for state in &mut states {
+        check_adopts(&rt, rt.alloc(), state)?;
+    }
     Ok(())
 }
 
@@ -116,17 +145,32 @@ fn has_executed(state: &ReplicaState) -> Result<bool, NoMemory> {
     Ok(matches!(last, Some(Answer::Done)) && after.is_none())
 }
 
+fn lead_next(alloc: Global, state: &mut ReplicaState, sends: &mut Sends) -> Result<(), NoMemory> {
+    follow(alloc, state, sends)?;
+    on_alarm(state, sends)?;
+    hear_change(alloc, state, sends)
+}
+
+fn check_leads(rt: &impl Abort, state: &ReplicaState) -> Result<(), NoMemory> {
+    assert!(rt; state.is_normal() && has_log(state, false));
+    assert!(rt; has_executed(state)?);
+    assert_eq!(rt; (state.view(), state.commit()), (4, 1_700));
+    Ok(())
+}
+
+fn check_begins(rt: &impl Abort, alloc: Global, state: &mut ReplicaState) -> Result<(), Fail> {
+    let mut sends = List::new(alloc);
+    lead_next(alloc, state, &mut sends)?;
+    check_leads(rt, state)?;
+    assert!(rt; are_sent(&sends, &[(0, 10), (2, 10), (0, 12), (2, 12)]));
+    Ok(())
+}
+
 #[test]
 fn view_begins_with_a_long_log(rt: HostRuntime) -> Result<(), Fail> {
-    let cluster = Cluster::new(1).ok_or("f is from 1 to 4")?;
-    let mut sends = List::new(rt.alloc());
-    let mut state = follower(rt.alloc(), cluster, &mut sends)?;
-    on_alarm(&mut state, &mut sends)?;
-    let message = change(rt.alloc(), cluster, 4, 3, 1_700)?;
-    hear(&mut state, Actor::Replica(2), message, &mut sends)?;
-    assert!(rt; state.is_normal() && has_log(&state, false));
-    assert!(rt; has_executed(&state)?);
-    assert_eq!(rt; (state.view(), state.commit()), (4, 1_700));
-    assert!(rt; are_sent(&sends, &[(0, 10), (2, 10), (0, 12), (2, 12)]));
+    let mut states = first_state(rt.alloc(), 1, 1)?;
+    for state in &mut states {
+        check_begins(&rt, rt.alloc(), state)?;
+    }
     Ok(())
 }
