@@ -3,11 +3,13 @@
 use super::*;
 use bytes::Bytes;
 use nz_base::{
-    Actor, Blob, Cluster, FaultList, NoMemory, RequestList, Scenario, ScriptList, SkewList, TryCopy,
+    Actor, Blob, Cluster, FaultList, Id, NoMemory, RequestList, Scenario, ScriptList, SkewList,
+    TryCopy,
 };
-use nz_msg::{AnswerBody, Message, Path, RequestBody, ViewAskBody, encode};
+use nz_msg::{AnswerBody, Envelope, Message, Path, RequestBody, ViewAskBody, encode};
 use nz_store::Answer;
 use std::alloc::Global;
+use std::process::Abort;
 use std::test::Fail;
 
 // The frame of a view-ask for view 1 from one address to another.
@@ -24,50 +26,68 @@ fn parcel(alloc: Global, from: u8, to: u8, bytes: &[u8]) -> Result<Parcel, NoMem
     })
 }
 
+// The parcel's sender and receiver, those of its frame, how many of the frame's bytes there are, and whether replica 0
+// hears it.
+type Row = (u8, u8, u8, u8, usize, bool);
+
+const ROWS: &[Row] = &[
+    (1, 0, 1, 0, 18, true),
+    (1, 0, 1, 0, 17, false),
+    (1, 0, 1, 0, 0, false),
+    (1, 0, 1, 9, 18, false),
+    (1, 0, 1, 2, 18, false),
+    (1, 2, 1, 0, 18, false),
+    (1, 2, 1, 2, 18, false),
+    (2, 0, 1, 0, 18, false),
+    (0, 0, 0, 0, 18, false),
+];
+
+fn rows() -> &'static [Row] {
+    ROWS
+}
+
+fn heard_in(alloc: Global, row: &Row) -> Result<Option<Envelope>, NoMemory> {
+    let (from, to, sender, receiver, count, _) = *row;
+    let bytes = frame(sender, receiver);
+    let parcel = parcel(alloc, from, to, &bytes[..18.min(count)])?;
+    heard(alloc, Actor::Replica(0), &parcel)
+}
+
+fn check_view_ask(rt: &impl Abort, envelope: &Envelope) {
+    assert_eq!(rt; envelope.from, Actor::Replica(1));
+    assert!(rt; matches!(envelope.message, Message::ViewAsk(ViewAskBody { view: 1 })));
+}
+
+fn check_heard(rt: &impl Abort, envelope: &Option<Envelope>, want: bool) {
+    assert_eq!(rt; envelope.is_some(), want);
+    if let Some(envelope) = envelope {
+        check_view_ask(rt, envelope);
+    }
+}
+
 #[test]
 fn hears_what_is_for_it(rt: HostRuntime) -> Result<(), Fail> {
-    let alloc = rt.alloc();
-    // The parcel's sender and receiver, those of its frame, how many of the frame's bytes there are, and
-    // whether replica 0 hears it.
-    let table = [
-        (1, 0, 1, 0, 18, true),
-        (1, 0, 1, 0, 17, false),
-        (1, 0, 1, 0, 0, false),
-        (1, 0, 1, 9, 18, false),
-        (1, 0, 1, 2, 18, false),
-        (1, 2, 1, 0, 18, false),
-        (1, 2, 1, 2, 18, false),
-        (2, 0, 1, 0, 18, false),
-        (0, 0, 0, 0, 18, false),
-    ];
-    for (from, to, sender, receiver, count, want) in table {
-        let bytes = frame(sender, receiver);
-        let parcel = parcel(alloc, from, to, &bytes[..18.min(count)])?;
-        let envelope = heard(alloc, Actor::Replica(0), &parcel)?;
-        assert_eq!(rt; envelope.is_some(), want);
-        if let Some(envelope) = envelope {
-            assert_eq!(rt; envelope.from, Actor::Replica(1));
-            assert!(rt; matches!(envelope.message, Message::ViewAsk(ViewAskBody { view: 1 })));
-        }
+    for row in rows() {
+        let envelope = heard_in(rt.alloc(), row)?;
+        check_heard(&rt, &envelope, row.5);
     }
     Ok(())
+}
+
+fn check_copy(rt: &impl Abort, alloc: Global, event: &Event) {
+    assert!(rt; event.copy(alloc).is_ok());
 }
 
 #[test]
 fn copies_an_event_of_each_sort(rt: HostRuntime) -> Result<(), Fail> {
     let alloc = rt.alloc();
     let bytes = frame(1, 0);
-    let events = vec![in alloc;
-        Event::Deliver(parcel(alloc, 1, 0, &bytes)?),
-        Event::Cut(parcel(alloc, 1, 0, &bytes)?, 5),
-        Event::Tick(12_500),
-        Event::Alarm,
-        Event::Crash,
-        Event::Restart(3),
-    ]?;
-    for event in &events {
-        assert!(rt; event.copy(alloc).is_ok());
-    }
+    check_copy(&rt, alloc, &Event::Deliver(parcel(alloc, 1, 0, &bytes)?));
+    check_copy(&rt, alloc, &Event::Cut(parcel(alloc, 1, 0, &bytes)?, 5));
+    check_copy(&rt, alloc, &Event::Tick(12_500));
+    check_copy(&rt, alloc, &Event::Alarm);
+    check_copy(&rt, alloc, &Event::Crash);
+    check_copy(&rt, alloc, &Event::Restart(3));
     Ok(())
 }
 
@@ -138,40 +158,88 @@ fn clients(alloc: Global) -> Result<Clients, Fail> {
     Ok(Clients::new(alloc, &scenario)?)
 }
 
-#[test]
-fn tells_what_the_records_of_a_client_show(rt: HostRuntime) -> Result<(), Fail> {
-    let alloc = rt.alloc();
-    let mut clients = clients(alloc)?;
-    // What happens, the numbers of the requests that the client sends, that of the request that it accepts an
-    // answer to, and those of the requests that it sends for the first time.
-    let table: [(Event, &[u32], Option<u32>, &[u32]); 9] = [
-        (Event::Tick(1_000), &[], None, &[]),
-        (Event::Tick(2_000), &[1, 2], None, &[1, 2]),
-        (Event::Tick(3_000), &[1], None, &[]),
-        (answer(alloc, 3)?, &[], None, &[]),
-        (answer(alloc, 2)?, &[3], Some(2), &[3]),
-        (answer(alloc, 2)?, &[], None, &[]),
-        (answer(alloc, 1)?, &[], Some(1), &[]),
-        (Event::Alarm, &[], None, &[]),
-        (Event::Tick(4_000), &[3, 4], None, &[4]),
-    ];
-    for (event, sends, accepted, opened) in table {
-        let telling = clients.tell(alloc, &record(alloc, event, sends)?)?;
-        assert_eq!(rt; telling.sent.as_slice().len(), opened.len());
-        for (place, num) in opened.iter().enumerate() {
-            let Some(id) = telling.sent.as_slice().get(place) else {
-                return Err("a request is missing".into());
-            };
-            assert_eq!(rt; id.num, *num);
+// What happens to the client: a tick by its clock, an answer to the request of a number, or an alarm.
+#[derive(Clone, Copy)]
+enum Happening {
+    Clock(u64),
+    Answered(u32),
+    Alarmed,
+}
+
+use Happening::{Alarmed, Answered, Clock};
+
+fn event_of(alloc: Global, happening: Happening) -> Result<Event, Fail> {
+    match happening {
+        Clock(clock) => Ok(Event::Tick(clock)),
+        Answered(num) => answer(alloc, num),
+        Alarmed => Ok(Event::Alarm),
+    }
+}
+
+// What happens, the numbers of the requests that the client sends, that of the request that it accepts an
+// answer to, and those of the requests that it sends for the first time.
+type Turn = (Happening, &'static [u32], Option<u32>, &'static [u32]);
+
+const TURNS: &[Turn] = &[
+    (Clock(1_000), &[], None, &[]),
+    (Clock(2_000), &[1, 2], None, &[1, 2]),
+    (Clock(3_000), &[1], None, &[]),
+    (Answered(3), &[], None, &[]),
+    (Answered(2), &[3], Some(2), &[3]),
+    (Answered(2), &[], None, &[]),
+    (Answered(1), &[], Some(1), &[]),
+    (Alarmed, &[], None, &[]),
+    (Clock(4_000), &[3, 4], None, &[4]),
+];
+
+fn turns() -> &'static [Turn] {
+    TURNS
+}
+
+fn telling_of(alloc: Global, clients: &mut Clients, turn: &Turn) -> Result<Telling, Fail> {
+    let event = event_of(alloc, turn.0)?;
+    let record = record(alloc, event, turn.1)?;
+    Ok(clients.tell(alloc, &record)?)
+}
+
+fn check_opened(rt: &impl Abort, sent: &[Id], opened: &[u32]) {
+    assert_eq!(rt; sent.len(), opened.len());
+    for (id, num) in sent.iter().zip(opened) {
+        assert_eq!(rt; id.num, *num);
+    }
+}
+
+fn check_accepted(
+    rt: &impl Abort,
+    accepted: &Option<Acceptance>,
+    want: Option<u32>,
+) -> Result<(), Fail> {
+    match (accepted, want) {
+        (None, None) => Ok(()),
+        (Some(acceptance), Some(num)) => {
+            assert_eq!(rt; acceptance.id.num, num);
+            assert_eq!(rt; acceptance.path, Path::Slow);
+            Ok(())
         }
-        match (telling.accepted, accepted) {
-            (None, None) => {}
-            (Some(acceptance), Some(num)) => {
-                assert_eq!(rt; acceptance.id.num, num);
-                assert_eq!(rt; acceptance.path, Path::Slow);
-            }
-            _ => return Err("another acceptance".into()),
-        }
+        _ => Err("another acceptance".into()),
+    }
+}
+
+fn check_turn(rt: &impl Abort, telling: &Telling, turn: &Turn) -> Result<(), Fail> {
+    check_opened(rt, telling.sent.as_slice(), turn.3);
+    check_accepted(rt, &telling.accepted, turn.2)
+}
+
+fn check_turns(rt: &impl Abort, alloc: Global, clients: &mut Clients) -> Result<(), Fail> {
+    for turn in turns() {
+        let telling = telling_of(alloc, clients, turn)?;
+        check_turn(rt, &telling, turn)?;
     }
     Ok(())
+}
+
+#[test]
+fn tells_what_the_records_of_a_client_show(rt: HostRuntime) -> Result<(), Fail> {
+    let mut clients = clients(rt.alloc())?;
+    check_turns(&rt, rt.alloc(), &mut clients)
 }
