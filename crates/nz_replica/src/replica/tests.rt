@@ -1,34 +1,14 @@
 //! Replicas that hear frames. The frames are spelled here, and the outcomes are worked out by hand.
 
+mod frames;
+
 use super::*;
-use bytes::Bytes;
-use nz_base::TryCopy;
-use std::test::*;
-
-/// A key of client 0: its deadline and its number.
-type Place = (u64, u64);
-
-/// A number in a frame: how many bytes it takes, and the number.
-type Field = (usize, u64);
-
-/// Messages of view 0 with crash counters 0, on requests of client 0 that proxy 0 sent at clock 0.
-#[derive(Clone, Copy)]
-enum Told<'a> {
-    /// Number and deadline.
-    Timed(u64, u64),
-    /// Number and delay.
-    Slow(u64, u64),
-    /// Start, commit and keys.
-    LogMod(u64, u64, &'a [Place]),
-    /// A field for each id.
-    Fetch(&'a [Field]),
-    Fetched(&'a [Place]),
-    Report(u64),
-    /// Any other, by its kind and fields.
-    Plain(u64, &'a [Field]),
-}
-
 use Told::{Fetch, Fetched, LogMod, Plain, Report, Slow, Timed};
+use bytes::Bytes;
+use frames::{Field, Place, Told, frame, head};
+use nz_base::TryCopy;
+use std::process::Abort;
+use std::test::*;
 
 /// What comes to a replica: a message, a parcel that another sent, by its number, or a clock.
 #[derive(Clone, Copy)]
@@ -40,101 +20,18 @@ enum Input<'a> {
 
 use Input::{Clock, Hear, Pass};
 
-// ---- frames
-
-fn put(bytes: &mut Vec<u8>, fields: &[Field]) -> Result<(), NoMemory> {
-    for (width, number) in fields {
-        let all = number.to_be_bytes();
-        bytes.extend_from_slice(&all[8 - (*width).min(8)..])?;
-    }
-    Ok(())
-}
-
-// A get of one of 16 keys.
-fn command(num: u64) -> u64 {
-    0x0003_0201_61 + num % 16
-}
-
-// Keys, with their commands where these have this many bytes.
-fn put_items(bytes: &mut Vec<u8>, items: &[Place], size: usize) -> Result<(), NoMemory> {
-    for (deadline, num) in items {
-        put(bytes, &[(8, *deadline), (8, *num), (size, command(*num))])?;
-    }
-    Ok(())
-}
-
-fn put_log_mod(
-    bytes: &mut Vec<u8>,
-    start: u64,
-    commit: u64,
-    keys: &[Place],
-) -> Result<(), NoMemory> {
-    let numbers = [(8, 0), (1, 3), (8, 0), (4, 0), (4, commit), (4, start)];
-    put(bytes, &numbers)?;
-    put(bytes, &[(1, keys.len() as u64)])?;
-    put_items(bytes, keys, 0)
-}
-
-fn put_fetch(bytes: &mut Vec<u8>, ids: &[Field]) -> Result<(), NoMemory> {
-    put(bytes, &[(8, 0), (1, ids.len() as u64)])?;
-    put(bytes, ids)
-}
-
-fn put_fetched(bytes: &mut Vec<u8>, entries: &[Place]) -> Result<(), NoMemory> {
-    put(bytes, &[(8, 0), (4, entries.len() as u64)])?;
-    put_items(bytes, entries, 5)
-}
-
-fn put_body(bytes: &mut Vec<u8>, told: &Told) -> Result<(), NoMemory> {
-    match *told {
-        Timed(num, deadline) => put(bytes, &[(8, 0), (8, deadline), (8, num), (5, command(num))]),
-        Slow(num, delay) => put(bytes, &[(8, 0), (8, num), (4, delay)]),
-        LogMod(start, commit, keys) => put_log_mod(bytes, start, commit, keys),
-        Fetch(ids) => put_fetch(bytes, ids),
-        Fetched(entries) => put_fetched(bytes, entries),
-        Report(synced) => put(bytes, &[(8, 0), (4, synced)]),
-        Plain(_, fields) => put(bytes, fields),
-    }
-}
-
-// The kind, the sender and the receiver. Replica 0 leads, and its own messages go to the one that is named.
-fn head(replica: u16, told: &Told) -> (u64, u16, u16) {
-    match told {
-        Timed(..) => (2, 16, replica),
-        Slow(..) => (4, replica, 16),
-        LogMod(..) => (6, 0, replica),
-        Fetch(_) => (7, replica, 0),
-        Fetched(_) => (8, 0, replica),
-        Report(_) => (9, replica, 0),
-        Plain(kind, _) => (*kind, replica, 16),
-    }
-}
-
-fn frame(alloc: Global, head: (u64, u16, u16), told: &Told) -> Result<Vec<u8>, NoMemory> {
-    let (kind, from, to) = head;
-    let mut body = Vec::new(alloc);
-    put_body(&mut body, told)?;
-    let size = (body.len() as u64).saturating_add(6);
-    let mut bytes = Vec::new(alloc);
-    put(
-        &mut bytes,
-        &[
-            (4, size),
-            (1, 1),
-            (1, kind),
-            (2, from.into()),
-            (2, to.into()),
-        ],
-    )?;
-    bytes.extend_from_slice(&body)?;
-    Ok(bytes)
-}
-
 // ---- replicas
 
 fn replica(alloc: Global, me: u8) -> Result<Replica, Fail> {
     let cluster = Cluster::new(1).ok_or("f is from 1 to 4")?;
     Ok(Replica::new(alloc, cluster, me % cluster.n())?)
+}
+
+// One replica. It is in a vector, since a variable that is a whole replica takes minutes to prove.
+fn one_replica(alloc: Global, me: u8) -> Result<Vec<Replica>, Fail> {
+    let mut cores = Vec::new(alloc);
+    cores.push(replica(alloc, me)?)?;
+    Ok(cores)
 }
 
 fn step(core: &mut Replica, event: &Event) -> Result<Sends, Fail> {
@@ -145,17 +42,28 @@ fn step(core: &mut Replica, event: &Event) -> Result<Sends, Fail> {
 }
 
 fn parcel(alloc: Global, from: u16, to: u16, bytes: &[u8]) -> Result<Parcel, Fail> {
-    Ok(Parcel {
-        from: Actor::from_address(from).ok_or("no sender")?,
-        to: Actor::from_address(to).ok_or("no receiver")?,
-        frame: Bytes::copy_from_slice(alloc, bytes)?,
-    })
+    let from = Actor::from_address(from).ok_or("no sender")?;
+    let to = Actor::from_address(to).ok_or("no receiver")?;
+    let frame = Bytes::copy_from_slice(alloc, bytes)?;
+    Ok(Parcel { from, to, frame })
 }
 
 // The parcel of a message.
 fn sent(alloc: Global, replica: u16, told: &Told) -> Result<Parcel, Fail> {
     let head = head(replica, told);
     parcel(alloc, head.1, head.2, &frame(alloc, head, told)?)
+}
+
+// The event of an input.
+fn event_of(alloc: Global, me: u16, input: &Input, mail: &[Parcel]) -> Result<Event, Fail> {
+    match input {
+        Hear(told) => Ok(Event::Deliver(sent(alloc, me, told)?)),
+        Clock(clock) => Ok(Event::Tick(*clock)),
+        Pass(place) => match mail.get(*place) {
+            None => Err("no such parcel".into()),
+            Some(parcel) => Ok(Event::Deliver(parcel.copy(alloc)?)),
+        },
+    }
 }
 
 fn take(
@@ -165,15 +73,15 @@ fn take(
     input: &Input,
     mail: &[Parcel],
 ) -> Result<Sends, Fail> {
-    let event = match input {
-        Hear(told) => Event::Deliver(sent(alloc, me, told)?),
-        Clock(clock) => Event::Tick(*clock),
-        Pass(place) => match mail.get(*place) {
-            None => return Err("no such parcel".into()),
-            Some(parcel) => Event::Deliver(parcel.copy(alloc)?),
-        },
-    };
+    let event = event_of(alloc, me, input, mail)?;
     step(core, &event)
+}
+
+fn take_all(alloc: Global, core: &mut Replica, me: u16, inputs: &[Input]) -> Result<(), Fail> {
+    for input in inputs {
+        let _ = take(alloc, core, me, input, &[])?;
+    }
+    Ok(())
 }
 
 fn is(alloc: Global, parcel: &Parcel, replica: u16, told: &Told) -> Result<bool, Fail> {
@@ -313,33 +221,56 @@ fn turns() -> &'static [Turn] {
     TURNS
 }
 
+fn post(mail: &mut Sends, sends: Sends) -> Result<(), NoMemory> {
+    for parcel in sends.into_vec() {
+        mail.push(parcel)?;
+    }
+    Ok(())
+}
+
 // Takes a turn. Whether it sends what is wanted.
-fn play(alloc: Global, cores: &mut [Replica], turn: &Turn, mail: &mut Sends) -> Result<bool, Fail> {
+fn play_on(alloc: Global, core: &mut Replica, turn: &Turn, mail: &mut Sends) -> Result<bool, Fail> {
     let (me, input, wanted) = turn;
-    match cores.get_mut(usize::from(*me)) {
+    let sends = take(alloc, core, *me, input, mail.as_slice())?;
+    let is_wanted = are(alloc, sends.as_slice(), wanted)?;
+    post(mail, sends)?;
+    Ok(is_wanted)
+}
+
+fn play(alloc: Global, cores: &mut [Replica], turn: &Turn, mail: &mut Sends) -> Result<bool, Fail> {
+    match cores.get_mut(usize::from(turn.0)) {
         None => Err("no such replica".into()),
-        Some(core) => {
-            let sends = take(alloc, core, *me, input, mail.as_slice())?;
-            let is_wanted = are(alloc, sends.as_slice(), wanted)?;
-            for parcel in sends.into_vec() {
-                mail.push(parcel)?;
-            }
-            Ok(is_wanted)
-        }
+        Some(core) => play_on(alloc, core, turn, mail),
+    }
+}
+
+fn three_replicas(alloc: Global) -> Result<Vec<Replica>, Fail> {
+    let mut cores = Vec::new(alloc);
+    for me in 0..3 {
+        cores.push(replica(alloc, me)?)?;
+    }
+    Ok(cores)
+}
+
+fn check_turns(rt: &impl Abort, alloc: Global, cores: &mut [Replica]) -> Result<(), Fail> {
+    let mut mail = Sends::new(alloc);
+    for (place, turn) in turns().iter().enumerate() {
+        assert!(rt; play(alloc, cores, turn, &mut mail)?, "turn {place}");
+    }
+    Ok(())
+}
+
+fn check_logs(rt: &impl Abort, cores: &[Replica]) {
+    for core in cores {
+        assert!(rt; has_log(core, &[(100, 1)]));
     }
 }
 
 #[test]
 fn three_replicas_of_which_one_fetches(rt: HostRuntime) -> Result<(), Fail> {
-    let alloc = rt.alloc();
-    let mut cores = vec![in alloc; replica(alloc, 0)?, replica(alloc, 1)?, replica(alloc, 2)?]?;
-    let mut mail = Sends::new(alloc);
-    for (place, turn) in turns().iter().enumerate() {
-        assert!(rt; play(alloc, &mut cores, turn, &mut mail)?, "turn {place}");
-    }
-    for core in &cores {
-        assert!(rt; has_log(core, &[(100, 1)]));
-    }
+    let mut cores = three_replicas(rt.alloc())?;
+    check_turns(&rt, rt.alloc(), &mut cores)?;
+    check_logs(&rt, &cores);
     Ok(())
 }
 
@@ -490,14 +421,19 @@ fn rows() -> &'static [Row] {
 }
 
 // Whether replica 1 does as a row says.
-fn is_as_told(alloc: Global, row: &Row) -> Result<bool, Fail> {
+fn does_as_told(alloc: Global, core: &mut Replica, row: &Row) -> Result<bool, Fail> {
     let (before, log_mod, log, wanted, sent) = row;
-    let mut core = replica(alloc, 1)?;
-    for input in *before {
-        let _ = take(alloc, &mut core, 1, input, &[])?;
+    take_all(alloc, core, 1, before)?;
+    let sends = take(alloc, core, 1, &Hear(*log_mod), &[])?;
+    Ok(are(alloc, sends.as_slice(), sent)? && has_log(core, log) && counts(core) == *wanted)
+}
+
+fn is_as_told(alloc: Global, row: &Row) -> Result<bool, Fail> {
+    let mut cores = one_replica(alloc, 1)?;
+    match cores.get_mut(0) {
+        None => Err("no replica".into()),
+        Some(core) => does_as_told(alloc, core, row),
     }
-    let sends = take(alloc, &mut core, 1, &Hear(*log_mod), &[])?;
-    Ok(are(alloc, sends.as_slice(), sent)? && has_log(&core, log) && counts(&core) == *wanted)
 }
 
 #[test]
@@ -519,51 +455,95 @@ fn keys(alloc: Global, first: u64, end: u64) -> Result<Vec<Place>, NoMemory> {
     Ok(keys)
 }
 
-// Whether replica 1 takes the 64 keys from a place on, which it has fetched.
-fn takes_more(alloc: Global, core: &mut Replica, start: u64) -> Result<bool, Fail> {
-    let end = start.saturating_add(64);
-    let keys = keys(alloc, start, end)?;
-    let _ = take(alloc, core, 1, &Hear(Fetched(&keys)), &[])?;
-    let sends = take(alloc, core, 1, &Hear(LogMod(start, 0, &keys)), &[])?;
+// Whether replica 1, which has fetched the keys from a place on, reports them when it is told.
+fn reports(
+    alloc: Global,
+    core: &mut Replica,
+    start: u64,
+    keys: &[Place],
+    end: u64,
+) -> Result<bool, Fail> {
+    let sends = take(alloc, core, 1, &Hear(LogMod(start, 0, keys)), &[])?;
     match sends.as_slice() {
         [report] => is(alloc, report, 1, &Report(end)),
         _ => Ok(false),
     }
 }
 
-#[test]
-fn follower_takes_64_keys_until_its_log_is_full(rt: HostRuntime) -> Result<(), Fail> {
-    let alloc = rt.alloc();
-    let mut core = replica(alloc, 1)?;
+// Whether replica 1 takes the 64 keys from a place on, which it has fetched.
+fn takes_more(alloc: Global, core: &mut Replica, start: u64) -> Result<bool, Fail> {
+    let end = start.saturating_add(64);
+    let keys = keys(alloc, start, end)?;
+    take_all(alloc, core, 1, &[Hear(Fetched(&keys))])?;
+    reports(alloc, core, start, &keys, end)
+}
+
+fn check_parts(rt: &impl Abort, alloc: Global, core: &mut Replica) -> Result<(), Fail> {
     for part in 0..64 {
-        assert!(rt; takes_more(alloc, &mut core, 64 * part)?, "part {part}");
+        assert!(rt; takes_more(alloc, core, 64 * part)?, "part {part}");
     }
-    // There is no room for the key, so its entry is not fetched.
-    let input = Hear(LogMod(4_096, 9_999, &[(5_000, 5_000)]));
-    let sends = take(alloc, &mut core, 1, &input, &[])?;
-    assert!(rt; are(alloc, sends.as_slice(), &[(1, Report(4_096))])?);
-    assert_eq!(rt; counts(&core), (4_096, 4_096, 0, 0));
     Ok(())
 }
 
-// Requests 0 to 69 are logged. Gives what is told when replica 2 has reported so much.
-fn told_of_70(alloc: Global, core: &mut Replica, reported: u64) -> Result<Sends, Fail> {
-    for num in 0..70 {
-        let _ = take(alloc, core, 0, &Hear(Timed(num, num)), &[])?;
+// There is no room for the key, so its entry is not fetched.
+fn check_full(rt: &impl Abort, alloc: Global, core: &mut Replica) -> Result<(), Fail> {
+    let input = Hear(LogMod(4_096, 9_999, &[(5_000, 5_000)]));
+    let sends = take(alloc, core, 1, &input, &[])?;
+    assert!(rt; are(alloc, sends.as_slice(), &[(1, Report(4_096))])?);
+    assert_eq!(rt; counts(core), (4_096, 4_096, 0, 0));
+    Ok(())
+}
+
+#[test]
+fn follower_takes_64_keys_until_its_log_is_full(rt: HostRuntime) -> Result<(), Fail> {
+    let mut cores = one_replica(rt.alloc(), 1)?;
+    for core in &mut cores {
+        check_parts(&rt, rt.alloc(), core)?;
+        check_full(&rt, rt.alloc(), core)?;
     }
-    let _ = take(alloc, core, 0, &Clock(100), &[])?;
-    let _ = step(core, &Event::Deliver(sent(alloc, 2, &Report(reported))?))?;
+    Ok(())
+}
+
+// Requests 0 to 69 are logged.
+fn log_70(alloc: Global, core: &mut Replica) -> Result<(), Fail> {
+    for num in 0..70 {
+        take_all(alloc, core, 0, &[Hear(Timed(num, num))])?;
+    }
+    take_all(alloc, core, 0, &[Clock(100)])
+}
+
+fn hear_report(alloc: Global, core: &mut Replica, reported: u64) -> Result<(), Fail> {
+    let event = Event::Deliver(sent(alloc, 2, &Report(reported))?);
+    let _ = step(core, &event)?;
+    Ok(())
+}
+
+// Gives what is told when 70 requests are logged and replica 2 has reported so much.
+fn told_of_70(alloc: Global, core: &mut Replica, reported: u64) -> Result<Sends, Fail> {
+    log_70(alloc, core)?;
+    hear_report(alloc, core, reported)?;
     take(alloc, core, 0, &Clock(200), &[])
+}
+
+// Whether the first 64 keys are told to replica 1, and the rest to replica 2.
+fn are_64_told(alloc: Global, sends: &Sends) -> Result<bool, Fail> {
+    let first = keys(alloc, 0, 64)?;
+    let rest = keys(alloc, 64, 70)?;
+    let wanted = [(1, LogMod(0, 64, &first)), (2, LogMod(64, 64, &rest))];
+    are(alloc, sends.as_slice(), &wanted)
+}
+
+fn tells_64(alloc: Global, core: &mut Replica) -> Result<bool, Fail> {
+    let sends = told_of_70(alloc, core, 64)?;
+    are_64_told(alloc, &sends)
 }
 
 #[test]
 fn leader_tells_64_keys(rt: HostRuntime) -> Result<(), Fail> {
-    let alloc = rt.alloc();
-    let mut core = replica(alloc, 0)?;
-    let sends = told_of_70(alloc, &mut core, 64)?;
-    let (first, rest) = (keys(alloc, 0, 64)?, keys(alloc, 64, 70)?);
-    let wanted = [(1, LogMod(0, 64, &first)), (2, LogMod(64, 64, &rest))];
-    assert!(rt; are(alloc, sends.as_slice(), &wanted)?);
+    let mut cores = one_replica(rt.alloc(), 0)?;
+    for core in &mut cores {
+        assert!(rt; tells_64(rt.alloc(), core)?);
+    }
     Ok(())
 }
 
@@ -629,18 +609,34 @@ fn cases() -> &'static [Case] {
     CASES
 }
 
-// How many parcels a replica sends in a case, and how many entries are then early and late.
-fn outcome(alloc: Global, case: &Case) -> Result<(u32, usize, usize), Fail> {
-    let (me, (from, to), (sender, receiver), lost, told, _) = case;
-    let mut core = replica(alloc, *me)?;
+// The parcel of a case.
+fn parcel_of(alloc: Global, case: &Case) -> Result<Parcel, Fail> {
+    let (_, (from, to), (sender, receiver), lost, told, _) = case;
     let mut bytes = frame(alloc, (head(0, told).0, *sender, *receiver), told)?;
     bytes.truncate(bytes.len().saturating_sub(*lost));
-    let sends = step(
-        &mut core,
-        &Event::Deliver(parcel(alloc, *from, *to, &bytes)?),
-    )?;
-    let (_, _, early, late) = counts(&core);
-    Ok((sends.len(), early, late))
+    parcel(alloc, *from, *to, &bytes)
+}
+
+// How many parcels a replica sends at an event.
+fn sent_at(core: &mut Replica, event: &Event) -> Result<u32, Fail> {
+    let sends = step(core, event)?;
+    Ok(sends.len())
+}
+
+// How many parcels a replica sends in a case, and how many entries are then early and late.
+fn outcome_of(alloc: Global, core: &mut Replica, case: &Case) -> Result<(u32, usize, usize), Fail> {
+    let event = Event::Deliver(parcel_of(alloc, case)?);
+    let sent = sent_at(core, &event)?;
+    let (_, _, early, late) = counts(core);
+    Ok((sent, early, late))
+}
+
+fn outcome(alloc: Global, case: &Case) -> Result<(u32, usize, usize), Fail> {
+    let mut cores = one_replica(alloc, case.0)?;
+    match cores.get_mut(0) {
+        None => Err("no replica".into()),
+        Some(core) => outcome_of(alloc, core, case),
+    }
 }
 
 #[test]
@@ -658,32 +654,50 @@ fn is_out(core: &Replica) -> (bool, bool) {
     (core.is_down(), core.is_rejoining())
 }
 
-#[test]
-fn replica_that_is_down_hears_nothing(rt: HostRuntime) -> Result<(), Fail> {
-    let alloc = rt.alloc();
-    let mut core = replica(alloc, 1)?;
-    let _ = step(&mut core, &Event::Crash)?;
-    assert_eq!(rt; is_out(&core), (true, false));
-    let sends = take(alloc, &mut core, 1, &Hear(EMPTY), &[])?;
-    assert_eq!(rt; sends.len(), 0);
-    let sends = step(&mut core, &Event::Alarm)?;
-    assert_eq!(rt; sends.len(), 0);
+fn check_down(rt: &impl Abort, alloc: Global, core: &mut Replica) -> Result<(), Fail> {
+    let _ = sent_at(core, &Event::Crash)?;
+    assert_eq!(rt; is_out(core), (true, false));
+    let event = event_of(alloc, 1, &Hear(EMPTY), &[])?;
+    assert_eq!(rt; sent_at(core, &event)?, 0);
+    assert_eq!(rt; sent_at(core, &Event::Alarm)?, 0);
     Ok(())
 }
 
 #[test]
-fn replica_that_is_back_asks_for_vectors(rt: HostRuntime) -> Result<(), Fail> {
-    let alloc = rt.alloc();
-    let mut core = replica(alloc, 1)?;
-    // One that is up does not restart.
-    let sends = step(&mut core, &Event::Restart(1))?;
-    assert_eq!(rt; sends.len(), 0);
-    let _ = step(&mut core, &Event::Crash)?;
-    let sends = step(&mut core, &Event::Restart(2))?;
-    assert_eq!(rt; is_out(&core), (false, true));
-    let ask = Plain(13, &[(8, 2)]);
-    let wanted = frame(alloc, (13, 1, 2), &ask)?;
+fn replica_that_is_down_hears_nothing(rt: HostRuntime) -> Result<(), Fail> {
+    let mut cores = one_replica(rt.alloc(), 1)?;
+    for core in &mut cores {
+        check_down(&rt, rt.alloc(), core)?;
+    }
+    Ok(())
+}
+
+// One that is up does not restart.
+fn check_up(rt: &impl Abort, core: &mut Replica) -> Result<(), Fail> {
+    assert_eq!(rt; sent_at(core, &Event::Restart(1))?, 0);
+    let _ = sent_at(core, &Event::Crash)?;
+    Ok(())
+}
+
+fn check_asks(rt: &impl Abort, alloc: Global, sends: &Sends) -> Result<(), Fail> {
+    let wanted = frame(alloc, (13, 1, 2), &Plain(13, &[(8, 2)]))?;
     assert_eq!(rt; sends.len(), 2);
     assert_eq!(rt; sends.get(1).frame.as_slice(), wanted.as_slice());
+    Ok(())
+}
+
+fn check_back(rt: &impl Abort, alloc: Global, core: &mut Replica) -> Result<(), Fail> {
+    let sends = step(core, &Event::Restart(2))?;
+    assert_eq!(rt; is_out(core), (false, true));
+    check_asks(rt, alloc, &sends)
+}
+
+#[test]
+fn replica_that_is_back_asks_for_vectors(rt: HostRuntime) -> Result<(), Fail> {
+    let mut cores = one_replica(rt.alloc(), 1)?;
+    for core in &mut cores {
+        check_up(&rt, core)?;
+        check_back(&rt, rt.alloc(), core)?;
+    }
     Ok(())
 }
