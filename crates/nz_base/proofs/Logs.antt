@@ -103,7 +103,8 @@ rising_more keys key r above = rising_join keys key [] r tt (λ x h. above_each 
 
 pub own_in_prefix : (xs ys : List Key) → HaveOwnIds (xs ++ ys) → HaveOwnIds xs
 own_in_prefix [] ys own = tt
-own_in_prefix (x ∷ xs) ys own = ((or_parts (has_id xs (id_of x)) (has_id ys (id_of x)) (sym (has_id-append xs ys (id_of x)) ∙ own.0)).0,
+own_in_prefix (x ∷ xs) ys own = (
+  (or_parts (has_id xs (id_of x)) (has_id ys (id_of x)) (sym (has_id-append xs ys (id_of x)) ∙ own.0)).0,
   own_in_prefix xs ys own.1,
 )
 

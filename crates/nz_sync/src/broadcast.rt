@@ -18,7 +18,10 @@ fn keys_from(state: &ReplicaState, start: u32) -> Result<KeyList, NoMemory>
     ensures fits { IfOk result fields.keys.fits }
 {
     state.has_facts();
-    let end = state.log().len().min(start.saturating_add(u32::from(MAX_KEYS)));
+    let end = state
+        .log()
+        .len()
+        .min(start.saturating_add(u32::from(MAX_KEYS)));
     let mut keys = KeyList::new(state.allocator());
     for place in start..end {
         keys.push(state.log().get(place).key)?;
