@@ -2,6 +2,7 @@
 use Rattle.std.specs.Prelude.{ℕ, ◌≡◌, ◌+◌, ◌-◌, ◌<◌, ◌≤◌, ◌⊎◌, Bool, false, ◌==◌, ◌&&◌, nat_le, if◌then◌else◌, Option, Some, None}
 use Rattle.nz_base.specs.declared.actor.Actor.{Actor}
 use Rattle.nz_base.specs.declared.actor.Actor.TheVariants.{Replica, Proxy, Client}
+use Rattle.nz_base.specs.declared.limits.TheConstants.{MAX_REPLICA, MAX_PROXY, MAX_CLIENT}
 
 -- Replicas, then proxies, then clients.
 abbrev pub sort_of : Actor → ℕ
@@ -28,9 +29,9 @@ actor_eq _ _ = false
 
 -- There are addresses for 9 replicas, 8 proxies and 64 clients.
 abbrev pub HasAddress : Actor → Type 0
-HasAddress (Replica r) = r ≤ 8
-HasAddress (Proxy p) = p ≤ 7
-HasAddress (Client c) = c ≤ 63
+HasAddress (Replica r) = r ≤ MAX_REPLICA
+HasAddress (Proxy p) = p ≤ MAX_PROXY
+HasAddress (Client c) = c ≤ MAX_CLIENT
 
 -- Replicas from 0 on, proxies from 16 on, clients from 64 on.
 abbrev pub address_of : Actor → ℕ

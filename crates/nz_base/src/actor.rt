@@ -2,6 +2,8 @@
 
 ghost use Rattle.std.specs.Prelude.{◌≡◌, ◌≢◌, ◌↔◌, IsTrue, IfSome, IfNone};
 
+use super::limits::{MAX_CLIENT, MAX_PROXY, MAX_REPLICA};
+
 /// One that takes part in a run, by its number from 0. They are ordered: replicas, proxies,
 /// clients, each by number.
 #[derive(Clone, Copy, Debug, PartialEq, Eq, PartialOrd, Ord, Hash)]
@@ -27,9 +29,9 @@ impl Actor {
         ensures { IsTrue result ↔ HasAddress self.now }
     {
         match self {
-            Actor::Replica(number) => *number <= 8,
-            Actor::Proxy(number) => *number <= 7,
-            Actor::Client(number) => *number <= 63,
+            Actor::Replica(number) => *number <= MAX_REPLICA,
+            Actor::Proxy(number) => *number <= MAX_PROXY,
+            Actor::Client(number) => *number <= MAX_CLIENT,
         }
     }
 

@@ -2,10 +2,12 @@
 
 ghost use Rattle.std.specs.Prelude.{◌≡◌, ◌<◌, ◌≤◌, ◌↔◌, IsSome, IfSome};
 ghost use Rattle.nz_base.specs.Cluster.{replica_count, fast_size, slow_size, leader_of};
+ghost use Rattle.nz_base.specs.declared.limits.TheConstants.{MAX_F};
 
+use super::limits::MAX_F;
 use std::marker::Model;
 
-/// A cluster that withstands f replicas out of order at a time, f from 1 to 4. A clause sees f.
+/// A cluster that withstands f replicas out of order at a time, f from 1 to `MAX_F`. A clause sees f.
 #[derive(Clone, Copy, Debug, PartialEq, Eq)]
 pub struct Cluster {
     f: u8,
@@ -18,17 +20,17 @@ impl Model for Cluster {
 
     ghost view = { λ c. c.f };
 
-    ghost invariant = { λ c. (1 ≤ c.f) × (c.f ≤ 4) };
+    ghost invariant = { λ c. (1 ≤ c.f) × (c.f ≤ MAX_F) };
 
     ghost inverse = { λ f. record { f = f } };
 }
 
 impl Cluster {
     pub fn new(f: u8) -> Option<Cluster>
-        ensures range { IsSome result ↔ ((1 ≤ f) × (f ≤ 4)) }
+        ensures range { IsSome result ↔ ((1 ≤ f) × (f ≤ MAX_F)) }
         ensures value { IfSome result (λ cluster. cluster ≡ f) }
     {
-        if 1 <= f && f <= 4 {
+        if 1 <= f && u32::from(f) <= MAX_F {
             Some(Cluster { f })
         } else {
             None
@@ -38,7 +40,7 @@ impl Cluster {
     pub fn f(&self) -> u8
         ensures value { result ≡ self.now }
         ensures least { 1 ≤ result }
-        ensures most { result ≤ 4 }
+        ensures most { result ≤ MAX_F }
     {
         self.f
     }

@@ -27,6 +27,9 @@ pub const MAX_VALUE: u16 = 256;
 /// The most replicas of a cluster.
 pub const MAX_REPLICAS: usize = 9;
 
+/// The greatest number of a replica. Numbers begin at 0.
+pub const MAX_REPLICA: u8 = MAX_REPLICAS as u8 - 1;
+
 /// Added to the bound on the delay when a proxy stamps a request, in clock units.
 pub const MARGIN: u64 = 500;
 
@@ -48,8 +51,14 @@ pub const MAX_F: u32 = 4;
 /// The most proxies of a scenario.
 pub const MAX_PROXIES: u32 = 8;
 
+/// The greatest number of a proxy.
+pub const MAX_PROXY: u8 = MAX_PROXIES as u8 - 1;
+
 /// The most clients of a scenario.
 pub const MAX_CLIENTS: u32 = 64;
+
+/// The greatest number of a client.
+pub const MAX_CLIENT: u8 = MAX_CLIENTS as u8 - 1;
 
 /// The most requests that a client has open at once.
 pub const MAX_WINDOW: u32 = 16;
@@ -69,5 +78,14 @@ pub const MAX_FAULTS: u64 = 1_000;
 /// The most requests times fault lines of a scenario.
 pub const MAX_CHANCES: u64 = 200_000;
 
+/// A fault line of a scenario names a parcel by its place among those that match, 1 to this.
+pub const MAX_COUNT: u32 = 1_000_000;
+
+/// The most bytes that a fault line of a scenario keeps of a parcel.
+pub const MAX_KEEP: u32 = 16_777_216;
+
 /// The longest text of a scenario, in bytes.
 pub const MAX_TEXT: usize = 1_048_576;
+
+/// The most workers of a run. The ledger of open turns has a part for each.
+pub const MAX_WORKERS: usize = 16;

@@ -96,7 +96,7 @@ pub struct Scenario {
     pub cluster: Cluster,
     pub proxies: u8,
     pub clients: u8,
-    /// How many requests a client may have open at once, 1 to 16.
+    /// How many requests a client may have open at once, 1 to `MAX_WINDOW`.
     pub window: u8,
     pub ticks: u32,
     pub skews: SkewList,
