@@ -57,7 +57,7 @@ fn size_at(bytes: &[u8]) -> Result<(u8, &[u8]), Fault>
 }
 
 fn counters_at(size: u8, bytes: &[u8]) -> Result<([u32; MAX_REPLICAS], &[u8]), Fault>
-    requires { size ≤ 9 }
+    requires { size ≤ MAX_REPLICAS }
     ensures { Gives (λ x. (take size x.0, x.1.now)) result (items_at (λ _. u32) [] size bytes.now) }
 {
     let mut counters = [0; MAX_REPLICAS];
