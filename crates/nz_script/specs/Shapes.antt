@@ -1,7 +1,7 @@
 -- The table of lines: by their first word, where they may come and what follows.
 use Rattle.std.specs.Prelude.{ℕ, if◌then◌else◌, List, [], ◌∷◌, Option, Some, None, codes}
 use Rattle.std.specs.Str.{bytes_eq}
-use Rattle.nz_base.specs.declared.limits.TheConstants.{MAX_F, MAX_PROXIES, MAX_CLIENTS, MAX_WINDOW, MAX_TICKS}
+use Rattle.nz_base.specs.declared.limits.TheConstants.{MAX_F, MAX_PROXIES, MAX_CLIENTS, MAX_WINDOW, MAX_TICKS, MAX_COUNT, MAX_KEEP}
 use Rattle.nz_script.specs.declared.line_forms.Place.{Place}
 use Rattle.nz_script.specs.declared.line_forms.Place.TheVariants as place
 use Rattle.nz_script.specs.declared.line_forms.Head.{Head}
@@ -34,7 +34,7 @@ tick = form.Number 1 MAX_TICKS
 
 -- Which parcel of those that match.
 abbrev pub count : Form
-count = form.Number 1 1000000
+count = form.Number 1 MAX_COUNT
 
 -- The first word of a line, where the line may come, and the forms of its other words.
 pub record LineShape : Type 0 where
@@ -67,7 +67,7 @@ abbrev pub mishap_shape_of : Mishap → LineShape
 mishap_shape_of mishap.Drop = shape (codes "drop") place.Mishaps (form.Actor ∷ form.Actor ∷ form.Kind ∷ count ∷ [])
 mishap_shape_of mishap.Hold = shape (codes "hold") place.Mishaps (form.Actor ∷ form.Actor ∷ form.Kind ∷ count ∷ tick ∷ [])
 mishap_shape_of mishap.Twice = shape (codes "twice") place.Mishaps (form.Actor ∷ form.Actor ∷ form.Kind ∷ count ∷ form.Number 0 MAX_TICKS ∷ [])
-mishap_shape_of mishap.Cut = shape (codes "cut") place.Mishaps (form.Actor ∷ form.Actor ∷ form.Kind ∷ count ∷ form.Number 0 16777216 ∷ [])
+mishap_shape_of mishap.Cut = shape (codes "cut") place.Mishaps (form.Actor ∷ form.Actor ∷ form.Kind ∷ count ∷ form.Number 0 MAX_KEEP ∷ [])
 mishap_shape_of mishap.Block = shape (codes "block") place.Mishaps (form.Actors ∷ form.Actors ∷ tick ∷ tick ∷ [])
 mishap_shape_of mishap.Crash = shape (codes "crash") place.Mishaps (form.Server ∷ tick ∷ [])
 mishap_shape_of mishap.Restart = shape (codes "restart") place.Mishaps (form.Server ∷ tick ∷ [])

@@ -1,6 +1,7 @@
 //! The length of a command's line, from the bytes of the command, without copying them.
 ghost use Rattle.std.specs.Prelude.{◌≡◌, ◌≤◌};
 ghost use Rattle.std.specs.Option.{option_map};
+ghost use Rattle.nz_base.specs.declared.limits.TheConstants.{MAX_VALUE};
 ghost use Rattle.nz_store.specs.Grammar.{IsOptionalValue, IsValidCommand};
 ghost use Rattle.nz_store.specs.Reading.{command_owned};
 ghost use Rattle.nz_script.specs.Sizes as sizes;
@@ -12,7 +13,7 @@ use nz_store::{CommandRef, command_in};
 fn word_len(choice: Option<&[u8]>) -> u32
     requires { IsOptionalValue (option_map (λ v. v.now) choice) }
     ensures value { result ≡ choice_len (option_map (λ v. v.now) choice.entry) }
-    ensures short { result ≤ 256 }
+    ensures short { result ≤ MAX_VALUE }
 {
     match choice {
         None => 1,

@@ -1,6 +1,7 @@
 //! What was read of a scenario so far.
 
 ghost use Rattle.std.specs.Prelude.{◌≡◌, ◌+◌, ◌<◌, ◌≤◌, IfOk, IsTrue, OnOk};
+ghost use Rattle.nz_base.specs.declared.limits.TheConstants.{MAX_F, MAX_REQUESTS};
 ghost use Rattle.nz_store.specs.Grammar.{IsValidCommand};
 ghost use Rattle.nz_script.specs.Shapes.{forms_of, head_shape_of};
 ghost use Rattle.nz_script.specs.Drafts.{all_within, has_room_for_line, command_asked, fault_in, skew_in, with_head};
@@ -119,10 +120,10 @@ fn skew_of(words: &[Word]) -> Skew
     }
 }
 
-/// The cluster of the number, which is from 1 to 4.
+/// The cluster of the number, which is from 1 to `MAX_F`.
 fn cluster_of(f: u8) -> Cluster
     requires low { 1 ≤ f }
-    requires high { f ≤ 4 }
+    requires high { f ≤ MAX_F }
     ensures { result ≡ f }
 {
     match Cluster::new(f) {
@@ -193,7 +194,7 @@ impl Draft {
 
     fn take_request(&mut self, alloc: Global, command: &Command) -> Result<(), NoMemory>
         requires valid { IsValidCommand command.now }
-        requires few { self.old.requests < 2000 }
+        requires few { self.old.requests < MAX_REQUESTS }
         ensures { OnOk result (self.new ≡ with_request self.old command.now) }
     {
         let bytes = write_command(alloc, command).map_err(|_| NoMemory)?;

@@ -2,6 +2,7 @@
 
 ghost use Rattle.std.specs.Prelude.{◌≡◌, ◌+◌, ◌*◌, ◌/◌, ◌<◌, ◌≤◌, ◌^◌, length, IfOk, OnOk, ◌∷◌};
 ghost use Rattle.std.specs.Fmt.{decimal};
+ghost use Rattle.nz_base.specs.declared.limits.TheConstants.{MAX_REQUESTS};
 ghost use Rattle.nz_store.specs.Grammar.{spelling, IsValidCommand};
 ghost use Rattle.nz_script.specs.Draws as draws_words;
 ghost use Rattle.nz_script.specs.Draws.{draw_after, draws_after, drawn_key, drawn_value, command_for, request_for, requests_for};
@@ -68,7 +69,7 @@ fn command_of(alloc: Global, a: u64, b: u64, i: u64) -> Result<Command, NoMemory
 }
 
 fn request_of(alloc: Global, draws: &mut Draws, i: u64) -> Result<Request, NoMemory>
-    requires { i < 2000 }
+    requires { i < MAX_REQUESTS }
     ensures state { draws.new.state ≡ draws_words.next (draws_words.next draws.old.state) }
     ensures request { IfOk result (λ request. request ≡ request_for draws.old.state i) }
 {
@@ -83,7 +84,7 @@ fn request_of(alloc: Global, draws: &mut Draws, i: u64) -> Result<Request, NoMem
 }
 
 fn requests_of(alloc: Global, draws: &mut Draws, count: u32) -> Result<RequestList, NoMemory>
-    requires { count ≤ 2000 }
+    requires { count ≤ MAX_REQUESTS }
     ensures state { OnOk result (draws.new.state ≡ draws_after count draws.old.state) }
     ensures requests { IfOk result (λ requests. requests ≡ requests_for draws.old.state 0 count) }
 {
@@ -95,7 +96,7 @@ fn requests_of(alloc: Global, draws: &mut Draws, count: u32) -> Result<RequestLi
 }
 
 fn script_of(alloc: Global, client: u32, requests: &[Request]) -> Result<RequestList, NoMemory>
-    requires { length requests.now ≤ 2000 }
+    requires { length requests.now ≤ MAX_REQUESTS }
     ensures { IfOk result (λ script. script ≡ script_for client 0 requests.now) }
 {
     let mut script = RequestList::new(alloc);
@@ -110,7 +111,7 @@ fn script_of(alloc: Global, client: u32, requests: &[Request]) -> Result<Request
 }
 
 fn scripts_of(alloc: Global, requests: &[Request]) -> Result<ScriptList, NoMemory>
-    requires { length requests.now ≤ 2000 }
+    requires { length requests.now ≤ MAX_REQUESTS }
     ensures { IfOk result (λ scripts. scripts ≡ scripts_for 0 16 requests.now) }
 {
     let mut scripts = ScriptList::new(alloc);
@@ -146,10 +147,10 @@ fn faults_of(alloc: Global, draws: &mut Draws, count: u32) -> Result<FaultList, 
     Ok(faults)
 }
 
-/// The scenario that the seed draws, with this many requests, 1 to 2,000.
+/// The scenario that the seed draws, with this many requests, 1 to `MAX_REQUESTS`.
 pub fn generate(alloc: Global, seed: u64, count: u32) -> Result<Scenario, NoMemory>
     requires some { 1 ≤ count }
-    requires few { count ≤ 2000 }
+    requires few { count ≤ MAX_REQUESTS }
     ensures { IfOk result (λ scenario. scenario ≡ scenario_of_seed seed count) }
 {
     let Some(cluster) = Cluster::new(2) else {

@@ -1,7 +1,7 @@
 //! What holds of the definitions. Each law is the contract of a function that does nothing.
 ghost use Rattle.std.specs.Prelude.{◌≡◌, ◌≤◌, ℕ, List, length, Ok};
 ghost use Rattle.nz_base.specs.declared.scenario.Scenario.{Scenario};
-ghost use Rattle.nz_base.specs.declared.limits.TheConstants.{MAX_TEXT};
+ghost use Rattle.nz_base.specs.declared.limits.TheConstants.{MAX_REQUESTS, MAX_TEXT};
 ghost use Rattle.nz_script.specs.Draws.{scenario_of_seed};
 ghost use Rattle.nz_script.specs.Reading.{scenario};
 ghost use Rattle.nz_script.specs.Texts.{text_of};
@@ -20,5 +20,5 @@ pub fn what_is_read_can_be_run()
 
 /// What a seed draws can be run.
 pub fn what_is_drawn_can_be_run()
-    ensures { (seed count : ℕ) → count ≤ 2000 → IsRunnable (scenario_of_seed seed count) }
+    ensures { (seed count : ℕ) → count ≤ MAX_REQUESTS → IsRunnable (scenario_of_seed seed count) }
 {}

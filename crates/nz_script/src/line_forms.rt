@@ -4,7 +4,7 @@ ghost use Rattle.std.specs.Prelude.{◌≡◌, ◌==◌};
 ghost use Rattle.nz_script.specs.Shapes as shapes;
 ghost use Rattle.nz_script.specs.Shapes.{verb_word, verb_place, forms_of, head_shape_of, ask_shape_of, mishap_shape_of, place_rank};
 
-use nz_base::{MAX_CLIENTS, MAX_F, MAX_PROXIES, MAX_TICKS, MAX_WINDOW};
+use nz_base::{MAX_CLIENTS, MAX_COUNT, MAX_F, MAX_KEEP, MAX_PROXIES, MAX_TICKS, MAX_WINDOW};
 
 /// How far a text has come: which lines may come next.
 #[derive(Clone, Copy, Debug)]
@@ -170,12 +170,12 @@ const DELAY: Form = Form::Number {
 
 const COUNT: Form = Form::Number {
     least: 1,
-    most: 1_000_000,
+    most: MAX_COUNT,
 };
 
 const LENGTH: Form = Form::Number {
     least: 0,
-    most: 16_777_216,
+    most: MAX_KEEP,
 };
 
 const FAULTY: Form = Form::Number {
