@@ -51,7 +51,7 @@ abbrev pub next_deadline : Option Entry → ℕ
 next_deadline None = 1
 next_deadline (Some e) = e.key.deadline + 1
 
--- The leader gives the request the deadline after the log's last, where that is a deadline.
+-- The leader gives the request the deadline after the log's last, where that is a deadline: 2 ^ 63 is MAX_DEADLINE + 1.
 abbrev pub after_restamp : ReplicaData → TimedBody → ReplicaData
 after_restamp s b =
     let deadline = next_deadline (last_entry s.log.entries) in

@@ -9,8 +9,8 @@ use nz_base::{Cluster, MAX_REPLICAS};
 
 /// Puts what the other replicas report first, in the order of their numbers. Gives how many they are.
 fn gather(reports: &mut [u32; MAX_REPLICAS], me: u8, ack: &[u32]) -> usize
-    requires { length ack.now ≤ 9 }
-    ensures within { result ≤ 9 }
+    requires { length ack.now ≤ MAX_REPLICAS }
+    ensures within { result ≤ MAX_REPLICAS }
     ensures reports { take result reports.new ≡ map (slice_index ack.now) (filter (λ r. not (r == me)) (numbers_below (length ack.now))) }
 {
     let mut count = 0;

@@ -2,7 +2,7 @@
 ghost use Rattle.std.specs.Prelude.{◌≡◌, ℕ, List, ◌+◌, ◌≤◌, ◌<◌, ◌^◌, ◌==◌, ◌++◌, length, min, IsTrue, IsFalse};
 ghost use Rattle.nz_buffers.specs.Buffers.{released, held_back};
 ghost use Rattle.nz_base.specs.Cluster.{replica_count};
-ghost use Rattle.nz_base.specs.declared.limits.TheConstants.{MAX_ENTRIES, MAX_CLOCK};
+ghost use Rattle.nz_base.specs.declared.limits.TheConstants.{MAX_ENTRIES, MAX_CLOCK, MAX_PROXY};
 ghost use Rattle.nz_msg.specs.declared.message.TimedBody.{TimedBody};
 ghost use Rattle.nz_msg.specs.declared.message.LogModBody.{LogModBody};
 ghost use Rattle.nz_msg.specs.declared.message.FetchBody.{FetchBody};
@@ -58,7 +58,7 @@ ghost use Rattle.nz_machine.specs.Step.{tick_rule};
 pub fn facts_are_kept()
     ensures first { (f me : ℕ) → HasFacts f me (first_replica f) }
     ensures request { (f me : ℕ) (s : ReplicaData) (proxy : ℕ) (body : TimedBody) → HasFacts f me s
-        → proxy ≤ 7 → timed.fits body → HasFacts f me (request_rule f me s proxy body).0 }
+        → proxy ≤ MAX_PROXY → timed.fits body → HasFacts f me (request_rule f me s proxy body).0 }
     ensures release { (f me : ℕ) (s : ReplicaData) (clock : ℕ) → HasFacts f me s
         → HasFacts f me (release_rule f me s clock).0 }
     ensures log_mod { (f me : ℕ) (s : ReplicaData) (sender : ℕ) (body : LogModBody) → HasFacts f me s

@@ -7,6 +7,7 @@ ghost use Rattle.nz_base.specs.Cluster.{replica_count};
 ghost use Rattle.nz_base.specs.Key.{id_eq, id_of};
 ghost use Rattle.nz_base.specs.Log.{keys_of, has_id, is_above_last};
 ghost use Rattle.nz_base.specs.declared.actor.Actor.TheVariants as actors;
+ghost use Rattle.nz_base.specs.declared.limits.TheConstants.{MAX_PROXY};
 ghost use Rattle.nz_base.specs.declared.key.Entry.{Entry as EntryModel};
 ghost use Rattle.nz_msg.specs.Fields as fields;
 ghost use Rattle.nz_machine.specs.declared.data.Phase.TheVariants.{Vectors};
@@ -101,7 +102,7 @@ fn forget(parts: &mut Parts)
     forget_waiting(parts);
     let alloc = parts.alloc;
     let cluster = parts.cluster;
-    // f is from 1 to 4, so there is a vector of this size.
+    // f is from 1 to MAX_F, so there is a vector of this size.
     let _f = cluster.f();
     parts.status = Status::Down;
     parts.clock = 0;
@@ -201,7 +202,7 @@ impl ReplicaState {
         ensures name { result ≡ actors.Replica self.now.me }
         ensures address { HasAddress result }
     {
-        // f is at most 4, so the number is at most 8.
+        // f is at most MAX_F, so the number is at most MAX_REPLICA.
         let _most = self.parts.cluster.f();
         Actor::Replica(self.parts.me)
     }
@@ -311,7 +312,7 @@ impl ReplicaState {
     /// Where a request came from, if that is known.
     pub fn origin_of(&self, id: Id) -> Option<Origin>
         ensures value { result ≡ lookup (id_eq id) self.now.state.origin }
-        ensures known { IfSome result (λ origin. origin.proxy ≤ 7) }
+        ensures known { IfSome result (λ origin. origin.proxy ≤ MAX_PROXY) }
     {
         self.parts.origin.get(&id).copied()
     }
@@ -339,7 +340,7 @@ impl ReplicaState {
 
     /// Keeps where a request came from.
     pub fn note_origin(&mut self, proxy: u8, body: &TimedBody) -> Result<(), NoMemory>
-        requires { proxy ≤ 7 }
+        requires { proxy ≤ MAX_PROXY }
         ensures { OnOk result (self.new ≡ record self.old { state = with_origin self.old.state proxy body.now }) }
     {
         let delay = self.parts.clock.saturating_sub(body.sent).min(MAX_DELAY) as u32;

@@ -2,6 +2,7 @@
 
 ghost use Rattle.std.specs.Prelude.{◌≡◌, ◌≤◌, ◌++◌, map, IfOk, OnOk};
 ghost use Rattle.nz_base.specs.declared.actor.Actor.TheVariants as actors;
+ghost use Rattle.nz_base.specs.declared.limits.TheConstants.{MAX_REPLICA};
 ghost use Rattle.nz_msg.specs.Messages.{Fits};
 ghost use Rattle.nz_msg.specs.declared.message.Message.TheVariants.{VectorTell};
 ghost use Rattle.nz_machine.specs.Step.{parcel};
@@ -22,7 +23,7 @@ use nz_msg::{
 impl ReplicaState {
     /// Sends the message to one replica.
     pub fn send_to(&self, replica: u8, message: &Message, sends: &mut Sends) -> Result<(), NoMemory>
-        requires replica { replica ≤ 8 }
+        requires replica { replica ≤ MAX_REPLICA }
         requires message { Fits message.now }
         ensures { OnOk result (sends.new ≡ sends.old ++ map (parcel (actors.Replica self.now.me)) (to_replica replica message.now)) }
     {
@@ -35,7 +36,7 @@ impl ReplicaState {
         requires { Fits message.now }
         ensures { OnOk result (sends.new ≡ sends.old ++ map (parcel (actors.Replica self.now.me)) (to_others self.now.f self.now.me message.now)) }
     {
-        // f is at most 4, so each number is at most 8.
+        // f is at most MAX_F, so each number is at most MAX_REPLICA.
         let _most = self.parts.cluster.f();
         for replica in 0..self.parts.cluster.n() {
             if replica != self.parts.me {
@@ -76,7 +77,7 @@ impl ReplicaState {
         if self.leads() {
             return Ok(());
         }
-        // f is at most 4, so the leader's number is at most 8.
+        // f is at most MAX_F, so the leader's number is at most MAX_REPLICA.
         let _most = self.parts.cluster.f();
         let report = self.view_change()?;
         self.send_to(self.parts.cluster.leader(self.parts.view), &report, sends)
