@@ -4,6 +4,7 @@ ghost use Rattle.std.specs.Prelude.{◌≡◌, ◌≤◌, ◌<◌, ◌^◌, ◌+
 ghost use Rattle.nz_base.specs.Actor.{HasAddress};
 ghost use Rattle.nz_base.specs.Log.{keys_of, has_id};
 ghost use Rattle.nz_base.specs.declared.actor.Actor.TheVariants as actors;
+ghost use Rattle.nz_base.specs.declared.limits.TheConstants.{MAX_PROXY};
 ghost use Rattle.nz_log.specs.Places.{last_entry};
 ghost use Rattle.nz_msg.specs.Messages.{timed};
 ghost use Rattle.nz_msg.specs.declared.message.Message.TheVariants.{Timed};
@@ -38,7 +39,7 @@ fn entry_at(alloc: Global, deadline: u64, body: &TimedBody) -> Result<Entry, NoM
     })
 }
 
-/// The deadline after that of the log's last entry, if there is one.
+/// The deadline after that of the log's last entry, if there is one: 2 ^ 63 is `MAX_DEADLINE` + 1.
 fn next_deadline(log: &HashedLog) -> Option<u64>
     ensures { result ≡ (let deadline = requests.next_deadline (last_entry log.now.entries) in if nat_lt deadline (2 ^ 63) then Some deadline else None) }
 {
@@ -123,7 +124,7 @@ fn request_rule(
     body: &TimedBody,
     sends: &mut Sends,
 ) -> Result<(), NoMemory>
-    requires proxy { proxy ≤ 7 }
+    requires proxy { proxy ≤ MAX_PROXY }
     requires fits { timed.fits body.now }
     ensures { let s = state.old in OnOk result (Does s state.new sends.old sends.new (requests.request_rule s.f s.me s.state proxy body.now)) }
 {
