@@ -34,7 +34,7 @@ fn send_log_mod(state: &ReplicaState, replica: u8, sends: &mut Sends) -> Result<
     requires { replica < replica_count state.now.f }
     ensures { OnOk result (sends.new ≡ sends.old ++ map (parcel (actors.Replica state.now.me)) (log_mod_to state.now.state replica ∷ [])) }
 {
-    // f is at most 4, so the number is at most 8.
+    // f is at most MAX_F, so the number is at most MAX_REPLICA.
     let _most = state.cluster().f();
     let start = state.ack_of(replica);
     let message = Message::LogMod(LogModBody {

@@ -4,6 +4,7 @@ ghost use Rattle.std.specs.Prelude.{◌≡◌, ◌<◌, ◌≤◌, ◌++◌, [],
 ghost use Rattle.std.specs.List.{AllByRecursion};
 ghost use Rattle.nz_base.specs.Actor.{HasAddress};
 ghost use Rattle.nz_base.specs.declared.actor.Actor.TheVariants as actors;
+ghost use Rattle.nz_base.specs.declared.limits.TheConstants.{MAX_KEYS, MAX_REPLICA};
 ghost use Rattle.nz_msg.specs.Fields as fields;
 ghost use Rattle.nz_msg.specs.Messages.{fetch, fetch_reply};
 ghost use Rattle.nz_msg.specs.declared.message.Message.TheVariants.{Fetch, FetchReply};
@@ -30,9 +31,9 @@ fn is_asked(ids: &[Id], entry: &Entry) -> bool
 
 /// Copies of the log's entries with these ids.
 fn asked_entries(state: &ReplicaState, ids: &[Id]) -> Result<EntryList, NoMemory>
-    requires { length ids.now ≤ 64 }
+    requires { length ids.now ≤ MAX_KEYS }
     ensures value { IfOk result (λ list. list ≡ filter (log_mods.is_asked ids.now) state.now.state.log.entries) }
-    ensures fits { IfOk result (fields.entries 0 64).fits }
+    ensures fits { IfOk result (fields.entries 0 MAX_KEYS).fits }
 {
     state.has_facts();
     let alloc = state.allocator();
@@ -54,7 +55,7 @@ fn fetch_rule(
     body: &FetchBody,
     sends: &mut Sends,
 ) -> Result<(), NoMemory>
-    requires sender { sender ≤ 8 }
+    requires sender { sender ≤ MAX_REPLICA }
     requires fits { fetch.fits body.now }
     ensures { let s = state.now in OnOk result (Does s s sends.old sends.new (log_mods.fetch_rule s.f s.me s.state sender body.now)) }
 {

@@ -5,6 +5,7 @@ ghost use Rattle.std.specs.List.{AllByRecursion};
 ghost use Rattle.nz_base.specs.Actor.{HasAddress};
 ghost use Rattle.nz_base.specs.Cluster.{replica_count, leader_of};
 ghost use Rattle.nz_base.specs.declared.actor.Actor.TheVariants as actors;
+ghost use Rattle.nz_base.specs.declared.limits.TheConstants.{MAX_KEYS, MAX_REPLICA};
 ghost use Rattle.nz_cv.specs.Vectors as vectors;
 ghost use Rattle.nz_msg.specs.Fields as fields;
 ghost use Rattle.nz_msg.specs.Messages.{log_mod};
@@ -23,7 +24,7 @@ use nz_msg::{FetchBody, LogModBody, Message, SyncReportBody};
 
 /// Tells the leader how much of the log agrees with its own.
 fn send_sync_report(state: &ReplicaState, leader: u8, sends: &mut Sends) -> Result<(), NoMemory>
-    requires { leader ≤ 8 }
+    requires { leader ≤ MAX_REPLICA }
     ensures { OnOk result (sends.new ≡ sends.old ++ map (parcel (actors.Replica state.now.me)) (sync_report_to leader state.now.state ∷ [])) }
 {
     let message = Message::SyncReport(SyncReportBody {
@@ -41,8 +42,8 @@ fn send_fetch(
     ids: IdList,
     sends: &mut Sends,
 ) -> Result<(), NoMemory>
-    requires leader { leader ≤ 8 }
-    requires few { length ids ≤ 64 }
+    requires leader { leader ≤ MAX_REPLICA }
+    requires few { length ids ≤ MAX_KEYS }
     requires fit { AllByRecursion fields.id.fits ids }
     ensures { OnOk result (sends.new ≡ sends.old ++ map (parcel (actors.Replica state.now.me)) (fetch_from leader state.now.state ids)) }
 {
@@ -75,7 +76,7 @@ fn take_keys(
     body: &LogModBody,
     sends: &mut Sends,
 ) -> Result<(), NoMemory>
-    requires leader { leader ≤ 8 }
+    requires leader { leader ≤ MAX_REPLICA }
     requires normal { IsTrue (is_normal state.old.state.status) }
     requires follows { IsFalse (leads state.old.f state.old.me state.old.state) }
     requires fits { log_mod.fits body.now }
@@ -97,7 +98,7 @@ fn take_log_mod(
     body: &LogModBody,
     sends: &mut Sends,
 ) -> Result<(), NoMemory>
-    requires leader { leader ≤ 8 }
+    requires leader { leader ≤ MAX_REPLICA }
     requires normal { IsTrue (is_normal state.old.state.status) }
     requires follows { IsFalse (leads state.old.f state.old.me state.old.state) }
     requires fits { log_mod.fits body.now }
@@ -155,7 +156,7 @@ fn follow_unless_stray(
     body: &LogModBody,
     sends: &mut Sends,
 ) -> Result<(), NoMemory>
-    requires address { sender ≤ 8 }
+    requires address { sender ≤ MAX_REPLICA }
     requires sender { sender < replica_count state.old.f }
     requires vector { length body.now.vector ≡ replica_count state.old.f }
     requires fits { log_mod.fits body.now }
@@ -180,7 +181,7 @@ fn log_mod_rule(
     body: &LogModBody,
     sends: &mut Sends,
 ) -> Result<(), NoMemory>
-    requires address { sender ≤ 8 }
+    requires address { sender ≤ MAX_REPLICA }
     requires sender { sender < replica_count state.old.f }
     requires vector { length body.now.vector ≡ replica_count state.old.f }
     requires fits { log_mod.fits body.now }
