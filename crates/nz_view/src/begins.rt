@@ -4,6 +4,7 @@ ghost use Rattle.std.specs.Prelude.{◌≡◌, ◌≢◌, ◌≤◌, ◌<◌, �
 ghost use Rattle.nz_base.specs.Actor.{HasAddress};
 ghost use Rattle.nz_base.specs.Cluster.{replica_count, leader_of};
 ghost use Rattle.nz_base.specs.declared.actor.Actor.TheVariants as actors;
+ghost use Rattle.nz_base.specs.declared.limits.TheConstants.{MAX_REPLICA};
 ghost use Rattle.nz_msg.specs.Messages.{view_change};
 ghost use Rattle.nz_msg.specs.declared.message.Message.TheVariants.{ViewChange};
 ghost use Rattle.nz_machine.specs.Replicas.{is_changing, is_up, leads, ◌and_then◌};
@@ -59,7 +60,7 @@ fn hear_report(
     body: &ViewChangeBody,
     sends: &mut Sends,
 ) -> Result<(), NoMemory>
-    requires address { sender ≤ 8 }
+    requires address { sender ≤ MAX_REPLICA }
     requires sender { sender < replica_count state.old.f }
     requires other { IsFalse (sender == state.old.me) }
     requires vector { length body.now.vector ≡ replica_count state.old.f }
@@ -81,7 +82,7 @@ fn enter_and_hear_report(
     body: &ViewChangeBody,
     sends: &mut Sends,
 ) -> Result<(), NoMemory>
-    requires address { sender ≤ 8 }
+    requires address { sender ≤ MAX_REPLICA }
     requires sender { sender < replica_count state.old.f }
     requires other { IsFalse (sender == state.old.me) }
     requires vector { length body.now.vector ≡ replica_count state.old.f }
@@ -114,7 +115,7 @@ fn view_change_rule(
     body: &ViewChangeBody,
     sends: &mut Sends,
 ) -> Result<(), NoMemory>
-    requires address { sender ≤ 8 }
+    requires address { sender ≤ MAX_REPLICA }
     requires sender { sender < replica_count state.old.f }
     requires other { IsFalse (sender == state.old.me) }
     requires vector { length body.now.vector ≡ replica_count state.old.f }
