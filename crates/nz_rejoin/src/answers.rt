@@ -3,6 +3,7 @@
 ghost use Rattle.std.specs.Prelude.{◌≡◌, ◌<◌, ◌≤◌, length, IsTrue, OnOk};
 ghost use Rattle.nz_base.specs.Actor.{HasAddress};
 ghost use Rattle.nz_base.specs.Cluster.{replica_count};
+ghost use Rattle.nz_base.specs.declared.limits.TheConstants.{MAX_REPLICA};
 ghost use Rattle.nz_msg.specs.Messages.{vector_ask, rejoin_ask, state_ask};
 ghost use Rattle.nz_msg.specs.declared.message.Message.TheVariants.{VectorAsk, RejoinAsk, StateAsk};
 ghost use Rattle.nz_machine.specs.Rejoining as rejoining;
@@ -21,7 +22,7 @@ fn vector_ask_rule(
     body: &VectorAskBody,
     sends: &mut Sends,
 ) -> Result<(), NoMemory>
-    requires sender { sender ≤ 8 }
+    requires sender { sender ≤ MAX_REPLICA }
     requires fits { vector_ask.fits body.now }
     ensures { let s = state.now in OnOk result (Does s s sends.old sends.new (rejoining.vector_ask_rule s.state sender body.now)) }
 {
@@ -56,7 +57,7 @@ fn rejoin_ask_rule(
     body: &RejoinAskBody,
     sends: &mut Sends,
 ) -> Result<(), NoMemory>
-    requires address { sender ≤ 8 }
+    requires address { sender ≤ MAX_REPLICA }
     requires sender { sender < replica_count state.old.f }
     requires vector { length body.now.vector ≡ replica_count state.old.f }
     requires fits { rejoin_ask.fits body.now }
@@ -97,7 +98,7 @@ fn state_ask_rule(
     body: &StateAskBody,
     sends: &mut Sends,
 ) -> Result<(), NoMemory>
-    requires address { sender ≤ 8 }
+    requires address { sender ≤ MAX_REPLICA }
     requires sender { sender < replica_count state.old.f }
     requires vector { length body.now.vector ≡ replica_count state.old.f }
     requires fits { state_ask.fits body.now }

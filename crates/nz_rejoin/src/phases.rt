@@ -89,7 +89,7 @@ fn ask_log(state: &mut ReplicaState, view: u64, sends: &mut Sends) -> Result<(),
     requires { view ≤ MAX_VIEW }
     ensures { let s = state.old in OnOk result (Does s state.new sends.old sends.new (rejoining.ask_log s.f s.state view)) }
 {
-    // f is at most 4, so the number is at most 8.
+    // f is at most MAX_F, so the number is at most MAX_REPLICA.
     let _most = state.cluster().f();
     let leader = state.cluster().leader(view);
     state.start_log(view);
