@@ -3,7 +3,7 @@ use Rattle.std.specs.Prelude.{ℕ, Bool, ◌≡◌, ◌≤◌, List, [], length,
 use Rattle.std.specs.List.{AllByRecursion}
 use Rattle.nz_base.specs.Cluster.{replica_count}
 use Rattle.nz_base.specs.declared.key.Id.{Id}
-use Rattle.nz_base.specs.declared.limits.TheConstants.{MAX_CLOCK}
+use Rattle.nz_base.specs.declared.limits.TheConstants.{MAX_CLOCK, MAX_PROXY}
 use Rattle.nz_machine.specs.State.{ProxyData, Group}
 use Rattle.nz_machine.specs.Proxies.{clock_rule}
 use Rattle.nz_proxy.specs.declared.standing.Standing.{Standing}
@@ -17,7 +17,7 @@ pub record ProxySeat : Type 0 where
 
 -- What the code keeps of a proxy's parts.
 pub record IsKeptProxy (f me clock : ℕ) (samples : List (List ℕ)) (entries : List (Id × Standing)) : Type 0 where
-  pub named : me ≤ 7
+  pub named : me ≤ MAX_PROXY
   pub in_time : clock ≤ MAX_CLOCK
   pub window : length samples ≡ replica_count f
   pub standings : AllByRecursion (IsFitEntry f) entries

@@ -2,6 +2,7 @@
 use Rattle.std.specs.Prelude.{ℕ, ◌≡◌, ◌≤◌, List, [], ◌∷◌, map, Option, Some, None, IfSome}
 use Rattle.std.specs.List.{AllByRecursion}
 use Rattle.nz_base.specs.declared.key.Id.{Id}
+use Rattle.nz_base.specs.declared.limits.TheConstants.{MAX_CLIENT}
 use Rattle.nz_store.specs.declared.command.Answer.{Answer}
 use Rattle.nz_msg.specs.declared.message.Path.{Path}
 use Rattle.nz_msg.specs.Fields as fields
@@ -84,5 +85,5 @@ IsFitStanding f (kept.Decided answer path) = fields.answer.fits answer
 
 -- The entry of the table has a client's id, and its standing is fit.
 pub record IsFitEntry (f : ℕ) (entry : Id × Standing) : Type 0 where
-  pub client : entry.0.client ≤ 63
+  pub client : entry.0.client ≤ MAX_CLIENT
   pub standing : IsFitStanding f entry.1

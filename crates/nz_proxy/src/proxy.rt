@@ -4,6 +4,7 @@ ghost use Rattle.std.specs.Prelude.{◌≡◌, ◌<◌, ◌≤◌, ◌++◌, Som
 ghost use Rattle.nz_base.specs.Actor.{HasAddress};
 ghost use Rattle.nz_base.specs.Cluster.{replica_count};
 ghost use Rattle.nz_base.specs.declared.actor.Actor.TheVariants as actors;
+ghost use Rattle.nz_base.specs.declared.limits.TheConstants.{MAX_PROXIES};
 ghost use Rattle.nz_msg.specs.Messages.{Fits, fast_reply, slow_reply};
 ghost use Rattle.nz_machine.specs.Proxies as proxies;
 ghost use Rattle.nz_machine.specs.Proxies.{first_proxy, crashed_proxy, restarted_proxy, of_fast, of_slow};
@@ -37,7 +38,7 @@ impl Model for Proxy {
 impl Proxy {
     /// A proxy in its first state.
     pub fn new(alloc: Global, cluster: Cluster, me: u8) -> Proxy
-        requires { me < 8 }
+        requires { me < MAX_PROXIES }
         ensures { result ≡ record { seat = record { f = cluster; me = me; state = first_proxy cluster }; live = true } }
     {
         Proxy {

@@ -1,10 +1,11 @@
 //! The state of a proxy, and its rules.
 
-ghost use Rattle.std.specs.Prelude.{◌≡◌, ◌+◌, ◌-◌, ◌^◌, ◌<◌, ◌≤◌, ◌++◌, ◌∷◌, List, [], map, length, OnOk, IfOk, IsSome, IfSome, true, false};
+ghost use Rattle.std.specs.Prelude.{◌≡◌, ◌+◌, ◌<◌, ◌≤◌, ◌++◌, ◌∷◌, List, [], map, length, OnOk, IfOk, IsSome, IfSome, true, false};
 ghost use Rattle.std.specs.Option.{option_map};
 ghost use Rattle.nz_base.specs.Actor.{HasAddress};
 ghost use Rattle.nz_base.specs.Cluster.{replica_count};
 ghost use Rattle.nz_base.specs.declared.actor.Actor.TheVariants as actors;
+ghost use Rattle.nz_base.specs.declared.limits.TheConstants.{MAX_CLIENT, MAX_DEADLINE, MAX_PROXY};
 ghost use Rattle.nz_msg.specs.Fields as fields;
 ghost use Rattle.nz_msg.specs.Messages as messages;
 ghost use Rattle.nz_msg.specs.Messages.{Fits};
@@ -61,7 +62,7 @@ impl Model for ProxyState {
 impl ProxyState {
     /// A proxy in its first state.
     pub fn new(alloc: Global, cluster: Cluster, me: u8) -> ProxyState
-        requires { me ≤ 7 }
+        requires { me ≤ MAX_PROXY }
         ensures { result ≡ record { f = cluster; me = me; state = first_proxy cluster } }
     {
         ProxyState {
@@ -127,13 +128,13 @@ impl ProxyState {
     /// The deadline of a request that is stamped now.
     fn deadline(&self) -> u64
         ensures value { result ≡ self.now.state.clock + bound_of self.now.state.samples + MARGIN }
-        ensures named { result ≤ 2 ^ 63 - 1 }
+        ensures named { result ≤ MAX_DEADLINE }
     {
         self.clock + u64::from(self.window.bound()) + MARGIN
     }
 
     fn set_standing(&mut self, id: Id, standing: Standing) -> Result<(), NoMemory>
-        requires client { id.client ≤ 63 }
+        requires client { id.client ≤ MAX_CLIENT }
         requires fit { IsFitStanding self.old.f standing }
         ensures same { IsSameProxy self.old self.new }
         ensures state { OnOk result (self.new ≡ record self.old { state = with_standing self.old.state id (known_standing standing) }) }
@@ -156,7 +157,7 @@ impl ProxyState {
         ensures same { IsSameProxy self.old self.new }
         ensures state { IfOk result (λ told. after_replica_reply self.old.f self.old.state id reply
             (standing_of self.old.state id) ≡ (self.new.state, answers_to_client id told)) }
-        ensures client { IfOk result (λ told. IsSome told → id.client ≤ 63) }
+        ensures client { IfOk result (λ told. IsSome told → id.client ≤ MAX_CLIENT) }
         ensures fit { IfOk result (λ told. IfSome told (λ t. fields.answer.fits t.0)) }
     {
         let alloc = self.alloc;
@@ -174,7 +175,7 @@ fn send_answer(
     path: Path,
     sends: &mut Sends,
 ) -> Result<(), NoMemory>
-    requires client { id.client ≤ 63 }
+    requires client { id.client ≤ MAX_CLIENT }
     requires answer { fields.answer.fits answer }
     ensures { OnOk result (sends.new ≡ sends.old ++ map (parcel (actors.Proxy state.now.me)) (answer_to_client id answer path ∷ [])) }
 {
@@ -240,7 +241,7 @@ pub fn stamp_rule(
     body: RequestBody,
     sends: &mut Sends,
 ) -> Result<(), NoMemory>
-    requires client { client ≤ 63 }
+    requires client { client ≤ MAX_CLIENT }
     requires body { messages.request.fits body }
     ensures same { IsSameProxy state.old state.new }
     ensures state { OnOk result (state.new ≡ record state.old { state = (proxies.stamp_rule state.old.f state.old.state client body).0 }) }
