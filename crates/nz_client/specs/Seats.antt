@@ -2,7 +2,7 @@
 use Rattle.std.specs.Prelude.{ℕ, Bool, ◌≡◌, ◌<◌, ◌≤◌, ◌+◌, ◌^◌, List, [], ◌∷◌, length, Option, Some, None}
 use Rattle.std.specs.List.{AllByRecursion}
 use Rattle.nz_base.specs.declared.scenario.Request.{Request}
-use Rattle.nz_base.specs.declared.limits.TheConstants.{PATIENCE}
+use Rattle.nz_base.specs.declared.limits.TheConstants.{MAX_CLIENT, MAX_PROXIES, MAX_WINDOW, PATIENCE}
 use Rattle.nz_msg.specs.Fields.{command}
 use Rattle.nz_machine.specs.declared.data.Attempt.{Attempt}
 use Rattle.nz_machine.specs.State.{ClientData, Group}
@@ -31,10 +31,10 @@ AreSendable script = AllByRecursion IsSendable script
 
 -- What the code keeps of a client's parts.
 pub record IsInTurn (me proxies window : ℕ) (script : List Request) (sent accepted : ℕ) (attempts : List Attempt) : Type 0 where
-  pub named : me ≤ 63
+  pub named : me ≤ MAX_CLIENT
   pub some_proxies : 1 ≤ proxies
-  pub few_proxies : proxies ≤ 8
-  pub narrow : window ≤ 16
+  pub few_proxies : proxies ≤ MAX_PROXIES
+  pub narrow : window ≤ MAX_WINDOW
   pub sendable : AreSendable script
   pub short : length script < 2 ^ 32
   pub in_script : sent ≤ length script

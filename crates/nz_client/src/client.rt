@@ -2,6 +2,7 @@
 
 ghost use Rattle.std.specs.Prelude.{◌≡◌, ◌≤◌, ◌++◌, ◌↔◌, true, map, OnOk, IsTrue};
 ghost use Rattle.nz_base.specs.declared.actor.Actor.TheVariants as actors;
+ghost use Rattle.nz_base.specs.declared.limits.TheConstants.{MAX_CLIENT, MAX_PROXIES, MAX_WINDOW};
 ghost use Rattle.nz_msg.specs.Fields.{command};
 ghost use Rattle.nz_machine.specs.State.{Group};
 ghost use Rattle.nz_machine.specs.Clients as clients;
@@ -51,11 +52,11 @@ impl Model for Client {
 impl Client {
     /// A client in its first state, with its requests.
     pub fn new(alloc: Global, me: u8, proxies: u8, window: u8, script: RequestList) -> Client
-        requires named { me ≤ 63 }
+        requires named { me ≤ MAX_CLIENT }
         requires least { 1 ≤ proxies }
-        requires most { proxies ≤ 8 }
+        requires most { proxies ≤ MAX_PROXIES }
         requires some { 1 ≤ window }
-        requires narrow { window ≤ 16 }
+        requires narrow { window ≤ MAX_WINDOW }
         requires sendable { AreSendable script }
         ensures { result ≡ record { seat = record { me = me; proxies = proxies; window = window; script = script; state = first_client }; live = true } }
     {

@@ -5,6 +5,7 @@ ghost use Rattle.std.specs.List.{AllByRecursion};
 ghost use Rattle.std.specs.Option.{option_copied};
 ghost use Rattle.nz_base.specs.Actor.{HasAddress};
 ghost use Rattle.nz_base.specs.declared.actor.Actor.TheVariants as actors;
+ghost use Rattle.nz_base.specs.declared.limits.TheConstants.{MAX_CLIENT, MAX_PROXIES, MAX_PROXY, MAX_WINDOW};
 ghost use Rattle.nz_machine.specs.Clients as clients;
 ghost use Rattle.nz_machine.specs.Clients.{first_client, if_due, after_opening, retries};
 ghost use Rattle.nz_machine.specs.Clients.{after_wait, request_again, without_attempt, after_acceptance};
@@ -53,10 +54,10 @@ impl Model for ClientState {
 impl ClientState {
     /// A client in its first state, with its requests.
     pub fn new(alloc: Global, me: u8, proxies: u8, window: u8, script: RequestList) -> ClientState
-        requires named { me ≤ 63 }
+        requires named { me ≤ MAX_CLIENT }
         requires least { 1 ≤ proxies }
-        requires most { proxies ≤ 8 }
-        requires narrow { window ≤ 16 }
+        requires most { proxies ≤ MAX_PROXIES }
+        requires narrow { window ≤ MAX_WINDOW }
         requires sendable { AreSendable script }
         ensures { result ≡ record { me = me; proxies = proxies; window = window; script = script; state = first_client } }
     {
@@ -128,7 +129,7 @@ fn ask(
     request: &Request,
     sends: &mut Sends,
 ) -> Result<(), NoMemory>
-    requires proxy { proxy ≤ 7 }
+    requires proxy { proxy ≤ MAX_PROXY }
     requires request { IsSendable request.now }
     ensures { OnOk result (sends.new ≡ sends.old ++ map (parcel (actors.Client state.now.me)) (clients.ask proxy num request.now ∷ [])) }
 {
@@ -152,7 +153,7 @@ fn due_request(state: &ClientState) -> Option<&Request>
 /// The proxy to which a request goes first.
 fn own_proxy(state: &ClientState) -> u8
     ensures own { result ≡ state.now.me % state.now.proxies }
-    ensures named { result ≤ 7 }
+    ensures named { result ≤ MAX_PROXY }
 {
     let proxies = state.proxies;
     state.me % proxies
@@ -229,7 +230,7 @@ fn fill_window(state: &mut ClientState, sends: &mut Sends) -> Result<(), NoMemor
 
 /// Sends the request of this number again.
 fn ask_again(state: &ClientState, proxy: u8, num: u32, sends: &mut Sends) -> Result<(), NoMemory>
-    requires { proxy ≤ 7 }
+    requires { proxy ≤ MAX_PROXY }
     ensures { OnOk result (sends.new ≡ sends.old
         ++ map (parcel (actors.Client state.now.me)) (request_again proxy num (slice_get state.now.script (num - 1)))) }
 {
@@ -242,7 +243,7 @@ fn ask_again(state: &ClientState, proxy: u8, num: u32, sends: &mut Sends) -> Res
 /// The proxy after this one.
 fn next_proxy(proxies: u8, proxy: u8) -> u8
     requires below { proxy < proxies }
-    requires most { proxies ≤ 8 }
+    requires most { proxies ≤ MAX_PROXIES }
     ensures next { result ≡ (proxy + 1) % proxies }
     ensures known { result < proxies }
 {
@@ -283,7 +284,7 @@ fn retry_all(state: &ClientState, sends: &mut Sends) -> Result<(), NoMemory>
 
 /// An open request, when it has waited one tick more.
 fn attempt_after_wait(attempt: Attempt, proxies: u8) -> Attempt
-    requires most { proxies ≤ 8 }
+    requires most { proxies ≤ MAX_PROXIES }
     requires of_proxies { IsOfProxies proxies attempt }
     ensures waited { result ≡ clients.attempt_after_wait proxies attempt }
     ensures of_proxies { IsOfProxies proxies result }
@@ -307,7 +308,7 @@ fn attempt_after_wait(attempt: Attempt, proxies: u8) -> Attempt
 
 /// Each open request waits one tick more.
 fn wait_each(attempts: &mut [Attempt], proxies: u8)
-    requires most { proxies ≤ 8 }
+    requires most { proxies ≤ MAX_PROXIES }
     requires of_proxies { AllByRecursion (IsOfProxies proxies) attempts.old }
     ensures waited { attempts.new ≡ map (clients.attempt_after_wait proxies) attempts.old }
     ensures of_proxies { AllByRecursion (IsOfProxies proxies) attempts.new }
