@@ -1,6 +1,7 @@
 //! A calendar by itself.
 ghost use Rattle.std.specs.Prelude.{◌≡◌, ◌≤◌, length, IfOk};
 ghost use Rattle.std.specs.List.{AllByRecursion};
+ghost use Rattle.nz_base.specs.declared.limits.TheConstants.{MAX_REPLICA};
 ghost use Rattle.nz_machine.specs.Schedule.{IsPlayable};
 ghost use Rattle.nz_machine.specs.World.{IsAsked, request_count};
 
@@ -76,7 +77,7 @@ fn twice_and_held(alloc: Global) -> Result<Scenario, Fail>
 /// A message of the kind from the proxy to a replica, in tick 2.
 fn send(alloc: Global, calendar: &mut Calendar, scenario: &Scenario, to: u8) -> Result<(), Fail>
     requires playable { IsPlayable scenario.now }
-    requires to { to ≤ 8 }
+    requires to { to ≤ MAX_REPLICA }
 {
     let (from, to) = (Actor::Proxy(0), Actor::Replica(to));
     let frame = Frame::write(alloc, TIMED, from.address(), to.address(), &[])?;

@@ -1,6 +1,7 @@
 //! What the networks of one thread and of several have in common: the tick and its items.
 
 ghost use Rattle.std.specs.Prelude.{◌≡◌, ◌<◌, ◌≤◌, ◌+◌, ◌++◌, vec_capacity, List, length, map, slice_get, Some, IfOk, OnOk, OnErr};
+ghost use Rattle.nz_base.specs.declared.limits.TheConstants.{MAX_TICKS};
 ghost use Rattle.nz_machine.specs.Schedule.{Posted};
 ghost use Rattle.nz_fabric.specs.Calendars.{StandsFor};
 ghost use Rattle.nz_fabric.specs.States.{HasBegun, IsNew};
@@ -64,7 +65,7 @@ impl Ticks {
     /// Begins the next tick, once what this one sent is posted. All memory is taken before the calendar changes.
     pub fn begin(&mut self) -> Result<(), NoMemory>
         requires more { self.old.tick < self.old.scenario.ticks }
-        requires ticks { self.old.scenario.ticks ≤ 20000 }
+        requires ticks { self.old.scenario.ticks ≤ MAX_TICKS }
         ensures ok { (L : List Posted) → StandsFor self.old.scenario L self.old.tick self.old.calendar
             → OnOk result (HasBegun self.old.scenario self.old.tick L self.new) }
         ensures err { OnErr result (self.new ≡ self.old) }
