@@ -1,6 +1,7 @@
 //! How the ledger is dealt out to workers, and put together again.
 
 ghost use Rattle.std.specs.Prelude.{◌≡◌, ◌+◌, ◌<◌, ◌≤◌, ℕ, [], length, vec_len, vec_capacity, All, sum_by};
+ghost use Rattle.nz_base.specs.declared.limits.TheConstants.{MAX_WORKERS};
 
 use nz_fabric::{Name, Share};
 
@@ -14,7 +15,7 @@ pub struct Worker<N: Name> {
 /// Deals the whole share out.
 pub fn deal<N: Name>(whole: Share<N>, workers: &mut Vec<Worker<N>>, count: u8)
     requires whole { (whole.parts ≡ 16) × (whole.amount ≡ 0) }
-    requires count { (0 < count) × (count ≤ 16) }
+    requires count { (0 < count) × (count ≤ MAX_WORKERS) }
     requires room { (workers.old.items ≡ []) × (count ≤ vec_capacity workers.old) }
     ensures len { vec_len workers.new ≡ count }
     ensures idle { All (λ w. w.share.amount ≡ 0) workers.new.items }

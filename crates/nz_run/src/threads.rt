@@ -10,7 +10,7 @@ use crate::alone::run_alone;
 use crate::shares::{deal, gather};
 use crate::stage::Stage;
 use crate::workers::work_all;
-use nz_base::{NoMemory, Scenario, TryCopy};
+use nz_base::{MAX_WORKERS, NoMemory, Scenario, TryCopy};
 use nz_edge::Gate;
 use nz_fabric::{Fabric, FabricState, Name, Share};
 use nz_machine::Journal;
@@ -49,11 +49,11 @@ fn at_once<N: Name + Send + Sync, R: Threads + Wait + Sync, G: Gate + Sync>(
     gate: &G,
 ) -> Result<(FabricState<N>, Share<N>), NoMemory>
     requires share { (share.parts ≡ 16) × (share.amount ≡ 0) }
-    requires count { (0 < count) × (count ≤ 16) }
+    requires count { (0 < count) × (count ≤ MAX_WORKERS) }
     ensures { IfOk result (λ r. (r.1.parts ≡ 16) × (r.1.amount ≡ 0)) }
 {
     let mut workers = Vec::new(alloc);
-    workers.reserve(16)?;
+    workers.reserve(MAX_WORKERS)?;
     deal(share, &mut workers, count);
     let fabric = Fabric::new(state);
     work_all(rt, workers.as_mut_slice(), stage, &fabric, gate);
@@ -97,7 +97,7 @@ fn run_named<N: Name + Send + Sync, R: Threads + Wait + Sync, G: Gate + Sync>(
     requires name { (blank.name ≡ N.name) × (blank.parts ≡ N.parts) × (blank.parts ≡ 16) }
     requires scenario { scenario.now ≡ N.scenario }
     requires playable { IsPlayable scenario.now }
-    requires count { (0 < count) × (count ≤ 16) }
+    requires count { (0 < count) × (count ≤ MAX_WORKERS) }
     ensures { IfOk result (λ o. IfSome o (λ journal. (journal.scenario ≡ scenario.now)
         × (Scheduled scenario.now (run_in journal) × World (group_in journal) (run_in journal)))) }
 {
@@ -123,7 +123,7 @@ pub fn run<R: Threads + Wait + Sync, G: Gate + Sync>(
     gate: &G,
 ) -> Result<Journal, NoMemory>
     requires playable { IsPlayable scenario.now }
-    requires workers { (0 < workers) × (workers ≤ 16) }
+    requires workers { (0 < workers) × (workers ≤ MAX_WORKERS) }
     ensures scenario { IfOk result (λ journal. journal.scenario ≡ scenario.now) }
     ensures scheduled { IfOk result (λ journal. Scheduled scenario.now (run_in journal)) }
     ensures in_order { workers ≡ 1 → IfOk result (λ journal. InOrder scenario.now (run_in journal)) }

@@ -4,6 +4,7 @@ ghost use Rattle.std.specs.Prelude.{◌≡◌, ◌<◌, ℕ, length, All, slice_
 
 use crate::shares::Worker;
 use crate::stage::Stage;
+use nz_base::MAX_WORKERS;
 use nz_edge::Gate;
 use nz_fabric::{Fabric, Name};
 use std::sync::Wait;
@@ -54,7 +55,7 @@ pub fn work_all<N: Name + Send + Sync, R: Threads + Wait + Sync, G: Gate + Sync>
     thread::for_each_mut(
         rt,
         workers,
-        16,
+        MAX_WORKERS,
         &|_, worker| work(rt, worker, stage, fabric, gate),
     );
 }
