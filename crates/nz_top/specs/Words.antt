@@ -2,7 +2,7 @@
 use Rattle.std.specs.Prelude.{◌≡◌, ℕ, ◌≤◌, Bool, true, false, List, [], ◌∷◌, take, drop, Option, Some, None, if◌then◌else◌, codes}
 use Rattle.std.specs.Str.{bytes_eq}
 use Rattle.nz_base.specs.Actor.{is_within}
-use Rattle.nz_base.specs.declared.limits.TheConstants.{MAX_REQUESTS}
+use Rattle.nz_base.specs.declared.limits.TheConstants.{MAX_REQUESTS, MAX_WORKERS}
 use Rattle.nz_script.specs.Bytes.{number_of}
 use Rattle.nz_top.specs.declared.words.Command.{Command}
 use Rattle.nz_top.specs.declared.words.Command.TheVariants.{Run, Trace, Gen}
@@ -14,7 +14,7 @@ up_to most (Some n) = if is_within 1 most n then Some n else None
 
 -- How many workers a numeral asks for.
 abbrev pub workers_in : List ℕ → Option ℕ
-workers_in numeral = up_to 16 (number_of numeral)
+workers_in numeral = up_to MAX_WORKERS (number_of numeral)
 
 -- The same of a word `--workers=N`.
 abbrev pub workers_at : List ℕ → Option ℕ
@@ -59,10 +59,10 @@ workers_of (Run workers) = workers
 workers_of (Trace workers) = workers
 workers_of (Gen seed count) = 1
 
--- A command that words can call: with 1 to 16 workers, or one that draws at least one request and no more than a scenario has.
+-- A command that words can call: with 1 to MAX_WORKERS workers, or one that draws at least one request and no more than a scenario has.
 abbrev pub IsCalled : Command → Type 0
-IsCalled (Run workers) = (1 ≤ workers) × (workers ≤ 16)
-IsCalled (Trace workers) = (1 ≤ workers) × (workers ≤ 16)
+IsCalled (Run workers) = (1 ≤ workers) × (workers ≤ MAX_WORKERS)
+IsCalled (Trace workers) = (1 ≤ workers) × (workers ≤ MAX_WORKERS)
 IsCalled (Gen seed count) = (1 ≤ count) × (count ≤ MAX_REQUESTS)
 
 -- One worker plays it.

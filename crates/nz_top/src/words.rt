@@ -3,7 +3,7 @@ ghost use Rattle.std.specs.Prelude.{◌≡◌, ◌<◌, ◌≤◌, IfOk, IfSome,
 ghost use Rattle.nz_top.specs.Words as words_words;
 ghost use Rattle.nz_top.specs.Words.{up_to, command_named, play_command, gen_command, workers_of, command_of_words, IsCalled};
 
-use nz_base::{Blob, List, MAX_REQUESTS, NoMemory};
+use nz_base::{Blob, List, MAX_REQUESTS, MAX_WORKERS, NoMemory};
 use nz_script::number_of;
 use std::alloc::Global;
 use std::marker::Model;
@@ -11,7 +11,7 @@ use std::marker::Model;
 /// What the program is to do.
 #[derive(Clone, Copy, Debug, PartialEq, Eq)]
 pub enum Command {
-    /// Play the scenario with this many workers, 1 to 16, and print the text of the run.
+    /// Play the scenario with this many workers, 1 to `MAX_WORKERS`, and print the text of the run.
     Run { workers: u8 },
     /// The same, and print each record of the run before that.
     Trace { workers: u8 },
@@ -20,12 +20,12 @@ pub enum Command {
 }
 
 impl Command {
-    /// How many workers play it, 1 to 16.
+    /// How many workers play it, 1 to `MAX_WORKERS`.
     pub fn workers(self) -> u8
         requires { IsCalled self }
         ensures value { result ≡ workers_of self }
         ensures some { 0 < result }
-        ensures few { result ≤ 16 }
+        ensures few { result ≤ MAX_WORKERS }
     {
         match self {
             Command::Run { workers } | Command::Trace { workers } => workers,
@@ -51,10 +51,10 @@ impl Model for Words {
 fn workers_in(numeral: &[u8]) -> Option<u8>
     ensures value { result ≡ words_words.workers_in numeral.now }
     ensures some { IfSome result (λ workers. 1 ≤ workers) }
-    ensures few { IfSome result (λ workers. workers ≤ 16) }
+    ensures few { IfSome result (λ workers. workers ≤ MAX_WORKERS) }
 {
     match number_of(numeral) {
-        Some(workers @ 1..=16) => Some(workers as u8),
+        Some(workers) if 1 <= workers && workers <= MAX_WORKERS as u64 => Some(workers as u8),
         _ => None,
     }
 }
@@ -62,7 +62,7 @@ fn workers_in(numeral: &[u8]) -> Option<u8>
 fn workers_at(word: &[u8]) -> Option<u8>
     ensures value { result ≡ words_words.workers_at word.now }
     ensures some { IfSome result (λ workers. 1 ≤ workers) }
-    ensures few { IfSome result (λ workers. workers ≤ 16) }
+    ensures few { IfSome result (λ workers. workers ≤ MAX_WORKERS) }
 {
     match word.strip_prefix(b"--workers=".as_slice()) {
         Some(numeral) => workers_in(numeral),
@@ -71,7 +71,7 @@ fn workers_at(word: &[u8]) -> Option<u8>
 }
 
 fn named(word: &[u8], workers: u8) -> Option<Command>
-    requires { (1 ≤ workers) × (workers ≤ 16) }
+    requires { (1 ≤ workers) × (workers ≤ MAX_WORKERS) }
     ensures value { result ≡ command_named word.now workers }
     ensures called { IfSome result IsCalled }
 {
@@ -85,7 +85,7 @@ fn named(word: &[u8], workers: u8) -> Option<Command>
 }
 
 fn played(word: &[u8], workers: Option<u8>) -> Option<Command>
-    requires { IfSome workers (λ n. (1 ≤ n) × (n ≤ 16)) }
+    requires { IfSome workers (λ n. (1 ≤ n) × (n ≤ MAX_WORKERS)) }
     ensures value { result ≡ play_command word.now workers }
     ensures called { IfSome result IsCalled }
 {
