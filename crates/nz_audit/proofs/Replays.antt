@@ -16,7 +16,7 @@ use Rattle.nz_machine.specs.World.{state_after}
 use Rattle.nz_machine.proofs.Runs.{acts, stays}
 use Rattle.nz_replica.specs.Models.{ReplicaCore}
 use Rattle.nz_machine.specs.declared.journal.Journal.{Journal}
-use Rattle.nz_sync.proofs.Broadcasts.{next_taken}
+use Rattle.nz_machine.proofs.ListParts.{take_next}
 use Rattle.nz_audit.specs.Cores.{IsCore, IsCoreIfAny, run_up_to}
 
 abbrev replica_number : Actor → ℕ
@@ -58,7 +58,7 @@ pub core_stays : (g : Group) (m : ℕ) (r : Record) (J : List Record) (core : Re
 core_stays g m r J core other h = record { live = h.live; cluster = h.cluster; number = h.number; state = h.state ∙ sym (stays g (Replica m) r J other) }
 
 pub run_then : (journal : Journal) (k : ℕ) (r : Record) → slice_get journal.records k ≡ Some r → run_up_to journal (k + 1) ≡ r ∷ run_up_to journal k
-run_then journal k r at = ap reverse (next_taken journal.records k r at) ∙ reverse-append (take k journal.records) (r ∷ [])
+run_then journal k r at = ap reverse (take_next journal.records k r at) ∙ reverse-append (take k journal.records) (r ∷ [])
 
 -- ---- a replica that may be followed
 
