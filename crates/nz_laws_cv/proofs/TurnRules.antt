@@ -167,7 +167,9 @@ module _ (f me : ℕ) (e : Event) where
       let heard : Heard = Some (Replica sender, messages.LogMod b) in
       cond_both (hears_later_leader f s b.view sender)
       (unless_stray me s sender b.vector (enter_view f me b.view))
-      (cond (hears_leader f me s b.view sender) (unless_stray me s sender b.vector (λ (t : ReplicaData). after_log_mod sender b (after_hearing t))) (s, [])) (λ (x : ReplicaData × List Out). Turns heard s x.0)
+      (cond (hears_leader f me s b.view sender)
+      (unless_stray me s sender b.vector (λ (t : ReplicaData). after_log_mod sender b (after_hearing t))) (s, []))
+      (λ (x : ReplicaData × List Out). Turns heard s x.0)
       (λ later.
       let parts = hears_later_parts f s b.view sender later in
       cond_both (is_stray b.vector sender s.vector)
@@ -175,7 +177,8 @@ module _ (f me : ℕ) (e : Event) where
       (λ new. Follow sender (messages.LogMod b) b.vector (record { is = refl; carries = refl; new = new }) b.view parts.up parts.later))
       (λ _.
       cond_both (hears_leader f me s b.view sender)
-      (unless_stray me s sender b.vector (λ (t : ReplicaData). after_log_mod sender b (after_hearing t))) (s, []) (λ (x : ReplicaData × List Out). Turns heard s x.0)
+      (unless_stray me s sender b.vector (λ (t : ReplicaData). after_log_mod sender b (after_hearing t))) (s, [])
+      (λ (x : ReplicaData × List Out). Turns heard s x.0)
       (λ hears.
       cond_both (is_stray b.vector sender s.vector)
       (s, []) (after_log_mod sender b (after_hearing (with_vector me s b.vector))) (λ (x : ReplicaData × List Out). Turns heard s x.0) (λ _. Stays)
@@ -185,7 +188,8 @@ module _ (f me : ℕ) (e : Event) where
   pub sync_report_turn : (heard : Heard) (s : ReplicaData) (sender : ℕ) (b : SyncReportBody) → Turns heard s (sync_report_rule f me s sender b).0
   unfolding sync_report_rule
   sync_report_turn heard s sender b =
-      cond_both (leads_view f me s && (eqb b.view s.view && nat_le b.synced (length s.log.entries))) _ (s, []) (λ (x : ReplicaData × List Out). Turns heard s x.0)
+      cond_both (leads_view f me s && (eqb b.view s.view && nat_le b.synced (length s.log.entries))) _ (s, [])
+      (λ (x : ReplicaData × List Out). Turns heard s x.0)
       (λ tested.
       let led = (and_parts (leads_view f me s) _ tested).0 in
       Tally _ (and_parts (is_normal s.status) (leads f me s) led).0 (and_parts (is_normal s.status) (leads f me s) led).1 (omega arith))
