@@ -20,7 +20,7 @@ use Rattle.nz_machine.specs.Proxies.{standing_of}
 use Rattle.nz_machine.specs.World.{state_after, World, Has, IsMember}
 use Rattle.nz_machine.specs.History.{standing_after, source_of_sender, is_decided, source_at_decision}
 use Rattle.nz_machine.proofs.Runs.{stays, sent_by}
-use Rattle.nz_replica.specs.Seats.{ReplicaView}
+use Rattle.nz_replica.specs.Models.{ReplicaCore}
 use Rattle.nz_audit.specs.declared.source.Source.{Source}
 use Rattle.nz_audit.specs.declared.proxy.ProxyNotes.{ProxyNotes}
 use Rattle.nz_audit.specs.declared.sending.ParcelKey.{ParcelKey}
@@ -111,7 +111,7 @@ decided_by g q id J notes s h is =
 
 -- ---- members
 
-pub live_by : (g : Group) (k : ℕ) (J : List Record) (o : Option ReplicaView) → IsCoreIfAny g J k o → IsLive o
+pub live_by : (g : Group) (k : ℕ) (J : List Record) (o : Option ReplicaCore) → IsCoreIfAny g J k o → IsLive o
 live_by g k J None h = tt
 live_by g k J (Some core) h = h.live
 

@@ -4,7 +4,7 @@ use Rattle.std.proofs.lemmas.List.{map-append, length-map}
 use Rattle.std.specs.Prelude.{slice_get}
 use Rattle.nz_base.specs.declared.key.Entry.{Entry}
 use Rattle.nz_base.specs.Key.{id_of}
-use Rattle.nz_store.specs.Sequence.{reply, replies, answer_after, store_from, store_after}
+use Rattle.nz_store.specs.Sequence.{reply, replies, answer_after}
 use Rattle.nz_store.proofs.Turns.{reply-append, replies-push, slice_get-replies, length-replies_from}
 use Rattle.nz_store.specs.Entries.{empty}
 use Rattle.nz_store.specs.declared.command.Answer.{Answer}
@@ -14,10 +14,6 @@ use Rattle.nz_machine.specs.Journals.{executed_if_answered, executed_from, execu
 
 commands_of : (es : List Entry) (e : Entry) → commands (es ++ e ∷ []) ≡ commands es ++ e.command ∷ []
 commands_of es e = map-append (λ (x : Entry). x.command) es (e ∷ [])
-
-pub store_first : store_after [] ≡ empty
-unfolding store_from
-store_first = refl
 
 -- what is answered in a longer list
 older_same : (H : List Entry) (e : Entry) (place : ℕ) (es : List Entry) → place + length es ≤ length H

@@ -14,7 +14,7 @@ use Rattle.nz_machine.specs.World.{World}
 use Rattle.nz_machine.specs.ClientProgress.{AreAfter}
 use Rattle.nz_machine.specs.History.{log_at, history}
 use Rattle.nz_machine.proofs.JournalPrefixes.{world_with}
-use Rattle.nz_replica.specs.Seats.{ReplicaView}
+use Rattle.nz_replica.specs.Models.{ReplicaCore}
 use Rattle.nz_audit.specs.declared.source.Source.{Source}
 use Rattle.nz_audit.specs.declared.reading.Reading.{Reading}
 use Rattle.nz_audit.specs.Cores.{IsCore, IsCoreIfAny, run_up_to}
@@ -47,9 +47,9 @@ is_next journal k r w lt at = record {
 
 -- ---- the log of the replica that is replayed
 
-pub log_replayed : (journal : Journal) (s : Source) (core : ReplicaView) (log : Log)
+pub log_replayed : (journal : Journal) (s : Source) (core : ReplicaCore) (log : Log)
     → LeadsTo (group_in journal) (run_in journal) (history (group_in journal) (run_in journal)) s
-    → IsCore (group_in journal) (run_up_to journal s.records) s.replica core → log ≡ core.seat.state.log
+    → IsCore (group_in journal) (run_up_to journal s.records) s.replica core → log ≡ core.model.state.log
     → take s.entries log.entries ≡ history (group_in journal) (run_in journal)
 log_replayed journal s core log h is same =
     let g = group_in journal in

@@ -14,9 +14,9 @@ use Rattle.nz_machine.specs.Replicas.{first_replica}
 use Rattle.nz_machine.specs.Step.{Node, node_step, node_run}
 use Rattle.nz_machine.specs.World.{state_after}
 use Rattle.nz_machine.proofs.Runs.{acts, stays}
-use Rattle.nz_replica.specs.Seats.{ReplicaView}
+use Rattle.nz_replica.specs.Models.{ReplicaCore}
 use Rattle.nz_machine.specs.declared.journal.Journal.{Journal}
-use Rattle.nz_sync.proofs.Broadcasts.{next_taken}
+use Rattle.nz_machine.proofs.ListParts.{take_next}
 use Rattle.nz_audit.specs.Cores.{IsCore, IsCoreIfAny, run_up_to}
 
 abbrev replica_number : Actor → ℕ
@@ -30,44 +30,44 @@ replica_data (Proxy p) s = first_replica 0
 replica_data (Client c) s = first_replica 0
 
 -- the first state
-pub core_first : (g : Group) (m : ℕ) → IsCore g [] m (record { f = g.f; seat = record { f = g.f; me = m; state = first_replica g.f }; live = true })
+pub core_first : (g : Group) (m : ℕ) → IsCore g [] m (record { f = g.f; model = record { f = g.f; me = m; state = first_replica g.f }; live = true })
 unfolding state_after
 core_first g m = record { live = refl; cluster = refl; number = refl; state = refl }
 
 -- a step of the core is one of the replica
-pub core_steps : (g : Group) (m : ℕ) (r : Record) (J : List Record) (old new : ReplicaView) (sends : List Parcel) → actor_eq r.actor (Replica m) ≡ true
-    → node_run g (record { actor = Replica old.seat.me; state = old.seat.state }) r.event
-    ≡ (record { actor = Replica new.seat.me; state = new.seat.state }, sends)
+pub core_steps : (g : Group) (m : ℕ) (r : Record) (J : List Record) (old new : ReplicaCore) (sends : List Parcel) → actor_eq r.actor (Replica m) ≡ true
+    → node_run g (record { actor = Replica old.model.me; state = old.model.state }) r.event
+    ≡ (record { actor = Replica new.model.me; state = new.model.state }, sends)
     → new.live ≡ true → g.f ≡ new.f → IsCore g J m old → IsCore g (r ∷ J) m new
 core_steps g m r J old new sends by step live cluster h =
-    let number : old.seat.me ≡ new.seat.me = ap (λ (t : Node × List Parcel). replica_number t.0.actor) step in
-    let after : (node_step g (Replica old.seat.me) old.seat.state r.event).0 ≡ new.seat.state =
+    let number : old.model.me ≡ new.model.me = ap (λ (t : Node × List Parcel). replica_number t.0.actor) step in
+    let after : (node_step g (Replica old.model.me) old.model.state r.event).0 ≡ new.model.state =
     ap (λ (t : Node × List Parcel). replica_data t.0.actor t.0.state) step in
     record {
       live = live;
       cluster = cluster;
       number = sym number ∙ h.number;
       state =
-          sym after ∙ ap (λ (k : ℕ). (node_step g (Replica k) old.seat.state r.event).0) h.number
+          sym after ∙ ap (λ (k : ℕ). (node_step g (Replica k) old.model.state r.event).0) h.number
           ∙ ap (λ (s : ReplicaData). (node_step g (Replica m) s r.event).0) h.state ∙ sym (acts g (Replica m) r J by);
     }
 
 -- a record of another leaves it
-pub core_stays : (g : Group) (m : ℕ) (r : Record) (J : List Record) (core : ReplicaView)
+pub core_stays : (g : Group) (m : ℕ) (r : Record) (J : List Record) (core : ReplicaCore)
     → actor_eq r.actor (Replica m) ≡ false → IsCore g J m core → IsCore g (r ∷ J) m core
 core_stays g m r J core other h = record { live = h.live; cluster = h.cluster; number = h.number; state = h.state ∙ sym (stays g (Replica m) r J other) }
 
 pub run_then : (journal : Journal) (k : ℕ) (r : Record) → slice_get journal.records k ≡ Some r → run_up_to journal (k + 1) ≡ r ∷ run_up_to journal k
-run_then journal k r at = ap reverse (next_taken journal.records k r at) ∙ reverse-append (take k journal.records) (r ∷ [])
+run_then journal k r at = ap reverse (take_next journal.records k r at) ∙ reverse-append (take k journal.records) (r ∷ [])
 
 -- ---- a replica that may be followed
 
-pub any_stays : (g : Group) (m : ℕ) (r : Record) (J : List Record) (o : Option ReplicaView)
+pub any_stays : (g : Group) (m : ℕ) (r : Record) (J : List Record) (o : Option ReplicaCore)
     → actor_eq r.actor (Replica m) ≡ false → IsCoreIfAny g J m o → IsCoreIfAny g (r ∷ J) m o
 any_stays g m r J None other h = tt
 any_stays g m r J (Some core) other h = core_stays g m r J core other h
 
-pub core_takes : (g : Group) (r : Record) (J : List Record) (k m : ℕ) (old new : ReplicaView) (before after : Option ReplicaView)
+pub core_takes : (g : Group) (r : Record) (J : List Record) (k m : ℕ) (old new : ReplicaCore) (before after : Option ReplicaCore)
     → r.actor ≡ Replica m → (m ≡ k → before ≡ Some old) → after ≡ cond (eqb m k) (Some new) before
     → (IsCore g J m old → IsCore g (r ∷ J) m new) → IsCoreIfAny g J k before → IsCoreIfAny g (r ∷ J) k after
 core_takes g r J k m old new before after by found is taken h = elim (cases_Bool (eqb m k)) [
@@ -81,7 +81,7 @@ core_takes g r J k m old new before after by found is taken h = elim (cases_Bool
       (any_stays g k r J before (ap (λ (a : Actor). actor_eq a (Replica k)) by ∙ other) h)
 ]
 
-pub core_put : (g : Group) (J : List Record) (k m : ℕ) (core : ReplicaView) (before after : Option ReplicaView) → after ≡ cond (eqb m k) (Some core) before
+pub core_put : (g : Group) (J : List Record) (k m : ℕ) (core : ReplicaCore) (before after : Option ReplicaCore) → after ≡ cond (eqb m k) (Some core) before
     → IsCore g J m core → IsCoreIfAny g J k before → IsCoreIfAny g J k after
 core_put g J k m core before after is at h = elim (cases_Bool (eqb m k)) [
   | inl same ↦
@@ -89,7 +89,7 @@ core_put g J k m core before after is at h = elim (cases_Bool (eqb m k)) [
   | inr other ↦ subst (IsCoreIfAny g J k) (sym (is ∙ ap (λ b. cond b (Some core) before) other)) h
 ]
 
-pub core_absent : (g : Group) (r : Record) (J : List Record) (k m : ℕ) (before : Option ReplicaView)
+pub core_absent : (g : Group) (r : Record) (J : List Record) (k m : ℕ) (before : Option ReplicaCore)
     → r.actor ≡ Replica m → (m ≡ k → before ≡ None) → IsCoreIfAny g J k before → IsCoreIfAny g (r ∷ J) k before
 core_absent g r J k m before by none h = elim (cases_Bool (eqb m k)) [
   | inl same ↦ subst (IsCoreIfAny g (r ∷ J) k) (sym (none (eqb-true m k same))) tt

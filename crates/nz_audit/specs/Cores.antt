@@ -5,20 +5,20 @@ use Rattle.nz_machine.specs.declared.event.Record.{Record}
 use Rattle.nz_machine.specs.declared.journal.Journal.{Journal}
 use Rattle.nz_machine.specs.State.{Group}
 use Rattle.nz_machine.specs.World.{state_after}
-use Rattle.nz_replica.specs.Seats.{ReplicaView}
+use Rattle.nz_replica.specs.Models.{ReplicaCore}
 
 -- The run up to this many records of a journal.
 abbrev pub run_up_to : Journal → ℕ → List Record
 run_up_to journal count = reverse (take count journal.records)
 
 -- The core is this replica after the records, and has not run out of memory.
-pub record IsCore (g : Group) (J : List Record) (me : ℕ) (core : ReplicaView) : Type 0 where
+pub record IsCore (g : Group) (J : List Record) (me : ℕ) (core : ReplicaCore) : Type 0 where
   pub live : core.live ≡ true
   pub cluster : g.f ≡ core.f
-  pub number : core.seat.me ≡ me
-  pub state : core.seat.state ≡ state_after g (Replica me) J
+  pub number : core.model.me ≡ me
+  pub state : core.model.state ≡ state_after g (Replica me) J
 
 -- The same of a replica that may not be followed.
-abbrev pub IsCoreIfAny : Group → List Record → ℕ → Option ReplicaView → Type 0
+abbrev pub IsCoreIfAny : Group → List Record → ℕ → Option ReplicaCore → Type 0
 IsCoreIfAny g J me None = Unit {0}
 IsCoreIfAny g J me (Some core) = IsCore g J me core

@@ -14,7 +14,7 @@ use Rattle.nz_machine.specs.Journals.{group_in}
 use Rattle.nz_machine.specs.State.{Group}
 use Rattle.nz_machine.specs.World.{state_after, World}
 use Rattle.nz_machine.specs.ClientProgress.{AreAfter}
-use Rattle.nz_replica.specs.Seats.{ReplicaView}
+use Rattle.nz_replica.specs.Models.{ReplicaCore}
 use Rattle.nz_machine.specs.History.{parcel_eq, older_or, source, log_at, history}
 use Rattle.nz_audit.specs.declared.source.Source.{Source}
 use Rattle.nz_audit.specs.declared.noting.Noted.{Noted}
@@ -26,7 +26,7 @@ use Rattle.nz_audit.specs.Memories.{memory}
 use Rattle.nz_audit.specs.Cores.{IsCoreIfAny, run_up_to}
 
 -- It has not run out of memory.
-abbrev pub IsLive : Option ReplicaView → Type 0
+abbrev pub IsLive : Option ReplicaCore → Type 0
 IsLive None = Unit {0}
 IsLive (Some core) = core.live ≡ true
 

@@ -12,7 +12,7 @@ use Rattle.nz_machine.specs.declared.event.Parcel.{Parcel}
 use Rattle.nz_machine.specs.State.{ClientData, Group, Out}
 use Rattle.nz_machine.specs.Step.{is_in_cluster, is_sized, message_vector, envelope_for, accepted_envelope}
 use Rattle.nz_machine.specs.Step.{if_from_cluster, envelope_step, client_message, script_of}
-use Rattle.nz_client.specs.Seats.{ClientSeat, IsClientInGroup}
+use Rattle.nz_client.specs.Models.{ClientModel, IsClientInGroup}
 
 -- what is passed over changes nothing
 pub idle : (g : Group) (me : ℕ) (s : ClientData) (e : Envelope) (b : Bool) → client_message g.window g.proxies me (script_of g me) s e.from e.message ≡ (s, [])
@@ -46,12 +46,12 @@ takes_all g me s (Proxy p) to (StateAsk b) = idle g me s _ _ refl
 takes_all g me s (Proxy p) to (StateTell b) = idle g me s _ _ refl
 
 -- what a client does with a parcel that it hears
-pub delivered : (g : Group) (seat : ClientSeat) (p : Parcel) (e : Envelope) → IsClientInGroup g seat → envelope_for (Client seat.me) p ≡ Some e
-    → envelope_step g (Client seat.me) seat.state (accepted_envelope g.f (Client seat.me) p)
-    ≡ client_message seat.window seat.proxies seat.me seat.script seat.state e.from e.message
-delivered g seat p e is h =
-    ap (λ (o : Option Envelope). envelope_step g (Client seat.me) seat.state (if_from_cluster g.f o)) h
-    ∙ takes_all g seat.me seat.state e.from e.to e.message
-    ∙ ap (λ (n : ℕ). client_message n g.proxies seat.me (script_of g seat.me) seat.state e.from e.message) (sym is.window)
-    ∙ ap (λ (n : ℕ). client_message seat.window n seat.me (script_of g seat.me) seat.state e.from e.message) (sym is.proxies)
-    ∙ ap (λ (script : List RequestModel). client_message seat.window seat.proxies seat.me script seat.state e.from e.message) (sym is.script)
+pub delivered : (g : Group) (model : ClientModel) (p : Parcel) (e : Envelope) → IsClientInGroup g model → envelope_for (Client model.me) p ≡ Some e
+    → envelope_step g (Client model.me) model.state (accepted_envelope g.f (Client model.me) p)
+    ≡ client_message model.window model.proxies model.me model.script model.state e.from e.message
+delivered g model p e is h =
+    ap (λ (o : Option Envelope). envelope_step g (Client model.me) model.state (if_from_cluster g.f o)) h
+    ∙ takes_all g model.me model.state e.from e.to e.message
+    ∙ ap (λ (n : ℕ). client_message n g.proxies model.me (script_of g model.me) model.state e.from e.message) (sym is.window)
+    ∙ ap (λ (n : ℕ). client_message model.window n model.me (script_of g model.me) model.state e.from e.message) (sym is.proxies)
+    ∙ ap (λ (script : List RequestModel). client_message model.window model.proxies model.me script model.state e.from e.message) (sym is.script)

@@ -14,7 +14,7 @@ use Rattle.nz_machine.specs.State.{ClientData, Out}
 use Rattle.nz_machine.specs.Clients.{if_due, after_opening, open_next, fill_places, is_overdue}
 use Rattle.nz_machine.specs.Clients.{attempt_after_wait, retry, retries, is_open, without_attempt}
 use Rattle.nz_machine.specs.Step.{parcel}
-use Rattle.nz_client.specs.Seats.{ClientSeat, IsOfProxies}
+use Rattle.nz_client.specs.Models.{ClientModel, IsOfProxies}
 
 -- ---- without an open request there is at least one less
 
@@ -133,7 +133,7 @@ all_retried me proxies script xs i before now past h =
 -- ---- the free places, one at a time
 
 -- after this many of the free places, the others leave what all of them do
-pub record IsFilling (s t : ClientSeat) (free done : ℕ) (before now : List Parcel) : Type 0 where
+pub record IsFilling (s t : ClientModel) (free done : ℕ) (before now : List Parcel) : Type 0 where
   pub me : t.me ≡ s.me
   pub proxies : t.proxies ≡ s.proxies
   pub window : t.window ≡ s.window
@@ -151,13 +151,13 @@ opened_room proxies me x (Some r) =
 open_room : (proxies me : ℕ) (script : List Request) (x : ClientData) → length (open_next proxies me script x).0.attempts ≤ length x.attempts + 1
 open_room proxies me script x = opened_room proxies me x (if_due x.ticks (slice_get script x.sent))
 
-seat_opens : (a b : ClientSeat) → a.proxies ≡ b.proxies → a.me ≡ b.me → a.script ≡ b.script
+opens_same : (a b : ClientModel) → a.proxies ≡ b.proxies → a.me ≡ b.me → a.script ≡ b.script
     → open_next a.proxies a.me a.script b.state ≡ open_next b.proxies b.me b.script b.state
-seat_opens a b p m sc =
+opens_same a b p m sc =
     ap (λ (n : ℕ). open_next n a.me a.script b.state) p ∙ ap (λ (n : ℕ). open_next b.proxies n a.script b.state) m
     ∙ ap (λ (l : List Request). open_next b.proxies b.me l b.state) sc
 
-filling_by : (s t u : ClientSeat) (free done rest : ℕ) (before now after : List Parcel) → free - (done + 1) ≡ rest
+filling_by : (s t u : ClientModel) (free done rest : ℕ) (before now after : List Parcel) → free - (done + 1) ≡ rest
     → free - done ≡ suc rest → IsFilling s t free done before now
     → u ≡ record t { state = (open_next t.proxies t.me t.script t.state).0 }
     → after ≡ now ++ map (parcel (Client t.me)) (open_next t.proxies t.me t.script t.state).1
@@ -165,8 +165,8 @@ filling_by : (s t u : ClientSeat) (free done rest : ℕ) (before now after : Lis
 filling_by s t u free done rest before now after left was h state sends =
     let x = open_next s.proxies s.me s.script t.state in
     let f = parcel (Client s.me) in
-    let same : open_next t.proxies t.me t.script t.state ≡ x = sym (seat_opens s t (sym h.proxies) (sym h.me) (sym h.script)) in
-    let next : u.state ≡ x.0 = ap (λ (v : ClientSeat). v.state) state ∙ ap (λ (y : ClientData × List Out). y.0) same in
+    let same : open_next t.proxies t.me t.script t.state ≡ x = sym (opens_same s t (sym h.proxies) (sym h.me) (sym h.script)) in
+    let next : u.state ≡ x.0 = ap (λ (v : ClientModel). v.state) state ∙ ap (λ (y : ClientData × List Out). y.0) same in
     let sent : after ≡ now ++ map f x.1 =
     sends ∙ ap (λ (n : ℕ). now ++ map (parcel (Client n)) (open_next t.proxies t.me t.script t.state).1) h.me
     ∙ ap (λ (y : ClientData × List Out). now ++ map f y.1) same in
@@ -177,10 +177,10 @@ filling_by s t u free done rest before now after left was h state sends =
     let old_state = ap (λ (n : ℕ). (fill_places n s.proxies s.me s.script t.state).0) (sym was) ∙ h.state in
     let old_sends = ap (λ (n : ℕ). now ++ map f (fill_places n s.proxies s.me s.script t.state).1) (sym was) ∙ h.sends in
     record {
-      me = ap (λ (w : ClientSeat). w.me) state ∙ h.me;
-      proxies = ap (λ (w : ClientSeat). w.proxies) state ∙ h.proxies;
-      window = ap (λ (w : ClientSeat). w.window) state ∙ h.window;
-      script = ap (λ (w : ClientSeat). w.script) state ∙ h.script;
+      me = ap (λ (w : ClientModel). w.me) state ∙ h.me;
+      proxies = ap (λ (w : ClientModel). w.proxies) state ∙ h.proxies;
+      window = ap (λ (w : ClientModel). w.window) state ∙ h.window;
+      script = ap (λ (w : ClientModel). w.script) state ∙ h.script;
       room = omega (arith, room, one, long, left, was);
       state =
           ap (λ (n : ℕ). (fill_places n s.proxies s.me s.script u.state).0) left
@@ -192,7 +192,7 @@ filling_by s t u free done rest before now after left was h state sends =
     }
 
 -- one place more takes the next request
-pub filling_more : (s t u : ClientSeat) (free done : ℕ) (before now after : List Parcel) → done < free → IsFilling s t free done before now
+pub filling_more : (s t u : ClientModel) (free done : ℕ) (before now after : List Parcel) → done < free → IsFilling s t free done before now
     → u ≡ record t { state = (open_next t.proxies t.me t.script t.state).0 }
     → after ≡ now ++ map (parcel (Client t.me)) (open_next t.proxies t.me t.script t.state).1
     → IsFilling s u free (done + 1) before after
@@ -200,7 +200,7 @@ filling_more s t u free done before now after lt h state sends =
     filling_by s t u free done (free - (done + 1)) before now after (omega (arith, lt)) (omega (arith, lt)) h state sends
 
 -- before the first place
-pub filling_none : (s : ClientSeat) (free : ℕ) (before : List Parcel) → free ≡ s.window - length s.state.attempts → length s.state.attempts ≤ s.window
+pub filling_none : (s : ClientModel) (free : ℕ) (before : List Parcel) → free ≡ s.window - length s.state.attempts → length s.state.attempts ≤ s.window
     → IsFilling s s free 0 before before
 filling_none s free before is few =
     record {
@@ -221,11 +221,11 @@ filling_none s free before is few =
     sent_by_all n e = ap (λ (k : ℕ). before ++ map (parcel (Client s.me)) (fill_places k s.proxies s.me s.script s.state).1) e
 
 -- after the last one all is done
-pub record IsFilled (s t : ClientSeat) (free : ℕ) (before now : List Parcel) : Type 0 where
+pub record IsFilled (s t : ClientModel) (free : ℕ) (before now : List Parcel) : Type 0 where
   pub state : t ≡ record s { state = (fill_places free s.proxies s.me s.script s.state).0 }
   pub sends : now ≡ before ++ map (parcel (Client s.me)) (fill_places free s.proxies s.me s.script s.state).1
 
-pub filling_all : (s t : ClientSeat) (free done : ℕ) (before now : List Parcel) → free ≤ done
+pub filling_all : (s t : ClientModel) (free done : ℕ) (before now : List Parcel) → free ≤ done
     → IsFilling s t free done before now → IsFilled s t free before now
 filling_all s t free done before now past h = filled_at (free - done) (omega (arith, past)) h.state h.sends
   where

@@ -1,2 +1,2 @@
 -- The modules of this crate's definitions.
-pub mod Seats
+pub mod Models

@@ -8,7 +8,7 @@ ghost use Rattle.nz_machine.specs.State.{Group};
 ghost use Rattle.nz_machine.specs.Clients as clients;
 ghost use Rattle.nz_machine.specs.Clients.{first_client};
 ghost use Rattle.nz_machine.specs.Step.{node_step, envelope_step, client_message, accepted_envelope, parcel};
-ghost use Rattle.nz_client.specs.Seats.{AreSendable, IsClientInGroup, IsSameClient, least_open};
+ghost use Rattle.nz_client.specs.Models.{AreSendable, IsClientInGroup, IsSameClient, least_open};
 
 use crate::state::{ClientState, accept_rule, wait_rule};
 use nz_base::{Actor, MAX_COMMAND, NoMemory, RequestList};
@@ -42,11 +42,11 @@ pub struct Client {
 }
 
 impl Model for Client {
-    ghost use Rattle.nz_client.specs.Seats.{ClientView};
+    ghost use Rattle.nz_client.specs.Models.{ClientCore};
 
-    ghost Value = { ClientView };
+    ghost Value = { ClientCore };
 
-    ghost view = { λ c. record { seat = c.state; live = c.live } };
+    ghost view = { λ c. record { model = c.state; live = c.live } };
 }
 
 impl Client {
@@ -58,7 +58,7 @@ impl Client {
         requires some { 1 ≤ window }
         requires narrow { window ≤ MAX_WINDOW }
         requires sendable { AreSendable script }
-        ensures { result ≡ record { seat = record { me = me; proxies = proxies; window = window; script = script; state = first_client }; live = true } }
+        ensures { result ≡ record { model = record { me = me; proxies = proxies; window = window; script = script; state = first_client }; live = true } }
     {
         Client {
             state: ClientState::new(alloc, me, proxies, window, script),
@@ -68,21 +68,21 @@ impl Client {
 
     /// The least number of an open request, if one is.
     pub fn open(&self) -> Option<u32>
-        ensures { result ≡ least_open self.now.seat.state.attempts }
+        ensures { result ≡ least_open self.now.model.state.attempts }
     {
         self.state.least_open()
     }
 
     /// Whether the request of this number is open.
     pub fn is_open(&self, num: u32) -> bool
-        ensures { result ≡ clients.is_open num self.now.seat.state.attempts }
+        ensures { result ≡ clients.is_open num self.now.model.state.attempts }
     {
         self.state.is_open(num)
     }
 
     /// How many requests were accepted.
     pub fn finished(&self) -> u32
-        ensures { result ≡ self.now.seat.state.accepted }
+        ensures { result ≡ self.now.model.state.accepted }
     {
         self.state.accepted()
     }
@@ -139,13 +139,13 @@ fn take(state: &mut ClientState, event: &Event, sends: &mut Sends) -> Result<(),
 
 impl Core for Client {
     ghost use Rattle.nz_base.specs.declared.actor.Actor.TheVariants as actors;
-    ghost use Rattle.nz_client.specs.Seats.{IsClientInGroup};
+    ghost use Rattle.nz_client.specs.Models.{IsClientInGroup};
 
-    ghost meaning = { λ c. record { actor = actors.Client c.seat.me; state = c.seat.state } };
+    ghost meaning = { λ c. record { actor = actors.Client c.model.me; state = c.model.state } };
 
     ghost live = { λ c. c.live };
 
-    ghost fits = { λ c g. IsClientInGroup g c.seat };
+    ghost fits = { λ c g. IsClientInGroup g c.model };
 
     fn step(&mut self, event: &Event) -> Result<Sends, NoMemory> {
         let mut sends = Sends::new(self.state.allocator());

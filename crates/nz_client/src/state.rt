@@ -10,8 +10,8 @@ ghost use Rattle.nz_machine.specs.Clients as clients;
 ghost use Rattle.nz_machine.specs.Clients.{first_client, if_due, after_opening, retries};
 ghost use Rattle.nz_machine.specs.Clients.{after_wait, request_again, without_attempt, after_acceptance};
 ghost use Rattle.nz_machine.specs.Step.{parcel};
-ghost use Rattle.nz_client.specs.Seats as seats;
-ghost use Rattle.nz_client.specs.Seats.{IsSendable, AreSendable, IsOfProxies, IsSameClient};
+ghost use Rattle.nz_client.specs.Models as models;
+ghost use Rattle.nz_client.specs.Models.{IsSendable, AreSendable, IsOfProxies, IsSameClient};
 
 use nz_base::{Actor, NoMemory, PATIENCE, Request, RequestList, TryCopy};
 use nz_machine::{Attempt, Sends, send};
@@ -36,9 +36,9 @@ pub struct ClientState {
 
 impl Model for ClientState {
     ghost use Rattle.std.specs.Prelude.{◌≤◌, length};
-    ghost use Rattle.nz_client.specs.Seats.{ClientSeat, IsInTurn};
+    ghost use Rattle.nz_client.specs.Models.{ClientModel, IsInTurn};
 
-    ghost Value = { ClientSeat };
+    ghost Value = { ClientModel };
 
     ghost view = { λ s. record {
       me = s.me;
@@ -90,7 +90,7 @@ impl ClientState {
 
     /// The least number of an open request, if one is.
     pub fn least_open(&self) -> Option<u32>
-        ensures { result ≡ seats.least_open self.now.state.attempts }
+        ensures { result ≡ models.least_open self.now.state.attempts }
     {
         match self.attempts.as_slice() {
             [] => None,

@@ -1,16 +1,16 @@
 -- What a fabric of one thread keeps.
-use Rattle.std.proofs.Common.{◌≡◌, ℕ, zero, suc, ◌+◌, ◌<◌, ◌≤◌, Bool, true, false, List, [], ◌∷◌, ◌++◌, length, map, Some, refl, sym, ap}
-use Rattle.std.proofs.Common.{◌∙◌, subst, arith, length-append, length-drop, take_all, take-append-drop, append-nil, append_assoc}
-use Rattle.std.specs.Prelude.{take, drop, reverse, slice_get}
+use Rattle.std.proofs.Common.{◌≡◌, ℕ, zero, suc, ◌+◌, ◌<◌, ◌≤◌, Bool, true, false, List, [], ◌∷◌, ◌++◌, length, map, refl, sym, ap}
+use Rattle.std.proofs.Common.{◌∙◌, subst, arith, add-one, length-append, length-drop, take_all, take-append-drop, append-nil, append_assoc}
+use Rattle.std.specs.Prelude.{take, drop, reverse}
 use Rattle.std.specs.List.{AllByRecursion}
 use Rattle.std.proofs.lemmas.List.{map-append, reverse-append, length-reverse, reverse-reverse, drop_all, take-append-le, drop-append-le}
 use Rattle.std.proofs.lemmas.Grind.{reverse_onto}
-use Rattle.std.proofs.lemmas.Option.{none-some, same_Some}
 use Rattle.nz_base.specs.declared.scenario.Scenario.{Scenario}
 use Rattle.nz_machine.specs.declared.event.Parcel.{Parcel}
 use Rattle.nz_machine.specs.declared.event.Record.{Record}
 use Rattle.nz_machine.specs.declared.journal.Item.{Item}
 use Rattle.nz_machine.specs.Schedule.{Posted, posted_by_run, posted_in, item_of, due, InOrderTo, IsPlayable}
+use Rattle.nz_machine.proofs.ListParts.{take_next}
 use Rattle.nz_fabric.specs.declared.turn.Turn.{Turn}
 use Rattle.nz_fabric.specs.declared.ticks.Ticks.{Ticks}
 use Rattle.nz_fabric.specs.Calendars.{Dates, StandsFor, HasPosted, posted_by}
@@ -54,11 +54,6 @@ held_start s t records room play new none =
 
 -- ---- one record more
 
-pub take_got : {X : Type 0} (xs : List X) (i : ℕ) (x : X) → slice_get xs i ≡ Some x → take (suc i) xs ≡ take i xs ++ x ∷ []
-take_got [] i x e = absurd (none-some x e)
-take_got (y ∷ xs) zero x e = ap (λ z. z ∷ []) (same_Some y x e)
-take_got (y ∷ xs) (suc i) x e = ap (λ zs. y ∷ zs) (take_got xs i x e)
-
 pub kept_record : (f : State) (turn : Turn) (sends : List Parcel) → IsKeptRun f → IsOpen f turn → IsKeptRun (with_recorded turn sends f)
 kept_record f turn sends k o =
     let taken = o.taken in
@@ -71,7 +66,8 @@ kept_record f turn sends k o =
           ap (map item_of) (reverse_onto f.here (record_of_turn turn sends) [])
           ∙ map-append item_of (reverse f.here) (record_of_turn turn sends ∷ [])
           ∙ ap (λ (is : List Item). is ++ item_in turn ∷ []) k.in_order
-          ∙ sym (take_got f.items (length f.here) (item_in turn) o.is_next.item);
+          ∙ sym (take_next f.items (length f.here) (item_in turn) o.is_next.item)
+          ∙ ap (λ (n : ℕ). take n f.items) (add-one (length f.here));
       next = k.next;
       least = omega (arith, taken);
       most = omega (arith, taken);

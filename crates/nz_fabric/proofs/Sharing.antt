@@ -18,7 +18,7 @@ use Rattle.nz_fabric.specs.States.{State, records_of, IsNew, record_of_turn, wit
 use Rattle.nz_fabric.specs.States.{after_tick, IsBegunAs, IsPosted, state_of, state_in, HasBegun}
 use Rattle.nz_fabric.specs.Calendars.{Dates}
 use Rattle.nz_fabric.specs.Shared.{shared_with, item_running, turn_of, IsOver, IsAccounted, IsBooked}
-use Rattle.nz_fabric.proofs.Held.{take_got, no_records, begun_next, state_record, next_is, posted_start, posted_grow, posted_next}
+use Rattle.nz_fabric.proofs.Held.{no_records, begun_next, state_record, next_is, posted_start, posted_grow, posted_next}
 
 -- ---- the start
 
@@ -69,9 +69,7 @@ accounted_taken : (s : Scenario) (f : State) (running : List Running) (o : Runni
     → IsAccounted s (shared_with f running) → f.next < length f.items → slice_get f.items f.next ≡ Some o.item
     → IsAccounted s (shared_with (with_taken f) (running ++ o ∷ []))
 accounted_taken s f running o k lt is =
-    let grown : take (f.next + 1) f.items ≡ take f.next f.items ++ o.item ∷ [] =
-    (let one : suc f.next ≡ f.next + 1 = omega arith in
-    subst (λ (n : ℕ). take n f.items ≡ take f.next f.items ++ o.item ∷ []) one (take_got f.items f.next o.item is)) in
+    let grown : take (f.next + 1) f.items ≡ take f.next f.items ++ o.item ∷ [] = take_next f.items f.next o.item is in
     record {
       scenario = k.scenario;
       playable = k.playable;

@@ -31,11 +31,11 @@ use Rattle.nz_machine.proofs.Moments.{at_world}
 use Rattle.nz_machine.proofs.Sources.{has_source, source_is}
 use Rattle.nz_machine.proofs.ReadShows.{was_sent, shown_by}
 use Rattle.nz_machine.proofs.WordsKeepFacts.{own_carried}
-use Rattle.nz_laws_cv.proofs.Turns.{Seat, Grown, Same, More, Anew, Going, MayStart, Turn, Stays, Release, Merge, Sync, Tally, Enter, Follow}
+use Rattle.nz_laws_cv.proofs.Turns.{TurnState, Grown, Same, More, Anew, Going, MayStart, Turn, Stays, Release, Merge, Sync, Tally, Enter, Follow}
 use Rattle.nz_laws_cv.proofs.Turns.{Answer, Collect, Begin, Start, Fall, Wake, HearVector, Count, HearView, Forget, AskLog, Return, Back}
 use Rattle.nz_laws_cv.proofs.TurnRules.{up_kinds, changing_is, heard_by}
 use Rattle.nz_laws_cv.proofs.Hearing.{hears_fit}
-use Rattle.nz_laws_cv.proofs.Steps.{seat_at, Acts, Rests, steps}
+use Rattle.nz_laws_cv.proofs.Steps.{turn_state_at, Acts, Rests, steps}
 use Rattle.nz_laws_cv.proofs.Modes.{IsSound, collects_low, up_no_rejoin}
 use Rattle.nz_laws_cv.proofs.WithinIncarnation.{sound_at}
 use Rattle.nz_laws_cv.proofs.SentShows as letters
@@ -46,10 +46,10 @@ use Rattle.nz_laws_commit.specs.Does as ways
 use Rattle.nz_laws_commit.specs.Instance.{status_of, states_of}
 use Rattle.nz_laws_commit.proofs.Instance.{normal_status, up_status, status_up, down_status, is_normal_at}
 
--- ---- what the laws read of a seat
+-- ---- what the laws read of a turn state
 
-abbrev pub log_seat : Seat → LogState
-log_seat s = record { status = status_of s.status; view = s.view; last = s.last; synced = s.log.synced; log = s.log.entries; vector = s.vector }
+abbrev pub log_state_in : TurnState → LogState
+log_state_in s = record { status = status_of s.status; view = s.view; last = s.last; synced = s.log.synced; log = s.log.entries; vector = s.vector }
 
 up_not_down : (a : Status) → is_up a ≡ true → status_of a ≡ Down → ⊥
 up_not_down statuses.Normal up is = cc
@@ -69,7 +69,7 @@ differ a b apart = elim (cases_Bool (eqb a b)) [ inl e ↦ absurd (apart (eqb-tr
 -- ---- what is known before the record
 
 -- the log is sound, and a leader has all of it synced
-pub record KnowsLog (f y : ℕ) (s : Seat) : Type 0 where
+pub record KnowsLog (f y : ℕ) (s : TurnState) : Type 0 where
   pub sound : logs.IsSound s.log
   pub led : is_normal s.status ≡ true → eqb (leader_of f s.view) y ≡ true → s.log.synced ≡ length s.log.entries
 
@@ -91,38 +91,38 @@ pub record IsToldLog (g : Group) (K : List Record) (sender named : ℕ) (list : 
 
 -- ---- released entries
 
-grown_keys : (f y : ℕ) (s : Seat) (log : Log) → Grown f y s log → IsPrefix (keys_of s.log.entries) (keys_of log.entries)
+grown_keys : (f y : ℕ) (s : TurnState) (log : Log) → Grown f y s log → IsPrefix (keys_of s.log.entries) (keys_of log.entries)
 grown_keys f y s _ Same = prefix_self (keys_of s.log.entries)
 grown_keys f y s _ (More log normal follows more) = prefix_map (λ (e : Entry). e.key) s.log.entries log.entries more.entries
 
-grown_synced : (f y : ℕ) (s : Seat) (log : Log) → Grown f y s log → log.synced ≡ s.log.synced
+grown_synced : (f y : ℕ) (s : TurnState) (log : Log) → Grown f y s log → log.synced ≡ s.log.synced
 grown_synced f y s _ Same = refl
 grown_synced f y s _ (More log normal follows more) = more.follows refl
 
 -- ---- each turn
 
-module _ (g : Group) (y : ℕ) (r : Record) (K : List Record) (knows : KnowsLog g.f y (seat_at g y K)) (sound : IsSound g.f (seat_at g y K))
+module _ (g : Group) (y : ℕ) (r : Record) (K : List Record) (knows : KnowsLog g.f y (turn_state_at g y K)) (sound : IsSound g.f (turn_state_at g y K))
     (mods : (sender : ℕ) (b : LogModBody) → heard_by g y r.event ≡ Some (Replica sender, messages.LogMod b) → IsToldMod g K sender b)
     (starts : (sender : ℕ) (b : StartViewBody) → heard_by g y r.event ≡ Some (Replica sender, messages.StartView b) → IsToldLog g K sender b.view b.entries)
     (tells : (sender : ℕ) (b : StateTellBody) → heard_by g y r.event ≡ Some (Replica sender, messages.StateTell b) → IsToldLog g K sender b.view b.entries)
   where
-    abbrev s : Seat
-    s = seat_at g y K
+    abbrev s : TurnState
+    s = turn_state_at g y K
 
     abbrev DoesHere : Type 0
     DoesHere = Does (states_of g) y r K
 
-    unchanged : (t : Seat) → seat_at g y (r ∷ K) ≡ t → IsUnchanged (log_seat s) (log_seat t) → DoesHere
-    unchanged t is h = ways.Stays (subst (λ (u : Seat). IsUnchanged (log_seat s) (log_seat u)) (sym is) h)
+    unchanged : (t : TurnState) → turn_state_at g y (r ∷ K) ≡ t → IsUnchanged (log_state_in s) (log_state_in t) → DoesHere
+    unchanged t is h = ways.Stays (subst (λ (u : TurnState). IsUnchanged (log_state_in s) (log_state_in u)) (sym is) h)
 
-    entered : (t : Seat) → seat_at g y (r ∷ K) ≡ t → Enters (log_seat s) (log_seat t) → DoesHere
-    entered t is h = ways.Entered (subst (λ (u : Seat). Enters (log_seat s) (log_seat u)) (sym is) h)
+    entered : (t : TurnState) → turn_state_at g y (r ∷ K) ≡ t → Enters (log_state_in s) (log_state_in t) → DoesHere
+    entered t is h = ways.Entered (subst (λ (u : TurnState). Enters (log_state_in s) (log_state_in u)) (sym is) h)
 
-    synced : (t : Seat) → seat_at g y (r ∷ K) ≡ t → Syncs (states_of g) y K (log_seat s) (log_seat t) → DoesHere
-    synced t is h = ways.Synced (subst (λ (u : Seat). Syncs (states_of g) y K (log_seat s) (log_seat u)) (sym is) h)
+    synced : (t : TurnState) → turn_state_at g y (r ∷ K) ≡ t → Syncs (states_of g) y K (log_state_in s) (log_state_in t) → DoesHere
+    synced t is h = ways.Synced (subst (λ (u : TurnState). Syncs (states_of g) y K (log_state_in s) (log_state_in u)) (sym is) h)
 
-    adopted : (t : Seat) → seat_at g y (r ∷ K) ≡ t → AdoptsLog (states_of g) y K (log_seat s) (log_seat t) → DoesHere
-    adopted t is h = ways.Adopted (subst (λ (u : Seat). AdoptsLog (states_of g) y K (log_seat s) (log_seat u)) (sym is) h)
+    adopted : (t : TurnState) → turn_state_at g y (r ∷ K) ≡ t → AdoptsLog (states_of g) y K (log_state_in s) (log_state_in t) → DoesHere
+    adopted t is h = ways.Adopted (subst (λ (u : TurnState). AdoptsLog (states_of g) y K (log_state_in s) (log_state_in u)) (sym is) h)
 
     told_by : (sender leader : ℕ) (b : LogModBody) → sender ≡ leader → IsToldMod g K sender b → IsToldMod g K leader b
     told_by sender leader b is h = subst (λ (z : ℕ). IsToldMod g K z b) is h
@@ -133,10 +133,10 @@ module _ (g : Group) (y : ℕ) (r : Record) (K : List Record) (knows : KnowsLog 
       | inr changing ↦ let low = sound.changing changing in let later = may.later in omega (arith, low, later)
     ]
 
-    pub turn_is : (t : Seat) → Turn g.f y r.event (heard_by g y r.event) s t → seat_at g y (r ∷ K) ≡ t → DoesHere
+    pub turn_is : (t : TurnState) → Turn g.f y r.event (heard_by g y r.event) s t → turn_state_at g y (r ∷ K) ≡ t → DoesHere
     turn_is _ Stays is = unchanged _ is (record { status = refl; view = refl; last = refl; synced = refl; log = refl })
     turn_is _ (Release log normal more) is =
-        ways.Released (subst (λ (u : Seat). Releases g.f y (log_seat s) (log_seat u)) (sym is) (record {
+        ways.Released (subst (λ (u : TurnState). Releases g.f y (log_state_in s) (log_state_in u)) (sym is) (record {
           before = normal_status s.status normal;
           after = normal_status s.status normal;
           view = refl;
@@ -200,7 +200,7 @@ module _ (g : Group) (y : ℕ) (r : Record) (K : List Record) (knows : KnowsLog 
     turn_is _ (Collect sender b new may _ (Going same changing)) is =
         unchanged _ is (record { status = sym (ap status_of (changing_is s.status changing)); view = sym same; last = refl; synced = refl; log = refl })
     turn_is _ (Begin sender b new may base on full) is =
-        ways.Began (subst (λ (u : Seat). BeginsView (states_of g) y (log_seat s) (log_seat u)) (sym is) (record {
+        ways.Began (subst (λ (u : TurnState). BeginsView (states_of g) y (log_state_in s) (log_state_in u)) (sym is) (record {
           before = up_status s.status may.up;
           after = refl;
           leads = may.leads;
@@ -223,9 +223,9 @@ module _ (g : Group) (y : ℕ) (r : Record) (K : List Record) (knows : KnowsLog 
           leader = is_normal_at g (leader_of g.f b.view) b.view told.told told.normal told.view;
           log = ap keys_of (sym told.entries);
         })
-    turn_is _ (Fall e) is = ways.Fell (ap (λ (u : Seat). status_of u.status) is)
+    turn_is _ (Fall e) is = ways.Fell (ap (λ (u : TurnState). status_of u.status) is)
     turn_is _ (Wake nonce e down) is =
-        ways.Rose (subst (λ (u : Seat). Restarts (states_of g) r (log_seat s) (log_seat u)) (sym is)
+        ways.Rose (subst (λ (u : TurnState). Restarts (states_of g) r (log_state_in s) (log_state_in u)) (sym is)
         (record { before = down_status s.status down; after = refl; event = ap is_restart e }))
     turn_is _ (HearVector sender b new ours) is = unchanged _ is (record { status = refl; view = refl; last = refl; synced = refl; log = refl })
     turn_is _ (Count sender b new ours enough) is = unchanged _ is (record { status = refl; view = refl; last = refl; synced = refl; log = refl })
@@ -251,7 +251,7 @@ module _ (g : Group) (y : ℕ) (r : Record) (K : List Record) (knows : KnowsLog 
 
 -- ---- what is known in every run
 
-knows_log : (g : Group) (y : ℕ) (K : List Record) → World g K → KnowsLog g.f y (seat_at g y K)
+knows_log : (g : Group) (y : ℕ) (K : List Record) → World g K → KnowsLog g.f y (turn_state_at g y K)
 knows_log g y K w =
     let facts : HasFacts g.f y (replica_at g y K) = (all_fit g K w).states (Replica y) in
     let carried = own_carried g.f y (replica_at g y K) facts in
@@ -298,10 +298,10 @@ told_state g y r K w a sender b heard =
 -- ---- the premises on the rules
 
 turn_does : (g : Group) (y : ℕ) (r : Record) (K : List Record) → World g (r ∷ K) → r.actor ≡ Replica y
-    → Turn g.f y r.event (heard_by g y r.event) (seat_at g y K) (seat_at g y (r ∷ K)) → Does (states_of g) y r K
+    → Turn g.f y r.event (heard_by g y r.event) (turn_state_at g y K) (turn_state_at g y (r ∷ K)) → Does (states_of g) y r K
 turn_does g y r K w a turn =
     turn_is g y r K (knows_log g y K w.1) (sound_at g K w.1 y) (told_mod g y r K w a) (told_start g y r K w a) (told_state g y r K w a)
-    (seat_at g y (r ∷ K)) turn refl
+    (turn_state_at g y (r ∷ K)) turn refl
 
 -- each record of a replica
 pub record_does : (g : Group) (J : List Record) → World g J → (y : ℕ) (r : Record) (K : List Record) → At J (r ∷ K) → actor_eq r.actor (Replica y) ≡ true

@@ -8,7 +8,7 @@ use Rattle.nz_log.specs.Synced.{Log}
 use Rattle.nz_machine.specs.State.{ReplicaData, Out}
 use Rattle.nz_machine.specs.Replicas.{is_normal, leads}
 use Rattle.nz_machine.specs.Releases.{log_with_entry, after_release, releases, release_rule, may_release, at_clock}
-use Rattle.nz_laws_cv.proofs.Turns.{seat_of, holding, Appends}
+use Rattle.nz_laws_cv.proofs.Turns.{turn_state, holding, Appends}
 
 -- one entry more
 
@@ -32,31 +32,32 @@ appends_then led log e c rest = record {
 
 -- what is released
 pub record IsRelease (f me : ℕ) (s t : ReplicaData) : Type 0 where
-  pub seat : seat_of t ≡ holding (seat_of s) t.log
+  pub state : turn_state t ≡ holding (turn_state s) t.log
   pub log : Appends (leads f me s) s.log t.log
 
 pub releases_are : (f me : ℕ) (s : ReplicaData) (es : List Entry) → IsRelease f me s (releases f me s es).0
 unfolding releases
-releases_are f me s [] = record { seat = refl; log = appends_none (leads f me s) s.log }
+releases_are f me s [] = record { state = refl; log = appends_none (leads f me s) s.log }
 releases_are f me s (e ∷ es) =
     cond_both (may_release s e) _ (s, []) (λ (t : ReplicaData × List Out). IsRelease f me s t.0)
     (λ _. let rest = releases_are f me (after_release f me s e es) es in record {
-      seat = rest.seat;
+      state = rest.state;
       log = appends_then (leads f me s) s.log e (releases f me (after_release f me s e es) es).0.log rest.log;
     })
-    (λ _. record { seat = refl; log = appends_none (leads f me s) s.log })
+    (λ _. record { state = refl; log = appends_none (leads f me s) s.log })
 
 pub release_is : (f me : ℕ) (s : ReplicaData) (clock : ℕ) → IsRelease f me s (release_rule f me s clock).0
 unfolding release_rule
 release_is f me s clock =
     cond_both (is_normal s.status) (releases f me (at_clock s clock) s.early) (at_clock s clock, []) (λ (t : ReplicaData × List Out). IsRelease f me s t.0)
-    (λ _. let all = releases_are f me (at_clock s clock) s.early in record { seat = all.seat; log = all.log })
-    (λ _. record { seat = refl; log = appends_none (leads f me s) s.log })
+    (λ _. let all = releases_are f me (at_clock s clock) s.early in record { state = all.state; log = all.log })
+    (λ _. record { state = refl; log = appends_none (leads f me s) s.log })
 
 -- out of normal operation nothing is released
-pub no_release : (f me : ℕ) (s : ReplicaData) (clock : ℕ) → is_normal s.status ≡ false → seat_of (release_rule f me s clock).0 ≡ seat_of s
+pub no_release : (f me : ℕ) (s : ReplicaData) (clock : ℕ) → is_normal s.status ≡ false → turn_state (release_rule f me s clock).0 ≡ turn_state s
 unfolding release_rule
 no_release f me s clock h =
-    cond_both (is_normal s.status) (releases f me (at_clock s clock) s.early) (at_clock s clock, []) (λ (t : ReplicaData × List Out). seat_of t.0 ≡ seat_of s)
+    cond_both (is_normal s.status) (releases f me (at_clock s clock) s.early) (at_clock s clock, [])
+    (λ (t : ReplicaData × List Out). turn_state t.0 ≡ turn_state s)
     (λ normal. true_and_false (is_normal s.status) normal h)
     (λ _. refl)

@@ -15,10 +15,10 @@ use Rattle.nz_machine.specs.Incarnations.{replica_at}
 use Rattle.nz_machine.specs.Leading.{leader_at, is_led}
 use Rattle.nz_machine.specs.Begun.{report_parcel, IsMemberOf}
 use Rattle.nz_machine.proofs.Sources.{has_source, source_is}
-use Rattle.nz_laws_cv.proofs.Turns.{Seat}
+use Rattle.nz_laws_cv.proofs.Turns.{TurnState}
 use Rattle.nz_laws_cv.proofs.TurnRules.{heard_by}
 use Rattle.nz_laws_cv.proofs.Hearing.{hears_fit}
-use Rattle.nz_laws_cv.proofs.Steps.{seat_at}
+use Rattle.nz_laws_cv.proofs.Steps.{turn_state_at}
 use Rattle.nz_laws_cv.proofs.Modes.{collects_low}
 use Rattle.nz_laws_cv.proofs.WithinIncarnation.{sound_at}
 use Rattle.nz_laws_cv.proofs.SentShows.{Shows}
@@ -37,15 +37,15 @@ pub begun_log_is : (g : Group) (w : ℕ) (r : Record) (K : List Record) → Worl
 begun_log_is g w r K world led not_led =
     let l = leader_of g.f w in
     let b = begun_turn g w r K led not_led in
-    let view : b.body.view ≡ w = sym (ap (λ (s : Seat). s.view) b.is) ∙ (normal_in_is w (replica_at g l (r ∷ K)) led).1 in
+    let view : b.body.view ≡ w = sym (ap (λ (s : TurnState). s.view) b.is) ∙ (normal_in_is w (replica_at g l (r ∷ K)) led).1 in
     let later = b.may.later in
-    let low = collects_low g.f l r.event (heard_by g l r.event) (hears_fit g l r.event) (seat_at g l K) b.body.view _ b.base (sound_at g K world l)
+    let low = collects_low g.f l r.event (heard_by g l r.event) (hears_fit g l r.event) (turn_state_at g l K) b.body.view _ b.base (sound_at g K world l)
     b.may.up b.on in
     record {
-      entries = ap (λ (s : Seat). s.log.entries) b.is
+      entries = ap (λ (s : TurnState). s.log.entries) b.is
           ∙ ap (λ (changes : List Reported). merged g.f (own_change l (replica_at g l K) ∷ map (λ (x : Reported). x.change) changes))
-          (sym (ap (λ (s : Seat). s.changes) b.is));
-      synced = ap (λ (s : Seat). s.log.synced) b.is ∙ sym (ap (λ (s : Seat). length s.log.entries) b.is);
+          (sym (ap (λ (s : TurnState). s.changes) b.is));
+      synced = ap (λ (s : TurnState). s.log.synced) b.is ∙ sym (ap (λ (s : TurnState). length s.log.entries) b.is);
       up = b.may.up;
       view = omega (arith, view, later);
       last = omega (arith, view, low);

@@ -16,7 +16,7 @@ use Rattle.nz_machine.specs.Begins.{report_of}
 use Rattle.nz_machine.specs.World.{Has}
 use Rattle.nz_machine.specs.Hearing.{Heard}
 use Rattle.nz_math.specs.Count.{AreDistinct}
-use Rattle.nz_laws_cv.proofs.Turns.{Seat, fresh_changes, with_change, IsNew, Base, Anew, Going, Turn, Stays, Release, Merge, Sync, Tally, Enter, Follow}
+use Rattle.nz_laws_cv.proofs.Turns.{TurnState, fresh_changes, with_change, IsNew, Base, Anew, Going, Turn, Stays, Release, Merge, Sync, Tally, Enter, Follow}
 use Rattle.nz_laws_cv.proofs.Turns.{Answer, Collect, Begin, Start, Fall, Wake, HearVector, Count, HearView, Forget, AskLog, Return, Back}
 use Rattle.nz_laws_cv.proofs.TurnRules.{changing_up}
 use Rattle.nz_laws_cv.proofs.Hearing.{HearsFit}
@@ -55,7 +55,7 @@ module _ (f me : ℕ) (Sent : ℕ → Message → Type 0) where
     pub each : (r : Reported) → Has changes r → IsReported view v r
 
   -- of a state in a view change
-  pub record HasReports (s : Seat) : Type 0 where
+  pub record HasReports (s : TurnState) : Type 0 where
     pub reports : is_changing s.status ≡ true → AreReports s.view s.vector s.changes
 
   pub no_reports : (view : ℕ) (v : List ℕ) → AreReports view v []
@@ -69,7 +69,7 @@ module _ (f me : ℕ) (Sent : ℕ → Message → Type 0) where
 
   module _ (e : Event) (heard : Heard) (fit : HearsFit f me heard) (sent : HearsSent Sent me heard) (in_group : me < replica_count f) where
     -- those that are not stray for the merged vector
-    fresh_reports : (s : Seat) (sender : ℕ) (m : Message) (u : List ℕ) → IsSound f s → IsNew heard s sender m u → AreReports s.view s.vector s.changes
+    fresh_reports : (s : TurnState) (sender : ℕ) (m : Message) (u : List ℕ) → IsSound f s → IsNew heard s sender m u → AreReports s.view s.vector s.changes
         → AreReports s.view (merged_vector s.vector u me) (fresh_changes s.changes (merged_vector s.vector u me))
     fresh_reports s sender m u sound new h =
         let v = merged_vector s.vector u me in
@@ -89,7 +89,7 @@ module _ (f me : ℕ) (Sent : ℕ → Message → Type 0) where
               };
         }
 
-    base_reports : (s : Seat) (sender : ℕ) (b : ViewChangeBody) (base : List Reported) → IsSound f s → HasReports s
+    base_reports : (s : TurnState) (sender : ℕ) (b : ViewChangeBody) (base : List Reported) → IsSound f s → HasReports s
         → IsNew heard s sender (messages.ViewChange b) b.vector → Base s b.view (merged_vector s.vector b.vector me) base
         → AreReports b.view (merged_vector s.vector b.vector me) base
     base_reports s sender b _ sound h new (Anew later) = no_reports b.view (merged_vector s.vector b.vector me)
@@ -98,7 +98,7 @@ module _ (f me : ℕ) (Sent : ℕ → Message → Type 0) where
         (fresh_reports s sender (messages.ViewChange b) b.vector sound new (h.reports changing))
 
     -- the one that is heard: it was not stray, so what is merged has its sender's counter
-    new_report : (s : Seat) (sender : ℕ) (b : ViewChangeBody) → IsSound f s → IsNew heard s sender (messages.ViewChange b) b.vector
+    new_report : (s : TurnState) (sender : ℕ) (b : ViewChangeBody) → IsSound f s → IsNew heard s sender (messages.ViewChange b) b.vector
         → IsReported b.view (merged_vector s.vector b.vector me) (report_of sender b)
     new_report s sender b sound new = record {
       below = (fit.hears sender _ new.is).below;
@@ -123,7 +123,7 @@ module _ (f me : ℕ) (Sent : ℕ → Message → Type 0) where
     ]
 
     -- the reports with the one that is heard
-    pub collected : (s : Seat) (sender : ℕ) (b : ViewChangeBody) (base : List Reported) → IsSound f s → HasReports s
+    pub collected : (s : TurnState) (sender : ℕ) (b : ViewChangeBody) (base : List Reported) → IsSound f s → HasReports s
         → IsNew heard s sender (messages.ViewChange b) b.vector → Base s b.view (merged_vector s.vector b.vector me) base
         → AreReports b.view (merged_vector s.vector b.vector me) (with_change base sender b)
     collected s sender b base sound h new on =
@@ -133,7 +133,7 @@ module _ (f me : ℕ) (Sent : ℕ → Message → Type 0) where
           each = one_of b.view (merged_vector s.vector b.vector me) sender b base old (new_report s sender b sound new);
         }
 
-    pub reports_kept : (s t : Seat) → IsSound f s → Turn f me e heard s t → HasReports s → HasReports t
+    pub reports_kept : (s t : TurnState) → IsSound f s → Turn f me e heard s t → HasReports s → HasReports t
     reports_kept s _ sound Stays h = h
     reports_kept s _ sound (Release log normal more) h = record { reports = λ c. normal_no_change s.status normal c }
     reports_kept s _ sound (Sync sender b new hears le log changed) h = record { reports = λ c. normal_no_change s.status hears.normal c }
@@ -163,5 +163,6 @@ are_reports_stay f me P Q more view v changes h = record {
   each = λ r has. let k = h.each r has in record { below = k.below; other = k.other; sent = more _ _ k.sent; merged_in = k.merged_in; fresh = k.fresh };
 }
 
-pub reports_stay : (f me : ℕ) (P Q : ℕ → Message → Type 0) → ((y : ℕ) (m : Message) → P y m → Q y m) → (s : Seat) → HasReports f me P s → HasReports f me Q s
+pub reports_stay : (f me : ℕ) (P Q : ℕ → Message → Type 0) → ((y : ℕ) (m : Message) → P y m → Q y m) → (s : TurnState)
+    → HasReports f me P s → HasReports f me Q s
 reports_stay f me P Q more s h = record { reports = λ c. are_reports_stay f me P Q more s.view s.vector s.changes (h.reports c) }

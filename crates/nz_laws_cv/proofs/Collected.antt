@@ -19,14 +19,14 @@ use Rattle.nz_machine.specs.Replicas.{first_replica, is_normal, is_up, is_rejoin
 use Rattle.nz_machine.specs.World.{World}
 use Rattle.nz_machine.specs.Incarnations.{replica_at, incarnation}
 use Rattle.nz_machine.specs.Hearing.{Heard}
-use Rattle.nz_laws_cv.proofs.Turns.{Seat, seat_of, merging, starting, with_changes, with_change, begun_log, begun_commit, IsNew}
+use Rattle.nz_laws_cv.proofs.Turns.{TurnState, turn_state, merging, starting, with_changes, with_change, begun_log, begun_commit, IsNew}
 use Rattle.nz_laws_cv.proofs.Turns.{MayLead, Base, Awaits, Turn, Stays, Release, Merge, Sync, Tally, Enter, Follow, Answer, Collect}
 use Rattle.nz_laws_cv.proofs.Turns.{Begin, Start, Fall, Wake, HearVector, Count, HearView, Forget, AskLog, Return, Back}
 use Rattle.nz_laws_cv.proofs.TurnRules.{heard_by}
 use Rattle.nz_laws_cv.proofs.Hearing.{hears_fit}
-use Rattle.nz_laws_cv.proofs.Steps.{seat_at, Acts, Rests, steps}
+use Rattle.nz_laws_cv.proofs.Steps.{turn_state_at, Acts, Rests, steps}
 use Rattle.nz_laws_cv.proofs.Modes.{Goes, Settled, IsUp, IsRejoining, IsDown, standing, up_no_rejoin, up_no_down, rejoin_not_down, normal_no_rejoin}
-use Rattle.nz_laws_cv.proofs.WithinIncarnation.{sound_at, in_group, first_seat, inc_first, Woken, Fallen, Gone, passing, crashed_down}
+use Rattle.nz_laws_cv.proofs.WithinIncarnation.{sound_at, in_group, first_state, inc_first, Woken, Fallen, Gone, passing, crashed_down}
 use Rattle.nz_laws_cv.proofs.SentShows.{IsSent, sent_more, Shows, shows_before, was_sent}
 use Rattle.nz_laws_cv.proofs.Tellers.{HearsSent, HasTellers, first_tellers, tellers_kept, tellers_stay, log_settled}
 use Rattle.nz_laws_cv.proofs.ToldViews.{HasTells, first_tells, tells_kept, tells_stay}
@@ -38,13 +38,13 @@ use Rattle.nz_laws_cv.proofs.Changes.{HasReports, reports_kept, reports_stay}
 abbrev pub Sent : List Record → ℕ → ℕ → Message → Type 0
 Sent K m y message = IsSent K y m message
 
-pub record HasCollected (g : Group) (m : ℕ) (K : List Record) (s : Seat) : Type 0 where
+pub record HasCollected (g : Group) (m : ℕ) (K : List Record) (s : TurnState) : Type 0 where
   pub tellers : HasTellers g.f m (Sent K m) s
   pub tells : HasTells g.f m (Sent K m) s
   pub reports : HasReports g.f m (Sent K m) s
 
 -- after a record's sends
-pub collected_later : (g : Group) (m : ℕ) (r : Record) (J : List Record) (s : Seat) → HasCollected g m J s → HasCollected g m (r ∷ J) s
+pub collected_later : (g : Group) (m : ℕ) (r : Record) (J : List Record) (s : TurnState) → HasCollected g m J s → HasCollected g m (r ∷ J) s
 collected_later g m r J s h = record {
   tellers = tellers_stay g.f m (Sent J m) (Sent (r ∷ J) m) (λ y message sent. sent_more r J y m message sent) s h.tellers;
   tells = tells_stay g.f m (Sent J m) (Sent (r ∷ J) m) (λ y message sent. sent_more r J y m message sent) s h.tells;
@@ -55,14 +55,14 @@ pub hears_sent : (g : Group) (m : ℕ) (r : Record) (J : List Record) → World 
     → HearsSent (Sent (r ∷ J) m) m (heard_by g m r.event)
 hears_sent g m r J w a = record { sent = λ y message is. sent_more r J y m message (was_sent g m r J w a y message is) }
 
-first_collected : (g : Group) (m : ℕ) → HasCollected g m [] (seat_of (first_replica g.f))
+first_collected : (g : Group) (m : ℕ) → HasCollected g m [] (turn_state (first_replica g.f))
 first_collected g m = record { tellers = first_tellers g.f m (Sent [] m); tells = first_tells g.f m (Sent [] m); reports = record { reports = λ c. absurd cc } }
 
-pub collected_at : (g : Group) (m : ℕ) (J : List Record) → World g J → Shows g J → HasCollected g m J (seat_at g m J)
-collected_at g m [] w h = subst (HasCollected g m []) (sym (first_seat g m)) (first_collected g m)
+pub collected_at : (g : Group) (m : ℕ) (J : List Record) → World g J → Shows g J → HasCollected g m J (turn_state_at g m J)
+collected_at g m [] w h = subst (HasCollected g m []) (sym (first_state g m)) (first_collected g m)
 collected_at g m (r ∷ J) w h =
     let before = shows_before g r J h in
-    let old = collected_later g m r J (seat_at g m J) (collected_at g m J w.1 before) in
+    let old = collected_later g m r J (turn_state_at g m J) (collected_at g m J w.1 before) in
     elim (steps g m r J) [
       | Acts a turn ↦
           let fit = hears_fit g m r.event in
@@ -70,10 +70,11 @@ collected_at g m (r ∷ J) w h =
           let mine = in_group g m r.actor a w.0.member in
           let sound = sound_at g J w.1 m in
           record {
-            tellers = tellers_kept g.f m (Sent (r ∷ J) m) r.event (heard_by g m r.event) fit sent mine (seat_at g m J) (seat_at g m (r ∷ J))
+            tellers = tellers_kept g.f m (Sent (r ∷ J) m) r.event (heard_by g m r.event) fit sent mine (turn_state_at g m J) (turn_state_at g m (r ∷ J))
                 sound turn old.tellers;
-            tells = tells_kept g.f m (Sent (r ∷ J) m) r.event (heard_by g m r.event) fit sent mine (seat_at g m J) (seat_at g m (r ∷ J)) sound turn old.tells;
-            reports = reports_kept g.f m (Sent (r ∷ J) m) r.event (heard_by g m r.event) fit sent mine (seat_at g m J) (seat_at g m (r ∷ J))
+            tells = tells_kept g.f m (Sent (r ∷ J) m) r.event (heard_by g m r.event) fit sent mine (turn_state_at g m J) (turn_state_at g m (r ∷ J))
+                sound turn old.tells;
+            reports = reports_kept g.f m (Sent (r ∷ J) m) r.event (heard_by g m r.event) fit sent mine (turn_state_at g m J) (turn_state_at g m (r ∷ J))
                 sound turn old.reports;
           }
       | Rests e same ↦ subst (HasCollected g m (r ∷ J)) (sym same) old
@@ -82,7 +83,7 @@ collected_at g m (r ∷ J) w h =
 -- ---- how a replica becomes Normal
 
 module _ (f me : ℕ) (e : Event) (heard : Heard) where
-  pub record IsReturn (s t : Seat) : Type 0 where
+  pub record IsReturn (s t : TurnState) : Type 0 where
     pub sender : ℕ
     pub body : StateTellBody
     pub new : IsNew heard s sender (messages.StateTell body) body.vector
@@ -91,7 +92,7 @@ module _ (f me : ℕ) (e : Event) (heard : Heard) where
     pub leader : sender ≡ leader_of f body.view
     pub is : t ≡ starting (merging me s body.vector) body.view body.entries body.commit
 
-  pub returns : (s t : Seat) → Turn f me e heard s t → is_rejoining s.status ≡ true → is_normal t.status ≡ true → IsReturn s t
+  pub returns : (s t : TurnState) → Turn f me e heard s t → is_rejoining s.status ≡ true → is_normal t.status ≡ true → IsReturn s t
   returns s _ Stays r n = normal_no_rejoin s.status n r
   returns s _ (Release log normal more) r n = normal_no_rejoin s.status normal r
   returns s _ (Sync sender b new hears le log changed) r n = normal_no_rejoin s.status hears.normal r
@@ -113,7 +114,7 @@ module _ (f me : ℕ) (e : Event) (heard : Heard) where
   returns s _ (Return sender b new ours late leader) r n = record { sender = sender; body = b; new = new; ours = ours; late = late; leader = leader; is = refl }
   returns s _ (Back rejoining is) r n = normal_no_rejoin s.status n r
 
-  pub record IsBegun (s t : Seat) : Type 0 where
+  pub record IsBegun (s t : TurnState) : Type 0 where
     pub sender : ℕ
     pub body : ViewChangeBody
     pub new : IsNew heard s sender (messages.ViewChange body) body.vector
@@ -127,7 +128,7 @@ module _ (f me : ℕ) (e : Event) (heard : Heard) where
         (with_change base sender body)
 
   -- it was so before, begins a view that it leads, or follows the leader of a view
-  pub data Arrives (s t : Seat) : Type 0 where
+  pub data Arrives (s t : TurnState) : Type 0 where
     Was : is_normal s.status ≡ true → s.view ≡ t.view → Arrives s t
     Begins : IsBegun s t → Arrives s t
     Starts : (sender : ℕ) (b : StartViewBody) → heard ≡ Some (Replica sender, messages.StartView b) → sender ≡ leader_of f b.view → t.view ≡ b.view
@@ -135,7 +136,7 @@ module _ (f me : ℕ) (e : Event) (heard : Heard) where
     Returns : (sender : ℕ) (b : StateTellBody) → heard ≡ Some (Replica sender, messages.StateTell b) → sender ≡ leader_of f b.view → t.view ≡ b.view
         → Arrives s t
 
-  pub arrives : (s t : Seat) → Turn f me e heard s t → is_normal t.status ≡ true → Arrives s t
+  pub arrives : (s t : TurnState) → Turn f me e heard s t → is_normal t.status ≡ true → Arrives s t
   arrives s _ Stays n = Was n refl
   arrives s _ (Release log normal more) n = Was normal refl
   arrives s _ (Sync sender b new hears le log changed) n = Was hears.normal refl
@@ -161,10 +162,10 @@ module _ (f me : ℕ) (e : Event) (heard : Heard) where
 -- a record that completes a rejoin
 pub completing : (g : Group) (m : ℕ) (r : Record) (K : List Record) → is_rejoining (replica_at g m K).status ≡ true
     → is_normal (replica_at g m (r ∷ K)).status ≡ true
-    → IsReturn g.f m r.event (heard_by g m r.event) (seat_at g m K) (seat_at g m (r ∷ K))
+    → IsReturn g.f m r.event (heard_by g m r.event) (turn_state_at g m K) (turn_state_at g m (r ∷ K))
 completing g m r K rejoins normal = elim (steps g m r K) [
-  | Acts a turn ↦ returns g.f m r.event (heard_by g m r.event) (seat_at g m K) (seat_at g m (r ∷ K)) turn rejoins normal
-  | Rests e same ↦ normal_no_rejoin (replica_at g m K).status (sym (ap (λ (s : Seat). is_normal s.status) same) ∙ normal) rejoins
+  | Acts a turn ↦ returns g.f m r.event (heard_by g m r.event) (turn_state_at g m K) (turn_state_at g m (r ∷ K)) turn rejoins normal
+  | Rests e same ↦ normal_no_rejoin (replica_at g m K).status (sym (ap (λ (s : TurnState). is_normal s.status) same) ∙ normal) rejoins
 ]
 
 -- ---- incarnation 0, and the later ones
@@ -177,7 +178,8 @@ rejoining_at g m K = is_rejoining (replica_at g m K).status
 
 -- who rejoins is in a later one
 pub rejoins_later : (g : Group) (m : ℕ) (K : List Record) → World g K → rejoining_at g m K ≡ true → 0 < incarnation g m K
-rejoins_later g m [] w r = absurd (let c : is_rejoining (seat_at g m []).status ≡ false = ap (λ (s : Seat). is_rejoining s.status) (first_seat g m) in cc)
+rejoins_later g m [] w r =
+    absurd (let c : is_rejoining (turn_state_at g m []).status ≡ false = ap (λ (s : TurnState). is_rejoining s.status) (first_state g m) in cc)
 rejoins_later g m (r ∷ K) w rejoins = elim (passing g m r K w) [
   | Woken nonce a e down is inc ↦ omega (arith, inc)
   | Fallen is inc ↦ crashed_down g m (r ∷ K) is (rejoin_not_down (replica_at g m (r ∷ K)).status rejoins)
@@ -190,14 +192,14 @@ rejoins_later g m (r ∷ K) w rejoins = elim (passing g m r K w) [
 
 -- what a replica that is up was before
 pub data WasUp (g : Group) (m : ℕ) (r : Record) (K : List Record) : Type 0 where
-  StayedUp : up_at g m K ≡ true → incarnation g m (r ∷ K) ≡ incarnation g m K → Goes m (seat_at g m K) (seat_at g m (r ∷ K)) → WasUp g m r K
+  StayedUp : up_at g m K ≡ true → incarnation g m (r ∷ K) ≡ incarnation g m K → Goes m (turn_state_at g m K) (turn_state_at g m (r ∷ K)) → WasUp g m r K
   Rejoined : rejoining_at g m K ≡ true → is_normal (replica_at g m (r ∷ K)).status ≡ true → incarnation g m (r ∷ K) ≡ incarnation g m K
-      → Goes m (seat_at g m K) (seat_at g m (r ∷ K)) → WasUp g m r K
+      → Goes m (turn_state_at g m K) (turn_state_at g m (r ∷ K)) → WasUp g m r K
 
 pub was_up : (g : Group) (m : ℕ) (r : Record) (K : List Record) → World g (r ∷ K) → up_at g m (r ∷ K) ≡ true → WasUp g m r K
 was_up g m r K w up = elim (passing g m r K w) [
-  | Woken nonce a e down is inc ↦ true_and_false (up_at g m (r ∷ K)) up (ap (λ (s : Seat). is_up s.status) is)
-  | Fallen is inc ↦ true_and_false (up_at g m (r ∷ K)) up (ap (λ (s : Seat). is_up s.status) is)
+  | Woken nonce a e down is inc ↦ true_and_false (up_at g m (r ∷ K)) up (ap (λ (s : TurnState). is_up s.status) is)
+  | Fallen is inc ↦ true_and_false (up_at g m (r ∷ K)) up (ap (λ (s : TurnState). is_up s.status) is)
   | Gone inc goes normal ↦ elim (standing (replica_at g m K).status) [
     | IsUp before ↦ StayedUp before inc goes
     | IsRejoining before ↦ Rejoined before (normal before up) inc goes
@@ -212,16 +214,16 @@ zeros (suc n) (suc k) = zeros n k
 
 -- the own counter is 0 in the first
 pub own_zero : (g : Group) (m : ℕ) (K : List Record) → World g K → up_at g m K ≡ true → incarnation g m K ≡ 0 → slice_index (replica_at g m K).vector m ≡ 0
-own_zero g m [] w up none = ap (λ (s : Seat). slice_index s.vector m) (first_seat g m) ∙ zeros (replica_count g.f) m
+own_zero g m [] w up none = ap (λ (s : TurnState). slice_index s.vector m) (first_state g m) ∙ zeros (replica_count g.f) m
 own_zero g m (r ∷ K) w up none = elim (was_up g m r K w up) [
   | StayedUp before inc goes ↦ sym (goes.own_up before) ∙ own_zero g m K w.1 before (sym inc ∙ none)
   | Rejoined before normal inc goes ↦ absurd (let some = rejoins_later g m K w.1 before in omega (arith, some, inc, none))
 ]
 
 -- and settled in the others
-pub settled_later : (g : Group) (m : ℕ) (K : List Record) → World g K → up_at g m K ≡ true → 0 < incarnation g m K → Settled (seat_at g m K)
+pub settled_later : (g : Group) (m : ℕ) (K : List Record) → World g K → up_at g m K ≡ true → 0 < incarnation g m K → Settled (turn_state_at g m K)
 settled_later g m [] w up some = absurd (let none = inc_first g m in omega (arith, none, some))
 settled_later g m (r ∷ K) w up some = elim (was_up g m r K w up) [
   | StayedUp before inc goes ↦ goes.settled (settled_later g m K w.1 before (omega (arith, inc, some)))
-  | Rejoined before normal inc goes ↦ goes.settled (log_settled (seat_at g m K) (completing g m r K before normal).ours.in_phase)
+  | Rejoined before normal inc goes ↦ goes.settled (log_settled (turn_state_at g m K) (completing g m r K before normal).ours.in_phase)
 ]

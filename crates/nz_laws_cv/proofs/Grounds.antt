@@ -21,11 +21,11 @@ use Rattle.nz_base.specs.Moments.{At}
 use Rattle.nz_laws_cv.specs.Notions.{IsHeldByMany}
 use Rattle.nz_laws_cv.specs.Ground.{IsLater, StaysUp, IsUsed, IsCompletion}
 use Rattle.nz_laws_cv.specs.Ground.{TellsVector}
-use Rattle.nz_laws_cv.proofs.Turns.{Seat}
+use Rattle.nz_laws_cv.proofs.Turns.{TurnState}
 use Rattle.nz_laws_cv.proofs.TurnRules.{normal_up, heard_by}
 use Rattle.nz_machine.proofs.Runs.{FitsOut}
 use Rattle.nz_laws_cv.proofs.Hearing.{hears_fit}
-use Rattle.nz_laws_cv.proofs.Steps.{seat_at}
+use Rattle.nz_laws_cv.proofs.Steps.{turn_state_at}
 use Rattle.nz_base.proofs.Moments.{at_self, at_then, at_shorter}
 use Rattle.nz_machine.proofs.Moments.{at_world}
 use Rattle.nz_laws_cv.proofs.Modes.{up_not_down, rejoin_not_down}
@@ -123,7 +123,7 @@ told_view_of g m t K T w h up some fits from =
     (at_then K (s.newest ∷ s.older) Q s.at (inr q.at)) q.sends in
     let in_here = inside g m K (s.newest ∷ s.older) Q w s.at (inr q.at) up some asks.rejoining asks.nonce in
     let goes = goes_far g m K Q w (at_then K (s.newest ∷ s.older) Q s.at (inr q.at)) in_here.asked up in
-    let own = goes.own (views_settled (seat_at g m Q) asks.in_phase) in
+    let own = goes.own (views_settled (turn_state_at g m Q) asks.in_phase) in
     let asked = ap (λ (v : List ℕ). slice_index v m) asks.vector in
     let merged_own = tells.merged.places m tells.other in
     subst (λ (x : List Record). ToldViewOf g m t K x) (sym s.is) (record {
@@ -208,16 +208,16 @@ module _ (g : Group) (J : List Record) (m : ℕ) (r : Record) (K : List Record) 
       let more = inc_grows g m C K world (inr (at_self K)) in
       omega (arith, first, more)
 
-  done : IsReturn g.f m r.event (heard_by g m r.event) (seat_at g m K) (seat_at g m C)
+  done : IsReturn g.f m r.event (heard_by g m r.event) (turn_state_at g m K) (turn_state_at g m C)
   done = completing g m r K before after
 
   same_rejoin : (replica_at g m C).rejoin ≡ (replica_at g m K).rejoin
-  same_rejoin = ap (λ (s : Seat). s.rejoin) done.is
+  same_rejoin = ap (λ (s : TurnState). s.rejoin) done.is
 
   in_log : is_phase (replica_at g m C).rejoin.phase phases.Log ≡ true
   in_log = ap (λ (x : Rejoin). is_phase x.phase phases.Log) same_rejoin ∙ done.ours.in_phase
 
-  tells : HasTells g.f m (Sent C m) (seat_at g m C)
+  tells : HasTells g.f m (Sent C m) (turn_state_at g m C)
   tells = (collected_at g m C world shows).tells
 
   -- it was sent before the completing record
@@ -241,7 +241,7 @@ module _ (g : Group) (J : List Record) (m : ℕ) (r : Record) (K : List Record) 
       let wanted = tells.wanted in_log u.told u.used in
       let late = done.late in
       let same_wanted = ap (λ (x : Rejoin). x.wanted) same_rejoin in
-      let new_view : (replica_at g m C).view ≡ done.body.view = ap (λ (x : Seat). x.view) done.is in
+      let new_view : (replica_at g m C).view ≡ done.body.view = ap (λ (x : TurnState). x.view) done.is in
       let view = told.view in
       let counter = told.counter in
       subst (λ (z : ℕ). IsUsed (notions g J) J m C z T) u.sender (record {
@@ -285,7 +285,7 @@ module _ (g : Group) (J : List Record) (m : ℕ) (r : Record) (K : List Record) 
 
   pub follows_is : ¬ (leader_of g.f (replica_at g m C).view ≡ m)
   follows_is = λ leads.
-      let new_view : (replica_at g m C).view ≡ done.body.view = ap (λ (x : Seat). x.view) done.is in
+      let new_view : (replica_at g m C).view ≡ done.body.view = ap (λ (x : TurnState). x.view) done.is in
       ((hears_fit g m r.event).hears done.sender (messages.StateTell done.body) done.new.is).other (done.leader ∙ sym (ap (leader_of g.f) new_view) ∙ leads)
 
 pub completion_at : (g : Group) (J : List Record) → World g J → Shows g J → (m : ℕ) (C : List Record) → Completes g J m C → IsCompletion (notions g J) J m C

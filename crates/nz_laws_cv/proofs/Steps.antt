@@ -10,7 +10,7 @@ use Rattle.nz_machine.specs.World.{sent_in, Has}
 use Rattle.nz_base.specs.Moments.{At}
 use Rattle.nz_machine.specs.Incarnations.{replica_at}
 use Rattle.nz_machine.proofs.Runs.{acts, stays, has_right}
-use Rattle.nz_laws_cv.proofs.Turns.{Seat, seat_of, Turn}
+use Rattle.nz_laws_cv.proofs.Turns.{TurnState, turn_state, Turn}
 use Rattle.nz_laws_cv.proofs.TurnRules.{heard_by, event_turn}
 
 -- what was sent up to a moment was sent
@@ -19,22 +19,22 @@ sent_later p [] K at h = subst (λ (x : List Record). Has (sent_in x) p) at h
 sent_later p (r ∷ J) K (inl same) h = subst (λ (x : List Record). Has (sent_in x) p) same h
 sent_later p (r ∷ J) K (inr older) h = has_right r.sends (sent_in J) p (sent_later p J K older h)
 
--- ---- seats
+-- ---- turn states
 
-abbrev pub seat_at : Group → ℕ → List Record → Seat
-seat_at g m K = seat_of (replica_at g m K)
+abbrev pub turn_state_at : Group → ℕ → List Record → TurnState
+turn_state_at g m K = turn_state (replica_at g m K)
 
 -- a record is of the replica, which takes a turn, or leaves its state
 pub data Steps (g : Group) (m : ℕ) (r : Record) (J : List Record) : Type 0 where
-  Acts : r.actor ≡ Replica m → Turn g.f m r.event (heard_by g m r.event) (seat_at g m J) (seat_at g m (r ∷ J)) → Steps g m r J
-  Rests : actor_eq r.actor (Replica m) ≡ false → seat_at g m (r ∷ J) ≡ seat_at g m J → Steps g m r J
+  Acts : r.actor ≡ Replica m → Turn g.f m r.event (heard_by g m r.event) (turn_state_at g m J) (turn_state_at g m (r ∷ J)) → Steps g m r J
+  Rests : actor_eq r.actor (Replica m) ≡ false → turn_state_at g m (r ∷ J) ≡ turn_state_at g m J → Steps g m r J
 
 steps_by : (g : Group) (m : ℕ) (r : Record) (J : List Record) (b : Bool) → actor_eq r.actor (Replica m) ≡ b → Steps g m r J
 steps_by g m r J true e =
     Acts (same_actor r.actor (Replica m) e)
-    (subst (λ (s : State (Replica m)). Turn g.f m r.event (heard_by g m r.event) (seat_at g m J) (seat_of s)) (sym (acts g (Replica m) r J e))
+    (subst (λ (s : State (Replica m)). Turn g.f m r.event (heard_by g m r.event) (turn_state_at g m J) (turn_state s)) (sym (acts g (Replica m) r J e))
     (event_turn g m (replica_at g m J) r.event))
-steps_by g m r J false e = Rests e (ap seat_of (stays g (Replica m) r J e))
+steps_by g m r J false e = Rests e (ap turn_state (stays g (Replica m) r J e))
 
 pub steps : (g : Group) (m : ℕ) (r : Record) (J : List Record) → Steps g m r J
 steps g m r J = steps_by g m r J (actor_eq r.actor (Replica m)) refl

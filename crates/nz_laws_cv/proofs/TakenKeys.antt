@@ -18,26 +18,26 @@ use Rattle.nz_log.proofs.LedKeys as loops
 use Rattle.nz_msg.specs.declared.message.LogModBody.{LogModBody}
 use Rattle.nz_machine.specs.State.{ReplicaData}
 use Rattle.nz_machine.specs.LogMods.{entry_of_id, may_sync, synced_with, if_found, sync_keys}
-use Rattle.nz_laws_cv.proofs.Turns.{seat_of, holding, Taken, Modifies}
+use Rattle.nz_laws_cv.proofs.Turns.{turn_state, holding, Taken, Modifies}
 
 -- ---- what else is kept
 
-found_seat : (s : ReplicaData) (k : Key) (keys : List Key)
-    → ((t : ReplicaData) → seat_of (sync_keys t keys).0 ≡ holding (seat_of t) (sync_keys t keys).0.log) → (o : Option Entry)
-    → seat_of (if_found o (s, k ∷ keys) (λ e. sync_keys (synced_with s (record { key = k; command = e.command })) keys)).0
-    ≡ holding (seat_of s) (if_found o (s, k ∷ keys) (λ e. sync_keys (synced_with s (record { key = k; command = e.command })) keys)).0.log
-found_seat s k keys rest None = refl
-found_seat s k keys rest (Some e) = rest (synced_with s (record { key = k; command = e.command }))
+found_state : (s : ReplicaData) (k : Key) (keys : List Key)
+    → ((t : ReplicaData) → turn_state (sync_keys t keys).0 ≡ holding (turn_state t) (sync_keys t keys).0.log) → (o : Option Entry)
+    → turn_state (if_found o (s, k ∷ keys) (λ e. sync_keys (synced_with s (record { key = k; command = e.command })) keys)).0
+    ≡ holding (turn_state s) (if_found o (s, k ∷ keys) (λ e. sync_keys (synced_with s (record { key = k; command = e.command })) keys)).0.log
+found_state s k keys rest None = refl
+found_state s k keys rest (Some e) = rest (synced_with s (record { key = k; command = e.command }))
 
-tested_seat : (b : Bool) (s : ReplicaData) (t : ReplicaData × List Key) → seat_of t.0 ≡ holding (seat_of s) t.0.log
-    → seat_of (cond b t (s, [])).0 ≡ holding (seat_of s) (cond b t (s, [])).0.log
-tested_seat true s t h = h
-tested_seat false s t h = refl
+tested_state : (b : Bool) (s : ReplicaData) (t : ReplicaData × List Key) → turn_state t.0 ≡ holding (turn_state s) t.0.log
+    → turn_state (cond b t (s, [])).0 ≡ holding (turn_state s) (cond b t (s, [])).0.log
+tested_state true s t h = h
+tested_state false s t h = refl
 
-pub sync_seat : (s : ReplicaData) (keys : List Key) → seat_of (sync_keys s keys).0 ≡ holding (seat_of s) (sync_keys s keys).0.log
+pub sync_state : (s : ReplicaData) (keys : List Key) → turn_state (sync_keys s keys).0 ≡ holding (turn_state s) (sync_keys s keys).0.log
 unfolding sync_keys
-sync_seat s [] = refl
-sync_seat s (k ∷ keys) = tested_seat (may_sync s k) s _ (found_seat s k keys (λ t. sync_seat t keys) (entry_of_id s (id_of k)))
+sync_state s [] = refl
+sync_state s (k ∷ keys) = tested_state (may_sync s k) s _ (found_state s k keys (λ t. sync_state t keys) (entry_of_id s (id_of k)))
 
 -- ---- the keys in turn
 

@@ -18,7 +18,7 @@ use Rattle.nz_machine.specs.Replicas.{first_replica, crashed_replica}
 use Rattle.nz_machine.specs.Rejoining.{restarted_replica, is_phase}
 use Rattle.nz_machine.specs.Hearing.{Heard}
 use Rattle.nz_math.specs.Count.{is_in, AreDistinct}
-use Rattle.nz_laws_cv.proofs.Turns.{Seat, seat_of, more_tellers, IsNew, Awaits, Turn, Stays, Release, Merge, Sync, Tally, Enter, Follow, Answer}
+use Rattle.nz_laws_cv.proofs.Turns.{TurnState, turn_state, more_tellers, IsNew, Awaits, Turn, Stays, Release, Merge, Sync, Tally, Enter, Follow, Answer}
 use Rattle.nz_laws_cv.proofs.Turns.{Collect, Begin, Start, Fall, Wake, HearVector, Count, HearView, Forget, AskLog, Return, Back}
 use Rattle.nz_laws_cv.proofs.Hearing.{HearsFit}
 use Rattle.nz_laws_cv.proofs.Modes.{IsSound, Settled, is_phase_is, merges_own, sound_kept}
@@ -29,10 +29,10 @@ pub record HearsSent (Sent : ℕ → Message → Type 0) (me : ℕ) (heard : Hea
   pub sent : (y : ℕ) (m : Message) → heard ≡ Some (Replica y, m) → Sent y m
 
 -- phases apart
-pub log_settled : (s : Seat) → is_phase s.rejoin.phase phases.Log ≡ true → Settled s
+pub log_settled : (s : TurnState) → is_phase s.rejoin.phase phases.Log ≡ true → Settled s
 log_settled s h = let e = is_phase_is s.rejoin.phase phases.Log h in ap (λ p. is_phase p phases.Vectors) e
 
-pub views_settled : (s : Seat) → is_phase s.rejoin.phase phases.Views ≡ true → Settled s
+pub views_settled : (s : TurnState) → is_phase s.rejoin.phase phases.Views ≡ true → Settled s
 views_settled s h = let e = is_phase_is s.rejoin.phase phases.Views h in ap (λ p. is_phase p phases.Vectors) e
 
 module _ (f me : ℕ) (Sent : ℕ → Message → Type 0) where
@@ -44,30 +44,30 @@ module _ (f me : ℕ) (Sent : ℕ → Message → Type 0) where
     pub sent : Sent y (messages.VectorTell (record { nonce = nonce; vector = vector }))
     pub low : slice_index vector me ≤ claim
 
-  pub record HasTellers (s : Seat) : Type 0 where
+  pub record HasTellers (s : TurnState) : Type 0 where
     pub distinct : AreDistinct s.rejoin.tellers
     pub told : (y : ℕ) → is_in s.rejoin.tellers y ≡ true → IsTeller s.rejoin.nonce s.rejoin.claim y
     pub counted : Settled s → slow_size f ≤ length s.rejoin.tellers
     pub counter : Settled s → slice_index s.vector me ≡ s.rejoin.claim + 1
 
-  pub first_tellers : HasTellers (seat_of (first_replica f))
+  pub first_tellers : HasTellers (turn_state (first_replica f))
   first_tellers = record { distinct = tt; told = λ y h. absurd cc; counted = λ h. absurd cc; counter = λ h. absurd cc }
 
-  crashed_tellers : HasTellers (seat_of (crashed_replica f))
+  crashed_tellers : HasTellers (turn_state (crashed_replica f))
   crashed_tellers = record { distinct = tt; told = λ y h. absurd cc; counted = λ h. absurd cc; counter = λ h. absurd cc }
 
-  restarted_tellers : (nonce : ℕ) → HasTellers (seat_of (restarted_replica f nonce))
+  restarted_tellers : (nonce : ℕ) → HasTellers (turn_state (restarted_replica f nonce))
   restarted_tellers nonce = record { distinct = tt; told = λ y h. absurd cc; counted = λ h. absurd cc; counter = λ h. absurd cc }
 
   -- a rule that leaves tellers, claim and nonce
-  pub record LeavesTellers (s t : Seat) : Type 0 where
+  pub record LeavesTellers (s t : TurnState) : Type 0 where
     pub tellers : t.rejoin.tellers ≡ s.rejoin.tellers
     pub claim : t.rejoin.claim ≡ s.rejoin.claim
     pub nonce : t.rejoin.nonce ≡ s.rejoin.nonce
     pub settled : Settled t → Settled s
     pub own : slice_index s.vector me ≡ slice_index t.vector me
 
-  leaves : (s t : Seat) → LeavesTellers s t → HasTellers s → HasTellers t
+  leaves : (s t : TurnState) → LeavesTellers s t → HasTellers s → HasTellers t
   leaves s t l h = record {
     distinct = subst AreDistinct (sym l.tellers) h.distinct;
     told = λ y has. let k = h.told y (sym (ap (λ xs. is_in xs y) l.tellers) ∙ has) in record {
@@ -100,7 +100,7 @@ module _ (f me : ℕ) (Sent : ℕ → Message → Type 0) where
   more_in xs y x h = more_in_by xs y x (list_any (λ t. eqb t y) xs) h
 
   -- the teller that is heard
-  hears_teller : (heard : Heard) (s : Seat) (sender : ℕ) (b : VectorTellBody) → HearsFit f me heard → HearsSent Sent me heard
+  hears_teller : (heard : Heard) (s : TurnState) (sender : ℕ) (b : VectorTellBody) → HearsFit f me heard → HearsSent Sent me heard
       → IsNew heard s sender (messages.VectorTell b) b.vector → Awaits phases.Vectors s b.nonce
       → IsTeller s.rejoin.nonce (max s.rejoin.claim (slice_index b.vector me)) sender
   hears_teller heard s sender b fit sent new ours = record {
@@ -111,7 +111,7 @@ module _ (f me : ℕ) (Sent : ℕ → Message → Type 0) where
     low = omega arith;
   }
 
-  more_told : (s : Seat) (sender : ℕ) (u : List ℕ) → HasTellers s → IsTeller s.rejoin.nonce (max s.rejoin.claim (slice_index u me)) sender
+  more_told : (s : TurnState) (sender : ℕ) (u : List ℕ) → HasTellers s → IsTeller s.rejoin.nonce (max s.rejoin.claim (slice_index u me)) sender
       → (y : ℕ) → is_in (more_tellers s.rejoin.tellers sender) y ≡ true → IsTeller s.rejoin.nonce (max s.rejoin.claim (slice_index u me)) y
   more_told s sender u h one y has = elim (more_in s.rejoin.tellers sender y has) [
     | inl old ↦ let k = h.told y old in record {
@@ -126,11 +126,11 @@ module _ (f me : ℕ) (Sent : ℕ → Message → Type 0) where
   ]
 
   module _ (e : Event) (heard : Heard) (fit : HearsFit f me heard) (sent : HearsSent Sent me heard) (in_group : me < replica_count f) where
-    own : (s : Seat) (sender : ℕ) (m : Message) (u : List ℕ) → IsSound f s → IsNew heard s sender m u
+    own : (s : TurnState) (sender : ℕ) (m : Message) (u : List ℕ) → IsSound f s → IsNew heard s sender m u
         → slice_index s.vector me ≡ slice_index (merged_vector s.vector u me) me
     own s sender m u sound new = merges_own f me e heard fit s sender m u in_group sound new
 
-    pub tellers_kept : (s t : Seat) → IsSound f s → Turn f me e heard s t → HasTellers s → HasTellers t
+    pub tellers_kept : (s t : TurnState) → IsSound f s → Turn f me e heard s t → HasTellers s → HasTellers t
     tellers_kept s _ sound Stays h = h
     tellers_kept s _ sound (Release log normal more) h = leaves s _ (record { tellers = refl; claim = refl; nonce = refl; settled = λ x. x; own = refl }) h
     tellers_kept s _ sound (Sync sender b new hears le log changed) h =
@@ -183,7 +183,8 @@ module _ (f me : ℕ) (Sent : ℕ → Message → Type 0) where
         leaves s _ (record { tellers = refl; claim = refl; nonce = refl; settled = λ _. log_settled s is; own = refl }) h
 
 -- what was sent stays sent
-pub tellers_stay : (f me : ℕ) (P Q : ℕ → Message → Type 0) → ((y : ℕ) (m : Message) → P y m → Q y m) → (s : Seat) → HasTellers f me P s → HasTellers f me Q s
+pub tellers_stay : (f me : ℕ) (P Q : ℕ → Message → Type 0) → ((y : ℕ) (m : Message) → P y m → Q y m) → (s : TurnState)
+    → HasTellers f me P s → HasTellers f me Q s
 tellers_stay f me P Q more s h = record {
   distinct = h.distinct;
   told = λ y has. let k = h.told y has in record { below = k.below; other = k.other; vector = k.vector; sent = more _ _ k.sent; low = k.low };

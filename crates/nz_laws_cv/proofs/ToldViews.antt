@@ -20,7 +20,7 @@ use Rattle.nz_machine.specs.Rejoining.{restarted_replica, is_phase}
 use Rattle.nz_machine.specs.World.{Has}
 use Rattle.nz_machine.specs.Hearing.{Heard}
 use Rattle.nz_math.specs.Count.{AreDistinct}
-use Rattle.nz_laws_cv.proofs.Turns.{Seat, seat_of, told_view, more_tells, fresh_tells, IsNew, Awaits, Turn, Stays, Release, Merge, Sync, Tally, Enter}
+use Rattle.nz_laws_cv.proofs.Turns.{TurnState, turn_state, told_view, more_tells, fresh_tells, IsNew, Awaits, Turn, Stays, Release, Merge, Sync, Tally, Enter}
 use Rattle.nz_laws_cv.proofs.Turns.{Follow, Answer, Collect, Begin, Start, Fall, Wake, HearVector, Count, HearView, Forget, AskLog, Return, Back}
 use Rattle.nz_laws_cv.proofs.Hearing.{HearsFit}
 use Rattle.nz_machine.proofs.Runs.{has_split}
@@ -53,7 +53,7 @@ module _ (f me : ℕ) (Sent : ℕ → Message → Type 0) where
     pub sent : Sent t.sender (tell_of nonce t)
     pub merged_in : (k : ℕ) → ¬ (k ≡ me) → slice_index t.vector k ≤ slice_index v k
 
-  pub record HasTells (s : Seat) : Type 0 where
+  pub record HasTells (s : TurnState) : Type 0 where
     pub distinct : AreDistinct (map sender_of s.rejoin.tells)
     pub each : (t : ToldView) → Has s.rejoin.tells t → IsToldView s.rejoin.nonce s.vector t
     pub fresh : is_rejoining s.status ≡ true → (t : ToldView) → Has s.rejoin.tells t → slice_index s.vector t.sender ≤ slice_index t.vector t.sender
@@ -63,7 +63,7 @@ module _ (f me : ℕ) (Sent : ℕ → Message → Type 0) where
     pub none_yet : is_phase s.rejoin.phase phases.Vectors ≡ true → s.rejoin.tells ≡ []
 
   -- nothing is collected
-  nothing : (s : Seat) → s.rejoin.tells ≡ [] → (is_phase s.rejoin.phase phases.Log ≡ true → ⊥) → HasTells s
+  nothing : (s : TurnState) → s.rejoin.tells ≡ [] → (is_phase s.rejoin.phase phases.Log ≡ true → ⊥) → HasTells s
   nothing s none not_log =
       let empty : (t : ToldView) → Has s.rejoin.tells t → ⊥ = λ t has. subst (λ (ts : List ToldView). Has ts t) none has in
       record {
@@ -76,11 +76,11 @@ module _ (f me : ℕ) (Sent : ℕ → Message → Type 0) where
         none_yet = λ _. none;
       }
 
-  pub first_tells : HasTells (seat_of (first_replica f))
-  first_tells = nothing (seat_of (first_replica f)) refl (λ h. cc)
+  pub first_tells : HasTells (turn_state (first_replica f))
+  first_tells = nothing (turn_state (first_replica f)) refl (λ h. cc)
 
   -- a rule of a replica that is up, or comes up
-  up_tells : (s : Seat) (a : Status) (w l : ℕ) (log : Log) (commit : ℕ) (v : List ℕ) (changes : List Reported) → (is_rejoining a ≡ true → ⊥)
+  up_tells : (s : TurnState) (a : Status) (w l : ℕ) (log : Log) (commit : ℕ) (v : List ℕ) (changes : List Reported) → (is_rejoining a ≡ true → ⊥)
       → ((k : ℕ) → slice_index s.vector k ≤ slice_index v k) → HasTells s
       → HasTells (record s { status = a; view = w; last = l; log = log; commit = commit; vector = v; changes = changes })
   up_tells s a w l log commit v changes up grows h = record {
@@ -104,7 +104,7 @@ module _ (f me : ℕ) (Sent : ℕ → Message → Type 0) where
   not_stray u v y h = grind (arith, nat_tests, h)
 
   module _ (e : Event) (heard : Heard) (fit : HearsFit f me heard) (sent : HearsSent Sent me heard) (in_group : me < replica_count f) where
-    grows : (s : Seat) (sender : ℕ) (m : Message) (u : List ℕ) → IsSound f s → IsNew heard s sender m u → (k : ℕ)
+    grows : (s : TurnState) (sender : ℕ) (m : Message) (u : List ℕ) → IsSound f s → IsNew heard s sender m u → (k : ℕ)
         → slice_index s.vector k ≤ slice_index (merged_vector s.vector u me) k
     grows s sender m u sound new k = merges f me e heard fit s sender m u in_group sound new k
 
@@ -114,7 +114,7 @@ module _ (f me : ℕ) (Sent : ℕ → Message → Type 0) where
       pub each : (t : ToldView) → Has tells t → IsToldView nonce v t
       pub fresh : (t : ToldView) → Has tells t → slice_index v t.sender ≤ slice_index t.vector t.sender
 
-    one_of : (s : Seat) (sender : ℕ) (b : RejoinTellBody) → IsSound f s → HasTells s → IsNew heard s sender (messages.RejoinTell b) b.vector
+    one_of : (s : TurnState) (sender : ℕ) (b : RejoinTellBody) → IsSound f s → HasTells s → IsNew heard s sender (messages.RejoinTell b) b.vector
         → Awaits phases.Views s b.nonce
         → (t : ToldView) → Has (more_tells s.rejoin.tells sender b) t → IsToldView s.rejoin.nonce (merged_vector s.vector b.vector me) t
     one_of s sender b sound h new ours t has = elim (has_split (filter (λ x. not (eqb x.sender sender)) s.rejoin.tells) (told_view sender b ∷ []) t has) [
@@ -138,7 +138,7 @@ module _ (f me : ℕ) (Sent : ℕ → Message → Type 0) where
       | inr (inr none) ↦ absurd none
     ]
 
-    heard_views : (s : Seat) (sender : ℕ) (b : RejoinTellBody) → IsSound f s → HasTells s → IsNew heard s sender (messages.RejoinTell b) b.vector
+    heard_views : (s : TurnState) (sender : ℕ) (b : RejoinTellBody) → IsSound f s → HasTells s → IsNew heard s sender (messages.RejoinTell b) b.vector
         → Awaits phases.Views s b.nonce
         → Heard_views s.rejoin.nonce (merged_vector s.vector b.vector me)
         (fresh_tells (more_tells s.rejoin.tells sender b) (merged_vector s.vector b.vector me))
@@ -160,7 +160,7 @@ module _ (f me : ℕ) (Sent : ℕ → Message → Type 0) where
         let high = h.fresh u has_u in
         omega (arith, low, high)
 
-    pub tells_kept : (s t : Seat) → IsSound f s → Turn f me e heard s t → HasTells s → HasTells t
+    pub tells_kept : (s t : TurnState) → IsSound f s → Turn f me e heard s t → HasTells s → HasTells t
     tells_kept s _ sound Stays h = h
     tells_kept s _ sound (Release log normal more) h =
         up_tells s s.status s.view s.last log s.commit s.vector s.changes (λ r. normal_no_rejoin s.status normal r) (λ k. omega arith) h
@@ -177,8 +177,8 @@ module _ (f me : ℕ) (Sent : ℕ → Message → Type 0) where
     tells_kept s _ sound (Collect sender b new may base on) h = up_tells s _ b.view s.last s.log s.commit _ _ (λ r. cc) (grows s sender _ b.vector sound new) h
     tells_kept s _ sound (Begin sender b new may base on full) h = up_tells s _ b.view b.view _ _ _ _ (λ r. cc) (grows s sender _ b.vector sound new) h
     tells_kept s _ sound (Start sender b new may) h = up_tells s _ b.view b.view _ _ _ _ (λ r. cc) (grows s sender _ b.vector sound new) h
-    tells_kept s _ sound (Fall is) h = nothing (seat_of (crashed_replica f)) refl (λ x. cc)
-    tells_kept s _ sound (Wake nonce is down) h = nothing (seat_of (restarted_replica f nonce)) refl (λ x. cc)
+    tells_kept s _ sound (Fall is) h = nothing (turn_state (crashed_replica f)) refl (λ x. cc)
+    tells_kept s _ sound (Wake nonce is down) h = nothing (turn_state (restarted_replica f nonce)) refl (λ x. cc)
     tells_kept s _ sound (HearVector sender b new ours) h = nothing _ (h.none_yet ours.in_phase) (λ log. log_not_vectors s.rejoin log ours.in_phase)
     tells_kept s _ sound (Count sender b new ours many) h = nothing _ refl (λ x. cc)
     tells_kept s _ sound (HearView sender b new ours) h =
@@ -208,7 +208,8 @@ module _ (f me : ℕ) (Sent : ℕ → Message → Type 0) where
     tells_kept s _ sound (Back rejoining is) h = nothing _ refl (λ x. cc)
 
 -- what was sent stays sent
-pub tells_stay : (f me : ℕ) (P Q : ℕ → Message → Type 0) → ((y : ℕ) (m : Message) → P y m → Q y m) → (s : Seat) → HasTells f me P s → HasTells f me Q s
+pub tells_stay : (f me : ℕ) (P Q : ℕ → Message → Type 0) → ((y : ℕ) (m : Message) → P y m → Q y m) → (s : TurnState)
+    → HasTells f me P s → HasTells f me Q s
 tells_stay f me P Q more s h = record {
   distinct = h.distinct;
   each = λ t has. let k = h.each t has in record { below = k.below; other = k.other; sent = more _ _ k.sent; merged_in = k.merged_in };

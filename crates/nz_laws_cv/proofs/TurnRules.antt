@@ -53,38 +53,38 @@ use Rattle.nz_machine.specs.Rejoining.{rejoin_tell_rule, state_ask_rule, state_t
 use Rattle.nz_machine.specs.Step.{replica_message, tick_rule, mode_timer, accepted_envelope, envelope_step, event_step}
 use Rattle.nz_machine.proofs.Runs.{unless_down}
 use Rattle.nz_machine.proofs.Guards.{HearsLeader, hears_leader_parts}
-use Rattle.nz_laws_cv.proofs.Turns.{Seat, seat_of, merging, holding, committing, entering, starting, with_changes, fresh_changes, with_change}
+use Rattle.nz_laws_cv.proofs.Turns.{TurnState, turn_state, merging, holding, committing, entering, starting, with_changes, fresh_changes, with_change}
 use Rattle.nz_laws_cv.proofs.Turns.{begun_log, begun_commit, more_tellers, Appends, Same, More, IsNew, MayLead, Base, Anew, Going}
 use Rattle.nz_laws_cv.proofs.Turns.{MayStart, Awaits, Turn, Stays, Release, Merge, Sync, Tally, Enter, Follow, Answer, Collect, Begin}
 use Rattle.nz_laws_cv.proofs.Turns.{Start, Fall, Wake, HearVector, Count, HearView, Forget, AskLog, Return, Back}
 use Rattle.nz_laws_cv.proofs.Appending.{IsRelease, release_is, no_release}
-use Rattle.nz_laws_cv.proofs.TakenKeys.{sync_seat, modifies}
+use Rattle.nz_laws_cv.proofs.TakenKeys.{sync_state, modifies}
 
 -- ---- rules that touch none of it
 
-pub request_seat : (f me : ℕ) (s : ReplicaData) (proxy : ℕ) (b : TimedBody) → seat_of (request_rule f me s proxy b).0 ≡ seat_of s
+pub request_state : (f me : ℕ) (s : ReplicaData) (proxy : ℕ) (b : TimedBody) → turn_state (request_rule f me s proxy b).0 ≡ turn_state s
 unfolding request_rule
-request_seat f me s proxy b = grind arith
+request_state f me s proxy b = grind arith
 
-pub fetch_seat : (f me : ℕ) (s : ReplicaData) (sender : ℕ) (b : FetchBody) → seat_of (fetch_rule f me s sender b).0 ≡ seat_of s
+pub fetch_state : (f me : ℕ) (s : ReplicaData) (sender : ℕ) (b : FetchBody) → turn_state (fetch_rule f me s sender b).0 ≡ turn_state s
 unfolding fetch_rule
-fetch_seat f me s sender b = grind arith
+fetch_state f me s sender b = grind arith
 
-kept_late_seat : (s : ReplicaData) (e : Entry) → seat_of (with_late_entry s e) ≡ seat_of s
-kept_late_seat s e = grind arith
+kept_late_state : (s : ReplicaData) (e : Entry) → turn_state (with_late_entry s e) ≡ turn_state s
+kept_late_state s e = grind arith
 
-kept_seat : (s : ReplicaData) (es : List Entry) → seat_of (with_late_entries s es) ≡ seat_of s
+kept_state : (s : ReplicaData) (es : List Entry) → turn_state (with_late_entries s es) ≡ turn_state s
 unfolding with_late_entries
-kept_seat s [] = refl
-kept_seat s (e ∷ es) = kept_seat (with_late_entry s e) es ∙ kept_late_seat s e
+kept_state s [] = refl
+kept_state s (e ∷ es) = kept_state (with_late_entry s e) es ∙ kept_late_state s e
 
-pub fetch_reply_seat : (f me : ℕ) (s : ReplicaData) (sender : ℕ) (b : FetchReplyBody) → seat_of (fetch_reply_rule f me s sender b).0 ≡ seat_of s
+pub fetch_reply_state : (f me : ℕ) (s : ReplicaData) (sender : ℕ) (b : FetchReplyBody) → turn_state (fetch_reply_rule f me s sender b).0 ≡ turn_state s
 unfolding fetch_reply_rule
-fetch_reply_seat f me s sender b = grind (arith, kept_seat)
+fetch_reply_state f me s sender b = grind (arith, kept_state)
 
-pub vector_ask_seat : (s : ReplicaData) (sender : ℕ) (b : VectorAskBody) → seat_of (vector_ask_rule s sender b).0 ≡ seat_of s
+pub vector_ask_state : (s : ReplicaData) (sender : ℕ) (b : VectorAskBody) → turn_state (vector_ask_rule s sender b).0 ≡ turn_state s
 unfolding vector_ask_rule
-vector_ask_seat s sender b = grind arith
+vector_ask_state s sender b = grind arith
 
 -- ---- modes
 
@@ -115,8 +115,8 @@ changing_is Down h = absurd cc
 -- ---- rules that turn
 
 same_changing : (me : ℕ) (s : ReplicaData) (u : List ℕ) (view : ℕ) → s.view ≡ view → is_changing s.status ≡ true
-    → seat_of (without_strays (with_vector me s u))
-    ≡ with_changes (entering (merging me (seat_of s) u) view) (fresh_changes s.changes (merged_vector s.vector u me))
+    → turn_state (without_strays (with_vector me s u))
+    ≡ with_changes (entering (merging me (turn_state s) u) view) (fresh_changes s.changes (merged_vector s.vector u me))
 same_changing me s u view same changing =
     let is = changing_is s.status changing in
     λ i. record {
@@ -130,8 +130,8 @@ same_changing me s u view same changing =
       rejoin = s.rejoin;
     }
 
-same_turn : (f me : ℕ) (e : Event) (heard : Heard) (s t : Seat) → t ≡ s → Turn f me e heard s t
-same_turn f me e heard s t is = subst (λ (u : Seat). Turn f me e heard s u) (sym is) Stays
+same_turn : (f me : ℕ) (e : Event) (heard : Heard) (s t : TurnState) → t ≡ s → Turn f me e heard s t
+same_turn f me e heard s t is = subst (λ (u : TurnState). Turn f me e heard s u) (sym is) Stays
 
 -- the parts of the test that the leader of a later view is heard
 pub record HearsLater (f : ℕ) (s : ReplicaData) (view sender : ℕ) : Type 0 where
@@ -144,21 +144,21 @@ hears_later_parts f s view sender h = grind (arith, nat_tests, h)
 
 module _ (f me : ℕ) (e : Event) where
   abbrev Turns : Heard → ReplicaData → ReplicaData → Type 0
-  Turns heard s t = Turn f me e heard (seat_of s) (seat_of t)
+  Turns heard s t = Turn f me e heard (turn_state s) (turn_state t)
 
   -- a log modification of the own view
   own_turn : (s : ReplicaData) (sender : ℕ) (b : LogModBody) → is_stray b.vector sender s.vector ≡ false → HearsLeader f me s.status s.view sender b.view
       → Turns (Some (Replica sender, messages.LogMod b)) s (after_log_mod sender b (after_hearing (with_vector me s b.vector))).0
   own_turn s sender b new hears =
       let heard : Heard = Some (Replica sender, messages.LogMod b) in
-      let is : IsNew heard (seat_of s) sender (messages.LogMod b) b.vector = record { is = refl; carries = refl; new = new } in
+      let is : IsNew heard (turn_state s) sender (messages.LogMod b) b.vector = record { is = refl; carries = refl; new = new } in
       let t = after_hearing (with_vector me s b.vector) in
       let u = (sync_keys t (drop (t.log.synced - b.start) b.keys)).0 in
       cond_both (nat_lt s.log.synced b.start) _ _ (λ (x : ReplicaData × List Out). Turns heard s x.0)
       (λ _. Merge sender (messages.LogMod b) b.vector is hears.normal)
       (λ within.
-      subst (λ (x : Seat). Turn f me e heard (seat_of s) (committing x (max x.commit (min b.commit x.log.synced))))
-      (sym (sync_seat t (drop (t.log.synced - b.start) b.keys)))
+      subst (λ (x : TurnState). Turn f me e heard (turn_state s) (committing x (max x.commit (min b.commit x.log.synced))))
+      (sym (sync_state t (drop (t.log.synced - b.start) b.keys)))
       (Sync sender b is hears (grind (arith, nat_tests, within)) u.log (modifies t b (grind (arith, nat_tests, within)))))
 
   pub log_mod_turn : (s : ReplicaData) (sender : ℕ) (b : LogModBody) → Turns (Some (Replica sender, messages.LogMod b)) s (log_mod_rule f me s sender b).0
@@ -167,7 +167,9 @@ module _ (f me : ℕ) (e : Event) where
       let heard : Heard = Some (Replica sender, messages.LogMod b) in
       cond_both (hears_later_leader f s b.view sender)
       (unless_stray me s sender b.vector (enter_view f me b.view))
-      (cond (hears_leader f me s b.view sender) (unless_stray me s sender b.vector (λ (t : ReplicaData). after_log_mod sender b (after_hearing t))) (s, [])) (λ (x : ReplicaData × List Out). Turns heard s x.0)
+      (cond (hears_leader f me s b.view sender)
+      (unless_stray me s sender b.vector (λ (t : ReplicaData). after_log_mod sender b (after_hearing t))) (s, []))
+      (λ (x : ReplicaData × List Out). Turns heard s x.0)
       (λ later.
       let parts = hears_later_parts f s b.view sender later in
       cond_both (is_stray b.vector sender s.vector)
@@ -175,7 +177,8 @@ module _ (f me : ℕ) (e : Event) where
       (λ new. Follow sender (messages.LogMod b) b.vector (record { is = refl; carries = refl; new = new }) b.view parts.up parts.later))
       (λ _.
       cond_both (hears_leader f me s b.view sender)
-      (unless_stray me s sender b.vector (λ (t : ReplicaData). after_log_mod sender b (after_hearing t))) (s, []) (λ (x : ReplicaData × List Out). Turns heard s x.0)
+      (unless_stray me s sender b.vector (λ (t : ReplicaData). after_log_mod sender b (after_hearing t))) (s, [])
+      (λ (x : ReplicaData × List Out). Turns heard s x.0)
       (λ hears.
       cond_both (is_stray b.vector sender s.vector)
       (s, []) (after_log_mod sender b (after_hearing (with_vector me s b.vector))) (λ (x : ReplicaData × List Out). Turns heard s x.0) (λ _. Stays)
@@ -185,7 +188,8 @@ module _ (f me : ℕ) (e : Event) where
   pub sync_report_turn : (heard : Heard) (s : ReplicaData) (sender : ℕ) (b : SyncReportBody) → Turns heard s (sync_report_rule f me s sender b).0
   unfolding sync_report_rule
   sync_report_turn heard s sender b =
-      cond_both (leads_view f me s && (eqb b.view s.view && nat_le b.synced (length s.log.entries))) _ (s, []) (λ (x : ReplicaData × List Out). Turns heard s x.0)
+      cond_both (leads_view f me s && (eqb b.view s.view && nat_le b.synced (length s.log.entries))) _ (s, [])
+      (λ (x : ReplicaData × List Out). Turns heard s x.0)
       (λ tested.
       let led = (and_parts (leads_view f me s) _ tested).0 in
       Tally _ (and_parts (is_normal s.status) (leads f me s) led).0 (and_parts (is_normal s.status) (leads f me s) led).1 (omega arith))
@@ -210,27 +214,28 @@ module _ (f me : ℕ) (e : Event) where
   unfolding start_view_rule
   start_view_turn s sender b =
       let stay : Turns (Some (Replica sender, messages.StartView b)) s s = Stays in
-      let start : is_stray b.vector sender s.vector ≡ false → MayStart f (seat_of s) sender b.view
+      let start : is_stray b.vector sender s.vector ≡ false → MayStart f (turn_state s) sender b.view
       → Turns (Some (Replica sender, messages.StartView b)) s (after_start (with_vector me s b.vector) b)
       = λ new may. Start sender b (record { is = refl; carries = refl; new = new }) may in
       grind (arith, nat_tests, stay, start)
 
   -- the reports of a view that is entered or going on, with one more: it goes on, or begins
   begin_turn : (s t : ReplicaData) (sender : ℕ) (b : ViewChangeBody) (base : List Reported)
-      → IsNew (Some (Replica sender, messages.ViewChange b)) (seat_of s) sender (messages.ViewChange b) b.vector
-      → MayLead f me (seat_of s) b.view → Base (seat_of s) b.view (merged_vector s.vector b.vector me) base
-      → seat_of t ≡ with_changes (entering (merging me (seat_of s) b.vector) b.view) base
+      → IsNew (Some (Replica sender, messages.ViewChange b)) (turn_state s) sender (messages.ViewChange b) b.vector
+      → MayLead f me (turn_state s) b.view → Base (turn_state s) b.view (merged_vector s.vector b.vector me) base
+      → turn_state t ≡ with_changes (entering (merging me (turn_state s) b.vector) b.view) base
       → Turns (Some (Replica sender, messages.ViewChange b)) s (collect f me sender b t).0
   unfolding begin
   begin_turn s t sender b base new may on is =
       let heard : Heard = Some (Replica sender, messages.ViewChange b) in
       let going : Turns heard s (with_report t sender b) =
-      subst (λ (u : Seat). Turn f me e heard (seat_of s) (with_changes u (with_change u.changes sender b))) (sym is) (Collect sender b new may base on) in
+      subst (λ (u : TurnState). Turn f me e heard (turn_state s) (with_changes u (with_change u.changes sender b))) (sym is)
+      (Collect sender b new may base on) in
       let begun : length (with_change t.changes sender b) ≡ f
       → Turns heard s (after_begin f (with_report t sender b) (merged f (changes_of me (with_report t sender b)))
       (greatest (map (λ (c : Change). c.commit) (changes_of me (with_report t sender b))))) =
-      subst (λ (u : Seat). length (with_change u.changes sender b) ≡ f
-      → Turn f me e heard (seat_of s)
+      subst (λ (u : TurnState). length (with_change u.changes sender b) ≡ f
+      → Turn f me e heard (turn_state s)
       (with_changes (starting u u.view (begun_log f me u (with_change u.changes sender b)) (begun_commit f me u (with_change u.changes sender b)))
       (with_change u.changes sender b)))
       (sym is) (λ full. Begin sender b new may base on full) in
@@ -246,12 +251,12 @@ module _ (f me : ℕ) (e : Event) where
   unfolding view_change_rule enter_view
   view_change_turn s sender b =
       let stay : Turns (Some (Replica sender, messages.ViewChange b)) s s = Stays in
-      let anew : is_stray b.vector sender s.vector ≡ false → MayLead f me (seat_of s) b.view → s.view < b.view
+      let anew : is_stray b.vector sender s.vector ≡ false → MayLead f me (turn_state s) b.view → s.view < b.view
       → Turns (Some (Replica sender, messages.ViewChange b)) s
       (collect f me sender b (enter_view f me b.view (without_strays (with_vector me s b.vector))).0).0
       = λ new may later. begin_turn s (enter_view f me b.view (without_strays (with_vector me s b.vector))).0 sender b []
       (record { is = refl; carries = refl; new = new }) may (Anew later) refl in
-      let going : is_stray b.vector sender s.vector ≡ false → MayLead f me (seat_of s) b.view → s.view ≡ b.view → is_changing s.status ≡ true
+      let going : is_stray b.vector sender s.vector ≡ false → MayLead f me (turn_state s) b.view → s.view ≡ b.view → is_changing s.status ≡ true
       → Turns (Some (Replica sender, messages.ViewChange b)) s (collect f me sender b (without_strays (with_vector me s b.vector))).0
       =
       λ new may same changing. begin_turn s (without_strays (with_vector me s b.vector)) sender b
@@ -267,10 +272,10 @@ module _ (f me : ℕ) (e : Event) where
   unfolding vector_tell_rule
   vector_tell_turn s sender b =
       let stay : Turns (Some (Replica sender, messages.VectorTell b)) s s = Stays in
-      let hear : is_stray b.vector sender s.vector ≡ false → Awaits phases.Vectors (seat_of s) b.nonce
+      let hear : is_stray b.vector sender s.vector ≡ false → Awaits phases.Vectors (turn_state s) b.nonce
       → Turns (Some (Replica sender, messages.VectorTell b)) s (with_teller me (with_vector me s b.vector) sender b.vector)
       = λ new ours. HearVector sender b (record { is = refl; carries = refl; new = new }) ours in
-      let count : is_stray b.vector sender s.vector ≡ false → Awaits phases.Vectors (seat_of s) b.nonce
+      let count : is_stray b.vector sender s.vector ≡ false → Awaits phases.Vectors (turn_state s) b.nonce
       → slow_size f ≤ length (more_tellers s.rejoin.tellers sender)
       → Turns (Some (Replica sender, messages.VectorTell b)) s
       (ask_views f me (with_new_counter me (with_teller me (with_vector me s b.vector) sender b.vector))).0
@@ -303,12 +308,13 @@ module _ (f me : ℕ) (e : Event) where
   rejoin_tell_turn s sender b =
       let stay : Turns (Some (Replica sender, messages.RejoinTell b)) s s = Stays in
       let t = with_tell (with_vector me s b.vector) sender b in
-      let hear : is_stray b.vector sender s.vector ≡ false → Awaits phases.Views (seat_of s) b.nonce → Turns (Some (Replica sender, messages.RejoinTell b)) s t
+      let hear : is_stray b.vector sender s.vector ≡ false → Awaits phases.Views (turn_state s) b.nonce
+      → Turns (Some (Replica sender, messages.RejoinTell b)) s t
       = λ new ours. HearView sender b (record { is = refl; carries = refl; new = new }) ours in
-      let forget : is_stray b.vector sender s.vector ≡ false → Awaits phases.Views (seat_of s) b.nonce
+      let forget : is_stray b.vector sender s.vector ≡ false → Awaits phases.Views (turn_state s) b.nonce
       → Turns (Some (Replica sender, messages.RejoinTell b)) s (with_tells t [])
       = λ new ours. Forget sender b (record { is = refl; carries = refl; new = new }) ours in
-      let ask : is_stray b.vector sender s.vector ≡ false → Awaits phases.Views (seat_of s) b.nonce → slow_size f ≤ length t.rejoin.tells
+      let ask : is_stray b.vector sender s.vector ≡ false → Awaits phases.Views (turn_state s) b.nonce → slow_size f ≤ length t.rejoin.tells
       → Turns (Some (Replica sender, messages.RejoinTell b)) s (ask_log f t (latest_view t)).0
       = λ new ours enough. AskLog sender b (record { is = refl; carries = refl; new = new }) ours t.rejoin.tells refl enough in
       grind (arith, nat_tests, stay, hear, forget, ask)
@@ -318,21 +324,21 @@ module _ (f me : ℕ) (e : Event) where
   unfolding state_tell_rule
   state_tell_turn s sender b =
       let stay : Turns (Some (Replica sender, messages.StateTell b)) s s = Stays in
-      let return : is_stray b.vector sender s.vector ≡ false → Awaits phases.Log (seat_of s) b.nonce → s.rejoin.wanted ≤ b.view → sender ≡ leader_of f b.view
+      let return : is_stray b.vector sender s.vector ≡ false → Awaits phases.Log (turn_state s) b.nonce → s.rejoin.wanted ≤ b.view → sender ≡ leader_of f b.view
       → Turns (Some (Replica sender, messages.StateTell b)) s (normal_in (with_vector me s b.vector) b.view b.entries b.commit)
       = λ new ours late leader. Return sender b (record { is = refl; carries = refl; new = new }) ours late leader in
       grind (arith, nat_tests, stay, return)
 
   pub message_turn : (s : ReplicaData) (from : Actor) (m : Message) → Turns (Some (from, m)) s (replica_message f me s from m).0
-  message_turn s (Proxy p) (messages.Timed b) = same_turn f me e _ _ _ (request_seat f me s p b)
+  message_turn s (Proxy p) (messages.Timed b) = same_turn f me e _ _ _ (request_state f me s p b)
   message_turn s (Replica r) (messages.LogMod b) = log_mod_turn s r b
-  message_turn s (Replica r) (messages.Fetch b) = same_turn f me e _ _ _ (fetch_seat f me s r b)
-  message_turn s (Replica r) (messages.FetchReply b) = same_turn f me e _ _ _ (fetch_reply_seat f me s r b)
+  message_turn s (Replica r) (messages.Fetch b) = same_turn f me e _ _ _ (fetch_state f me s r b)
+  message_turn s (Replica r) (messages.FetchReply b) = same_turn f me e _ _ _ (fetch_reply_state f me s r b)
   message_turn s (Replica r) (messages.SyncReport b) = sync_report_turn _ s r b
   message_turn s (Replica r) (messages.ViewAsk b) = view_ask_turn _ s b
   message_turn s (Replica r) (messages.ViewChange b) = view_change_turn s r b
   message_turn s (Replica r) (messages.StartView b) = start_view_turn s r b
-  message_turn s (Replica r) (messages.VectorAsk b) = same_turn f me e _ _ _ (vector_ask_seat s r b)
+  message_turn s (Replica r) (messages.VectorAsk b) = same_turn f me e _ _ _ (vector_ask_state s r b)
   message_turn s (Replica r) (messages.VectorTell b) = vector_tell_turn s r b
   message_turn s (Replica r) (messages.RejoinAsk b) = rejoin_ask_turn s r b
   message_turn s (Replica r) (messages.RejoinTell b) = rejoin_tell_turn s r b
@@ -343,28 +349,28 @@ module _ (f me : ℕ) (e : Event) where
   -- ---- ticks, after what was released
 
   -- a follower in normal operation
-  quiet_turn : (heard : Heard) (s : Seat) (t : ReplicaData) → seat_of t ≡ holding s t.log → is_normal s.status ≡ true → eqb (leader_of f s.view) me ≡ false
-      → Appends false s.log t.log
-      → Turn f me e heard s (seat_of (quiet_timer f me t).0)
+  quiet_turn : (heard : Heard) (s : TurnState) (t : ReplicaData) → turn_state t ≡ holding s t.log → is_normal s.status ≡ true
+      → eqb (leader_of f s.view) me ≡ false → Appends false s.log t.log
+      → Turn f me e heard s (turn_state (quiet_timer f me t).0)
   unfolding enter_view
   quiet_turn heard s t is normal follows log =
       let quiet = min (t.quiet + 1) MAX_QUIET in
       let released : Turn f me e heard s (holding s t.log) = Release t.log normal (subst (λ (led : Bool). Appends led s.log t.log) (sym follows) log) in
-      let stay : Turn f me e heard s (seat_of (record t { quiet = quiet })) = subst (λ (u : Seat). Turn f me e heard s u) (sym is) released in
-      let enter : Turn f me e heard s (seat_of (enter_view f me (t.view + 1) (record t { quiet = quiet })).0) =
-      subst (λ (u : Seat). Turn f me e heard s (entering u (u.view + 1))) (sym is)
+      let stay : Turn f me e heard s (turn_state (record t { quiet = quiet })) = subst (λ (u : TurnState). Turn f me e heard s u) (sym is) released in
+      let enter : Turn f me e heard s (turn_state (enter_view f me (t.view + 1) (record t { quiet = quiet })).0) =
+      subst (λ (u : TurnState). Turn f me e heard s (entering u (u.view + 1))) (sym is)
       (Enter (s.view + 1) (normal_up s.status normal) (omega arith) t.log (More t.log normal follows log)) in
       grind (arith, nat_tests, stay, enter)
 
   normal_turn : (heard : Heard) (s t : ReplicaData) → IsRelease f me s t → is_normal s.status ≡ true → Turns heard s (mode_timer Normal f me t).0
   normal_turn heard s t is normal =
-      let view : t.view ≡ s.view = ap (λ (x : Seat). x.view) is.seat in
+      let view : t.view ≡ s.view = ap (λ (x : TurnState). x.view) is.state in
       let leads_as : leads f me t ≡ leads f me s = ap (λ (v : ℕ). eqb (leader_of f v) me) view in
       cond_both (leads f me t) _ (quiet_timer f me t) (λ (x : ReplicaData × List Out). Turns heard s x.0)
-      (λ _. subst (λ (u : Seat). Turn f me e heard (seat_of s) u) (sym is.seat) (Release t.log normal is.log))
+      (λ _. subst (λ (u : TurnState). Turn f me e heard (turn_state s) u) (sym is.state) (Release t.log normal is.log))
       (λ follows.
       let others = sym leads_as ∙ follows in
-      quiet_turn heard (seat_of s) t is.seat normal others (subst (λ (led : Bool). Appends led s.log t.log) others is.log))
+      quiet_turn heard (turn_state s) t is.state normal others (subst (λ (led : Bool). Appends led s.log t.log) others is.log))
 
   change_turn : (heard : Heard) (s : ReplicaData) → is_changing s.status ≡ true → Turns heard s (change_timer f me s).0
   unfolding enter_view
@@ -388,19 +394,19 @@ module _ (f me : ℕ) (e : Event) where
       grind (arith, nat_tests, stay, again)
 
   -- the timer of a mode: in normal operation after a release
-  mode_turn : (heard : Heard) (s t : ReplicaData) → IsRelease f me s t → (is_normal s.status ≡ false → seat_of t ≡ seat_of s) → (a : Status) → t.status ≡ a
-      → Turns heard s (mode_timer a f me t).0
-  mode_turn heard s t is calm Normal kind = normal_turn heard s t is (sym (ap (λ (x : Seat). is_normal x.status) is.seat) ∙ ap is_normal kind)
+  mode_turn : (heard : Heard) (s t : ReplicaData) → IsRelease f me s t → (is_normal s.status ≡ false → turn_state t ≡ turn_state s)
+      → (a : Status) → t.status ≡ a → Turns heard s (mode_timer a f me t).0
+  mode_turn heard s t is calm Normal kind = normal_turn heard s t is (sym (ap (λ (x : TurnState). is_normal x.status) is.state) ∙ ap is_normal kind)
   mode_turn heard s t is calm ViewChange kind =
-      subst (λ (u : Seat). Turn f me e heard u (seat_of (change_timer f me t).0))
-      (calm (sym (ap (λ (x : Seat). is_normal x.status) is.seat) ∙ ap is_normal kind))
+      subst (λ (u : TurnState). Turn f me e heard u (turn_state (change_timer f me t).0))
+      (calm (sym (ap (λ (x : TurnState). is_normal x.status) is.state) ∙ ap is_normal kind))
       (change_turn heard t (ap is_changing kind))
   mode_turn heard s t is calm Rejoining kind =
-      subst (λ (u : Seat). Turn f me e heard u (seat_of (rejoin_timer f me t).0))
-      (calm (sym (ap (λ (x : Seat). is_normal x.status) is.seat) ∙ ap is_normal kind))
+      subst (λ (u : TurnState). Turn f me e heard u (turn_state (rejoin_timer f me t).0))
+      (calm (sym (ap (λ (x : TurnState). is_normal x.status) is.state) ∙ ap is_normal kind))
       (rejoin_turn heard t (ap is_rejoining kind))
   mode_turn heard s t is calm Down kind =
-      same_turn f me e heard (seat_of s) (seat_of t) (calm (sym (ap (λ (x : Seat). is_normal x.status) is.seat) ∙ ap is_normal kind))
+      same_turn f me e heard (turn_state s) (turn_state t) (calm (sym (ap (λ (x : TurnState). is_normal x.status) is.state) ∙ ap is_normal kind))
 
   pub tick_turn : (heard : Heard) (s : ReplicaData) (clock : ℕ) → Turns heard s (tick_rule f me s clock).0
   tick_turn heard s clock =
@@ -409,22 +415,23 @@ module _ (f me : ℕ) (e : Event) where
 
 -- ---- any event
 
-crash_turn : (f me : ℕ) (s : ReplicaData) → Turn f me Crash None (seat_of s) (seat_of (crash_rule f s).0)
+crash_turn : (f me : ℕ) (s : ReplicaData) → Turn f me Crash None (turn_state s) (turn_state (crash_rule f s).0)
 unfolding crash_rule
 crash_turn f me s = Fall refl
 
-restart_turn : (f me nonce : ℕ) (s : ReplicaData) → Turn f me (Restart nonce) None (seat_of s) (seat_of (restart_rule f me s nonce).0)
+restart_turn : (f me nonce : ℕ) (s : ReplicaData) → Turn f me (Restart nonce) None (turn_state s) (turn_state (restart_rule f me s nonce).0)
 unfolding restart_rule
 restart_turn f me nonce s =
-    let stay : Turn f me (Restart nonce) None (seat_of s) (seat_of s) = Stays in
-    let wake : is_down s.status ≡ true → Turn f me (Restart nonce) None (seat_of s) (seat_of (restarted_replica f nonce)) = λ down. Wake nonce refl down in
+    let stay : Turn f me (Restart nonce) None (turn_state s) (turn_state s) = Stays in
+    let wake : is_down s.status ≡ true → Turn f me (Restart nonce) None (turn_state s) (turn_state (restarted_replica f nonce)) =
+    λ down. Wake nonce refl down in
     grind (arith, stay, wake)
 
 envelope_turn : (g : Group) (me : ℕ) (e : Event) (s : ReplicaData) (x : Option Envelope)
-    → Turn g.f me e (heard_as x) (seat_of s) (seat_of (envelope_step g (Replica me) s x).0)
+    → Turn g.f me e (heard_as x) (turn_state s) (turn_state (envelope_step g (Replica me) s x).0)
 envelope_turn g me e s None = Stays
 envelope_turn g me e s (Some x) =
-    unless_down (λ (t : ReplicaData × List Out). Turn g.f me e (Some (x.from, x.message)) (seat_of s) (seat_of t.0)) s
+    unless_down (λ (t : ReplicaData × List Out). Turn g.f me e (Some (x.from, x.message)) (turn_state s) (turn_state t.0)) s
     (replica_message g.f me s x.from x.message)
     Stays (message_turn g.f me e s x.from x.message)
 
@@ -432,11 +439,12 @@ envelope_turn g me e s (Some x) =
 abbrev pub heard_by : Group → ℕ → Event → Heard
 heard_by g me e = heard_at g (Replica me) e
 
-pub event_turn : (g : Group) (me : ℕ) (s : ReplicaData) (e : Event) → Turn g.f me e (heard_by g me e) (seat_of s) (seat_of (event_step g (Replica me) s e).0)
+pub event_turn : (g : Group) (me : ℕ) (s : ReplicaData) (e : Event)
+    → Turn g.f me e (heard_by g me e) (turn_state s) (turn_state (event_step g (Replica me) s e).0)
 event_turn g me s (Deliver p) = envelope_turn g me (Deliver p) s (accepted_envelope g.f (Replica me) p)
 event_turn g me s (Cut p kept) = Stays
 event_turn g me s (Tick clock) =
-    unless_down (λ (t : ReplicaData × List Out). Turn g.f me (Tick clock) None (seat_of s) (seat_of t.0)) s (tick_rule g.f me s clock)
+    unless_down (λ (t : ReplicaData × List Out). Turn g.f me (Tick clock) None (turn_state s) (turn_state t.0)) s (tick_rule g.f me s clock)
     Stays (tick_turn g.f me (Tick clock) None s clock)
 event_turn g me s Alarm = alarm_turn g.f me Alarm None s
 event_turn g me s Crash = crash_turn g.f me s

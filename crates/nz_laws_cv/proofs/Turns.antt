@@ -38,7 +38,8 @@ use Rattle.nz_machine.specs.Rejoining.{restarted_replica, is_phase}
 use Rattle.nz_machine.specs.Step.{message_vector}
 use Rattle.nz_machine.proofs.Guards.{HearsLeader}
 
-pub record Seat : Type 0 where
+-- the part of a replica's state that a turn may change
+pub record TurnState : Type 0 where
   pub status : Status
   pub view : ℕ
   pub last : ℕ
@@ -48,8 +49,8 @@ pub record Seat : Type 0 where
   pub changes : List Reported
   pub rejoin : Rejoin
 
-abbrev pub seat_of : ReplicaData → Seat
-seat_of s = record {
+abbrev pub turn_state : ReplicaData → TurnState
+turn_state s = record {
   status = s.status;
   view = s.view;
   last = s.last;
@@ -62,27 +63,27 @@ seat_of s = record {
 
 -- ---- parts
 
-abbrev pub merging : ℕ → Seat → List ℕ → Seat
+abbrev pub merging : ℕ → TurnState → List ℕ → TurnState
 merging me s u = record s { vector = merged_vector s.vector u me }
 
-abbrev pub holding : Seat → Log → Seat
+abbrev pub holding : TurnState → Log → TurnState
 holding s log = record s { log = log }
 
-abbrev pub committing : Seat → ℕ → Seat
+abbrev pub committing : TurnState → ℕ → TurnState
 committing s commit = record s { commit = commit }
 
-abbrev pub entering : Seat → ℕ → Seat
+abbrev pub entering : TurnState → ℕ → TurnState
 entering s w = record s { status = ViewChange; view = w; changes = [] }
 
 -- Normal in a view, with this log, all of it synced
-abbrev pub starting : Seat → ℕ → List Entry → ℕ → Seat
+abbrev pub starting : TurnState → ℕ → List Entry → ℕ → TurnState
 starting s w entries commit =
     record s { status = Normal; view = w; last = w; log = record { entries = entries; synced = length entries }; commit = commit }
 
-abbrev pub with_changes : Seat → List Reported → Seat
+abbrev pub with_changes : TurnState → List Reported → TurnState
 with_changes s changes = record s { changes = changes }
 
-abbrev pub with_rejoin : Seat → Rejoin → Seat
+abbrev pub with_rejoin : TurnState → Rejoin → TurnState
 with_rejoin s r = record s { rejoin = r }
 
 -- the reports that a vector does not make stray, and one more in place of an earlier one
@@ -93,16 +94,16 @@ abbrev pub with_change : List Reported → ℕ → ViewChangeBody → List Repor
 with_change changes sender b = filter (λ r. not (r.change.sender == sender)) changes ++ report_of sender b ∷ []
 
 -- what a leader begins from: its own report, and the collected ones
-abbrev pub own_report : ℕ → Seat → Change
+abbrev pub own_report : ℕ → TurnState → Change
 own_report me s = record { sender = me; last = s.last; synced = s.log.synced; commit = s.commit; log = s.log.entries }
 
-abbrev pub reports_for : ℕ → Seat → List Reported → List Change
+abbrev pub reports_for : ℕ → TurnState → List Reported → List Change
 reports_for me s changes = own_report me s ∷ map (λ (r : Reported). r.change) changes
 
-abbrev pub begun_log : ℕ → ℕ → Seat → List Reported → List Entry
+abbrev pub begun_log : ℕ → ℕ → TurnState → List Reported → List Entry
 begun_log f me s changes = merged f (reports_for me s changes)
 
-abbrev pub begun_commit : ℕ → ℕ → Seat → List Reported → ℕ
+abbrev pub begun_commit : ℕ → ℕ → TurnState → List Reported → ℕ
 begun_commit f me s changes = min (length (begun_log f me s changes)) (greatest (map (λ (c : Change). c.commit) (reports_for me s changes)))
 
 -- the same of views that are told
@@ -154,43 +155,43 @@ pub record Modifies (b : LogModBody) (log changed : Log) : Type 0 where
   pub taken : IsSound log → (early : List Key) → b.keys ≡ take MAX_KEYS (drop b.start early) → Taken early log changed
 
 -- the log with which a replica enters a view: as it was, or with what was released in the same record
-pub data Grown (f me : ℕ) (s : Seat) : Log → Type 0 where
+pub data Grown (f me : ℕ) (s : TurnState) : Log → Type 0 where
   Same : Grown f me s s.log
   More : (log : Log) → is_normal s.status ≡ true → eqb (leader_of f s.view) me ≡ false → Appends false s.log log → Grown f me s log
 
 -- ---- what was tested
 
 -- a message with a vector that is not stray
-pub record IsNew (heard : Heard) (s : Seat) (sender : ℕ) (m : Message) (u : List ℕ) : Type 0 where
+pub record IsNew (heard : Heard) (s : TurnState) (sender : ℕ) (m : Message) (u : List ℕ) : Type 0 where
   pub is : heard ≡ Some (Replica sender, m)
   pub carries : message_vector m ≡ Some u
   pub new : is_stray u sender s.vector ≡ false
 
 -- the replica leads the view, which is its own or a later one
-pub record MayLead (f me : ℕ) (s : Seat) (view : ℕ) : Type 0 where
+pub record MayLead (f me : ℕ) (s : TurnState) (view : ℕ) : Type 0 where
   pub up : is_up s.status ≡ true
   pub leads : leader_of f view ≡ me
   pub later : s.view ≤ view
 
 -- the reports to which one is added: none in a view that is entered, else those that are not stray
-pub data Base (s : Seat) (view : ℕ) (v : List ℕ) : List Reported → Type 0 where
+pub data Base (s : TurnState) (view : ℕ) (v : List ℕ) : List Reported → Type 0 where
   Anew : s.view < view → Base s view v []
   Going : s.view ≡ view → is_changing s.status ≡ true → Base s view v (fresh_changes s.changes v)
 
-pub record MayStart (f : ℕ) (s : Seat) (sender view : ℕ) : Type 0 where
+pub record MayStart (f : ℕ) (s : TurnState) (sender view : ℕ) : Type 0 where
   pub up : is_up s.status ≡ true
   pub leader : sender ≡ leader_of f view
   pub later : s.view ≤ view
   pub turns : is_normal s.status ≡ true → s.view < view
 
-pub record Awaits (phase : Phase) (s : Seat) (nonce : ℕ) : Type 0 where
+pub record Awaits (phase : Phase) (s : TurnState) (nonce : ℕ) : Type 0 where
   pub rejoining : is_rejoining s.status ≡ true
   pub in_phase : is_phase s.rejoin.phase phase ≡ true
   pub same : nonce ≡ s.rejoin.nonce
 
 -- ---- the turns
 
-pub data Turn (f me : ℕ) (e : Event) (heard : Heard) (s : Seat) : Seat → Type 0 where
+pub data Turn (f me : ℕ) (e : Event) (heard : Heard) (s : TurnState) : TurnState → Type 0 where
   Stays : Turn f me e heard s s
   -- entries are released at a tick
   Release : (log : Log) → is_normal s.status ≡ true → Appends (eqb (leader_of f s.view) me) s.log log → Turn f me e heard s (holding s log)
@@ -219,8 +220,8 @@ pub data Turn (f me : ℕ) (e : Event) (heard : Heard) (s : Seat) : Seat → Typ
       )
   Start : (sender : ℕ) (b : StartViewBody) → IsNew heard s sender (messages.StartView b) b.vector → MayStart f s sender b.view
       → Turn f me e heard s (starting (merging me s b.vector) b.view b.entries (min (length b.entries) (max s.commit b.commit)))
-  Fall : e ≡ Crash → Turn f me e heard s (seat_of (crashed_replica f))
-  Wake : (nonce : ℕ) → e ≡ Restart nonce → is_down s.status ≡ true → Turn f me e heard s (seat_of (restarted_replica f nonce))
+  Fall : e ≡ Crash → Turn f me e heard s (turn_state (crashed_replica f))
+  Wake : (nonce : ℕ) → e ≡ Restart nonce → is_down s.status ≡ true → Turn f me e heard s (turn_state (restarted_replica f nonce))
   HearVector : (sender : ℕ) (b : VectorTellBody) → IsNew heard s sender (messages.VectorTell b) b.vector → Awaits phases.Vectors s b.nonce
       → Turn f me e heard s (with_rejoin (merging me s b.vector) (with_claim me s.rejoin sender b.vector))
   Count : (sender : ℕ) (b : VectorTellBody) → IsNew heard s sender (messages.VectorTell b) b.vector → Awaits phases.Vectors s b.nonce

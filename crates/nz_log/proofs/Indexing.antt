@@ -182,8 +182,8 @@ next_one es place x within is =
     let next : suc place ≡ place + 1 = omega arith in
     drop-cons es place x within ∙ ap (λ (y : Entry). y ∷ drop (suc place) es) (sym is) ∙ ap (λ (n : ℕ). x ∷ drop n es) next
 
-module _ (key : Key) (es : List Entry) (kept place : ℕ) (f : Id → Option ℕ) (whole : List Entry) (x : Entry) (within : place < length es) (is : x ≡ get_or es place x)
-    (along : IsAlong key es kept place f whole) where
+module _ (key : Key) (es : List Entry) (kept place : ℕ) (f : Id → Option ℕ) (whole : List Entry) (x : Entry)
+    (within : place < length es) (is : x ≡ get_or es place x) (along : IsAlong key es kept place f whole) where
   before : take kept es ++ filter (stays_after key) (x ∷ drop (place + 1) es) ≡ whole
   before = ap (λ (xs : List Entry). take kept es ++ filter (stays_after key) xs) (sym (next_one es place x within is)) ∙ along.same
 

@@ -90,8 +90,9 @@ module _ (es : List Entry) (place : ℕ) (key : Key) (within : place < length es
       }
 
   -- one entry more
-  module _ (from kept : ℕ) (ds : List (List ℕ)) (before sum next : List ℕ) (x : Entry) (after : place ≤ from) (more : from + 1 < length es) (is : x ≡ get_or es (from + 1) x)
-      (read : next ≡ get_or ds from next) (folding : IsFolding es place key from kept ds before sum) where
+  module _ (from kept : ℕ) (ds : List (List ℕ)) (before sum next : List ℕ) (x : Entry) (after : place ≤ from)
+      (more : from + 1 < length es) (is : x ≡ get_or es (from + 1) x) (read : next ≡ get_or ds from next)
+      (folding : IsFolding es place key from kept ds before sum) where
     next_old : next ≡ digest_of_log (take (from + 1) (without_place es place))
     next_old =
         let one : suc from ≡ from + 1 = omega arith in

@@ -26,7 +26,8 @@ accept_is : (window proxies me p : ℕ) (script : List Request) (s : ClientData)
 unfolding accept_rule
 accept_is window proxies me p script s b =
     cond_both (is_open b.num s.attempts)
-    (fill_window window proxies me script (after_acceptance b.num s)) (s, []) (λ (t : ClientData × List Out). s.accepted < t.0.accepted → IsAnswerTo s (Proxy p) (Answer b))
+    (fill_window window proxies me script (after_acceptance b.num s)) (s, [])
+    (λ (t : ClientData × List Out). s.accepted < t.0.accepted → IsAnswerTo s (Proxy p) (Answer b))
     (λ t _. record { proxy = p; body = b; sender = refl; message = refl; held = t }) (λ _ lt. absurd (omega (arith, lt)))
 
 message_accepts : (window proxies me : ℕ) (script : List Request) (s : ClientData) (from : Actor) (m : Message)

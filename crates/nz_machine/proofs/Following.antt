@@ -20,7 +20,6 @@ use Rattle.nz_msg.specs.declared.message.FetchBody.{FetchBody}
 use Rattle.nz_msg.specs.declared.message.FetchReplyBody.{FetchReplyBody}
 use Rattle.nz_msg.specs.declared.message.SyncReportBody.{SyncReportBody}
 use Rattle.nz_msg.specs.declared.message.Message.TheVariants as messages
-use Rattle.nz_machine.specs.declared.data.Status.{Status}
 use Rattle.nz_machine.specs.State.{ReplicaData, Out}
 use Rattle.nz_machine.specs.Replicas.{is_normal, leads, slow_replies}
 use Rattle.nz_machine.specs.LogMods.{sync_report_to, entry_of_id, if_found, synced_with, sync_keys, overtaken_to_late, committed_to, replies_since}
@@ -34,25 +33,19 @@ use Rattle.nz_machine.proofs.EachItem.{all_append}
 use Rattle.nz_machine.proofs.LogPlaces.{place_kept, place_within, has_place}
 use Rattle.nz_machine.proofs.Shows.{AllShow, Shown, silent, other_is, leader_below}
 use Rattle.nz_machine.proofs.ViewsShow.{enter_shows}
-use Rattle.nz_machine.proofs.Replies.{slow_shows}
+use Rattle.nz_machine.proofs.Replies.{Mode, mode, slow_shows}
 
 -- ---- the state after
 
-abbrev Seat : Type 0
-Seat = Status × ℕ
+found_mode : (s : ReplicaData) (k : Key) (keys : List Key) → ((t : ReplicaData) → mode (sync_keys t keys).0 ≡ mode t) → (o : Option Entry)
+    → mode (if_found o (s, k ∷ keys) (λ e. sync_keys (synced_with s (record { key = k; command = e.command })) keys)).0 ≡ mode s
+found_mode s k keys rest None = refl
+found_mode s k keys rest (Some e) = rest _
 
-abbrev seat : ReplicaData → Seat
-seat s = (s.status, s.view)
-
-found_seat : (s : ReplicaData) (k : Key) (keys : List Key) → ((t : ReplicaData) → seat (sync_keys t keys).0 ≡ seat t) → (o : Option Entry)
-    → seat (if_found o (s, k ∷ keys) (λ e. sync_keys (synced_with s (record { key = k; command = e.command })) keys)).0 ≡ seat s
-found_seat s k keys rest None = refl
-found_seat s k keys rest (Some e) = rest _
-
-sync_seat : (s : ReplicaData) (keys : List Key) → seat (sync_keys s keys).0 ≡ seat s
+sync_mode : (s : ReplicaData) (keys : List Key) → mode (sync_keys s keys).0 ≡ mode s
 unfolding sync_keys
-sync_seat s [] = refl
-sync_seat s (k ∷ keys) = let hit = found_seat s k keys (λ t. sync_seat t keys) (entry_of_id s (id_of k)) in grind (arith, hit)
+sync_mode s [] = refl
+sync_mode s (k ∷ keys) = let hit = found_mode s k keys (λ t. sync_mode t keys) (entry_of_id s (id_of k)) in grind (arith, hit)
 
 -- a follower of the leader
 record Follows (f me leader : ℕ) (s : ReplicaData) : Type 0 where
@@ -60,11 +53,11 @@ record Follows (f me leader : ℕ) (s : ReplicaData) : Type 0 where
   follows : leads f me s ≡ false
   is : leader ≡ leader_of f s.view
 
-still_follows : (f me leader : ℕ) (s t : ReplicaData) → seat t ≡ seat s → Follows f me leader s → Follows f me leader t
+still_follows : (f me leader : ℕ) (s t : ReplicaData) → mode t ≡ mode s → Follows f me leader s → Follows f me leader t
 still_follows f me leader s t same w = record {
-  normal = ap (λ (x : Seat). is_normal x.0) same ∙ w.normal;
-  follows = ap (λ (x : Seat). eqb (leader_of f x.1) me) same ∙ w.follows;
-  is = w.is ∙ ap (λ (x : Seat). leader_of f x.1) (sym same);
+  normal = ap (λ (x : Mode). is_normal x.0) same ∙ w.normal;
+  follows = ap (λ (x : Mode). eqb (leader_of f x.1.0) me) same ∙ w.follows;
+  is = w.is ∙ ap (λ (x : Mode). leader_of f x.1.0) (sym same);
 }
 
 -- ---- the keys that are left
@@ -191,7 +184,7 @@ taken_shows f me leader before s b w =
     cond_both (nat_lt s.log.synced b.start) (s, sync_report_to leader s ∷ []) (after_taking_keys s leader b.commit t) (Shown f me heard before)
     (λ _. record { shows = report_shows f me leader heard before s w })
     (λ _.
-    let follows = still_follows f me leader s after (sync_seat s keys) w in
+    let follows = still_follows f me leader s after (sync_mode s keys) w in
     let rest = rest_then t.1 keys b.keys (sync_rest s keys) (rest_drop (s.log.synced - b.start) b.keys) in
     record { shows = after_shows f me leader before after b s.log.synced t.1 follows rest })
 

@@ -234,10 +234,11 @@ mode_shows f me heard before s ViewChange is = change_shows f me heard before s 
 mode_shows f me heard before s Rejoining is = rejoin_shows f me heard before s (ap is_rejoining is)
 mode_shows f me heard before s Down is = silent f me heard before s
 
-abbrev Mode : Type 0
+-- status, view, and last view of normal operation
+abbrev pub Mode : Type 0
 Mode = Status × (ℕ × ℕ)
 
-abbrev mode : ReplicaData → Mode
+abbrev pub mode : ReplicaData → Mode
 mode s = (s.status, (s.view, s.last))
 
 releases_mode : (f me : ℕ) (s : ReplicaData) (es : List Entry) → mode (releases f me s es).0 ≡ mode s

@@ -285,7 +285,8 @@ module _ (g : Group) (P : List Record → Actor → Out → Type 0) (Q : List Re
 
 -- ---- a second law over a first
 
-module _ (g : Group) (P : List Record → Actor → Out → Type 0) (Q : List Record → (a : Actor) → State a → Type 0) (F : List Record → Actor → Out → Type 0) (R : List Record → (a : Actor) → State a → Type 0) where
+module _ (g : Group) (P : List Record → Actor → Out → Type 0) (Q : List Record → (a : Actor) → State a → Type 0)
+    (F : List Record → Actor → Out → Type 0) (R : List Record → (a : Actor) → State a → Type 0) where
   pub record KeepsMore : Type 0 where
     pub start : (a : Actor) → R [] a (first g a)
     pub sent_stays : (J : List Record) (r : Record) → World g (r ∷ J) → (a : Actor) (o : Out) → F J a o → F (r ∷ J) a o

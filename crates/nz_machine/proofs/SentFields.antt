@@ -113,7 +113,7 @@ log_fits least xs low few order all =
 
 -- ---- what a list in a message holds
 
-keys_are : (before xs : List Key) → ItemsFit next_key before xs → AllByRecursion key.fits xs
+pub keys_are : (before xs : List Key) → ItemsFit next_key before xs → AllByRecursion key.fits xs
 keys_are before [] all = tt
 keys_are before (x ∷ xs) all = (all.0.0, keys_are (before ++ x ∷ []) xs all.1)
 
@@ -126,7 +126,7 @@ few_keys xs h = within_most 1 0 64 (length xs) h.0
 pub few_ids : (xs : List Id) → ids.fits xs → length xs ≤ 64
 few_ids xs h = within_most 1 1 64 (length xs) h.0
 
-entries_are : (before xs : List Entry) → ItemsFit next_entry before xs → AllByRecursion FitsEntry xs
+pub entries_are : (before xs : List Entry) → ItemsFit next_entry before xs → AllByRecursion FitsEntry xs
 entries_are before [] all = tt
 entries_are before (x ∷ xs) all = (record { key = all.0.0.0; command = all.0.1 }, entries_are (before ++ x ∷ []) xs all.1)
 

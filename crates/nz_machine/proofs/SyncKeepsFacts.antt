@@ -1,12 +1,8 @@
 -- Each rule by which followers agree with the leader keeps what a replica's state always has.
-use Rattle.std.proofs.Common.{◌≡◌, ℕ, ◌≤◌, true, List, [], ◌∷◌, ◌++◌, length, ◌∙◌, arith}
+use Rattle.std.proofs.Common.{◌≡◌, ℕ, ◌≤◌, true, [], length, ◌∙◌, arith}
 use Rattle.std.specs.List.{AllByRecursion}
-use Rattle.nz_base.specs.declared.key.Key.{Key}
-use Rattle.nz_base.specs.declared.key.Entry.{Entry}
 use Rattle.nz_base.specs.declared.limits.TheConstants.{MAX_ENTRIES}
-use Rattle.nz_msg.specs.Codec.{ItemsFit}
 use Rattle.nz_msg.specs.Fields as fields
-use Rattle.nz_msg.specs.Fields.{next_key, next_entry}
 use Rattle.nz_msg.specs.Messages.{log_mod, fetch_reply}
 use Rattle.nz_msg.specs.declared.message.LogModBody.{LogModBody}
 use Rattle.nz_msg.specs.declared.message.FetchReplyBody.{FetchReplyBody}
@@ -14,23 +10,16 @@ use Rattle.nz_machine.specs.State.{ReplicaData}
 use Rattle.nz_machine.specs.Facts.{FitsEntry, HasFacts}
 use Rattle.nz_machine.specs.Replicas.{is_normal, leads}
 use Rattle.nz_machine.specs.LogMods.{with_ack, with_commit}
+use Rattle.nz_machine.proofs.SentFields.{keys_are, entries_are}
 use Rattle.nz_machine.proofs.Tables.{set_long, reported_low, noted_low}
 
 -- ---- what a message brings
 
-key_items : (before keys : List Key) → ItemsFit next_key before keys → AllByRecursion fields.key.fits keys
-key_items before [] fit = tt
-key_items before (k ∷ keys) fit = (fit.0.0, key_items (before ++ k ∷ []) keys fit.1)
-
-entry_items : (before es : List Entry) → ItemsFit next_entry before es → AllByRecursion FitsEntry es
-entry_items before [] fit = tt
-entry_items before (e ∷ es) fit = (record { key = fit.0.0.0; command = fit.0.1 }, entry_items (before ++ e ∷ []) es fit.1)
-
 pub keys_fit : (b : LogModBody) → log_mod.fits b → AllByRecursion fields.key.fits b.keys
-keys_fit b fits = key_items [] b.keys fits.1.1.1.1.1.1
+keys_fit b fits = keys_are [] b.keys fits.1.1.1.1.1.1
 
 pub entries_fit : (b : FetchReplyBody) → fetch_reply.fits b → AllByRecursion FitsEntry b.entries
-entries_fit b fits = entry_items [] b.entries fits.1.1.1
+entries_fit b fits = entries_are [] b.entries fits.1.1.1
 
 -- ---- sync reports
 

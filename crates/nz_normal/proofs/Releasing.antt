@@ -14,21 +14,21 @@ use Rattle.nz_machine.specs.Releases.{may_release, first_may, after_release, rel
 use Rattle.nz_machine.specs.Step.{parcel}
 
 -- what is left to release leads to the end
-pub record Releases (f me : ℕ) (end : ReplicaData × List Parcel) (seat : ReplicaModel) (sends : List Parcel) : Type 0 where
-  pub size : seat.f ≡ f
-  pub number : seat.me ≡ me
-  pub normal : is_normal seat.state.status ≡ true
-  pub state : (releases f me seat.state seat.state.early).0 ≡ end.0
-  pub all : sends ++ map (parcel (Replica me)) (releases f me seat.state seat.state.early).1 ≡ end.1
+pub record Releases (f me : ℕ) (end : ReplicaData × List Parcel) (model : ReplicaModel) (sends : List Parcel) : Type 0 where
+  pub size : model.f ≡ f
+  pub number : model.me ≡ me
+  pub normal : is_normal model.state.status ≡ true
+  pub state : (releases f me model.state model.state.early).0 ≡ end.0
+  pub all : sends ++ map (parcel (Replica me)) (releases f me model.state model.state.early).1 ≡ end.1
 
 -- the reply to what was released last
-pub replied : (seat new : ReplicaModel) (id : Id) (place : ℕ) (e : Entry) (es : List Entry) (sends after : List Parcel) → seat.state.early ≡ e ∷ es
-    → ((e : Entry) (es : List Entry) → seat.state.early ≡ e ∷ es
-    → (id ≡ id_of e.key) × (new ≡ record seat { state = after_release seat.f seat.me seat.state e es }))
-    → length new.state.log.entries ≡ length seat.state.log.entries + 1 → place ≡ length seat.state.log.entries
+pub replied : (model new : ReplicaModel) (id : Id) (place : ℕ) (e : Entry) (es : List Entry) (sends after : List Parcel) → model.state.early ≡ e ∷ es
+    → ((e : Entry) (es : List Entry) → model.state.early ≡ e ∷ es
+    → (id ≡ id_of e.key) × (new ≡ record model { state = after_release model.f model.me model.state e es }))
+    → length new.state.log.entries ≡ length model.state.log.entries + 1 → place ≡ length model.state.log.entries
     → after ≡ sends ++ map (parcel (Replica new.me)) (fast_replies new.f new.me new.state id place (lookup (id_eq id) new.state.origin))
-    → after ≡ sends ++ map (parcel (Replica seat.me)) (release_replies seat.f seat.me (after_release seat.f seat.me seat.state e es) e)
-replied seat new id place e es sends after is h grown at told =
+    → after ≡ sends ++ map (parcel (Replica model.me)) (release_replies model.f model.me (after_release model.f model.me model.state e es) e)
+replied model new id place e es sends after is h grown at told =
     let last : place ≡ length new.state.log.entries - 1 = omega (arith, grown, at) in
     told ∙ ap (λ (n : ℕ). sends ++ map (parcel (Replica new.me)) (fast_replies new.f new.me new.state id n (lookup (id_eq id) new.state.origin))) last
     ∙ (λ i.
@@ -51,22 +51,22 @@ unfolding releases
 stop_is f me s [] q = refl
 stop_is f me s (e ∷ es) q = ap (λ b. cond b (after_first f me s e es) (s, [])) q
 
-pub goes_on : (f me : ℕ) (end : ReplicaData × List Parcel) (seat new : ReplicaModel) (sends after : List Parcel) (early : List Entry)
-    → seat.state.early ≡ early → first_may seat.state early ≡ true
-    → ((e : Entry) (es : List Entry) → seat.state.early ≡ e ∷ es → new ≡ record seat { state = after_release seat.f seat.me seat.state e es })
-    → ((e : Entry) (es : List Entry) → seat.state.early ≡ e ∷ es
-    → after ≡ sends ++ map (parcel (Replica seat.me)) (release_replies seat.f seat.me (after_release seat.f seat.me seat.state e es) e))
-    → Releases f me end seat sends → Releases f me end new after
-goes_on f me end seat new sends after [] is may h k r = absurd cc
-goes_on f me end seat new sends after (e ∷ es) is may h k r =
-    let next = after_release f me seat.state e es in
-    let one : releases f me seat.state seat.state.early ≡ after_first f me seat.state e es =
-    ap (releases f me seat.state) is ∙ release_is f me seat.state e es may in
+pub goes_on : (f me : ℕ) (end : ReplicaData × List Parcel) (model new : ReplicaModel) (sends after : List Parcel) (early : List Entry)
+    → model.state.early ≡ early → first_may model.state early ≡ true
+    → ((e : Entry) (es : List Entry) → model.state.early ≡ e ∷ es → new ≡ record model { state = after_release model.f model.me model.state e es })
+    → ((e : Entry) (es : List Entry) → model.state.early ≡ e ∷ es
+    → after ≡ sends ++ map (parcel (Replica model.me)) (release_replies model.f model.me (after_release model.f model.me model.state e es) e))
+    → Releases f me end model sends → Releases f me end new after
+goes_on f me end model new sends after [] is may h k r = absurd cc
+goes_on f me end model new sends after (e ∷ es) is may h k r =
+    let next = after_release f me model.state e es in
+    let one : releases f me model.state model.state.early ≡ after_first f me model.state e es =
+    ap (releases f me model.state) is ∙ release_is f me model.state e es may in
     let new-is : new ≡ record { f = f; me = me; state = next } =
-    h e es is ∙ (λ i. record { f = r.size i; me = r.number i; state = after_release (r.size i) (r.number i) seat.state e es }) in
+    h e es is ∙ (λ i. record { f = r.size i; me = r.number i; state = after_release (r.size i) (r.number i) model.state e es }) in
     let after-is : after ≡ sends ++ map (parcel (Replica me)) (release_replies f me next e) =
     k e es is ∙ (λ i. sends ++ map (parcel (Replica (r.number i)))
-    (release_replies (r.size i) (r.number i) (after_release (r.size i) (r.number i) seat.state e es) e)) in
+    (release_replies (r.size i) (r.number i) (after_release (r.size i) (r.number i) model.state e es) e)) in
     let told = ap (λ (t : ReplicaData × List Out). sends ++ map (parcel (Replica me)) t.1) one in
     let done : Releases f me end (record { f = f; me = me; state = next }) after = record {
       size = refl;
@@ -80,25 +80,25 @@ goes_on f me end seat new sends after (e ∷ es) is may h k r =
     } in
     subst (λ (v : ReplicaModel). Releases f me end v after) (sym new-is) done
 
-pub is_done : (f me : ℕ) (end : ReplicaData × List Parcel) (seat : ReplicaModel) (sends : List Parcel)
-    → first_may seat.state seat.state.early ≡ false → Releases f me end seat sends
-    → (seat ≡ record { f = f; me = me; state = end.0 }) × (sends ≡ end.1)
-is_done f me end seat sends over r =
-    let one = stop_is f me seat.state seat.state.early over in
-    let state-is : seat.state ≡ end.0 = sym (ap (λ (t : ReplicaData × List Out). t.0) one) ∙ r.state in
+pub is_done : (f me : ℕ) (end : ReplicaData × List Parcel) (model : ReplicaModel) (sends : List Parcel)
+    → first_may model.state model.state.early ≡ false → Releases f me end model sends
+    → (model ≡ record { f = f; me = me; state = end.0 }) × (sends ≡ end.1)
+is_done f me end model sends over r =
+    let one = stop_is f me model.state model.state.early over in
+    let state-is : model.state ≡ end.0 = sym (ap (λ (t : ReplicaData × List Out). t.0) one) ∙ r.state in
     let sends-is : sends ≡ end.1 = sym (ap (λ (t : ReplicaData × List Out). sends ++ map (parcel (Replica me)) t.1) one ∙ append-nil sends) ∙ r.all in
     (λ i. record { f = r.size i; me = r.number i; state = state-is i }, sends-is)
 
-pub begins : (seat : ReplicaModel) (sends : List Parcel) → is_normal seat.state.status ≡ true
-    → Releases seat.f seat.me (
-      (releases seat.f seat.me seat.state seat.state.early).0,
-      sends ++ map (parcel (Replica seat.me)) (releases seat.f seat.me seat.state seat.state.early).1,
-    ) seat sends
-begins seat sends normal = record { size = refl; number = refl; normal = normal; state = refl; all = refl }
+pub begins : (model : ReplicaModel) (sends : List Parcel) → is_normal model.state.status ≡ true
+    → Releases model.f model.me (
+      (releases model.f model.me model.state model.state.early).0,
+      sends ++ map (parcel (Replica model.me)) (releases model.f model.me model.state model.state.early).1,
+    ) model sends
+begins model sends normal = record { size = refl; number = refl; normal = normal; state = refl; all = refl }
 
 -- a release leaves fewer
-pub fewer : (seat new : ReplicaModel) (early : List Entry) → seat.state.early ≡ early → first_may seat.state early ≡ true
-    → ((e : Entry) (es : List Entry) → seat.state.early ≡ e ∷ es → new ≡ record seat { state = after_release seat.f seat.me seat.state e es })
-    → length new.state.early < length seat.state.early
-fewer seat new [] is may h = absurd cc
-fewer seat new (e ∷ es) is may h = omega (arith, ap length is, ap (λ (v : ReplicaModel). length v.state.early) (h e es is))
+pub fewer : (model new : ReplicaModel) (early : List Entry) → model.state.early ≡ early → first_may model.state early ≡ true
+    → ((e : Entry) (es : List Entry) → model.state.early ≡ e ∷ es → new ≡ record model { state = after_release model.f model.me model.state e es })
+    → length new.state.early < length model.state.early
+fewer model new [] is may h = absurd cc
+fewer model new (e ∷ es) is may h = omega (arith, ap length is, ap (λ (v : ReplicaModel). length v.state.early) (h e es is))

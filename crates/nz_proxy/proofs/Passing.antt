@@ -7,7 +7,7 @@ use Rattle.nz_msg.specs.declared.envelope.Envelope.{Envelope}
 use Rattle.nz_machine.specs.declared.event.Parcel.{Parcel}
 use Rattle.nz_machine.specs.State.{ProxyData, Out}
 use Rattle.nz_machine.specs.Step.{is_in_cluster, is_sized, message_vector, if_from_cluster, envelope_step}
-use Rattle.nz_proxy.specs.Seats.{group_with_cluster}
+use Rattle.nz_proxy.specs.Models.{group_with_cluster}
 
 -- where nothing is sent
 pub nothing_sent : (f : Out → Parcel) (sends : List Parcel) (outs : List Out) → outs ≡ [] → sends ≡ sends ++ map f outs

@@ -1,4 +1,4 @@
 -- The modules of this crate's definitions.
 pub mod Standings
-pub mod Seats
+pub mod Models
 pub mod Sending

@@ -10,7 +10,7 @@ ghost use Rattle.nz_machine.specs.Proxies as proxies;
 ghost use Rattle.nz_machine.specs.Proxies.{first_proxy, crashed_proxy, restarted_proxy, of_fast, of_slow};
 ghost use Rattle.nz_machine.specs.Step.{node_step, envelope_step, if_from_cluster, accepted_envelope, parcel};
 ghost use Rattle.nz_machine.specs.Step.{is_in_cluster, is_sized, message_vector, proxy_message};
-ghost use Rattle.nz_proxy.specs.Seats.{IsSameProxy, group_with_cluster, proxy_after_tick};
+ghost use Rattle.nz_proxy.specs.Models.{IsSameProxy, group_with_cluster, proxy_after_tick};
 
 use crate::state::{ProxyState, clock_rule, reply_rule, stamp_rule};
 use nz_base::{Actor, Cluster, NoMemory};
@@ -28,18 +28,18 @@ pub struct Proxy {
 }
 
 impl Model for Proxy {
-    ghost use Rattle.nz_proxy.specs.Seats.{ProxyView};
+    ghost use Rattle.nz_proxy.specs.Models.{ProxyCore};
 
-    ghost Value = { ProxyView };
+    ghost Value = { ProxyCore };
 
-    ghost view = { λ p. record { seat = p.state; live = p.live } };
+    ghost view = { λ p. record { model = p.state; live = p.live } };
 }
 
 impl Proxy {
     /// A proxy in its first state.
     pub fn new(alloc: Global, cluster: Cluster, me: u8) -> Proxy
         requires { me < MAX_PROXIES }
-        ensures { result ≡ record { seat = record { f = cluster; me = me; state = first_proxy cluster }; live = true } }
+        ensures { result ≡ record { model = record { f = cluster; me = me; state = first_proxy cluster }; live = true } }
     {
         Proxy {
             state: ProxyState::new(alloc, cluster, me),
@@ -49,14 +49,14 @@ impl Proxy {
 
     /// Forgets all, and is down until it restarts.
     pub fn crash(&mut self)
-        ensures { self.new ≡ record self.old { seat = record self.old.seat { state = crashed_proxy self.old.seat.f } } }
+        ensures { self.new ≡ record self.old { model = record self.old.model { state = crashed_proxy self.old.model.f } } }
     {
         self.state.crash();
     }
 
     /// Begins anew, if it is down.
     pub fn restart(&mut self)
-        ensures { self.new ≡ record self.old { seat = record self.old.seat { state = restarted_proxy self.old.seat.f self.old.seat.state } } }
+        ensures { self.new ≡ record self.old { model = record self.old.model { state = restarted_proxy self.old.model.f self.old.model.state } } }
     {
         self.state.restart();
     }
@@ -197,11 +197,11 @@ impl Core for Proxy {
     ghost use Rattle.std.specs.Prelude.{◌≡◌};
     ghost use Rattle.nz_base.specs.declared.actor.Actor.TheVariants as actors;
 
-    ghost meaning = { λ p. record { actor = actors.Proxy p.seat.me; state = p.seat.state } };
+    ghost meaning = { λ p. record { actor = actors.Proxy p.model.me; state = p.model.state } };
 
     ghost live = { λ p. p.live };
 
-    ghost fits = { λ p g. g.f ≡ p.seat.f };
+    ghost fits = { λ p g. g.f ≡ p.model.f };
 
     fn step(&mut self, event: &Event) -> Result<Sends, NoMemory> {
         let mut sends = Sends::new(self.state.allocator());

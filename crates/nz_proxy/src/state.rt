@@ -19,7 +19,7 @@ ghost use Rattle.nz_quorum.specs.Tallies.{IsOfCluster, replica_of};
 ghost use Rattle.nz_window.specs.Samples.{bound_of, with_sample};
 ghost use Rattle.nz_proxy.specs.Standings.{known_standing, IsFitStanding, HasFitAnswer, answers_to_client};
 ghost use Rattle.nz_proxy.specs.Sending.{to_each};
-ghost use Rattle.nz_proxy.specs.Seats.{IsSameProxy};
+ghost use Rattle.nz_proxy.specs.Models.{IsSameProxy};
 
 use crate::standing::Standing;
 use indexmap::IndexMap;
@@ -46,9 +46,9 @@ pub struct ProxyState {
 
 impl Model for ProxyState {
     ghost use Rattle.nz_proxy.specs.Standings.{known_standings};
-    ghost use Rattle.nz_proxy.specs.Seats.{ProxySeat, IsKeptProxy};
+    ghost use Rattle.nz_proxy.specs.Models.{ProxyModel, IsKeptProxy};
 
-    ghost Value = { ProxySeat };
+    ghost Value = { ProxyModel };
 
     ghost view = { λ s. record {
       f = s.cluster;

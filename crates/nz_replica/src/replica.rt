@@ -12,7 +12,7 @@ ghost use Rattle.nz_machine.specs.Does.{Does};
 ghost use Rattle.nz_machine.specs.Step as step_words;
 ghost use Rattle.nz_machine.specs.Step.{envelope_step, replica_message, accepted_envelope};
 ghost use Rattle.nz_machine.specs.Step.{parcel, is_in_cluster, is_sized, message_vector};
-ghost use Rattle.nz_replica.specs.Seats.{IsOf};
+ghost use Rattle.nz_replica.specs.Models.{IsOf};
 
 use nz_base::{Actor, Cluster, NoMemory};
 use nz_log::HashedLog;
@@ -38,11 +38,11 @@ pub struct Replica {
 
 impl Model for Replica {
     ghost use Rattle.std.specs.Prelude.{◌≡◌, IsTrue};
-    ghost use Rattle.nz_replica.specs.Seats.{ReplicaView};
+    ghost use Rattle.nz_replica.specs.Models.{ReplicaCore};
 
-    ghost Value = { ReplicaView };
+    ghost Value = { ReplicaCore };
 
-    ghost view = { λ r. record { f = r.cluster; seat = r.state; live = r.live } };
+    ghost view = { λ r. record { f = r.cluster; model = r.state; live = r.live } };
 
     ghost invariant = { λ r. IsTrue r.live → r.state.f ≡ r.cluster };
 }
@@ -52,7 +52,7 @@ impl Replica {
     pub fn new(alloc: Global, cluster: Cluster, me: u8) -> Result<Replica, NoMemory>
         requires { me < replica_count cluster }
         ensures { IfOk result (λ replica. replica
-            ≡ record { f = cluster; seat = record { f = cluster; me = me; state = first_replica cluster }; live = true }) }
+            ≡ record { f = cluster; model = record { f = cluster; me = me; state = first_replica cluster }; live = true }) }
     {
         Ok(Replica {
             cluster,
@@ -62,33 +62,33 @@ impl Replica {
     }
 
     pub fn log(&self) -> &HashedLog
-        ensures { result.now ≡ self.now.seat.state.log }
+        ensures { result.now ≡ self.now.model.state.log }
     {
         self.state.log()
     }
 
     pub fn view(&self) -> u64
-        ensures { result ≡ self.now.seat.state.view }
+        ensures { result ≡ self.now.model.state.view }
     {
         self.state.view()
     }
 
     pub fn commit(&self) -> u32
-        ensures { result ≡ self.now.seat.state.commit }
+        ensures { result ≡ self.now.model.state.commit }
     {
         self.state.commit()
     }
 
     /// Whether it is out of service.
     pub fn is_down(&self) -> bool
-        ensures { result ≡ replicas.is_down self.now.seat.state.status }
+        ensures { result ≡ replicas.is_down self.now.model.state.status }
     {
         self.state.is_down()
     }
 
     /// Whether it is on the way back after a crash.
     pub fn is_rejoining(&self) -> bool
-        ensures { result ≡ replicas.is_rejoining self.now.seat.state.status }
+        ensures { result ≡ replicas.is_rejoining self.now.model.state.status }
     {
         self.state.is_rejoining()
     }
@@ -193,7 +193,7 @@ impl Core for Replica {
     ghost use Rattle.std.specs.Prelude.{◌≡◌};
     ghost use Rattle.nz_base.specs.declared.actor.Actor.TheVariants as actors;
 
-    ghost meaning = { λ r. record { actor = actors.Replica r.seat.me; state = r.seat.state } };
+    ghost meaning = { λ r. record { actor = actors.Replica r.model.me; state = r.model.state } };
 
     ghost live = { λ r. r.live };
 

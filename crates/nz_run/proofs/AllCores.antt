@@ -10,9 +10,9 @@ use Rattle.nz_machine.specs.Replicas.{numbers_below}
 use Rattle.nz_machine.specs.State.{Group}
 use Rattle.nz_machine.specs.Step.{Node}
 use Rattle.nz_machine.specs.Schedule.{group_of, IsPlayable}
-use Rattle.nz_replica.specs.Seats.{ReplicaView}
-use Rattle.nz_proxy.specs.Seats.{ProxyView}
-use Rattle.nz_client.specs.Seats.{ClientView}
+use Rattle.nz_replica.specs.Models.{ReplicaCore}
+use Rattle.nz_proxy.specs.Models.{ProxyCore}
+use Rattle.nz_client.specs.Models.{ClientCore}
 use Rattle.nz_run.specs.declared.cast.Cast.{Cast}
 use Rattle.nz_run.specs.Casts.{AreAt, record_of, replica_node, ReplicaFits, proxy_node, ProxyFits, client_node}
 use Rattle.nz_run.specs.Casts.{ClientFits, new_replica, new_proxy, new_client, IsCast}
@@ -26,7 +26,7 @@ cast_begins s cast play replicas proxies clients =
     let g = group_of s in
     record {
       replicas =
-          all_begin replica_node (λ (r : ReplicaView). r.live) ReplicaFits g actors.Replica (new_replica s.cluster)
+          all_begin replica_node (λ (r : ReplicaCore). r.live) ReplicaFits g actors.Replica (new_replica s.cluster)
           (replica_count s.cluster) cast.replicas.items replicas
           (λ k lt. record {
             stands = ap (λ (x : _). let n : Node = record { actor = actors.Replica k; state = x } in
@@ -34,13 +34,13 @@ cast_begins s cast play replicas proxies clients =
             lives = refl;
             is_of = refl;
           });
-      proxies = all_begin proxy_node (λ (p : ProxyView). p.live) ProxyFits g actors.Proxy (new_proxy s.cluster) s.proxies cast.proxies.items proxies
+      proxies = all_begin proxy_node (λ (p : ProxyCore). p.live) ProxyFits g actors.Proxy (new_proxy s.cluster) s.proxies cast.proxies.items proxies
           (λ k lt. record {
             stands = ap (λ (x : _). let n : Node = record { actor = actors.Proxy k; state = x } in n) (begin_at g (actors.Proxy k));
             lives = refl;
             is_of = refl;
           });
-      clients = all_begin client_node (λ (c : ClientView). c.live) ClientFits g actors.Client (new_client s) s.clients cast.clients.items clients
+      clients = all_begin client_node (λ (c : ClientCore). c.live) ClientFits g actors.Client (new_client s) s.clients cast.clients.items clients
           (λ k lt. record {
             stands = ap (λ (x : _). let n : Node = record { actor = actors.Client k; state = x } in n)
                 (begin_at g (actors.Client k));
@@ -52,47 +52,47 @@ cast_begins s cast play replicas proxies clients =
       client_count = long_begin (new_client s) s.clients cast.clients.items clients ∙ sym play.scripts;
     }
 
-pub replica_took : (g : Group) (J : List Record) (cast : Cast) (v : Vec ReplicaView Global) (i tick : ℕ) (e : Event) (sends : List Parcel) → IsCast g J cast
-    → AreAt replica_node (λ (r : ReplicaView). r.live) ReplicaFits g actors.Replica (record_of tick (actors.Replica i) e sends ∷ J) v.items
+pub replica_took : (g : Group) (J : List Record) (cast : Cast) (v : Vec ReplicaCore Global) (i tick : ℕ) (e : Event) (sends : List Parcel) → IsCast g J cast
+    → AreAt replica_node (λ (r : ReplicaCore). r.live) ReplicaFits g actors.Replica (record_of tick (actors.Replica i) e sends ∷ J) v.items
     → length v.items ≡ length cast.replicas.items
     → IsCast g (record_of tick (actors.Replica i) e sends ∷ J) (record cast { replicas = v })
 replica_took g J cast v i tick e sends h at long = record {
   replicas = at;
-  proxies = all_stay proxy_node (λ (p : ProxyView). p.live) ProxyFits g actors.Proxy J cast.proxies.items (actors.Replica i) e sends tick (λ k. refl) h.proxies;
+  proxies = all_stay proxy_node (λ (p : ProxyCore). p.live) ProxyFits g actors.Proxy J cast.proxies.items (actors.Replica i) e sends tick (λ k. refl) h.proxies;
   clients =
-      all_stay client_node (λ (c : ClientView). c.live) ClientFits g actors.Client J cast.clients.items
+      all_stay client_node (λ (c : ClientCore). c.live) ClientFits g actors.Client J cast.clients.items
       (actors.Replica i) e sends tick (λ k. refl) h.clients;
   replica_count = long ∙ h.replica_count;
   proxy_count = h.proxy_count;
   client_count = h.client_count;
 }
 
-pub proxy_took : (g : Group) (J : List Record) (cast : Cast) (v : Vec ProxyView Global) (i tick : ℕ) (e : Event) (sends : List Parcel) → IsCast g J cast
-    → AreAt proxy_node (λ (p : ProxyView). p.live) ProxyFits g actors.Proxy (record_of tick (actors.Proxy i) e sends ∷ J) v.items
+pub proxy_took : (g : Group) (J : List Record) (cast : Cast) (v : Vec ProxyCore Global) (i tick : ℕ) (e : Event) (sends : List Parcel) → IsCast g J cast
+    → AreAt proxy_node (λ (p : ProxyCore). p.live) ProxyFits g actors.Proxy (record_of tick (actors.Proxy i) e sends ∷ J) v.items
     → length v.items ≡ length cast.proxies.items
     → IsCast g (record_of tick (actors.Proxy i) e sends ∷ J) (record cast { proxies = v })
 proxy_took g J cast v i tick e sends h at long = record {
   replicas =
-      all_stay replica_node (λ (r : ReplicaView). r.live) ReplicaFits g actors.Replica J cast.replicas.items
+      all_stay replica_node (λ (r : ReplicaCore). r.live) ReplicaFits g actors.Replica J cast.replicas.items
       (actors.Proxy i) e sends tick (λ k. refl) h.replicas;
   proxies = at;
   clients =
-      all_stay client_node (λ (c : ClientView). c.live) ClientFits g actors.Client J cast.clients.items
+      all_stay client_node (λ (c : ClientCore). c.live) ClientFits g actors.Client J cast.clients.items
       (actors.Proxy i) e sends tick (λ k. refl) h.clients;
   replica_count = h.replica_count;
   proxy_count = long ∙ h.proxy_count;
   client_count = h.client_count;
 }
 
-pub client_took : (g : Group) (J : List Record) (cast : Cast) (v : Vec ClientView Global) (i tick : ℕ) (e : Event) (sends : List Parcel) → IsCast g J cast
-    → AreAt client_node (λ (c : ClientView). c.live) ClientFits g actors.Client (record_of tick (actors.Client i) e sends ∷ J) v.items
+pub client_took : (g : Group) (J : List Record) (cast : Cast) (v : Vec ClientCore Global) (i tick : ℕ) (e : Event) (sends : List Parcel) → IsCast g J cast
+    → AreAt client_node (λ (c : ClientCore). c.live) ClientFits g actors.Client (record_of tick (actors.Client i) e sends ∷ J) v.items
     → length v.items ≡ length cast.clients.items
     → IsCast g (record_of tick (actors.Client i) e sends ∷ J) (record cast { clients = v })
 client_took g J cast v i tick e sends h at long = record {
   replicas =
-      all_stay replica_node (λ (r : ReplicaView). r.live) ReplicaFits g actors.Replica J cast.replicas.items
+      all_stay replica_node (λ (r : ReplicaCore). r.live) ReplicaFits g actors.Replica J cast.replicas.items
       (actors.Client i) e sends tick (λ k. refl) h.replicas;
-  proxies = all_stay proxy_node (λ (p : ProxyView). p.live) ProxyFits g actors.Proxy J cast.proxies.items (actors.Client i) e sends tick (λ k. refl) h.proxies;
+  proxies = all_stay proxy_node (λ (p : ProxyCore). p.live) ProxyFits g actors.Proxy J cast.proxies.items (actors.Client i) e sends tick (λ k. refl) h.proxies;
   clients = at;
   replica_count = h.replica_count;
   proxy_count = h.proxy_count;

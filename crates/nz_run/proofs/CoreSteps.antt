@@ -22,7 +22,7 @@ use Rattle.nz_machine.specs.Schedule.{IsPlayable}
 use Rattle.nz_machine.proofs.EachItem.{all_imply}
 use Rattle.nz_machine.proofs.ListParts.{all_get}
 use Rattle.nz_machine.proofs.SentFields.{command_fits}
-use Rattle.nz_client.specs.Seats.{IsSendable, AreSendable}
+use Rattle.nz_client.specs.Models.{IsSendable, AreSendable}
 use Rattle.nz_machine.proofs.Runs.{acts_itself, stays}
 use Rattle.nz_run.specs.Casts.{IsAt, AreAt, record_of, sends_of}
 

@@ -61,7 +61,8 @@ restart_most before (faults.Block from to first last ∷ lines) nonce t e = let 
 restart_most before (faults.Crash a at ∷ lines) nonce t e = let ih = restart_most before lines nonce t e in omega (arith, ih)
 restart_most before (faults.Alarm a at ∷ lines) nonce t e = let ih = restart_most before lines nonce t e in omega (arith, ih)
 restart_most before (faults.Restart a at ∷ lines) nonce t e =
-    cond_both (eqb nonce (before + 1)) (Some at) (restart_tick (before + 1) lines nonce) (λ (o : Option ℕ). o ≡ Some t → nonce ≤ before + length (faults.Restart a at ∷ lines))
+    cond_both (eqb nonce (before + 1)) (Some at) (restart_tick (before + 1) lines nonce)
+    (λ (o : Option ℕ). o ≡ Some t → nonce ≤ before + length (faults.Restart a at ∷ lines))
     (λ own _. let same = eqb-true nonce (before + 1) own in omega (arith, same))
     (λ _ later. let ih = restart_most (before + 1) lines nonce t later in omega (arith, ih)) e
 

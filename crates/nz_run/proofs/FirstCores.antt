@@ -7,9 +7,9 @@ use Rattle.nz_base.specs.declared.scenario.Scenario.{Scenario}
 use Rattle.nz_machine.specs.State.{Group}
 use Rattle.nz_machine.specs.Step.{Node, first_node}
 use Rattle.nz_machine.specs.Schedule.{group_of}
-use Rattle.nz_replica.specs.Seats.{ReplicaView}
-use Rattle.nz_proxy.specs.Seats.{ProxyView}
-use Rattle.nz_client.specs.Seats.{ClientView}
+use Rattle.nz_replica.specs.Models.{ReplicaCore}
+use Rattle.nz_proxy.specs.Models.{ProxyCore}
+use Rattle.nz_client.specs.Models.{ClientCore}
 use Rattle.nz_run.specs.declared.cast.Cast.{Cast}
 use Rattle.nz_run.specs.Casts.{IsAt, IsCast, replica_node, ReplicaFits, proxy_node, ProxyFits, client_node, ClientFits}
 use Rattle.nz_run.specs.Stages.{HasNotStepped}
@@ -25,19 +25,19 @@ not_stepped g a meaning live fits h = record {
 }
 
 abbrev ReplicasFirst : Cast → Scenario → Type 0
-ReplicasFirst cast s = All (λ (r : ReplicaView). HasNotStepped (group_of s) (replica_node r) r.live (ReplicaFits r (group_of s))) cast.replicas.items
+ReplicasFirst cast s = All (λ (r : ReplicaCore). HasNotStepped (group_of s) (replica_node r) r.live (ReplicaFits r (group_of s))) cast.replicas.items
 
 pub replicas_first : (s t : Scenario) (cast : Cast) → IsCast (group_of s) [] cast → s ≡ t → ReplicasFirst cast t
 replicas_first s t cast h e = subst (ReplicasFirst cast) e (λ k d lt. not_stepped (group_of s) (actors.Replica k) _ _ _ (h.replicas k d lt))
 
 abbrev ProxiesFirst : Cast → Scenario → Type 0
-ProxiesFirst cast s = All (λ (p : ProxyView). HasNotStepped (group_of s) (proxy_node p) p.live (ProxyFits p (group_of s))) cast.proxies.items
+ProxiesFirst cast s = All (λ (p : ProxyCore). HasNotStepped (group_of s) (proxy_node p) p.live (ProxyFits p (group_of s))) cast.proxies.items
 
 pub proxies_first : (s t : Scenario) (cast : Cast) → IsCast (group_of s) [] cast → s ≡ t → ProxiesFirst cast t
 proxies_first s t cast h e = subst (ProxiesFirst cast) e (λ k d lt. not_stepped (group_of s) (actors.Proxy k) _ _ _ (h.proxies k d lt))
 
 abbrev ClientsFirst : Cast → Scenario → Type 0
-ClientsFirst cast s = All (λ (c : ClientView). HasNotStepped (group_of s) (client_node c) c.live (ClientFits c (group_of s))) cast.clients.items
+ClientsFirst cast s = All (λ (c : ClientCore). HasNotStepped (group_of s) (client_node c) c.live (ClientFits c (group_of s))) cast.clients.items
 
 pub clients_first : (s t : Scenario) (cast : Cast) → IsCast (group_of s) [] cast → s ≡ t → ClientsFirst cast t
 clients_first s t cast h e = subst (ClientsFirst cast) e (λ k d lt. not_stepped (group_of s) (actors.Client k) _ _ _ (h.clients k d lt))

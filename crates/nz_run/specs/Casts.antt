@@ -15,9 +15,9 @@ use Rattle.nz_machine.specs.Step.{Node, node_step, script_of}
 use Rattle.nz_machine.specs.World.{state_after, World}
 use Rattle.nz_machine.specs.Schedule.{group_of}
 use Rattle.nz_fabric.specs.States.{State, records_of}
-use Rattle.nz_replica.specs.Seats.{ReplicaView}
-use Rattle.nz_proxy.specs.Seats.{ProxyView}
-use Rattle.nz_client.specs.Seats.{ClientView, IsClientInGroup}
+use Rattle.nz_replica.specs.Models.{ReplicaCore}
+use Rattle.nz_proxy.specs.Models.{ProxyCore}
+use Rattle.nz_client.specs.Models.{ClientCore, IsClientInGroup}
 use Rattle.nz_run.specs.declared.cast.Cast.{Cast}
 
 -- The actor's core: its state is the actor's after the records, and it is live.
@@ -42,41 +42,41 @@ sends_of g J a e = (node_step g a (state_after g a J) e).1
 -- ---- the cores of each sort
 
 -- The actor that a replica's core is, with its state.
-abbrev pub replica_node : ReplicaView → Node
-replica_node r = record { actor = actors.Replica r.seat.me; state = r.seat.state }
+abbrev pub replica_node : ReplicaCore → Node
+replica_node r = record { actor = actors.Replica r.model.me; state = r.model.state }
 
 -- The replica is of the group's cluster.
-abbrev pub ReplicaFits : ReplicaView → Group → Type 0
+abbrev pub ReplicaFits : ReplicaCore → Group → Type 0
 ReplicaFits r g = g.f ≡ r.f
 
 -- The actor that a proxy's core is, with its state.
-abbrev pub proxy_node : ProxyView → Node
-proxy_node p = record { actor = actors.Proxy p.seat.me; state = p.seat.state }
+abbrev pub proxy_node : ProxyCore → Node
+proxy_node p = record { actor = actors.Proxy p.model.me; state = p.model.state }
 
 -- The proxy is of the group's cluster.
-abbrev pub ProxyFits : ProxyView → Group → Type 0
-ProxyFits p g = g.f ≡ p.seat.f
+abbrev pub ProxyFits : ProxyCore → Group → Type 0
+ProxyFits p g = g.f ≡ p.model.f
 
 -- The actor that a client's core is, with its state.
-abbrev pub client_node : ClientView → Node
-client_node c = record { actor = actors.Client c.seat.me; state = c.seat.state }
+abbrev pub client_node : ClientCore → Node
+client_node c = record { actor = actors.Client c.model.me; state = c.model.state }
 
 -- The client is of the group: its script, the window and the number of proxies.
-abbrev pub ClientFits : ClientView → Group → Type 0
-ClientFits c g = IsClientInGroup g c.seat
+abbrev pub ClientFits : ClientCore → Group → Type 0
+ClientFits c g = IsClientInGroup g c.model
 
 -- What the cores begin with.
-abbrev pub new_replica : ℕ → ℕ → ReplicaView
-new_replica f me = record { f = f; seat = record { f = f; me = me; state = first_replica f }; live = true }
+abbrev pub new_replica : ℕ → ℕ → ReplicaCore
+new_replica f me = record { f = f; model = record { f = f; me = me; state = first_replica f }; live = true }
 
 -- The core of a proxy at the start.
-abbrev pub new_proxy : ℕ → ℕ → ProxyView
-new_proxy f me = record { seat = record { f = f; me = me; state = first_proxy f }; live = true }
+abbrev pub new_proxy : ℕ → ℕ → ProxyCore
+new_proxy f me = record { model = record { f = f; me = me; state = first_proxy f }; live = true }
 
 -- The core of a client at the start.
-abbrev pub new_client : Scenario → ℕ → ClientView
+abbrev pub new_client : Scenario → ℕ → ClientCore
 new_client s me =
-    record { seat = record { me = me; proxies = s.proxies; window = s.window; script = script_of (group_of s) me; state = first_client }; live = true }
+    record { model = record { me = me; proxies = s.proxies; window = s.window; script = script_of (group_of s) me; state = first_client }; live = true }
 
 -- Every actor of the group has its core.
 pub record IsCast (g : Group) (J : List Record) (cast : Cast) : Type 0 where

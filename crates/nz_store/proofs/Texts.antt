@@ -4,21 +4,13 @@ use Rattle.std.specs.Prelude.{nat_le}
 use Rattle.std.specs.Bool.{Decides}
 use Rattle.std.specs.List.{list_all, AllPass}
 use Rattle.std.specs.Str.{bytes_eq}
-use Rattle.std.proofs.lemmas.Bool.{leb-true, le-leb}
+use Rattle.std.proofs.lemmas.Bool.{leb-true, le-leb, and_parts, and_from}
 use Rattle.std.proofs.lemmas.Slice.Eq.{bytes_eq-Decides}
 use Rattle.std.proofs.lemmas.List.Sums.{AllPass-from_list_all, list_all-from_AllPass}
 use Rattle.nz_store.specs.declared.command.Command.{Command}
 use Rattle.nz_store.specs.declared.command.Command.TheVariants.{Put, Get, Del, Cas}
 use Rattle.nz_store.specs.Grammar.{is_graphic, dash, IsKey, IsValue, IsOptionalValue, IsValidCommand}
 use Rattle.nz_store.specs.Reading.{is_text, is_key_text, is_value_text, is_choice_text, has_spelling}
-
-pub both_of : (a b : Bool) → (a && b) ≡ true → (a ≡ true) × (b ≡ true)
-both_of true b e = (refl, e)
-both_of false b e = absurd cc
-
-both : (a b : Bool) → a ≡ true → b ≡ true → (a && b) ≡ true
-both true b p q = q
-both false b p q = absurd cc
 
 record IsText (most : ℕ) (bytes : List ℕ) : Type 0 where
   some : 1 ≤ length bytes
@@ -27,14 +19,14 @@ record IsText (most : ℕ) (bytes : List ℕ) : Type 0 where
 
 text_from_test : (most : ℕ) (bytes : List ℕ) → is_text most bytes ≡ true → IsText most bytes
 text_from_test most bytes e =
-    let outer = both_of (nat_le 1 (length bytes) && nat_le (length bytes) most) (list_all is_graphic bytes) e in
-    let inner = both_of (nat_le 1 (length bytes)) (nat_le (length bytes) most) outer.0 in
+    let outer = and_parts (nat_le 1 (length bytes) && nat_le (length bytes) most) (list_all is_graphic bytes) e in
+    let inner = and_parts (nat_le 1 (length bytes)) (nat_le (length bytes) most) outer.0 in
     record { some = leb-true _ _ inner.0; short = leb-true _ _ inner.1; graphic = AllPass-from_list_all is_graphic bytes outer.1 }
 
 test_from_text : (most : ℕ) (bytes : List ℕ) → 1 ≤ length bytes → length bytes ≤ most → AllPass is_graphic bytes → is_text most bytes ≡ true
 test_from_text most bytes some short graphic =
-    both (nat_le 1 (length bytes) && nat_le (length bytes) most) (list_all is_graphic bytes)
-    (both (nat_le 1 (length bytes)) (nat_le (length bytes) most) (le-leb _ _ some) (le-leb _ _ short))
+    and_from (nat_le 1 (length bytes) && nat_le (length bytes) most) (list_all is_graphic bytes)
+    (and_from (nat_le 1 (length bytes)) (nat_le (length bytes) most) (le-leb _ _ some) (le-leb _ _ short))
     (list_all-from_AllPass is_graphic bytes graphic)
 
 pub key_from_test : (bytes : List ℕ) → is_key_text bytes ≡ true → IsKey bytes
@@ -53,13 +45,13 @@ is_not false P d n = refl
 
 pub value_from_test : (bytes : List ℕ) → is_value_text bytes ≡ true → IsValue bytes
 value_from_test bytes e =
-    let parts = both_of (is_text 256 bytes) (not (bytes_eq bytes dash)) e in
+    let parts = and_parts (is_text 256 bytes) (not (bytes_eq bytes dash)) e in
     let t = text_from_test 256 bytes parts.0 in
     record { some = t.some; short = t.short; graphic = t.graphic; other = differs (bytes_eq bytes dash) (bytes ≡ dash) (bytes_eq-Decides bytes dash) parts.1 }
 
 pub test_from_value : (bytes : List ℕ) → IsValue bytes → is_value_text bytes ≡ true
 test_from_value bytes h =
-    both (is_text 256 bytes) (not (bytes_eq bytes dash)) (test_from_text 256 bytes h.some h.short h.graphic)
+    and_from (is_text 256 bytes) (not (bytes_eq bytes dash)) (test_from_text 256 bytes h.some h.short h.graphic)
     (is_not (bytes_eq bytes dash) (bytes ≡ dash) (bytes_eq-Decides bytes dash) h.other)
 
 choice_from_test : (value : Option (List ℕ)) → is_choice_text value ≡ true → IsOptionalValue value
@@ -73,17 +65,17 @@ test_from_choice (Some value) h = test_from_value value h
 -- the test of a command tells the commands that have a spelling
 pub tells_valid : (c : Command) → IsTrue (has_spelling c) ↔ IsValidCommand c
 tells_valid (Put key value) = (
-  (λ e. let p = both_of (is_key_text key) (is_value_text value) e in (key_from_test key p.0, value_from_test value p.1)),
-  (λ h. both (is_key_text key) (is_value_text value) (test_from_key key h.0) (test_from_value value h.1)),
+  (λ e. let p = and_parts (is_key_text key) (is_value_text value) e in (key_from_test key p.0, value_from_test value p.1)),
+  (λ h. and_from (is_key_text key) (is_value_text value) (test_from_key key h.0) (test_from_value value h.1)),
 )
 tells_valid (Get key) = (key_from_test key, test_from_key key)
 tells_valid (Del key) = (key_from_test key, test_from_key key)
 tells_valid (Cas key old new) = (
   (λ e.
-      let p = both_of (is_key_text key && is_choice_text old) (is_choice_text new) e in
-      let q = both_of (is_key_text key) (is_choice_text old) p.0 in
+      let p = and_parts (is_key_text key && is_choice_text old) (is_choice_text new) e in
+      let q = and_parts (is_key_text key) (is_choice_text old) p.0 in
       (key_from_test key q.0, choice_from_test old q.1, choice_from_test new p.1)),
   (λ h.
-      both (is_key_text key && is_choice_text old) (is_choice_text new)
-      (both (is_key_text key) (is_choice_text old) (test_from_key key h.0) (test_from_choice old h.1)) (test_from_choice new h.2)),
+      and_from (is_key_text key && is_choice_text old) (is_choice_text new)
+      (and_from (is_key_text key) (is_choice_text old) (test_from_key key h.0) (test_from_choice old h.1)) (test_from_choice new h.2)),
 )

@@ -16,11 +16,9 @@ use Rattle.nz_machine.specs.declared.event.Parcel.{Parcel}
 use Rattle.nz_machine.specs.State.{Out}
 use Rattle.nz_machine.specs.Replicas.{numbers_below}
 use Rattle.nz_machine.specs.Step.{parcel}
+use Rattle.nz_machine.proofs.ListParts.{take_next}
 
 -- ---- items from a place on
-
-pub next_taken : {X : Type 0} (xs : List X) (i : ℕ) (x : X) → slice_get xs i ≡ Some x → take (i + 1) xs ≡ take i xs ++ x ∷ []
-next_taken xs i x at = take_more xs i x (slice_get_within xs i x at) ∙ ap (λ y. take i xs ++ y ∷ []) (get_or_from_slice_get xs i x x at)
 
 next_told : {X : Type 0} (xs : List X) (start place : ℕ) (x : X) → start ≤ place → slice_get xs place ≡ Some x
     → take (place + 1 - start) (drop start xs) ≡ take (place - start) (drop start xs) ++ x ∷ []
@@ -84,7 +82,7 @@ other_told me n tell before sends after other is next =
 
 next_asked : (p : Entry → Bool) (es : List Entry) (i : ℕ) (e : Entry) → slice_get es i ≡ Some e
     → filter p (take (i + 1) es) ≡ filter p (take i es) ++ filter p (e ∷ [])
-next_asked p es i e at = ap (filter p) (next_taken es i e at) ∙ filter-append p (take i es) (e ∷ [])
+next_asked p es i e at = ap (filter p) (take_next es i e at) ∙ filter-append p (take i es) (e ∷ [])
 
 pub asked_in : (p : Entry → Bool) (es : List Entry) (i : ℕ) (e : Entry) → slice_get es i ≡ Some e → p e ≡ true
     → filter p (take (i + 1) es) ≡ filter p (take i es) ++ e ∷ []

@@ -92,21 +92,21 @@ all_sent f sends first second third a b c one two three =
     ∙ ap (λ (xs : List Parcel). sends ++ xs) (sym (map-append f a (b ++ c) ∙ ap (λ (xs : List Parcel). map f a ++ xs) (map-append f b c)))
 
 -- what is sent after the taking of keys: replies, a fetch and a report
-pub taken_sends : (f me leader : ℕ) (b : LogModBody) (s : ReplicaData) (keys : List Key) (seat : ReplicaModel)
+pub taken_sends : (f me leader : ℕ) (b : LogModBody) (s : ReplicaData) (keys : List Key) (model : ReplicaModel)
     (ids : List Id) (synced : ℕ) (sends first second third : List Parcel)
     → after_log_mod leader b s ≡ after_taking_keys s leader b.commit (sync_keys s keys)
-    → seat ≡ record { f = f; me = me; state = (after_taking_keys s leader b.commit (sync_keys s keys)).0 }
-    → ids ≡ missing_ids seat.state (sync_keys s keys).1 → synced ≡ s.log.synced
-    → first ≡ sends ++ map (parcel (Replica seat.me)) (replies_since seat.state synced)
-    → second ≡ first ++ map (parcel (Replica seat.me)) (fetch_from leader seat.state ids)
-    → third ≡ second ++ map (parcel (Replica seat.me)) (sync_report_to leader seat.state ∷ [])
+    → model ≡ record { f = f; me = me; state = (after_taking_keys s leader b.commit (sync_keys s keys)).0 }
+    → ids ≡ missing_ids model.state (sync_keys s keys).1 → synced ≡ s.log.synced
+    → first ≡ sends ++ map (parcel (Replica model.me)) (replies_since model.state synced)
+    → second ≡ first ++ map (parcel (Replica model.me)) (fetch_from leader model.state ids)
+    → third ≡ second ++ map (parcel (Replica model.me)) (sync_report_to leader model.state ∷ [])
     → third ≡ sends ++ map (parcel (Replica me)) (after_log_mod leader b s).1
-taken_sends f me leader b s keys seat ids synced sends first second third whole is missing count one two three =
+taken_sends f me leader b s keys model ids synced sends first second third whole is missing count one two three =
     let left = (sync_keys s keys).1 in
-    all_sent (parcel (Replica seat.me)) sends first second third (replies_since seat.state synced)
-    (fetch_from leader seat.state ids) (sync_report_to leader seat.state ∷ []) one two three
-    ∙ (λ i. sends ++ map (parcel (Replica seat.me))
-    (replies_since seat.state (count i) ++ (fetch_from leader seat.state (missing i) ++ sync_report_to leader seat.state ∷ [])))
+    all_sent (parcel (Replica model.me)) sends first second third (replies_since model.state synced)
+    (fetch_from leader model.state ids) (sync_report_to leader model.state ∷ []) one two three
+    ∙ (λ i. sends ++ map (parcel (Replica model.me))
+    (replies_since model.state (count i) ++ (fetch_from leader model.state (missing i) ++ sync_report_to leader model.state ∷ [])))
     ∙ (λ i.
     let now : ReplicaModel = is i in
     sends ++ map (parcel (Replica now.me))
@@ -125,10 +125,10 @@ unfolding with_late_entries
 next_kept s es i e within is =
     ap (with_late_entries s) (drop-cons es i e within ∙ (λ j. sym is j ∷ drop (sym (add-one i) j) es))
 
-pub all_kept : (seat first : ReplicaModel) (es : List Entry) (i : ℕ) → length es ≤ i → seat.f ≡ first.f
-    → seat.me ≡ first.me → with_late_entries seat.state (drop i es) ≡ with_late_entries first.state es
-    → seat ≡ record first { state = with_late_entries first.state es }
+pub all_kept : (model first : ReplicaModel) (es : List Entry) (i : ℕ) → length es ≤ i → model.f ≡ first.f
+    → model.me ≡ first.me → with_late_entries model.state (drop i es) ≡ with_late_entries first.state es
+    → model ≡ record first { state = with_late_entries first.state es }
 unfolding with_late_entries
-all_kept seat first es i past size number is =
-    let last : seat.state ≡ with_late_entries first.state es = sym (ap (with_late_entries seat.state) (drop_of_length-le es past)) ∙ is in
+all_kept model first es i past size number is =
+    let last : model.state ≡ with_late_entries first.state es = sym (ap (with_late_entries model.state) (drop_of_length-le es past)) ∙ is in
     λ j. record { f = size j; me = number j; state = last j }

@@ -3,9 +3,9 @@
 mod frames;
 
 use super::*;
-use Told::{Fetch, Fetched, LogMod, Plain, Report, Slow, Timed};
+use Content::{Fetch, Fetched, LogMod, Plain, Report, Slow, Timed};
 use bytes::Bytes;
-use frames::{Field, Place, Told, frame, head};
+use frames::{Content, Field, Place, frame, head};
 use nz_base::TryCopy;
 use std::process::Abort;
 use std::test::*;
@@ -13,7 +13,7 @@ use std::test::*;
 /// What comes to a replica: a message, a parcel that another sent, by its number, or a clock.
 #[derive(Clone, Copy)]
 enum Input<'a> {
-    Hear(Told<'a>),
+    Hear(Content<'a>),
     Pass(usize),
     Clock(u64),
 }
@@ -49,15 +49,15 @@ fn parcel(alloc: Global, from: u16, to: u16, bytes: &[u8]) -> Result<Parcel, Fai
 }
 
 // The parcel of a message.
-fn sent(alloc: Global, replica: u16, told: &Told) -> Result<Parcel, Fail> {
-    let head = head(replica, told);
-    parcel(alloc, head.1, head.2, &frame(alloc, head, told)?)
+fn sent(alloc: Global, replica: u16, content: &Content) -> Result<Parcel, Fail> {
+    let head = head(replica, content);
+    parcel(alloc, head.1, head.2, &frame(alloc, head, content)?)
 }
 
 // The event of an input.
 fn event_of(alloc: Global, me: u16, input: &Input, mail: &[Parcel]) -> Result<Event, Fail> {
     match input {
-        Hear(told) => Ok(Event::Deliver(sent(alloc, me, told)?)),
+        Hear(content) => Ok(Event::Deliver(sent(alloc, me, content)?)),
         Clock(clock) => Ok(Event::Tick(*clock)),
         Pass(place) => match mail.get(*place) {
             None => Err("no such parcel".into()),
@@ -84,8 +84,8 @@ fn take_all(alloc: Global, core: &mut Replica, me: u16, inputs: &[Input]) -> Res
     Ok(())
 }
 
-fn is(alloc: Global, parcel: &Parcel, replica: u16, told: &Told) -> Result<bool, Fail> {
-    let wanted = sent(alloc, replica, told)?;
+fn is(alloc: Global, parcel: &Parcel, replica: u16, content: &Content) -> Result<bool, Fail> {
+    let wanted = sent(alloc, replica, content)?;
     Ok(
         parcel.from == wanted.from
             && parcel.to == wanted.to
@@ -94,14 +94,14 @@ fn is(alloc: Global, parcel: &Parcel, replica: u16, told: &Told) -> Result<bool,
 }
 
 /// What is sent by a replica, or by the leader to it.
-type Sent<'a> = (u16, Told<'a>);
+type Sent<'a> = (u16, Content<'a>);
 
 fn are(alloc: Global, parcels: &[Parcel], wanted: &[Sent]) -> Result<bool, Fail> {
     if parcels.len() != wanted.len() {
         return Ok(false);
     }
-    for (parcel, (replica, told)) in parcels.iter().zip(wanted) {
-        if !is(alloc, parcel, *replica, told)? {
+    for (parcel, (replica, content)) in parcels.iter().zip(wanted) {
+        if !is(alloc, parcel, *replica, content)? {
             return Ok(false);
         }
     }
@@ -280,7 +280,7 @@ fn three_replicas_of_which_one_fetches(rt: HostRuntime) -> Result<(), Fail> {
 /// committed, early and late, and what is sent.
 type Row = (
     &'static [Input<'static>],
-    Told<'static>,
+    Content<'static>,
     &'static [Place],
     (u32, u32, usize, usize),
     &'static [Sent<'static>],
@@ -556,24 +556,24 @@ type Case = (
     (u16, u16),
     (u16, u16),
     usize,
-    Told<'static>,
+    Content<'static>,
     (u32, usize, usize),
 );
 
-const TIMED: Told = Timed(1, 100);
+const TIMED: Content = Timed(1, 100);
 
-const EMPTY: Told = LogMod(0, 0, &[]);
+const EMPTY: Content = LogMod(0, 0, &[]);
 
 // The same with five counters, of view 3, which replica 0 leads, and of view 4.
-const FIVE: Told = Plain(6, &[(8, 0), (1, 5), (8, 0), (8, 0), (8, 0), (4, 0), (1, 0)]);
+const FIVE: Content = Plain(6, &[(8, 0), (1, 5), (8, 0), (8, 0), (8, 0), (4, 0), (1, 0)]);
 
-const VIEW_3: Told = Plain(6, &[(8, 3), (1, 3), (8, 0), (8, 0), (4, 0), (1, 0)]);
+const VIEW_3: Content = Plain(6, &[(8, 3), (1, 3), (8, 0), (8, 0), (4, 0), (1, 0)]);
 
-const VIEW_4: Told = Plain(6, &[(8, 4), (1, 3), (8, 0), (8, 0), (4, 0), (1, 0)]);
+const VIEW_4: Content = Plain(6, &[(8, 4), (1, 3), (8, 0), (8, 0), (4, 0), (1, 0)]);
 
-const FETCH: Told = Fetch(&[(8, 1)]);
+const FETCH: Content = Fetch(&[(8, 1)]);
 
-const FETCHED: Told = Fetched(&[(100, 1)]);
+const FETCHED: Content = Fetched(&[(100, 1)]);
 
 const CASES: &[Case] = &[
     (1, (16, 1), (16, 1), 0, TIMED, (0, 1, 0)),
@@ -611,8 +611,8 @@ fn cases() -> &'static [Case] {
 
 // The parcel of a case.
 fn parcel_of(alloc: Global, case: &Case) -> Result<Parcel, Fail> {
-    let (_, (from, to), (sender, receiver), lost, told, _) = case;
-    let mut bytes = frame(alloc, (head(0, told).0, *sender, *receiver), told)?;
+    let (_, (from, to), (sender, receiver), lost, content, _) = case;
+    let mut bytes = frame(alloc, (head(0, content).0, *sender, *receiver), content)?;
     bytes.truncate(bytes.len().saturating_sub(*lost));
     parcel(alloc, *from, *to, &bytes)
 }

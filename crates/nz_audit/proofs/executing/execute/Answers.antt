@@ -5,19 +5,19 @@ use Rattle.nz_store.specs.Entries.{Entries}
 use Rattle.nz_store.specs.Sequence.{store_after, apply_bytes}
 use Rattle.nz_machine.specs.Replicas.{commands}
 use Rattle.nz_machine.specs.Journals.{executed_entries}
-use Rattle.nz_sync.proofs.Broadcasts.{next_taken}
-use Rattle.nz_machine.proofs.Stores.{store_pushed}
-use Rattle.nz_audit.proofs.Executions.{store_first, executed_more}
+use Rattle.nz_machine.proofs.ListParts.{take_next}
+use Rattle.nz_machine.proofs.Stores.{no_store, store_pushed}
+use Rattle.nz_audit.proofs.Executions.{executed_more}
 use Rattle.nz_audit.proofs.executing.execute.Goals as goal
 
 pub loop-place-init : goal.loop-place-init
-loop-place-init c = record { store = c.new-store.ensures ∙ sym store_first; history = c.new-history.ensures }
+loop-place-init c = record { store = c.new-store.ensures ∙ sym no_store; history = c.new-history.ensures }
 
 pub loop-place-preserved : goal.loop-place-preserved
 loop-place-preserved c =
     let e = c.get-entry.result.now in
     let es = take c.loop-place.place c.args.log.now.entries in
-    let next = next_taken c.args.log.now.entries c.loop-place.place e c.get-entry.ensures in
+    let next = take_next c.args.log.now.entries c.loop-place.place e c.get-entry.ensures in
     let bytes = c.as_slice.ensures in
     let answer =
     c.in-Ok.ensures.answer ∙ ap (λ (b : List ℕ). (apply_bytes c.loop-place.store b).1) bytes

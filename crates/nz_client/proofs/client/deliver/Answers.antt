@@ -4,7 +4,7 @@ use Rattle.nz_base.specs.declared.actor.Actor.{Actor}
 use Rattle.nz_base.specs.declared.actor.Actor.TheVariants.{Client}
 use Rattle.nz_machine.specs.State.{ClientData, Out, Group}
 use Rattle.nz_machine.specs.Step.{envelope_for, parcel}
-use Rattle.nz_client.specs.Seats.{IsClientInGroup}
+use Rattle.nz_client.specs.Models.{IsClientInGroup}
 use Rattle.nz_client.proofs.Passing.{delivered}
 use Rattle.nz_client.proofs.client.deliver.Goals as goal
 

@@ -3,7 +3,7 @@ use Rattle.std.proofs.Common.{◌≡◌, ℕ, ◌+◌, ◌≤◌, true, List, le
 use Rattle.std.specs.List.{AllByRecursion}
 use Rattle.nz_machine.specs.declared.data.Attempt.{Attempt}
 use Rattle.nz_machine.specs.Clients.{is_open}
-use Rattle.nz_client.specs.Seats.{ClientSeat, IsOfProxies}
+use Rattle.nz_client.specs.Models.{ClientModel, IsOfProxies}
 use Rattle.nz_client.proofs.Windows.{less_open, all_without}
 use Rattle.nz_client.proofs.state.accept.Goals as goal
 
@@ -12,7 +12,7 @@ invariant_of-state c =
     let k = c.state.invariant in
     let xs : List Attempt = c.state.inside.attempts.items in
     let awaited : is_open c.args.num xs ≡ true =
-    subst (λ (seat : ClientSeat). is_open c.args.num seat.state.attempts ≡ true) (sym c.state.view_is) c.requires in
+    subst (λ (model : ClientModel). is_open c.args.num model.state.attempts ≡ true) (sym c.state.view_is) c.requires in
     let less = less_open c.args.num xs awaited in
     let in_turn = k.in_turn in
     let few = k.few in

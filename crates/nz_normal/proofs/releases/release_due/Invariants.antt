@@ -8,9 +8,9 @@ use Rattle.nz_normal.proofs.releases.release_due.Given as goal
 
 abbrev pub invariant-due : goal.invariant-due
 invariant-due l =
-    let seat = l.fn.state in
-    let all = releases seat.f seat.me seat.state seat.state.early in
-    Releases seat.f seat.me (all.0, l.fn.sends ++ map (parcel (Replica seat.me)) all.1) l.state l.sends
+    let model = l.fn.state in
+    let all = releases model.f model.me model.state model.state.early in
+    Releases model.f model.me (all.0, l.fn.sends ++ map (parcel (Replica model.me)) all.1) l.state l.sends
 
 abbrev pub decreases-due : goal.decreases-due
 decreases-due l = length l.state.state.early

@@ -4,33 +4,33 @@ use Rattle.nz_base.specs.declared.actor.Actor.{Actor}
 use Rattle.nz_base.specs.declared.actor.Actor.TheVariants.{Proxy}
 use Rattle.nz_machine.specs.State.{ProxyData, Out}
 use Rattle.nz_machine.specs.Step.{parcel, envelope_for, accepted_envelope, envelope_step}
-use Rattle.nz_proxy.specs.Seats.{ProxySeat, group_with_cluster}
+use Rattle.nz_proxy.specs.Models.{ProxyModel, group_with_cluster}
 use Rattle.nz_proxy.proofs.Passing.{counts, nothing_sent, passed_over}
 use Rattle.nz_proxy.proofs.proxy.deliver.Goals as goal
 use Rattle.nz_proxy.proofs.proxy.deliver.Goals.{then-is_down-via-then-is_down, then-is_down-via-else-is_down+then-not-is_from_cluster}
 
-abbrev with_state : ProxySeat → ProxyData → ProxySeat
-with_state seat s = record seat { state = s }
+abbrev with_state : ProxyModel → ProxyData → ProxyModel
+with_state model s = record model { state = s }
 
 -- a proxy that is down, and a message that does not count
 nothing_done : (c : goal.Joined-envelope)
     → envelope_step (group_with_cluster c.args.state.now.f) (Proxy c.args.state.now.me) c.args.state.now.state
     (accepted_envelope c.args.state.now.f (Proxy c.args.state.now.me) c.args.p.now) ≡ (c.args.state.now.state, [])
 nothing_done c =
-    let seat = c.args.state.now in
+    let model = c.args.state.now in
     let is = ap (λ (a : Actor). envelope_for a c.args.p.now) (sym c.name.ensures.name) ∙ sym c.in_ok-heard.ensures.value ∙ c.in-Some.is in
     elim c.then-is_down.branch [
-      | then-is_down-via-then-is_down w ↦ passed_over seat.f seat.me seat.state _ c.in-Some.envelope is (inl (sym c.is_down.ensures ∙ w.if-is_down.true))
+      | then-is_down-via-then-is_down w ↦ passed_over model.f model.me model.state _ c.in-Some.envelope is (inl (sym c.is_down.ensures ∙ w.if-is_down.true))
       | then-is_down-via-else-is_down+then-not-is_from_cluster w ↦
-          passed_over seat.f seat.me seat.state _ c.in-Some.envelope is
+          passed_over model.f model.me model.state _ c.in-Some.envelope is
           (inr (ap (λ (f : ℕ). counts f c.in-Some.envelope) (sym w.cluster.ensures) ∙ sym w.is_from_cluster.ensures ∙ w.if-not-is_from_cluster.true))
     ]
 
 pub returns-then-is_down-clause-state : goal.returns-then-is_down-clause-state
 returns-then-is_down-clause-state c =
-    let seat = c.args.state.now in
+    let model = c.args.state.now in
     let same = nothing_done c in
-    ap (λ (x : ProxyData × List Out). with_state seat x.0) (sym same)
+    ap (λ (x : ProxyData × List Out). with_state model x.0) (sym same)
 
 pub returns-then-is_down-clause-sends : goal.returns-then-is_down-clause-sends
 returns-then-is_down-clause-sends c =

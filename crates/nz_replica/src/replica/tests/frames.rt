@@ -11,7 +11,7 @@ pub type Field = (usize, u64);
 
 /// Messages of view 0 with crash counters 0, on requests of client 0 that proxy 0 sent at clock 0.
 #[derive(Clone, Copy)]
-pub enum Told<'a> {
+pub enum Content<'a> {
     /// Number and deadline.
     Timed(u64, u64),
     /// Number and delay.
@@ -26,7 +26,7 @@ pub enum Told<'a> {
     Plain(u64, &'a [Field]),
 }
 
-use Told::{Fetch, Fetched, LogMod, Plain, Report, Slow, Timed};
+use Content::{Fetch, Fetched, LogMod, Plain, Report, Slow, Timed};
 
 fn put(bytes: &mut Vec<u8>, fields: &[Field]) -> Result<(), NoMemory> {
     for (width, number) in fields {
@@ -71,8 +71,8 @@ fn put_fetched(bytes: &mut Vec<u8>, entries: &[Place]) -> Result<(), NoMemory> {
     put_items(bytes, entries, 5)
 }
 
-fn put_body(bytes: &mut Vec<u8>, told: &Told) -> Result<(), NoMemory> {
-    match *told {
+fn put_body(bytes: &mut Vec<u8>, content: &Content) -> Result<(), NoMemory> {
+    match *content {
         Timed(num, deadline) => put(bytes, &[(8, 0), (8, deadline), (8, num), (5, command(num))]),
         Slow(num, delay) => put(bytes, &[(8, 0), (8, num), (4, delay)]),
         LogMod(start, commit, keys) => put_log_mod(bytes, start, commit, keys),
@@ -84,8 +84,8 @@ fn put_body(bytes: &mut Vec<u8>, told: &Told) -> Result<(), NoMemory> {
 }
 
 // The kind, the sender and the receiver. Replica 0 leads, and its own messages go to the one that is named.
-pub fn head(replica: u16, told: &Told) -> (u64, u16, u16) {
-    match told {
+pub fn head(replica: u16, content: &Content) -> (u64, u16, u16) {
+    match content {
         Timed(..) => (2, 16, replica),
         Slow(..) => (4, replica, 16),
         LogMod(..) => (6, 0, replica),
@@ -96,10 +96,10 @@ pub fn head(replica: u16, told: &Told) -> (u64, u16, u16) {
     }
 }
 
-pub fn frame(alloc: Global, head: (u64, u16, u16), told: &Told) -> Result<Vec<u8>, NoMemory> {
+pub fn frame(alloc: Global, head: (u64, u16, u16), content: &Content) -> Result<Vec<u8>, NoMemory> {
     let (kind, from, to) = head;
     let mut body = Vec::new(alloc);
-    put_body(&mut body, told)?;
+    put_body(&mut body, content)?;
     let size = (body.len() as u64).saturating_add(6);
     let mut bytes = Vec::new(alloc);
     put(

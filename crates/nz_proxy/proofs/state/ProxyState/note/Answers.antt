@@ -12,7 +12,7 @@ use Rattle.nz_msg.specs.Fields.{answer}
 use Rattle.nz_machine.specs.State.{ProxyData}
 use Rattle.nz_machine.specs.Proxies.{after_replica_reply, standing_of}
 use Rattle.nz_quorum.specs.Tallies.{IsOfCluster}
-use Rattle.nz_proxy.specs.Seats.{ProxySeat, IsKeptProxy}
+use Rattle.nz_proxy.specs.Models.{ProxyModel, IsKeptProxy}
 use Rattle.nz_proxy.specs.declared.standing.Standing.{Standing}
 use Rattle.nz_proxy.specs.declared.state.ProxyState.TheInside.{Inside}
 use Rattle.nz_proxy.specs.Standings.{IsFitEntry, known_standings, answers_to_client, standing_with_reply, answer_after_reply}
@@ -33,7 +33,7 @@ note-requires c =
     found_in c.self.inside.cluster c.args.id c.self.inside.standings.entries c.in-Some.standing.now
     c.self.invariant.standings c.in-Some.ensures.value in
     notable c.self.inside.cluster c.in-Some.standing.now c.args.reply found.standing
-    (subst (λ (f : ℕ). IsOfCluster f c.args.reply) (sym (ap (λ (s : ProxySeat). s.f) c.self.view_is)) c.requires.reply)
+    (subst (λ (f : ℕ). IsOfCluster f c.args.reply) (sym (ap (λ (s : ProxyModel). s.f) c.self.view_is)) c.requires.reply)
 
 -- ---- where the request is not known, nothing changes
 
@@ -62,7 +62,7 @@ none_state c same is none =
     let state : ProxyData = record { is_down = i.is_down; clock = i.clock; samples = i.window; standings = known_standings i.standings.entries } in
     let rule = notes_none i.cluster state i.standings.entries c.args.id c.args.reply (sym none) in
     let now =
-    subst (λ (s : ProxySeat). after_replica_reply s.f s.state c.args.id c.args.reply (standing_of s.state c.args.id)
+    subst (λ (s : ProxyModel). after_replica_reply s.f s.state c.args.id c.args.reply (standing_of s.state c.args.id)
     ≡ (state, [])) c.self.view_is rule in
     subst (λ (r : Outcome). IfOk r (λ told. IsRule c c.match-get_mut.self-inside told)) (sym is)
     (subst (λ (j : Inside). IsRule c j None) (sym same) now)
@@ -111,7 +111,7 @@ returns-clause-state c =
           let rule =
           on_ok w.note.result (w.note.new.self ≡ standing_with_reply k c.args.reply)
           (λ t. t ≡ answer_after_reply k c.args.reply) (λ t. IsRule c (record i { standings = m }) t) w.note.ensures.standing w.note.ensures.told
-          (λ new_is t t_is. subst (λ (s : ProxySeat). after_replica_reply s.f s.state c.args.id c.args.reply
+          (λ new_is t t_is. subst (λ (s : ProxyModel). after_replica_reply s.f s.state c.args.id c.args.reply
           (standing_of s.state c.args.id) ≡ (record state { standings = known_standings m.entries }, answers_to_client c.args.id t)) c.self.view_is
           (notes_some i.cluster state i.standings.entries m.entries c.args.id k w.note.new.self c.args.reply t
           found.standing (sym w.in-Some.ensures.value) entries new_is t_is)) in

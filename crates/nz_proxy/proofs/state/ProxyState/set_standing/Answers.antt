@@ -3,7 +3,7 @@ use Rattle.std.proofs.Common.{ℕ, Bool, List, ap, ◌∙◌, sym, subst}
 use Rattle.std.specs.List.{AllByRecursion}
 use Rattle.nz_base.specs.declared.key.Id.{Id}
 use Rattle.nz_machine.specs.State.{Standing as StandingModel}
-use Rattle.nz_proxy.specs.Seats.{ProxySeat}
+use Rattle.nz_proxy.specs.Models.{ProxyModel}
 use Rattle.nz_proxy.specs.declared.standing.Standing.{Standing}
 use Rattle.nz_proxy.specs.Standings.{known_standings, IsFitStanding, IsFitEntry}
 use Rattle.nz_proxy.proofs.Tables.{known_insert, fit_insert}
@@ -12,7 +12,7 @@ use Rattle.nz_proxy.proofs.state.ProxyState.set_standing.Goals as goal
 pub invariant_of-self-2 : goal.invariant_of-self-2
 invariant_of-self-2 c =
     let i = c.self.invariant in
-    let fit = subst (λ (f : ℕ). IsFitStanding f c.args.standing) (sym (ap (λ (s : ProxySeat). s.f) c.self.view_is)) c.requires.fit in
+    let fit = subst (λ (f : ℕ). IsFitStanding f c.args.standing) (sym (ap (λ (s : ProxyModel). s.f) c.self.view_is)) c.requires.fit in
     record {
       named = i.named;
       in_time = i.in_time;
@@ -23,7 +23,7 @@ invariant_of-self-2 c =
           (fit_insert c.self.inside.cluster c.self.inside.standings.entries c.args.id c.args.standing c.requires.client fit i.standings);
     }
 
-abbrev with_standings : ℕ → ℕ → Bool → ℕ → List (List ℕ) → List (Id × StandingModel) → ProxySeat
+abbrev with_standings : ℕ → ℕ → Bool → ℕ → List (List ℕ) → List (Id × StandingModel) → ProxyModel
 with_standings f me down clock samples standings =
     record { f = f; me = me; state = record { is_down = down; clock = clock; samples = samples; standings = standings } }
 

@@ -9,7 +9,7 @@ use Rattle.nz_machine.specs.State.{ClientData, Group}
 use Rattle.nz_machine.specs.Step.{script_of}
 
 -- The client's number, how many proxies there are, how many requests it may have open, its requests, and its state.
-pub record ClientSeat : Type 0 where
+pub record ClientModel : Type 0 where
   pub me : ℕ
   pub proxies : ℕ
   pub window : ℕ
@@ -48,19 +48,19 @@ least_open [] = None
 least_open (a ∷ attempts) = Some a.num
 
 -- The client is of this group.
-pub record IsClientInGroup (g : Group) (seat : ClientSeat) : Type 0 where
-  pub proxies : seat.proxies ≡ g.proxies
-  pub window : seat.window ≡ g.window
-  pub script : seat.script ≡ script_of g seat.me
+pub record IsClientInGroup (g : Group) (model : ClientModel) : Type 0 where
+  pub proxies : model.proxies ≡ g.proxies
+  pub window : model.window ≡ g.window
+  pub script : model.script ≡ script_of g model.me
 
 -- One client, maybe in another state.
-pub record IsSameClient (a b : ClientSeat) : Type 0 where
+pub record IsSameClient (a b : ClientModel) : Type 0 where
   pub me : b.me ≡ a.me
   pub proxies : b.proxies ≡ a.proxies
   pub window : b.window ≡ a.window
   pub script : b.script ≡ a.script
 
 -- What a contract sees of a client as a core: whether no step has run out of memory, too.
-pub record ClientView : Type 0 where
-  pub seat : ClientSeat
+pub record ClientCore : Type 0 where
+  pub model : ClientModel
   pub live : Bool

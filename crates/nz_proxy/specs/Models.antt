@@ -10,7 +10,7 @@ use Rattle.nz_proxy.specs.declared.standing.Standing.{Standing}
 use Rattle.nz_proxy.specs.Standings.{IsFitEntry}
 
 -- The f of the cluster, the proxy's number, and its state.
-pub record ProxySeat : Type 0 where
+pub record ProxyModel : Type 0 where
   pub f : ℕ
   pub me : ℕ
   pub state : ProxyData
@@ -27,13 +27,13 @@ abbrev pub group_with_cluster : ℕ → Group
 group_with_cluster f = record { f = f; proxies = 0; window = 0; scripts = [] }
 
 -- One proxy, maybe in another state.
-pub record IsSameProxy (a b : ProxySeat) : Type 0 where
+pub record IsSameProxy (a b : ProxyModel) : Type 0 where
   pub f : b.f ≡ a.f
   pub me : b.me ≡ a.me
 
 -- What a contract sees of a proxy as a core: whether no step has run out of memory, too.
-pub record ProxyView : Type 0 where
-  pub seat : ProxySeat
+pub record ProxyCore : Type 0 where
+  pub model : ProxyModel
   pub live : Bool
 
 -- The state after a tick.
