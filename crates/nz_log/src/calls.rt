@@ -6,7 +6,7 @@ ghost use Rattle.nz_log.specs.Synced.{synced_part};
 ghost use Rattle.nz_log.specs.Calls.{may_follow, has_room, may_be_log, may_replace, answer_to, after_call, answers_to, after_calls};
 
 use super::log_rep::LogRep;
-use super::parts::{contains, is_above};
+use super::entries::{contains, is_above};
 use nz_base::{Entry, EntryList, Id, Key, List, MAX_ENTRIES, NoMemory, TryCopy};
 use nz_digest::Digest;
 

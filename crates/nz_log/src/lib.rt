@@ -8,7 +8,7 @@ mod list_log;
 mod log;
 mod log_rep;
 mod pages;
-mod parts;
+mod entries;
 mod sums;
 
 pub use calls::{LogAnswer, LogAnswerList, LogCall, LogCallList, run_calls};

@@ -5,7 +5,7 @@ ghost use Rattle.nz_log.specs.Places.{last_entry};
 ghost use Rattle.nz_log.specs.Synced.{is_displaced};
 
 use super::PAGE;
-use super::parts::is_displaced;
+use super::entries::is_displaced;
 use nz_base::{Blob, Entry, EntryList, Key, List, NoMemory, TryCopy};
 use std::alloc::Global;
 use std::marker::Model;

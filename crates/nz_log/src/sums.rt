@@ -7,7 +7,7 @@ ghost use Rattle.nz_log.specs.Synced.{stays_after};
 ghost use Rattle.nz_log.specs.Keeping.{IsSummed, digest_with, without_place};
 
 use super::pages::Pages;
-use super::parts::stays_after;
+use super::entries::stays_after;
 use nz_base::Key;
 use nz_digest::Digest;
 

@@ -13,7 +13,7 @@ mod frame_kind;
 mod from_cluster;
 mod journal;
 mod laws;
-mod parts;
+mod buffers;
 mod receiving;
 mod reply;
 mod replying;

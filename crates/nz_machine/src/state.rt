@@ -26,7 +26,7 @@ mod viewing;
 
 use super::answers::copy_answer;
 use super::data::{Origin, Phase, Rejoin, Reported, Status};
-use super::parts::{last_key, put_early, put_late, take_in, vector_fits};
+use super::buffers::{last_key, put_early, put_late, take_in, vector_fits};
 use indexmap::IndexMap;
 use nz_base::{Actor, Cluster, Entry, Id, List, MAX_CLOCK, MAX_DELAY, MAX_ENTRIES, NoMemory};
 use nz_buffers::{Early, Late};

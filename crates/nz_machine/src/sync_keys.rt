@@ -15,7 +15,7 @@ ghost use Rattle.nz_machine.specs.Facts.{FitsEntry, AreApart};
 ghost use Rattle.nz_machine.specs.LogMods.{sync_keys, overtaken_to_late};
 ghost use Rattle.nz_machine.specs.Taking.{may_join, found_in, with_parts, after_first};
 
-use super::parts::last_key;
+use super::buffers::last_key;
 use nz_base::{Blob, Entry, EntryList, Id, Key, MAX_ENTRIES, NoMemory, TryCopy};
 use nz_buffers::{Early, Late};
 use nz_log::HashedLog;

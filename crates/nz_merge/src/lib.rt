@@ -4,7 +4,7 @@
 mod change;
 mod laws;
 mod new_log;
-mod parts;
+mod reports;
 #[cfg(test)]
 mod tests;
 

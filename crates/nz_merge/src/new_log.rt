@@ -4,7 +4,7 @@ ghost use Rattle.std.specs.Prelude.{◌≡◌, IfOk};
 ghost use Rattle.nz_merge.specs.Merged.{AreFit, merged};
 
 use super::change::ViewChanges;
-use super::parts::{
+use super::reports::{
     copy_entry, copy_synced_part, count_holders, greatest_last, keys_in_order, may_follow,
 };
 use nz_base::{Cluster, EntryList, NoMemory};

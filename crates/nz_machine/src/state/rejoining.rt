@@ -12,7 +12,7 @@ ghost use Rattle.nz_machine.specs.Rejoining.{with_new_counter, with_tell, with_t
 
 use super::super::collecting::{latest, note_teller, with_told};
 use super::super::data::{Phase, Status, ToldView};
-use super::super::parts::vector_fits;
+use super::super::buffers::vector_fits;
 use super::{ReplicaState, forget};
 use nz_base::{List, MAX_VIEW, NoMemory, REJOIN_PERIOD};
 use nz_cv::CrashVector;

@@ -1,0 +1,7 @@
+-- What the function of this folder owes, proved.
+use Rattle.std.proofs.Common.{◌∙◌}
+use Rattle.nz_log.proofs.Placing.{search_tells}
+use Rattle.nz_log.proofs.entries.contains.Goals as goal
+
+pub returns : goal.returns
+returns c = c.is_some.ensures ∙ search_tells c.find_place.result c.args.entries.now c.args.id c.find_place.ensures.found c.find_place.ensures.none

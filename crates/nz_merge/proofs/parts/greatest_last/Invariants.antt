@@ -1,7 +1,0 @@
--- What the loops of the function of this folder keep.
-use Rattle.std.proofs.Common.{◌≡◌, max, map, drop}
-use Rattle.nz_merge.specs.Merged.{greatest}
-use Rattle.nz_merge.proofs.parts.greatest_last.Given as goal
-
-abbrev pub invariant-loop-change : goal.invariant-loop-change
-invariant-loop-change l = max l.most (greatest (map (λ c. c.last) (drop l.change-index l.changes))) ≡ greatest (map (λ c. c.last) l.changes)

@@ -1,0 +1,15 @@
+-- What the loops of the function of this folder keep.
+use Rattle.std.proofs.Common.{◌≡◌, drop}
+use Rattle.std.specs.Prelude.{IfSome}
+use Rattle.std.specs.Option.{option_copied}
+use Rattle.nz_merge.specs.Merged.{IsFit, AreFit, of_view, with_synced, lowest}
+use Rattle.nz_merge.proofs.Loops.{joined}
+use Rattle.nz_merge.proofs.reports.most_synced.Given as goal
+
+abbrev pub invariant-loop-change : goal.invariant-loop-change
+invariant-loop-change l = record {
+  left_fit : AreFit (drop l.change-index l.changes);
+  best_fit : IfSome l.best (λ c. IsFit c.now);
+  best : joined (option_copied l.best) (lowest (with_synced l.most (of_view l.view (drop l.change-index l.changes))))
+      ≡ lowest (with_synced l.most (of_view l.view l.changes));
+}
