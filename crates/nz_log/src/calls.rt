@@ -5,8 +5,8 @@ ghost use Rattle.nz_base.specs.Log.{keys_of, has_id, is_above_last};
 ghost use Rattle.nz_log.specs.Synced.{synced_part};
 ghost use Rattle.nz_log.specs.Calls.{may_follow, has_room, may_be_log, may_replace, answer_to, after_call, answers_to, after_calls};
 
-use super::log_rep::LogRep;
 use super::entries::{contains, is_above};
+use super::log_rep::LogRep;
 use nz_base::{Entry, EntryList, Id, Key, List, MAX_ENTRIES, NoMemory, TryCopy};
 use nz_digest::Digest;
 

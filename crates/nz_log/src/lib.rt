@@ -2,13 +2,13 @@
 #![tactic(auto)]
 
 mod calls;
+mod entries;
 mod index;
 mod laws;
 mod list_log;
 mod log;
 mod log_rep;
 mod pages;
-mod entries;
 mod sums;
 
 pub use calls::{LogAnswer, LogAnswerList, LogCall, LogCallList, run_calls};

@@ -2,8 +2,8 @@
 
 ghost use Rattle.std.specs.Prelude.{◌≡◌, []};
 
-use super::log_rep::{Allocating, LogRep};
 use super::entries::{copy_displaced, copy_left_out, digest_of, find_place, put_at};
+use super::log_rep::{Allocating, LogRep};
 use nz_base::{Entry, EntryList, Id, List, NoMemory};
 use nz_digest::Digest;
 use std::alloc::Global;

@@ -6,8 +6,8 @@ ghost use Rattle.nz_log.specs.Places.{digest_of_log};
 ghost use Rattle.nz_log.specs.Synced.{stays_after};
 ghost use Rattle.nz_log.specs.Keeping.{IsSummed, digest_with, without_place};
 
-use super::pages::Pages;
 use super::entries::stays_after;
+use super::pages::Pages;
 use nz_base::Key;
 use nz_digest::Digest;
 

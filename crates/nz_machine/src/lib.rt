@@ -3,6 +3,7 @@
 #![tactic(auto)]
 
 mod answers;
+mod buffers;
 mod client_progress;
 mod collecting;
 mod commit_quorum;
@@ -13,7 +14,6 @@ mod frame_kind;
 mod from_cluster;
 mod journal;
 mod laws;
-mod buffers;
 mod receiving;
 mod reply;
 mod replying;

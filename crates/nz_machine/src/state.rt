@@ -25,8 +25,8 @@ mod sync;
 mod viewing;
 
 use super::answers::copy_answer;
-use super::data::{Origin, Phase, Rejoin, Reported, Status};
 use super::buffers::{last_key, put_early, put_late, take_in, vector_fits};
+use super::data::{Origin, Phase, Rejoin, Reported, Status};
 use indexmap::IndexMap;
 use nz_base::{Actor, Cluster, Entry, Id, List, MAX_CLOCK, MAX_DELAY, MAX_ENTRIES, NoMemory};
 use nz_buffers::{Early, Late};

@@ -10,9 +10,9 @@ ghost use Rattle.nz_machine.specs.Rejoining as rejoining;
 ghost use Rattle.nz_machine.specs.Rejoining.{last_counter, restarted_replica, with_teller};
 ghost use Rattle.nz_machine.specs.Rejoining.{with_new_counter, with_tell, with_tells, ask_views, ask_log};
 
+use super::super::buffers::vector_fits;
 use super::super::collecting::{latest, note_teller, with_told};
 use super::super::data::{Phase, Status, ToldView};
-use super::super::buffers::vector_fits;
 use super::{ReplicaState, forget};
 use nz_base::{List, MAX_VIEW, NoMemory, REJOIN_PERIOD};
 use nz_cv::CrashVector;

@@ -10,8 +10,8 @@ ghost use Rattle.nz_machine.specs.Requests.{is_full};
 ghost use Rattle.nz_machine.specs.Vectors.{with_vector};
 ghost use Rattle.nz_machine.specs.LogMods.{is_held, with_ack, with_commit, sync_keys, overtaken_to_late, committed_to, missing_ids};
 
-use super::super::commit_quorum::reported;
 use super::super::buffers::vector_fits;
+use super::super::commit_quorum::reported;
 use super::super::sync_keys::sync_parts;
 use super::{ReplicaState, forget};
 use nz_base::{Id, IdList, Key, MAX_ENTRIES, NoMemory};
