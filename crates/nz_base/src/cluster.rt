@@ -14,6 +14,7 @@ pub struct Cluster {
 }
 
 impl Model for Cluster {
+    ghost use Rattle.nz_base.specs.declared.limits.TheConstants.{MAX_F};
     ghost use Rattle.std.specs.Prelude.{ℕ, ◌≤◌};
 
     ghost Value = { ℕ };
