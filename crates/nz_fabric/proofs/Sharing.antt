@@ -11,6 +11,7 @@ use Rattle.nz_base.specs.declared.scenario.Scenario.{Scenario}
 use Rattle.nz_machine.specs.declared.event.Parcel.{Parcel}
 use Rattle.nz_machine.specs.declared.event.Record.{Record}
 use Rattle.nz_machine.specs.declared.journal.Item.{Item}
+use Rattle.nz_machine.proofs.ListParts.{take_next}
 use Rattle.nz_machine.specs.Schedule.{item_of, posted_by_run, ScheduledTo, IsPlayable}
 use Rattle.nz_fabric.specs.declared.open_turns.Running.{Running}
 use Rattle.nz_fabric.specs.declared.ticks.Ticks.{Ticks}
