@@ -1,4 +1,4 @@
-//! The numbers of the protocol and its limits, each with its only home.
+//! The numbers of the protocol and its limits. Code, contracts and definitions cite them from here.
 
 /// A log has at most this many entries; so do log, early and late together.
 pub const MAX_ENTRIES: u32 = 4096;

@@ -107,7 +107,7 @@ fn may_lead(state: &ReplicaState, view: u64) -> bool
         && state.view() <= view
 }
 
-/// A report comes to the leader of its view, which is in no later one.
+/// The leader of the report's view takes the report, unless the leader has entered a later view.
 #[tactic(auto, unfolding(nz_machine::specs::Begins::view_change_rule))]
 fn view_change_rule(
     state: &mut ReplicaState,
