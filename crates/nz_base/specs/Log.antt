@@ -1,5 +1,5 @@
 -- Logs, by their keys.
-use Rattle.std.specs.Prelude.{Bool, true, List, [], ◌∷◌, map, IsTrue, IsFalse}
+use Rattle.std.specs.Prelude.{◌≡◌, ℕ, ◌<◌, Bool, true, List, [], ◌∷◌, length, map, take, slice_index_or, IsTrue, IsFalse}
 use Rattle.std.specs.List.{list_any}
 use Rattle.nz_base.specs.declared.key.Key.{Key}
 use Rattle.nz_base.specs.declared.key.Id.{Id}
@@ -17,6 +17,12 @@ has_key keys key = list_any (key_eq key) keys
 -- Whether a key of a list has the id.
 abbrev pub has_id : List Key → Id → Bool
 has_id keys id = list_any (λ k. id_eq id (id_of k)) keys
+
+-- The first entry with the id is at this place.
+pub record IsFirstPlace (entries : List Entry) (id : Id) (place : ℕ) : Type 0 where
+  pub within : place < length entries
+  pub here : (d : Entry) → IsTrue (id_eq id (id_of (slice_index_or entries place d).key))
+  pub not_before : IsFalse (has_id (keys_of (take place entries)) id)
 
 -- Each key comes before those after it.
 abbrev pub AreRising : List Key → Type 0

@@ -5,6 +5,7 @@
 mod actor;
 mod blob;
 mod cluster;
+mod entries;
 mod key;
 mod laws;
 mod limits;
@@ -15,13 +16,14 @@ mod scenario;
 pub use actor::Actor;
 pub use blob::Blob;
 pub use cluster::Cluster;
+pub use entries::first_place;
 pub use key::{Entry, EntryList, Id, IdList, Key, KeyList};
 pub use laws::{actors_are_in_line, addresses_are_exact, keys_are_in_line};
 pub use limits::{
     ASK_PERIOD, MARGIN, MAX_CHANCES, MAX_CLIENT, MAX_CLIENTS, MAX_CLOCK, MAX_COMMAND, MAX_COUNT,
     MAX_DEADLINE, MAX_DELAY, MAX_ENTRIES, MAX_F, MAX_FAULTS, MAX_KEEP, MAX_KEYS, MAX_PROXIES,
     MAX_PROXY, MAX_QUIET, MAX_REPLICA, MAX_REPLICAS, MAX_REQUESTS, MAX_TEXT, MAX_TICKS, MAX_TURNS,
-    MAX_VALUE, MAX_VIEW, MAX_WINDOW, MAX_WORKERS, PATIENCE, REJOIN_PERIOD,
+    MAX_VALUE, MAX_VIEW, MAX_WINDOW, MAX_WORKERS, PATIENCE, REJOIN_PERIOD, UNITS_PER_TICK,
 };
 pub use list::List;
 pub use memory::{NoMemory, TryCopy};

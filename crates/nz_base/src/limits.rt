@@ -3,6 +3,9 @@
 /// A log has at most this many entries; so do log, early and late together.
 pub const MAX_ENTRIES: u32 = 4096;
 
+/// A tick in clock units.
+pub const UNITS_PER_TICK: u64 = 1_000;
+
 /// The last view.
 pub const MAX_VIEW: u64 = (1 << 62) - 1;
 

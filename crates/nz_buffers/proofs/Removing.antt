@@ -9,10 +9,9 @@ use Rattle.nz_base.specs.declared.key.Id.{Id}
 use Rattle.nz_base.specs.declared.key.Key.{Key}
 use Rattle.nz_base.specs.declared.key.Entry.{Entry}
 use Rattle.nz_base.specs.Key.{id_eq, id_of}
-use Rattle.nz_base.specs.Log.{keys_of, has_id, HaveOwnIds}
+use Rattle.nz_base.specs.Log.{keys_of, has_id, HaveOwnIds, IsFirstPlace}
 use Rattle.nz_base.proofs.Names.{same_id}
 use Rattle.nz_buffers.specs.Buffers.{find_id, without}
-use Rattle.nz_buffers.specs.Places.{IsFirstPlace}
 
 -- ---- the entry with an id
 

@@ -4,21 +4,9 @@ ghost use Rattle.std.specs.Prelude.{◌≡◌, ◌+◌, ◌≤◌, length, OnOk,
 ghost use Rattle.std.specs.Option.{option_copied};
 ghost use Rattle.nz_base.specs.Log.{keys_of, has_id, HaveOwnIds};
 ghost use Rattle.nz_buffers.specs.Buffers.{find_id, without, insert_by_key};
-ghost use Rattle.nz_buffers.specs.Places.{IsFirstPlace, key_place_from};
+ghost use Rattle.nz_buffers.specs.Places.{key_place_from};
 
-use nz_base::{Entry, Id, Key, NoMemory};
-
-fn place_of(entries: &[Entry], id: Id) -> Option<usize>
-    ensures found { IfSome result (λ place. IsFirstPlace entries.now id place) }
-    ensures none { IfNone result (IsFalse (has_id (keys_of entries.now) id)) }
-{
-    for (place, entry) in entries.iter().enumerate() {
-        if id == entry.key.id() {
-            return Some(place);
-        }
-    }
-    None
-}
+use nz_base::{Entry, Id, Key, NoMemory, first_place};
 
 pub fn find(entries: &[Entry], id: Id) -> Option<&Entry>
     ensures { option_copied result ≡ find_id entries.now id }
@@ -32,7 +20,7 @@ pub fn take_out(entries: &mut Vec<Entry>, id: Id) -> Option<Entry>
     ensures held { IsSome result ↔ IsTrue (has_id (keys_of entries.old.items) id) }
     ensures rest { entries.new.items ≡ without entries.old.items id }
 {
-    match place_of(entries, id) {
+    match first_place(entries, id) {
         Some(place) => Some(entries.remove(place)),
         None => None,
     }

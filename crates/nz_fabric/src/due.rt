@@ -6,12 +6,9 @@ ghost use Rattle.nz_machine.specs.Schedule as schedule;
 ghost use Rattle.nz_machine.specs.Schedule.{item, if_in, calls, skew_of, actors_of, tick_item};
 ghost use Rattle.nz_fabric.specs.Dues.{actor_of_sort, restarts_in};
 
-use nz_base::{Actor, Fault, MAX_CLOCK, NoMemory, Scenario, Skew};
+use nz_base::{Actor, Fault, MAX_CLOCK, NoMemory, Scenario, Skew, UNITS_PER_TICK};
 use nz_machine::{Event, Item};
 use std::alloc::Global;
-
-/// A tick in clock units.
-const UNITS: u64 = 1_000;
 
 /// The sorts of actors, in their order.
 #[derive(Clone, Copy, Debug)]
@@ -99,7 +96,7 @@ fn clock_at(scenario: &Scenario, tick: u32, actor: Actor) -> u64
     ensures { result ≡ schedule.clock_at scenario.now tick actor }
 {
     let units = units_of(scenario.skews.as_slice(), actor);
-    (UNITS * u64::from(tick))
+    (UNITS_PER_TICK * u64::from(tick))
         .saturating_add_signed(units)
         .min(MAX_CLOCK)
 }

@@ -6,10 +6,10 @@ use Rattle.std.specs.Option.{option_map}
 use Rattle.nz_base.specs.declared.key.Id.{Id}
 use Rattle.nz_base.specs.declared.key.Entry.{Entry}
 use Rattle.nz_base.specs.Key.{id_eq, id_of}
-use Rattle.nz_base.specs.Log.{keys_of, has_id, HaveOwnIds}
+use Rattle.nz_base.specs.Log.{keys_of, has_id, HaveOwnIds, IsFirstPlace}
 use Rattle.nz_base.proofs.Names.{same_id}
 use Rattle.nz_base.proofs.Booleans.{true_and_false}
-use Rattle.nz_log.specs.Places.{place_of, IsPlace, IsFirstPlace}
+use Rattle.nz_log.specs.Places.{place_of, IsPlace}
 
 pub place_held : (es : List Entry) (i : Id) → is_some (place_of es i) ≡ has_id (keys_of es) i
 place_held [] i = refl
@@ -30,16 +30,21 @@ place_none es i h = none (place_of es i) (place_held es i ∙ h)
     none None h = refl
     none (Some n) h = absurd cc
 
+-- the first place of an id is one
+pub first_is_place : (es : List Entry) (i : Id) (place : ℕ) → IsFirstPlace es i place → IsPlace es i place
+first_is_place es i place at = record { within = at.within; here = at.here }
+
 -- the first place of an id is its place
 pub first_place : (es : List Entry) (i : Id) (place : ℕ) → IsFirstPlace es i place → place_of es i ≡ Some place
-first_place [] i place at = absurd (let none : place < 0 = at.at.within in omega arith)
-first_place (e ∷ es) i zero at = rw (at.at.here e) refl
+first_place [] i place at = absurd (let none : place < 0 = at.within in omega arith)
+first_place (e ∷ es) i zero at = rw (at.here e) refl
 first_place (e ∷ es) i (suc place) at =
     let away = (or_parts (id_eq i (id_of e.key)) (has_id (keys_of (take place es)) i) at.not_before).0 in
-    let within : suc place < length (e ∷ es) = at.at.within in
+    let within : suc place < length (e ∷ es) = at.within in
     let rest : IsFirstPlace es i place =
     record {
-      at = record { within = omega arith; here = at.at.here };
+      within = omega arith;
+      here = at.here;
       not_before = (or_parts (id_eq i (id_of e.key)) (has_id (keys_of (take place es)) i) at.not_before).1;
     } in
     rw away (ap (λ (o : Option ℕ). option_map suc o) (first_place es i place rest))
@@ -89,4 +94,4 @@ place_only (e ∷ es) i (suc place) own at =
 pub search_tells : (found : Option ℕ) (es : List Entry) (i : Id) → IfSome found (λ place. IsFirstPlace es i place)
     → IfNone found (has_id (keys_of es) i ≡ false) → is_some found ≡ has_id (keys_of es) i
 search_tells None es i at away = sym away
-search_tells (Some place) es i at away = sym (held_at es i place at.at)
+search_tells (Some place) es i at away = sym (held_at es i place (first_is_place es i place at))

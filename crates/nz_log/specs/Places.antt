@@ -18,11 +18,6 @@ pub record IsPlace (log : List Entry) (id : Id) (place : ℕ) : Type 0 where
   pub within : place < length log
   pub here : (d : Entry) → id_eq id (id_of (slice_index_or log place d).key) ≡ true
 
--- It does, and none before it.
-pub record IsFirstPlace (log : List Entry) (id : Id) (place : ℕ) : Type 0 where
-  pub at : IsPlace log id place
-  pub not_before : has_id (keys_of (take place log)) id ≡ false
-
 -- The last entry, if there is one.
 abbrev pub last_entry : List Entry → Option Entry
 last_entry log = slice_get log (length log - 1)

@@ -3,10 +3,10 @@
 ghost use Rattle.std.specs.Prelude.{◌≡◌, ◌↔◌, ◌+◌, ◌≤◌, ◌<◌, ◌∷◌, ◌++◌, length, take, drop, filter, vec_len};
 ghost use Rattle.std.specs.Prelude.{IfOk, OnOk, OnErr, IfSome, IfNone, IsSome, IsTrue, IsFalse};
 ghost use Rattle.nz_base.specs.Log.{keys_of, has_id, is_above_last};
-ghost use Rattle.nz_log.specs.Places.{IsFirstPlace, digest_of_log};
+ghost use Rattle.nz_log.specs.Places.{digest_of_log};
 ghost use Rattle.nz_log.specs.Synced.{stays_after, is_displaced, left_out};
 
-use nz_base::{Entry, EntryList, Id, Key, List, MAX_ENTRIES, NoMemory, TryCopy};
+use nz_base::{Entry, EntryList, Id, Key, List, MAX_ENTRIES, NoMemory, TryCopy, first_place};
 use nz_digest::Digest;
 use std::alloc::Global;
 
@@ -22,24 +22,11 @@ pub fn digest_of(entries: &[Entry]) -> Digest
     digest
 }
 
-/// The first place of an entry with the id.
-pub fn find_place(entries: &[Entry], id: Id) -> Option<usize>
-    ensures found { IfSome result (λ place. IsFirstPlace entries.now id place) }
-    ensures none { IfNone result (IsFalse (has_id (keys_of entries.now) id)) }
-{
-    for (place, entry) in entries.iter().enumerate() {
-        if id == entry.key.id() {
-            return Some(place);
-        }
-    }
-    None
-}
-
 /// Whether an entry has the id.
 pub fn contains(entries: &[Entry], id: Id) -> bool
     ensures { result ≡ has_id (keys_of entries.now) id }
 {
-    find_place(entries, id).is_some()
+    first_place(entries, id).is_some()
 }
 
 /// Whether a key is above that of the last entry, or there is none.

@@ -2,9 +2,9 @@
 
 ghost use Rattle.std.specs.Prelude.{◌≡◌, []};
 
-use super::entries::{copy_displaced, copy_left_out, digest_of, find_place, put_at};
+use super::entries::{copy_displaced, copy_left_out, digest_of, put_at};
 use super::log_rep::{Allocating, LogRep};
-use nz_base::{Entry, EntryList, Id, List, NoMemory};
+use nz_base::{Entry, EntryList, Id, List, NoMemory, first_place};
 use nz_digest::Digest;
 use std::alloc::Global;
 use std::marker::Model;
@@ -64,7 +64,7 @@ impl LogRep for ListLog {
     }
 
     fn place_of(&self, id: Id) -> Option<u32> {
-        match find_place(&self.entries, id) {
+        match first_place(&self.entries, id) {
             Some(place) => Some(place as u32),
             None => None,
         }

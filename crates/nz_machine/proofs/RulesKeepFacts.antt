@@ -13,7 +13,7 @@ use Rattle.nz_base.specs.Log.{keys_of, has_id, is_above_last}
 use Rattle.nz_base.proofs.Booleans.{true_and_false}
 use Rattle.nz_base.proofs.Keys.{KeyBelow-test}
 use Rattle.nz_base.proofs.Logs.{above_none, above_some}
-use Rattle.nz_base.specs.declared.limits.TheConstants.{MAX_ENTRIES}
+use Rattle.nz_base.specs.declared.limits.TheConstants.{MAX_DEADLINE, MAX_ENTRIES}
 use Rattle.nz_log.specs.Synced.{Log}
 use Rattle.nz_machine.specs.Vectors.{with_vector}
 use Rattle.nz_store.specs.Sequence.{replies_from, answer_after}
@@ -197,14 +197,14 @@ released_keeps f me s e es h normal is room =
 -- ---- a request's entry
 
 -- a key of a deadline in range, and of an id that came in a message
-pub entry_fits : (deadline : ℕ) (b : TimedBody) → timed.fits b → deadline < 2 ^ 63 → FitsEntry (entry_at deadline b)
+pub entry_fits : (deadline : ℕ) (b : TimedBody) → timed.fits b → deadline ≤ MAX_DEADLINE → FitsEntry (entry_at deadline b)
 entry_fits deadline b fits low =
     record {
       key = (
         (
           omega arith,
-          and_from (nat_le 0 deadline) (nat_le deadline (2 ^ 63 - 1))
-              (le-leb 0 deadline (omega arith)) (le-leb deadline (2 ^ 63 - 1) (omega arith)),
+          and_from (nat_le 0 deadline) (nat_le deadline MAX_DEADLINE)
+              (le-leb 0 deadline (omega arith)) (le-leb deadline MAX_DEADLINE low),
         ),
         fits.1.1.0,
       );

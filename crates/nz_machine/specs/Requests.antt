@@ -1,12 +1,12 @@
 -- The request rule: what a replica in normal operation does with a timed message.
-use Rattle.std.specs.Prelude.{ℕ, ◌+◌, ◌-◌, ◌^◌, Bool, ◌&&◌, not, List, [], ◌∷◌, ◌++◌, length, Option, Some, None, nat_lt, nat_le, min, if◌then◌else◌}
+use Rattle.std.specs.Prelude.{ℕ, ◌+◌, ◌-◌, Bool, ◌&&◌, not, List, [], ◌∷◌, ◌++◌, length, Option, Some, None, nat_lt, nat_le, min, if◌then◌else◌}
 use Rattle.std.specs.Map.{lookup}
 use Rattle.indexmap.specs.IndexMap.{insert_entry}
 use Rattle.nz_base.specs.declared.key.Id.{Id}
 use Rattle.nz_base.specs.declared.key.Entry.{Entry}
 use Rattle.nz_base.specs.Key.{id_eq, id_of}
 use Rattle.nz_base.specs.Log.{keys_of, has_id, is_above_last}
-use Rattle.nz_base.specs.declared.limits.TheConstants.{MAX_ENTRIES, MAX_DELAY}
+use Rattle.nz_base.specs.declared.limits.TheConstants.{MAX_DEADLINE, MAX_DELAY, MAX_ENTRIES}
 use Rattle.nz_log.specs.Places.{place_of, last_entry}
 use Rattle.nz_buffers.specs.Buffers.{insert_by_key, without}
 use Rattle.nz_msg.specs.declared.message.TimedBody.{TimedBody}
@@ -51,11 +51,11 @@ abbrev pub next_deadline : Option Entry → ℕ
 next_deadline None = 1
 next_deadline (Some e) = e.key.deadline + 1
 
--- The leader gives the request the deadline after the log's last, where that is a deadline: 2 ^ 63 is MAX_DEADLINE + 1.
+-- The leader gives the request the deadline after the log's last, where that is not above MAX_DEADLINE.
 abbrev pub after_restamp : ReplicaData → TimedBody → ReplicaData
 after_restamp s b =
     let deadline = next_deadline (last_entry s.log.entries) in
-    if nat_lt deadline (2 ^ 63) then to_early s (entry_at deadline b) else s
+    if nat_le deadline MAX_DEADLINE then to_early s (entry_at deadline b) else s
 
 -- A key above the log's last is early. Another request is late, and the leader stamps it anew.
 abbrev pub after_placing : ℕ → ℕ → ReplicaData → TimedBody → ReplicaData

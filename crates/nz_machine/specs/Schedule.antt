@@ -10,7 +10,7 @@ use Rattle.nz_base.specs.declared.scenario.Skew.{Skew}
 use Rattle.nz_base.specs.declared.scenario.Fault.{Fault}
 use Rattle.nz_base.specs.declared.scenario.Fault.TheVariants as faults
 use Rattle.nz_base.specs.declared.scenario.Scenario.{Scenario}
-use Rattle.nz_base.specs.declared.limits.TheConstants.{MAX_CLOCK, MAX_TICKS, MAX_FAULTS}
+use Rattle.nz_base.specs.declared.limits.TheConstants.{MAX_CLOCK, MAX_TICKS, MAX_FAULTS, UNITS_PER_TICK}
 use Rattle.nz_frame.specs.Refusal.{refusal}
 use Rattle.nz_frame.specs.declared.refusal.FrameRefusal.{FrameRefusal}
 use Rattle.nz_machine.specs.declared.event.Event.{Event}
@@ -57,9 +57,9 @@ abbrev pub skew_of : Actor → List Skew → ℤ
 skew_of a [] = pos 0
 skew_of a (s ∷ skews) = if actor_eq s.actor a then s.units else skew_of a skews
 
--- A tick is 1,000 clock units.
+-- An actor's clock in a tick, with its skew.
 abbrev pub clock_at : Scenario → ℕ → Actor → ℕ
-clock_at s tick a = min (clock_with_skew (1000 * tick) (skew_of a s.skews)) MAX_CLOCK
+clock_at s tick a = min (clock_with_skew (UNITS_PER_TICK * tick) (skew_of a s.skews)) MAX_CLOCK
 
 -- Replicas, proxies and clients, each by number.
 abbrev pub actors_of : Scenario → List Actor

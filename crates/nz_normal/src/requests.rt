@@ -1,10 +1,10 @@
 //! The request rule.
 
-ghost use Rattle.std.specs.Prelude.{◌≡◌, ◌≤◌, ◌<◌, ◌^◌, ◌++◌, map, length, nat_lt, IsTrue, IsFalse, IfOk, OnOk, if◌then◌else◌};
+ghost use Rattle.std.specs.Prelude.{◌≡◌, ◌≤◌, ◌<◌, ◌++◌, map, length, nat_le, IsTrue, IsFalse, IfOk, OnOk, if◌then◌else◌};
 ghost use Rattle.nz_base.specs.Actor.{HasAddress};
 ghost use Rattle.nz_base.specs.Log.{keys_of, has_id};
 ghost use Rattle.nz_base.specs.declared.actor.Actor.TheVariants as actors;
-ghost use Rattle.nz_base.specs.declared.limits.TheConstants.{MAX_PROXY};
+ghost use Rattle.nz_base.specs.declared.limits.TheConstants.{MAX_DEADLINE, MAX_PROXY};
 ghost use Rattle.nz_log.specs.Places.{last_entry};
 ghost use Rattle.nz_msg.specs.Messages.{timed};
 ghost use Rattle.nz_msg.specs.declared.message.Message.TheVariants.{Timed};
@@ -39,9 +39,9 @@ fn entry_at(alloc: Global, deadline: u64, body: &TimedBody) -> Result<Entry, NoM
     })
 }
 
-/// The deadline after that of the log's last entry, if there is one: 2 ^ 63 is `MAX_DEADLINE` + 1.
+/// The deadline after that of the log's last entry, if that is one.
 fn next_deadline(log: &HashedLog) -> Option<u64>
-    ensures { result ≡ (let deadline = requests.next_deadline (last_entry log.now.entries) in if nat_lt deadline (2 ^ 63) then Some deadline else None) }
+    ensures { result ≡ (let deadline = requests.next_deadline (last_entry log.now.entries) in if nat_le deadline MAX_DEADLINE then Some deadline else None) }
 {
     match log.last() {
         None => Some(1),

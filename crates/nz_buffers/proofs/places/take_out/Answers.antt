@@ -1,8 +1,7 @@
 -- What the function of this folder owes, proved.
 use Rattle.std.proofs.Common.{◌≡◌, false, List, Some, is_some, sym, ap, subst, ◌∙◌, refl}
 use Rattle.nz_base.specs.declared.key.Entry.{Entry}
-use Rattle.nz_base.specs.Log.{keys_of, has_id}
-use Rattle.nz_buffers.specs.Places.{IsFirstPlace}
+use Rattle.nz_base.specs.Log.{keys_of, has_id, IsFirstPlace}
 use Rattle.nz_buffers.proofs.Removing.{taken_at, find_none, find_held, without_none}
 use Rattle.nz_buffers.proofs.places.take_out.Goals as goal
 

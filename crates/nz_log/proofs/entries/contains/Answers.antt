@@ -4,4 +4,4 @@ use Rattle.nz_log.proofs.Placing.{search_tells}
 use Rattle.nz_log.proofs.entries.contains.Goals as goal
 
 pub returns : goal.returns
-returns c = c.is_some.ensures ∙ search_tells c.find_place.result c.args.entries.now c.args.id c.find_place.ensures.found c.find_place.ensures.none
+returns c = c.is_some.ensures ∙ search_tells c.first_place.result c.args.entries.now c.args.id c.first_place.ensures.found c.first_place.ensures.none

@@ -1,9 +1,10 @@
 -- What the function of this folder owes, proved.
-use Rattle.std.proofs.Common.{◌≡◌, ℕ, ◌^◌, true, cond, List, Some, None, IsTrue, refl, sym, ap, subst, ◌∙◌}
-use Rattle.std.specs.Prelude.{nat_lt}
+use Rattle.std.proofs.Common.{◌≡◌, ℕ, true, cond, List, Some, None, IsTrue, refl, sym, ap, subst, ◌∙◌}
+use Rattle.std.specs.Prelude.{nat_le}
 use Rattle.std.proofs.lemmas.Option.{cond_some}
 use Rattle.nz_base.specs.declared.key.Entry.{Entry}
 use Rattle.nz_base.specs.Log.{keys_of, is_above_last}
+use Rattle.nz_base.specs.declared.limits.TheConstants.{MAX_DEADLINE}
 use Rattle.nz_msg.specs.declared.message.TimedBody.{TimedBody}
 use Rattle.nz_log.specs.Places.{last_entry}
 use Rattle.nz_log.specs.Synced.{Log}
@@ -13,11 +14,11 @@ use Rattle.nz_normal.proofs.requests.restamp.Goals as goal
 
 -- a key with the deadline that was found is above the log's last
 stamped_above : (log : List Entry) (b : TimedBody) (deadline : ℕ) (e : Entry)
-    → Some deadline ≡ cond (nat_lt (next_deadline (last_entry log)) (2 ^ 63)) (Some (next_deadline (last_entry log))) None
+    → Some deadline ≡ cond (nat_le (next_deadline (last_entry log)) MAX_DEADLINE) (Some (next_deadline (last_entry log))) None
     → e ≡ entry_at deadline b → is_above_last (keys_of log) e.key ≡ true
 stamped_above log b deadline e found is =
     let same : next_deadline (last_entry log) ≡ deadline =
-    (cond_some (nat_lt (next_deadline (last_entry log)) (2 ^ 63)) (next_deadline (last_entry log)) deadline (sym found)).1 in
+    (cond_some (nat_le (next_deadline (last_entry log)) MAX_DEADLINE) (next_deadline (last_entry log)) deadline (sym found)).1 in
     let entry : e ≡ entry_at (next_deadline (last_entry log)) b = is ∙ ap (λ (n : ℕ). entry_at n b) (sym same) in
     subst (λ (f : Entry). is_above_last (keys_of log) f.key ≡ true) (sym entry) (above_next log b (last_entry log) refl)
 

@@ -1,10 +1,9 @@
 -- What the function of this folder owes, proved.
 use Rattle.std.proofs.Common.{◌≡◌, false, List, refl, sym, ap, subst, ◌∙◌}
 use Rattle.nz_base.specs.declared.key.Entry.{Entry}
-use Rattle.nz_base.specs.Log.{keys_of, has_id}
-use Rattle.nz_log.specs.Places.{IsFirstPlace}
+use Rattle.nz_base.specs.Log.{keys_of, has_id, IsFirstPlace}
 use Rattle.nz_log.specs.Synced.{Log}
-use Rattle.nz_log.proofs.Placing.{first_place, held_at, place_none}
+use Rattle.nz_log.proofs.Placing.{first_is_place, first_place, held_at, place_none}
 use Rattle.nz_log.proofs.list_log.ListLogLogRep.place_of.Goals as goal
 
 -- the place that is found is one in the log
@@ -17,7 +16,7 @@ pub returns-in-Some-clause-value : goal.returns-in-Some-clause-value
 returns-in-Some-clause-value c = sym (first_place c.args.self.now.entries c.args.id c.in-Some.place (at c))
 
 pub returns-in-Some-clause-held : goal.returns-in-Some-clause-held
-returns-in-Some-clause-held c = (λ _. held_at c.args.self.now.entries c.args.id c.in-Some.place (at c).at, λ _. refl)
+returns-in-Some-clause-held c = (λ _. held_at c.args.self.now.entries c.args.id c.in-Some.place (first_is_place c.args.self.now.entries c.args.id c.in-Some.place (at c)), λ _. refl)
 
 pub returns-in-None-clause-value : goal.returns-in-None-clause-value
 returns-in-None-clause-value c =

@@ -1,8 +1,0 @@
--- What the loops of the function of this folder keep.
-use Rattle.std.proofs.Common.{◌≡◌, false, take}
-use Rattle.nz_base.specs.Log.{keys_of, has_id}
-use Rattle.nz_buffers.proofs.places.place_of.Given as goal
-
--- none so far has the id
-abbrev pub invariant-loop-place : goal.invariant-loop-place
-invariant-loop-place l = has_id (keys_of (take l.place l.entries)) l.id ≡ false
