@@ -2,7 +2,7 @@
 ghost use Rattle.nz_cv.specs.Vectors.{OwnStays, NeverFalls, TakesIn, AddsNothing, Idempotent, CrashConsistency};
 
 /// What merging keeps.
-pub fn merging()
+pub fn merged_vectors_never_fall()
     ensures own_stays { OwnStays }
     ensures never_falls { NeverFalls }
     ensures takes_in { TakesIn }
@@ -11,6 +11,6 @@ pub fn merging()
 {}
 
 /// Which collected messages are crash-consistent for their collector, in the words of Michael et al.
-pub fn collecting()
+pub fn consistent_where_none_is_stray()
     ensures { CrashConsistency }
 {}

@@ -7,8 +7,9 @@ ghost use Rattle.std.specs.Cmp.{partial_equiv_from_equiv};
 ghost use Rattle.std.specs.Cmp.Lexicographic.{nat_list_eq_equiv, pointwise};
 ghost use Rattle.nz_cv.specs.Vectors.{IsClusterSize, Stray, is_stray, merged_vector, greater_counters, Consistent, AreFrom};
 
-pub mod laws;
+mod laws;
 
+pub use laws::{consistent_where_none_is_stray, merged_vectors_never_fall};
 use std::marker::Model;
 
 /// The most replicas of a cluster. This crate has nothing below it: the same number is `nz_base::MAX_REPLICAS`.

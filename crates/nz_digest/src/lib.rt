@@ -6,8 +6,9 @@ ghost use Rattle.std.specs.Cmp.{partial_equiv_from_equiv};
 ghost use Rattle.std.specs.Cmp.Lexicographic.{nat_list_eq_equiv, pointwise};
 ghost use Rattle.nz_digest.specs.Digests.{digest_of_key, digest_of_none, xor_bytes};
 
-pub mod laws;
+mod laws;
 
+pub use laws::digests_fold_keys_in;
 use sha1::Sha1;
 use std::marker::Model;
 

@@ -1,6 +1,9 @@
 //! Laws over all runs of the machine, each the contract of a function with nothing to do.
 #![tactic(auto)]
 
-pub mod laws;
+mod laws;
 
-pub use laws::one_history;
+pub use laws::{
+    each_parcel_decodes, facts_stay, history_of_paired_prefixes, messages_are_snapshots, once_each,
+    one_history, own_commands, premise_on_digests,
+};

@@ -4,7 +4,7 @@
 mod blob;
 mod command;
 mod error;
-pub mod laws;
+mod laws;
 mod reading;
 mod store;
 mod writing;
@@ -12,6 +12,7 @@ mod writing;
 pub use blob::Blob;
 pub use command::{Answer, Command, CommandRef};
 pub use error::NoMemory;
+pub use laws::{commands_in_turn, no_command_begins_another, one_spelling, store_is_a_map};
 pub use reading::{command_in, is_key, is_value, read_command};
 pub use store::Store;
 pub use writing::write_command;

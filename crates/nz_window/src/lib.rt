@@ -4,9 +4,10 @@
 ghost use Rattle.std.specs.Prelude.{◌≡◌, ℕ, ◌<◌, ◌≤◌, length, replicate, []};
 ghost use Rattle.nz_window.specs.Samples.{with_sample, bound_of};
 
-pub mod laws;
+mod laws;
 mod recent;
 
+pub use laws::{samples_are_ordered, windows_stay_small};
 use recent::Recent;
 use std::marker::Model;
 
