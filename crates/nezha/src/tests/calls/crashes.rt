@@ -2,7 +2,7 @@
 //! store.
 use super::workers::parts;
 use super::{answer, plain};
-use crate::Status;
+use nz_top::Status;
 use nz_base::Id;
 use nz_machine::Executed;
 use nz_store::{Answer, Store};

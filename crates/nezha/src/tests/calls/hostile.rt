@@ -5,7 +5,7 @@ ghost use Rattle.std.specs.Prelude.{◌<◌};
 use super::losses::LEADER_CUT_OFF;
 use super::rows::PUT_THEN_GET;
 use super::{Call, answer, plain};
-use crate::{Outcome, Status};
+use nz_top::{Outcome, Status};
 use nz_base::NoMemory;
 use nz_edge::MemSink;
 use std::alloc::Global;

@@ -13,7 +13,7 @@ mod losses;
 mod rows;
 mod workers;
 
-use crate::{Outcome, Status, Words, nezha};
+use nz_top::{Outcome, Status, Words, nezha};
 use nz_base::{Blob, NoMemory};
 use nz_edge::{CallList, Gate, MemSink, MemSource, OpenGate};
 use rows::{PUT_THEN_GET, ROWS};

@@ -3,7 +3,7 @@ use super::crashes::is_of_a_run;
 use super::hostile::ends;
 use super::rows::PUT_THEN_GET;
 use super::{Call, answer, plain};
-use crate::Status;
+use nz_top::Status;
 use std::alloc::Global;
 use std::sync::Wait;
 use std::test::Fail;

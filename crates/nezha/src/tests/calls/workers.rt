@@ -5,7 +5,7 @@ ghost use Rattle.nz_machine.specs.World.{World};
 use super::losses::LEADER_CUT_OFF;
 use super::rows::THREE_EQUAL_DEADLINES;
 use super::{answer, answer_through, plain};
-use crate::Status;
+use nz_top::Status;
 use nz_audit::history_of;
 use nz_base::{Actor, Id, NoMemory};
 use nz_edge::Gate;
