@@ -13,9 +13,9 @@ mod losses;
 mod rows;
 mod workers;
 
-use nz_top::{Outcome, Status, Words, nezha};
 use nz_base::{Blob, NoMemory};
 use nz_edge::{CallList, Gate, MemSink, MemSource, OpenGate};
+use nz_top::{Outcome, Status, Words, nezha};
 use rows::{PUT_THEN_GET, ROWS};
 use std::alloc::Global;
 use std::sync::Wait;

@@ -2,11 +2,11 @@
 //! store.
 use super::workers::parts;
 use super::{answer, plain};
-use nz_top::Status;
 use nz_base::Id;
 use nz_machine::Executed;
 use nz_store::{Answer, Store};
 use nz_text::{Event, read_text};
+use nz_top::Status;
 use std::alloc::Global;
 use std::sync::Wait;
 use std::test::Fail;

@@ -1,11 +1,12 @@
 //! Steps of a proxy, with what it sends.
 
-use super::*;
+use super::parcels::parcel;
 use nz_base::{Actor, Blob, Cluster, Id};
 use nz_cv::CrashVector;
 use nz_digest::Digest;
-use nz_machine::{Core, Event, Parcel, Sends};
-use nz_msg::{FastReplyBody, Message, Path, RequestBody, SlowReplyBody, decode, encode};
+use nz_machine::{Core, Event, Sends};
+use nz_msg::{FastReplyBody, Message, Path, RequestBody, SlowReplyBody, decode};
+use nz_proxy::Proxy;
 use nz_store::Answer;
 use std::alloc::Global;
 use std::test::*;
@@ -43,17 +44,6 @@ fn step(alloc: Global, proxy: &mut Proxy, event: &Event) -> Result<Vec<(Actor, S
     }
     let sends = proxy.step(event)?;
     told(alloc, &sends)
-}
-
-fn parcel(alloc: Global, from: Actor, to: Actor, message: &Message) -> Result<Parcel, Fail> {
-    if !from.has_address() || !to.has_address() || !message.is_valid() {
-        return Err("no frame carries this".into());
-    }
-    Ok(Parcel {
-        from,
-        to,
-        frame: encode(alloc, from, to, message)?,
-    })
 }
 
 fn request(alloc: Global, num: u32) -> Result<Event, Fail> {
