@@ -1,9 +1,13 @@
 //! The tests of all crates that call public functions alone. The gate proves a crate that has tests twice, and
 //! this one is small.
 
+mod buffers;
 mod calls;
 mod clients;
+mod commands;
+mod ends;
 mod entries;
+mod lists;
 mod logs;
 mod machine;
 mod merges;

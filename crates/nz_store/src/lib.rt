@@ -15,6 +15,3 @@ pub use error::NoMemory;
 pub use reading::{command_in, is_key, is_value, read_command};
 pub use store::Store;
 pub use writing::write_command;
-
-#[cfg(test)]
-mod tests;
