@@ -7,6 +7,7 @@ mod clients;
 mod commands;
 mod ends;
 mod entries;
+mod frames;
 mod lists;
 mod logs;
 mod machine;

@@ -83,8 +83,8 @@ fn stands<R: Threads + Wait + Sync>(
         room: 65_536,
         ..plain(&["run"], input.as_bytes())
     };
-    let (outcome, out) = answer(rt, alloc, &call)?;
-    Ok(outcome.status == Status::Done && is_of_a_run(alloc, out.bytes())?)
+    let answered = answer(rt, alloc, &call)?;
+    Ok(answered.status == Status::Done && is_of_a_run(alloc, &answered.output)?)
 }
 
 #[test]
