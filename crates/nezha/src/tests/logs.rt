@@ -180,7 +180,7 @@ fn digests() -> &'static [[u8; 20]] {
 
 fn check_digests(rt: &impl Abort, log: &HashedLog) -> Result<(), Fail> {
     for (place, digest) in digests().iter().enumerate() {
-        if place as u32 >= log.len() {
+        if place >= log.len() as usize {
             return Err("an entry is missing".into());
         }
         assert_eq!(rt; log.digest_at(place as u32), Digest::from_bytes(*digest));
