@@ -230,14 +230,30 @@ fn keeps_its_entries_over_pages(rt: HostRuntime) -> Result<(), Fail> {
     Ok(())
 }
 
+fn one_call(alloc: Global, call: LogCall) -> Result<LogCallList, NoMemory> {
+    let mut calls = List::new(alloc);
+    calls.push(call)?;
+    Ok(calls)
+}
+
+// That these entries are no longer in the log.
+fn one_answer(alloc: Global, rows: &[Row]) -> Result<LogAnswerList, NoMemory> {
+    let mut answers = List::new(alloc);
+    answers.push(LogAnswer::Removed(list_of(alloc, rows)?))?;
+    Ok(answers)
+}
+
 fn check_replaced(
     rt: &impl Abort,
     alloc: Global,
     log: &mut HashedLog,
     other: &HashedLog,
 ) -> Result<(), NoMemory> {
-    let left_out = log.replace_all(other.entries()?)?;
-    assert_eq!(rt; left_out, list_of(alloc, &[(20, 1, 1)])?);
+    let answers = run_calls(
+        log,
+        &one_call(alloc, LogCall::ReplaceAll(other.entries()?))?,
+    )?;
+    assert_eq!(rt; answers, one_answer(alloc, &[(20, 1, 1)])?);
     check_entries(rt, log, &other.entries()?)?;
     assert_eq!(rt; log.synced(), 2);
     Ok(())
