@@ -43,3 +43,6 @@ fn main(rt: HostRuntime) -> ExitCode {
     );
     ExitCode::from(outcome.status.code())
 }
+
+#[cfg(test)]
+mod tests;

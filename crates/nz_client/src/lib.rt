@@ -5,6 +5,3 @@ mod client;
 mod state;
 
 pub use client::{Client, are_sendable};
-
-#[cfg(test)]
-mod tests;

@@ -34,6 +34,3 @@ pub use receiving::heard;
 pub use reply::{Reply, ReplyList};
 pub use sending::send;
 pub use state::ReplicaState;
-
-#[cfg(test)]
-mod tests;

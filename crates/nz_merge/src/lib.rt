@@ -5,8 +5,6 @@ mod change;
 mod laws;
 mod new_log;
 mod reports;
-#[cfg(test)]
-mod tests;
 
 pub use change::{Change, ViewChanges};
 pub use laws::{

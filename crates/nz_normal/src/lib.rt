@@ -6,6 +6,3 @@ mod requests;
 
 pub use releases::tick;
 pub use requests::on_timed;
-
-#[cfg(test)]
-mod tests;

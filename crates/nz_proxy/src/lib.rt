@@ -5,7 +5,5 @@
 mod proxy;
 mod standing;
 mod state;
-#[cfg(test)]
-mod tests;
 
 pub use proxy::Proxy;

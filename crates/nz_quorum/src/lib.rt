@@ -5,8 +5,6 @@ mod equal;
 mod laws;
 mod quorum;
 mod tally;
-#[cfg(test)]
-mod tests;
 
 pub use laws::{chosen_is_first_of_least_view, fast_where_there_is_one, slow_where_none_is_fast};
 pub use tally::{Decision, Tally};

@@ -28,6 +28,3 @@ pub use message::name_of;
 pub use printing::{print, put, put_actor, put_command, put_number};
 pub use reading::read;
 pub use validity::ValidScenario;
-
-#[cfg(test)]
-mod tests;

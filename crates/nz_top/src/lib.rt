@@ -13,6 +13,3 @@ pub use laws::texts_of_runs_are_read_back;
 pub use status::{Outcome, Status};
 pub use top::nezha;
 pub use words::{Command, Words};
-
-#[cfg(test)]
-mod tests;

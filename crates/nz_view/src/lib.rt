@@ -8,6 +8,3 @@ mod timers;
 pub use begins::on_view_change;
 pub use starts::{on_start_view, on_view_ask};
 pub use timers::{change_timer, on_alarm, quiet_timer};
-
-#[cfg(test)]
-mod tests;

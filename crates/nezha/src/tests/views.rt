@@ -8,11 +8,13 @@ ghost use Rattle.nz_machine.specs.Step.{is_in_cluster, is_sized, message_vector}
 
 mod long;
 
-use super::*;
-use nz_base::{Actor, Blob, Cluster, Entry, EntryList, Key, List, NoMemory};
+use super::entries::{entry_with, key};
+use super::states::first_state;
+use nz_base::{Actor, Cluster, EntryList, List, NoMemory};
 use nz_cv::CrashVector;
 use nz_machine::{ReplicaState, Sends, is_from_cluster, kind_of};
 use nz_msg::{Envelope, Message, StartViewBody, ViewAskBody, ViewChangeBody};
+use nz_view::{change_timer, on_alarm, on_start_view, on_view_ask, on_view_change, quiet_timer};
 use std::alloc::Global;
 use std::process::Abort;
 use std::test::*;
@@ -34,13 +36,7 @@ use Step::{Alarm, Ask, Change, Start, Wait};
 fn log_in(alloc: Global, view: u64) -> Result<EntryList, NoMemory> {
     let mut list = EntryList::new(alloc);
     if view > 0 {
-        let key = Key {
-            deadline: 12_500,
-            client: 0,
-            num: 1,
-        };
-        let command = Blob::from_slice(alloc, &[1, 1, b'a', 0, 1, b'1'])?;
-        list.push(Entry { key, command })?;
+        list.push(entry_with(alloc, key((12_500, 0, 1)), &[1, 1, b'a', 0, 1, b'1'])?)?;
     }
     Ok(list)
 }
@@ -295,14 +291,6 @@ const ROWS: &[Row] = &[
 
 fn rows() -> &'static [Row] {
     ROWS
-}
-
-// A replica in its first state. It is in a vector, since a variable that is a whole replica takes minutes to prove.
-fn first_state(alloc: Global, f: u8, me: u8) -> Result<Vec<ReplicaState>, Fail> {
-    let cluster = Cluster::new(f).ok_or("f is from 1 to 4")?;
-    let mut states = Vec::new(alloc);
-    states.push(ReplicaState::new(alloc, cluster, me % cluster.n())?)?;
-    Ok(states)
 }
 
 fn take_all(

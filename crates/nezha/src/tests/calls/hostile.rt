@@ -5,17 +5,12 @@ ghost use Rattle.std.specs.Prelude.{◌<◌};
 use super::losses::LEADER_CUT_OFF;
 use super::rows::PUT_THEN_GET;
 use super::{Call, answer, plain};
-use crate::{Outcome, Status};
 use nz_base::NoMemory;
-use nz_edge::MemSink;
+use nz_top::Status;
 use std::alloc::Global;
 use std::sync::Wait;
 use std::test::Fail;
 use std::thread::Threads;
-
-fn is_so(outcome: &Outcome, out: &MemSink, status: Status, output: &[u8]) -> bool {
-    outcome.status == status && out.bytes() == output
-}
 
 /// Whether a call ends so, with this output.
 pub fn ends<R: Threads + Wait + Sync>(
@@ -28,8 +23,8 @@ pub fn ends<R: Threads + Wait + Sync>(
     requires read { 0 < call.now.read_piece }
     requires write { 0 < call.now.write_piece }
 {
-    let (outcome, out) = answer(rt, alloc, call)?;
-    Ok(is_so(&outcome, &out, status, output))
+    let answered = answer(rt, alloc, call)?;
+    Ok(answered.status == status && answered.output.as_slice() == output)
 }
 
 /// The line that a text ends in, or after which it ends, from 1.

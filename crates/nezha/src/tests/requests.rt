@@ -1,12 +1,14 @@
 //! Replicas that take requests and ticks. The outcomes are worked out apart from the program.
 
-use super::*;
-use nz_base::{Actor, Blob, Cluster, Id, List, NoMemory};
+use super::states::first_state;
+use nz_base::{Actor, Blob, Id, List, NoMemory};
 use nz_digest::Digest;
 use nz_machine::{Parcel, ReplicaState, Sends};
 use nz_msg::{FastReplyBody, Message, TimedBody, decode};
+use nz_normal::{on_timed, tick};
 use nz_store::Answer;
 use std::alloc::Global;
+use std::process::Abort;
 use std::test::*;
 
 // What comes to a replica: a request of a client by its number, with the clock at which proxy 0 sent it
@@ -23,17 +25,33 @@ const PUT: [u8; 6] = [1, 1, b'a', 0, 1, b'1'];
 
 const GET: [u8; 3] = [2, 1, b'a'];
 
-fn replica(alloc: Global, me: u8) -> Result<ReplicaState, Fail> {
-    let cluster = Cluster::new(1).ok_or("f is from 1 to 4")?;
-    Ok(ReplicaState::new(alloc, cluster, me % cluster.n())?)
-}
-
 // Client 0 puts 1 at a, and the others get it.
 fn command_of(alloc: Global, client: u32) -> Result<Blob, NoMemory> {
     if client == 0 {
         Blob::from_slice(alloc, &PUT)
     } else {
         Blob::from_slice(alloc, &GET)
+    }
+}
+
+// The message by which proxy 0 hands a request on.
+fn asked(alloc: Global, id: Id, sent: u64, deadline: u64) -> Result<Message, NoMemory> {
+    let command = command_of(alloc, id.client)?;
+    Ok(Message::Timed(TimedBody {
+        sent,
+        deadline,
+        id,
+        command,
+    }))
+}
+
+fn hear(state: &mut ReplicaState, message: &Message, sends: &mut Sends) -> Result<(), NoMemory> {
+    if !message.is_valid() {
+        return Ok(());
+    }
+    match message {
+        Message::Timed(body) => on_timed(state, Actor::Proxy(0), body, sends),
+        _ => Ok(()),
     }
 }
 
@@ -46,20 +64,8 @@ fn take(
     match step {
         Step::Tick(clock) => tick(state, clock, sends),
         Step::Ask(client, num, sent, deadline) => {
-            let command = command_of(alloc, client)?;
-            let message = Message::Timed(TimedBody {
-                sent,
-                deadline,
-                id: Id { client, num },
-                command,
-            });
-            if !message.is_valid() {
-                return Ok(());
-            }
-            match &message {
-                Message::Timed(body) => on_timed(state, Actor::Proxy(0), body, sends),
-                _ => Ok(()),
-            }
+            let message = asked(alloc, Id { client, num }, sent, deadline)?;
+            hear(state, &message, sends)
         }
     }
 }
@@ -178,51 +184,80 @@ fn deadline_at(state: &ReplicaState, place: u32) -> u64 {
     }
 }
 
-#[test]
-fn leader_stamps_a_late_request_anew(rt: HostRuntime) -> Result<(), Fail> {
-    let alloc = rt.alloc();
-    let mut state = replica(alloc, 0)?;
-    let mut sends = List::new(alloc);
-    take_all(alloc, &mut state, late_request(), &mut sends)?;
-    assert_eq!(rt; deadline_at(&state, 0), 12_500);
-    assert_eq!(rt; deadline_at(&state, 1), 12_501);
-    let first = Want {
+const LEADERS_REPLIES: &[Want] = &[
+    Want {
         me: 0,
         client: 0,
         delay: 100,
         digest: FIRST_DIGEST,
         answer: "done",
-    };
-    assert!(rt; is_reply(alloc, &sends, 0, &first));
-    let second = Want {
+    },
+    Want {
         me: 0,
         client: 1,
         delay: 2_100,
         digest: SECOND_DIGEST,
         answer: "1",
-    };
-    assert!(rt; is_reply(alloc, &sends, 1, &second));
-    assert_eq!(rt; sends.len(), 2);
+    },
+];
+
+const FOLLOWERS_REPLIES: &[Want] = &[Want {
+    me: 1,
+    client: 0,
+    delay: 100,
+    digest: FIRST_DIGEST,
+    answer: "nothing",
+}];
+
+fn leaders_replies() -> &'static [Want] {
+    LEADERS_REPLIES
+}
+
+fn followers_replies() -> &'static [Want] {
+    FOLLOWERS_REPLIES
+}
+
+fn check_replies(rt: &impl Abort, alloc: Global, sends: &Sends, wanted: &[Want]) {
+    for (place, want) in wanted.iter().enumerate() {
+        assert!(rt; place < 2 && is_reply(alloc, sends, place as u32, want));
+    }
+    assert_eq!(rt; sends.len() as usize, wanted.len());
+}
+
+// What the replica then has logged, and its replies.
+fn check_leader(rt: &impl Abort, alloc: Global, state: &mut ReplicaState) -> Result<(), Fail> {
+    let mut sends = List::new(alloc);
+    take_all(alloc, state, late_request(), &mut sends)?;
+    assert_eq!(rt; deadline_at(state, 0), 12_500);
+    assert_eq!(rt; deadline_at(state, 1), 12_501);
+    check_replies(rt, alloc, &sends, leaders_replies());
+    Ok(())
+}
+
+#[test]
+fn leader_stamps_a_late_request_anew(rt: HostRuntime) -> Result<(), Fail> {
+    let mut states = first_state(rt.alloc(), 1, 0)?;
+    for state in &mut states {
+        check_leader(&rt, rt.alloc(), state)?;
+    }
+    Ok(())
+}
+
+fn check_follower(rt: &impl Abort, alloc: Global, state: &mut ReplicaState) -> Result<(), Fail> {
+    let mut sends = List::new(alloc);
+    take_all(alloc, state, late_request(), &mut sends)?;
+    assert_eq!(rt; state.log().len(), 1);
+    assert!(rt; state.late().find(Id { client: 1, num: 1 }).is_some());
+    check_replies(rt, alloc, &sends, followers_replies());
     Ok(())
 }
 
 #[test]
 fn follower_holds_a_late_request(rt: HostRuntime) -> Result<(), Fail> {
-    let alloc = rt.alloc();
-    let mut state = replica(alloc, 1)?;
-    let mut sends = List::new(alloc);
-    take_all(alloc, &mut state, late_request(), &mut sends)?;
-    assert_eq!(rt; state.log().len(), 1);
-    assert!(rt; state.late().find(Id { client: 1, num: 1 }).is_some());
-    let first = Want {
-        me: 1,
-        client: 0,
-        delay: 100,
-        digest: FIRST_DIGEST,
-        answer: "nothing",
-    };
-    assert!(rt; is_reply(alloc, &sends, 0, &first));
-    assert_eq!(rt; sends.len(), 1);
+    let mut states = first_state(rt.alloc(), 1, 1)?;
+    for state in &mut states {
+        check_follower(&rt, rt.alloc(), state)?;
+    }
     Ok(())
 }
 
@@ -298,45 +333,64 @@ fn rows() -> &'static [Row] {
 }
 
 // How many entries are in log, early and late of a replica, and how many parcels it sent.
-fn counts(alloc: Global, me: u8, steps: &[Step]) -> Result<(u32, usize, usize, u32), Fail> {
-    let mut state = replica(alloc, me)?;
-    let mut sends = List::new(alloc);
-    take_all(alloc, &mut state, steps, &mut sends)?;
-    Ok((
+fn counts(state: &ReplicaState, sends: &Sends) -> (u32, usize, usize, u32) {
+    (
         state.log().len(),
         state.early().len(),
         state.late().len(),
         sends.len(),
-    ))
+    )
 }
 
-#[test]
-fn requests_and_where_they_stand(rt: HostRuntime) -> Result<(), Fail> {
-    for (me, steps, want) in rows() {
-        assert_eq!(rt; counts(rt.alloc(), *me, steps)?, *want);
-    }
+fn check_row(
+    rt: &impl Abort,
+    alloc: Global,
+    state: &mut ReplicaState,
+    row: &Row,
+) -> Result<(), Fail> {
+    let mut sends = List::new(alloc);
+    take_all(alloc, state, row.1, &mut sends)?;
+    assert_eq!(rt; counts(state, &sends), row.2);
     Ok(())
 }
 
 #[test]
-fn full_replica_takes_no_more(rt: HostRuntime) -> Result<(), Fail> {
-    let alloc = rt.alloc();
-    let mut state = replica(alloc, 0)?;
-    let mut sends = List::new(alloc);
-    // Each next key is below those before, so it is placed at once.
-    for num in 0..4_097 {
-        take(
-            alloc,
-            &mut state,
-            Ask(0, num, 0, 9_000u64.saturating_sub(u64::from(num))),
-            &mut sends,
-        )?;
+fn requests_and_where_they_stand(rt: HostRuntime) -> Result<(), Fail> {
+    for row in rows() {
+        let mut states = first_state(rt.alloc(), 1, row.0)?;
+        for state in &mut states {
+            check_row(&rt, rt.alloc(), state, row)?;
+        }
     }
+    Ok(())
+}
+
+// Each next key is below those before, so it is placed at once.
+fn ask_often(alloc: Global, state: &mut ReplicaState, sends: &mut Sends) -> Result<(), NoMemory> {
+    for num in 0..4_097 {
+        let deadline = 9_000u64.saturating_sub(u64::from(num));
+        take(alloc, state, Ask(0, num, 0, deadline), sends)?;
+    }
+    Ok(())
+}
+
+fn check_full(rt: &impl Abort, alloc: Global, state: &mut ReplicaState) -> Result<(), Fail> {
+    let mut sends = List::new(alloc);
+    ask_often(alloc, state, &mut sends)?;
     assert_eq!(rt; state.early().len(), 4_096);
     let last = Id {
         client: 0,
         num: 4_096,
     };
     assert!(rt; state.early().find(last).is_none());
+    Ok(())
+}
+
+#[test]
+fn full_replica_takes_no_more(rt: HostRuntime) -> Result<(), Fail> {
+    let mut states = first_state(rt.alloc(), 1, 0)?;
+    for state in &mut states {
+        check_full(&rt, rt.alloc(), state)?;
+    }
     Ok(())
 }

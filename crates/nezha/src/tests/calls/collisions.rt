@@ -3,9 +3,10 @@
 ghost use Rattle.std.specs.Prelude.{◌<◌};
 
 use super::rows::PUT_THEN_GET;
-use super::{answer, plain};
+use super::{answer_through, plain};
 use nz_base::{Actor, Cluster, Id, Key, NoMemory};
 use nz_digest::Digest;
+use nz_edge::OpenGate;
 use nz_log::HashedLog;
 use nz_machine::{Core, Record};
 use nz_msg::{DecodeRefusal, Message, decode};
@@ -97,11 +98,8 @@ fn collides(list: &RepliedOver, others: &[RepliedOver]) -> bool {
 
 #[test]
 fn no_lists_of_keys_collide(rt: HostRuntime) -> Result<(), Fail> {
-    let (outcome, _) = answer(
-        &rt,
-        rt.alloc(),
-        &plain(&["run"], PUT_THEN_GET.input.as_bytes()),
-    )?;
+    let call = plain(&["run"], PUT_THEN_GET.input.as_bytes());
+    let (outcome, _) = answer_through(&rt, rt.alloc(), &call, &OpenGate::new())?;
     let Some(journal) = &outcome.journal else {
         assert!(rt; false);
         return Ok(());

@@ -2,12 +2,12 @@
 
 ghost use Rattle.std.specs.Prelude.{◌≡◌};
 
-use super::*;
 use nz_base::{Cluster, NoMemory};
 use nz_cv::CrashVector;
 use nz_digest::Digest;
 use nz_machine::Reply;
 use nz_msg::Path;
+use nz_quorum::{Decision, Tally};
 use nz_store::Answer;
 use std::alloc::Global;
 use std::test::*;

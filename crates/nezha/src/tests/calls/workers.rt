@@ -4,14 +4,14 @@ ghost use Rattle.nz_machine.specs.World.{World};
 
 use super::losses::LEADER_CUT_OFF;
 use super::rows::THREE_EQUAL_DEADLINES;
-use super::{answer, answer_through, plain};
-use crate::Status;
+use super::{answer_through, plain};
 use nz_audit::history_of;
 use nz_base::{Actor, Id, NoMemory};
-use nz_edge::Gate;
+use nz_edge::{Gate, OpenGate};
 use nz_machine::{Acceptance, Clients, Executed, Journal, Record};
 use nz_store::Answer;
 use nz_text::{Event, read_text};
+use nz_top::Status;
 use std::alloc::Global;
 use std::sync::atomic::{AtomicU64, Ordering};
 use std::test::Fail;
@@ -129,7 +129,8 @@ fn texts_of_runs_by_workers(rt: HostRuntime) -> Result<(), Fail> {
     ];
     for (input, workers, requests) in table {
         let words = ["run", "--workers", workers];
-        let (outcome, out) = answer(&rt, rt.alloc(), &plain(&words, input.as_bytes()))?;
+        let call = plain(&words, input.as_bytes());
+        let (outcome, out) = answer_through(&rt, rt.alloc(), &call, &OpenGate::new())?;
         assert_eq!(rt; outcome.status, Status::Done);
         let Some(journal) = &outcome.journal else {
             return Err("a run".into());

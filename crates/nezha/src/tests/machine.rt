@@ -1,12 +1,13 @@
 //! Parcels that an actor hears, and events of each sort.
 
-use super::*;
+use super::parcels::parcel;
 use bytes::Bytes;
 use nz_base::{
     Actor, Blob, Cluster, FaultList, Id, NoMemory, RequestList, Scenario, ScriptList, SkewList,
     TryCopy,
 };
-use nz_msg::{AnswerBody, Envelope, Message, Path, RequestBody, ViewAskBody, encode};
+use nz_machine::{Acceptance, Clients, Event, Parcel, Record, Sends, Telling, heard};
+use nz_msg::{AnswerBody, Envelope, Message, Path, RequestBody, ViewAskBody};
 use nz_store::Answer;
 use std::alloc::Global;
 use std::process::Abort;
@@ -18,7 +19,7 @@ fn frame(from: u8, to: u8) -> [u8; 18] {
 }
 
 // A parcel between replicas, with these bytes.
-fn parcel(alloc: Global, from: u8, to: u8, bytes: &[u8]) -> Result<Parcel, NoMemory> {
+fn parcel_of(alloc: Global, from: u8, to: u8, bytes: &[u8]) -> Result<Parcel, NoMemory> {
     Ok(Parcel {
         from: Actor::Replica(from),
         to: Actor::Replica(to),
@@ -49,7 +50,7 @@ fn rows() -> &'static [Row] {
 fn heard_in(alloc: Global, row: &Row) -> Result<Option<Envelope>, NoMemory> {
     let (from, to, sender, receiver, count, _) = *row;
     let bytes = frame(sender, receiver);
-    let parcel = parcel(alloc, from, to, &bytes[..18.min(count)])?;
+    let parcel = parcel_of(alloc, from, to, &bytes[..18.min(count)])?;
     heard(alloc, Actor::Replica(0), &parcel)
 }
 
@@ -82,8 +83,8 @@ fn check_copy(rt: &impl Abort, alloc: Global, event: &Event) {
 fn copies_an_event_of_each_sort(rt: HostRuntime) -> Result<(), Fail> {
     let alloc = rt.alloc();
     let bytes = frame(1, 0);
-    check_copy(&rt, alloc, &Event::Deliver(parcel(alloc, 1, 0, &bytes)?));
-    check_copy(&rt, alloc, &Event::Cut(parcel(alloc, 1, 0, &bytes)?, 5));
+    check_copy(&rt, alloc, &Event::Deliver(parcel_of(alloc, 1, 0, &bytes)?));
+    check_copy(&rt, alloc, &Event::Cut(parcel_of(alloc, 1, 0, &bytes)?, 5));
     check_copy(&rt, alloc, &Event::Tick(12_500));
     check_copy(&rt, alloc, &Event::Alarm);
     check_copy(&rt, alloc, &Event::Crash);
@@ -95,15 +96,7 @@ fn copies_an_event_of_each_sort(rt: HostRuntime) -> Result<(), Fail> {
 fn request(alloc: Global, num: u32) -> Result<Parcel, Fail> {
     let command = Blob::from_slice(alloc, &[2, 1, b'a'])?;
     let message = Message::Request(RequestBody { num, command });
-    if !message.is_valid() {
-        return Err("no message".into());
-    }
-    let (from, to) = (Actor::Client(0), Actor::Proxy(0));
-    Ok(Parcel {
-        from,
-        to,
-        frame: encode(alloc, from, to, &message)?,
-    })
+    parcel(alloc, Actor::Client(0), Actor::Proxy(0), &message)
 }
 
 // A record of client 0 in tick 1, which sends the requests of these numbers.
@@ -127,15 +120,8 @@ fn answer(alloc: Global, num: u32) -> Result<Event, Fail> {
         answer: Answer::Done,
         path: Path::Slow,
     });
-    if !message.is_valid() {
-        return Err("no message".into());
-    }
-    let (from, to) = (Actor::Proxy(0), Actor::Client(0));
-    Ok(Event::Deliver(Parcel {
-        from,
-        to,
-        frame: encode(alloc, from, to, &message)?,
-    }))
+    let parcel = parcel(alloc, Actor::Proxy(0), Actor::Client(0), &message)?;
+    Ok(Event::Deliver(parcel))
 }
 
 // The one client of a small scenario.

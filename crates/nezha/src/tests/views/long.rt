@@ -1,11 +1,13 @@
 //! Views that start and begin with logs of 2,000 entries. What comes of it was worked out apart from the program.
 
-use super::{are_sent, first_state, hear, vector};
-use crate::on_alarm;
-use nz_base::{Actor, Blob, Cluster, Entry, EntryList, Key, List, NoMemory};
+use super::super::entries::entry_with;
+use super::super::states::first_state;
+use super::{are_sent, hear, vector};
+use nz_base::{Actor, Cluster, EntryList, Key, List, NoMemory};
 use nz_machine::{ReplicaState, Sends};
 use nz_msg::{Message, StartViewBody, ViewChangeBody};
 use nz_store::Answer;
+use nz_view::on_alarm;
 use std::alloc::Global;
 use std::process::Abort;
 use std::test::*;
@@ -24,9 +26,7 @@ fn key_at(place: u32, other: bool) -> Key {
 fn log_of(alloc: Global, other: bool) -> Result<EntryList, NoMemory> {
     let mut list = EntryList::new(alloc);
     for place in 0..COUNT {
-        let command = Blob::from_slice(alloc, &[1, 1, b'a', 0, 1, b'1'])?;
-        let key = key_at(place, other);
-        list.push(Entry { key, command })?;
+        list.push(entry_with(alloc, key_at(place, other), &[1, 1, b'a', 0, 1, b'1'])?)?;
     }
     Ok(list)
 }

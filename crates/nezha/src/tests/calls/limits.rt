@@ -3,7 +3,7 @@ use super::crashes::is_of_a_run;
 use super::hostile::ends;
 use super::rows::PUT_THEN_GET;
 use super::{Call, answer, plain};
-use crate::Status;
+use nz_top::Status;
 use std::alloc::Global;
 use std::sync::Wait;
 use std::test::Fail;
@@ -83,8 +83,8 @@ fn stands<R: Threads + Wait + Sync>(
         room: 65_536,
         ..plain(&["run"], input.as_bytes())
     };
-    let (outcome, out) = answer(rt, alloc, &call)?;
-    Ok(outcome.status == Status::Done && is_of_a_run(alloc, out.bytes())?)
+    let answered = answer(rt, alloc, &call)?;
+    Ok(answered.status == Status::Done && is_of_a_run(alloc, &answered.output)?)
 }
 
 #[test]

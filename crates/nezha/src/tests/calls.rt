@@ -6,16 +6,15 @@ ghost use Rattle.nz_machine.specs.World.{World};
 mod collisions;
 mod crashes;
 mod cuts;
-mod frames;
 mod hostile;
 mod limits;
 mod losses;
 mod rows;
 mod workers;
 
-use crate::{Outcome, Status, Words, nezha};
 use nz_base::{Blob, NoMemory};
 use nz_edge::{CallList, Gate, MemSink, MemSource, OpenGate};
+use nz_top::{Outcome, Status, Words, nezha};
 use rows::{PUT_THEN_GET, ROWS};
 use std::alloc::Global;
 use std::sync::Wait;
@@ -73,25 +72,43 @@ fn answer_through<R: Threads + Wait + Sync, G: Gate + Sync>(
     Ok((outcome, out))
 }
 
+/// How a call ended, without its journal. It is small, since each step of a test is proved with all that
+/// its variables hold.
+#[derive(Drop)]
+struct Answered {
+    status: Status,
+    has_run: bool,
+    output: Vec<u8>,
+}
+
+fn answer_of(alloc: Global, outcome: &Outcome, out: &MemSink) -> Result<Answered, NoMemory> {
+    let output = out.bytes().to_vec(alloc)?;
+    Ok(Answered {
+        status: outcome.status,
+        has_run: outcome.journal.is_some(),
+        output,
+    })
+}
+
 fn answer<R: Threads + Wait + Sync>(
     rt: &R,
     alloc: Global,
     call: &Call,
-) -> Result<(Outcome, MemSink), NoMemory>
+) -> Result<Answered, NoMemory>
     requires read { 0 < call.now.read_piece }
     requires write { 0 < call.now.write_piece }
-    ensures { IfOk result (λ answered. IfSome answered.0.journal (λ journal. World (group_in journal) (run_in journal))) }
 {
-    answer_through(rt, alloc, call, &OpenGate::new())
+    let (outcome, out) = answer_through(rt, alloc, call, &OpenGate::new())?;
+    answer_of(alloc, &outcome, &out)
 }
 
 #[test]
 fn scenarios(rt: HostRuntime) -> Result<(), Fail> {
     for row in &ROWS {
-        let (outcome, out) = answer(&rt, rt.alloc(), &plain(&[row.word], row.input.as_bytes()))?;
-        assert_eq!(rt; outcome.status, Status::Done);
-        assert_eq!(rt; out.bytes(), row.output.as_bytes());
-        assert!(rt; outcome.journal.is_some());
+        let answered = answer(&rt, rt.alloc(), &plain(&[row.word], row.input.as_bytes()))?;
+        assert_eq!(rt; answered.status, Status::Done);
+        assert_eq!(rt; answered.output.as_slice(), row.output.as_bytes());
+        assert!(rt; answered.has_run);
     }
     Ok(())
 }
@@ -108,10 +125,10 @@ fn a_line_of_each_refusal(rt: HostRuntime) -> Result<(), Fail> {
         ),
     ];
     for (input, line) in table {
-        let (outcome, out) = answer(&rt, rt.alloc(), &plain(&["run"], input.as_bytes()))?;
-        assert_eq!(rt; outcome.status, Status::BadScenario);
-        assert_eq!(rt; out.bytes(), line.as_bytes());
-        assert!(rt; outcome.journal.is_none());
+        let answered = answer(&rt, rt.alloc(), &plain(&["run"], input.as_bytes()))?;
+        assert_eq!(rt; answered.status, Status::BadScenario);
+        assert_eq!(rt; answered.output.as_slice(), line.as_bytes());
+        assert!(rt; !answered.has_run);
     }
     Ok(())
 }
@@ -144,20 +161,20 @@ fn words_that_are_no_call(rt: HostRuntime) -> Result<(), Fail> {
             return Err("at most three words".into());
         }
         let call = plain(&words[..count], PUT_THEN_GET.input.as_bytes());
-        let (outcome, out) = answer(&rt, rt.alloc(), &call)?;
-        assert_eq!(rt; outcome.status, Status::Usage);
-        assert_eq!(rt; out.bytes(), b"refused words\n".as_slice());
-        assert!(rt; outcome.journal.is_none());
+        let answered = answer(&rt, rt.alloc(), &call)?;
+        assert_eq!(rt; answered.status, Status::Usage);
+        assert_eq!(rt; answered.output.as_slice(), b"refused words\n".as_slice());
+        assert!(rt; !answered.has_run);
     }
     Ok(())
 }
 
 #[test]
 fn a_drawn_run(rt: HostRuntime) -> Result<(), Fail> {
-    let (outcome, out) = answer(&rt, rt.alloc(), &plain(&["gen", "7", "1"], b"not read"))?;
-    assert_eq!(rt; outcome.status, Status::Done);
+    let answered = answer(&rt, rt.alloc(), &plain(&["gen", "7", "1"], b"not read"))?;
+    assert_eq!(rt; answered.status, Status::Done);
     let summary = b"sent 1\naccepted 1\nfast 1\nslow 0\nopen 0\nhistory 1\nend\n";
-    assert_eq!(rt; out.bytes(), summary.as_slice());
+    assert_eq!(rt; answered.output.as_slice(), summary.as_slice());
     Ok(())
 }
 
@@ -176,16 +193,16 @@ fn numbers_of(alloc: Global, summary: &[u8]) -> Result<Vec<u64>, Fail> {
 #[test]
 fn a_drawn_run_of_2000_requests_twice(rt: HostRuntime) -> Result<(), Fail> {
     let call = plain(&["gen", "7", "2000"], b"not read");
-    let (outcome, out) = answer(&rt, rt.alloc(), &call)?;
-    assert_eq!(rt; outcome.status, Status::Done);
-    let numbers = numbers_of(rt.alloc(), out.bytes())?;
+    let answered = answer(&rt, rt.alloc(), &call)?;
+    assert_eq!(rt; answered.status, Status::Done);
+    let numbers = numbers_of(rt.alloc(), &answered.output)?;
     let [sent, accepted, fast, slow, open, _] = numbers.as_slice() else {
         return Err("six numbers".into());
     };
     assert_eq!(rt; accepted.checked_add(*open), Some(*sent));
     assert_eq!(rt; fast.checked_add(*slow), Some(*accepted));
-    let (_, again) = answer(&rt, rt.alloc(), &call)?;
-    assert_eq!(rt; again.bytes(), out.bytes());
+    let again = answer(&rt, rt.alloc(), &call)?;
+    assert_eq!(rt; again.output, answered.output);
     Ok(())
 }
 
@@ -195,9 +212,9 @@ fn a_source_of_small_pieces(rt: HostRuntime) -> Result<(), Fail> {
         read_piece: 1,
         ..plain(&["run"], PUT_THEN_GET.input.as_bytes())
     };
-    let (outcome, out) = answer(&rt, rt.alloc(), &call)?;
-    assert_eq!(rt; outcome.status, Status::Done);
-    assert_eq!(rt; out.bytes(), PUT_THEN_GET.output.as_bytes());
+    let answered = answer(&rt, rt.alloc(), &call)?;
+    assert_eq!(rt; answered.status, Status::Done);
+    assert_eq!(rt; answered.output.as_slice(), PUT_THEN_GET.output.as_bytes());
     Ok(())
 }
 
@@ -210,10 +227,10 @@ fn sources_that_fail(rt: HostRuntime) -> Result<(), Fail> {
             failing_reads,
             ..plain(&["run"], PUT_THEN_GET.input.as_bytes())
         };
-        let (outcome, out) = answer(&rt, rt.alloc(), &call)?;
-        assert_eq!(rt; outcome.status, Status::ReadFault);
-        assert!(rt; out.bytes().is_empty());
-        assert!(rt; outcome.journal.is_none());
+        let answered = answer(&rt, rt.alloc(), &call)?;
+        assert_eq!(rt; answered.status, Status::ReadFault);
+        assert!(rt; answered.output.is_empty());
+        assert!(rt; !answered.has_run);
     }
     Ok(())
 }
@@ -235,10 +252,10 @@ fn sinks_that_fail(rt: HostRuntime) -> Result<(), Fail> {
             failing_writes: &[call],
             ..plain(&["run"], PUT_THEN_GET.input.as_bytes())
         };
-        let (outcome, out) = answer(&rt, rt.alloc(), &call)?;
-        assert_eq!(rt; outcome.status, Status::WriteFault);
-        assert_eq!(rt; out.bytes(), &output[..taken]);
-        assert!(rt; outcome.journal.is_some());
+        let answered = answer(&rt, rt.alloc(), &call)?;
+        assert_eq!(rt; answered.status, Status::WriteFault);
+        assert_eq!(rt; answered.output.as_slice(), &output[..taken]);
+        assert!(rt; answered.has_run);
     }
     Ok(())
 }

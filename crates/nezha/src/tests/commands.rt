@@ -1,6 +1,6 @@
 //! Commands, their spellings and their answers.
 
-use super::*;
+use nz_store::{Answer, Blob, Command, Store, read_command, write_command};
 use std::alloc::Global;
 use std::test::Fail;
 

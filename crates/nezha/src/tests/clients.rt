@@ -1,9 +1,10 @@
 //! Steps of a client, with what it sends.
 
-use super::*;
+use super::parcels::parcel;
 use nz_base::{Actor, Blob, NoMemory, Request, RequestList};
+use nz_client::{Client, are_sendable};
 use nz_machine::{Core, Event, Parcel, Sends};
-use nz_msg::{AnswerBody, Message, Path, decode, encode};
+use nz_msg::{AnswerBody, Message, Path, decode};
 use nz_store::Answer;
 use std::alloc::Global;
 use std::test::*;
@@ -29,13 +30,11 @@ fn answer(alloc: Global, from: Actor, to: Actor, num: u32) -> Result<Parcel, Fai
         answer: Answer::Absent,
         path: Path::Fast,
     });
-    if !message.is_valid() || !from.has_address() || !to.has_address() {
-        return Err("no frame".into());
-    }
+    let frame = parcel(alloc, from, to, &message)?.frame;
     Ok(Parcel {
         from: Actor::Proxy(0),
         to: ME,
-        frame: encode(alloc, from, to, &message)?,
+        frame,
     })
 }
 

@@ -2,11 +2,11 @@
 //! store.
 use super::workers::parts;
 use super::{answer, plain};
-use crate::Status;
 use nz_base::Id;
 use nz_machine::Executed;
 use nz_store::{Answer, Store};
 use nz_text::{Event, read_text};
+use nz_top::Status;
 use std::alloc::Global;
 use std::sync::Wait;
 use std::test::Fail;
@@ -55,8 +55,8 @@ pub fn is_of_a_run(alloc: Global, text: &[u8]) -> Result<bool, Fail> {
 
 /// Whether a scenario runs to its end, and its text may be that of a run.
 pub fn stands<R: Threads + Wait + Sync>(rt: &R, alloc: Global, input: &str) -> Result<bool, Fail> {
-    let (outcome, out) = answer(rt, alloc, &plain(&["run"], input.as_bytes()))?;
-    Ok(outcome.status == Status::Done && is_of_a_run(alloc, out.bytes())?)
+    let answered = answer(rt, alloc, &plain(&["run"], input.as_bytes()))?;
+    Ok(answered.status == Status::Done && is_of_a_run(alloc, &answered.output)?)
 }
 
 /// A put and a get in a cluster of three.

@@ -1,5 +1,5 @@
 //! Each call that takes memory once where there is enough.
-use super::{
+use nz_base::{
     Actor, Blob, Cluster, Entry, EntryList, Fault, FaultList, IdList, Key, KeyList, List, NoMemory,
     Request, RequestList, Scenario, ScriptList, Skew, SkewList, TryCopy,
 };

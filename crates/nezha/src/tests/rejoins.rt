@@ -7,12 +7,15 @@ ghost use Rattle.nz_base.specs.declared.actor.Actor.TheVariants as actors;
 ghost use Rattle.nz_msg.specs.Messages.{Fits};
 ghost use Rattle.nz_machine.specs.Step.{is_in_cluster, is_sized, message_vector};
 
-use super::*;
-use nz_base::{Actor, Blob, Cluster, Entry, EntryList, Key, List, NoMemory};
+use super::entries::{entry_with, key};
+use super::states::first_state;
+use nz_base::{Actor, EntryList, List, NoMemory};
 use nz_cv::CrashVector;
 use nz_machine::{Phase, ReplicaState, Sends, is_from_cluster, kind_of};
 use nz_msg::{Envelope, Message, RejoinTellBody, StateTellBody, VectorTellBody};
+use nz_rejoin::{on_rejoin_tell, on_state_tell, on_vector_tell, restart};
 use std::alloc::Global;
+use std::process::Abort;
 use std::test::*;
 
 // What comes to replica 4 after its restart: a vector-tell of a sender; a rejoin-tell of a sender with its view; or a
@@ -38,13 +41,7 @@ fn vector(first: u32, last: u32) -> CrashVector {
 
 fn log_of_one(alloc: Global) -> Result<EntryList, NoMemory> {
     let mut list = EntryList::new(alloc);
-    let key = Key {
-        deadline: 12_500,
-        client: 0,
-        num: 1,
-    };
-    let command = Blob::from_slice(alloc, &[1, 1, b'a', 0, 1, b'1'])?;
-    list.push(Entry { key, command })?;
+    list.push(entry_with(alloc, key((12_500, 0, 1)), &[1, 1, b'a', 0, 1, b'1'])?)?;
     Ok(list)
 }
 
@@ -302,29 +299,41 @@ fn rows() -> &'static [Row] {
     ROWS
 }
 
-// Replica 4 after a crash and a restart.
-fn restarted(alloc: Global, cluster: Cluster, sends: &mut Sends) -> Result<ReplicaState, NoMemory> {
-    let mut state = ReplicaState::new(alloc, cluster, cluster.n() - 1)?;
-    state.crash();
-    restart(&mut state, NONCE, sends)?;
-    Ok(state)
+fn take_all(
+    alloc: Global,
+    state: &mut ReplicaState,
+    steps: &[Step],
+    sends: &mut Sends,
+) -> Result<(), NoMemory> {
+    for step in steps {
+        take(alloc, state, *step, sends)?;
+    }
+    Ok(())
 }
 
-fn played(alloc: Global, cluster: Cluster, steps: &[Step]) -> Result<(Sent, Progress), NoMemory> {
+// The replica crashes and restarts before the steps.
+fn check_row(
+    rt: &impl Abort,
+    alloc: Global,
+    state: &mut ReplicaState,
+    row: &Row,
+) -> Result<(), Fail> {
     let mut sends = List::new(alloc);
-    let mut state = restarted(alloc, cluster, &mut sends)?;
-    for step in steps {
-        take(alloc, &mut state, *step, &mut sends)?;
-    }
-    Ok((sent(&sends), progress(&state)))
+    state.crash();
+    restart(state, NONCE, &mut sends)?;
+    take_all(alloc, state, row.0, &mut sends)?;
+    assert_eq!(rt; sent(&sends), row.1);
+    assert_eq!(rt; progress(state), row.2);
+    Ok(())
 }
 
 #[test]
 fn rejoins_as_worked_out(rt: HostRuntime) -> Result<(), Fail> {
-    let cluster = Cluster::new(2).ok_or("f is from 1 to 4")?;
-    for (steps, sent, ended) in rows() {
-        let outcome = played(rt.alloc(), cluster, steps)?;
-        assert_eq!(rt; outcome, (*sent, *ended));
+    for row in rows() {
+        let mut states = first_state(rt.alloc(), 2, 4)?;
+        for state in &mut states {
+            check_row(&rt, rt.alloc(), state, row)?;
+        }
     }
     Ok(())
 }

@@ -1,6 +1,6 @@
 -- What the loops of the function of this folder keep.
 use Rattle.std.proofs.Common.{◌≡◌}
-use Rattle.nz_quorum.proofs.tests.path_of.Given as goal
+use Rattle.nezha.proofs.tests.quorums.path_of.Given as goal
 
 abbrev pub invariant-loop-replica : goal.invariant-loop-replica
 invariant-loop-replica l = l.tally.f ≡ l.cluster
