@@ -10,7 +10,7 @@ ghost use Rattle.nz_machine.specs.Clients.{first_client};
 ghost use Rattle.nz_machine.specs.Step.{node_step, envelope_step, client_message, accepted_envelope, parcel};
 ghost use Rattle.nz_client.specs.Models.{AreSendable, IsClientInGroup, IsSameClient, least_open};
 
-use crate::state::{ClientState, accept_rule, wait_rule};
+use crate::state::ClientState;
 use nz_base::{Actor, MAX_COMMAND, NoMemory, RequestList};
 use nz_machine::{Core, Event, Parcel, Sends, heard};
 use nz_msg::{Envelope, Message};
@@ -88,52 +88,54 @@ impl Client {
     }
 }
 
-fn handle(state: &mut ClientState, envelope: &Envelope, sends: &mut Sends) -> Result<(), NoMemory>
-    ensures same { IsSameClient state.old state.new }
-    ensures state { OnOk result (state.new ≡ record state.old {
-      state = (client_message state.old.window state.old.proxies
-          state.old.me state.old.script state.old.state envelope.now.from envelope.now.message).0;
-    }) }
-    ensures sends { OnOk result (sends.new ≡ sends.old
-        ++ map (parcel (actors.Client state.old.me))
-        (client_message state.old.window state.old.proxies state.old.me state.old.script state.old.state
-        envelope.now.from envelope.now.message).1) }
-{
-    match (envelope.from, &envelope.message) {
-        (Actor::Proxy(_), Message::Answer(body)) => accept_rule(state, body, sends),
-        _ => Ok(()),
-    }
-}
-
-fn deliver(state: &mut ClientState, p: &Parcel, sends: &mut Sends) -> Result<(), NoMemory>
-    ensures same { IsSameClient state.old state.new }
-    ensures state { (g : Group) → IsClientInGroup g state.old
-        → OnOk result (state.new ≡ record state.old {
-          state = (envelope_step g
-              (actors.Client state.old.me) state.old.state (accepted_envelope g.f (actors.Client state.old.me) p.now)).0;
+impl ClientState {
+    fn handle(&mut self, envelope: &Envelope, sends: &mut Sends) -> Result<(), NoMemory>
+        ensures same { IsSameClient self.old self.new }
+        ensures state { OnOk result (self.new ≡ record self.old {
+          state = (client_message self.old.window self.old.proxies
+              self.old.me self.old.script self.old.state envelope.now.from envelope.now.message).0;
         }) }
-    ensures sends { (g : Group) → IsClientInGroup g state.old
-        → OnOk result (sends.new ≡ sends.old
-        ++ map (parcel (actors.Client state.old.me))
-        (envelope_step g (actors.Client state.old.me) state.old.state (accepted_envelope g.f (actors.Client state.old.me) p.now)).1) }
-{
-    match heard(state.allocator(), state.name(), p)? {
-        None => Ok(()),
-        Some(envelope) => handle(state, &envelope, sends),
+        ensures sends { OnOk result (sends.new ≡ sends.old
+            ++ map (parcel (actors.Client self.old.me))
+            (client_message self.old.window self.old.proxies self.old.me self.old.script self.old.state
+            envelope.now.from envelope.now.message).1) }
+    {
+        match (envelope.from, &envelope.message) {
+            (Actor::Proxy(_), Message::Answer(body)) => self.accept_rule(body, sends),
+            _ => Ok(()),
+        }
     }
-}
 
-fn take(state: &mut ClientState, event: &Event, sends: &mut Sends) -> Result<(), NoMemory>
-    ensures same { IsSameClient state.old state.new }
-    ensures state { (g : Group) → IsClientInGroup g state.old
-        → OnOk result (state.new ≡ record state.old { state = (node_step g (actors.Client state.old.me) state.old.state event.now).0 }) }
-    ensures sends { (g : Group) → IsClientInGroup g state.old
-        → OnOk result (sends.new ≡ sends.old ++ (node_step g (actors.Client state.old.me) state.old.state event.now).1) }
-{
-    match event {
-        Event::Deliver(p) => deliver(state, p, sends),
-        Event::Tick(_) => wait_rule(state, sends),
-        Event::Cut(..) | Event::Alarm | Event::Crash | Event::Restart(_) => Ok(()),
+    fn deliver(&mut self, p: &Parcel, sends: &mut Sends) -> Result<(), NoMemory>
+        ensures same { IsSameClient self.old self.new }
+        ensures state { (g : Group) → IsClientInGroup g self.old
+            → OnOk result (self.new ≡ record self.old {
+              state = (envelope_step g
+                  (actors.Client self.old.me) self.old.state (accepted_envelope g.f (actors.Client self.old.me) p.now)).0;
+            }) }
+        ensures sends { (g : Group) → IsClientInGroup g self.old
+            → OnOk result (sends.new ≡ sends.old
+            ++ map (parcel (actors.Client self.old.me))
+            (envelope_step g (actors.Client self.old.me) self.old.state (accepted_envelope g.f (actors.Client self.old.me) p.now)).1) }
+    {
+        match heard(self.allocator(), self.name(), p)? {
+            None => Ok(()),
+            Some(envelope) => self.handle(&envelope, sends),
+        }
+    }
+
+    fn take(&mut self, event: &Event, sends: &mut Sends) -> Result<(), NoMemory>
+        ensures same { IsSameClient self.old self.new }
+        ensures state { (g : Group) → IsClientInGroup g self.old
+            → OnOk result (self.new ≡ record self.old { state = (node_step g (actors.Client self.old.me) self.old.state event.now).0 }) }
+        ensures sends { (g : Group) → IsClientInGroup g self.old
+            → OnOk result (sends.new ≡ sends.old ++ (node_step g (actors.Client self.old.me) self.old.state event.now).1) }
+    {
+        match event {
+            Event::Deliver(p) => self.deliver(p, sends),
+            Event::Tick(_) => self.wait_rule(sends),
+            Event::Cut(..) | Event::Alarm | Event::Crash | Event::Restart(_) => Ok(()),
+        }
     }
 }
 
@@ -149,7 +151,7 @@ impl Core for Client {
 
     fn step(&mut self, event: &Event) -> Result<Sends, NoMemory> {
         let mut sends = Sends::new(self.state.allocator());
-        match take(&mut self.state, event, &mut sends) {
+        match self.state.take(event, &mut sends) {
             Ok(()) => Ok(sends),
             Err(error) => {
                 self.live = false;

@@ -111,132 +111,204 @@ impl ClientState {
     {
         self.accepted
     }
-}
 
-/// The request at this place of the script, if there is one.
-fn request_at(state: &ClientState, place: u32) -> Option<&Request>
-    ensures sendable { IfSome result (λ request. IsSendable request.now) }
-    ensures value { option_copied result ≡ slice_get state.now.script place }
-{
-    state.script.as_slice().get(place as usize)
-}
-
-/// Sends the request of this number, counted from 1, to a proxy.
-fn ask(
-    state: &ClientState,
-    proxy: u8,
-    num: u32,
-    request: &Request,
-    sends: &mut Sends,
-) -> Result<(), NoMemory>
-    requires proxy { proxy ≤ MAX_PROXY }
-    requires request { IsSendable request.now }
-    ensures { OnOk result (sends.new ≡ sends.old ++ map (parcel (actors.Client state.now.me)) (clients.ask proxy num request.now ∷ [])) }
-{
-    let command = request.command.copy(state.alloc)?;
-    let message = Message::Request(RequestBody { num, command });
-    let to = Actor::Proxy(proxy);
-    send(state.alloc, state.name(), to, &message, sends)
-}
-
-/// The next request, if it may be sent now.
-fn due_request(state: &ClientState) -> Option<&Request>
-    ensures sendable { IfSome result (λ request. IsSendable request.now) }
-    ensures value { option_copied result ≡ if_due state.now.state.ticks (slice_get state.now.script state.now.state.sent) }
-{
-    match request_at(state, state.sent) {
-        Some(request) if request.wait <= state.ticks => Some(request),
-        _ => None,
+    /// The request at this place of the script, if there is one.
+    fn request_at(&self, place: u32) -> Option<&Request>
+        ensures sendable { IfSome result (λ request. IsSendable request.now) }
+        ensures value { option_copied result ≡ slice_get self.now.script place }
+    {
+        self.script.as_slice().get(place as usize)
     }
-}
 
-/// The proxy to which a request goes first.
-fn own_proxy(state: &ClientState) -> u8
-    ensures own { result ≡ state.now.me % state.now.proxies }
-    ensures named { result ≤ MAX_PROXY }
-{
-    let proxies = state.proxies;
-    state.me % proxies
-}
+    /// Sends the request of this number, counted from 1, to a proxy.
+    fn ask(&self, proxy: u8, num: u32, request: &Request, sends: &mut Sends) -> Result<(), NoMemory>
+        requires proxy { proxy ≤ MAX_PROXY }
+        requires request { IsSendable request.now }
+        ensures { OnOk result (sends.new ≡ sends.old ++ map (parcel (actors.Client self.now.me)) (clients.ask proxy num request.now ∷ [])) }
+    {
+        let command = request.command.copy(self.alloc)?;
+        let message = Message::Request(RequestBody { num, command });
+        let to = Actor::Proxy(proxy);
+        send(self.alloc, self.name(), to, &message, sends)
+    }
 
-/// Counts the next request as sent, to the client's own proxy.
-fn open_request(state: &mut ClientState) -> Result<(), NoMemory>
-    requires free { length state.old.state.attempts < state.old.window }
-    requires there { state.old.state.sent < length state.old.script }
-    ensures same { IsSameClient state.old state.new }
-    ensures state { OnOk result (state.new ≡ record state.old {
-      state = record state.old.state {
-        sent = state.old.state.sent + 1;
-        attempts = state.old.state.attempts
-            ++ record { num = state.old.state.sent + 1; proxy = state.old.me % state.old.proxies; since = 0 } ∷ [];
-      };
-    }) }
-{
-    let attempt = Attempt {
-        num: state.sent + 1,
-        proxy: state.me % state.proxies,
-        since: 0,
-    };
-    state.attempts.push(attempt)?;
-    state.sent += 1;
-    Ok(())
-}
-
-/// The next request is opened if it is due.
-fn open_next(state: &mut ClientState, sends: &mut Sends) -> Result<(), NoMemory>
-    requires { length state.old.state.attempts < state.old.window }
-    ensures same { IsSameClient state.old state.new }
-    ensures state { OnOk result (state.new ≡ record state.old {
-      state = (clients.open_next state.old.proxies state.old.me
-          state.old.script state.old.state).0;
-    }) }
-    ensures sends { OnOk result (sends.new ≡ sends.old
-        ++ map (parcel (actors.Client state.old.me)) (clients.open_next state.old.proxies state.old.me state.old.script state.old.state).1) }
-{
-    match due_request(state) {
-        None => Ok(()),
-        Some(request) => {
-            let proxy = own_proxy(state);
-            ask(state, proxy, state.sent + 1, request, sends)?;
-            open_request(state)
+    /// The next request, if it may be sent now.
+    fn due_request(&self) -> Option<&Request>
+        ensures sendable { IfSome result (λ request. IsSendable request.now) }
+        ensures value { option_copied result ≡ if_due self.now.state.ticks (slice_get self.now.script self.now.state.sent) }
+    {
+        match self.request_at(self.sent) {
+            Some(request) if request.wait <= self.ticks => Some(request),
+            _ => None,
         }
     }
-}
 
-/// How many requests more may be open.
-fn free_places(state: &ClientState) -> u8
-    ensures free { result ≡ state.now.window - length state.now.state.attempts }
-    ensures few { length state.now.state.attempts ≤ state.now.window }
-{
-    state.window - state.attempts.len() as u8
-}
-
-/// Each free place of the window takes the next request, if it is due.
-fn fill_window(state: &mut ClientState, sends: &mut Sends) -> Result<(), NoMemory>
-    ensures same { IsSameClient state.old state.new }
-    ensures state { OnOk result (state.new ≡ record state.old {
-      state = (clients.fill_window state.old.window
-          state.old.proxies state.old.me state.old.script state.old.state).0;
-    }) }
-    ensures sends { OnOk result (sends.new ≡ sends.old
-        ++ map (parcel (actors.Client state.old.me))
-        (clients.fill_window state.old.window state.old.proxies state.old.me state.old.script state.old.state).1) }
-{
-    for _ in 0..free_places(state) {
-        open_next(state, sends)?;
+    /// The proxy to which a request goes first.
+    fn own_proxy(&self) -> u8
+        ensures own { result ≡ self.now.me % self.now.proxies }
+        ensures named { result ≤ MAX_PROXY }
+    {
+        let proxies = self.proxies;
+        self.me % proxies
     }
-    Ok(())
-}
 
-/// Sends the request of this number again.
-fn ask_again(state: &ClientState, proxy: u8, num: u32, sends: &mut Sends) -> Result<(), NoMemory>
-    requires { proxy ≤ MAX_PROXY }
-    ensures { OnOk result (sends.new ≡ sends.old
-        ++ map (parcel (actors.Client state.now.me)) (request_again proxy num (slice_get state.now.script (num - 1)))) }
-{
-    match request_at(state, num.saturating_sub(1)) {
-        None => Ok(()),
-        Some(request) => ask(state, proxy, num, request, sends),
+    /// Counts the next request as sent, to the client's own proxy.
+    fn open_request(&mut self) -> Result<(), NoMemory>
+        requires free { length self.old.state.attempts < self.old.window }
+        requires there { self.old.state.sent < length self.old.script }
+        ensures same { IsSameClient self.old self.new }
+        ensures state { OnOk result (self.new ≡ record self.old {
+          state = record self.old.state {
+            sent = self.old.state.sent + 1;
+            attempts = self.old.state.attempts
+                ++ record { num = self.old.state.sent + 1; proxy = self.old.me % self.old.proxies; since = 0 } ∷ [];
+          };
+        }) }
+    {
+        let attempt = Attempt {
+            num: self.sent + 1,
+            proxy: self.me % self.proxies,
+            since: 0,
+        };
+        self.attempts.push(attempt)?;
+        self.sent += 1;
+        Ok(())
+    }
+
+    /// The next request is opened if it is due.
+    fn open_next(&mut self, sends: &mut Sends) -> Result<(), NoMemory>
+        requires { length self.old.state.attempts < self.old.window }
+        ensures same { IsSameClient self.old self.new }
+        ensures state { OnOk result (self.new ≡ record self.old {
+          state = (clients.open_next self.old.proxies self.old.me
+              self.old.script self.old.state).0;
+        }) }
+        ensures sends { OnOk result (sends.new ≡ sends.old
+            ++ map (parcel (actors.Client self.old.me)) (clients.open_next self.old.proxies self.old.me self.old.script self.old.state).1) }
+    {
+        match self.due_request() {
+            None => Ok(()),
+            Some(request) => {
+                let proxy = self.own_proxy();
+                self.ask(proxy, self.sent + 1, request, sends)?;
+                self.open_request()
+            }
+        }
+    }
+
+    /// How many requests more may be open.
+    fn free_places(&self) -> u8
+        ensures free { result ≡ self.now.window - length self.now.state.attempts }
+        ensures few { length self.now.state.attempts ≤ self.now.window }
+    {
+        self.window - self.attempts.len() as u8
+    }
+
+    /// Each free place of the window takes the next request, if it is due.
+    fn fill_window(&mut self, sends: &mut Sends) -> Result<(), NoMemory>
+        ensures same { IsSameClient self.old self.new }
+        ensures state { OnOk result (self.new ≡ record self.old {
+          state = (clients.fill_window self.old.window
+              self.old.proxies self.old.me self.old.script self.old.state).0;
+        }) }
+        ensures sends { OnOk result (sends.new ≡ sends.old
+            ++ map (parcel (actors.Client self.old.me))
+            (clients.fill_window self.old.window self.old.proxies self.old.me self.old.script self.old.state).1) }
+    {
+        for _ in 0..self.free_places() {
+            self.open_next(sends)?;
+        }
+        Ok(())
+    }
+
+    /// Sends the request of this number again.
+    fn ask_again(&self, proxy: u8, num: u32, sends: &mut Sends) -> Result<(), NoMemory>
+        requires { proxy ≤ MAX_PROXY }
+        ensures { OnOk result (sends.new ≡ sends.old
+            ++ map (parcel (actors.Client self.now.me)) (request_again proxy num (slice_get self.now.script (num - 1)))) }
+    {
+        match self.request_at(num.saturating_sub(1)) {
+            None => Ok(()),
+            Some(request) => self.ask(proxy, num, request, sends),
+        }
+    }
+
+    /// Sends an open request again where it has waited long enough.
+    fn retry(&self, attempt: Attempt, sends: &mut Sends) -> Result<(), NoMemory>
+        requires { IsOfProxies self.now.proxies attempt }
+        ensures { OnOk result (sends.new ≡ sends.old ++ map (parcel (actors.Client self.now.me)) (clients.retry self.now.proxies self.now.script attempt)) }
+    {
+        if is_overdue(attempt) {
+            let proxy = next_proxy(self.proxies, attempt.proxy);
+            self.ask_again(proxy, attempt.num, sends)
+        } else {
+            Ok(())
+        }
+    }
+
+    /// Sends again what has waited long enough, in rising number.
+    fn retry_all(&self, sends: &mut Sends) -> Result<(), NoMemory>
+        ensures { OnOk result (sends.new ≡ sends.old
+            ++ map (parcel (actors.Client self.now.me)) (retries self.now.proxies self.now.script self.now.state.attempts)) }
+    {
+        for attempt in &self.attempts {
+            self.retry(*attempt, sends)?;
+        }
+        Ok(())
+    }
+
+    /// The count of ticks rises, and each open request waits.
+    fn wait_all(&mut self)
+        ensures { self.new ≡ record self.old { state = after_wait self.old.proxies self.old.state } }
+    {
+        let proxies = self.proxies;
+        wait_each(self.attempts.as_mut_slice(), proxies);
+        self.ticks = self.ticks.saturating_add(1);
+    }
+
+    /// The rule for a tick.
+    #[tactic(auto, unfolding(nz_machine::specs::Clients::wait_rule))]
+    pub fn wait_rule(&mut self, sends: &mut Sends) -> Result<(), NoMemory>
+        ensures same { IsSameClient self.old self.new }
+        ensures state { OnOk result (self.new ≡ record self.old {
+          state = (clients.wait_rule self.old.window
+              self.old.proxies self.old.me self.old.script self.old.state).0;
+        }) }
+        ensures sends { OnOk result (sends.new ≡ sends.old
+            ++ map (parcel (actors.Client self.old.me))
+            (clients.wait_rule self.old.window self.old.proxies self.old.me self.old.script self.old.state).1) }
+    {
+        self.retry_all(sends)?;
+        self.wait_all();
+        self.fill_window(sends)
+    }
+
+    /// The request of this number is accepted, and no longer open.
+    fn accept(&mut self, num: u32)
+        requires { IsTrue (clients.is_open num self.old.state.attempts) }
+        ensures { self.new ≡ record self.old { state = after_acceptance num self.old.state } }
+    {
+        drop_attempt(&mut self.attempts, num);
+        self.accepted += 1;
+    }
+
+    /// The rule for an answer of a proxy.
+    #[tactic(auto, unfolding(nz_machine::specs::Clients::accept_rule))]
+    pub fn accept_rule(&mut self, body: &AnswerBody, sends: &mut Sends) -> Result<(), NoMemory>
+        ensures same { IsSameClient self.old self.new }
+        ensures state { OnOk result (self.new ≡ record self.old {
+          state = (clients.accept_rule self.old.window
+              self.old.proxies self.old.me self.old.script self.old.state body.now).0;
+        }) }
+        ensures sends { OnOk result (sends.new ≡ sends.old
+            ++ map (parcel (actors.Client self.old.me))
+            (clients.accept_rule self.old.window self.old.proxies self.old.me self.old.script self.old.state body.now).1) }
+    {
+        if !self.is_open(body.num) {
+            return Ok(());
+        }
+        self.accept(body.num);
+        self.fill_window(sends)
     }
 }
 
@@ -256,30 +328,6 @@ fn is_overdue(attempt: Attempt) -> bool
     ensures { result ≡ clients.is_overdue attempt }
 {
     attempt.since + 1 == PATIENCE
-}
-
-/// Sends an open request again where it has waited long enough.
-fn retry(state: &ClientState, attempt: Attempt, sends: &mut Sends) -> Result<(), NoMemory>
-    requires { IsOfProxies state.now.proxies attempt }
-    ensures { OnOk result (sends.new ≡ sends.old ++ map (parcel (actors.Client state.now.me)) (clients.retry state.now.proxies state.now.script attempt)) }
-{
-    if is_overdue(attempt) {
-        let proxy = next_proxy(state.proxies, attempt.proxy);
-        ask_again(state, proxy, attempt.num, sends)
-    } else {
-        Ok(())
-    }
-}
-
-/// Sends again what has waited long enough, in rising number.
-fn retry_all(state: &ClientState, sends: &mut Sends) -> Result<(), NoMemory>
-    ensures { OnOk result (sends.new ≡ sends.old
-        ++ map (parcel (actors.Client state.now.me)) (retries state.now.proxies state.now.script state.now.state.attempts)) }
-{
-    for attempt in &state.attempts {
-        retry(state, *attempt, sends)?;
-    }
-    Ok(())
 }
 
 /// An open request, when it has waited one tick more.
@@ -318,66 +366,8 @@ fn wait_each(attempts: &mut [Attempt], proxies: u8)
     }
 }
 
-/// The count of ticks rises, and each open request waits.
-fn wait_all(state: &mut ClientState)
-    ensures { state.new ≡ record state.old { state = after_wait state.old.proxies state.old.state } }
-{
-    let proxies = state.proxies;
-    wait_each(state.attempts.as_mut_slice(), proxies);
-    state.ticks = state.ticks.saturating_add(1);
-}
-
-/// The rule for a tick.
-#[tactic(auto, unfolding(nz_machine::specs::Clients::wait_rule))]
-pub fn wait_rule(state: &mut ClientState, sends: &mut Sends) -> Result<(), NoMemory>
-    ensures same { IsSameClient state.old state.new }
-    ensures state { OnOk result (state.new ≡ record state.old {
-      state = (clients.wait_rule state.old.window
-          state.old.proxies state.old.me state.old.script state.old.state).0;
-    }) }
-    ensures sends { OnOk result (sends.new ≡ sends.old
-        ++ map (parcel (actors.Client state.old.me))
-        (clients.wait_rule state.old.window state.old.proxies state.old.me state.old.script state.old.state).1) }
-{
-    retry_all(state, sends)?;
-    wait_all(state);
-    fill_window(state, sends)
-}
-
 fn drop_attempt(attempts: &mut Vec<Attempt>, num: u32)
     ensures { attempts.new.items ≡ without_attempt num attempts.old.items }
 {
     attempts.retain(|attempt| attempt.num != num);
-}
-
-/// The request of this number is accepted, and no longer open.
-fn accept(state: &mut ClientState, num: u32)
-    requires { IsTrue (clients.is_open num state.old.state.attempts) }
-    ensures { state.new ≡ record state.old { state = after_acceptance num state.old.state } }
-{
-    drop_attempt(&mut state.attempts, num);
-    state.accepted += 1;
-}
-
-/// The rule for an answer of a proxy.
-#[tactic(auto, unfolding(nz_machine::specs::Clients::accept_rule))]
-pub fn accept_rule(
-    state: &mut ClientState,
-    body: &AnswerBody,
-    sends: &mut Sends,
-) -> Result<(), NoMemory>
-    ensures same { IsSameClient state.old state.new }
-    ensures state { OnOk result (state.new ≡ record state.old {
-      state = (clients.accept_rule state.old.window
-          state.old.proxies state.old.me state.old.script state.old.state body.now).0;
-    }) }
-    ensures sends { OnOk result (sends.new ≡ sends.old
-        ++ map (parcel (actors.Client state.old.me))
-        (clients.accept_rule state.old.window state.old.proxies state.old.me state.old.script state.old.state body.now).1) }
-{
-    if !state.is_open(body.num) {
-        return Ok(());
-    }
-    accept(state, body.num);
-    fill_window(state, sends)
 }

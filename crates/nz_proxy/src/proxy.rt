@@ -12,7 +12,7 @@ ghost use Rattle.nz_machine.specs.Step.{node_step, envelope_step, if_from_cluste
 ghost use Rattle.nz_machine.specs.Step.{is_in_cluster, is_sized, message_vector, proxy_message};
 ghost use Rattle.nz_proxy.specs.Models.{IsSameProxy, group_with_cluster, proxy_after_tick};
 
-use crate::state::{ProxyState, clock_rule, reply_rule, stamp_rule};
+use crate::state::ProxyState;
 use nz_base::{Actor, Cluster, NoMemory};
 use nz_machine::{Core, Event, Parcel, Reply, Sends, heard, is_from_cluster};
 use nz_msg::{Envelope, FastReplyBody, Message, SlowReplyBody};
@@ -62,134 +62,136 @@ impl Proxy {
     }
 }
 
-fn take_fast(
-    state: &mut ProxyState,
-    replica: u8,
-    body: FastReplyBody,
-    sends: &mut Sends,
-) -> Result<(), NoMemory>
-    requires replica { replica < replica_count state.old.f }
-    requires vector { length body.vector ≡ replica_count state.old.f }
-    requires body { fast_reply.fits body }
-    ensures same { IsSameProxy state.old state.new }
-    ensures state { OnOk result (state.new ≡ record state.old {
-      state = (proxies.reply_rule state.old.f state.old.state
-          replica body.id body.delay (of_fast replica body)).0;
-    }) }
-    ensures sends { OnOk result (sends.new ≡ sends.old
-        ++ map (parcel (actors.Proxy state.old.me))
-        (proxies.reply_rule state.old.f state.old.state replica body.id body.delay (of_fast replica body)).1) }
-{
-    let reply = Reply::Fast {
-        replica,
-        view: body.view,
-        digest: body.digest,
-        vector: body.vector,
-        answer: body.answer,
-    };
-    reply_rule(state, replica, body.id, body.delay, reply, sends)
-}
-
-fn take_slow(
-    state: &mut ProxyState,
-    replica: u8,
-    body: SlowReplyBody,
-    sends: &mut Sends,
-) -> Result<(), NoMemory>
-    requires { replica < replica_count state.old.f }
-    ensures same { IsSameProxy state.old state.new }
-    ensures state { OnOk result (state.new ≡ record state.old {
-      state = (proxies.reply_rule state.old.f state.old.state
-          replica body.id body.delay (of_slow replica body)).0;
-    }) }
-    ensures sends { OnOk result (sends.new ≡ sends.old
-        ++ map (parcel (actors.Proxy state.old.me))
-        (proxies.reply_rule state.old.f state.old.state replica body.id body.delay (of_slow replica body)).1) }
-{
-    let reply = Reply::Slow {
-        replica,
-        view: body.view,
-    };
-    reply_rule(state, replica, body.id, body.delay, reply, sends)
-}
-
-/// Takes a message that counts, while the proxy is up.
-fn handle(state: &mut ProxyState, envelope: Envelope, sends: &mut Sends) -> Result<(), NoMemory>
-    requires from { HasAddress envelope.from }
-    requires message { Fits envelope.message }
-    requires sender { IsTrue (is_in_cluster state.old.f envelope.from) }
-    requires vector { IsTrue (is_sized state.old.f (message_vector envelope.message)) }
-    ensures same { IsSameProxy state.old state.new }
-    ensures state { OnOk result (state.new ≡ record state.old { state = (proxy_message state.old.f state.old.state envelope.from envelope.message).0 }) }
-    ensures sends { OnOk result (sends.new ≡ sends.old
-        ++ map (parcel (actors.Proxy state.old.me)) (proxy_message state.old.f state.old.state envelope.from envelope.message).1) }
-{
-    match (envelope.from, envelope.message) {
-        (Actor::Client(client), Message::Request(body)) => stamp_rule(state, client, body, sends),
-        (Actor::Replica(replica), Message::FastReply(body)) => {
-            take_fast(state, replica, body, sends)
-        }
-        (Actor::Replica(replica), Message::SlowReply(body)) => {
-            take_slow(state, replica, body, sends)
-        }
-        _ => Ok(()),
+impl ProxyState {
+    fn take_fast(
+        &mut self,
+        replica: u8,
+        body: FastReplyBody,
+        sends: &mut Sends,
+    ) -> Result<(), NoMemory>
+        requires replica { replica < replica_count self.old.f }
+        requires vector { length body.vector ≡ replica_count self.old.f }
+        requires body { fast_reply.fits body }
+        ensures same { IsSameProxy self.old self.new }
+        ensures state { OnOk result (self.new ≡ record self.old {
+          state = (proxies.reply_rule self.old.f self.old.state
+              replica body.id body.delay (of_fast replica body)).0;
+        }) }
+        ensures sends { OnOk result (sends.new ≡ sends.old
+            ++ map (parcel (actors.Proxy self.old.me))
+            (proxies.reply_rule self.old.f self.old.state replica body.id body.delay (of_fast replica body)).1) }
+    {
+        let reply = Reply::Fast {
+            replica,
+            view: body.view,
+            digest: body.digest,
+            vector: body.vector,
+            answer: body.answer,
+        };
+        self.reply_rule(replica, body.id, body.delay, reply, sends)
     }
-}
 
-fn deliver(state: &mut ProxyState, p: &Parcel, sends: &mut Sends) -> Result<(), NoMemory>
-    ensures same { IsSameProxy state.old state.new }
-    ensures state { OnOk result (state.new ≡ record state.old {
-      state = (envelope_step (group_with_cluster state.old.f)
-          (actors.Proxy state.old.me) state.old.state (accepted_envelope state.old.f (actors.Proxy state.old.me) p.now)).0;
-    }) }
-    ensures sends { OnOk result (sends.new ≡ sends.old
-        ++ map (parcel (actors.Proxy state.old.me))
-        (envelope_step (group_with_cluster state.old.f) (actors.Proxy state.old.me) state.old.state
-        (accepted_envelope state.old.f (actors.Proxy state.old.me) p.now)).1) }
-{
-    match heard(state.allocator(), state.name(), p)? {
-        None => Ok(()),
-        Some(envelope) => {
-            if state.is_down() || !is_from_cluster(state.cluster(), &envelope) {
-                return Ok(());
+    fn take_slow(
+        &mut self,
+        replica: u8,
+        body: SlowReplyBody,
+        sends: &mut Sends,
+    ) -> Result<(), NoMemory>
+        requires { replica < replica_count self.old.f }
+        ensures same { IsSameProxy self.old self.new }
+        ensures state { OnOk result (self.new ≡ record self.old {
+          state = (proxies.reply_rule self.old.f self.old.state
+              replica body.id body.delay (of_slow replica body)).0;
+        }) }
+        ensures sends { OnOk result (sends.new ≡ sends.old
+            ++ map (parcel (actors.Proxy self.old.me))
+            (proxies.reply_rule self.old.f self.old.state replica body.id body.delay (of_slow replica body)).1) }
+    {
+        let reply = Reply::Slow {
+            replica,
+            view: body.view,
+        };
+        self.reply_rule(replica, body.id, body.delay, reply, sends)
+    }
+
+    /// Takes a message that counts, while the proxy is up.
+    fn handle(&mut self, envelope: Envelope, sends: &mut Sends) -> Result<(), NoMemory>
+        requires from { HasAddress envelope.from }
+        requires message { Fits envelope.message }
+        requires sender { IsTrue (is_in_cluster self.old.f envelope.from) }
+        requires vector { IsTrue (is_sized self.old.f (message_vector envelope.message)) }
+        ensures same { IsSameProxy self.old self.new }
+        ensures state { OnOk result (self.new ≡ record self.old { state = (proxy_message self.old.f self.old.state envelope.from envelope.message).0 }) }
+        ensures sends { OnOk result (sends.new ≡ sends.old
+            ++ map (parcel (actors.Proxy self.old.me)) (proxy_message self.old.f self.old.state envelope.from envelope.message).1) }
+    {
+        match (envelope.from, envelope.message) {
+            (Actor::Client(client), Message::Request(body)) => self.stamp_rule(client, body, sends),
+            (Actor::Replica(replica), Message::FastReply(body)) => {
+                self.take_fast(replica, body, sends)
             }
-            handle(state, envelope, sends)
+            (Actor::Replica(replica), Message::SlowReply(body)) => {
+                self.take_slow(replica, body, sends)
+            }
+            _ => Ok(()),
         }
     }
-}
 
-fn tick(state: &mut ProxyState, clock: u64)
-    ensures { state.new ≡ record state.old { state = proxy_after_tick state.old.state clock } }
-{
-    if !state.is_down() {
-        clock_rule(state, clock);
+    fn deliver(&mut self, p: &Parcel, sends: &mut Sends) -> Result<(), NoMemory>
+        ensures same { IsSameProxy self.old self.new }
+        ensures state { OnOk result (self.new ≡ record self.old {
+          state = (envelope_step (group_with_cluster self.old.f)
+              (actors.Proxy self.old.me) self.old.state (accepted_envelope self.old.f (actors.Proxy self.old.me) p.now)).0;
+        }) }
+        ensures sends { OnOk result (sends.new ≡ sends.old
+            ++ map (parcel (actors.Proxy self.old.me))
+            (envelope_step (group_with_cluster self.old.f) (actors.Proxy self.old.me) self.old.state
+            (accepted_envelope self.old.f (actors.Proxy self.old.me) p.now)).1) }
+    {
+        match heard(self.allocator(), self.name(), p)? {
+            None => Ok(()),
+            Some(envelope) => {
+                if self.is_down() || !is_from_cluster(self.cluster(), &envelope) {
+                    return Ok(());
+                }
+                self.handle(envelope, sends)
+            }
+        }
     }
-}
 
-fn take(state: &mut ProxyState, event: &Event, sends: &mut Sends) -> Result<(), NoMemory>
-    ensures same { IsSameProxy state.old state.new }
-    ensures state { OnOk result (state.new ≡ record state.old {
-      state = (node_step (group_with_cluster state.old.f)
-          (actors.Proxy state.old.me) state.old.state event.now).0;
-    }) }
-    ensures sends { OnOk result (sends.new ≡ sends.old
-        ++ (node_step (group_with_cluster state.old.f) (actors.Proxy state.old.me) state.old.state event.now).1) }
-{
-    match event {
-        Event::Deliver(p) => deliver(state, p, sends),
-        Event::Tick(clock) => {
-            tick(state, *clock);
-            Ok(())
+    fn tick(&mut self, clock: u64)
+        ensures { self.new ≡ record self.old { state = proxy_after_tick self.old.state clock } }
+    {
+        if !self.is_down() {
+            self.clock_rule(clock);
         }
-        Event::Crash => {
-            state.crash();
-            Ok(())
+    }
+
+    fn take(&mut self, event: &Event, sends: &mut Sends) -> Result<(), NoMemory>
+        ensures same { IsSameProxy self.old self.new }
+        ensures state { OnOk result (self.new ≡ record self.old {
+          state = (node_step (group_with_cluster self.old.f)
+              (actors.Proxy self.old.me) self.old.state event.now).0;
+        }) }
+        ensures sends { OnOk result (sends.new ≡ sends.old
+            ++ (node_step (group_with_cluster self.old.f) (actors.Proxy self.old.me) self.old.state event.now).1) }
+    {
+        match event {
+            Event::Deliver(p) => self.deliver(p, sends),
+            Event::Tick(clock) => {
+                self.tick(*clock);
+                Ok(())
+            }
+            Event::Crash => {
+                self.crash();
+                Ok(())
+            }
+            Event::Restart(_) => {
+                self.restart();
+                Ok(())
+            }
+            Event::Cut(..) | Event::Alarm => Ok(()),
         }
-        Event::Restart(_) => {
-            state.restart();
-            Ok(())
-        }
-        Event::Cut(..) | Event::Alarm => Ok(()),
     }
 }
 
@@ -205,7 +207,7 @@ impl Core for Proxy {
 
     fn step(&mut self, event: &Event) -> Result<Sends, NoMemory> {
         let mut sends = Sends::new(self.state.allocator());
-        match take(&mut self.state, event, &mut sends) {
+        match self.state.take(event, &mut sends) {
             Ok(()) => Ok(sends),
             Err(error) => {
                 self.live = false;

@@ -166,136 +166,132 @@ impl ProxyState {
             Some(standing) => standing.note(alloc, reply),
         }
     }
-}
 
-fn send_answer(
-    state: &ProxyState,
-    id: Id,
-    answer: Answer,
-    path: Path,
-    sends: &mut Sends,
-) -> Result<(), NoMemory>
-    requires client { id.client ≤ MAX_CLIENT }
-    requires answer { fields.answer.fits answer }
-    ensures { OnOk result (sends.new ≡ sends.old ++ map (parcel (actors.Proxy state.now.me)) (answer_to_client id answer path ∷ [])) }
-{
-    let message = Message::Answer(AnswerBody {
-        num: id.num,
-        answer,
-        path,
-    });
-    let to = Actor::Client(id.client as u8);
-    send(state.alloc, state.name(), to, &message, sends)
-}
-
-fn timed(state: &ProxyState, id: Id, command: Blob) -> TimedBody
-    requires { fields.command.fits command }
-    ensures value { result ≡ record {
-      sent = state.now.state.clock;
-      deadline = state.now.state.clock + bound_of state.now.state.samples + MARGIN;
-      id = id;
-      command = command;
-    } }
-    ensures fit { messages.timed.fits result }
-{
-    TimedBody {
-        sent: state.clock,
-        deadline: state.deadline(),
-        id,
-        command,
+    fn send_answer(
+        &self,
+        id: Id,
+        answer: Answer,
+        path: Path,
+        sends: &mut Sends,
+    ) -> Result<(), NoMemory>
+        requires client { id.client ≤ MAX_CLIENT }
+        requires answer { fields.answer.fits answer }
+        ensures { OnOk result (sends.new ≡ sends.old ++ map (parcel (actors.Proxy self.now.me)) (answer_to_client id answer path ∷ [])) }
+    {
+        let message = Message::Answer(AnswerBody {
+            num: id.num,
+            answer,
+            path,
+        });
+        let to = Actor::Client(id.client as u8);
+        send(self.alloc, self.name(), to, &message, sends)
     }
-}
 
-/// Sends the message to each replica.
-fn send_to_replicas(
-    state: &ProxyState,
-    message: &Message,
-    sends: &mut Sends,
-) -> Result<(), NoMemory>
-    requires { Fits message.now }
-    ensures { OnOk result (sends.new ≡ sends.old
-        ++ map (parcel (actors.Proxy state.now.me)) (to_each message.now (numbers_below (replica_count state.now.f)))) }
-{
-    let cluster = state.cluster();
-    for replica in 0..cluster.n() {
-        let to = Actor::Replica(replica);
-        send(state.alloc, state.name(), to, message, sends)?;
-    }
-    Ok(())
-}
-
-/// Sends the request to each replica, stamped with its deadline.
-fn send_to_all(state: &ProxyState, id: Id, command: Blob, sends: &mut Sends) -> Result<(), NoMemory>
-    requires { fields.command.fits command }
-    ensures { OnOk result (sends.new ≡ sends.old ++ map (parcel (actors.Proxy state.now.me)) (timed_to_all state.now.f state.now.state id command)) }
-{
-    let message = Message::Timed(timed(state, id, command));
-    send_to_replicas(state, &message, sends)
-}
-
-/// The rule for a request of a client.
-#[tactic(auto, unfolding(nz_machine::specs::Proxies::stamp_rule))]
-pub fn stamp_rule(
-    state: &mut ProxyState,
-    client: u8,
-    body: RequestBody,
-    sends: &mut Sends,
-) -> Result<(), NoMemory>
-    requires client { client ≤ MAX_CLIENT }
-    requires body { messages.request.fits body }
-    ensures same { IsSameProxy state.old state.new }
-    ensures state { OnOk result (state.new ≡ record state.old { state = (proxies.stamp_rule state.old.f state.old.state client body).0 }) }
-    ensures sends { OnOk result (sends.new ≡ sends.old
-        ++ map (parcel (actors.Proxy state.old.me)) (proxies.stamp_rule state.old.f state.old.state client body).1) }
-{
-    let id = Id {
-        client: u32::from(client),
-        num: body.num,
-    };
-    let alloc = state.alloc;
-    match state.standing(id) {
-        Some(Standing::Decided { answer, path }) => {
-            let answer = copy_answer(alloc, answer)?;
-            send_answer(state, id, answer, *path, sends)
-        }
-        Some(Standing::Open(_)) => send_to_all(state, id, body.command, sends),
-        None => {
-            send_to_all(state, id, body.command, sends)?;
-            let tally = Tally::new(alloc, state.cluster);
-            state.set_standing(id, Standing::Open(tally))
+    fn timed(&self, id: Id, command: Blob) -> TimedBody
+        requires { fields.command.fits command }
+        ensures value { result ≡ record {
+          sent = self.now.state.clock;
+          deadline = self.now.state.clock + bound_of self.now.state.samples + MARGIN;
+          id = id;
+          command = command;
+        } }
+        ensures fit { messages.timed.fits result }
+    {
+        TimedBody {
+            sent: self.clock,
+            deadline: self.deadline(),
+            id,
+            command,
         }
     }
-}
 
-/// The rule for a reply of a replica to the request, whose timed message was under way for the delay.
-#[tactic(auto, unfolding(nz_machine::specs::Proxies::reply_rule))]
-pub fn reply_rule(
-    state: &mut ProxyState,
-    replica: u8,
-    id: Id,
-    delay: u32,
-    reply: Reply,
-    sends: &mut Sends,
-) -> Result<(), NoMemory>
-    requires replica { replica < replica_count state.old.f }
-    requires reply { IsOfCluster state.old.f reply }
-    requires answer { HasFitAnswer reply }
-    ensures same { IsSameProxy state.old state.new }
-    ensures state { OnOk result (state.new ≡ record state.old { state = (proxies.reply_rule state.old.f state.old.state replica id delay reply).0 }) }
-    ensures sends { OnOk result (sends.new ≡ sends.old
-        ++ map (parcel (actors.Proxy state.old.me)) (proxies.reply_rule state.old.f state.old.state replica id delay reply).1) }
-{
-    state.sample(replica, delay);
-    match state.note(id, reply)? {
-        None => Ok(()),
-        Some((answer, path)) => send_answer(state, id, answer, path, sends),
+    /// Sends the message to each replica.
+    fn send_to_replicas(&self, message: &Message, sends: &mut Sends) -> Result<(), NoMemory>
+        requires { Fits message.now }
+        ensures { OnOk result (sends.new ≡ sends.old
+            ++ map (parcel (actors.Proxy self.now.me)) (to_each message.now (numbers_below (replica_count self.now.f)))) }
+    {
+        let cluster = self.cluster();
+        for replica in 0..cluster.n() {
+            let to = Actor::Replica(replica);
+            send(self.alloc, self.name(), to, message, sends)?;
+        }
+        Ok(())
     }
-}
 
-/// The rule for a tick.
-#[tactic(auto, unfolding(nz_machine::specs::Proxies::clock_rule))]
-pub fn clock_rule(state: &mut ProxyState, clock: u64)
-    ensures { state.new ≡ record state.old { state = proxies.clock_rule state.old.state clock } }
-{
-    state.clock = clock.min(MAX_CLOCK);
+    /// Sends the request to each replica, stamped with its deadline.
+    fn send_to_all(&self, id: Id, command: Blob, sends: &mut Sends) -> Result<(), NoMemory>
+        requires { fields.command.fits command }
+        ensures { OnOk result (sends.new ≡ sends.old ++ map (parcel (actors.Proxy self.now.me)) (timed_to_all self.now.f self.now.state id command)) }
+    {
+        let message = Message::Timed(self.timed(id, command));
+        self.send_to_replicas(&message, sends)
+    }
+
+    /// The rule for a request of a client.
+    #[tactic(auto, unfolding(nz_machine::specs::Proxies::stamp_rule))]
+    pub fn stamp_rule(
+        &mut self,
+        client: u8,
+        body: RequestBody,
+        sends: &mut Sends,
+    ) -> Result<(), NoMemory>
+        requires client { client ≤ MAX_CLIENT }
+        requires body { messages.request.fits body }
+        ensures same { IsSameProxy self.old self.new }
+        ensures state { OnOk result (self.new ≡ record self.old { state = (proxies.stamp_rule self.old.f self.old.state client body).0 }) }
+        ensures sends { OnOk result (sends.new ≡ sends.old
+            ++ map (parcel (actors.Proxy self.old.me)) (proxies.stamp_rule self.old.f self.old.state client body).1) }
+    {
+        let id = Id {
+            client: u32::from(client),
+            num: body.num,
+        };
+        let alloc = self.alloc;
+        match self.standing(id) {
+            Some(Standing::Decided { answer, path }) => {
+                let answer = copy_answer(alloc, answer)?;
+                self.send_answer(id, answer, *path, sends)
+            }
+            Some(Standing::Open(_)) => self.send_to_all(id, body.command, sends),
+            None => {
+                self.send_to_all(id, body.command, sends)?;
+                let tally = Tally::new(alloc, self.cluster);
+                self.set_standing(id, Standing::Open(tally))
+            }
+        }
+    }
+
+    /// The rule for a reply of a replica to the request, whose timed message was under way for the delay.
+    #[tactic(auto, unfolding(nz_machine::specs::Proxies::reply_rule))]
+    pub fn reply_rule(
+        &mut self,
+        replica: u8,
+        id: Id,
+        delay: u32,
+        reply: Reply,
+        sends: &mut Sends,
+    ) -> Result<(), NoMemory>
+        requires replica { replica < replica_count self.old.f }
+        requires reply { IsOfCluster self.old.f reply }
+        requires answer { HasFitAnswer reply }
+        ensures same { IsSameProxy self.old self.new }
+        ensures state { OnOk result (self.new ≡ record self.old { state = (proxies.reply_rule self.old.f self.old.state replica id delay reply).0 }) }
+        ensures sends { OnOk result (sends.new ≡ sends.old
+            ++ map (parcel (actors.Proxy self.old.me)) (proxies.reply_rule self.old.f self.old.state replica id delay reply).1) }
+    {
+        self.sample(replica, delay);
+        match self.note(id, reply)? {
+            None => Ok(()),
+            Some((answer, path)) => self.send_answer(id, answer, path, sends),
+        }
+    }
+
+    /// The rule for a tick.
+    #[tactic(auto, unfolding(nz_machine::specs::Proxies::clock_rule))]
+    pub fn clock_rule(&mut self, clock: u64)
+        ensures { self.new ≡ record self.old { state = proxies.clock_rule self.old.state clock } }
+    {
+        self.clock = clock.min(MAX_CLOCK);
+    }
 }

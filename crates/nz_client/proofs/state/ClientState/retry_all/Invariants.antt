@@ -3,8 +3,8 @@ use Rattle.std.proofs.Common.{◌≡◌, ◌++◌, map, take}
 use Rattle.nz_base.specs.declared.actor.Actor.TheVariants.{Client}
 use Rattle.nz_machine.specs.Clients.{retries}
 use Rattle.nz_machine.specs.Step.{parcel}
-use Rattle.nz_client.proofs.state.retry_all.Given as goal
+use Rattle.nz_client.proofs.state.ClientState.retry_all.Given as goal
 
 abbrev pub invariant-loop-attempt : goal.invariant-loop-attempt
 invariant-loop-attempt l =
-    l.sends ≡ l.initial.sends ++ map (parcel (Client l.state.me)) (retries l.state.proxies l.state.script (take l.attempt-index l.attempt-items))
+    l.sends ≡ l.initial.sends ++ map (parcel (Client l.self.me)) (retries l.self.proxies l.self.script (take l.attempt-index l.attempt-items))

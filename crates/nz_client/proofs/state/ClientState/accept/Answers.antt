@@ -1,18 +1,18 @@
 -- What the function of this folder owes, proved.
-use Rattle.std.proofs.Common.{◌≡◌, ℕ, ◌+◌, ◌≤◌, true, List, length, sym, ap, subst, arith}
+use Rattle.std.proofs.Common.{◌≡◌, true, List, length, sym, ap, subst, arith}
 use Rattle.std.specs.List.{AllByRecursion}
 use Rattle.nz_machine.specs.declared.data.Attempt.{Attempt}
 use Rattle.nz_machine.specs.Clients.{is_open}
 use Rattle.nz_client.specs.Models.{ClientModel, IsOfProxies}
 use Rattle.nz_client.proofs.Windows.{less_open, all_without}
-use Rattle.nz_client.proofs.state.accept.Goals as goal
+use Rattle.nz_client.proofs.state.ClientState.accept.Goals as goal
 
-pub invariant_of-state : goal.invariant_of-state
-invariant_of-state c =
-    let k = c.state.invariant in
-    let xs : List Attempt = c.state.inside.attempts.items in
+pub invariant_of-self : goal.invariant_of-self
+invariant_of-self c =
+    let k = c.self.invariant in
+    let xs : List Attempt = c.self.inside.attempts.items in
     let awaited : is_open c.args.num xs ≡ true =
-    subst (λ (model : ClientModel). is_open c.args.num model.state.attempts ≡ true) (sym c.state.view_is) c.requires in
+    subst (λ (model : ClientModel). is_open c.args.num model.state.attempts ≡ true) (sym c.self.view_is) c.requires in
     let less = less_open c.args.num xs awaited in
     let in_turn = k.in_turn in
     let few = k.few in
@@ -27,6 +27,6 @@ invariant_of-state c =
       in_script = k.in_script;
       in_turn = omega (arith, less, in_turn, long);
       few = omega (arith, less, few, long);
-      of_proxies = subst (λ (l : List Attempt). AllByRecursion (IsOfProxies c.state.inside.proxies) l) (sym c.drop_attempt.ensures)
-          (all_without (IsOfProxies c.state.inside.proxies) c.args.num xs k.of_proxies);
+      of_proxies = subst (λ (l : List Attempt). AllByRecursion (IsOfProxies c.self.inside.proxies) l) (sym c.drop_attempt.ensures)
+          (all_without (IsOfProxies c.self.inside.proxies) c.args.num xs k.of_proxies);
     }

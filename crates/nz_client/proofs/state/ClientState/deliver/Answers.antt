@@ -1,21 +1,20 @@
 -- What the function of this folder owes, proved.
-use Rattle.std.proofs.Common.{◌≡◌, ◌++◌, List, Some, OnOk, map, subst, sym, ap, ◌∙◌}
+use Rattle.std.proofs.Common.{◌≡◌, ◌++◌, List, OnOk, map, subst, sym, ap, ◌∙◌}
 use Rattle.nz_base.specs.declared.actor.Actor.{Actor}
 use Rattle.nz_base.specs.declared.actor.Actor.TheVariants.{Client}
-use Rattle.nz_machine.specs.State.{ClientData, Out, Group}
+use Rattle.nz_machine.specs.State.{ClientData, Out}
 use Rattle.nz_machine.specs.Step.{envelope_for, parcel}
-use Rattle.nz_client.specs.Models.{IsClientInGroup}
 use Rattle.nz_client.proofs.Passing.{delivered}
-use Rattle.nz_client.proofs.client.deliver.Goals as goal
+use Rattle.nz_client.proofs.state.ClientState.deliver.Goals as goal
 
 pub returns-in-Some-clause-state : goal.returns-in-Some-clause-state
 returns-in-Some-clause-state c = λ g is.
     let e = ap (λ (a : Actor). envelope_for a c.args.p.now) (sym c.name.ensures.name) ∙ sym c.in_ok-heard.ensures.value ∙ c.in-Some.is in
-    subst (λ (x : ClientData × List Out). OnOk c.handle.result (c.handle.new.state ≡ record c.args.state.now { state = x.0 }))
-    (sym (delivered g c.args.state.now c.args.p.now c.in-Some.envelope is e)) c.handle.ensures.state
+    subst (λ (x : ClientData × List Out). OnOk c.handle.result (c.handle.new.self ≡ record c.args.self.now { state = x.0 }))
+    (sym (delivered g c.args.self.now c.args.p.now c.in-Some.envelope is e)) c.handle.ensures.state
 
 pub returns-in-Some-clause-sends : goal.returns-in-Some-clause-sends
 returns-in-Some-clause-sends c = λ g is.
     let e = ap (λ (a : Actor). envelope_for a c.args.p.now) (sym c.name.ensures.name) ∙ sym c.in_ok-heard.ensures.value ∙ c.in-Some.is in
-    subst (λ (x : ClientData × List Out). OnOk c.handle.result (c.handle.new.sends ≡ c.args.sends.now ++ map (parcel (Client c.args.state.now.me)) x.1))
-    (sym (delivered g c.args.state.now c.args.p.now c.in-Some.envelope is e)) c.handle.ensures.sends
+    subst (λ (x : ClientData × List Out). OnOk c.handle.result (c.handle.new.sends ≡ c.args.sends.now ++ map (parcel (Client c.args.self.now.me)) x.1))
+    (sym (delivered g c.args.self.now c.args.p.now c.in-Some.envelope is e)) c.handle.ensures.sends
