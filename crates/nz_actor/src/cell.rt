@@ -50,8 +50,11 @@ impl<N: Name, C: Core> ActorCell<N, C> {
             fabric.lock(rt).give_up(turn, share);
             return;
         }
-        match state.step_turn(&turn) {
-            Ok(sends) => fabric.lock(rt).record(turn, sends, share),
+        match state.step(&turn.event) {
+            Ok(sends) => {
+                let mut network = fabric.lock(rt);
+                state.record(turn, sends, &mut *network, share);
+            }
             Err(_) => fabric.lock(rt).give_up(turn, share),
         }
     }
