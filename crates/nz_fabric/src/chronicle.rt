@@ -143,31 +143,18 @@ impl<N: Name> Seen<N> {
 
 impl<N: Name> Chronicle<N> {
     /// Adds the record to what was seen where that is all of the chronicle. What others saw is then a prefix of it.
-    pub fn append(
-        &self,
-        seen: &mut Seen<N>,
-        other: &Seen<N>,
-        number: u64,
-        step: &Record,
-    ) -> bool
+    pub fn append(&self, seen: &mut Seen<N>, other: &Seen<N>, number: u64, step: &Record) -> bool
         requires number { number ≡ length seen.old }
         requires few { number < 2 ^ 62 }
         ensures { MatchBool result ((seen.new ≡ seen.old ++ step.now ∷ []) × IsPrefix other.now seen.old) (seen.new ≡ seen.old) }
     {
         let mut both = seen.seen.again();
         both.learn(&other.seen);
-        let mut offer: Offer<Record, u64, Law, Nothing> = both
-            .plain::<Nothing, Record, Add>(step);
+        let mut offer: Offer<Record, u64, Law, Nothing> = both.plain::<Nothing, Record, Add>(step);
         let mut pen = both.no_pen();
         let found = self
             .head
-            .compare_exchange::<Add, Nothing>(
-                number,
-                number + 1,
-                &mut both,
-                &mut offer,
-                &mut pen,
-            );
+            .compare_exchange::<Add, Nothing>(number, number + 1, &mut both, &mut offer, &mut pen);
         if found != number {
             return false;
         }

@@ -113,7 +113,10 @@ impl<N: Name> Records<N> {
         }
         let more = count + 1;
         let number = self.records.len() as u64;
-        if !self.chronicle.append(&mut self.seen, &lane.seen, number, &step) {
+        if !self
+            .chronicle
+            .append(&mut self.seen, &lane.seen, number, &step)
+        {
             return false;
         }
         self.records.push_reserved(step);

@@ -1,6 +1,5 @@
 -- What the function of this folder owes, proved.
-use Rattle.std.proofs.Common.{◌∙◌, List, sym, ap}
-use Rattle.nz_machine.specs.declared.event.Record.{Record}
+use Rattle.std.proofs.Common.{◌∙◌, sym, ap}
 use Rattle.nz_fabric.specs.Records.{steps_of}
 use Rattle.nz_fabric.specs.Shared.{Shared}
 use Rattle.nz_fabric.specs.States.{records_of}

@@ -1,11 +1,10 @@
 -- What the function of this folder owes, proved.
-use Rattle.std.proofs.Common.{◌≡◌, ◌∷◌, ◌++◌, ◌∙◌, [], List, subst, sym, ap, arith}
-use Rattle.std.specs.Prelude.{reverse}
+use Rattle.std.proofs.Common.{◌≡◌, ◌∷◌, ◌++◌, ◌∙◌, [], sym, ap, arith}
 use Rattle.nz_machine.specs.declared.event.Record.{Record}
 use Rattle.nz_machine.specs.declared.journal.Item.{Item}
 use Rattle.nz_machine.specs.Schedule.{item}
 use Rattle.nz_fabric.specs.Records.{steps_of, with_step}
-use Rattle.nz_fabric.specs.Shared.{Shared, IsBooked, turn_of}
+use Rattle.nz_fabric.specs.Shared.{Shared, turn_of}
 use Rattle.nz_fabric.specs.States.{records_of, record_of_turn, state_in}
 use Rattle.nz_fabric.proofs.Held.{all_records}
 use Rattle.nz_fabric.proofs.Sharing.{booked_recorded, booked_given_up}

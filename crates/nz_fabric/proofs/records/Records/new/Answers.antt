@@ -1,6 +1,4 @@
 -- What the function of this folder owes, proved.
-use Rattle.std.proofs.Common.{refl, sym, ap, List}
-use Rattle.std.specs.Prelude.{reverse}
 use Rattle.nz_fabric.proofs.Counting.{counts_none}
 use Rattle.nz_fabric.proofs.records.Records.new.Goals as goal
 

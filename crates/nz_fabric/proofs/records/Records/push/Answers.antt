@@ -1,6 +1,6 @@
 -- What the function of this folder owes, proved.
-use Rattle.std.proofs.Common.{◌≡◌, ◌+◌, ◌<◌, ◌^◌, ◌∷◌, ◌++◌, [], ◌∙◌, List, ℕ, length, sym, ap, subst, arith}
-use Rattle.std.specs.Prelude.{reverse, get_or, slice_set, MatchBool}
+use Rattle.std.proofs.Common.{◌≡◌, ◌+◌, ◌∷◌, ◌++◌, [], ◌∙◌, List, length, sym, ap, subst, arith}
+use Rattle.std.specs.Prelude.{reverse, slice_set, MatchBool}
 use Rattle.std.proofs.lemmas.List.{length-reverse, reverse-append}
 use Rattle.nz_base.proofs.Booleans.{length-filter_le}
 use mathlib.Core.List.{IsPrefix}
@@ -18,7 +18,7 @@ overflow_add-more g c =
     let J : List Record = reverse f.records.items in
     let a = c.args.step.actor in
     let read = count_is J f.counts.items a c.place_of-place.result c.index-count.result.now c.self.invariant.1 c.place_of-place.ensures.number
-        c.place_of-place.ensures.within c.index-count.ensures in
+    c.place_of-place.ensures.within c.index-count.ensures in
     let most = length-filter_le (λ (r : Record). actor_eq r.actor a) J in
     omega (arith, read, most, length-reverse f.records.items, c.requires.few, ap (λ (x : _). length x.records) c.self.view_is)
 
@@ -30,9 +30,9 @@ invariant_of-self-2 g c =
     let J : List Record = reverse f.records.items in
     let grown = subst (λ b. MatchBool b ((c.append.new.seen ≡ f.seen ++ step ∷ []) × IsPrefix c.lane.inside.seen f.seen) (c.append.new.seen ≡ f.seen)) c.if-not-append.false c.append.ensures in
     let read = count_is J f.counts.items step.actor c.place_of-place.result c.index-count.result.now inv.1 c.place_of-place.ensures.number
-        c.place_of-place.ensures.within c.index-count.ensures in
+    c.place_of-place.ensures.within c.index-count.ensures in
     let seen = all_seen f.records.items c.lane.inside.seen c.lane.inside.actor step.actor (subst (IsPrefix c.lane.inside.seen) inv.0 grown.1)
-        (c.requires.own ∙ sym (ap (λ (own : ActorSteps). own.actor) c.lane.view_is)) (sym c.lane.invariant ∙ c.if-lane-count.false ∙ read) in
+    (c.requires.own ∙ sym (ap (λ (own : ActorSteps). own.actor) c.lane.view_is)) (sym c.lane.invariant ∙ c.if-lane-count.false ∙ read) in
     let own : c.args.lane.now ≡ steps_of step.actor J = sym c.lane.view_is ∙ seen in
     let turned : reverse (f.records.items ++ step ∷ []) ≡ step ∷ J = reverse-append f.records.items (step ∷ []) in
     let G = group_of g.N.Name.scenario in
@@ -53,7 +53,7 @@ invariant_of-lane g c =
     let a = c.lane.inside.actor in
     let grown = subst (λ b. MatchBool b ((c.append.new.seen ≡ f.seen ++ step ∷ []) × IsPrefix c.lane.inside.seen f.seen) (c.append.new.seen ≡ f.seen)) c.if-not-append.false c.append.ensures in
     let read = count_is J f.counts.items step.actor c.place_of-place.result c.index-count.result.now inv.1 c.place_of-place.ensures.number
-        c.place_of-place.ensures.within c.index-count.ensures in
+    c.place_of-place.ensures.within c.index-count.ensures in
     let same : step.actor ≡ a = c.requires.own ∙ sym (ap (λ (own : ActorSteps). own.actor) c.lane.view_is) in
     let now : of_actor a (reverse c.again.result) ≡ step ∷ of_actor a J =
     ap (λ (rs : List Record). of_actor a (reverse rs)) (c.again.ensures ∙ grown.0 ∙ ap (λ (rs : List Record). rs ++ step ∷ []) inv.0) ∙ own_pushed f.records.items step a same in
@@ -68,16 +68,15 @@ returns-clause-pushed g c =
     let a = c.lane.inside.actor in
     let grown = subst (λ b. MatchBool b ((c.append.new.seen ≡ f.seen ++ step ∷ []) × IsPrefix c.lane.inside.seen f.seen) (c.append.new.seen ≡ f.seen)) c.if-not-append.false c.append.ensures in
     let read = count_is J f.counts.items step.actor c.place_of-place.result c.index-count.result.now inv.1 c.place_of-place.ensures.number
-        c.place_of-place.ensures.within c.index-count.ensures in
+    c.place_of-place.ensures.within c.index-count.ensures in
     let same : step.actor ≡ a = c.requires.own ∙ sym (ap (λ (own : ActorSteps). own.actor) c.lane.view_is) in
     let seen = all_seen f.records.items c.lane.inside.seen a step.actor (subst (IsPrefix c.lane.inside.seen) inv.0 grown.1) same
-        (sym c.lane.invariant ∙ c.if-lane-count.false ∙ read) in
+    (sym c.lane.invariant ∙ c.if-lane-count.false ∙ read) in
     let now : of_actor a (reverse c.again.result) ≡ step ∷ of_actor a J =
     ap (λ (rs : List Record). of_actor a (reverse rs)) (c.again.ensures ∙ grown.0 ∙ ap (λ (rs : List Record). rs ++ step ∷ []) inv.0) ∙ own_pushed f.records.items step a same in
     let records : f.records.items ≡ c.args.self.now.records = ap (λ (x : _). x.records) c.self.view_is in
     let all : of_actor a (reverse c.lane.inside.seen) ≡ of_actor a J =
-    ap (λ (x : ActorSteps). x.steps) seen ∙ ap (λ (x : _). of_actor x J) same in
-    (
+    ap (λ (x : ActorSteps). x.steps) seen ∙ ap (λ (x : _). of_actor x J) same in (
       c.push_reserved.ensures.items ∙ ap (λ (rs : List Record). rs ++ step ∷ []) records,
       (
         sym c.lane.view_is ∙ seen ∙ ap (λ (rs : List Record). steps_of step.actor (reverse rs)) records,
