@@ -1,17 +1,18 @@
 //! An actor's core with what the actor knows of its records.
 
-ghost use Rattle.std.specs.Prelude.{◌≡◌, ◌↔◌, ◌+◌, ◌<◌, [], true, false, IfOk, IsTrue, MatchBool};
+ghost use Rattle.std.specs.Prelude.{◌≡◌, ◌↔◌, ◌+◌, ◌<◌, ℕ, [], true, IsTrue, MatchBool};
 ghost use Rattle.nz_machine.specs.Schedule.{group_of};
-ghost use Rattle.nz_machine.specs.Step.{first_node, node_run};
-ghost use Rattle.nz_fabric.specs.Records.{steps_of, with_step};
-ghost use Rattle.nz_fabric.specs.Steps.{node_after};
+ghost use Rattle.nz_machine.specs.Step.{first_node};
+ghost use Rattle.nz_fabric.specs.Records.{steps_of};
 ghost use Rattle.nz_fabric.specs.Shared.{with_given_up, with_record};
-ghost use Rattle.nz_fabric.specs.States.{record_of_turn, records_of};
+ghost use Rattle.nz_fabric.specs.States.{records_of};
+ghost use Rattle.nz_fabric.specs.Steps.{sends_after};
+ghost use Rattle.nz_actor.specs.Actings.{with_turn, without_turns};
 
-use nz_base::NoMemory;
-use nz_fabric::{FabricState, Lane, Name, Share, Turn};
-use nz_machine::{Core, Event, Sends};
+use nz_fabric::{Fabric, FabricState, Lane, Name, Share, Turn};
+use nz_machine::Core;
 use std::marker::Model;
+use std::sync::Wait;
 
 /// An actor's core, and the actor's lane.
 #[derive(Drop)]
@@ -28,10 +29,10 @@ impl<N: Name, C: Core> Model for ActorState<N, C> {
 
     ghost Value = { Acting };
 
-    ghost view = { λ s. record { own = s.lane; node = C.meaning s.core; live = C.live s.core; ready = s.ready } };
+    ghost view = { λ s. record { own = s.lane; ready = s.ready } };
 
-    ghost invariant = { λ s. IsActing (group_of N.scenario) (C.fits s.core (group_of N.scenario))
-        (record { own = s.lane; node = C.meaning s.core; live = C.live s.core; ready = s.ready }) };
+    ghost invariant = { λ s. IsActing (group_of N.scenario) (C.meaning s.core) (C.live s.core)
+        (C.fits s.core (group_of N.scenario)) (record { own = s.lane; ready = s.ready }) };
 }
 
 impl<N: Name, C: Core> ActorState<N, C> {
@@ -41,7 +42,7 @@ impl<N: Name, C: Core> ActorState<N, C> {
         requires first { C.meaning core ≡ first_node (group_of N.scenario) (C.meaning core).actor }
         requires live { C.live core ≡ true }
         requires lane { lane ≡ record { actor = (C.meaning core).actor; steps = [] } }
-        ensures { result ≡ record { own = lane; node = C.meaning core; live = true; ready = true } }
+        ensures { result ≡ record { own = lane; ready = true } }
     {
         ActorState {
             core,
@@ -57,39 +58,49 @@ impl<N: Name, C: Core> ActorState<N, C> {
         self.ready && turn.actor.is(&self.lane.actor())
     }
 
-    /// The core takes the event. No further turn is taken before the step is recorded.
-    pub fn step(&mut self, event: &Event) -> Result<Sends, NoMemory>
-        requires { self.old.ready ≡ true }
-        ensures ok { IfOk result (λ sends. node_run (group_of N.scenario) (node_after (group_of N.scenario) self.old.own) event.now ≡ (self.new.node, sends)) }
-        ensures live { IfOk result (λ _. self.new.live ≡ true) }
-        ensures own { self.new.own ≡ self.old.own }
-        ensures waits { self.new.ready ≡ false }
-    {
-        self.ready = false;
-        self.core.step(event)
-    }
-
-    /// Records the step that the core has just taken, on the turn's event. Where it is not recorded, no further turn is
-    /// taken.
-    pub fn record(
+    /// The core takes the turn's event, and then the turn is recorded. Where it is not, it is given up, and no further
+    /// turn is taken. The network is locked only to record. May wait.
+    pub fn turn(
         &mut self,
+        rt: &impl Wait,
         turn: Turn,
-        sends: Sends,
-        fabric: &mut FabricState<N>,
+        fabric: &Fabric<N>,
         share: &mut Share<N>,
     ) -> bool
         requires open { 0 < share.old.amount }
+        requires ready { self.old.ready ≡ true }
         requires actor { turn.actor ≡ self.old.own.actor }
-        requires live { self.old.live ≡ true }
-        requires stepped { node_run (group_of N.scenario) (node_after (group_of N.scenario) self.old.own) turn.event ≡ (self.old.node, sends) }
-        ensures recorded { MatchBool result (fabric.new ≡ with_record turn.number sends fabric.old) (fabric.new ≡ with_given_up turn.number fabric.old) }
-        ensures own { MatchBool result
-            ((self.old.own ≡ steps_of turn.actor (records_of fabric.old.run))
-            × (self.new.own ≡ with_step (record_of_turn (record turn { tick = fabric.old.run.tick }) sends) self.old.own))
-            (self.new.own ≡ self.old.own) }
-        ensures rest { self.new ≡ record self.old { own = self.new.own; ready = result } }
+        ensures recorded { MatchBool result ((tick : ℕ) × (self.new ≡ with_turn (group_of N.scenario) tick turn self.old)) (self.new ≡ without_turns self.old) }
         ensures share { (share.new.amount + 1 ≡ share.old.amount) × (share.new.parts ≡ share.old.parts) }
     {
+        self.ready = false;
+        let Ok(sends) = self.core.step(&turn.event) else {
+            fabric.lock(rt).give_up(turn, share);
+            return false;
+        };
+        self.ready = fabric.lock(rt).record(turn, sends, share, &mut self.lane);
+        self.ready
+    }
+
+    /// The same, where no other thread has the network.
+    pub fn settle(&mut self, turn: Turn, fabric: &mut FabricState<N>, share: &mut Share<N>) -> bool
+        requires open { 0 < share.old.amount }
+        requires ready { self.old.ready ≡ true }
+        requires actor { turn.actor ≡ self.old.own.actor }
+        ensures recorded { MatchBool result
+            ((self.old.own ≡ steps_of turn.actor (records_of fabric.old.run))
+            × (self.new ≡ with_turn (group_of N.scenario) fabric.old.run.tick turn self.old))
+            (self.new ≡ without_turns self.old) }
+        ensures fabric { MatchBool result
+            (fabric.new ≡ with_record turn.number (sends_after (group_of N.scenario) self.old.own turn.event) fabric.old)
+            (fabric.new ≡ with_given_up turn.number fabric.old) }
+        ensures share { (share.new.amount + 1 ≡ share.old.amount) × (share.new.parts ≡ share.old.parts) }
+    {
+        self.ready = false;
+        let Ok(sends) = self.core.step(&turn.event) else {
+            fabric.give_up(turn, share);
+            return false;
+        };
         self.ready = fabric.record(turn, sends, share, &mut self.lane);
         self.ready
     }

@@ -83,12 +83,7 @@ fn settle_at<N: Name, C: Core>(
         state.give_up(turn, share);
         return;
     }
-    match own.step(&turn.event) {
-        Ok(sends) => {
-            own.record(turn, sends, state, share);
-        }
-        Err(_) => state.give_up(turn, share),
-    }
+    own.settle(turn, state, share);
 }
 
 impl<N: Name> Stage<N> {
