@@ -20,11 +20,6 @@ impl<N: Name, C: Core> ActorCell<N, C> {
         }
     }
 
-    pub fn into_state(self) -> ActorState<N, C> {
-        let ActorCell { state } = self;
-        state.into_inner()
-    }
-
     /// The state, while no other thread has the cell.
     pub fn state(&mut self) -> &mut ActorState<N, C> {
         self.state.get_mut()
@@ -50,10 +45,7 @@ impl<N: Name, C: Core> ActorCell<N, C> {
             fabric.lock(rt).give_up(turn, share);
             return;
         }
-        match state.step_turn(&turn) {
-            Ok(sends) => fabric.lock(rt).record(turn, sends, share),
-            Err(_) => fabric.lock(rt).give_up(turn, share),
-        }
+        state.turn(rt, turn, fabric, share);
     }
 }
 

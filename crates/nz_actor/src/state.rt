@@ -1,99 +1,107 @@
-//! An actor's core with the records of its steps.
+//! An actor's core with what the actor knows of its records.
 
-ghost use Rattle.std.specs.Prelude.{◌≡◌, ◌↔◌, ◌∷◌, [], true, false, reverse, IfOk, OnErr, IsTrue};
+ghost use Rattle.std.specs.Prelude.{◌≡◌, ◌↔◌, ◌+◌, ◌<◌, ℕ, [], true, IsTrue, MatchBool};
 ghost use Rattle.nz_machine.specs.Schedule.{group_of};
 ghost use Rattle.nz_machine.specs.Step.{first_node};
-ghost use Rattle.nz_fabric.specs.Replays.{IsReplay, IsSentOn};
-ghost use Rattle.nz_fabric.specs.States.{record_of_turn};
+ghost use Rattle.nz_fabric.specs.Records.{steps_of};
+ghost use Rattle.nz_fabric.specs.Shared.{with_given_up, with_record};
+ghost use Rattle.nz_fabric.specs.States.{records_of};
+ghost use Rattle.nz_fabric.specs.Steps.{sends_after};
+ghost use Rattle.nz_actor.specs.Actings.{with_turn, without_turns};
 
-use nz_base::{Actor, NoMemory, TryCopy};
-use nz_fabric::{Name, Turn};
-use nz_machine::{Core, Record, RecordList, Sends};
-use std::alloc::Global;
-use std::marker::{Model, PhantomData};
+use nz_fabric::{Fabric, FabricState, Lane, Name, Share, Turn};
+use nz_machine::Core;
+use std::marker::Model;
+use std::sync::Wait;
 
-/// An actor's core, and the records of its steps. While it is live the core has the state that they lead to.
+/// An actor's core, and the actor's lane.
 #[derive(Drop)]
 pub struct ActorState<N: Name, C: Core> {
-    alloc: Global,
     core: C,
-    actor: Actor,
-    lane: RecordList,
-    live: bool,
-    of: PhantomData<N>,
+    lane: Lane<N>,
+    /// Whether the core has the state that the records of the lane lead to.
+    ready: bool,
 }
 
 impl<N: Name, C: Core> Model for ActorState<N, C> {
-    ghost use Rattle.std.specs.Prelude.{reverse};
     ghost use Rattle.nz_machine.specs.Schedule.{group_of};
-    ghost use Rattle.nz_actor.specs.Lanes.{Lane, IsLane};
+    ghost use Rattle.nz_actor.specs.Actings.{Acting, IsActing};
 
-    ghost Value = { Lane };
+    ghost Value = { Acting };
 
-    ghost view = { λ s. record { actor = s.actor; live = s.live; steps = reverse s.lane } };
+    ghost view = { λ s. record { own = s.lane; ready = s.ready } };
 
-    ghost invariant = { λ s. IsLane (group_of N.scenario) (C.meaning s.core) (C.live s.core)
-        (C.fits s.core (group_of N.scenario)) (record { actor = s.actor; live = s.live; steps = reverse s.lane }) };
+    ghost invariant = { λ s. IsActing (group_of N.scenario) (C.meaning s.core) (C.live s.core)
+        (C.fits s.core (group_of N.scenario)) (record { own = s.lane; ready = s.ready }) };
 }
 
 impl<N: Name, C: Core> ActorState<N, C> {
     /// A core that has not stepped.
-    pub fn new(alloc: Global, core: C) -> ActorState<N, C>
+    pub fn new(core: C, lane: Lane<N>) -> ActorState<N, C>
         requires fits { C.fits core (group_of N.scenario) }
         requires first { C.meaning core ≡ first_node (group_of N.scenario) (C.meaning core).actor }
         requires live { C.live core ≡ true }
-        ensures { result ≡ record { actor = (C.meaning core).actor; live = true; steps = [] } }
+        requires lane { lane ≡ record { actor = (C.meaning core).actor; steps = [] } }
+        ensures { result ≡ record { own = lane; ready = true } }
     {
-        let actor = core.actor();
         ActorState {
-            alloc,
             core,
-            actor,
-            lane: RecordList::new(alloc),
-            live: true,
-            of: PhantomData,
+            lane,
+            ready: true,
         }
     }
 
-    /// Whether the turn is this actor's, and no step has run out of memory.
+    /// Whether the turn is this actor's, and the actor takes turns.
     pub fn is_ready(&self, turn: &Turn) -> bool
-        ensures { IsTrue result ↔ ((self.now.live ≡ true) × (turn.now.actor ≡ self.now.actor)) }
+        ensures { IsTrue result ↔ ((self.now.ready ≡ true) × (turn.now.actor ≡ self.now.own.actor)) }
     {
-        self.live && turn.actor.is(&self.actor)
+        self.ready && turn.actor.is(&self.lane.actor())
     }
 
-    /// The core takes the turn's event. After `NoMemory` no turn is taken, also where only a copy was refused.
-    pub fn step_turn(&mut self, turn: &Turn) -> Result<Sends, NoMemory>
-        requires live { self.old.live ≡ true }
-        requires actor { turn.now.actor ≡ self.old.actor }
-        ensures ok { IfOk result (λ sends. self.new ≡ record self.old { steps = record_of_turn turn.now sends ∷ self.old.steps }) }
-        ensures sent { IfOk result (IsSentOn (group_of N.scenario) turn.now.actor turn.now.event) }
-        ensures err { OnErr result (self.new ≡ record self.old { live = false }) }
+    /// The core takes the turn's event, and then the turn is recorded. Where it is not, it is given up, and no further
+    /// turn is taken. The network is locked only to record. May wait.
+    pub fn turn(
+        &mut self,
+        rt: &impl Wait,
+        turn: Turn,
+        fabric: &Fabric<N>,
+        share: &mut Share<N>,
+    ) -> bool
+        requires open { 0 < share.old.amount }
+        requires ready { self.old.ready ≡ true }
+        requires actor { turn.actor ≡ self.old.own.actor }
+        ensures recorded { MatchBool result ((tick : ℕ) × (self.new ≡ with_turn (group_of N.scenario) tick turn self.old)) (self.new ≡ without_turns self.old) }
+        ensures share { (share.new.amount + 1 ≡ share.old.amount) × (share.new.parts ≡ share.old.parts) }
     {
-        self.live = false;
-        let sends = self.core.step(&turn.event)?;
-        let step = Record {
-            tick: turn.tick,
-            actor: turn.actor,
-            event: turn.event.copy(self.alloc)?,
-            sends: sends.copy(self.alloc)?,
+        self.ready = false;
+        let Ok(sends) = self.core.step(&turn.event) else {
+            fabric.lock(rt).give_up(turn, share);
+            return false;
         };
-        self.lane.push(step)?;
-        self.live = true;
-        Ok(sends)
+        self.ready = fabric.lock(rt).record(turn, sends, share, &mut self.lane);
+        self.ready
     }
 
-    pub fn actor(&self) -> Actor
-        ensures { result ≡ self.now.actor }
+    /// The same, where no other thread has the network.
+    pub fn settle(&mut self, turn: Turn, fabric: &mut FabricState<N>, share: &mut Share<N>) -> bool
+        requires open { 0 < share.old.amount }
+        requires ready { self.old.ready ≡ true }
+        requires actor { turn.actor ≡ self.old.own.actor }
+        ensures recorded { MatchBool result
+            ((self.old.own ≡ steps_of turn.actor (records_of fabric.old.run))
+            × (self.new ≡ with_turn (group_of N.scenario) fabric.old.run.tick turn self.old))
+            (self.new ≡ without_turns self.old) }
+        ensures fabric { MatchBool result
+            (fabric.new ≡ with_record turn.number (sends_after (group_of N.scenario) self.old.own turn.event) fabric.old)
+            (fabric.new ≡ with_given_up turn.number fabric.old) }
+        ensures share { (share.new.amount + 1 ≡ share.old.amount) × (share.new.parts ≡ share.old.parts) }
     {
-        self.actor
-    }
-
-    /// The records, the oldest first.
-    pub fn lane(&self) -> &RecordList
-        ensures lane { reverse result.now ≡ self.now.steps }
-        ensures replay { IsReplay (group_of N.scenario) self.now.actor (reverse result.now) }
-    {
-        &self.lane
+        self.ready = false;
+        let Ok(sends) = self.core.step(&turn.event) else {
+            fabric.give_up(turn, share);
+            return false;
+        };
+        self.ready = fabric.record(turn, sends, share, &mut self.lane);
+        self.ready
     }
 }

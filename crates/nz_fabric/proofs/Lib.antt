@@ -3,6 +3,8 @@ pub mod Numbering
 pub mod Dating
 pub mod Sending
 pub mod Calling
-pub mod Filing
+pub mod Prefixes
+pub mod Adding
+pub mod Counting
 pub mod Held
 pub mod Sharing

@@ -1,8 +1,9 @@
 -- The modules of this crate's definitions.
 pub mod Calendars
 pub mod Posting
-pub mod Rows
+pub mod Records
+pub mod Chronicles
 pub mod Dues
 pub mod States
 pub mod Shared
-pub mod Replays
+pub mod Steps

@@ -6,21 +6,24 @@ ghost use Rattle.std.specs.List.{position};
 ghost use Rattle.nz_machine.specs.Journals.{run_in};
 ghost use Rattle.nz_machine.specs.Schedule.{group_of, IsPlayable, Scheduled};
 ghost use Rattle.nz_fabric.specs.declared.open_turns.Running.{Running as RunningModel};
-ghost use Rattle.nz_fabric.specs.Rows.{of_actor};
-ghost use Rattle.nz_fabric.specs.Replays.{IsSentOn};
-ghost use Rattle.nz_fabric.specs.States.{records_of, with_mark};
+ghost use Rattle.nz_fabric.specs.Records.{steps_of, with_step};
+ghost use Rattle.nz_fabric.specs.Steps.{AreSteps, sends_after};
+ghost use Rattle.nz_fabric.specs.States.{records_of, record_of_turn, with_mark};
 ghost use Rattle.nz_fabric.specs.Shared.{IsAccounted, IsNextOf, IsOver, MustWait, after_shared, without_turn, place_of_turn};
 ghost use Rattle.nz_fabric.specs.Shared.{shared_with, start_shared, with_given_up, with_opened, with_record};
 
+use crate::chronicle::Opened;
+use crate::lane::Lane;
 use crate::name::Name;
 use crate::open_turns::Running;
 use crate::posting::post_all;
-use crate::rows::Rows;
+use crate::records::Records;
+use crate::same::is_item;
 use crate::share::Share;
 use crate::ticks::Ticks;
 use crate::turn::Turn;
 use nz_base::{Actor, List, NoMemory, Scenario, TryCopy};
-use nz_machine::{Item, Journal, Record, RecordList, Sends};
+use nz_machine::{Item, Journal, Record, Sends};
 use std::alloc::Global;
 use std::marker::Model;
 use std::sync::ledger::{Blank, Book};
@@ -30,7 +33,7 @@ use std::sync::ledger::{Blank, Book};
 #[derive(Drop)]
 pub struct FabricState<N: Name> {
     ticks: Ticks,
-    rows: Rows,
+    records: Records<N>,
     /// How many records there were before this tick.
     before: usize,
     running: Vec<Running>,
@@ -39,17 +42,16 @@ pub struct FabricState<N: Name> {
 
 impl<N: Name> Model for FabricState<N> {
     ghost use Rattle.std.specs.Prelude.{◌≡◌};
-    ghost use Rattle.nz_fabric.specs.Rows.{HaveRoom};
     ghost use Rattle.nz_fabric.specs.States.{state_in};
     ghost use Rattle.nz_fabric.specs.Shared.{Shared, IsBooked, shared_with};
 
     ghost Value = { Shared };
 
-    ghost view = { λ f. shared_with (state_in f.ticks f.before f.rows.records) f.running.items };
+    ghost view = { λ f. shared_with (state_in f.ticks f.before f.records.records) f.running.items };
 
     ghost invariant = { λ f. (N.parts ≡ 16) × IsBooked N.scenario f.book.total
-        (state_in f.ticks f.before f.rows.records) f.running.items f.before f.rows.room f.rows.records
-        f.ticks.calendar × HaveRoom f.running.items f.rows };
+        (state_in f.ticks f.before f.records.records) f.running.items f.before f.records.room f.records.records
+        f.ticks.calendar };
 }
 
 impl<N: Name> FabricState<N> {
@@ -57,18 +59,20 @@ impl<N: Name> FabricState<N> {
     pub fn new(
         alloc: Global,
         blank: Blank,
+        opened: Opened,
         scenario: Scenario,
     ) -> Result<(FabricState<N>, Share<N>), NoMemory>
         requires name { (blank.name ≡ N.name) × (blank.parts ≡ N.parts) × (blank.parts ≡ 16) }
+        requires chronicle { opened ≡ N.chronicle }
         requires scenario { scenario ≡ N.scenario }
         requires playable { IsPlayable scenario }
         ensures { IfOk result (λ r. (r.0 ≡ start_shared scenario) × (r.1.parts ≡ 16) × (r.1.amount ≡ 0)) }
     {
-        let rows = Rows::new(alloc)?;
+        let records = Records::new(alloc, opened)?;
         let (book, held) = blank.open::<N>();
         let state = FabricState {
             ticks: Ticks::new(alloc, scenario),
-            rows,
+            records,
             before: 0,
             running: Vec::new(alloc),
             book,
@@ -95,7 +99,7 @@ impl<N: Name> FabricState<N> {
         if self.ticks.marked || self.ticks.next == self.ticks.items.len() {
             return Ok(None);
         }
-        let taken = self.rows.len() + self.running.len();
+        let taken = self.records.len() + self.running.len();
         if taken >= u32::MAX as usize {
             return Err(NoMemory);
         }
@@ -103,7 +107,7 @@ impl<N: Name> FabricState<N> {
         let actor = item.actor;
         let event = item.event.copy(self.ticks.alloc)?;
         let number = taken as u64 + 1;
-        self.rows.reserve(actor, self.running.len() + 1)?;
+        self.records.reserve(self.running.len() + 1)?;
         self.running.push(Running { number, item })?;
         self.ticks.next += 1;
         self.book.add(&mut share.held, 1);
@@ -115,24 +119,52 @@ impl<N: Name> FabricState<N> {
         }))
     }
 
-    /// The record of the turn is last in the journal. What it sends is of a step of the turn's actor.
-    pub fn record(&mut self, turn: Turn, sends: Sends, share: &mut Share<N>)
+    /// The record of the turn is last in the journal, and the last of its actor. Where the actor has not seen all of its
+    /// earlier records, or the turn is not of this network, it is given up.
+    pub fn record(
+        &mut self,
+        turn: Turn,
+        sends: Sends,
+        share: &mut Share<N>,
+        lane: &mut Lane<N>,
+    ) -> bool
         requires open { 0 < share.old.amount }
-        requires sent { IsSentOn (group_of N.scenario) turn.actor turn.event sends }
-        ensures recorded { self.new ≡ with_record turn.number sends self.old }
+        requires own { turn.actor ≡ lane.old.actor }
+        requires sent { sends ≡ sends_after (group_of N.scenario) lane.old turn.event }
+        ensures recorded { MatchBool result (self.new ≡ with_record turn.number sends self.old) (self.new ≡ with_given_up turn.number self.old) }
+        ensures lane { MatchBool result
+            ((lane.old ≡ steps_of turn.actor (records_of self.old.run))
+            × (lane.new ≡ with_step (record_of_turn (record turn { tick = self.old.run.tick }) sends) lane.old))
+            (lane.new ≡ lane.old) }
         ensures share { (share.new.amount + 1 ≡ share.old.amount) × (share.new.parts ≡ share.old.parts) }
     {
-        let number = turn.into_number();
+        let Turn {
+            number,
+            tick: _,
+            actor,
+            event,
+        } = turn;
         self.book.audit(&mut share.held);
         let Running { number: _, item } = close(&mut self.running, number);
-        let Item { actor, event } = item;
-        self.rows.push(Record {
+        self.book.sub(&mut share.held, 1);
+        let same = is_item(&item, actor, &event);
+        drop(item);
+        let step = Record {
             tick: self.ticks.tick,
             actor,
             event,
             sends,
-        });
-        self.book.sub(&mut share.held, 1);
+        };
+        if !same {
+            drop(step);
+            self.ticks.marked = true;
+            return false;
+        }
+        if !self.records.push(lane, step) {
+            self.ticks.marked = true;
+            return false;
+        }
+        true
     }
 
     /// Nothing is recorded, and no further turn is given.
@@ -204,17 +236,17 @@ impl<N: Name> FabricState<N> {
             scenario,
             ..
         } = &mut self.ticks;
-        post_all(calendar, scenario, self.rows.since(self.before))?;
+        post_all(calendar, scenario, self.records.since(self.before))?;
         self.ticks.begin()?;
-        self.before = self.rows.len();
+        self.before = self.records.len();
         Ok(true)
     }
 
-    /// Whether the lane is the list of the actor's records in the journal.
-    pub fn same_row(&self, actor: Actor, lane: &RecordList) -> bool
-        ensures { IsTrue result ↔ (lane.now ≡ of_actor actor (reverse (records_of self.now.run))) }
+    /// The records of an actor so far.
+    pub fn lane(&self, actor: Actor) -> Lane<N>
+        ensures { result ≡ steps_of actor (records_of self.now.run) }
     {
-        self.rows.same_row(actor, lane.as_slice())
+        self.records.lane(actor)
     }
 
     /// The scenario and the records, once the last tick was done.
@@ -224,11 +256,12 @@ impl<N: Name> FabricState<N> {
         ensures scenario { IfOk result (λ journal. journal.scenario ≡ N.scenario) }
         ensures records { IfOk result (λ journal. run_in journal ≡ records_of self.run) }
         ensures scheduled { IfOk result (λ journal. Scheduled N.scenario (run_in journal)) }
+        ensures steps { IfOk result (λ journal. AreSteps (group_of N.scenario) (run_in journal)) }
     {
-        let FabricState { ticks, rows, .. } = self;
+        let FabricState { ticks, records, .. } = self;
         Ok(Journal {
             scenario: ticks.scenario,
-            records: List::from_vec(rows.into_records()),
+            records: List::from_vec(records.into_records()),
         })
     }
 }

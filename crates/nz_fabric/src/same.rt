@@ -1,9 +1,10 @@
-//! Whether two lists of records are the same.
+//! Whether a turn is of an item.
 
 ghost use Rattle.std.specs.Prelude.{◌≡◌, ◌↔◌, IsTrue};
-ghost use Rattle.nz_fabric.specs.Rows.{ArePlaced, records_at};
+ghost use Rattle.nz_machine.specs.Schedule.{item};
 
-use nz_machine::{Event, Parcel, Record};
+use nz_base::Actor;
+use nz_machine::{Event, Item, Parcel};
 
 fn same_parcel(a: &Parcel, b: &Parcel) -> bool
     ensures { IsTrue result ↔ (a.now ≡ b.now) }
@@ -25,41 +26,9 @@ fn same_event(a: &Event, b: &Event) -> bool
     }
 }
 
-fn same_sends(a: &[Parcel], b: &[Parcel]) -> bool
-    ensures { IsTrue result ↔ (a.now ≡ b.now) }
+/// Whether the item is this event of this actor.
+pub fn is_item(due: &Item, actor: Actor, event: &Event) -> bool
+    ensures { IsTrue result ↔ (due.now ≡ item actor event.now) }
 {
-    if a.len() != b.len() {
-        return false;
-    }
-    for place in 0..a.len() {
-        if !same_parcel(&a[place], &b[place]) {
-            return false;
-        }
-    }
-    true
-}
-
-fn same_record(a: &Record, b: &Record) -> bool
-    ensures { IsTrue result ↔ (a.now ≡ b.now) }
-{
-    a.tick == b.tick
-        && a.actor.is(&b.actor)
-        && same_event(&a.event, &b.event)
-        && same_sends(a.sends.as_slice(), b.sends.as_slice())
-}
-
-/// Whether these are the records at the places.
-pub fn same_records(lane: &[Record], records: &[Record], places: &[u32]) -> bool
-    requires { ArePlaced records.now places.now }
-    ensures { IsTrue result ↔ (lane.now ≡ records_at records.now places.now) }
-{
-    if lane.len() != places.len() {
-        return false;
-    }
-    for at in 0..lane.len() {
-        if !same_record(&lane[at], &records[places[at] as usize]) {
-            return false;
-        }
-    }
-    true
+    due.actor.is(&actor) && same_event(&due.event, event)
 }

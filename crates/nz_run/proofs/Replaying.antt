@@ -1,4 +1,4 @@
--- Records that are scheduled, of which those of each actor are a replay, are a run.
+-- Records that are scheduled, and are steps of their actors, are a run.
 use Rattle.std.proofs.Common.{◌≡◌, ℕ, zero, suc, ◌+◌, ◌<◌, ◌≤◌, eqb, cond, Bool, true, false, List}
 use Rattle.std.proofs.Common.{[], ◌∷◌, ◌++◌, map, refl, sym, ap, ◌∙◌, subst, arith, append-nil}
 use Rattle.std.specs.Prelude.{reverse, IsPermutation}
@@ -25,10 +25,8 @@ use Rattle.nz_machine.specs.Step.{node_step, event_step}
 use Rattle.nz_machine.specs.World.{state_after, World}
 use Rattle.nz_machine.specs.Schedule.{group_of, item_of, due, ScheduledTo, IsPlayable}
 use Rattle.nz_machine.proofs.Runs.{acts, stays}
-use Rattle.nz_fabric.specs.Replays.{IsReplay}
-use Rattle.nz_fabric.specs.Rows.{of_actor}
+use Rattle.nz_fabric.specs.Steps.{AreSteps}
 use Rattle.nz_machine.proofs.EachItem.{all_append}
-use Rattle.nz_run.specs.Stages.{AllReplay}
 use Rattle.nz_run.proofs.DueMayHappen.{IsFine, ItemIsFine}
 use Rattle.nz_run.proofs.FreshNonces.{IsAbove, IsBefore, AreApart, due_apart, finished_not, here_is_fine}
 use Rattle.nz_run.proofs.Turning.{IsNot, may_turn}
@@ -123,94 +121,29 @@ tick_is_fresh s tick now older same =
     (IsPermutation-map item_of now (reverse now) (IsPermutation-reverse now)) in
     omega (arith, once, moved, turned))
 
--- ---- the records of one actor
-
--- an actor has the state that its own records lead it to
-own_state : (g : Group) (a : Actor) (J : List Record) → state_after g a (of_actor a J) ≡ state_after g a J
-own_state g a [] = refl
-own_state g a (r ∷ J) =
-    let own = of_actor a J in
-    let ih = own_state g a J in
-    cond_both (actor_eq r.actor a) (r ∷ own) own (λ (L : List Record). state_after g a L ≡ state_after g a (r ∷ J))
-    (λ e. acts g a r own e ∙ ap (λ (s : _). (event_step g a s r.event).0) ih ∙ sym (acts g a r J e))
-    (λ e. ih ∙ sym (stays g a r J e))
-
-replay_back : (g : Group) (a : Actor) (r : Record) (J : List Record) → IsReplay g a (of_actor a (r ∷ J)) → IsReplay g a (of_actor a J)
-replay_back g a r J =
-    let own = of_actor a J in
-    cond_both (actor_eq r.actor a) (r ∷ own) own (λ (L : List Record). IsReplay g a L → IsReplay g a own) (λ _ h. h.1.1) (λ _ h. h)
-
-all_back : (g : Group) (now older : List Record) → AllReplay g (now ++ older) → AllReplay g older
+all_back : (g : Group) (now older : List Record) → AreSteps g (now ++ older) → AreSteps g older
 all_back g [] older h = h
-all_back g (r ∷ now) older h = all_back g now older (λ a member. replay_back g a r (now ++ older) (h a member))
-
--- what an actor sends is what it sends after its own records
-replay_sends : (g : Group) (a : Actor) (r : Record) (J : List Record) → r.actor ≡ a
-    → IsReplay g a (of_actor a (r ∷ J)) → r.sends ≡ (node_step g a (state_after g a J) r.event).1
-replay_sends g a r J is h =
-    let own = of_actor a J in
-    let here : of_actor a (r ∷ J) ≡ r ∷ own = ap (λ (b : Bool). cond b (r ∷ own) own) (ap (λ (b : Actor). actor_eq b a) is ∙ actor_eq_self a) in
-    let first = subst (IsReplay g a) here h in
-    first.1.0 ∙ ap (λ (s : _). (node_step g a s r.event).1) (own_state g a J)
+all_back g (r ∷ now) older h = all_back g now older h.1
 
 -- ---- the run
 
 world_tick : (s : Scenario) (tick : ℕ) (older now : List Record) → IsPlayable s → World (group_of s) older
     → AllByRecursion (λ (r : Record). ItemIsFine s (suc tick) older (item_of r)) now → AreFresh now
     → ((n : ℕ) (r : Record) → ItemIsFine s (suc tick) older (item_of r) → r.event ≡ Restart n → AllByRecursion (IsNot n) older)
-    → AllReplay (group_of s) (now ++ older) → World (group_of s) (now ++ older)
-world_tick s tick older [] play w fine fresh past replay = w
-world_tick s tick older (r ∷ now) play w fine fresh past replay =
+    → AreSteps (group_of s) (now ++ older) → World (group_of s) (now ++ older)
+world_tick s tick older [] play w fine fresh past steps = w
+world_tick s tick older (r ∷ now) play w fine fresh past steps =
     let g = group_of s in
-    let ih = world_tick s tick older now play w fine.1 fresh.1 past (λ a member. replay_back g a r (now ++ older) (replay a member)) in
+    let ih = world_tick s tick older now play w fine.1 fresh.1 past steps.1 in
     let may = may_turn s (suc tick) older now r.actor r.event play ih fine.0 (λ n is. all_append (IsNot n) now older (fresh.0 n is) (past n r fine.0 is)) in
-    (record { member = may.member; event = may.event; sends = replay_sends g r.actor r (now ++ older) refl (replay r.actor may.member) }, ih)
+    (record { member = may.member; event = may.event; sends = steps.0 }, ih)
 
-pub world_now : (s : Scenario) (tick : ℕ) (J : List Record) → IsPlayable s → ScheduledTo s tick J → AllReplay (group_of s) J → World (group_of s) J
-world_now s zero J play none replay = subst (World (group_of s)) (sym none) play.group
-world_now s (suc tick) J play (now, (older, (t, before))) replay =
+pub world_now : (s : Scenario) (tick : ℕ) (J : List Record) → IsPlayable s → ScheduledTo s tick J → AreSteps (group_of s) J → World (group_of s) J
+world_now s zero J play none steps = subst (World (group_of s)) (sym none) play.group
+world_now s (suc tick) J play (now, (older, (t, before))) steps =
     let g = group_of s in
-    let whole = subst (AllReplay g) t.whole replay in
+    let whole = subst (AreSteps g) t.whole steps in
     let w = world_now s tick older play before (all_back g now older whole) in
     subst (World g) (sym t.whole)
     (world_tick s tick older now play w (here_is_fine s tick now older play t.items) (tick_is_fresh s (suc tick) now older t.items)
     (λ n r fine is. finished_not s tick n older play before (subst (IsFine s (suc tick) older r.actor) is fine).1) whole)
-
-on_bool : (P : Bool → Type 0) (b : Bool) → P true → P false → P b
-on_bool P true x y = x
-on_bool P false x y = y
-
-reverse_by : (a : Actor) (r : Record) (own turned : List Record) → reverse own ≡ turned
-    → reverse (cond (actor_eq r.actor a) (r ∷ own) own) ≡ turned ++ cond (actor_eq r.actor a) (r ∷ []) []
-reverse_by a r own turned e =
-    on_bool (λ (b : Bool). reverse (cond b (r ∷ own) own) ≡ turned ++ cond b (r ∷ []) []) (actor_eq r.actor a)
-    (reverse_onto own r [] ∙ ap (λ (L : List Record). L ++ r ∷ []) e) (e ∙ sym (append-nil turned))
-
--- the records of an actor, the newest first
-reverse_own : (a : Actor) (rs : List Record) → reverse (of_actor a rs) ≡ of_actor a (reverse rs)
-reverse_own a [] = refl
-reverse_own a (r ∷ rs) =
-    let own = of_actor a rs in
-    let turned = filter-append (λ (r : Record). actor_eq r.actor a) (reverse rs) (r ∷ []) in
-    let ih = reverse_own a rs in
-    reverse_by a r own (of_actor a (reverse rs)) ih ∙ sym turned ∙ ap (of_actor a) (sym (reverse_onto rs r []))
-
--- a lane, the oldest first or the newest first
-pub own_newest : (a : Actor) (J lane : List Record)
-    → (lane ≡ of_actor a (reverse J) → reverse lane ≡ of_actor a J) × (reverse lane ≡ of_actor a J → lane ≡ of_actor a (reverse J))
-own_newest a J lane =
-    let turned : reverse (of_actor a (reverse J)) ≡ of_actor a J = reverse_own a (reverse J) ∙ ap (of_actor a) (reverse-reverse J) in (
-      (λ e. ap reverse {x = lane} {y = of_actor a (reverse J)} e ∙ turned),
-      (λ e. sym (reverse-reverse lane)
-          ∙ ap reverse {x = reverse lane} {y = reverse (of_actor a (reverse J))} (e ∙ sym turned) ∙ reverse-reverse (of_actor a (reverse J))),
-    )
-
--- each sort's actors are all
-pub all_replay : (s : Scenario) (J : List Record) → IsPlayable s
-    → ((k : ℕ) → k < replica_count s.cluster → IsReplay (group_of s) (actors.Replica k) (of_actor (actors.Replica k) J))
-    → ((k : ℕ) → k < s.proxies → IsReplay (group_of s) (actors.Proxy k) (of_actor (actors.Proxy k) J))
-    → ((k : ℕ) → k < s.clients → IsReplay (group_of s) (actors.Client k) (of_actor (actors.Client k) J))
-    → AllReplay (group_of s) J
-all_replay s J play replicas proxies clients (actors.Replica k) lt = replicas k lt
-all_replay s J play replicas proxies clients (actors.Proxy k) lt = proxies k lt
-all_replay s J play replicas proxies clients (actors.Client k) lt = clients k (let scripts = play.scripts in omega (arith, lt, scripts))

@@ -12,7 +12,7 @@ use nz_base::{
     SkewList, TryCopy,
 };
 use nz_edge::OpenGate;
-use nz_fabric::{Fabric, FabricState, Name};
+use nz_fabric::{Fabric, FabricState, Name, Opened};
 use nz_machine::{Core, Event, Sends};
 use nz_replica::Replica;
 use nz_store::read_command;
@@ -129,18 +129,21 @@ fn one_turn<N: Name, C: Core, R: Wait>(
     }
 }
 
-/// How many of two replicas, each in a turn of its own, saw the other in its step.
+/// How many of two replicas, each in a turn of its own, saw the other in its step, and whether a turn was given up.
 fn seen_at_once<N: Name + Send + Sync, R: Threads + Wait + Sync>(
     rt: &R,
     alloc: Global,
     blank: Blank,
+    opened: Opened,
     scenario: &Scenario,
-) -> Result<u64, NoMemory>
+) -> Result<(u64, bool), NoMemory>
     requires name { (blank.name ≡ N.name) × (blank.parts ≡ N.parts) × (blank.parts ≡ 16) }
+    requires chronicle { opened ≡ N.chronicle }
     requires scenario { scenario.now ≡ N.scenario }
     requires playable { IsPlayable scenario.now }
 {
-    let (mut state, whole) = FabricState::<N>::new(alloc, blank, scenario.copy(alloc)?)?;
+    let (mut state, whole) = FabricState::<N>::new(alloc, blank, opened, scenario.copy(alloc)?)?;
+    let lanes = (state.lane(Actor::Replica(0)), state.lane(Actor::Replica(1)));
     state.next_tick()?;
     let (a, b, seen) = (AtomicU64::new(0), AtomicU64::new(0), AtomicU64::new(0));
     let mut workers = Vec::new(alloc);
@@ -148,22 +151,22 @@ fn seen_at_once<N: Name + Send + Sync, R: Threads + Wait + Sync>(
     deal(whole, &mut workers, 2);
     let cells = [
         ActorCell::new(ActorState::new(
-            alloc,
             Watcher {
                 replica: Replica::new(alloc, scenario.cluster, 0)?,
                 own: &a,
                 other: &b,
                 seen: &seen,
             },
+            lanes.0,
         )),
         ActorCell::new(ActorState::new(
-            alloc,
             Watcher {
                 replica: Replica::new(alloc, scenario.cluster, 1)?,
                 own: &b,
                 other: &a,
                 seen: &seen,
             },
+            lanes.1,
         )),
     ];
     let fabric = Fabric::new(state);
@@ -173,14 +176,22 @@ fn seen_at_once<N: Name + Send + Sync, R: Threads + Wait + Sync>(
         2,
         &|_, worker| one_turn(rt, worker, &cells, &fabric),
     );
-    Ok(seen.load(Ordering::SeqCst))
+    let given_up = fabric.into_state().is_marked();
+    Ok((seen.load(Ordering::SeqCst), given_up))
 }
 
 #[test]
 fn two_steps_at_once(rt: HostRuntime) -> Result<(), Fail> {
     let alloc = rt.alloc();
     let scenario = three_deadlines(alloc)?;
-    let seen = seen_at_once::<Brand, _>(&rt, alloc, Blank::new(16), &scenario)?;
+    let (seen, given_up) = seen_at_once::<Brand, _>(
+        &rt,
+        alloc,
+        Blank::new(16),
+        Opened::new(),
+        &scenario,
+    )?;
     assert_eq!(rt; seen, 2);
+    assert!(rt; !given_up);
     Ok(())
 }

@@ -12,7 +12,7 @@ use crate::stage::Stage;
 use crate::workers::work_all;
 use nz_base::{MAX_WORKERS, NoMemory, Scenario, TryCopy};
 use nz_edge::Gate;
-use nz_fabric::{Fabric, FabricState, Name, Share};
+use nz_fabric::{Fabric, FabricState, Name, Opened, Share};
 use nz_machine::Journal;
 use std::alloc::Global;
 use std::marker::Brand;
@@ -90,26 +90,25 @@ fn run_named<N: Name + Send + Sync, R: Threads + Wait + Sync, G: Gate + Sync>(
     rt: &R,
     alloc: Global,
     blank: Blank,
+    opened: Opened,
     scenario: &Scenario,
     count: u8,
     gate: &G,
 ) -> Result<Option<Journal>, NoMemory>
     requires name { (blank.name ≡ N.name) × (blank.parts ≡ N.parts) × (blank.parts ≡ 16) }
+    requires chronicle { opened ≡ N.chronicle }
     requires scenario { scenario.now ≡ N.scenario }
     requires playable { IsPlayable scenario.now }
     requires count { (0 < count) × (count ≤ MAX_WORKERS) }
     ensures { IfOk result (λ o. IfSome o (λ journal. (journal.scenario ≡ scenario.now)
         × (Scheduled scenario.now (run_in journal) × World (group_in journal) (run_in journal)))) }
 {
-    let (state, share) = FabricState::<N>::new(alloc, blank, scenario.copy(alloc)?)?;
-    let mut stage = Stage::<N>::new(alloc, scenario)?;
+    let (state, share) = FabricState::<N>::new(alloc, blank, opened, scenario.copy(alloc)?)?;
+    let mut stage = Stage::<N>::new(alloc, scenario, &state)?;
     let (state, share) = at_once(rt, alloc, state, share, count, &stage, gate)?;
     let Some(state) = finish_all(rt, state, share, &mut stage)? else {
         return Ok(None);
     };
-    if !stage.agrees(alloc, &state, scenario)? {
-        return Ok(None);
-    }
     Ok(Some(state.into_journal()?))
 }
 
@@ -132,7 +131,8 @@ pub fn run<R: Threads + Wait + Sync, G: Gate + Sync>(
     if workers == 1 {
         return run_alone(alloc, scenario);
     }
-    match run_named::<Brand, R, G>(rt, alloc, Blank::new(16), scenario, workers, gate)? {
+    let opened = Opened::new();
+    match run_named::<Brand, R, G>(rt, alloc, Blank::new(16), opened, scenario, workers, gate)? {
         Some(journal) => Ok(journal),
         None => run_alone(alloc, scenario),
     }

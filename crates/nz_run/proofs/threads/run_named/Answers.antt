@@ -4,7 +4,7 @@ use Rattle.nz_base.specs.declared.scenario.Scenario.{Scenario}
 use Rattle.nz_machine.specs.Journals.{run_in}
 use Rattle.nz_machine.specs.Schedule.{group_of, Scheduled}
 use Rattle.nz_machine.specs.World.{World}
-use Rattle.nz_run.specs.Stages.{AllReplay}
+use Rattle.nz_fabric.specs.Steps.{AreSteps}
 use Rattle.nz_run.proofs.Replaying.{world_now}
 use Rattle.nz_run.proofs.threads.run_named.Goals as goal
 
@@ -16,11 +16,11 @@ returns g c =
     let s = c.args.scenario.now in
     let same : j.scenario ≡ s = known.scenario ∙ name in
     let scheduled : Scheduled s (run_in j) = subst (λ (t : Scenario). Scheduled t (run_in j)) name known.scheduled in
-    let replay : AllReplay (group_of s) (run_in j) = subst (AllReplay (group_of s)) (sym known.records) (c.in_ok-agrees.ensures c.if-not-branch.false) in (
+    let steps : AreSteps (group_of s) (run_in j) = subst (λ (t : Scenario). AreSteps (group_of t) (run_in j)) name known.steps in (
       same,
       (
         scheduled,
         subst (λ (t : Scenario). World (group_of t) (run_in j)) (sym same)
-            (world_now s s.ticks (run_in j) c.requires.playable scheduled replay),
+            (world_now s s.ticks (run_in j) c.requires.playable scheduled steps),
       ),
     )

@@ -1,8 +1,5 @@
 -- What the function of this folder owes, proved.
-use Rattle.std.proofs.Common.{List, subst, sym, arith}
-use Rattle.nz_fabric.specs.declared.open_turns.Running.{Running}
-use Rattle.nz_fabric.specs.Rows.{HaveRoom}
-use Rattle.nz_fabric.proofs.Filing.{room_given_up}
+use Rattle.std.proofs.Common.{arith}
 use Rattle.nz_fabric.proofs.Sharing.{booked_given_up}
 use Rattle.nz_fabric.specs.States.{state_in}
 use Rattle.nz_fabric.proofs.fabric_state.FabricState.give_up.Goals as goal
@@ -13,9 +10,7 @@ invariant_of-self g c =
     let out = c.close.ensures in (
       c.self.invariant.0,
       booked_given_up _ f.book.total c.sub.new.self.total
-          (state_in f.ticks f.before f.rows.records) f.running.items c.close.new.running.items f.before _ f.rows.records
+          (state_in f.ticks f.before f.records.records) f.running.items c.close.new.running.items f.before _ f.records.records
           f.ticks.calendar _ c.close.result
           c.self.invariant.1 out.place (out.turn c.close.result) out.closed (omega (arith, c.sub.ensures.total, c.audit.ensures.total)),
-      subst (λ (running : List Running). HaveRoom running f.rows) (sym out.closed)
-          (room_given_up f.running.items _ c.close.result f.rows c.self.invariant.2 out.place (out.turn c.close.result)),
     )

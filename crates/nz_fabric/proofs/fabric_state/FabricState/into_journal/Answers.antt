@@ -3,7 +3,8 @@ use Rattle.std.proofs.Common.{◌≡◌, ◌∙◌, ap, subst, sym, ℕ, List}
 use Rattle.std.specs.Prelude.{reverse}
 use Rattle.nz_base.specs.declared.scenario.Scenario.{Scenario}
 use Rattle.nz_machine.specs.declared.event.Record.{Record}
-use Rattle.nz_machine.specs.Schedule.{Scheduled, ScheduledTo}
+use Rattle.nz_machine.specs.Schedule.{group_of, Scheduled, ScheduledTo}
+use Rattle.nz_fabric.specs.Steps.{AreSteps}
 use Rattle.nz_fabric.specs.States.{records_of, state_in}
 use Rattle.nz_fabric.specs.Shared.{IsOver, Shared}
 use Rattle.nz_fabric.proofs.Held.{all_records}
@@ -13,17 +14,20 @@ use Rattle.nz_fabric.proofs.fabric_state.FabricState.into_journal.Goals as goal
 pub returns-clause-records : goal.returns-clause-records
 returns-clause-records g c =
     let f = c.self.inside in
-    ap reverse (c.from_vec.ensures ∙ c.into_records.ensures) ∙ sym (all_records f.before f.rows.records) ∙ ap (λ (f : Shared). records_of f.run) c.self.view_is
+    ap reverse (c.from_vec.ensures ∙ c.into_records.ensures.records) ∙ sym (all_records f.before f.records.records) ∙ ap (λ (f : Shared). records_of f.run) c.self.view_is
 
 pub returns-clause-scheduled : goal.returns-clause-scheduled
 returns-clause-scheduled g c =
     let i = c.self.inside in
-    let f = state_in i.ticks i.before i.rows.records in
+    let f = state_in i.ticks i.before i.records.records in
     let k = c.self.invariant.1.accounted in
     let J = records_of f in
     let order : ScheduledTo f.scenario f.tick J = scheduled_now _ f i.running.items k (subst IsOver (sym c.self.view_is) c.requires.over) in
     let last : f.tick ≡ f.scenario.ticks = subst (λ (f : Shared). f.run.tick ≡ f.run.scenario.ticks) (sym c.self.view_is) c.requires.last in
     let whole : Scheduled f.scenario J = subst (λ (n : ℕ). ScheduledTo f.scenario n J) last order in
     subst (λ (J : List Record). Scheduled g.N.Name.scenario J)
-    (sym (ap reverse (c.from_vec.ensures ∙ c.into_records.ensures) ∙ sym (all_records i.before i.rows.records)))
+    (sym (ap reverse (c.from_vec.ensures ∙ c.into_records.ensures.records) ∙ sym (all_records i.before i.records.records)))
     (subst (λ (s : Scenario). Scheduled s J) k.scenario whole)
+
+pub returns-clause-steps : goal.returns-clause-steps
+returns-clause-steps g c = subst (λ (rs : List Record). AreSteps (group_of g.N.Name.scenario) (reverse rs)) (sym c.from_vec.ensures) c.into_records.ensures.steps

@@ -12,40 +12,38 @@ pub invariant_of-self : goal.invariant_of-self
 invariant_of-self g c =
     let f = c.self.inside in
     let t = f.ticks in
-    let rs = f.rows.records in
+    let rs = f.records.records in
     let inv = c.self.invariant.1 in
     let unmarked : t.marked ≡ false = ap (λ (f : Shared). f.run.marked) c.self.view_is ∙ c.requires.unmarked in
     let now = c.post_all.new.calendar in
     let posted = over_some t f.before rs _ now unmarked inv.is_posted c.since.ensures c.in_err-post_all.ensures.err in (
       c.self.invariant.0,
-      booked_marked _ f.book.total t.scenario t.tick f.before f.rows.room rs t.items.items t.next
+      booked_marked _ f.book.total t.scenario t.tick f.before f.records.room rs t.items.items t.next
           t.marked f.running.items t.calendar now inv posted,
-      c.self.invariant.2,
     )
 
 pub invariant_of-self-in_err-begin : goal.invariant_of-self-in_err-begin
 invariant_of-self-in_err-begin g c =
     let f = c.self.inside in
     let t = f.ticks in
-    let rs = f.rows.records in
+    let rs = f.records.records in
     let inv = c.self.invariant.1 in
     let unmarked : t.marked ≡ false = ap (λ (f : Shared). f.run.marked) c.self.view_is ∙ c.requires.unmarked in
     let now = c.post_all.new.calendar in
     let posted = over_whole t f.before rs _ now unmarked inv.is_posted c.since.ensures c.in_ok-post_all.ensures.ok in
     let booked =
-    booked_marked _ f.book.total t.scenario t.tick f.before f.rows.room rs t.items.items t.next t.marked
+    booked_marked _ f.book.total t.scenario t.tick f.before f.records.room rs t.items.items t.next t.marked
     f.running.items t.calendar now inv posted in (
       c.self.invariant.0,
       subst (λ (t : Ticks). IsBooked g.N.Name.scenario f.book.total
-          (state_in t f.before rs) f.running.items f.before f.rows.room rs t.calendar) (sym c.in_err-begin.ensures.err) booked,
-      c.self.invariant.2,
+          (state_in t f.before rs) f.running.items f.before f.records.room rs t.calendar) (sym c.in_err-begin.ensures.err) booked,
     )
 
 pub invariant_of-self-2 : goal.invariant_of-self-2
 invariant_of-self-2 g c =
     let f = c.self.inside in
     let t = f.ticks in
-    let rs = f.rows.records in
+    let rs = f.records.records in
     let inv = c.self.invariant.1 in
     let unmarked : t.marked ≡ false = ap (λ (f : Shared). f.run.marked) c.self.view_is ∙ c.requires.unmarked in
     let begun =
@@ -55,16 +53,15 @@ invariant_of-self-2 g c =
     let lt : t.tick < t.scenario.ticks = (let k = inv.accounted.in_run in let ne = c.if-self.false in omega (arith, k, ne)) in
     let over = subst IsOver (sym c.self.view_is) c.requires in (
       c.self.invariant.0,
-      booked_next _ f.book.total t.scenario t.tick f.before c.len-self-inside.result f.rows.room rs
+      booked_next _ f.book.total t.scenario t.tick f.before c.len-self-inside.result f.records.room rs
           t.items.items t.next t.marked f.running.items t.calendar c.begin.new.self inv over lt begun long,
-      c.self.invariant.2,
     )
 
 pub returns : goal.returns
 returns g c =
     let f = c.self.inside in
     let t = f.ticks in
-    let rs = f.rows.records in
+    let rs = f.records.records in
     let inv = c.self.invariant.1 in
     let unmarked : t.marked ≡ false = ap (λ (f : Shared). f.run.marked) c.self.view_is ∙ c.requires.unmarked in
     let begun =

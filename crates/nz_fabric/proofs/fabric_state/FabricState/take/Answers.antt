@@ -2,7 +2,6 @@
 use Rattle.std.proofs.Common.{◌+◌, ◌<◌, length, ap, arith}
 use Rattle.nz_fabric.specs.declared.open_turns.Running.{Running}
 use Rattle.nz_fabric.specs.States.{state_in}
-use Rattle.nz_fabric.proofs.Filing.{room_taken}
 use Rattle.nz_fabric.proofs.Sharing.{booked_taken}
 use Rattle.nz_fabric.proofs.fabric_state.FabricState.take.Goals as goal
 
@@ -18,11 +17,8 @@ invariant_of-self-2 g c =
       inv.0,
       rw (c.in_ok-push.ensures.items, c.reserve.ensures.records)
           (booked_taken _ f.book.total c.add.new.self.total
-          (state_in t f.before f.rows.records) f.running.items o f.before f.rows.room c.reserve.new.self.room
-          f.rows.records t.calendar inv.1 lt c.in_ok-item.ensures
+          (state_in t f.before f.records.records) f.running.items o f.before f.records.room c.reserve.new.self.room
+          f.records.records t.calendar inv.1 lt c.in_ok-item.ensures
           (omega (arith, c.if-taken.false, c.len-2.ensures, c.len-3.ensures))
-          (omega (arith, c.in_ok-reserve.ensures.more, c.len-4.ensures, same)) c.add.ensures.total),
-      rw (c.in_ok-push.ensures.items)
-          (room_taken f.running.items o f.rows c.reserve.new.self inv.2 c.reserve.ensures.spares
-          (omega (arith, c.in_ok-reserve.ensures.spare, c.len-4.ensures))),
+          (omega (arith, c.in_ok-reserve.ensures, c.len-4.ensures, same)) c.add.ensures.total),
     )

@@ -1,0 +1,30 @@
+-- Prefixes of one list.
+use Rattle.std.proofs.Common.{◌≡◌, ◌≤◌, Bool, List, [], ◌∷◌, ◌++◌, length, refl, ap, sym, ◌∙◌, arith, length-append}
+use Rattle.std.specs.Prelude.{filter, reverse}
+use Rattle.std.proofs.lemmas.List.{reverse-append}
+use Rattle.std.proofs.lemmas.List.Elements.{filter-append}
+use mathlib.Core.List.{IsPrefix}
+
+-- a prefix as long as the whole is the whole
+pub prefix_whole : {A : Type 0} (xs ys : List A) → IsPrefix xs ys → length ys ≤ length xs → xs ≡ ys
+prefix_whole [] [] p le = refl
+prefix_whole [] (y ∷ ys) p le = absurd (omega arith)
+prefix_whole (x ∷ xs) [] p le = absurd (cc (p.1))
+prefix_whole (x ∷ xs) (y ∷ ys) p le =
+    let rest = prefix_whole xs ys (p.0, cc (p.1)) (omega arith) in cc (p.1, rest)
+
+pub prefix_length : {A : Type 0} (xs ys : List A) → IsPrefix xs ys → length xs ≤ length ys
+prefix_length xs ys p = omega (arith, sym (ap length p.1) ∙ length-append xs p.0)
+
+none_before : {A : Type 0} (xs ys : List A) → length (xs ++ ys) ≡ length ys → xs ++ ys ≡ ys
+none_before [] ys e = refl
+none_before (x ∷ xs) ys e = let long = length-append xs ys in absurd (omega (arith, e, long))
+
+-- where a prefix has as many of a sort as the whole, it has all of them
+pub same_part : {A : Type 0} (f : A → Bool) (xs ys : List A) → IsPrefix xs ys
+    → length (filter f (reverse xs)) ≡ length (filter f (reverse ys)) → filter f (reverse xs) ≡ filter f (reverse ys)
+same_part f xs ys p long =
+    let t = p.0 in
+    let apart : filter f (reverse ys) ≡ filter f (reverse t) ++ filter f (reverse xs) =
+    ap (λ zs. filter f (reverse zs)) (sym p.1) ∙ ap (filter f) (reverse-append xs t) ∙ filter-append f (reverse t) (reverse xs) in
+    sym (apart ∙ none_before (filter f (reverse t)) (filter f (reverse xs)) (sym (ap length apart) ∙ sym long))

@@ -1,0 +1,33 @@
+-- The records of a run in the order of recording, and those of each actor among them.
+use Rattle.std.specs.Prelude.{◌≡◌, ℕ, List, ◌∷◌, length, filter, get_or}
+use Rattle.nz_base.specs.Actor.{actor_eq}
+use Rattle.nz_base.specs.declared.actor.Actor.{Actor}
+use Rattle.nz_machine.specs.declared.event.Record.{Record}
+use Rattle.nz_fabric.specs.Calendars.{row_number}
+
+-- The records in the order of recording, and how many there is room for.
+pub record Recorded : Type 0 where
+  pub records : List Record
+  pub room : ℕ
+
+-- The records of an actor among others.
+abbrev pub of_actor : Actor → List Record → List Record
+of_actor a records = filter (λ r. actor_eq r.actor a) records
+
+-- An actor with its records, the newest first.
+pub record ActorSteps : Type 0 where
+  pub actor : Actor
+  pub steps : List Record
+
+-- The actor with its records among these.
+abbrev pub steps_of : Actor → List Record → ActorSteps
+steps_of a J = record { actor = a; steps = of_actor a J }
+
+-- The actor with one record more.
+abbrev pub with_step : Record → ActorSteps → ActorSteps
+with_step r own = record { actor = own.actor; steps = r ∷ own.steps }
+
+-- For each actor, how many of the records are its own.
+pub record AreCounts (J : List Record) (counts : List ℕ) : Type 0 where
+  pub many : length counts ≡ 768
+  pub counted : (a : Actor) → get_or counts (row_number a) 0 ≡ length (of_actor a J)

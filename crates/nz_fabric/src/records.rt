@@ -1,0 +1,145 @@
+//! The records of a run, and how many each actor has.
+
+ghost use Rattle.std.specs.Prelude.{◌≡◌, ◌+◌, ◌<◌, ◌≤◌, ◌^◌, ◌∷◌, ◌++◌, [], length, drop, reverse, replicate, MatchBool, IfOk, OnOk};
+ghost use Rattle.nz_machine.specs.Schedule.{group_of};
+ghost use Rattle.nz_fabric.specs.Calendars.{row_number};
+ghost use Rattle.nz_fabric.specs.Records.{steps_of, with_step};
+ghost use Rattle.nz_fabric.specs.Steps.{AreSteps, sends_after};
+
+use crate::chronicle::{Chronicle, Opened, Seen};
+use crate::course::number_in_all;
+use crate::lane::Lane;
+use crate::name::Name;
+use nz_base::{Actor, NoMemory};
+use nz_machine::Record;
+use std::alloc::Global;
+use std::marker::Model;
+
+/// One number for each actor that there can be.
+const ACTORS: usize = 768;
+
+/// The records of a run in the order of recording, which are its chronicle. Each sends what the machine says after
+/// those before it.
+#[derive(Drop)]
+pub struct Records<N: Name> {
+    records: Vec<Record>,
+    /// How many records each actor has.
+    counts: Vec<u32>,
+    chronicle: Chronicle<N>,
+    seen: Seen<N>,
+}
+
+impl<N: Name> Model for Records<N> {
+    ghost use Rattle.std.specs.Prelude.{◌≡◌, reverse, vec_capacity};
+    ghost use Rattle.nz_machine.specs.Schedule.{group_of};
+    ghost use Rattle.nz_fabric.specs.Records.{Recorded, AreCounts};
+    ghost use Rattle.nz_fabric.specs.Steps.{AreSteps};
+
+    ghost Value = { Recorded };
+
+    ghost view = { λ f. record { records = f.records.items; room = vec_capacity f.records } };
+
+    ghost invariant = { λ f. (f.seen ≡ f.records.items) × AreCounts (reverse f.records.items) f.counts.items
+        × AreSteps (group_of N.scenario) (reverse f.records.items) };
+}
+
+/// The place of the actor's count.
+fn place_of(actor: Actor) -> usize
+    ensures number { result ≡ row_number actor }
+    ensures within { result < 768 }
+{
+    number_in_all(actor) as usize
+}
+
+impl<N: Name> Records<N> {
+    /// No record.
+    pub fn new(alloc: Global, opened: Opened) -> Result<Records<N>, NoMemory>
+        requires { opened ≡ N.chronicle }
+        ensures { IfOk result (λ records. records.records ≡ []) }
+    {
+        let counts = vec![in alloc; 0u32; ACTORS]?;
+        let (chronicle, seen) = opened.named::<N>();
+        Ok(Records {
+            records: Vec::new(alloc),
+            counts,
+            chronicle,
+            seen,
+        })
+    }
+
+    pub fn len(&self) -> usize
+        ensures { result ≡ length self.now.records }
+    {
+        self.records.len()
+    }
+
+    /// Makes room for this many records.
+    pub fn reserve(&mut self, count: usize) -> Result<(), NoMemory>
+        ensures records { self.new.records ≡ self.old.records }
+        ensures room { self.old.room ≤ self.new.room }
+        ensures more { OnOk result (length self.new.records + count ≤ self.new.room) }
+    {
+        self.records.reserve(count)?;
+        Ok(())
+    }
+
+    /// The records of an actor so far.
+    pub fn lane(&self, actor: Actor) -> Lane<N>
+        ensures { result ≡ steps_of actor (reverse self.now.records) }
+    {
+        Lane {
+            actor,
+            count: self.counts[place_of(actor)],
+            seen: self.seen.again(),
+        }
+    }
+
+    /// The record is the last of all where its actor has seen all of its earlier ones. Where it has not, nothing changes.
+    pub fn push(&mut self, lane: &mut Lane<N>, step: Record) -> bool
+        requires few { length self.old.records + 1 < 2 ^ 32 }
+        requires room { length self.old.records < self.old.room }
+        requires own { step.actor ≡ lane.old.actor }
+        requires sent { step.sends ≡ sends_after (group_of N.scenario) lane.old step.event }
+        ensures room { self.new.room ≡ self.old.room }
+        ensures pushed { MatchBool result
+            ((self.new.records ≡ self.old.records ++ step ∷ [])
+            × ((lane.old ≡ steps_of step.actor (reverse self.old.records)) × (lane.new ≡ with_step step lane.old)))
+            ((self.new.records ≡ self.old.records) × (lane.new ≡ lane.old)) }
+    {
+        let place = place_of(step.actor);
+        let count = self.counts[place];
+        if lane.count != count {
+            return false;
+        }
+        let more = count + 1;
+        let number = self.records.len() as u64;
+        if !self
+            .chronicle
+            .append(&mut self.seen, &lane.seen, number, &step)
+        {
+            return false;
+        }
+        self.records.push_reserved(step);
+        self.counts[place] = more;
+        lane.count = more;
+        lane.seen = self.seen.again();
+        true
+    }
+
+    /// The records from this one on, in the order of recording.
+    pub fn since(&self, before: usize) -> &[Record]
+        requires { before ≤ length self.now.records }
+        ensures { result.now ≡ drop before self.now.records }
+    {
+        &self.records[before..]
+    }
+
+    /// The records in the order of recording, which are not copied.
+    pub fn into_records(self) -> Vec<Record>
+        ensures records { result.items ≡ self.records }
+        ensures steps { AreSteps (group_of N.scenario) (reverse result.items) }
+    {
+        let Records { records, .. } = self;
+        records
+    }
+}
