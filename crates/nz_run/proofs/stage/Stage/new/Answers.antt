@@ -2,11 +2,11 @@
 use Rattle.nz_run.proofs.FirstCores.{replicas_first, proxies_first, clients_first}
 use Rattle.nz_run.proofs.stage.Stage.new.Goals as goal
 
-pub cells_of-requires : goal.cells_of-requires
-cells_of-requires g c = replicas_first c.args.scenario.now g.N.Name.scenario c.in_ok-replicas.field-0 c.in_ok-replicas.ensures c.requires.scenario
+pub cells_of-requires-clause-cores : goal.cells_of-requires-clause-cores
+cells_of-requires-clause-cores g c = replicas_first c.args.scenario.now g.N.Name.scenario c.in_ok-replicas.field-0 c.in_ok-replicas.ensures c.requires.scenario
 
-pub cells_of-requires-2 : goal.cells_of-requires-2
-cells_of-requires-2 g c = proxies_first c.args.scenario.now g.N.Name.scenario c.in_ok-replicas.field-0 c.in_ok-replicas.ensures c.requires.scenario
+pub cells_of-requires-2-clause-cores : goal.cells_of-requires-2-clause-cores
+cells_of-requires-2-clause-cores g c = proxies_first c.args.scenario.now g.N.Name.scenario c.in_ok-replicas.field-0 c.in_ok-replicas.ensures c.requires.scenario
 
-pub cells_of-requires-3 : goal.cells_of-requires-3
-cells_of-requires-3 g c = clients_first c.args.scenario.now g.N.Name.scenario c.in_ok-replicas.field-0 c.in_ok-replicas.ensures c.requires.scenario
+pub cells_of-requires-3-clause-cores : goal.cells_of-requires-3-clause-cores
+cells_of-requires-3-clause-cores g c = clients_first c.args.scenario.now g.N.Name.scenario c.in_ok-replicas.field-0 c.in_ok-replicas.ensures c.requires.scenario
