@@ -1,6 +1,7 @@
 //! The lock around an actor, and how a turn is done under it.
 
 ghost use Rattle.std.specs.Prelude.{◌≡◌, ◌+◌, ◌<◌};
+ghost use Rattle.nz_fabric.specs.Shared.{ClosesTurn};
 
 use crate::state::ActorState;
 use nz_edge::Gate;
@@ -37,7 +38,7 @@ impl<N: Name, C: Core> ActorCell<N, C> {
         share: &mut Share<N>,
     )
         requires { 0 < share.old.amount }
-        ensures { (share.new.amount + 1 ≡ share.old.amount) × (share.new.parts ≡ share.old.parts) }
+        ensures { ClosesTurn share.old share.new }
     {
         let mut state = self.state.lock(rt);
         gate.arrive(worker, turn.number);

@@ -4,7 +4,7 @@ ghost use Rattle.std.specs.Prelude.{◌≡◌, ◌↔◌, ◌+◌, ◌<◌, ℕ,
 ghost use Rattle.nz_machine.specs.Schedule.{group_of};
 ghost use Rattle.nz_machine.specs.Step.{first_node};
 ghost use Rattle.nz_fabric.specs.Records.{steps_of};
-ghost use Rattle.nz_fabric.specs.Shared.{with_given_up, with_record};
+ghost use Rattle.nz_fabric.specs.Shared.{with_given_up, with_record, ClosesTurn};
 ghost use Rattle.nz_fabric.specs.States.{records_of};
 ghost use Rattle.nz_fabric.specs.Steps.{sends_after};
 ghost use Rattle.nz_actor.specs.Actings.{with_turn, without_turns};
@@ -71,7 +71,7 @@ impl<N: Name, C: Core> ActorState<N, C> {
         requires ready { self.old.ready ≡ true }
         requires actor { turn.actor ≡ self.old.own.actor }
         ensures recorded { MatchBool result ((tick : ℕ) × (self.new ≡ with_turn (group_of N.scenario) tick turn self.old)) (self.new ≡ without_turns self.old) }
-        ensures share { (share.new.amount + 1 ≡ share.old.amount) × (share.new.parts ≡ share.old.parts) }
+        ensures share { ClosesTurn share.old share.new }
     {
         self.ready = false;
         let Ok(sends) = self.core.step(&turn.event) else {
@@ -94,7 +94,7 @@ impl<N: Name, C: Core> ActorState<N, C> {
         ensures fabric { MatchBool result
             (fabric.new ≡ with_record turn.number (sends_after (group_of N.scenario) self.old.own turn.event) fabric.old)
             (fabric.new ≡ with_given_up turn.number fabric.old) }
-        ensures share { (share.new.amount + 1 ≡ share.old.amount) × (share.new.parts ≡ share.old.parts) }
+        ensures share { ClosesTurn share.old share.new }
     {
         self.ready = false;
         let Ok(sends) = self.core.step(&turn.event) else {

@@ -3,6 +3,7 @@ use Rattle.std.specs.Prelude.{◌≡◌, ℕ, ◌+◌, ◌≤◌, ◌<◌, ◌^�
 use Rattle.std.specs.Prelude.{map, take, Some, slice_get, get_or, unwrap_or, IsPermutation}
 use Rattle.std.specs.List.{AllByRecursion, remove, position}
 use Rattle.nz_base.specs.declared.actor.Actor.TheVariants.{Replica}
+use Rattle.nz_base.specs.declared.limits.TheConstants.{MAX_WORKERS}
 use Rattle.nz_base.specs.declared.scenario.Scenario.{Scenario}
 use Rattle.nz_machine.specs.declared.event.Event.TheVariants.{Alarm}
 use Rattle.nz_machine.specs.declared.event.Parcel.{Parcel}
@@ -27,6 +28,14 @@ shared_with run running = record { run = run; running = running }
 pub record Holding : Type 0 where
   pub parts : ℕ
   pub amount : ℕ
+
+-- All parts of the ledger, with no open turn on them.
+abbrev pub IsWhole : Holding → Type 0
+IsWhole share = (share.parts ≡ MAX_WORKERS) × (share.amount ≡ 0)
+
+-- A turn on the share was closed: recorded or given up.
+abbrev pub ClosesTurn : Holding → Holding → Type 0
+ClosesTurn old new = (new.amount + 1 ≡ old.amount) × (new.parts ≡ old.parts)
 
 -- A scenario without actors.
 abbrev pub no_scenario : Scenario

@@ -9,8 +9,9 @@ ghost use Rattle.nz_fabric.specs.declared.open_turns.Running.{Running as Running
 ghost use Rattle.nz_fabric.specs.Records.{steps_of, with_step};
 ghost use Rattle.nz_fabric.specs.Steps.{AreSteps, sends_after};
 ghost use Rattle.nz_fabric.specs.States.{records_of, record_of_turn, with_mark};
-ghost use Rattle.nz_fabric.specs.Shared.{IsAccounted, IsNextOf, IsOver, MustWait, after_shared, without_turn, place_of_turn};
+ghost use Rattle.nz_fabric.specs.Shared.{IsAccounted, IsNextOf, IsOver, MustWait, after_shared, without_turn, place_of_turn, ClosesTurn, IsWhole};
 ghost use Rattle.nz_fabric.specs.Shared.{shared_with, start_shared, with_given_up, with_opened, with_record};
+ghost use Rattle.nz_base.specs.declared.limits.TheConstants.{MAX_WORKERS};
 
 use crate::chronicle::Opened;
 use crate::lane::Lane;
@@ -44,12 +45,13 @@ impl<N: Name> Model for FabricState<N> {
     ghost use Rattle.std.specs.Prelude.{◌≡◌};
     ghost use Rattle.nz_fabric.specs.States.{state_in};
     ghost use Rattle.nz_fabric.specs.Shared.{Shared, IsBooked, shared_with};
+    ghost use Rattle.nz_base.specs.declared.limits.TheConstants.{MAX_WORKERS};
 
     ghost Value = { Shared };
 
     ghost view = { λ f. shared_with (state_in f.ticks f.before f.records.records) f.running.items };
 
-    ghost invariant = { λ f. (N.parts ≡ 16) × IsBooked N.scenario f.book.total
+    ghost invariant = { λ f. (N.parts ≡ MAX_WORKERS) × IsBooked N.scenario f.book.total
         (state_in f.ticks f.before f.records.records) f.running.items f.before f.records.room f.records.records
         f.ticks.calendar };
 }
@@ -62,11 +64,11 @@ impl<N: Name> FabricState<N> {
         opened: Opened,
         scenario: Scenario,
     ) -> Result<(FabricState<N>, Share<N>), NoMemory>
-        requires name { (blank.name ≡ N.name) × (blank.parts ≡ N.parts) × (blank.parts ≡ 16) }
+        requires name { (blank.name ≡ N.name) × (blank.parts ≡ N.parts) × (blank.parts ≡ MAX_WORKERS) }
         requires chronicle { opened ≡ N.chronicle }
         requires scenario { scenario ≡ N.scenario }
         requires playable { IsPlayable scenario }
-        ensures { IfOk result (λ r. (r.0 ≡ start_shared scenario) × (r.1.parts ≡ 16) × (r.1.amount ≡ 0)) }
+        ensures { IfOk result (λ r. (r.0 ≡ start_shared scenario) × IsWhole r.1) }
     {
         let records = Records::new(alloc, opened)?;
         let (book, held) = blank.open::<N>();
@@ -136,7 +138,7 @@ impl<N: Name> FabricState<N> {
             ((lane.old ≡ steps_of turn.actor (records_of self.old.run))
             × (lane.new ≡ with_step (record_of_turn (record turn { tick = self.old.run.tick }) sends) lane.old))
             (lane.new ≡ lane.old) }
-        ensures share { (share.new.amount + 1 ≡ share.old.amount) × (share.new.parts ≡ share.old.parts) }
+        ensures share { ClosesTurn share.old share.new }
     {
         let Turn {
             number,
@@ -171,7 +173,7 @@ impl<N: Name> FabricState<N> {
     pub fn give_up(&mut self, turn: Turn, share: &mut Share<N>)
         requires { 0 < share.old.amount }
         ensures given_up { self.new ≡ with_given_up turn.number self.old }
-        ensures share { (share.new.amount + 1 ≡ share.old.amount) × (share.new.parts ≡ share.old.parts) }
+        ensures share { ClosesTurn share.old share.new }
     {
         let number = turn.into_number();
         self.book.audit(&mut share.held);
@@ -210,7 +212,7 @@ impl<N: Name> FabricState<N> {
 
     /// Nothing changes. The amount of the whole share is the number of open turns.
     pub fn audit(&mut self, share: &mut Share<N>)
-        requires { share.old.parts ≡ 16 }
+        requires { share.old.parts ≡ MAX_WORKERS }
         ensures same { (self.new ≡ self.old) × (share.new ≡ share.old) }
         ensures running { share.new.amount ≡ length self.new.running }
     {

@@ -6,7 +6,7 @@ use crate::name::Name;
 use std::marker::Model;
 use std::sync::ledger;
 
-/// Some of the 16 parts of the ledger of open turns, with how many turns are open on them.
+/// Some of the parts of the ledger of open turns, with how many turns are open on them.
 #[derive(Drop)]
 pub struct Share<N: Name> {
     pub(crate) held: ledger::Share<N>,

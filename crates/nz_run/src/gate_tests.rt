@@ -3,13 +3,14 @@ ghost use Rattle.std.specs.Prelude.{◌≡◌, ◌≤◌, length, IfOk};
 ghost use Rattle.std.specs.List.{AllByRecursion};
 ghost use Rattle.nz_machine.specs.Schedule.{IsPlayable};
 ghost use Rattle.nz_machine.specs.World.{IsAsked, request_count};
+ghost use Rattle.nz_base.specs.declared.limits.TheConstants.{MAX_WORKERS};
 
 use super::shares::{Worker, deal};
 use super::stage::turn_at;
 use nz_actor::{ActorCell, ActorState};
 use nz_base::{
-    Actor, Blob, Cluster, FaultList, NoMemory, Request, RequestList, Scenario, ScriptList,
-    SkewList, TryCopy,
+    Actor, Blob, Cluster, FaultList, MAX_WORKERS, NoMemory, Request, RequestList, Scenario,
+    ScriptList, SkewList, TryCopy,
 };
 use nz_edge::OpenGate;
 use nz_fabric::{Fabric, FabricState, Name, Opened};
@@ -137,7 +138,7 @@ fn seen_at_once<N: Name + Send + Sync, R: Threads + Wait + Sync>(
     opened: Opened,
     scenario: &Scenario,
 ) -> Result<(u64, bool), NoMemory>
-    requires name { (blank.name ≡ N.name) × (blank.parts ≡ N.parts) × (blank.parts ≡ 16) }
+    requires name { (blank.name ≡ N.name) × (blank.parts ≡ N.parts) × (blank.parts ≡ MAX_WORKERS) }
     requires chronicle { opened ≡ N.chronicle }
     requires scenario { scenario.now ≡ N.scenario }
     requires playable { IsPlayable scenario.now }
@@ -187,7 +188,7 @@ fn two_steps_at_once(rt: HostRuntime) -> Result<(), Fail> {
     let (seen, given_up) = seen_at_once::<Brand, _>(
         &rt,
         alloc,
-        Blank::new(16),
+        Blank::new(MAX_WORKERS as u64),
         Opened::new(),
         &scenario,
     )?;

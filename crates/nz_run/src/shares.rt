@@ -2,6 +2,7 @@
 
 ghost use Rattle.std.specs.Prelude.{◌≡◌, ◌+◌, ◌<◌, ◌≤◌, ℕ, [], length, vec_len, vec_capacity, All, sum_by};
 ghost use Rattle.nz_base.specs.declared.limits.TheConstants.{MAX_WORKERS};
+ghost use Rattle.nz_fabric.specs.Shared.{IsWhole};
 
 use nz_fabric::{Name, Share};
 
@@ -14,12 +15,12 @@ pub struct Worker<N: Name> {
 
 /// Deals the whole share out.
 pub fn deal<N: Name>(whole: Share<N>, workers: &mut Vec<Worker<N>>, count: u8)
-    requires whole { (whole.parts ≡ 16) × (whole.amount ≡ 0) }
+    requires whole { IsWhole whole }
     requires count { (0 < count) × (count ≤ MAX_WORKERS) }
     requires room { (workers.old.items ≡ []) × (count ≤ vec_capacity workers.old) }
     ensures len { vec_len workers.new ≡ count }
     ensures idle { All (λ w. w.share.amount ≡ 0) workers.new.items }
-    ensures parts { sum_by (λ w. w.share.parts) workers.new.items ≡ 16 }
+    ensures parts { sum_by (λ w. w.share.parts) workers.new.items ≡ MAX_WORKERS }
 {
     let mut rest = whole;
     'dealt: for number in 1..count {
@@ -35,8 +36,8 @@ pub fn deal<N: Name>(whole: Share<N>, workers: &mut Vec<Worker<N>>, count: u8)
 /// Puts the shares together again.
 pub fn gather<N: Name>(workers: Vec<Worker<N>>) -> Share<N>
     requires idle { All (λ w. w.share.amount ≡ 0) workers.items }
-    requires parts { sum_by (λ w. w.share.parts) workers.items ≡ 16 }
-    ensures { (result.parts ≡ 16) × (result.amount ≡ 0) }
+    requires parts { sum_by (λ w. w.share.parts) workers.items ≡ MAX_WORKERS }
+    ensures { IsWhole result }
 {
     let mut workers = workers;
     let Some(first) = workers.pop() else {

@@ -4,6 +4,7 @@ ghost use Rattle.std.specs.Prelude.{◌≡◌, ◌+◌, ◌<◌, [], All};
 ghost use Rattle.nz_machine.specs.Schedule.{group_of, IsPlayable};
 ghost use Rattle.nz_fabric.specs.States.{records_of};
 ghost use Rattle.nz_run.specs.Stages.{HasNotStepped};
+ghost use Rattle.nz_fabric.specs.Shared.{ClosesTurn};
 
 use crate::cast::Cast;
 use nz_actor::{ActorCell, ActorState};
@@ -54,7 +55,7 @@ pub fn turn_at<N: Name, C: Core>(
     share: &mut Share<N>,
 )
     requires { 0 < share.old.amount }
-    ensures { (share.new.amount + 1 ≡ share.old.amount) × (share.new.parts ≡ share.old.parts) }
+    ensures { ClosesTurn share.old share.new }
 {
     match cells.get(usize::from(place)) {
         Some(cell) => cell.turn(rt, turn, worker, gate, fabric, share),
@@ -71,7 +72,7 @@ fn settle_at<N: Name, C: Core>(
     share: &mut Share<N>,
 )
     requires { 0 < share.old.amount }
-    ensures share { (share.new.amount + 1 ≡ share.old.amount) × (share.new.parts ≡ share.old.parts) }
+    ensures share { ClosesTurn share.old share.new }
     ensures run { (state.new.run.items ≡ state.old.run.items) × (state.new.run.next ≡ state.old.run.next) }
 {
     let Some(cell) = cells.get_mut(usize::from(place)) else {
@@ -120,7 +121,7 @@ impl<N: Name> Stage<N> {
         share: &mut Share<N>,
     )
         requires { 0 < share.old.amount }
-        ensures { (share.new.amount + 1 ≡ share.old.amount) × (share.new.parts ≡ share.old.parts) }
+        ensures { ClosesTurn share.old share.new }
     {
         match turn.actor {
             Actor::Replica(place) => {
@@ -138,7 +139,7 @@ impl<N: Name> Stage<N> {
     /// The turn's actor does it where no other thread has the actors.
     pub fn settle(&mut self, turn: Turn, state: &mut FabricState<N>, share: &mut Share<N>)
         requires { 0 < share.old.amount }
-        ensures share { (share.new.amount + 1 ≡ share.old.amount) × (share.new.parts ≡ share.old.parts) }
+        ensures share { ClosesTurn share.old share.new }
         ensures run { (state.new.run.items ≡ state.old.run.items) × (state.new.run.next ≡ state.old.run.next) }
     {
         match turn.actor {

@@ -4,7 +4,8 @@ ghost use Rattle.std.specs.Prelude.{◌≡◌, ◌⊎◌, ◌<◌, ◌≤◌, le
 ghost use Rattle.nz_machine.specs.Journals.{group_in, run_in};
 ghost use Rattle.nz_machine.specs.Schedule.{InOrder, IsPlayable, Scheduled};
 ghost use Rattle.nz_machine.specs.World.{World};
-ghost use Rattle.nz_fabric.specs.Shared.{IsOver};
+ghost use Rattle.nz_fabric.specs.Shared.{IsOver, IsWhole};
+ghost use Rattle.nz_base.specs.declared.limits.TheConstants.{MAX_WORKERS};
 
 use crate::alone::run_alone;
 use crate::shares::{deal, gather};
@@ -26,8 +27,8 @@ fn finish<N: Name>(
     share: &mut Share<N>,
     stage: &mut Stage<N>,
 ) -> Result<(), NoMemory>
-    requires { (share.old.parts ≡ 16) × (share.old.amount ≡ 0) }
-    ensures whole { (share.new.parts ≡ 16) × (share.new.amount ≡ 0) }
+    requires { IsWhole share.old }
+    ensures whole { IsWhole share.new }
     ensures running { OnOk result (length state.new.running ≡ 0) }
     ensures done { OnOk result ((state.new.run.marked ≡ true) ⊎ (state.new.run.next ≡ length state.new.run.items)) }
 {
@@ -48,9 +49,9 @@ fn at_once<N: Name + Send + Sync, R: Threads + Wait + Sync, G: Gate + Sync>(
     stage: &Stage<N>,
     gate: &G,
 ) -> Result<(FabricState<N>, Share<N>), NoMemory>
-    requires share { (share.parts ≡ 16) × (share.amount ≡ 0) }
+    requires share { IsWhole share }
     requires count { (0 < count) × (count ≤ MAX_WORKERS) }
-    ensures { IfOk result (λ r. (r.1.parts ≡ 16) × (r.1.amount ≡ 0)) }
+    ensures { IfOk result (λ r. IsWhole r.1) }
 {
     let mut workers = Vec::new(alloc);
     workers.reserve(MAX_WORKERS)?;
@@ -68,7 +69,7 @@ fn finish_all<N: Name, R: Wait>(
     share: Share<N>,
     stage: &mut Stage<N>,
 ) -> Result<Option<FabricState<N>>, NoMemory>
-    requires share { (share.parts ≡ 16) × (share.amount ≡ 0) }
+    requires share { IsWhole share }
     ensures { IfOk result (λ o. IfSome o (λ state. IsOver state × (state.run.tick ≡ state.run.scenario.ticks))) }
 {
     let mut state = state;
@@ -95,7 +96,7 @@ fn run_named<N: Name + Send + Sync, R: Threads + Wait + Sync, G: Gate + Sync>(
     count: u8,
     gate: &G,
 ) -> Result<Option<Journal>, NoMemory>
-    requires name { (blank.name ≡ N.name) × (blank.parts ≡ N.parts) × (blank.parts ≡ 16) }
+    requires name { (blank.name ≡ N.name) × (blank.parts ≡ N.parts) × (blank.parts ≡ MAX_WORKERS) }
     requires chronicle { opened ≡ N.chronicle }
     requires scenario { scenario.now ≡ N.scenario }
     requires playable { IsPlayable scenario.now }
@@ -132,7 +133,15 @@ pub fn run<R: Threads + Wait + Sync, G: Gate + Sync>(
         return run_alone(alloc, scenario);
     }
     let opened = Opened::new();
-    match run_named::<Brand, R, G>(rt, alloc, Blank::new(16), opened, scenario, workers, gate)? {
+    match run_named::<Brand, R, G>(
+        rt,
+        alloc,
+        Blank::new(MAX_WORKERS as u64),
+        opened,
+        scenario,
+        workers,
+        gate,
+    )? {
         Some(journal) => Ok(journal),
         None => run_alone(alloc, scenario),
     }

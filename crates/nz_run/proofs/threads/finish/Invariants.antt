@@ -1,9 +1,10 @@
 -- What the loops of the function of this folder keep.
-use Rattle.std.specs.Prelude.{◌≡◌, ◌-◌, length}
+use Rattle.std.specs.Prelude.{◌-◌, length}
+use Rattle.nz_fabric.specs.Shared.{IsWhole}
 use Rattle.nz_run.proofs.threads.finish.Given as goal
 
 abbrev pub invariant-left : goal.invariant-left
-invariant-left g l = (l.share.parts ≡ 16) × (l.share.amount ≡ 0)
+invariant-left g l = IsWhole l.share
 
 abbrev pub decreases-left : goal.decreases-left
 decreases-left g l = length l.state.run.items - l.state.run.next
