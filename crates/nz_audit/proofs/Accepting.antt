@@ -85,7 +85,7 @@ cut_is log (Some place) = cut_so (suc place) log
     cut_so (suc n) (e ∷ es) = ap (λ (l : List Entry). e ∷ l) (cut_so n es)
 
 leads_at : (g : Group) (J : List Record) (id : Id) (a : Actor) (K later : List Record) → J ≡ later ++ K → IsMember g a
-    → LeadsToIfAny g J (cut_after id (log_at g a K)) (numbers_of g id a K)
+    → LeadsToIfAny g J (cut_after id (log_at g a K)) (numbers_of a K)
 leads_at g J id (Replica m) K later at member =
     record {
       later = later;
@@ -100,7 +100,7 @@ leads_at g J id (Proxy p) K later at member = refl
 leads_at g J id (Client c) K later at member = refl
 
 leads_back : (g : Group) (r : Record) (J : List Record) (id : Id) (p : Parcel) (o : Option ReplySource) → World g J
-    → accepted_source g id p J ≡ o → LeadsToIfAny g (r ∷ J) (entries_or (option_map (prefix_at_source g id) o)) (in_numbers g id o)
+    → accepted_source g id p J ≡ o → LeadsToIfAny g (r ∷ J) (entries_or (option_map (prefix_at_source g id) o)) (in_numbers o)
 leads_back g r J id p None w e = refl
 leads_back g r J id p (Some at) w e =
     let h = accepted_reached g id p J at w e in
@@ -174,13 +174,13 @@ told_by_actor g (Proxy q) r J p id by is h = absurd h
 -- ---- what a record adds
 
 answer_stands_for : (g : Group) (id : Id) (p : Parcel) (q : ℕ) (first : Option (List Record)) → p.from ≡ Proxy q
-    → option_flatten (option_map (source_sent g id p.from) first) ≡ in_numbers g id (option_and_then (source_of_sender g id p.from) first)
+    → option_flatten (option_map (source_sent g id p.from) first) ≡ in_numbers (option_and_then (source_of_sender g id p.from) first)
 answer_stands_for g id p q None from = refl
 answer_stands_for g id p q (Some K) from =
-    ap (λ (a : Actor). source_sent g id a K) from ∙ sym (ap (λ (a : Actor). in_numbers g id (source_of_sender g id a K)) from)
+    ap (λ (a : Actor). source_sent g id a K) from ∙ sym (ap (λ (a : Actor). in_numbers (source_of_sender g id a K)) from)
 
 source_is_accepted : (g : Group) (J : List Record) (p : Parcel) (id : Id) (table : List (ParcelKey × Option Source))
-    → IsTable g J table → IsTold p id → option_flatten (kept_of table p) ≡ in_numbers g id (accepted_source g id p J)
+    → IsTable g J table → IsTold p id → option_flatten (kept_of table p) ≡ in_numbers (accepted_source g id p J)
 source_is_accepted g J p id table h told =
     ap option_flatten (h.exact p) ∙ ap (λ (o : Option Id). option_flatten (stands_for g p (source p J) o)) told.about
     ∙ answer_stands_for g id p told.proxy (source p J) told.from

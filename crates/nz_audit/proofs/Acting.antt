@@ -96,11 +96,11 @@ pub sized_by : (g : Group) (q : ℕ) (id : Id) (J : List Record) (notes : Option
 sized_by g q id J notes h = subst (IsSized g.f) (sym (h.known id)) (sized_of g q id J (standing_after g q id J))
 
 decided_of : (g : Group) (q : ℕ) (id : Id) (J : List Record) (o : Option Standing) → standing_after g q id J ≡ o
-    → decided_in (memory_of g q id J o) ≡ in_numbers g id (source_of_sender g id (Proxy q) J)
+    → decided_in (memory_of g q id J o) ≡ in_numbers (source_of_sender g id (Proxy q) J)
 decided_of g q id J None e =
-    ap (λ (m : Option (List Record)). in_numbers g id (option_and_then (source_at_decision g q id) m)) (sym (no_decision g q id J (ap is_decided e)))
+    ap (λ (m : Option (List Record)). in_numbers (option_and_then (source_at_decision g q id) m)) (sym (no_decision g q id J (ap is_decided e)))
 decided_of g q id J (Some (Open replies)) e =
-    ap (λ (m : Option (List Record)). in_numbers g id (option_and_then (source_at_decision g q id) m)) (sym (no_decision g q id J (ap is_decided e)))
+    ap (λ (m : Option (List Record)). in_numbers (option_and_then (source_at_decision g q id) m)) (sym (no_decision g q id J (ap is_decided e)))
 decided_of g q id J (Some (Decided a p)) e = refl
 
 pub decided_by : (g : Group) (q : ℕ) (id : Id) (J : List Record) (notes : Option ProxyNotes) (s : Option Source)
