@@ -71,6 +71,16 @@ pub about_heard : (me : Actor) (p : Parcel) (e : Envelope) → IsHeard me p e �
 about_heard me p e h =
     ap (λ (a : Actor). about_envelope (envelope_for a p)) h.to ∙ ap about_envelope h.heard ∙ ap (λ (a : Actor). about_message e.from a e.message) h.receiver
 
+-- a parcel whose messages are all about nothing
+pub about_nothing : (p : Parcel) → ((m : Message) → about_message p.from p.to m ≡ None) → about p ≡ None
+about_nothing p none = by_envelope (envelope_for p.to p) refl
+  where
+    by_envelope : (o : Option Envelope) → envelope_for p.to p ≡ o → about_envelope o ≡ None
+    by_envelope None e = refl
+    by_envelope (Some x) e =
+        let h = is_heard p.to p x e in
+        (λ i. about_message (h.from i) (h.receiver i) x.message) ∙ none x.message
+
 -- ---- the source of a reply that a proxy reads
 
 -- a parcel from a replica stands for its own source
@@ -92,7 +102,7 @@ read_by g q id r J p (Replica k) (FastReply b) reply sent from is read =
     ap (λ (o : Option Id). option_flatten (stands_for g p (source p J) o)) is
     ∙ by_answer b.answer (same_id b.id id c.0)
     ∙ ap (λ (x : Option Source). cond (is_some b.answer) x None)
-    (own ∙ ap (λ (first : Option (List Record)). in_numbers g id
+    (own ∙ ap (λ (first : Option (List Record)). in_numbers
     (option_map (λ (K : List Record). record { sender = p.from; run = K }) first)) (sym (source_later p r J sent)))
     ∙ ap (λ (x : Reply). cond (is_some (answer_in x)) (in_numbers (source_of (r ∷ J) p)) None) c.1
   where

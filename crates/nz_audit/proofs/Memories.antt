@@ -185,7 +185,7 @@ decides_now g q id r J p reply source replies chosen a b e d answer after =
     ∙ ap (with_reply_noted replies) b.read in
     let by = decision_is g.f noted chosen d in
     ap (λ (o : Option (List Record)). in_numbers (option_and_then (source_at_decision g q id) o)) moment
-    ∙ ap (λ (l : List Reply). in_numbers g id
+    ∙ ap (λ (l : List Reply). in_numbers
     (option_and_then (source_of_reply g q id (r ∷ J)) (option_map (λ (c : Chosen). c.reply) (decision g.f l)))) at_last
     ∙ ap (λ (o : Option Chosen). in_numbers (option_and_then (source_of_reply g q id (r ∷ J)) (option_map (λ (c : Chosen). c.reply) o))) d
     ∙ ap (λ (o : Option Answer). cond (is_some o) (in_numbers (source_of_reply g q id (r ∷ J) chosen.reply)) None) (sym answer)

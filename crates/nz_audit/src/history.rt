@@ -7,7 +7,7 @@ ghost use Rattle.nz_machine.specs.World.{World};
 use super::executing::execute;
 use super::reading::accepted_in;
 use super::replaying::replay;
-use super::searching::search;
+use super::searching::longest_of;
 use nz_base::NoMemory;
 use nz_machine::{History, Journal};
 use std::alloc::Global;
@@ -20,7 +20,7 @@ pub fn history_of(alloc: Global, journal: &Journal) -> Result<History, NoMemory>
     ensures { IfOk result (λ history. history ≡ history_in journal.now) }
 {
     let accepted = accepted_in(alloc, journal)?;
-    let found = search(alloc, journal, accepted)?;
+    let found = longest_of(alloc, journal, accepted)?;
     match found.best {
         None => Ok(History::new(alloc)),
         Some(best) => {

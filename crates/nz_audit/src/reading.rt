@@ -19,7 +19,7 @@ ghost use Rattle.nz_audit.specs.Readings.{known_to, is_down_in, IsProxy, IsTable
 use super::noting::Noted;
 use super::proxy::ProxyNotes;
 use super::sending::{Sendings, about};
-use super::source::{Accepted, Source};
+use super::source::{AcceptedAnswer, Source};
 use indexmap::IndexMap;
 use nz_base::{Actor, Cluster, Id, NoMemory, Scenario};
 use nz_machine::{Clients, Event, Journal, Parcel, Record, Telling};
@@ -35,7 +35,7 @@ pub struct Reading {
     pub sendings: Sendings,
     pub clients: Clients,
     /// The answers that were accepted, in that order, each with where it comes from.
-    pub accepted: Vec<Accepted>,
+    pub accepted: Vec<AcceptedAnswer>,
     /// How many requests were sent.
     pub sent: u32,
 }
@@ -107,7 +107,7 @@ fn keep_about(
     requires about { sources.about parcel.now ≡ Some id }
     requires records { records ≤ length journal.now.records }
     requires proxies { (q : ℕ) → IsProxy (group_in journal.now) (run_up_to journal.now records) q (get nat_eq proxies.now q) }
-    ensures table { OnOk result ((done : List ParcelModel) (r : RecordModel) (J : List RecordModel) → run_up_to journal.now records ≡ r ∷ J
+    ensures { OnOk result ((done : List ParcelModel) (r : RecordModel) (J : List RecordModel) → run_up_to journal.now records ≡ r ∷ J
         → IsTableWith (group_in journal.now) done r J sendings.old.kept.entries
         → IsTableWith (group_in journal.now) (done ++ parcel.now ∷ []) r J sendings.new.kept.entries) }
 {
@@ -129,7 +129,7 @@ fn keep_sending(
 ) -> Result<(), NoMemory>
     requires records { records ≤ length journal.now.records }
     requires proxies { (q : ℕ) → IsProxy (group_in journal.now) (run_up_to journal.now records) q (get nat_eq proxies.now q) }
-    ensures table { OnOk result ((done : List ParcelModel) (r : RecordModel) (J : List RecordModel) → run_up_to journal.now records ≡ r ∷ J
+    ensures { OnOk result ((done : List ParcelModel) (r : RecordModel) (J : List RecordModel) → run_up_to journal.now records ≡ r ∷ J
         → IsTableWith (group_in journal.now) done r J sendings.old.kept.entries
         → IsTableWith (group_in journal.now) (done ++ parcel.now ∷ []) r J sendings.new.kept.entries) }
 {
@@ -150,7 +150,7 @@ fn keep_sendings(
 ) -> Result<(), NoMemory>
     requires records { records ≤ length journal.now.records }
     requires proxies { (q : ℕ) → IsProxy (group_in journal.now) (run_up_to journal.now records) q (get nat_eq proxies.now q) }
-    ensures table { OnOk result ((J : List RecordModel) → run_up_to journal.now records ≡ next.now ∷ J
+    ensures { OnOk result ((J : List RecordModel) → run_up_to journal.now records ≡ next.now ∷ J
         → IsTable (group_in journal.now) J sendings.old.kept.entries → IsTable (group_in journal.now) (next.now ∷ J) sendings.new.kept.entries) }
 {
     for parcel in next.sends.as_slice() {
@@ -208,11 +208,16 @@ fn act(
 }
 
 /// The accepted answer of a telling, where it has a source: the one of this place, with so many requests sent before.
-fn accepted_of(telling: &Telling, source: Option<Source>, place: usize, sent: u32) -> Option<Accepted>
+fn accepted_of(
+    telling: &Telling,
+    source: Option<Source>,
+    place: usize,
+    sent: u32,
+) -> Option<AcceptedAnswer>
     ensures { result ≡ acceptance_from telling.now.accepted source place sent }
 {
     let acceptance = telling.accepted.as_ref()?;
-    Some(Accepted {
+    Some(AcceptedAnswer {
         place,
         id: acceptance.id,
         source: source?,
@@ -221,7 +226,10 @@ fn accepted_of(telling: &Telling, source: Option<Source>, place: usize, sent: u3
 }
 
 /// Keeps the accepted answer, if there is one.
-fn keep_accepted(accepted: &mut Vec<Accepted>, next: Option<Accepted>) -> Result<(), NoMemory>
+fn keep_accepted(
+    accepted: &mut Vec<AcceptedAnswer>,
+    next: Option<AcceptedAnswer>,
+) -> Result<(), NoMemory>
     ensures { OnOk result (accepted.new.items ≡ with_accepted accepted.old.items next) }
 {
     if let Some(next) = next {
@@ -290,7 +298,7 @@ impl Reading {
 }
 
 /// The answers that were accepted in the run, each with where it comes from.
-pub fn accepted_in(alloc: Global, journal: &Journal) -> Result<Vec<Accepted>, NoMemory>
+pub fn accepted_in(alloc: Global, journal: &Journal) -> Result<Vec<AcceptedAnswer>, NoMemory>
     requires { World (group_in journal.now) (run_in journal.now) }
     ensures { IfOk result (λ accepted. AreAccepted journal.now (run_in journal.now) accepted.items) }
 {

@@ -1,6 +1,6 @@
 //! A replica as it was after some records.
 
-ghost use Rattle.std.specs.Prelude.{◌≡◌, ◌≤◌, ◌<◌, ◌∷◌, true, List, length, IfOk, IfSome, OnOk};
+ghost use Rattle.std.specs.Prelude.{◌≡◌, ◌≤◌, ◌<◌, ◌∷◌, true, List, length, IfOk, IfSome, IsTrue, OnOk};
 ghost use Rattle.nz_base.specs.Cluster.{replica_count};
 ghost use Rattle.nz_machine.specs.Journals.{group_in};
 ghost use Rattle.nz_machine.specs.State.{Group};
@@ -18,6 +18,16 @@ use std::alloc::Global;
 pub struct Replayed {
     pub core: Replica,
     pub source: Source,
+}
+
+impl Replayed {
+    /// Whether a replay of the source can go on from here: it is of the same replica, and not past the source.
+    fn leads_to(&self, source: Source) -> bool
+        ensures replica { IsTrue result → self.now.source.replica ≡ source.replica }
+        ensures records { IsTrue result → self.now.source.records ≤ source.records }
+    {
+        self.source.replica == source.replica && self.source.records <= source.records
+    }
 }
 
 /// The replica takes the record, if it is its own.
@@ -80,10 +90,12 @@ fn start_of(
     ensures records { IfOk result (λ start. start.source.records ≤ source.records) }
     ensures core { IfOk result (λ start. IsReplayed journal.now start) }
 {
-    match at {
-        Some(at) if at.source.replica == source.replica && at.source.records <= source.records => Ok(at),
-        _ => first(alloc, journal, source.replica),
+    if let Some(at) = at {
+        if at.leads_to(source) {
+            return Ok(at);
+        }
     }
+    first(alloc, journal, source.replica)
 }
 
 /// The replica as it was at the source. A replay that has not passed it goes on.

@@ -3,12 +3,12 @@
 ghost use Rattle.std.specs.Prelude.{◌≡◌, ◌++◌, ◌∷◌, [], None, List, length, IfOk, IfSome, OnOk, IsPermutation};
 ghost use Rattle.std.specs.List.{AllByRecursion};
 ghost use Rattle.nz_machine.specs.History.{cut_after};
-ghost use Rattle.nz_audit.specs.declared.source.Accepted.{Accepted as AcceptedModel};
-ghost use Rattle.nz_audit.specs.Prefixes.{may_be_longest, IsWithin, IsFound};
+ghost use Rattle.nz_audit.specs.declared.source.AcceptedAnswer.{AcceptedAnswer as AcceptedModel};
+ghost use Rattle.nz_audit.specs.Prefixes.{is_shorter, IsWithin, IsFound};
 ghost use Rattle.nz_audit.specs.Cores.{IsReplayed};
 
 use super::replaying::{Replayed, replay};
-use super::source::{Accepted, Counted, longer};
+use super::source::{AcceptedAnswer, Counted, longer};
 use nz_base::{Id, NoMemory};
 use nz_log::HashedLog;
 use nz_machine::Journal;
@@ -36,12 +36,15 @@ pub fn entries_up_to(log: &HashedLog, id: Id) -> u32
 }
 
 /// The one of the latest source.
-fn latest(accepted: &[Accepted]) -> Option<Accepted> {
-    accepted.iter().copied().max_by_key(|next| next.source.records)
+fn latest(accepted: &[AcceptedAnswer]) -> Option<AcceptedAnswer> {
+    accepted
+        .iter()
+        .copied()
+        .max_by_key(|next| next.source.records)
 }
 
 /// Those of one replica together, in the order of their sources; those of the replica with the latest one first.
-fn put_in_order(accepted: &mut Vec<Accepted>)
+fn put_in_order(accepted: &mut Vec<AcceptedAnswer>)
     ensures { IsPermutation accepted.old.items accepted.new.items }
 {
     let Some(last) = latest(accepted) else {
@@ -62,13 +65,13 @@ impl Search {
         }
     }
 
-    /// Whether the prefix may be longer than the longest so far, or as long.
-    fn may_be_longest(&self, next: &Accepted) -> bool
-        ensures { result ≡ may_be_longest self.now.best next.now }
+    /// Whether the prefix is shorter than the longest so far, since fewer requests were sent.
+    fn is_shorter(&self, next: &AcceptedAnswer) -> bool
+        ensures { result ≡ is_shorter self.now.best next.now }
     {
         match &self.best {
-            None => true,
-            Some(best) => best.entries <= next.sent,
+            None => false,
+            Some(best) => next.sent < best.entries,
         }
     }
 
@@ -77,13 +80,13 @@ impl Search {
         &mut self,
         alloc: Global,
         journal: &Journal,
-        next: &Accepted,
+        next: &AcceptedAnswer,
     ) -> Result<(), NoMemory>
         requires within { IsWithin journal.now next.now }
         requires at { IfSome self.old.at (IsReplayed journal.now) }
         ensures { OnOk result ((done : List AcceptedModel) → IsFound journal.now done self.old → IsFound journal.now (done ++ next.now ∷ []) self.new) }
     {
-        if !self.may_be_longest(next) {
+        if self.is_shorter(next) {
             return Ok(());
         }
         let at = replay(alloc, journal, self.at.take(), next.source)?;
@@ -98,20 +101,32 @@ impl Search {
     }
 }
 
-/// The longest of the prefixes. A replica is replayed once, and only if one of its prefixes may be the longest.
-pub fn search(
+/// The longest of the prefixes, which are counted in this order.
+fn longest_in(
     alloc: Global,
     journal: &Journal,
-    accepted: Vec<Accepted>,
+    accepted: &[AcceptedAnswer],
+) -> Result<Search, NoMemory>
+    requires { AllByRecursion (IsWithin journal.now) accepted.now }
+    ensures { IfOk result (λ found. IsFound journal.now accepted.now found) }
+{
+    let mut found = Search::new();
+    for next in accepted {
+        found.weigh(alloc, journal, next)?;
+    }
+    Ok(found)
+}
+
+/// The longest of the prefixes. A replica is replayed only if one of its prefixes may be the longest, and mostly once.
+pub fn longest_of(
+    alloc: Global,
+    journal: &Journal,
+    accepted: Vec<AcceptedAnswer>,
 ) -> Result<Search, NoMemory>
     requires { AllByRecursion (IsWithin journal.now) accepted.items }
     ensures { IfOk result (λ found. IsFound journal.now accepted.items found) }
 {
     let mut accepted = accepted;
     put_in_order(&mut accepted);
-    let mut found = Search::new();
-    for next in accepted.iter() {
-        found.weigh(alloc, journal, next)?;
-    }
-    Ok(found)
+    longest_in(alloc, journal, accepted.as_slice())
 }

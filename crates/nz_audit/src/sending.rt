@@ -1,6 +1,6 @@
 //! The parcels that stand for a source, each as it was sent first.
 
-ghost use Rattle.std.specs.Prelude.{◌≡◌, [], IfOk, OnOk, Some, None, IsFalse, is_some, if◌then◌else◌};
+ghost use Rattle.std.specs.Prelude.{◌≡◌, [], IfOk, OnOk, Some, None, IsTrue, is_some, if◌then◌else◌};
 ghost use Rattle.nz_msg.specs.declared.message.Message.{Message as MessageModel};
 ghost use Rattle.std.specs.Option.{option_flatten};
 ghost use Rattle.nz_machine.specs.History.{parcel_eq};
@@ -98,11 +98,11 @@ fn about_in(envelope: &Envelope) -> Option<Id>
     }
 }
 
-/// Whether a parcel of this sender and receiver may stand for a source.
-fn may_be_about(from: Actor, to: Actor) -> bool
-    ensures { IsFalse result → (m : MessageModel) → about_message from to m ≡ None }
+/// Whether no parcel of this sender and receiver stands for a source.
+fn is_about_nothing(from: Actor, to: Actor) -> bool
+    ensures { IsTrue result → (m : MessageModel) → about_message from to m ≡ None }
 {
-    matches!(
+    !matches!(
         (from, to),
         (Actor::Replica(_), Actor::Proxy(_)) | (Actor::Proxy(_), Actor::Client(_))
     )
@@ -112,7 +112,7 @@ fn may_be_about(from: Actor, to: Actor) -> bool
 pub fn about(alloc: Global, parcel: &Parcel) -> Result<Option<Id>, NoMemory>
     ensures { IfOk result (λ id. id ≡ sources.about parcel.now) }
 {
-    if !may_be_about(parcel.from, parcel.to) {
+    if is_about_nothing(parcel.from, parcel.to) {
         return Ok(None);
     }
     match heard(alloc, parcel.to, parcel)? {

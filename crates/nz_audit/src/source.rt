@@ -16,7 +16,7 @@ pub struct Source {
 
 /// An answer that was accepted, and where it comes from.
 #[derive(Clone, Copy, Debug)]
-pub struct Accepted {
+pub struct AcceptedAnswer {
     /// How many answers were accepted before.
     pub place: usize,
     pub id: Id,
@@ -28,7 +28,7 @@ pub struct Accepted {
 /// An accepted answer whose prefix was counted.
 #[derive(Clone, Copy, Debug)]
 pub struct Counted {
-    pub accepted: Accepted,
+    pub accepted: AcceptedAnswer,
     /// How many entries the replica's log had at the source, up to and with that of the request.
     pub entries: u32,
 }

@@ -5,7 +5,7 @@ ghost use Rattle.std.specs.Prelude.{◌≡◌, length, IfOk};
 use super::executing::execute;
 use super::replaying::replay_one;
 use super::searching::entries_up_to;
-use super::source::{Accepted, Counted, Source, longer};
+use super::source::{AcceptedAnswer, Counted, Source, longer};
 use nz_base::{Actor, Blob, Cluster, Id};
 use nz_machine::{Core, Event, History, Parcel, Record, Sends};
 use nz_msg::{Message, TimedBody, encode};
@@ -126,7 +126,7 @@ fn log_up_to_an_entry_is_executed(rt: HostRuntime) -> Result<(), Fail> {
 
 fn counted(place: usize, records: u32, entries: u32) -> Counted {
     Counted {
-        accepted: Accepted {
+        accepted: AcceptedAnswer {
             place,
             id: Id { client: 0, num: 1 },
             source: Source {
