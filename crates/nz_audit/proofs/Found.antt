@@ -1,5 +1,5 @@
 -- What a reading has found after a record, and what it says of the journal's history.
-use Rattle.std.proofs.Common.{◌≡◌, ℕ, zero, suc, ◌+◌, ◌<◌, ◌≤◌, List, [], ◌∷◌, ◌++◌, length, map, take, drop, reverse, Option, None, Some, refl, sym, ap, subst, ◌∙◌, inl, inr, arith, length-take}
+use Rattle.std.proofs.Common.{◌≡◌, ℕ, zero, suc, ◌+◌, ◌<◌, ◌≤◌, List, [], ◌∷◌, ◌++◌, length, map, take, drop, reverse, Option, None, Some, Result, Ok, Err, IfOk, refl, sym, ap, subst, ◌∙◌, inl, inr, arith, length-take}
 use Rattle.std.specs.Prelude.{nat_eq, slice_get, IsPermutation}
 use Rattle.std.specs.List.{AllByRecursion}
 use Rattle.std.proofs.lemmas.List.Elements.{All-from_recursion, recursion_from_All}
@@ -120,3 +120,8 @@ found_permuted journal xs ys s same h = record { at = h.at; best = by_best s.bes
       among = all_has (Has xs) ys b.accepted (all_permuted (Has xs) xs ys same (has_itself xs)) best.among;
       beats = all_permuted (IsNoLonger journal b) ys xs back best.beats;
     }
+
+pub found_in_order : {E : Type 0} (journal : Journal) (xs ys zs : List AcceptedAnswer) (r : Result Search E) → IsPermutation xs ys → zs ≡ ys
+    → IfOk r (λ s. IsFound journal zs s) → IfOk r (λ s. IsFound journal xs s)
+found_in_order journal xs ys zs (Ok s) same is h = found_permuted journal xs ys s same (subst (λ (l : List AcceptedAnswer). IsFound journal l s) is h)
+found_in_order journal xs ys zs (Err e) same is h = tt

@@ -12,8 +12,8 @@ use Rattle.nz_audit.proofs.Longest.{first_of_all}
 use Rattle.nz_audit.proofs.Found.{log_replayed, log_taken, within_log, nothing_accepted}
 use Rattle.nz_audit.proofs.history.history_of.Goals as goal
 
-pub returns-in_ok-found-in-None : goal.returns-in_ok-found-in-None
-returns-in_ok-found-in-None c =
+pub returns-in-None : goal.returns-in-None
+returns-in-None c =
     let j = c.args.journal.now in
     let none = subst (IsBestIfAny j c.in_ok-accepted.accepted.items) c.in-None.is c.in_ok-found.ensures.best in
     c.new.ensures ∙ sym (ap executed_entries (nothing_accepted j (run_in j) c.in_ok-accepted.accepted.items c.in_ok-accepted.ensures none))

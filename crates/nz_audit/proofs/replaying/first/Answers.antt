@@ -6,7 +6,7 @@ use Rattle.nz_audit.specs.Cores.{IsCore}
 use Rattle.nz_audit.proofs.Replays.{core_first}
 use Rattle.nz_audit.proofs.replaying.first.Goals as goal
 
-pub returns-in_ok-new-clause-core : goal.returns-in_ok-new-clause-core
-returns-in_ok-new-clause-core c =
+pub returns-clause-core : goal.returns-clause-core
+returns-clause-core c =
     let g = group_in c.args.journal.now in
     subst (λ (x : ReplicaCore). IsCore g [] c.args.replica x) (sym c.in_ok-new.ensures) (core_first g c.args.replica)
