@@ -1,9 +1,10 @@
 -- An acceptance leads to its prefix, and the longest of them to the history.
-use Rattle.std.proofs.Common.{◌≡◌, ℕ, suc, ◌+◌, ◌-◌, ◌<◌, Bool, true, false, cond, List, [], ◌∷◌, ◌++◌, length, take}
+use Rattle.std.proofs.Common.{◌≡◌, ℕ, suc, ◌+◌, ◌-◌, ◌<◌, Bool, true, false, cond, List, [], ◌∷◌, ◌++◌, length, map, append_assoc}
 use Rattle.std.proofs.Common.{zero, Option, Some, None, refl, sym, ap, subst, ◌∙◌, arith, lt-ltb, ltb-true}
 use Rattle.std.specs.Prelude.{nat_lt}
 use Rattle.std.specs.Option.{option_map, option_and_then, option_flatten}
 use Rattle.std.proofs.lemmas.Bool.{cond_both}
+use Rattle.std.proofs.lemmas.List.{map-append}
 use Rattle.nz_base.specs.declared.actor.Actor.{Actor}
 use Rattle.nz_base.specs.declared.actor.Actor.TheVariants.{Replica, Proxy, Client}
 use Rattle.nz_base.specs.declared.key.Id.{Id}
@@ -18,94 +19,79 @@ use Rattle.nz_machine.specs.declared.event.Event.{Event}
 use Rattle.nz_machine.specs.declared.event.Event.TheVariants.{Deliver, Cut, Tick, Alarm, Crash, Restart}
 use Rattle.nz_machine.specs.declared.event.Parcel.{Parcel}
 use Rattle.nz_machine.specs.declared.event.Record.{Record}
+use Rattle.nz_machine.specs.declared.journal.Journal.{Journal}
+use Rattle.nz_machine.specs.Journals.{group_in, run_in}
 use Rattle.nz_machine.specs.declared.client_progress.Acceptance.{Acceptance}
 use Rattle.nz_machine.specs.declared.client_progress.Telling.{Telling}
 use Rattle.nz_machine.specs.State.{ClientData, Group}
 use Rattle.nz_machine.specs.Step.{accepted_envelope, envelope_step, event_step, script_of}
 use Rattle.nz_machine.specs.World.{state_after, World, IsMember}
-use Rattle.nz_machine.specs.Events.{ClientEvent, Accepted, id_at, read_in, accepted_in, accepted_by, sent_after, sent_by, client_events}
+use Rattle.nz_machine.specs.Events.{ClientEvent, Accepted, id_at, read_in, accepted_in, accepted_by, sent_after, sent_by, client_events, events}
 use Rattle.nz_machine.specs.ClientProgress.{acceptance_events, request_events, events_of_telling}
 use Rattle.nz_machine.specs.History.{ReplySource, source, log_at, cut_at, cut_after, source_of_sender, accepted_source}
 use Rattle.nz_machine.specs.History.{prefix_at_source, accepted_prefix, entries_or, prefix_in, longer, history}
+use Rattle.nz_machine.proofs.EachItem.{all_append}
+use Rattle.nz_machine.proofs.Moments.{at_world}
 use Rattle.nz_machine.proofs.Runs.{acts_itself}
 use Rattle.nz_machine.proofs.Accepting.{client_accepts}
 use Rattle.nz_audit.specs.declared.source.Source.{Source}
 use Rattle.nz_audit.specs.declared.sending.ParcelKey.{ParcelKey}
-use Rattle.nz_audit.specs.Sources.{first_longest, numbers_of, in_numbers, about_message, about, source_sent, stands_for, kept_of, source_delivered, source_told}
-use Rattle.nz_audit.specs.Readings.{IsTable, LeadsTo, LeadsToIfAny}
+use Rattle.nz_audit.specs.Sources.{numbers_of, in_numbers, about_message, about, source_sent, stands_for, kept_of, source_delivered, source_told}
+use Rattle.nz_audit.specs.Cores.{run_up_to}
+use Rattle.nz_audit.specs.Prefixes.{prefix_for, longest_from, requests_sent, IsWithin, AreAccepted, acceptance_from, with_accepted}
+use Rattle.nz_audit.specs.Readings.{IsTable}
+use Rattle.nz_audit.specs.declared.source.AcceptedAnswer.{AcceptedAnswer}
+use Rattle.nz_audit.proofs.Runs.{run_named, run_within}
+use Rattle.nz_audit.proofs.Longest.{longer_stays, longest_append, numbered_more}
+use Rattle.nz_audit.proofs.Sent.{prefix_few}
 use Rattle.nz_audit.proofs.Hearing.{is_received, about_heard}
 use Rattle.nz_audit.proofs.Reached.{accepted_reached, at_later}
 
--- ---- the longest so far
+-- ---- an accepted answer with its source
 
-leads_later : (g : Group) (r : Record) (J : List Record) (es : List Entry) (s : Source) → LeadsTo g J es s → LeadsTo g (r ∷ J) es s
-leads_later g r J es s h =
+-- What is noted gives the prefix: nothing where there is none.
+pub record GivesOne (journal : Journal) (place : ℕ) (P : List Entry) (a : AcceptedAnswer) : Type 0 where
+  pub prefix : P ≡ prefix_for journal a
+  pub within : IsWithin journal a
+  pub at : a.place ≡ place
+
+abbrev pub Gives : Journal → ℕ → List Entry → Option AcceptedAnswer → Type 0
+Gives journal place P None = P ≡ []
+Gives journal place P (Some a) = GivesOne journal place P a
+
+-- the records of a run up to a moment
+record IsPart (journal : Journal) (J : List Record) : Type 0 where
+  newer : List Record
+  whole : run_in journal ≡ newer ++ J
+
+from_sender : (journal : Journal) (J later K : List Record) (x : Acceptance) (place sent : ℕ) (a : Actor) → IsPart journal J → J ≡ later ++ K
+    → World (group_in journal) K → IsMember (group_in journal) a → sent ≡ requests_sent (events (group_in journal) J)
+    → Gives journal place (cut_after x.id (log_at (group_in journal) a K)) (acceptance_from (Some x) (numbers_of a K) place sent)
+from_sender journal J later K x place sent (Replica m) part split w member count =
+    let g = group_in journal in
+    let whole : run_in journal ≡ (part.newer ++ later) ++ K =
+    part.whole ∙ ap (λ (l : List Record). part.newer ++ l) split ∙ sym (append_assoc part.newer later K) in
+    let run = run_named journal (part.newer ++ later) K (length K) whole refl in
+    let few = prefix_few g J later K m x.id w split in
+    let long : length (cut_after x.id (log_at g (Replica m) (run_up_to journal (length K)))) ≡ length (cut_after x.id (log_at g (Replica m) K)) =
+    ap (λ (l : List Record). length (cut_after x.id (log_at g (Replica m) l))) (sym run) in
     record {
-      later = r ∷ h.later;
-      run = h.run;
-      at = ap (λ (x : List Record). r ∷ x) h.at;
-      records = h.records;
-      replica = h.replica;
-      count = h.count;
-      prefix = h.prefix;
+      prefix = ap (λ (l : List Record). cut_after x.id (log_at g (Replica m) l)) run;
+      within = record { replica = member; records = run_within journal (part.newer ++ later) K (length K) whole refl; sent = omega (arith, few, long, count) };
+      at = refl;
     }
+from_sender journal J later K x place sent (Proxy p) part split w member count = refl
+from_sender journal J later K x place sent (Client c) part split w member count = refl
 
-none_is_longer : (old : List Entry) → longer old [] ≡ old
-none_is_longer old = cond_both (nat_lt (length old) 0) [] old (λ (x : List Entry). x ≡ old) (λ t. absurd (omega (arith, ltb-true (length old) 0 t))) (λ _. refl)
-
-any_is_longer : (new : List Entry) → longer [] new ≡ new
-any_is_longer [] = refl
-any_is_longer (e ∷ new) = ap (λ b. cond b (e ∷ new) []) (lt-ltb 0 (suc (length new)) (omega arith))
-
-longest_by : (g : Group) (J : List Record) (old new : List Entry) (s t : Source) (b : Bool)
-    → nat_lt (length old) (length new) ≡ b → LeadsTo g J old s → LeadsTo g J new t → LeadsToIfAny g J (cond b new old) (cond b (Some t) (Some s))
-longest_by g J old new s t true e h k = k
-longest_by g J old new s t false e h k = h
-
-pub longest_then : (g : Group) (r : Record) (J : List Record) (old new : List Entry) (best next : Option Source)
-    → LeadsToIfAny g J old best → LeadsToIfAny g (r ∷ J) new next → LeadsToIfAny g (r ∷ J) (longer old new) (first_longest best next)
-longest_then g r J old new None next h k =
-    subst (λ (x : List Entry). LeadsToIfAny g (r ∷ J) x next) (sym (ap (λ (x : List Entry). longer x new) h ∙ any_is_longer new)) k
-longest_then g r J old new (Some s) None h k =
-    subst (λ (x : List Entry). LeadsTo g (r ∷ J) x s) (sym (ap (longer old) k ∙ none_is_longer old)) (leads_later g r J old s h)
-longest_then g r J old new (Some s) (Some t) h k =
-    let same : nat_lt s.entries t.entries ≡ nat_lt (length old) (length new) = λ i. nat_lt (h.count i) (k.count i) in
-    subst (λ b. LeadsToIfAny g (r ∷ J) (longer old new) (cond b (Some t) (Some s))) (sym same)
-    (longest_by g (r ∷ J) old new s t (nat_lt (length old) (length new)) refl (leads_later g r J old s h) k)
-
--- ---- a prefix, in numbers
-
-cut_is : (log : List Entry) (o : Option ℕ) → cut_at o log ≡ take (length (cut_at o log)) log
-cut_is log None = refl
-cut_is log (Some place) = cut_so (suc place) log
-  where
-    cut_so : (n : ℕ) (es : List Entry) → take n es ≡ take (length (take n es)) es
-    cut_so zero es = refl
-    cut_so (suc n) [] = refl
-    cut_so (suc n) (e ∷ es) = ap (λ (l : List Entry). e ∷ l) (cut_so n es)
-
-leads_at : (g : Group) (J : List Record) (id : Id) (a : Actor) (K later : List Record) → J ≡ later ++ K → IsMember g a
-    → LeadsToIfAny g J (cut_after id (log_at g a K)) (numbers_of g id a K)
-leads_at g J id (Replica m) K later at member =
-    record {
-      later = later;
-      run = K;
-      at = at;
-      records = refl;
-      replica = member;
-      count = refl;
-      prefix = cut_is (log_at g (Replica m) K) (place_of (log_at g (Replica m) K) id);
-    }
-leads_at g J id (Proxy p) K later at member = refl
-leads_at g J id (Client c) K later at member = refl
-
-leads_back : (g : Group) (r : Record) (J : List Record) (id : Id) (p : Parcel) (o : Option ReplySource) → World g J
-    → accepted_source g id p J ≡ o → LeadsToIfAny g (r ∷ J) (entries_or (option_map (prefix_at_source g id) o)) (in_numbers g id o)
-leads_back g r J id p None w e = refl
-leads_back g r J id p (Some at) w e =
-    let h = accepted_reached g id p J at w e in
+from_source : (journal : Journal) (J : List Record) (x : Acceptance) (place sent : ℕ) (p : Parcel) (o : Option ReplySource) → IsPart journal J
+    → World (group_in journal) J → sent ≡ requests_sent (events (group_in journal) J) → accepted_source (group_in journal) x.id p J ≡ o
+    → Gives journal place (entries_or (option_map (prefix_at_source (group_in journal) x.id) o)) (acceptance_from (Some x) (in_numbers o) place sent)
+from_source journal J x place sent p None part w count e = refl
+from_source journal J x place sent p (Some at) part w count e =
+    let g = group_in journal in
+    let h = accepted_reached g x.id p J at w e in
     let t = at_later J at.run h.moment in
-    leads_at g (r ∷ J) id at.sender at.run (r ∷ t.0) (ap (λ (x : List Record). r ∷ x) t.1) h.member
+    from_sender journal J t.0 at.run x place sent at.sender part t.1 (at_world g J at.run w h.moment) h.member count
 
 -- ---- which request an accepted answer is to
 
@@ -174,13 +160,13 @@ told_by_actor g (Proxy q) r J p id by is h = absurd h
 -- ---- what a record adds
 
 answer_stands_for : (g : Group) (id : Id) (p : Parcel) (q : ℕ) (first : Option (List Record)) → p.from ≡ Proxy q
-    → option_flatten (option_map (source_sent g id p.from) first) ≡ in_numbers g id (option_and_then (source_of_sender g id p.from) first)
+    → option_flatten (option_map (source_sent g id p.from) first) ≡ in_numbers (option_and_then (source_of_sender g id p.from) first)
 answer_stands_for g id p q None from = refl
 answer_stands_for g id p q (Some K) from =
-    ap (λ (a : Actor). source_sent g id a K) from ∙ sym (ap (λ (a : Actor). in_numbers g id (source_of_sender g id a K)) from)
+    ap (λ (a : Actor). source_sent g id a K) from ∙ sym (ap (λ (a : Actor). in_numbers (source_of_sender g id a K)) from)
 
 source_is_accepted : (g : Group) (J : List Record) (p : Parcel) (id : Id) (table : List (ParcelKey × Option Source))
-    → IsTable g J table → IsTold p id → option_flatten (kept_of table p) ≡ in_numbers g id (accepted_source g id p J)
+    → IsTable g J table → IsTold p id → option_flatten (kept_of table p) ≡ in_numbers (accepted_source g id p J)
 source_is_accepted g J p id table h told =
     ap option_flatten (h.exact p) ∙ ap (λ (o : Option Id). option_flatten (stands_for g p (source p J) o)) told.about
     ∙ answer_stands_for g id p told.proxy (source p J) told.from
@@ -189,31 +175,63 @@ no_prefix : (g : Group) (sent : List Id) (e : Event) (J : List Record) → prefi
 no_prefix g [] e J = refl
 no_prefix g (id ∷ ids) e J = refl
 
-accepts_at : (g : Group) (r : Record) (J : List Record) (a : Acceptance) (rest : List ClientEvent)
-    (table : List (ParcelKey × Option Source)) (e : Event) → World g (r ∷ J) → r.event ≡ e
-    → Accepted a.id a.answer a.path ∷ rest ≡ client_events g r.actor r J → IsTable g J table
-    → LeadsToIfAny g (r ∷ J) (prefix_in g (Accepted a.id a.answer a.path ∷ rest) e J) (source_delivered table e)
-accepts_at g r J a rest table (Deliver p) w is told h =
+accepts_at : (journal : Journal) (r : Record) (J : List Record) (a : Acceptance) (rest : List ClientEvent)
+    (table : List (ParcelKey × Option Source)) (place sent : ℕ) (e : Event) → World (group_in journal) (r ∷ J) → IsPart journal J → r.event ≡ e
+    → Accepted a.id a.answer a.path ∷ rest ≡ client_events (group_in journal) r.actor r J → IsTable (group_in journal) J table
+    → sent ≡ requests_sent (events (group_in journal) J)
+    → Gives journal place (prefix_in (group_in journal) (Accepted a.id a.answer a.path ∷ rest) e J)
+    (acceptance_from (Some a) (source_delivered table e) place sent)
+accepts_at journal r J a rest table place sent (Deliver p) w part is told h count =
+    let g = group_in journal in
     let begins = told_by_actor g r.actor r J p a.id refl is (subst (λ (l : List ClientEvent). Begins l a.id) told refl) in
-    subst (LeadsToIfAny g (r ∷ J) (entries_or (accepted_prefix g a.id p J)))
-    (sym (source_is_accepted g J p a.id table h begins)) (leads_back g r J a.id p (accepted_source g a.id p J) w.1 refl)
-accepts_at g r J a rest table (Cut p kept) w is told h = refl
-accepts_at g r J a rest table (Tick clock) w is told h = refl
-accepts_at g r J a rest table Alarm w is told h = refl
-accepts_at g r J a rest table Crash w is told h = refl
-accepts_at g r J a rest table (Restart nonce) w is told h = refl
+    subst (λ (s : Option Source). Gives journal place (entries_or (accepted_prefix g a.id p J)) (acceptance_from (Some a) s place sent))
+    (sym (source_is_accepted g J p a.id table h begins)) (from_source journal J a place sent p (accepted_source g a.id p J) part w.1 count refl)
+accepts_at journal r J a rest table place sent (Cut p kept) w part is told h count = refl
+accepts_at journal r J a rest table place sent (Tick clock) w part is told h count = refl
+accepts_at journal r J a rest table place sent Alarm w part is told h count = refl
+accepts_at journal r J a rest table place sent Crash w part is told h count = refl
+accepts_at journal r J a rest table place sent (Restart nonce) w part is told h count = refl
 
-tells_at : (g : Group) (r : Record) (J : List Record) (accepted : Option Acceptance) (sent : List Id) (table : List (ParcelKey × Option Source))
-    → World g (r ∷ J) → acceptance_events accepted ++ request_events g sent ≡ client_events g r.actor r J → IsTable g J table
-    → LeadsToIfAny g (r ∷ J) (prefix_in g (acceptance_events accepted ++ request_events g sent) r.event J) (source_told table accepted r.event)
-tells_at g r J None sent table w told h = no_prefix g sent r.event J
-tells_at g r J (Some a) sent table w told h = accepts_at g r J a (request_events g sent) table r.event w refl told h
+tells_at : (journal : Journal) (r : Record) (J : List Record) (accepted : Option Acceptance) (ids : List Id)
+    (table : List (ParcelKey × Option Source)) (place sent : ℕ) → World (group_in journal) (r ∷ J) → IsPart journal J
+    → acceptance_events accepted ++ request_events (group_in journal) ids ≡ client_events (group_in journal) r.actor r J
+    → IsTable (group_in journal) J table → sent ≡ requests_sent (events (group_in journal) J)
+    → Gives journal place (prefix_in (group_in journal) (acceptance_events accepted ++ request_events (group_in journal) ids) r.event J)
+    (acceptance_from accepted (source_told table accepted r.event) place sent)
+tells_at journal r J None ids table place sent w part told h count = no_prefix (group_in journal) ids r.event J
+tells_at journal r J (Some a) ids table place sent w part told h count =
+    accepts_at journal r J a (request_events (group_in journal) ids) table place sent r.event w part refl told h count
 
-pub history_then : (g : Group) (r : Record) (J : List Record) (t : Telling) (table : List (ParcelKey × Option Source)) (best : Option Source)
-    → World g (r ∷ J) → events_of_telling g t ≡ client_events g r.actor r J → IsTable g J table → LeadsToIfAny g J (history g J) best
-    → LeadsToIfAny g (r ∷ J) (history g (r ∷ J)) (first_longest best (source_told table t.accepted r.event))
-history_then g r J t table best w told h so_far =
-    subst (λ (l : List ClientEvent). LeadsToIfAny g (r ∷ J) (longer (history g J) (prefix_in g l r.event J))
-    (first_longest best (source_told table t.accepted r.event))) told
-    (longest_then g r J (history g J) (prefix_in g (events_of_telling g t) r.event J) best
-    (source_told table t.accepted r.event) so_far (tells_at g r J t.accepted t.sent table w told h))
+-- ---- one record more
+
+accepted_more : (journal : Journal) (r : Record) (J : List Record) (P : List Entry) (accepted : List AcceptedAnswer) (o : Option AcceptedAnswer)
+    → history (group_in journal) (r ∷ J) ≡ longer (history (group_in journal) J) P → AreAccepted journal J accepted → Gives journal (length accepted) P o
+    → AreAccepted journal (r ∷ J) (with_accepted accepted o)
+accepted_more journal r J P accepted None then h none = record {
+  longest = then ∙ ap (longer (history (group_in journal) J)) none ∙ longer_stays (history (group_in journal) J) [] (omega arith) ∙ h.longest;
+  places = h.places;
+  within = h.within;
+}
+accepted_more journal r J P accepted (Some a) then h one =
+    let prefixes = map (prefix_for journal) accepted in
+    let last : a.place ≡ 0 + length accepted = let at = one.at in omega (arith, at) in
+    record {
+      longest =
+          then ∙ (λ i. longer (h.longest i) (one.prefix i)) ∙ sym (longest_append [] prefixes (prefix_for journal a))
+          ∙ ap (longest_from []) (sym (map-append (prefix_for journal) accepted (a ∷ [])));
+      places = numbered_more 0 accepted a h.places last;
+      within = all_append (IsWithin journal) accepted (a ∷ []) h.within (one.within, tt);
+    }
+
+pub accepted_then : (journal : Journal) (r : Record) (newer J : List Record) (t : Telling) (table : List (ParcelKey × Option Source))
+    (accepted : List AcceptedAnswer) (sent : ℕ) → World (group_in journal) (r ∷ J) → run_in journal ≡ newer ++ (r ∷ J)
+    → events_of_telling (group_in journal) t ≡ client_events (group_in journal) r.actor r J
+    → IsTable (group_in journal) J table → sent ≡ requests_sent (events (group_in journal) J) → AreAccepted journal J accepted
+    → AreAccepted journal (r ∷ J) (with_accepted accepted (acceptance_from t.accepted (source_told table t.accepted r.event) (length accepted) sent))
+accepted_then journal r newer J t table accepted sent w whole told h count so_far =
+    let g = group_in journal in
+    let part : IsPart journal J = record { newer = newer ++ r ∷ []; whole = whole ∙ sym (append_assoc newer (r ∷ []) J) } in
+    accepted_more journal r J (prefix_in g (events_of_telling g t) r.event J) accepted
+    (acceptance_from t.accepted (source_told table t.accepted r.event) (length accepted) sent)
+    (ap (λ (l : List ClientEvent). longer (history g J) (prefix_in g l r.event J)) (sym told)) so_far
+    (tells_at journal r J t.accepted t.sent table (length accepted) sent w part told h count)

@@ -1,6 +1,6 @@
 -- What a reading has found stays true as it takes one more record.
 use Rattle.std.proofs.Common.{◌≡◌, ℕ, zero, suc, ◌+◌, ◌<◌, ◌≤◌, false, eqb, List, [], ◌∷◌, ◌++◌, length, take, reverse, get_or}
-use Rattle.std.proofs.Common.{Option, Some, None, Result, Ok, Err, refl, sym, ap, subst, ◌∙◌, inl, inr, arith, eqb-true}
+use Rattle.std.proofs.Common.{Option, Some, None, Result, Ok, Err, refl, sym, ap, subst, ◌∙◌, inl, inr, arith, eqb-true, length-take}
 use Rattle.std.proofs.lemmas.Bool.{cases_Bool}
 use Rattle.std.specs.Prelude.{OnOk}
 use Rattle.std.specs.Option.{option_and_then, option_flatten}
@@ -17,18 +17,17 @@ use Rattle.nz_machine.specs.declared.journal.Journal.{Journal}
 use Rattle.nz_machine.specs.Journals.{run_in}
 use Rattle.nz_machine.specs.State.{ProxyData, Standing, Open, Decided, Group}
 use Rattle.nz_machine.specs.Proxies.{standing_of}
-use Rattle.nz_machine.specs.World.{state_after, World, Has, IsMember}
+use Rattle.nz_machine.specs.World.{state_after, World}
 use Rattle.nz_machine.specs.History.{standing_after, source_of_sender, is_decided, source_at_decision}
-use Rattle.nz_machine.proofs.Runs.{stays, sent_by}
-use Rattle.nz_replica.specs.Models.{ReplicaCore}
+use Rattle.nz_machine.proofs.Runs.{stays}
 use Rattle.nz_audit.specs.declared.source.Source.{Source}
 use Rattle.nz_audit.specs.declared.proxy.ProxyNotes.{ProxyNotes}
 use Rattle.nz_audit.specs.declared.sending.ParcelKey.{ParcelKey}
 use Rattle.nz_audit.specs.Sources.{in_numbers, about, stands_for, source_sent, source_delivered}
 use Rattle.nz_audit.specs.Noting.{after_event, down_after, decided_in, IsSized}
 use Rattle.nz_audit.specs.Memories.{memory_of}
-use Rattle.nz_audit.specs.Cores.{IsCoreIfAny, run_up_to}
-use Rattle.nz_audit.specs.Readings.{IsLive, known_to, is_down_in, IsProxy, IsTable}
+use Rattle.nz_audit.specs.Cores.{run_up_to}
+use Rattle.nz_audit.specs.Readings.{known_to, is_down_in, IsProxy, IsTable}
 use Rattle.nz_audit.proofs.Memories.{memory_stays, no_decision}
 use Rattle.nz_audit.proofs.Events.{source_in, memory_after, down_then}
 
@@ -96,11 +95,11 @@ pub sized_by : (g : Group) (q : ℕ) (id : Id) (J : List Record) (notes : Option
 sized_by g q id J notes h = subst (IsSized g.f) (sym (h.known id)) (sized_of g q id J (standing_after g q id J))
 
 decided_of : (g : Group) (q : ℕ) (id : Id) (J : List Record) (o : Option Standing) → standing_after g q id J ≡ o
-    → decided_in (memory_of g q id J o) ≡ in_numbers g id (source_of_sender g id (Proxy q) J)
+    → decided_in (memory_of g q id J o) ≡ in_numbers (source_of_sender g id (Proxy q) J)
 decided_of g q id J None e =
-    ap (λ (m : Option (List Record)). in_numbers g id (option_and_then (source_at_decision g q id) m)) (sym (no_decision g q id J (ap is_decided e)))
+    ap (λ (m : Option (List Record)). in_numbers (option_and_then (source_at_decision g q id) m)) (sym (no_decision g q id J (ap is_decided e)))
 decided_of g q id J (Some (Open replies)) e =
-    ap (λ (m : Option (List Record)). in_numbers g id (option_and_then (source_at_decision g q id) m)) (sym (no_decision g q id J (ap is_decided e)))
+    ap (λ (m : Option (List Record)). in_numbers (option_and_then (source_at_decision g q id) m)) (sym (no_decision g q id J (ap is_decided e)))
 decided_of g q id J (Some (Decided a p)) e = refl
 
 pub decided_by : (g : Group) (q : ℕ) (id : Id) (J : List Record) (notes : Option ProxyNotes) (s : Option Source)
@@ -108,26 +107,6 @@ pub decided_by : (g : Group) (q : ℕ) (id : Id) (J : List Record) (notes : Opti
 decided_by g q id J notes s h is =
     is ∙ ap decided_in (h.known id) ∙ ap (λ (o : Option Standing). decided_in (memory_of g q id J o)) refl
     ∙ decided_of g q id J (standing_after g q id J) refl
-
--- ---- members
-
-pub live_by : (g : Group) (k : ℕ) (J : List Record) (o : Option ReplicaCore) → IsCoreIfAny g J k o → IsLive o
-live_by g k J None h = tt
-live_by g k J (Some core) h = h.live
-
-pub sender_member : (g : Group) (r : Record) (J : List Record) (p : Parcel) → World g (r ∷ J) → Has r.sends p → IsMember g p.from
-sender_member g r J p w h = let by = sent_by g r J p w h in subst (IsMember g) (sym (ap (λ (x : Parcel). x.from) by.is)) w.0.member
-
-pub has_at : {X : Type 0} (xs : List X) (i : ℕ) (x : X) → i < length xs → x ≡ get_or xs i x → Has xs x
-has_at [] i x lt is = absurd (omega (arith, lt))
-has_at (y ∷ xs) zero x lt is = inl (sym is)
-has_at (y ∷ xs) (suc i) x lt is = inr (has_at xs i x (omega (arith, lt)) is)
-
-pub take_all : {X : Type 0} (xs : List X) (n : ℕ) → length xs ≤ n → take n xs ≡ xs
-take_all [] zero le = refl
-take_all [] (suc n) le = refl
-take_all (x ∷ xs) zero le = absurd (omega (arith, le))
-take_all (x ∷ xs) (suc n) le = ap (λ (l : List _). x ∷ l) (take_all xs n (omega (arith, le)))
 
 -- ---- before the first record
 
@@ -141,24 +120,3 @@ table_first g = record { exact = λ p. nothing p (about p) }
     nothing : (p : Parcel) (o : Option Id) → None ≡ stands_for g p None o
     nothing p None = refl
     nothing p (Some id) = refl
-
--- ---- the run that a source names
-
-take_some : {X : Type 0} (xs ys : List X) → take (length xs) (xs ++ ys) ≡ xs
-take_some [] [] = refl
-take_some [] (y ∷ ys) = refl
-take_some (x ∷ xs) ys = ap (λ (l : List _). x ∷ l) (take_some xs ys)
-
-pub run_named : (journal : Journal) (later run : List Record) (n : ℕ) → run_in journal ≡ later ++ run → n ≡ length run → run ≡ run_up_to journal n
-run_named journal later run n at is =
-    let R = journal.records in
-    let split : R ≡ reverse run ++ reverse later = sym (reverse-reverse R) ∙ ap reverse at ∙ reverse-append later run in
-    let count : n ≡ length (reverse run) = is ∙ sym (length-reverse run) in
-    sym (reverse-reverse run) ∙ ap reverse (sym ((λ i. take (count i) (split i)) ∙ take_some (reverse run) (reverse later)))
-
-pub run_within : (journal : Journal) (later run : List Record) (n : ℕ) → run_in journal ≡ later ++ run → n ≡ length run → n ≤ length journal.records
-run_within journal later run n at is =
-    let a = length-reverse journal.records in
-    let b : length (run_in journal) ≡ length (later ++ run) = ap length at in
-    let d = length-append later run in
-    omega (arith, a, b, d, is)

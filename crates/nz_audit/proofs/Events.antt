@@ -36,7 +36,7 @@ use Rattle.nz_audit.proofs.Hearing.{source_read}
 abbrev pub IsFrom : Group → ℕ → Id → Record → List Record → Parcel → Option Source → Type 0
 IsFrom g q id r J p source =
     (reply : Reply) → reply_read id (read_in g (Proxy q) r.event) ≡ Some reply
-    → source ≡ cond (is_some (answer_in reply)) (in_numbers g id (source_of (r ∷ J) p)) None
+    → source ≡ cond (is_some (answer_in reply)) (in_numbers (source_of (r ∷ J) p)) None
 
 -- ---- a message
 
@@ -128,7 +128,7 @@ event_by g q id r J source (Deliver p) w is from after =
       where
         heard : (o : Option Envelope) → accepted_envelope g.f (Proxy q) p ≡ o → reply_read id o ≡ Some reply
             → option_flatten (stands_for g p (history.source p J) (about p))
-            ≡ cond (is_some (answer_in reply)) (in_numbers g id (source_of (r ∷ J) p)) None
+            ≡ cond (is_some (answer_in reply)) (in_numbers (source_of (r ∷ J) p)) None
         heard None h k = absurd (none-some reply k)
         heard (Some e) h k = source_read g q id r J p e reply sent h k
 event_by g q id r J source (Cut p kept) w is from after = memory_stays g q id r J after

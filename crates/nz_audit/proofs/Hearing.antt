@@ -71,30 +71,40 @@ pub about_heard : (me : Actor) (p : Parcel) (e : Envelope) → IsHeard me p e �
 about_heard me p e h =
     ap (λ (a : Actor). about_envelope (envelope_for a p)) h.to ∙ ap about_envelope h.heard ∙ ap (λ (a : Actor). about_message e.from a e.message) h.receiver
 
+-- a parcel whose messages are all about nothing
+pub about_nothing : (p : Parcel) → ((m : Message) → about_message p.from p.to m ≡ None) → about p ≡ None
+about_nothing p none = by_envelope (envelope_for p.to p) refl
+  where
+    by_envelope : (o : Option Envelope) → envelope_for p.to p ≡ o → about_envelope o ≡ None
+    by_envelope None e = refl
+    by_envelope (Some x) e =
+        let h = is_heard p.to p x e in
+        (λ i. about_message (h.from i) (h.receiver i) x.message) ∙ none x.message
+
 -- ---- the source of a reply that a proxy reads
 
 -- a parcel from a replica stands for its own source
 own_source : (g : Group) (id : Id) (p : Parcel) (k : ℕ) (first : Option (List Record)) → p.from ≡ Replica k
     → option_flatten (option_map (source_sent g id p.from) first)
-    ≡ in_numbers g id (option_map (λ (K : List Record). record { sender = p.from; run = K }) first)
+    ≡ in_numbers (option_map (λ (K : List Record). record { sender = p.from; run = K }) first)
 own_source g id p k None from = refl
-own_source g id p k (Some K) from = ap (λ (a : Actor). source_sent g id a K) from ∙ sym (ap (λ (a : Actor). numbers_of g id a K) from)
+own_source g id p k (Some K) from = ap (λ (a : Actor). source_sent g id a K) from ∙ sym (ap (λ (a : Actor). numbers_of a K) from)
 
 source_later : (p : Parcel) (r : Record) (J : List Record) → Has (sent_in J) p → source p (r ∷ J) ≡ source p J
 source_later p r J sent = let s = has_source p J sent in source_stays p r J s.0 s.1 ∙ sym s.1
 
 read_by : (g : Group) (q : ℕ) (id : Id) (r : Record) (J : List Record) (p : Parcel) (from : Actor) (m : Message) (reply : Reply)
     → Has (sent_in J) p → p.from ≡ from → about p ≡ about_message from (Proxy q) m → reply_in id from m ≡ Some reply
-    → option_flatten (stands_for g p (source p J) (about p)) ≡ cond (is_some (answer_in reply)) (in_numbers g id (source_of (r ∷ J) p)) None
+    → option_flatten (stands_for g p (source p J) (about p)) ≡ cond (is_some (answer_in reply)) (in_numbers (source_of (r ∷ J) p)) None
 read_by g q id r J p (Replica k) (FastReply b) reply sent from is read =
     let c = cond_some (id_eq b.id id) (of_fast k b) reply read in
     let own = own_source g id p k (source p J) from in
     ap (λ (o : Option Id). option_flatten (stands_for g p (source p J) o)) is
     ∙ by_answer b.answer (same_id b.id id c.0)
     ∙ ap (λ (x : Option Source). cond (is_some b.answer) x None)
-    (own ∙ ap (λ (first : Option (List Record)). in_numbers g id
+    (own ∙ ap (λ (first : Option (List Record)). in_numbers
     (option_map (λ (K : List Record). record { sender = p.from; run = K }) first)) (sym (source_later p r J sent)))
-    ∙ ap (λ (x : Reply). cond (is_some (answer_in x)) (in_numbers g id (source_of (r ∷ J) p)) None) c.1
+    ∙ ap (λ (x : Reply). cond (is_some (answer_in x)) (in_numbers (source_of (r ∷ J) p)) None) c.1
   where
     by_answer : (o : Option Answer) → b.id ≡ id
         → option_flatten (stands_for g p (source p J) (cond (is_some o) (Some b.id) None))
@@ -104,12 +114,12 @@ read_by g q id r J p (Replica k) (FastReply b) reply sent from is read =
 read_by g q id r J p (Replica k) (SlowReply b) reply sent from is read =
     let c = cond_some (id_eq b.id id) (of_slow k b) reply read in
     ap (λ (o : Option Id). option_flatten (stands_for g p (source p J) o)) is
-    ∙ ap (λ (x : Reply). cond (is_some (answer_in x)) (in_numbers g id (source_of (r ∷ J) p)) None) c.1
+    ∙ ap (λ (x : Reply). cond (is_some (answer_in x)) (in_numbers (source_of (r ∷ J) p)) None) c.1
 read_by g q id r J p _ _ reply sent from is read = absurd (none-some reply read)
 
 pub source_read : (g : Group) (q : ℕ) (id : Id) (r : Record) (J : List Record) (p : Parcel) (e : Envelope) (reply : Reply) → Has (sent_in J) p
     → accepted_envelope g.f (Proxy q) p ≡ Some e → reply_in id e.from e.message ≡ Some reply
-    → option_flatten (stands_for g p (source p J) (about p)) ≡ cond (is_some (answer_in reply)) (in_numbers g id (source_of (r ∷ J) p)) None
+    → option_flatten (stands_for g p (source p J) (about p)) ≡ cond (is_some (answer_in reply)) (in_numbers (source_of (r ∷ J) p)) None
 source_read g q id r J p e reply sent h read =
     let is = is_received g.f (Proxy q) p e h in
     read_by g q id r J p e.from e.message reply sent (sym is.from) (about_heard (Proxy q) p e is) read

@@ -8,6 +8,9 @@ pub mod Hearing
 pub mod Events
 pub mod Reached
 pub mod Tables
-pub mod Accepting
 pub mod Acting
+pub mod Runs
+pub mod Sent
+pub mod Longest
+pub mod Accepting
 pub mod Found

@@ -72,7 +72,7 @@ noted_still : (g : Group) (q : ℕ) (id : Id) (r : Record) (J : List Record) (x 
     → list_any (reply_eq x) (replies_of (standing_after g q id J)) ≡ true → source_noted g q id (r ∷ J) x ≡ source_noted g q id J x
 noted_still g q id r J x h =
     ap (λ b. cond (is_some (answer_in x))
-    (in_numbers g id (option_and_then (λ M. option_and_then (source_of M) (parcel_delivered M))
+    (in_numbers (option_and_then (λ M. option_and_then (source_of M) (parcel_delivered M))
     (cond b (noting_moment g q id x J) (Some (r ∷ J))))) None) h
 
 all_still : (g : Group) (q : ℕ) (id : Id) (r : Record) (J : List Record) (replies : List Reply)
@@ -89,7 +89,7 @@ stays_at g q id r J (Some (Open replies)) e after =
     (noted.Open (record { tally = record { f = g.f; replies = replies }; sources = s }))) (all_still g q id r J replies e)
 stays_at g q id r J (Some (Decided a p)) e after =
     ap (λ (o : Option (List Record)). Some
-    (noted.Decided (in_numbers g id (option_and_then (source_at_decision g q id) o))))
+    (noted.Decided (in_numbers (option_and_then (source_at_decision g q id) o))))
     (decided_still g q id r J (ap is_decided e) (ap is_decided after))
 
 -- what is known stays where the standing does
@@ -136,16 +136,16 @@ standing_noted f reply (Some (Decided answer path)) = Some (Decided answer path)
 pub record Brings (g : Group) (q : ℕ) (id : Id) (r : Record) (J : List Record) (p : Parcel) (reply : Reply) (source : Option Source) : Type 0 where
   pub parcel : parcel_delivered (r ∷ J) ≡ Some p
   pub read : reply_read id (read_in g (Proxy q) r.event) ≡ Some reply
-  pub from : source ≡ cond (is_some (answer_in reply)) (in_numbers g id (source_of (r ∷ J) p)) None
+  pub from : source ≡ cond (is_some (answer_in reply)) (in_numbers (source_of (r ∷ J) p)) None
 
 new_source : (g : Group) (q : ℕ) (id : Id) (r : Record) (J : List Record) (p : Parcel) (reply : Reply) (source : Option Source)
     → Brings g q id r J p reply source → list_any (reply_eq reply) (replies_of (standing_after g q id J)) ≡ false
     → source_noted g q id (r ∷ J) reply ≡ source
 new_source g q id r J p reply source b h =
     ap (λ t. cond (is_some (answer_in reply))
-    (in_numbers g id (option_and_then (λ M. option_and_then (source_of M) (parcel_delivered M))
+    (in_numbers (option_and_then (λ M. option_and_then (source_of M) (parcel_delivered M))
     (cond t (noting_moment g q id reply J) (Some (r ∷ J))))) None) h
-    ∙ ap (λ (o : Option Parcel). cond (is_some (answer_in reply)) (in_numbers g id (option_and_then (source_of (r ∷ J)) o)) None) b.parcel ∙ sym b.from
+    ∙ ap (λ (o : Option Parcel). cond (is_some (answer_in reply)) (in_numbers (option_and_then (source_of (r ∷ J)) o)) None) b.parcel ∙ sym b.from
 
 -- the replies with their sources, after one more was noted
 abbrev notes_of : Group → ℕ → Id → List Record → List Reply → Notes
@@ -172,7 +172,7 @@ decides_now : (g : Group) (q : ℕ) (id : Id) (r : Record) (J : List Record) (p 
     (source : Option Source) (replies : List Reply) (chosen : Chosen) (a : Answer) → Brings g q id r J p reply source
     → standing_after g q id J ≡ Some (Open replies) → decision g.f (with_note replies reply) ≡ Some chosen
     → answer_in chosen.reply ≡ Some a → standing_after g q id (r ∷ J) ≡ Some (Decided a chosen.path)
-    → in_numbers g id (source_of_sender g id (Proxy q) (r ∷ J))
+    → in_numbers (source_of_sender g id (Proxy q) (r ∷ J))
     ≡ source_among (map (source_noted g q id (r ∷ J)) (with_note replies reply)) (with_note replies reply) chosen.reply
 decides_now g q id r J p reply source replies chosen a b e d answer after =
     let noted = with_note replies reply in
@@ -184,11 +184,11 @@ decides_now g q id r J p reply source replies chosen a b e d answer after =
     ap (λ (o : Option Standing). with_reply_noted (replies_of o) (reply_read id (read_in g (Proxy q) r.event))) e
     ∙ ap (with_reply_noted replies) b.read in
     let by = decision_is g.f noted chosen d in
-    ap (λ (o : Option (List Record)). in_numbers g id (option_and_then (source_at_decision g q id) o)) moment
-    ∙ ap (λ (l : List Reply). in_numbers g id
+    ap (λ (o : Option (List Record)). in_numbers (option_and_then (source_at_decision g q id) o)) moment
+    ∙ ap (λ (l : List Reply). in_numbers
     (option_and_then (source_of_reply g q id (r ∷ J)) (option_map (λ (c : Chosen). c.reply) (decision g.f l)))) at_last
-    ∙ ap (λ (o : Option Chosen). in_numbers g id (option_and_then (source_of_reply g q id (r ∷ J)) (option_map (λ (c : Chosen). c.reply) o))) d
-    ∙ ap (λ (o : Option Answer). cond (is_some o) (in_numbers g id (source_of_reply g q id (r ∷ J) chosen.reply)) None) (sym answer)
+    ∙ ap (λ (o : Option Chosen). in_numbers (option_and_then (source_of_reply g q id (r ∷ J)) (option_map (λ (c : Chosen). c.reply) o))) d
+    ∙ ap (λ (o : Option Answer). cond (is_some o) (in_numbers (source_of_reply g q id (r ∷ J) chosen.reply)) None) (sym answer)
     ∙ sym (place_among (source_noted g q id (r ∷ J)) noted chosen.reply by.among)
 
 has_answer : (f : ℕ) (reply : Reply) → is_of_leader f reply ≡ true → answer_in reply ≡ None → ⊥

@@ -1,7 +1,5 @@
 -- A core that takes the records of its replica goes through the replica's states.
-use Rattle.std.proofs.Common.{◌≡◌, ℕ, ◌+◌, true, false, cond, eqb, List, [], ◌∷◌, take, reverse}
-use Rattle.std.proofs.Common.{Option, Some, None, refl, sym, ap, subst, ◌∙◌, inl, inr, eqb-true}
-use Rattle.std.proofs.lemmas.Bool.{cases_Bool}
+use Rattle.std.proofs.Common.{◌≡◌, ℕ, ◌+◌, true, false, List, [], ◌∷◌, take, reverse, Some, refl, sym, ap, ◌∙◌}
 use Rattle.std.specs.Prelude.{slice_get}
 use Rattle.std.proofs.lemmas.List.{reverse-append}
 use Rattle.nz_base.specs.Actor.{actor_eq}
@@ -17,7 +15,7 @@ use Rattle.nz_machine.proofs.Runs.{acts, stays}
 use Rattle.nz_replica.specs.Models.{ReplicaCore}
 use Rattle.nz_machine.specs.declared.journal.Journal.{Journal}
 use Rattle.nz_machine.proofs.ListParts.{take_next}
-use Rattle.nz_audit.specs.Cores.{IsCore, IsCoreIfAny, run_up_to}
+use Rattle.nz_audit.specs.Cores.{IsCore, run_up_to}
 
 abbrev replica_number : Actor → ℕ
 replica_number (Replica r) = r
@@ -59,39 +57,3 @@ core_stays g m r J core other h = record { live = h.live; cluster = h.cluster; n
 
 pub run_then : (journal : Journal) (k : ℕ) (r : Record) → slice_get journal.records k ≡ Some r → run_up_to journal (k + 1) ≡ r ∷ run_up_to journal k
 run_then journal k r at = ap reverse (take_next journal.records k r at) ∙ reverse-append (take k journal.records) (r ∷ [])
-
--- ---- a replica that may be followed
-
-pub any_stays : (g : Group) (m : ℕ) (r : Record) (J : List Record) (o : Option ReplicaCore)
-    → actor_eq r.actor (Replica m) ≡ false → IsCoreIfAny g J m o → IsCoreIfAny g (r ∷ J) m o
-any_stays g m r J None other h = tt
-any_stays g m r J (Some core) other h = core_stays g m r J core other h
-
-pub core_takes : (g : Group) (r : Record) (J : List Record) (k m : ℕ) (old new : ReplicaCore) (before after : Option ReplicaCore)
-    → r.actor ≡ Replica m → (m ≡ k → before ≡ Some old) → after ≡ cond (eqb m k) (Some new) before
-    → (IsCore g J m old → IsCore g (r ∷ J) m new) → IsCoreIfAny g J k before → IsCoreIfAny g (r ∷ J) k after
-core_takes g r J k m old new before after by found is taken h = elim (cases_Bool (eqb m k)) [
-  | inl same ↦
-      let at = eqb-true m k same in
-      let h_old : IsCore g J k old = subst (IsCoreIfAny g J k) (found at) h in
-      let h_new = taken (subst (λ (x : ℕ). IsCore g J x old) (sym at) h_old) in
-      subst (IsCoreIfAny g (r ∷ J) k) (sym (is ∙ ap (λ b. cond b (Some new) before) same)) (subst (λ (x : ℕ). IsCore g (r ∷ J) x new) at h_new)
-  | inr other ↦
-      subst (IsCoreIfAny g (r ∷ J) k) (sym (is ∙ ap (λ b. cond b (Some new) before) other))
-      (any_stays g k r J before (ap (λ (a : Actor). actor_eq a (Replica k)) by ∙ other) h)
-]
-
-pub core_put : (g : Group) (J : List Record) (k m : ℕ) (core : ReplicaCore) (before after : Option ReplicaCore) → after ≡ cond (eqb m k) (Some core) before
-    → IsCore g J m core → IsCoreIfAny g J k before → IsCoreIfAny g J k after
-core_put g J k m core before after is at h = elim (cases_Bool (eqb m k)) [
-  | inl same ↦
-      subst (IsCoreIfAny g J k) (sym (is ∙ ap (λ b. cond b (Some core) before) same)) (subst (λ (x : ℕ). IsCore g J x core) (eqb-true m k same) at)
-  | inr other ↦ subst (IsCoreIfAny g J k) (sym (is ∙ ap (λ b. cond b (Some core) before) other)) h
-]
-
-pub core_absent : (g : Group) (r : Record) (J : List Record) (k m : ℕ) (before : Option ReplicaCore)
-    → r.actor ≡ Replica m → (m ≡ k → before ≡ None) → IsCoreIfAny g J k before → IsCoreIfAny g (r ∷ J) k before
-core_absent g r J k m before by none h = elim (cases_Bool (eqb m k)) [
-  | inl same ↦ subst (IsCoreIfAny g (r ∷ J) k) (sym (none (eqb-true m k same))) tt
-  | inr other ↦ any_stays g k r J before (ap (λ (a : Actor). actor_eq a (Replica k)) by ∙ other) h
-]

@@ -3,4 +3,5 @@ pub mod Sources
 pub mod Noting
 pub mod Memories
 pub mod Cores
+pub mod Prefixes
 pub mod Readings

@@ -15,14 +15,14 @@ use Rattle.nz_audit.specs.Sources.{in_numbers}
 
 -- The source of a noted reply, if it has an answer.
 abbrev pub source_noted : Group → ℕ → Id → List Record → Reply → Option Source
-source_noted g q id J reply = if is_some (answer_in reply) then in_numbers g id (source_of_reply g q id J reply) else None
+source_noted g q id J reply = if is_some (answer_in reply) then in_numbers (source_of_reply g q id J reply) else None
 
 -- What is kept of a request in this standing: the replies with their sources, or the source of the decision.
 abbrev pub memory_of : Group → ℕ → Id → List Record → Option Standing → Option Noted
 memory_of g q id J None = None
 memory_of g q id J (Some (Open replies)) =
     Some (noted.Open (record { tally = record { f = g.f; replies = replies }; sources = map (source_noted g q id J) replies }))
-memory_of g q id J (Some (Decided answer path)) = Some (noted.Decided (in_numbers g id (source_of_sender g id (Proxy q) J)))
+memory_of g q id J (Some (Decided answer path)) = Some (noted.Decided (in_numbers (source_of_sender g id (Proxy q) J)))
 
 -- What is kept of a request after the records.
 abbrev pub memory : Group → ℕ → Id → List Record → Option Noted

@@ -1,21 +1,19 @@
 -- What a reading of some records of a run has found.
-use Rattle.std.specs.Prelude.{◌≡◌, ℕ, ◌<◌, Bool, true, false, List, [], ◌∷◌, ◌++◌, length, take, Option, Some, None, nat_eq, if◌then◌else◌}
+use Rattle.std.specs.Prelude.{◌≡◌, ℕ, Bool, false, List, ◌∷◌, ◌++◌, Option, Some, None, nat_eq, if◌then◌else◌}
 use Rattle.std.specs.List.{list_any}
 use Rattle.indexmap.specs.IndexMap.{get}
 use Rattle.nz_base.specs.Key.{id_eq}
-use Rattle.nz_base.specs.Cluster.{replica_count}
-use Rattle.nz_base.specs.declared.actor.Actor.TheVariants.{Replica, Proxy}
+use Rattle.nz_base.specs.declared.actor.Actor.TheVariants.{Proxy}
 use Rattle.nz_base.specs.declared.key.Id.{Id}
-use Rattle.nz_base.specs.declared.key.Entry.{Entry}
 use Rattle.nz_machine.specs.declared.event.Parcel.{Parcel}
 use Rattle.nz_machine.specs.declared.event.Record.{Record}
 use Rattle.nz_machine.specs.declared.journal.Journal.{Journal}
-use Rattle.nz_machine.specs.Journals.{group_in}
+use Rattle.nz_machine.specs.Journals.{group_in, run_in}
 use Rattle.nz_machine.specs.State.{Group}
 use Rattle.nz_machine.specs.World.{state_after, World}
 use Rattle.nz_machine.specs.ClientProgress.{AreAfter}
-use Rattle.nz_replica.specs.Models.{ReplicaCore}
-use Rattle.nz_machine.specs.History.{parcel_eq, older_or, source, log_at, history}
+use Rattle.nz_machine.specs.Events.{events}
+use Rattle.nz_machine.specs.History.{parcel_eq, older_or, source}
 use Rattle.nz_audit.specs.declared.source.Source.{Source}
 use Rattle.nz_audit.specs.declared.noting.Noted.{Noted}
 use Rattle.nz_audit.specs.declared.proxy.ProxyNotes.{ProxyNotes}
@@ -23,12 +21,8 @@ use Rattle.nz_audit.specs.declared.sending.ParcelKey.{ParcelKey}
 use Rattle.nz_audit.specs.declared.reading.Reading.{Reading}
 use Rattle.nz_audit.specs.Sources.{about, stands_for, kept_of}
 use Rattle.nz_audit.specs.Memories.{memory}
-use Rattle.nz_audit.specs.Cores.{IsCoreIfAny, run_up_to}
-
--- It has not run out of memory.
-abbrev pub IsLive : Option ReplicaCore → Type 0
-IsLive None = Unit {0}
-IsLive (Some core) = core.live ≡ true
+use Rattle.nz_audit.specs.Cores.{run_up_to}
+use Rattle.nz_audit.specs.Prefixes.{AreAccepted, requests_sent}
 
 -- What is known of a request: nothing of a proxy that did nothing yet.
 abbrev pub known_to : Option ProxyNotes → Id → Option Noted
@@ -57,30 +51,17 @@ source_with p done r J = if list_any (parcel_eq p) done then older_or (source p 
 pub record IsTableWith (g : Group) (done : List Parcel) (r : Record) (J : List Record) (table : List (ParcelKey × Option Source)) : Type 0 where
   pub exact : (p : Parcel) → kept_of table p ≡ stands_for g p (source_with p done r J) (about p)
 
--- The entries are the first of the log of this replica after some records: as many of each as the source says.
-pub record LeadsTo (g : Group) (J : List Record) (entries : List Entry) (s : Source) : Type 0 where
-  pub later : List Record
-  pub run : List Record
-  pub at : J ≡ later ++ run
-  pub records : s.records ≡ length run
-  pub replica : s.replica < replica_count g.f
-  pub count : s.entries ≡ length entries
-  pub prefix : entries ≡ take s.entries (log_at g (Replica s.replica) run)
-
--- The same of a source that may be missing: then there are no entries.
-abbrev pub LeadsToIfAny : Group → List Record → List Entry → Option Source → Type 0
-LeadsToIfAny g J entries None = entries ≡ []
-LeadsToIfAny g J entries (Some s) = LeadsTo g J entries s
-
--- What a reading knows after the records of a run.
-pub record IsRead (g : Group) (J : List Record) (reading : Reading) : Type 0 where
-  pub cores : (m : ℕ) → IsCoreIfAny g J m (get nat_eq reading.cores m)
-  pub proxies : (q : ℕ) → IsProxy g J q (get nat_eq reading.proxies q)
-  pub table : IsTable g J reading.sendings.kept.entries
-  pub clients : AreAfter g J reading.clients
-  pub best : LeadsToIfAny g J (history g J) reading.best
+-- What a reading knows after these records of a journal.
+pub record IsRead (journal : Journal) (J : List Record) (reading : Reading) : Type 0 where
+  pub proxies : (q : ℕ) → IsProxy (group_in journal) J q (get nat_eq reading.proxies q)
+  pub table : IsTable (group_in journal) J reading.sendings.kept.entries
+  pub clients : AreAfter (group_in journal) J reading.clients
+  pub accepted : AreAccepted journal J reading.accepted.items
+  pub sent : reading.sent ≡ requests_sent (events (group_in journal) J)
 
 -- The record follows these, and is the one of this count in a journal.
 pub record IsNextRecord (journal : Journal) (records : ℕ) (r : Record) (J : List Record) : Type 0 where
   pub run : run_up_to journal records ≡ r ∷ J
   pub world : World (group_in journal) (r ∷ J)
+  pub newer : List Record
+  pub whole : run_in journal ≡ newer ++ (r ∷ J)

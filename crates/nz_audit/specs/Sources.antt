@@ -1,5 +1,5 @@
 -- Where answers come from, in numbers, by the definition of the history.
-use Rattle.std.specs.Prelude.{Bool, ◌&&◌, List, length, Option, Some, None, is_some, nat_lt, if◌then◌else◌}
+use Rattle.std.specs.Prelude.{Bool, ◌&&◌, List, length, Option, Some, None, is_some, if◌then◌else◌}
 use Rattle.std.specs.Map.{lookup}
 use Rattle.std.specs.Option.{option_map, option_and_then, option_flatten}
 use Rattle.std.specs.Str.{bytes_eq}
@@ -18,27 +18,21 @@ use Rattle.nz_machine.specs.declared.client_progress.Acceptance.{Acceptance}
 use Rattle.nz_machine.specs.State.{Group}
 use Rattle.nz_machine.specs.Step.{envelope_for}
 use Rattle.nz_machine.specs.Events.{id_at}
-use Rattle.nz_machine.specs.History.{ReplySource, source_of_sender, cut_after, log_at}
+use Rattle.nz_machine.specs.History.{ReplySource, source_of_sender}
 use Rattle.nz_audit.specs.declared.source.Source.{Source}
 use Rattle.nz_audit.specs.declared.sending.ParcelKey.{ParcelKey}
 
--- The one with more entries, else the first.
-abbrev pub first_longest : Option Source → Option Source → Option Source
-first_longest None next = next
-first_longest (Some best) None = Some best
-first_longest (Some best) (Some next) = if nat_lt best.entries next.entries then Some next else Some best
-
 -- ---- the source of an answer
 
--- A replica that sent a reply to the request, and the run up to that record.
-abbrev pub numbers_of : Group → Id → Actor → List Record → Option Source
-numbers_of g id (Replica m) K = Some (record { replica = m; records = length K; entries = length (cut_after id (log_at g (Replica m) K)) })
-numbers_of g id (Proxy p) K = None
-numbers_of g id (Client c) K = None
+-- A replica that sent a reply, and the run up to that record.
+abbrev pub numbers_of : Actor → List Record → Option Source
+numbers_of (Replica m) K = Some (record { replica = m; records = length K })
+numbers_of (Proxy p) K = None
+numbers_of (Client c) K = None
 
--- A source as three numbers.
-abbrev pub in_numbers : Group → Id → Option ReplySource → Option Source
-in_numbers g id at = option_and_then (λ (s : ReplySource). numbers_of g id s.sender s.run) at
+-- A source as two numbers.
+abbrev pub in_numbers : Option ReplySource → Option Source
+in_numbers at = option_and_then (λ (s : ReplySource). numbers_of s.sender s.run) at
 
 -- ---- what a parcel stands for
 
@@ -60,8 +54,8 @@ about p = about_envelope (envelope_for p.to p)
 -- The source that a parcel about the request stands for, sent first by this actor with the last of the records:
 -- a reply is one itself, and an answer stands for that of the reply that decided.
 abbrev pub source_sent : Group → Id → Actor → List Record → Option Source
-source_sent g id (Replica m) K = numbers_of g id (Replica m) K
-source_sent g id (Proxy q) K = in_numbers g id (source_of_sender g id (Proxy q) K)
+source_sent g id (Replica m) K = numbers_of (Replica m) K
+source_sent g id (Proxy q) K = in_numbers (source_of_sender g id (Proxy q) K)
 source_sent g id (Client c) K = None
 
 -- The source that a parcel was first sent with, where it is about a request.

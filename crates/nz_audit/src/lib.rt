@@ -7,6 +7,7 @@ mod noting;
 mod proxy;
 mod reading;
 mod replaying;
+mod searching;
 mod sending;
 mod source;
 

@@ -1,16 +1,34 @@
 //! A replica as it was after some records.
 
-ghost use Rattle.std.specs.Prelude.{◌≡◌, ◌≤◌, ◌<◌, ◌∷◌, true, List, length, IfOk, OnOk};
+ghost use Rattle.std.specs.Prelude.{◌≡◌, ◌≤◌, ◌<◌, ◌∷◌, true, List, length, IfOk, IfSome, IsTrue, OnOk};
 ghost use Rattle.nz_base.specs.Cluster.{replica_count};
 ghost use Rattle.nz_machine.specs.Journals.{group_in};
 ghost use Rattle.nz_machine.specs.State.{Group};
 ghost use Rattle.nz_machine.specs.declared.event.Record.{Record as RecordModel};
-ghost use Rattle.nz_audit.specs.Cores.{IsCore, run_up_to};
+ghost use Rattle.nz_audit.specs.Cores.{IsCore, IsReplayed, run_up_to};
 
+use super::source::Source;
 use nz_base::{Actor, NoMemory};
 use nz_machine::{Core, Journal, Record};
 use nz_replica::Replica;
 use std::alloc::Global;
+
+/// A replica as it was at a source.
+#[derive(Drop)]
+pub struct Replayed {
+    pub core: Replica,
+    pub source: Source,
+}
+
+impl Replayed {
+    /// Whether a replay of the source can go on from here: it is of the same replica, and not past the source.
+    fn leads_to(&self, source: Source) -> bool
+        ensures replica { IsTrue result → self.now.source.replica ≡ source.replica }
+        ensures records { IsTrue result → self.now.source.records ≤ source.records }
+    {
+        self.source.replica == source.replica && self.source.records <= source.records
+    }
+}
 
 /// The replica takes the record, if it is its own.
 pub fn replay_one(core: &mut Replica, number: u8, next: &Record) -> Result<(), NoMemory>
@@ -24,20 +42,85 @@ pub fn replay_one(core: &mut Replica, number: u8, next: &Record) -> Result<(), N
     Ok(())
 }
 
-/// The replica after this many records of the journal.
+/// The replica takes its records from the first count of records to the second.
+fn replay_on(
+    journal: &Journal,
+    core: &mut Replica,
+    number: u8,
+    from: u32,
+    to: u32,
+) -> Result<(), NoMemory>
+    requires order { from ≤ to }
+    requires records { to ≤ length journal.now.records }
+    requires core { IsCore (group_in journal.now) (run_up_to journal.now from) number core.old }
+    ensures { OnOk result (IsCore (group_in journal.now) (run_up_to journal.now to) number core.new) }
+{
+    for place in from..to {
+        replay_one(core, number, journal.records.get(place))?;
+    }
+    Ok(())
+}
+
+/// The replica before the first record.
+fn first(alloc: Global, journal: &Journal, replica: u8) -> Result<Replayed, NoMemory>
+    requires { replica < replica_count (group_in journal.now).f }
+    ensures replica { IfOk result (λ at. at.source.replica ≡ replica) }
+    ensures records { IfOk result (λ at. at.source.records ≡ 0) }
+    ensures core { IfOk result (λ at. IsReplayed journal.now at) }
+{
+    Ok(Replayed {
+        core: Replica::new(alloc, journal.scenario.cluster, replica)?,
+        source: Source {
+            replica,
+            records: 0,
+        },
+    })
+}
+
+/// Where the replay of a source goes on from: what was replayed, if it is the same replica and not past the source.
+fn start_of(
+    alloc: Global,
+    journal: &Journal,
+    at: Option<Replayed>,
+    source: Source,
+) -> Result<Replayed, NoMemory>
+    requires replica { source.replica < replica_count (group_in journal.now).f }
+    requires at { IfSome at (IsReplayed journal.now) }
+    ensures replica { IfOk result (λ start. start.source.replica ≡ source.replica) }
+    ensures records { IfOk result (λ start. start.source.records ≤ source.records) }
+    ensures core { IfOk result (λ start. IsReplayed journal.now start) }
+{
+    if let Some(at) = at {
+        if at.leads_to(source) {
+            return Ok(at);
+        }
+    }
+    first(alloc, journal, source.replica)
+}
+
+/// The replica as it was at the source. A replay that has not passed it goes on.
 pub fn replay(
     alloc: Global,
     journal: &Journal,
-    number: u8,
-    records: u32,
-) -> Result<Replica, NoMemory>
-    requires number { number < replica_count (group_in journal.now).f }
-    requires records { records ≤ length journal.now.records }
-    ensures { IfOk result (λ core. IsCore (group_in journal.now) (run_up_to journal.now records) number core) }
+    at: Option<Replayed>,
+    source: Source,
+) -> Result<Replayed, NoMemory>
+    requires replica { source.replica < replica_count (group_in journal.now).f }
+    requires records { source.records ≤ length journal.now.records }
+    requires at { IfSome at (IsReplayed journal.now) }
+    ensures source { IfOk result (λ replayed. replayed.source ≡ source) }
+    ensures core { IfOk result (λ replayed. IsReplayed journal.now replayed) }
 {
-    let mut core = Replica::new(alloc, journal.scenario.cluster, number)?;
-    for place in 0..records {
-        replay_one(&mut core, number, journal.records.get(place))?;
-    }
-    Ok(core)
+    let Replayed {
+        mut core,
+        source: start,
+    } = start_of(alloc, journal, at, source)?;
+    replay_on(
+        journal,
+        &mut core,
+        source.replica,
+        start.records,
+        source.records,
+    )?;
+    Ok(Replayed { core, source })
 }

@@ -1,6 +1,7 @@
 //! The parcels that stand for a source, each as it was sent first.
 
-ghost use Rattle.std.specs.Prelude.{◌≡◌, [], IfOk, OnOk, Some, is_some, if◌then◌else◌};
+ghost use Rattle.std.specs.Prelude.{◌≡◌, [], IfOk, OnOk, Some, None, IsTrue, is_some, if◌then◌else◌};
+ghost use Rattle.nz_msg.specs.declared.message.Message.{Message as MessageModel};
 ghost use Rattle.std.specs.Option.{option_flatten};
 ghost use Rattle.nz_machine.specs.History.{parcel_eq};
 ghost use Rattle.nz_machine.specs.declared.event.Parcel.{Parcel as ParcelModel};
@@ -97,10 +98,23 @@ fn about_in(envelope: &Envelope) -> Option<Id>
     }
 }
 
+/// Whether no parcel of this sender and receiver stands for a source.
+fn is_about_nothing(from: Actor, to: Actor) -> bool
+    ensures { IsTrue result → (m : MessageModel) → about_message from to m ≡ None }
+{
+    !matches!(
+        (from, to),
+        (Actor::Replica(_), Actor::Proxy(_)) | (Actor::Proxy(_), Actor::Client(_))
+    )
+}
+
 /// The request that the parcel is about, where it stands for a source.
 pub fn about(alloc: Global, parcel: &Parcel) -> Result<Option<Id>, NoMemory>
     ensures { IfOk result (λ id. id ≡ sources.about parcel.now) }
 {
+    if is_about_nothing(parcel.from, parcel.to) {
+        return Ok(None);
+    }
     match heard(alloc, parcel.to, parcel)? {
         Some(envelope) => Ok(about_in(&envelope)),
         None => Ok(None),

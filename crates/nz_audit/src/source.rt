@@ -1,7 +1,9 @@
-//! Where an accepted answer comes from, in three numbers.
+//! Where accepted answers come from.
 
 ghost use Rattle.std.specs.Prelude.{◌≡◌};
-ghost use Rattle.nz_audit.specs.Sources.{first_longest};
+ghost use Rattle.nz_audit.specs.Prefixes.{first_longest};
+
+use nz_base::Id;
 
 /// Where an answer comes from: the reply with which its proxy decided.
 #[derive(Clone, Copy, Debug)]
@@ -10,23 +12,39 @@ pub struct Source {
     pub replica: u8,
     /// How many records there were with the one that sent the reply first.
     pub records: u32,
-    /// How many entries the replica's log had then, up to and with that of the request.
+}
+
+/// An answer that was accepted, and where it comes from.
+#[derive(Clone, Copy, Debug)]
+pub struct AcceptedAnswer {
+    /// How many answers were accepted before.
+    pub place: usize,
+    pub id: Id,
+    pub source: Source,
+    /// How many requests were sent before it was accepted. Its prefix has no more entries.
+    pub sent: u32,
+}
+
+/// An accepted answer whose prefix was counted.
+#[derive(Clone, Copy, Debug)]
+pub struct Counted {
+    pub accepted: AcceptedAnswer,
+    /// How many entries the replica's log had at the source, up to and with that of the request.
     pub entries: u32,
 }
 
-/// The one with more entries, else the first.
-pub fn longer(best: Option<Source>, next: Option<Source>) -> Option<Source>
+/// The one with more entries, and of equally long ones the one that was accepted first.
+pub fn longer(best: Option<Counted>, next: Counted) -> Counted
     ensures { result ≡ first_longest best next }
 {
-    match (best, next) {
-        (None, next) => next,
-        (Some(best), None) => Some(best),
-        (Some(best), Some(next)) => {
-            if best.entries < next.entries {
-                Some(next)
-            } else {
-                Some(best)
-            }
-        }
+    let Some(best) = best else {
+        return next;
+    };
+    if best.entries < next.entries {
+        return next;
     }
+    if best.entries == next.entries && next.accepted.place < best.accepted.place {
+        return next;
+    }
+    best
 }

@@ -3,9 +3,9 @@
 ghost use Rattle.std.specs.Prelude.{◌≡◌, length, IfOk};
 
 use super::executing::execute;
-use super::reading::entries_up_to;
 use super::replaying::replay_one;
-use super::source::{Source, longer};
+use super::searching::entries_up_to;
+use super::source::{AcceptedAnswer, Counted, Source, longer};
 use nz_base::{Actor, Blob, Cluster, Id};
 use nz_machine::{Core, Event, History, Parcel, Record, Sends};
 use nz_msg::{Message, TimedBody, encode};
@@ -124,30 +124,35 @@ fn log_up_to_an_entry_is_executed(rt: HostRuntime) -> Result<(), Fail> {
     Ok(())
 }
 
-fn source(replica: u8, records: u32, entries: u32) -> Option<Source> {
-    Some(Source {
-        replica,
-        records,
+fn counted(place: usize, records: u32, entries: u32) -> Counted {
+    Counted {
+        accepted: AcceptedAnswer {
+            place,
+            id: Id { client: 0, num: 1 },
+            source: Source {
+                replica: 0,
+                records,
+            },
+            sent: 9,
+        },
         entries,
-    })
+    }
 }
 
-// The first of the longest stays, in whatever order the replies were sent.
+// Of the longest the one that was accepted first stays, in whatever order the replies were sent and are compared.
 #[test]
 fn first_of_the_longest_stays(rt: HostRuntime) -> Result<(), Fail> {
-    let accepted = [
-        None,
-        source(0, 9, 2),
-        source(1, 5, 3),
-        source(2, 3, 3),
-        None,
-        source(0, 20, 1),
+    let prefixes = [
+        counted(3, 20, 1),
+        counted(2, 3, 3),
+        counted(0, 9, 2),
+        counted(1, 5, 3),
     ];
     let mut best = None;
-    for next in accepted {
-        best = longer(best, next);
+    for next in prefixes {
+        best = Some(longer(best, next));
     }
-    let found = best.map(|source| (source.replica, source.records, source.entries));
-    assert_eq!(rt; found, Some((1, 5, 3)));
+    let found = best.map(|best| (best.accepted.place, best.entries));
+    assert_eq!(rt; found, Some((1, 3)));
     Ok(())
 }

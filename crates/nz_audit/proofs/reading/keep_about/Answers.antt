@@ -6,13 +6,13 @@ use Rattle.nz_audit.specs.Sources.{source_sent}
 use Rattle.nz_audit.proofs.Tables.{table_has, table_keeps}
 use Rattle.nz_audit.proofs.reading.keep_about.Goals as goal
 
-pub returns-then-branch-clause-table : goal.returns-then-branch-clause-table
-returns-then-branch-clause-table c = λ done r J run h.
+pub returns-then-branch : goal.returns-then-branch
+returns-then-branch c = λ done r J run h.
     table_has (group_in c.args.journal.now) c.args.parcel.now done r J c.args.sendings.now.kept.entries (sym c.in_ok-has.ensures ∙ c.if-branch.true) h
 
-pub returns-clause-table : goal.returns-clause-table
-returns-clause-table c = on_ok_weaker c.keep.result (λ kept done r J run h.
+pub returns : goal.returns
+returns c = on_ok_weaker c.keep.result (λ kept done r J run h.
     let g = group_in c.args.journal.now in
     table_keeps g c.args.parcel.now c.args.id done r J c.args.sendings.now.kept.entries c.keep.new.self.kept.entries
-    c.in_ok-source.source c.requires.about (sym c.in_ok-has.ensures ∙ c.if-branch.false)
-    (c.in_ok-source.ensures.source ∙ ap (source_sent g c.args.id c.args.parcel.now.from) run) kept h) c.keep.ensures
+    c.source_for-source.result c.requires.about (sym c.in_ok-has.ensures ∙ c.if-branch.false)
+    (c.source_for-source.ensures ∙ ap (source_sent g c.args.id c.args.parcel.now.from) run) kept h) c.keep.ensures

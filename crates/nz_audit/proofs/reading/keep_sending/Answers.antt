@@ -4,6 +4,6 @@ use Rattle.nz_machine.specs.Journals.{group_in}
 use Rattle.nz_audit.proofs.Tables.{table_passes}
 use Rattle.nz_audit.proofs.reading.keep_sending.Goals as goal
 
-pub returns-in-None-clause-table : goal.returns-in-None-clause-table
-returns-in-None-clause-table c =
+pub returns-in-None : goal.returns-in-None
+returns-in-None c =
     λ done r J run h. table_passes (group_in c.args.journal.now) c.args.parcel.now done r J _ (sym c.in_ok-about.ensures ∙ c.in-None.is) h

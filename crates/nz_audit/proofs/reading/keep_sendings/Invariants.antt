@@ -1,17 +1,12 @@
 -- What the loops of the function of this folder keep.
-use Rattle.std.proofs.Common.{◌≡◌, ℕ, List, ◌∷◌, take}
-use Rattle.std.specs.Prelude.{nat_eq}
-use Rattle.indexmap.specs.IndexMap.{get}
+use Rattle.std.proofs.Common.{◌≡◌, List, ◌∷◌, take}
 use Rattle.nz_machine.specs.declared.event.Record.{Record}
 use Rattle.nz_machine.specs.Journals.{group_in}
-use Rattle.nz_audit.specs.Cores.{IsCoreIfAny, run_up_to}
+use Rattle.nz_audit.specs.Cores.{run_up_to}
 use Rattle.nz_audit.specs.Readings.{IsTable, IsTableWith}
 use Rattle.nz_audit.proofs.reading.keep_sendings.Given as goal
 
 abbrev pub invariant-loop-parcel : goal.invariant-loop-parcel
-invariant-loop-parcel l = record {
-  cores : (k : ℕ) → IsCoreIfAny (group_in l.journal) (run_up_to l.journal l.records) k (get nat_eq l.cores k);
-  table : (J : List Record) → run_up_to l.journal l.records ≡ l.next ∷ J
-      → IsTable (group_in l.journal) J l.fn.sendings.kept.entries
-      → IsTableWith (group_in l.journal) (take l.parcel-index l.next.sends) l.next J l.sendings.kept.entries;
-}
+invariant-loop-parcel l = (J : List Record) → run_up_to l.journal l.records ≡ l.next ∷ J
+    → IsTable (group_in l.journal) J l.fn.sendings.kept.entries
+    → IsTableWith (group_in l.journal) (take l.parcel-index l.next.sends) l.next J l.sendings.kept.entries

@@ -1,14 +1,21 @@
 -- What the function of this folder owes, proved.
-use Rattle.std.proofs.Common.{◌∙◌, sym, ap}
+use Rattle.std.proofs.Common.{◌∙◌, Some, sym, ap}
 use Rattle.nz_base.specs.declared.actor.Actor.{Actor}
 use Rattle.nz_machine.specs.Journals.{group_in}
 use Rattle.nz_audit.specs.Cores.{run_up_to}
 use Rattle.nz_audit.specs.Sources.{source_sent}
 use Rattle.nz_audit.proofs.Acting.{decided_by}
+use Rattle.nz_audit.proofs.Runs.{run_length}
 use Rattle.nz_audit.proofs.reading.source_for.Goals as goal
 
-pub returns-in-Proxy-clause-source : goal.returns-in-Proxy-clause-source
-returns-in-Proxy-clause-source c =
+pub returns-in-Replica : goal.returns-in-Replica
+returns-in-Replica c =
+    let J = run_up_to c.args.journal.now c.args.records in
+    let long = run_length c.args.journal.now c.args.records c.requires.records in
+    (λ i. Some (record { replica = c.in-Replica.replica; records = sym long i })) ∙ sym (ap (λ (a : Actor). source_sent (group_in c.args.journal.now) c.args.id a J) c.in-Replica.is)
+
+pub returns-in-Proxy : goal.returns-in-Proxy
+returns-in-Proxy c =
     let g = group_in c.args.journal.now in
     let J = run_up_to c.args.journal.now c.args.records in
     let q = c.in-Proxy.proxy in

@@ -2,7 +2,7 @@
 use Rattle.std.proofs.Common.{arith}
 use Rattle.nz_audit.specs.Cores.{run_up_to}
 use Rattle.nz_audit.proofs.Found.{is_next}
-use Rattle.nz_audit.proofs.reading.longest.Goals as goal
+use Rattle.nz_audit.proofs.reading.accepted_in.Goals as goal
 
 pub read-requires-clause-run : goal.read-requires-clause-run
 read-requires-clause-run c =

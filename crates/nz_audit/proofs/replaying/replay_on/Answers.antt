@@ -1,15 +1,10 @@
 -- What the function of this folder owes, proved.
-use Rattle.std.proofs.Common.{List, [], sym, subst}
+use Rattle.std.proofs.Common.{List, sym, subst}
 use Rattle.nz_machine.specs.declared.event.Record.{Record}
 use Rattle.nz_machine.specs.Journals.{group_in}
-use Rattle.nz_replica.specs.Models.{ReplicaCore}
 use Rattle.nz_audit.specs.Cores.{IsCore, run_up_to}
-use Rattle.nz_audit.proofs.Replays.{core_first, run_then}
-use Rattle.nz_audit.proofs.replaying.replay.Goals as goal
-
-pub loop-place-init : goal.loop-place-init
-loop-place-init c = let g = group_in c.args.journal.now in
-    subst (λ (x : ReplicaCore). IsCore g [] c.args.number x) (sym c.in_ok-core.ensures) (core_first g c.args.number)
+use Rattle.nz_audit.proofs.Replays.{run_then}
+use Rattle.nz_audit.proofs.replaying.replay_on.Goals as goal
 
 pub loop-place-preserved : goal.loop-place-preserved
 loop-place-preserved c =

@@ -1,7 +1,7 @@
 -- What the loops of the function of this folder keep.
 use Rattle.nz_machine.specs.Journals.{group_in}
 use Rattle.nz_audit.specs.Cores.{IsCore, run_up_to}
-use Rattle.nz_audit.proofs.replaying.replay.Given as goal
+use Rattle.nz_audit.proofs.replaying.replay_on.Given as goal
 
 abbrev pub invariant-loop-place : goal.invariant-loop-place
 invariant-loop-place l = IsCore (group_in l.journal) (run_up_to l.journal l.place) l.number l.core

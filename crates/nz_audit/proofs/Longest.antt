@@ -1,0 +1,170 @@
+-- The longest of some lists, and the search for it in any order.
+use Rattle.std.proofs.Common.{◌≡◌, ℕ, suc, ◌+◌, ◌<◌, ◌≤◌, ◌⊎◌, Bool, true, false, cond, eqb, ◌||◌, ◌&&◌, List, [], ◌∷◌, ◌++◌, length, map, Option, Some, None, refl, sym}
+use Rattle.std.proofs.Common.{ap, subst, ◌∙◌, inl, inr, arith, lt-ltb, ltb-true, ltb-false, eqb-true}
+use Rattle.std.specs.Prelude.{nat_lt}
+use Rattle.std.specs.List.{AllByRecursion}
+use Rattle.std.proofs.lemmas.Bool.{cases_Bool, cond_both, eqb-false}
+use Rattle.nz_base.specs.declared.key.Entry.{Entry}
+use Rattle.nz_machine.specs.declared.journal.Journal.{Journal}
+use Rattle.nz_machine.specs.World.{Has}
+use Rattle.nz_machine.specs.History.{longer}
+use Rattle.nz_machine.proofs.EachItem.{all_append, all_imply}
+use Rattle.nz_machine.proofs.Runs.{all_has, has_left, has_right}
+use Rattle.nz_audit.specs.declared.source.AcceptedAnswer.{AcceptedAnswer}
+use Rattle.nz_audit.specs.declared.source.Counted.{Counted}
+use Rattle.nz_audit.specs.Prefixes.{prefix_for, longest_from, AreNumbered, IsNoLonger, IsBest, IsBestIfAny, comes_first, first_longest, is_shorter}
+
+-- ---- the longest of two
+
+pub longer_stays : (old new : List Entry) → length new ≤ length old → longer old new ≡ old
+longer_stays old new le =
+    cond_both (nat_lt (length old) (length new)) new old (λ (x : List Entry). x ≡ old)
+    (λ t. let lt = ltb-true (length old) (length new) t in absurd (omega (arith, lt, le))) (λ _. refl)
+
+longer_new : (old new : List Entry) → length old < length new → longer old new ≡ new
+longer_new old new lt = ap (λ b. cond b new old) (lt-ltb (length old) (length new) lt)
+
+longer_below : (old new : List Entry) (n : ℕ) → length old < n → length new < n → length (longer old new) < n
+longer_below old new n a b = cond_both (nat_lt (length old) (length new)) new old (λ (x : List Entry). length x < n) (λ _. b) (λ _. a)
+
+no_entries : (P : List Entry) → length P ≡ 0 → P ≡ []
+no_entries [] e = refl
+no_entries (x ∷ P) e = absurd (omega (arith, e))
+
+pub longest_append : (best : List Entry) (Ps : List (List Entry)) (P : List Entry) → longest_from best (Ps ++ P ∷ []) ≡ longer (longest_from best Ps) P
+longest_append best [] P = refl
+longest_append best (Q ∷ Ps) P = longest_append (longer best Q) Ps P
+
+-- ---- the first of the longest
+
+later_place : (n : ℕ) (xs : List AcceptedAnswer) (b : AcceptedAnswer) → AreNumbered n xs → Has xs b → n ≤ b.place
+later_place n [] b num h = absurd h
+later_place n (a ∷ xs) b num (inl e) = let is : b.place ≡ n = ap (λ (x : AcceptedAnswer). x.place) (sym e) ∙ num.0 in omega (arith, is)
+later_place n (a ∷ xs) b num (inr h) = let k = later_place (suc n) xs b num.1 h in omega (arith, k)
+
+-- the longest one was met, or it comes after some that are shorter
+abbrev Meets : Journal → List Entry → List AcceptedAnswer → Counted → Type 0
+Meets journal h xs b = (h ≡ prefix_for journal b.accepted) ⊎ ((length h < b.entries) × Has xs b.accepted)
+
+shorter_before : (journal : Journal) (b : Counted) (a : AcceptedAnswer) → IsNoLonger journal b a → a.place < b.accepted.place
+    → length (prefix_for journal a) < b.entries
+shorter_before journal b a (inl lt) before = lt
+shorter_before journal b a (inr same) before = let k = same.1 in absurd (omega (arith, k, before))
+
+no_longer : (journal : Journal) (b : Counted) (a : AcceptedAnswer) → IsNoLonger journal b a → length (prefix_for journal a) ≤ b.entries
+no_longer journal b a (inl lt) = omega (arith, lt)
+no_longer journal b a (inr same) = let k = same.0 in omega (arith, k)
+
+pub first_is : (journal : Journal) (b : Counted) → b.entries ≡ length (prefix_for journal b.accepted) → (n : ℕ) (h : List Entry) (xs : List AcceptedAnswer)
+    → AreNumbered n xs → AllByRecursion (IsNoLonger journal b) xs → Meets journal h xs b
+    → longest_from h (map (prefix_for journal) xs) ≡ prefix_for journal b.accepted
+first_is journal b counted n h [] num all (inl is) = is
+first_is journal b counted n h [] num all (inr ahead) = absurd (ahead.1)
+first_is journal b counted n h (a ∷ xs) num all (inl is) =
+    let P = prefix_for journal a in
+    let le = no_longer journal b a all.0 in
+    let same : length h ≡ b.entries = ap length is ∙ sym counted in
+    let stays = longer_stays h P (omega (arith, le, same)) in
+    first_is journal b counted (suc n) (longer h P) xs num.1 all.1 (inl (stays ∙ is))
+first_is journal b counted n h (a ∷ xs) num all (inr (lt, inl here)) =
+    let P = prefix_for journal a in
+    let is : P ≡ prefix_for journal b.accepted = ap (prefix_for journal) here in
+    let long : length P ≡ b.entries = ap length is ∙ sym counted in
+    first_is journal b counted (suc n) (longer h P) xs num.1 all.1 (inl (longer_new h P (omega (arith, lt, long)) ∙ is))
+first_is journal b counted n h (a ∷ xs) num all (inr (lt, inr there)) =
+    let P = prefix_for journal a in
+    let after = later_place (suc n) xs b.accepted num.1 there in
+    let at = num.0 in
+    let short = shorter_before journal b a all.0 (omega (arith, after, at)) in
+    first_is journal b counted (suc n) (longer h P) xs num.1 all.1 (inr (longer_below h P b.entries lt short, there))
+
+pub first_of_all : (journal : Journal) (b : Counted) (xs : List AcceptedAnswer) → AreNumbered 0 xs → IsBest journal xs b
+    → longest_from [] (map (prefix_for journal) xs) ≡ prefix_for journal b.accepted
+first_of_all journal b xs num best = elim (cases_Bool (eqb b.entries 0)) [
+  | inl none ↦
+      let zero_entries : b.entries ≡ 0 = eqb-true b.entries 0 none in
+      first_is journal b best.counted 0 [] xs num best.beats (inl (sym (no_entries (prefix_for journal b.accepted) (sym best.counted ∙ zero_entries))))
+  | inr some ↦
+      let not_zero = eqb-false b.entries 0 some in
+      first_is journal b best.counted 0 [] xs num best.beats (inr (omega (arith, not_zero), best.among))
+]
+
+pub numbered_more : (n : ℕ) (xs : List AcceptedAnswer) (a : AcceptedAnswer) → AreNumbered n xs → a.place ≡ n + length xs → AreNumbered n (xs ++ a ∷ [])
+numbered_more n [] a num is = (omega (arith, is), tt)
+numbered_more n (x ∷ xs) a num is = (num.0, numbered_more (suc n) xs a num.1 (omega (arith, is)))
+
+-- ---- the search
+
+has_last : {X : Type 0} (xs : List X) (x : X) → Has (xs ++ x ∷ []) x
+has_last xs x = has_right xs (x ∷ []) x (inl refl)
+
+-- one that cannot be the longest
+pub best_stays : (journal : Journal) (done : List AcceptedAnswer) (a : AcceptedAnswer) (o : Option Counted) → length (prefix_for journal a) ≤ a.sent
+    → is_shorter o a ≡ true → IsBestIfAny journal done o → IsBestIfAny journal (done ++ a ∷ []) o
+best_stays journal done a None few less h = absurd cc
+best_stays journal done a (Some b) few less h =
+    let short : a.sent < b.entries = ltb-true a.sent b.entries less in
+    record {
+      counted = h.counted;
+      among = has_left done (a ∷ []) b.accepted h.among;
+      beats = all_append (IsNoLonger journal b) done (a ∷ []) h.beats (inl (omega (arith, few, short)), tt);
+    }
+
+no_longer_than : (journal : Journal) (b next : Counted) (a : AcceptedAnswer) → IsNoLonger journal b a
+    → (b.entries < next.entries) ⊎ ((b.entries ≡ next.entries) × (next.accepted.place < b.accepted.place)) → IsNoLonger journal next a
+no_longer_than journal b next a (inl lt) (inl more) = inl (omega (arith, lt, more))
+no_longer_than journal b next a (inl lt) (inr same) = let e = same.0 in inl (omega (arith, lt, e))
+no_longer_than journal b next a (inr is) (inl more) = let e = is.0 in inl (omega (arith, e, more))
+no_longer_than journal b next a (inr is) (inr same) =
+    let e = is.0 in let d = same.0 in let k = is.1 in let m = same.1 in inr (omega (arith, e, d), omega (arith, k, m))
+
+itself : (journal : Journal) (next : Counted) → next.entries ≡ length (prefix_for journal next.accepted) → IsNoLonger journal next next.accepted
+itself journal next counted = inr (sym counted, omega arith)
+
+by_order : (best next : Counted) → comes_first best next ≡ true
+    → (best.entries < next.entries) ⊎ ((best.entries ≡ next.entries) × (next.accepted.place < best.accepted.place))
+by_order best next e = elim (cases_Bool (nat_lt best.entries next.entries)) [
+  | inl more ↦ inl (ltb-true best.entries next.entries more)
+  | inr less ↦ elim (cases_Bool (eqb best.entries next.entries)) [
+    | inl same ↦ inr (eqb-true best.entries next.entries same, ltb-true next.accepted.place best.accepted.place (rw (less, same) at e))
+    | inr other ↦ let none : false ≡ true = rw (less, other) at e in absurd cc
+  ]
+]
+
+by_order_not : (journal : Journal) (best next : Counted) → next.entries ≡ length (prefix_for journal next.accepted) → comes_first best next ≡ false
+    → IsNoLonger journal best next.accepted
+by_order_not journal best next counted e = elim (cases_Bool (nat_lt best.entries next.entries)) [
+  | inl more ↦ let none : true ≡ false = rw more at e in absurd cc
+  | inr less ↦
+      let le = ltb-false best.entries next.entries less in
+      elim (cases_Bool (eqb best.entries next.entries)) [
+        | inl same ↦
+            let is = eqb-true best.entries next.entries same in
+            let after = ltb-false next.accepted.place best.accepted.place (rw (less, same) at e) in
+            inr (omega (arith, is, counted), omega (arith, after))
+        | inr other ↦ let ne = eqb-false best.entries next.entries other in inl (omega (arith, le, ne, counted))
+      ]
+]
+
+-- one that was counted
+pub best_then : (journal : Journal) (done : List AcceptedAnswer) (next : Counted) (o : Option Counted) → next.entries ≡ length (prefix_for journal next.accepted)
+    → IsBestIfAny journal done o → IsBest journal (done ++ next.accepted ∷ []) (first_longest o next)
+best_then journal done next None counted none = record {
+  counted = counted;
+  among = has_last done next.accepted;
+  beats = subst (λ (l : List AcceptedAnswer). AllByRecursion (IsNoLonger journal next) (l ++ next.accepted ∷ [])) (sym none) (itself journal next counted, tt);
+}
+best_then journal done next (Some best) counted h =
+    cond_both (comes_first best next) next best (IsBest journal (done ++ next.accepted ∷ []))
+    (λ first. record {
+      counted = counted;
+      among = has_last done next.accepted;
+      beats = all_append (IsNoLonger journal next) done (next.accepted ∷ [])
+          (all_imply (IsNoLonger journal best) (IsNoLonger journal next) (λ a k. no_longer_than journal best next a k (by_order best next first)) done h.beats)
+          (itself journal next counted, tt);
+    })
+    (λ not_first. record {
+      counted = h.counted;
+      among = has_left done (next.accepted ∷ []) best.accepted h.among;
+      beats = all_append (IsNoLonger journal best) done (next.accepted ∷ []) h.beats (by_order_not journal best next counted not_first, tt);
+    })

@@ -1,0 +1,99 @@
+-- The accepted prefixes of a journal's run, and the longest of them.
+use Rattle.std.specs.Prelude.{◌≡◌, ℕ, suc, ◌<◌, ◌≤◌, ◌⊎◌, Bool, ◌||◌, ◌&&◌, ◌==◌, nat_lt, false, if◌then◌else◌, List, [], ◌∷◌, ◌++◌, map, length, Option, Some, None, IfSome}
+use Rattle.std.specs.List.{AllByRecursion}
+use Rattle.nz_base.specs.Cluster.{replica_count}
+use Rattle.nz_base.specs.declared.actor.Actor.TheVariants.{Replica}
+use Rattle.nz_base.specs.declared.key.Entry.{Entry}
+use Rattle.nz_machine.specs.declared.event.Record.{Record}
+use Rattle.nz_machine.specs.declared.journal.Journal.{Journal}
+use Rattle.nz_machine.specs.declared.client_progress.Acceptance.{Acceptance}
+use Rattle.nz_machine.specs.Journals.{group_in}
+use Rattle.nz_machine.specs.Events.{ClientEvent, Sent}
+use Rattle.nz_machine.specs.Events as events
+use Rattle.nz_machine.specs.History.{log_at, cut_after, longer, history}
+use Rattle.nz_machine.specs.World.{Has}
+use Rattle.nz_audit.specs.declared.source.Source.{Source}
+use Rattle.nz_audit.specs.declared.source.AcceptedAnswer.{AcceptedAnswer}
+use Rattle.nz_audit.specs.declared.source.Counted.{Counted}
+use Rattle.nz_audit.specs.declared.searching.Search.{Search}
+use Rattle.nz_audit.specs.Cores.{run_up_to, IsReplayed}
+
+-- ---- accepted answers, with their sources
+
+-- The prefix of an accepted answer: the log at its source, up to and with the entry of its request.
+abbrev pub prefix_for : Journal → AcceptedAnswer → List Entry
+prefix_for journal a = cut_after a.id (log_at (group_in journal) (Replica a.source.replica) (run_up_to journal a.source.records))
+
+-- The longest of the first list and these lists, the first of equally long ones.
+abbrev pub longest_from : List Entry → List (List Entry) → List Entry
+longest_from best [] = best
+longest_from best (P ∷ Ps) = longest_from (longer best P) Ps
+
+-- How many requests were sent, by these events.
+abbrev pub requests_sent : List ClientEvent → ℕ
+requests_sent [] = 0
+requests_sent (Sent id command ∷ E) = suc (requests_sent E)
+requests_sent (events.Accepted id answer path ∷ E) = requests_sent E
+
+-- Their places are this number and those that follow.
+abbrev pub AreNumbered : ℕ → List AcceptedAnswer → Type 0
+AreNumbered n [] = Unit {0}
+AreNumbered n (a ∷ xs) = (a.place ≡ n) × AreNumbered (suc n) xs
+
+-- The source is one in the journal, and the prefix has at most as many entries as requests were sent.
+pub record IsWithin (journal : Journal) (a : AcceptedAnswer) : Type 0 where
+  pub replica : a.source.replica < replica_count (group_in journal).f
+  pub records : a.source.records ≤ length journal.records
+  pub sent : length (prefix_for journal a) ≤ a.sent
+
+-- These are accepted answers of the run, in their order: the history is the longest of their prefixes.
+pub record AreAccepted (journal : Journal) (J : List Record) (accepted : List AcceptedAnswer) : Type 0 where
+  pub longest : history (group_in journal) J ≡ longest_from [] (map (prefix_for journal) accepted)
+  pub places : AreNumbered 0 accepted
+  pub within : AllByRecursion (IsWithin journal) accepted
+
+-- The acceptance with its source, if it has one.
+abbrev pub acceptance_from : Option Acceptance → Option Source → ℕ → ℕ → Option AcceptedAnswer
+acceptance_from (Some a) (Some s) place sent = Some (record { place = place; id = a.id; source = s; sent = sent })
+acceptance_from _ _ place sent = None
+
+-- One more comes last, if there is one.
+abbrev pub with_accepted : List AcceptedAnswer → Option AcceptedAnswer → List AcceptedAnswer
+with_accepted accepted None = accepted
+with_accepted accepted (Some a) = accepted ++ a ∷ []
+
+-- ---- the search for the longest
+
+-- Whether the second comes before the first: it has more entries, or as many and was accepted first.
+abbrev pub comes_first : Counted → Counted → Bool
+comes_first best next = nat_lt best.entries next.entries || ((best.entries == next.entries) && nat_lt next.accepted.place best.accepted.place)
+
+-- The one with more entries, of equally long ones the one that was accepted first.
+abbrev pub first_longest : Option Counted → Counted → Counted
+first_longest None next = next
+first_longest (Some best) next = if comes_first best next then next else best
+
+-- Whether the prefix of an accepted answer is shorter than the longest so far, since fewer requests were sent.
+abbrev pub is_shorter : Option Counted → AcceptedAnswer → Bool
+is_shorter None a = false
+is_shorter (Some b) a = nat_lt a.sent b.entries
+
+-- The other prefix is shorter, or as long and accepted no earlier.
+abbrev pub IsNoLonger : Journal → Counted → AcceptedAnswer → Type 0
+IsNoLonger journal b a = (length (prefix_for journal a) < b.entries) ⊎ ((length (prefix_for journal a) ≡ b.entries) × (b.accepted.place ≤ a.place))
+
+-- It is the longest of these prefixes, the first of equally long ones.
+pub record IsBest (journal : Journal) (done : List AcceptedAnswer) (b : Counted) : Type 0 where
+  pub counted : b.entries ≡ length (prefix_for journal b.accepted)
+  pub among : Has done b.accepted
+  pub beats : AllByRecursion (IsNoLonger journal b) done
+
+-- The same, where there is one: without one there are no prefixes.
+abbrev pub IsBestIfAny : Journal → List AcceptedAnswer → Option Counted → Type 0
+IsBestIfAny journal done None = done ≡ []
+IsBestIfAny journal done (Some b) = IsBest journal done b
+
+-- What a search has found among these.
+pub record IsFound (journal : Journal) (done : List AcceptedAnswer) (s : Search) : Type 0 where
+  pub at : IfSome s.at (IsReplayed journal)
+  pub best : IsBestIfAny journal done s.best
