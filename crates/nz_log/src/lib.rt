@@ -25,3 +25,6 @@ pub const MAX_ENTRIES: u32 = nz_base::MAX_ENTRIES;
 
 /// The entries of a page of a log.
 const PAGE: usize = 256;
+
+#[cfg(test)]
+mod tests;

@@ -11,3 +11,6 @@ pub use laws::{
     begins_with_synced_part, entries_come_from_logs, held_key_stays, merged_is_log, prefix_stays,
 };
 pub use new_log::merge;
+
+#[cfg(test)]
+mod tests;

@@ -26,3 +26,6 @@ pub use message::{
     SyncReportBody, TimedBody, VectorAskBody, VectorTellBody, ViewAskBody, ViewChangeBody,
 };
 pub use refusal::DecodeRefusal;
+
+#[cfg(test)]
+mod tests;

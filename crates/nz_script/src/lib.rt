@@ -28,3 +28,6 @@ pub use message::name_of;
 pub use printing::{print, put, put_actor, put_command, put_number};
 pub use reading::read;
 pub use validity::ValidScenario;
+
+#[cfg(test)]
+mod tests;

@@ -1,5 +1,5 @@
 //! Each call that takes memory once where there is enough.
-use nz_base::{
+use super::{
     Actor, Blob, Cluster, Entry, EntryList, Fault, FaultList, IdList, Key, KeyList, List, NoMemory,
     Request, RequestList, Scenario, ScriptList, Skew, SkewList, TryCopy,
 };

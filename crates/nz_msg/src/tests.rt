@@ -1,9 +1,9 @@
 //! Bytes that another program worked out, and each call that takes memory where there is enough.
 ghost use Rattle.std.specs.Prelude.{◌<◌};
 
+use super::*;
 use bytes::Bytes;
 use nz_base::{Actor, Blob, NoMemory};
-use nz_msg::{DecodeRefusal, Message, Path, RequestBody, ViewAskBody, decode, encode};
 use std::alloc::Global;
 use std::test::Fail;
 

@@ -1,8 +1,7 @@
 //! Merges of logs, worked out apart from the program.
 
-use super::entries::{entry_with, key};
-use nz_base::{Cluster, EntryList, List, NoMemory};
-use nz_merge::{Change, ViewChanges, merge};
+use super::*;
+use nz_base::{Blob, Cluster, Entry, EntryList, Key, List, NoMemory};
 use std::alloc::Global;
 use std::test::*;
 
@@ -10,8 +9,13 @@ use std::test::*;
 fn log_of(alloc: Global, sender: u8, deadlines: &[u8]) -> Result<EntryList, NoMemory> {
     let mut log = List::new(alloc);
     for deadline in deadlines {
-        let key = key((u64::from(*deadline), 0, u32::from(*deadline)));
-        log.push(entry_with(alloc, key, &[*deadline, sender])?)?;
+        let key = Key {
+            deadline: u64::from(*deadline),
+            client: 0,
+            num: u32::from(*deadline),
+        };
+        let command = Blob::from_slice(alloc, &[*deadline, sender])?;
+        log.push(Entry { key, command })?;
     }
     Ok(log)
 }

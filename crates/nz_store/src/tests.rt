@@ -1,6 +1,6 @@
 //! Commands, their spellings and their answers.
 
-use nz_store::{Answer, Blob, Command, Store, read_command, write_command};
+use super::*;
 use std::alloc::Global;
 use std::test::Fail;
 

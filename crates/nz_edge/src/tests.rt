@@ -1,7 +1,7 @@
 //! What sources and sinks in memory answer in turn, and that standard output takes a line. A test is given no
 //! standard input; that it is read shows in the stored run of crates/nezha.
+use super::{CallList, Failed, Gate, MemSink, MemSource, OpenGate, Sink, Source, StdSink};
 use nz_base::Blob;
-use nz_edge::{CallList, Failed, Gate, MemSink, MemSource, OpenGate, Sink, Source, StdSink};
 use std::test::Fail;
 
 #[test]

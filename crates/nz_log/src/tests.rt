@@ -1,17 +1,27 @@
 //! Both logs, call by call.
 
-use super::entries::{Row, entry_with, key};
-use nz_base::{Entry, EntryList, Id, List, MAX_ENTRIES, NoMemory};
+use super::*;
+use nz_base::{Blob, Entry, EntryList, Id, Key, List, NoMemory};
 use nz_digest::Digest;
-use nz_log::{
-    HashedLog, ListLog, LogAnswer, LogAnswerList, LogCall, LogCallList, LogRep, run_calls,
-};
 use std::alloc::Global;
 use std::process::Abort;
 use std::test::*;
 
+// Deadline, client and number.
+type Row = (u64, u32, u32);
+
 fn entry(alloc: Global, row: Row) -> Result<Entry, NoMemory> {
-    entry_with(alloc, key(row), b"get a")
+    entry_with(alloc, row, b"get a")
+}
+
+fn entry_with(alloc: Global, row: Row, command: &[u8]) -> Result<Entry, NoMemory> {
+    let key = Key {
+        deadline: row.0,
+        client: row.1,
+        num: row.2,
+    };
+    let command = Blob::from_slice(alloc, command)?;
+    Ok(Entry { key, command })
 }
 
 fn list_of(alloc: Global, rows: &[Row]) -> Result<EntryList, NoMemory> {
@@ -326,7 +336,7 @@ fn put_appends(alloc: Global, calls: &mut LogCallList, rows: &[Row]) -> Result<(
 
 fn put_modifications(alloc: Global, calls: &mut LogCallList, rows: &[Row]) -> Result<(), NoMemory> {
     for row in rows {
-        calls.push(LogCall::Modify(entry_with(alloc, key(*row), b"del a")?))?;
+        calls.push(LogCall::Modify(entry_with(alloc, *row, b"del a")?))?;
         ask(calls)?;
     }
     Ok(())

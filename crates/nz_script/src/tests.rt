@@ -1,7 +1,7 @@
 //! Texts, drawn scenarios, and first bad lines.
 
+use super::*;
 use nz_base::Scenario;
-use nz_script::{Kind, ScriptFault, ValidScenario, generate, print, read};
 use std::alloc::Global;
 use std::process::Abort;
 use std::test::Fail;
