@@ -1,30 +1,20 @@
 -- Records that are scheduled, and are steps of their actors, are a run.
-use Rattle.std.proofs.Common.{◌≡◌, ℕ, zero, suc, ◌+◌, ◌<◌, ◌≤◌, eqb, cond, Bool, true, false, List}
-use Rattle.std.proofs.Common.{[], ◌∷◌, ◌++◌, map, refl, sym, ap, ◌∙◌, subst, arith, append-nil}
+use Rattle.std.proofs.Common.{◌≡◌, ℕ, zero, suc, ◌+◌, ◌≤◌, eqb, cond, List}
+use Rattle.std.proofs.Common.{[], ◌∷◌, ◌++◌, map, refl, sym, ap, ◌∙◌, subst, arith}
 use Rattle.std.specs.Prelude.{reverse, IsPermutation}
 use Rattle.std.specs.List.{AllByRecursion, sum_by}
 use Rattle.std.proofs.lemmas.Bool.{eqb-true, cond_both}
 use Rattle.std.proofs.lemmas.Bool.Decides.{nat_tests}
-use Rattle.std.proofs.lemmas.Grind.{reverse_onto}
-use Rattle.std.proofs.lemmas.List.{reverse-reverse}
-use Rattle.std.proofs.lemmas.List.Elements.{filter-append}
 use Rattle.std.proofs.lemmas.List.Sums.{sum_by-append}
 use Rattle.std.proofs.lemmas.List.Sorted.{IsPermutation-map, IsPermutation-reverse, sum_by-IsPermutation}
-use Rattle.nz_base.specs.Actor.{actor_eq}
-use Rattle.nz_base.proofs.Names.{actor_eq_self}
-use Rattle.nz_base.specs.Cluster.{replica_count}
-use Rattle.nz_base.specs.declared.actor.Actor.{Actor}
-use Rattle.nz_base.specs.declared.actor.Actor.TheVariants as actors
 use Rattle.nz_base.specs.declared.scenario.Scenario.{Scenario}
 use Rattle.nz_machine.specs.declared.event.Event.{Event}
 use Rattle.nz_machine.specs.declared.event.Event.TheVariants.{Deliver, Cut, Tick, Alarm, Crash, Restart}
 use Rattle.nz_machine.specs.declared.event.Record.{Record}
 use Rattle.nz_machine.specs.declared.journal.Item.{Item}
 use Rattle.nz_machine.specs.State.{Group}
-use Rattle.nz_machine.specs.Step.{node_step, event_step}
-use Rattle.nz_machine.specs.World.{state_after, World}
+use Rattle.nz_machine.specs.World.{World}
 use Rattle.nz_machine.specs.Schedule.{group_of, item_of, due, ScheduledTo, IsPlayable}
-use Rattle.nz_machine.proofs.Runs.{acts, stays}
 use Rattle.nz_fabric.specs.Steps.{AreSteps}
 use Rattle.nz_machine.proofs.EachItem.{all_append}
 use Rattle.nz_run.proofs.DueMayHappen.{IsFine, ItemIsFine}
