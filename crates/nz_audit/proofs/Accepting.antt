@@ -1,6 +1,6 @@
 -- An acceptance leads to its prefix, and the longest of them to the history.
-use Rattle.std.proofs.Common.{◌≡◌, ℕ, suc, ◌+◌, ◌-◌, ◌<◌, Bool, true, false, cond, List, [], ◌∷◌, ◌++◌, length, map, append_assoc}
-use Rattle.std.proofs.Common.{zero, Option, Some, None, refl, sym, ap, subst, ◌∙◌, arith, lt-ltb, ltb-true}
+use Rattle.std.proofs.Common.{◌≡◌, ℕ, suc, ◌+◌, ◌-◌, ◌<◌, List, [], ◌∷◌, ◌++◌, length, map, append_assoc}
+use Rattle.std.proofs.Common.{zero, Option, Some, None, refl, sym, ap, subst, ◌∙◌, arith, ltb-true}
 use Rattle.std.specs.Prelude.{nat_lt}
 use Rattle.std.specs.Option.{option_map, option_and_then, option_flatten}
 use Rattle.std.proofs.lemmas.Bool.{cond_both}
@@ -10,7 +10,6 @@ use Rattle.nz_base.specs.declared.actor.Actor.TheVariants.{Replica, Proxy, Clien
 use Rattle.nz_base.specs.declared.key.Id.{Id}
 use Rattle.nz_base.specs.declared.key.Entry.{Entry}
 use Rattle.nz_base.specs.declared.scenario.Request.{Request}
-use Rattle.nz_log.specs.Places.{place_of}
 use Rattle.nz_msg.specs.declared.envelope.Envelope.{Envelope}
 use Rattle.nz_msg.specs.declared.message.AnswerBody.{AnswerBody}
 use Rattle.nz_msg.specs.declared.message.Message.{Message}
@@ -28,7 +27,7 @@ use Rattle.nz_machine.specs.Step.{accepted_envelope, envelope_step, event_step, 
 use Rattle.nz_machine.specs.World.{state_after, World, IsMember}
 use Rattle.nz_machine.specs.Events.{ClientEvent, Accepted, id_at, read_in, accepted_in, accepted_by, sent_after, sent_by, client_events, events}
 use Rattle.nz_machine.specs.ClientProgress.{acceptance_events, request_events, events_of_telling}
-use Rattle.nz_machine.specs.History.{ReplySource, source, log_at, cut_at, cut_after, source_of_sender, accepted_source}
+use Rattle.nz_machine.specs.History.{ReplySource, source, log_at, cut_after, source_of_sender, accepted_source}
 use Rattle.nz_machine.specs.History.{prefix_at_source, accepted_prefix, entries_or, prefix_in, longer, history}
 use Rattle.nz_machine.proofs.EachItem.{all_append}
 use Rattle.nz_machine.proofs.Moments.{at_world}

@@ -1,10 +1,9 @@
 -- What a reading has found stays true as it takes one more record.
-use Rattle.std.proofs.Common.{◌≡◌, ℕ, zero, suc, ◌+◌, ◌<◌, ◌≤◌, false, eqb, List, [], ◌∷◌, ◌++◌, length, take, reverse, get_or}
-use Rattle.std.proofs.Common.{Option, Some, None, Result, Ok, Err, refl, sym, ap, subst, ◌∙◌, inl, inr, arith, eqb-true, length-take}
+use Rattle.std.proofs.Common.{◌≡◌, ℕ, false, eqb, List, [], ◌∷◌}
+use Rattle.std.proofs.Common.{Option, Some, None, Result, Ok, Err, refl, sym, ap, subst, ◌∙◌, inl, inr, eqb-true}
 use Rattle.std.proofs.lemmas.Bool.{cases_Bool}
 use Rattle.std.specs.Prelude.{OnOk}
 use Rattle.std.specs.Option.{option_and_then, option_flatten}
-use Rattle.std.proofs.lemmas.List.{reverse-append, reverse-reverse, length-reverse, length-append}
 use Rattle.nz_base.specs.Actor.{actor_eq}
 use Rattle.nz_base.specs.declared.actor.Actor.{Actor}
 use Rattle.nz_base.specs.declared.actor.Actor.TheVariants.{Proxy}
@@ -13,8 +12,6 @@ use Rattle.nz_machine.specs.declared.event.Event.{Event}
 use Rattle.nz_machine.specs.declared.event.Event.TheVariants.{Deliver, Cut, Tick, Alarm, Crash, Restart}
 use Rattle.nz_machine.specs.declared.event.Parcel.{Parcel}
 use Rattle.nz_machine.specs.declared.event.Record.{Record}
-use Rattle.nz_machine.specs.declared.journal.Journal.{Journal}
-use Rattle.nz_machine.specs.Journals.{run_in}
 use Rattle.nz_machine.specs.State.{ProxyData, Standing, Open, Decided, Group}
 use Rattle.nz_machine.specs.Proxies.{standing_of}
 use Rattle.nz_machine.specs.World.{state_after, World}
@@ -26,7 +23,6 @@ use Rattle.nz_audit.specs.declared.sending.ParcelKey.{ParcelKey}
 use Rattle.nz_audit.specs.Sources.{in_numbers, about, stands_for, source_sent, source_delivered}
 use Rattle.nz_audit.specs.Noting.{after_event, down_after, decided_in, IsSized}
 use Rattle.nz_audit.specs.Memories.{memory_of}
-use Rattle.nz_audit.specs.Cores.{run_up_to}
 use Rattle.nz_audit.specs.Readings.{known_to, is_down_in, IsProxy, IsTable}
 use Rattle.nz_audit.proofs.Memories.{memory_stays, no_decision}
 use Rattle.nz_audit.proofs.Events.{source_in, memory_after, down_then}

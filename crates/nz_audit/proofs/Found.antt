@@ -15,7 +15,7 @@ use Rattle.nz_log.specs.Synced.{Log}
 use Rattle.nz_machine.specs.declared.event.Record.{Record}
 use Rattle.nz_machine.specs.declared.journal.Journal.{Journal}
 use Rattle.nz_machine.specs.Journals.{group_in, run_in}
-use Rattle.nz_machine.specs.State.{ReplicaData, Group}
+use Rattle.nz_machine.specs.State.{ReplicaData}
 use Rattle.nz_machine.specs.World.{World, Has}
 use Rattle.nz_machine.specs.ClientProgress.{AreAfter}
 use Rattle.nz_machine.specs.Events.{events}

@@ -1,6 +1,6 @@
 -- A log has at most as many entries as requests were sent.
-use Rattle.std.proofs.Common.{◌≡◌, ℕ, zero, suc, ◌+◌, ◌≤◌, Bool, true, false, cond, not, List, [], ◌∷◌, ◌++◌, length, take, Option, Some, None, refl, sym, ap, subst}
-use Rattle.std.proofs.Common.{◌∙◌, inl, inr, arith, length-take}
+use Rattle.std.proofs.Common.{◌≡◌, ℕ, suc, ◌+◌, ◌≤◌, Bool, true, not, List, [], ◌∷◌, ◌++◌, length, Option, Some, None, refl, ap, subst}
+use Rattle.std.proofs.Common.{inl, inr, arith, length-take}
 use Rattle.std.proofs.lemmas.Bool.{cases_Bool}
 use Rattle.std.specs.List.{AllByRecursion, filter}
 use Rattle.nz_base.specs.declared.actor.Actor.TheVariants.{Replica}
@@ -8,14 +8,13 @@ use Rattle.nz_base.specs.declared.key.Id.{Id}
 use Rattle.nz_base.specs.declared.key.Entry.{Entry}
 use Rattle.nz_base.specs.Key.{id_eq, id_of}
 use Rattle.nz_base.specs.Log.{keys_of, HaveOwnIds}
-use Rattle.nz_base.specs.Moments.{At}
 use Rattle.nz_base.proofs.Booleans.{true_and_false}
 use Rattle.nz_base.proofs.Logs.{own_in_prefix, own_filter, keys_append}
 use Rattle.nz_base.proofs.Names.{id_eq_self}
 use Rattle.nz_log.specs.Places.{place_of}
 use Rattle.nz_machine.specs.declared.event.Record.{Record}
 use Rattle.nz_machine.specs.State.{Group}
-use Rattle.nz_machine.specs.World.{state_after, World, Has}
+use Rattle.nz_machine.specs.World.{state_after, World}
 use Rattle.nz_machine.specs.Events as events
 use Rattle.nz_machine.specs.Events.{ClientEvent, Sent, client_events}
 use Rattle.nz_machine.specs.ClientProgress.{acceptance_events, request_events, events_of_telling}

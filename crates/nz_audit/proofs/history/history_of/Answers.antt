@@ -1,11 +1,8 @@
 -- What the function of this folder owes, proved.
-use Rattle.std.proofs.Common.{◌≡◌, List, [], Option, IfOk, sym, ap, subst, ◌∙◌}
+use Rattle.std.proofs.Common.{◌≡◌, List, IfOk, sym, ap, subst, ◌∙◌}
 use Rattle.nz_base.specs.declared.key.Entry.{Entry}
-use Rattle.nz_machine.specs.Journals.{group_in, run_in, executed_entries}
-use Rattle.nz_machine.specs.History.{history}
-use Rattle.nz_audit.specs.declared.source.AcceptedAnswer.{AcceptedAnswer}
-use Rattle.nz_audit.specs.declared.source.Counted.{Counted}
-use Rattle.nz_audit.specs.Prefixes.{longest_from, IsBest, IsBestIfAny, prefix_for}
+use Rattle.nz_machine.specs.Journals.{run_in, executed_entries}
+use Rattle.nz_audit.specs.Prefixes.{IsBest, IsBestIfAny, prefix_for}
 use Rattle.nz_machine.proofs.Runs.{all_has}
 use Rattle.nz_audit.specs.Prefixes.{IsWithin}
 use Rattle.nz_audit.proofs.Longest.{first_of_all}
