@@ -29,10 +29,6 @@ use Rattle.nz_audit.proofs.Events.{source_in, memory_after, down_then}
 
 -- ---- results
 
-pub always : {A E Q : Type 0} (r : Result A E) → Q → OnOk r Q
-always (Ok a) q = q
-always (Err e) q = tt
-
 pub on_three : {A E P Q R S : Type 0} (r : Result A E) → (P → Q → R → S) → OnOk r P → OnOk r Q → OnOk r R → OnOk r S
 on_three (Ok a) f p q s = f p q s
 on_three (Err e) f p q s = tt

@@ -26,7 +26,6 @@ mod turn;
 pub use alone::Alone;
 pub use calendar::Calendar;
 pub use chronicle::Opened;
-pub use due::Sort;
 pub use fabric::Fabric;
 pub use fabric_state::FabricState;
 pub use lane::Lane;
