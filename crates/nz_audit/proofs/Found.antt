@@ -1,5 +1,6 @@
 -- What a reading has found after a record, and what it says of the journal's history.
-use Rattle.std.proofs.Common.{◌≡◌, ℕ, zero, suc, ◌+◌, ◌<◌, ◌≤◌, List, [], ◌∷◌, ◌++◌, length, map, take, drop, reverse, Option, None, Some, Result, Ok, Err, IfOk, refl, sym, ap, subst, ◌∙◌, inl, inr, arith, length-take}
+use Rattle.std.proofs.Common.{◌≡◌, ℕ, zero, suc, ◌+◌, ◌<◌, ◌≤◌, List, [], ◌∷◌, ◌++◌, length, map, take, drop, reverse}
+use Rattle.std.proofs.Common.{Option, None, Some, Result, Ok, Err, IfOk, refl, sym, ap, subst, ◌∙◌, inl, inr, arith, length-take}
 use Rattle.std.specs.Prelude.{nat_eq, slice_get, IsPermutation}
 use Rattle.std.specs.List.{AllByRecursion}
 use Rattle.std.proofs.lemmas.List.Elements.{All-from_recursion, recursion_from_All}
@@ -86,7 +87,8 @@ cut_is log (Some place) = cut_so (suc place) log
     cut_so (suc n) (e ∷ es) = ap (λ (l : List Entry). e ∷ l) (cut_so n es)
 
 -- the log has the prefix that is cut from it
-pub log_replayed : (journal : Journal) (a : AcceptedAnswer) (at : Replayed) (log : Log) → at.source ≡ a.source → IsReplayed journal at → log ≡ at.core.model.state.log
+pub log_replayed : (journal : Journal) (a : AcceptedAnswer) (at : Replayed) (log : Log) → at.source ≡ a.source
+    → IsReplayed journal at → log ≡ at.core.model.state.log
     → cut_after a.id log.entries ≡ prefix_for journal a
 log_replayed journal a at log same is read =
     let g = group_in journal in

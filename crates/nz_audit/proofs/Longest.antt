@@ -147,7 +147,8 @@ by_order_not journal best next counted e = elim (cases_Bool (nat_lt best.entries
 ]
 
 -- one that was counted
-pub best_then : (journal : Journal) (done : List AcceptedAnswer) (next : Counted) (o : Option Counted) → next.entries ≡ length (prefix_for journal next.accepted)
+pub best_then : (journal : Journal) (done : List AcceptedAnswer) (next : Counted) (o : Option Counted)
+    → next.entries ≡ length (prefix_for journal next.accepted)
     → IsBestIfAny journal done o → IsBest journal (done ++ next.accepted ∷ []) (first_longest o next)
 best_then journal done next None counted none = record {
   counted = counted;

@@ -44,7 +44,10 @@ none_at (suc n) (suc i) = none_at n i
 
 pub counts_none : (counts : List ℕ) → counts ≡ replicate 768 0 → AreCounts [] counts
 counts_none counts e =
-    record { many = ap length e ∙ length-replicate {A = ℕ} 768 0; counted = λ a. ap (λ (ns : List ℕ). get_or ns (row_number a) 0) e ∙ none_at 768 (row_number a) }
+    record {
+      many = ap length e ∙ length-replicate {A = ℕ} 768 0;
+      counted = λ a. ap (λ (ns : List ℕ). get_or ns (row_number a) 0) e ∙ none_at 768 (row_number a);
+    }
 
 -- ---- one record more
 

@@ -18,13 +18,15 @@ returns-in-None c =
 pub replay-requires-clause-replica : goal.replay-requires-clause-replica
 replay-requires-clause-replica c =
     let j = c.args.journal.now in
-    let h : IsBest j c.in_ok-accepted.accepted.items c.in-Some.best = subst (IsBestIfAny j c.in_ok-accepted.accepted.items) c.in-Some.is c.in_ok-found.ensures.best in
+    let h : IsBest j c.in_ok-accepted.accepted.items c.in-Some.best =
+    subst (IsBestIfAny j c.in_ok-accepted.accepted.items) c.in-Some.is c.in_ok-found.ensures.best in
     (all_has (IsWithin j) c.in_ok-accepted.accepted.items c.in-Some.best.accepted c.in_ok-accepted.ensures.within h.among).replica
 
 pub replay-requires-clause-records : goal.replay-requires-clause-records
 replay-requires-clause-records c =
     let j = c.args.journal.now in
-    let h : IsBest j c.in_ok-accepted.accepted.items c.in-Some.best = subst (IsBestIfAny j c.in_ok-accepted.accepted.items) c.in-Some.is c.in_ok-found.ensures.best in
+    let h : IsBest j c.in_ok-accepted.accepted.items c.in-Some.best =
+    subst (IsBestIfAny j c.in_ok-accepted.accepted.items) c.in-Some.is c.in_ok-found.ensures.best in
     (all_has (IsWithin j) c.in_ok-accepted.accepted.items c.in-Some.best.accepted c.in_ok-accepted.ensures.within h.among).records
 
 pub execute-requires : goal.execute-requires

@@ -12,7 +12,8 @@ pub returns-in-Replica : goal.returns-in-Replica
 returns-in-Replica c =
     let J = run_up_to c.args.journal.now c.args.records in
     let long = run_length c.args.journal.now c.args.records c.requires.records in
-    (λ i. Some (record { replica = c.in-Replica.replica; records = sym long i })) ∙ sym (ap (λ (a : Actor). source_sent (group_in c.args.journal.now) c.args.id a J) c.in-Replica.is)
+    (λ i. Some (record { replica = c.in-Replica.replica; records = sym long i }))
+    ∙ sym (ap (λ (a : Actor). source_sent (group_in c.args.journal.now) c.args.id a J) c.in-Replica.is)
 
 pub returns-in-Proxy : goal.returns-in-Proxy
 returns-in-Proxy c =

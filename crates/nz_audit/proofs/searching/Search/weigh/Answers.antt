@@ -9,7 +9,8 @@ use Rattle.nz_audit.proofs.searching.Search.weigh.Goals as goal
 pub returns-then-is_shorter : goal.returns-then-is_shorter
 returns-then-is_shorter c = λ done h. record {
   at = h.at;
-  best = best_stays c.args.journal.now done c.args.next.now c.args.self.now.best c.requires.within.sent (sym c.is_shorter.ensures ∙ c.if-is_shorter.true) h.best;
+  best =
+      best_stays c.args.journal.now done c.args.next.now c.args.self.now.best c.requires.within.sent (sym c.is_shorter.ensures ∙ c.if-is_shorter.true) h.best;
 }
 
 pub returns : goal.returns

@@ -14,7 +14,8 @@ use Rattle.nz_fabric.proofs.fabric_state.FabricState.into_journal.Goals as goal
 pub returns-clause-records : goal.returns-clause-records
 returns-clause-records g c =
     let f = c.self.inside in
-    ap reverse (c.from_vec.ensures ∙ c.into_records.ensures.records) ∙ sym (all_records f.before f.records.records) ∙ ap (λ (f : Shared). records_of f.run) c.self.view_is
+    ap reverse (c.from_vec.ensures ∙ c.into_records.ensures.records)
+    ∙ sym (all_records f.before f.records.records) ∙ ap (λ (f : Shared). records_of f.run) c.self.view_is
 
 pub returns-clause-scheduled : goal.returns-clause-scheduled
 returns-clause-scheduled g c =
@@ -30,4 +31,5 @@ returns-clause-scheduled g c =
     (subst (λ (s : Scenario). Scheduled s J) k.scenario whole)
 
 pub returns-clause-steps : goal.returns-clause-steps
-returns-clause-steps g c = subst (λ (rs : List Record). AreSteps (group_of g.N.Name.scenario) (reverse rs)) (sym c.from_vec.ensures) c.into_records.ensures.steps
+returns-clause-steps g c =
+    subst (λ (rs : List Record). AreSteps (group_of g.N.Name.scenario) (reverse rs)) (sym c.from_vec.ensures) c.into_records.ensures.steps

@@ -41,7 +41,9 @@ invariant_of-self-else-not-push g c =
     let same : c.close-item.result.item ≡ item c.args.turn.actor c.args.turn.event = c.is_item-same.ensures.0 c.if-not-same.false in
     let step : _ ≡ f.records.records ++ record_of_turn (turn_of t.tick c.close-item.result) c.args.sends ∷ [] =
     c.if-not-push.ensures.pushed.0
-    ∙ ap (λ (i : Item). let r : Record = record { tick = t.tick; actor = i.actor; event = i.event; sends = c.args.sends } in f.records.records ++ r ∷ []) (sym same) in (
+    ∙ ap (λ (i : Item).
+    let r : Record = record { tick = t.tick; actor = i.actor; event = i.event; sends = c.args.sends } in
+    f.records.records ++ r ∷ []) (sym same) in (
       c.self.invariant.0,
       rw (c.push.ensures.room, step)
           (booked_recorded _ f.book.total c.sub.new.self.total t.scenario t.tick f.before _ f.records.records
@@ -56,6 +58,8 @@ returns-clause-lane g c =
       pushed.0
           ∙ ap (steps_of c.args.turn.actor) (sym (all_records f.before f.records.records) ∙ ap (λ (f : Shared). records_of f.run) c.self.view_is),
       pushed.1
-          ∙ ap (λ (t : _). let r : Record = record { tick = t; actor = c.args.turn.actor; event = c.args.turn.event; sends = c.args.sends } in with_step r c.args.lane.now)
+          ∙ ap (λ (t : _).
+          let r : Record = record { tick = t; actor = c.args.turn.actor; event = c.args.turn.event; sends = c.args.sends } in
+          with_step r c.args.lane.now)
           (ap (λ (f : Shared). f.run.tick) c.self.view_is),
     )

@@ -28,7 +28,9 @@ invariant_of-self-2 g c =
     let step = c.args.step in
     let inv = c.self.invariant in
     let J : List Record = reverse f.records.items in
-    let grown = subst (λ b. MatchBool b ((c.append.new.seen ≡ f.seen ++ step ∷ []) × IsPrefix c.lane.inside.seen f.seen) (c.append.new.seen ≡ f.seen)) c.if-not-append.false c.append.ensures in
+    let grown =
+    subst (λ b. MatchBool b ((c.append.new.seen ≡ f.seen ++ step ∷ []) × IsPrefix c.lane.inside.seen f.seen) (c.append.new.seen ≡ f.seen))
+    c.if-not-append.false c.append.ensures in
     let read = count_is J f.counts.items step.actor c.place_of-place.result c.index-count.result.now inv.1 c.place_of-place.ensures.number
     c.place_of-place.ensures.within c.index-count.ensures in
     let seen = all_seen f.records.items c.lane.inside.seen c.lane.inside.actor step.actor (subst (IsPrefix c.lane.inside.seen) inv.0 grown.1)
@@ -51,12 +53,15 @@ invariant_of-lane g c =
     let inv = c.self.invariant in
     let J : List Record = reverse f.records.items in
     let a = c.lane.inside.actor in
-    let grown = subst (λ b. MatchBool b ((c.append.new.seen ≡ f.seen ++ step ∷ []) × IsPrefix c.lane.inside.seen f.seen) (c.append.new.seen ≡ f.seen)) c.if-not-append.false c.append.ensures in
+    let grown =
+    subst (λ b. MatchBool b ((c.append.new.seen ≡ f.seen ++ step ∷ []) × IsPrefix c.lane.inside.seen f.seen) (c.append.new.seen ≡ f.seen))
+    c.if-not-append.false c.append.ensures in
     let read = count_is J f.counts.items step.actor c.place_of-place.result c.index-count.result.now inv.1 c.place_of-place.ensures.number
     c.place_of-place.ensures.within c.index-count.ensures in
     let same : step.actor ≡ a = c.requires.own ∙ sym (ap (λ (own : ActorSteps). own.actor) c.lane.view_is) in
     let now : of_actor a (reverse c.again.result) ≡ step ∷ of_actor a J =
-    ap (λ (rs : List Record). of_actor a (reverse rs)) (c.again.ensures ∙ grown.0 ∙ ap (λ (rs : List Record). rs ++ step ∷ []) inv.0) ∙ own_pushed f.records.items step a same in
+    ap (λ (rs : List Record). of_actor a (reverse rs)) (c.again.ensures ∙ grown.0 ∙ ap (λ (rs : List Record). rs ++ step ∷ []) inv.0)
+    ∙ own_pushed f.records.items step a same in
     omega (arith, ap length now, read, ap (λ (x : _). length (of_actor x J)) same)
 
 pub returns-clause-pushed : goal.returns-clause-pushed
@@ -66,14 +71,17 @@ returns-clause-pushed g c =
     let inv = c.self.invariant in
     let J : List Record = reverse f.records.items in
     let a = c.lane.inside.actor in
-    let grown = subst (λ b. MatchBool b ((c.append.new.seen ≡ f.seen ++ step ∷ []) × IsPrefix c.lane.inside.seen f.seen) (c.append.new.seen ≡ f.seen)) c.if-not-append.false c.append.ensures in
+    let grown =
+    subst (λ b. MatchBool b ((c.append.new.seen ≡ f.seen ++ step ∷ []) × IsPrefix c.lane.inside.seen f.seen) (c.append.new.seen ≡ f.seen))
+    c.if-not-append.false c.append.ensures in
     let read = count_is J f.counts.items step.actor c.place_of-place.result c.index-count.result.now inv.1 c.place_of-place.ensures.number
     c.place_of-place.ensures.within c.index-count.ensures in
     let same : step.actor ≡ a = c.requires.own ∙ sym (ap (λ (own : ActorSteps). own.actor) c.lane.view_is) in
     let seen = all_seen f.records.items c.lane.inside.seen a step.actor (subst (IsPrefix c.lane.inside.seen) inv.0 grown.1) same
     (sym c.lane.invariant ∙ c.if-lane-count.false ∙ read) in
     let now : of_actor a (reverse c.again.result) ≡ step ∷ of_actor a J =
-    ap (λ (rs : List Record). of_actor a (reverse rs)) (c.again.ensures ∙ grown.0 ∙ ap (λ (rs : List Record). rs ++ step ∷ []) inv.0) ∙ own_pushed f.records.items step a same in
+    ap (λ (rs : List Record). of_actor a (reverse rs)) (c.again.ensures ∙ grown.0 ∙ ap (λ (rs : List Record). rs ++ step ∷ []) inv.0)
+    ∙ own_pushed f.records.items step a same in
     let records : f.records.items ≡ c.args.self.now.records = ap (λ (x : _). x.records) c.self.view_is in
     let all : of_actor a (reverse c.lane.inside.seen) ≡ of_actor a J =
     ap (λ (x : ActorSteps). x.steps) seen ∙ ap (λ (x : _). of_actor x J) same in (

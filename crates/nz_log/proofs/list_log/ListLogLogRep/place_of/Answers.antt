@@ -16,7 +16,10 @@ pub returns-in-Some-clause-value : goal.returns-in-Some-clause-value
 returns-in-Some-clause-value c = sym (first_place c.args.self.now.entries c.args.id c.in-Some.place (at c))
 
 pub returns-in-Some-clause-held : goal.returns-in-Some-clause-held
-returns-in-Some-clause-held c = (λ _. held_at c.args.self.now.entries c.args.id c.in-Some.place (first_is_place c.args.self.now.entries c.args.id c.in-Some.place (at c)), λ _. refl)
+returns-in-Some-clause-held c = (
+  λ _. held_at c.args.self.now.entries c.args.id c.in-Some.place (first_is_place c.args.self.now.entries c.args.id c.in-Some.place (at c)),
+  λ _. refl,
+)
 
 pub returns-in-None-clause-value : goal.returns-in-None-clause-value
 returns-in-None-clause-value c =
