@@ -8,7 +8,7 @@ ghost use Rattle.nz_msg.specs.Messages.{Fits};
 ghost use Rattle.nz_machine.specs.Step.{is_in_cluster, is_sized, message_vector};
 
 use super::entries::{entry_with, key};
-use super::states::first_state;
+use super::states::{TestStep, first_state, take_all};
 use nz_base::{Actor, EntryList, List, NoMemory};
 use nz_cv::CrashVector;
 use nz_machine::{Phase, ReplicaState, Sends, is_from_cluster, kind_of};
@@ -105,20 +105,22 @@ fn hear(
     handle(state, from, &envelope.message, sends)
 }
 
-fn take(
-    alloc: Global,
-    state: &mut ReplicaState,
-    step: Step,
-    sends: &mut Sends,
-) -> Result<(), NoMemory> {
-    match step {
-        Vector(from) => hear(state, Actor::Replica(from), vector_told(), sends),
-        View(from, view, first) => {
-            hear(state, Actor::Replica(from), view_told(view, first), sends)
-        }
-        Log(from, view, first) => {
-            let message = log_told(alloc, view, first)?;
-            hear(state, Actor::Replica(from), message, sends)
+impl TestStep for Step {
+    fn take(
+        self,
+        alloc: Global,
+        state: &mut ReplicaState,
+        sends: &mut Sends,
+    ) -> Result<(), NoMemory> {
+        match self {
+            Vector(from) => hear(state, Actor::Replica(from), vector_told(), sends),
+            View(from, view, first) => {
+                hear(state, Actor::Replica(from), view_told(view, first), sends)
+            }
+            Log(from, view, first) => {
+                let message = log_told(alloc, view, first)?;
+                hear(state, Actor::Replica(from), message, sends)
+            }
         }
     }
 }
@@ -297,18 +299,6 @@ const ROWS: &[Row] = &[
 
 fn rows() -> &'static [Row] {
     ROWS
-}
-
-fn take_all(
-    alloc: Global,
-    state: &mut ReplicaState,
-    steps: &[Step],
-    sends: &mut Sends,
-) -> Result<(), NoMemory> {
-    for step in steps {
-        take(alloc, state, *step, sends)?;
-    }
-    Ok(())
 }
 
 // The replica crashes and restarts before the steps.

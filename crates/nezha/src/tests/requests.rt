@@ -1,6 +1,6 @@
 //! Replicas that take requests and ticks. The outcomes are worked out apart from the program.
 
-use super::states::first_state;
+use super::states::{TestStep, first_state, take_all};
 use nz_base::{Actor, Blob, Id, List, NoMemory};
 use nz_digest::Digest;
 use nz_machine::{Parcel, ReplicaState, Sends};
@@ -55,31 +55,21 @@ fn hear(state: &mut ReplicaState, message: &Message, sends: &mut Sends) -> Resul
     }
 }
 
-fn take(
-    alloc: Global,
-    state: &mut ReplicaState,
-    step: Step,
-    sends: &mut Sends,
-) -> Result<(), NoMemory> {
-    match step {
-        Step::Tick(clock) => tick(state, clock, sends),
-        Step::Ask(client, num, sent, deadline) => {
-            let message = asked(alloc, Id { client, num }, sent, deadline)?;
-            hear(state, &message, sends)
+impl TestStep for Step {
+    fn take(
+        self,
+        alloc: Global,
+        state: &mut ReplicaState,
+        sends: &mut Sends,
+    ) -> Result<(), NoMemory> {
+        match self {
+            Step::Tick(clock) => tick(state, clock, sends),
+            Step::Ask(client, num, sent, deadline) => {
+                let message = asked(alloc, Id { client, num }, sent, deadline)?;
+                hear(state, &message, sends)
+            }
         }
     }
-}
-
-fn take_all(
-    alloc: Global,
-    state: &mut ReplicaState,
-    steps: &[Step],
-    sends: &mut Sends,
-) -> Result<(), NoMemory> {
-    for step in steps {
-        take(alloc, state, *step, sends)?;
-    }
-    Ok(())
 }
 
 // The fast reply to a client's request 1 that a replica sent to proxy 0.
@@ -369,7 +359,7 @@ fn requests_and_where_they_stand(rt: HostRuntime) -> Result<(), Fail> {
 fn ask_often(alloc: Global, state: &mut ReplicaState, sends: &mut Sends) -> Result<(), NoMemory> {
     for num in 0..4_097 {
         let deadline = 9_000u64.saturating_sub(u64::from(num));
-        take(alloc, state, Ask(0, num, 0, deadline), sends)?;
+        Ask(0, num, 0, deadline).take(alloc, state, sends)?;
     }
     Ok(())
 }

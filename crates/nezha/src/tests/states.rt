@@ -1,7 +1,7 @@
-//! A replica in its first state.
+//! A replica in its first state, and what it takes in a test.
 
-use nz_base::Cluster;
-use nz_machine::ReplicaState;
+use nz_base::{Cluster, NoMemory};
+use nz_machine::{ReplicaState, Sends};
 use std::alloc::Global;
 use std::test::Fail;
 
@@ -11,4 +11,27 @@ pub fn first_state(alloc: Global, f: u8, me: u8) -> Result<Vec<ReplicaState>, Fa
     let mut states = Vec::new(alloc);
     states.push(ReplicaState::new(alloc, cluster, me % cluster.n())?)?;
     Ok(states)
+}
+
+/// A step that a table of a test has.
+pub trait TestStep: Copy {
+    fn take(
+        self,
+        alloc: Global,
+        state: &mut ReplicaState,
+        sends: &mut Sends,
+    ) -> Result<(), NoMemory>;
+}
+
+/// The replica takes the steps in turn.
+pub fn take_all<S: TestStep>(
+    alloc: Global,
+    state: &mut ReplicaState,
+    steps: &[S],
+    sends: &mut Sends,
+) -> Result<(), NoMemory> {
+    for step in steps {
+        step.take(alloc, state, sends)?;
+    }
+    Ok(())
 }

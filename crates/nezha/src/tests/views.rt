@@ -9,7 +9,7 @@ ghost use Rattle.nz_machine.specs.Step.{is_in_cluster, is_sized, message_vector}
 mod long;
 
 use super::entries::{entry_with, key};
-use super::states::first_state;
+use super::states::{TestStep, first_state, take_all};
 use nz_base::{Actor, Cluster, EntryList, List, NoMemory};
 use nz_cv::CrashVector;
 use nz_machine::{ReplicaState, Sends, is_from_cluster, kind_of};
@@ -158,16 +158,18 @@ fn wait_all(state: &mut ReplicaState, ticks: u8, sends: &mut Sends) -> Result<()
     Ok(())
 }
 
-fn take(
-    alloc: Global,
-    state: &mut ReplicaState,
-    step: Step,
-    sends: &mut Sends,
-) -> Result<(), NoMemory> {
-    match step {
-        Alarm => on_alarm(state, sends),
-        Wait(ticks) => wait_all(state, ticks, sends),
-        Ask(..) | Change(..) | Start(..) => hear_step(alloc, state, step, sends),
+impl TestStep for Step {
+    fn take(
+        self,
+        alloc: Global,
+        state: &mut ReplicaState,
+        sends: &mut Sends,
+    ) -> Result<(), NoMemory> {
+        match self {
+            Alarm => on_alarm(state, sends),
+            Wait(ticks) => wait_all(state, ticks, sends),
+            Ask(..) | Change(..) | Start(..) => hear_step(alloc, state, self, sends),
+        }
     }
 }
 
@@ -291,18 +293,6 @@ const ROWS: &[Row] = &[
 
 fn rows() -> &'static [Row] {
     ROWS
-}
-
-fn take_all(
-    alloc: Global,
-    state: &mut ReplicaState,
-    steps: &[Step],
-    sends: &mut Sends,
-) -> Result<(), NoMemory> {
-    for step in steps {
-        take(alloc, state, *step, sends)?;
-    }
-    Ok(())
 }
 
 fn end_of(state: &ReplicaState) -> (u64, bool, u32, u32) {
