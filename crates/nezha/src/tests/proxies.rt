@@ -82,7 +82,7 @@ fn reply(alloc: Global, replica: u8, message: &Message) -> Result<Event, Fail> {
     Ok(Event::Deliver(parcel(alloc, from, ME, message)?))
 }
 
-// What comes to the proxy: what its clock reads; a request of the client by its number; a fast or a slow reply of a
+// An input of the proxy: what its clock reads; a request of the client by its number; a fast or a slow reply of a
 // replica to the request of a number, with its delay; a fast reply with a vector of five replicas; one to another proxy;
 // a cut one; an alarm; a crash; or a restart.
 #[derive(Clone, Copy)]
