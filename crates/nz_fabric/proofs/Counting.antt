@@ -14,14 +14,14 @@ use Rattle.nz_machine.specs.State.{Group}
 use Rattle.nz_machine.specs.Step.{node_step, event_step}
 use Rattle.nz_machine.specs.World.{state_after}
 use Rattle.nz_machine.proofs.Runs.{acts, stays}
-use Rattle.nz_fabric.specs.Calendars.{row_number}
+use Rattle.nz_fabric.specs.Calendars.{number_in_all}
 use Rattle.nz_fabric.specs.Records.{ActorSteps, of_actor, steps_of, AreCounts}
 use Rattle.nz_fabric.specs.Steps.{AreSteps, sends_after}
 use Rattle.nz_fabric.proofs.Prefixes.{same_part}
 
 -- ---- each actor has a number of its own
 
-own_number : (a b : Actor) → row_number a ≡ row_number b → a ≡ b
+own_number : (a b : Actor) → number_in_all a ≡ number_in_all b → a ≡ b
 own_number (Replica n) (Replica m) e = ap Replica (omega (arith, e))
 own_number (Replica n) (Proxy m) e = absurd (omega (arith, e))
 own_number (Replica n) (Client m) e = absurd (omega (arith, e))
@@ -32,7 +32,7 @@ own_number (Client n) (Replica m) e = absurd (omega (arith, e))
 own_number (Client n) (Proxy m) e = absurd (omega (arith, e))
 own_number (Client n) (Client m) e = ap Client (omega (arith, e))
 
-other_number : (a b : Actor) → actor_eq a b ≡ false → row_number b ≢ row_number a
+other_number : (a b : Actor) → actor_eq a b ≡ false → number_in_all b ≢ number_in_all a
 other_number a b e same = let yes : actor_eq a b ≡ true = ap (actor_eq a) (own_number b a same) ∙ actor_eq_self a in cc
 
 -- ---- no record yet
@@ -46,26 +46,26 @@ pub counts_none : (counts : List ℕ) → counts ≡ replicate 768 0 → AreCoun
 counts_none counts e =
     record {
       many = ap length e ∙ length-replicate {A = ℕ} 768 0;
-      counted = λ a. ap (λ (ns : List ℕ). get_or ns (row_number a) 0) e ∙ none_at 768 (row_number a);
+      counted = λ a. ap (λ (ns : List ℕ). get_or ns (number_in_all a) 0) e ∙ none_at 768 (number_in_all a);
     }
 
 -- ---- one record more
 
 count_by : (J : List Record) (counts : List ℕ) (r : Record) (n : ℕ) (a : Actor) (own : Bool) → AreCounts J counts
-    → row_number r.actor < 768 → n ≡ length (of_actor r.actor J) + 1 → actor_eq r.actor a ≡ own
-    → get_or (slice_set counts (row_number r.actor) n) (row_number a) 0 ≡ length (cond own (r ∷ of_actor a J) (of_actor a J))
+    → number_in_all r.actor < 768 → n ≡ length (of_actor r.actor J) + 1 → actor_eq r.actor a ≡ own
+    → get_or (slice_set counts (number_in_all r.actor) n) (number_in_all a) 0 ≡ length (cond own (r ∷ of_actor a J) (of_actor a J))
 count_by J counts r n a true h lt more e =
     let many = h.many in
     let same : r.actor ≡ a = same_actor r.actor a e in
-    ap (λ (b : Actor). get_or (slice_set counts (row_number r.actor) n) (row_number b) 0) (sym same)
-    ∙ get_or-set_same counts (row_number r.actor) n 0 (omega (arith, lt, many))
+    ap (λ (b : Actor). get_or (slice_set counts (number_in_all r.actor) n) (number_in_all b) 0) (sym same)
+    ∙ get_or-set_same counts (number_in_all r.actor) n 0 (omega (arith, lt, many))
     ∙ (let own = ap (λ (b : Actor). length (of_actor b J)) same in omega (arith, more, own))
 count_by J counts r n a false h lt more e =
-    get_or-set_other counts (row_number r.actor) (row_number a) n 0 (other_number r.actor a e) ∙ h.counted a
+    get_or-set_other counts (number_in_all r.actor) (number_in_all a) n 0 (other_number r.actor a e) ∙ h.counted a
 
 -- what is read at an actor's place
 pub count_is : (J : List Record) (counts : List ℕ) (a : Actor) (place count : ℕ) → AreCounts J counts
-    → place ≡ row_number a → place < 768 → count ≡ get_or counts place count → count ≡ length (of_actor a J)
+    → place ≡ number_in_all a → place < 768 → count ≡ get_or counts place count → count ≡ length (of_actor a J)
 count_is J counts a place count h at lt read =
     let many = h.many in
     read ∙ get_or_default counts place count 0 (omega (arith, lt, many)) ∙ ap (λ (k : ℕ). get_or counts k 0) at ∙ h.counted a
@@ -87,11 +87,11 @@ own_pushed records r a same =
     (ap (λ (x : Actor). actor_eq x a) same ∙ actor_eq_self a)
 
 pub counts_pushed : (J : List Record) (counts : List ℕ) (i n : ℕ) (r : Record) → AreCounts J counts
-    → i ≡ row_number r.actor → i < 768 → n ≡ length (of_actor r.actor J) + 1 → AreCounts (r ∷ J) (slice_set counts i n)
+    → i ≡ number_in_all r.actor → i < 768 → n ≡ length (of_actor r.actor J) + 1 → AreCounts (r ∷ J) (slice_set counts i n)
 counts_pushed J counts i n r h at lt more =
     subst (λ (k : ℕ). AreCounts (r ∷ J) (slice_set counts k n)) (sym at)
     (record {
-      many = length-set counts (row_number r.actor) n ∙ h.many;
+      many = length-set counts (number_in_all r.actor) n ∙ h.many;
       counted = λ a. count_by J counts r n a (actor_eq r.actor a) h (omega (arith, at, lt)) more refl;
     })
 

@@ -21,7 +21,7 @@ use Rattle.nz_machine.specs.Schedule.{Delivery as DeliveryModel, Posted, posted_
 use Rattle.nz_machine.specs.Schedule.{cut_short, is_parcel_of, is_nth, has_kind, kind_in_frame, after_fault, after_faults}
 use Rattle.nz_fabric.specs.declared.deliveries.Delivery.{Delivery}
 use Rattle.nz_fabric.specs.declared.course.Course.{Course}
-use Rattle.nz_fabric.specs.Calendars.{course, course_eq, count_of, parcels_of, row_number, IsCounted}
+use Rattle.nz_fabric.specs.Calendars.{course, course_eq, count_of, parcels_of, number_in_all, IsCounted}
 use Rattle.nz_fabric.specs.Posting.{delivery_as_stored, put_off, HasNumber, strikes, after_strike}
 
 -- ---- what was held
@@ -100,7 +100,7 @@ counted_by from to kind number now then earlier p true e h count step = step ∙
 counted_by from to kind number now then earlier p false e h count step = let one = one_if from to kind earlier p false e in omega (arith, one, step, count)
 
 -- each actor has a number of its own
-same_number : (a b : Actor) → eqb (row_number a) (row_number b) ≡ actor_eq a b
+same_number : (a b : Actor) → eqb (number_in_all a) (number_in_all b) ≡ actor_eq a b
 same_number (Replica n) (Replica m) = grind (arith, nat_tests)
 same_number (Replica n) (Proxy m) = grind (arith, nat_tests)
 same_number (Replica n) (Client m) = grind (arith, nat_tests)
@@ -125,7 +125,7 @@ counted_one before after p None number from to kind own h =
     none_of false b c h = refl
 counted_one before after p (Some k) number from to kind own h =
     h (course from to kind)
-    ∙ ap (λ (b : Bool). cond (b && (eqb (row_number p.to) (row_number to) && eqb k kind)) number
+    ∙ ap (λ (b : Bool). cond (b && (eqb (number_in_all p.to) (number_in_all to) && eqb k kind)) number
     (count_of before (course from to kind))) (same_number p.from from)
     ∙ ap (λ (b : Bool). cond (actor_eq p.from from && (b && eqb k kind)) number (count_of before (course from to kind))) (same_number p.to to)
     ∙ ap (λ (o : Option ℕ). cond (actor_eq p.from from && (actor_eq p.to to && has_kind kind o)) number (count_of before (course from to kind))) own

@@ -19,14 +19,14 @@ pub record Dates : Type 0 where
   pub days : List (List Item)
 
 -- The number of an actor among all that there can be: each has one of its own.
-abbrev pub row_number : Actor → ℕ
-row_number (Replica n) = 3 * n
-row_number (Proxy n) = 3 * n + 1
-row_number (Client n) = 3 * n + 2
+abbrev pub number_in_all : Actor → ℕ
+number_in_all (Replica n) = 3 * n
+number_in_all (Proxy n) = 3 * n + 1
+number_in_all (Client n) = 3 * n + 2
 
 -- The counter of a sender, a receiver and a kind.
 abbrev pub course : Actor → Actor → ℕ → Course
-course from to kind = record { from = row_number from; to = row_number to; kind = kind }
+course from to kind = record { from = number_in_all from; to = number_in_all to; kind = kind }
 
 -- The same sender, receiver and kind.
 abbrev pub course_eq : Course → Course → Bool

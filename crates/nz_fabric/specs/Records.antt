@@ -3,7 +3,7 @@ use Rattle.std.specs.Prelude.{◌≡◌, ℕ, List, ◌∷◌, length, filter, g
 use Rattle.nz_base.specs.Actor.{actor_eq}
 use Rattle.nz_base.specs.declared.actor.Actor.{Actor}
 use Rattle.nz_machine.specs.declared.event.Record.{Record}
-use Rattle.nz_fabric.specs.Calendars.{row_number}
+use Rattle.nz_fabric.specs.Calendars.{number_in_all}
 
 -- The records in the order of recording, and how many there is room for.
 pub record Recorded : Type 0 where
@@ -30,4 +30,4 @@ with_step r own = record { actor = own.actor; steps = r ∷ own.steps }
 -- For each actor, how many of the records are its own.
 pub record AreCounts (J : List Record) (counts : List ℕ) : Type 0 where
   pub many : length counts ≡ 768
-  pub counted : (a : Actor) → get_or counts (row_number a) 0 ≡ length (of_actor a J)
+  pub counted : (a : Actor) → get_or counts (number_in_all a) 0 ≡ length (of_actor a J)

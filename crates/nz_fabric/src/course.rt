@@ -1,7 +1,7 @@
 //! Counts of parcels by sender, receiver and kind.
 
 ghost use Rattle.std.specs.Prelude.{◌≡◌, ◌+◌, ◌-◌, ◌^◌, ◌<◌, min, MatchOption, OnOk, OnErr};
-ghost use Rattle.nz_fabric.specs.Calendars.{course, count_of, row_number, IsCounted};
+ghost use Rattle.nz_fabric.specs.Calendars.{course, count_of, number_in_all, IsCounted};
 
 use indexmap::IndexMap;
 use nz_base::{Actor, NoMemory};
@@ -17,7 +17,7 @@ pub struct Course {
 
 /// A number that only this actor has.
 pub fn number_in_all(actor: Actor) -> u32
-    ensures number { result ≡ row_number actor }
+    ensures number { result ≡ number_in_all actor }
     ensures within { result < 768 }
 {
     match actor {

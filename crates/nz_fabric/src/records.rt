@@ -2,7 +2,7 @@
 
 ghost use Rattle.std.specs.Prelude.{◌≡◌, ◌+◌, ◌<◌, ◌≤◌, ◌^◌, ◌∷◌, ◌++◌, [], length, drop, reverse, replicate, MatchBool, IfOk, OnOk};
 ghost use Rattle.nz_machine.specs.Schedule.{group_of};
-ghost use Rattle.nz_fabric.specs.Calendars.{row_number};
+ghost use Rattle.nz_fabric.specs.Calendars.{number_in_all};
 ghost use Rattle.nz_fabric.specs.Records.{steps_of, with_step};
 ghost use Rattle.nz_fabric.specs.Steps.{AreSteps, sends_after};
 
@@ -45,7 +45,7 @@ impl<N: Name> Model for Records<N> {
 
 /// The place of the actor's count.
 fn place_of(actor: Actor) -> usize
-    ensures number { result ≡ row_number actor }
+    ensures number { result ≡ number_in_all actor }
     ensures within { result < 768 }
 {
     number_in_all(actor) as usize
