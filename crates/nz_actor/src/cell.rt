@@ -5,7 +5,7 @@ ghost use Rattle.nz_fabric.specs.Shared.{ClosesTurn};
 
 use crate::state::ActorState;
 use nz_edge::Gate;
-use nz_fabric::{Fabric, Name, Share, Turn};
+use nz_fabric::{Fabric, Name, Share, Taken};
 use nz_machine::Core;
 use std::sync::{Mutex, Wait};
 
@@ -31,7 +31,7 @@ impl<N: Name, C: Core> ActorCell<N, C> {
     pub fn turn(
         &self,
         rt: &impl Wait,
-        turn: Turn,
+        turn: Taken<N>,
         worker: u8,
         gate: &impl Gate,
         fabric: &Fabric<N>,
@@ -41,7 +41,7 @@ impl<N: Name, C: Core> ActorCell<N, C> {
         ensures { ClosesTurn share.old share.new }
     {
         let mut state = self.state.lock(rt);
-        gate.arrive(worker, turn.number);
+        gate.arrive(worker, turn.turn().number);
         if !state.is_ready(&turn) {
             fabric.lock(rt).give_up(turn, share);
             return;

@@ -9,7 +9,7 @@ ghost use Rattle.nz_fabric.specs.States.{records_of};
 ghost use Rattle.nz_fabric.specs.Steps.{sends_after};
 ghost use Rattle.nz_actor.specs.Actings.{with_turn, without_turns};
 
-use nz_fabric::{Fabric, FabricState, Lane, Name, Share, Turn};
+use nz_fabric::{Fabric, FabricState, Lane, Name, Share, Taken};
 use nz_machine::Core;
 use std::marker::Model;
 use std::sync::Wait;
@@ -52,10 +52,10 @@ impl<N: Name, C: Core> ActorState<N, C> {
     }
 
     /// Whether the turn is this actor's, and the actor takes turns.
-    pub fn is_ready(&self, turn: &Turn) -> bool
+    pub fn is_ready(&self, turn: &Taken<N>) -> bool
         ensures { IsTrue result ↔ ((self.now.ready ≡ true) × (turn.now.actor ≡ self.now.own.actor)) }
     {
-        self.ready && turn.actor.is(&self.lane.actor())
+        self.ready && turn.turn().actor.is(&self.lane.actor())
     }
 
     /// The core takes the turn's event, and then the turn is recorded. Where it is not, it is given up, and no further
@@ -63,7 +63,7 @@ impl<N: Name, C: Core> ActorState<N, C> {
     pub fn turn(
         &mut self,
         rt: &impl Wait,
-        turn: Turn,
+        turn: Taken<N>,
         fabric: &Fabric<N>,
         share: &mut Share<N>,
     ) -> bool
@@ -74,7 +74,7 @@ impl<N: Name, C: Core> ActorState<N, C> {
         ensures share { ClosesTurn share.old share.new }
     {
         self.ready = false;
-        let Ok(sends) = self.core.step(&turn.event) else {
+        let Ok(sends) = self.core.step(&turn.turn().event) else {
             fabric.lock(rt).give_up(turn, share);
             return false;
         };
@@ -83,7 +83,12 @@ impl<N: Name, C: Core> ActorState<N, C> {
     }
 
     /// The same, where no other thread has the network.
-    pub fn settle(&mut self, turn: Turn, fabric: &mut FabricState<N>, share: &mut Share<N>) -> bool
+    pub fn settle(
+        &mut self,
+        turn: Taken<N>,
+        fabric: &mut FabricState<N>,
+        share: &mut Share<N>,
+    ) -> bool
         requires open { 0 < share.old.amount }
         requires ready { self.old.ready ≡ true }
         requires actor { turn.actor ≡ self.old.own.actor }
@@ -97,7 +102,7 @@ impl<N: Name, C: Core> ActorState<N, C> {
         ensures share { ClosesTurn share.old share.new }
     {
         self.ready = false;
-        let Ok(sends) = self.core.step(&turn.event) else {
+        let Ok(sends) = self.core.step(&turn.turn().event) else {
             fabric.give_up(turn, share);
             return false;
         };

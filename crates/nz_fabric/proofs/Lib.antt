@@ -8,3 +8,4 @@ pub mod Adding
 pub mod Counting
 pub mod Held
 pub mod Sharing
+pub mod Taking

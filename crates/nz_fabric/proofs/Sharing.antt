@@ -23,13 +23,13 @@ use Rattle.nz_fabric.proofs.Held.{no_records, begun_next, state_record, next_is,
 
 -- ---- the start
 
-pub booked_start : (s : Scenario) (total : ℕ) (t : Ticks) (records : List Record) (running : List Running) (room : ℕ)
-    → IsPlayable s → IsNew s t → records ≡ [] → running ≡ [] → total ≡ 0
-    → IsBooked s total (state_in t 0 records) running 0 room records t.calendar
-booked_start s total t records running room play new no_record none nothing =
-    subst (λ (rest : List Running). IsBooked s total (state_in t 0 records) rest 0 room records t.calendar) (sym none)
-    (subst (λ (rs : List Record). IsBooked s total (state_in t 0 rs) [] 0 room rs t.calendar) (sym no_record)
-    (subst (λ (f : State). IsBooked s total f [] 0 room [] t.calendar) (sym new.state)
+pub booked_start : (s : Scenario) (total taken : ℕ) (t : Ticks) (records : List Record) (running : List Running) (room : ℕ)
+    → IsPlayable s → IsNew s t → records ≡ [] → running ≡ [] → total ≡ 0 → taken ≡ 0
+    → IsBooked s total taken (state_in t 0 records) running 0 room records t.calendar
+booked_start s total taken t records running room play new no_record none nothing never =
+    subst (λ (rest : List Running). IsBooked s total taken (state_in t 0 records) rest 0 room records t.calendar) (sym none)
+    (subst (λ (rs : List Record). IsBooked s total taken (state_in t 0 rs) [] 0 room rs t.calendar) (sym no_record)
+    (subst (λ (f : State). IsBooked s total taken f [] 0 room [] t.calendar) (sym new.state)
     (record {
       accounted = record {
         scenario = refl;
@@ -47,6 +47,7 @@ booked_start s total t records running room play new no_record none nothing =
       reserved = omega arith;
       is_posted = posted_start s t.calendar new.stands;
       booked = nothing;
+      numbered = λ _. omega (arith, never);
     })))
 
 -- ---- one turn more
@@ -85,12 +86,12 @@ accounted_taken s f running o k lt is =
       all_kept = k.all_kept;
     }
 
-pub booked_taken : (s : Scenario) (total total' : ℕ) (f : State) (running : List Running) (o : Running)
+pub booked_taken : (s : Scenario) (total total' taken taken' : ℕ) (f : State) (running : List Running) (o : Running)
     (before room room' : ℕ) (records : List Record) (c : Dates)
-    → IsBooked s total f running before room records c → f.next < length f.items → slice_get f.items f.next ≡ Some o.item
-    → length records + length running + 1 < 2 ^ 32 → length records + length running + 1 ≤ room' → total' ≡ total + 1
-    → IsBooked s total' (with_taken f) (running ++ o ∷ []) before room' records c
-booked_taken s total total' f running o before room room' records c h lt is few reserved count =
+    → IsBooked s total taken f running before room records c → f.next < length f.items → slice_get f.items f.next ≡ Some o.item
+    → length records + length running + 1 < 2 ^ 32 → length records + length running + 1 ≤ room' → total' ≡ total + 1 → taken' ≡ taken + 1
+    → IsBooked s total' taken' (with_taken f) (running ++ o ∷ []) before room' records c
+booked_taken s total total' taken taken' f running o before room room' records c h lt is few reserved count more =
     let long = length-append running (o ∷ []) in
     let booked = h.booked in
     record {
@@ -100,6 +101,7 @@ booked_taken s total total' f running o before room room' records c h lt is few 
       reserved = omega (arith, long, reserved);
       is_posted = let p = h.is_posted in record { sent = p.sent; rest = p.rest; prefix = p.prefix; stands = p.stands; none = p.none };
       booked = omega (arith, long, booked, count);
+      numbered = λ unmarked. (let all = h.numbered unmarked in omega (arith, long, all, more));
     }
 
 -- ---- one turn fewer
@@ -135,15 +137,15 @@ accounted_recorded s f running i o sends k lt at = record {
   all_kept = k.all_kept;
 }
 
-pub booked_recorded : (s : Scenario) (total total' : ℕ) (scenario : Scenario) (tick before room : ℕ)
+pub booked_recorded : (s : Scenario) (total total' taken : ℕ) (scenario : Scenario) (tick before room : ℕ)
     (records : List Record) (items : List Item) (next : ℕ) (marked : Bool) (c : Dates) (running rest : List Running)
     (i : ℕ) (o : Running) (sends : List Parcel)
-    → IsBooked s total (state_of scenario tick before records items next marked) running before room records c
+    → IsBooked s total taken (state_of scenario tick before records items next marked) running before room records c
     → i < length running → o ≡ get_or running i o → rest ≡ remove running i → total' + 1 ≡ total
-    → IsBooked s total' (state_of scenario tick before
+    → IsBooked s total' taken (state_of scenario tick before
     (records ++ record_of_turn (turn_of tick o) sends ∷ []) items next marked) rest before room
     (records ++ record_of_turn (turn_of tick o) sends ∷ []) c
-booked_recorded s total total' scenario tick before room records items next marked c running rest i o sends h lt at left count =
+booked_recorded s total total' taken scenario tick before room records items next marked c running rest i o sends h lt at left count =
     let r = record_of_turn (turn_of tick o) sends in
     let f = state_of scenario tick before records items next marked in
     let long = length-append records (r ∷ []) in
@@ -152,9 +154,9 @@ booked_recorded s total total' scenario tick before room records items next mark
     let few = h.few in
     let reserved = h.reserved in
     let booked = h.booked in
-    subst (λ (left : List Running). IsBooked s total'
+    subst (λ (left : List Running). IsBooked s total' taken
     (state_of scenario tick before (records ++ r ∷ []) items next marked) left before room (records ++ r ∷ []) c) (sym left)
-    (subst (λ (g : State). IsBooked s total' g (remove running i) before room (records ++ r ∷ []) c)
+    (subst (λ (g : State). IsBooked s total' taken g (remove running i) before room (records ++ r ∷ []) c)
     (sym (state_record scenario tick before records items next marked (turn_of tick o) sends h.within))
     (record {
       accounted = accounted_recorded s f running i o sends h.accounted lt at;
@@ -163,6 +165,7 @@ booked_recorded s total total' scenario tick before room records items next mark
       reserved = omega (arith, long, fewer, reserved);
       is_posted = posted_grow f r c h.is_posted;
       booked = omega (arith, fewer, booked, count);
+      numbered = λ unmarked. (let all = h.numbered unmarked in omega (arith, long, fewer, all));
     }))
 
 accounted_given_up : (s : Scenario) (f : State) (running : List Running) (i : ℕ) (o : Running)
@@ -180,16 +183,16 @@ accounted_given_up s f running i o k lt at = record {
   all_kept = λ e. cc;
 }
 
-pub booked_given_up : (s : Scenario) (total total' : ℕ) (f : State) (running rest : List Running) (before room : ℕ)
+pub booked_given_up : (s : Scenario) (total total' taken : ℕ) (f : State) (running rest : List Running) (before room : ℕ)
     (records : List Record) (c : Dates) (i : ℕ) (o : Running)
-    → IsBooked s total f running before room records c → i < length running → o ≡ get_or running i o → rest ≡ remove running i → total' + 1 ≡ total
-    → IsBooked s total' (with_mark f) rest before room records c
-booked_given_up s total total' f running rest before room records c i o h lt at left count =
+    → IsBooked s total taken f running before room records c → i < length running → o ≡ get_or running i o → rest ≡ remove running i → total' + 1 ≡ total
+    → IsBooked s total' taken (with_mark f) rest before room records c
+booked_given_up s total total' taken f running rest before room records c i o h lt at left count =
     let fewer = one_fewer running i o lt at in
     let few = h.few in
     let reserved = h.reserved in
     let booked = h.booked in
-    subst (λ (left : List Running). IsBooked s total' (with_mark f) left before room records c) (sym left)
+    subst (λ (left : List Running). IsBooked s total' taken (with_mark f) left before room records c) (sym left)
     (record {
       accounted = accounted_given_up s f running i o h.accounted lt at;
       within = h.within;
@@ -197,6 +200,7 @@ booked_given_up s total total' f running rest before room records c i o h lt at 
       reserved = omega (arith, fewer, reserved);
       is_posted = let p = h.is_posted in record { sent = p.sent; rest = p.rest; prefix = p.prefix; stands = p.stands; none = λ e. cc };
       booked = omega (arith, fewer, booked, count);
+      numbered = λ e. cc;
     })
 
 -- ---- the next tick
@@ -253,15 +257,15 @@ accounted_next s f running k over lt = record {
   all_kept = λ _. refl;
 }
 
-pub booked_next : (s : Scenario) (total : ℕ) (scenario : Scenario) (tick before n room : ℕ) (records : List Record)
+pub booked_next : (s : Scenario) (total taken : ℕ) (scenario : Scenario) (tick before n room : ℕ) (records : List Record)
     (items : List Item) (next : ℕ) (marked : Bool) (running : List Running) (c : Dates) (new : Ticks)
-    → IsBooked s total (state_of scenario tick before records items next marked) running before room records c
+    → IsBooked s total taken (state_of scenario tick before records items next marked) running before room records c
     → IsOver (shared_with (state_of scenario tick before records items next marked) running) → tick < scenario.ticks
     → HasBegun scenario tick (posted_by_run (records_of (state_of scenario tick before records items next marked))) new → n ≡ length records
-    → IsBooked s total (state_in new n records) running n room records new.calendar
-booked_next s total scenario tick before n room records items next marked running c new h over lt b long =
+    → IsBooked s total taken (state_in new n records) running n room records new.calendar
+booked_next s total taken scenario tick before n room records items next marked running c new h over lt b long =
     let f = state_of scenario tick before records items next marked in
-    subst (λ (g : State). IsBooked s total g running n room records new.calendar)
+    subst (λ (g : State). IsBooked s total taken g running n room records new.calendar)
     (sym (next_is scenario tick before n records items next marked new b long over.unmarked))
     (record {
       accounted =
@@ -272,15 +276,16 @@ booked_next s total scenario tick before n room records items next marked runnin
       reserved = h.reserved;
       is_posted = posted_next f new.calendar b.stands;
       booked = h.booked;
+      numbered = λ _. h.numbered over.unmarked;
     })
 
 -- no further turn is given
-pub booked_marked : (s : Scenario) (total : ℕ) (scenario : Scenario) (tick before room : ℕ) (records : List Record)
+pub booked_marked : (s : Scenario) (total taken : ℕ) (scenario : Scenario) (tick before room : ℕ) (records : List Record)
     (items : List Item) (next : ℕ) (marked : Bool) (running : List Running) (c c' : Dates)
-    → IsBooked s total (state_of scenario tick before records items next marked) running before room records c
+    → IsBooked s total taken (state_of scenario tick before records items next marked) running before room records c
     → IsPosted (state_of scenario tick before records items next true) c'
-    → IsBooked s total (state_of scenario tick before records items next true) running before room records c'
-booked_marked s total scenario tick before room records items next marked running c c' h posted = record {
+    → IsBooked s total taken (state_of scenario tick before records items next true) running before room records c'
+booked_marked s total taken scenario tick before room records items next marked running c c' h posted = record {
   accounted = let k = h.accounted in record {
     scenario = k.scenario;
     playable = k.playable;
@@ -297,15 +302,16 @@ booked_marked s total scenario tick before room records items next marked runnin
   reserved = h.reserved;
   is_posted = posted;
   booked = h.booked;
+  numbered = λ e. cc;
 }
 
 -- there is more room
-pub booked_room : (s : Scenario) (total : ℕ) (scenario : Scenario) (tick before room room' : ℕ)
+pub booked_room : (s : Scenario) (total taken : ℕ) (scenario : Scenario) (tick before room room' : ℕ)
     (records records' : List Record) (items : List Item) (next : ℕ) (marked : Bool) (running : List Running) (c : Dates)
-    → IsBooked s total (state_of scenario tick before records items next marked) running before room records c → records' ≡ records → room ≤ room'
-    → IsBooked s total (state_of scenario tick before records' items next marked) running before room' records' c
-booked_room s total scenario tick before room room' records records' items next marked running c h same more =
-    subst (λ (rs : List Record). IsBooked s total (state_of scenario tick before rs items next marked) running before room' rs c) (sym same)
+    → IsBooked s total taken (state_of scenario tick before records items next marked) running before room records c → records' ≡ records → room ≤ room'
+    → IsBooked s total taken (state_of scenario tick before records' items next marked) running before room' records' c
+booked_room s total taken scenario tick before room room' records records' items next marked running c h same more =
+    subst (λ (rs : List Record). IsBooked s total taken (state_of scenario tick before rs items next marked) running before room' rs c) (sym same)
     (record {
       accounted = h.accounted;
       within = h.within;
@@ -313,4 +319,5 @@ booked_room s total scenario tick before room room' records records' items next 
       reserved = (let r = h.reserved in omega (arith, r, more));
       is_posted = h.is_posted;
       booked = h.booked;
+      numbered = h.numbered;
     })

@@ -7,3 +7,4 @@ pub mod Dues
 pub mod States
 pub mod Shared
 pub mod Steps
+pub mod Takes

@@ -122,11 +122,13 @@ pub record IsAccounted (s : Scenario) (f : Shared) : Type 0 where
   pub all_kept : f.run.marked ≡ false → given_up ≡ []
 
 -- What the code keeps, in the form of a fabric of one thread: each open turn has its place in the journal, the
--- ledger counts the open turns, and the calendar has what was sent.
-pub record IsBooked (s : Scenario) (total : ℕ) (f : State) (running : List Running) (before room : ℕ) (records : List Record) (c : Dates) : Type 0 where
+-- ledger counts the open turns, and the calendar has what was sent. While the run has no mark, each take has its record
+-- or is open.
+pub record IsBooked (s : Scenario) (total taken : ℕ) (f : State) (running : List Running) (before room : ℕ) (records : List Record) (c : Dates) : Type 0 where
   pub accounted : IsAccounted s (shared_with f running)
   pub within : before ≤ length records
   pub few : length records + length running < 2 ^ 32
   pub reserved : length records + length running ≤ room
   pub is_posted : IsPosted f c
   pub booked : total ≡ length running
+  pub numbered : f.marked ≡ false → taken ≡ length records + length running

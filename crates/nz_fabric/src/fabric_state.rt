@@ -2,10 +2,8 @@
 
 ghost use Rattle.std.specs.Prelude.{◌≡◌, ◌⊎◌, ◌+◌, ◌<◌, ◌==◌, ◌↔◌, length, reverse, get_or, true, false};
 ghost use Rattle.std.specs.Prelude.{IsTrue, IfOk, IfSome, MatchBool, MatchOption, MatchResult};
-ghost use Rattle.std.specs.List.{position};
 ghost use Rattle.nz_machine.specs.Journals.{run_in};
 ghost use Rattle.nz_machine.specs.Schedule.{group_of, IsPlayable, Scheduled};
-ghost use Rattle.nz_fabric.specs.declared.open_turns.Running.{Running as RunningModel};
 ghost use Rattle.nz_fabric.specs.Records.{steps_of, with_step};
 ghost use Rattle.nz_fabric.specs.Steps.{AreSteps, sends_after};
 ghost use Rattle.nz_fabric.specs.States.{records_of, record_of_turn, with_mark};
@@ -16,15 +14,14 @@ ghost use Rattle.nz_base.specs.declared.limits.TheConstants.{MAX_WORKERS};
 use crate::chronicle::Opened;
 use crate::lane::Lane;
 use crate::name::Name;
-use crate::open_turns::Running;
+use crate::open_turns::{OpenTurns, Taken};
 use crate::posting::post_all;
 use crate::records::Records;
-use crate::same::is_item;
 use crate::share::Share;
 use crate::ticks::Ticks;
 use crate::turn::Turn;
-use nz_base::{Actor, List, NoMemory, Scenario, TryCopy};
-use nz_machine::{Item, Journal, Record, Sends};
+use nz_base::{Actor, List, NoMemory, Scenario};
+use nz_machine::{Journal, Record, Sends};
 use std::alloc::Global;
 use std::marker::Model;
 use std::sync::ledger::{Blank, Book};
@@ -37,7 +34,7 @@ pub struct FabricState<N: Name> {
     records: Records<N>,
     /// How many records there were before this tick.
     before: usize,
-    running: Vec<Running>,
+    turns: OpenTurns<N>,
     book: Book<N>,
 }
 
@@ -49,10 +46,10 @@ impl<N: Name> Model for FabricState<N> {
 
     ghost Value = { Shared };
 
-    ghost view = { λ f. shared_with (state_in f.ticks f.before f.records.records) f.running.items };
+    ghost view = { λ f. shared_with (state_in f.ticks f.before f.records.records) f.turns.running };
 
-    ghost invariant = { λ f. (N.parts ≡ MAX_WORKERS) × IsBooked N.scenario f.book.total
-        (state_in f.ticks f.before f.records.records) f.running.items f.before f.records.room f.records.records
+    ghost invariant = { λ f. (N.parts ≡ MAX_WORKERS) × IsBooked N.scenario f.book.total f.turns.taken
+        (state_in f.ticks f.before f.records.records) f.turns.running f.before f.records.room f.records.records
         f.ticks.calendar };
 }
 
@@ -65,18 +62,19 @@ impl<N: Name> FabricState<N> {
         scenario: Scenario,
     ) -> Result<(FabricState<N>, Share<N>), NoMemory>
         requires name { (blank.name ≡ N.name) × (blank.parts ≡ N.parts) × (blank.parts ≡ MAX_WORKERS) }
-        requires chronicle { opened ≡ N.chronicle }
+        requires chronicles { opened ≡ N.chronicles }
         requires scenario { scenario ≡ N.scenario }
         requires playable { IsPlayable scenario }
         ensures { IfOk result (λ r. (r.0 ≡ start_shared scenario) × IsWhole r.1) }
     {
-        let records = Records::new(alloc, opened)?;
+        let Opened { records, takes } = opened;
+        let records = Records::new(alloc, records)?;
         let (book, held) = blank.open::<N>();
         let state = FabricState {
             ticks: Ticks::new(alloc, scenario),
             records,
             before: 0,
-            running: Vec::new(alloc),
+            turns: OpenTurns::new(alloc, takes),
             book,
         };
         Ok((state, Share { held }))
@@ -89,8 +87,9 @@ impl<N: Name> FabricState<N> {
         let _ = &self.ticks;
     }
 
-    /// The next due item of the tick. Its place in the journal is reserved here.
-    pub fn take(&mut self, share: &mut Share<N>) -> Result<Option<Turn>, NoMemory>
+    /// The next due item of the tick. Its place in the journal is reserved here. Also `NoMemory` where another network of
+    /// this name took an item.
+    pub fn take(&mut self, share: &mut Share<N>) -> Result<Option<Taken<N>>, NoMemory>
         ensures { MatchResult result
             (λ turn.
             MatchOption turn
@@ -101,31 +100,25 @@ impl<N: Name> FabricState<N> {
         if self.ticks.marked || self.ticks.next == self.ticks.items.len() {
             return Ok(None);
         }
-        let taken = self.records.len() + self.running.len();
+        let taken = self.records.len() + self.turns.len();
         if taken >= u32::MAX as usize {
             return Err(NoMemory);
         }
         let item = self.ticks.next_item()?;
-        let actor = item.actor;
-        let event = item.event.copy(self.ticks.alloc)?;
-        let number = taken as u64 + 1;
-        self.records.reserve(self.running.len() + 1)?;
-        self.running.push(Running { number, item })?;
+        self.records.reserve(self.turns.len() + 1)?;
+        let turn = self
+            .turns
+            .take(self.ticks.alloc, taken as u64, self.ticks.tick, item)?;
         self.ticks.next += 1;
         self.book.add(&mut share.held, 1);
-        Ok(Some(Turn {
-            number,
-            tick: self.ticks.tick,
-            actor,
-            event,
-        }))
+        Ok(Some(turn))
     }
 
     /// The record of the turn is last in the journal, and the last of its actor. Where the actor has not seen all of its
-    /// earlier records, or the turn is not of this network, it is given up.
+    /// earlier records, or no open turn has its number, it is given up.
     pub fn record(
         &mut self,
-        turn: Turn,
+        turn: Taken<N>,
         sends: Sends,
         share: &mut Share<N>,
         lane: &mut Lane<N>,
@@ -140,24 +133,25 @@ impl<N: Name> FabricState<N> {
             (lane.new ≡ lane.old) }
         ensures share { ClosesTurn share.old share.new }
     {
+        self.turns.agree(&turn);
         let Turn {
             number,
             tick: _,
             actor,
             event,
-        } = turn;
+        } = turn.into_turn();
         self.book.audit(&mut share.held);
-        let Running { number: _, item } = close(&mut self.running, number);
+        let open = self.turns.close(number);
         self.book.sub(&mut share.held, 1);
-        let same = is_item(&item, actor, &event);
-        drop(item);
+        let found = open.number;
+        drop(open);
         let step = Record {
             tick: self.ticks.tick,
             actor,
             event,
             sends,
         };
-        if !same {
+        if found != number {
             drop(step);
             self.ticks.marked = true;
             return false;
@@ -170,14 +164,14 @@ impl<N: Name> FabricState<N> {
     }
 
     /// Nothing is recorded, and no further turn is given.
-    pub fn give_up(&mut self, turn: Turn, share: &mut Share<N>)
+    pub fn give_up(&mut self, turn: Taken<N>, share: &mut Share<N>)
         requires { 0 < share.old.amount }
         ensures given_up { self.new ≡ with_given_up turn.number self.old }
         ensures share { ClosesTurn share.old share.new }
     {
-        let number = turn.into_number();
+        let number = turn.into_turn().into_number();
         self.book.audit(&mut share.held);
-        drop(close(&mut self.running, number));
+        drop(self.turns.close(number));
         self.ticks.marked = true;
         self.book.sub(&mut share.held, 1);
     }
@@ -193,7 +187,7 @@ impl<N: Name> FabricState<N> {
     pub fn is_over(&self) -> bool
         ensures { IsTrue result ↔ IsOver self.now }
     {
-        !self.ticks.marked && self.running.is_empty() && self.ticks.next == self.ticks.items.len()
+        !self.ticks.marked && self.turns.is_empty() && self.ticks.next == self.ticks.items.len()
     }
 
     /// How many items are due in the tick.
@@ -207,7 +201,7 @@ impl<N: Name> FabricState<N> {
     pub fn must_wait(&self) -> bool
         ensures { IsTrue result ↔ MustWait self.now }
     {
-        !self.ticks.marked && !self.running.is_empty() && self.ticks.next == self.ticks.items.len()
+        !self.ticks.marked && !self.turns.is_empty() && self.ticks.next == self.ticks.items.len()
     }
 
     /// Nothing changes. The amount of the whole share is the number of open turns.
@@ -266,30 +260,4 @@ impl<N: Name> FabricState<N> {
             records: List::from_vec(records.into_records()),
         })
     }
-}
-
-/// Takes out the open turn that a number names.
-fn close(running: &mut Vec<Running>, number: u64) -> Running
-    requires { 0 < length running.old.items }
-    ensures place { place_of_turn number running.old.items < length running.old.items }
-    ensures closed { running.new.items ≡ without_turn number running.old.items }
-    ensures turn { (d : RunningModel) → result ≡ get_or running.old.items (place_of_turn number running.old.items) d }
-{
-    let place = place_of(running.as_slice(), number);
-    running.remove(place)
-}
-
-fn place_of(running: &[Running], number: u64) -> usize
-    requires { 0 < length running.now }
-    ensures place { result ≡ place_of_turn number running.now }
-    ensures within { result < length running.now }
-{
-    find(running, number).unwrap_or(0)
-}
-
-fn find(running: &[Running], number: u64) -> Option<usize>
-    ensures place { result ≡ position (λ o. o.number == number) running.now }
-    ensures within { IfSome result (λ place. place < length running.now) }
-{
-    running.iter().position(|o| o.number == number)
 }

@@ -2,9 +2,10 @@
 
 ghost use Rattle.std.specs.Prelude.{◌≡◌};
 
-use crate::chronicle::Seen;
+use crate::chronicle::{RecordsOf, Seen};
 use crate::name::Name;
 use nz_base::Actor;
+use nz_machine::Record;
 use std::marker::Model;
 
 /// An actor's own records among those of the run that it has seen. It keeps none of them, but how many they are.
@@ -13,7 +14,7 @@ use std::marker::Model;
 pub struct Lane<N: Name> {
     pub(crate) actor: Actor,
     pub(crate) count: u32,
-    pub(crate) seen: Seen<N>,
+    pub(crate) seen: Seen<Record, RecordsOf<N>>,
 }
 
 impl<N: Name> Model for Lane<N> {

@@ -6,7 +6,7 @@ ghost use Rattle.nz_fabric.specs.Calendars.{number_in_all};
 ghost use Rattle.nz_fabric.specs.Records.{steps_of, with_step};
 ghost use Rattle.nz_fabric.specs.Steps.{AreSteps, sends_after};
 
-use crate::chronicle::{Chronicle, Opened, Seen};
+use crate::chronicle::{Chronicle, RecordsOf, Seen, Unnamed};
 use crate::course::number_in_all;
 use crate::lane::Lane;
 use crate::name::Name;
@@ -25,8 +25,8 @@ pub struct Records<N: Name> {
     records: Vec<Record>,
     /// How many records each actor has.
     counts: Vec<u32>,
-    chronicle: Chronicle<N>,
-    seen: Seen<N>,
+    chronicle: Chronicle<Record, RecordsOf<N>>,
+    seen: Seen<Record, RecordsOf<N>>,
 }
 
 impl<N: Name> Model for Records<N> {
@@ -53,12 +53,12 @@ fn place_of(actor: Actor) -> usize
 
 impl<N: Name> Records<N> {
     /// No record.
-    pub fn new(alloc: Global, opened: Opened) -> Result<Records<N>, NoMemory>
-        requires { opened ≡ N.chronicle }
+    pub fn new(alloc: Global, opened: Unnamed<Record>) -> Result<Records<N>, NoMemory>
+        requires { opened ≡ N.chronicles.records }
         ensures { IfOk result (λ records. records.records ≡ []) }
     {
         let counts = vec![in alloc; 0u32; ACTORS]?;
-        let (chronicle, seen) = opened.named::<N>();
+        let (chronicle, seen) = opened.named::<RecordsOf<N>>();
         Ok(Records {
             records: Vec::new(alloc),
             counts,

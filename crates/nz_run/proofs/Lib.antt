@@ -8,3 +8,4 @@ pub mod AllCores
 pub mod Replaying
 pub mod DealtShares
 pub mod FirstCores
+mod Settling

@@ -122,7 +122,7 @@ fn one_turn<N: Name, C: Core, R: Wait>(
     };
     let gate = OpenGate::new();
     let share = &mut worker.share;
-    match turn.actor {
+    match turn.turn().actor {
         Actor::Replica(place) => {
             turn_at(rt, cells, place, turn, worker.number, &gate, fabric, share)
         }
@@ -139,7 +139,7 @@ fn seen_at_once<N: Name + Send + Sync, R: Threads + Wait + Sync>(
     scenario: &Scenario,
 ) -> Result<(u64, bool), NoMemory>
     requires name { (blank.name ≡ N.name) × (blank.parts ≡ N.parts) × (blank.parts ≡ MAX_WORKERS) }
-    requires chronicle { opened ≡ N.chronicle }
+    requires chronicles { opened ≡ N.chronicles }
     requires scenario { scenario.now ≡ N.scenario }
     requires playable { IsPlayable scenario.now }
 {

@@ -11,7 +11,7 @@ use nz_actor::{ActorCell, ActorState};
 use nz_base::{Actor, NoMemory, Scenario};
 use nz_client::Client;
 use nz_edge::Gate;
-use nz_fabric::{Fabric, FabricState, Name, Share, Turn};
+use nz_fabric::{Fabric, FabricState, Name, Share, Taken};
 use nz_machine::Core;
 use nz_proxy::Proxy;
 use nz_replica::Replica;
@@ -48,7 +48,7 @@ pub fn turn_at<N: Name, C: Core>(
     rt: &impl Wait,
     cells: &[ActorCell<N, C>],
     place: u8,
-    turn: Turn,
+    turn: Taken<N>,
     worker: u8,
     gate: &impl Gate,
     fabric: &Fabric<N>,
@@ -67,7 +67,7 @@ pub fn turn_at<N: Name, C: Core>(
 fn settle_at<N: Name, C: Core>(
     cells: &mut [ActorCell<N, C>],
     place: u8,
-    turn: Turn,
+    turn: Taken<N>,
     state: &mut FabricState<N>,
     share: &mut Share<N>,
 )
@@ -114,7 +114,7 @@ impl<N: Name> Stage<N> {
     pub fn turn(
         &self,
         rt: &impl Wait,
-        turn: Turn,
+        turn: Taken<N>,
         worker: u8,
         gate: &impl Gate,
         fabric: &Fabric<N>,
@@ -123,7 +123,7 @@ impl<N: Name> Stage<N> {
         requires { 0 < share.old.amount }
         ensures { ClosesTurn share.old share.new }
     {
-        match turn.actor {
+        match turn.turn().actor {
             Actor::Replica(place) => {
                 turn_at(rt, &self.replicas, place, turn, worker, gate, fabric, share)
             }
@@ -137,12 +137,12 @@ impl<N: Name> Stage<N> {
     }
 
     /// The turn's actor does it where no other thread has the actors.
-    pub fn settle(&mut self, turn: Turn, state: &mut FabricState<N>, share: &mut Share<N>)
+    pub fn settle(&mut self, turn: Taken<N>, state: &mut FabricState<N>, share: &mut Share<N>)
         requires { 0 < share.old.amount }
         ensures share { ClosesTurn share.old share.new }
         ensures run { (state.new.run.items ≡ state.old.run.items) × (state.new.run.next ≡ state.old.run.next) }
     {
-        match turn.actor {
+        match turn.turn().actor {
             Actor::Replica(place) => settle_at(&mut self.replicas, place, turn, state, share),
             Actor::Proxy(place) => settle_at(&mut self.proxies, place, turn, state, share),
             Actor::Client(place) => settle_at(&mut self.clients, place, turn, state, share),

@@ -97,7 +97,7 @@ fn run_named<N: Name + Send + Sync, R: Threads + Wait + Sync, G: Gate + Sync>(
     gate: &G,
 ) -> Result<Option<Journal>, NoMemory>
     requires name { (blank.name ≡ N.name) × (blank.parts ≡ N.parts) × (blank.parts ≡ MAX_WORKERS) }
-    requires chronicle { opened ≡ N.chronicle }
+    requires chronicles { opened ≡ N.chronicles }
     requires scenario { scenario.now ≡ N.scenario }
     requires playable { IsPlayable scenario.now }
     requires count { (0 < count) × (count ≤ MAX_WORKERS) }

@@ -23,7 +23,7 @@ returns-clause-scheduled g c =
     let f = state_in i.ticks i.before i.records.records in
     let k = c.self.invariant.1.accounted in
     let J = records_of f in
-    let order : ScheduledTo f.scenario f.tick J = scheduled_now _ f i.running.items k (subst IsOver (sym c.self.view_is) c.requires.over) in
+    let order : ScheduledTo f.scenario f.tick J = scheduled_now _ f i.turns.running k (subst IsOver (sym c.self.view_is) c.requires.over) in
     let last : f.tick ≡ f.scenario.ticks = subst (λ (f : Shared). f.run.tick ≡ f.run.scenario.ticks) (sym c.self.view_is) c.requires.last in
     let whole : Scheduled f.scenario J = subst (λ (n : ℕ). ScheduledTo f.scenario n J) last order in
     subst (λ (J : List Record). Scheduled g.N.Name.scenario J)

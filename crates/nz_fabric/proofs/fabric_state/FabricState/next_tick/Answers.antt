@@ -18,8 +18,8 @@ invariant_of-self g c =
     let now = c.post_all.new.calendar in
     let posted = over_some t f.before rs _ now unmarked inv.is_posted c.since.ensures c.in_err-post_all.ensures.err in (
       c.self.invariant.0,
-      booked_marked _ f.book.total t.scenario t.tick f.before f.records.room rs t.items.items t.next
-          t.marked f.running.items t.calendar now inv posted,
+      booked_marked _ f.book.total f.turns.taken t.scenario t.tick f.before f.records.room rs t.items.items t.next
+          t.marked f.turns.running t.calendar now inv posted,
     )
 
 pub invariant_of-self-in_err-begin : goal.invariant_of-self-in_err-begin
@@ -32,11 +32,11 @@ invariant_of-self-in_err-begin g c =
     let now = c.post_all.new.calendar in
     let posted = over_whole t f.before rs _ now unmarked inv.is_posted c.since.ensures c.in_ok-post_all.ensures.ok in
     let booked =
-    booked_marked _ f.book.total t.scenario t.tick f.before f.records.room rs t.items.items t.next t.marked
-    f.running.items t.calendar now inv posted in (
+    booked_marked _ f.book.total f.turns.taken t.scenario t.tick f.before f.records.room rs t.items.items t.next t.marked
+    f.turns.running t.calendar now inv posted in (
       c.self.invariant.0,
-      subst (λ (t : Ticks). IsBooked g.N.Name.scenario f.book.total
-          (state_in t f.before rs) f.running.items f.before f.records.room rs t.calendar) (sym c.in_err-begin.ensures.err) booked,
+      subst (λ (t : Ticks). IsBooked g.N.Name.scenario f.book.total f.turns.taken
+          (state_in t f.before rs) f.turns.running f.before f.records.room rs t.calendar) (sym c.in_err-begin.ensures.err) booked,
     )
 
 pub invariant_of-self-2 : goal.invariant_of-self-2
@@ -53,8 +53,8 @@ invariant_of-self-2 g c =
     let lt : t.tick < t.scenario.ticks = (let k = inv.accounted.in_run in let ne = c.if-self.false in omega (arith, k, ne)) in
     let over = subst IsOver (sym c.self.view_is) c.requires in (
       c.self.invariant.0,
-      booked_next _ f.book.total t.scenario t.tick f.before c.len-self-inside.result f.records.room rs
-          t.items.items t.next t.marked f.running.items t.calendar c.begin.new.self inv over lt begun long,
+      booked_next _ f.book.total f.turns.taken t.scenario t.tick f.before c.len-self-inside.result f.records.room rs
+          t.items.items t.next t.marked f.turns.running t.calendar c.begin.new.self inv over lt begun long,
     )
 
 pub returns : goal.returns
@@ -70,7 +70,7 @@ returns g c =
     let long : c.len-self-inside.result ≡ length rs = omega (arith, c.len-self-inside.ensures) in
     let lt : t.tick < t.scenario.ticks = (let k = inv.accounted.in_run in let ne = c.if-self.false in omega (arith, k, ne)) in
     let over = subst IsOver (sym c.self.view_is) c.requires in (
-      ap (λ (run : State). shared_with run f.running.items)
+      ap (λ (run : State). shared_with run f.turns.running)
           (next_is t.scenario t.tick f.before c.len-self-inside.result rs t.items.items t.next t.marked c.begin.new.self begun long unmarked)
           ∙ ap (λ (running : List Running). shared_with (after_tick (state_in t f.before rs)) running) over.none
           ∙ ap after_shared c.self.view_is,
