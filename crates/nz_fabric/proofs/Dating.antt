@@ -17,12 +17,16 @@ use Rattle.nz_machine.specs.declared.event.Parcel.{Parcel}
 use Rattle.nz_machine.specs.declared.event.Record.{Record}
 use Rattle.nz_machine.specs.declared.journal.Item.{Item}
 use Rattle.nz_machine.specs.Schedule.{Delivery, Posted, posted_in, posted_by_run, arrivals, deliveries, delivery_item, due_of, kind_in_frame}
+use Rattle.nz_machine.specs.Schedule.{whole_in, after_faults}
 use Rattle.nz_fabric.specs.declared.calendar.Arrival.{Arrival}
 use Rattle.nz_fabric.specs.declared.course.Course.{Course}
-use Rattle.nz_fabric.specs.Calendars.{StandsFor, Dates, items_in, parcels_of, posted_by, course, count_of, IsCounted}
+use Rattle.nz_fabric.specs.declared.course.Traffic.{Traffic}
+use Rattle.nz_fabric.specs.Calendars.{StandsFor, Dates, items_in, parcels_of, posted_by, course, traffic_of, count_of, next_number, lines_or}
+use Rattle.nz_fabric.specs.Calendars.{IsCounted, KeepsLines}
 use Rattle.nz_fabric.specs.Posting.{last_delivery_tick, delivery_as_stored, arrival_of, items_arriving}
 use Rattle.nz_fabric.specs.Posting.{arrivals_up_to, days_of, HasRoomFor, HasRooms, AreShort, HasNumber}
 use Rattle.nz_fabric.proofs.Numbering.{counted}
+use Rattle.nz_fabric.proofs.Striking.{checked_lines, kept_after}
 
 -- ---- what is due of a parcel's deliveries
 
@@ -241,30 +245,36 @@ arrivals_push s t earlier (y ∷ L) x =
     ∙ ap (λ (e : List Parcel). (own ++ arrivals s t (earlier ++ y.parcel ∷ []) L)
     ++ due_of t x.parcel (deliveries s x.tick e x.parcel)) (append_assoc earlier (y.parcel ∷ []) (parcels_of L))
 
-pub posted_one : (s : Scenario) (L : List Posted) (now : ℕ) (c c' : Dates) (tick number : ℕ) (k : Option ℕ) (p : Parcel) (arrived : List Arrival)
-    → StandsFor s L now c → s.ticks < last_delivery_tick → k ≡ kind_in_frame p.frame → HasNumber (parcels_of L) p number
-    → c'.parcels ≡ c.parcels + 1 → IsCounted c.counts c'.counts p k number
-    → arrived ≡ arrivals_up_to s.ticks (map (arrival_of p) (map delivery_as_stored (deliveries s tick (parcels_of L) p)))
+pub posted_one : (s : Scenario) (L : List Posted) (now : ℕ) (c c' : Dates) (tick : ℕ) (k : Option ℕ) (p : Parcel) (arrived : List Arrival)
+    → StandsFor s L now c → s.ticks < last_delivery_tick → k ≡ kind_in_frame p.frame → HasNumber (parcels_of L) p (next_number (traffic_of c.courses p k))
+    → c'.parcels ≡ c.parcels + 1 → IsCounted s.faults c.courses c'.courses p k
+    → arrived ≡ arrivals_up_to s.ticks (map (arrival_of p) (map delivery_as_stored (after_faults tick (parcels_of L) p
+    (lines_or s.faults (traffic_of c.courses p k)) (whole_in (tick + 1) ∷ []))))
     → ((t : ℕ) → items_in c'.days t ≡ items_in c.days t ++ items_arriving t arrived) → StandsFor s (L ++ posted_in tick p ∷ []) now c'
-posted_one s L now c c' tick number k p arrived h below own is parcels count arrive items = record {
-  parcels = (let long = length-append L (posted_in tick p ∷ []) in let n = h.parcels in omega (arith, long, n, parcels));
-  counts = counted c.counts c'.counts L tick p k number own count is h.counts;
-  items = λ t after le.
-      items t
-      ∙ ap (λ (is : List Item). is ++ items_arriving t arrived) (h.items t after le)
-      ∙ ap (λ (xs : List Arrival). arrivals s t [] L ++ items_arriving t xs) arrive
-      ∙ ap (λ (is : List Item). arrivals s t [] L ++ is)
-      (up_to_is s.ticks t (map (arrival_of p) (map delivery_as_stored (deliveries s tick (parcels_of L) p))) le
-      ∙ arriving_of t p (deliveries s tick (parcels_of L) p) (omega (arith, le, below)))
-      ∙ sym (arrivals_push s t [] L (posted_in tick p));
-}
+posted_one s L now c c' tick k p arrived h below own is parcels count arrive items =
+    let ds = deliveries s tick (parcels_of L) p in
+    record {
+      parcels = (let long = length-append L (posted_in tick p ∷ []) in let n = h.parcels in omega (arith, long, n, parcels));
+      counts = counted s.faults c.courses c'.courses L tick p k own count is h.counts;
+      lines = kept_after s.faults c.courses c'.courses p k count h.lines;
+      items = λ t after le.
+          items t
+          ∙ ap (λ (is : List Item). is ++ items_arriving t arrived) (h.items t after le)
+          ∙ ap (λ (xs : List Arrival). arrivals s t [] L ++ items_arriving t xs) arrive
+          ∙ ap (λ (ds : List Delivery). arrivals s t [] L ++ items_arriving t (arrivals_up_to s.ticks (map (arrival_of p) (map delivery_as_stored ds))))
+          (checked_lines tick (parcels_of L) p k c.courses s.faults (whole_in (tick + 1) ∷ []) own h.lines)
+          ∙ ap (λ (is : List Item). arrivals s t [] L ++ is)
+          (up_to_is s.ticks t (map (arrival_of p) (map delivery_as_stored ds)) le ∙ arriving_of t p ds (omega (arith, le, below)))
+          ∙ sym (arrivals_push s t [] L (posted_in tick p));
+    }
 
 -- only the days' items count
 pub stands_by : (s : Scenario) (L : List Posted) (now : ℕ) (c c' : Dates) → c'.parcels ≡ c.parcels
-    → c'.counts ≡ c.counts → ((t : ℕ) → now < t → items_in c'.days t ≡ items_in c.days t) → StandsFor s L now c → StandsFor s L now c'
-stands_by s L now c c' parcels counts items h = record {
+    → c'.courses ≡ c.courses → ((t : ℕ) → now < t → items_in c'.days t ≡ items_in c.days t) → StandsFor s L now c → StandsFor s L now c'
+stands_by s L now c c' parcels courses items h = record {
   parcels = parcels ∙ h.parcels;
-  counts = λ from to kind. ap (λ (counts : List (Course × ℕ)). count_of counts (course from to kind)) counts ∙ h.counts from to kind;
+  counts = λ from to kind. ap (λ (courses : List (Course × Traffic)). count_of courses (course from to kind)) courses ∙ h.counts from to kind;
+  lines = subst (KeepsLines s.faults) (sym courses) h.lines;
   items = λ t after le. items t after ∙ h.items t after le;
 }
 
@@ -284,7 +294,12 @@ taken_later days tick t v lt none =
     ap (λ (D : List (List Item)). items_in D t) (taken_days days tick v none) ∙ get_or-set_other (days_of days) tick t [] [] (λ e. omega (arith, e, lt))
 
 pub stands_later : (s : Scenario) (L : List Posted) (now tick : ℕ) (c : Dates) → now < tick → StandsFor s L now c → StandsFor s L tick c
-stands_later s L now tick c lt h = record { parcels = h.parcels; counts = h.counts; items = λ t after le. h.items t (omega (arith, lt, after)) le }
+stands_later s L now tick c lt h = record {
+  parcels = h.parcels;
+  counts = h.counts;
+  lines = h.lines;
+  items = λ t after le. h.items t (omega (arith, lt, after)) le;
+}
 
 -- ---- what records sent
 

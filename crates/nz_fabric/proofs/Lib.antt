@@ -1,5 +1,6 @@
 -- The modules of this crate's proofs.
 pub mod Numbering
+pub mod Striking
 pub mod Dating
 pub mod Sending
 pub mod Calling

@@ -2,14 +2,12 @@
 use Rattle.std.proofs.Common.{◌≡◌, ℕ, ◌+◌, ◌-◌, ◌<◌, ◌≤◌, eqb, min, Bool, true, false, cond, Option, Some, None, List, [], ◌∷◌}
 use Rattle.std.proofs.Common.{◌++◌, length, map, refl, sym, ap, ◌∙◌, subst, arith, length-append, append-nil, take_all}
 use Rattle.std.proofs.Math.Bool.{and-true, and-false}
-use Rattle.std.specs.Prelude.{◌^◌, ◌&&◌, filter, take, drop, get_or, unwrap_or, MatchOption}
-use Rattle.std.specs.Map.{lookup}
+use Rattle.std.specs.Prelude.{◌^◌, ◌&&◌, filter, take, drop, get_or}
 use Rattle.std.proofs.lemmas.Bool.{eqb-true}
 use Rattle.std.proofs.lemmas.Bool.Decides.{nat_tests}
 use Rattle.std.proofs.lemmas.List.{drop_all, take_more, map-append}
 use Rattle.std.proofs.lemmas.List.Elements.{filter-append}
 use Rattle.nz_base.proofs.Booleans.{length-filter_le}
-use Rattle.std.proofs.lemmas.Option.{same_Some}
 use Rattle.nz_base.proofs.Names.{same_actor}
 use Rattle.nz_base.specs.Actor.{actor_eq}
 use Rattle.nz_base.specs.declared.actor.Actor.{Actor}
@@ -21,7 +19,9 @@ use Rattle.nz_machine.specs.Schedule.{Delivery as DeliveryModel, Posted, posted_
 use Rattle.nz_machine.specs.Schedule.{cut_short, is_parcel_of, is_nth, has_kind, kind_in_frame, after_fault, after_faults}
 use Rattle.nz_fabric.specs.declared.deliveries.Delivery.{Delivery}
 use Rattle.nz_fabric.specs.declared.course.Course.{Course}
-use Rattle.nz_fabric.specs.Calendars.{course, course_eq, count_of, parcels_of, number_in_all, IsCounted}
+use Rattle.nz_fabric.specs.declared.course.Traffic.{Traffic}
+use Rattle.nz_fabric.specs.Calendars.{course, course_eq, traffic_on, traffic_of, count_in, count_of, next_number, with_one, may_strike}
+use Rattle.nz_fabric.specs.Calendars.{parcels_of, number_in_all, IsCounted}
 use Rattle.nz_fabric.specs.Posting.{delivery_as_stored, put_off, HasNumber, strikes, after_strike}
 
 -- ---- what was held
@@ -46,7 +46,7 @@ struck_by_number from to kind count number earlier p h =
 
 -- ---- the number of a parcel
 
-both_true : (a b : Bool) → (a && b) ≡ true → (a ≡ true) × (b ≡ true)
+pub both_true : (a b : Bool) → (a && b) ≡ true → (a ≡ true) × (b ≡ true)
 both_true true b h = (refl, h)
 both_true false b h = absurd (false_is_not_true h)
   where
@@ -57,28 +57,26 @@ kind_is : (kind : ℕ) (k : Option ℕ) → has_kind kind k ≡ true → k ≡ S
 kind_is kind None h = cc
 kind_is kind (Some k) h = ap Some (eqb-true k kind h)
 
-number_for : (earlier : List Parcel) (p : Parcel) (k : Option ℕ) (counts : List (Course × ℕ)) (number kind : ℕ)
-    → k ≡ Some kind → count_of counts (course p.from p.to kind) ≡ length (filter (is_parcel_of p.from p.to kind) earlier) → length earlier < 2 ^ 64 - 1
-    → MatchOption k (number ≡ 0) (λ k. number ≡ min (count_of counts (course p.from p.to k) + 1) (2 ^ 64 - 1))
-    → number ≡ length (filter (is_parcel_of p.from p.to kind) earlier) + 1
-number_for earlier p None counts number kind e count few h = cc
-number_for earlier p (Some k) counts number kind e count few h =
-    let same : k ≡ kind = same_Some k kind e in
-    let now : number ≡ min (count_of counts (course p.from p.to kind) + 1) (2 ^ 64 - 1) =
-    subst (λ (k : ℕ). number ≡ min (count_of counts (course p.from p.to k) + 1) (2 ^ 64 - 1)) same h in
+number_for : (earlier : List Parcel) (p : Parcel) (k : Option ℕ) (courses : List (Course × Traffic)) (kind : ℕ)
+    → k ≡ Some kind → count_of courses (course p.from p.to kind) ≡ length (filter (is_parcel_of p.from p.to kind) earlier) → length earlier < 2 ^ 64 - 1
+    → next_number (traffic_of courses p k) ≡ length (filter (is_parcel_of p.from p.to kind) earlier) + 1
+number_for earlier p k courses kind e count few =
+    let now : next_number (traffic_of courses p k) ≡ min (count_of courses (course p.from p.to kind) + 1) (2 ^ 64 - 1) =
+    ap (λ (k : Option ℕ). next_number (traffic_of courses p k)) e in
     let le = length-filter_le (is_parcel_of p.from p.to kind) earlier in
     omega (arith, now, count, le, few)
 
-pub numbered : (earlier : List Parcel) (p : Parcel) (k : Option ℕ) (counts : List (Course × ℕ)) (number : ℕ) → k ≡ kind_in_frame p.frame
-    → ((from to : Actor) (kind : ℕ) → count_of counts (course from to kind) ≡ length (filter (is_parcel_of from to kind) earlier)) → length earlier < 2 ^ 64 - 1
-    → MatchOption k (number ≡ 0) (λ k. number ≡ min (count_of counts (course p.from p.to k) + 1) (2 ^ 64 - 1)) → HasNumber earlier p number
-numbered earlier p k counts number own known few h = λ from to kind yes.
+pub numbered : (earlier : List Parcel) (p : Parcel) (k : Option ℕ) (courses : List (Course × Traffic)) → k ≡ kind_in_frame p.frame
+    → ((from to : Actor) (kind : ℕ) → count_of courses (course from to kind) ≡ length (filter (is_parcel_of from to kind) earlier))
+    → length earlier < 2 ^ 64 - 1 → HasNumber earlier p (next_number (traffic_of courses p k))
+numbered earlier p k courses own known few = λ from to kind yes.
+    let number = next_number (traffic_of courses p k) in
     let a = both_true (actor_eq p.from from) _ yes in
     let b = both_true (actor_eq p.to to) _ a.1 in
     let is : k ≡ Some kind = own ∙ kind_is kind (kind_in_frame p.frame) b.1 in
     subst (λ (x : Actor). number ≡ length (filter (is_parcel_of x to kind) earlier) + 1) (same_actor p.from from a.0)
     (subst (λ (x : Actor). number ≡ length (filter (is_parcel_of p.from x kind) earlier) + 1) (same_actor p.to to b.0)
-    (number_for earlier p k counts number kind is (known p.from p.to kind) few h))
+    (number_for earlier p k courses kind is (known p.from p.to kind) few))
 
 -- ---- one parcel more
 
@@ -111,33 +109,46 @@ same_number (Client n) (Replica m) = grind (arith, nat_tests)
 same_number (Client n) (Proxy m) = grind (arith, nat_tests)
 same_number (Client n) (Client m) = grind (arith, nat_tests)
 
-counted_one : (before after : List (Course × ℕ)) (p : Parcel) (k : Option ℕ) (number : ℕ) (from to : Actor) (kind : ℕ)
-    → k ≡ kind_in_frame p.frame → IsCounted before after p k number
-    → count_of after (course from to kind) ≡ cond (is_parcel_of from to kind p) number (count_of before (course from to kind))
-counted_one before after p None number from to kind own h =
-    ap (λ (counts : List (Course × ℕ)). count_of counts (course from to kind)) h
-    ∙ ap (λ (b : Bool). cond b number (count_of before (course from to kind)))
+-- a parcel's course is that of its sender, its receiver and its kind alone
+pub same_course : (p : Parcel) (from to : Actor) (k kind : ℕ)
+    → course_eq (course p.from p.to k) (course from to kind) ≡ (actor_eq p.from from && (actor_eq p.to to && eqb k kind))
+same_course p from to k kind =
+    ap (λ (b : Bool). b && (eqb (number_in_all p.to) (number_in_all to) && eqb k kind)) (same_number p.from from)
+    ∙ ap (λ (b : Bool). actor_eq p.from from && (b && eqb k kind)) (same_number p.to to)
+
+-- the number that a parcel's course has then, and every other course its count
+counted_one : (lines : List Fault) (before after : List (Course × Traffic)) (p : Parcel) (k : Option ℕ) (from to : Actor) (kind : ℕ)
+    → k ≡ kind_in_frame p.frame → IsCounted lines before after p k → count_of after (course from to kind)
+    ≡ cond (is_parcel_of from to kind p) (next_number (traffic_of before p k)) (count_of before (course from to kind))
+counted_one lines before after p None from to kind own h =
+    ap (λ (courses : List (Course × Traffic)). count_of courses (course from to kind)) h
+    ∙ ap (λ (b : Bool). cond b (next_number None) (count_of before (course from to kind)))
     (sym (none_of (actor_eq p.from from) (actor_eq p.to to) (has_kind kind (kind_in_frame p.frame)) (ap (has_kind kind) (sym own))))
   where
     none_of : (a b c : Bool) → c ≡ false → (a && (b && c)) ≡ false
     none_of true true c h = h
     none_of true false c h = refl
     none_of false b c h = refl
-counted_one before after p (Some k) number from to kind own h =
-    h (course from to kind)
-    ∙ ap (λ (b : Bool). cond (b && (eqb (number_in_all p.to) (number_in_all to) && eqb k kind)) number
-    (count_of before (course from to kind))) (same_number p.from from)
-    ∙ ap (λ (b : Bool). cond (actor_eq p.from from && (b && eqb k kind)) number (count_of before (course from to kind))) (same_number p.to to)
+counted_one lines before after p (Some k) from to kind own h =
+    let number = next_number (traffic_of before p (Some k)) in
+    ap count_in (h (course from to kind))
+    ∙ count_if (course_eq (course p.from p.to k) (course from to kind)) (with_one (filter (may_strike p.from p.to k) lines)
+    (traffic_of before p (Some k))) (traffic_on before (course from to kind))
+    ∙ ap (λ (b : Bool). cond b number (count_of before (course from to kind))) (same_course p from to k kind)
     ∙ ap (λ (o : Option ℕ). cond (actor_eq p.from from && (actor_eq p.to to && has_kind kind o)) number (count_of before (course from to kind))) own
+  where
+    count_if : (b : Bool) (t : Traffic) (o : Option Traffic) → count_in (cond b (Some t) o) ≡ cond b t.count (count_in o)
+    count_if true t o = refl
+    count_if false t o = refl
 
-pub counted : (before after : List (Course × ℕ)) (L : List Posted) (tick : ℕ) (p : Parcel) (k : Option ℕ) (number : ℕ)
-    → k ≡ kind_in_frame p.frame → IsCounted before after p k number → HasNumber (parcels_of L) p number
+pub counted : (lines : List Fault) (before after : List (Course × Traffic)) (L : List Posted) (tick : ℕ) (p : Parcel) (k : Option ℕ)
+    → k ≡ kind_in_frame p.frame → IsCounted lines before after p k → HasNumber (parcels_of L) p (next_number (traffic_of before p k))
     → ((from to : Actor) (kind : ℕ) → count_of before (course from to kind) ≡ length (filter (is_parcel_of from to kind) (parcels_of L)))
     → (from to : Actor) (kind : ℕ)
     → count_of after (course from to kind) ≡ length (filter (is_parcel_of from to kind) (parcels_of (L ++ posted_in tick p ∷ [])))
-counted before after L tick p k number own h is known from to kind =
-    counted_by from to kind number (count_of before (course from to kind)) (count_of after (course from to kind))
-    (parcels_of L) p (is_parcel_of from to kind p) refl is (known from to kind) (counted_one before after p k number from to kind own h)
+counted lines before after L tick p k own h is known from to kind =
+    counted_by from to kind (next_number (traffic_of before p k)) (count_of before (course from to kind)) (count_of after (course from to kind))
+    (parcels_of L) p (is_parcel_of from to kind p) refl is (known from to kind) (counted_one lines before after p k from to kind own h)
     ∙ ap (λ (ps : List Parcel). length (filter (is_parcel_of from to kind) ps)) (sym (map-append (λ (x : Posted). x.parcel) L (posted_in tick p ∷ [])))
 
 -- ---- one fault line more
@@ -175,16 +186,3 @@ one_line tick earlier p faults first i line now next lt at so_far step =
 -- when all places of a list are done
 pub over_all : {X : Type 0} (f : X → X) (xs ys : List X) (i : ℕ) → ys ≡ map f (take i xs) ++ drop i xs → length xs ≤ i → ys ≡ map f xs
 over_all f xs ys i e le = e ∙ ap (λ zs. map f zs ++ drop i xs) (take_all i xs le) ∙ ap (λ zs. map f xs ++ zs) (drop_all i xs le) ∙ append-nil (map f xs)
-
--- ---- counts
-
-pub count_updated : (before after : List (Course × ℕ)) (c own : Course) (number : ℕ) (p : Parcel) (k : ℕ)
-    → lookup (course_eq c) after ≡ cond (course_eq own c) (Some number) (lookup (course_eq c) before) → own ≡ course p.from p.to k
-    → count_of after c ≡ cond (course_eq (course p.from p.to k) c) number (count_of before c)
-count_updated before after c own number p k now is =
-    ap (λ (o : Option ℕ). unwrap_or o 0) now ∙ out (course_eq own c) (lookup (course_eq c) before)
-    ∙ ap (λ (o : Course). cond (course_eq o c) number (count_of before c)) is
-  where
-    out : (b : Bool) (o : Option ℕ) → unwrap_or (cond b (Some number) o) 0 ≡ cond b number (unwrap_or o 0)
-    out true o = refl
-    out false o = refl

@@ -1,21 +1,26 @@
--- What a calendar says of what was sent: how many parcels, how many of each sender, receiver and kind, and what is
--- to come in each tick.
-use Rattle.std.specs.Prelude.{◌≡◌, ℕ, ◌+◌, ◌*◌, ◌<◌, ◌≤◌, ◌==◌, ◌&&◌, Bool, Option, MatchOption, if◌then◌else◌}
-use Rattle.std.specs.Prelude.{List, [], ◌∷◌, ◌++◌, length, map, filter, get_or, unwrap_or}
+-- What a calendar says of what was sent: how many parcels, how many of each sender, receiver and kind, which fault
+-- lines may strike them, and what is to come in each tick.
+use Rattle.std.specs.Prelude.{◌≡◌, ℕ, ◌+◌, ◌-◌, ◌*◌, ◌^◌, ◌<◌, ◌≤◌, ◌==◌, ◌&&◌, min, Bool, false, Option, None, Some, MatchOption, IfSome, if◌then◌else◌}
+use Rattle.std.specs.Prelude.{List, [], ◌∷◌, ◌++◌, length, map, filter, get_or}
 use Rattle.std.specs.Map.{lookup}
+use Rattle.std.specs.Option.{option_map_or}
+use Rattle.nz_base.specs.Actor.{actor_eq}
 use Rattle.nz_base.specs.declared.actor.Actor.{Actor}
 use Rattle.nz_base.specs.declared.actor.Actor.TheVariants.{Replica, Proxy, Client}
+use Rattle.nz_base.specs.declared.scenario.Fault.{Fault}
+use Rattle.nz_base.specs.declared.scenario.Fault.TheVariants as faults
 use Rattle.nz_base.specs.declared.scenario.Scenario.{Scenario}
 use Rattle.nz_machine.specs.declared.event.Parcel.{Parcel}
 use Rattle.nz_machine.specs.declared.event.Record.{Record}
 use Rattle.nz_machine.specs.declared.journal.Item.{Item}
-use Rattle.nz_machine.specs.Schedule.{Posted, is_parcel_of, posted_in, arrivals}
+use Rattle.nz_machine.specs.Schedule.{Posted, is_parcel_of, is_named, posted_in, arrivals}
 use Rattle.nz_fabric.specs.declared.course.Course.{Course}
+use Rattle.nz_fabric.specs.declared.course.Traffic.{Traffic}
 
--- The number of parcels, how many of each course there were, and the items of each tick from 0 on.
+-- The number of parcels, the traffic of each course, and the items of each tick from 0 on.
 pub record Dates : Type 0 where
   pub parcels : ℕ
-  pub counts : List (Course × ℕ)
+  pub courses : List (Course × Traffic)
   pub days : List (List Item)
 
 -- The number of an actor among all that there can be: each has one of its own.
@@ -24,7 +29,7 @@ number_in_all (Replica n) = 3 * n
 number_in_all (Proxy n) = 3 * n + 1
 number_in_all (Client n) = 3 * n + 2
 
--- The counter of a sender, a receiver and a kind.
+-- The course of a sender, a receiver and a kind.
 abbrev pub course : Actor → Actor → ℕ → Course
 course from to kind = record { from = number_in_all from; to = number_in_all to; kind = kind }
 
@@ -32,14 +37,54 @@ course from to kind = record { from = number_in_all from; to = number_in_all to;
 abbrev pub course_eq : Course → Course → Bool
 course_eq a b = (a.from == b.from) && ((a.to == b.to) && (a.kind == b.kind))
 
--- How many parcels of a course are counted.
-abbrev pub count_of : List (Course × ℕ) → Course → ℕ
-count_of counts c = unwrap_or (lookup (course_eq c) counts) 0
+-- What is kept of a course, if a parcel of it was counted.
+abbrev pub traffic_on : List (Course × Traffic) → Course → Option Traffic
+traffic_on courses c = lookup (course_eq c) courses
 
--- One more is counted of a parcel's course, where its frame has a kind: it has this number.
-abbrev pub IsCounted : List (Course × ℕ) → List (Course × ℕ) → Parcel → Option ℕ → ℕ → Type 0
-IsCounted before after p k number =
-    MatchOption k (after ≡ before) (λ k. (c : Course) → count_of after c ≡ (if course_eq (course p.from p.to k) c then number else count_of before c))
+-- What is kept of the course of a parcel whose frame has this kind. A frame of no kind has no course.
+abbrev pub traffic_of : List (Course × Traffic) → Parcel → Option ℕ → Option Traffic
+traffic_of courses p None = None
+traffic_of courses p (Some k) = traffic_on courses (course p.from p.to k)
+
+-- How many parcels of a course are counted in its traffic.
+abbrev pub count_in : Option Traffic → ℕ
+count_in traffic = option_map_or (λ t. t.count) traffic 0
+
+-- How many parcels of a course are counted.
+abbrev pub count_of : List (Course × Traffic) → Course → ℕ
+count_of courses c = count_in (traffic_on courses c)
+
+-- The number of a course's next parcel, counted from 1.
+abbrev pub next_number : Option Traffic → ℕ
+next_number traffic = min (count_in traffic + 1) (2 ^ 64 - 1)
+
+-- The fault lines that are kept of a course, or these where nothing is kept of it.
+abbrev pub lines_or : List Fault → Option Traffic → List Fault
+lines_or lines traffic = option_map_or (λ t. t.lines) traffic lines
+
+-- A fault line that names the second sender, receiver and kind is about parcels of the first.
+abbrev pub is_about : Actor → Actor → ℕ → Actor → Actor → ℕ → Bool
+is_about from to kind a b k = actor_eq from a && (actor_eq to b && (kind == k))
+
+-- Whether a fault line may strike a parcel of this kind from the one actor to the other.
+abbrev pub may_strike : Actor → Actor → ℕ → Fault → Bool
+may_strike from to kind (faults.Drop a b k count) = is_about from to kind a b k
+may_strike from to kind (faults.Hold a b k count by) = is_about from to kind a b k
+may_strike from to kind (faults.Twice a b k count by) = is_about from to kind a b k
+may_strike from to kind (faults.Cut a b k count keep) = is_about from to kind a b k
+may_strike from to kind (faults.Block a b first last) = is_named a from && is_named b to
+may_strike from to kind _ = false
+
+-- What is kept of a course with one parcel more: with its first parcel these fault lines.
+abbrev pub with_one : List Fault → Option Traffic → Traffic
+with_one lines traffic = record { count = next_number traffic; lines = lines_or lines traffic }
+
+-- One more is counted of a parcel's course, where its frame has a kind. Of these fault lines, those that may strike it
+-- are kept with the first.
+abbrev pub IsCounted : List Fault → List (Course × Traffic) → List (Course × Traffic) → Parcel → Option ℕ → Type 0
+IsCounted lines before after p k = MatchOption k (after ≡ before) (λ k. (c : Course) → traffic_on after c
+    ≡ (if course_eq (course p.from p.to k) c then Some (with_one (filter (may_strike p.from p.to k) lines) (traffic_on before (course p.from p.to k)))
+    else traffic_on before c))
 
 -- The items of a tick.
 abbrev pub items_in : List (List Item) → ℕ → List Item
@@ -54,15 +99,22 @@ abbrev pub posted_by : List Record → List Posted
 posted_by [] = []
 posted_by (r ∷ rs) = map (posted_in r.tick) r.sends ++ posted_by rs
 
--- The calendar counts these parcels, and has of each later tick what the schedule says of them.
+-- Of each course of which something is kept, these are kept: those of the fault lines that may strike it, in their order.
+abbrev pub KeepsLines : List Fault → List (Course × Traffic) → Type 0
+KeepsLines lines courses =
+    (from to : Actor) (kind : ℕ) → IfSome (traffic_on courses (course from to kind)) (λ t. t.lines ≡ filter (may_strike from to kind) lines)
+
+-- The calendar counts these parcels, keeps of each course the fault lines that may strike it, and has of each later
+-- tick what the schedule says of the parcels.
 pub record StandsFor (s : Scenario) (L : List Posted) (now : ℕ) (c : Dates) : Type 0 where
   pub parcels : c.parcels ≡ length L
-  pub counts : (from to : Actor) (kind : ℕ) → count_of c.counts (course from to kind) ≡ length (filter (is_parcel_of from to kind) (parcels_of L))
+  pub counts : (from to : Actor) (kind : ℕ) → count_of c.courses (course from to kind) ≡ length (filter (is_parcel_of from to kind) (parcels_of L))
+  pub lines : KeepsLines s.faults c.courses
   pub items : (t : ℕ) → now < t → t ≤ s.ticks → items_in c.days t ≡ arrivals s t [] L
 
 -- Before the first parcel.
 abbrev pub no_dates : Dates
-no_dates = record { parcels = 0; counts = []; days = [] }
+no_dates = record { parcels = 0; courses = []; days = [] }
 
 -- After some parcels a prefix of these was posted.
 pub record HasPosted (s : Scenario) (L all : List Posted) (now : ℕ) (c : Dates) : Type 0 where

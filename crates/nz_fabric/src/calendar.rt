@@ -8,9 +8,8 @@ ghost use Rattle.nz_fabric.specs.declared.course.Course.{Course as CourseModel};
 ghost use Rattle.nz_fabric.specs.Calendars.{StandsFor, no_dates, course, course_eq, count_of, items_in};
 ghost use Rattle.nz_fabric.specs.Posting.{arrival_of, items_arriving, arrivals_up_to, days_of, HasRoomFor, HasRooms, AreShort};
 
-use crate::course::{Course, count_up_to, number_of};
+use crate::course::{Course, Traffic, count_one, deliveries_by_course};
 use crate::deliveries::Delivery;
-use crate::faults::deliveries_of;
 use indexmap::IndexMap;
 use nz_base::{List, NoMemory, Scenario, TryCopy};
 use nz_machine::{Event, Item, ItemList, Parcel, kind_of};
@@ -24,12 +23,13 @@ pub struct Arrival {
     pub item: Item,
 }
 
-/// What is still to come of what was sent: a parcel costs a look at each fault line, a tick what is due in it.
+/// What is still to come of what was sent. A parcel costs a look at each fault line that may strike parcels of its course,
+/// and the first of a course a look at every line. A tick costs what is due in it.
 #[derive(Drop)]
 pub struct Calendar {
     alloc: Global,
     parcels: u64,
-    counts: IndexMap<Course, u64>,
+    courses: IndexMap<Course, Traffic>,
     /// The items of each tick, from tick 0 on.
     days: Vec<Vec<Item>>,
 }
@@ -40,7 +40,7 @@ impl Model for Calendar {
 
     ghost Value = { Dates };
 
-    ghost view = { λ c. record { parcels = c.parcels; counts = c.counts.entries; days = days_of c.days.items } };
+    ghost view = { λ c. record { parcels = c.parcels; courses = c.courses.entries; days = days_of c.days.items } };
 
     ghost invariant = { λ c. AreShort c.days.items };
 }
@@ -150,7 +150,7 @@ impl Calendar {
         Calendar {
             alloc,
             parcels: 0,
-            counts: IndexMap::new(alloc),
+            courses: IndexMap::new(alloc),
             days: Vec::new(alloc),
         }
     }
@@ -171,12 +171,18 @@ impl Calendar {
         ensures err { (s : ScenarioModel) (L : List Posted) (now : ℕ) → StandsFor s L now self.old → OnErr result (StandsFor s L now self.new) }
     {
         let kind = kind_of(parcel.frame.as_slice());
-        let number = number_of(&self.counts, parcel, kind);
         let faults = scenario.faults.as_slice();
-        let deliveries = deliveries_of(self.alloc, faults, tick, parcel, kind, number)?;
+        let deliveries = deliveries_by_course(
+            self.alloc,
+            &self.courses,
+            faults,
+            tick,
+            parcel,
+            kind,
+        )?;
         let arrivals = arrivals_of(self.alloc, scenario.ticks, parcel, deliveries.as_slice())?;
         reserve_all(self.alloc, &mut self.days, arrivals.as_slice())?;
-        count_up_to(&mut self.counts, parcel, kind, number)?;
+        count_one(self.alloc, &mut self.courses, faults, parcel, kind)?;
         place_all(&mut self.days, arrivals);
         self.parcels += 1;
         Ok(())

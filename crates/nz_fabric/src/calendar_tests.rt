@@ -1,8 +1,9 @@
 //! A calendar by itself.
 ghost use Rattle.std.specs.Prelude.{◌≡◌, ◌≤◌, length, IfOk};
 ghost use Rattle.std.specs.List.{AllByRecursion};
-ghost use Rattle.nz_base.specs.declared.limits.TheConstants.{MAX_REPLICA};
-ghost use Rattle.nz_machine.specs.Schedule.{IsPlayable};
+ghost use Rattle.nz_base.specs.declared.limits.TheConstants.{MAX_FAULTS, MAX_REPLICA};
+ghost use Rattle.nz_base.specs.declared.scenario.Scenario.{Scenario as ScenarioModel};
+ghost use Rattle.nz_machine.specs.Schedule.{IsPlayable, NamesMember};
 ghost use Rattle.nz_machine.specs.World.{IsAsked, request_count};
 
 use super::calendar::Calendar;
@@ -42,8 +43,25 @@ fn scripts(alloc: Global) -> Result<ScriptList, Fail>
     Ok(scripts)
 }
 
-/// One client with one request. What the proxy sends first to replica 0 comes a second time 20 ticks later, and to
-/// replica 1 it comes 5 ticks later.
+/// One client with one request, and these faults of parcels.
+fn scenario_with(alloc: Global, faults: FaultList) -> Result<Scenario, Fail>
+    requires few { length faults ≤ MAX_FAULTS }
+    requires members { (s : ScenarioModel) → AllByRecursion (NamesMember s) faults }
+    ensures { IfOk result IsPlayable }
+{
+    Ok(Scenario {
+        cluster: Cluster::new(1).ok_or("1 is an f")?,
+        proxies: 1,
+        clients: 1,
+        window: 1,
+        ticks: 40,
+        skews: SkewList::new(alloc),
+        scripts: scripts(alloc)?,
+        faults,
+    })
+}
+
+/// What the proxy sends first to replica 0 comes a second time 20 ticks later, and to replica 1 it comes 5 ticks later.
 fn twice_and_held(alloc: Global) -> Result<Scenario, Fail>
     ensures { IfOk result IsPlayable }
 {
@@ -62,20 +80,53 @@ fn twice_and_held(alloc: Global) -> Result<Scenario, Fail>
         count: 1,
         by: 5,
     })?;
-    Ok(Scenario {
-        cluster: Cluster::new(1).ok_or("1 is an f")?,
-        proxies: 1,
-        clients: 1,
-        window: 1,
-        ticks: 40,
-        skews: SkewList::new(alloc),
-        scripts: scripts(alloc)?,
-        faults,
-    })
+    scenario_with(alloc, faults)
 }
 
-/// A message of the kind from the proxy to a replica, in tick 2.
-fn send(alloc: Global, calendar: &mut Calendar, scenario: &Scenario, to: u8) -> Result<(), Fail>
+/// Of what the proxy sends to replica 0, the second parcel is lost, and the third comes again 2 ticks later. To replica
+/// 1 the second comes 4 ticks later. What it sends in tick 5 is lost.
+fn lines_on_two_courses(alloc: Global) -> Result<Scenario, Fail>
+    ensures { IfOk result IsPlayable }
+{
+    let (from, to) = (Actor::Proxy(0), Actor::Replica(0));
+    let mut faults = FaultList::new(alloc);
+    faults.push(Fault::Drop {
+        from,
+        to,
+        kind: TIMED,
+        count: 2,
+    })?;
+    faults.push(Fault::Hold {
+        from,
+        to: Actor::Replica(1),
+        kind: TIMED,
+        count: 2,
+        by: 4,
+    })?;
+    faults.push(Fault::Block {
+        from: Some(from),
+        to: None,
+        first: 5,
+        last: 5,
+    })?;
+    faults.push(Fault::Twice {
+        from,
+        to,
+        kind: TIMED,
+        count: 3,
+        by: 2,
+    })?;
+    scenario_with(alloc, faults)
+}
+
+/// A message of the kind from the proxy to a replica, in a tick.
+fn send(
+    alloc: Global,
+    calendar: &mut Calendar,
+    scenario: &Scenario,
+    tick: u32,
+    to: u8,
+) -> Result<(), Fail>
     requires playable { IsPlayable scenario.now }
     requires to { to ≤ MAX_REPLICA }
 {
@@ -84,7 +135,7 @@ fn send(alloc: Global, calendar: &mut Calendar, scenario: &Scenario, to: u8) -> 
     if calendar.parcels() == u64::MAX {
         return Err("too many parcels".into());
     }
-    calendar.post(scenario, 2, &Parcel { from, to, frame })?;
+    calendar.post(scenario, tick, &Parcel { from, to, frame })?;
     Ok(())
 }
 
@@ -109,7 +160,7 @@ fn a_copy_and_a_held_delivery_come_in_their_ticks(rt: HostRuntime) -> Result<(),
         note(&mut came, tick, calendar.take(tick).as_slice())?;
     }
     for number in 0..3 {
-        send(alloc, &mut calendar, &scenario, number)?;
+        send(alloc, &mut calendar, &scenario, 2, number)?;
     }
     for tick in 3..41 {
         note(&mut came, tick, calendar.take(tick).as_slice())?;
@@ -117,6 +168,36 @@ fn a_copy_and_a_held_delivery_come_in_their_ticks(rt: HostRuntime) -> Result<(),
     assert_eq!(rt;
         came.as_slice(),
         [(3, 0), (3, 2), (8, 1), (23, 0)].as_slice()
+    );
+    Ok(())
+}
+
+#[test]
+fn each_course_has_the_faults_of_its_own_parcels(rt: HostRuntime) -> Result<(), Fail> {
+    let alloc = rt.alloc();
+    let scenario = lines_on_two_courses(alloc)?;
+    let mut calendar = Calendar::new(alloc);
+    let mut came = Vec::new(alloc);
+    for tick in 1..41 {
+        note(&mut came, tick, calendar.take(tick).as_slice())?;
+        if tick >= 2 && tick <= 6 {
+            send(alloc, &mut calendar, &scenario, tick, 0)?;
+            send(alloc, &mut calendar, &scenario, tick, 1)?;
+        }
+    }
+    assert_eq!(rt;
+        came.as_slice(),
+        [
+            (3, 0),
+            (3, 1),
+            (5, 0),
+            (5, 1),
+            (7, 0),
+            (7, 0),
+            (7, 1),
+            (8, 1)
+        ]
+        .as_slice()
     );
     Ok(())
 }

@@ -1,9 +1,10 @@
-//! The deliveries of a parcel, by all fault lines.
+//! The deliveries of a parcel, by fault lines.
 
 ghost use Rattle.std.specs.Prelude.{◌≡◌, ◌+◌, ◌&&◌, ◌==◌, ◌∷◌, [], List, map, IfOk, OnOk};
 ghost use Rattle.nz_machine.specs.declared.event.Parcel.{Parcel as ParcelModel};
 ghost use Rattle.nz_machine.specs.Schedule as schedule;
 ghost use Rattle.nz_machine.specs.Schedule.{Delivery as DeliveryModel, is_parcel_of, kind_in_frame, whole_in, after_fault, after_faults};
+ghost use Rattle.nz_fabric.specs.Calendars as calendars;
 ghost use Rattle.nz_fabric.specs.Posting as posting;
 ghost use Rattle.nz_fabric.specs.Posting.{delivery_as_stored, after_strike, HasNumber};
 
@@ -74,6 +75,22 @@ fn is_blocked(
     ensures { result ≡ schedule.is_blocked from to first last tick parcel.now }
 {
     is_named(from, parcel.from) && is_named(to, parcel.to) && first <= tick && tick <= last
+}
+
+/// Whether a fault line may strike a parcel of this kind, sent in some tick and with some number.
+pub fn may_strike(fault: Fault, parcel: &Parcel, own: u8) -> bool
+    ensures { result ≡ calendars.may_strike parcel.now.from parcel.now.to own fault }
+{
+    match fault {
+        Fault::Drop { from, to, kind, .. }
+        | Fault::Hold { from, to, kind, .. }
+        | Fault::Twice { from, to, kind, .. }
+        | Fault::Cut { from, to, kind, .. } => {
+            kind == own && parcel.from.is(&from) && parcel.to.is(&to)
+        }
+        Fault::Block { from, to, .. } => is_named(from, parcel.from) && is_named(to, parcel.to),
+        Fault::Crash { .. } | Fault::Restart { .. } | Fault::Alarm { .. } => false,
+    }
 }
 
 /// Whether a fault line strikes a parcel that is sent in a tick, and is the one of this number among those of its

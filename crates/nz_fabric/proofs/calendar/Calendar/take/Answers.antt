@@ -26,7 +26,7 @@ pub returns-clause-stands : goal.returns-clause-stands
 returns-clause-stands c = λ s L now h lt.
     let f = c.self.inside in
     stands_by s L c.args.tick c.args.self.now _ (ap (λ (d : Dates). d.parcels) c.self.view_is)
-    (ap (λ (d : Dates). d.counts) c.self.view_is)
+    (ap (λ (d : Dates). d.courses) c.self.view_is)
     (λ t after. taken_later f.days.items c.args.tick t c.replace-day.new.dest after
     (ap (λ (v : Vec Item Global). v.items) c.replace-day.ensures.after ∙ c.new-2.ensures.items)
     ∙ ap (λ (d : Dates). items_in d.days t) c.self.view_is) (stands_later s L now c.args.tick c.args.self.now lt h)
