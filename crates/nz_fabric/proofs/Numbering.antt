@@ -20,7 +20,7 @@ use Rattle.nz_machine.specs.Schedule.{cut_short, is_parcel_of, is_nth, has_kind,
 use Rattle.nz_fabric.specs.declared.deliveries.Delivery.{Delivery}
 use Rattle.nz_fabric.specs.declared.course.Course.{Course}
 use Rattle.nz_fabric.specs.declared.course.Traffic.{Traffic}
-use Rattle.nz_fabric.specs.Calendars.{course, course_eq, traffic_on, traffic_of, count_in, count_of, next_number, with_one, may_strike}
+use Rattle.nz_fabric.specs.Calendars.{course, course_eq, traffic_on, traffic_of, count_in, count_of, next_number, with_parcel, may_strike}
 use Rattle.nz_fabric.specs.Calendars.{parcels_of, number_in_all, IsCounted}
 use Rattle.nz_fabric.specs.Posting.{delivery_as_stored, put_off, HasNumber, strikes, after_strike}
 
@@ -132,7 +132,7 @@ counted_one lines before after p None from to kind own h =
 counted_one lines before after p (Some k) from to kind own h =
     let number = next_number (traffic_of before p (Some k)) in
     ap count_in (h (course from to kind))
-    ∙ count_if (course_eq (course p.from p.to k) (course from to kind)) (with_one (filter (may_strike p.from p.to k) lines)
+    ∙ count_if (course_eq (course p.from p.to k) (course from to kind)) (with_parcel (filter (may_strike p.from p.to k) lines)
     (traffic_of before p (Some k))) (traffic_on before (course from to kind))
     ∙ ap (λ (b : Bool). cond b number (count_of before (course from to kind))) (same_course p from to k kind)
     ∙ ap (λ (o : Option ℕ). cond (actor_eq p.from from && (actor_eq p.to to && has_kind kind o)) number (count_of before (course from to kind))) own

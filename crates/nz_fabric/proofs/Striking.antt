@@ -11,7 +11,7 @@ use Rattle.nz_machine.specs.declared.event.Parcel.{Parcel}
 use Rattle.nz_machine.specs.Schedule.{Delivery, is_parcel_of, is_nth, is_named, has_kind, kind_in_frame, after_fault, after_faults}
 use Rattle.nz_fabric.specs.declared.course.Course.{Course}
 use Rattle.nz_fabric.specs.declared.course.Traffic.{Traffic}
-use Rattle.nz_fabric.specs.Calendars.{course, course_eq, traffic_on, traffic_of, lines_or, is_about, may_strike, with_one, IsCounted, KeepsLines}
+use Rattle.nz_fabric.specs.Calendars.{course, course_eq, traffic_on, traffic_of, lines_or, is_about, may_strike, with_parcel, IsCounted, KeepsLines}
 use Rattle.nz_fabric.specs.Posting.{strikes}
 use Rattle.nz_fabric.proofs.Numbering.{both_true, same_course, faulted_is}
 
@@ -96,7 +96,7 @@ kept_after lines before after p (Some k) h kept = λ from to kind.
     let own = traffic_on before (course p.from p.to k) in
     subst Keeps (sym (h (course from to kind)))
     (cond_both (course_eq (course p.from p.to k) (course from to kind))
-    (Some (with_one (filter (may_strike p.from p.to k) lines) own)) (traffic_on before (course from to kind)) Keeps
+    (Some (with_parcel (filter (may_strike p.from p.to k) lines) own)) (traffic_on before (course from to kind)) Keeps
     (λ e. kept_of_own p k kind from to lines own e (kept p.from p.to k)) (λ e. kept from to kind))
 
 -- the first parcel of a course
@@ -106,7 +106,7 @@ pub counted_first : (lines kept : List Fault) (before after : List (Course × Tr
     → IsCounted lines before after p (Some k)
 counted_first lines kept before after own p k is none kept_is h = λ c.
     h c
-    ∙ ap (λ (xs : List Fault). cond (course_eq own c) (Some (with_one xs None)) (traffic_on before c)) kept_is
-    ∙ ap (λ (o : Option Traffic). cond (course_eq own c) (Some (with_one (filter (may_strike p.from p.to k) lines) o)) (traffic_on before c)) none
-    ∙ ap (λ (x : Course). cond (course_eq x c) (Some (with_one (filter (may_strike p.from p.to k) lines) (traffic_on before x)))
+    ∙ ap (λ (xs : List Fault). cond (course_eq own c) (Some (with_parcel xs None)) (traffic_on before c)) kept_is
+    ∙ ap (λ (o : Option Traffic). cond (course_eq own c) (Some (with_parcel (filter (may_strike p.from p.to k) lines) o)) (traffic_on before c)) none
+    ∙ ap (λ (x : Course). cond (course_eq x c) (Some (with_parcel (filter (may_strike p.from p.to k) lines) (traffic_on before x)))
     (traffic_on before c)) is

@@ -76,14 +76,14 @@ may_strike from to kind (faults.Block a b first last) = is_named a from && is_na
 may_strike from to kind _ = false
 
 -- What is kept of a course with one parcel more: with its first parcel these fault lines.
-abbrev pub with_one : List Fault → Option Traffic → Traffic
-with_one lines traffic = record { count = next_number traffic; lines = lines_or lines traffic }
+abbrev pub with_parcel : List Fault → Option Traffic → Traffic
+with_parcel lines traffic = record { count = next_number traffic; lines = lines_or lines traffic }
 
 -- One more is counted of a parcel's course, where its frame has a kind. Of these fault lines, those that may strike it
 -- are kept with the first.
 abbrev pub IsCounted : List Fault → List (Course × Traffic) → List (Course × Traffic) → Parcel → Option ℕ → Type 0
 IsCounted lines before after p k = MatchOption k (after ≡ before) (λ k. (c : Course) → traffic_on after c
-    ≡ (if course_eq (course p.from p.to k) c then Some (with_one (filter (may_strike p.from p.to k) lines) (traffic_on before (course p.from p.to k)))
+    ≡ (if course_eq (course p.from p.to k) c then Some (with_parcel (filter (may_strike p.from p.to k) lines) (traffic_on before (course p.from p.to k)))
     else traffic_on before c))
 
 -- The items of a tick.

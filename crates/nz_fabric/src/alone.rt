@@ -5,6 +5,7 @@ ghost use Rattle.nz_machine.specs.Journals.{run_in};
 ghost use Rattle.nz_machine.specs.Schedule.{InOrder, IsPlayable};
 ghost use Rattle.nz_fabric.specs.States.{IsDone, IsKeptRun, IsNextTurn, IsOpen, after_tick, records_of, start_state, with_mark, with_recorded, with_taken};
 
+use crate::due::clocks_of;
 use crate::posting::post_all;
 use crate::ticks::Ticks;
 use crate::turn::Turn;
@@ -39,9 +40,12 @@ impl Alone {
         requires { IsPlayable scenario }
         ensures { IfOk result (λ alone. alone ≡ start_state scenario) }
     {
+        // Each clock has a record, so none of these places is left.
+        let mut records = Vec::new(alloc);
+        records.reserve(clocks_of(&scenario))?;
         Ok(Alone {
             ticks: Ticks::new(alloc, scenario),
-            records: Vec::new(alloc),
+            records,
             before: 0,
         })
     }

@@ -8,7 +8,7 @@ ghost use Rattle.nz_fabric.specs.Calendars as calendars;
 ghost use Rattle.nz_fabric.specs.Calendars.{course, next_number, lines_or, number_in_all, IsCounted};
 ghost use Rattle.nz_fabric.specs.Posting.{delivery_as_stored, HasNumber};
 
-use crate::deliveries::Delivery;
+use crate::deliveries::Deliveries;
 use crate::faults::{deliveries_of, may_strike};
 use indexmap::IndexMap;
 use nz_base::{Actor, Fault, FaultList, NoMemory};
@@ -73,7 +73,7 @@ pub fn deliveries_by_course(
     tick: u32,
     parcel: &Parcel,
     kind: Option<u8>,
-) -> Result<Vec<Delivery>, NoMemory>
+) -> Result<Deliveries, NoMemory>
     requires { kind ≡ kind_in_frame parcel.now.frame }
     ensures { (earlier : List ParcelModel) → HasNumber earlier parcel.now (next_number (calendars.traffic_of courses.now.entries parcel.now kind))
         → IfOk result (λ v. v.items ≡ map delivery_as_stored (after_faults tick earlier parcel.now

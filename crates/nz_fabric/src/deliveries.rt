@@ -6,14 +6,18 @@ ghost use Rattle.nz_machine.specs.Schedule.{Delivery as DeliveryModel, deliverie
 ghost use Rattle.nz_fabric.specs.Posting.{delivery_as_stored};
 
 use nz_base::NoMemory;
+use smallvec::SmallVec;
 
 /// When a copy of a parcel comes, and how many bytes of it, where not all of them come. Ticks stop at
 /// 2^32 - 1, which is after the last tick of every run.
-#[derive(Clone, Copy, Debug)]
+#[derive(Clone, Copy, Debug, Default)]
 pub struct Delivery {
     pub tick: u32,
     pub kept: Option<u32>,
 }
+
+/// The deliveries of one parcel, in the order of the copies. One or two take no memory of their own.
+pub type Deliveries = SmallVec<Delivery, 2>;
 
 /// Every delivery comes later.
 pub fn held(by: u32, deliveries: &mut [Delivery])
@@ -25,11 +29,11 @@ pub fn held(by: u32, deliveries: &mut [Delivery])
 }
 
 /// A whole copy comes so much later than the first delivery.
-pub fn repeated(by: u32, deliveries: &mut Vec<Delivery>) -> Result<(), NoMemory>
+pub fn repeated(by: u32, deliveries: &mut Deliveries) -> Result<(), NoMemory>
     ensures { (ds : List DeliveryModel) → deliveries.old.items ≡ map delivery_as_stored ds
         → OnOk result (deliveries.new.items ≡ map delivery_as_stored (with_copy by ds)) }
 {
-    if let Some(first) = deliveries.first() {
+    if let Some(first) = deliveries.as_slice().first() {
         let tick = first.tick.saturating_add(by);
         deliveries.push(Delivery { tick, kept: None })?;
     }

@@ -1,6 +1,7 @@
 //! What is due in a tick before what arrives: fault lines and clocks.
 
-ghost use Rattle.std.specs.Prelude.{◌≡◌, ◌<◌, ◌+◌, ◌-◌, ◌^◌, ◌==◌, ◌∷◌, ◌++◌, [], map, IfOk, OnOk};
+ghost use Rattle.std.specs.Prelude.{◌≡◌, ◌<◌, ◌≤◌, ◌+◌, ◌-◌, ◌*◌, ◌^◌, ◌==◌, ◌∷◌, ◌++◌, [], length, map, vec_capacity, IfOk, OnOk};
+ghost use Rattle.nz_base.specs.Cluster.{replica_count};
 ghost use Rattle.nz_machine.specs.Replicas.{numbers_below};
 ghost use Rattle.nz_machine.specs.Schedule as schedule;
 ghost use Rattle.nz_machine.specs.Schedule.{item, if_in, calls, skew_of, actors_of, tick_item};
@@ -128,12 +129,37 @@ fn push_clocks(items: &mut Vec<Item>, scenario: &Scenario, tick: u32) -> Result<
     push_sort(items, scenario, tick, Sort::Clients, scenario.clients)
 }
 
-/// What is due in a tick before what arrives: crashes, restarts and alarms, then every clock.
-pub fn due_items(alloc: Global, scenario: &Scenario, tick: u32) -> Result<Vec<Item>, NoMemory>
-    ensures { IfOk result (λ v. v.items ≡ calls tick 0 scenario.now.faults ++ map (tick_item scenario.now tick) (actors_of scenario.now)) }
+/// How many actors there are.
+fn actor_count(scenario: &Scenario) -> usize
+    ensures count { let s = scenario.now in result ≡ replica_count s.cluster + s.proxies + s.clients }
+    ensures few { result < 768 }
 {
-    let mut items = Vec::new(alloc);
+    let (proxies, clients) = (scenario.proxies, scenario.clients);
+    usize::from(scenario.cluster.n()) + usize::from(proxies) + usize::from(clients)
+}
+
+/// How many records the clocks of a run make: one of each actor in each tick.
+pub fn clocks_of(scenario: &Scenario) -> usize
+    ensures { let s = scenario.now in result ≡ (replica_count s.cluster + s.proxies + s.clients) * s.ticks }
+{
+    let ticks = scenario.ticks;
+    actor_count(scenario) * ticks as usize
+}
+
+/// What is due in a tick before what arrives: crashes, restarts and alarms, then every clock. There is room for this
+/// many more.
+pub fn due_items(
+    alloc: Global,
+    scenario: &Scenario,
+    tick: u32,
+    more: usize,
+) -> Result<Vec<Item>, NoMemory>
+    ensures items { IfOk result (λ v. v.items ≡ calls tick 0 scenario.now.faults ++ map (tick_item scenario.now tick) (actors_of scenario.now)) }
+    ensures room { IfOk result (λ v. length v.items + more ≤ vec_capacity v) }
+{
+    let mut items = Vec::with_capacity(alloc, actor_count(scenario).saturating_add(more))?;
     push_calls(&mut items, scenario.faults.as_slice(), tick)?;
     push_clocks(&mut items, scenario, tick)?;
+    items.reserve(more)?;
     Ok(items)
 }

@@ -12,6 +12,7 @@ ghost use Rattle.nz_fabric.specs.Shared.{shared_with, start_shared, with_given_u
 ghost use Rattle.nz_base.specs.declared.limits.TheConstants.{MAX_WORKERS};
 
 use crate::chronicle::Opened;
+use crate::due::clocks_of;
 use crate::lane::Lane;
 use crate::name::Name;
 use crate::open_turns::{OpenTurns, Taken};
@@ -68,7 +69,8 @@ impl<N: Name> FabricState<N> {
         ensures { IfOk result (λ r. (r.0 ≡ start_shared scenario) × IsWhole r.1) }
     {
         let Opened { records, takes } = opened;
-        let records = Records::new(alloc, records)?;
+        // Each clock has a record, so none of these places is left.
+        let records = Records::new(alloc, records, clocks_of(&scenario))?;
         let (book, held) = blank.open::<N>();
         let state = FabricState {
             ticks: Ticks::new(alloc, scenario),

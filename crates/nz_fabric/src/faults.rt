@@ -8,7 +8,7 @@ ghost use Rattle.nz_fabric.specs.Calendars as calendars;
 ghost use Rattle.nz_fabric.specs.Posting as posting;
 ghost use Rattle.nz_fabric.specs.Posting.{delivery_as_stored, after_strike, HasNumber};
 
-use crate::deliveries::{Delivery, cut_short, held, repeated};
+use crate::deliveries::{Deliveries, Delivery, cut_short, held, repeated};
 use nz_base::{Actor, Fault, NoMemory};
 use nz_machine::Parcel;
 use std::alloc::Global;
@@ -138,7 +138,7 @@ fn strikes(fault: Fault, tick: u32, parcel: &Parcel, own: Option<u8>, number: u6
 }
 
 /// What a fault line makes of the deliveries of a parcel that it strikes.
-fn strike(fault: Fault, parcel: &Parcel, deliveries: &mut Vec<Delivery>) -> Result<(), NoMemory>
+fn strike(fault: Fault, parcel: &Parcel, deliveries: &mut Deliveries) -> Result<(), NoMemory>
     ensures { (ds : List DeliveryModel) → deliveries.old.items ≡ map delivery_as_stored ds
         → OnOk result (deliveries.new.items ≡ map delivery_as_stored (after_strike parcel.now fault ds)) }
 {
@@ -161,7 +161,7 @@ fn faulted(
     parcel: &Parcel,
     own: Option<u8>,
     number: u64,
-    deliveries: &mut Vec<Delivery>,
+    deliveries: &mut Deliveries,
 ) -> Result<(), NoMemory>
     requires { own ≡ kind_in_frame parcel.now.frame }
     ensures { (earlier : List ParcelModel) (ds : List DeliveryModel) → HasNumber earlier parcel.now number → deliveries.old.items ≡ map delivery_as_stored ds
@@ -181,12 +181,12 @@ pub fn deliveries_of(
     parcel: &Parcel,
     own: Option<u8>,
     number: u64,
-) -> Result<Vec<Delivery>, NoMemory>
+) -> Result<Deliveries, NoMemory>
     requires { own ≡ kind_in_frame parcel.now.frame }
     ensures { (earlier : List ParcelModel) → HasNumber earlier parcel.now number
         → IfOk result (λ v. v.items ≡ map delivery_as_stored (after_faults tick earlier parcel.now faults.now (whole_in (tick + 1) ∷ []))) }
 {
-    let mut deliveries = Vec::new(alloc);
+    let mut deliveries = Deliveries::new(alloc);
     deliveries.push(Delivery {
         tick: tick.saturating_add(1),
         kept: None,

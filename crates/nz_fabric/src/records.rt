@@ -52,15 +52,17 @@ fn place_of(actor: Actor) -> usize
 }
 
 impl<N: Name> Records<N> {
-    /// No record.
-    pub fn new(alloc: Global, opened: Unnamed<Record>) -> Result<Records<N>, NoMemory>
+    /// No record, and room for this many.
+    pub fn new(alloc: Global, opened: Unnamed<Record>, room: usize) -> Result<Records<N>, NoMemory>
         requires { opened ≡ N.chronicles.records }
         ensures { IfOk result (λ records. records.records ≡ []) }
     {
         let counts = vec![in alloc; 0u32; ACTORS]?;
         let (chronicle, seen) = opened.named::<RecordsOf<N>>();
+        let mut records = Vec::new(alloc);
+        records.reserve(room)?;
         Ok(Records {
-            records: Vec::new(alloc),
+            records,
             counts,
             chronicle,
             seen,

@@ -71,8 +71,8 @@ impl Ticks {
         ensures err { OnErr result (self.new ≡ self.old) }
     {
         let tick = self.tick + 1;
-        let mut items = due_items(self.alloc, &self.scenario, tick)?;
-        items.reserve(self.calendar.due(tick))?;
+        let coming = self.calendar.due(tick);
+        let mut items = due_items(self.alloc, &self.scenario, tick, coming)?;
         append(&mut items, self.calendar.take(tick));
         self.items = items;
         self.tick = tick;

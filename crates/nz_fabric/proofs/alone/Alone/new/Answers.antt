@@ -1,6 +1,8 @@
 -- What the function of this folder owes, proved.
+use Rattle.std.proofs.Common.{◌∙◌}
 use Rattle.nz_fabric.proofs.Held.{held_start}
 use Rattle.nz_fabric.proofs.alone.Alone.new.Goals as goal
 
 pub invariant_of-result : goal.invariant_of-result
-invariant_of-result c = held_start c.args.scenario c.new.result c.new-2.result.items _ c.requires c.new.ensures c.new-2.ensures.items
+invariant_of-result c =
+    held_start c.args.scenario c.new.result c.reserve.new.self.items _ c.requires c.new.ensures (c.reserve.ensures.items ∙ c.new-records.ensures.items)

@@ -31,7 +31,7 @@ returns-clause-ok c = λ L now h.
     ≡ arrivals_up_to s.ticks (map (arrival_of p)
     (map delivery_as_stored (after_faults c.args.tick (parcels_of L) p (lines_or s.faults kept) (whole_in (c.args.tick + 1) ∷ [])))) =
     c.in_ok-arrivals.ensures
-    ∙ ap (λ (ds : List Delivery). arrivals_up_to s.ticks (map (arrival_of p) ds)) (c.as_slice-2.ensures.value ∙ c.in_ok-deliveries.ensures (parcels_of L) is)
+    ∙ ap (λ (ds : List Delivery). arrivals_up_to s.ticks (map (arrival_of p) ds)) (c.as_slice-2.ensures ∙ c.in_ok-deliveries.ensures (parcels_of L) is)
     ∙ ap (λ (lines : List Fault). arrivals_up_to s.ticks (map (arrival_of p)
     (map delivery_as_stored (after_faults c.args.tick (parcels_of L) p (lines_or lines kept) (whole_in (c.args.tick + 1) ∷ []))))) faults in
     let count : IsCounted s.faults f.courses.entries c.count_one.new.courses.entries p k =

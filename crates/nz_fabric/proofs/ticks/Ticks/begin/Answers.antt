@@ -17,7 +17,7 @@ returns-clause-ok c = λ L h.
       tick = refl;
       items =
           c.append.ensures
-          ∙ ap (λ (is : List Item). is ++ c.take.result) (c.reserve.ensures.items ∙ c.in_ok-items.ensures)
+          ∙ ap (λ (is : List Item). is ++ c.take.result) c.in_ok-items.ensures.items
           ∙ ap (λ (is : List Item). (first ++ clocks) ++ is) due
           ∙ append_assoc first clocks (arrivals s next [] L);
       next = refl;
