@@ -1,5 +1,5 @@
 -- What a reading has found stays true as it takes one more record.
-use Rattle.std.proofs.Common.{◌≡◌, ℕ, false, eqb, List, [], ◌∷◌}
+use Rattle.std.proofs.Common.{◌≡◌, ℕ, false, eqb, List, [], ◌∷◌, Bool, true}
 use Rattle.std.proofs.Common.{Option, Some, None, Result, Ok, Err, refl, sym, ap, subst, ◌∙◌, inl, inr, eqb-true}
 use Rattle.std.proofs.lemmas.Bool.{cases_Bool}
 use Rattle.std.specs.Prelude.{OnOk}
@@ -53,28 +53,30 @@ event_source g J table Alarm s t is = tt
 event_source g J table Crash s t is = tt
 event_source g J table (Restart nonce) s t is = tt
 
-own_takes : (g : Group) (q f : ℕ) (r : Record) (J : List Record) (s : Option Source) (before after : Option ProxyNotes) → World g (r ∷ J)
-    → r.actor ≡ Proxy q → g.f ≡ f → source_in g J r.event s → IsProxy g J q before
+own_takes : (g : Group) (q f : ℕ) (r : Record) (J : List Record) (s : Option Source) (quiet : Bool) (before after : Option ProxyNotes)
+    → World g (r ∷ J) → r.actor ≡ Proxy q → g.f ≡ f → source_in g J r.event s → (quiet ≡ true → r.sends ≡ []) → IsProxy g J q before
     → is_down_in after ≡ down_after r.event (is_down_in before)
-    → ((id : Id) → known_to after id ≡ after_event f q s (is_down_in before) id r.event (known_to before id)) → IsProxy g (r ∷ J) q after
-own_takes g q f r J s before after w by is_f from h down known = record {
+    → ((id : Id) → known_to after id ≡ after_event f q s quiet (is_down_in before) id r.event (known_to before id)) → IsProxy g (r ∷ J) q after
+own_takes g q f r J s quiet before after w by is_f from none h down known = record {
   down = down ∙ ap (down_after r.event) h.down ∙ sym (down_then g q r J by);
-  known = λ id. known id ∙ (λ i. after_event (sym is_f i) q s (h.down i) id r.event (h.known id i)) ∙ sym (memory_after g q id r J s w by from);
+  known = λ id. known id ∙ (λ i. after_event (sym is_f i) q s quiet (h.down i) id r.event (h.known id i))
+      ∙ sym (memory_after g q id r J s quiet w by from none);
 }
 
-pub proxy_takes_it : (g : Group) (k q f : ℕ) (r : Record) (J : List Record) (s : Option Source)
+pub proxy_takes_it : (g : Group) (k q f : ℕ) (r : Record) (J : List Record) (s : Option Source) (quiet : Bool)
     (own_before own_after before after : Option ProxyNotes) → World g (r ∷ J) → r.actor ≡ Proxy q → g.f ≡ f → source_in g J r.event s
+    → (quiet ≡ true → r.sends ≡ [])
     → (q ≡ k → (before ≡ own_before) × (after ≡ own_after)) → (eqb q k ≡ false → after ≡ before)
     → is_down_in own_after ≡ down_after r.event (is_down_in own_before)
-    → ((id : Id) → known_to own_after id ≡ after_event f q s (is_down_in own_before) id r.event (known_to own_before id)) → IsProxy g J k before
+    → ((id : Id) → known_to own_after id ≡ after_event f q s quiet (is_down_in own_before) id r.event (known_to own_before id)) → IsProxy g J k before
     → IsProxy g (r ∷ J) k after
-proxy_takes_it g k q f r J s own_before own_after before after w by is_f from own others down known h = elim (cases_Bool (eqb q k)) [
+proxy_takes_it g k q f r J s quiet own_before own_after before after w by is_f from none own others down known h = elim (cases_Bool (eqb q k)) [
   | inl same ↦
       let at = eqb-true q k same in
       let is = own at in
       let h_own : IsProxy g J q own_before = subst (λ (n : ℕ). IsProxy g J n own_before) (sym at) (subst (IsProxy g J k) is.0 h) in
       subst (IsProxy g (r ∷ J) k) (sym is.1)
-      (subst (λ (n : ℕ). IsProxy g (r ∷ J) n own_after) at (own_takes g q f r J s own_before own_after w by is_f from h_own down known))
+      (subst (λ (n : ℕ). IsProxy g (r ∷ J) n own_after) at (own_takes g q f r J s quiet own_before own_after w by is_f from none h_own down known))
   | inr other ↦ subst (IsProxy g (r ∷ J) k) (sym (others other)) (proxy_stays g k r J before (ap (λ (a : Actor). actor_eq a (Proxy k)) by ∙ other) h)
 ]
 

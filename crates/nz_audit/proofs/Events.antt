@@ -1,5 +1,5 @@
 -- What an event makes of what a proxy knows of a request.
-use Rattle.std.proofs.Common.{◌≡◌, ℕ, Bool, true, false, cond, List, [], ◌∷◌, Option, Some, None, refl, sym, ap, subst, ◌∙◌}
+use Rattle.std.proofs.Common.{◌≡◌, ℕ, Bool, true, false, cond, List, [], ◌∷◌, map, Option, Some, None, refl, sym, ap, subst, ◌∙◌}
 use Rattle.std.specs.Prelude.{is_some}
 use Rattle.std.specs.Option.{option_map, option_flatten}
 use Rattle.std.proofs.lemmas.Option.{none-some}
@@ -18,7 +18,7 @@ use Rattle.nz_machine.specs.declared.reply.Reply.{Reply}
 use Rattle.nz_machine.specs.State.{ProxyData, Group, Out}
 use Rattle.nz_machine.specs.Quorums.{answer_in}
 use Rattle.nz_machine.specs.Proxies.{standing_of, of_fast, of_slow, clock_rule, first_proxy}
-use Rattle.nz_machine.specs.Step.{proxy_message, accepted_envelope, envelope_step, event_step}
+use Rattle.nz_machine.specs.Step.{proxy_message, accepted_envelope, envelope_step, event_step, parcel, node_step}
 use Rattle.nz_machine.specs.World.{state_after, sent_in, Has, MayHappen, World}
 use Rattle.nz_machine.specs.Events.{read_in}
 use Rattle.nz_machine.specs.History as history
@@ -26,10 +26,10 @@ use Rattle.nz_machine.specs.History.{standing_after, reply_in, reply_read, parce
 use Rattle.nz_machine.proofs.Runs.{acts_itself}
 use Rattle.nz_audit.specs.declared.source.Source.{Source}
 use Rattle.nz_audit.specs.Sources.{in_numbers, about, stands_for}
-use Rattle.nz_audit.specs.Noting.{noted_after_request, noted_by, after_message, after_envelope, after_event, down_after}
+use Rattle.nz_audit.specs.Noting.{noted_after_request, noted_by, source_if_answer, after_message, after_envelope, after_event, down_after}
 use Rattle.nz_audit.specs.Memories.{memory_of, memory}
-use Rattle.nz_audit.proofs.Memories.{standing_opened, standing_noted, memory_stays, memory_opens, memory_notes}
-use Rattle.nz_audit.proofs.Standings.{stamp_opens, reply_notes, stamp_up, reply_up}
+use Rattle.nz_audit.proofs.Memories.{standing_opened, standing_noted, StaysOpen, memory_stays, memory_opens, memory_notes}
+use Rattle.nz_audit.proofs.Standings.{stamp_opens, reply_notes, reply_quiet, stamp_up, reply_up}
 use Rattle.nz_audit.proofs.Hearing.{source_read}
 
 -- the source that goes with what is delivered
@@ -46,48 +46,69 @@ after_request : (g : Group) (q : ℕ) (id own : Id) (r : Record) (J : List Recor
 after_request g q id own r J true after = memory_opens g q id r J after
 after_request g q id own r J false after = memory_stays g q id r J after
 
-after_reply : (g : Group) (q : ℕ) (id own : Id) (r : Record) (J : List Record) (p : Parcel) (reply : Reply) (source : Option Source) (b : Bool)
-    → parcel_delivered (r ∷ J) ≡ Some p
-    → reply_read id (read_in g (Proxy q) r.event) ≡ cond b (Some reply) None → IsFrom g q id r J p source
-    → standing_after g q id (r ∷ J) ≡ cond b (standing_noted g.f reply (standing_after g q id J)) (standing_after g q id J)
-    → memory g q id (r ∷ J) ≡ cond b (option_map (noted_by reply source) (memory g q id J)) (memory g q id J)
-after_reply g q id own r J p reply source true parcel read from after =
-    memory_notes g q id r J p reply source (record { parcel = parcel; read = read; from = from reply read }) after
-after_reply g q id own r J p reply source false parcel read from after = memory_stays g q id r J after
+-- a source that only a reply with an answer has
+either_way : (b : Bool) (source from : Option Source) → source ≡ cond b from None → cond b source None ≡ cond b from None
+either_way true source from e = e
+either_way false source from e = refl
 
-message_memory : (g : Group) (q : ℕ) (id : Id) (r : Record) (J : List Record) (p : Parcel) (source : Option Source) (from : Actor) (m : Message)
-    → parcel_delivered (r ∷ J) ≡ Some p
+after_reply : (g : Group) (q : ℕ) (id : Id) (r : Record) (J : List Record) (p : Parcel) (reply : Reply) (source : Option Source)
+    (quiet b : Bool) → parcel_delivered (r ∷ J) ≡ Some p
+    → reply_read id (read_in g (Proxy q) r.event) ≡ cond b (Some reply) None → IsFrom g q id r J p source
+    → (b ≡ true → StaysOpen g q id J reply quiet)
+    → standing_after g q id (r ∷ J) ≡ cond b (standing_noted g.f reply (standing_after g q id J)) (standing_after g q id J)
+    → memory g q id (r ∷ J) ≡ cond b (option_map (noted_by quiet reply (source_if_answer source reply)) (memory g q id J)) (memory g q id J)
+after_reply g q id r J p reply source quiet true parcel read from still after =
+    memory_notes g q id r J p reply (source_if_answer source reply) quiet
+    (record {
+      parcel = parcel;
+      read = read;
+      from = either_way (is_some (answer_in reply)) source (in_numbers (source_of (r ∷ J) p)) (from reply read);
+    }) (still refl) after
+after_reply g q id r J p reply source quiet false parcel read from still after = memory_stays g q id r J after
+
+-- the proxy sends nothing
+abbrev pub IsQuiet : Bool → List Out → Type 0
+IsQuiet quiet sent = quiet ≡ true → sent ≡ []
+
+message_memory : (g : Group) (q : ℕ) (id : Id) (r : Record) (J : List Record) (p : Parcel) (source : Option Source) (quiet : Bool)
+    (from : Actor) (m : Message) → parcel_delivered (r ∷ J) ≡ Some p
     → reply_read id (read_in g (Proxy q) r.event) ≡ reply_in id from m → IsFrom g q id r J p source
+    → IsQuiet quiet (proxy_message g.f (state_after g (Proxy q) J) from m).1
     → standing_after g q id (r ∷ J) ≡ standing_of (proxy_message g.f (state_after g (Proxy q) J) from m).0 id
-    → memory g q id (r ∷ J) ≡ after_message g.f source id from m (memory g q id J)
-message_memory g q id r J p source (Client c) (Request b) parcel read by after =
+    → memory g q id (r ∷ J) ≡ after_message g.f source quiet id from m (memory g q id J)
+message_memory g q id r J p source quiet (Client c) (Request b) parcel read by silent after =
     let own : Id = record { client = c; num = b.num } in
     after_request g q id own r J (id_eq own id) (after ∙ stamp_opens g.f (state_after g (Proxy q) J) c b id)
-message_memory g q id r J p source (Replica k) (FastReply b) parcel read by after =
-    after_reply g q id b.id r J p (of_fast k b) source (id_eq b.id id) parcel read by
+message_memory g q id r J p source quiet (Replica k) (FastReply b) parcel read by silent after =
+    after_reply g q id r J p (of_fast k b) source quiet (id_eq b.id id) parcel read by
+    (λ same is replies. reply_quiet g.f (state_after g (Proxy q) J) k b.id b.delay (of_fast k b) id replies same (silent is))
     (after ∙ reply_notes g.f (state_after g (Proxy q) J) k b.id b.delay (of_fast k b) id)
-message_memory g q id r J p source (Replica k) (SlowReply b) parcel read by after =
-    after_reply g q id b.id r J p (of_slow k b) source (id_eq b.id id) parcel read by
+message_memory g q id r J p source quiet (Replica k) (SlowReply b) parcel read by silent after =
+    after_reply g q id r J p (of_slow k b) source quiet (id_eq b.id id) parcel read by
+    (λ same is replies. reply_quiet g.f (state_after g (Proxy q) J) k b.id b.delay (of_slow k b) id replies same (silent is))
     (after ∙ reply_notes g.f (state_after g (Proxy q) J) k b.id b.delay (of_slow k b) id)
-message_memory g q id r J p source _ _ parcel read by after = memory_stays g q id r J after
+message_memory g q id r J p source quiet _ _ parcel read by silent after = memory_stays g q id r J after
 
 -- a proxy that is down hears nothing
-up_memory : (g : Group) (q : ℕ) (id : Id) (r : Record) (J : List Record) (p : Parcel) (source : Option Source) (e : Envelope) (down : Bool)
-    → parcel_delivered (r ∷ J) ≡ Some p
+up_memory : (g : Group) (q : ℕ) (id : Id) (r : Record) (J : List Record) (p : Parcel) (source : Option Source) (quiet : Bool) (e : Envelope)
+    (down : Bool) → parcel_delivered (r ∷ J) ≡ Some p
     → reply_read id (read_in g (Proxy q) r.event) ≡ reply_in id e.from e.message → IsFrom g q id r J p source
+    → IsQuiet quiet (cond down (state_after g (Proxy q) J, []) (proxy_message g.f (state_after g (Proxy q) J) e.from e.message)).1
     → standing_after g q id (r ∷ J)
     ≡ standing_of (cond down (state_after g (Proxy q) J, []) (proxy_message g.f (state_after g (Proxy q) J) e.from e.message)).0 id
-    → memory g q id (r ∷ J) ≡ cond down (memory g q id J) (after_message g.f source id e.from e.message (memory g q id J))
-up_memory g q id r J p source e true parcel read by after = memory_stays g q id r J after
-up_memory g q id r J p source e false parcel read by after = message_memory g q id r J p source e.from e.message parcel read by after
+    → memory g q id (r ∷ J) ≡ cond down (memory g q id J) (after_message g.f source quiet id e.from e.message (memory g q id J))
+up_memory g q id r J p source quiet e true parcel read by silent after = memory_stays g q id r J after
+up_memory g q id r J p source quiet e false parcel read by silent after =
+    message_memory g q id r J p source quiet e.from e.message parcel read by silent after
 
-envelope_memory : (g : Group) (q : ℕ) (id : Id) (r : Record) (J : List Record) (p : Parcel) (source : Option Source) (o : Option Envelope)
-    → parcel_delivered (r ∷ J) ≡ Some p → read_in g (Proxy q) r.event ≡ o → IsFrom g q id r J p source
+envelope_memory : (g : Group) (q : ℕ) (id : Id) (r : Record) (J : List Record) (p : Parcel) (source : Option Source) (quiet : Bool)
+    (o : Option Envelope) → parcel_delivered (r ∷ J) ≡ Some p → read_in g (Proxy q) r.event ≡ o → IsFrom g q id r J p source
+    → IsQuiet quiet (envelope_step g (Proxy q) (state_after g (Proxy q) J) o).1
     → standing_after g q id (r ∷ J) ≡ standing_of (envelope_step g (Proxy q) (state_after g (Proxy q) J) o).0 id
-    → memory g q id (r ∷ J) ≡ after_envelope g.f source (state_after g (Proxy q) J).is_down id o (memory g q id J)
-envelope_memory g q id r J p source None parcel read by after = memory_stays g q id r J after
-envelope_memory g q id r J p source (Some e) parcel read by after =
-    up_memory g q id r J p source e (state_after g (Proxy q) J).is_down parcel (ap (reply_read id) read) by after
+    → memory g q id (r ∷ J) ≡ after_envelope g.f source quiet (state_after g (Proxy q) J).is_down id o (memory g q id J)
+envelope_memory g q id r J p source quiet None parcel read by silent after = memory_stays g q id r J after
+envelope_memory g q id r J p source quiet (Some e) parcel read by silent after =
+    up_memory g q id r J p source quiet e (state_after g (Proxy q) J).is_down parcel (ap (reply_read id) read) by silent after
 
 -- ---- an event
 
@@ -113,12 +134,13 @@ unfolding clock_rule
 ticked g q id r J clock true after = memory_stays g q id r J after
 ticked g q id r J clock false after = memory_stays g q id r J after
 
-event_by : (g : Group) (q : ℕ) (id : Id) (r : Record) (J : List Record) (source : Option Source) (e : Event)
+event_by : (g : Group) (q : ℕ) (id : Id) (r : Record) (J : List Record) (source : Option Source) (quiet : Bool) (e : Event)
     → World g (r ∷ J) → r.event ≡ e → source_in g J e source
+    → IsQuiet quiet (event_step g (Proxy q) (state_after g (Proxy q) J) e).1
     → standing_after g q id (r ∷ J) ≡ standing_of (event_step g (Proxy q) (state_after g (Proxy q) J) e).0 id
-    → memory g q id (r ∷ J) ≡ after_event g.f q source (state_after g (Proxy q) J).is_down id e (memory g q id J)
-event_by g q id r J source (Deliver p) w is from after =
-    envelope_memory g q id r J p source (accepted_envelope g.f (Proxy q) p) (ap parcel_in is) (ap (read_in g (Proxy q)) is) brings after
+    → memory g q id (r ∷ J) ≡ after_event g.f q source quiet (state_after g (Proxy q) J).is_down id e (memory g q id J)
+event_by g q id r J source quiet (Deliver p) w is from silent after =
+    envelope_memory g q id r J p source quiet (accepted_envelope g.f (Proxy q) p) (ap parcel_in is) (ap (read_in g (Proxy q)) is) brings silent after
   where
     sent : Has (sent_in J) p
     sent = (subst (MayHappen J r.actor) is w.0.event).1
@@ -131,18 +153,27 @@ event_by g q id r J source (Deliver p) w is from after =
             ≡ cond (is_some (answer_in reply)) (in_numbers (source_of (r ∷ J) p)) None
         heard None h k = absurd (none-some reply k)
         heard (Some e) h k = source_read g q id r J p e reply sent h k
-event_by g q id r J source (Cut p kept) w is from after = memory_stays g q id r J after
-event_by g q id r J source (Tick clock) w is from after = ticked g q id r J clock (state_after g (Proxy q) J).is_down after
-event_by g q id r J source Alarm w is from after = memory_stays g q id r J after
-event_by g q id r J source Crash w is from after = forgotten g q id r J after
-event_by g q id r J source (Restart nonce) w is from after = restarted g q id r J (state_after g (Proxy q) J).is_down after
+event_by g q id r J source quiet (Cut p kept) w is from silent after = memory_stays g q id r J after
+event_by g q id r J source quiet (Tick clock) w is from silent after = ticked g q id r J clock (state_after g (Proxy q) J).is_down after
+event_by g q id r J source quiet Alarm w is from silent after = memory_stays g q id r J after
+event_by g q id r J source quiet Crash w is from silent after = forgotten g q id r J after
+event_by g q id r J source quiet (Restart nonce) w is from silent after = restarted g q id r J (state_after g (Proxy q) J).is_down after
 
 -- what a proxy knows after a record of its own
-pub memory_after : (g : Group) (q : ℕ) (id : Id) (r : Record) (J : List Record) (source : Option Source)
-    → World g (r ∷ J) → r.actor ≡ Proxy q → source_in g J r.event source
-    → memory g q id (r ∷ J) ≡ after_event g.f q source (state_after g (Proxy q) J).is_down id r.event (memory g q id J)
-memory_after g q id r J source w by from =
-    event_by g q id r J source r.event w refl from (ap (λ (s : ProxyData). standing_of s id) (acts_itself g (Proxy q) r J by))
+pub memory_after : (g : Group) (q : ℕ) (id : Id) (r : Record) (J : List Record) (source : Option Source) (quiet : Bool)
+    → World g (r ∷ J) → r.actor ≡ Proxy q → source_in g J r.event source → (quiet ≡ true → r.sends ≡ [])
+    → memory g q id (r ∷ J) ≡ after_event g.f q source quiet (state_after g (Proxy q) J).is_down id r.event (memory g q id J)
+memory_after g q id r J source quiet w by from none =
+    event_by g q id r J source quiet r.event w refl from
+    (λ is. nothing_sent (Proxy q) (event_step g (Proxy q) (state_after g (Proxy q) J) r.event).1 (sym own_sends ∙ none is))
+    (ap (λ (s : ProxyData). standing_of s id) (acts_itself g (Proxy q) r J by))
+  where
+    own_sends : r.sends ≡ map (parcel (Proxy q)) (event_step g (Proxy q) (state_after g (Proxy q) J) r.event).1
+    own_sends = w.0.sends ∙ ap (λ (a : Actor). (node_step g a (state_after g a J) r.event).1) by
+
+    nothing_sent : (a : Actor) (outs : List Out) → map (parcel a) outs ≡ [] → outs ≡ []
+    nothing_sent a [] h = refl
+    nothing_sent a (o ∷ os) h = absurd cc
 
 -- ---- whether a proxy is down
 

@@ -1,5 +1,5 @@
 -- What a record makes of what a proxy knows of a request: the sources that are kept are those of the definition.
-use Rattle.std.proofs.Common.{◌≡◌, ℕ, true, false, cond, eqb, List, [], ◌∷◌, ◌++◌, map, Option, Some, None, refl, sym, ap, ◌∙◌, inl, inr}
+use Rattle.std.proofs.Common.{◌≡◌, ℕ, true, false, cond, eqb, List, [], ◌∷◌, ◌++◌, map, Option, Some, None, refl, sym, ap, ◌∙◌, inl, inr, Bool}
 use Rattle.std.proofs.lemmas.Bool.{cases_Bool, and_parts, or_left, or_right}
 use Rattle.std.specs.Prelude.{is_some}
 use Rattle.std.specs.List.{list_any}
@@ -212,19 +212,36 @@ settles g q id r J p reply source replies (Some chosen) None b e d answer after 
 settles g q id r J p reply source replies (Some chosen) (Some a) b e d answer after =
     ap (λ (s : Option Source). Some (noted.Decided s)) (decides_now g q id r J p reply source replies chosen a b e d answer after)
 
-notes_at : (g : Group) (q : ℕ) (id : Id) (r : Record) (J : List Record) (p : Parcel) (reply : Reply)
-    (source : Option Source) (o : Option Standing) → Brings g q id r J p reply source
-    → standing_after g q id J ≡ o → standing_after g q id (r ∷ J) ≡ standing_noted g.f reply o
-    → memory_of g q id (r ∷ J) (standing_noted g.f reply o) ≡ option_map (noted_by reply source) (memory_of g q id J o)
-notes_at g q id r J p reply source None b e after = refl
-notes_at g q id r J p reply source (Some (Decided a path)) b e after = stays_at g q id r J (Some (Decided a path)) e after
-notes_at g q id r J p reply source (Some (Open replies)) b e after =
+-- where the proxy is quiet, a request that is open stays open
+abbrev pub StaysOpen : Group → ℕ → Id → List Record → Reply → Bool → Type 0
+StaysOpen g q id J reply quiet =
+    quiet ≡ true → (replies : List Reply) → standing_after g q id J ≡ Some (Open replies)
+    → settled g.f (with_note replies reply) ≡ Open (with_note replies reply)
+
+settles_if_loud : (g : Group) (q : ℕ) (id : Id) (r : Record) (J : List Record) (p : Parcel) (reply : Reply)
+    (source : Option Source) (quiet : Bool) (replies : List Reply) → Brings g q id r J p reply source → StaysOpen g q id J reply quiet
+    → standing_after g q id J ≡ Some (Open replies) → standing_after g q id (r ∷ J) ≡ Some (settled g.f (with_note replies reply))
+    → let now = notes_of g q id (r ∷ J) (with_note replies reply) in
+    memory_of g q id (r ∷ J) (Some (settled g.f (with_note replies reply)))
+    ≡ Some (cond quiet (noted.Open now) (noted_if_decided now (decided_source now)))
+settles_if_loud g q id r J p reply source true replies b still e after = ap (λ (s : Standing). memory_of g q id (r ∷ J) (Some s)) (still refl replies e)
+settles_if_loud g q id r J p reply source false replies b still e after =
     settles g q id r J p reply source replies (decision g.f (with_note replies reply))
     (answer_chosen (decision g.f (with_note replies reply))) b e refl refl after
-    ∙ ap (λ (n : Notes). Some (noted_if_decided n (decided_source n))) (sym (notes_then g q id r J p reply source replies b e))
+
+notes_at : (g : Group) (q : ℕ) (id : Id) (r : Record) (J : List Record) (p : Parcel) (reply : Reply)
+    (source : Option Source) (quiet : Bool) (o : Option Standing) → Brings g q id r J p reply source → StaysOpen g q id J reply quiet
+    → standing_after g q id J ≡ o → standing_after g q id (r ∷ J) ≡ standing_noted g.f reply o
+    → memory_of g q id (r ∷ J) (standing_noted g.f reply o) ≡ option_map (noted_by quiet reply source) (memory_of g q id J o)
+notes_at g q id r J p reply source quiet None b still e after = refl
+notes_at g q id r J p reply source quiet (Some (Decided a path)) b still e after = stays_at g q id r J (Some (Decided a path)) e after
+notes_at g q id r J p reply source quiet (Some (Open replies)) b still e after =
+    settles_if_loud g q id r J p reply source quiet replies b still e after
+    ∙ ap (λ (n : Notes). Some (cond quiet (noted.Open n) (noted_if_decided n (decided_source n)))) (sym (notes_then g q id r J p reply source replies b e))
 
 pub memory_notes : (g : Group) (q : ℕ) (id : Id) (r : Record) (J : List Record) (p : Parcel) (reply : Reply) (source : Option Source)
-    → Brings g q id r J p reply source
+    (quiet : Bool) → Brings g q id r J p reply source → StaysOpen g q id J reply quiet
     → standing_after g q id (r ∷ J) ≡ standing_noted g.f reply (standing_after g q id J)
-    → memory g q id (r ∷ J) ≡ option_map (noted_by reply source) (memory g q id J)
-memory_notes g q id r J p reply source b after = ap (memory_of g q id (r ∷ J)) after ∙ notes_at g q id r J p reply source (standing_after g q id J) b refl after
+    → memory g q id (r ∷ J) ≡ option_map (noted_by quiet reply source) (memory g q id J)
+memory_notes g q id r J p reply source quiet b still after =
+    ap (memory_of g q id (r ∷ J)) after ∙ notes_at g q id r J p reply source quiet (standing_after g q id J) b still refl after

@@ -1,5 +1,5 @@
 -- What a message makes of what a proxy knows of a request, by the proxy's rules.
-use Rattle.std.proofs.Common.{◌≡◌, ℕ, false, cond, List, [], Option, Some, None, refl, subst, inl, inr}
+use Rattle.std.proofs.Common.{◌≡◌, ℕ, true, false, cond, List, [], Option, Some, None, refl, sym, ap, subst, ◌∙◌, inl, inr}
 use Rattle.std.proofs.lemmas.Bool.{cases_Bool}
 use Rattle.nz_base.specs.declared.key.Id.{Id}
 use Rattle.nz_base.specs.Key.{id_eq}
@@ -12,7 +12,7 @@ use Rattle.nz_machine.specs.State.{ProxyData, Standing, Open, Decided}
 use Rattle.nz_machine.specs.Quorums.{Chosen, decision, answer_in, with_note}
 use Rattle.nz_machine.specs.Proxies.{standing_of, after_stamp, stamp_rule, after_chosen_answer, after_choice, after_replica_reply, reply_rule}
 use Rattle.nz_machine.proofs.Lookups.{lookup_inserted, lookup_other}
-use Rattle.nz_audit.proofs.Memories.{standing_opened, settled_with, answer_chosen, standing_noted}
+use Rattle.nz_audit.proofs.Memories.{standing_opened, settled_with, answer_chosen, settled, standing_noted}
 
 -- a change at one request, seen at any
 at_each : (id x : Id) (s t : ProxyData) (f : Option Standing → Option Standing)
@@ -87,6 +87,29 @@ reply_notes f s replica id delay reply x =
     let now : ProxyData = record s { samples = with_sample s.samples replica delay } in
     at_each id x s (after_replica_reply f now id reply (standing_of s id)).0 (standing_noted f reply)
     (noted_here f now id reply (standing_of s id) refl) (noted_away f now id x reply (standing_of s id))
+
+-- ---- a proxy that decides answers its client
+
+answered_quietly : (s : ProxyData) (id : Id) (replies : List Reply) (chosen : Chosen) (o : Option Answer)
+    → (after_chosen_answer s id replies chosen.path o).1 ≡ [] → settled_with replies (Some chosen) o ≡ Open replies
+answered_quietly s id replies chosen None h = refl
+answered_quietly s id replies chosen (Some a) h = absurd cc
+
+decided_quietly : (s : ProxyData) (id : Id) (replies : List Reply) (d : Option Chosen)
+    → (after_choice s id replies d).1 ≡ [] → settled_with replies d (answer_chosen d) ≡ Open replies
+decided_quietly s id replies None h = refl
+decided_quietly s id replies (Some chosen) h = answered_quietly s id replies chosen (answer_in chosen.reply) h
+
+-- a reply after which nothing is sent leaves the request open
+pub reply_quiet : (f : ℕ) (s : ProxyData) (replica : ℕ) (id : Id) (delay : ℕ) (reply : Reply) (x : Id) (replies : List Reply)
+    → id_eq id x ≡ true → (reply_rule f s replica id delay reply).1 ≡ [] → standing_of s x ≡ Some (Open replies)
+    → settled f (with_note replies reply) ≡ Open (with_note replies reply)
+unfolding reply_rule
+reply_quiet f s replica id delay reply x replies same h e =
+    let now : ProxyData = record s { samples = with_sample s.samples replica delay } in
+    let known : standing_of s id ≡ Some (Open replies) = ap (standing_of s) (same_id id x same) ∙ e in
+    decided_quietly now id (with_note replies reply) (decision f (with_note replies reply))
+    (ap (λ (o : Option Standing). (after_replica_reply f now id reply o).1) (sym known) ∙ h)
 
 -- ---- no message takes a proxy down
 

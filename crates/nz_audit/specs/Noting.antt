@@ -1,5 +1,5 @@
 -- What a proxy knows of a request, with the source of each reply.
-use Rattle.std.specs.Prelude.{ℕ, ◌≡◌, Bool, true, false, List, [], ◌∷◌, ◌++◌, Option, Some, None, slice_get, if◌then◌else◌}
+use Rattle.std.specs.Prelude.{ℕ, ◌≡◌, Bool, true, false, List, [], ◌∷◌, ◌++◌, Option, Some, None, slice_get, is_some, if◌then◌else◌}
 use Rattle.std.specs.List.{list_any, position}
 use Rattle.std.specs.Option.{option_map, option_flatten}
 use Rattle.nz_base.specs.declared.key.Id.{Id}
@@ -12,7 +12,7 @@ use Rattle.nz_msg.specs.declared.message.Message.TheVariants.{Request, FastReply
 use Rattle.nz_machine.specs.declared.event.Event.{Event}
 use Rattle.nz_machine.specs.declared.event.Event.TheVariants.{Deliver, Cut, Tick, Alarm, Crash, Restart}
 use Rattle.nz_machine.specs.declared.reply.Reply.{Reply}
-use Rattle.nz_machine.specs.Quorums.{Chosen, decision, reply_eq}
+use Rattle.nz_machine.specs.Quorums.{Chosen, answer_in, decision, reply_eq}
 use Rattle.nz_machine.specs.Proxies.{of_fast, of_slow}
 use Rattle.nz_machine.specs.Step.{accepted_envelope}
 use Rattle.nz_quorum.specs.Tallies.{IsOfCluster}
@@ -50,10 +50,16 @@ abbrev pub noted_if_decided : Notes → Option (Option Source) → Noted
 noted_if_decided notes None = Open notes
 noted_if_decided notes (Some source) = Decided source
 
--- A reply to an open request is noted, and may decide.
-abbrev pub noted_by : Reply → Option Source → Noted → Noted
-noted_by reply source (Decided kept) = Decided kept
-noted_by reply source (Open notes) = let now = with_source notes reply source in noted_if_decided now (decided_source now)
+-- A reply to an open request is noted. It may decide, unless the proxy is quiet: one that decides answers its client.
+abbrev pub noted_by : Bool → Reply → Option Source → Noted → Noted
+noted_by quiet reply source (Decided kept) = Decided kept
+noted_by quiet reply source (Open notes) =
+    let now = with_source notes reply source in
+    if quiet then Open now else noted_if_decided now (decided_source now)
+
+-- A reply without an answer has no source.
+abbrev pub source_if_answer : Option Source → Reply → Option Source
+source_if_answer source reply = if is_some (answer_in reply) then source else None
 
 -- The reply may be noted there.
 abbrev pub IsNotableBeside : Noted → Reply → Type 0
@@ -66,7 +72,7 @@ IsSized f None = Unit {0}
 IsSized f (Some (Open notes)) = notes.tally.f ≡ f
 IsSized f (Some (Decided source)) = Unit {0}
 
--- ---- what becomes of it in an event; the source is that of the parcel that is delivered
+-- ---- what becomes of it in an event; the source is that of the parcel that is delivered, and a quiet proxy sends nothing
 
 -- What is kept once the request was asked for.
 abbrev pub noted_after_request : ℕ → Option Noted → Option Noted
@@ -74,25 +80,28 @@ noted_after_request f None = Some (Open (first_notes f))
 noted_after_request f (Some noted) = Some noted
 
 -- What is kept of a request after a message.
-abbrev pub after_message : ℕ → Option Source → Id → Actor → Message → Option Noted → Option Noted
-after_message f source id (Client c) (Request b) known = if id_eq (record { client = c; num = b.num }) id then noted_after_request f known else known
-after_message f source id (Replica r) (FastReply b) known = if id_eq b.id id then option_map (noted_by (of_fast r b) source) known else known
-after_message f source id (Replica r) (SlowReply b) known = if id_eq b.id id then option_map (noted_by (of_slow r b) source) known else known
-after_message f source id _ _ known = known
+abbrev pub after_message : ℕ → Option Source → Bool → Id → Actor → Message → Option Noted → Option Noted
+after_message f source quiet id (Client c) (Request b) known =
+    if id_eq (record { client = c; num = b.num }) id then noted_after_request f known else known
+after_message f source quiet id (Replica r) (FastReply b) known =
+    if id_eq b.id id then option_map (noted_by quiet (of_fast r b) (source_if_answer source (of_fast r b))) known else known
+after_message f source quiet id (Replica r) (SlowReply b) known =
+    if id_eq b.id id then option_map (noted_by quiet (of_slow r b) (source_if_answer source (of_slow r b))) known else known
+after_message f source quiet id _ _ known = known
 
 -- A proxy that is down hears nothing.
-abbrev pub after_envelope : ℕ → Option Source → Bool → Id → Option Envelope → Option Noted → Option Noted
-after_envelope f source down id None known = known
-after_envelope f source down id (Some e) known = if down then known else after_message f source id e.from e.message known
+abbrev pub after_envelope : ℕ → Option Source → Bool → Bool → Id → Option Envelope → Option Noted → Option Noted
+after_envelope f source quiet down id None known = known
+after_envelope f source quiet down id (Some e) known = if down then known else after_message f source quiet id e.from e.message known
 
 -- What is kept of a request after an event.
-abbrev pub after_event : ℕ → ℕ → Option Source → Bool → Id → Event → Option Noted → Option Noted
-after_event f me source down id (Deliver p) known = after_envelope f source down id (accepted_envelope f (Proxy me) p) known
-after_event f me source down id (Cut p kept) known = known
-after_event f me source down id (Tick clock) known = known
-after_event f me source down id Alarm known = known
-after_event f me source down id Crash known = None
-after_event f me source down id (Restart nonce) known = if down then None else known
+abbrev pub after_event : ℕ → ℕ → Option Source → Bool → Bool → Id → Event → Option Noted → Option Noted
+after_event f me source quiet down id (Deliver p) known = after_envelope f source quiet down id (accepted_envelope f (Proxy me) p) known
+after_event f me source quiet down id (Cut p kept) known = known
+after_event f me source quiet down id (Tick clock) known = known
+after_event f me source quiet down id Alarm known = known
+after_event f me source quiet down id Crash known = None
+after_event f me source quiet down id (Restart nonce) known = if down then None else known
 
 -- Whether the proxy is down after an event.
 abbrev pub down_after : Event → Bool → Bool

@@ -1,10 +1,12 @@
 //! What a proxy knows of one request, and which record each reply comes from.
 
 ghost use Rattle.std.specs.Prelude.{◌≡◌, OnOk};
-ghost use Rattle.std.specs.Option.{option_copied};
+ghost use Rattle.std.specs.Option.{option_copied, option_flatten};
 ghost use Rattle.nz_quorum.specs.Tallies.{IsOfCluster};
-ghost use Rattle.nz_audit.specs.Noting.{first_notes, with_source, source_among, decided_source, noted_by, IsNotableBeside};
+ghost use Rattle.nz_audit.specs.Noting.{first_notes, with_source, source_if_answer, source_among, decided_source, noted_by, IsNotableBeside};
+ghost use Rattle.nz_audit.specs.Sources.{kept_of};
 
+use super::sending::Delivery;
 use super::source::Source;
 use nz_base::{Cluster, List, NoMemory};
 use nz_machine::Reply;
@@ -70,15 +72,21 @@ impl Notes {
 }
 
 impl Noted {
-    /// Notes a reply to an open request, and whether the replies decide now.
-    pub fn note(&mut self, reply: Reply, source: Option<Source>) -> Result<(), NoMemory>
+    /// Notes a reply to an open request, and whether the replies decide now. Replies that decide make the proxy
+    /// answer its client.
+    pub fn note(&mut self, reply: Reply, delivery: &Delivery) -> Result<(), NoMemory>
         requires { IsNotableBeside self.old reply }
-        ensures { OnOk result (self.new ≡ noted_by reply source self.old) }
+        ensures { OnOk result (self.new ≡ noted_by delivery.now.is_quiet reply
+            (source_if_answer (option_flatten (kept_of delivery.now.sendings.now.kept.entries delivery.now.parcel.now)) reply) self.old) }
     {
         match self {
             Noted::Decided(_) => Ok(()),
             Noted::Open(notes) => {
+                let source = delivery.source_of(&reply)?;
                 notes.note(reply, source)?;
+                if delivery.is_quiet {
+                    return Ok(());
+                }
                 if let Some(source) = notes.decided() {
                     *self = Noted::Decided(source);
                 }

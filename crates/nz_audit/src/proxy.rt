@@ -1,20 +1,22 @@
 //! What a proxy knows of all requests.
 
 ghost use Rattle.std.specs.Prelude.{◌≡◌, OnOk, None, false, IsTrue, if◌then◌else◌};
-ghost use Rattle.std.specs.Option.{option_map};
+ghost use Rattle.std.specs.Option.{option_map, option_flatten};
 ghost use Rattle.nz_base.specs.Key.{id_eq};
 ghost use Rattle.nz_base.specs.declared.key.Id.{Id as IdModel};
 ghost use Rattle.nz_base.specs.declared.actor.Actor.TheVariants as actors;
 ghost use Rattle.indexmap.specs.IndexMap.{get};
 ghost use Rattle.nz_machine.specs.Step.{accepted_envelope, is_in_cluster, is_sized, message_vector};
 ghost use Rattle.nz_quorum.specs.Tallies.{IsOfCluster};
-ghost use Rattle.nz_audit.specs.Noting.{noted_after_request, noted_by, after_message, after_envelope, after_event, down_after, IsSized};
+ghost use Rattle.nz_audit.specs.Noting.{noted_after_request, noted_by, source_if_answer, after_message, after_envelope, after_event, down_after};
+ghost use Rattle.nz_audit.specs.Noting.{IsSized};
+ghost use Rattle.nz_audit.specs.Sources.{kept_of, source_delivered};
 
 use super::noting::{Noted, Notes};
-use super::source::Source;
+use super::sending::{Delivery, Sendings};
 use indexmap::IndexMap;
 use nz_base::{Actor, Cluster, Id, NoMemory};
-use nz_machine::{Event, Parcel, Reply, heard, is_from_cluster};
+use nz_machine::{Event, Reply, heard, is_from_cluster};
 use nz_msg::{Envelope, Message};
 use std::alloc::Global;
 
@@ -56,17 +58,18 @@ impl ProxyNotes {
         cluster: Cluster,
         id: Id,
         reply: Reply,
-        source: Option<Source>,
+        delivery: &Delivery,
     ) -> Result<(), NoMemory>
         requires reply { IsOfCluster cluster reply }
         requires sized { IsSized cluster (get id_eq self.old.known id) }
         ensures down { self.new.is_down ≡ self.old.is_down }
         ensures known { OnOk result ((x : IdModel)
-            → get id_eq self.new.known x ≡ (if id_eq id x then option_map (noted_by reply source)
+            → get id_eq self.new.known x ≡ (if id_eq id x then option_map (noted_by delivery.now.is_quiet reply
+            (source_if_answer (option_flatten (kept_of delivery.now.sendings.now.kept.entries delivery.now.parcel.now)) reply))
             (get id_eq self.old.known x) else get id_eq self.old.known x)) }
     {
         match self.known.get_mut(&id) {
-            Some(noted) => noted.note(reply, source),
+            Some(noted) => noted.note(reply, delivery),
             None => Ok(()),
         }
     }
@@ -77,14 +80,16 @@ impl ProxyNotes {
         alloc: Global,
         cluster: Cluster,
         envelope: Envelope,
-        source: Option<Source>,
+        delivery: &Delivery,
     ) -> Result<(), NoMemory>
         requires sender { IsTrue (is_in_cluster cluster envelope.from) }
         requires vector { IsTrue (is_sized cluster (message_vector envelope.message)) }
         requires sized { (x : IdModel) → IsSized cluster (get id_eq self.old.known x) }
         ensures down { self.new.is_down ≡ self.old.is_down }
         ensures known { OnOk result ((x : IdModel)
-            → get id_eq self.new.known x ≡ after_message cluster source x envelope.from envelope.message (get id_eq self.old.known x)) }
+            → get id_eq self.new.known x
+            ≡ after_message cluster (option_flatten (kept_of delivery.now.sendings.now.kept.entries delivery.now.parcel.now)) delivery.now.is_quiet x
+            envelope.from envelope.message (get id_eq self.old.known x)) }
     {
         match (envelope.from, envelope.message) {
             (Actor::Client(client), Message::Request(body)) => {
@@ -102,14 +107,14 @@ impl ProxyNotes {
                     vector: body.vector,
                     answer: body.answer,
                 };
-                self.note(cluster, body.id, reply, source)
+                self.note(cluster, body.id, reply, delivery)
             }
             (Actor::Replica(replica), Message::SlowReply(body)) => {
                 let reply = Reply::Slow {
                     replica,
                     view: body.view,
                 };
-                self.note(cluster, body.id, reply, source)
+                self.note(cluster, body.id, reply, delivery)
             }
             _ => Ok(()),
         }
@@ -120,42 +125,51 @@ impl ProxyNotes {
         alloc: Global,
         cluster: Cluster,
         me: u8,
-        parcel: &Parcel,
-        source: Option<Source>,
+        delivery: &Delivery,
     ) -> Result<(), NoMemory>
         requires { (x : IdModel) → IsSized cluster (get id_eq self.old.known x) }
         ensures down { self.new.is_down ≡ self.old.is_down }
         ensures known { OnOk result ((x : IdModel)
-            → get id_eq self.new.known x ≡ after_envelope cluster source self.old.is_down x
-            (accepted_envelope cluster (actors.Proxy me) parcel.now) (get id_eq self.old.known x)) }
+            → get id_eq self.new.known x
+            ≡ after_envelope cluster (option_flatten (kept_of delivery.now.sendings.now.kept.entries delivery.now.parcel.now)) delivery.now.is_quiet
+            self.old.is_down x (accepted_envelope cluster (actors.Proxy me) delivery.now.parcel.now) (get id_eq self.old.known x)) }
     {
-        match heard(alloc, Actor::Proxy(me), parcel)? {
+        match heard(alloc, Actor::Proxy(me), delivery.parcel)? {
             None => Ok(()),
             Some(envelope) => {
                 if self.is_down || !is_from_cluster(cluster, &envelope) {
                     return Ok(());
                 }
-                self.take_message(alloc, cluster, envelope, source)
+                self.take_message(alloc, cluster, envelope, delivery)
             }
         }
     }
 
-    /// Takes an event; the source is that of the parcel that is delivered.
+    /// Takes an event, and whether it sends nothing then.
     pub fn take(
         &mut self,
         alloc: Global,
         cluster: Cluster,
         me: u8,
         event: &Event,
-        source: Option<Source>,
+        sendings: &Sendings,
+        is_quiet: bool,
     ) -> Result<(), NoMemory>
         requires { (x : IdModel) → IsSized cluster (get id_eq self.old.known x) }
         ensures down { OnOk result (self.new.is_down ≡ down_after event.now self.old.is_down) }
         ensures known { OnOk result ((x : IdModel)
-            → get id_eq self.new.known x ≡ after_event cluster me source self.old.is_down x event.now (get id_eq self.old.known x)) }
+            → get id_eq self.new.known x ≡ after_event cluster me (source_delivered sendings.now.kept.entries event.now) is_quiet
+            self.old.is_down x event.now (get id_eq self.old.known x)) }
     {
         match event {
-            Event::Deliver(parcel) => self.hear(alloc, cluster, me, parcel, source),
+            Event::Deliver(parcel) => {
+                let delivery = Delivery {
+                    parcel,
+                    sendings,
+                    is_quiet,
+                };
+                self.hear(alloc, cluster, me, &delivery)
+            }
             Event::Crash => {
                 *self = ProxyNotes::new(alloc);
                 self.is_down = true;

@@ -50,26 +50,28 @@ fn source_decided(proxies: &Proxies, number: u8, id: Id) -> Option<Source>
     }
 }
 
-/// The proxy takes a record of its own; the source is that of the parcel that is delivered.
+/// The proxy takes an event of its own, and whether it sends nothing then.
 fn proxy_takes(
     proxies: &mut Proxies,
     alloc: Global,
     cluster: Cluster,
     number: u8,
     event: &Event,
-    source: Option<Source>,
+    sendings: &Sendings,
+    is_quiet: bool,
 ) -> Result<(), NoMemory>
     requires { (id : IdModel) → IsSized cluster (known_to (get nat_eq proxies.old number) id) }
     ensures others { OnOk result ((k : ℕ) → nat_eq number k ≡ false → get nat_eq proxies.new k ≡ get nat_eq proxies.old k) }
     ensures down { OnOk result (is_down_in (get nat_eq proxies.new number) ≡ down_after event.now (is_down_in (get nat_eq proxies.old number))) }
     ensures known { OnOk result ((id : IdModel) → known_to (get nat_eq proxies.new number) id
-        ≡ after_event cluster number source (is_down_in (get nat_eq proxies.old number)) id event.now (known_to (get nat_eq proxies.old number) id)) }
+        ≡ after_event cluster number (source_delivered sendings.now.kept.entries event.now) is_quiet (is_down_in (get nat_eq proxies.old number))
+        id event.now (known_to (get nat_eq proxies.old number) id)) }
 {
     match proxies.get_mut(&number) {
-        Some(notes) => notes.take(alloc, cluster, number, event, source),
+        Some(notes) => notes.take(alloc, cluster, number, event, sendings, is_quiet),
         None => {
             let mut notes = ProxyNotes::new(alloc);
-            notes.take(alloc, cluster, number, event, source)?;
+            notes.take(alloc, cluster, number, event, sendings, is_quiet)?;
             proxies.insert(number, notes)?;
             Ok(())
         }
@@ -200,8 +202,16 @@ fn act(
 {
     match next.actor {
         Actor::Proxy(number) => {
-            let source = source_of_event(sendings, &next.event)?;
-            proxy_takes(proxies, alloc, cluster, number, &next.event, source)
+            let is_quiet = next.sends.is_empty();
+            proxy_takes(
+                proxies,
+                alloc,
+                cluster,
+                number,
+                &next.event,
+                sendings,
+                is_quiet,
+            )
         }
         Actor::Replica(_) | Actor::Client(_) => Ok(()),
     }

@@ -7,12 +7,13 @@ ghost use Rattle.nz_machine.specs.History.{parcel_eq};
 ghost use Rattle.nz_machine.specs.declared.event.Parcel.{Parcel as ParcelModel};
 ghost use Rattle.nz_audit.specs.Sources as sources;
 ghost use Rattle.nz_audit.specs.Sources.{about_message, parcel_key_of, kept_of};
+ghost use Rattle.nz_audit.specs.Noting.{source_if_answer};
 
 use super::source::Source;
 use bytes::Bytes;
 use indexmap::IndexMap;
 use nz_base::{Actor, Id, NoMemory};
-use nz_machine::{Parcel, heard};
+use nz_machine::{Parcel, Reply, heard};
 use nz_msg::{Envelope, Message};
 use std::alloc::Global;
 
@@ -76,6 +77,31 @@ impl Sendings {
     {
         self.kept.insert(ParcelKey::new(parcel)?, source)?;
         Ok(())
+    }
+}
+
+/// A parcel that comes to a proxy.
+#[derive(Clone, Copy)]
+pub struct Delivery<'a> {
+    pub parcel: &'a Parcel,
+    /// What the parcels stand for that were sent before.
+    pub sendings: &'a Sendings,
+    /// Whether the proxy sends nothing when it comes.
+    pub is_quiet: bool,
+}
+
+impl Delivery<'_> {
+    /// The source of the reply that it brings. Only a reply with an answer has one.
+    pub fn source_of(&self, reply: &Reply) -> Result<Option<Source>, NoMemory>
+        ensures { IfOk result (λ source. source
+            ≡ source_if_answer (option_flatten (kept_of self.now.sendings.now.kept.entries self.now.parcel.now)) reply.now) }
+    {
+        match reply {
+            Reply::Fast {
+                answer: Some(_), ..
+            } => self.sendings.source_of(self.parcel),
+            _ => Ok(None),
+        }
     }
 }
 
