@@ -1,5 +1,5 @@
 -- Where answers come from, in numbers, by the definition of the history.
-use Rattle.std.specs.Prelude.{Bool, ◌&&◌, List, length, Option, Some, None, is_some, if◌then◌else◌}
+use Rattle.std.specs.Prelude.{ℕ, ◌+◌, ◌*◌, ◌==◌, Bool, false, ◌&&◌, List, length, slice_get, Option, Some, None, is_some, if◌then◌else◌}
 use Rattle.std.specs.Map.{lookup}
 use Rattle.std.specs.Option.{option_map, option_and_then, option_flatten}
 use Rattle.std.specs.Str.{bytes_eq}
@@ -50,6 +50,20 @@ about_envelope (Some e) = about_message e.from e.to e.message
 -- The same of a parcel.
 abbrev pub about : Parcel → Option Id
 about p = about_envelope (envelope_for p.to p)
+
+-- The byte after a vector of this size and the delay, which says whether a fast reply has an answer.
+abbrev pub flag_after : List ℕ → Option ℕ → Option ℕ
+flag_after frame None = None
+flag_after frame (Some size) = slice_get frame (51 + 4 * size)
+
+-- Whether a byte is 1.
+abbrev pub is_one : Option ℕ → Bool
+is_one None = false
+is_one (Some byte) = byte == 1
+
+-- Whether the frame of a fast reply has an answer: the vector's size is after the header, the view, the id and the digest.
+abbrev pub shows_answer : List ℕ → Bool
+shows_answer frame = is_one (flag_after frame (slice_get frame 46))
 
 -- The source that a parcel about the request stands for, sent first by this actor with the last of the records:
 -- a reply is one itself, and an answer stands for that of the reply that decided.

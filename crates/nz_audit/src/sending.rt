@@ -1,6 +1,7 @@
 //! The parcels that stand for a source, each as it was sent first.
 
 ghost use Rattle.std.specs.Prelude.{◌≡◌, [], IfOk, OnOk, Some, None, IsTrue, is_some, if◌then◌else◌};
+ghost use Rattle.nz_frame.specs.Grammar.{AreBytes};
 ghost use Rattle.nz_msg.specs.declared.message.Message.{Message as MessageModel};
 ghost use Rattle.std.specs.Option.{option_flatten};
 ghost use Rattle.nz_machine.specs.History.{parcel_eq};
@@ -124,6 +125,30 @@ fn about_in(envelope: &Envelope) -> Option<Id>
     }
 }
 
+/// Whether the frame of a fast reply has an answer, by the byte that says it.
+fn shows_answer(frame: &[u8]) -> bool
+    ensures shown { result ≡ sources.shows_answer frame.now }
+    ensures bytes { AreBytes frame.now }
+{
+    let Some(size) = frame.get(46) else {
+        return false;
+    };
+    match frame.get(51 + 4 * usize::from(*size)) {
+        Some(flag) => *flag == 1,
+        None => false,
+    }
+}
+
+/// Whether the parcel is of a replica for a proxy, and its frame shows no answer.
+fn has_no_answer(parcel: &Parcel) -> bool
+    ensures { IsTrue result → sources.about parcel.now ≡ None }
+{
+    match (parcel.from, parcel.to) {
+        (Actor::Replica(_), Actor::Proxy(_)) => !shows_answer(parcel.frame.as_slice()),
+        _ => false,
+    }
+}
+
 /// Whether no parcel of this sender and receiver stands for a source.
 fn is_about_nothing(from: Actor, to: Actor) -> bool
     ensures { IsTrue result → (m : MessageModel) → about_message from to m ≡ None }
@@ -138,7 +163,7 @@ fn is_about_nothing(from: Actor, to: Actor) -> bool
 pub fn about(alloc: Global, parcel: &Parcel) -> Result<Option<Id>, NoMemory>
     ensures { IfOk result (λ id. id ≡ sources.about parcel.now) }
 {
-    if is_about_nothing(parcel.from, parcel.to) {
+    if is_about_nothing(parcel.from, parcel.to) || has_no_answer(parcel) {
         return Ok(None);
     }
     match heard(alloc, parcel.to, parcel)? {

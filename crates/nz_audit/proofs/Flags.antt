@@ -1,0 +1,122 @@
+-- The byte of a fast reply's frame that says whether it has an answer.
+use Rattle.std.proofs.Common.{◌≡◌, ℕ, ◌+◌, ◌*◌, ◌<◌, true, false, cond, List, [], ◌∷◌, ◌++◌, length, append_assoc, length-append}
+use Rattle.std.proofs.Common.{get_or, Option, Some, None, Result, Ok, Err, refl, sym, ap, subst, ◌∙◌, arith}
+use Rattle.std.specs.Prelude.{slice_get, is_some}
+use Rattle.std.proofs.Math.Seq.{get_or-append_seam}
+use Rattle.std.proofs.lemmas.Option.{none-some, cond_some, slice_get-get_or}
+use Rattle.byteorder.specs.Endian.{big_bytes}
+use Rattle.nz_base.proofs.Booleans.{true_and_false}
+use Rattle.nz_base.specs.Actor.{address_of}
+use Rattle.nz_base.specs.declared.actor.Actor.{Actor}
+use Rattle.nz_base.specs.declared.actor.Actor.TheVariants.{Replica, Proxy}
+use Rattle.nz_base.specs.declared.key.Id.{Id}
+use Rattle.nz_store.specs.declared.command.Answer.{Answer}
+use Rattle.nz_frame.specs.Grammar.{frame, AreBytes}
+use Rattle.nz_msg.specs.Codec.{number_bytes, items_put, optional_put}
+use Rattle.nz_msg.specs.Fields.{u32}
+use Rattle.nz_msg.specs.Fields as fields
+use Rattle.nz_msg.specs.Messages.{fast_reply, Fits}
+use Rattle.nz_msg.specs.Envelope.{encode_of, decode_of, Spells}
+use Rattle.nz_msg.specs.declared.envelope.Envelope.{Envelope}
+use Rattle.nz_msg.specs.declared.message.FastReplyBody.{FastReplyBody}
+use Rattle.nz_msg.specs.declared.message.Message.{Message}
+use Rattle.nz_msg.specs.declared.message.Message.TheVariants.{FastReply}
+use Rattle.nz_msg.specs.declared.refusal.DecodeRefusal.{DecodeRefusal}
+use Rattle.nz_msg.proofs.Envelopes.{decode_takes}
+use Rattle.nz_machine.specs.declared.event.Parcel.{Parcel}
+use Rattle.nz_machine.specs.Step.{is_for, envelope_if_for, envelope_for}
+use Rattle.nz_audit.specs.Sources.{about_message, about_envelope, about, flag_after, is_one, shows_answer}
+use Rattle.nz_audit.proofs.Hearing.{is_heard}
+
+-- ---- the place of the byte
+
+seam : (xs ys : List ℕ) (y n : ℕ) → n ≡ length xs → slice_get (xs ++ y ∷ ys) n ≡ Some y
+seam xs ys y n e =
+    slice_get-get_or (xs ++ y ∷ ys) n 0 (omega (arith, e, length-append xs (y ∷ ys)))
+    ∙ ap Some (ap (λ (i : ℕ). get_or (xs ++ y ∷ ys) i 0) e ∙ get_or-append_seam xs y ys 0)
+
+-- the bytes of counters, apart from what follows them
+record AreCounters (before xs rest : List ℕ) : Type 0 where
+  bytes : List ℕ
+  spelled : items_put (λ (earlier : List ℕ). u32) before xs rest ≡ bytes ++ rest
+  long : length bytes ≡ 4 * length xs
+
+counters : (before xs rest : List ℕ) → AreCounters before xs rest
+unfolding items_put number_bytes
+counters before [] rest = record { bytes = []; spelled = refl; long = refl }
+counters before (x ∷ xs) rest =
+    let h = counters (before ++ x ∷ []) xs rest in
+    record {
+      bytes = big_bytes 4 x ++ h.bytes;
+      spelled = ap (λ (l : List ℕ). big_bytes 4 x ++ l) h.spelled;
+      long = let e = h.long in omega (arith, e);
+    }
+
+one_byte : (n : ℕ) → n < 256 → big_bytes 1 n ≡ n ∷ []
+one_byte n lt = ap (λ (x : ℕ). x ∷ []) (omega (arith, lt))
+
+flag_there : (bytes early counted rest : List ℕ) (n : ℕ) → bytes ≡ early ++ n ∷ (counted ++ 1 ∷ rest)
+    → length early ≡ 46 → length counted ≡ 4 * n + 4 → shows_answer bytes ≡ true
+flag_there bytes early counted rest n e first long =
+    let again : bytes ≡ (early ++ n ∷ counted) ++ 1 ∷ rest = e ∙ sym (append_assoc early (n ∷ counted) (1 ∷ rest)) in
+    let place : 51 + 4 * n ≡ length (early ++ n ∷ counted) = omega (arith, first, long, length-append early (n ∷ counted)) in
+    let size : slice_get bytes 46 ≡ Some n = ap (λ (l : List ℕ). slice_get l 46) e ∙ seam early (counted ++ 1 ∷ rest) n 46 (sym first) in
+    let flag : slice_get bytes (51 + 4 * n) ≡ Some 1 = ap (λ (l : List ℕ). slice_get l (51 + 4 * n)) again ∙ seam (early ++ n ∷ counted) rest 1 (51 + 4 * n) place in
+    ap (λ (o : Option ℕ). is_one (flag_after bytes o)) size ∙ ap is_one flag
+
+-- what is before the digest
+abbrev head : ℕ → ℕ → ℕ → FastReplyBody → List ℕ
+head long from to b =
+    big_bytes 4 long ++ 1 ∷ 3 ∷ (big_bytes 2 from ++ big_bytes 2 to ++ big_bytes 8 b.view ++ big_bytes 4 b.id.client ++ big_bytes 4 b.id.num)
+
+answer_flagged : (from to : Actor) (b : FastReplyBody) (a : Answer) → fast_reply.fits b → b.answer ≡ Some a
+    → shows_answer (encode_of from to (FastReply b)) ≡ true
+unfolding encode_of frame number_bytes
+answer_flagged from to b a fits is =
+    let n = length b.vector in
+    let rest = fields.answer.put a [] in
+    let delay = big_bytes 4 b.delay in
+    let c = counters [] b.vector (delay ++ 1 ∷ rest) in
+    let first = head (6 + length (fast_reply.put b [])) (address_of from) (address_of to) b in
+    let whole : encode_of from to (FastReply b) ≡ (first ++ b.digest) ++ n ∷ ((c.bytes ++ delay) ++ 1 ∷ rest) =
+    ap (λ (o : Option Answer). first ++ (b.digest ++ (big_bytes 1 n
+    ++ items_put (λ (earlier : List ℕ). u32) [] b.vector (delay ++ optional_put fields.answer.put o [])))) is
+    ∙ ap (λ (l : List ℕ). first ++ (b.digest ++ (big_bytes 1 n ++ l))) c.spelled
+    ∙ ap (λ (l : List ℕ). first ++ (b.digest ++ (l ++ (c.bytes ++ (delay ++ 1 ∷ rest))))) (one_byte n fits.1.1.1.0.0.0)
+    ∙ ap (λ (l : List ℕ). first ++ (b.digest ++ n ∷ l)) (sym (append_assoc c.bytes delay (1 ∷ rest))) in
+    let digest : length b.digest ≡ 20 = fits.1.1.0 in
+    let counted = c.long in
+    flag_there (encode_of from to (FastReply b)) (first ++ b.digest) (c.bytes ++ delay) rest n whole
+    (omega (arith, digest)) (omega (arith, length-append c.bytes delay, counted))
+
+-- ---- a reply without it
+
+decoded_ok : (me : Actor) (p : Parcel) (d : Result Envelope DecodeRefusal) (e : Envelope) → envelope_if_for me p d ≡ Some e → d ≡ Ok e
+decoded_ok me p (Err refusal) e h = absurd (none-some e h)
+decoded_ok me p (Ok found) e h = ap Ok (cond_some (is_for me p found) found e h).1
+
+decoded_of : (me : Actor) (p : Parcel) (e : Envelope) → envelope_for me p ≡ Some e → decode_of p.frame ≡ Ok e
+unfolding envelope_for
+decoded_of me p e h = decoded_ok me p (decode_of p.frame) e h
+
+answer_none : (from to : Actor) (b : FastReplyBody) (o : Option Answer) → fast_reply.fits b → b.answer ≡ o
+    → shows_answer (encode_of from to (FastReply b)) ≡ false → cond (is_some o) (Some b.id) None ≡ None
+answer_none from to b None fits is h = refl
+answer_none from to b (Some a) fits is h =
+    absurd (true_and_false (shows_answer (encode_of from to (FastReply b))) (answer_flagged from to b a fits is) h)
+
+about_none : (k q : ℕ) (from to : Actor) (m : Message) → Fits m → shows_answer (encode_of from to m) ≡ false → about_message (Replica k) (Proxy q) m ≡ None
+about_none k q from to (FastReply b) fits h = answer_none from to b b.answer fits refl h
+about_none k q from to _ fits h = refl
+
+-- a parcel from a replica to a proxy whose frame shows no answer
+pub without_answer : (p : Parcel) (k q : ℕ) → AreBytes p.frame → p.from ≡ Replica k → p.to ≡ Proxy q → shows_answer p.frame ≡ false → about p ≡ None
+without_answer p k q bytes from to h = by_envelope (envelope_for p.to p) refl
+  where
+    by_envelope : (o : Option Envelope) → envelope_for p.to p ≡ o → about_envelope o ≡ None
+    by_envelope None e = refl
+    by_envelope (Some x) e =
+        let heard = is_heard p.to p x e in
+        let s = decode_takes p.frame x bytes (decoded_of p.to p x e) in
+        (λ i. about_message ((heard.from ∙ from) i) ((heard.receiver ∙ to) i) x.message)
+        ∙ about_none k q x.from x.to x.message s.fit (ap shows_answer (sym s.spelled) ∙ h)
