@@ -1,32 +1,45 @@
--- The byte of a fast reply's frame that says whether it has an answer.
-use Rattle.std.proofs.Common.{◌≡◌, ℕ, ◌+◌, ◌*◌, ◌<◌, true, false, cond, List, [], ◌∷◌, ◌++◌, length, append_assoc, length-append}
+-- What single fields of a reply's frame show: whether it has an answer, and the request that it names.
+use Rattle.std.proofs.Common.{◌≡◌, ℕ, ◌+◌, ◌*◌, ◌<◌, ◌^◌, ltb, Bool, true, false, cond, drop, List, [], ◌∷◌, ◌++◌, length, append_assoc, length-append}
 use Rattle.std.proofs.Common.{get_or, Option, Some, None, Result, Ok, Err, refl, sym, ap, subst, ◌∙◌, arith}
 use Rattle.std.specs.Prelude.{slice_get, is_some}
 use Rattle.std.proofs.Math.Seq.{get_or-append_seam}
 use Rattle.std.proofs.lemmas.Option.{none-some, cond_some, slice_get-get_or}
-use Rattle.byteorder.specs.Endian.{big_bytes}
+use Rattle.std.specs.Option.{option_map}
+use Rattle.std.proofs.lemmas.Bool.{le-ltb}
+use Rattle.std.proofs.lemmas.List.{drop_at}
+use Rattle.byteorder.specs.Endian.{big_bytes, big_number}
+use Rattle.byteorder.specs.Numbers.{big_number-reads_back}
 use Rattle.nz_base.proofs.Booleans.{true_and_false}
+use Rattle.nz_base.proofs.Names.{same_id}
+use Rattle.nz_base.specs.Key.{id_eq}
 use Rattle.nz_base.specs.Actor.{address_of}
 use Rattle.nz_base.specs.declared.actor.Actor.{Actor}
 use Rattle.nz_base.specs.declared.actor.Actor.TheVariants.{Replica, Proxy}
 use Rattle.nz_base.specs.declared.key.Id.{Id}
 use Rattle.nz_store.specs.declared.command.Answer.{Answer}
 use Rattle.nz_frame.specs.Grammar.{frame, AreBytes}
-use Rattle.nz_msg.specs.Codec.{number_bytes, items_put, optional_put}
+use Rattle.nz_msg.specs.Codec.{number_bytes, items_put, optional_put, optional, ◌then◌}
 use Rattle.nz_msg.specs.Fields.{u32}
 use Rattle.nz_msg.specs.Fields as fields
-use Rattle.nz_msg.specs.Messages.{fast_reply, Fits}
+use Rattle.nz_msg.specs.Messages.{fast_reply, slow_reply, Fits}
 use Rattle.nz_msg.specs.Envelope.{encode_of, decode_of, Spells}
 use Rattle.nz_msg.specs.declared.envelope.Envelope.{Envelope}
 use Rattle.nz_msg.specs.declared.message.FastReplyBody.{FastReplyBody}
+use Rattle.nz_msg.specs.declared.message.SlowReplyBody.{SlowReplyBody}
 use Rattle.nz_msg.specs.declared.message.Message.{Message}
-use Rattle.nz_msg.specs.declared.message.Message.TheVariants.{FastReply}
+use Rattle.nz_msg.specs.declared.message.Message.TheVariants.{FastReply, SlowReply}
 use Rattle.nz_msg.specs.declared.refusal.DecodeRefusal.{DecodeRefusal}
 use Rattle.nz_msg.proofs.Envelopes.{decode_takes}
 use Rattle.nz_machine.specs.declared.event.Parcel.{Parcel}
-use Rattle.nz_machine.specs.Step.{is_for, envelope_if_for, envelope_for}
-use Rattle.nz_audit.specs.Sources.{about_message, about_envelope, about, flag_after, is_one, shows_answer}
-use Rattle.nz_audit.proofs.Hearing.{is_heard}
+use Rattle.nz_machine.specs.declared.reply.Reply.{Reply}
+use Rattle.nz_machine.specs.Proxies.{of_fast, of_slow}
+use Rattle.nz_machine.specs.Step.{is_for, envelope_if_for, envelope_for, accepted_envelope}
+use Rattle.nz_audit.specs.Sources.{about_message, about_envelope, about, flag_after, is_one, shows_answer, named_id}
+use Rattle.nz_audit.specs.declared.source.Source.{Source}
+use Rattle.nz_audit.specs.declared.noting.Noted.{Noted}
+use Rattle.nz_audit.specs.declared.noting.Noted.TheVariants as noted
+use Rattle.nz_audit.specs.Noting.{is_open, noted_by, source_if_answer, after_message, after_envelope}
+use Rattle.nz_audit.proofs.Hearing.{is_heard, is_received}
 
 -- ---- the place of the byte
 
@@ -120,3 +133,93 @@ without_answer p k q bytes from to h = by_envelope (envelope_for p.to p) refl
         let s = decode_takes p.frame x bytes (decoded_of p.to p x e) in
         (λ i. about_message ((heard.from ∙ from) i) ((heard.receiver ∙ to) i) x.message)
         ∙ about_none k q x.from x.to x.message s.fit (ap shows_answer (sym s.spelled) ∙ h)
+
+-- ---- the request that a reply names
+
+named_at : (bytes before rest : List ℕ) (id : Id) → bytes ≡ before ++ (big_bytes 4 id.client ++ (big_bytes 4 id.num ++ rest)) → length before ≡ 18
+    → id.client < 256 ^ 4 → id.num < 256 ^ 4 → named_id bytes ≡ Some id
+named_at bytes before rest id e long client num =
+    let second = big_bytes 4 id.num ++ rest in
+    let enough : ltb (length (before ++ (big_bytes 4 id.client ++ second))) 26 ≡ false =
+    le-ltb (length (before ++ (big_bytes 4 id.client ++ second))) 26 (omega (arith, long, length-append before (big_bytes 4 id.client ++ second))) in
+    let there : drop 18 (before ++ (big_bytes 4 id.client ++ second)) ≡ big_bytes 4 id.client ++ second =
+    drop_at before (big_bytes 4 id.client ++ second) 18 long in
+    let next : drop 22 (before ++ (big_bytes 4 id.client ++ second)) ≡ second =
+    ap (λ (l : List ℕ). drop 22 l) (sym (append_assoc before (big_bytes 4 id.client) second))
+    ∙ drop_at (before ++ big_bytes 4 id.client) second 22 (omega (arith, long, length-append before (big_bytes 4 id.client))) in
+    ap named_id e
+    ∙ ap (λ (b : Bool). cond b None (Some (record { client = big_number 4 (drop 18 (before ++ (big_bytes 4 id.client ++ second)));
+    num = big_number 4 (drop 22 (before ++ (big_bytes 4 id.client ++ second))) }))) enough
+    ∙ (λ i. Some (record { client = (ap (big_number 4) there ∙ big_number-reads_back 4 id.client second client) i;
+    num = (ap (big_number 4) next ∙ big_number-reads_back 4 id.num rest num) i }))
+
+-- what is before the id
+abbrev before_id : ℕ → ℕ → ℕ → ℕ → ℕ → List ℕ
+before_id kind long from to view = big_bytes 4 long ++ 1 ∷ kind ∷ (big_bytes 2 from ++ big_bytes 2 to ++ big_bytes 8 view)
+
+pub fast_named : (from to : Actor) (b : FastReplyBody) → fast_reply.fits b → named_id (encode_of from to (FastReply b)) ≡ Some b.id
+unfolding encode_of frame number_bytes
+fast_named from to b fits =
+    named_at (encode_of from to (FastReply b)) (before_id 3 (6 + length (fast_reply.put b [])) (address_of from) (address_of to) b.view)
+    ((fields.digest then fields.vector then u32 then optional fields.answer).put (b.digest, (b.vector, (b.delay, b.answer))) []) b.id refl refl
+    fits.1.0.0 fits.1.0.1
+
+pub slow_named : (from to : Actor) (b : SlowReplyBody) → slow_reply.fits b → named_id (encode_of from to (SlowReply b)) ≡ Some b.id
+unfolding encode_of frame number_bytes
+slow_named from to b fits =
+    named_at (encode_of from to (SlowReply b)) (before_id 4 (6 + length (slow_reply.put b [])) (address_of from) (address_of to) b.view)
+    (big_bytes 4 b.delay) b.id refl refl fits.1.0.0 fits.1.0.1
+
+-- ---- a reply to a request that is not open
+
+abbrev pub IsPast : Option Noted → Type 0
+IsPast None = Unit {0}
+IsPast (Some (noted.Open notes)) = ⊥
+IsPast (Some (noted.Decided source)) = Unit {0}
+
+pub past_if_not_open : (known : Option Noted) → is_open known ≡ false → IsPast known
+past_if_not_open None h = tt
+past_if_not_open (Some (noted.Open notes)) h = absurd cc
+past_if_not_open (Some (noted.Decided source)) h = tt
+
+past_noted : (quiet : Bool) (reply : Reply) (source : Option Source) (known : Option Noted) → IsPast known → option_map (noted_by quiet reply source) known ≡ known
+past_noted quiet reply source None h = refl
+past_noted quiet reply source (Some (noted.Open notes)) h = absurd h
+past_noted quiet reply source (Some (noted.Decided s)) h = refl
+
+past_at : (b quiet : Bool) (reply : Reply) (source : Option Source) (own x : Id) (known : Id → Option Noted) → id_eq own x ≡ b → IsPast (known own)
+    → cond b (option_map (noted_by quiet reply source) (known x)) (known x) ≡ known x
+past_at true quiet reply source own x known e h =
+    past_noted quiet reply source (known x) (subst (λ (i : Id). IsPast (known i)) (same_id own x e) h)
+past_at false quiet reply source own x known e h = refl
+
+-- what the frame names is not open
+abbrev AreNotOpen : List ℕ → (Id → Option Noted) → Type 0
+AreNotOpen bytes known = (id : Id) → named_id bytes ≡ Some id → IsPast (known id)
+
+past_message : (f : ℕ) (source : Option Source) (quiet : Bool) (x : Id) (k : ℕ) (from to : Actor) (m : Message) (known : Id → Option Noted) → Fits m
+    → AreNotOpen (encode_of from to m) known → after_message f source quiet x (Replica k) m (known x) ≡ known x
+past_message f source quiet x k from to (FastReply b) known fits h =
+    past_at (id_eq b.id x) quiet (of_fast k b) (source_if_answer source (of_fast k b)) b.id x known refl (h b.id (fast_named from to b fits))
+past_message f source quiet x k from to (SlowReply b) known fits h =
+    past_at (id_eq b.id x) quiet (of_slow k b) (source_if_answer source (of_slow k b)) b.id x known refl (h b.id (slow_named from to b fits))
+past_message f source quiet x k from to _ known fits h = refl
+
+either_down : (down : Bool) (before after : Option Noted) → after ≡ before → cond down before after ≡ before
+either_down true before after e = refl
+either_down false before after e = e
+
+pub past_stays : (p : Parcel) (k : ℕ) (known : Id → Option Noted) → AreBytes p.frame → p.from ≡ Replica k → AreNotOpen p.frame known
+    → (f me : ℕ) (source : Option Source) (quiet down : Bool) (x : Id)
+    → after_envelope f source quiet down x (accepted_envelope f (Proxy me) p) (known x) ≡ known x
+past_stays p k known bytes from h f me source quiet down x = by_envelope (accepted_envelope f (Proxy me) p) refl
+  where
+    by_envelope : (o : Option Envelope) → accepted_envelope f (Proxy me) p ≡ o → after_envelope f source quiet down x o (known x) ≡ known x
+    by_envelope None e = refl
+    by_envelope (Some m) e =
+        let heard = is_received f (Proxy me) p m e in
+        let s = decode_takes p.frame m bytes (decoded_of (Proxy me) p m heard.heard) in
+        let not_open : AreNotOpen (encode_of m.from m.to m.message) known = subst (λ (l : List ℕ). AreNotOpen l known) s.spelled h in
+        either_down down (known x) (after_message f source quiet x m.from m.message (known x))
+        (ap (λ (a : Actor). after_message f source quiet x a m.message (known x)) (heard.from ∙ from)
+        ∙ past_message f source quiet x k m.from m.to m.message known s.fit not_open)

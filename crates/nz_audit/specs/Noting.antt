@@ -61,6 +61,12 @@ noted_by quiet reply source (Open notes) =
 abbrev pub source_if_answer : Option Source → Reply → Option Source
 source_if_answer source reply = if is_some (answer_in reply) then source else None
 
+-- Whether the request is open.
+abbrev pub is_open : Option Noted → Bool
+is_open None = false
+is_open (Some (Open notes)) = true
+is_open (Some (Decided source)) = false
+
 -- The reply may be noted there.
 abbrev pub IsNotableBeside : Noted → Reply → Type 0
 IsNotableBeside (Open notes) reply = IsOfCluster notes.tally.f reply

@@ -1,8 +1,9 @@
 -- Where answers come from, in numbers, by the definition of the history.
-use Rattle.std.specs.Prelude.{ℕ, ◌+◌, ◌*◌, ◌==◌, Bool, false, ◌&&◌, List, length, slice_get, Option, Some, None, is_some, if◌then◌else◌}
+use Rattle.std.specs.Prelude.{ℕ, ◌+◌, ◌*◌, ◌==◌, Bool, false, ◌&&◌, nat_lt, List, length, drop, slice_get, Option, Some, None, is_some, if◌then◌else◌}
 use Rattle.std.specs.Map.{lookup}
 use Rattle.std.specs.Option.{option_map, option_and_then, option_flatten}
 use Rattle.std.specs.Str.{bytes_eq}
+use Rattle.byteorder.specs.Endian.{big_number}
 use Rattle.nz_base.specs.Actor.{actor_eq}
 use Rattle.nz_base.specs.declared.key.Id.{Id}
 use Rattle.nz_base.specs.declared.actor.Actor.{Actor}
@@ -64,6 +65,11 @@ is_one (Some byte) = byte == 1
 -- Whether the frame of a fast reply has an answer: the vector's size is after the header, the view, the id and the digest.
 abbrev pub shows_answer : List ℕ → Bool
 shows_answer frame = is_one (flag_after frame (slice_get frame 46))
+
+-- The request that the frame of a reply names: after the header and the view.
+abbrev pub named_id : List ℕ → Option Id
+named_id frame =
+    if nat_lt (length frame) 26 then None else Some (record { client = big_number 4 (drop 18 frame); num = big_number 4 (drop 22 frame) })
 
 -- The source that a parcel about the request stands for, sent first by this actor with the last of the records:
 -- a reply is one itself, and an answer stands for that of the reply that decided.

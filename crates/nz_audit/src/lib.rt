@@ -2,6 +2,7 @@
 #![tactic(auto)]
 
 mod executing;
+mod fields;
 mod history;
 mod noting;
 mod proxy;

@@ -1,6 +1,6 @@
 //! What a proxy knows of all requests.
 
-ghost use Rattle.std.specs.Prelude.{◌≡◌, OnOk, None, false, IsTrue, if◌then◌else◌};
+ghost use Rattle.std.specs.Prelude.{◌≡◌, ℕ, Bool, Option, OnOk, None, false, IsTrue, if◌then◌else◌};
 ghost use Rattle.std.specs.Option.{option_map, option_flatten};
 ghost use Rattle.nz_base.specs.Key.{id_eq};
 ghost use Rattle.nz_base.specs.declared.key.Id.{Id as IdModel};
@@ -9,14 +9,16 @@ ghost use Rattle.indexmap.specs.IndexMap.{get};
 ghost use Rattle.nz_machine.specs.Step.{accepted_envelope, is_in_cluster, is_sized, message_vector};
 ghost use Rattle.nz_quorum.specs.Tallies.{IsOfCluster};
 ghost use Rattle.nz_audit.specs.Noting.{noted_after_request, noted_by, source_if_answer, after_message, after_envelope, after_event, down_after};
-ghost use Rattle.nz_audit.specs.Noting.{IsSized};
+ghost use Rattle.nz_audit.specs.Noting.{is_open, IsSized};
 ghost use Rattle.nz_audit.specs.Sources.{kept_of, source_delivered};
+ghost use Rattle.nz_audit.specs.declared.source.Source.{Source as SourceModel};
 
 use super::noting::{Noted, Notes};
+use super::fields::named_id;
 use super::sending::{Delivery, Sendings};
 use indexmap::IndexMap;
 use nz_base::{Actor, Cluster, Id, NoMemory};
-use nz_machine::{Event, Reply, heard, is_from_cluster};
+use nz_machine::{Event, Parcel, Reply, heard, is_from_cluster};
 use nz_msg::{Envelope, Message};
 use std::alloc::Global;
 
@@ -120,6 +122,30 @@ impl ProxyNotes {
         }
     }
 
+    fn is_open(&self, id: Id) -> bool
+        ensures { result ≡ is_open (get id_eq self.now.known id) }
+    {
+        match self.known.get(&id) {
+            Some(Noted::Open(_)) => true,
+            Some(Noted::Decided(_)) | None => false,
+        }
+    }
+
+    /// Whether the parcel is a reply to a request that is not open. Such a reply changes nothing, and is not decoded.
+    fn is_past(&self, parcel: &Parcel) -> bool
+        ensures { IsTrue result → (f me : ℕ) (source : Option SourceModel) (quiet down : Bool) (x : IdModel)
+            → after_envelope f source quiet down x (accepted_envelope f (actors.Proxy me) parcel.now) (get id_eq self.now.known x)
+            ≡ get id_eq self.now.known x }
+    {
+        let Actor::Replica(_) = parcel.from else {
+            return false;
+        };
+        let Some(id) = named_id(parcel.frame.as_slice()) else {
+            return false;
+        };
+        !self.is_open(id)
+    }
+
     fn hear(
         &mut self,
         alloc: Global,
@@ -134,6 +160,9 @@ impl ProxyNotes {
             ≡ after_envelope cluster (option_flatten (kept_of delivery.now.sendings.now.kept.entries delivery.now.parcel.now)) delivery.now.is_quiet
             self.old.is_down x (accepted_envelope cluster (actors.Proxy me) delivery.now.parcel.now) (get id_eq self.old.known x)) }
     {
+        if self.is_past(delivery.parcel) {
+            return Ok(());
+        }
         match heard(alloc, Actor::Proxy(me), delivery.parcel)? {
             None => Ok(()),
             Some(envelope) => {

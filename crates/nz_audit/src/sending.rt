@@ -1,7 +1,6 @@
 //! The parcels that stand for a source, each as it was sent first.
 
 ghost use Rattle.std.specs.Prelude.{◌≡◌, [], IfOk, OnOk, Some, None, IsTrue, is_some, if◌then◌else◌};
-ghost use Rattle.nz_frame.specs.Grammar.{AreBytes};
 ghost use Rattle.nz_msg.specs.declared.message.Message.{Message as MessageModel};
 ghost use Rattle.std.specs.Option.{option_flatten};
 ghost use Rattle.nz_machine.specs.History.{parcel_eq};
@@ -10,6 +9,7 @@ ghost use Rattle.nz_audit.specs.Sources as sources;
 ghost use Rattle.nz_audit.specs.Sources.{about_message, parcel_key_of, kept_of};
 ghost use Rattle.nz_audit.specs.Noting.{source_if_answer};
 
+use super::fields::shows_answer;
 use super::source::Source;
 use bytes::Bytes;
 use indexmap::IndexMap;
@@ -122,20 +122,6 @@ fn about_in(envelope: &Envelope) -> Option<Id>
             num: body.num,
         }),
         _ => None,
-    }
-}
-
-/// Whether the frame of a fast reply has an answer, by the byte that says it.
-fn shows_answer(frame: &[u8]) -> bool
-    ensures shown { result ≡ sources.shows_answer frame.now }
-    ensures bytes { AreBytes frame.now }
-{
-    let Some(size) = frame.get(46) else {
-        return false;
-    };
-    match frame.get(51 + 4 * usize::from(*size)) {
-        Some(flag) => *flag == 1,
-        None => false,
     }
 }
 
