@@ -5,7 +5,7 @@ pub mod Places
 pub mod Memories
 pub mod Standings
 pub mod Hearing
-pub mod Flags
+pub mod ReplyFields
 pub mod Events
 pub mod Reached
 pub mod Tables

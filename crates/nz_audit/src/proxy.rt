@@ -13,8 +13,8 @@ ghost use Rattle.nz_audit.specs.Noting.{is_open, IsSized};
 ghost use Rattle.nz_audit.specs.Sources.{kept_of, source_delivered};
 ghost use Rattle.nz_audit.specs.declared.source.Source.{Source as SourceModel};
 
-use super::noting::{Noted, Notes};
 use super::fields::named_id;
+use super::noting::{Noted, Notes};
 use super::sending::{Delivery, Sendings};
 use indexmap::IndexMap;
 use nz_base::{Actor, Cluster, Id, NoMemory};

@@ -99,7 +99,8 @@ impl Delivery<'_> {
     {
         match reply {
             Reply::Fast {
-                answer: Some(_), ..
+                answer: Some(_),
+                ..
             } => self.sendings.source_of(self.parcel),
             _ => Ok(None),
         }

@@ -3,7 +3,7 @@ use Rattle.std.proofs.Common.{◌∙◌, sym, ap, subst}
 use Rattle.std.proofs.lemmas.Bool.{not-true}
 use Rattle.nz_frame.specs.Grammar.{AreBytes}
 use Rattle.nz_audit.specs.Sources as sources
-use Rattle.nz_audit.proofs.Flags.{without_answer}
+use Rattle.nz_audit.proofs.ReplyFields.{without_answer}
 use Rattle.nz_audit.proofs.sending.has_no_answer.Goals as goal
 
 pub returns-in-Replica-Proxy : goal.returns-in-Replica-Proxy

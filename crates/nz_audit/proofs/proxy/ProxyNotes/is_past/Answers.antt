@@ -7,7 +7,7 @@ use Rattle.nz_base.specs.Key.{id_eq}
 use Rattle.nz_base.specs.declared.key.Id.{Id}
 use Rattle.nz_frame.specs.Grammar.{AreBytes}
 use Rattle.nz_audit.specs.Sources as sources
-use Rattle.nz_audit.proofs.Flags.{IsPast, past_if_not_open, past_stays}
+use Rattle.nz_audit.proofs.ReplyFields.{IsPast, past_if_not_open, past_stays}
 use Rattle.nz_audit.proofs.proxy.ProxyNotes.is_past.Goals as goal
 
 pub returns : goal.returns

@@ -148,10 +148,14 @@ named_at bytes before rest id e long client num =
     ap (λ (l : List ℕ). drop 22 l) (sym (append_assoc before (big_bytes 4 id.client) second))
     ∙ drop_at (before ++ big_bytes 4 id.client) second 22 (omega (arith, long, length-append before (big_bytes 4 id.client))) in
     ap named_id e
-    ∙ ap (λ (b : Bool). cond b None (Some (record { client = big_number 4 (drop 18 (before ++ (big_bytes 4 id.client ++ second)));
-    num = big_number 4 (drop 22 (before ++ (big_bytes 4 id.client ++ second))) }))) enough
-    ∙ (λ i. Some (record { client = (ap (big_number 4) there ∙ big_number-reads_back 4 id.client second client) i;
-    num = (ap (big_number 4) next ∙ big_number-reads_back 4 id.num rest num) i }))
+    ∙ ap (λ (b : Bool). cond b None (Some (record {
+      client = big_number 4 (drop 18 (before ++ (big_bytes 4 id.client ++ second)));
+      num = big_number 4 (drop 22 (before ++ (big_bytes 4 id.client ++ second)));
+    }))) enough
+    ∙ (λ i. Some (record {
+      client = (ap (big_number 4) there ∙ big_number-reads_back 4 id.client second client) i;
+      num = (ap (big_number 4) next ∙ big_number-reads_back 4 id.num rest num) i;
+    }))
 
 -- what is before the id
 abbrev before_id : ℕ → ℕ → ℕ → ℕ → ℕ → List ℕ
