@@ -93,32 +93,38 @@ impl ProxyNotes {
             ≡ after_message cluster (option_flatten (kept_of delivery.now.sendings.now.kept.entries delivery.now.parcel.now)) delivery.now.is_quiet x
             envelope.from envelope.message (get id_eq self.old.known x)) }
     {
-        match (envelope.from, envelope.message) {
-            (Actor::Client(client), Message::Request(body)) => {
-                let id = Id {
-                    client: u32::from(client),
-                    num: body.num,
-                };
-                self.open(alloc, cluster, id)
-            }
-            (Actor::Replica(replica), Message::FastReply(body)) => {
-                let reply = Reply::Fast {
-                    replica,
-                    view: body.view,
-                    digest: body.digest,
-                    vector: body.vector,
-                    answer: body.answer,
-                };
-                self.note(cluster, body.id, reply, delivery)
-            }
-            (Actor::Replica(replica), Message::SlowReply(body)) => {
-                let reply = Reply::Slow {
-                    replica,
-                    view: body.view,
-                };
-                self.note(cluster, body.id, reply, delivery)
-            }
-            _ => Ok(()),
+        match envelope.from {
+            Actor::Client(client) => match envelope.message {
+                Message::Request(body) => {
+                    let id = Id {
+                        client: u32::from(client),
+                        num: body.num,
+                    };
+                    self.open(alloc, cluster, id)
+                }
+                _ => Ok(()),
+            },
+            Actor::Replica(replica) => match envelope.message {
+                Message::FastReply(body) => {
+                    let reply = Reply::Fast {
+                        replica,
+                        view: body.view,
+                        digest: body.digest,
+                        vector: body.vector,
+                        answer: body.answer,
+                    };
+                    self.note(cluster, body.id, reply, delivery)
+                }
+                Message::SlowReply(body) => {
+                    let reply = Reply::Slow {
+                        replica,
+                        view: body.view,
+                    };
+                    self.note(cluster, body.id, reply, delivery)
+                }
+                _ => Ok(()),
+            },
+            Actor::Proxy(_) => Ok(()),
         }
     }
 

@@ -1,5 +1,5 @@
 -- Logs, by their keys.
-use Rattle.std.specs.Prelude.{◌≡◌, ℕ, ◌<◌, Bool, true, List, [], ◌∷◌, length, map, take, slice_index_or, IsTrue, IsFalse}
+use Rattle.std.specs.Prelude.{ℕ, ◌<◌, Bool, true, List, [], ◌∷◌, length, map, take, slice_index_or, IsTrue, IsFalse}
 use Rattle.std.specs.List.{list_any}
 use Rattle.nz_base.specs.declared.key.Key.{Key}
 use Rattle.nz_base.specs.declared.key.Id.{Id}

@@ -3,6 +3,7 @@ use super::{
     Actor, Blob, Cluster, Entry, EntryList, Fault, FaultList, IdList, Key, KeyList, List, NoMemory,
     Request, RequestList, Scenario, ScriptList, Skew, SkewList, TryCopy,
 };
+use bytes::Bytes;
 use std::alloc::Global;
 use std::test::Fail;
 
@@ -53,6 +54,22 @@ fn copies_with_ample_memory(rt: HostRuntime) -> Result<(), Fail> {
     assert_eq!(rt; copy.faults.len(), 2);
     let blob = Blob::from_slice(alloc, b"get a")?;
     assert_eq!(rt; blob.copy(alloc)?.as_slice(), b"get a".as_slice());
+    Ok(())
+}
+
+// The middle of a frame as a blob, and its copy after the blob and the frame are gone.
+#[test]
+fn shares_with_ample_memory(rt: HostRuntime) -> Result<(), Fail> {
+    let alloc = rt.alloc();
+    let frame = Bytes::copy_from_slice(alloc, b"put a 1")?;
+    let share = Blob::from_bytes(frame.slice(4..5)?);
+    let copy = share.copy(alloc)?;
+    assert_eq!(rt; share, Blob::from_slice(alloc, b"a")?);
+    drop(frame);
+    assert_eq!(rt; share.into_vec(alloc)?.as_slice(), b"a".as_slice());
+    assert_eq!(rt; copy.as_slice(), b"a".as_slice());
+    let own = Blob::from_slice(alloc, b"get a")?;
+    assert_eq!(rt; own.into_vec(alloc)?.as_slice(), b"get a".as_slice());
     Ok(())
 }
 

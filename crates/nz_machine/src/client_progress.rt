@@ -2,11 +2,12 @@
 ghost use Rattle.std.specs.Prelude.{◌≡◌, ◌<◌, ◌∷◌, ◌++◌, [], ℕ, List, length, map, IfOk, OnOk, IfSome, IfNone, ◌==◌, not, filter};
 ghost use Rattle.std.specs.List.{list_any};
 ghost use Rattle.nz_base.specs.declared.actor.Actor.TheVariants as actors;
+ghost use Rattle.nz_msg.specs.declared.message.Message.TheVariants as messages;
 ghost use Rattle.nz_machine.specs.Events.{id_at, client_events};
 ghost use Rattle.nz_machine.specs.Schedule.{group_of};
 ghost use Rattle.nz_machine.specs.State.{Group};
 ghost use Rattle.nz_machine.specs.ClientProgress as client_progress;
-ghost use Rattle.nz_machine.specs.ClientProgress.{events_of_telling, first_progress, AreAfter, IsNoneOf, acceptance_read, acceptance_of};
+ghost use Rattle.nz_machine.specs.ClientProgress.{events_of_telling, first_progress, AreAfter, IsNoneOf, acceptance_in, acceptance_read, acceptance_of};
 ghost use Rattle.nz_machine.specs.ClientProgress.{with_answer, new_in, with_num, new_among, with_all, after_client_record};
 ghost use Rattle.nz_machine.specs.World.{World};
 ghost use Rattle.nz_machine.specs.declared.event.Record.{Record as RecordModel};
@@ -14,7 +15,7 @@ ghost use Rattle.nz_machine.specs.declared.event.Record.{Record as RecordModel};
 use super::event::{Event, Parcel, Record};
 use super::receiving::heard;
 use nz_base::{Actor, Id, IdList, NoMemory, Scenario};
-use nz_msg::{DecodeRefusal, Envelope, Message, Path, decode};
+use nz_msg::{AnswerBody, DecodeRefusal, Envelope, Message, Path, decode};
 use nz_store::Answer;
 use std::alloc::Global;
 use std::marker::Model;
@@ -92,19 +93,27 @@ impl Progress {
         let Some(envelope) = envelope else {
             return None;
         };
-        match (envelope.from, envelope.message) {
-            (Actor::Proxy(_), Message::Answer(body)) => {
-                if !self.is_waiting(body.num) {
-                    return None;
-                }
-                Some(Acceptance {
-                    id: id_of(client, body.num),
-                    answer: body.answer,
-                    path: body.path,
-                })
-            }
+        let Actor::Proxy(_) = envelope.from else {
+            return None;
+        };
+        match envelope.message {
+            Message::Answer(body) => self.accept_answer(client, body),
             _ => None,
         }
+    }
+
+    /// The acceptance of an answer, where it is to an open request.
+    fn accept_answer(&self, client: u8, body: AnswerBody) -> Option<Acceptance>
+        ensures { (q : ℕ) → result ≡ acceptance_in client self.now (actors.Proxy q) (messages.Answer body) }
+    {
+        if !self.is_waiting(body.num) {
+            return None;
+        }
+        Some(Acceptance {
+            id: id_of(client, body.num),
+            answer: body.answer,
+            path: body.path,
+        })
     }
 
     fn is_waiting(&self, num: u32) -> bool
@@ -168,7 +177,7 @@ fn drop_num(nums: &mut Vec<u32>, num: u32)
 fn num_of(alloc: Global, parcel: &Parcel) -> Result<Option<u32>, NoMemory>
     ensures { IfOk result (λ num. num ≡ client_progress.num_of parcel.now) }
 {
-    match decode(alloc, parcel.frame.as_slice()) {
+    match decode(alloc, &parcel.frame) {
         Err(DecodeRefusal::NoMemory) => Err(NoMemory),
         Err(_) => Ok(None),
         Ok(envelope) => match envelope.message {

@@ -19,7 +19,7 @@ pub fn heard(alloc: Global, me: Actor, parcel: &Parcel) -> Result<Option<Envelop
     ensures other { IfOk result (λ envelope. IfSome envelope (λ e. e.from ≢ me)) }
     ensures fits { IfOk result (λ envelope. IfSome envelope (λ e. Fits e.message)) }
 {
-    match decode(alloc, parcel.frame.as_slice()) {
+    match decode(alloc, &parcel.frame) {
         Err(DecodeRefusal::NoMemory) => Err(NoMemory),
         Err(_) => Ok(None),
         Ok(envelope) => {

@@ -4,4 +4,5 @@ pub mod Fields
 pub mod Messages
 pub mod Envelope
 pub mod Reading
+pub mod Rest
 pub mod Writing

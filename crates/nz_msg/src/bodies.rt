@@ -19,6 +19,7 @@ use super::reading::{
     answer_at, answer_if_any, command_at, deadline_at, digest_at, id_at, path_at, u32_at, u64_at,
     view_at,
 };
+use super::rest::Rest;
 use nz_base::{MAX_ENTRIES, MAX_KEYS};
 use std::alloc::Global;
 
@@ -26,10 +27,10 @@ use std::alloc::Global;
 pub const MAX_FETCHED: u32 = MAX_KEYS as u32;
 
 // Nothing follows the last field.
-fn end(rest: &[u8]) -> Result<(), Fault>
-    ensures ok { OnOk result (length rest.now ≡ 0) }
-    ensures more { OnErr result (0 < length rest.now) }
-    ensures fault { IfErr result (λ fault. fault ≡ Bad (length rest.now)) }
+fn end(rest: Rest<'_>) -> Result<(), Fault>
+    ensures ok { OnOk result (length rest.entry ≡ 0) }
+    ensures more { OnErr result (0 < length rest.entry) }
+    ensures fault { IfErr result (λ fault. fault ≡ Bad (length rest.entry)) }
 {
     if !rest.is_empty() {
         return Err(Fault::at(rest));
@@ -37,22 +38,22 @@ fn end(rest: &[u8]) -> Result<(), Fault>
     Ok(())
 }
 
-fn request_of(alloc: Global, bytes: &[u8]) -> Result<Message, Fault>
-    ensures { Gives (λ m. m) result (whole request messages.Request bytes.now) }
+fn request_of(bytes: Rest<'_>) -> Result<Message, Fault>
+    ensures { Gives (λ m. m) result (whole request messages.Request bytes.entry) }
 {
     let (num, rest) = u32_at(bytes)?;
-    let (command, rest) = command_at(alloc, rest)?;
+    let (command, rest) = command_at(rest)?;
     end(rest)?;
     Ok(Message::Request(RequestBody { num, command }))
 }
 
-fn timed_of(alloc: Global, bytes: &[u8]) -> Result<Message, Fault>
-    ensures { Gives (λ m. m) result (whole timed messages.Timed bytes.now) }
+fn timed_of(bytes: Rest<'_>) -> Result<Message, Fault>
+    ensures { Gives (λ m. m) result (whole timed messages.Timed bytes.entry) }
 {
     let (sent, rest) = u64_at(bytes)?;
     let (deadline, rest) = deadline_at(rest)?;
     let (id, rest) = id_at(rest)?;
-    let (command, rest) = command_at(alloc, rest)?;
+    let (command, rest) = command_at(rest)?;
     end(rest)?;
     Ok(Message::Timed(TimedBody {
         sent,
@@ -62,8 +63,8 @@ fn timed_of(alloc: Global, bytes: &[u8]) -> Result<Message, Fault>
     }))
 }
 
-fn fast_reply_of(alloc: Global, bytes: &[u8]) -> Result<Message, Fault>
-    ensures { Gives (λ m. m) result (whole fast_reply messages.FastReply bytes.now) }
+fn fast_reply_of(alloc: Global, bytes: Rest<'_>) -> Result<Message, Fault>
+    ensures { Gives (λ m. m) result (whole fast_reply messages.FastReply bytes.entry) }
 {
     let (view, rest) = view_at(bytes)?;
     let (id, rest) = id_at(rest)?;
@@ -88,8 +89,8 @@ fn fast_reply_of(alloc: Global, bytes: &[u8]) -> Result<Message, Fault>
     }))
 }
 
-fn slow_reply_of(bytes: &[u8]) -> Result<Message, Fault>
-    ensures { Gives (λ m. m) result (whole slow_reply messages.SlowReply bytes.now) }
+fn slow_reply_of(bytes: Rest<'_>) -> Result<Message, Fault>
+    ensures { Gives (λ m. m) result (whole slow_reply messages.SlowReply bytes.entry) }
 {
     let (view, rest) = view_at(bytes)?;
     let (id, rest) = id_at(rest)?;
@@ -98,8 +99,8 @@ fn slow_reply_of(bytes: &[u8]) -> Result<Message, Fault>
     Ok(Message::SlowReply(SlowReplyBody { view, id, delay }))
 }
 
-fn answer_of(alloc: Global, bytes: &[u8]) -> Result<Message, Fault>
-    ensures { Gives (λ m. m) result (whole client_answer messages.Answer bytes.now) }
+fn answer_of(alloc: Global, bytes: Rest<'_>) -> Result<Message, Fault>
+    ensures { Gives (λ m. m) result (whole client_answer messages.Answer bytes.entry) }
 {
     let (num, rest) = u32_at(bytes)?;
     let (answer, rest) = answer_at(alloc, rest)?;
@@ -108,8 +109,8 @@ fn answer_of(alloc: Global, bytes: &[u8]) -> Result<Message, Fault>
     Ok(Message::Answer(AnswerBody { num, answer, path }))
 }
 
-fn log_mod_of(alloc: Global, bytes: &[u8]) -> Result<Message, Fault>
-    ensures { Gives (λ m. m) result (whole log_mod messages.LogMod bytes.now) }
+fn log_mod_of(alloc: Global, bytes: Rest<'_>) -> Result<Message, Fault>
+    ensures { Gives (λ m. m) result (whole log_mod messages.LogMod bytes.entry) }
 {
     let (view, rest) = view_at(bytes)?;
     let (vector, rest) = match vector_at(rest) {
@@ -129,8 +130,8 @@ fn log_mod_of(alloc: Global, bytes: &[u8]) -> Result<Message, Fault>
     }))
 }
 
-fn fetch_of(alloc: Global, bytes: &[u8]) -> Result<Message, Fault>
-    ensures { Gives (λ m. m) result (whole fetch messages.Fetch bytes.now) }
+fn fetch_of(alloc: Global, bytes: Rest<'_>) -> Result<Message, Fault>
+    ensures { Gives (λ m. m) result (whole fetch messages.Fetch bytes.entry) }
 {
     let (view, rest) = view_at(bytes)?;
     let (ids, rest) = ids_at(alloc, rest)?;
@@ -138,8 +139,8 @@ fn fetch_of(alloc: Global, bytes: &[u8]) -> Result<Message, Fault>
     Ok(Message::Fetch(FetchBody { view, ids }))
 }
 
-fn fetch_reply_of(alloc: Global, bytes: &[u8]) -> Result<Message, Fault>
-    ensures { Gives (λ m. m) result (whole fetch_reply messages.FetchReply bytes.now) }
+fn fetch_reply_of(alloc: Global, bytes: Rest<'_>) -> Result<Message, Fault>
+    ensures { Gives (λ m. m) result (whole fetch_reply messages.FetchReply bytes.entry) }
 {
     let (view, rest) = view_at(bytes)?;
     let (entries, rest) = entries_at(alloc, rest, 0, MAX_FETCHED)?;
@@ -147,8 +148,8 @@ fn fetch_reply_of(alloc: Global, bytes: &[u8]) -> Result<Message, Fault>
     Ok(Message::FetchReply(FetchReplyBody { view, entries }))
 }
 
-fn sync_report_of(bytes: &[u8]) -> Result<Message, Fault>
-    ensures { Gives (λ m. m) result (whole sync_report messages.SyncReport bytes.now) }
+fn sync_report_of(bytes: Rest<'_>) -> Result<Message, Fault>
+    ensures { Gives (λ m. m) result (whole sync_report messages.SyncReport bytes.entry) }
 {
     let (view, rest) = view_at(bytes)?;
     let (synced, rest) = u32_at(rest)?;
@@ -156,16 +157,16 @@ fn sync_report_of(bytes: &[u8]) -> Result<Message, Fault>
     Ok(Message::SyncReport(SyncReportBody { view, synced }))
 }
 
-fn view_ask_of(bytes: &[u8]) -> Result<Message, Fault>
-    ensures { Gives (λ m. m) result (whole view_ask messages.ViewAsk bytes.now) }
+fn view_ask_of(bytes: Rest<'_>) -> Result<Message, Fault>
+    ensures { Gives (λ m. m) result (whole view_ask messages.ViewAsk bytes.entry) }
 {
     let (view, rest) = view_at(bytes)?;
     end(rest)?;
     Ok(Message::ViewAsk(ViewAskBody { view }))
 }
 
-fn view_change_of(alloc: Global, bytes: &[u8]) -> Result<Message, Fault>
-    ensures { Gives (λ m. m) result (whole view_change messages.ViewChange bytes.now) }
+fn view_change_of(alloc: Global, bytes: Rest<'_>) -> Result<Message, Fault>
+    ensures { Gives (λ m. m) result (whole view_change messages.ViewChange bytes.entry) }
 {
     let (view, rest) = view_at(bytes)?;
     let (last, rest) = view_at(rest)?;
@@ -187,8 +188,8 @@ fn view_change_of(alloc: Global, bytes: &[u8]) -> Result<Message, Fault>
     }))
 }
 
-fn start_view_of(alloc: Global, bytes: &[u8]) -> Result<Message, Fault>
-    ensures { Gives (λ m. m) result (whole start_view messages.StartView bytes.now) }
+fn start_view_of(alloc: Global, bytes: Rest<'_>) -> Result<Message, Fault>
+    ensures { Gives (λ m. m) result (whole start_view messages.StartView bytes.entry) }
 {
     let (view, rest) = view_at(bytes)?;
     let (vector, rest) = match vector_at(rest) {
@@ -206,16 +207,16 @@ fn start_view_of(alloc: Global, bytes: &[u8]) -> Result<Message, Fault>
     }))
 }
 
-fn vector_ask_of(bytes: &[u8]) -> Result<Message, Fault>
-    ensures { Gives (λ m. m) result (whole vector_ask messages.VectorAsk bytes.now) }
+fn vector_ask_of(bytes: Rest<'_>) -> Result<Message, Fault>
+    ensures { Gives (λ m. m) result (whole vector_ask messages.VectorAsk bytes.entry) }
 {
     let (nonce, rest) = u64_at(bytes)?;
     end(rest)?;
     Ok(Message::VectorAsk(VectorAskBody { nonce }))
 }
 
-fn vector_tell_of(bytes: &[u8]) -> Result<Message, Fault>
-    ensures { Gives (λ m. m) result (whole vector_tell messages.VectorTell bytes.now) }
+fn vector_tell_of(bytes: Rest<'_>) -> Result<Message, Fault>
+    ensures { Gives (λ m. m) result (whole vector_tell messages.VectorTell bytes.entry) }
 {
     let (nonce, rest) = u64_at(bytes)?;
     let (vector, rest) = match vector_at(rest) {
@@ -226,8 +227,8 @@ fn vector_tell_of(bytes: &[u8]) -> Result<Message, Fault>
     Ok(Message::VectorTell(VectorTellBody { nonce, vector }))
 }
 
-fn rejoin_ask_of(bytes: &[u8]) -> Result<Message, Fault>
-    ensures { Gives (λ m. m) result (whole rejoin_ask messages.RejoinAsk bytes.now) }
+fn rejoin_ask_of(bytes: Rest<'_>) -> Result<Message, Fault>
+    ensures { Gives (λ m. m) result (whole rejoin_ask messages.RejoinAsk bytes.entry) }
 {
     let (nonce, rest) = u64_at(bytes)?;
     let (vector, rest) = match vector_at(rest) {
@@ -238,8 +239,8 @@ fn rejoin_ask_of(bytes: &[u8]) -> Result<Message, Fault>
     Ok(Message::RejoinAsk(RejoinAskBody { nonce, vector }))
 }
 
-fn rejoin_tell_of(bytes: &[u8]) -> Result<Message, Fault>
-    ensures { Gives (λ m. m) result (whole rejoin_tell messages.RejoinTell bytes.now) }
+fn rejoin_tell_of(bytes: Rest<'_>) -> Result<Message, Fault>
+    ensures { Gives (λ m. m) result (whole rejoin_tell messages.RejoinTell bytes.entry) }
 {
     let (nonce, rest) = u64_at(bytes)?;
     let (view, rest) = view_at(rest)?;
@@ -255,8 +256,8 @@ fn rejoin_tell_of(bytes: &[u8]) -> Result<Message, Fault>
     }))
 }
 
-fn state_ask_of(bytes: &[u8]) -> Result<Message, Fault>
-    ensures { Gives (λ m. m) result (whole state_ask messages.StateAsk bytes.now) }
+fn state_ask_of(bytes: Rest<'_>) -> Result<Message, Fault>
+    ensures { Gives (λ m. m) result (whole state_ask messages.StateAsk bytes.entry) }
 {
     let (nonce, rest) = u64_at(bytes)?;
     let (view, rest) = view_at(rest)?;
@@ -272,8 +273,8 @@ fn state_ask_of(bytes: &[u8]) -> Result<Message, Fault>
     }))
 }
 
-fn state_tell_of(alloc: Global, bytes: &[u8]) -> Result<Message, Fault>
-    ensures { Gives (λ m. m) result (whole state_tell messages.StateTell bytes.now) }
+fn state_tell_of(alloc: Global, bytes: Rest<'_>) -> Result<Message, Fault>
+    ensures { Gives (λ m. m) result (whole state_tell messages.StateTell bytes.entry) }
 {
     let (nonce, rest) = u64_at(bytes)?;
     let (view, rest) = view_at(rest)?;
@@ -295,12 +296,12 @@ fn state_tell_of(alloc: Global, bytes: &[u8]) -> Result<Message, Fault>
 
 /// The message whose body of the kind the bytes are, all of the bytes.
 #[tactic(auto, unfolding(crate::specs::Messages::body_at))]
-pub fn message_of(alloc: Global, kind: u8, bytes: &[u8]) -> Result<Message, Fault>
-    ensures { Gives (λ m. m) result (body_at kind bytes.now) }
+pub fn message_of(alloc: Global, kind: u8, bytes: Rest<'_>) -> Result<Message, Fault>
+    ensures { Gives (λ m. m) result (body_at kind bytes.entry) }
 {
     match kind {
-        1 => request_of(alloc, bytes),
-        2 => timed_of(alloc, bytes),
+        1 => request_of(bytes),
+        2 => timed_of(bytes),
         3 => fast_reply_of(alloc, bytes),
         4 => slow_reply_of(bytes),
         5 => answer_of(alloc, bytes),

@@ -3,6 +3,7 @@
 ghost use Rattle.std.specs.Prelude.{◌≡◌, ◌<◌, ◌^◌, ◌⊎◌, Ok, Err, Some, IfOk, IfErr};
 ghost use Rattle.nz_base.specs.Actor.{HasAddress, actor_at};
 ghost use Rattle.nz_frame.specs.Address.{IsAddress};
+ghost use Rattle.nz_frame.specs.Grammar.{AreBytes};
 ghost use Rattle.nz_msg.specs.declared.envelope.Envelope.{Envelope as EnvelopeModel};
 ghost use Rattle.nz_msg.specs.declared.refusal.DecodeRefusal.TheVariants as refusals;
 ghost use Rattle.nz_msg.specs.Messages.{Fits};
@@ -14,6 +15,7 @@ use super::envelope::Envelope;
 use super::fault::Fault;
 use super::message::Message;
 use super::refusal::DecodeRefusal;
+use super::rest::Rest;
 use super::spelling::{kind, put_body};
 use bytes::Bytes;
 use nz_base::{Actor, NoMemory};
@@ -64,9 +66,12 @@ fn placed(fault: Fault, size: usize) -> DecodeRefusal
     }
 }
 
-fn read(alloc: Global, bytes: &[u8]) -> Result<Envelope, DecodeRefusal>
-    ensures decoded { IfOk result (λ envelope. decode_of bytes.now ≡ Ok envelope) }
-    ensures refused { IfErr result (λ refusal. IsRefusedAs bytes.now refusal) }
+// What a frame of these bytes says.
+fn read(alloc: Global, frame: &Bytes, bytes: &[u8]) -> Result<Envelope, DecodeRefusal>
+    requires { bytes.now ≡ frame.now }
+    ensures decoded { IfOk result (λ envelope. decode_of frame.now ≡ Ok envelope) }
+    ensures refused { IfErr result (λ refusal. IsRefusedAs frame.now refusal) }
+    ensures bytes { AreBytes frame.now }
 {
     let view = match Frame::read(bytes) {
         Ok(view) => view,
@@ -74,7 +79,7 @@ fn read(alloc: Global, bytes: &[u8]) -> Result<Envelope, DecodeRefusal>
     };
     let from = actor_of(view.from);
     let to = actor_of(view.to);
-    match message_of(alloc, view.kind, view.body) {
+    match message_of(alloc, view.kind, Rest::new(frame, view.body)) {
         Ok(message) => Ok(Envelope { from, to, message }),
         Err(fault) => Err(placed(fault, bytes.len())),
     }
@@ -82,15 +87,15 @@ fn read(alloc: Global, bytes: &[u8]) -> Result<Envelope, DecodeRefusal>
 
 /// The message of a frame, with who sends it and who gets it. The frame's own tests come before those of
 /// its body.
-pub fn decode(alloc: Global, bytes: &[u8]) -> Result<Envelope, DecodeRefusal>
+pub fn decode(alloc: Global, frame: &Bytes) -> Result<Envelope, DecodeRefusal>
     // The bytes are the frame of what is decoded.
-    ensures spelled { IfOk result (λ envelope. Spells envelope bytes.now) }
+    ensures spelled { IfOk result (λ envelope. Spells envelope frame.now) }
     // Whatever the bytes are the frame of is decoded, where there is memory.
-    ensures every_frame { (envelope : EnvelopeModel) → Spells envelope bytes.now
+    ensures every_frame { (envelope : EnvelopeModel) → Spells envelope frame.now
         → (result ≡ Ok envelope) ⊎ (result ≡ Err refusals.NoMemory) }
     // The same by the reading of the bytes, which also has the place of each refusal.
-    ensures decoded { IfOk result (λ envelope. decode_of bytes.now ≡ Ok envelope) }
-    ensures refused { IfErr result (λ refusal. IsRefusedAs bytes.now refusal) }
+    ensures decoded { IfOk result (λ envelope. decode_of frame.now ≡ Ok envelope) }
+    ensures refused { IfErr result (λ refusal. IsRefusedAs frame.now refusal) }
 {
-    read(alloc, bytes)
+    read(alloc, frame, frame.as_slice())
 }

@@ -3,6 +3,7 @@
 ghost use Rattle.std.specs.Prelude.{◌≡◌, length};
 ghost use Rattle.nz_msg.specs.declared.fault.Fault.TheVariants.{NoMemory, Bad};
 
+use super::rest::Rest;
 use std::alloc::{AllocError, AllocFailed};
 
 #[derive(Debug, Drop)]
@@ -14,11 +15,11 @@ pub enum Fault {
 }
 
 impl Fault {
-    /// The fault at the first of these bytes, which are all that are left.
-    pub fn at(bytes: &[u8]) -> Fault
-        ensures { result ≡ Bad (length bytes.now) }
+    /// The fault at the first byte that is left.
+    pub fn at(rest: Rest<'_>) -> Fault
+        ensures { result ≡ Bad (length rest.entry) }
     {
-        Fault::Bad(bytes.len())
+        Fault::Bad(rest.len())
     }
 }
 

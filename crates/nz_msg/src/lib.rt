@@ -10,6 +10,7 @@ mod lists;
 mod message;
 mod reading;
 mod refusal;
+mod rest;
 mod spelling;
 mod validity;
 mod writing;

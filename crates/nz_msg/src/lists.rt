@@ -11,6 +11,7 @@ ghost use Rattle.nz_msg.specs.Reading.{Gives, AreNoted};
 
 use super::fault::Fault;
 use super::reading::{command_at, id_at, key_at, u8_at, u8_within, u32_at, u32_within};
+use super::rest::Rest;
 use indexmap::IndexSet;
 use nz_base::{Entry, EntryList, Id, IdList, Key, KeyList, MAX_KEYS, MAX_REPLICAS};
 use nz_cv::CrashVector;
@@ -23,13 +24,13 @@ const KEY_SIZE: u8 = 16;
 
 const ENTRY_SIZE: u8 = 19;
 
-// How many items a list takes room for: as many as are counted, but no more than the bytes can hold,
+// How many items a list takes room for: as many as are counted, but no more than the bytes left can hold,
 // each at least so large. So a count alone takes no memory.
-fn room_for(count: u32, size: u8, bytes: &[u8]) -> u32
+fn room_for(count: u32, size: u8, left: usize) -> u32
     requires { 0 < size }
-    ensures { result ≡ min count (length bytes.now / size) }
+    ensures { result ≡ min count (left / size) }
 {
-    let most = bytes.len() / usize::from(size);
+    let most = left / usize::from(size);
     if most < count as usize {
         most as u32
     } else {
@@ -45,20 +46,21 @@ pub fn is_cluster_size(size: usize) -> bool
 }
 
 #[tactic(auto, unfolding(crate::specs::Codec::limited_at))]
-fn size_at(bytes: &[u8]) -> Result<(u8, &[u8]), Fault>
-    ensures size { Gives (λ x. (x.0, x.1.now)) result ((with_limit fields.is_cluster_size (number 1)).get bytes.now) }
+fn size_at(bytes: Rest<'_>) -> Result<(u8, Rest<'_>), Fault>
+    ensures size { Gives (λ x. x) result ((with_limit fields.is_cluster_size (number 1)).get bytes.entry) }
     ensures cluster { IfOk result (λ x. IsClusterSize x.0) }
 {
+    let left = bytes.len();
     let (size, rest) = u8_at(bytes)?;
     if !is_cluster_size(usize::from(size)) {
-        return Err(Fault::at(bytes));
+        return Err(Fault::Bad(left));
     }
     Ok((size, rest))
 }
 
-fn counters_at(size: u8, bytes: &[u8]) -> Result<([u32; MAX_REPLICAS], &[u8]), Fault>
+fn counters_at(size: u8, bytes: Rest<'_>) -> Result<([u32; MAX_REPLICAS], Rest<'_>), Fault>
     requires { size ≤ MAX_REPLICAS }
-    ensures { Gives (λ x. (take size x.0, x.1.now)) result (items_at (λ _. u32) [] size bytes.now) }
+    ensures { Gives (λ x. (take size x.0, x.1)) result (items_at (λ _. u32) [] size bytes.entry) }
 {
     let mut counters = [0; MAX_REPLICAS];
     let mut rest = bytes;
@@ -70,8 +72,8 @@ fn counters_at(size: u8, bytes: &[u8]) -> Result<([u32; MAX_REPLICAS], &[u8]), F
     Ok((counters, rest))
 }
 
-pub fn vector_at(bytes: &[u8]) -> Result<(CrashVector, &[u8]), Fault>
-    ensures { Gives (λ x. (x.0, x.1.now)) result (vector.get bytes.now) }
+pub fn vector_at(bytes: Rest<'_>) -> Result<(CrashVector, Rest<'_>), Fault>
+    ensures { Gives (λ x. x) result (vector.get bytes.entry) }
 {
     let (size, rest) = size_at(bytes)?;
     let (counters, rest) = counters_at(size, rest)?;
@@ -81,10 +83,10 @@ pub fn vector_at(bytes: &[u8]) -> Result<(CrashVector, &[u8]), Fault>
     }
 }
 
-fn list_of_ids(alloc: Global, count: u32, bytes: &[u8]) -> Result<(IdList, &[u8]), Fault>
-    ensures { Gives (λ x. (x.0, x.1.now)) result (items_at (λ _. id) [] count bytes.now) }
+fn list_of_ids(alloc: Global, count: u32, bytes: Rest<'_>) -> Result<(IdList, Rest<'_>), Fault>
+    ensures { Gives (λ x. x) result (items_at (λ _. id) [] count bytes.entry) }
 {
-    let mut ids = IdList::with_capacity(alloc, room_for(count, ID_SIZE, bytes))?;
+    let mut ids = IdList::with_capacity(alloc, room_for(count, ID_SIZE, bytes.len()))?;
     let mut rest = bytes;
     for _ in 0..count {
         let (id, after) = id_at(rest)?;
@@ -94,8 +96,8 @@ fn list_of_ids(alloc: Global, count: u32, bytes: &[u8]) -> Result<(IdList, &[u8]
     Ok((ids, rest))
 }
 
-pub fn ids_at(alloc: Global, bytes: &[u8]) -> Result<(IdList, &[u8]), Fault>
-    ensures { Gives (λ x. (x.0, x.1.now)) result (ids.get bytes.now) }
+pub fn ids_at(alloc: Global, bytes: Rest<'_>) -> Result<(IdList, Rest<'_>), Fault>
+    ensures { Gives (λ x. x) result (ids.get bytes.entry) }
 {
     let (count, rest) = u8_within(bytes, 1, MAX_KEYS)?;
     list_of_ids(alloc, u32::from(count), rest)
@@ -121,12 +123,13 @@ pub fn may_follow_entries(before: &[Entry], key: &Key) -> bool
 }
 
 #[tactic(auto, unfolding(crate::specs::Codec::limited_at))]
-fn next_key_at<'a>(before: &[Key], bytes: &'a [u8]) -> Result<(Key, &'a [u8]), Fault>
-    ensures { Gives (λ x. (x.0, x.1.now)) result ((next_key before.now).get bytes.now) }
+fn next_key_at<'a>(before: &[Key], bytes: Rest<'a>) -> Result<(Key, Rest<'a>), Fault>
+    ensures { Gives (λ x. x) result ((next_key before.now).get bytes.entry) }
 {
+    let left = bytes.len();
     let (key, rest) = key_at(bytes)?;
     if !may_follow(before, &key) {
-        return Err(Fault::at(bytes));
+        return Err(Fault::Bad(left));
     }
     Ok((key, rest))
 }
@@ -146,38 +149,38 @@ fn may_be_next(before: &[Entry], ids: &IndexSet<Id>, key: &Key) -> bool
 fn next_entry_key_at<'a>(
     before: &[Entry],
     ids: &IndexSet<Id>,
-    bytes: &'a [u8],
-) -> Result<(Key, &'a [u8]), Fault>
+    bytes: Rest<'a>,
+) -> Result<(Key, Rest<'a>), Fault>
     requires { AreNoted before.now ids.now.keys }
-    ensures value { Gives (λ x. (x.0, x.1.now)) result ((next_key_by (λ e. e.key) before.now).get bytes.now) }
+    ensures value { Gives (λ x. x) result ((next_key_by (λ e. e.key) before.now).get bytes.entry) }
     ensures follows { IfOk result (λ x. IsTrue (fields.may_follow (λ e. e.key) before.now x.0)) }
 {
+    let left = bytes.len();
     let (key, rest) = key_at(bytes)?;
     if !may_be_next(before, ids, &key) {
-        return Err(Fault::at(bytes));
+        return Err(Fault::Bad(left));
     }
     Ok((key, rest))
 }
 
 fn next_entry_at<'a>(
-    alloc: Global,
     before: &[Entry],
     ids: &IndexSet<Id>,
-    bytes: &'a [u8],
-) -> Result<(Entry, &'a [u8]), Fault>
+    bytes: Rest<'a>,
+) -> Result<(Entry, Rest<'a>), Fault>
     requires { AreNoted before.now ids.now.keys }
-    ensures value { Gives (λ x. (x.0, x.1.now)) result ((next_entry before.now).get bytes.now) }
+    ensures value { Gives (λ x. x) result ((next_entry before.now).get bytes.entry) }
     ensures follows { IfOk result (λ x. IsTrue (fields.may_follow (λ e. e.key) before.now x.0.key)) }
 {
     let (key, rest) = next_entry_key_at(before, ids, bytes)?;
-    let (command, rest) = command_at(alloc, rest)?;
+    let (command, rest) = command_at(rest)?;
     Ok((Entry { key, command }, rest))
 }
 
-fn list_of_keys(alloc: Global, count: u32, bytes: &[u8]) -> Result<(KeyList, &[u8]), Fault>
-    ensures { Gives (λ x. (x.0, x.1.now)) result (items_at next_key [] count bytes.now) }
+fn list_of_keys(alloc: Global, count: u32, bytes: Rest<'_>) -> Result<(KeyList, Rest<'_>), Fault>
+    ensures { Gives (λ x. x) result (items_at next_key [] count bytes.entry) }
 {
-    let mut keys = KeyList::with_capacity(alloc, room_for(count, KEY_SIZE, bytes))?;
+    let mut keys = KeyList::with_capacity(alloc, room_for(count, KEY_SIZE, bytes.len()))?;
     let mut rest = bytes;
     for _ in 0..count {
         let (key, after) = next_key_at(keys.as_slice(), rest)?;
@@ -187,22 +190,26 @@ fn list_of_keys(alloc: Global, count: u32, bytes: &[u8]) -> Result<(KeyList, &[u
     Ok((keys, rest))
 }
 
-pub fn keys_at(alloc: Global, bytes: &[u8]) -> Result<(KeyList, &[u8]), Fault>
-    ensures { Gives (λ x. (x.0, x.1.now)) result (keys.get bytes.now) }
+pub fn keys_at(alloc: Global, bytes: Rest<'_>) -> Result<(KeyList, Rest<'_>), Fault>
+    ensures { Gives (λ x. x) result (keys.get bytes.entry) }
 {
     let (count, rest) = u8_within(bytes, 0, MAX_KEYS)?;
     list_of_keys(alloc, u32::from(count), rest)
 }
 
-fn list_of_entries(alloc: Global, count: u32, bytes: &[u8]) -> Result<(EntryList, &[u8]), Fault>
-    ensures { Gives (λ x. (x.0, x.1.now)) result (items_at next_entry [] count bytes.now) }
+fn list_of_entries(
+    alloc: Global,
+    count: u32,
+    bytes: Rest<'_>,
+) -> Result<(EntryList, Rest<'_>), Fault>
+    ensures { Gives (λ x. x) result (items_at next_entry [] count bytes.entry) }
 {
-    let room = room_for(count, ENTRY_SIZE, bytes);
+    let room = room_for(count, ENTRY_SIZE, bytes.len());
     let mut entries = EntryList::with_capacity(alloc, room)?;
     let mut ids = IndexSet::with_capacity(alloc, room as usize)?;
     let mut rest = bytes;
     for _ in 0..count {
-        let (entry, after) = next_entry_at(alloc, entries.as_slice(), &ids, rest)?;
+        let (entry, after) = next_entry_at(entries.as_slice(), &ids, rest)?;
         ids.insert(entry.key.id())?;
         entries.push(entry)?;
         rest = after;
@@ -213,11 +220,11 @@ fn list_of_entries(alloc: Global, count: u32, bytes: &[u8]) -> Result<(EntryList
 /// From `least` to `most` entries.
 pub fn entries_at(
     alloc: Global,
-    bytes: &[u8],
+    bytes: Rest<'_>,
     least: u32,
     most: u32,
-) -> Result<(EntryList, &[u8]), Fault>
-    ensures { Gives (λ x. (x.0, x.1.now)) result ((entries least most).get bytes.now) }
+) -> Result<(EntryList, Rest<'_>), Fault>
+    ensures { Gives (λ x. x) result ((entries least most).get bytes.entry) }
 {
     let (count, rest) = u32_within(bytes, least, most)?;
     list_of_entries(alloc, count, rest)

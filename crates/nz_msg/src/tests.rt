@@ -121,9 +121,14 @@ fn bytes_of(alloc: Global, text: &str) -> Result<Vec<u8>, NoMemory> {
     Ok(bytes)
 }
 
-// The frame of what the bytes are decoded as.
-fn again(alloc: Global, bytes: &[u8]) -> Option<Bytes> {
-    match decode(alloc, bytes) {
+// The same as a frame.
+fn frame_of(alloc: Global, text: &str) -> Result<Bytes, NoMemory> {
+    Ok(Bytes::from_vec(bytes_of(alloc, text)?)?)
+}
+
+// The frame of what a frame is decoded as.
+fn again(alloc: Global, frame: &Bytes) -> Option<Bytes> {
+    match decode(alloc, frame) {
         Ok(envelope) => encode(alloc, envelope.from, envelope.to, &envelope.message).ok(),
         Err(_) => None,
     }
@@ -186,11 +191,11 @@ fn is_as_told(alloc: Global, line: &str) -> Result<bool, Fail> {
     let from = number(words.next())?;
     let to = number(words.next())?;
     let numbers = (kind, number(words.next())?, number(words.next())?);
-    let bytes = bytes_of(alloc, words.next().ok_or("a frame stands here")?)?;
-    let Ok(envelope) = decode(alloc, &bytes) else {
+    let frame = frame_of(alloc, words.next().ok_or("a frame stands here")?)?;
+    let Ok(envelope) = decode(alloc, &frame) else {
         return Ok(false);
     };
-    let Some(same) = again(alloc, &bytes) else {
+    let Some(same) = again(alloc, &frame) else {
         return Ok(false);
     };
     Ok(
@@ -198,7 +203,7 @@ fn is_as_told(alloc: Global, line: &str) -> Result<bool, Fail> {
             && envelope.message.is_valid()
             && Actor::from_address((from % 256) as u16) == Some(envelope.from)
             && Actor::from_address((to % 256) as u16) == Some(envelope.to)
-            && same.as_slice() == bytes.as_slice(),
+            && same == frame,
     )
 }
 
@@ -210,16 +215,16 @@ fn one_message_of_each_kind(rt: HostRuntime) -> Result<(), Fail> {
     Ok(())
 }
 
-fn is_refused(alloc: Global, bytes: &[u8], want: DecodeRefusal) -> bool {
-    decode(alloc, bytes).err() == Some(want)
+fn is_refused(alloc: Global, frame: &Bytes, want: DecodeRefusal) -> bool {
+    decode(alloc, frame).err() == Some(want)
 }
 
 // Whether the frame of a line is refused at the line's place.
 fn is_fault_as_told(alloc: Global, line: &str) -> Result<bool, Fail> {
     let mut words = line.split_whitespace();
     let place = (number(words.next())? % 1000) as u32;
-    let bytes = bytes_of(alloc, words.next().ok_or("a frame stands here")?)?;
-    Ok(is_refused(alloc, &bytes, DecodeRefusal::BadBody { place }))
+    let frame = frame_of(alloc, words.next().ok_or("a frame stands here")?)?;
+    Ok(is_refused(alloc, &frame, DecodeRefusal::BadBody { place }))
 }
 
 #[test]
@@ -239,7 +244,7 @@ fn long_log() -> &'static str {
 }
 
 // The frame of 2,000 entries of 21 bytes, the last of which is the last client's request by this number.
-fn log_of(alloc: Global, last: u32) -> Result<Vec<u8>, NoMemory> {
+fn log_of(alloc: Global, last: u32) -> Result<Bytes, NoMemory> {
     let mut bytes = bytes_of(alloc, long_log())?;
     for place in 0..2000u32 {
         let num = if place == 1999 { last } else { place + 1 };
@@ -248,16 +253,16 @@ fn log_of(alloc: Global, last: u32) -> Result<Vec<u8>, NoMemory> {
         bytes.extend_from_slice(&num.to_be_bytes())?;
         bytes.extend_from_slice(&[0, 3, 2, 1, 97])?;
     }
-    Ok(bytes)
+    Ok(Bytes::from_vec(bytes)?)
 }
 
 // An id that is repeated is in the last entry, 42,026 bytes from the start.
 #[test]
 fn a_long_log(rt: HostRuntime) -> Result<(), Fail> {
     let alloc = rt.alloc();
-    let bytes = log_of(alloc, 2000)?;
-    let same = again(alloc, &bytes).ok_or("the frame is decoded")?;
-    assert_eq!(rt; same.as_slice(), bytes.as_slice());
+    let frame = log_of(alloc, 2000)?;
+    let same = again(alloc, &frame).ok_or("the frame is decoded")?;
+    assert_eq!(rt; same, frame);
     let repeated = log_of(alloc, 16)?;
     let place = 42_026;
     assert!(rt; is_refused(alloc, &repeated, DecodeRefusal::BadBody { place }));

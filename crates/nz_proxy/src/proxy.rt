@@ -125,15 +125,17 @@ impl ProxyState {
         ensures sends { OnOk result (sends.new ≡ sends.old
             ++ map (parcel (actors.Proxy self.old.me)) (proxy_message self.old.f self.old.state envelope.from envelope.message).1) }
     {
-        match (envelope.from, envelope.message) {
-            (Actor::Client(client), Message::Request(body)) => self.stamp_rule(client, body, sends),
-            (Actor::Replica(replica), Message::FastReply(body)) => {
-                self.take_fast(replica, body, sends)
-            }
-            (Actor::Replica(replica), Message::SlowReply(body)) => {
-                self.take_slow(replica, body, sends)
-            }
-            _ => Ok(()),
+        match envelope.from {
+            Actor::Client(client) => match envelope.message {
+                Message::Request(body) => self.stamp_rule(client, body, sends),
+                _ => Ok(()),
+            },
+            Actor::Replica(replica) => match envelope.message {
+                Message::FastReply(body) => self.take_fast(replica, body, sends),
+                Message::SlowReply(body) => self.take_slow(replica, body, sends),
+                _ => Ok(()),
+            },
+            Actor::Proxy(_) => Ok(()),
         }
     }
 

@@ -1,6 +1,6 @@
 //! A replica as a core.
 
-ghost use Rattle.std.specs.Prelude.{◌≡◌, ◌≢◌, ◌<◌, ◌&&◌, true, IsTrue, IfOk, OnOk};
+ghost use Rattle.std.specs.Prelude.{◌≡◌, ◌≢◌, ◌<◌, ◌&&◌, true, Some, IsTrue, IfOk, OnOk};
 ghost use Rattle.nz_base.specs.Actor.{HasAddress};
 ghost use Rattle.nz_base.specs.Cluster.{replica_count};
 ghost use Rattle.nz_base.specs.declared.actor.Actor.TheVariants as actors;
@@ -10,7 +10,7 @@ ghost use Rattle.nz_machine.specs.Replicas as replicas;
 ghost use Rattle.nz_machine.specs.Replicas.{first_replica};
 ghost use Rattle.nz_machine.specs.Does.{Does};
 ghost use Rattle.nz_machine.specs.Step as step_words;
-ghost use Rattle.nz_machine.specs.Step.{envelope_step, replica_message, accepted_envelope};
+ghost use Rattle.nz_machine.specs.Step.{envelope_step, replica_message, accepted_envelope, if_from_cluster};
 ghost use Rattle.nz_machine.specs.Step.{parcel, is_in_cluster, is_sized, message_vector};
 ghost use Rattle.nz_replica.specs.Models.{IsOf};
 
@@ -127,6 +127,25 @@ fn handle(state: &mut ReplicaState, envelope: &Envelope, sends: &mut Sends) -> R
     }
 }
 
+/// What a replica does with what it read: nothing where it is down, or where this is not from the cluster.
+fn hear(state: &mut ReplicaState, envelope: &Envelope, sends: &mut Sends) -> Result<(), NoMemory>
+    requires from { HasAddress envelope.now.from }
+    requires other { envelope.now.from ≢ actors.Replica state.old.me }
+    requires fits { Fits envelope.now.message }
+    ensures { let s = state.old in
+        (g : Group) → IsOf g s
+        → OnOk result (Does s state.new sends.old sends.new
+        (envelope_step g (actors.Replica s.me) s.state (if_from_cluster g.f (Some envelope.now)))) }
+{
+    if !is_from_cluster(state.cluster(), envelope) {
+        return Ok(());
+    }
+    if state.is_down() {
+        return Ok(());
+    }
+    handle(state, envelope, sends)
+}
+
 fn deliver(state: &mut ReplicaState, p: &Parcel, sends: &mut Sends) -> Result<(), NoMemory>
     ensures { let s = state.old in
         (g : Group) → IsOf g s
@@ -135,12 +154,7 @@ fn deliver(state: &mut ReplicaState, p: &Parcel, sends: &mut Sends) -> Result<()
 {
     match heard(state.allocator(), state.name(), p)? {
         None => Ok(()),
-        Some(envelope) => {
-            if state.is_down() || !is_from_cluster(state.cluster(), &envelope) {
-                return Ok(());
-            }
-            handle(state, &envelope, sends)
-        }
+        Some(envelope) => hear(state, &envelope, sends),
     }
 }
 

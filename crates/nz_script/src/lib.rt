@@ -1,7 +1,6 @@
 //! The scenario language: what a text says, line by line, and the one text of each scenario.
 #![tactic(auto)]
 
-mod bytes;
 mod checks;
 mod command_len;
 mod commands;
@@ -13,18 +12,19 @@ mod laws;
 mod line;
 mod line_forms;
 mod message;
+mod pieces;
 mod printing;
 mod reading;
 mod sizes;
 mod validity;
 mod word;
 
-pub use bytes::{cut_at, number_of};
 pub use commands::command_first;
 pub use faults::{Kind, ScriptFault};
 pub use generating::generate;
 pub use laws::{texts_are_read_back, what_is_drawn_can_be_run, what_is_read_can_be_run};
 pub use message::name_of;
+pub use pieces::{cut_at, number_of};
 pub use printing::{print, put, put_actor, put_command, put_number};
 pub use reading::read;
 pub use validity::ValidScenario;

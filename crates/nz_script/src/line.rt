@@ -6,8 +6,8 @@ ghost use Rattle.nz_script.specs.Bytes.{is_printed, words_in};
 ghost use Rattle.nz_script.specs.Lines as lines;
 ghost use Rattle.nz_script.specs.Lines.{fits};
 
-use super::bytes::next_word;
 use super::line_forms::{Form, Verb, verb_of};
+use super::pieces::next_word;
 use super::word::{WordList, word_of};
 use nz_base::NoMemory;
 use std::alloc::Global;

@@ -7,12 +7,12 @@ ghost use Rattle.nz_script.specs.Reading.{draft_after_line, draft_or_kind, scena
 ghost use Rattle.nz_script.specs.Drafts.{first_draft};
 ghost use Rattle.nz_script.specs.declared.faults.ScriptFault.TheVariants as script_fault;
 
-use super::bytes::cut_at;
 use super::checks::fault_of;
 use super::draft::Draft;
 use super::faults::{Kind, ScriptFault};
 use super::line::line_of;
 use super::line_forms::Place;
+use super::pieces::cut_at;
 use nz_base::{MAX_TEXT, NoMemory, Scenario};
 use std::alloc::Global;
 

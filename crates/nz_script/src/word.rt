@@ -6,9 +6,9 @@ ghost use Rattle.nz_script.specs.Forms as forms;
 ghost use Rattle.nz_script.specs.Forms.{actor_of_letter, actor_named, number_in, byte_in, units_in, actor_in, actors_in, kind_in, text_in, choice_in};
 ghost use Rattle.nz_script.specs.declared.word.Word.TheVariants.{Text};
 
-use super::bytes::number_of;
 use super::line_forms::Form;
 use super::message::kind_named;
+use super::pieces::number_of;
 use nz_base::{Actor, List, NoMemory};
 use nz_store::Blob;
 use std::alloc::Global;

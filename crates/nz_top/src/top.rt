@@ -127,7 +127,7 @@ fn print(alloc: Global, command: Command, journal: &Journal) -> Result<Blob, NoM
     match command {
         Command::Run { .. } => text(alloc, journal, &history),
         Command::Trace { .. } => {
-            let mut bytes = trace(alloc, journal)?.into_vec();
+            let mut bytes = trace(alloc, journal)?.into_vec(alloc)?;
             bytes.extend_from_slice(b"text\n")?;
             bytes.extend_from_slice(text(alloc, journal, &history)?.as_slice())?;
             Ok(Blob::from_vec(bytes))

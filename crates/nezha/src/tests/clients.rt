@@ -67,7 +67,7 @@ fn event(alloc: Global, case: Case) -> Result<Event, Fail> {
 fn asked(alloc: Global, sends: &Sends) -> Result<Vec<(Actor, u32)>, Fail> {
     let mut asked = Vec::new(alloc);
     for parcel in sends.as_slice() {
-        let Ok(envelope) = decode(alloc, parcel.frame.as_slice()) else {
+        let Ok(envelope) = decode(alloc, &parcel.frame) else {
             return Err("a frame that is none".into());
         };
         match envelope.message {

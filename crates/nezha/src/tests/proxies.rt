@@ -27,7 +27,7 @@ enum Sent {
 fn told(alloc: Global, sends: &Sends) -> Result<Vec<(Actor, Sent)>, Fail> {
     let mut sent = Vec::new(alloc);
     for parcel in sends.as_slice() {
-        let Ok(envelope) = decode(alloc, parcel.frame.as_slice()) else {
+        let Ok(envelope) = decode(alloc, &parcel.frame) else {
             return Err("a frame that is none".into());
         };
         match envelope.message {

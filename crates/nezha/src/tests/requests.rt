@@ -74,7 +74,7 @@ impl TestStep for Step {
 
 // The fast reply to a client's request 1 that a replica sent to proxy 0.
 fn fast_reply(alloc: Global, parcel: &Parcel, me: u8, client: u32) -> Option<FastReplyBody> {
-    match decode(alloc, parcel.frame.as_slice()) {
+    match decode(alloc, &parcel.frame) {
         Err(_) => None,
         Ok(envelope) => {
             if envelope.from == Actor::Replica(me) && envelope.to == Actor::Proxy(0) {

@@ -11,14 +11,14 @@ use Rattle.nz_machine.proofs.sync_keys.sync_entry.Goals as goal
 
 pub keep_each-requires : goal.keep_each-requires
 keep_each-requires c =
-    let late = c.remove-2.ensures.rest ∙ ap (λ (j : Id). without c.args.late.now j) c.id-id.ensures in
+    let late = c.remove-3.ensures.rest ∙ ap (λ (j : Id). without c.args.late.now j) c.id-id.ensures in
     subst (λ (xs : List Entry). HaveOwnIds (keys_of xs)) (sym (λ i. late i ++ c.in_ok-displaced.ensures.displaced i))
     (own_late c.args.log.now c.args.early.now c.args.late.now c.args.entry c.requires.apart c.requires.fresh)
 
 pub returns-clause-late : goal.returns-clause-late
 returns-clause-late c =
-    let late = c.remove-2.ensures.rest ∙ ap (λ (j : Id). without c.args.late.now j) c.id-id.ensures in
-    let all : c.remove-2.new.self ++ c.in_ok-displaced.displaced
+    let late = c.remove-3.ensures.rest ∙ ap (λ (j : Id). without c.args.late.now j) c.id-id.ensures in
+    let all : c.remove-3.new.self ++ c.in_ok-displaced.displaced
     ≡ without c.args.late.now (id_of c.args.entry.key) ++ displaced_entries c.args.log.now c.args.entry =
     λ i. late i ++ c.in_ok-displaced.ensures.displaced i in
     subst (λ (xs : List Entry). OnOk c.keep_each.result (c.keep_each.new.late ≡ xs))

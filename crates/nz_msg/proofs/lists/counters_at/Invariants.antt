@@ -10,5 +10,5 @@ abbrev pub invariant-loop-place : goal.invariant-loop-place
 invariant-loop-place l = record {
   nine : length l.counters ≡ 9;
   told : with_earlier (take l.place l.counters) (items_at (λ _. u32) (take l.place l.counters) (l.size - l.place) l.rest)
-      ≡ items_at (λ _. u32) [] l.size l.bytes;
+      ≡ items_at (λ _. u32) [] l.size l.fn.bytes;
 }

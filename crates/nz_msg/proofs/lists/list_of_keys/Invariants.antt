@@ -7,4 +7,4 @@ use Rattle.nz_msg.proofs.lists.list_of_keys.Given as goal
 
 -- what was read, and what is read of the rest, is what is read of all
 abbrev pub invariant-loop : goal.invariant-loop
-invariant-loop l = with_earlier l.keys (items_at next_key l.keys (l.count - l.counter) l.rest) ≡ items_at next_key [] l.count l.bytes
+invariant-loop l = with_earlier l.keys (items_at next_key l.keys (l.count - l.counter) l.rest) ≡ items_at next_key [] l.count l.fn.bytes

@@ -2,7 +2,7 @@
 use Rattle.std.proofs.Common.{◌∙◌, sym, rules}
 use Rattle.nz_script.specs.Bytes.{space}
 use Rattle.nz_script.proofs.Cuts.{shorter, words-skip, words-cut, words-one}
-use Rattle.nz_script.proofs.bytes.next_word.Goals as goal
+use Rattle.nz_script.proofs.pieces.next_word.Goals as goal
 
 pub returns-then-not-is_empty : goal.returns-then-not-is_empty
 returns-then-not-is_empty c =

@@ -3,7 +3,7 @@ use Rattle.std.proofs.Common.{◌≡◌, true, rules, arith, subst, List, ℕ}
 use Rattle.std.specs.Str.Parse.{ParsesUnsigned}
 use Rattle.nz_script.specs.Bytes.{is_numeral, number_of}
 use Rattle.nz_script.proofs.Numerals.{numeral_is_utf8, parsed}
-use Rattle.nz_script.proofs.bytes.number_of.Goals as goal
+use Rattle.nz_script.proofs.pieces.number_of.Goals as goal
 
 pub returns-in_default : goal.returns-in_default
 returns-in_default c = let e : is_numeral c.args.word.now ≡ true = first_of (cc, search rules) in

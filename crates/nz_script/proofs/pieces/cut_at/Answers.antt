@@ -2,8 +2,8 @@
 use Rattle.std.proofs.Common.{ℕ, take, List, sym, ap, ◌∙◌, arith}
 use Rattle.std.specs.Prelude.{Some}
 use Rattle.nz_script.proofs.Cuts.{cut-at_place, cut-no_place, rest_is}
-use Rattle.nz_script.proofs.bytes.cut_at.Goals as goal
-use Rattle.nz_script.proofs.bytes.cut_at.Goals.{then-loop-place-test+else-bytes-place, else-loop-place-test}
+use Rattle.nz_script.proofs.pieces.cut_at.Goals as goal
+use Rattle.nz_script.proofs.pieces.cut_at.Goals.{then-loop-place-test+else-bytes-place, else-loop-place-test}
 
 pub returns-then-place-bytes : goal.returns-then-place-bytes
 returns-then-place-bytes c =
