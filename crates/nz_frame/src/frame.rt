@@ -111,9 +111,43 @@ fn header(kind: u8, from: u16, to: u16, len: u32) -> [u8; 10]
     header
 }
 
+fn put_header(bytes: &mut [u8], header: &[u8; 10])
+    requires { 10 ≤ length bytes.old }
+    ensures { bytes.new ≡ header.now ++ drop 10 bytes.old }
+{
+    let (head, _body) = bytes.split_at_mut(10);
+    head.copy_from_slice(header);
+}
+
 impl Frame {
-    /// The frame of these parts.
+    /// The first bytes of a frame, which are to be filled, with room for a body of this size after them.
+    pub fn open(alloc: Global, room: usize) -> Result<Vec<u8>, NoMemory>
+        ensures { IfOk result (λ bytes. length bytes.items ≡ 10) }
+    {
+        let mut bytes = Vec::with_capacity(alloc, room.saturating_add(10))?;
+        bytes.extend_from_slice(&[0; 10])?;
+        Ok(bytes)
+    }
+
+    /// The frame whose body follows the first ten bytes, which are filled. What room is left over is given back.
     #[tactic(auto, unfolding(crate::specs::Grammar::frame))]
+    pub fn close(bytes: Vec<u8>, kind: u8, from: u16, to: u16) -> Result<Bytes, NoMemory>
+        requires kind { IsKind kind }
+        requires from { IsAddress from }
+        requires to { IsAddress to }
+        requires opened { 10 ≤ length bytes.items }
+        requires body { length bytes.items ≤ 16777220 }
+        ensures { IfOk result (λ b. b ≡ frame kind from to (drop 10 bytes.items)) }
+    {
+        let mut bytes = bytes;
+        bytes.shrink_to_fit();
+        let len = bytes.len() - 4;
+        let header = header(kind, from, to, len as u32);
+        put_header(bytes.as_mut_slice(), &header);
+        Ok(Bytes::from_vec(bytes)?)
+    }
+
+    /// The frame of these parts.
     pub fn write(
         alloc: Global,
         kind: u8,
@@ -127,11 +161,9 @@ impl Frame {
         requires body { length body.now ≤ 16777210 }
         ensures { IfOk result (λ b. b ≡ frame kind from to body.now) }
     {
-        let header = header(kind, from, to, HEAD + body.len() as u32);
-        let mut bytes = Vec::with_capacity(alloc, header.len() + body.len())?;
-        bytes.extend_from_slice(&header)?;
+        let mut bytes = Frame::open(alloc, body.len())?;
         bytes.extend_from_slice(body)?;
-        Ok(Bytes::from_vec(bytes)?)
+        Frame::close(bytes, kind, from, to)
     }
 
     /// The parts of the frame that the bytes are. What is read borrows the bytes.

@@ -1,11 +1,10 @@
 -- Frames can carry each answer of a store that commands made.
-use Rattle.std.proofs.Common.{◌≡◌, ℕ, ◌≤◌, List, [], ◌∷◌, ◌++◌, length, refl, ap, ◌∙◌, arith}
+use Rattle.std.proofs.Common.{◌≡◌, ℕ, List, [], ◌∷◌, ◌++◌, refl, ap, ◌∙◌, arith}
 use Rattle.std.proofs.lemmas.Bool.{le-leb, and_from}
 use Rattle.std.proofs.lemmas.List.{map-append}
 use Rattle.nz_base.specs.declared.key.Entry.{Entry}
 use Rattle.nz_store.specs.declared.command.Answer.{Answer}
 use Rattle.nz_store.specs.declared.command.Answer.TheVariants.{Done, Value, Absent, Differs}
-use Rattle.nz_store.specs.Grammar.{IsValue}
 use Rattle.nz_store.specs.Entries.{empty}
 use Rattle.nz_store.specs.Sequence.{apply_bytes, store_from, store_after, answer_after, replies}
 use Rattle.nz_store.proofs.Turns.{store_after-push, replies-push}

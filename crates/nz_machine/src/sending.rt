@@ -2,13 +2,32 @@
 
 ghost use Rattle.std.specs.Prelude.{◌≡◌, ◌∷◌, ◌++◌, [], OnOk};
 ghost use Rattle.nz_base.specs.Actor.{HasAddress};
-ghost use Rattle.nz_msg.specs.Messages.{Fits};
+ghost use Rattle.nz_msg.specs.Messages.{Fits, body_of};
 ghost use Rattle.nz_machine.specs.Step.{parcel};
 
 use super::event::{Parcel, Sends};
 use nz_base::{Actor, NoMemory};
-use nz_msg::{Message, encode};
+use nz_msg::{Message, encode, frame_of};
 use std::alloc::Global;
+
+/// Adds the parcel of a message whose body was written: a message to several actors is written once.
+pub fn send_written(
+    alloc: Global,
+    from: Actor,
+    to: Actor,
+    message: &Message,
+    body: &[u8],
+    sends: &mut Sends,
+) -> Result<(), NoMemory>
+    requires from { HasAddress from }
+    requires to { HasAddress to }
+    requires message { Fits message.now }
+    requires body { body.now ≡ body_of message.now }
+    ensures { OnOk result (sends.new ≡ sends.old ++ parcel from (to, message.now) ∷ []) }
+{
+    let frame = frame_of(alloc, from, to, message, body)?;
+    sends.push(Parcel { from, to, frame })
+}
 
 /// Adds the parcel of a message.
 pub fn send(

@@ -6,7 +6,7 @@ ghost use Rattle.nz_frame.specs.Address.{IsAddress};
 ghost use Rattle.nz_frame.specs.Grammar.{AreBytes};
 ghost use Rattle.nz_msg.specs.declared.envelope.Envelope.{Envelope as EnvelopeModel};
 ghost use Rattle.nz_msg.specs.declared.refusal.DecodeRefusal.TheVariants as refusals;
-ghost use Rattle.nz_msg.specs.Messages.{Fits};
+ghost use Rattle.nz_msg.specs.Messages.{Fits, body_of};
 ghost use Rattle.nz_msg.specs.Envelope.{encode_of, Spells, decode_of, IsRefusedAs};
 ghost use Rattle.nz_msg.specs.Reading.{IsPlaced, refusal_at};
 
@@ -25,7 +25,38 @@ use std::alloc::Global;
 // Bytes that the body of almost every message needs no more than; the lists of a view change are longer.
 const ROOM: usize = 128;
 
-/// The one frame of the message from one actor to another.
+/// The body of the message, which all its frames have.
+pub fn write_body(alloc: Global, message: &Message) -> Result<Vec<u8>, NoMemory>
+    requires { Fits message.now }
+    ensures { IfOk result (λ body. body.items ≡ body_of message.now) }
+{
+    let mut body = Vec::with_capacity(alloc, ROOM)?;
+    put_body(&mut body, message)?;
+    Ok(body)
+}
+
+/// The one frame of the message, whose body was written, from one actor to another.
+#[tactic(auto, unfolding(crate::specs::Envelope::encode_of))]
+pub fn frame_of(
+    alloc: Global,
+    from: Actor,
+    to: Actor,
+    message: &Message,
+    body: &[u8],
+) -> Result<Bytes, NoMemory>
+    requires valid { Fits message.now }
+    requires body { body.now ≡ body_of message.now }
+    requires from { HasAddress from }
+    requires to { HasAddress to }
+    ensures { IfOk result (λ bytes. bytes ≡ encode_of from to message.now) }
+{
+    match Frame::write(alloc, kind(message), from.address(), to.address(), body) {
+        Ok(bytes) => Ok(bytes),
+        Err(_) => Err(NoMemory),
+    }
+}
+
+/// The one frame of the message from one actor to another. Its body is written where it stays.
 #[tactic(auto, unfolding(crate::specs::Envelope::encode_of))]
 pub fn encode(alloc: Global, from: Actor, to: Actor, message: &Message) -> Result<Bytes, NoMemory>
     requires valid { Fits message.now }
@@ -33,10 +64,12 @@ pub fn encode(alloc: Global, from: Actor, to: Actor, message: &Message) -> Resul
     requires to { HasAddress to }
     ensures { IfOk result (λ bytes. bytes ≡ encode_of from to message.now) }
 {
-    let mut body = Vec::with_capacity(alloc, ROOM)?;
-    put_body(&mut body, message)?;
-    match Frame::write(alloc, kind(message), from.address(), to.address(), &body) {
-        Ok(bytes) => Ok(bytes),
+    let Ok(mut bytes) = Frame::open(alloc, ROOM) else {
+        return Err(NoMemory);
+    };
+    put_body(&mut bytes, message)?;
+    match Frame::close(bytes, kind(message), from.address(), to.address()) {
+        Ok(frame) => Ok(frame),
         Err(_) => Err(NoMemory),
     }
 }

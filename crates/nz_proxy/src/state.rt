@@ -24,8 +24,8 @@ ghost use Rattle.nz_proxy.specs.Models.{IsSameProxy};
 use crate::standing::Standing;
 use indexmap::IndexMap;
 use nz_base::{Actor, Blob, Cluster, Id, MARGIN, MAX_CLOCK, NoMemory};
-use nz_machine::{Reply, Sends, copy_answer, send};
-use nz_msg::{AnswerBody, Message, Path, RequestBody, TimedBody};
+use nz_machine::{Reply, Sends, copy_answer, send, send_written};
+use nz_msg::{AnswerBody, Message, Path, RequestBody, TimedBody, write_body};
 use nz_quorum::Tally;
 use nz_store::Answer;
 use nz_window::Window;
@@ -212,9 +212,10 @@ impl ProxyState {
             ++ map (parcel (actors.Proxy self.now.me)) (to_each message.now (numbers_below (replica_count self.now.f)))) }
     {
         let cluster = self.cluster();
+        let body = write_body(self.alloc, message)?;
         for replica in 0..cluster.n() {
             let to = Actor::Replica(replica);
-            send(self.alloc, self.name(), to, message, sends)?;
+            send_written(self.alloc, self.name(), to, message, &body, sends)?;
         }
         Ok(())
     }

@@ -3,7 +3,7 @@
 ghost use Rattle.std.specs.Prelude.{◌≡◌, ◌≤◌, ◌++◌, map, IfOk, OnOk};
 ghost use Rattle.nz_base.specs.declared.actor.Actor.TheVariants as actors;
 ghost use Rattle.nz_base.specs.declared.limits.TheConstants.{MAX_REPLICA};
-ghost use Rattle.nz_msg.specs.Messages.{Fits};
+ghost use Rattle.nz_msg.specs.Messages.{Fits, body_of};
 ghost use Rattle.nz_msg.specs.declared.message.Message.TheVariants.{VectorTell};
 ghost use Rattle.nz_machine.specs.Step.{parcel};
 ghost use Rattle.nz_machine.specs.Replicas.{to_others, to_replica};
@@ -12,15 +12,32 @@ ghost use Rattle.nz_machine.specs.Adopting.{start_view_message};
 ghost use Rattle.nz_machine.specs.Rejoining.{vector_ask_message, rejoin_ask_message, rejoin_tell_message, state_ask_message, state_tell_message};
 
 use super::super::event::Sends;
-use super::super::sending::send;
+use super::super::sending::{send, send_written};
 use super::ReplicaState;
 use nz_base::{Actor, NoMemory};
 use nz_msg::{
     Message, RejoinAskBody, RejoinTellBody, StartViewBody, StateAskBody, StateTellBody,
-    VectorAskBody, VectorTellBody, ViewAskBody, ViewChangeBody,
+    VectorAskBody, VectorTellBody, ViewAskBody, ViewChangeBody, write_body,
 };
 
 impl ReplicaState {
+    /// Sends the message, whose body was written, to one replica.
+    fn send_written_to(
+        &self,
+        replica: u8,
+        message: &Message,
+        body: &[u8],
+        sends: &mut Sends,
+    ) -> Result<(), NoMemory>
+        requires replica { replica ≤ MAX_REPLICA }
+        requires message { Fits message.now }
+        requires body { body.now ≡ body_of message.now }
+        ensures { OnOk result (sends.new ≡ sends.old ++ map (parcel (actors.Replica self.now.me)) (to_replica replica message.now)) }
+    {
+        let to = Actor::Replica(replica);
+        send_written(self.allocator(), self.name(), to, message, body, sends)
+    }
+
     /// Sends the message to one replica.
     pub fn send_to(&self, replica: u8, message: &Message, sends: &mut Sends) -> Result<(), NoMemory>
         requires replica { replica ≤ MAX_REPLICA }
@@ -31,19 +48,34 @@ impl ReplicaState {
         send(self.allocator(), self.name(), to, message, sends)
     }
 
-    /// Sends the message to each of the others.
-    pub fn send_to_others(&self, message: &Message, sends: &mut Sends) -> Result<(), NoMemory>
-        requires { Fits message.now }
+    /// Sends the message, whose body was written, to each of the others.
+    fn send_written_to_others(
+        &self,
+        message: &Message,
+        body: &[u8],
+        sends: &mut Sends,
+    ) -> Result<(), NoMemory>
+        requires message { Fits message.now }
+        requires body { body.now ≡ body_of message.now }
         ensures { OnOk result (sends.new ≡ sends.old ++ map (parcel (actors.Replica self.now.me)) (to_others self.now.f self.now.me message.now)) }
     {
         // f is at most MAX_F, so each number is at most MAX_REPLICA.
         let _most = self.parts.cluster.f();
         for replica in 0..self.parts.cluster.n() {
             if replica != self.parts.me {
-                self.send_to(replica, message, sends)?;
+                self.send_written_to(replica, message, body, sends)?;
             }
         }
         Ok(())
+    }
+
+    /// Sends the message to each of the others.
+    pub fn send_to_others(&self, message: &Message, sends: &mut Sends) -> Result<(), NoMemory>
+        requires { Fits message.now }
+        ensures { OnOk result (sends.new ≡ sends.old ++ map (parcel (actors.Replica self.now.me)) (to_others self.now.f self.now.me message.now)) }
+    {
+        let body = write_body(self.allocator(), message)?;
+        self.send_written_to_others(message, &body, sends)
     }
 
     /// The others are asked to enter the view.

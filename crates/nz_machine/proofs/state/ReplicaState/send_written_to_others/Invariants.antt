@@ -4,7 +4,7 @@ use Rattle.std.specs.List.{filter}
 use Rattle.nz_base.specs.declared.actor.Actor.TheVariants.{Replica}
 use Rattle.nz_machine.specs.Replicas.{numbers_below}
 use Rattle.nz_machine.specs.Step.{parcel}
-use Rattle.nz_machine.proofs.state.ReplicaState.send_to_others.Given as goal
+use Rattle.nz_machine.proofs.state.ReplicaState.send_written_to_others.Given as goal
 
 abbrev pub invariant-loop-replica : goal.invariant-loop-replica
 invariant-loop-replica l =
