@@ -13,7 +13,7 @@ use Rattle.nz_machine.specs.declared.event.Record.{Record}
 use Rattle.nz_machine.specs.declared.journal.Item.{Item}
 use Rattle.nz_machine.proofs.ListParts.{take_next}
 use Rattle.nz_machine.specs.Schedule.{item_of, posted_by_run, ScheduledTo, IsPlayable}
-use Rattle.nz_fabric.specs.declared.open_turns.Running.{Running}
+use Rattle.nz_fabric.specs.Takes.{Running}
 use Rattle.nz_fabric.specs.declared.ticks.Ticks.{Ticks}
 use Rattle.nz_fabric.specs.States.{State, records_of, IsNew, record_of_turn, with_recorded, with_taken, with_mark}
 use Rattle.nz_fabric.specs.States.{after_tick, IsBegunAs, IsPosted, state_of, state_in, HasBegun}

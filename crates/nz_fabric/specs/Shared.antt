@@ -2,16 +2,14 @@
 use Rattle.std.specs.Prelude.{◌≡◌, ℕ, ◌+◌, ◌≤◌, ◌<◌, ◌^◌, ◌==◌, false, List, [], ◌∷◌, ◌++◌, length}
 use Rattle.std.specs.Prelude.{map, take, Some, slice_get, get_or, unwrap_or, IsPermutation}
 use Rattle.std.specs.List.{AllByRecursion, remove, position}
-use Rattle.nz_base.specs.declared.actor.Actor.TheVariants.{Replica}
 use Rattle.nz_base.specs.declared.limits.TheConstants.{MAX_WORKERS}
 use Rattle.nz_base.specs.declared.scenario.Scenario.{Scenario}
-use Rattle.nz_machine.specs.declared.event.Event.TheVariants.{Alarm}
 use Rattle.nz_machine.specs.declared.event.Parcel.{Parcel}
 use Rattle.nz_machine.specs.declared.event.Record.{Record}
 use Rattle.nz_machine.specs.declared.journal.Item.{Item}
-use Rattle.nz_machine.specs.Schedule.{item, item_of, ScheduledTo, IsPlayable}
+use Rattle.nz_machine.specs.Schedule.{item_of, ScheduledTo, IsPlayable}
 use Rattle.nz_fabric.specs.declared.turn.Turn.{Turn}
-use Rattle.nz_fabric.specs.declared.open_turns.Running.{Running}
+use Rattle.nz_fabric.specs.Takes.{Running, no_turn}
 use Rattle.nz_fabric.specs.Calendars.{Dates}
 use Rattle.nz_fabric.specs.States.{State, records_of, start_state, item_in, IsPosted, with_recorded, with_taken, with_mark, after_tick, IsBegunAs}
 
@@ -67,10 +65,6 @@ with_opened turn f = shared_with (with_taken f.run) (f.running ++ running_as tur
 -- The place of the open turn that a number names: that of the number, or else the least.
 abbrev pub place_of_turn : ℕ → List Running → ℕ
 place_of_turn number running = unwrap_or (position (λ o. o.number == number) running) 0
-
--- What is read where no turn is open.
-abbrev pub no_turn : Running
-no_turn = record { number = 0; item = item (Replica 0) Alarm }
 
 -- An open turn, as a turn of a tick.
 abbrev pub turn_of : ℕ → Running → Turn

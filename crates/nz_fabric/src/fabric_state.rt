@@ -6,13 +6,14 @@ ghost use Rattle.nz_machine.specs.Journals.{run_in};
 ghost use Rattle.nz_machine.specs.Schedule.{group_of, IsPlayable, Scheduled};
 ghost use Rattle.nz_fabric.specs.Records.{steps_of, with_step};
 ghost use Rattle.nz_fabric.specs.Steps.{AreSteps, sends_after};
+ghost use Rattle.nz_fabric.specs.Dues.{HasLong};
 ghost use Rattle.nz_fabric.specs.States.{records_of, record_of_turn, with_mark};
 ghost use Rattle.nz_fabric.specs.Shared.{IsAccounted, IsNextOf, IsOver, MustWait, after_shared, without_turn, place_of_turn, ClosesTurn, IsWhole};
 ghost use Rattle.nz_fabric.specs.Shared.{shared_with, start_shared, with_given_up, with_opened, with_record};
 ghost use Rattle.nz_base.specs.declared.limits.TheConstants.{MAX_WORKERS};
 
 use crate::chronicle::Opened;
-use crate::due::clocks_of;
+use crate::due::has_long;
 use crate::lane::Lane;
 use crate::name::Name;
 use crate::open_turns::{OpenTurns, Taken};
@@ -108,9 +109,7 @@ impl<N: Name> FabricState<N> {
         }
         let item = self.ticks.next_item()?;
         self.records.reserve(self.turns.len() + 1)?;
-        let turn = self
-            .turns
-            .take(self.ticks.alloc, taken as u64, self.ticks.tick, item)?;
+        let turn = self.turns.take(taken as u64, self.ticks.tick, item)?;
         self.ticks.next += 1;
         self.book.add(&mut share.held, 1);
         Ok(Some(turn))
@@ -143,10 +142,8 @@ impl<N: Name> FabricState<N> {
             event,
         } = turn.into_turn();
         self.book.audit(&mut share.held);
-        let open = self.turns.close(number);
+        let found = self.turns.close(number);
         self.book.sub(&mut share.held, 1);
-        let found = open.number;
-        drop(open);
         let step = Record {
             tick: self.ticks.tick,
             actor,
@@ -173,7 +170,7 @@ impl<N: Name> FabricState<N> {
     {
         let number = turn.into_turn().into_number();
         self.book.audit(&mut share.held);
-        drop(self.turns.close(number));
+        self.turns.close(number);
         self.ticks.marked = true;
         self.book.sub(&mut share.held, 1);
     }
@@ -197,6 +194,13 @@ impl<N: Name> FabricState<N> {
         ensures { result ≡ length self.now.run.items }
     {
         self.ticks.items.len()
+    }
+
+    /// Whether a long frame is due in the tick.
+    pub fn has_long(&self) -> bool
+        ensures { IsTrue result ↔ HasLong self.now.run.items }
+    {
+        has_long(self.ticks.items.as_slice())
     }
 
     /// Whether there is nothing to take before an open turn is done.

@@ -2,7 +2,7 @@
 use Rattle.std.proofs.Common.{◌≡◌, ◌<◌, ◌∙◌, false, List, length, sym, ap, subst, arith}
 use Rattle.nz_fabric.specs.declared.ticks.Ticks.{Ticks}
 use Rattle.nz_fabric.specs.States.{State, after_tick, state_in}
-use Rattle.nz_fabric.specs.declared.open_turns.Running.{Running}
+use Rattle.nz_fabric.specs.Takes.{Running}
 use Rattle.nz_fabric.specs.Shared.{Shared, IsBooked, IsOver, after_shared, shared_with}
 use Rattle.nz_fabric.proofs.Held.{over_some, over_whole, over_begun, next_is}
 use Rattle.nz_fabric.proofs.Sharing.{booked_marked, booked_next}

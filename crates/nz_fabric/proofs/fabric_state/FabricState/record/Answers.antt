@@ -3,7 +3,8 @@ use Rattle.std.proofs.Common.{◌≡◌, ◌∷◌, ◌++◌, ◌∙◌, [], ref
 use Rattle.nz_machine.specs.declared.event.Record.{Record}
 use Rattle.nz_machine.specs.declared.journal.Item.{Item}
 use Rattle.std.specs.Prelude.{get_or}
-use Rattle.nz_fabric.specs.declared.open_turns.Running.{Running}
+use Rattle.std.proofs.lemmas.List.{get_or_default}
+use Rattle.nz_fabric.specs.Takes.{no_turn}
 use Rattle.nz_fabric.specs.declared.turn.Turn.{Turn}
 use Rattle.nz_fabric.specs.Records.{steps_of, with_step}
 use Rattle.nz_fabric.specs.Shared.{Shared, place_of_turn, turn_of}
@@ -15,39 +16,40 @@ use Rattle.nz_fabric.proofs.fabric_state.FabricState.record.Goals as goal
 pub invariant_of-self : goal.invariant_of-self
 invariant_of-self g c =
     let f = c.self.inside in
-    let out = c.close-open.ensures in (
+    let out = c.close-found.ensures in
+    let o = get_or f.turns.running (place_of_turn c.into_turn-number.result.number f.turns.running) no_turn in (
       c.self.invariant.0,
       rw (out.closed)
           (booked_given_up _ f.book.total c.sub.new.self.total f.turns.taken
           (state_in f.ticks f.before f.records.records) f.turns.running _ f.before _ f.records.records
-          f.ticks.calendar _ c.close-open.result
-          c.self.invariant.1 out.place (out.turn c.close-open.result) refl (omega (arith, c.sub.ensures.total, c.audit.ensures.total))),
+          f.ticks.calendar _ o
+          c.self.invariant.1 out.place (get_or_default f.turns.running _ no_turn o out.place) refl (omega (arith, c.sub.ensures.total, c.audit.ensures.total))),
     )
 
 pub invariant_of-self-then-not-push : goal.invariant_of-self-then-not-push
 invariant_of-self-then-not-push g c =
     let f = c.self.inside in
-    let out = c.close-open.ensures in (
+    let out = c.close-found.ensures in
+    let o = get_or f.turns.running (place_of_turn c.into_turn-number.result.number f.turns.running) no_turn in (
       c.self.invariant.0,
       rw (c.push.ensures.room, c.if-not-push.ensures.pushed.0, out.closed)
           (booked_given_up _ f.book.total c.sub.new.self.total f.turns.taken
           (state_in f.ticks f.before f.records.records) f.turns.running _ f.before _ f.records.records
-          f.ticks.calendar _ c.close-open.result
-          c.self.invariant.1 out.place (out.turn c.close-open.result) refl (omega (arith, c.sub.ensures.total, c.audit.ensures.total))),
+          f.ticks.calendar _ o
+          c.self.invariant.1 out.place (get_or_default f.turns.running _ no_turn o out.place) refl (omega (arith, c.sub.ensures.total, c.audit.ensures.total))),
     )
 
 pub invariant_of-self-else-not-push : goal.invariant_of-self-else-not-push
 invariant_of-self-else-not-push g c =
     let f = c.self.inside in
     let t = f.ticks in
-    let out = c.close-open.ensures in
+    let out = c.close-found.ensures in
     let turn = c.into_turn-number.result in
-    let same : c.close-open.result.item ≡ item_in turn =
-    subst (λ (o : Running). o.number ≡ turn.number → o.item ≡ item_in turn) (sym (out.turn c.close-open.result))
-    (subst (λ (t : Turn). (get_or f.turns.running (place_of_turn turn.number f.turns.running) c.close-open.result).number ≡ t.number
-    → (get_or f.turns.running (place_of_turn turn.number f.turns.running) c.close-open.result).item ≡ item_in t) (sym c.into_turn-number.ensures)
-    (c.agree.ensures _ c.close-open.result out.place)) c.if-found-number.false in
-    let step : _ ≡ f.records.records ++ record_of_turn (turn_of t.tick c.close-open.result) c.args.sends ∷ [] =
+    let o = get_or f.turns.running (place_of_turn turn.number f.turns.running) no_turn in
+    let same : o.item ≡ item_in turn =
+    subst (λ (t : Turn). o.number ≡ t.number → o.item ≡ item_in t) (sym c.into_turn-number.ensures)
+    (c.agree.ensures _ no_turn out.place) (sym (out.number no_turn) ∙ c.if-found-number.false) in
+    let step : _ ≡ f.records.records ++ record_of_turn (turn_of t.tick o) c.args.sends ∷ [] =
     c.if-not-push.ensures.pushed.0
     ∙ ap (λ (i : Item).
     let r : Record = record { tick = t.tick; actor = i.actor; event = i.event; sends = c.args.sends } in
@@ -55,8 +57,8 @@ invariant_of-self-else-not-push g c =
       c.self.invariant.0,
       rw (c.push.ensures.room, step, out.closed)
           (booked_recorded _ f.book.total c.sub.new.self.total f.turns.taken t.scenario t.tick f.before _ f.records.records
-          t.items.items t.next t.marked t.calendar f.turns.running _ _ c.close-open.result c.args.sends
-          c.self.invariant.1 out.place (out.turn c.close-open.result) refl (omega (arith, c.sub.ensures.total, c.audit.ensures.total))),
+          t.items.items t.next t.marked t.calendar f.turns.running _ _ o c.args.sends
+          c.self.invariant.1 out.place (get_or_default f.turns.running _ no_turn o out.place) refl (omega (arith, c.sub.ensures.total, c.audit.ensures.total))),
     )
 
 pub returns-clause-lane : goal.returns-clause-lane

@@ -1,6 +1,6 @@
 -- What the function of this folder owes, proved.
 use Rattle.std.proofs.Common.{◌≡◌, ◌+◌, ◌<◌, length, refl, ap, arith}
-use Rattle.nz_fabric.specs.declared.open_turns.Running.{Running}
+use Rattle.nz_fabric.specs.Takes.{Running}
 use Rattle.nz_fabric.specs.States.{state_in}
 use Rattle.nz_fabric.specs.Takes.{with_one}
 use Rattle.nz_fabric.proofs.Sharing.{booked_taken}

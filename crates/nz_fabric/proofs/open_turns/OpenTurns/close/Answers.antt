@@ -1,0 +1,44 @@
+-- What the function of this folder owes, proved.
+use Rattle.std.proofs.Common.{◌≡◌, ◌<◌, ◌==◌, ◌∙◌, ℕ, List, length, map, get_or, ap, subst, sym, unwrap_or}
+use Rattle.std.specs.List.{position}
+use Rattle.nz_fabric.specs.Shared.{place_of_turn, without_turn}
+use Rattle.nz_fabric.specs.Takes.{Running, Turns, AreTakes, running_in, turns_with}
+use Rattle.nz_fabric.proofs.Taking.{closed_at, number_at, place_among, takes_closed}
+use Rattle.nz_fabric.proofs.open_turns.OpenTurns.close.Goals as goal
+
+pub invariant_of-self : goal.invariant_of-self
+invariant_of-self g c =
+    let f = c.self.inside in
+    let running = map (running_in f.seen) f.numbers.items in
+    let place =
+    c.place_of-place.ensures.place
+    ∙ ap (λ (numbers : List ℕ). unwrap_or (position (λ n. n == c.args.number) numbers) 0) c.as_slice.ensures.value
+    ∙ place_among f.seen c.args.number f.numbers.items in
+    subst (AreTakes f.seen) (sym (closed_at f.seen f.numbers.items c.remove.new.self.items c.place_of-place.result
+    (place_of_turn c.args.number running) c.remove.ensures.items place))
+    (takes_closed f.seen running (place_of_turn c.args.number running) c.self.invariant)
+
+pub returns-clause-closed : goal.returns-clause-closed
+returns-clause-closed g c =
+    let f = c.self.inside in
+    let running = map (running_in f.seen) f.numbers.items in
+    let place =
+    c.place_of-place.ensures.place
+    ∙ ap (λ (numbers : List ℕ). unwrap_or (position (λ n. n == c.args.number) numbers) 0) c.as_slice.ensures.value
+    ∙ place_among f.seen c.args.number f.numbers.items in
+    ap (λ (rest : List Running). turns_with rest (length f.seen))
+    (closed_at f.seen f.numbers.items c.remove.new.self.items c.place_of-place.result
+    (place_of_turn c.args.number running) c.remove.ensures.items place)
+    ∙ ap (λ (t : Turns). turns_with (without_turn c.args.number t.running) t.taken) c.self.view_is
+
+pub returns-clause-number : goal.returns-clause-number
+returns-clause-number g c d =
+    let f = c.self.inside in
+    let running = map (running_in f.seen) f.numbers.items in
+    let place =
+    c.place_of-place.ensures.place
+    ∙ ap (λ (numbers : List ℕ). unwrap_or (position (λ n. n == c.args.number) numbers) 0) c.as_slice.ensures.value
+    ∙ place_among f.seen c.args.number f.numbers.items in
+    subst (λ (t : Turns). c.remove.result ≡ (get_or t.running (place_of_turn c.args.number t.running) d).number) c.self.view_is
+    (number_at f.seen f.numbers.items c.place_of-place.result (place_of_turn c.args.number running) c.remove.result d
+    c.remove.ensures.value place (subst (λ (numbers : List ℕ). c.place_of-place.result < length numbers) c.as_slice.ensures.value c.place_of-place.ensures.within))
