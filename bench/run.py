@@ -16,8 +16,8 @@ the reference and the ratio, too.
 
     bench/run.py --table PROGRAM REFERENCE
 
-prints the table of README.md: for each run the processor's seconds and the memory of both, the best of five, by one
-worker; with each the exponent by which its time grows to twice the requests (or ticks), where it has a smaller twin.
+prints the table of README.md: for each run the processor's seconds and the memory of both, the best of 25 or of six
+seconds, by one worker; with each the exponent by which its time grows to twice the requests (or ticks), where it has a smaller twin.
 """
 import math
 import os
@@ -101,6 +101,27 @@ def faulty(requests, ticks, count):
     return scenario(2, 2, 16, ticks, scripts, lines)
 
 
+def wide(requests, ticks):
+    """64 clients with 16 requests open each, values of 256 bytes, nine replicas: each tick has thousands of items."""
+    scripts = [[] for _ in range(64)]
+    for i in range(requests):
+        scripts[i % 64].append(f"put k{i % 97} {'v' * 250}{i:06}")
+    return scenario(4, 8, 64, ticks, scripts, window=16)
+
+
+def rejoins(requests, rounds):
+    """After the requests, again and again, four of nine replicas crash at once and rejoin: each gets the whole log."""
+    scripts = [[] for _ in range(64)]
+    for i in range(requests):
+        scripts[i % 64].append(f"put k{i % 97} {'v' * 250}{i:06}")
+    lines = []
+    for k in range(rounds):
+        for j in range(4):
+            replica, tick = (4 * k + j) % 8 + 1, 40 + 8 * k
+            lines += [f"crash r{replica} {tick}", f"restart r{replica} {tick + 1}"]
+    return scenario(4, 8, 64, 60 + 8 * rounds, scripts, lines, window=16)
+
+
 def cases():
     with open(f"{HERE}/../scenarios/put_then_get") as it:
         yield "put and get", 2, 40, it.read()
@@ -111,6 +132,8 @@ def cases():
     yield "nine replicas, 64 clients", 500, 2000, even(4, 8, 64, 500, 2000)
     yield "nine replicas, 64 clients", 1000, 2000, even(4, 8, 64, 1000, 2000)
     yield "nine replicas, full ticks", 2000, 500, even(4, 8, 64, 2000, 500)
+    yield "nine replicas, window 16", 2000, 60, wide(2000, 60)
+    yield "four of nine rejoin at once", 500, 460, rejoins(500, 50)
     yield "little to do", 100, 20000, even(1, 1, 4, 100, 20000)
     yield "1,000 fault lines", 200, 1000, faulty(200, 1000, 1000)
     for requests in (250, 500, 1000):
@@ -179,8 +202,10 @@ def table_rows():
 
 
 def least(program, text):
-    """The least seconds of a processor in five runs, and the most memory of any in MiB."""
-    runs = [spent(program, text) for _ in range(5)]
+    """The least seconds of a processor in 25 runs, or in as many as six seconds allow, and the most memory of any in MiB."""
+    runs = [spent(program, text)]
+    while len(runs) < 25 and sum(run[0] for run in runs) < 6:
+        runs.append(spent(program, text))
     return min(run[0] for run in runs), max(run[1] for run in runs)
 
 
@@ -200,12 +225,12 @@ def spent(program, text):
 
 
 def table(program, reference):
-    print("| run | seconds | the other program | times | growth | MiB | the other program |")
+    print("| run | seconds | the other | times | growth | MiB | the other |")
     print("|---|---|---|---|---|---|---|")
     for name, text, half in table_rows():
         (ours, memory), (theirs, other_memory) = least(program, text), least(reference, text)
         growth = f"{math.log2(ours / least(program, half)[0]):.1f}" if half else "-"
-        print(f"| {name} | {ours:.3f} | {theirs:.3f} | {ours / theirs:.0f} | {growth} | {memory:.0f} | {other_memory:.0f} |", flush=True)
+        print(f"| {name} | {ours:.3f} | {theirs:.3f} | {ours / theirs:.1f} | {growth} | {memory:.0f} | {other_memory:.0f} |", flush=True)
 
 
 def main():

@@ -74,7 +74,8 @@ flag_there bytes early counted rest n e first long =
     let again : bytes ≡ (early ++ n ∷ counted) ++ 1 ∷ rest = e ∙ sym (append_assoc early (n ∷ counted) (1 ∷ rest)) in
     let place : 51 + 4 * n ≡ length (early ++ n ∷ counted) = omega (arith, first, long, length-append early (n ∷ counted)) in
     let size : slice_get bytes 46 ≡ Some n = ap (λ (l : List ℕ). slice_get l 46) e ∙ seam early (counted ++ 1 ∷ rest) n 46 (sym first) in
-    let flag : slice_get bytes (51 + 4 * n) ≡ Some 1 = ap (λ (l : List ℕ). slice_get l (51 + 4 * n)) again ∙ seam (early ++ n ∷ counted) rest 1 (51 + 4 * n) place in
+    let flag : slice_get bytes (51 + 4 * n) ≡ Some 1 =
+    ap (λ (l : List ℕ). slice_get l (51 + 4 * n)) again ∙ seam (early ++ n ∷ counted) rest 1 (51 + 4 * n) place in
     ap (λ (o : Option ℕ). is_one (flag_after bytes o)) size ∙ ap is_one flag
 
 -- what is before the digest
@@ -186,7 +187,8 @@ past_if_not_open None h = tt
 past_if_not_open (Some (noted.Open notes)) h = absurd cc
 past_if_not_open (Some (noted.Decided source)) h = tt
 
-past_noted : (quiet : Bool) (reply : Reply) (source : Option Source) (known : Option Noted) → IsPast known → option_map (noted_by quiet reply source) known ≡ known
+past_noted : (quiet : Bool) (reply : Reply) (source : Option Source) (known : Option Noted) → IsPast known
+    → option_map (noted_by quiet reply source) known ≡ known
 past_noted quiet reply source None h = refl
 past_noted quiet reply source (Some (noted.Open notes)) h = absurd h
 past_noted quiet reply source (Some (noted.Decided s)) h = refl

@@ -1,5 +1,6 @@
 -- The takes of a run, and its open turns.
-use Rattle.std.proofs.Common.{◌≡◌, ℕ, ◌+◌, ◌-◌, ◌<◌, ◌==◌, zero, suc, cond, not, nat_lt, map, remove, List, None, [], ◌∷◌, ◌++◌, Some, length, refl, ap, sym, ◌∙◌, arith, length-append}
+use Rattle.std.proofs.Common.{◌≡◌, ℕ, ◌+◌, ◌-◌, ◌<◌, ◌==◌, zero, suc, cond, not, nat_lt, map, remove, List, None, [], ◌∷◌, ◌++◌, Some}
+use Rattle.std.proofs.Common.{length, refl, ap, sym, ◌∙◌, arith, length-append}
 use Rattle.std.specs.Prelude.{slice_get, get_or, unwrap_or}
 use Rattle.std.specs.List.{position, position_or_len}
 use Rattle.std.proofs.lemmas.List.{get_or_append_left, get_or-append-add, get_or-map, map-append, length-map}

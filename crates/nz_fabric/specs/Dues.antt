@@ -1,15 +1,11 @@
--- What is due in a tick.
-use Rattle.std.specs.Prelude.{ℕ, ◌+◌, ◌≤◌, List, [], ◌∷◌, length, Any}
+-- Helper definitions of due.rt, which lists what is due in a tick.
+use Rattle.std.specs.Prelude.{ℕ, ◌+◌, List, [], ◌∷◌}
 use Rattle.nz_base.specs.declared.actor.Actor.{Actor}
 use Rattle.nz_base.specs.declared.actor.Actor.TheVariants as actors
 use Rattle.nz_base.specs.declared.scenario.Fault.{Fault}
 use Rattle.nz_base.specs.declared.scenario.Fault.TheVariants as faults
-use Rattle.nz_machine.specs.declared.event.Event.{Event}
-use Rattle.nz_machine.specs.declared.event.Event.TheVariants.{Deliver}
-use Rattle.nz_machine.specs.declared.journal.Item.{Item}
 use Rattle.nz_fabric.specs.declared.due.Sort.{Sort}
 use Rattle.nz_fabric.specs.declared.due.Sort.TheVariants as sorts
-use Rattle.nz_fabric.specs.declared.due.TheConstants.{LONG_FRAME}
 
 -- The actor of a sort with a number.
 abbrev pub actor_of_sort : Sort → ℕ → Actor
@@ -22,12 +18,3 @@ abbrev pub restarts_in : List Fault → ℕ
 restarts_in [] = 0
 restarts_in (faults.Restart a t ∷ lines) = restarts_in lines + 1
 restarts_in (_ ∷ lines) = restarts_in lines
-
--- A frame that comes whole is long.
-abbrev pub BringsLong : Event → Type 0
-BringsLong (Deliver p) = LONG_FRAME ≤ length p.frame
-BringsLong _ = ⊥
-
--- One of the items brings a long frame.
-abbrev pub HasLong : List Item → Type 0
-HasLong items = Any (λ i. BringsLong i.event) items

@@ -1,17 +1,15 @@
-//! What is due in a tick before what arrives: fault lines and clocks. Whether a long frame is due.
+//! What is due in a tick before what arrives: fault lines and clocks.
 
-ghost use Rattle.std.specs.Prelude.{◌≡◌, ◌<◌, ◌+◌, ◌-◌, ◌^◌, ◌==◌, ◌∷◌, ◌++◌, [], map, IfOk, IsTrue, ◌↔◌, OnOk};
+ghost use Rattle.std.specs.Prelude.{◌≡◌, ◌<◌, ◌≤◌, ◌+◌, ◌-◌, ◌*◌, ◌^◌, ◌==◌, ◌∷◌, ◌++◌, [], length, map, vec_capacity, IfOk, OnOk};
+ghost use Rattle.nz_base.specs.Cluster.{replica_count};
 ghost use Rattle.nz_machine.specs.Replicas.{numbers_below};
 ghost use Rattle.nz_machine.specs.Schedule as schedule;
 ghost use Rattle.nz_machine.specs.Schedule.{item, if_in, calls, skew_of, actors_of, tick_item};
-ghost use Rattle.nz_fabric.specs.Dues.{actor_of_sort, restarts_in, BringsLong, HasLong};
+ghost use Rattle.nz_fabric.specs.Dues.{actor_of_sort, restarts_in};
 
 use nz_base::{Actor, Fault, MAX_CLOCK, NoMemory, Scenario, Skew, UNITS_PER_TICK};
 use nz_machine::{Event, Item};
 use std::alloc::Global;
-
-/// A frame is long from this many bytes on.
-const LONG_FRAME: usize = 16384;
 
 /// The sorts of actors, in their order.
 #[derive(Clone, Copy, Debug)]
@@ -164,21 +162,4 @@ pub fn due_items(
     push_clocks(&mut items, scenario, tick)?;
     items.reserve(more)?;
     Ok(items)
-}
-
-/// Whether a long frame comes with the event.
-fn brings_long(event: &Event) -> bool
-    ensures { IsTrue result ↔ BringsLong event.now }
-{
-    match event {
-        Event::Deliver(parcel) => parcel.frame.len() >= LONG_FRAME,
-        _ => false,
-    }
-}
-
-/// Whether a long frame comes with one of the items.
-pub fn has_long(items: &[Item]) -> bool
-    ensures { IsTrue result ↔ HasLong items.now }
-{
-    items.iter().any(|item| brings_long(&item.event))
 }

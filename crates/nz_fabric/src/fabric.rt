@@ -2,24 +2,17 @@
 
 use crate::fabric_state::FabricState;
 use crate::name::Name;
-use std::sync::atomic::{AtomicU64, Ordering};
 use std::sync::{Condvar, Mutex, MutexGuard, Wait};
 
 /// A tick with fewer items wakes no worker: those that are awake do it sooner. A cluster has at most 81
 /// clocks, which are done sooner than a thread is woken.
 const MANY: usize = 128;
 
-/// A busy tick wakes the workers, and so does each tick after it, this many ticks in all: requests that come in one tick
-/// are done at their deadlines, in steps of clocks.
-const BUSY_TICKS: u64 = 16;
-
 /// The state of a run on several threads, under its lock.
 #[derive(Drop)]
 pub struct Fabric<N: Name> {
     state: Mutex<FabricState<N>>,
     moved: Condvar,
-    /// For how many ticks more the workers are woken.
-    busy: AtomicU64,
 }
 
 impl<N: Name> Fabric<N> {
@@ -27,7 +20,6 @@ impl<N: Name> Fabric<N> {
         Fabric {
             state: Mutex::new(state),
             moved: Condvar::new(),
-            busy: AtomicU64::new(0),
         }
     }
 
@@ -43,7 +35,7 @@ impl<N: Name> Fabric<N> {
         let state = &mut *guard;
         if state.is_over() {
             let begun = state.next_tick().unwrap_or(false);
-            if !begun || self.is_busy(state) {
+            if !begun || state.due() >= MANY {
                 self.wake_all();
             }
             return begun;
@@ -52,24 +44,13 @@ impl<N: Name> Fabric<N> {
         !guard.is_marked()
     }
 
-    /// Whether the tick, or one of the last ones, has much to do.
-    fn is_busy(&self, state: &FabricState<N>) -> bool {
-        let left = if state.due() >= MANY || state.has_long() {
-            BUSY_TICKS
-        } else {
-            self.busy.load(Ordering::SeqCst).saturating_sub(1)
-        };
-        self.busy.store(left, Ordering::SeqCst);
-        left > 0
-    }
-
     /// Wakes the workers that wait.
     pub fn wake_all(&self) {
         self.moved.notify_all();
     }
 
     pub fn into_state(self) -> FabricState<N> {
-        let Fabric { state, .. } = self;
+        let Fabric { state, moved: _ } = self;
         state.into_inner()
     }
 }

@@ -6,14 +6,13 @@ ghost use Rattle.nz_machine.specs.Journals.{run_in};
 ghost use Rattle.nz_machine.specs.Schedule.{group_of, IsPlayable, Scheduled};
 ghost use Rattle.nz_fabric.specs.Records.{steps_of, with_step};
 ghost use Rattle.nz_fabric.specs.Steps.{AreSteps, sends_after};
-ghost use Rattle.nz_fabric.specs.Dues.{HasLong};
 ghost use Rattle.nz_fabric.specs.States.{records_of, record_of_turn, with_mark};
 ghost use Rattle.nz_fabric.specs.Shared.{IsAccounted, IsNextOf, IsOver, MustWait, after_shared, without_turn, place_of_turn, ClosesTurn, IsWhole};
 ghost use Rattle.nz_fabric.specs.Shared.{shared_with, start_shared, with_given_up, with_opened, with_record};
 ghost use Rattle.nz_base.specs.declared.limits.TheConstants.{MAX_WORKERS};
 
 use crate::chronicle::Opened;
-use crate::due::has_long;
+use crate::due::clocks_of;
 use crate::lane::Lane;
 use crate::name::Name;
 use crate::open_turns::{OpenTurns, Taken};
@@ -194,13 +193,6 @@ impl<N: Name> FabricState<N> {
         ensures { result ≡ length self.now.run.items }
     {
         self.ticks.items.len()
-    }
-
-    /// Whether a long frame is due in the tick.
-    pub fn has_long(&self) -> bool
-        ensures { IsTrue result ↔ HasLong self.now.run.items }
-    {
-        has_long(self.ticks.items.as_slice())
     }
 
     /// Whether there is nothing to take before an open turn is done.

@@ -1,7 +1,8 @@
 -- What the function of this folder owes, proved.
 use Rattle.std.proofs.Common.{sym}
 use Rattle.nz_audit.proofs.Hearing.{about_nothing}
-use Rattle.nz_audit.proofs.sending.about.Goals.{then-is_about_nothing-via-then-is_about_nothing, then-is_about_nothing-via-else-is_about_nothing+then-has_no_answer}
+use Rattle.nz_audit.proofs.sending.about.Goals.{then-is_about_nothing-via-then-is_about_nothing}
+use Rattle.nz_audit.proofs.sending.about.Goals.{then-is_about_nothing-via-else-is_about_nothing+then-has_no_answer}
 use Rattle.nz_audit.proofs.sending.about.Goals as goal
 
 pub returns-then-is_about_nothing : goal.returns-then-is_about_nothing

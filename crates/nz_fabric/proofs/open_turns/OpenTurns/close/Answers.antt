@@ -41,4 +41,5 @@ returns-clause-number g c d =
     ∙ place_among f.seen c.args.number f.numbers.items in
     subst (λ (t : Turns). c.remove.result ≡ (get_or t.running (place_of_turn c.args.number t.running) d).number) c.self.view_is
     (number_at f.seen f.numbers.items c.place_of-place.result (place_of_turn c.args.number running) c.remove.result d
-    c.remove.ensures.value place (subst (λ (numbers : List ℕ). c.place_of-place.result < length numbers) c.as_slice.ensures.value c.place_of-place.ensures.within))
+    c.remove.ensures.value place
+    (subst (λ (numbers : List ℕ). c.place_of-place.result < length numbers) c.as_slice.ensures.value c.place_of-place.ensures.within))
