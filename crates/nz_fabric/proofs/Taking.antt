@@ -59,13 +59,19 @@ names_from takes number [] = refl
 names_from takes number (n ∷ numbers) = ap (λ more. cond (not (n == number)) (1 + more) 0) (names_from takes number numbers)
 
 -- a number has the place of the turn that it names
-pub place_among : (takes : List Item) (number : ℕ) (numbers : List ℕ)
+place_among : (takes : List Item) (number : ℕ) (numbers : List ℕ)
     → unwrap_or (position (λ n. n == number) numbers) 0 ≡ place_of_turn number (map (running_in takes) numbers)
 place_among takes number numbers =
     ap (λ place. unwrap_or (cond (nat_lt place (length numbers)) (Some place) None) 0) (names_from takes number numbers)
     ∙ ap (λ many. unwrap_or (cond (nat_lt (position_or_len (λ (o : Running). o.number == number) (map (running_in takes) numbers)) many)
     (Some (position_or_len (λ (o : Running). o.number == number) (map (running_in takes) numbers))) None) 0)
     (sym (length-map numbers (running_in takes)))
+
+-- the same of the place that was found
+pub place_found : (takes : List Item) (number : ℕ) (numbers read : List ℕ) (place : ℕ)
+    → place ≡ unwrap_or (position (λ n. n == number) read) 0 → read ≡ numbers → place ≡ place_of_turn number (map (running_in takes) numbers)
+place_found takes number numbers read place found same =
+    found ∙ ap (λ (ns : List ℕ). unwrap_or (position (λ n. n == number) ns) 0) same ∙ place_among takes number numbers
 
 -- one number fewer is one turn fewer
 pub closed_at : (takes : List Item) (numbers rest : List ℕ) (i j : ℕ) → rest ≡ remove numbers i → i ≡ j
