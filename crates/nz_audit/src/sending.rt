@@ -81,13 +81,13 @@ impl Sendings {
     }
 }
 
-/// A parcel that comes to a proxy.
+/// A parcel that is delivered to a proxy.
 #[derive(Clone, Copy)]
 pub struct Delivery<'a> {
     pub parcel: &'a Parcel,
     /// What the parcels stand for that were sent before.
     pub sendings: &'a Sendings,
-    /// Whether the proxy sends nothing when it comes.
+    /// Whether the proxy sends nothing at this delivery.
     pub is_quiet: bool,
 }
 
