@@ -1,6 +1,7 @@
 //! Commands and answers.
 
 ghost use Rattle.std.specs.Prelude.{◌≡◌, IsTrue, ◌↔◌, IfOk};
+ghost use Rattle.std.specs.Option.{option_map};
 ghost use Rattle.nz_store.specs.Reading.{is_choice_text, has_spelling};
 
 use crate::blob::Blob;
@@ -83,6 +84,43 @@ impl Command {
         ensures { IsTrue result ↔ IsValidCommand self.now }
     {
         is_spelled(self)
+    }
+}
+
+/// The value, where there is one, lent.
+fn lend_choice(value: &Option<Blob>) -> Option<&[u8]>
+    ensures { option_map (λ v. v.now) result ≡ value.now }
+{
+    match value {
+        None => None,
+        Some(value) => Some(value.as_slice()),
+    }
+}
+
+impl Command {
+    ghost use Rattle.nz_store.specs.Reading.{command_owned};
+
+    /// The same command, whose key and values stay this one's.
+    pub(crate) fn lend(&self) -> CommandRef<'_>
+        ensures { command_owned result ≡ self.now }
+    {
+        match self {
+            Command::Put { key, value } => CommandRef::Put {
+                key: key.as_slice(),
+                value: value.as_slice(),
+            },
+            Command::Get { key } => CommandRef::Get {
+                key: key.as_slice(),
+            },
+            Command::Del { key } => CommandRef::Del {
+                key: key.as_slice(),
+            },
+            Command::Cas { key, old, new } => CommandRef::Cas {
+                key: key.as_slice(),
+                old: lend_choice(old),
+                new: lend_choice(new),
+            },
+        }
     }
 }
 

@@ -13,10 +13,16 @@ use crate::command::{Command, CommandRef};
 use crate::error::NoMemory;
 use std::alloc::Global;
 
+#[tactic(auto, using(std::proofs::lemmas::List::Folds::list_all_more))]
 fn are_graphic(bytes: &[u8]) -> bool
     ensures { result ≡ list_all is_graphic bytes.now }
 {
-    bytes.iter().all(|b| b.is_ascii_graphic())
+    // Without an early end the bytes are looked at many at a time.
+    let mut all = true;
+    for byte in bytes {
+        all &= byte.is_ascii_graphic();
+    }
+    all
 }
 
 fn is_text(bytes: &[u8], most: usize) -> bool

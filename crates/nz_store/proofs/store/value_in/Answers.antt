@@ -1,12 +1,7 @@
 -- What the function of this folder owes, proved.
-use Rattle.std.proofs.Common.{ap, ◌∙◌}
-use Rattle.nz_store.specs.Entries.{value_of}
-use Rattle.nz_store.specs.Table.{entries_of}
+use Rattle.std.proofs.Common.{◌∙◌}
 use Rattle.nz_store.proofs.Tables.{looked_up}
 use Rattle.nz_store.proofs.store.value_in.Goals as goal
 
 pub returns : goal.returns
-returns c =
-    c.get.ensures.value
-    ∙ looked_up c.args.table.now.entries c.as_slice.result.now
-    ∙ ap (value_of (entries_of c.args.table.now.entries)) c.as_slice.ensures
+returns c = c.get.ensures.value ∙ looked_up c.args.table.now.entries c.args.key.now
