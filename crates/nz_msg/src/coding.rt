@@ -16,21 +16,19 @@ use super::fault::Fault;
 use super::message::Message;
 use super::refusal::DecodeRefusal;
 use super::rest::Rest;
+use super::sizes::size_of;
 use super::spelling::{kind, put_body};
 use bytes::Bytes;
 use nz_base::{Actor, NoMemory};
 use nz_frame::Frame;
 use std::alloc::Global;
 
-// Bytes that the body of almost every message needs no more than; the lists of a view change are longer.
-const ROOM: usize = 128;
-
 /// The body of the message, which all its frames have.
 pub fn write_body(alloc: Global, message: &Message) -> Result<Vec<u8>, NoMemory>
     requires { Fits message.now }
     ensures { IfOk result (λ body. body.items ≡ body_of message.now) }
 {
-    let mut body = Vec::with_capacity(alloc, ROOM)?;
+    let mut body = Vec::with_capacity(alloc, size_of(message))?;
     put_body(&mut body, message)?;
     Ok(body)
 }
@@ -64,7 +62,7 @@ pub fn encode(alloc: Global, from: Actor, to: Actor, message: &Message) -> Resul
     requires to { HasAddress to }
     ensures { IfOk result (λ bytes. bytes ≡ encode_of from to message.now) }
 {
-    let Ok(mut bytes) = Frame::open(alloc, ROOM) else {
+    let Ok(mut bytes) = Frame::open(alloc, size_of(message)) else {
         return Err(NoMemory);
     };
     put_body(&mut bytes, message)?;

@@ -11,6 +11,7 @@ mod message;
 mod reading;
 mod refusal;
 mod rest;
+mod sizes;
 mod spelling;
 mod validity;
 mod writing;

@@ -1,6 +1,7 @@
 //! Bytes that another program worked out, and each call that takes memory where there is enough.
 ghost use Rattle.std.specs.Prelude.{◌<◌};
 
+use super::sizes::size_of;
 use super::*;
 use bytes::Bytes;
 use nz_base::{Actor, Blob, NoMemory};
@@ -184,7 +185,7 @@ fn messages_made_here(rt: HostRuntime) -> Result<(), Fail> {
     Ok(())
 }
 
-// Whether the frame of a line is decoded as the line says, and encoded to the same bytes again.
+// Whether the frame of a line is decoded as the line says, and encoded to the same bytes again, with room for no more.
 fn is_as_told(alloc: Global, line: &str) -> Result<bool, Fail> {
     let mut words = line.split_whitespace();
     let kind = number(words.next())?;
@@ -203,7 +204,8 @@ fn is_as_told(alloc: Global, line: &str) -> Result<bool, Fail> {
             && envelope.message.is_valid()
             && Actor::from_address((from % 256) as u16) == Some(envelope.from)
             && Actor::from_address((to % 256) as u16) == Some(envelope.to)
-            && same == frame,
+            && same == frame
+            && size_of(&envelope.message) == frame.len().saturating_sub(10),
     )
 }
 

@@ -6,6 +6,7 @@ ghost use Rattle.nz_msg.specs.Fields.{u32, u64, id, key, command, digest, vector
 ghost use Rattle.nz_msg.specs.Writing.{Adds};
 
 use super::message::Path;
+use super::sizes::of_entries;
 use nz_base::{Blob, Entry, EntryList, Id, IdList, Key, KeyList, NoMemory};
 use nz_cv::CrashVector;
 use nz_digest::Digest;
@@ -177,15 +178,6 @@ fn put_entry(out: &mut Vec<u8>, entry: &Entry) -> Result<(), NoMemory>
     put_command(out, &entry.command)
 }
 
-// How many bytes the entries are written in: a key, and a command after its length.
-fn size_of(list: &[Entry]) -> usize {
-    let mut size: usize = 0;
-    for entry in list {
-        size = size.saturating_add(18 + entry.command.as_slice().len());
-    }
-    size
-}
-
 fn put_each_entry(out: &mut Vec<u8>, list: &[Entry]) -> Result<(), NoMemory>
     requires { All (λ e. command.fits e.command) list.now }
     ensures { OnOk result (Adds out.old.items out.new.items (items_put next_entry [] list.now)) }
@@ -201,6 +193,6 @@ pub fn put_entries(out: &mut Vec<u8>, list: &EntryList) -> Result<(), NoMemory>
     ensures { OnOk result (Adds out.old.items out.new.items ((entries 0 0).put list.now)) }
 {
     put_u32(out, list.len())?;
-    out.reserve(size_of(list.as_slice()))?;
+    out.reserve(of_entries(list.as_slice()))?;
     put_each_entry(out, list.as_slice())
 }
