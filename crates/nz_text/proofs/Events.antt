@@ -1,21 +1,17 @@
 -- The events of the records that were read, one record at a time.
 use Rattle.std.proofs.Common.{◌≡◌, ℕ, ◌+◌, ◌<◌, List, [], ◌∷◌, ◌++◌, length, map, take, reverse, get_or, sym, ap, subst, ◌∙◌}
-use Rattle.std.proofs.lemmas.List.{map-append}
+use Rattle.std.proofs.lemmas.List.{append-nil, map-append}
 use Rattle.nz_machine.specs.declared.event.Record.{Record}
 use Rattle.nz_machine.specs.declared.client_progress.Progress.{Progress}
 use Rattle.nz_machine.specs.declared.client_progress.Telling.{Telling}
 use Rattle.nz_machine.specs.State.{Group}
 use Rattle.nz_machine.specs.Events.{ClientEvent, events, client_events}
-use Rattle.nz_machine.specs.ClientProgress.{events_of_telling, AreAfter}
+use Rattle.nz_machine.specs.ClientProgress.{events_of_telling, AreAfter, IsNoneOf}
 use Rattle.nz_machine.specs.World.{World}
 use Rattle.nz_machine.proofs.JournalPrefixes.{one_record, world_with}
+use Rattle.nz_machine.proofs.ProgressIsTold.{other_after, other_told}
 use Rattle.nz_text.specs.declared.printed.Event.{Event}
-use Rattle.nz_text.specs.Text.{event_of, events_in}
-
--- the records are read, and the events are theirs
-pub record AreRead (g : Group) (J : List Record) (clients : List Progress) (told : List Event) : Type 0 where
-  pub standing : AreAfter g J clients
-  pub told_all : told ≡ events_in g J
+use Rattle.nz_text.specs.Text.{event_of, events_in, AreRead}
 
 pub none_read : (g : Group) (clients : List Progress) (told : List Event) → AreAfter g [] clients → told ≡ [] → AreRead g [] clients told
 none_read g clients told h is = record { standing = h; told_all = is }
@@ -30,15 +26,29 @@ read_on g r J clients after t told new h tells now is = record {
       ∙ ap (λ (T : List ClientEvent). events_in g J ++ map event_of T) tells ∙ sym (map-append event_of (events g J) (client_events g r.actor r J));
 }
 
--- one record more
-pub next_read : (g : Group) (rs : List Record) (i : ℕ) (r : Record) (clients after : List Progress) (t : Telling) (told new : List Event)
-    → World g (reverse rs) → i < length rs → r ≡ get_or rs i r
-    → AreRead g (reverse (take i rs)) clients told
+-- one record more, of a client
+pub told_next : (g : Group) (r : Record) (J : List Record) (clients after : List Progress) (t : Telling) (told new : List Event)
+    → World g (r ∷ J) → AreRead g J clients told
     → ((h : Group) (J : List Record) → World h (r ∷ J) → AreAfter h J clients → events_of_telling h t ≡ client_events h r.actor r J)
     → ((h : Group) (J : List Record) → World h (r ∷ J) → AreAfter h J clients → AreAfter h (r ∷ J) after)
-    → new ≡ told ++ map event_of (events_of_telling g t) → AreRead g (reverse (take (i + 1) rs)) after new
-next_read g rs i r clients after t told new w lt at h tells stands is =
-    let J = reverse (take i rs) in
-    let world = world_with g rs i r w lt at in
-    subst (λ (K : List Record). AreRead g K after new) (sym (one_record rs i r lt at))
-    (read_on g r J clients after t told new h (tells g J world h.standing) (stands g J world h.standing) is)
+    → new ≡ told ++ map event_of (events_of_telling g t) → AreRead g (r ∷ J) after new
+told_next g r J clients after t told new w h tells stands is = read_on g r J clients after t told new h (tells g J w h.standing) (stands g J w h.standing) is
+
+-- one record more, of another actor
+pub other_next : (g : Group) (r : Record) (J : List Record) (clients : List Progress) (told : List Event)
+    → World g (r ∷ J) → IsNoneOf (length clients) r.actor → AreRead g J clients told → AreRead g (r ∷ J) clients told
+other_next g r J clients told w other h = record {
+  standing = other_after g r J clients w other h.standing;
+  told_all =
+      h.told_all ∙ sym (append-nil (events_in g J)) ∙ ap (λ (T : List ClientEvent). events_in g J ++ map event_of T) (other_told g r J clients w other h.standing)
+      ∙ sym (map-append event_of (events g J) (client_events g r.actor r J));
+}
+
+-- the next record was read
+pub next_read : (g : Group) (rs : List Record) (i : ℕ) (r : Record) (clients after : List Progress) (told new : List Event)
+    → World g (reverse rs) → i < length rs → r ≡ get_or rs i r
+    → AreRead g (reverse (take i rs)) clients told
+    → ((J : List Record) → World g (r ∷ J) → AreRead g J clients told → AreRead g (r ∷ J) after new)
+    → AreRead g (reverse (take (i + 1) rs)) after new
+next_read g rs i r clients after told new w lt at h reads =
+    subst (λ (K : List Record). AreRead g K after new) (sym (one_record rs i r lt at)) (reads (reverse (take i rs)) (world_with g rs i r w lt at) h)

@@ -10,12 +10,13 @@ ghost use Rattle.nz_machine.specs.Schedule.{group_of};
 ghost use Rattle.nz_machine.specs.Step.{script_of};
 ghost use Rattle.nz_machine.specs.ClientProgress.{acceptance_events, request_event, request_events, events_of_telling};
 ghost use Rattle.nz_machine.specs.World.{World};
+ghost use Rattle.nz_machine.specs.declared.event.Record.{Record as RecordModel};
 ghost use Rattle.nz_text.specs.declared.printed.Event.{Event as EventModel};
-ghost use Rattle.nz_text.specs.Text.{event_of, accepts_it, open_in, unanswered_in, events_in};
+ghost use Rattle.nz_text.specs.Text.{event_of, accepts_it, open_in, unanswered_in, events_in, AreRead};
 
 use super::printed::{Event, EventList};
-use nz_base::{Blob, Id, IdList, NoMemory, Request, Scenario};
-use nz_machine::{Acceptance, Clients, Journal, Telling};
+use nz_base::{Actor, Blob, Id, IdList, NoMemory, Request, Scenario};
+use nz_machine::{Acceptance, Clients, Journal, Record, Telling};
 use std::alloc::Global;
 use std::collections::HashSet;
 
@@ -92,6 +93,27 @@ fn add(
     add_requests(alloc, scenario, telling.sent.as_slice(), events)
 }
 
+/// Adds the events of the next record. One of no client has none.
+#[tactic(auto, using(crate::proofs::Events::told_next, crate::proofs::Events::other_next))]
+fn add_next(
+    alloc: Global,
+    scenario: &Scenario,
+    clients: &mut Clients,
+    next: &Record,
+    events: &mut EventList,
+) -> Result<(), NoMemory>
+    ensures { OnOk result ((J : List RecordModel) → World (group_of scenario.now) (next.now ∷ J) → AreRead (group_of scenario.now) J clients.old events.old
+        → AreRead (group_of scenario.now) (next.now ∷ J) clients.new events.new) }
+{
+    match next.actor {
+        Actor::Client(_) => {
+            let telling = clients.tell(alloc, next)?;
+            add(alloc, scenario, telling, events)
+        }
+        Actor::Replica(_) | Actor::Proxy(_) => Ok(()),
+    }
+}
+
 /// The events of the journal's run.
 pub fn events_of(alloc: Global, journal: &Journal) -> Result<EventList, NoMemory>
     requires { World (group_in journal.now) (run_in journal.now) }
@@ -100,8 +122,7 @@ pub fn events_of(alloc: Global, journal: &Journal) -> Result<EventList, NoMemory
     let mut clients = Clients::new(alloc, &journal.scenario)?;
     let mut events = EventList::new(alloc);
     for next in journal.records.as_slice() {
-        let telling = clients.tell(alloc, next)?;
-        add(alloc, &journal.scenario, telling, &mut events)?;
+        add_next(alloc, &journal.scenario, &mut clients, next, &mut events)?;
     }
     Ok(events)
 }

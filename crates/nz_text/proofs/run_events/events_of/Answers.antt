@@ -14,6 +14,5 @@ loop-next-preserved c =
     let g = group_in c.args.journal.now in
     let rs : List Record = c.as_slice-next-items.result.now in
     let world : World g (reverse rs) = subst (λ (x : List Record). World g (reverse x)) (sym c.as_slice-next-items.ensures) c.requires in
-    next_read g rs c.loop-next.next-index c.next-item.result c.loop-next.clients c.tell.new.self
-    c.in_ok-telling.telling c.loop-next.events c.add.new.events world c.loop-next-test.true c.next-item.is
-    c.loop-next.invariant c.in_ok-telling.ensures.told c.in_ok-telling.ensures.after c.in_ok-add.ensures
+    next_read g rs c.loop-next.next-index c.next-item.result c.loop-next.clients c.add_next.new.clients c.loop-next.events c.add_next.new.events world
+    c.loop-next-test.true c.next-item.is c.loop-next.invariant c.in_ok-add_next.ensures

@@ -1,7 +1,7 @@
 -- What the loops of the function of this folder keep.
 use Rattle.std.proofs.Common.{take, reverse}
 use Rattle.nz_machine.specs.Journals.{group_in}
-use Rattle.nz_text.proofs.Events.{AreRead}
+use Rattle.nz_text.specs.Text.{AreRead}
 use Rattle.nz_text.proofs.run_events.events_of.Given as goal
 
 abbrev pub invariant-loop-next : goal.invariant-loop-next
