@@ -1,15 +1,20 @@
 -- An acceptance leads to its prefix, and the longest of them to the history.
-use Rattle.std.proofs.Common.{◌≡◌, ℕ, suc, ◌+◌, ◌-◌, ◌<◌, List, [], ◌∷◌, ◌++◌, length, map, append_assoc}
+use Rattle.std.proofs.Common.{◌≡◌, ℕ, suc, ◌-◌, ◌<◌, List, [], ◌∷◌, ◌++◌, length, map, append_assoc, append-nil}
 use Rattle.std.proofs.Common.{zero, Option, Some, None, refl, sym, ap, subst, ◌∙◌, arith, ltb-true}
-use Rattle.std.specs.Prelude.{nat_lt}
+use Rattle.std.specs.Prelude.{nat_lt, slice_get}
+use Rattle.std.specs.List.{cons_option}
 use Rattle.std.specs.Option.{option_map, option_and_then, option_flatten}
 use Rattle.std.proofs.lemmas.Bool.{cond_both}
 use Rattle.std.proofs.lemmas.List.{map-append}
+use Rattle.std.proofs.lemmas.List.Elements.{filter_map-append}
+use Rattle.std.proofs.lemmas.Option.{same_Some}
 use Rattle.nz_base.specs.declared.actor.Actor.{Actor}
 use Rattle.nz_base.specs.declared.actor.Actor.TheVariants.{Replica, Proxy, Client}
 use Rattle.nz_base.specs.declared.key.Id.{Id}
 use Rattle.nz_base.specs.declared.key.Entry.{Entry}
 use Rattle.nz_base.specs.declared.scenario.Request.{Request}
+use Rattle.nz_store.specs.declared.command.Answer.{Answer as AnswerModel}
+use Rattle.nz_msg.specs.declared.message.Path.{Path}
 use Rattle.nz_msg.specs.declared.envelope.Envelope.{Envelope}
 use Rattle.nz_msg.specs.declared.message.AnswerBody.{AnswerBody}
 use Rattle.nz_msg.specs.declared.message.Message.{Message}
@@ -21,12 +26,11 @@ use Rattle.nz_machine.specs.declared.event.Record.{Record}
 use Rattle.nz_machine.specs.declared.journal.Journal.{Journal}
 use Rattle.nz_machine.specs.Journals.{group_in, run_in}
 use Rattle.nz_machine.specs.declared.client_progress.Acceptance.{Acceptance}
-use Rattle.nz_machine.specs.declared.client_progress.Telling.{Telling}
 use Rattle.nz_machine.specs.State.{ClientData, Group}
 use Rattle.nz_machine.specs.Step.{accepted_envelope, envelope_step, event_step, script_of}
 use Rattle.nz_machine.specs.World.{state_after, World, IsMember}
 use Rattle.nz_machine.specs.Events.{ClientEvent, Accepted, id_at, read_in, accepted_in, accepted_by, sent_after, sent_by, client_events, events}
-use Rattle.nz_machine.specs.ClientProgress.{acceptance_events, request_events, events_of_telling}
+use Rattle.nz_machine.specs.ClientProgress.{acceptance_events, request_events}
 use Rattle.nz_machine.specs.History.{ReplySource, source, log_at, cut_after, source_of_sender, accepted_source}
 use Rattle.nz_machine.specs.History.{prefix_at_source, accepted_prefix, entries_or, prefix_in, longer, history}
 use Rattle.nz_machine.proofs.EachItem.{all_append}
@@ -34,14 +38,14 @@ use Rattle.nz_machine.proofs.Moments.{at_world}
 use Rattle.nz_machine.proofs.Runs.{acts_itself}
 use Rattle.nz_machine.proofs.Accepting.{client_accepts}
 use Rattle.nz_audit.specs.declared.source.Source.{Source}
-use Rattle.nz_audit.specs.declared.sending.ParcelKey.{ParcelKey}
-use Rattle.nz_audit.specs.Sources.{numbers_of, in_numbers, about_message, about, source_sent, stands_for, kept_of, source_delivered, source_told}
+use Rattle.nz_audit.specs.Sources.{numbers_of, in_numbers, about_message, about, source_sent, stands_for, delivered_source}
 use Rattle.nz_audit.specs.Cores.{run_up_to}
-use Rattle.nz_audit.specs.Prefixes.{prefix_for, longest_from, requests_sent, IsWithin, AreAccepted, acceptance_from, with_accepted}
-use Rattle.nz_audit.specs.Readings.{IsTable}
+use Rattle.nz_audit.specs.Prefixes.{prefix_for, longest_from, requests_sent, accepted_at, with_accepted, with_source, source_by, traced, all_traced}
+use Rattle.nz_audit.specs.Prefixes.{Brings, IsAccepted, IsWithin, GiveHistory, AreAccepted}
+use Rattle.nz_audit.specs.declared.source.AcceptedAt.{AcceptedAt}
 use Rattle.nz_audit.specs.declared.source.AcceptedAnswer.{AcceptedAnswer}
-use Rattle.nz_audit.proofs.Runs.{run_named, run_within}
-use Rattle.nz_audit.proofs.Longest.{longer_stays, longest_append, numbered_more}
+use Rattle.nz_audit.proofs.Runs.{run_named, run_within, run_length}
+use Rattle.nz_audit.proofs.Longest.{longer_stays, longest_append, order_later, order_more}
 use Rattle.nz_audit.proofs.Sent.{prefix_few}
 use Rattle.nz_audit.proofs.Hearing.{is_received, about_heard}
 use Rattle.nz_audit.proofs.Reached.{accepted_reached, at_later}
@@ -49,12 +53,12 @@ use Rattle.nz_audit.proofs.Reached.{accepted_reached, at_later}
 -- ---- an accepted answer with its source
 
 -- What is noted gives the prefix: nothing where there is none.
-pub record GivesOne (journal : Journal) (place : ℕ) (P : List Entry) (a : AcceptedAnswer) : Type 0 where
+record GivesOne (journal : Journal) (place : ℕ) (P : List Entry) (a : AcceptedAnswer) : Type 0 where
   pub prefix : P ≡ prefix_for journal a
   pub within : IsWithin journal a
   pub at : a.place ≡ place
 
-abbrev pub Gives : Journal → ℕ → List Entry → Option AcceptedAnswer → Type 0
+abbrev Gives : Journal → ℕ → List Entry → Option AcceptedAnswer → Type 0
 Gives journal place P None = P ≡ []
 Gives journal place P (Some a) = GivesOne journal place P a
 
@@ -63,10 +67,10 @@ record IsPart (journal : Journal) (J : List Record) : Type 0 where
   newer : List Record
   whole : run_in journal ≡ newer ++ J
 
-from_sender : (journal : Journal) (J later K : List Record) (x : Acceptance) (place sent : ℕ) (a : Actor) → IsPart journal J → J ≡ later ++ K
-    → World (group_in journal) K → IsMember (group_in journal) a → sent ≡ requests_sent (events (group_in journal) J)
-    → Gives journal place (cut_after x.id (log_at (group_in journal) a K)) (acceptance_from (Some x) (numbers_of a K) place sent)
-from_sender journal J later K x place sent (Replica m) part split w member count =
+from_sender : (journal : Journal) (J later K : List Record) (x : AcceptedAt) (a : Actor) → IsPart journal J → J ≡ later ++ K
+    → World (group_in journal) K → IsMember (group_in journal) a → x.sent ≡ requests_sent (events (group_in journal) J)
+    → Gives journal x.place (cut_after x.id (log_at (group_in journal) a K)) (with_source (numbers_of a K) x)
+from_sender journal J later K x (Replica m) part split w member count =
     let g = group_in journal in
     let whole : run_in journal ≡ (part.newer ++ later) ++ K =
     part.whole ∙ ap (λ (l : List Record). part.newer ++ l) split ∙ sym (append_assoc part.newer later K) in
@@ -79,18 +83,18 @@ from_sender journal J later K x place sent (Replica m) part split w member count
       within = record { replica = member; records = run_within journal (part.newer ++ later) K (length K) whole refl; sent = omega (arith, few, long, count) };
       at = refl;
     }
-from_sender journal J later K x place sent (Proxy p) part split w member count = refl
-from_sender journal J later K x place sent (Client c) part split w member count = refl
+from_sender journal J later K x (Proxy p) part split w member count = refl
+from_sender journal J later K x (Client c) part split w member count = refl
 
-from_source : (journal : Journal) (J : List Record) (x : Acceptance) (place sent : ℕ) (p : Parcel) (o : Option ReplySource) → IsPart journal J
-    → World (group_in journal) J → sent ≡ requests_sent (events (group_in journal) J) → accepted_source (group_in journal) x.id p J ≡ o
-    → Gives journal place (entries_or (option_map (prefix_at_source (group_in journal) x.id) o)) (acceptance_from (Some x) (in_numbers o) place sent)
-from_source journal J x place sent p None part w count e = refl
-from_source journal J x place sent p (Some at) part w count e =
+from_source : (journal : Journal) (J : List Record) (x : AcceptedAt) (p : Parcel) (o : Option ReplySource) → IsPart journal J
+    → World (group_in journal) J → x.sent ≡ requests_sent (events (group_in journal) J) → accepted_source (group_in journal) x.id p J ≡ o
+    → Gives journal x.place (entries_or (option_map (prefix_at_source (group_in journal) x.id) o)) (with_source (in_numbers o) x)
+from_source journal J x p None part w count e = refl
+from_source journal J x p (Some at) part w count e =
     let g = group_in journal in
     let h = accepted_reached g x.id p J at w e in
     let t = at_later J at.run h.moment in
-    from_sender journal J t.0 at.run x place sent at.sender part t.1 (at_world g J at.run w h.moment) h.member count
+    from_sender journal J t.0 at.run x at.sender part t.1 (at_world g J at.run w h.moment) h.member count
 
 -- ---- which request an accepted answer is to
 
@@ -164,73 +168,130 @@ answer_stands_for g id p q None from = refl
 answer_stands_for g id p q (Some K) from =
     ap (λ (a : Actor). source_sent g id a K) from ∙ sym (ap (λ (a : Actor). in_numbers (source_of_sender g id a K)) from)
 
-source_is_accepted : (g : Group) (J : List Record) (p : Parcel) (id : Id) (table : List (ParcelKey × Option Source))
-    → IsTable g J table → IsTold p id → option_flatten (kept_of table p) ≡ in_numbers (accepted_source g id p J)
-source_is_accepted g J p id table h told =
-    ap option_flatten (h.exact p) ∙ ap (λ (o : Option Id). option_flatten (stands_for g p (source p J) o)) told.about
-    ∙ answer_stands_for g id p told.proxy (source p J) told.from
+source_is_accepted : (g : Group) (J : List Record) (p : Parcel) (id : Id) → IsTold p id
+    → delivered_source g J (Deliver p) ≡ in_numbers (accepted_source g id p J)
+source_is_accepted g J p id told =
+    ap (λ (o : Option Id). option_flatten (stands_for g p (source p J) o)) told.about ∙ answer_stands_for g id p told.proxy (source p J) told.from
 
 no_prefix : (g : Group) (sent : List Id) (e : Event) (J : List Record) → prefix_in g (request_events g sent) e J ≡ []
 no_prefix g [] e J = refl
 no_prefix g (id ∷ ids) e J = refl
 
-accepts_at : (journal : Journal) (r : Record) (J : List Record) (a : Acceptance) (rest : List ClientEvent)
-    (table : List (ParcelKey × Option Source)) (place sent : ℕ) (e : Event) → World (group_in journal) (r ∷ J) → IsPart journal J → r.event ≡ e
-    → Accepted a.id a.answer a.path ∷ rest ≡ client_events (group_in journal) r.actor r J → IsTable (group_in journal) J table
-    → sent ≡ requests_sent (events (group_in journal) J)
-    → Gives journal place (prefix_in (group_in journal) (Accepted a.id a.answer a.path ∷ rest) e J)
-    (acceptance_from (Some a) (source_delivered table e) place sent)
-accepts_at journal r J a rest table place sent (Deliver p) w part is told h count =
+accepts_at : (journal : Journal) (r : Record) (J : List Record) (x : AcceptedAt) (answer : AnswerModel) (path : Path) (rest : List ClientEvent)
+    (e : Event) → World (group_in journal) (r ∷ J) → IsPart journal J → r.event ≡ e
+    → Accepted x.id answer path ∷ rest ≡ client_events (group_in journal) r.actor r J
+    → x.sent ≡ requests_sent (events (group_in journal) J)
+    → Gives journal x.place (prefix_in (group_in journal) (Accepted x.id answer path ∷ rest) e J)
+    (with_source (delivered_source (group_in journal) J e) x)
+accepts_at journal r J x answer path rest (Deliver p) w part is told count =
     let g = group_in journal in
-    let begins = told_by_actor g r.actor r J p a.id refl is (subst (λ (l : List ClientEvent). Begins l a.id) told refl) in
-    subst (λ (s : Option Source). Gives journal place (entries_or (accepted_prefix g a.id p J)) (acceptance_from (Some a) s place sent))
-    (sym (source_is_accepted g J p a.id table h begins)) (from_source journal J a place sent p (accepted_source g a.id p J) part w.1 count refl)
-accepts_at journal r J a rest table place sent (Cut p kept) w part is told h count = refl
-accepts_at journal r J a rest table place sent (Tick clock) w part is told h count = refl
-accepts_at journal r J a rest table place sent Alarm w part is told h count = refl
-accepts_at journal r J a rest table place sent Crash w part is told h count = refl
-accepts_at journal r J a rest table place sent (Restart nonce) w part is told h count = refl
+    let begins = told_by_actor g r.actor r J p x.id refl is (subst (λ (l : List ClientEvent). Begins l x.id) told refl) in
+    subst (λ (s : Option Source). Gives journal x.place (entries_or (accepted_prefix g x.id p J)) (with_source s x))
+    (sym (source_is_accepted g J p x.id begins)) (from_source journal J x p (accepted_source g x.id p J) part w.1 count refl)
+accepts_at journal r J x answer path rest (Cut p kept) w part is told count = refl
+accepts_at journal r J x answer path rest (Tick clock) w part is told count = refl
+accepts_at journal r J x answer path rest Alarm w part is told count = refl
+accepts_at journal r J x answer path rest Crash w part is told count = refl
+accepts_at journal r J x answer path rest (Restart nonce) w part is told count = refl
 
-tells_at : (journal : Journal) (r : Record) (J : List Record) (accepted : Option Acceptance) (ids : List Id)
-    (table : List (ParcelKey × Option Source)) (place sent : ℕ) → World (group_in journal) (r ∷ J) → IsPart journal J
-    → acceptance_events accepted ++ request_events (group_in journal) ids ≡ client_events (group_in journal) r.actor r J
-    → IsTable (group_in journal) J table → sent ≡ requests_sent (events (group_in journal) J)
-    → Gives journal place (prefix_in (group_in journal) (acceptance_events accepted ++ request_events (group_in journal) ids) r.event J)
-    (acceptance_from accepted (source_told table accepted r.event) place sent)
-tells_at journal r J None ids table place sent w part told h count = no_prefix (group_in journal) ids r.event J
-tells_at journal r J (Some a) ids table place sent w part told h count =
-    accepts_at journal r J a (request_events (group_in journal) ids) table place sent r.event w part refl told h count
+-- what its record delivers is about its request
+brings_at : (g : Group) (r : Record) (J : List Record) (id : Id) (answer : AnswerModel) (path : Path) (rest : List ClientEvent) (e : Event)
+    → r.event ≡ e → Accepted id answer path ∷ rest ≡ client_events g r.actor r J → Brings id e
+brings_at g r J id answer path rest (Deliver p) is told =
+    (told_by_actor g r.actor r J p id refl is (subst (λ (l : List ClientEvent). Begins l id) told refl)).about
+brings_at g r J id answer path rest (Cut p kept) is told = tt
+brings_at g r J id answer path rest (Tick clock) is told = tt
+brings_at g r J id answer path rest Alarm is told = tt
+brings_at g r J id answer path rest Crash is told = tt
+brings_at g r J id answer path rest (Restart nonce) is told = tt
 
 -- ---- one record more
 
-accepted_more : (journal : Journal) (r : Record) (J : List Record) (P : List Entry) (accepted : List AcceptedAnswer) (o : Option AcceptedAnswer)
-    → history (group_in journal) (r ∷ J) ≡ longer (history (group_in journal) J) P → AreAccepted journal J accepted → Gives journal (length accepted) P o
-    → AreAccepted journal (r ∷ J) (with_accepted accepted o)
-accepted_more journal r J P accepted None then h none = record {
+history_more : (journal : Journal) (r : Record) (J : List Record) (P : List Entry) (accepted : List AcceptedAnswer) (o : Option AcceptedAnswer)
+    → history (group_in journal) (r ∷ J) ≡ longer (history (group_in journal) J) P → GiveHistory journal J accepted → Gives journal (length J) P o
+    → GiveHistory journal (r ∷ J) (with_accepted accepted o)
+history_more journal r J P accepted None then h none = record {
   longest = then ∙ ap (longer (history (group_in journal) J)) none ∙ longer_stays (history (group_in journal) J) [] (omega arith) ∙ h.longest;
-  places = h.places;
+  places = order_later 0 (length J) (suc (length J)) accepted h.places (omega arith);
   within = h.within;
 }
-accepted_more journal r J P accepted (Some a) then h one =
+history_more journal r J P accepted (Some a) then h one =
     let prefixes = map (prefix_for journal) accepted in
-    let last : a.place ≡ 0 + length accepted = let at = one.at in omega (arith, at) in
+    let at = one.at in
     record {
       longest =
           then ∙ (λ i. longer (h.longest i) (one.prefix i)) ∙ sym (longest_append [] prefixes (prefix_for journal a))
           ∙ ap (longest_from []) (sym (map-append (prefix_for journal) accepted (a ∷ [])));
-      places = numbered_more 0 accepted a h.places last;
+      places = order_more 0 (length J) (suc (length J)) accepted a h.places (omega (arith, at)) (omega (arith, at));
       within = all_append (IsWithin journal) accepted (a ∷ []) h.within (one.within, tt);
     }
 
-pub accepted_then : (journal : Journal) (r : Record) (newer J : List Record) (t : Telling) (table : List (ParcelKey × Option Source))
-    (accepted : List AcceptedAnswer) (sent : ℕ) → World (group_in journal) (r ∷ J) → run_in journal ≡ newer ++ (r ∷ J)
-    → events_of_telling (group_in journal) t ≡ client_events (group_in journal) r.actor r J
-    → IsTable (group_in journal) J table → sent ≡ requests_sent (events (group_in journal) J) → AreAccepted journal J accepted
-    → AreAccepted journal (r ∷ J) (with_accepted accepted (acceptance_from t.accepted (source_told table t.accepted r.event) (length accepted) sent))
-accepted_then journal r newer J t table accepted sent w whole told h count so_far =
+pub traced_more : (journal : Journal) (answers : List AcceptedAt) (a : AcceptedAt)
+    → all_traced journal (answers ++ a ∷ []) ≡ with_accepted (all_traced journal answers) (traced journal a)
+traced_more journal answers a = filter_map-append (traced journal) answers (a ∷ []) ∙ last (traced journal a)
+  where
+    last : (o : Option AcceptedAnswer) → all_traced journal answers ++ cons_option o [] ≡ with_accepted (all_traced journal answers) o
+    last None = append-nil (all_traced journal answers)
+    last (Some x) = refl
+
+-- a record of this place, and the earlier ones
+pub record IsAt (journal : Journal) (place : ℕ) (r : Record) : Type 0 where
+  pub there : place < length journal.records
+  pub at : slice_get journal.records place ≡ Some r
+  pub world : World (group_in journal) (r ∷ run_up_to journal place)
+  pub newer : List Record
+  pub whole : run_in journal ≡ newer ++ (r ∷ run_up_to journal place)
+
+-- where it accepts nothing
+pub none_accepted : (journal : Journal) (r : Record) (J : List Record) (ids : List Id) (answers : List AcceptedAt)
+    → request_events (group_in journal) ids ≡ client_events (group_in journal) r.actor r J → AreAccepted journal J answers
+    → AreAccepted journal (r ∷ J) answers
+none_accepted journal r J ids answers told h =
     let g = group_in journal in
-    let part : IsPart journal J = record { newer = newer ++ r ∷ []; whole = whole ∙ sym (append_assoc newer (r ∷ []) J) } in
-    accepted_more journal r J (prefix_in g (events_of_telling g t) r.event J) accepted
-    (acceptance_from t.accepted (source_told table t.accepted r.event) (length accepted) sent)
-    (ap (λ (l : List ClientEvent). longer (history g J) (prefix_in g l r.event J)) (sym told)) so_far
-    (tells_at journal r J t.accepted t.sent table (length accepted) sent w part told h count)
+    record {
+      each = h.each;
+      history =
+          history_more journal r J (prefix_in g (request_events g ids) r.event J) (all_traced journal answers) None
+          (ap (λ (l : List ClientEvent). longer (history g J) (prefix_in g l r.event J)) (sym told)) h.history (no_prefix g ids r.event J);
+    }
+
+one_accepted : (journal : Journal) (place : ℕ) (r : Record) (a : Acceptance) (ids : List Id) (answers : List AcceptedAt) (sent : ℕ)
+    → IsAt journal place r
+    → Accepted a.id a.answer a.path ∷ request_events (group_in journal) ids ≡ client_events (group_in journal) r.actor r (run_up_to journal place)
+    → sent ≡ requests_sent (events (group_in journal) (run_up_to journal place)) → AreAccepted journal (run_up_to journal place) answers
+    → AreAccepted journal (r ∷ run_up_to journal place) (answers ++ record { place = place; id = a.id; sent = sent } ∷ [])
+one_accepted journal place r a ids answers sent is told count h =
+    let g = group_in journal in
+    let J = run_up_to journal place in
+    let x : AcceptedAt = record { place = place; id = a.id; sent = sent } in
+    let rest = request_events g ids in
+    let part : IsPart journal J = record { newer = is.newer ++ r ∷ []; whole = is.whole ∙ sym (append_assoc is.newer (r ∷ []) J) } in
+    let there = is.there in
+    let long : length J ≡ place = run_length journal place (omega (arith, there)) in
+    let own : traced journal x ≡ with_source (delivered_source g J r.event) x =
+    ap (λ (o : Option Record). with_source (source_by journal place o) x) is.at in
+    let gives : Gives journal (length J) (prefix_in g (Accepted a.id a.answer a.path ∷ rest) r.event J) (traced journal x) =
+    subst (λ (n : ℕ). Gives journal n (prefix_in g (Accepted a.id a.answer a.path ∷ rest) r.event J) (traced journal x)) (sym long)
+    (subst (Gives journal place (prefix_in g (Accepted a.id a.answer a.path ∷ rest) r.event J)) (sym own)
+    (accepts_at journal r J x a.answer a.path rest r.event is.world part refl told count)) in
+    let brings = brings_at g r J a.id a.answer a.path rest r.event refl told in
+    record {
+      each = all_append (IsAccepted journal) answers (x ∷ []) h.each (
+        record {
+          place = is.there;
+          brings = λ s at. subst (λ (y : Record). Brings a.id y.event) (same_Some r s (sym is.at ∙ at)) brings;
+        },
+        tt,
+      );
+      history = subst (GiveHistory journal (r ∷ J)) (sym (traced_more journal answers x))
+          (history_more journal r J (prefix_in g (Accepted a.id a.answer a.path ∷ rest) r.event J) (all_traced journal answers) (traced journal x)
+          (ap (λ (l : List ClientEvent). longer (history g J) (prefix_in g l r.event J)) (sym told)) h.history gives);
+    }
+
+pub accepted_then : (journal : Journal) (place : ℕ) (r : Record) (accepted : Option Acceptance) (ids : List Id) (answers : List AcceptedAt) (sent : ℕ)
+    → IsAt journal place r
+    → acceptance_events accepted ++ request_events (group_in journal) ids ≡ client_events (group_in journal) r.actor r (run_up_to journal place)
+    → sent ≡ requests_sent (events (group_in journal) (run_up_to journal place)) → AreAccepted journal (run_up_to journal place) answers
+    → AreAccepted journal (r ∷ run_up_to journal place) (with_accepted answers (accepted_at accepted place sent))
+accepted_then journal place r None ids answers sent is told count h = none_accepted journal r (run_up_to journal place) ids answers told h
+accepted_then journal place r (Some a) ids answers sent is told count h = one_accepted journal place r a ids answers sent is told count h

@@ -25,12 +25,12 @@ use Rattle.nz_machine.specs.History as history
 use Rattle.nz_machine.specs.History.{standing_after, reply_in, reply_read, parcel_in, parcel_delivered, source_of}
 use Rattle.nz_machine.proofs.Runs.{acts_itself}
 use Rattle.nz_audit.specs.declared.source.Source.{Source}
-use Rattle.nz_audit.specs.Sources.{in_numbers, about, stands_for}
+use Rattle.nz_audit.specs.Sources.{in_numbers, about, IsNoOther, stands_for}
 use Rattle.nz_audit.specs.Noting.{noted_after_request, noted_by, source_if_answer, after_message, after_envelope, after_event, down_after}
 use Rattle.nz_audit.specs.Memories.{memory_of, memory}
 use Rattle.nz_audit.proofs.Memories.{standing_opened, standing_noted, StaysOpen, memory_stays, memory_opens, memory_notes}
 use Rattle.nz_audit.proofs.Standings.{stamp_opens, reply_notes, reply_quiet, stamp_up, reply_up}
-use Rattle.nz_audit.proofs.Hearing.{source_read}
+use Rattle.nz_audit.proofs.Hearing.{wanted_read, source_read}
 
 -- the source that goes with what is delivered
 abbrev pub IsFrom : Group → ℕ → Id → Record → List Record → Parcel → Option Source → Type 0
@@ -112,10 +112,10 @@ envelope_memory g q id r J p source quiet (Some e) parcel read by silent after =
 
 -- ---- an event
 
--- the source is that of what is delivered
-abbrev pub source_in : Group → List Record → Event → Option Source → Type 0
-source_in g J (Deliver p) source = source ≡ option_flatten (stands_for g p (history.source p J) (about p))
-source_in g J _ source = Unit {0}
+-- the source is that of what is delivered, unless this is about another request
+abbrev pub source_in : Group → (Id → Bool) → List Record → Event → Option Source → Type 0
+source_in g w J (Deliver p) source = IsNoOther w (about p) → source ≡ option_flatten (stands_for g p (history.source p J) (about p))
+source_in g w J _ source = Unit {0}
 
 forgotten : (g : Group) (q : ℕ) (id : Id) (r : Record) (J : List Record) → standing_after g q id (r ∷ J) ≡ None → memory g q id (r ∷ J) ≡ None
 forgotten g q id r J after = ap (memory_of g q id (r ∷ J)) after
@@ -134,42 +134,41 @@ unfolding clock_rule
 ticked g q id r J clock true after = memory_stays g q id r J after
 ticked g q id r J clock false after = memory_stays g q id r J after
 
-event_by : (g : Group) (q : ℕ) (id : Id) (r : Record) (J : List Record) (source : Option Source) (quiet : Bool) (e : Event)
-    → World g (r ∷ J) → r.event ≡ e → source_in g J e source
+event_by : (g : Group) (w : Id → Bool) (q : ℕ) (id : Id) (r : Record) (J : List Record) (source : Option Source) (quiet : Bool) (e : Event)
+    → World g (r ∷ J) → w id ≡ true → r.event ≡ e → source_in g w J e source
     → IsQuiet quiet (event_step g (Proxy q) (state_after g (Proxy q) J) e).1
     → standing_after g q id (r ∷ J) ≡ standing_of (event_step g (Proxy q) (state_after g (Proxy q) J) e).0 id
     → memory g q id (r ∷ J) ≡ after_event g.f q source quiet (state_after g (Proxy q) J).is_down id e (memory g q id J)
-event_by g q id r J source quiet (Deliver p) w is from silent after =
+event_by g w q id r J source quiet (Deliver p) world wanted is from silent after =
     envelope_memory g q id r J p source quiet (accepted_envelope g.f (Proxy q) p) (ap parcel_in is) (ap (read_in g (Proxy q)) is) brings silent after
   where
     sent : Has (sent_in J) p
-    sent = (subst (MayHappen J r.actor) is w.0.event).1
+    sent = (subst (MayHappen J r.actor) is world.0.event).1
 
     brings : IsFrom g q id r J p source
-    brings reply read = from ∙ heard (accepted_envelope g.f (Proxy q) p) refl (ap (λ (x : Event). reply_read id (read_in g (Proxy q) x)) (sym is) ∙ read)
+    brings reply read = heard (accepted_envelope g.f (Proxy q) p) refl (ap (λ (x : Event). reply_read id (read_in g (Proxy q) x)) (sym is) ∙ read)
       where
         heard : (o : Option Envelope) → accepted_envelope g.f (Proxy q) p ≡ o → reply_read id o ≡ Some reply
-            → option_flatten (stands_for g p (history.source p J) (about p))
-            ≡ cond (is_some (answer_in reply)) (in_numbers (source_of (r ∷ J) p)) None
+            → source ≡ cond (is_some (answer_in reply)) (in_numbers (source_of (r ∷ J) p)) None
         heard None h k = absurd (none-some reply k)
-        heard (Some e) h k = source_read g q id r J p e reply sent h k
-event_by g q id r J source quiet (Cut p kept) w is from silent after = memory_stays g q id r J after
-event_by g q id r J source quiet (Tick clock) w is from silent after = ticked g q id r J clock (state_after g (Proxy q) J).is_down after
-event_by g q id r J source quiet Alarm w is from silent after = memory_stays g q id r J after
-event_by g q id r J source quiet Crash w is from silent after = forgotten g q id r J after
-event_by g q id r J source quiet (Restart nonce) w is from silent after = restarted g q id r J (state_after g (Proxy q) J).is_down after
+        heard (Some e) h k = from (wanted_read w g.f q id p e reply h k wanted) ∙ source_read g q id r J p e reply sent h k
+event_by g w q id r J source quiet (Cut p kept) world wanted is from silent after = memory_stays g q id r J after
+event_by g w q id r J source quiet (Tick clock) world wanted is from silent after = ticked g q id r J clock (state_after g (Proxy q) J).is_down after
+event_by g w q id r J source quiet Alarm world wanted is from silent after = memory_stays g q id r J after
+event_by g w q id r J source quiet Crash world wanted is from silent after = forgotten g q id r J after
+event_by g w q id r J source quiet (Restart nonce) world wanted is from silent after = restarted g q id r J (state_after g (Proxy q) J).is_down after
 
--- what a proxy knows after a record of its own
-pub memory_after : (g : Group) (q : ℕ) (id : Id) (r : Record) (J : List Record) (source : Option Source) (quiet : Bool)
-    → World g (r ∷ J) → r.actor ≡ Proxy q → source_in g J r.event source → (quiet ≡ true → r.sends ≡ [])
+-- what a proxy knows of a wanted request after a record of its own
+pub memory_after : (g : Group) (w : Id → Bool) (q : ℕ) (id : Id) (r : Record) (J : List Record) (source : Option Source) (quiet : Bool)
+    → World g (r ∷ J) → w id ≡ true → r.actor ≡ Proxy q → source_in g w J r.event source → (quiet ≡ true → r.sends ≡ [])
     → memory g q id (r ∷ J) ≡ after_event g.f q source quiet (state_after g (Proxy q) J).is_down id r.event (memory g q id J)
-memory_after g q id r J source quiet w by from none =
-    event_by g q id r J source quiet r.event w refl from
+memory_after g w q id r J source quiet world wanted by from none =
+    event_by g w q id r J source quiet r.event world wanted refl from
     (λ is. nothing_sent (Proxy q) (event_step g (Proxy q) (state_after g (Proxy q) J) r.event).1 (sym own_sends ∙ none is))
     (ap (λ (s : ProxyData). standing_of s id) (acts_itself g (Proxy q) r J by))
   where
     own_sends : r.sends ≡ map (parcel (Proxy q)) (event_step g (Proxy q) (state_after g (Proxy q) J) r.event).1
-    own_sends = w.0.sends ∙ ap (λ (a : Actor). (node_step g a (state_after g a J) r.event).1) by
+    own_sends = world.0.sends ∙ ap (λ (a : Actor). (node_step g a (state_after g a J) r.event).1) by
 
     nothing_sent : (a : Actor) (outs : List Out) → map (parcel a) outs ≡ [] → outs ≡ []
     nothing_sent a [] h = refl

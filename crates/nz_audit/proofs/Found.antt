@@ -1,13 +1,12 @@
 -- What a reading has found after a record, and what it says of the journal's history.
 use Rattle.std.proofs.Common.{◌≡◌, ℕ, zero, suc, ◌+◌, ◌<◌, ◌≤◌, List, [], ◌∷◌, ◌++◌, length, map, take, drop, reverse}
-use Rattle.std.proofs.Common.{Option, None, Some, Result, Ok, Err, IfOk, refl, sym, ap, subst, ◌∙◌, inl, inr, arith, length-take}
-use Rattle.std.specs.Prelude.{nat_eq, slice_get, IsPermutation}
+use Rattle.std.proofs.Common.{Option, None, Some, refl, sym, ap, subst, ◌∙◌, inl, inr, arith, length-take}
+use Rattle.std.specs.Prelude.{slice_get, IfSome, IsPermutation}
 use Rattle.std.specs.List.{AllByRecursion}
 use Rattle.std.proofs.lemmas.List.Elements.{All-from_recursion, recursion_from_All}
-use Rattle.std.proofs.lemmas.List.Sorted.{All-permutation, IsPermutation-sym, length_permutation}
+use Rattle.std.proofs.lemmas.List.Sorted.{All-permutation, IsPermutation-sym}
 use Rattle.std.proofs.lemmas.List.{reverse-append, take-append-drop}
-use Rattle.std.proofs.lemmas.Option.{get_or_from_slice_get}
-use Rattle.indexmap.specs.IndexMap.{get}
+use Rattle.std.proofs.lemmas.Option.{get_or_from_slice_get, slice_get_within}
 use Rattle.nz_base.specs.declared.actor.Actor.TheVariants.{Replica}
 use Rattle.nz_base.specs.declared.key.Id.{Id}
 use Rattle.nz_base.specs.declared.key.Entry.{Entry}
@@ -18,33 +17,24 @@ use Rattle.nz_machine.specs.declared.journal.Journal.{Journal}
 use Rattle.nz_machine.specs.Journals.{group_in, run_in}
 use Rattle.nz_machine.specs.State.{ReplicaData}
 use Rattle.nz_machine.specs.World.{World, Has}
-use Rattle.nz_machine.specs.ClientProgress.{AreAfter}
-use Rattle.nz_machine.specs.Events.{events}
 use Rattle.nz_machine.specs.History.{log_at, cut_at, cut_after, history}
 use Rattle.nz_machine.proofs.EachItem.{all_imply}
-use Rattle.nz_machine.proofs.Runs.{all_has}
+use Rattle.nz_machine.proofs.Runs.{all_has, has_left, has_right, has_split}
 use Rattle.nz_machine.proofs.JournalPrefixes.{world_with}
+use Rattle.nz_audit.specs.declared.source.AcceptedAt.{AcceptedAt}
 use Rattle.nz_audit.specs.declared.source.AcceptedAnswer.{AcceptedAnswer}
 use Rattle.nz_audit.specs.declared.source.Counted.{Counted}
 use Rattle.nz_audit.specs.declared.searching.Search.{Search}
 use Rattle.nz_audit.specs.declared.replaying.Replayed.{Replayed}
-use Rattle.nz_audit.specs.declared.reading.Reading.{Reading}
 use Rattle.nz_audit.specs.Cores.{IsReplayed, run_up_to}
-use Rattle.nz_audit.specs.Prefixes.{prefix_for, longest_from, requests_sent, AreAccepted, IsNoLonger, IsBestIfAny, IsFound}
-use Rattle.nz_audit.specs.Readings.{IsProxy, IsTable, IsNextRecord, IsRead}
+use Rattle.nz_audit.specs.Prefixes.{prefix_for, longest_from, GiveHistory, AreAccepted, IsNoLonger, IsBestIfAny, IsFound}
+use Rattle.nz_audit.specs.Readings.{IsNextRecord}
 use Rattle.nz_audit.proofs.Replays.{run_then}
+use Rattle.nz_audit.proofs.Accepting.{IsAt}
 
-pub is_read : (journal : Journal) (run K : List Record) (reading : Reading) → run ≡ K
-    → ((q : ℕ) → IsProxy (group_in journal) K q (get nat_eq reading.proxies q))
-    → IsTable (group_in journal) K reading.sendings.kept.entries → AreAfter (group_in journal) K reading.clients
-    → AreAccepted journal K reading.accepted.items → reading.sent ≡ requests_sent (events (group_in journal) K) → IsRead journal run reading
-is_read journal run K reading e proxies table clients accepted sent =
-    subst (λ (x : List Record). IsRead journal x reading) (sym e)
-    (record { proxies = proxies; table = table; clients = clients; accepted = accepted; sent = sent })
-
-pub accepted_first : (journal : Journal) (accepted : List AcceptedAnswer) → accepted ≡ [] → AreAccepted journal [] accepted
-accepted_first journal accepted none =
-    subst (AreAccepted journal []) (sym none) (record { longest = refl; places = tt; within = tt })
+pub accepted_first : (journal : Journal) (answers : List AcceptedAt) → answers ≡ [] → AreAccepted journal [] answers
+accepted_first journal answers none =
+    subst (AreAccepted journal []) (sym none) (record { each = tt; history = record { longest = refl; places = omega arith; within = tt } })
 
 -- a journal's run is some later records, and the run up to a record
 newer_records : (journal : Journal) (n : ℕ) → run_in journal ≡ reverse (drop n journal.records) ++ run_up_to journal n
@@ -62,11 +52,20 @@ is_next journal k r w lt at = record {
       ∙ ap (λ (l : List Record). reverse (drop (k + 1) journal.records) ++ l) (run_then journal k r at);
 }
 
--- ---- permutations
+-- the record at a place, and the earlier ones
+pub is_at : (journal : Journal) (k : ℕ) (r : Record) → World (group_in journal) (run_in journal) → slice_get journal.records k ≡ Some r → IsAt journal k r
+is_at journal k r w at =
+    let lt = slice_get_within journal.records k r at in
+    let next = is_next journal k r w lt at in
+    record {
+      there = lt;
+      at = at;
+      world = next.world;
+      newer = next.newer;
+      whole = next.whole;
+    }
 
-length_none : {X : Type 0} (xs : List X) → length xs ≡ 0 → xs ≡ []
-length_none [] e = refl
-length_none (x ∷ xs) e = absurd (omega (arith, e))
+-- ---- permutations
 
 has_itself : {X : Type 0} (xs : List X) → AllByRecursion (Has xs) xs
 has_itself [] = tt
@@ -102,28 +101,51 @@ log_taken id log P n is count =
 pub within_log : (n : ℕ) (log P : List Entry) → n ≡ length P → take n log ≡ P → n ≤ length log
 within_log n log P count is = let a : n ≡ length (take n log) = count ∙ ap length (sym is) in let b = length-take n log in omega (arith, a, b)
 
-pub nothing_accepted : (journal : Journal) (J : List Record) (accepted : List AcceptedAnswer) → AreAccepted journal J accepted → accepted ≡ []
+pub nothing_accepted : (journal : Journal) (J : List Record) (accepted : List AcceptedAnswer) → GiveHistory journal J accepted → accepted ≡ []
     → history (group_in journal) J ≡ []
 nothing_accepted journal J accepted h none = h.longest ∙ ap (λ (xs : List AcceptedAnswer). longest_from [] (map (prefix_for journal) xs)) none
 
 -- ---- the search
 
--- the order does not matter
-pub found_permuted : (journal : Journal) (xs ys : List AcceptedAnswer) (s : Search) → IsPermutation xs ys → IsFound journal ys s → IsFound journal xs s
-found_permuted journal xs ys s same h = record { at = h.at; best = by_best s.best h.best }
-  where
-    back : IsPermutation ys xs
-    back = IsPermutation-sym xs ys same
+-- nothing was counted
+pub found_first : (journal : Journal) (s : Search) → s.at ≡ None → s.best ≡ None → IsFound journal [] s
+found_first journal s at best = record {
+  at = subst (λ (o : Option Replayed). IfSome o (IsReplayed journal)) (sym at) tt;
+  best = subst (IsBestIfAny journal []) (sym best) refl;
+}
 
-    by_best : (o : Option Counted) → IsBestIfAny journal ys o → IsBestIfAny journal xs o
-    by_best None none = length_none xs (length_permutation ys xs back ∙ ap length none)
+none_without : {X : Type 0} (xs : List X) → ((x : X) → Has xs x → ⊥) → xs ≡ []
+none_without [] h = refl
+none_without (x ∷ xs) h = absurd (h x (inl refl))
+
+pub all_of : {X : Type 0} (P : X → Type 0) (xs : List X) → ((x : X) → Has xs x → P x) → AllByRecursion P xs
+all_of P [] h = tt
+all_of P (x ∷ xs) h = (h x (inl refl), all_of P xs (λ y k. h y (inr k)))
+
+-- the order does not matter
+pub found_among : (journal : Journal) (xs ys : List AcceptedAnswer) (s : Search) → ((a : AcceptedAnswer) → Has xs a → Has ys a)
+    → ((a : AcceptedAnswer) → Has ys a → Has xs a) → IsFound journal xs s → IsFound journal ys s
+found_among journal xs ys s there back h = record { at = h.at; best = by_best s.best h.best }
+  where
+    by_best : (o : Option Counted) → IsBestIfAny journal xs o → IsBestIfAny journal ys o
+    by_best None none = none_without ys (λ a k. subst (λ (l : List AcceptedAnswer). Has l a) none (back a k))
     by_best (Some b) best = record {
       counted = best.counted;
-      among = all_has (Has xs) ys b.accepted (all_permuted (Has xs) xs ys same (has_itself xs)) best.among;
-      beats = all_permuted (IsNoLonger journal b) ys xs back best.beats;
+      among = there b.accepted best.among;
+      beats = all_of (IsNoLonger journal b) ys (λ a k. all_has (IsNoLonger journal b) xs a best.beats (back a k));
     }
 
-pub found_in_order : {E : Type 0} (journal : Journal) (xs ys zs : List AcceptedAnswer) (r : Result Search E) → IsPermutation xs ys → zs ≡ ys
-    → IfOk r (λ s. IsFound journal zs s) → IfOk r (λ s. IsFound journal xs s)
-found_in_order journal xs ys zs (Ok s) same is h = found_permuted journal xs ys s same (subst (λ (l : List AcceptedAnswer). IsFound journal l s) is h)
-found_in_order journal xs ys zs (Err e) same is h = tt
+has_permuted : {X : Type 0} (xs ys : List X) (x : X) → IsPermutation xs ys → Has xs x → Has ys x
+has_permuted xs ys x same h = all_has (Has ys) xs x (all_permuted (Has ys) ys xs (IsPermutation-sym xs ys same) (has_itself ys)) h
+
+-- what follows may be in any order
+pub found_permuted : (journal : Journal) (done xs ys : List AcceptedAnswer) (s : Search) → IsPermutation xs ys → IsFound journal (done ++ ys) s
+    → IsFound journal (done ++ xs) s
+found_permuted journal done xs ys s same =
+    found_among journal (done ++ ys) (done ++ xs) s (moved xs ys (IsPermutation-sym xs ys same)) (moved ys xs same)
+  where
+    moved : (us vs : List AcceptedAnswer) → IsPermutation vs us → (a : AcceptedAnswer) → Has (done ++ vs) a → Has (done ++ us) a
+    moved us vs back a h = elim (has_split done vs a h) [
+      | inl earlier ↦ has_left done us a earlier
+      | inr own ↦ has_right done us a (has_permuted vs us a back own)
+    ]

@@ -1,5 +1,5 @@
 -- What is heard of a parcel, and the source that a delivered parcel stands for.
-use Rattle.std.proofs.Common.{◌≡◌, ℕ, true, cond, not, ◌&&◌, List, ◌∷◌, Option, Some, None, Result, Ok, Err, refl, sym, ap, ◌∙◌}
+use Rattle.std.proofs.Common.{◌≡◌, ℕ, Bool, true, cond, not, ◌&&◌, List, ◌∷◌, Option, Some, None, Result, Ok, Err, refl, sym, ap, subst, ◌∙◌}
 use Rattle.std.proofs.lemmas.Bool.{and_parts}
 use Rattle.std.specs.Prelude.{is_some}
 use Rattle.std.specs.Option.{option_map, option_flatten}
@@ -7,7 +7,7 @@ use Rattle.std.proofs.lemmas.Option.{none-some, cond_some}
 use Rattle.nz_base.specs.Actor.{actor_eq}
 use Rattle.nz_base.specs.Key.{id_eq}
 use Rattle.nz_base.specs.declared.actor.Actor.{Actor}
-use Rattle.nz_base.specs.declared.actor.Actor.TheVariants.{Replica, Proxy}
+use Rattle.nz_base.specs.declared.actor.Actor.TheVariants.{Replica, Proxy, Client}
 use Rattle.nz_base.specs.declared.key.Id.{Id}
 use Rattle.nz_base.proofs.Names.{same_actor, same_id}
 use Rattle.nz_store.specs.declared.command.Answer.{Answer}
@@ -27,7 +27,7 @@ use Rattle.nz_machine.specs.World.{sent_in, Has}
 use Rattle.nz_machine.specs.History.{reply_in, source, source_of}
 use Rattle.nz_machine.proofs.Sources.{has_source, source_stays}
 use Rattle.nz_audit.specs.declared.source.Source.{Source}
-use Rattle.nz_audit.specs.Sources.{numbers_of, in_numbers, about_message, about_envelope, about, source_sent, stands_for}
+use Rattle.nz_audit.specs.Sources.{numbers_of, in_numbers, about_message, about_envelope, about, IsNoOther, source_sent, stands_for}
 
 -- ---- an envelope that is heard is of the parcel
 
@@ -72,7 +72,7 @@ about_heard me p e h =
     ap (λ (a : Actor). about_envelope (envelope_for a p)) h.to ∙ ap about_envelope h.heard ∙ ap (λ (a : Actor). about_message e.from a e.message) h.receiver
 
 -- a parcel whose messages are all about nothing
-pub about_nothing : (p : Parcel) → ((m : Message) → about_message p.from p.to m ≡ None) → about p ≡ None
+about_nothing : (p : Parcel) → ((m : Message) → about_message p.from p.to m ≡ None) → about p ≡ None
 about_nothing p none = by_envelope (envelope_for p.to p) refl
   where
     by_envelope : (o : Option Envelope) → envelope_for p.to p ≡ o → about_envelope o ≡ None
@@ -80,6 +80,34 @@ about_nothing p none = by_envelope (envelope_for p.to p) refl
     by_envelope (Some x) e =
         let h = is_heard p.to p x e in
         (λ i. about_message (h.from i) (h.receiver i) x.message) ∙ none x.message
+
+from_replica : (k : ℕ) (to : Actor) → ((q : ℕ) → to ≡ Proxy q → ⊥) → (m : Message) → about_message (Replica k) to m ≡ None
+from_replica k (Proxy q) other m = absurd (other q refl)
+from_replica k (Replica j) other _ = refl
+from_replica k (Client c) other _ = refl
+
+from_proxy : (q : ℕ) (to : Actor) → ((c : ℕ) → to ≡ Client c → ⊥) → (m : Message) → about_message (Proxy q) to m ≡ None
+from_proxy q (Client c) other m = absurd (other c refl)
+from_proxy q (Replica j) other _ = refl
+from_proxy q (Proxy p) other _ = refl
+
+from_client : (c : ℕ) (to : Actor) (m : Message) → about_message (Client c) to m ≡ None
+from_client c (Replica j) _ = refl
+from_client c (Proxy p) _ = refl
+from_client c (Client b) _ = refl
+
+-- one of a replica that is not for a proxy
+pub replica_about : (p : Parcel) (k : ℕ) → p.from ≡ Replica k → ((q : ℕ) → p.to ≡ Proxy q → ⊥) → about p ≡ None
+replica_about p k from other =
+    about_nothing p (λ m. ap (λ (a : Actor). about_message a p.to m) from ∙ from_replica k p.to other m)
+
+-- one of a proxy that is not for a client
+pub proxy_about : (p : Parcel) (q : ℕ) → p.from ≡ Proxy q → ((c : ℕ) → p.to ≡ Client c → ⊥) → about p ≡ None
+proxy_about p q from other = about_nothing p (λ m. ap (λ (a : Actor). about_message a p.to m) from ∙ from_proxy q p.to other m)
+
+-- one of a client
+pub client_about : (p : Parcel) (c : ℕ) → p.from ≡ Client c → about p ≡ None
+client_about p c from = about_nothing p (λ m. ap (λ (a : Actor). about_message a p.to m) from ∙ from_client c p.to m)
 
 -- ---- the source of a reply that a proxy reads
 
@@ -116,6 +144,23 @@ read_by g q id r J p (Replica k) (SlowReply b) reply sent from is read =
     ap (λ (o : Option Id). option_flatten (stands_for g p (source p J) o)) is
     ∙ ap (λ (x : Reply). cond (is_some (answer_in x)) (in_numbers (source_of (r ∷ J) p)) None) c.1
 read_by g q id r J p _ _ reply sent from is read = absurd (none-some reply read)
+
+-- a parcel with a reply to a request is about no other
+answered_about : (w : Id → Bool) (id own : Id) (o : Option Answer) → own ≡ id → w id ≡ true → IsNoOther w (cond (is_some o) (Some own) None)
+answered_about w id own None same wanted = tt
+answered_about w id own (Some a) same wanted = ap w same ∙ wanted
+
+about_wanted : (w : Id → Bool) (q : ℕ) (id : Id) (from : Actor) (m : Message) (reply : Reply) → reply_in id from m ≡ Some reply → w id ≡ true
+    → IsNoOther w (about_message from (Proxy q) m)
+about_wanted w q id (Replica k) (FastReply b) reply read wanted =
+    answered_about w id b.id b.answer (same_id b.id id (cond_some (id_eq b.id id) (of_fast k b) reply read).0) wanted
+about_wanted w q id (Replica k) (SlowReply b) reply read wanted = tt
+about_wanted w q id _ _ reply read wanted = absurd (none-some reply read)
+
+pub wanted_read : (w : Id → Bool) (f q : ℕ) (id : Id) (p : Parcel) (e : Envelope) (reply : Reply) → accepted_envelope f (Proxy q) p ≡ Some e
+    → reply_in id e.from e.message ≡ Some reply → w id ≡ true → IsNoOther w (about p)
+wanted_read w f q id p e reply h read wanted =
+    subst (IsNoOther w) (sym (about_heard (Proxy q) p e (is_received f (Proxy q) p e h))) (about_wanted w q id e.from e.message reply read wanted)
 
 pub source_read : (g : Group) (q : ℕ) (id : Id) (r : Record) (J : List Record) (p : Parcel) (e : Envelope) (reply : Reply) → Has (sent_in J) p
     → accepted_envelope g.f (Proxy q) p ≡ Some e → reply_in id e.from e.message ≡ Some reply

@@ -15,3 +15,6 @@ pub mod Sent
 pub mod Longest
 pub mod Accepting
 pub mod Found
+pub mod Rounds
+pub mod Told
+pub mod Traces

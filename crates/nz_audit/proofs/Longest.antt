@@ -1,5 +1,5 @@
 -- The longest of some lists, and the search for it in any order.
-use Rattle.std.proofs.Common.{◌≡◌, ℕ, suc, ◌+◌, ◌<◌, ◌≤◌, ◌⊎◌, true, false, cond, eqb, List, [], ◌∷◌, ◌++◌, length, map, Option, Some, None, refl, sym}
+use Rattle.std.proofs.Common.{◌≡◌, ℕ, suc, ◌<◌, ◌≤◌, ◌⊎◌, true, false, cond, eqb, List, [], ◌∷◌, ◌++◌, length, map, Option, Some, None, refl, sym}
 use Rattle.std.proofs.Common.{ap, subst, ◌∙◌, inl, inr, arith, lt-ltb, ltb-true, ltb-false, eqb-true}
 use Rattle.std.specs.Prelude.{nat_lt}
 use Rattle.std.specs.List.{AllByRecursion}
@@ -12,7 +12,7 @@ use Rattle.nz_machine.proofs.EachItem.{all_append, all_imply}
 use Rattle.nz_machine.proofs.Runs.{has_left, has_right}
 use Rattle.nz_audit.specs.declared.source.AcceptedAnswer.{AcceptedAnswer}
 use Rattle.nz_audit.specs.declared.source.Counted.{Counted}
-use Rattle.nz_audit.specs.Prefixes.{prefix_for, longest_from, AreNumbered, IsNoLonger, IsBest, IsBestIfAny, comes_first, first_longest, is_shorter}
+use Rattle.nz_audit.specs.Prefixes.{prefix_for, longest_from, AreInOrder, IsNoLonger, IsBest, IsBestIfAny, comes_first, first_longest, is_shorter}
 
 -- ---- the longest of two
 
@@ -37,10 +37,12 @@ longest_append best (Q ∷ Ps) P = longest_append (longer best Q) Ps P
 
 -- ---- the first of the longest
 
-later_place : (n : ℕ) (xs : List AcceptedAnswer) (b : AcceptedAnswer) → AreNumbered n xs → Has xs b → n ≤ b.place
-later_place n [] b num h = absurd h
-later_place n (a ∷ xs) b num (inl e) = let is : b.place ≡ n = ap (λ (x : AcceptedAnswer). x.place) (sym e) ∙ num.0 in omega (arith, is)
-later_place n (a ∷ xs) b num (inr h) = let k = later_place (suc n) xs b num.1 h in omega (arith, k)
+later_place : (n end : ℕ) (xs : List AcceptedAnswer) (b : AcceptedAnswer) → AreInOrder n end xs → Has xs b → n ≤ b.place
+later_place n end [] b order h = absurd h
+later_place n end (a ∷ xs) b order (inl e) =
+    let is : b.place ≡ a.place = ap (λ (x : AcceptedAnswer). x.place) (sym e) in let from = order.0 in omega (arith, is, from)
+later_place n end (a ∷ xs) b order (inr h) =
+    let k = later_place (suc a.place) end xs b order.1 h in let from = order.0 in omega (arith, k, from)
 
 -- the longest one was met, or it comes after some that are shorter
 abbrev Meets : Journal → List Entry → List AcceptedAnswer → Counted → Type 0
@@ -55,43 +57,49 @@ no_longer : (journal : Journal) (b : Counted) (a : AcceptedAnswer) → IsNoLonge
 no_longer journal b a (inl lt) = omega (arith, lt)
 no_longer journal b a (inr same) = let k = same.0 in omega (arith, k)
 
-pub first_is : (journal : Journal) (b : Counted) → b.entries ≡ length (prefix_for journal b.accepted) → (n : ℕ) (h : List Entry) (xs : List AcceptedAnswer)
-    → AreNumbered n xs → AllByRecursion (IsNoLonger journal b) xs → Meets journal h xs b
+pub first_is : (journal : Journal) (b : Counted) → b.entries ≡ length (prefix_for journal b.accepted) → (n end : ℕ) (h : List Entry)
+    (xs : List AcceptedAnswer) → AreInOrder n end xs → AllByRecursion (IsNoLonger journal b) xs → Meets journal h xs b
     → longest_from h (map (prefix_for journal) xs) ≡ prefix_for journal b.accepted
-first_is journal b counted n h [] num all (inl is) = is
-first_is journal b counted n h [] num all (inr ahead) = absurd (ahead.1)
-first_is journal b counted n h (a ∷ xs) num all (inl is) =
+first_is journal b counted n end h [] order all (inl is) = is
+first_is journal b counted n end h [] order all (inr ahead) = absurd (ahead.1)
+first_is journal b counted n end h (a ∷ xs) order all (inl is) =
     let P = prefix_for journal a in
     let le = no_longer journal b a all.0 in
     let same : length h ≡ b.entries = ap length is ∙ sym counted in
     let stays = longer_stays h P (omega (arith, le, same)) in
-    first_is journal b counted (suc n) (longer h P) xs num.1 all.1 (inl (stays ∙ is))
-first_is journal b counted n h (a ∷ xs) num all (inr (lt, inl here)) =
+    first_is journal b counted (suc a.place) end (longer h P) xs order.1 all.1 (inl (stays ∙ is))
+first_is journal b counted n end h (a ∷ xs) order all (inr (lt, inl here)) =
     let P = prefix_for journal a in
     let is : P ≡ prefix_for journal b.accepted = ap (prefix_for journal) here in
     let long : length P ≡ b.entries = ap length is ∙ sym counted in
-    first_is journal b counted (suc n) (longer h P) xs num.1 all.1 (inl (longer_new h P (omega (arith, lt, long)) ∙ is))
-first_is journal b counted n h (a ∷ xs) num all (inr (lt, inr there)) =
+    first_is journal b counted (suc a.place) end (longer h P) xs order.1 all.1 (inl (longer_new h P (omega (arith, lt, long)) ∙ is))
+first_is journal b counted n end h (a ∷ xs) order all (inr (lt, inr there)) =
     let P = prefix_for journal a in
-    let after = later_place (suc n) xs b.accepted num.1 there in
-    let at = num.0 in
-    let short = shorter_before journal b a all.0 (omega (arith, after, at)) in
-    first_is journal b counted (suc n) (longer h P) xs num.1 all.1 (inr (longer_below h P b.entries lt short, there))
+    let after = later_place (suc a.place) end xs b.accepted order.1 there in
+    let short = shorter_before journal b a all.0 (omega (arith, after)) in
+    first_is journal b counted (suc a.place) end (longer h P) xs order.1 all.1 (inr (longer_below h P b.entries lt short, there))
 
-pub first_of_all : (journal : Journal) (b : Counted) (xs : List AcceptedAnswer) → AreNumbered 0 xs → IsBest journal xs b
+pub first_of_all : (journal : Journal) (b : Counted) (end : ℕ) (xs : List AcceptedAnswer) → AreInOrder 0 end xs → IsBest journal xs b
     → longest_from [] (map (prefix_for journal) xs) ≡ prefix_for journal b.accepted
-first_of_all journal b xs num best = elim (cases_Bool (eqb b.entries 0)) [
+first_of_all journal b end xs order best = elim (cases_Bool (eqb b.entries 0)) [
   | inl none ↦
       let zero_entries : b.entries ≡ 0 = eqb-true b.entries 0 none in
-      first_is journal b best.counted 0 [] xs num best.beats (inl (sym (no_entries (prefix_for journal b.accepted) (sym best.counted ∙ zero_entries))))
+      first_is journal b best.counted 0 end [] xs order best.beats (inl (sym (no_entries (prefix_for journal b.accepted) (sym best.counted ∙ zero_entries))))
   | inr some ↦
       let not_zero = eqb-false b.entries 0 some in
-      first_is journal b best.counted 0 [] xs num best.beats (inr (omega (arith, not_zero), best.among))
+      first_is journal b best.counted 0 end [] xs order best.beats (inr (omega (arith, not_zero), best.among))
 ]
 
-pub numbered_more : (n : ℕ) (xs : List AcceptedAnswer) (a : AcceptedAnswer) → AreNumbered n xs → a.place ≡ n + length xs → AreNumbered n (xs ++ a ∷ [])
-numbered_more n [] a num is = (omega (arith, is), tt)
-numbered_more n (x ∷ xs) a num is = (num.0, numbered_more (suc n) xs a num.1 (omega (arith, is)))
+-- ---- places that rise
+
+pub order_later : (n end more : ℕ) (xs : List AcceptedAnswer) → AreInOrder n end xs → end ≤ more → AreInOrder n more xs
+order_later n end more [] order le = omega (arith, order, le)
+order_later n end more (x ∷ xs) order le = (order.0, order_later (suc x.place) end more xs order.1 le)
+
+pub order_more : (n end more : ℕ) (xs : List AcceptedAnswer) (a : AcceptedAnswer) → AreInOrder n end xs → end ≤ a.place → a.place < more
+    → AreInOrder n more (xs ++ a ∷ [])
+order_more n end more [] a order le lt = (omega (arith, order, le), lt)
+order_more n end more (x ∷ xs) a order le lt = (order.0, order_more (suc x.place) end more xs a order.1 le lt)
 
 -- ---- the search
 
@@ -100,7 +108,7 @@ has_last xs x = has_right xs (x ∷ []) x (inl refl)
 
 -- one that cannot be the longest
 pub best_stays : (journal : Journal) (done : List AcceptedAnswer) (a : AcceptedAnswer) (o : Option Counted) → length (prefix_for journal a) ≤ a.sent
-    → is_shorter o a ≡ true → IsBestIfAny journal done o → IsBestIfAny journal (done ++ a ∷ []) o
+    → is_shorter o a.sent ≡ true → IsBestIfAny journal done o → IsBestIfAny journal (done ++ a ∷ []) o
 best_stays journal done a None few less h = absurd cc
 best_stays journal done a (Some b) few less h =
     let short : a.sent < b.entries = ltb-true a.sent b.entries less in

@@ -1,11 +1,11 @@
--- What single fields of a reply's frame show: whether it has an answer, and the request that it names.
+-- What single fields of a frame show: whether a reply has an answer, and the request that is named.
 use Rattle.std.proofs.Common.{◌≡◌, ℕ, ◌+◌, ◌*◌, ◌<◌, ◌^◌, ltb, Bool, true, false, cond, drop, List, [], ◌∷◌, ◌++◌, length, append_assoc, length-append}
-use Rattle.std.proofs.Common.{get_or, Option, Some, None, Result, Ok, Err, refl, sym, ap, subst, ◌∙◌, arith}
+use Rattle.std.proofs.Common.{get_or, Option, Some, None, Result, Ok, Err, refl, sym, ap, subst, ◌∙◌, inl, inr, arith}
 use Rattle.std.specs.Prelude.{slice_get, is_some}
 use Rattle.std.proofs.Math.Seq.{get_or-append_seam}
-use Rattle.std.proofs.lemmas.Option.{none-some, cond_some, slice_get-get_or}
+use Rattle.std.proofs.lemmas.Option.{none-some, same_Some, cond_some, slice_get-get_or}
 use Rattle.std.specs.Option.{option_map}
-use Rattle.std.proofs.lemmas.Bool.{le-ltb}
+use Rattle.std.proofs.lemmas.Bool.{cases_Bool, le-ltb}
 use Rattle.std.proofs.lemmas.List.{drop_at}
 use Rattle.byteorder.specs.Endian.{big_bytes, big_number}
 use Rattle.byteorder.specs.Numbers.{big_number-reads_back}
@@ -14,31 +14,35 @@ use Rattle.nz_base.proofs.Names.{same_id}
 use Rattle.nz_base.specs.Key.{id_eq}
 use Rattle.nz_base.specs.Actor.{address_of}
 use Rattle.nz_base.specs.declared.actor.Actor.{Actor}
-use Rattle.nz_base.specs.declared.actor.Actor.TheVariants.{Replica, Proxy}
+use Rattle.nz_base.specs.declared.actor.Actor.TheVariants.{Replica, Proxy, Client}
 use Rattle.nz_base.specs.declared.key.Id.{Id}
 use Rattle.nz_store.specs.declared.command.Answer.{Answer}
 use Rattle.nz_frame.specs.Grammar.{frame, AreBytes}
 use Rattle.nz_msg.specs.Codec.{number_bytes, items_put, optional_put, optional, ◌then◌}
 use Rattle.nz_msg.specs.Fields.{u32}
 use Rattle.nz_msg.specs.Fields as fields
-use Rattle.nz_msg.specs.Messages.{fast_reply, slow_reply, Fits}
-use Rattle.nz_msg.specs.Envelope.{encode_of, decode_of, Spells}
+use Rattle.nz_msg.specs.Messages.{request, fast_reply, slow_reply, client_answer, Fits}
+use Rattle.nz_msg.specs.Envelope.{encode_of, decode_of}
 use Rattle.nz_msg.specs.declared.envelope.Envelope.{Envelope}
+use Rattle.nz_msg.specs.declared.message.RequestBody.{RequestBody}
+use Rattle.nz_msg.specs.declared.message.AnswerBody.{AnswerBody}
 use Rattle.nz_msg.specs.declared.message.FastReplyBody.{FastReplyBody}
 use Rattle.nz_msg.specs.declared.message.SlowReplyBody.{SlowReplyBody}
 use Rattle.nz_msg.specs.declared.message.Message.{Message}
-use Rattle.nz_msg.specs.declared.message.Message.TheVariants.{FastReply, SlowReply}
+use Rattle.nz_msg.specs.declared.message.Message.TheVariants.{Request, FastReply, SlowReply}
+use Rattle.nz_msg.specs.declared.message.Message.TheVariants.{Answer as AnswerMessage}
 use Rattle.nz_msg.specs.declared.refusal.DecodeRefusal.{DecodeRefusal}
 use Rattle.nz_msg.proofs.Envelopes.{decode_takes}
 use Rattle.nz_machine.specs.declared.event.Parcel.{Parcel}
 use Rattle.nz_machine.specs.declared.reply.Reply.{Reply}
 use Rattle.nz_machine.specs.Proxies.{of_fast, of_slow}
 use Rattle.nz_machine.specs.Step.{is_for, envelope_if_for, envelope_for, accepted_envelope}
-use Rattle.nz_audit.specs.Sources.{about_message, about_envelope, about, flag_after, is_one, shows_answer, named_id}
+use Rattle.nz_machine.specs.Events.{id_at}
+use Rattle.nz_audit.specs.Sources.{about_message, about_envelope, about, flag_after, is_one, shows_answer, named_id, named_num}
 use Rattle.nz_audit.specs.declared.source.Source.{Source}
 use Rattle.nz_audit.specs.declared.noting.Noted.{Noted}
 use Rattle.nz_audit.specs.declared.noting.Noted.TheVariants as noted
-use Rattle.nz_audit.specs.Noting.{is_open, noted_by, source_if_answer, after_message, after_envelope}
+use Rattle.nz_audit.specs.Noting.{is_open, noted_after_request, noted_by, source_if_answer, after_message, after_envelope}
 use Rattle.nz_audit.proofs.Hearing.{is_heard, is_received}
 
 -- ---- the place of the byte
@@ -175,6 +179,117 @@ slow_named from to b fits =
     named_at (encode_of from to (SlowReply b)) (before_id 4 (6 + length (slow_reply.put b [])) (address_of from) (address_of to) b.view)
     (big_bytes 4 b.delay) b.id refl refl fits.1.0.0 fits.1.0.1
 
+-- what is before the body
+abbrev before_body : ℕ → ℕ → ℕ → ℕ → List ℕ
+before_body kind long from to = big_bytes 4 long ++ 1 ∷ kind ∷ (big_bytes 2 from ++ big_bytes 2 to)
+
+num_at : (bytes before rest : List ℕ) (num : ℕ) → bytes ≡ before ++ (big_bytes 4 num ++ rest) → length before ≡ 10 → num < 256 ^ 4
+    → named_num bytes ≡ Some num
+num_at bytes before rest num e long fits =
+    let enough : ltb (length (before ++ (big_bytes 4 num ++ rest))) 14 ≡ false =
+    le-ltb (length (before ++ (big_bytes 4 num ++ rest))) 14 (omega (arith, long, length-append before (big_bytes 4 num ++ rest))) in
+    let there : drop 10 (before ++ (big_bytes 4 num ++ rest)) ≡ big_bytes 4 num ++ rest = drop_at before (big_bytes 4 num ++ rest) 10 long in
+    ap named_num e
+    ∙ ap (λ (b : Bool). cond b None (Some (big_number 4 (drop 10 (before ++ (big_bytes 4 num ++ rest)))))) enough
+    ∙ ap Some (ap (big_number 4) there ∙ big_number-reads_back 4 num rest fits)
+
+request_named : (from to : Actor) (b : RequestBody) → request.fits b → named_num (encode_of from to (Request b)) ≡ Some b.num
+unfolding encode_of frame number_bytes
+request_named from to b fits =
+    num_at (encode_of from to (Request b)) (before_body 1 (6 + length (request.put b [])) (address_of from) (address_of to))
+    (fields.command.put b.command []) b.num refl refl fits.0
+
+answer_named : (from to : Actor) (b : AnswerBody) → client_answer.fits b → named_num (encode_of from to (AnswerMessage b)) ≡ Some b.num
+unfolding encode_of frame number_bytes
+answer_named from to b fits =
+    num_at (encode_of from to (AnswerMessage b)) (before_body 5 (6 + length (client_answer.put b [])) (address_of from) (address_of to))
+    ((fields.answer then fields.path).put (b.answer, b.path) []) b.num refl refl fits.0
+
+-- ---- the request that a parcel is about
+
+-- the message of a parcel that is about a request
+record IsSpelled (p : Parcel) (id : Id) : Type 0 where
+  from : Actor
+  to : Actor
+  message : Message
+  fit : Fits message
+  spelled : encode_of from to message ≡ p.frame
+  about : about_message p.from p.to message ≡ Some id
+
+about_spelled : (p : Parcel) (id : Id) → AreBytes p.frame → about p ≡ Some id → IsSpelled p id
+about_spelled p id bytes is = by_envelope (envelope_for p.to p) refl
+  where
+    by_envelope : (o : Option Envelope) → envelope_for p.to p ≡ o → IsSpelled p id
+    by_envelope None e = absurd (none-some id (sym (ap about_envelope e) ∙ is))
+    by_envelope (Some x) e =
+        let heard = is_heard p.to p x e in
+        let s = decode_takes p.frame x bytes (decoded_of p.to p x e) in
+        record {
+          from = x.from;
+          to = x.to;
+          message = x.message;
+          fit = s.fit;
+          spelled = sym s.spelled;
+          about = (λ i. about_message (sym heard.from i) (sym heard.receiver i) x.message) ∙ sym (ap about_envelope e) ∙ is;
+        }
+
+reply_is_named : (k q : ℕ) (from to : Actor) (m : Message) (id : Id) → Fits m → about_message (Replica k) (Proxy q) m ≡ Some id
+    → named_id (encode_of from to m) ≡ Some id
+reply_is_named k q from to (FastReply b) id fits is = fast_named from to b fits ∙ ap Some (cond_some (is_some b.answer) b.id id is).1
+reply_is_named k q from to _ id fits is = absurd (none-some id is)
+
+answer_is_named : (q c : ℕ) (from to : Actor) (m : Message) (id : Id) → Fits m → about_message (Proxy q) (Client c) m ≡ Some id
+    → option_map (id_at c) (named_num (encode_of from to m)) ≡ Some id
+answer_is_named q c from to (AnswerMessage b) id fits is = ap (option_map (id_at c)) (answer_named from to b fits) ∙ is
+answer_is_named q c from to _ id fits is = absurd (none-some id is)
+
+-- a reply with an answer
+pub reply_about : (p : Parcel) (k q : ℕ) (id : Id) → AreBytes p.frame → p.from ≡ Replica k → p.to ≡ Proxy q → about p ≡ Some id
+    → named_id p.frame ≡ Some id
+reply_about p k q id bytes from to is =
+    let s = about_spelled p id bytes is in
+    ap named_id (sym s.spelled)
+    ∙ reply_is_named k q s.from s.to s.message id s.fit ((λ i. about_message (sym from i) (sym to i) s.message) ∙ s.about)
+
+-- an answer for a client
+pub answer_about : (p : Parcel) (q c : ℕ) (id : Id) → AreBytes p.frame → p.from ≡ Proxy q → p.to ≡ Client c → about p ≡ Some id
+    → option_map (id_at c) (named_num p.frame) ≡ Some id
+answer_about p q c id bytes from to is =
+    let s = about_spelled p id bytes is in
+    ap (λ (l : List ℕ). option_map (id_at c) (named_num l)) (sym s.spelled)
+    ∙ answer_is_named q c s.from s.to s.message id s.fit ((λ i. about_message (sym from i) (sym to i) s.message) ∙ s.about)
+
+-- ---- a request that is not wanted
+
+either_down : (down : Bool) (before after : Option Noted) → after ≡ before → cond down before after ≡ before
+either_down true before after e = refl
+either_down false before after e = e
+
+request_ignored : (w : Id → Bool) (f : ℕ) (source : Option Source) (quiet : Bool) (x : Id) (c n : ℕ) (from to : Actor) (m : Message)
+    (known : Option Noted) → Fits m → named_num (encode_of from to m) ≡ Some n → w (id_at c n) ≡ false → w x ≡ true
+    → after_message f source quiet x (Client c) m known ≡ known
+request_ignored w f source quiet x c n from to (Request b) known fits is other wanted = elim (cases_Bool (id_eq (id_at c b.num) x)) [
+  | inl same ↦
+      let num : b.num ≡ n = same_Some b.num n (sym (request_named from to b fits) ∙ is) in
+      absurd (true_and_false (w x) wanted (ap w (sym (same_id (id_at c b.num) x same) ∙ ap (id_at c) num) ∙ other))
+  | inr away ↦ ap (λ (t : Bool). cond t (noted_after_request f known) known) away
+]
+request_ignored w f source quiet x c n from to _ known fits is other wanted = refl
+
+pub other_ignored : (w : Id → Bool) (p : Parcel) (c n : ℕ) → AreBytes p.frame → p.from ≡ Client c → named_num p.frame ≡ Some n → w (id_at c n) ≡ false
+    → (id : Id) → w id ≡ true → (f me : ℕ) (source : Option Source) (quiet down : Bool) (known : Option Noted)
+    → after_envelope f source quiet down id (accepted_envelope f (Proxy me) p) known ≡ known
+other_ignored w p c n bytes from is other id wanted f me source quiet down known = by_envelope (accepted_envelope f (Proxy me) p) refl
+  where
+    by_envelope : (o : Option Envelope) → accepted_envelope f (Proxy me) p ≡ o → after_envelope f source quiet down id o known ≡ known
+    by_envelope None e = refl
+    by_envelope (Some m) e =
+        let heard = is_received f (Proxy me) p m e in
+        let s = decode_takes p.frame m bytes (decoded_of (Proxy me) p m heard.heard) in
+        either_down down known (after_message f source quiet id m.from m.message known)
+        (ap (λ (a : Actor). after_message f source quiet id a m.message known) (heard.from ∙ from)
+        ∙ request_ignored w f source quiet id c n m.from m.to m.message known s.fit (ap named_num (sym s.spelled) ∙ is) other wanted)
+
 -- ---- a reply to a request that is not open
 
 abbrev pub IsPast : Option Noted → Type 0
@@ -210,10 +325,6 @@ past_message f source quiet x k from to (FastReply b) known fits h =
 past_message f source quiet x k from to (SlowReply b) known fits h =
     past_at (id_eq b.id x) quiet (of_slow k b) (source_if_answer source (of_slow k b)) b.id x known refl (h b.id (slow_named from to b fits))
 past_message f source quiet x k from to _ known fits h = refl
-
-either_down : (down : Bool) (before after : Option Noted) → after ≡ before → cond down before after ≡ before
-either_down true before after e = refl
-either_down false before after e = e
 
 pub past_stays : (p : Parcel) (k : ℕ) (known : Id → Option Noted) → AreBytes p.frame → p.from ≡ Replica k → AreNotOpen p.frame known
     → (f me : ℕ) (source : Option Source) (quiet down : Bool) (x : Id)

@@ -1,10 +1,14 @@
 -- The accepted prefixes of a journal's run, and the longest of them.
 use Rattle.std.specs.Prelude.{◌≡◌, ℕ, suc, ◌<◌, ◌≤◌, ◌⊎◌, Bool, ◌||◌, ◌&&◌, ◌==◌, nat_lt, false, if◌then◌else◌}
-use Rattle.std.specs.Prelude.{List, [], ◌∷◌, ◌++◌, map, length, Option, Some, None, IfSome}
-use Rattle.std.specs.List.{AllByRecursion}
+use Rattle.std.specs.Prelude.{List, [], ◌∷◌, ◌++◌, map, length, slice_get, Option, Some, None, IfSome}
+use Rattle.std.specs.List.{AllByRecursion, filter_map}
 use Rattle.nz_base.specs.Cluster.{replica_count}
 use Rattle.nz_base.specs.declared.actor.Actor.TheVariants.{Replica}
 use Rattle.nz_base.specs.declared.key.Entry.{Entry}
+use Rattle.nz_base.specs.declared.key.Id.{Id}
+use Rattle.nz_base.specs.Key.{id_eq}
+use Rattle.nz_machine.specs.declared.event.Event.{Event}
+use Rattle.nz_machine.specs.declared.event.Event.TheVariants.{Deliver, Cut, Tick, Alarm, Crash, Restart}
 use Rattle.nz_machine.specs.declared.event.Record.{Record}
 use Rattle.nz_machine.specs.declared.journal.Journal.{Journal}
 use Rattle.nz_machine.specs.declared.client_progress.Acceptance.{Acceptance}
@@ -14,12 +18,60 @@ use Rattle.nz_machine.specs.Events as events
 use Rattle.nz_machine.specs.History.{log_at, cut_after, longer, history}
 use Rattle.nz_machine.specs.World.{Has}
 use Rattle.nz_audit.specs.declared.source.Source.{Source}
+use Rattle.nz_audit.specs.declared.source.AcceptedAt.{AcceptedAt}
 use Rattle.nz_audit.specs.declared.source.AcceptedAnswer.{AcceptedAnswer}
 use Rattle.nz_audit.specs.declared.source.Counted.{Counted}
 use Rattle.nz_audit.specs.declared.searching.Search.{Search}
+use Rattle.nz_audit.specs.Sources.{about, delivered_source}
 use Rattle.nz_audit.specs.Cores.{run_up_to, IsReplayed}
 
 -- ---- accepted answers, with their sources
+
+-- The answer that the record at this place accepts, if there is one.
+abbrev pub accepted_at : Option Acceptance → ℕ → ℕ → Option AcceptedAt
+accepted_at None place sent = None
+accepted_at (Some a) place sent = Some (record { place = place; id = a.id; sent = sent })
+
+-- One more comes last, if there is one.
+abbrev pub with_accepted : {X : Type 0} → List X → Option X → List X
+with_accepted accepted None = accepted
+with_accepted accepted (Some a) = accepted ++ a ∷ []
+
+-- An accepted answer with its source, if it has one.
+abbrev pub with_source : Option Source → AcceptedAt → Option AcceptedAnswer
+with_source None a = None
+with_source (Some source) a = Some (record { place = a.place; id = a.id; source = source; sent = a.sent })
+
+-- The source of what a record delivers, which is the one at this place.
+abbrev pub source_by : Journal → ℕ → Option Record → Option Source
+source_by journal place None = None
+source_by journal place (Some r) = delivered_source (group_in journal) (run_up_to journal place) r.event
+
+-- The accepted answer with the source of what was delivered.
+abbrev pub traced : Journal → AcceptedAt → Option AcceptedAnswer
+traced journal a = with_source (source_by journal a.place (slice_get journal.records a.place)) a
+
+-- Those of some accepted answers that have a source.
+abbrev pub all_traced : Journal → List AcceptedAt → List AcceptedAnswer
+all_traced journal answers = filter_map (traced journal) answers
+
+-- Whether it is an answer to the request.
+abbrev pub is_to : Id → AcceptedAt → Bool
+is_to id a = id_eq a.id id
+
+-- What the event delivers is about the request.
+abbrev pub Brings : Id → Event → Type 0
+Brings id (Deliver p) = about p ≡ Some id
+Brings id (Cut p kept) = Unit {0}
+Brings id (Tick clock) = Unit {0}
+Brings id Alarm = Unit {0}
+Brings id Crash = Unit {0}
+Brings id (Restart nonce) = Unit {0}
+
+-- A record of the journal accepts it.
+pub record IsAccepted (journal : Journal) (a : AcceptedAt) : Type 0 where
+  pub place : a.place < length journal.records
+  pub brings : (r : Record) → slice_get journal.records a.place ≡ Some r → Brings a.id r.event
 
 -- The prefix of an accepted answer: the log at its source, up to and with the entry of its request.
 abbrev pub prefix_for : Journal → AcceptedAnswer → List Entry
@@ -36,10 +88,10 @@ requests_sent [] = 0
 requests_sent (Sent id command ∷ E) = suc (requests_sent E)
 requests_sent (events.Accepted id answer path ∷ E) = requests_sent E
 
--- Their places are this number and those that follow.
-abbrev pub AreNumbered : ℕ → List AcceptedAnswer → Type 0
-AreNumbered n [] = Unit {0}
-AreNumbered n (a ∷ xs) = (a.place ≡ n) × AreNumbered (suc n) xs
+-- Their places rise, from the first number on, and are below the second.
+abbrev pub AreInOrder : ℕ → ℕ → List AcceptedAnswer → Type 0
+AreInOrder n end [] = n ≤ end
+AreInOrder n end (a ∷ xs) = (n ≤ a.place) × AreInOrder (suc a.place) end xs
 
 -- The source is one in the journal, and the prefix has at most as many entries as requests were sent.
 pub record IsWithin (journal : Journal) (a : AcceptedAnswer) : Type 0 where
@@ -47,21 +99,16 @@ pub record IsWithin (journal : Journal) (a : AcceptedAnswer) : Type 0 where
   pub records : a.source.records ≤ length journal.records
   pub sent : length (prefix_for journal a) ≤ a.sent
 
--- These are accepted answers of the run, in their order: the history is the longest of their prefixes.
-pub record AreAccepted (journal : Journal) (J : List Record) (accepted : List AcceptedAnswer) : Type 0 where
+-- The history is the longest of the prefixes of these, which are in the order in which they were accepted.
+pub record GiveHistory (journal : Journal) (J : List Record) (accepted : List AcceptedAnswer) : Type 0 where
   pub longest : history (group_in journal) J ≡ longest_from [] (map (prefix_for journal) accepted)
-  pub places : AreNumbered 0 accepted
+  pub places : AreInOrder 0 (length J) accepted
   pub within : AllByRecursion (IsWithin journal) accepted
 
--- The acceptance with its source, if it has one.
-abbrev pub acceptance_from : Option Acceptance → Option Source → ℕ → ℕ → Option AcceptedAnswer
-acceptance_from (Some a) (Some s) place sent = Some (record { place = place; id = a.id; source = s; sent = sent })
-acceptance_from _ _ place sent = None
-
--- One more comes last, if there is one.
-abbrev pub with_accepted : List AcceptedAnswer → Option AcceptedAnswer → List AcceptedAnswer
-with_accepted accepted None = accepted
-with_accepted accepted (Some a) = accepted ++ a ∷ []
+-- These are the accepted answers of the run.
+pub record AreAccepted (journal : Journal) (J : List Record) (answers : List AcceptedAt) : Type 0 where
+  pub each : AllByRecursion (IsAccepted journal) answers
+  pub history : GiveHistory journal J (all_traced journal answers)
 
 -- ---- the search for the longest
 
@@ -74,10 +121,10 @@ abbrev pub first_longest : Option Counted → Counted → Counted
 first_longest None next = next
 first_longest (Some best) next = if comes_first best next then next else best
 
--- Whether the prefix of an accepted answer is shorter than the longest so far, since fewer requests were sent.
-abbrev pub is_shorter : Option Counted → AcceptedAnswer → Bool
-is_shorter None a = false
-is_shorter (Some b) a = nat_lt a.sent b.entries
+-- Whether the prefix of an answer is shorter than the longest so far, since so few requests were sent before.
+abbrev pub is_shorter : Option Counted → ℕ → Bool
+is_shorter None sent = false
+is_shorter (Some b) sent = nat_lt sent b.entries
 
 -- The other prefix is shorter, or as long and accepted no earlier.
 abbrev pub IsNoLonger : Journal → Counted → AcceptedAnswer → Type 0

@@ -1,5 +1,6 @@
 -- Where answers come from, in numbers, by the definition of the history.
-use Rattle.std.specs.Prelude.{ℕ, ◌+◌, ◌*◌, ◌==◌, Bool, false, ◌&&◌, nat_lt, List, length, drop, slice_get, Option, Some, None, is_some, if◌then◌else◌}
+use Rattle.std.specs.Prelude.{◌≡◌, ℕ, ◌+◌, ◌*◌, ◌==◌, nat_lt, Bool, true, false, ◌&&◌, if◌then◌else◌, List, length, drop, slice_get}
+use Rattle.std.specs.Prelude.{Option, Some, None, is_some}
 use Rattle.std.specs.Map.{lookup}
 use Rattle.std.specs.Option.{option_map, option_and_then, option_flatten}
 use Rattle.std.specs.Str.{bytes_eq}
@@ -15,11 +16,10 @@ use Rattle.nz_machine.specs.declared.event.Event.{Event}
 use Rattle.nz_machine.specs.declared.event.Event.TheVariants.{Deliver, Cut, Tick, Alarm, Crash, Restart}
 use Rattle.nz_machine.specs.declared.event.Parcel.{Parcel}
 use Rattle.nz_machine.specs.declared.event.Record.{Record}
-use Rattle.nz_machine.specs.declared.client_progress.Acceptance.{Acceptance}
 use Rattle.nz_machine.specs.State.{Group}
 use Rattle.nz_machine.specs.Step.{envelope_for}
 use Rattle.nz_machine.specs.Events.{id_at}
-use Rattle.nz_machine.specs.History.{ReplySource, source_of_sender}
+use Rattle.nz_machine.specs.History.{ReplySource, source, source_of_sender}
 use Rattle.nz_audit.specs.declared.source.Source.{Source}
 use Rattle.nz_audit.specs.declared.sending.ParcelKey.{ParcelKey}
 
@@ -52,6 +52,16 @@ about_envelope (Some e) = about_message e.from e.to e.message
 abbrev pub about : Parcel → Option Id
 about p = about_envelope (envelope_for p.to p)
 
+-- A request, where it is wanted.
+abbrev pub if_wanted : (Id → Bool) → Option Id → Option Id
+if_wanted w None = None
+if_wanted w (Some id) = if w id then Some id else None
+
+-- It is no other request than a wanted one.
+abbrev pub IsNoOther : (Id → Bool) → Option Id → Type 0
+IsNoOther w None = Unit {0}
+IsNoOther w (Some id) = w id ≡ true
+
 -- The byte after a vector of this size and the delay, which says whether a fast reply has an answer.
 abbrev pub flag_after : List ℕ → Option ℕ → Option ℕ
 flag_after frame None = None
@@ -71,6 +81,10 @@ abbrev pub named_id : List ℕ → Option Id
 named_id frame =
     if nat_lt (length frame) 26 then None else Some (record { client = big_number 4 (drop 18 frame); num = big_number 4 (drop 22 frame) })
 
+-- The number of the request that the frame of a request or an answer names: after the header.
+abbrev pub named_num : List ℕ → Option ℕ
+named_num frame = if nat_lt (length frame) 14 then None else Some (big_number 4 (drop 10 frame))
+
 -- The source that a parcel about the request stands for, sent first by this actor with the last of the records:
 -- a reply is one itself, and an answer stands for that of the reply that decided.
 abbrev pub source_sent : Group → Id → Actor → List Record → Option Source
@@ -82,6 +96,15 @@ source_sent g id (Client c) K = None
 abbrev pub stands_for : Group → Parcel → Option (List Record) → Option Id → Option (Option Source)
 stands_for g p first None = None
 stands_for g p first (Some id) = option_map (source_sent g id p.from) first
+
+-- The source of what is delivered after these records.
+abbrev pub delivered_source : Group → List Record → Event → Option Source
+delivered_source g J (Deliver p) = option_flatten (stands_for g p (source p J) (about p))
+delivered_source g J (Cut p kept) = None
+delivered_source g J (Tick clock) = None
+delivered_source g J Alarm = None
+delivered_source g J Crash = None
+delivered_source g J (Restart nonce) = None
 
 -- ---- the table of the parcels that were sent
 
@@ -105,8 +128,3 @@ source_delivered table (Tick clock) = None
 source_delivered table Alarm = None
 source_delivered table Crash = None
 source_delivered table (Restart nonce) = None
-
--- The same, where the event is an acceptance.
-abbrev pub source_told : List (ParcelKey × Option Source) → Option Acceptance → Event → Option Source
-source_told table None e = None
-source_told table (Some a) e = source_delivered table e

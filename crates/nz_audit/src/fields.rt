@@ -1,4 +1,4 @@
-//! Fields of a reply's frame, read at their places without decoding the frame.
+//! Fields of a frame, read at their places without decoding the frame.
 
 ghost use Rattle.std.specs.Prelude.{◌≡◌};
 ghost use Rattle.nz_frame.specs.Grammar.{AreBytes};
@@ -33,4 +33,15 @@ pub fn named_id(frame: &[u8]) -> Option<Id>
         client: BigEndian::read_u32(&frame[18..]),
         num: BigEndian::read_u32(&frame[22..]),
     })
+}
+
+/// The number of the request that the frame of a request or an answer names.
+pub fn named_num(frame: &[u8]) -> Option<u32>
+    ensures shown { result ≡ sources.named_num frame.now }
+    ensures bytes { AreBytes frame.now }
+{
+    if frame.len() < 14 {
+        return None;
+    }
+    Some(BigEndian::read_u32(&frame[10..]))
 }

@@ -5,16 +5,15 @@ ghost use Rattle.nz_machine.specs.Journals.{group_in, run_in, history_in};
 ghost use Rattle.nz_machine.specs.World.{World};
 
 use super::executing::execute;
-use super::reading::accepted_in;
 use super::replaying::replay;
 use super::searching::longest_of;
+use super::telling::accepted_in;
 use nz_base::NoMemory;
 use nz_machine::{History, Journal};
 use std::alloc::Global;
 
 /// The history of the journal's run, with what the one store that executes it answers. It is the longest of
-/// the prefixes that the clients' acceptances lead back to. One reading of the records finds where these come
-/// from; then the replicas are replayed that the longest may be of.
+/// the prefixes that the clients' acceptances lead back to. Only those are looked for that may be the longest.
 pub fn history_of(alloc: Global, journal: &Journal) -> Result<History, NoMemory>
     requires { World (group_in journal.now) (run_in journal.now) }
     ensures { IfOk result (λ history. history ≡ history_in journal.now) }

@@ -11,6 +11,9 @@ mod replaying;
 mod searching;
 mod sending;
 mod source;
+mod telling;
+mod tracing;
+mod wanted;
 
 pub use history::history_of;
 

@@ -1,7 +1,9 @@
-//! One reading of the records of a run.
+//! One reading of the records of a run, for the answers to some requests.
 
-ghost use Rattle.std.specs.Prelude.{◌≡◌, ◌+◌, ◌≤◌, ◌∷◌, ◌++◌, [], false, ℕ, nat_eq, List, length, Some, IfOk, OnOk};
+ghost use Rattle.std.specs.Prelude.{◌≡◌, ◌≤◌, ◌∷◌, ◌++◌, [], Bool, true, false, ℕ, nat_eq, List, length, Some, IfOk, OnOk};
+ghost use Rattle.std.specs.HashSet.{contains};
 ghost use Rattle.indexmap.specs.IndexMap.{get};
+ghost use Rattle.nz_base.specs.Key.{id_eq};
 ghost use Rattle.nz_base.specs.declared.key.Id.{Id as IdModel};
 ghost use Rattle.nz_machine.specs.Journals.{group_in, run_in};
 ghost use Rattle.nz_machine.specs.State.{Group};
@@ -11,33 +13,30 @@ ghost use Rattle.nz_machine.specs.declared.event.Record.{Record as RecordModel};
 ghost use Rattle.nz_machine.specs.declared.journal.Journal.{Journal as JournalModel};
 ghost use Rattle.nz_audit.specs.Cores.{run_up_to};
 ghost use Rattle.nz_audit.specs.Noting.{after_event, down_after, decided_in, IsSized};
-ghost use Rattle.nz_audit.specs.Prefixes.{acceptance_from, with_accepted, AreAccepted};
+ghost use Rattle.nz_audit.specs.Memories.{memory};
 ghost use Rattle.nz_audit.specs.Sources as sources;
-ghost use Rattle.nz_audit.specs.Sources.{source_sent, source_told, source_delivered};
+ghost use Rattle.nz_audit.specs.Sources.{source_sent, source_delivered};
 ghost use Rattle.nz_audit.specs.Readings.{known_to, is_down_in, IsProxy, IsTable, IsTableWith, IsNextRecord, IsRead};
 
 use super::noting::Noted;
 use super::proxy::ProxyNotes;
-use super::sending::{Sendings, about};
-use super::source::{AcceptedAnswer, Source};
+use super::sending::Sendings;
+use super::source::Source;
+use super::wanted::{about, is_other_request};
 use indexmap::IndexMap;
-use nz_base::{Actor, Cluster, Id, NoMemory, Scenario};
-use nz_machine::{Clients, Event, Journal, Parcel, Record, Telling};
+use nz_base::{Actor, Cluster, Id, NoMemory};
+use nz_machine::{Event, Journal, Parcel, Record};
 use std::alloc::Global;
+use std::collections::HashSet;
 
 /// What each proxy knows, by its number.
 pub type Proxies = IndexMap<u8, ProxyNotes>;
 
-/// What the records that were read so far have made.
+/// What the records that were read so far have made of the wanted requests.
 #[derive(Drop)]
 pub struct Reading {
     pub proxies: Proxies,
     pub sendings: Sendings,
-    pub clients: Clients,
-    /// The answers that were accepted, in that order, each with where it comes from.
-    pub accepted: Vec<AcceptedAnswer>,
-    /// How many requests were sent.
-    pub sent: u32,
 }
 
 /// The source of the reply with which a proxy decided the request, if it has decided.
@@ -87,7 +86,7 @@ fn source_for(
     id: Id,
 ) -> Option<Source>
     requires records { records ≤ length journal.now.records }
-    requires proxies { (q : ℕ) → IsProxy (group_in journal.now) (run_up_to journal.now records) q (get nat_eq proxies.now q) }
+    requires known { (q : ℕ) → known_to (get nat_eq proxies.now q) id ≡ memory (group_in journal.now) q id (run_up_to journal.now records) }
     ensures { result ≡ source_sent (group_in journal.now) id from (run_up_to journal.now records) }
 {
     match from {
@@ -108,10 +107,10 @@ fn keep_about(
 ) -> Result<(), NoMemory>
     requires about { sources.about parcel.now ≡ Some id }
     requires records { records ≤ length journal.now.records }
-    requires proxies { (q : ℕ) → IsProxy (group_in journal.now) (run_up_to journal.now records) q (get nat_eq proxies.now q) }
-    ensures { OnOk result ((done : List ParcelModel) (r : RecordModel) (J : List RecordModel) → run_up_to journal.now records ≡ r ∷ J
-        → IsTableWith (group_in journal.now) done r J sendings.old.kept.entries
-        → IsTableWith (group_in journal.now) (done ++ parcel.now ∷ []) r J sendings.new.kept.entries) }
+    requires known { (q : ℕ) → known_to (get nat_eq proxies.now q) id ≡ memory (group_in journal.now) q id (run_up_to journal.now records) }
+    ensures { OnOk result ((w : IdModel → Bool) (done : List ParcelModel) (r : RecordModel) (J : List RecordModel) → w id ≡ true
+        → run_up_to journal.now records ≡ r ∷ J → IsTableWith (group_in journal.now) w done r J sendings.old.kept.entries
+        → IsTableWith (group_in journal.now) w (done ++ parcel.now ∷ []) r J sendings.new.kept.entries) }
 {
     if sendings.has(parcel)? {
         return Ok(());
@@ -125,17 +124,18 @@ fn keep_sending(
     proxies: &Proxies,
     sendings: &mut Sendings,
     alloc: Global,
+    wanted: &HashSet<Id>,
     journal: &Journal,
     records: u32,
     parcel: &Parcel,
 ) -> Result<(), NoMemory>
     requires records { records ≤ length journal.now.records }
-    requires proxies { (q : ℕ) → IsProxy (group_in journal.now) (run_up_to journal.now records) q (get nat_eq proxies.now q) }
+    requires proxies { (q : ℕ) → IsProxy (group_in journal.now) (contains id_eq wanted.now) (run_up_to journal.now records) q (get nat_eq proxies.now q) }
     ensures { OnOk result ((done : List ParcelModel) (r : RecordModel) (J : List RecordModel) → run_up_to journal.now records ≡ r ∷ J
-        → IsTableWith (group_in journal.now) done r J sendings.old.kept.entries
-        → IsTableWith (group_in journal.now) (done ++ parcel.now ∷ []) r J sendings.new.kept.entries) }
+        → IsTableWith (group_in journal.now) (contains id_eq wanted.now) done r J sendings.old.kept.entries
+        → IsTableWith (group_in journal.now) (contains id_eq wanted.now) (done ++ parcel.now ∷ []) r J sendings.new.kept.entries) }
 {
-    match about(alloc, parcel)? {
+    match about(alloc, wanted, parcel)? {
         None => Ok(()),
         Some(id) => keep_about(proxies, sendings, journal, records, parcel, id),
     }
@@ -146,153 +146,85 @@ fn keep_sendings(
     proxies: &Proxies,
     sendings: &mut Sendings,
     alloc: Global,
+    wanted: &HashSet<Id>,
     journal: &Journal,
     records: u32,
     next: &Record,
 ) -> Result<(), NoMemory>
     requires records { records ≤ length journal.now.records }
-    requires proxies { (q : ℕ) → IsProxy (group_in journal.now) (run_up_to journal.now records) q (get nat_eq proxies.now q) }
+    requires proxies { (q : ℕ) → IsProxy (group_in journal.now) (contains id_eq wanted.now) (run_up_to journal.now records) q (get nat_eq proxies.now q) }
     ensures { OnOk result ((J : List RecordModel) → run_up_to journal.now records ≡ next.now ∷ J
-        → IsTable (group_in journal.now) J sendings.old.kept.entries → IsTable (group_in journal.now) (next.now ∷ J) sendings.new.kept.entries) }
+        → IsTable (group_in journal.now) (contains id_eq wanted.now) J sendings.old.kept.entries
+        → IsTable (group_in journal.now) (contains id_eq wanted.now) (next.now ∷ J) sendings.new.kept.entries) }
 {
     for parcel in next.sends.as_slice() {
-        keep_sending(proxies, sendings, alloc, journal, records, parcel)?;
+        keep_sending(proxies, sendings, alloc, wanted, journal, records, parcel)?;
     }
     Ok(())
 }
 
-/// The source of what is delivered.
-fn source_of_event(sendings: &Sendings, event: &Event) -> Result<Option<Source>, NoMemory>
-    ensures { IfOk result (λ source. source ≡ source_delivered sendings.now.kept.entries event.now) }
-{
-    match event {
-        Event::Deliver(parcel) => sendings.source_of(parcel),
-        Event::Cut(..) | Event::Tick(_) | Event::Alarm | Event::Crash | Event::Restart(_) => {
-            Ok(None)
-        }
-    }
-}
-
-/// The source of the answer that is accepted.
-fn source_of_telling(
-    sendings: &Sendings,
-    telling: &Telling,
-    event: &Event,
-) -> Result<Option<Source>, NoMemory>
-    ensures { IfOk result (λ source. source ≡ source_told sendings.now.kept.entries telling.now.accepted event.now) }
-{
-    match &telling.accepted {
-        None => Ok(None),
-        Some(_) => source_of_event(sendings, event),
-    }
-}
-
-/// The actor takes its record.
+/// A proxy takes its record, unless that brings a request that is not wanted.
 fn act(
     proxies: &mut Proxies,
     sendings: &Sendings,
     alloc: Global,
+    wanted: &HashSet<Id>,
     cluster: Cluster,
     next: &Record,
 ) -> Result<(), NoMemory>
     requires { (q : ℕ) (id : IdModel) → IsSized cluster (known_to (get nat_eq proxies.old q) id) }
     ensures { OnOk result ((g : Group) (J : List RecordModel) → World g (next.now ∷ J) → g.f ≡ cluster
-        → IsTable g J sendings.now.kept.entries → ((q : ℕ) → IsProxy g J q (get nat_eq proxies.old q))
-        → (q : ℕ) → IsProxy g (next.now ∷ J) q (get nat_eq proxies.new q)) }
+        → IsTable g (contains id_eq wanted.now) J sendings.now.kept.entries
+        → ((q : ℕ) → IsProxy g (contains id_eq wanted.now) J q (get nat_eq proxies.old q))
+        → (q : ℕ) → IsProxy g (contains id_eq wanted.now) (next.now ∷ J) q (get nat_eq proxies.new q)) }
 {
-    match next.actor {
-        Actor::Proxy(number) => {
-            let is_quiet = next.sends.is_empty();
-            proxy_takes(
-                proxies,
-                alloc,
-                cluster,
-                number,
-                &next.event,
-                sendings,
-                is_quiet,
-            )
-        }
-        Actor::Replica(_) | Actor::Client(_) => Ok(()),
+    let Actor::Proxy(number) = next.actor else {
+        return Ok(());
+    };
+    if is_other_request(wanted, &next.event) {
+        return Ok(());
     }
-}
-
-/// The accepted answer of a telling, where it has a source: the one of this place, with so many requests sent before.
-fn accepted_of(
-    telling: &Telling,
-    source: Option<Source>,
-    place: usize,
-    sent: u32,
-) -> Option<AcceptedAnswer>
-    ensures { result ≡ acceptance_from telling.now.accepted source place sent }
-{
-    let acceptance = telling.accepted.as_ref()?;
-    Some(AcceptedAnswer {
-        place,
-        id: acceptance.id,
-        source: source?,
-        sent,
-    })
-}
-
-/// Keeps the accepted answer, if there is one.
-fn keep_accepted(
-    accepted: &mut Vec<AcceptedAnswer>,
-    next: Option<AcceptedAnswer>,
-) -> Result<(), NoMemory>
-    ensures { OnOk result (accepted.new.items ≡ with_accepted accepted.old.items next) }
-{
-    if let Some(next) = next {
-        accepted.push(next)?;
-    }
-    Ok(())
-}
-
-/// The sum of two counts. From 2^32 on the answer is `NoMemory`.
-fn sum(count: u32, more: u32) -> Result<u32, NoMemory>
-    ensures { IfOk result (λ n. n ≡ count + more) }
-{
-    match count.checked_add(more) {
-        Some(both) => Ok(both),
-        None => Err(NoMemory),
-    }
+    let is_quiet = next.sends.is_empty();
+    proxy_takes(
+        proxies,
+        alloc,
+        cluster,
+        number,
+        &next.event,
+        sendings,
+        is_quiet,
+    )
 }
 
 impl Reading {
     /// Before the first record.
-    pub fn new(alloc: Global, scenario: &Scenario) -> Result<Reading, NoMemory>
-        ensures { IfOk result (λ reading. (journal : JournalModel) → journal.scenario ≡ scenario.now → IsRead journal [] reading) }
+    fn new(alloc: Global) -> Reading
+        ensures { (journal : JournalModel) (w : IdModel → Bool) → IsRead journal w [] result }
     {
-        Ok(Reading {
+        Reading {
             proxies: IndexMap::new(alloc),
             sendings: Sendings::new(alloc),
-            clients: Clients::new(alloc, scenario)?,
-            accepted: Vec::new(alloc),
-            sent: 0,
-        })
+        }
     }
 
     /// Takes a record, which is the one of this count.
-    pub fn read(
+    fn read(
         &mut self,
         alloc: Global,
+        wanted: &HashSet<Id>,
         journal: &Journal,
         records: u32,
         next: &Record,
     ) -> Result<(), NoMemory>
         requires records { records ≤ length journal.now.records }
-        requires run { (J : List RecordModel) × IsNextRecord journal.now records next.now J × IsRead journal.now J self.old }
-        ensures { OnOk result (IsRead journal.now (run_up_to journal.now records) self.new) }
+        requires run { (J : List RecordModel) × IsNextRecord journal.now records next.now J × IsRead journal.now (contains id_eq wanted.now) J self.old }
+        ensures { OnOk result (IsRead journal.now (contains id_eq wanted.now) (run_up_to journal.now records) self.new) }
     {
-        let telling = self.clients.tell(alloc, next)?;
-        let source = source_of_telling(&self.sendings, &telling, &next.event)?;
-        let accepted = accepted_of(&telling, source, self.accepted.len(), self.sent);
-        keep_accepted(&mut self.accepted, accepted)?;
-        self.sent = sum(self.sent, telling.sent.len())?;
         act(
             &mut self.proxies,
             &self.sendings,
             alloc,
+            wanted,
             journal.scenario.cluster,
             next,
         )?;
@@ -300,6 +232,7 @@ impl Reading {
             &self.proxies,
             &mut self.sendings,
             alloc,
+            wanted,
             journal,
             records,
             next,
@@ -307,14 +240,24 @@ impl Reading {
     }
 }
 
-/// The answers that were accepted in the run, each with where it comes from.
-pub fn accepted_in(alloc: Global, journal: &Journal) -> Result<Vec<AcceptedAnswer>, NoMemory>
+/// What each parcel about a wanted request stands for, of those that were sent in the run.
+pub fn sendings_in(
+    alloc: Global,
+    wanted: &HashSet<Id>,
+    journal: &Journal,
+) -> Result<Sendings, NoMemory>
     requires { World (group_in journal.now) (run_in journal.now) }
-    ensures { IfOk result (λ accepted. AreAccepted journal.now (run_in journal.now) accepted.items) }
+    ensures { IfOk result (λ sendings. IsTable (group_in journal.now) (contains id_eq wanted.now) (run_in journal.now) sendings.kept.entries) }
 {
-    let mut reading = Reading::new(alloc, &journal.scenario)?;
+    let mut reading = Reading::new(alloc);
     for place in 0..journal.records.len() {
-        reading.read(alloc, journal, place + 1, journal.records.get(place))?;
+        reading.read(
+            alloc,
+            wanted,
+            journal,
+            place + 1,
+            journal.records.get(place),
+        )?;
     }
-    Ok(reading.accepted)
+    Ok(reading.sendings)
 }

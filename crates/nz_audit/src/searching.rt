@@ -1,14 +1,17 @@
 //! The longest of the accepted prefixes.
 
-ghost use Rattle.std.specs.Prelude.{◌≡◌, ◌++◌, ◌∷◌, [], None, List, length, IfOk, IfSome, OnOk, IsPermutation};
+ghost use Rattle.std.specs.Prelude.{◌≤◌, ◌≡◌, ◌++◌, ◌∷◌, [], None, List, length, IfOk, IfSome, OnOk, IsPermutation};
 ghost use Rattle.std.specs.List.{AllByRecursion};
 ghost use Rattle.nz_machine.specs.History.{cut_after};
+ghost use Rattle.nz_machine.specs.Journals.{group_in, run_in};
+ghost use Rattle.nz_machine.specs.World.{World};
 ghost use Rattle.nz_audit.specs.declared.source.AcceptedAnswer.{AcceptedAnswer as AcceptedModel};
-ghost use Rattle.nz_audit.specs.Prefixes.{is_shorter, IsWithin, IsFound};
+ghost use Rattle.nz_audit.specs.Prefixes.{all_traced, is_shorter, IsAccepted, IsWithin, IsFound};
 ghost use Rattle.nz_audit.specs.Cores.{IsReplayed};
 
 use super::replaying::{Replayed, replay};
-use super::source::{AcceptedAnswer, Counted, longer};
+use super::source::{AcceptedAnswer, AcceptedAt, Counted, longer};
+use super::tracing::trace;
 use nz_base::{Id, NoMemory};
 use nz_log::HashedLog;
 use nz_machine::Journal;
@@ -65,13 +68,13 @@ impl Search {
         }
     }
 
-    /// Whether the prefix is shorter than the longest so far, since fewer requests were sent.
-    fn is_shorter(&self, next: &AcceptedAnswer) -> bool
-        ensures { result ≡ is_shorter self.now.best next.now }
+    /// Whether the prefix of an answer is shorter than the longest so far, since so few requests were sent before.
+    fn is_shorter(&self, sent: u32) -> bool
+        ensures { result ≡ is_shorter self.now.best sent }
     {
         match &self.best {
             None => false,
-            Some(best) => next.sent < best.entries,
+            Some(best) => sent < best.entries,
         }
     }
 
@@ -84,9 +87,10 @@ impl Search {
     ) -> Result<(), NoMemory>
         requires within { IsWithin journal.now next.now }
         requires at { IfSome self.old.at (IsReplayed journal.now) }
-        ensures { OnOk result ((done : List AcceptedModel) → IsFound journal.now done self.old → IsFound journal.now (done ++ next.now ∷ []) self.new) }
+        ensures at { OnOk result (IfSome self.new.at (IsReplayed journal.now)) }
+        ensures found { OnOk result ((done : List AcceptedModel) → IsFound journal.now done self.old → IsFound journal.now (done ++ next.now ∷ []) self.new) }
     {
-        if self.is_shorter(next) {
+        if self.is_shorter(next.sent) {
             return Ok(());
         }
         let at = replay(alloc, journal, self.at.take(), next.source)?;
@@ -99,34 +103,94 @@ impl Search {
         self.best = Some(longer(self.best, counted));
         Ok(())
     }
-}
 
-/// The longest of the prefixes, which are counted in this order.
-fn longest_in(
-    alloc: Global,
-    journal: &Journal,
-    accepted: &[AcceptedAnswer],
-) -> Result<Search, NoMemory>
-    requires { AllByRecursion (IsWithin journal.now) accepted.now }
-    ensures { IfOk result (λ found. IsFound journal.now accepted.now found) }
-{
-    let mut found = Search::new();
-    for next in accepted {
-        found.weigh(alloc, journal, next)?;
+    /// Counts the prefixes in this order.
+    fn weigh_each(
+        &mut self,
+        alloc: Global,
+        journal: &Journal,
+        accepted: &[AcceptedAnswer],
+    ) -> Result<(), NoMemory>
+        requires within { AllByRecursion (IsWithin journal.now) accepted.now }
+        requires at { IfSome self.old.at (IsReplayed journal.now) }
+        ensures at { OnOk result (IfSome self.new.at (IsReplayed journal.now)) }
+        ensures found { OnOk result ((done : List AcceptedModel) → IsFound journal.now done self.old → IsFound journal.now (done ++ accepted.now) self.new) }
+    {
+        for next in accepted {
+            self.weigh(alloc, journal, next)?;
+        }
+        Ok(())
     }
-    Ok(found)
+
+    /// Counts the prefixes of these answers, which are traced for it.
+    fn weigh_all(
+        &mut self,
+        alloc: Global,
+        journal: &Journal,
+        answers: &[AcceptedAt],
+    ) -> Result<(), NoMemory>
+        requires world { World (group_in journal.now) (run_in journal.now) }
+        requires accepted { AllByRecursion (IsAccepted journal.now) answers.now }
+        requires within { AllByRecursion (IsWithin journal.now) (all_traced journal.now answers.now) }
+        requires at { IfSome self.old.at (IsReplayed journal.now) }
+        ensures at { OnOk result (IfSome self.new.at (IsReplayed journal.now)) }
+        ensures found { OnOk result ((done : List AcceptedModel) → IsFound journal.now done self.old
+            → IsFound journal.now (done ++ all_traced journal.now answers.now) self.new) }
+    {
+        let mut accepted = trace(alloc, journal, answers)?;
+        put_in_order(&mut accepted);
+        self.weigh_each(alloc, journal, accepted.as_slice())
+    }
+
+    /// Counts those prefixes of these answers that may be the longest. The other answers are not traced.
+    fn weigh_others(
+        &mut self,
+        alloc: Global,
+        journal: &Journal,
+        answers: Vec<AcceptedAt>,
+    ) -> Result<(), NoMemory>
+        requires world { World (group_in journal.now) (run_in journal.now) }
+        requires accepted { AllByRecursion (IsAccepted journal.now) answers.items }
+        requires within { AllByRecursion (IsWithin journal.now) (all_traced journal.now answers.items) }
+        requires at { IfSome self.old.at (IsReplayed journal.now) }
+        ensures { OnOk result ((done : List AcceptedModel) → IsFound journal.now done self.old
+            → IsFound journal.now (done ++ all_traced journal.now answers.items) self.new) }
+    {
+        let mut answers = answers;
+        answers.retain(|next| !self.is_shorter(next.sent));
+        self.weigh_all(alloc, journal, answers.as_slice())
+    }
 }
 
-/// The longest of the prefixes. A replica is replayed only if one of its prefixes may be the longest, and mostly once.
+/// The place of the first answer before which as many requests were sent as answers were accepted in all. Mostly all
+/// of these are of the history, so the answers before this one have shorter prefixes.
+fn first_late(answers: &[AcceptedAt]) -> usize
+    ensures { result ≤ length answers.now }
+{
+    let count = answers.len();
+    answers
+        .iter()
+        .position(|next| next.sent as usize >= count)
+        .unwrap_or(count)
+}
+
+/// The longest of the prefixes. Those of late answers are counted first: mostly the others have to be shorter then.
 pub fn longest_of(
     alloc: Global,
     journal: &Journal,
-    accepted: Vec<AcceptedAnswer>,
+    answers: Vec<AcceptedAt>,
 ) -> Result<Search, NoMemory>
-    requires { AllByRecursion (IsWithin journal.now) accepted.items }
-    ensures { IfOk result (λ found. IsFound journal.now accepted.items found) }
+    requires world { World (group_in journal.now) (run_in journal.now) }
+    requires accepted { AllByRecursion (IsAccepted journal.now) answers.items }
+    requires within { AllByRecursion (IsWithin journal.now) (all_traced journal.now answers.items) }
+    ensures { IfOk result (λ found. IsFound journal.now (all_traced journal.now answers.items) found) }
 {
-    let mut accepted = accepted;
-    put_in_order(&mut accepted);
-    longest_in(alloc, journal, accepted.as_slice())
+    let mut found = Search::new();
+    let mut others = answers;
+    let place = first_late(others.as_slice());
+    let (_, late) = others.as_slice().split_at(place);
+    found.weigh_all(alloc, journal, late)?;
+    others.truncate(place);
+    found.weigh_others(alloc, journal, others)?;
+    Ok(found)
 }

@@ -1,21 +1,17 @@
-//! The parcels that stand for a source, each as it was sent first.
+//! The parcels about wanted requests that stand for a source, each as it was sent first.
 
-ghost use Rattle.std.specs.Prelude.{◌≡◌, [], IfOk, OnOk, Some, None, IsTrue, is_some, if◌then◌else◌};
-ghost use Rattle.nz_msg.specs.declared.message.Message.{Message as MessageModel};
+ghost use Rattle.std.specs.Prelude.{◌≡◌, [], IfOk, OnOk, Some, is_some, if◌then◌else◌};
 ghost use Rattle.std.specs.Option.{option_flatten};
 ghost use Rattle.nz_machine.specs.History.{parcel_eq};
 ghost use Rattle.nz_machine.specs.declared.event.Parcel.{Parcel as ParcelModel};
-ghost use Rattle.nz_audit.specs.Sources as sources;
-ghost use Rattle.nz_audit.specs.Sources.{about_message, parcel_key_of, kept_of};
+ghost use Rattle.nz_audit.specs.Sources.{parcel_key_of, kept_of, source_delivered};
 ghost use Rattle.nz_audit.specs.Noting.{source_if_answer};
 
-use super::fields::shows_answer;
 use super::source::Source;
 use bytes::Bytes;
 use indexmap::IndexMap;
-use nz_base::{Actor, Id, NoMemory};
-use nz_machine::{Parcel, Reply, heard};
-use nz_msg::{Envelope, Message};
+use nz_base::{Actor, NoMemory};
+use nz_machine::{Event, Parcel, Reply};
 use std::alloc::Global;
 
 /// A parcel as a key. Its frame is shared.
@@ -38,7 +34,7 @@ impl ParcelKey {
     }
 }
 
-/// What each parcel that was sent stands for.
+/// What each parcel about a wanted request stands for, of those that were sent.
 #[derive(Drop)]
 pub struct Sendings {
     pub kept: IndexMap<ParcelKey, Option<Source>>,
@@ -61,6 +57,18 @@ impl Sendings {
         match self.kept.get(&key) {
             Some(source) => Ok(*source),
             None => Ok(None),
+        }
+    }
+
+    /// The source of what is delivered.
+    pub fn source_of_event(&self, event: &Event) -> Result<Option<Source>, NoMemory>
+        ensures { IfOk result (λ source. source ≡ source_delivered self.now.kept.entries event.now) }
+    {
+        match event {
+            Event::Deliver(parcel) => self.source_of(parcel),
+            Event::Cut(..) | Event::Tick(_) | Event::Alarm | Event::Crash | Event::Restart(_) => {
+                Ok(None)
+            }
         }
     }
 
@@ -104,57 +112,5 @@ impl Delivery<'_> {
             } => self.sendings.source_of(self.parcel),
             _ => Ok(None),
         }
-    }
-}
-
-fn about_in(envelope: &Envelope) -> Option<Id>
-    ensures { result ≡ about_message envelope.now.from envelope.now.to envelope.now.message }
-{
-    match (envelope.from, envelope.to, &envelope.message) {
-        (Actor::Replica(_), Actor::Proxy(_), Message::FastReply(body)) => {
-            if body.answer.is_some() {
-                Some(body.id)
-            } else {
-                None
-            }
-        }
-        (Actor::Proxy(_), Actor::Client(client), Message::Answer(body)) => Some(Id {
-            client: u32::from(client),
-            num: body.num,
-        }),
-        _ => None,
-    }
-}
-
-/// Whether the parcel is of a replica for a proxy, and its frame shows no answer.
-fn has_no_answer(parcel: &Parcel) -> bool
-    ensures { IsTrue result → sources.about parcel.now ≡ None }
-{
-    match (parcel.from, parcel.to) {
-        (Actor::Replica(_), Actor::Proxy(_)) => !shows_answer(parcel.frame.as_slice()),
-        _ => false,
-    }
-}
-
-/// Whether no parcel of this sender and receiver stands for a source.
-fn is_about_nothing(from: Actor, to: Actor) -> bool
-    ensures { IsTrue result → (m : MessageModel) → about_message from to m ≡ None }
-{
-    !matches!(
-        (from, to),
-        (Actor::Replica(_), Actor::Proxy(_)) | (Actor::Proxy(_), Actor::Client(_))
-    )
-}
-
-/// The request that the parcel is about, where it stands for a source.
-pub fn about(alloc: Global, parcel: &Parcel) -> Result<Option<Id>, NoMemory>
-    ensures { IfOk result (λ id. id ≡ sources.about parcel.now) }
-{
-    if is_about_nothing(parcel.from, parcel.to) || has_no_answer(parcel) {
-        return Ok(None);
-    }
-    match heard(alloc, parcel.to, parcel)? {
-        Some(envelope) => Ok(about_in(&envelope)),
-        None => Ok(None),
     }
 }

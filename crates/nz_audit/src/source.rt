@@ -1,7 +1,7 @@
-//! Where accepted answers come from.
+//! Accepted answers, and where they come from.
 
-ghost use Rattle.std.specs.Prelude.{◌≡◌};
-ghost use Rattle.nz_audit.specs.Prefixes.{first_longest};
+ghost use Rattle.std.specs.Prelude.{◌≡◌, Some};
+ghost use Rattle.nz_audit.specs.Prefixes.{with_source, first_longest};
 
 use nz_base::Id;
 
@@ -14,14 +14,36 @@ pub struct Source {
     pub records: u32,
 }
 
+/// An answer that was accepted.
+#[derive(Clone, Copy, Debug)]
+pub struct AcceptedAt {
+    /// The place of the record that accepts it.
+    pub place: u32,
+    pub id: Id,
+    /// How many requests were sent before it was accepted. Its prefix has no more entries.
+    pub sent: u32,
+}
+
+impl AcceptedAt {
+    /// The same, with where it comes from.
+    pub fn from(&self, source: Source) -> AcceptedAnswer
+        ensures { Some result ≡ with_source (Some source) self.now }
+    {
+        AcceptedAnswer {
+            place: self.place,
+            id: self.id,
+            source,
+            sent: self.sent,
+        }
+    }
+}
+
 /// An answer that was accepted, and where it comes from.
 #[derive(Clone, Copy, Debug)]
 pub struct AcceptedAnswer {
-    /// How many answers were accepted before.
-    pub place: usize,
+    pub place: u32,
     pub id: Id,
     pub source: Source,
-    /// How many requests were sent before it was accepted. Its prefix has no more entries.
     pub sent: u32,
 }
 

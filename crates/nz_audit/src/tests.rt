@@ -124,7 +124,7 @@ fn log_up_to_an_entry_is_executed(rt: HostRuntime) -> Result<(), Fail> {
     Ok(())
 }
 
-fn counted(place: usize, records: u32, entries: u32) -> Counted {
+fn counted(place: u32, records: u32, entries: u32) -> Counted {
     Counted {
         accepted: AcceptedAnswer {
             place,

@@ -1,5 +1,7 @@
 -- What the loops of the function of this folder keep.
 use Rattle.std.proofs.Common.{◌≡◌, List, ◌∷◌, take}
+use Rattle.std.specs.HashSet.{contains}
+use Rattle.nz_base.specs.Key.{id_eq}
 use Rattle.nz_machine.specs.declared.event.Record.{Record}
 use Rattle.nz_machine.specs.Journals.{group_in}
 use Rattle.nz_audit.specs.Cores.{run_up_to}
@@ -8,5 +10,5 @@ use Rattle.nz_audit.proofs.reading.keep_sendings.Given as goal
 
 abbrev pub invariant-loop-parcel : goal.invariant-loop-parcel
 invariant-loop-parcel l = (J : List Record) → run_up_to l.journal l.records ≡ l.next ∷ J
-    → IsTable (group_in l.journal) J l.fn.sendings.kept.entries
-    → IsTableWith (group_in l.journal) (take l.parcel-index l.next.sends) l.next J l.sendings.kept.entries
+    → IsTable (group_in l.journal) (contains id_eq l.wanted) J l.fn.sendings.kept.entries
+    → IsTableWith (group_in l.journal) (contains id_eq l.wanted) (take l.parcel-index l.next.sends) l.next J l.sendings.kept.entries

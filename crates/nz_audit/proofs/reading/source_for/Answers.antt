@@ -20,5 +20,5 @@ returns-in-Proxy c =
     let g = group_in c.args.journal.now in
     let J = run_up_to c.args.journal.now c.args.records in
     let q = c.in-Proxy.proxy in
-    decided_by g q c.args.id J _ c.source_decided.result (c.requires.proxies q) c.source_decided.ensures
+    decided_by g q c.args.id J _ c.source_decided.result (c.requires.known q) c.source_decided.ensures
     ∙ sym (ap (λ (a : Actor). source_sent g c.args.id a J) c.in-Proxy.is)

@@ -1,14 +1,29 @@
 -- What the function of this folder owes, proved.
-use Rattle.std.proofs.Common.{sym, subst}
+use Rattle.std.proofs.Common.{◌∙◌, [], List, ap, subst, sym}
+use Rattle.std.specs.Prelude.{drop}
 use Rattle.std.specs.List.{AllByRecursion}
-use Rattle.nz_audit.specs.Prefixes.{IsWithin}
-use Rattle.nz_audit.proofs.Found.{all_permuted, found_in_order}
+use Rattle.nz_audit.specs.declared.source.AcceptedAt.{AcceptedAt}
+use Rattle.nz_audit.specs.Prefixes.{all_traced, IsWithin}
+use Rattle.nz_audit.proofs.Found.{found_first}
+use Rattle.nz_audit.proofs.Rounds.{parts_within, found_in_turn}
 use Rattle.nz_audit.proofs.searching.longest_of.Goals as goal
 
-pub longest_in-requires : goal.longest_in-requires
-longest_in-requires c = subst (AllByRecursion (IsWithin c.args.journal.now)) (sym c.as_slice.ensures.value)
-    (all_permuted (IsWithin c.args.journal.now) c.args.accepted.items c.put_in_order.new.accepted.items c.put_in_order.ensures c.requires)
+pub weigh_all-requires-clause-within : goal.weigh_all-requires-clause-within
+weigh_all-requires-clause-within c =
+    subst (λ (l : List AcceptedAt). AllByRecursion (IsWithin c.args.journal.now) (all_traced c.args.journal.now l))
+    (sym (c.split_at.ensures.back ∙ ap (drop c.first_late-place.result) c.as_slice-2.ensures.value))
+    (parts_within c.args.journal.now c.first_late-place.result c.args.answers.items c.requires.within).0
+
+pub weigh_others-requires-clause-within : goal.weigh_others-requires-clause-within
+weigh_others-requires-clause-within c =
+    subst (λ (l : List AcceptedAt). AllByRecursion (IsWithin c.args.journal.now) (all_traced c.args.journal.now l)) (sym c.truncate.ensures.items)
+    (parts_within c.args.journal.now c.first_late-place.result c.args.answers.items c.requires.within).1
 
 pub returns : goal.returns
-returns c = found_in_order c.args.journal.now c.args.accepted.items c.put_in_order.new.accepted.items c.as_slice.result.now c.longest_in.result
-    c.put_in_order.ensures c.as_slice.ensures.value c.longest_in.ensures
+returns c =
+    let j = c.args.journal.now in
+    let late = c.split_at.result.1.now in
+    found_in_turn j c.first_late-place.result c.args.answers.items late c.truncate.new.self.items c.weigh_others.new.self
+    (c.split_at.ensures.back ∙ ap (drop c.first_late-place.result) c.as_slice-2.ensures.value) c.truncate.ensures.items
+    (c.in_ok-weigh_others.ensures (all_traced j late)
+    (c.in_ok-weigh_all.ensures.found [] (found_first j c.new-found.result c.new-found.ensures.at c.new-found.ensures.best)))

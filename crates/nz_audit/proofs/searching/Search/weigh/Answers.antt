@@ -6,15 +6,15 @@ use Rattle.nz_audit.proofs.Longest.{best_stays, best_then}
 use Rattle.nz_audit.proofs.Found.{log_replayed}
 use Rattle.nz_audit.proofs.searching.Search.weigh.Goals as goal
 
-pub returns-then-is_shorter : goal.returns-then-is_shorter
-returns-then-is_shorter c = λ done h. record {
+pub returns-then-is_shorter-clause-found : goal.returns-then-is_shorter-clause-found
+returns-then-is_shorter-clause-found c = λ done h. record {
   at = h.at;
   best =
       best_stays c.args.journal.now done c.args.next.now c.args.self.now.best c.requires.within.sent (sym c.is_shorter.ensures ∙ c.if-is_shorter.true) h.best;
 }
 
-pub returns : goal.returns
-returns c = λ done h.
+pub returns-clause-found : goal.returns-clause-found
+returns-clause-found c = λ done h.
     let j = c.args.journal.now in
     let a = c.args.next.now in
     let next : Counted = record { accepted = a; entries = c.entries_up_to-entries.result } in

@@ -1,7 +1,0 @@
--- What the loops of the function of this folder keep.
-use Rattle.nz_audit.specs.Cores.{run_up_to}
-use Rattle.nz_audit.specs.Readings.{IsRead}
-use Rattle.nz_audit.proofs.reading.accepted_in.Given as goal
-
-abbrev pub invariant-loop-place : goal.invariant-loop-place
-invariant-loop-place l = IsRead l.journal (run_up_to l.journal l.place) l.reading
