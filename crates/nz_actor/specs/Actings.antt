@@ -1,13 +1,13 @@
 -- What contracts see of an actor's state, and what it keeps.
-use Rattle.std.specs.Prelude.{◌≡◌, ℕ, Bool, true, false}
+use Rattle.std.specs.Prelude.{◌≡◌, ℕ, Bool, true, false, List}
+use Rattle.nz_machine.specs.declared.event.Parcel.{Parcel}
 use Rattle.nz_machine.specs.State.{Group}
 use Rattle.nz_machine.specs.Step.{Node}
-use Rattle.nz_fabric.specs.declared.turn.Turn.{Turn}
-use Rattle.nz_fabric.specs.Records.{ActorSteps, with_step}
-use Rattle.nz_fabric.specs.States.{record_of_turn}
-use Rattle.nz_fabric.specs.Steps.{node_after, sends_after}
+use Rattle.nz_fabric.specs.declared.batch.Batch.{Batch}
+use Rattle.nz_fabric.specs.Records.{ActorSteps}
+use Rattle.nz_fabric.specs.Steps.{batch_records, node_after, sends_from, with_steps}
 
--- An actor with its records, and whether it takes turns.
+-- An actor with its records, and whether it takes batches.
 pub record Acting : Type 0 where
   pub own : ActorSteps
   pub ready : Bool
@@ -17,18 +17,23 @@ pub record IsThere (g : Group) (own : ActorSteps) (meaning : Node) (live : Bool)
   pub lives : live ≡ true
   pub stands : meaning ≡ node_after g own
 
--- The core is of the group, and is there while the actor takes turns.
+-- The core is of the group, and is there while the actor takes batches.
 pub record IsActing (g : Group) (meaning : Node) (live : Bool) (fits : Type 0) (acting : Acting) : Type 0 where
   pub is_of : fits
   pub there : acting.ready ≡ true → IsThere g acting.own meaning live
 
--- The actor after a turn in this tick, which was recorded with what the machine says.
-abbrev pub with_turn : Group → ℕ → Turn → Acting → Acting
-with_turn g tick turn s = record {
-  own = with_step (record_of_turn (record turn { tick = tick }) (sends_after g s.own turn.event)) s.own;
+-- What the actor sends on the events of a batch after its records.
+abbrev pub sends_in : Group → ActorSteps → Batch → List (List Parcel)
+sends_in g own batch = sends_from g (node_after g own) batch.events
+
+-- The actor after a batch in this tick, which was recorded with what the machine says.
+abbrev pub with_batch : Group → ℕ → Batch → Acting → Acting
+with_batch g tick batch s = record {
+  own = with_steps (batch_records tick batch.actor batch.events (sends_in g s.own batch)) s.own;
   ready = true;
 }
 
--- The actor after a turn that was given up.
-abbrev pub without_turns : Acting → Acting
-without_turns s = record s { ready = false }
+-- After a batch that was given up the actor takes no further one. It may have some of the batch's records.
+pub record IsStopped (old new : Acting) : Type 0 where
+  pub stopped : new.ready ≡ false
+  pub actor : new.own.actor ≡ old.own.actor

@@ -1,7 +1,7 @@
-//! The lock around an actor, and how a turn is done under it.
+//! The lock around an actor, and how a batch is played under it.
 
 ghost use Rattle.std.specs.Prelude.{◌≡◌, ◌+◌, ◌<◌};
-ghost use Rattle.nz_fabric.specs.Shared.{ClosesTurn};
+ghost use Rattle.nz_fabric.specs.Shared.{ClosesBatch};
 
 use crate::state::ActorState;
 use nz_edge::Gate;
@@ -26,27 +26,27 @@ impl<N: Name, C: Core> ActorCell<N, C> {
         self.state.get_mut()
     }
 
-    /// Does the turn under the actor's lock, and records it before the lock is let go. A turn that is not the
-    /// actor's is given up, and one whose step runs out of memory. May wait.
-    pub fn turn(
+    /// Plays the batch under the actor's lock, and records it before the lock is let go. A batch that is not the
+    /// actor's is given up, and one in which a step runs out of memory. May wait.
+    pub fn play(
         &self,
         rt: &impl Wait,
-        turn: Taken<N>,
+        batch: Taken<N>,
         worker: u8,
         gate: &impl Gate,
         fabric: &Fabric<N>,
         share: &mut Share<N>,
     )
         requires { 0 < share.old.amount }
-        ensures { ClosesTurn share.old share.new }
+        ensures { ClosesBatch share.old share.new }
     {
         let mut state = self.state.lock(rt);
-        gate.arrive(worker, turn.turn().number);
-        if !state.is_ready(&turn) {
-            fabric.lock(rt).give_up(turn, share);
+        gate.arrive(worker, batch.batch().number);
+        if !state.is_ready(&batch) {
+            fabric.lock(rt).give_up(batch, share);
             return;
         }
-        state.turn(rt, turn, fabric, share);
+        state.play(rt, batch, fabric, share);
     }
 }
 

@@ -3,6 +3,7 @@
 
 mod cell;
 mod state;
+mod steps;
 
 pub use cell::ActorCell;
 pub use state::ActorState;

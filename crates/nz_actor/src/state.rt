@@ -4,13 +4,14 @@ ghost use Rattle.std.specs.Prelude.{◌≡◌, ◌↔◌, ◌+◌, ◌<◌, ℕ,
 ghost use Rattle.nz_machine.specs.Schedule.{group_of};
 ghost use Rattle.nz_machine.specs.Step.{first_node};
 ghost use Rattle.nz_fabric.specs.Records.{steps_of};
-ghost use Rattle.nz_fabric.specs.Shared.{with_given_up, with_record, ClosesTurn};
+ghost use Rattle.nz_fabric.specs.Shared.{with_record, ClosesBatch, IsGivenUp};
 ghost use Rattle.nz_fabric.specs.States.{records_of};
-ghost use Rattle.nz_fabric.specs.Steps.{sends_after};
-ghost use Rattle.nz_actor.specs.Actings.{with_turn, without_turns};
+ghost use Rattle.nz_actor.specs.Actings.{sends_in, with_batch, IsStopped};
 
+use crate::steps::step_all;
 use nz_fabric::{Fabric, FabricState, Lane, Name, Share, Taken};
 use nz_machine::Core;
+use std::alloc::Global;
 use std::marker::Model;
 use std::sync::Wait;
 
@@ -21,6 +22,8 @@ pub struct ActorState<N: Name, C: Core> {
     lane: Lane<N>,
     /// Whether the core has the state that the records of the lane lead to.
     ready: bool,
+    /// Gives the memory for the sends of a batch.
+    alloc: Global,
 }
 
 impl<N: Name, C: Core> Model for ActorState<N, C> {
@@ -37,7 +40,7 @@ impl<N: Name, C: Core> Model for ActorState<N, C> {
 
 impl<N: Name, C: Core> ActorState<N, C> {
     /// A core that has not stepped.
-    pub fn new(core: C, lane: Lane<N>) -> ActorState<N, C>
+    pub fn new(alloc: Global, core: C, lane: Lane<N>) -> ActorState<N, C>
         requires fits { C.fits core (group_of N.scenario) }
         requires first { C.meaning core ≡ first_node (group_of N.scenario) (C.meaning core).actor }
         requires live { C.live core ≡ true }
@@ -48,65 +51,68 @@ impl<N: Name, C: Core> ActorState<N, C> {
             core,
             lane,
             ready: true,
+            alloc,
         }
     }
 
-    /// Whether the turn is this actor's, and the actor takes turns.
-    pub fn is_ready(&self, turn: &Taken<N>) -> bool
-        ensures { IsTrue result ↔ ((self.now.ready ≡ true) × (turn.now.actor ≡ self.now.own.actor)) }
+    /// Whether the batch is this actor's, and the actor takes batches.
+    pub fn is_ready(&self, batch: &Taken<N>) -> bool
+        ensures { IsTrue result ↔ ((self.now.ready ≡ true) × (batch.now.actor ≡ self.now.own.actor)) }
     {
-        self.ready && turn.turn().actor.is(&self.lane.actor())
+        self.ready && batch.batch().actor.is(&self.lane.actor())
     }
 
-    /// The core takes the turn's event, and then the turn is recorded. Where it is not, it is given up, and no further
-    /// turn is taken. The network is locked only to record. May wait.
-    pub fn turn(
+    /// The core takes the events of the batch, and then the batch is recorded. Where it is not, it is given up, and no
+    /// further batch is taken. The network is locked only to record. May wait.
+    pub fn play(
         &mut self,
         rt: &impl Wait,
-        turn: Taken<N>,
+        batch: Taken<N>,
         fabric: &Fabric<N>,
         share: &mut Share<N>,
     ) -> bool
         requires open { 0 < share.old.amount }
         requires ready { self.old.ready ≡ true }
-        requires actor { turn.actor ≡ self.old.own.actor }
-        ensures recorded { MatchBool result ((tick : ℕ) × (self.new ≡ with_turn (group_of N.scenario) tick turn self.old)) (self.new ≡ without_turns self.old) }
-        ensures share { ClosesTurn share.old share.new }
+        requires actor { batch.actor ≡ self.old.own.actor }
+        ensures recorded { MatchBool result ((tick : ℕ) × (self.new ≡ with_batch (group_of N.scenario) tick batch self.old)) (IsStopped self.old self.new) }
+        ensures share { ClosesBatch share.old share.new }
     {
         self.ready = false;
-        let Ok(sends) = self.core.step(&turn.turn().event) else {
-            fabric.lock(rt).give_up(turn, share);
+        let events = &batch.batch().events;
+        let Ok(sends) = step_all(self.alloc, &mut self.core, events.as_slice()) else {
+            fabric.lock(rt).give_up(batch, share);
             return false;
         };
-        self.ready = fabric.lock(rt).record(turn, sends, share, &mut self.lane);
+        self.ready = fabric.lock(rt).record(batch, sends, share, &mut self.lane);
         self.ready
     }
 
     /// The same, where no other thread has the network.
     pub fn settle(
         &mut self,
-        turn: Taken<N>,
+        batch: Taken<N>,
         fabric: &mut FabricState<N>,
         share: &mut Share<N>,
     ) -> bool
         requires open { 0 < share.old.amount }
         requires ready { self.old.ready ≡ true }
-        requires actor { turn.actor ≡ self.old.own.actor }
+        requires actor { batch.actor ≡ self.old.own.actor }
         ensures recorded { MatchBool result
-            ((self.old.own ≡ steps_of turn.actor (records_of fabric.old.run))
-            × (self.new ≡ with_turn (group_of N.scenario) fabric.old.run.tick turn self.old))
-            (self.new ≡ without_turns self.old) }
+            ((self.old.own ≡ steps_of batch.actor (records_of fabric.old.run))
+            × (self.new ≡ with_batch (group_of N.scenario) fabric.old.run.tick batch self.old))
+            (IsStopped self.old self.new) }
         ensures fabric { MatchBool result
-            (fabric.new ≡ with_record turn.number (sends_after (group_of N.scenario) self.old.own turn.event) fabric.old)
-            (fabric.new ≡ with_given_up turn.number fabric.old) }
-        ensures share { ClosesTurn share.old share.new }
+            (fabric.new ≡ with_record batch.number (sends_in (group_of N.scenario) self.old.own batch) fabric.old)
+            (IsGivenUp batch.number fabric.old fabric.new) }
+        ensures share { ClosesBatch share.old share.new }
     {
         self.ready = false;
-        let Ok(sends) = self.core.step(&turn.turn().event) else {
-            fabric.give_up(turn, share);
+        let events = &batch.batch().events;
+        let Ok(sends) = step_all(self.alloc, &mut self.core, events.as_slice()) else {
+            fabric.give_up(batch, share);
             return false;
         };
-        self.ready = fabric.record(turn, sends, share, &mut self.lane);
+        self.ready = fabric.record(batch, sends, share, &mut self.lane);
         self.ready
     }
 }

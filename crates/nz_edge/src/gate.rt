@@ -1,9 +1,9 @@
 //! Gates that workers pass.
 
-/// Where a worker stops by before each turn. Nothing is promised of it.
+/// Where a worker stops by before each batch. Nothing is promised of it.
 pub trait Gate {
-    /// The worker, from 0, is about to do the turn of this number, from 1.
-    fn arrive(&self, worker: u8, turn: u64);
+    /// The worker, from 0, is about to do the batch of this number, from 1.
+    fn arrive(&self, worker: u8, batch: u64);
 }
 
 /// A gate that lets everybody through at once.
@@ -17,5 +17,5 @@ impl OpenGate {
 }
 
 impl Gate for OpenGate {
-    fn arrive(&self, _worker: u8, _turn: u64) {}
+    fn arrive(&self, _worker: u8, _batch: u64) {}
 }

@@ -320,7 +320,3 @@ posted_reverse (r ∷ rs) J =
 
 pub whole_yielded : (all yielded rest : List Arrival) → rest ≡ [] → yielded ++ rest ≡ all → yielded ≡ all
 whole_yielded all yielded rest none whole = sym (append-nil yielded) ∙ ap (λ (rest : List Arrival). yielded ++ rest) (sym none) ∙ whole
-
-pub none_left : {X : Type 0} (xs : List X) → length xs ≡ 0 → xs ≡ []
-none_left [] e = refl
-none_left (x ∷ xs) e = absurd (omega (arith, e))

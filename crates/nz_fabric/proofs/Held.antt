@@ -1,7 +1,7 @@
 -- What a fabric of one thread keeps.
 use Rattle.std.proofs.Common.{◌≡◌, ℕ, zero, suc, ◌+◌, ◌<◌, ◌≤◌, Bool, true, false, List, [], ◌∷◌, ◌++◌, length, map, refl, sym, ap}
 use Rattle.std.proofs.Common.{◌∙◌, subst, arith, add-one, length-append, length-drop, take_all, take-append-drop, append-nil, append_assoc}
-use Rattle.std.specs.Prelude.{take, drop, reverse}
+use Rattle.std.specs.Prelude.{take, drop, reverse, IsPermutation}
 use Rattle.std.specs.List.{AllByRecursion}
 use Rattle.std.proofs.lemmas.List.{map-append, reverse-append, length-reverse, reverse-reverse, drop_all, take-append-le, drop-append-le}
 use Rattle.std.proofs.lemmas.Grind.{reverse_onto}
@@ -9,14 +9,15 @@ use Rattle.nz_base.specs.declared.scenario.Scenario.{Scenario}
 use Rattle.nz_machine.specs.declared.event.Parcel.{Parcel}
 use Rattle.nz_machine.specs.declared.event.Record.{Record}
 use Rattle.nz_machine.specs.declared.journal.Item.{Item}
-use Rattle.nz_machine.specs.Schedule.{Posted, posted_by_run, posted_in, item_of, due, InOrderTo, IsPlayable}
+use Rattle.nz_machine.specs.Schedule.{Posted, posted_by_run, item_of, due, InOrderTo, IsPlayable}
 use Rattle.nz_machine.proofs.ListParts.{take_next}
 use Rattle.nz_fabric.specs.declared.turn.Turn.{Turn}
 use Rattle.nz_fabric.specs.declared.ticks.Ticks.{Ticks}
 use Rattle.nz_fabric.specs.Calendars.{Dates, StandsFor, HasPosted, posted_by}
 use Rattle.nz_fabric.specs.States.{State, records_of, start_state, IsNew, IsOpen, IsDone, item_in, record_of_turn, with_recorded}
-use Rattle.nz_fabric.specs.States.{after_tick, IsBegun, IsBegunAs, IsKeptRun, IsPosted, state_of, state_in, IsHeld, HasBegun}
-use Rattle.nz_fabric.proofs.Dating.{posted_push, posted_reverse}
+use Rattle.nz_fabric.specs.States.{after_tick, IsBegun, IsKeptRun, IsPosted, state_of, state_in, IsHeld, AreInOrder, HasBegun, HasBegunAs}
+use Rattle.nz_fabric.proofs.Dating.{posted_reverse}
+use Rattle.nz_fabric.proofs.Sending.{posted_append}
 
 -- ---- the start
 
@@ -73,19 +74,17 @@ kept_record f turn sends k o =
       most = omega (arith, taken);
     }
 
-pub state_record : (s : Scenario) (tick before : ℕ) (records : List Record) (items : List Item) (next : ℕ)
-    (marked : Bool) (turn : Turn) (sends : List Parcel) → before ≤ length records
-    → state_of s tick before (records ++ record_of_turn turn sends ∷ []) items next marked
-    ≡ with_recorded turn sends (state_of s tick before records items next marked)
-state_record s tick before records items next marked turn sends le =
-    let r = record_of_turn turn sends in
-    let first = ap reverse (take-append-le before records (r ∷ []) le) in
-    let last = ap reverse (drop-append-le before records (r ∷ []) le) ∙ reverse-append (drop before records) (r ∷ []) in
+pub state_records : (s : Scenario) (tick before : ℕ) (records more : List Record) (items : List Item) (next : ℕ) (marked : Bool) → before ≤ length records
+    → state_of s tick before (records ++ more) items next marked
+    ≡ record (state_of s tick before records items next marked) { here = reverse more ++ reverse (drop before records) }
+state_records s tick before records more items next marked le =
+    let first = ap reverse (take-append-le before records more le) in
+    let last = ap reverse (drop-append-le before records more le) ∙ reverse-append (drop before records) more in
     ap (λ (xs : List Record). let f : State = record {
       scenario = s;
       tick = tick;
       finished = xs;
-      here = reverse (drop before (records ++ r ∷ []));
+      here = reverse (drop before (records ++ more));
       items = items;
       next = next;
       marked = marked;
@@ -100,21 +99,22 @@ state_record s tick before records items next marked turn sends le =
       marked = marked;
     } in f) last
 
-long_here : (before : ℕ) (records : List Record) → before ≤ length records → before + length (reverse (drop before records)) ≡ length records
+pub long_here : (before : ℕ) (records : List Record) → before ≤ length records → before + length (reverse (drop before records)) ≡ length records
 long_here before records le = let a = length-reverse (drop before records) in let b = length-drop before records in omega (arith, a, b, le)
 
 -- what was sent before goes first
-pub posted_grow : (f : State) (r : Record) (c : Dates) → IsPosted f c → IsPosted (record f { here = r ∷ f.here }) c
-posted_grow f r c h = record {
+pub posted_more : (f : State) (more : List Record) (marked : Bool) (c : Dates) → (marked ≡ false → f.marked ≡ false)
+    → IsPosted f c → IsPosted (record f { here = reverse more ++ f.here; marked = marked }) c
+posted_more f more marked c kept h = record {
   sent = h.sent;
-  rest = h.rest ++ map (posted_in r.tick) r.sends;
+  rest = h.rest ++ posted_by more;
   prefix =
-      ap posted_by (reverse_onto f.here r [])
-      ∙ posted_push (reverse f.here) r
-      ∙ ap (λ (L : List Posted). L ++ map (posted_in r.tick) r.sends) h.prefix
-      ∙ append_assoc h.sent h.rest (map (posted_in r.tick) r.sends);
+      ap posted_by (reverse-append (reverse more) f.here ∙ ap (λ (xs : List Record). reverse f.here ++ xs) (reverse-reverse more))
+      ∙ posted_append (reverse f.here) more
+      ∙ ap (λ (L : List Posted). L ++ posted_by more) h.prefix
+      ∙ append_assoc h.sent h.rest (posted_by more);
   stands = h.stands;
-  none = h.none;
+  none = λ e. h.none (kept e);
 }
 
 pub held_record : (s : Scenario) (tick before room : ℕ) (records : List Record) (items : List Item) (next : ℕ)
@@ -128,13 +128,13 @@ held_record s tick before room records items next marked c turn sends h o =
     let here = long_here before records h.within in
     let own = h.has_room o.unmarked in
     let few = own.few in
-    subst (λ (f : State). IsHeld f before room (records ++ r ∷ []) c) (sym (state_record s tick before records items next marked turn sends h.within))
+    subst (λ (f : State). IsHeld f before room (records ++ r ∷ []) c) (sym (state_records s tick before records (r ∷ []) items next marked h.within))
     (record {
       kept = kept_record (state_of s tick before records items next marked) turn sends h.kept o;
       within = let le = h.within in omega (arith, long, le);
       few = omega (arith, long, here, taken, few);
       has_room = λ e. record { reserved = own.reserved; few = own.few };
-      is_posted = posted_grow (state_of s tick before records items next marked) r c h.is_posted;
+      is_posted = posted_more (state_of s tick before records items next marked) (r ∷ []) marked c (λ e. e) h.is_posted;
     })
 
 -- ---- the next tick
@@ -171,15 +171,26 @@ in_order_now f k d = in_order_by f f.tick refl k.begun k (sym d.quiet.closed ∙
 pub all_records : (before : ℕ) (records : List Record) → reverse (drop before records) ++ reverse (take before records) ≡ reverse records
 all_records before records = sym (reverse-append (take before records) (drop before records)) ∙ ap reverse (take-append-drop before records)
 
-pub begun_next : (Ordered : Scenario → ℕ → List Record → Type 0) (s : Scenario) (tick next : ℕ) (J : List Record)
-    → suc tick ≡ next → Ordered s tick J → IsBegunAs Ordered s next J (due s next J)
-begun_next Ordered s tick next J e order = subst (λ (n : ℕ). IsBegunAs Ordered s n J (due s n J)) e (order, refl)
+pub begun_next : (s : Scenario) (tick next : ℕ) (J : List Record) → suc tick ≡ next → InOrderTo s tick J → IsBegun s next J (due s next J)
+begun_next s tick next J e order = subst (λ (n : ℕ). IsBegun s n J (due s n J)) e (order, refl)
 
-pub state_next : (s : Scenario) (tick before n : ℕ) (records : List Record) (items items' : List Item) (next : ℕ) (marked : Bool)
+-- the ticks that began, with their items in some order
+pub begun_grouped : (s : Scenario) (last : ℕ) (L : List Posted) (t u : Ticks) → HasBegun s last L t → u ≡ record t { items = u.items }
+    → IsPermutation t.items.items u.items.items → HasBegunAs IsPermutation s last L u
+begun_grouped s last L t u b same items = record {
+  scenario = ap (λ (x : Ticks). x.scenario) same ∙ b.scenario;
+  tick = ap (λ (x : Ticks). x.tick) same ∙ b.tick;
+  items = subst (λ (is : List Item). IsPermutation is u.items.items) b.items items;
+  next = ap (λ (x : Ticks). x.next) same ∙ b.next;
+  unmarked = ap (λ (x : Ticks). x.marked) same ∙ b.unmarked;
+  stands = subst (λ (c : Dates). StandsFor s L (last + 1) c) (sym (ap (λ (x : Ticks). x.calendar) same)) b.stands;
+}
+
+-- none of the new tick is recorded
+state_next : (s : Scenario) (tick before n : ℕ) (records : List Record) (items items' : List Item) (next : ℕ) (marked : Bool)
     → n ≡ length records → marked ≡ false
-    → items' ≡ due s (tick + 1) (records_of (state_of s tick before records items next marked))
-    → state_of s (tick + 1) n records items' 0 false ≡ after_tick (state_of s tick before records items next marked)
-state_next s tick before n records items items' next marked long unmarked are_due =
+    → state_of s (tick + 1) n records items' 0 false ≡ record (after_tick (state_of s tick before records items next marked)) { items = items' }
+state_next s tick before n records items items' next marked long unmarked =
     let finished : reverse (take n records) ≡ records_of (state_of s tick before records items next marked) =
     ap reverse (take_all n records (omega (arith, long))) ∙ sym (all_records before records) in
     let here : reverse (drop n records) ≡ [] = ap reverse (drop_all n records (omega (arith, long))) in
@@ -201,36 +212,37 @@ state_next s tick before n records items items' next marked long unmarked are_du
       next = 0;
       marked = false;
     } in f) here
-    ∙ ap (λ (is : List Item). let f : State = record {
-      scenario = s;
-      tick = tick + 1;
-      finished = records_of (state_of s tick before records items next marked);
-      here = [];
-      items = is;
-      next = 0;
-      marked = false;
-    } in f) are_due
     ∙ ap (λ (m : Bool). let f : State = record {
       scenario = s;
       tick = tick + 1;
       finished = records_of (state_of s tick before records items next marked);
       here = [];
-      items = due s (tick + 1) (records_of (state_of s tick before records items next marked));
+      items = items';
       next = 0;
       marked = m;
     } in f) (sym unmarked)
 
 -- the ticks that began are the next state
-pub next_is : (s : Scenario) (tick before n : ℕ) (records : List Record) (items : List Item) (next : ℕ) (marked : Bool) (new : Ticks)
-    → HasBegun s tick (posted_by_run (records_of (state_of s tick before records items next marked))) new → n ≡ length records → marked ≡ false
-    → state_in new n records ≡ after_tick (state_of s tick before records items next marked)
-next_is s tick before n records items next marked new b long unmarked =
+pub next_is : (AreDue : List Item → List Item → Type 0) (s : Scenario) (tick before n : ℕ) (records : List Record)
+    (items : List Item) (next : ℕ) (marked : Bool) (new : Ticks)
+    → HasBegunAs AreDue s tick (posted_by_run (records_of (state_of s tick before records items next marked))) new
+    → n ≡ length records → marked ≡ false
+    → state_in new n records ≡ record (after_tick (state_of s tick before records items next marked)) { items = new.items.items }
+next_is AreDue s tick before n records items next marked new b long unmarked =
     let is = new.items.items in
     ap (λ (t : Scenario). state_of t new.tick n records is new.next new.marked) b.scenario
     ∙ ap (λ (t : ℕ). state_of s t n records is new.next new.marked) b.tick
     ∙ ap (λ (k : ℕ). state_of s (tick + 1) n records is k new.marked) b.next
     ∙ ap (λ (m : Bool). state_of s (tick + 1) n records is 0 m) b.unmarked
-    ∙ state_next s tick before n records items is next marked long unmarked b.items
+    ∙ state_next s tick before n records items is next marked long unmarked
+
+-- in the order of the schedule
+pub next_in_order : (s : Scenario) (tick before n : ℕ) (records : List Record) (items : List Item) (next : ℕ) (marked : Bool) (new : Ticks)
+    → HasBegun s tick (posted_by_run (records_of (state_of s tick before records items next marked))) new → n ≡ length records → marked ≡ false
+    → state_in new n records ≡ after_tick (state_of s tick before records items next marked)
+next_in_order s tick before n records items next marked new b long unmarked =
+    next_is AreInOrder s tick before n records items next marked new b long unmarked
+    ∙ ap (λ (is : List Item). record (after_tick (state_of s tick before records items next marked)) { items = is }) b.items
 
 -- ---- what is posted when a tick is over
 
@@ -306,8 +318,9 @@ over_begun t before records sent c new unmarked posts e all begins =
     begins (posted_by_run (records_of (state_in t before records)))
     (posted_now t.scenario t.tick before records c (over_now t before records sent c unmarked posts e all))
 
-pub posted_next : (f : State) (c : Dates) → StandsFor f.scenario (posted_by_run (records_of f)) (f.tick + 1) c → IsPosted (after_tick f) c
-posted_next f c h =
+pub posted_next : (f : State) (items : List Item) (c : Dates) → StandsFor f.scenario (posted_by_run (records_of f)) (f.tick + 1) c
+    → IsPosted (record (after_tick f) { items = items }) c
+posted_next f items c h =
     record {
       sent = [];
       rest = [];
@@ -322,7 +335,7 @@ kept_next : (f : State) → IsKeptRun f → IsDone f → f.tick < f.scenario.tic
 kept_next f k d lt = record {
   playable = k.playable;
   in_run = omega (arith, lt);
-  begun = begun_next InOrderTo f.scenario f.tick (f.tick + 1) (records_of f) (omega arith) (in_order_now f k d);
+  begun = begun_next f.scenario f.tick (f.tick + 1) (records_of f) (omega arith) (in_order_now f k d);
   here = tt;
   in_order = refl;
   next = omega arith;
@@ -342,13 +355,13 @@ held_next s tick before n room records items next marked c new h d lt b long =
     let few = own.few in
     let closed = d.quiet.closed in
     let here = long_here before records h.within in
-    subst (λ (g : State). IsHeld g n room records new.calendar) (sym (next_is s tick before n records items next marked new b long d.quiet.unmarked))
+    subst (λ (g : State). IsHeld g n room records new.calendar) (sym (next_in_order s tick before n records items next marked new b long d.quiet.unmarked))
     (record {
       kept = kept_next f h.kept d lt;
       within = omega (arith, long);
       few = h.few;
       has_room = λ _. record { reserved = omega (arith, long, here, closed, reserved); few = omega (arith, long, here, closed, few) };
-      is_posted = posted_next f new.calendar b.stands;
+      is_posted = posted_next f (after_tick f).items new.calendar b.stands;
     })
 
 -- no further turn is given

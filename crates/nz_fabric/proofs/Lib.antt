@@ -10,3 +10,5 @@ pub mod Counting
 pub mod Held
 pub mod Sharing
 pub mod Taking
+pub mod Batching
+pub mod Pushing

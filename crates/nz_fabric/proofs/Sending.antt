@@ -43,7 +43,7 @@ one_record s L now c rs i r lt at h =
     (sym (posted_push (take i rs) r) ∙ ap posted_by (ap (λ (x : Record). take i rs ++ x ∷ []) at ∙ sym (take_more rs i r lt))))
     h
 
-posted_append : (xs ys : List Record) → posted_by (xs ++ ys) ≡ posted_by xs ++ posted_by ys
+pub posted_append : (xs ys : List Record) → posted_by (xs ++ ys) ≡ posted_by xs ++ posted_by ys
 posted_append [] ys = refl
 posted_append (r ∷ xs) ys =
     ap (λ (L : List Posted). map (posted_in r.tick) r.sends ++ L) (posted_append xs ys)

@@ -1,35 +1,39 @@
 -- What a fabric of threads keeps.
-use Rattle.std.proofs.Common.{◌≡◌, ℕ, zero, suc, ◌+◌, ◌^◌, ◌<◌, ◌≤◌, Bool, true, List, [], ◌∷◌, ◌++◌, length, map}
-use Rattle.std.proofs.Common.{Some, refl, sym, ap, ◌∙◌, subst, arith, length-append, append_assoc, take_all}
-use Rattle.std.specs.Prelude.{take, reverse, slice_get, get_or, IsPermutation}
-use Rattle.std.specs.List.{AllByRecursion, remove}
-use Rattle.std.proofs.lemmas.List.{map-append, length-map}
-use Rattle.std.proofs.lemmas.List.Sorted.{IsPermutation-refl, IsPermutation-sym, IsPermutation-cons, IsPermutation-to_front, IsPermutation-map}
-use Rattle.std.proofs.lemmas.List.Sorted.{IsPermutation-append_left, IsPermutation-append_right, IsPermutation-trans, IsPermutation-middle}
+use Rattle.std.proofs.Common.{◌≡◌, ℕ, zero, suc, ◌+◌, ◌^◌, ◌<◌, ◌≤◌, Bool, true, false, List, [], ◌∷◌, ◌++◌, length, map}
+use Rattle.std.proofs.Common.{refl, sym, ap, ◌∙◌, subst, arith, length-append, append-nil, take_all}
+use Rattle.std.specs.Prelude.{take, drop, reverse, get_or, IsPermutation}
+use Rattle.std.specs.List.{AllByRecursion, flat_map, remove}
+use Rattle.std.proofs.lemmas.List.{map-append, length-map, length-take-le}
+use Rattle.std.proofs.lemmas.Grind.{reverse_onto}
+use Rattle.std.proofs.lemmas.List.Sorted.{IsPermutation-refl, IsPermutation-map, IsPermutation-trans}
 use Rattle.std.proofs.lemmas.List.Sorted.{IsPermutation-reverse, IsPermutation-remove, length_permutation}
 use Rattle.nz_base.specs.declared.scenario.Scenario.{Scenario}
-use Rattle.nz_machine.specs.declared.event.Parcel.{Parcel}
 use Rattle.nz_machine.specs.declared.event.Record.{Record}
 use Rattle.nz_machine.specs.declared.journal.Item.{Item}
-use Rattle.nz_machine.proofs.ListParts.{take_next}
-use Rattle.nz_machine.specs.Schedule.{item_of, posted_by_run, ScheduledTo, IsPlayable}
-use Rattle.nz_fabric.specs.Takes.{Running}
+use Rattle.nz_machine.specs.Schedule.{item, item_of, due, posted_by_run, ScheduledTo, IsPlayable}
+use Rattle.nz_machine.specs.State.{Group}
+use Rattle.nz_machine.specs.Step.{Node}
+use Rattle.nz_machine.specs.declared.event.Parcel.{Parcel}
+use Rattle.nz_machine.proofs.EachItem.{all_append, all_of_prefix}
+use Rattle.nz_fabric.specs.Records.{AddsSome}
+use Rattle.nz_fabric.specs.Steps.{batch_records, sends_from}
+use Rattle.nz_fabric.specs.declared.batch.Batch.{Batch}
 use Rattle.nz_fabric.specs.declared.ticks.Ticks.{Ticks}
-use Rattle.nz_fabric.specs.States.{State, records_of, IsNew, record_of_turn, with_recorded, with_taken, with_mark}
-use Rattle.nz_fabric.specs.States.{after_tick, IsBegunAs, IsPosted, state_of, state_in, HasBegun}
+use Rattle.nz_fabric.specs.States.{State, records_of, IsNew, IsPosted, after_tick, IsBegunInSomeOrder, state_of, state_in, HasBegunAs}
 use Rattle.nz_fabric.specs.Calendars.{Dates}
-use Rattle.nz_fabric.specs.Shared.{shared_with, item_running, turn_of, IsOver, IsAccounted, IsBooked}
-use Rattle.nz_fabric.proofs.Held.{no_records, begun_next, state_record, next_is, posted_start, posted_grow, posted_next}
+use Rattle.nz_fabric.specs.Shared.{Shared, shared_with, items_of, IsNextOf, with_opened, after_shared, IsOver, IsAccounted, IsBooked}
+use Rattle.nz_fabric.proofs.Batching.{run_taken, batch_apart, one_opened, one_closed, records_items, records_tick}
+use Rattle.nz_fabric.proofs.Held.{no_records, long_here, state_records, next_is, posted_start, posted_more, posted_next}
 
 -- ---- the start
 
-pub booked_start : (s : Scenario) (total taken : ℕ) (t : Ticks) (records : List Record) (running : List Running) (room : ℕ)
-    → IsPlayable s → IsNew s t → records ≡ [] → running ≡ [] → total ≡ 0 → taken ≡ 0
-    → IsBooked s total taken (state_in t 0 records) running 0 room records t.calendar
-booked_start s total taken t records running room play new no_record none nothing never =
-    subst (λ (rest : List Running). IsBooked s total taken (state_in t 0 records) rest 0 room records t.calendar) (sym none)
-    (subst (λ (rs : List Record). IsBooked s total taken (state_in t 0 rs) [] 0 room rs t.calendar) (sym no_record)
-    (subst (λ (f : State). IsBooked s total taken f [] 0 room [] t.calendar) (sym new.state)
+pub booked_start : (s : Scenario) (total taken : ℕ) (t : Ticks) (records : List Record) (running : List Batch) (room : ℕ)
+    → IsPlayable s → IsNew s t → records ≡ [] → running ≡ [] → total ≡ 0
+    → IsBooked s total (shared_with (state_in t 0 records) running taken) 0 room records t.calendar
+booked_start s total taken t records running room play new no_record none nothing =
+    subst (λ (rest : List Batch). IsBooked s total (shared_with (state_in t 0 records) rest taken) 0 room records t.calendar) (sym none)
+    (subst (λ (rs : List Record). IsBooked s total (shared_with (state_in t 0 rs) [] taken) 0 room rs t.calendar) (sym no_record)
+    (subst (λ (f : State). IsBooked s total (shared_with f [] taken) 0 room [] t.calendar) (sym new.state)
     (record {
       accounted = record {
         scenario = refl;
@@ -47,175 +51,220 @@ booked_start s total taken t records running room play new no_record none nothin
       reserved = omega arith;
       is_posted = posted_start s t.calendar new.stands;
       booked = nothing;
-      numbered = λ _. omega (arith, never);
     })))
 
--- ---- one turn more
+-- ---- how many records there are
 
-opened_one : (given_up : List Item) (running : List Running) (o : Running) (here taken : List Item)
-    → IsPermutation taken ((given_up ++ map item_running running) ++ here)
-    → IsPermutation (taken ++ o.item ∷ []) ((given_up ++ map item_running (running ++ o ∷ [])) ++ here)
-opened_one given_up running o here taken h =
-    let x = o.item in
-    let items = map item_running running in
-    let to_start = IsPermutation-trans _ _ _ (IsPermutation-to_front taken x) (IsPermutation-cons x _ _ h) in
-    let middle : IsPermutation (taken ++ x ∷ []) ((given_up ++ items) ++ x ∷ here) =
-    IsPermutation-trans _ _ _ to_start (IsPermutation-sym _ _ (IsPermutation-middle (given_up ++ items) x here)) in
-    let same : (given_up ++ items) ++ x ∷ here ≡ (given_up ++ map item_running (running ++ o ∷ [])) ++ here =
-    sym (append_assoc (given_up ++ items) (x ∷ []) here)
-    ∙ ap (λ (is : List Item). is ++ here)
-    (append_assoc given_up items (x ∷ []) ∙ ap (λ (is : List Item). given_up ++ is) (sym (map-append item_running running (o ∷ [])))) in
-    subst (λ (is : List Item). IsPermutation (taken ++ x ∷ []) is) same middle
+pub booked_few : (s : Scenario) (total taken : ℕ) (scenario : Scenario) (tick before room : ℕ)
+    (records : List Record) (items : List Item) (next : ℕ) (marked : Bool) (c : Dates) (running : List Batch)
+    → IsBooked s total (shared_with (state_of scenario tick before records items next marked) running taken) before room records c
+    → length records < 2 ^ 32
+booked_few s total taken scenario tick before room records items next marked c running h =
+    let k = h.accounted in
+    let here = reverse (drop before records) in
+    let others = k.given_up ++ flat_map items_of running in
+    let all = length_permutation (take next items) (others ++ map item_of here) k.each_once in
+    let first = length-take-le next items k.next in
+    let a = length-append others (map item_of here) in
+    let recorded = length-map here item_of in
+    let long = long_here before records h.within in
+    let few = h.few in
+    omega (arith, all, first, a, recorded, long, few)
 
-accounted_taken : (s : Scenario) (f : State) (running : List Running) (o : Running)
-    → IsAccounted s (shared_with f running) → f.next < length f.items → slice_get f.items f.next ≡ Some o.item
-    → IsAccounted s (shared_with (with_taken f) (running ++ o ∷ []))
-accounted_taken s f running o k lt is =
-    let grown : take (f.next + 1) f.items ≡ take f.next f.items ++ o.item ∷ [] = take_next f.items f.next o.item is in
+-- ---- one batch more
+
+accounted_taken : (s : Scenario) (f : Shared) (b : Batch) → IsAccounted s f → IsNextOf f b → IsAccounted s (with_opened b f)
+accounted_taken s f b k is =
+    let n = length b.events in
+    let long = sym (length-map b.events (item b.actor)) in
     record {
       scenario = k.scenario;
       playable = k.playable;
       in_run = k.in_run;
       begun = k.begun;
       here = k.here;
-      next = omega (arith, lt);
+      next = is.within;
       given_up = k.given_up;
       each_once =
-          subst (λ (is : List Item). IsPermutation is ((k.given_up ++ map item_running (running ++ o ∷ [])) ++ map item_of f.here)) (sym grown)
-          (opened_one k.given_up running o (map item_of f.here) (take f.next f.items) k.each_once);
+          subst (λ (is : List Item). IsPermutation is ((k.given_up ++ flat_map items_of (f.running ++ b ∷ [])) ++ map item_of f.run.here))
+          (sym (run_taken b.actor f.run.items f.run.next n (items_of b) is.items long))
+          (one_opened k.given_up f.running b (map item_of f.run.here) (take f.run.next f.run.items) k.each_once);
       all_kept = k.all_kept;
     }
 
-pub booked_taken : (s : Scenario) (total total' taken taken' : ℕ) (f : State) (running : List Running) (o : Running)
-    (before room room' : ℕ) (records : List Record) (c : Dates)
-    → IsBooked s total taken f running before room records c → f.next < length f.items → slice_get f.items f.next ≡ Some o.item
-    → length records + length running + 1 < 2 ^ 32 → length records + length running + 1 ≤ room' → total' ≡ total + 1 → taken' ≡ taken + 1
-    → IsBooked s total' taken' (with_taken f) (running ++ o ∷ []) before room' records c
-booked_taken s total total' taken taken' f running o before room room' records c h lt is few reserved count more =
-    let long = length-append running (o ∷ []) in
+pub booked_taken : (s : Scenario) (total total' : ℕ) (f : Shared) (b : Batch) (before room : ℕ) (records : List Record) (c : Dates)
+    → IsBooked s total f before room records c → IsNextOf f b → total' ≡ total + 1
+    → before + (f.run.next + length b.events) ≤ room → before + (f.run.next + length b.events) < 2 ^ 32
+    → IsBooked s total' (with_opened b f) before room records c
+booked_taken s total total' f b before room records c h is count reserved few =
+    let long = length-append f.running (b ∷ []) in
     let booked = h.booked in
+    let posted = h.is_posted in
     record {
-      accounted = accounted_taken s f running o h.accounted lt is;
+      accounted = accounted_taken s f b h.accounted is;
       within = h.within;
-      few = omega (arith, long, few);
-      reserved = omega (arith, long, reserved);
-      is_posted = let p = h.is_posted in record { sent = p.sent; rest = p.rest; prefix = p.prefix; stands = p.stands; none = p.none };
+      few = few;
+      reserved = reserved;
+      is_posted = record { sent = posted.sent; rest = posted.rest; prefix = posted.prefix; stands = posted.stands; none = posted.none };
       booked = omega (arith, long, booked, count);
-      numbered = λ unmarked. (let all = h.numbered unmarked in omega (arith, long, all, more));
     }
 
--- ---- one turn fewer
+-- the journal has more room
+pub booked_room : (s : Scenario) (total : ℕ) (f : Shared) (before room room' : ℕ) (records : List Record) (c : Dates)
+    → IsBooked s total f before room records c → room ≤ room' → IsBooked s total f before room' records c
+booked_room s total f before room room' records c h more =
+    let reserved = h.reserved in
+    record {
+      accounted = h.accounted;
+      within = h.within;
+      few = h.few;
+      reserved = omega (arith, reserved, more);
+      is_posted = h.is_posted;
+      booked = h.booked;
+    }
 
-closed_one : (given_up : List Item) (running : List Running) (here : List Item) (i : ℕ) (o : Running) → i < length running → o ≡ get_or running i o
-    → IsPermutation ((given_up ++ map item_running running) ++ here) (o.item ∷ ((given_up ++ map item_running (remove running i)) ++ here))
-closed_one given_up running here i o lt at =
-    let rest = map item_running (remove running i) in
-    let apart : IsPermutation (map item_running running) (o.item ∷ rest) =
-    IsPermutation-map item_running running (o ∷ remove running i) (IsPermutation-remove running i o lt at) in
-    let to_start : IsPermutation (given_up ++ map item_running running) (o.item ∷ (given_up ++ rest)) =
-    IsPermutation-trans _ _ _ (IsPermutation-append_right given_up _ _ apart) (IsPermutation-middle given_up o.item rest) in
-    IsPermutation-append_left here _ _ to_start
+-- ---- one batch fewer
 
-one_fewer : (running : List Running) (i : ℕ) (o : Running) → i < length running → o ≡ get_or running i o → length (remove running i) + 1 ≡ length running
-one_fewer running i o lt at = let e = length_permutation running (o ∷ remove running i) (IsPermutation-remove running i o lt at) in omega (arith, e)
+one_fewer : (running : List Batch) (i : ℕ) (b : Batch) → i < length running → b ≡ get_or running i b → length (remove running i) + 1 ≡ length running
+one_fewer running i b lt at = let e = length_permutation running (b ∷ remove running i) (IsPermutation-remove running i b lt at) in omega (arith, e)
 
-accounted_recorded : (s : Scenario) (f : State) (running : List Running) (i : ℕ) (o : Running) (sends : List Parcel)
-    → IsAccounted s (shared_with f running) → i < length running → o ≡ get_or running i o
-    → IsAccounted s (shared_with (with_recorded (turn_of f.tick o) sends f) (remove running i))
-accounted_recorded s f running i o sends k lt at = record {
+-- the journal has a place for each event of an open batch
+pub booked_places : (s : Scenario) (total taken : ℕ) (scenario : Scenario) (tick before room : ℕ)
+    (records : List Record) (items : List Item) (next : ℕ) (marked : Bool) (c : Dates) (running : List Batch) (i : ℕ) (b : Batch)
+    → IsBooked s total (shared_with (state_of scenario tick before records items next marked) running taken) before room records c
+    → i < length running → b ≡ get_or running i b
+    → (length records + length b.events ≤ room) × (length records + length b.events < 2 ^ 32)
+booked_places s total taken scenario tick before room records items next marked c running i b h lt at =
+    let k = h.accounted in
+    let here = map item_of (reverse (drop before records)) in
+    let open_items = flat_map items_of running in
+    let others = flat_map items_of (remove running i) in
+    let all = length_permutation (take next items) ((k.given_up ++ open_items) ++ here) k.each_once in
+    let first = length-take-le next items k.next in
+    let apart = length_permutation open_items (items_of b ++ others) (batch_apart running i b lt at) in
+    let a = length-append (k.given_up ++ open_items) here in
+    let d = length-append k.given_up open_items in
+    let e = length-append (items_of b) others in
+    let own = length-map b.events (item b.actor) in
+    let recorded = length-map (reverse (drop before records)) item_of in
+    let long = long_here before records h.within in
+    let reserved = h.reserved in
+    let few = h.few in (
+      omega (arith, all, first, apart, a, d, e, own, recorded, long, reserved),
+      omega (arith, all, first, apart, a, d, e, own, recorded, long, few),
+    )
+
+all_reversed : (P : Record → Type 0) (rs : List Record) → AllByRecursion P rs → AllByRecursion P (reverse rs)
+all_reversed P [] all = tt
+all_reversed P (r ∷ rs) all =
+    subst (AllByRecursion P) (sym (reverse_onto rs r [])) (all_append P (reverse rs) (r ∷ []) (all_reversed P rs all.1) (all.0, tt))
+
+-- after it some first of its items are recorded, and the rest is given up
+accounted_closed : (s : Scenario) (run : State) (running : List Batch) (taken : ℕ) (marked : Bool) (more : List Record) (rest : List Item) (i : ℕ) (b : Batch)
+    → IsAccounted s (shared_with run running taken) → i < length running → b ≡ get_or running i b
+    → AllByRecursion (λ (r : Record). r.tick ≡ run.tick) more → map item_of more ++ rest ≡ items_of b
+    → (marked ≡ false → (run.marked ≡ false) × (rest ≡ []))
+    → IsAccounted s (shared_with (record run { here = reverse more ++ run.here; marked = marked }) (remove running i) taken)
+accounted_closed s run running taken marked more rest i b k lt at ticks whole kept = record {
   scenario = k.scenario;
   playable = k.playable;
   in_run = k.in_run;
   begun = k.begun;
-  here = (refl, k.here);
+  here = all_append (λ (r : Record). r.tick ≡ run.tick) (reverse more) run.here (all_reversed (λ (r : Record). r.tick ≡ run.tick) more ticks) k.here;
   next = k.next;
-  given_up = k.given_up;
+  given_up = rest ++ k.given_up;
   each_once =
-      IsPermutation-trans _ _ _ k.each_once
-      (IsPermutation-trans _ _ _ (closed_one k.given_up running (map item_of f.here) i o lt at)
-      (IsPermutation-sym _ _ (IsPermutation-middle (k.given_up ++ map item_running (remove running i)) o.item (map item_of f.here))));
-  all_kept = k.all_kept;
+      subst (λ (is : List Item). IsPermutation (take run.next run.items)
+      (((rest ++ k.given_up) ++ flat_map items_of (remove running i)) ++ is))
+      (sym (map-append item_of (reverse more) run.here))
+      (IsPermutation-trans _ _ _ k.each_once
+      (one_closed k.given_up running (map item_of run.here) (map item_of more) (map item_of (reverse more)) rest i b lt at whole
+      (IsPermutation-map item_of more (reverse more) (IsPermutation-reverse more))));
+  all_kept = λ e. ap (λ (is : List Item). is ++ k.given_up) (kept e).1 ∙ k.all_kept (kept e).0;
 }
 
-pub booked_recorded : (s : Scenario) (total total' taken : ℕ) (scenario : Scenario) (tick before room : ℕ)
-    (records : List Record) (items : List Item) (next : ℕ) (marked : Bool) (c : Dates) (running rest : List Running)
-    (i : ℕ) (o : Running) (sends : List Parcel)
-    → IsBooked s total taken (state_of scenario tick before records items next marked) running before room records c
-    → i < length running → o ≡ get_or running i o → rest ≡ remove running i → total' + 1 ≡ total
-    → IsBooked s total' taken (state_of scenario tick before
-    (records ++ record_of_turn (turn_of tick o) sends ∷ []) items next marked) rest before room
-    (records ++ record_of_turn (turn_of tick o) sends ∷ []) c
-booked_recorded s total total' taken scenario tick before room records items next marked c running rest i o sends h lt at left count =
-    let r = record_of_turn (turn_of tick o) sends in
-    let f = state_of scenario tick before records items next marked in
-    let long = length-append records (r ∷ []) in
-    let fewer = one_fewer running i o lt at in
+pub booked_closed : (s : Scenario) (total total' taken : ℕ) (scenario : Scenario) (tick before room : ℕ)
+    (records more : List Record) (rest items : List Item) (next : ℕ) (marked marked' : Bool) (c : Dates)
+    (running left : List Batch) (i : ℕ) (b : Batch)
+    → IsBooked s total (shared_with (state_of scenario tick before records items next marked) running taken) before room records c
+    → i < length running → b ≡ get_or running i b → left ≡ remove running i → total' + 1 ≡ total
+    → AllByRecursion (λ (r : Record). r.tick ≡ tick) more → map item_of more ++ rest ≡ items_of b
+    → (marked' ≡ false → (marked ≡ false) × (rest ≡ []))
+    → IsBooked s total' (shared_with (state_of scenario tick before (records ++ more) items next marked') left taken) before room (records ++ more) c
+booked_closed s total total' taken scenario tick before room records more rest items next marked marked' c running left i b h lt at without count ticks whole kept =
+    let run = state_of scenario tick before records items next marked in
+    let long = length-append records more in
+    let fewer = one_fewer running i b lt at in
     let within = h.within in
-    let few = h.few in
-    let reserved = h.reserved in
     let booked = h.booked in
-    subst (λ (left : List Running). IsBooked s total' taken
-    (state_of scenario tick before (records ++ r ∷ []) items next marked) left before room (records ++ r ∷ []) c) (sym left)
-    (subst (λ (g : State). IsBooked s total' taken g (remove running i) before room (records ++ r ∷ []) c)
-    (sym (state_record scenario tick before records items next marked (turn_of tick o) sends h.within))
+    subst (λ (left : List Batch). IsBooked s total'
+    (shared_with (state_of scenario tick before (records ++ more) items next marked') left taken) before room (records ++ more) c) (sym without)
+    (subst (λ (g : State). IsBooked s total' (shared_with g (remove running i) taken) before room (records ++ more) c)
+    (sym (state_records scenario tick before records more items next marked' h.within))
     (record {
-      accounted = accounted_recorded s f running i o sends h.accounted lt at;
+      accounted = accounted_closed s run running taken marked' more rest i b h.accounted lt at ticks whole kept;
       within = omega (arith, long, within);
-      few = omega (arith, long, fewer, few);
-      reserved = omega (arith, long, fewer, reserved);
-      is_posted = posted_grow f r c h.is_posted;
+      few = h.few;
+      reserved = h.reserved;
+      is_posted = posted_more run more marked' c (λ e. (kept e).0) h.is_posted;
       booked = omega (arith, fewer, booked, count);
-      numbered = λ unmarked. (let all = h.numbered unmarked in omega (arith, long, fewer, all));
     }))
 
-accounted_given_up : (s : Scenario) (f : State) (running : List Running) (i : ℕ) (o : Running)
-    → IsAccounted s (shared_with f running) → i < length running → o ≡ get_or running i o
-    → IsAccounted s (shared_with (with_mark f) (remove running i))
-accounted_given_up s f running i o k lt at = record {
-  scenario = k.scenario;
-  playable = k.playable;
-  in_run = k.in_run;
-  begun = k.begun;
-  here = k.here;
-  next = k.next;
-  given_up = o.item ∷ k.given_up;
-  each_once = IsPermutation-trans _ _ _ k.each_once (closed_one k.given_up running (map item_of f.here) i o lt at);
-  all_kept = λ e. cc;
-}
+-- all of them are recorded
+pub booked_recorded : (g : Group) (n : Node) (s : Scenario) (total total' taken : ℕ) (scenario : Scenario) (tick before room : ℕ)
+    (records records' : List Record) (items : List Item) (next : ℕ) (marked : Bool) (c : Dates) (running left : List Batch) (i : ℕ) (b : Batch)
+    (sends : List (List Parcel))
+    → IsBooked s total (shared_with (state_of scenario tick before records items next marked) running taken) before room records c
+    → i < length running → b ≡ get_or running i b → left ≡ remove running i → total' + 1 ≡ total → sends ≡ sends_from g n b.events
+    → records' ≡ records ++ batch_records tick b.actor b.events sends
+    → IsBooked s total' (shared_with (state_of scenario tick before records' items next marked) left taken) before room records' c
+booked_recorded g n s total total' taken scenario tick before room records records' items next marked c running left i b sends h lt at without count sent added =
+    let steps = batch_records tick b.actor b.events sends in
+    subst (λ (rs : List Record). IsBooked s total' (shared_with (state_of scenario tick before rs items next marked) left taken) before room rs c) (sym added)
+    (booked_closed s total total' taken scenario tick before room records steps [] items next marked marked c running left i b h lt at without count
+    (records_tick tick b.actor b.events sends)
+    (append-nil (map item_of steps) ∙ records_items g n tick b.actor b.events sends sent) (λ e. (e, refl)))
 
-pub booked_given_up : (s : Scenario) (total total' taken : ℕ) (f : State) (running rest : List Running) (before room : ℕ)
-    (records : List Record) (c : Dates) (i : ℕ) (o : Running)
-    → IsBooked s total taken f running before room records c → i < length running → o ≡ get_or running i o → rest ≡ remove running i → total' + 1 ≡ total
-    → IsBooked s total' taken (with_mark f) rest before room records c
-booked_given_up s total total' taken f running rest before room records c i o h lt at left count =
-    let fewer = one_fewer running i o lt at in
-    let few = h.few in
-    let reserved = h.reserved in
-    let booked = h.booked in
-    subst (λ (left : List Running). IsBooked s total' taken (with_mark f) left before room records c) (sym left)
-    (record {
-      accounted = accounted_given_up s f running i o h.accounted lt at;
-      within = h.within;
-      few = omega (arith, fewer, few);
-      reserved = omega (arith, fewer, reserved);
-      is_posted = let p = h.is_posted in record { sent = p.sent; rest = p.rest; prefix = p.prefix; stands = p.stands; none = λ e. cc };
-      booked = omega (arith, fewer, booked, count);
-      numbered = λ e. cc;
-    })
+-- some first of them are recorded, and the rest is given up
+pub booked_stopped : (g : Group) (n : Node) (s : Scenario) (total total' taken : ℕ) (scenario : Scenario) (tick before room : ℕ)
+    (records records' : List Record) (items : List Item) (next : ℕ) (marked : Bool) (c : Dates) (running left : List Batch) (i : ℕ) (b : Batch)
+    (sends : List (List Parcel))
+    → IsBooked s total (shared_with (state_of scenario tick before records items next marked) running taken) before room records c
+    → i < length running → b ≡ get_or running i b → left ≡ remove running i → total' + 1 ≡ total → sends ≡ sends_from g n b.events
+    → AddsSome (batch_records tick b.actor b.events sends) records records'
+    → IsBooked s total' (shared_with (state_of scenario tick before records' items next true) left taken) before room records' c
+booked_stopped g n s total total' taken scenario tick before room records records' items next marked c running left i b sends h lt at without count sent some =
+    subst (λ (rs : List Record). IsBooked s total' (shared_with (state_of scenario tick before rs items next true) left taken) before room rs c) (sym some.added)
+    (booked_closed s total total' taken scenario tick before room records some.done (map item_of some.rest) items next marked true c running left i b h lt at
+    without count
+    (all_of_prefix (λ (r : Record). r.tick ≡ tick) some.done some.rest
+    (subst (AllByRecursion (λ (r : Record). r.tick ≡ tick)) some.whole (records_tick tick b.actor b.events sends)))
+    (sym (map-append item_of some.done some.rest) ∙ ap (map item_of) (sym some.whole) ∙ records_items g n tick b.actor b.events sends sent) (λ e. cc))
+
+-- none of them is recorded
+pub booked_given_up : (s : Scenario) (total total' taken : ℕ) (scenario : Scenario) (tick before room : ℕ)
+    (records : List Record) (items : List Item) (next : ℕ) (marked : Bool) (c : Dates) (running left : List Batch) (i : ℕ) (b : Batch)
+    → IsBooked s total (shared_with (state_of scenario tick before records items next marked) running taken) before room records c
+    → i < length running → b ≡ get_or running i b → left ≡ remove running i → total' + 1 ≡ total
+    → IsBooked s total' (shared_with (state_of scenario tick before records items next true) left taken) before room records c
+booked_given_up s total total' taken scenario tick before room records items next marked c running left i b h lt at without count =
+    subst (λ (rs : List Record). IsBooked s total' (shared_with (state_of scenario tick before rs items next true) left taken) before room rs c)
+    (append-nil records)
+    (booked_closed s total total' taken scenario tick before room records [] (items_of b) items next marked true c running left i b h lt at without count
+    tt refl (λ e. cc))
 
 -- ---- the next tick
 
 -- what is due is what was recorded
-all_recorded : (s : Scenario) (f : State) (running : List Running) → IsAccounted s (shared_with f running)
-    → IsOver (shared_with f running) → IsPermutation f.items (map item_of f.here)
-all_recorded s f running k over =
-    let whole : take f.next f.items ≡ f.items = (let all = over.all in take_all f.next f.items (omega (arith, all))) in
-    subst (λ (is : List Item). IsPermutation is (map item_of f.here)) whole
-    (subst (λ (rest : List Running). IsPermutation (take f.next f.items) (([] ++ map item_running rest) ++ map item_of f.here)) over.none
-    (subst (λ (given_up : List Item). IsPermutation (take f.next f.items)
-    ((given_up ++ map item_running running) ++ map item_of f.here)) (k.all_kept over.unmarked) k.each_once))
+all_recorded : (s : Scenario) (f : Shared) → IsAccounted s f → IsOver f → IsPermutation f.run.items (map item_of f.run.here)
+all_recorded s f k over =
+    let whole : take f.run.next f.run.items ≡ f.run.items = (let all = over.all in take_all f.run.next f.run.items (omega (arith, all))) in
+    subst (λ (is : List Item). IsPermutation is (map item_of f.run.here)) whole
+    (subst (λ (rest : List Batch). IsPermutation (take f.run.next f.run.items) (([] ++ flat_map items_of rest) ++ map item_of f.run.here)) over.none
+    (subst (λ (given_up : List Item). IsPermutation (take f.run.next f.run.items)
+    ((given_up ++ flat_map items_of f.running) ++ map item_of f.run.here)) (k.all_kept over.unmarked) k.each_once))
 
-scheduled_by : (f : State) (tick : ℕ) → f.tick ≡ tick → IsBegunAs ScheduledTo f.scenario tick f.finished f.items
+scheduled_by : (f : State) (tick : ℕ) → f.tick ≡ tick → IsBegunInSomeOrder f.scenario tick f.finished f.items
     → AllByRecursion (λ (r : Record). r.tick ≡ f.tick) f.here → IsPermutation f.items (map item_of f.here)
     → ScheduledTo f.scenario tick (records_of f)
 scheduled_by f zero e (none, nothing) in_tick all =
@@ -230,7 +279,7 @@ scheduled_by f (suc tick) e (before, items) in_tick all = (
         whole = refl;
         here = subst (λ (t : ℕ). AllByRecursion (λ (r : Record). r.tick ≡ t) f.here) e in_tick;
         items =
-            subst (λ (is : List Item). IsPermutation is (map item_of (reverse f.here))) items
+            IsPermutation-trans _ _ _ items
             (IsPermutation-trans _ _ _ all (IsPermutation-map item_of f.here (reverse f.here) (IsPermutation-reverse f.here)));
       },
       before,
@@ -239,17 +288,21 @@ scheduled_by f (suc tick) e (before, items) in_tick all = (
 )
 
 -- all that was due was recorded, so the records are scheduled
-pub scheduled_now : (s : Scenario) (f : State) (running : List Running) → IsAccounted s (shared_with f running)
-    → IsOver (shared_with f running) → ScheduledTo f.scenario f.tick (records_of f)
-scheduled_now s f running k over = scheduled_by f f.tick refl k.begun k.here (all_recorded s f running k over)
+pub scheduled_now : (s : Scenario) (f : Shared) → IsAccounted s f → IsOver f → ScheduledTo f.run.scenario f.run.tick (records_of f.run)
+scheduled_now s f k over = scheduled_by f.run f.run.tick refl k.begun k.here (all_recorded s f k over)
 
-accounted_next : (s : Scenario) (f : State) (running : List Running) → IsAccounted s (shared_with f running)
-    → IsOver (shared_with f running) → f.tick < f.scenario.ticks → IsAccounted s (shared_with (after_tick f) [])
-accounted_next s f running k over lt = record {
+begun_in_some_order : (s : Scenario) (tick next : ℕ) (J : List Record) (items : List Item) → suc tick ≡ next → ScheduledTo s tick J
+    → IsPermutation (due s next J) items → IsBegunInSomeOrder s next J items
+begun_in_some_order s tick next J items e order are_due =
+    subst (λ (n : ℕ). IsPermutation (due s n J) items → IsBegunInSomeOrder s n J items) e (λ d. (order, d)) are_due
+
+accounted_next : (s : Scenario) (f : Shared) (items : List Item) → IsAccounted s f → IsOver f → f.run.tick < f.run.scenario.ticks
+    → IsPermutation (after_tick f.run).items items → IsAccounted s (after_shared items f)
+accounted_next s f items k over lt are_due = record {
   scenario = k.scenario;
   playable = k.playable;
   in_run = omega (arith, lt);
-  begun = begun_next ScheduledTo f.scenario f.tick (f.tick + 1) (records_of f) (omega arith) (scheduled_now s f running k over);
+  begun = begun_in_some_order f.run.scenario f.run.tick (f.run.tick + 1) (records_of f.run) items (omega arith) (scheduled_now s f k over) are_due;
   here = tt;
   next = omega arith;
   given_up = [];
@@ -257,67 +310,59 @@ accounted_next s f running k over lt = record {
   all_kept = λ _. refl;
 }
 
+-- none of the new tick is taken
 pub booked_next : (s : Scenario) (total taken : ℕ) (scenario : Scenario) (tick before n room : ℕ) (records : List Record)
-    (items : List Item) (next : ℕ) (marked : Bool) (running : List Running) (c : Dates) (new : Ticks)
-    → IsBooked s total taken (state_of scenario tick before records items next marked) running before room records c
-    → IsOver (shared_with (state_of scenario tick before records items next marked) running) → tick < scenario.ticks
-    → HasBegun scenario tick (posted_by_run (records_of (state_of scenario tick before records items next marked))) new → n ≡ length records
-    → IsBooked s total taken (state_in new n records) running n room records new.calendar
+    (items : List Item) (next : ℕ) (marked : Bool) (running : List Batch) (c : Dates) (new : Ticks)
+    → IsBooked s total (shared_with (state_of scenario tick before records items next marked) running taken) before room records c
+    → IsOver (shared_with (state_of scenario tick before records items next marked) running taken) → tick < scenario.ticks
+    → HasBegunAs IsPermutation scenario tick (posted_by_run (records_of (state_of scenario tick before records items next marked))) new
+    → n ≡ length records
+    → IsBooked s total (shared_with (state_in new n records) running taken) n room records new.calendar
 booked_next s total taken scenario tick before n room records items next marked running c new h over lt b long =
-    let f = state_of scenario tick before records items next marked in
-    subst (λ (g : State). IsBooked s total taken g running n room records new.calendar)
-    (sym (next_is scenario tick before n records items next marked new b long over.unmarked))
+    let f = shared_with (state_of scenario tick before records items next marked) running taken in
+    let recorded = length_permutation items (map item_of f.run.here) (all_recorded s f h.accounted over) in
+    let many = length-map f.run.here item_of in
+    let here = long_here before records h.within in
+    let all = over.all in
+    let reserved = h.reserved in
+    let few = h.few in
+    subst (λ (g : State). IsBooked s total (shared_with g running taken) n room records new.calendar)
+    (sym (next_is IsPermutation scenario tick before n records items next marked new b long over.unmarked))
     (record {
       accounted =
-          subst (λ (rest : List Running). IsAccounted s (shared_with (after_tick f) rest)) (sym over.none)
-          (accounted_next s f running h.accounted over lt);
+          subst (λ (rest : List Batch). IsAccounted s
+          (shared_with (record (after_tick f.run) { items = new.items.items }) rest taken)) (sym over.none)
+          (accounted_next s f new.items.items h.accounted over lt b.items);
       within = omega (arith, long);
-      few = h.few;
-      reserved = h.reserved;
-      is_posted = posted_next f new.calendar b.stands;
+      few = omega (arith, long, here, many, recorded, all, few);
+      reserved = omega (arith, long, here, many, recorded, all, reserved);
+      is_posted = posted_next f.run new.items.items new.calendar b.stands;
       booked = h.booked;
-      numbered = λ _. h.numbered over.unmarked;
     })
 
--- no further turn is given
+-- no further batch is given
 pub booked_marked : (s : Scenario) (total taken : ℕ) (scenario : Scenario) (tick before room : ℕ) (records : List Record)
-    (items : List Item) (next : ℕ) (marked : Bool) (running : List Running) (c c' : Dates)
-    → IsBooked s total taken (state_of scenario tick before records items next marked) running before room records c
+    (items : List Item) (next : ℕ) (marked : Bool) (running : List Batch) (c c' : Dates)
+    → IsBooked s total (shared_with (state_of scenario tick before records items next marked) running taken) before room records c
     → IsPosted (state_of scenario tick before records items next true) c'
-    → IsBooked s total taken (state_of scenario tick before records items next true) running before room records c'
-booked_marked s total taken scenario tick before room records items next marked running c c' h posted = record {
-  accounted = let k = h.accounted in record {
-    scenario = k.scenario;
-    playable = k.playable;
-    in_run = k.in_run;
-    begun = k.begun;
-    here = k.here;
-    next = k.next;
-    given_up = k.given_up;
-    each_once = k.each_once;
-    all_kept = λ e. cc;
-  };
-  within = h.within;
-  few = h.few;
-  reserved = h.reserved;
-  is_posted = posted;
-  booked = h.booked;
-  numbered = λ e. cc;
-}
-
--- there is more room
-pub booked_room : (s : Scenario) (total taken : ℕ) (scenario : Scenario) (tick before room room' : ℕ)
-    (records records' : List Record) (items : List Item) (next : ℕ) (marked : Bool) (running : List Running) (c : Dates)
-    → IsBooked s total taken (state_of scenario tick before records items next marked) running before room records c → records' ≡ records → room ≤ room'
-    → IsBooked s total taken (state_of scenario tick before records' items next marked) running before room' records' c
-booked_room s total taken scenario tick before room room' records records' items next marked running c h same more =
-    subst (λ (rs : List Record). IsBooked s total taken (state_of scenario tick before rs items next marked) running before room' rs c) (sym same)
-    (record {
-      accounted = h.accounted;
+    → IsBooked s total (shared_with (state_of scenario tick before records items next true) running taken) before room records c'
+booked_marked s total taken scenario tick before room records items next marked running c c' h posted =
+    let k = h.accounted in
+    record {
+      accounted = record {
+        scenario = k.scenario;
+        playable = k.playable;
+        in_run = k.in_run;
+        begun = k.begun;
+        here = k.here;
+        next = k.next;
+        given_up = k.given_up;
+        each_once = k.each_once;
+        all_kept = λ e. cc;
+      };
       within = h.within;
       few = h.few;
-      reserved = (let r = h.reserved in omega (arith, r, more));
-      is_posted = h.is_posted;
+      reserved = h.reserved;
+      is_posted = posted;
       booked = h.booked;
-      numbered = h.numbered;
-    })
+    }

@@ -1,5 +1,5 @@
 -- The records of a run in the order of recording, and those of each actor among them.
-use Rattle.std.specs.Prelude.{◌≡◌, ℕ, List, ◌∷◌, length, filter, get_or}
+use Rattle.std.specs.Prelude.{◌≡◌, ℕ, List, ◌∷◌, ◌++◌, length, filter, get_or}
 use Rattle.nz_base.specs.Actor.{actor_eq}
 use Rattle.nz_base.specs.declared.actor.Actor.{Actor}
 use Rattle.nz_machine.specs.declared.event.Record.{Record}
@@ -31,3 +31,10 @@ with_step r own = record { actor = own.actor; steps = r ∷ own.steps }
 pub record AreCounts (J : List Record) (counts : List ℕ) : Type 0 where
   pub many : length counts ≡ 768
   pub counted : (a : Actor) → get_or counts (number_in_all a) 0 ≡ length (of_actor a J)
+
+-- Some first ones of these records were added.
+pub record AddsSome (steps before after : List Record) : Type 0 where
+  pub done : List Record
+  pub rest : List Record
+  pub whole : steps ≡ done ++ rest
+  pub added : after ≡ before ++ done

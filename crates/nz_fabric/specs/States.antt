@@ -1,11 +1,11 @@
 -- What contracts see of a fabric of one thread, and what it keeps.
-use Rattle.std.specs.Prelude.{◌≡◌, ℕ, zero, suc, ◌+◌, ◌≤◌, ◌<◌, Bool, true, false, List, [], ◌∷◌, ◌++◌, length, map, take, drop, reverse, ◌^◌, Some, slice_get}
+use Rattle.std.specs.Prelude.{◌≡◌, ℕ, zero, suc, ◌+◌, ◌≤◌, ◌<◌, Bool, true, false, List, [], ◌∷◌, ◌++◌, length, map, take, drop, reverse, ◌^◌, Some, slice_get, IsPermutation}
 use Rattle.std.specs.List.{AllByRecursion}
 use Rattle.nz_base.specs.declared.scenario.Scenario.{Scenario}
 use Rattle.nz_machine.specs.declared.event.Parcel.{Parcel}
 use Rattle.nz_machine.specs.declared.event.Record.{Record}
 use Rattle.nz_machine.specs.declared.journal.Item.{Item}
-use Rattle.nz_machine.specs.Schedule.{item, item_of, Posted, posted_by_run, calls, tick_item, actors_of, arrivals, due, InOrderTo, IsPlayable}
+use Rattle.nz_machine.specs.Schedule.{item, item_of, Posted, posted_by_run, calls, tick_item, actors_of, arrivals, due, InOrderTo, ScheduledTo, IsPlayable}
 use Rattle.nz_fabric.specs.declared.turn.Turn.{Turn}
 use Rattle.nz_fabric.specs.declared.ticks.Ticks.{Ticks}
 use Rattle.nz_fabric.specs.Calendars.{Dates, StandsFor, posted_by}
@@ -76,14 +76,23 @@ abbrev pub after_tick : State → State
 after_tick f =
     record f { tick = f.tick + 1; finished = records_of f; here = []; items = due f.scenario (f.tick + 1) (records_of f); next = 0 }
 
--- The finished ticks are ordered in this way, and these items are due after them.
-abbrev pub IsBegunAs : (Scenario → ℕ → List Record → Type 0) → Scenario → ℕ → List Record → List Item → Type 0
-IsBegunAs Ordered s zero finished items = (finished ≡ []) × (items ≡ [])
-IsBegunAs Ordered s (suc tick) finished items = Ordered s tick finished × (items ≡ due s (suc tick) finished)
+-- The finished ticks are ordered in this way, and what is due after them has become these items in this way.
+abbrev pub IsBegunAs : (Scenario → ℕ → List Record → Type 0) → (List Item → List Item → Type 0)
+    → Scenario → ℕ → List Record → List Item → Type 0
+IsBegunAs Ordered AreDue s zero finished items = (finished ≡ []) × (items ≡ [])
+IsBegunAs Ordered AreDue s (suc tick) finished items = Ordered s tick finished × AreDue (due s (suc tick) finished) items
 
--- The same, in the order of the schedule.
+-- What is due has become these items, in its order.
+abbrev pub AreInOrder : List Item → List Item → Type 0
+AreInOrder are_due items = items ≡ are_due
+
+-- All is in the order of the schedule.
 abbrev pub IsBegun : Scenario → ℕ → List Record → List Item → Type 0
-IsBegun s tick finished items = IsBegunAs InOrderTo s tick finished items
+IsBegun s tick finished items = IsBegunAs InOrderTo AreInOrder s tick finished items
+
+-- What is due in a tick is in some order.
+abbrev pub IsBegunInSomeOrder : Scenario → ℕ → List Record → List Item → Type 0
+IsBegunInSomeOrder s tick finished items = IsBegunAs ScheduledTo IsPermutation s tick finished items
 
 -- The records of the tick are the first of its items, in their order; at most one further item was taken.
 pub record IsKeptRun (f : State) : Type 0 where
@@ -138,11 +147,15 @@ pub record IsNew (s : Scenario) (t : Ticks) : Type 0 where
   pub state : state_in t 0 [] ≡ start_state s
   pub stands : StandsFor s [] 0 t.calendar
 
--- The next tick began, after what was posted.
-pub record HasBegun (s : Scenario) (last : ℕ) (L : List Posted) (new : Ticks) : Type 0 where
+-- The next tick began, after what was posted, and what is due in it has become its items in this way.
+pub record HasBegunAs (AreDue : List Item → List Item → Type 0) (s : Scenario) (last : ℕ) (L : List Posted) (new : Ticks) : Type 0 where
   pub scenario : new.scenario ≡ s
   pub tick : new.tick ≡ last + 1
-  pub items : new.items.items ≡ calls (last + 1) 0 s.faults ++ (map (tick_item s (last + 1)) (actors_of s) ++ arrivals s (last + 1) [] L)
+  pub items : AreDue (calls (last + 1) 0 s.faults ++ (map (tick_item s (last + 1)) (actors_of s) ++ arrivals s (last + 1) [] L)) new.items.items
   pub next : new.next ≡ 0
   pub unmarked : new.marked ≡ false
   pub stands : StandsFor s L (last + 1) new.calendar
+
+-- Its items are in the order of the schedule.
+abbrev pub HasBegun : Scenario → ℕ → List Posted → Ticks → Type 0
+HasBegun s last L new = HasBegunAs AreInOrder s last L new

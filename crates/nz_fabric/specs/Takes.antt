@@ -1,45 +1,40 @@
--- The takes of a run, and its open turns as contracts see them.
+-- The takes of a run, and its open batches as contracts see them.
 use Rattle.std.specs.Prelude.{◌≡◌, ℕ, ◌+◌, ◌-◌, List, [], ◌∷◌, ◌++◌, Some, slice_get, get_or}
 use Rattle.std.specs.List.{AllByRecursion}
+use Rattle.nz_base.specs.declared.actor.Actor.{Actor}
 use Rattle.nz_base.specs.declared.actor.Actor.TheVariants.{Replica}
-use Rattle.nz_machine.specs.declared.event.Event.TheVariants.{Alarm}
-use Rattle.nz_machine.specs.declared.journal.Item.{Item}
-use Rattle.nz_machine.specs.Schedule.{item}
+use Rattle.nz_machine.specs.declared.event.Event.{Event}
+use Rattle.nz_fabric.specs.declared.batch.Batch.{Batch}
 
--- A turn that was taken, and neither recorded nor given up.
-pub record Running : Type 0 where
-  pub number : ℕ
-  pub item : Item
-
--- The turns that are open, and how many were taken in all.
-pub record Turns : Type 0 where
-  pub running : List Running
+-- The batches that are open, which were taken, and neither recorded nor given up; and how many were taken in all.
+pub record Batches : Type 0 where
+  pub running : List Batch
   pub taken : ℕ
 
--- These open turns, with this many taken.
-abbrev pub turns_with : List Running → ℕ → Turns
-turns_with running taken = record { running = running; taken = taken }
+-- These open batches, with this many taken.
+abbrev pub batches_with : List Batch → ℕ → Batches
+batches_with running taken = record { running = running; taken = taken }
 
--- An open turn of this number and item.
-abbrev pub running_now : ℕ → Item → Running
-running_now number item = record { number = number; item = item }
+-- A batch of this number, actor and events.
+abbrev pub batch_of : ℕ → Actor → List Event → Batch
+batch_of number actor events = record { number = number; actor = actor; events = events }
 
--- What is read where no turn is open.
-abbrev pub no_turn : Running
-no_turn = running_now 0 (item (Replica 0) Alarm)
+-- What is read where no batch is open.
+abbrev pub no_batch : Batch
+no_batch = batch_of 0 (Replica 0) []
 
--- The open turn of a number. Its item is the take of that number. The first take has the number 1.
-abbrev pub running_in : List Item → ℕ → Running
-running_in takes number = running_now number (get_or takes (number - 1) no_turn.item)
+-- The open batch of a number is the take of that number. The first take has the number 1.
+abbrev pub batch_in : List Batch → ℕ → Batch
+batch_in takes number = record (get_or takes (number - 1) no_batch) { number = number }
 
 -- One more was taken, and is open.
-abbrev pub with_one : Running → Turns → Turns
-with_one o t = turns_with (t.running ++ o ∷ []) (t.taken + 1)
+abbrev pub with_one : Batch → Batches → Batches
+with_one b t = batches_with (t.running ++ b ∷ []) (t.taken + 1)
 
--- The item is the take of this number.
-abbrev pub IsTake : List Item → ℕ → Item → Type 0
-IsTake takes number item = slice_get takes (number - 1) ≡ Some item
+-- The batch is the take of its number.
+abbrev pub IsTake : List Batch → Batch → Type 0
+IsTake takes b = slice_get takes (b.number - 1) ≡ Some b
 
--- Each open turn is of the take of its number.
-abbrev pub AreTakes : List Item → List Running → Type 0
-AreTakes takes running = AllByRecursion (λ o. IsTake takes o.number o.item) running
+-- Each open batch is the take of its number.
+abbrev pub AreTakes : List Batch → List Batch → Type 0
+AreTakes takes running = AllByRecursion (IsTake takes) running

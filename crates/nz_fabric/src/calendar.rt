@@ -11,8 +11,9 @@ ghost use Rattle.nz_fabric.specs.Posting.{arrival_of, items_arriving, arrivals_u
 use crate::course::{Course, Traffic, count_one, deliveries_by_course};
 use crate::deliveries::Delivery;
 use indexmap::IndexMap;
-use nz_base::{List, NoMemory, Scenario, TryCopy};
+use nz_base::{Actor, List, NoMemory, Scenario, TryCopy};
 use nz_machine::{Event, Item, ItemList, Parcel, kind_of};
+use smallvec::SmallVec;
 use std::alloc::Global;
 use std::marker::Model;
 
@@ -22,6 +23,22 @@ pub struct Arrival {
     pub tick: u32,
     pub item: Item,
 }
+
+/// What no calendar has: a place for a delivery without one.
+impl Default for Arrival {
+    fn default() -> Arrival {
+        Arrival {
+            tick: 0,
+            item: Item {
+                actor: Actor::Replica(0),
+                event: Event::Alarm,
+            },
+        }
+    }
+}
+
+/// The deliveries of one parcel that are to come. One takes no memory of its own.
+type Arrivals = SmallVec<Arrival, 1>;
 
 /// What is still to come of what was sent. A parcel costs a look at each fault line that may strike parcels of its course,
 /// and the first of a course a look at every line. A tick costs what is due in it.
@@ -69,10 +86,10 @@ fn arrivals_of(
     last: u32,
     parcel: &Parcel,
     deliveries: &[Delivery],
-) -> Result<Vec<Arrival>, NoMemory>
+) -> Result<Arrivals, NoMemory>
     ensures { IfOk result (λ v. v.items ≡ arrivals_up_to last (map (arrival_of parcel.now) deliveries.now)) }
 {
-    let mut arrivals = Vec::new(alloc);
+    let mut arrivals = Arrivals::new(alloc);
     for delivery in deliveries {
         if delivery.tick <= last {
             arrivals.push(arrive(alloc, parcel, *delivery)?)?;
@@ -130,7 +147,7 @@ fn reserve_all(
 }
 
 /// Each delivery goes last into its day.
-fn place_all(days: &mut Vec<Vec<Item>>, arrivals: Vec<Arrival>)
+fn place_all(days: &mut Vec<Vec<Item>>, arrivals: Arrivals)
     requires short { AreShort days.old.items }
     requires room { HasRooms (length arrivals.items) days.old.items arrivals.items }
     ensures short { AreShort days.new.items }

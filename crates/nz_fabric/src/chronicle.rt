@@ -4,9 +4,10 @@ ghost use Rattle.std.specs.Prelude.{◌≡◌, ◌++◌, ◌∷◌, ◌<◌, ◌
 ghost use mathlib.Core.List.{IsPrefix};
 ghost use Rattle.nz_fabric.specs.Chronicles.{head_of};
 
+use crate::batch::Batch;
 use crate::name::Name;
 use logbook::{Gain, Offer, Plain, Play, Rule, Start, Word};
-use nz_machine::{Item, Record};
+use nz_machine::Record;
 use std::marker::{Model, PhantomData};
 
 /// The rule of a chronicle: its word is its length.
@@ -132,7 +133,7 @@ impl<E> Unnamed<E> {
 #[derive(Drop)]
 pub struct Opened {
     pub(crate) records: Unnamed<Record>,
-    pub(crate) takes: Unnamed<Item>,
+    pub(crate) takes: Unnamed<Batch>,
 }
 
 impl Model for Opened {

@@ -7,6 +7,8 @@ use std::sync::{Condvar, Mutex, MutexGuard, Wait};
 /// A tick with fewer items wakes no worker: those that are awake do it sooner. A cluster has at most 81
 /// clocks, which are done sooner than a thread is woken.
 const MANY: usize = 128;
+/// A tick that brings as many bytes to somebody wakes workers too: whole logs take long.
+const LONG: usize = 1 << 14;
 
 /// The state of a run on several threads, under its lock.
 #[derive(Drop)]
@@ -28,14 +30,14 @@ impl<N: Name> Fabric<N> {
         self.state.lock(rt)
     }
 
-    /// For a worker that was given no turn. Begins the next tick where all that was due in this one was recorded,
-    /// and waits where only turns of other workers are left. False where no further turn is given.
+    /// For a worker that was given no batch. Begins the next tick where all that was due in this one was recorded,
+    /// and waits where only batches of other workers are left. False where no further batch is given.
     pub fn go_on(&self, rt: &impl Wait) -> bool {
         let mut guard = self.state.lock(rt);
         let state = &mut *guard;
         if state.is_over() {
             let begun = state.next_tick().unwrap_or(false);
-            if !begun || state.due() >= MANY {
+            if !begun || state.due() >= MANY || state.brings(LONG) {
                 self.wake_all();
             }
             return begun;

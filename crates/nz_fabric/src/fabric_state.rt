@@ -1,33 +1,35 @@
 //! The network of a run on several threads, under its lock.
 
-ghost use Rattle.std.specs.Prelude.{◌≡◌, ◌⊎◌, ◌+◌, ◌<◌, ◌==◌, ◌↔◌, length, reverse, get_or, true, false};
+ghost use Rattle.std.specs.Prelude.{nat_le, ◌≡◌, ◌⊎◌, ◌+◌, ◌<◌, ◌==◌, ◌↔◌, length, reverse, get_or, true, false};
+ghost use Rattle.std.specs.List.{list_any};
+ghost use Rattle.nz_fabric.specs.Shared as shared;
 ghost use Rattle.std.specs.Prelude.{IsTrue, IfOk, IfSome, MatchBool, MatchOption, MatchResult};
 ghost use Rattle.nz_machine.specs.Journals.{run_in};
 ghost use Rattle.nz_machine.specs.Schedule.{group_of, IsPlayable, Scheduled};
-ghost use Rattle.nz_fabric.specs.Records.{steps_of, with_step};
-ghost use Rattle.nz_fabric.specs.Steps.{AreSteps, sends_after};
-ghost use Rattle.nz_fabric.specs.States.{records_of, record_of_turn, with_mark};
-ghost use Rattle.nz_fabric.specs.Shared.{IsAccounted, IsNextOf, IsOver, MustWait, after_shared, without_turn, place_of_turn, ClosesTurn, IsWhole};
-ghost use Rattle.nz_fabric.specs.Shared.{shared_with, start_shared, with_given_up, with_opened, with_record};
+ghost use Rattle.nz_fabric.specs.Records.{steps_of};
+ghost use Rattle.nz_fabric.specs.Steps.{AreSteps, batch_records, node_after, sends_from, with_steps};
+ghost use Rattle.nz_fabric.specs.States.{records_of, with_mark};
+ghost use Rattle.nz_fabric.specs.Shared.{IsAccounted, IsGivenUp, IsNextOf, IsNextTick, IsOver, MustWait, ClosesBatch, IsWhole};
+ghost use Rattle.nz_fabric.specs.Shared.{start_shared, with_given_up, with_opened, with_record};
 ghost use Rattle.nz_base.specs.declared.limits.TheConstants.{MAX_WORKERS};
 
+use crate::batch::Batch;
 use crate::chronicle::Opened;
 use crate::due::clocks_of;
 use crate::lane::Lane;
 use crate::name::Name;
-use crate::open_turns::{OpenTurns, Taken};
+use crate::open_batches::{OpenBatches, Taken};
 use crate::posting::post_all;
 use crate::records::Records;
 use crate::share::Share;
 use crate::ticks::Ticks;
-use crate::turn::Turn;
 use nz_base::{Actor, List, NoMemory, Scenario};
-use nz_machine::{Journal, Record, Sends};
+use nz_machine::{Event, Journal, Sends};
 use std::alloc::Global;
 use std::marker::Model;
 use std::sync::ledger::{Blank, Book};
 
-/// The network of a run on several threads: what is due, the turns that are open, and the journal, in which the
+/// The network of a run on several threads: what is due, the batches that are open, and the journal, in which the
 /// records of a tick are in any order.
 #[derive(Drop)]
 pub struct FabricState<N: Name> {
@@ -35,7 +37,7 @@ pub struct FabricState<N: Name> {
     records: Records<N>,
     /// How many records there were before this tick.
     before: usize,
-    turns: OpenTurns<N>,
+    batches: OpenBatches<N>,
     book: Book<N>,
 }
 
@@ -47,11 +49,22 @@ impl<N: Name> Model for FabricState<N> {
 
     ghost Value = { Shared };
 
-    ghost view = { λ f. shared_with (state_in f.ticks f.before f.records.records) f.turns.running };
+    ghost view = { λ f. shared_with (state_in f.ticks f.before f.records.records) f.batches.running f.batches.taken };
 
-    ghost invariant = { λ f. (N.parts ≡ MAX_WORKERS) × IsBooked N.scenario f.book.total f.turns.taken
-        (state_in f.ticks f.before f.records.records) f.turns.running f.before f.records.room f.records.records
-        f.ticks.calendar };
+    ghost invariant = { λ f. (N.parts ≡ MAX_WORKERS) × IsBooked N.scenario f.book.total
+        (shared_with (state_in f.ticks f.before f.records.records) f.batches.running f.batches.taken)
+        f.before f.records.room f.records.records f.ticks.calendar };
+}
+
+/// How many bytes an event brings.
+fn bytes_of(event: &Event) -> usize
+    ensures { result ≡ shared.bytes_of event.now }
+{
+    match event {
+        Event::Deliver(parcel) => parcel.frame.len(),
+        Event::Cut(_, kept) => *kept as usize,
+        Event::Tick(_) | Event::Alarm | Event::Crash | Event::Restart(_) => 0,
+    }
 }
 
 impl<N: Name> FabricState<N> {
@@ -76,7 +89,7 @@ impl<N: Name> FabricState<N> {
             ticks: Ticks::new(alloc, scenario),
             records,
             before: 0,
-            turns: OpenTurns::new(alloc, takes),
+            batches: OpenBatches::new(alloc, takes),
             book,
         };
         Ok((state, Share { held }))
@@ -89,92 +102,82 @@ impl<N: Name> FabricState<N> {
         let _ = &self.ticks;
     }
 
-    /// The next due item of the tick. Its place in the journal is reserved here. Also `NoMemory` where another network of
-    /// this name took an item.
+    /// The next batch of the tick. Its places in the journal are reserved here. Also `NoMemory` where another network of
+    /// this name took one.
     pub fn take(&mut self, share: &mut Share<N>) -> Result<Option<Taken<N>>, NoMemory>
         ensures { MatchResult result
-            (λ turn.
-            MatchOption turn
+            (λ batch.
+            MatchOption batch
             ((self.new ≡ self.old) × (share.new ≡ share.old) × ((self.old.run.marked ≡ true) ⊎ (self.old.run.next ≡ length self.old.run.items)))
-            (λ turn. (self.new ≡ with_opened turn self.old) × (share.new ≡ record share.old { amount = share.old.amount + 1 }) × IsNextOf self.old turn))
+            (λ batch. (self.new ≡ with_opened batch self.old) × (share.new ≡ record share.old { amount = share.old.amount + 1 }) × IsNextOf self.old batch))
             (λ _. (self.new ≡ self.old) × (share.new ≡ share.old)) }
     {
         if self.ticks.marked || self.ticks.next == self.ticks.items.len() {
             return Ok(None);
         }
-        let taken = self.records.len() + self.turns.len();
-        if taken >= u32::MAX as usize {
-            return Err(NoMemory);
-        }
-        let item = self.ticks.next_item()?;
-        self.records.reserve(self.turns.len() + 1)?;
-        let turn = self.turns.take(taken as u64, self.ticks.tick, item)?;
-        self.ticks.next += 1;
+        let (actor, events) = self.ticks.next_events()?;
+        let count = events.len() as usize;
+        self.records
+            .reserve_to(self.before + self.ticks.next + count)?;
+        let batch = self.batches.take(actor, events)?;
+        self.ticks.next += count;
         self.book.add(&mut share.held, 1);
-        Ok(Some(turn))
+        Ok(Some(batch))
     }
 
-    /// The record of the turn is last in the journal, and the last of its actor. Where the actor has not seen all of its
-    /// earlier records, or no open turn has its number, it is given up.
+    /// The records of the batch are last in the journal, and the last of its actor. Where the actor has not seen all of
+    /// its earlier records, or no open batch has its number, it is given up.
     pub fn record(
         &mut self,
-        turn: Taken<N>,
-        sends: Sends,
+        batch: Taken<N>,
+        sends: Vec<Sends>,
         share: &mut Share<N>,
         lane: &mut Lane<N>,
     ) -> bool
         requires open { 0 < share.old.amount }
-        requires own { turn.actor ≡ lane.old.actor }
-        requires sent { sends ≡ sends_after (group_of N.scenario) lane.old turn.event }
-        ensures recorded { MatchBool result (self.new ≡ with_record turn.number sends self.old) (self.new ≡ with_given_up turn.number self.old) }
+        requires own { batch.actor ≡ lane.old.actor }
+        requires sent { sends.items ≡ sends_from (group_of N.scenario) (node_after (group_of N.scenario) lane.old) batch.events }
+        ensures recorded { MatchBool result (self.new ≡ with_record batch.number sends.items self.old) (IsGivenUp batch.number self.old self.new) }
         ensures lane { MatchBool result
-            ((lane.old ≡ steps_of turn.actor (records_of self.old.run))
-            × (lane.new ≡ with_step (record_of_turn (record turn { tick = self.old.run.tick }) sends) lane.old))
-            (lane.new ≡ lane.old) }
-        ensures share { ClosesTurn share.old share.new }
+            ((lane.old ≡ steps_of batch.actor (records_of self.old.run))
+            × (lane.new ≡ with_steps (batch_records self.old.run.tick batch.actor batch.events sends.items) lane.old))
+            (lane.new.actor ≡ lane.old.actor) }
+        ensures share { ClosesBatch share.old share.new }
     {
-        self.turns.agree(&turn);
-        let Turn {
+        self.batches.agree(&batch);
+        let Batch {
             number,
-            tick: _,
-            actor,
-            event,
-        } = turn.into_turn();
+            actor: _,
+            events,
+        } = batch.into_batch();
         self.book.audit(&mut share.held);
-        let found = self.turns.close(number);
+        let found = self.batches.close(number);
         self.book.sub(&mut share.held, 1);
-        let step = Record {
-            tick: self.ticks.tick,
-            actor,
-            event,
-            sends,
-        };
         if found != number {
-            drop(step);
             self.ticks.marked = true;
             return false;
         }
-        if !self.records.push(lane, step) {
+        if !self.records.push_all(lane, self.ticks.tick, events, sends) {
             self.ticks.marked = true;
             return false;
         }
         true
     }
 
-    /// Nothing is recorded, and no further turn is given.
-    pub fn give_up(&mut self, turn: Taken<N>, share: &mut Share<N>)
+    /// Nothing is recorded, and no further batch is given.
+    pub fn give_up(&mut self, batch: Taken<N>, share: &mut Share<N>)
         requires { 0 < share.old.amount }
-        ensures given_up { self.new ≡ with_given_up turn.number self.old }
-        ensures share { ClosesTurn share.old share.new }
+        ensures given_up { self.new ≡ with_given_up batch.number self.old }
+        ensures share { ClosesBatch share.old share.new }
     {
-        let number = turn.into_turn().into_number();
+        let number = batch.into_batch().into_number();
         self.book.audit(&mut share.held);
-        self.turns.close(number);
+        self.batches.close(number);
         self.ticks.marked = true;
         self.book.sub(&mut share.held, 1);
     }
 
-    /// Whether a turn was given up, or a tick could not begin.
+    /// Whether a batch was given up, or a tick could not begin.
     pub fn is_marked(&self) -> bool
         ensures { result ≡ self.now.run.marked }
     {
@@ -185,7 +188,7 @@ impl<N: Name> FabricState<N> {
     pub fn is_over(&self) -> bool
         ensures { IsTrue result ↔ IsOver self.now }
     {
-        !self.ticks.marked && self.turns.is_empty() && self.ticks.next == self.ticks.items.len()
+        !self.ticks.marked && self.batches.is_empty() && self.ticks.next == self.ticks.items.len()
     }
 
     /// How many items are due in the tick.
@@ -195,14 +198,24 @@ impl<N: Name> FabricState<N> {
         self.ticks.items.len()
     }
 
-    /// Whether there is nothing to take before an open turn is done.
+    /// Whether some item of the tick brings this many bytes or more.
+    pub fn brings(&self, bytes: usize) -> bool
+        ensures { result ≡ list_any (λ i. nat_le bytes (shared.bytes_of i.event)) self.now.run.items }
+    {
+        self.ticks
+            .items
+            .iter()
+            .any(|item| bytes <= bytes_of(&item.event))
+    }
+
+    /// Whether there is nothing to take before an open batch is done.
     pub fn must_wait(&self) -> bool
         ensures { IsTrue result ↔ MustWait self.now }
     {
-        !self.ticks.marked && !self.turns.is_empty() && self.ticks.next == self.ticks.items.len()
+        !self.ticks.marked && !self.batches.is_empty() && self.ticks.next == self.ticks.items.len()
     }
 
-    /// Nothing changes. The amount of the whole share is the number of open turns.
+    /// Nothing changes. The amount of the whole share is the number of open batches.
     pub fn audit(&mut self, share: &mut Share<N>)
         requires { share.old.parts ≡ MAX_WORKERS }
         ensures same { (self.new ≡ self.old) × (share.new ≡ share.old) }
@@ -211,15 +224,15 @@ impl<N: Name> FabricState<N> {
         self.book.audit(&mut share.held);
     }
 
-    /// Begins the next tick. False exactly where the last one was done. After `NoMemory` no further turn is given.
+    /// Begins the next tick. False exactly where the last one was done. After `NoMemory` no further batch is given.
     pub fn next_tick(&mut self) -> Result<bool, NoMemory>
         requires { IsOver self.old }
         ensures { MatchResult result
             (λ more.
             MatchBool more
-            ((self.new ≡ after_shared self.old) × (self.old.run.tick < self.old.run.scenario.ticks))
+            (IsNextTick self.old self.new × (self.old.run.tick < self.old.run.scenario.ticks))
             ((self.new ≡ self.old) × (self.old.run.tick ≡ self.old.run.scenario.ticks)))
-            (λ _. self.new ≡ shared_with (with_mark self.old.run) self.old.running) }
+            (λ _. self.new ≡ record self.old { run = with_mark self.old.run }) }
     {
         if self.ticks.tick == self.ticks.scenario.ticks {
             return Ok(false);
@@ -232,6 +245,7 @@ impl<N: Name> FabricState<N> {
         } = &mut self.ticks;
         post_all(calendar, scenario, self.records.since(self.before))?;
         self.ticks.begin()?;
+        self.ticks.group();
         self.before = self.records.len();
         Ok(true)
     }

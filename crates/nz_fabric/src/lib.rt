@@ -3,6 +3,7 @@
 #![tactic(auto)]
 
 mod alone;
+mod batch;
 mod calendar;
 #[cfg(test)]
 mod calendar_tests;
@@ -13,9 +14,10 @@ mod due;
 mod fabric;
 mod fabric_state;
 mod faults;
+mod grouping;
 mod lane;
 mod name;
-mod open_turns;
+mod open_batches;
 mod posting;
 mod records;
 mod share;
@@ -23,12 +25,13 @@ mod ticks;
 mod turn;
 
 pub use alone::Alone;
+pub use batch::Batch;
 pub use calendar::Calendar;
 pub use chronicle::Opened;
 pub use fabric::Fabric;
 pub use fabric_state::FabricState;
 pub use lane::Lane;
 pub use name::Name;
-pub use open_turns::Taken;
+pub use open_batches::Taken;
 pub use share::Share;
 pub use turn::Turn;

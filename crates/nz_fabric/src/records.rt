@@ -3,15 +3,15 @@
 ghost use Rattle.std.specs.Prelude.{◌≡◌, ◌+◌, ◌<◌, ◌≤◌, ◌^◌, ◌∷◌, ◌++◌, [], length, drop, reverse, replicate, MatchBool, IfOk, OnOk};
 ghost use Rattle.nz_machine.specs.Schedule.{group_of};
 ghost use Rattle.nz_fabric.specs.Calendars.{number_in_all};
-ghost use Rattle.nz_fabric.specs.Records.{steps_of, with_step};
-ghost use Rattle.nz_fabric.specs.Steps.{AreSteps, sends_after};
+ghost use Rattle.nz_fabric.specs.Records.{steps_of, with_step, AddsSome};
+ghost use Rattle.nz_fabric.specs.Steps.{AreSteps, batch_records, node_after, sends_after, sends_from, with_steps};
 
 use crate::chronicle::{Chronicle, RecordsOf, Seen, Unnamed};
 use crate::course::number_in_all;
 use crate::lane::Lane;
 use crate::name::Name;
-use nz_base::{Actor, NoMemory};
-use nz_machine::Record;
+use nz_base::{Actor, List, NoMemory};
+use nz_machine::{Event, Record, Sends};
 use std::alloc::Global;
 use std::marker::Model;
 
@@ -75,13 +75,18 @@ impl<N: Name> Records<N> {
         self.records.len()
     }
 
-    /// Makes room for this many records.
-    pub fn reserve(&mut self, count: usize) -> Result<(), NoMemory>
+    /// Makes room for this many records in all. Also `NoMemory` where these are 2^32 or more.
+    pub fn reserve_to(&mut self, total: usize) -> Result<(), NoMemory>
         ensures records { self.new.records ≡ self.old.records }
         ensures room { self.old.room ≤ self.new.room }
-        ensures more { OnOk result (length self.new.records + count ≤ self.new.room) }
+        ensures all { OnOk result (total ≤ self.new.room) }
+        ensures few { OnOk result (total < 2 ^ 32) }
     {
-        self.records.reserve(count)?;
+        if total > u32::MAX as usize {
+            return Err(NoMemory);
+        }
+        self.records
+            .reserve(total.saturating_sub(self.records.len()))?;
         Ok(())
     }
 
@@ -125,6 +130,40 @@ impl<N: Name> Records<N> {
         self.counts[place] = more;
         lane.count = more;
         lane.seen = self.seen.again();
+        true
+    }
+
+    /// Records of an actor in a tick, one for each event. Where one is refused, those before it are left and the rest
+    /// is dropped.
+    pub fn push_all(
+        &mut self,
+        lane: &mut Lane<N>,
+        tick: u32,
+        events: List<Event>,
+        sends: Vec<Sends>,
+    ) -> bool
+        requires some { 0 < length events }
+        requires few { length self.old.records + length events < 2 ^ 32 }
+        requires room { length self.old.records + length events ≤ self.old.room }
+        requires sent { sends.items ≡ sends_from (group_of N.scenario) (node_after (group_of N.scenario) lane.old) events }
+        ensures room { self.new.room ≡ self.old.room }
+        ensures pushed { let steps = batch_records tick lane.old.actor events sends.items in MatchBool result
+            ((self.new.records ≡ self.old.records ++ steps)
+            × ((lane.old ≡ steps_of lane.old.actor (reverse self.old.records)) × (lane.new ≡ with_steps steps lane.old)))
+            (AddsSome steps self.old.records self.new.records × (lane.new.actor ≡ lane.old.actor)) }
+    {
+        let actor = lane.actor();
+        for (event, sends) in events.into_vec().into_iter().zip(sends) {
+            let step = Record {
+                tick,
+                actor,
+                event,
+                sends,
+            };
+            if !self.push(lane, step) {
+                return false;
+            }
+        }
         true
     }
 

@@ -1,4 +1,4 @@
-//! Shares of the ledger that counts open turns.
+//! Shares of the ledger that counts open batches.
 
 ghost use Rattle.std.specs.Prelude.{◌≡◌, ◌+◌, ◌<◌};
 
@@ -6,7 +6,7 @@ use crate::name::Name;
 use std::marker::Model;
 use std::sync::ledger;
 
-/// Some of the parts of the ledger of open turns, with how many turns are open on them.
+/// Some of the parts of the ledger of open batches, with how many batches are open on them.
 #[derive(Drop)]
 pub struct Share<N: Name> {
     pub(crate) held: ledger::Share<N>,

@@ -1,4 +1,4 @@
-//! A turn: a due item that was taken.
+//! A turn of a run on one thread: a due item that was taken.
 
 ghost use Rattle.std.specs.Prelude.{◌≡◌};
 

@@ -6,7 +6,7 @@ ghost use Rattle.nz_machine.specs.World.{IsAsked, request_count};
 ghost use Rattle.nz_base.specs.declared.limits.TheConstants.{MAX_WORKERS};
 
 use super::shares::{Worker, deal};
-use super::stage::turn_at;
+use super::stage::play_at;
 use nz_actor::{ActorCell, ActorState};
 use nz_base::{
     Actor, Blob, Cluster, FaultList, MAX_WORKERS, NoMemory, Request, RequestList, Scenario,
@@ -110,27 +110,27 @@ impl<'a> Core for Watcher<'a> {
     }
 }
 
-/// Takes one turn, which is of one of the cells.
-fn one_turn<N: Name, C: Core, R: Wait>(
+/// Plays one batch, which is of one of the cells.
+fn one_batch<N: Name, C: Core, R: Wait>(
     rt: &R,
     worker: &mut Worker<N>,
     cells: &[ActorCell<N, C>],
     fabric: &Fabric<N>,
 ) {
-    let Ok(Some(turn)) = fabric.lock(rt).take(&mut worker.share) else {
+    let Ok(Some(batch)) = fabric.lock(rt).take(&mut worker.share) else {
         return;
     };
     let gate = OpenGate::new();
     let share = &mut worker.share;
-    match turn.turn().actor {
+    match batch.batch().actor {
         Actor::Replica(place) => {
-            turn_at(rt, cells, place, turn, worker.number, &gate, fabric, share)
+            play_at(rt, cells, place, batch, worker.number, &gate, fabric, share)
         }
-        _ => fabric.lock(rt).give_up(turn, share),
+        _ => fabric.lock(rt).give_up(batch, share),
     }
 }
 
-/// How many of two replicas, each in a turn of its own, saw the other in its step, and whether a turn was given up.
+/// How many of two replicas, each in a batch of its own, saw the other in its step, and whether a batch was given up.
 fn seen_at_once<N: Name + Send + Sync, R: Threads + Wait + Sync>(
     rt: &R,
     alloc: Global,
@@ -152,6 +152,7 @@ fn seen_at_once<N: Name + Send + Sync, R: Threads + Wait + Sync>(
     deal(whole, &mut workers, 2);
     let cells = [
         ActorCell::new(ActorState::new(
+            alloc,
             Watcher {
                 replica: Replica::new(alloc, scenario.cluster, 0)?,
                 own: &a,
@@ -161,6 +162,7 @@ fn seen_at_once<N: Name + Send + Sync, R: Threads + Wait + Sync>(
             lanes.0,
         )),
         ActorCell::new(ActorState::new(
+            alloc,
             Watcher {
                 replica: Replica::new(alloc, scenario.cluster, 1)?,
                 own: &b,
@@ -175,7 +177,7 @@ fn seen_at_once<N: Name + Send + Sync, R: Threads + Wait + Sync>(
         rt,
         workers.as_mut_slice(),
         2,
-        &|_, worker| one_turn(rt, worker, &cells, &fabric),
+        &|_, worker| one_batch(rt, worker, &cells, &fabric),
     );
     let given_up = fabric.into_state().is_marked();
     Ok((seen.load(Ordering::SeqCst), given_up))

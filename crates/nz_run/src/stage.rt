@@ -4,7 +4,7 @@ ghost use Rattle.std.specs.Prelude.{◌≡◌, ◌+◌, ◌<◌, [], All};
 ghost use Rattle.nz_machine.specs.Schedule.{group_of, IsPlayable};
 ghost use Rattle.nz_fabric.specs.States.{records_of};
 ghost use Rattle.nz_run.specs.Stages.{HasNotStepped};
-ghost use Rattle.nz_fabric.specs.Shared.{ClosesTurn};
+ghost use Rattle.nz_fabric.specs.Shared.{ClosesBatch};
 
 use crate::cast::Cast;
 use nz_actor::{ActorCell, ActorState};
@@ -38,53 +38,53 @@ fn cells_of<N: Name, C: Core + Drop>(
     let mut cells = Vec::new(alloc);
     for core in cores {
         let lane = state.lane(core.actor());
-        cells.push(ActorCell::new(ActorState::new(core, lane)))?;
+        cells.push(ActorCell::new(ActorState::new(alloc, core, lane)))?;
     }
     Ok(cells)
 }
 
-/// The cell of a place does the turn. Where there is none it is given up.
-pub fn turn_at<N: Name, C: Core>(
+/// The cell of a place plays the batch. Where there is none it is given up.
+pub fn play_at<N: Name, C: Core>(
     rt: &impl Wait,
     cells: &[ActorCell<N, C>],
     place: u8,
-    turn: Taken<N>,
+    batch: Taken<N>,
     worker: u8,
     gate: &impl Gate,
     fabric: &Fabric<N>,
     share: &mut Share<N>,
 )
     requires { 0 < share.old.amount }
-    ensures { ClosesTurn share.old share.new }
+    ensures { ClosesBatch share.old share.new }
 {
     match cells.get(usize::from(place)) {
-        Some(cell) => cell.turn(rt, turn, worker, gate, fabric, share),
-        None => fabric.lock(rt).give_up(turn, share),
+        Some(cell) => cell.play(rt, batch, worker, gate, fabric, share),
+        None => fabric.lock(rt).give_up(batch, share),
     }
 }
 
-/// Does the turn where no other thread has the cells.
+/// Plays the batch where no other thread has the cells.
 fn settle_at<N: Name, C: Core>(
     cells: &mut [ActorCell<N, C>],
     place: u8,
-    turn: Taken<N>,
+    batch: Taken<N>,
     state: &mut FabricState<N>,
     share: &mut Share<N>,
 )
     requires { 0 < share.old.amount }
-    ensures share { ClosesTurn share.old share.new }
+    ensures share { ClosesBatch share.old share.new }
     ensures run { (state.new.run.items ≡ state.old.run.items) × (state.new.run.next ≡ state.old.run.next) }
 {
     let Some(cell) = cells.get_mut(usize::from(place)) else {
-        state.give_up(turn, share);
+        state.give_up(batch, share);
         return;
     };
     let own = cell.state();
-    if !own.is_ready(&turn) {
-        state.give_up(turn, share);
+    if !own.is_ready(&batch) {
+        state.give_up(batch, share);
         return;
     }
-    own.settle(turn, state, share);
+    own.settle(batch, state, share);
 }
 
 impl<N: Name> Stage<N> {
@@ -110,42 +110,51 @@ impl<N: Name> Stage<N> {
         })
     }
 
-    /// The turn's actor does it under its lock. May wait.
-    pub fn turn(
+    /// The batch's actor plays it under its lock. May wait.
+    pub fn play(
         &self,
         rt: &impl Wait,
-        turn: Taken<N>,
+        batch: Taken<N>,
         worker: u8,
         gate: &impl Gate,
         fabric: &Fabric<N>,
         share: &mut Share<N>,
     )
         requires { 0 < share.old.amount }
-        ensures { ClosesTurn share.old share.new }
+        ensures { ClosesBatch share.old share.new }
     {
-        match turn.turn().actor {
+        match batch.batch().actor {
             Actor::Replica(place) => {
-                turn_at(rt, &self.replicas, place, turn, worker, gate, fabric, share)
+                play_at(
+                    rt,
+                    &self.replicas,
+                    place,
+                    batch,
+                    worker,
+                    gate,
+                    fabric,
+                    share,
+                )
             }
             Actor::Proxy(place) => {
-                turn_at(rt, &self.proxies, place, turn, worker, gate, fabric, share)
+                play_at(rt, &self.proxies, place, batch, worker, gate, fabric, share)
             }
             Actor::Client(place) => {
-                turn_at(rt, &self.clients, place, turn, worker, gate, fabric, share)
+                play_at(rt, &self.clients, place, batch, worker, gate, fabric, share)
             }
         }
     }
 
-    /// The turn's actor does it where no other thread has the actors.
-    pub fn settle(&mut self, turn: Taken<N>, state: &mut FabricState<N>, share: &mut Share<N>)
+    /// The batch's actor plays it where no other thread has the actors.
+    pub fn settle(&mut self, batch: Taken<N>, state: &mut FabricState<N>, share: &mut Share<N>)
         requires { 0 < share.old.amount }
-        ensures share { ClosesTurn share.old share.new }
+        ensures share { ClosesBatch share.old share.new }
         ensures run { (state.new.run.items ≡ state.old.run.items) × (state.new.run.next ≡ state.old.run.next) }
     {
-        match turn.turn().actor {
-            Actor::Replica(place) => settle_at(&mut self.replicas, place, turn, state, share),
-            Actor::Proxy(place) => settle_at(&mut self.proxies, place, turn, state, share),
-            Actor::Client(place) => settle_at(&mut self.clients, place, turn, state, share),
+        match batch.batch().actor {
+            Actor::Replica(place) => settle_at(&mut self.replicas, place, batch, state, share),
+            Actor::Proxy(place) => settle_at(&mut self.proxies, place, batch, state, share),
+            Actor::Client(place) => settle_at(&mut self.clients, place, batch, state, share),
         }
     }
 }

@@ -32,14 +32,14 @@ fn finish<N: Name>(
     ensures running { OnOk result (length state.new.running ≡ 0) }
     ensures done { OnOk result ((state.new.run.marked ≡ true) ⊎ (state.new.run.next ≡ length state.new.run.items)) }
 {
-    'left: while let Some(turn) = state.take(share)? {
-        stage.settle(turn, state, share);
+    'left: while let Some(batch) = state.take(share)? {
+        stage.settle(batch, state, share);
     }
     state.audit(share);
     Ok(())
 }
 
-/// All workers, through all ticks. The whole share comes back, with no turn on it.
+/// All workers, through all ticks. The whole share comes back, with no batch on it.
 fn at_once<N: Name + Send + Sync, R: Threads + Wait + Sync, G: Gate + Sync>(
     rt: &R,
     alloc: Global,
@@ -62,7 +62,7 @@ fn at_once<N: Name + Send + Sync, R: Threads + Wait + Sync, G: Gate + Sync>(
     Ok((fabric.into_state(), share))
 }
 
-/// Does what the workers left. `None` where a turn was given up.
+/// Does what the workers left. `None` where a batch was given up.
 fn finish_all<N: Name, R: Wait>(
     rt: &R,
     state: FabricState<N>,

@@ -11,7 +11,7 @@ use std::sync::Wait;
 use std::thread;
 use std::thread::Threads;
 
-/// Takes turns, tick after tick, until no further one is given.
+/// Takes batches, tick after tick, until no further one is given.
 fn work<N: Name, R: Wait, G: Gate>(
     rt: &R,
     worker: &mut Worker<N>,
@@ -22,11 +22,11 @@ fn work<N: Name, R: Wait, G: Gate>(
     requires { worker.old.share.amount ≡ 0 }
     ensures { (worker.new.share.amount ≡ 0) × (worker.new.share.parts ≡ worker.old.share.parts) }
 {
-    'turns: for _ in rt.forever() {
+    'batches: for _ in rt.forever() {
         let taken = fabric.lock(rt).take(&mut worker.share);
         match taken {
-            Ok(Some(turn)) => {
-                stage.turn(rt, turn, worker.number, gate, fabric, &mut worker.share)
+            Ok(Some(batch)) => {
+                stage.play(rt, batch, worker.number, gate, fabric, &mut worker.share)
             }
             Ok(None) => {
                 if !fabric.go_on(rt) {

@@ -189,7 +189,7 @@ fn answer<O: Sink, R: Threads + Wait + Sync, G: Gate + Sync>(
 
 /// What the program does with the words after its name: `run` and `trace` read a scenario from the source, play it,
 /// and write the run to the sink; `gen` plays one that is drawn, and writes its summary. Each worker calls the gate
-/// before each turn. May wait.
+/// before each batch. May wait.
 pub fn nezha<R: Threads + Wait + Sync, S: Source, O: Sink, G: Gate + Sync>(
     rt: &R,
     alloc: Global,

@@ -140,10 +140,37 @@ fn texts_of_runs_by_workers(rt: HostRuntime) -> Result<(), Fail> {
     Ok(())
 }
 
+/// The lines of the bytes, sorted.
+fn sorted(alloc: Global, bytes: &[u8]) -> Result<Vec<Vec<u8>>, NoMemory> {
+    let mut lines = Vec::new(alloc);
+    for line in bytes.split(|byte| *byte == b'\n') {
+        lines.push(Vec::from_slice(alloc, line)?)?;
+    }
+    lines.sort_unstable();
+    Ok(lines)
+}
+
+/// Two workers or more do the same steps, however many they are, and record them in some order.
+#[test]
+fn same_steps_by_any_workers(rt: HostRuntime) -> Result<(), Fail> {
+    let alloc = rt.alloc();
+    let input = LEADER_CUT_OFF.input.as_bytes();
+    let call = plain(&["trace", "--workers", "2"], input);
+    let (_, by_two) = answer_through(&rt, alloc, &call, &OpenGate::new())?;
+    assert!(rt; by_two.bytes().len() > 1000);
+    for workers in ["4", "16"] {
+        let words = ["trace", "--workers", workers];
+        let call = plain(&words, input);
+        let (_, by_more) = answer_through(&rt, alloc, &call, &OpenGate::new())?;
+        assert!(rt; sorted(alloc, by_two.bytes())? == sorted(alloc, by_more.bytes())?);
+    }
+    Ok(())
+}
+
 /// How often a worker that holds a lock looks for the other.
 const LOOKS: u64 = 100_000_000;
 
-/// Holds the worker of the first turn, and its actor's lock, until the other of two workers arrived twice.
+/// Holds the worker of the first batch, and its actor's lock, until the other of two workers arrived twice.
 #[derive(Drop)]
 struct Holding {
     first: AtomicU64,
@@ -152,14 +179,14 @@ struct Holding {
 }
 
 impl Gate for Holding {
-    fn arrive(&self, worker: u8, turn: u64) {
+    fn arrive(&self, worker: u8, batch: u64) {
         let (own, other) = if worker == 0 {
             (&self.first, &self.second)
         } else {
             (&self.second, &self.first)
         };
         own.fetch_add(1, Ordering::SeqCst);
-        if turn != 1 {
+        if batch != 1 {
             return;
         }
         for _ in 0..LOOKS {

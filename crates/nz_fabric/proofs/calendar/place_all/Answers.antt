@@ -3,7 +3,7 @@ use Rattle.std.proofs.Common.{◌++◌, ◌∙◌, ◌∷◌, [], ℕ, List, len
 use Rattle.nz_fabric.specs.declared.calendar.Arrival.{Arrival}
 use Rattle.nz_fabric.specs.Calendars.{items_in}
 use Rattle.nz_fabric.specs.Posting.{days_of, items_arriving, HasRooms}
-use Rattle.nz_fabric.proofs.Dating.{next_room, next_within, left_over, placed_one, rooms_set, set_short, whole_yielded, none_left}
+use Rattle.nz_fabric.proofs.Dating.{next_room, next_within, left_over, placed_one, rooms_set, set_short, whole_yielded}
 use Rattle.nz_fabric.proofs.calendar.place_all.Goals as goal
 
 pub loop-arrival-init : goal.loop-arrival-init
@@ -18,16 +18,16 @@ loop-arrival-init c =
 pub index_mut-requires : goal.index_mut-requires
 index_mut-requires c =
     let i = c.loop-arrival.invariant in
-    let whole = ap (λ (rest : List Arrival). c.loop-arrival.yielded ++ rest) (sym c.in-Some.ensures.steps.0) ∙ i.whole in
-    let lt = next_within c.loop-arrival.days.items c.args.arrivals.items c.loop-arrival.yielded c.next.new.self.rest.items c.in-Some.arrival whole i.rooms in
+    let whole = ap (λ (rest : List Arrival). c.loop-arrival.yielded ++ rest) (sym c.in-Some.ensures.steps) ∙ i.whole in
+    let lt = next_within c.loop-arrival.days.items c.args.arrivals.items c.loop-arrival.yielded c.next.new.self c.in-Some.arrival whole i.rooms in
     omega (arith, lt)
 
 pub push_reserved-requires : goal.push_reserved-requires
 push_reserved-requires c =
     let i = c.loop-arrival.invariant in
-    let whole = ap (λ (rest : List Arrival). c.loop-arrival.yielded ++ rest) (sym c.in-Some.ensures.steps.0) ∙ i.whole in
+    let whole = ap (λ (rest : List Arrival). c.loop-arrival.yielded ++ rest) (sym c.in-Some.ensures.steps) ∙ i.whole in
     let r =
-    next_room c.loop-arrival.days.items c.args.arrivals.items c.loop-arrival.yielded c.next.new.self.rest.items
+    next_room c.loop-arrival.days.items c.args.arrivals.items c.loop-arrival.yielded c.next.new.self
     c.in-Some.arrival c.index_mut.result.now whole i.rooms c.index_mut.ensures.value in
     let lt = r.reserved in
     omega (arith, lt)
@@ -39,10 +39,10 @@ loop-arrival-preserved c =
     let all = c.args.arrivals.items in
     let days = c.loop-arrival.days.items in
     let yielded = c.loop-arrival.yielded in
-    let rest = c.next.new.self.rest.items in
+    let rest = c.next.new.self in
     let old = c.index_mut.result.now in
     let new = c.push_reserved.new.self in
-    let whole = ap (λ (rest : List Arrival). yielded ++ rest) (sym c.in-Some.ensures.steps.0) ∙ i.whole in
+    let whole = ap (λ (rest : List Arrival). yielded ++ rest) (sym c.in-Some.ensures.steps) ∙ i.whole in
     let r = next_room days all yielded rest a old whole i.rooms c.index_mut.ensures.value in
     let long = ap length c.push_reserved.ensures.items in
     let more = length-append old.items (a.item ∷ []) in
@@ -66,5 +66,5 @@ pub returns-clause-placed : goal.returns-clause-placed
 returns-clause-placed c = λ t.
     let i = c.loop-arrival.invariant in
     i.placed t ∙ ap (λ (xs : List Arrival). items_in (days_of c.args.days.now.items) t ++ items_arriving t xs)
-    (whole_yielded c.args.arrivals.items c.loop-arrival.yielded c.loop-arrival.arrival-iterator.rest.items
-    (none_left c.loop-arrival.arrival-iterator.rest.items (omega (arith, c.in-None.ensures.steps.0))) i.whole)
+    (whole_yielded c.args.arrivals.items c.loop-arrival.yielded c.loop-arrival.arrival-iterator
+    c.in-None.ensures.steps.0 i.whole)

@@ -6,7 +6,7 @@ use Rattle.nz_fabric.proofs.calendar.place_all.Given as goal
 
 abbrev pub invariant-loop-arrival : goal.invariant-loop-arrival
 invariant-loop-arrival l = record {
-  whole : l.yielded ++ l.arrival-iterator.rest.items ≡ l.fn.arrivals.items;
+  whole : l.yielded ++ l.arrival-iterator ≡ l.fn.arrivals.items;
   short : AreShort l.days.items;
   rooms : HasRooms (length l.fn.arrivals.items - length l.yielded) l.days.items l.fn.arrivals.items;
   placed : (t : ℕ) → items_in (days_of l.days.items) t ≡ items_in (days_of l.fn.days.items) t ++ items_arriving t l.yielded;

@@ -2,5 +2,5 @@
 use Rattle.std.specs.Prelude.{◌≡◌}
 use Rattle.nz_run.proofs.workers.work.Given as goal
 
-abbrev pub invariant-turns : goal.invariant-turns
-invariant-turns g l = (l.worker.share.amount ≡ 0) × (l.worker.share.parts ≡ l.initial.worker.share.parts)
+abbrev pub invariant-batches : goal.invariant-batches
+invariant-batches g l = (l.worker.share.amount ≡ 0) × (l.worker.share.parts ≡ l.initial.worker.share.parts)

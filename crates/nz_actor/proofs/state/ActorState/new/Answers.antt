@@ -1,6 +1,6 @@
 -- What the function of this folder owes, proved.
 use Rattle.nz_machine.specs.Schedule.{group_of}
-use Rattle.nz_actor.proofs.Turns.{acting_first}
+use Rattle.nz_actor.proofs.Batches.{acting_first}
 use Rattle.nz_actor.proofs.state.ActorState.new.Goals as goal
 
 pub invariant_of-result : goal.invariant_of-result

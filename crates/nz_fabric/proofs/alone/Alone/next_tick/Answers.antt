@@ -4,7 +4,7 @@ use Rattle.std.specs.Prelude.{drop, vec_capacity}
 use Rattle.std.proofs.lemmas.List.{take_rest}
 use Rattle.nz_fabric.specs.declared.ticks.Ticks.{Ticks}
 use Rattle.nz_fabric.specs.States.{State, IsDone, IsHeld, after_tick, state_in}
-use Rattle.nz_fabric.proofs.Held.{over_some, over_whole, over_begun, next_is, held_marked, held_next}
+use Rattle.nz_fabric.proofs.Held.{over_some, over_whole, over_begun, next_in_order, held_marked, held_next}
 use Rattle.nz_fabric.proofs.alone.Alone.next_tick.Goals as goal
 
 pub invariant_of-self : goal.invariant_of-self
@@ -64,7 +64,7 @@ returns c =
     c.in_ok-post_all.ensures.ok c.in_ok-begin.ensures.ok in
     let long : c.len-self-inside.result ≡ length rs = omega (arith, c.len-self-inside.ensures) in
     let lt : t.tick < t.scenario.ticks = (let k = inv.kept.in_run in let ne = c.if-self.false in omega (arith, k, ne)) in (
-      next_is t.scenario t.tick f.before c.len-self-inside.result rs t.items.items t.next t.marked c.begin.new.self
+      next_in_order t.scenario t.tick f.before c.len-self-inside.result rs t.items.items t.next t.marked c.begin.new.self
           begun long unmarked ∙ ap after_tick c.self.view_is,
       subst (λ (f : State). f.tick < f.scenario.ticks) c.self.view_is lt,
     )

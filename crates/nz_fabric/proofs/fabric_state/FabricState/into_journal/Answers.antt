@@ -1,15 +1,23 @@
 -- What the function of this folder owes, proved.
-use Rattle.std.proofs.Common.{◌≡◌, ◌∙◌, ap, subst, sym, ℕ, List}
+use Rattle.std.proofs.Common.{◌≡◌, ◌∙◌, ap, subst, sym, arith, ℕ, List, length}
 use Rattle.std.specs.Prelude.{reverse}
 use Rattle.nz_base.specs.declared.scenario.Scenario.{Scenario}
 use Rattle.nz_machine.specs.declared.event.Record.{Record}
 use Rattle.nz_machine.specs.Schedule.{group_of, Scheduled, ScheduledTo}
 use Rattle.nz_fabric.specs.Steps.{AreSteps}
 use Rattle.nz_fabric.specs.States.{records_of, state_in}
-use Rattle.nz_fabric.specs.Shared.{IsOver, Shared}
+use Rattle.nz_fabric.specs.Shared.{IsOver, Shared, shared_with}
 use Rattle.nz_fabric.proofs.Held.{all_records}
-use Rattle.nz_fabric.proofs.Sharing.{scheduled_now}
+use Rattle.nz_fabric.proofs.Sharing.{booked_few, scheduled_now}
 use Rattle.nz_fabric.proofs.fabric_state.FabricState.into_journal.Goals as goal
+
+pub from_vec-requires : goal.from_vec-requires
+from_vec-requires g c =
+    let f = c.self.inside in
+    let t = f.ticks in
+    let few = booked_few _ f.book.total f.batches.taken t.scenario t.tick f.before f.records.room f.records.records
+    t.items.items t.next t.marked t.calendar f.batches.running c.self.invariant.1 in
+    omega (arith, few, ap (λ (rs : List Record). length rs) c.into_records.ensures.records)
 
 pub returns-clause-records : goal.returns-clause-records
 returns-clause-records g c =
@@ -23,7 +31,8 @@ returns-clause-scheduled g c =
     let f = state_in i.ticks i.before i.records.records in
     let k = c.self.invariant.1.accounted in
     let J = records_of f in
-    let order : ScheduledTo f.scenario f.tick J = scheduled_now _ f i.turns.running k (subst IsOver (sym c.self.view_is) c.requires.over) in
+    let order : ScheduledTo f.scenario f.tick J =
+    scheduled_now _ (shared_with f i.batches.running i.batches.taken) k (subst IsOver (sym c.self.view_is) c.requires.over) in
     let last : f.tick ≡ f.scenario.ticks = subst (λ (f : Shared). f.run.tick ≡ f.run.scenario.ticks) (sym c.self.view_is) c.requires.last in
     let whole : Scheduled f.scenario J = subst (λ (n : ℕ). ScheduledTo f.scenario n J) last order in
     subst (λ (J : List Record). Scheduled g.N.Name.scenario J)

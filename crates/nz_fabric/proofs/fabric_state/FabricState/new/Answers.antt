@@ -1,9 +1,9 @@
 -- What the function of this folder owes, proved.
 use Rattle.std.proofs.Common.{ap, subst, arith}
 use Rattle.nz_base.specs.declared.scenario.Scenario.{Scenario}
-use Rattle.nz_fabric.specs.Shared.{IsBooked}
+use Rattle.nz_fabric.specs.Shared.{IsBooked, shared_with}
 use Rattle.nz_fabric.specs.States.{state_in}
-use Rattle.nz_fabric.specs.Takes.{Turns}
+use Rattle.nz_fabric.specs.Takes.{Batches}
 use Rattle.nz_fabric.proofs.Sharing.{booked_start}
 use Rattle.nz_fabric.proofs.fabric_state.FabricState.new.Goals as goal
 
@@ -11,12 +11,11 @@ pub invariant_of-state : goal.invariant_of-state
 invariant_of-state g c =
     let t = c.new-2.result in
     let records = c.in_ok-records.records in
-    let turns = c.new-3.result in
+    let batches = c.new-3.result in
     let total = c.open-book.result.0.total in (
       omega (arith, c.requires.name),
-      subst (λ (s : Scenario). IsBooked s total turns.taken (state_in t 0 records.records) turns.running 0
+      subst (λ (s : Scenario). IsBooked s total (shared_with (state_in t 0 records.records) batches.running batches.taken) 0
           records.room records.records t.calendar) c.requires.scenario
-          (booked_start c.args.scenario total turns.taken t records.records turns.running records.room c.requires.playable c.new-2.ensures
-          c.in_ok-records.ensures (ap (λ (t : Turns). t.running) c.new-3.ensures) c.open-book.ensures.total
-          (ap (λ (t : Turns). t.taken) c.new-3.ensures)),
+          (booked_start c.args.scenario total batches.taken t records.records batches.running records.room c.requires.playable c.new-2.ensures
+          c.in_ok-records.ensures (ap (λ (t : Batches). t.running) c.new-3.ensures) c.open-book.ensures.total),
     )
