@@ -2,10 +2,10 @@
 #![tactic(auto)]
 
 use nz_edge::{OpenGate, StdSink, StdSource};
-use nz_top::{Status, Words, nezha};
-use std::env;
+use nz_top::{Outcome, Status, Words, nezha};
 use std::io::ErrorKind;
 use std::process::ExitCode;
+use std::{env, mem};
 
 /// The words after the program's name, or None where memory was not found. A word that is not UTF-8 is in
 /// no command: where one is not, there are no words, which call no command either.
@@ -41,7 +41,10 @@ fn main(rt: HostRuntime) -> ExitCode {
         &mut out,
         &OpenGate::new(),
     );
-    ExitCode::from(outcome.status.code())
+    let Outcome { status, journal } = outcome;
+    // It is most of the memory, which goes back sooner as a whole, with the process.
+    mem::forget(journal);
+    ExitCode::from(status.code())
 }
 
 #[cfg(test)]
