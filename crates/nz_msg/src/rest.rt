@@ -52,6 +52,16 @@ impl<'a> Rest<'a> {
         self.bytes
     }
 
+    /// The same bytes, to be read twice.
+    pub fn again(&self) -> Rest<'a>
+        ensures { result ≡ self.now }
+    {
+        Rest {
+            frame: self.frame,
+            bytes: self.bytes,
+        }
+    }
+
     /// What is left after so many bytes more.
     pub fn after(self, len: usize) -> Rest<'a>
         requires { len ≤ length self }

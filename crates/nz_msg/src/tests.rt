@@ -258,13 +258,18 @@ fn log_of(alloc: Global, last: u32) -> Result<Bytes, NoMemory> {
     Ok(Bytes::from_vec(bytes)?)
 }
 
+// The last client has greater numbers before it, and not this one.
+const LATE_NUMBER: u32 = 5;
+
 // An id that is repeated is in the last entry, 42,026 bytes from the start.
 #[test]
 fn a_long_log(rt: HostRuntime) -> Result<(), Fail> {
     let alloc = rt.alloc();
-    let frame = log_of(alloc, 2000)?;
-    let same = again(alloc, &frame).ok_or("the frame is decoded")?;
-    assert_eq!(rt; same, frame);
+    for last in [2000, LATE_NUMBER] {
+        let frame = log_of(alloc, last)?;
+        let same = again(alloc, &frame).ok_or("the frame is decoded")?;
+        assert_eq!(rt; same, frame);
+    }
     let repeated = log_of(alloc, 16)?;
     let place = 42_026;
     assert!(rt; is_refused(alloc, &repeated, DecodeRefusal::BadBody { place }));
