@@ -32,8 +32,8 @@ fn of_choice(answer: &Option<Answer>) -> usize {
     }
 }
 
-/// The size of entries: each has a key, and a command after its length.
-pub fn of_entries(entries: &[Entry]) -> usize {
+// Each entry has a key, and a command after its length.
+fn of_entries(entries: &[Entry]) -> usize {
     let mut size: usize = 0;
     for entry in entries {
         size = size.saturating_add(of_command(&entry.command).saturating_add(16));

@@ -4,6 +4,9 @@ ghost use Rattle.std.specs.Prelude.{◌≡◌, ◌++◌, [], OnOk};
 ghost use Rattle.nz_msg.specs.Messages.{request, timed, fast_reply, slow_reply, client_answer, log_mod, fetch, fetch_reply};
 ghost use Rattle.nz_msg.specs.Messages.{sync_report, view_ask, view_change, start_view, vector_ask, vector_tell, rejoin_ask};
 ghost use Rattle.nz_msg.specs.Messages.{rejoin_tell, state_ask, state_tell, Fits, kind_of, body_of};
+ghost use Rattle.byteorder.specs.Endian.{big_bytes};
+ghost use Rattle.nz_msg.specs.Codec.{◌then◌};
+ghost use Rattle.nz_msg.specs.Fields.{u64, id, digest};
 ghost use Rattle.nz_msg.specs.Writing.{Adds};
 
 use super::message::{
@@ -12,48 +15,88 @@ use super::message::{
     ViewChangeBody,
 };
 use super::writing::{
-    put_answer, put_answer_if_any, put_command, put_digest, put_entries, put_id, put_ids, put_keys,
-    put_path, put_u32, put_u64, put_vector,
+    put_answer, put_answer_if_any, put_entries, put_ids, put_keys, put_path, put_two_u32, put_u32,
+    put_u64, put_u64_u32, put_vector,
 };
+use byteorder::{BigEndian, ByteOrder};
 use nz_base::NoMemory;
 use nz_cv::CrashVector;
 
+// The number and the length of the command, at once, and then the command.
+#[tactic(auto, unfolding(crate::specs::Codec::number_bytes))]
 fn put_request(out: &mut Vec<u8>, b: &RequestBody) -> Result<(), NoMemory>
     requires { request.fits b.now }
     ensures { OnOk result (Adds out.old.items out.new.items (request.put b.now)) }
 {
-    put_u32(out, b.num)?;
-    put_command(out, &b.command)
+    let command = b.command.as_slice();
+    let mut head = [0; 6];
+    BigEndian::write_u32(&mut head, b.num);
+    BigEndian::write_u16(&mut head[4..], command.len() as u16);
+    out.extend_from_slice(&head)?;
+    out.extend_from_slice(command)?;
+    Ok(())
 }
 
+// The bytes of a timed request up to its command.
+fn timed_head(b: &TimedBody, len: u16) -> [u8; 26]
+    ensures { result ≡ big_bytes 8 b.now.sent ++ (big_bytes 8 b.now.deadline
+        ++ (big_bytes 4 b.now.id.client ++ (big_bytes 4 b.now.id.num ++ big_bytes 2 len))) }
+{
+    let mut head = [0; 26];
+    BigEndian::write_u64(&mut head, b.sent);
+    BigEndian::write_u64(&mut head[8..], b.deadline);
+    BigEndian::write_u32(&mut head[16..], b.id.client);
+    BigEndian::write_u32(&mut head[20..], b.id.num);
+    BigEndian::write_u16(&mut head[24..], len);
+    head
+}
+
+#[tactic(auto, unfolding(crate::specs::Codec::number_bytes))]
 fn put_timed(out: &mut Vec<u8>, b: &TimedBody) -> Result<(), NoMemory>
     requires { timed.fits b.now }
     ensures { OnOk result (Adds out.old.items out.new.items (timed.put b.now)) }
 {
-    put_u64(out, b.sent)?;
-    put_u64(out, b.deadline)?;
-    put_id(out, b.id)?;
-    put_command(out, &b.command)
+    let command = b.command.as_slice();
+    out.extend_from_slice(&timed_head(b, command.len() as u16))?;
+    out.extend_from_slice(command)?;
+    Ok(())
+}
+
+// All up to the vector, at once.
+#[tactic(auto, unfolding(crate::specs::Codec::number_bytes))]
+fn put_fast_reply_head(out: &mut Vec<u8>, b: &FastReplyBody) -> Result<(), NoMemory>
+    ensures { OnOk result (Adds out.old.items out.new.items ((u64 then id then digest).put (b.now.view, (b.now.id, b.now.digest)))) }
+{
+    let mut head = [0; 36];
+    BigEndian::write_u64(&mut head, b.view);
+    BigEndian::write_u32(&mut head[8..], b.id.client);
+    BigEndian::write_u32(&mut head[12..], b.id.num);
+    head[16..].copy_from_slice(b.digest.as_bytes());
+    out.extend_from_slice(&head)?;
+    Ok(())
 }
 
 fn put_fast_reply(out: &mut Vec<u8>, b: &FastReplyBody) -> Result<(), NoMemory>
     requires { fast_reply.fits b.now }
     ensures { OnOk result (Adds out.old.items out.new.items (fast_reply.put b.now)) }
 {
-    put_u64(out, b.view)?;
-    put_id(out, b.id)?;
-    put_digest(out, &b.digest)?;
+    put_fast_reply_head(out, b)?;
     put_vector(out, &b.vector)?;
     put_u32(out, b.delay)?;
     put_answer_if_any(out, &b.answer)
 }
 
+#[tactic(auto, unfolding(crate::specs::Codec::number_bytes))]
 fn put_slow_reply(out: &mut Vec<u8>, b: &SlowReplyBody) -> Result<(), NoMemory>
     ensures { OnOk result (Adds out.old.items out.new.items (slow_reply.put b.now)) }
 {
-    put_u64(out, b.view)?;
-    put_id(out, b.id)?;
-    put_u32(out, b.delay)
+    let mut bytes = [0; 20];
+    BigEndian::write_u64(&mut bytes, b.view);
+    BigEndian::write_u32(&mut bytes[8..], b.id.client);
+    BigEndian::write_u32(&mut bytes[12..], b.id.num);
+    BigEndian::write_u32(&mut bytes[16..], b.delay);
+    out.extend_from_slice(&bytes)?;
+    Ok(())
 }
 
 fn put_client_answer(out: &mut Vec<u8>, b: &AnswerBody) -> Result<(), NoMemory>
@@ -71,8 +114,7 @@ fn put_log_mod(out: &mut Vec<u8>, b: &LogModBody) -> Result<(), NoMemory>
 {
     put_u64(out, b.view)?;
     put_vector(out, &b.vector)?;
-    put_u32(out, b.commit)?;
-    put_u32(out, b.start)?;
+    put_two_u32(out, b.commit, b.start)?;
     put_keys(out, &b.keys)
 }
 
@@ -101,8 +143,7 @@ fn put_view_change(out: &mut Vec<u8>, b: &ViewChangeBody) -> Result<(), NoMemory
     put_u64(out, b.view)?;
     put_u64(out, b.last)?;
     put_vector(out, &b.vector)?;
-    put_u32(out, b.synced)?;
-    put_u32(out, b.commit)?;
+    put_two_u32(out, b.synced, b.commit)?;
     put_entries(out, &b.entries)
 }
 
@@ -167,10 +208,7 @@ pub fn put_body(out: &mut Vec<u8>, message: &Message) -> Result<(), NoMemory>
         Message::LogMod(b) => put_log_mod(out, b),
         Message::Fetch(b) => put_fetch(out, b),
         Message::FetchReply(b) => put_fetch_reply(out, b),
-        Message::SyncReport(b) => {
-            put_u64(out, b.view)?;
-            put_u32(out, b.synced)
-        }
+        Message::SyncReport(b) => put_u64_u32(out, b.view, b.synced),
         Message::ViewAsk(b) => put_u64(out, b.view),
         Message::ViewChange(b) => put_view_change(out, b),
         Message::StartView(b) => put_start_view(out, b),

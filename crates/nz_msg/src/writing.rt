@@ -1,15 +1,14 @@
 //! Writing of fields.
 
 ghost use Rattle.std.specs.Prelude.{◌<◌, ◌^◌, List, [], OnOk, All, length};
-ghost use Rattle.nz_msg.specs.Codec.{number, items_put, optional};
-ghost use Rattle.nz_msg.specs.Fields.{u32, u64, id, key, command, digest, vector, answer, path, next_key, next_entry, ids, keys, entries};
+ghost use Rattle.nz_msg.specs.Codec.{number, items_put, optional, ◌then◌};
+ghost use Rattle.nz_msg.specs.Fields.{u32, u64, id, key, command, vector, answer, path, next_key, next_entry, ids, keys, entries};
 ghost use Rattle.nz_msg.specs.Writing.{Adds};
 
 use super::message::Path;
-use super::sizes::of_entries;
-use nz_base::{Blob, Entry, EntryList, Id, IdList, Key, KeyList, NoMemory};
+use byteorder::{BigEndian, ByteOrder};
+use nz_base::{Blob, Entry, EntryList, Id, IdList, Key, KeyList, MAX_REPLICAS, NoMemory};
 use nz_cv::CrashVector;
-use nz_digest::Digest;
 use nz_store::Answer;
 
 #[tactic(auto, unfolding(crate::specs::Codec::number_bytes))]
@@ -44,19 +43,46 @@ pub fn put_u64(out: &mut Vec<u8>, n: u64) -> Result<(), NoMemory>
     Ok(())
 }
 
-pub fn put_id(out: &mut Vec<u8>, i: Id) -> Result<(), NoMemory>
-    ensures { OnOk result (Adds out.old.items out.new.items (id.put i)) }
+/// Two numbers, of 4 bytes each.
+#[tactic(auto, unfolding(crate::specs::Codec::number_bytes))]
+pub fn put_two_u32(out: &mut Vec<u8>, first: u32, second: u32) -> Result<(), NoMemory>
+    ensures { OnOk result (Adds out.old.items out.new.items ((u32 then u32).put (first, second))) }
 {
-    put_u32(out, i.client)?;
-    put_u32(out, i.num)
+    let mut bytes = [0; 8];
+    BigEndian::write_u32(&mut bytes, first);
+    BigEndian::write_u32(&mut bytes[4..], second);
+    out.extend_from_slice(&bytes)?;
+    Ok(())
 }
 
+/// A number of 8 bytes and one of 4.
+#[tactic(auto, unfolding(crate::specs::Codec::number_bytes))]
+pub fn put_u64_u32(out: &mut Vec<u8>, first: u64, second: u32) -> Result<(), NoMemory>
+    ensures { OnOk result (Adds out.old.items out.new.items ((u64 then u32).put (first, second))) }
+{
+    let mut bytes = [0; 12];
+    BigEndian::write_u64(&mut bytes, first);
+    BigEndian::write_u32(&mut bytes[8..], second);
+    out.extend_from_slice(&bytes)?;
+    Ok(())
+}
+
+fn put_id(out: &mut Vec<u8>, i: Id) -> Result<(), NoMemory>
+    ensures { OnOk result (Adds out.old.items out.new.items (id.put i)) }
+{
+    put_two_u32(out, i.client, i.num)
+}
+
+#[tactic(auto, unfolding(crate::specs::Codec::number_bytes))]
 fn put_key(out: &mut Vec<u8>, k: &Key) -> Result<(), NoMemory>
     ensures { OnOk result (Adds out.old.items out.new.items (key.put k.now)) }
 {
-    put_u64(out, k.deadline)?;
-    put_u32(out, k.client)?;
-    put_u32(out, k.num)
+    let mut bytes = [0; 16];
+    BigEndian::write_u64(&mut bytes, k.deadline);
+    BigEndian::write_u32(&mut bytes[8..], k.client);
+    BigEndian::write_u32(&mut bytes[12..], k.num);
+    out.extend_from_slice(&bytes)?;
+    Ok(())
 }
 
 // A run of bytes after its length.
@@ -66,20 +92,6 @@ fn put_text(out: &mut Vec<u8>, bytes: &[u8]) -> Result<(), NoMemory>
 {
     put_u16(out, bytes.len() as u16)?;
     out.extend_from_slice(bytes)?;
-    Ok(())
-}
-
-pub fn put_command(out: &mut Vec<u8>, bytes: &Blob) -> Result<(), NoMemory>
-    requires { command.fits bytes.now }
-    ensures { OnOk result (Adds out.old.items out.new.items (command.put bytes.now)) }
-{
-    put_text(out, bytes.as_slice())
-}
-
-pub fn put_digest(out: &mut Vec<u8>, d: &Digest) -> Result<(), NoMemory>
-    ensures { OnOk result (Adds out.old.items out.new.items (digest.put d.now)) }
-{
-    out.extend_from_slice(d.as_bytes())?;
     Ok(())
 }
 
@@ -120,20 +132,21 @@ pub fn put_path(out: &mut Vec<u8>, p: Path) -> Result<(), NoMemory>
     }
 }
 
-fn put_counters(out: &mut Vec<u8>, counters: &[u32]) -> Result<(), NoMemory>
-    ensures { OnOk result (Adds out.old.items out.new.items (items_put (λ _. u32) [] counters.now)) }
-{
-    for counter in counters {
-        put_u32(out, *counter)?;
-    }
-    Ok(())
-}
+// The bytes of the longest vector: its size, and a counter for each replica.
+const VECTOR_SIZE: usize = 1 + 4 * MAX_REPLICAS;
 
+#[tactic(auto, unfolding(crate::specs::Codec::number_bytes))]
 pub fn put_vector(out: &mut Vec<u8>, v: &CrashVector) -> Result<(), NoMemory>
     ensures { OnOk result (Adds out.old.items out.new.items (vector.put v.now)) }
 {
-    put_u8(out, v.size())?;
-    put_counters(out, v.as_slice())
+    let counters = v.as_slice();
+    let mut bytes = [0; VECTOR_SIZE];
+    bytes[0] = v.size();
+    for (place, counter) in counters.iter().enumerate() {
+        BigEndian::write_u32(&mut bytes[1 + 4 * place..], *counter);
+    }
+    out.extend_from_slice(&bytes[..1 + 4 * counters.len()])?;
+    Ok(())
 }
 
 fn put_each_id(out: &mut Vec<u8>, list: &[Id]) -> Result<(), NoMemory>
@@ -170,12 +183,21 @@ pub fn put_keys(out: &mut Vec<u8>, list: &KeyList) -> Result<(), NoMemory>
     put_each_key(out, list.as_slice())
 }
 
+// The key and the length of the command, at once, and then the command.
+#[tactic(auto, unfolding(crate::specs::Codec::number_bytes))]
 fn put_entry(out: &mut Vec<u8>, entry: &Entry) -> Result<(), NoMemory>
     requires { command.fits entry.now.command }
     ensures { OnOk result (Adds out.old.items out.new.items ((next_entry []).put entry.now)) }
 {
-    put_key(out, &entry.key)?;
-    put_command(out, &entry.command)
+    let command = entry.command.as_slice();
+    let mut head = [0; 18];
+    BigEndian::write_u64(&mut head, entry.key.deadline);
+    BigEndian::write_u32(&mut head[8..], entry.key.client);
+    BigEndian::write_u32(&mut head[12..], entry.key.num);
+    BigEndian::write_u16(&mut head[16..], command.len() as u16);
+    out.extend_from_slice(&head)?;
+    out.extend_from_slice(command)?;
+    Ok(())
 }
 
 fn put_each_entry(out: &mut Vec<u8>, list: &[Entry]) -> Result<(), NoMemory>
@@ -193,6 +215,5 @@ pub fn put_entries(out: &mut Vec<u8>, list: &EntryList) -> Result<(), NoMemory>
     ensures { OnOk result (Adds out.old.items out.new.items ((entries 0 0).put list.now)) }
 {
     put_u32(out, list.len())?;
-    out.reserve(of_entries(list.as_slice()))?;
     put_each_entry(out, list.as_slice())
 }

@@ -1,0 +1,11 @@
+-- What the function of this folder owes, proved.
+use Rattle.std.proofs.Common.{append_assoc}
+use Rattle.nz_msg.specs.Codec.{number_bytes}
+use Rattle.nz_msg.proofs.spelling.put_timed.Goals as goal
+
+pub returns : goal.returns
+unfolding number_bytes
+returns c rest =
+    let head = c.in_ok-extend_from_slice.ensures.items in
+    let text = c.in_ok-extend_from_slice-2.ensures.items in
+    rw (text, head, c.timed_head.ensures, c.as_slice-command.ensures) (simp append_assoc)
