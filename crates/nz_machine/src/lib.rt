@@ -32,5 +32,5 @@ pub use journal::{Executed, History, Item, ItemList, Journal};
 pub use laws::{due_entries_are_released, facts_are_kept, receivers_take_part};
 pub use receiving::heard;
 pub use reply::{Reply, ReplyList};
-pub use sending::{send, send_written};
+pub use sending::{reserve_sends, send, send_written};
 pub use state::ReplicaState;

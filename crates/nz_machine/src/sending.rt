@@ -10,6 +10,16 @@ use nz_base::{Actor, NoMemory};
 use nz_msg::{Message, encode, frame_of};
 use std::alloc::Global;
 
+/// An empty list gets room for so many parcels and no more: the journal keeps the list as it is.
+pub fn reserve_sends(alloc: Global, count: u32, sends: &mut Sends) -> Result<(), NoMemory>
+    ensures { sends.new ≡ sends.old }
+{
+    if sends.is_empty() {
+        *sends = Sends::with_capacity(alloc, count)?;
+    }
+    Ok(())
+}
+
 /// Adds the parcel of a message whose body was written: a message to several actors is written once.
 pub fn send_written(
     alloc: Global,

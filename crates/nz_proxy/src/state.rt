@@ -24,7 +24,7 @@ ghost use Rattle.nz_proxy.specs.Models.{IsSameProxy};
 use crate::standing::Standing;
 use indexmap::IndexMap;
 use nz_base::{Actor, Blob, Cluster, Id, MARGIN, MAX_CLOCK, NoMemory};
-use nz_machine::{Reply, Sends, copy_answer, send, send_written};
+use nz_machine::{Reply, Sends, copy_answer, reserve_sends, send, send_written};
 use nz_msg::{AnswerBody, Message, Path, RequestBody, TimedBody, write_body};
 use nz_quorum::Tally;
 use nz_store::Answer;
@@ -178,6 +178,7 @@ impl ProxyState {
         requires answer { fields.answer.fits answer }
         ensures { OnOk result (sends.new ≡ sends.old ++ map (parcel (actors.Proxy self.now.me)) (answer_to_client id answer path ∷ [])) }
     {
+        reserve_sends(self.alloc, 1, sends)?;
         let message = Message::Answer(AnswerBody {
             num: id.num,
             answer,

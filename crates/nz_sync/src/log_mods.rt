@@ -19,7 +19,7 @@ ghost use Rattle.nz_machine.specs.Does.{Does};
 ghost use Rattle.nz_machine.specs.Step.{parcel, replica_message, is_in_cluster};
 
 use nz_base::{Actor, IdList, NoMemory};
-use nz_machine::{ReplicaState, Sends, send};
+use nz_machine::{ReplicaState, Sends, reserve_sends, send};
 use nz_msg::{FetchBody, LogModBody, Message, SyncReportBody};
 
 /// Tells the leader how much of the log agrees with its own.
@@ -27,6 +27,7 @@ fn send_sync_report(state: &ReplicaState, leader: u8, sends: &mut Sends) -> Resu
     requires { leader ≤ MAX_REPLICA }
     ensures { OnOk result (sends.new ≡ sends.old ++ map (parcel (actors.Replica state.now.me)) (sync_report_to leader state.now.state ∷ [])) }
 {
+    reserve_sends(state.allocator(), 1, sends)?;
     let message = Message::SyncReport(SyncReportBody {
         view: state.view(),
         synced: state.log().synced(),
