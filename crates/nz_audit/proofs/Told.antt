@@ -1,14 +1,11 @@
 -- What the records of clients tell, one record more.
-use Rattle.std.proofs.Common.{◌≡◌, ℕ, ◌+◌, List, [], ◌∷◌, ◌++◌, append-nil, length, Some, sym, ap, subst, ◌∙◌}
-use Rattle.std.specs.Prelude.{slice_get}
+use Rattle.std.proofs.Common.{◌≡◌, ℕ, ◌+◌, List, [], ◌∷◌, ◌++◌, append-nil, length, sym, ap, subst, ◌∙◌}
 use Rattle.nz_machine.specs.declared.event.Record.{Record}
 use Rattle.nz_machine.specs.declared.journal.Journal.{Journal}
 use Rattle.nz_machine.specs.declared.client_progress.Telling.{Telling}
-use Rattle.nz_machine.specs.Journals.{group_in, run_in}
+use Rattle.nz_machine.specs.Journals.{group_in}
 use Rattle.nz_machine.specs.Events.{ClientEvent, client_events, events}
-use Rattle.nz_machine.specs.ClientProgress.{AreAfter, IsNoneOf, events_of_telling}
-use Rattle.nz_machine.specs.World.{World}
-use Rattle.nz_machine.proofs.ProgressIsTold.{other_told, other_after}
+use Rattle.nz_machine.specs.ClientProgress.{AreAfter, events_of_telling}
 use Rattle.nz_audit.specs.declared.telling.Told.{Told}
 use Rattle.nz_audit.specs.Cores.{run_up_to}
 use Rattle.nz_audit.specs.Prefixes.{requests_sent, accepted_at, with_accepted, AreAccepted}
@@ -16,21 +13,19 @@ use Rattle.nz_audit.specs.Readings.{IsToldBy}
 use Rattle.nz_audit.proofs.Accepting.{IsAt, none_accepted, accepted_then}
 use Rattle.nz_audit.proofs.Replays.{run_then}
 use Rattle.nz_audit.proofs.Sent.{sent_then}
-use Rattle.nz_audit.proofs.Found.{is_at}
 
--- a record of no client
-pub told_nothing : (journal : Journal) (place : ℕ) (r : Record) (told : Told) → World (group_in journal) (run_in journal)
-    → slice_get journal.records place ≡ Some r → IsNoneOf (length told.clients) r.actor → IsToldBy journal (run_up_to journal place) told
-    → IsToldBy journal (run_up_to journal (place + 1)) told
-told_nothing journal place r told world at other h =
+-- a record that tells nothing
+pub told_nothing : (journal : Journal) (place : ℕ) (r : Record) (told : Told) → IsAt journal place r
+    → client_events (group_in journal) r.actor r (run_up_to journal place) ≡ []
+    → AreAfter (group_in journal) (r ∷ run_up_to journal place) told.clients
+    → IsToldBy journal (run_up_to journal place) told → IsToldBy journal (run_up_to journal (place + 1)) told
+told_nothing journal place r told is nothing after h =
     let g = group_in journal in
     let J = run_up_to journal place in
-    let is = is_at journal place r world at in
-    let nothing : [] ≡ client_events g r.actor r J = other_told g r J told.clients is.world other h.clients in
-    subst (λ (l : List Record). IsToldBy journal l told) (sym (run_then journal place r at)) (record {
-      clients = other_after g r J told.clients is.world other h.clients;
-      accepted = none_accepted journal r J [] told.accepted.items nothing h.accepted;
-      sent = none_sent (client_events g r.actor r J) nothing (events g J) h.sent;
+    subst (λ (l : List Record). IsToldBy journal l told) (sym (run_then journal place r is.at)) (record {
+      clients = after;
+      accepted = none_accepted journal r J [] told.accepted.items (sym nothing) h.accepted;
+      sent = none_sent (client_events g r.actor r J) (sym nothing) (events g J) h.sent;
     })
   where
     none_sent : (now : List ClientEvent) → [] ≡ now → (earlier : List ClientEvent) → told.sent ≡ requests_sent earlier

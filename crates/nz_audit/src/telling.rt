@@ -9,7 +9,7 @@ ghost use Rattle.nz_audit.specs.Prefixes.{accepted_at, with_accepted, AreAccepte
 ghost use Rattle.nz_audit.specs.Readings.{IsToldBy};
 
 use super::source::AcceptedAt;
-use nz_base::{Actor, NoMemory, Scenario};
+use nz_base::{NoMemory, Scenario};
 use nz_machine::{Clients, Journal, Record, Telling};
 use std::alloc::Global;
 
@@ -67,21 +67,14 @@ impl Told {
         })
     }
 
-    /// Takes the record at this place. Only that of a client tells anything.
+    /// Takes the record at this place.
     fn read(&mut self, alloc: Global, place: u32, next: &Record) -> Result<(), NoMemory>
         ensures { OnOk result ((journal : JournalModel) → World (group_in journal) (run_in journal) → slice_get journal.records place ≡ Some next.now
             → IsToldBy journal (run_up_to journal place) self.old → IsToldBy journal (run_up_to journal (place + 1)) self.new) }
     {
-        match next.actor {
-            Actor::Client(_) => self.read_own(alloc, place, next),
-            Actor::Replica(_) | Actor::Proxy(_) => Ok(()),
+        if self.clients.tells_nothing(next) {
+            return Ok(());
         }
-    }
-
-    fn read_own(&mut self, alloc: Global, place: u32, next: &Record) -> Result<(), NoMemory>
-        ensures { OnOk result ((journal : JournalModel) → World (group_in journal) (run_in journal) → slice_get journal.records place ≡ Some next.now
-            → IsToldBy journal (run_up_to journal place) self.old → IsToldBy journal (run_up_to journal (place + 1)) self.new) }
-    {
         let telling = self.clients.tell(alloc, next)?;
         let accepted = accepted_of(&telling, place, self.sent);
         keep_accepted(&mut self.accepted, accepted)?;

@@ -1,11 +1,11 @@
 -- What a client's record shows is what it tells.
 use Rattle.std.proofs.Common.{◌≡◌, ℕ, zero, suc, ◌+◌, ◌-◌, ◌%◌, ◌<◌, ◌≤◌, ◌≢◌, Bool, true, false, cond, eqb, eqb-true, nat_lt, ◌&&◌, ◌||◌, not}
 use Rattle.std.proofs.Common.{List, [], ◌∷◌, ◌++◌, length, map, set, replicate, Option, Some, None, refl, sym, ap, subst, ◌∙◌, arith, lt-ltb}
-use Rattle.std.specs.Prelude.{slice_get, filter}
+use Rattle.std.specs.Prelude.{slice_get, get_or, filter}
 use Rattle.std.specs.List.{AllByRecursion, list_any}
 use Rattle.std.proofs.lemmas.Bool.{le-ltb, eq-eqb, false≢true, cond_both}
-use Rattle.std.proofs.lemmas.List.{length-set, length-replicate, map-append}
-use Rattle.std.proofs.lemmas.Option.{same_Some}
+use Rattle.std.proofs.lemmas.List.{length-set, length-replicate, map-append, set-get_or}
+use Rattle.std.proofs.lemmas.Option.{same_Some, slice_get-get_or}
 use Rattle.nz_base.specs.Actor.{actor_eq}
 use Rattle.nz_base.specs.declared.actor.Actor.{Actor}
 use Rattle.nz_base.specs.declared.actor.Actor.TheVariants.{Replica, Proxy, Client}
@@ -22,6 +22,7 @@ use Rattle.nz_machine.specs.declared.event.Event.TheVariants.{Deliver, Tick}
 use Rattle.nz_machine.specs.declared.event.Parcel.{Parcel}
 use Rattle.nz_machine.specs.declared.event.Record.{Record}
 use Rattle.nz_machine.specs.declared.client_progress.Acceptance.{Acceptance}
+use Rattle.nz_machine.specs.declared.client_progress.Telling.{Telling}
 use Rattle.nz_machine.specs.State.{ClientData, Group, Out}
 use Rattle.nz_machine.specs.Clients.{if_due, after_opening, fill_places, fill_window, is_overdue, attempt_after_wait, after_wait, request_again}
 use Rattle.nz_machine.specs.Clients.{retry, retries, wait_rule, is_open, without_attempt, after_acceptance, accept_rule}
@@ -390,6 +391,28 @@ tells_nothing g (Proxy p) r J member other = refl
 other_client : (g : Group) (J : List Record) (clients : List Progress) (a : Actor) → AreAfter g J clients
     → IsNoneOf (length clients) a → IsNoneOf (length g.scripts) a
 other_client g J clients a h other = subst (λ (n : ℕ). IsNoneOf n a) h.count other
+
+-- what a client's record tells, by what it accepts and sends
+abbrev told_by : ℕ → Progress → Option Acceptance → List Parcel → Telling × Progress
+told_by c p a sends =
+    let free = with_answer p a in
+    let nums = map num_of sends in
+    (record { accepted = a; sent = new_among c free nums }, with_all free nums)
+
+-- a client's step tells nothing, where nothing came and nothing was sent
+pub silent_tells : (g : Group) (c : ℕ) (r : Record) (J : List Record) (clients : List Progress)
+    → World g (r ∷ J) → r.actor ≡ Client c → c < length clients → r.sends ≡ []
+    → ((k : ℕ) (p : Progress) → acceptance_of k p r.event ≡ None) → AreAfter g J clients
+    → (client_events g r.actor r J ≡ []) × AreAfter g (r ∷ J) clients
+silent_tells g c r J clients w by lt none quiet h =
+    let p = get_or clients c first_progress in
+    let there : slice_get clients c ≡ Some p = slice_get-get_or clients c first_progress lt in
+    let is : told_by c p (acceptance_of c p r.event) r.sends ≡ told_by c p None [] =
+    ap (λ (a : Option Acceptance). told_by c p a r.sends) (quiet c p) ∙ ap (told_by c p None) none in (
+      sym (own_told g c r J clients p w by h lt there) ∙ ap (λ (x : Telling × Progress). events_of_telling g x.0) is,
+      subst (AreAfter g (r ∷ J)) (ap (λ (x : Telling × Progress). set clients c x.1) is ∙ set-get_or clients c first_progress)
+          (own_after g c r J clients p w by h lt there),
+    )
 
 pub other_told : (g : Group) (r : Record) (J : List Record) (clients : List Progress) → World g (r ∷ J)
     → IsNoneOf (length clients) r.actor → AreAfter g J clients → [] ≡ client_events g r.actor r J

@@ -1,5 +1,5 @@
 //! The events of clients, read off the records of a run.
-ghost use Rattle.std.specs.Prelude.{◌≡◌, ◌<◌, ◌∷◌, ◌++◌, [], ℕ, List, length, map, IfOk, OnOk, IfSome, IfNone, ◌==◌, not, filter};
+ghost use Rattle.std.specs.Prelude.{◌≡◌, ◌<◌, ◌∷◌, ◌++◌, [], ℕ, List, length, map, IfOk, OnOk, IfSome, IfNone, IsTrue, None, ◌==◌, not, filter};
 ghost use Rattle.std.specs.List.{list_any};
 ghost use Rattle.nz_base.specs.declared.actor.Actor.TheVariants as actors;
 ghost use Rattle.nz_msg.specs.declared.message.Message.TheVariants as messages;
@@ -7,6 +7,7 @@ ghost use Rattle.nz_machine.specs.Events.{id_at, client_events};
 ghost use Rattle.nz_machine.specs.Schedule.{group_of};
 ghost use Rattle.nz_machine.specs.State.{Group};
 ghost use Rattle.nz_machine.specs.ClientProgress as client_progress;
+ghost use Rattle.nz_machine.specs.ClientProgress.{Progress as ProgressModel};
 ghost use Rattle.nz_machine.specs.ClientProgress.{events_of_telling, first_progress, AreAfter, IsNoneOf, acceptance_in, acceptance_read, acceptance_of};
 ghost use Rattle.nz_machine.specs.ClientProgress.{with_answer, new_in, with_num, new_among, with_all, after_client_record};
 ghost use Rattle.nz_machine.specs.World.{World};
@@ -222,6 +223,14 @@ fn read(
     Ok(Telling { accepted, sent })
 }
 
+/// Whether nothing came whole to the actor, and it sent nothing.
+fn is_silent(next: &Record) -> bool
+    ensures sends { IsTrue result → next.now.sends ≡ [] }
+    ensures accepted { IsTrue result → (client : ℕ) (progress : ProgressModel) → acceptance_of client progress next.now.event ≡ None }
+{
+    next.sends.is_empty() && !matches!(next.event, Event::Deliver(_))
+}
+
 impl Clients {
     /// Before the first record.
     pub fn new(alloc: Global, scenario: &Scenario) -> Result<Clients, NoMemory>
@@ -249,6 +258,18 @@ impl Clients {
                 }
             }
             Actor::Replica(_) | Actor::Proxy(_) => None,
+        }
+    }
+
+    /// Whether the next record of a run, of which the earlier ones were read, tells nothing.
+    pub fn tells_nothing(&self, next: &Record) -> bool
+        ensures told { IsTrue result → (g : Group) (J : List RecordModel) → World g (next.now ∷ J)
+            → AreAfter g J self.now → client_events g next.now.actor next.now J ≡ [] }
+        ensures after { IsTrue result → (g : Group) (J : List RecordModel) → World g (next.now ∷ J) → AreAfter g J self.now → AreAfter g (next.now ∷ J) self.now }
+    {
+        match self.number_of(next.actor) {
+            Some(_) => is_silent(next),
+            None => true,
         }
     }
 

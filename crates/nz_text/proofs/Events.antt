@@ -6,10 +6,9 @@ use Rattle.nz_machine.specs.declared.client_progress.Progress.{Progress}
 use Rattle.nz_machine.specs.declared.client_progress.Telling.{Telling}
 use Rattle.nz_machine.specs.State.{Group}
 use Rattle.nz_machine.specs.Events.{ClientEvent, events, client_events}
-use Rattle.nz_machine.specs.ClientProgress.{events_of_telling, AreAfter, IsNoneOf}
+use Rattle.nz_machine.specs.ClientProgress.{events_of_telling, AreAfter}
 use Rattle.nz_machine.specs.World.{World}
 use Rattle.nz_machine.proofs.JournalPrefixes.{one_record, world_with}
-use Rattle.nz_machine.proofs.ProgressIsTold.{other_after, other_told}
 use Rattle.nz_text.specs.declared.printed.Event.{Event}
 use Rattle.nz_text.specs.Text.{event_of, events_in, AreRead}
 
@@ -34,13 +33,15 @@ pub told_next : (g : Group) (r : Record) (J : List Record) (clients after : List
     → new ≡ told ++ map event_of (events_of_telling g t) → AreRead g (r ∷ J) after new
 told_next g r J clients after t told new w h tells stands is = read_on g r J clients after t told new h (tells g J w h.standing) (stands g J w h.standing) is
 
--- one record more, of another actor
-pub other_next : (g : Group) (r : Record) (J : List Record) (clients : List Progress) (told : List Event)
-    → World g (r ∷ J) → IsNoneOf (length clients) r.actor → AreRead g J clients told → AreRead g (r ∷ J) clients told
-other_next g r J clients told w other h = record {
-  standing = other_after g r J clients w other h.standing;
+-- one record more, which tells nothing
+pub told_nothing : (g : Group) (r : Record) (J : List Record) (clients : List Progress) (told : List Event)
+    → World g (r ∷ J) → AreRead g J clients told
+    → ((h : Group) (J : List Record) → World h (r ∷ J) → AreAfter h J clients → client_events h r.actor r J ≡ [])
+    → ((h : Group) (J : List Record) → World h (r ∷ J) → AreAfter h J clients → AreAfter h (r ∷ J) clients) → AreRead g (r ∷ J) clients told
+told_nothing g r J clients told w h nothing after = record {
+  standing = after g J w h.standing;
   told_all =
-      h.told_all ∙ sym (append-nil (events_in g J)) ∙ ap (λ (T : List ClientEvent). events_in g J ++ map event_of T) (other_told g r J clients w other h.standing)
+      h.told_all ∙ sym (append-nil (events_in g J)) ∙ ap (λ (T : List ClientEvent). events_in g J ++ map event_of T) (sym (nothing g J w h.standing))
       ∙ sym (map-append event_of (events g J) (client_events g r.actor r J));
 }
 

@@ -15,7 +15,7 @@ ghost use Rattle.nz_text.specs.declared.printed.Event.{Event as EventModel};
 ghost use Rattle.nz_text.specs.Text.{event_of, accepts_it, open_in, unanswered_in, events_in, AreRead};
 
 use super::printed::{Event, EventList};
-use nz_base::{Actor, Blob, Id, IdList, NoMemory, Request, Scenario};
+use nz_base::{Blob, Id, IdList, NoMemory, Request, Scenario};
 use nz_machine::{Acceptance, Clients, Journal, Record, Telling};
 use std::alloc::Global;
 use std::collections::HashSet;
@@ -93,8 +93,8 @@ fn add(
     add_requests(alloc, scenario, telling.sent.as_slice(), events)
 }
 
-/// Adds the events of the next record. One of no client has none.
-#[tactic(auto, using(crate::proofs::Events::told_next, crate::proofs::Events::other_next))]
+/// Adds the events of the next record.
+#[tactic(auto, using(crate::proofs::Events::told_next, crate::proofs::Events::told_nothing))]
 fn add_next(
     alloc: Global,
     scenario: &Scenario,
@@ -105,13 +105,11 @@ fn add_next(
     ensures { OnOk result ((J : List RecordModel) → World (group_of scenario.now) (next.now ∷ J) → AreRead (group_of scenario.now) J clients.old events.old
         → AreRead (group_of scenario.now) (next.now ∷ J) clients.new events.new) }
 {
-    match next.actor {
-        Actor::Client(_) => {
-            let telling = clients.tell(alloc, next)?;
-            add(alloc, scenario, telling, events)
-        }
-        Actor::Replica(_) | Actor::Proxy(_) => Ok(()),
+    if clients.tells_nothing(next) {
+        return Ok(());
     }
+    let telling = clients.tell(alloc, next)?;
+    add(alloc, scenario, telling, events)
 }
 
 /// The events of the journal's run.

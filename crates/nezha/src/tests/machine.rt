@@ -6,7 +6,9 @@ use nz_base::{
     Actor, Blob, Cluster, FaultList, Id, NoMemory, RequestList, Scenario, ScriptList, SkewList,
     TryCopy,
 };
-use nz_machine::{Acceptance, Clients, Event, Parcel, Record, Sends, Telling, heard};
+use nz_machine::{
+    Acceptance, Clients, Event, Parcel, Record, Sends, Telling, heard, reserve_sends,
+};
 use nz_msg::{AnswerBody, Envelope, Message, Path, RequestBody, ViewAskBody};
 use nz_store::Answer;
 use std::alloc::Global;
@@ -185,7 +187,12 @@ fn turns() -> &'static [Turn] {
 fn telling_of(alloc: Global, clients: &mut Clients, turn: &Turn) -> Result<Telling, Fail> {
     let event = event_of(alloc, turn.0)?;
     let record = record(alloc, event, turn.1)?;
-    Ok(clients.tell(alloc, &record)?)
+    let nothing = clients.tells_nothing(&record);
+    let telling = clients.tell(alloc, &record)?;
+    if nothing && (telling.accepted.is_some() || !telling.sent.is_empty()) {
+        return Err("something is told".into());
+    }
+    Ok(telling)
 }
 
 fn check_opened(rt: &impl Abort, sent: &[Id], opened: &[u32]) {
@@ -228,4 +235,25 @@ fn check_turns(rt: &impl Abort, alloc: Global, clients: &mut Clients) -> Result<
 fn tells_what_the_records_of_a_client_show(rt: HostRuntime) -> Result<(), Fail> {
     let mut clients = clients(rt.alloc())?;
     check_turns(&rt, rt.alloc(), &mut clients)
+}
+
+#[test]
+fn a_clock_in_silence_tells_nothing(rt: HostRuntime) -> Result<(), Fail> {
+    let clients = clients(rt.alloc())?;
+    let silent = record(rt.alloc(), Event::Tick(1_000), &[])?;
+    let asking = record(rt.alloc(), Event::Tick(2_000), &[1])?;
+    assert!(rt; clients.tells_nothing(&silent));
+    assert!(rt; !clients.tells_nothing(&asking));
+    Ok(())
+}
+
+#[test]
+fn room_for_sends_changes_none(rt: HostRuntime) -> Result<(), Fail> {
+    let mut sends = Sends::new(rt.alloc());
+    for count in 0..3 {
+        assert!(rt; reserve_sends(rt.alloc(), 1, &mut sends).is_ok());
+        assert_eq!(rt; sends.len(), count);
+        sends.push(request(rt.alloc(), 1)?)?;
+    }
+    Ok(())
 }

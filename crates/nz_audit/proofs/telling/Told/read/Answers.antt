@@ -1,12 +1,29 @@
 -- What the function of this folder owes, proved.
-use Rattle.std.proofs.Common.{sym, subst, inl, inr}
-use Rattle.std.specs.Prelude.{length}
-use Rattle.nz_machine.specs.ClientProgress.{IsNoneOf}
-use Rattle.nz_audit.proofs.Told.{told_nothing}
+use Rattle.std.proofs.Common.{◌+◌, ap, ◌∙◌}
+use Rattle.nz_machine.specs.Journals.{group_in}
+use Rattle.nz_audit.specs.Cores.{run_up_to}
+use Rattle.nz_audit.specs.Prefixes.{with_accepted}
+use Rattle.nz_audit.proofs.Found.{is_at}
+use Rattle.nz_audit.proofs.Told.{told_nothing, told_more}
 use Rattle.nz_audit.proofs.telling.Told.read.Goals as goal
 
-pub returns-in-Replica : goal.returns-in-Replica
-returns-in-Replica c = λ journal world at h. told_nothing journal c.args.place c.args.next.now _ world at (elim c.in-Replica.is [
-  | inl replica ↦ subst (IsNoneOf (length c.args.self.now.clients)) (sym replica.1) tt
-  | inr proxy ↦ subst (IsNoneOf (length c.args.self.now.clients)) (sym proxy.1) tt
-]) h
+pub returns-then-tells_nothing : goal.returns-then-tells_nothing
+returns-then-tells_nothing c = λ journal world at h.
+    let g = group_in journal in
+    let r = c.args.next.now in
+    let J = run_up_to journal c.args.place in
+    let is = is_at journal c.args.place r world at in
+    let nothing = c.tells_nothing.ensures.told c.if-tells_nothing.true g J is.world h.clients in
+    let after = c.tells_nothing.ensures.after c.if-tells_nothing.true g J is.world h.clients in
+    told_nothing journal c.args.place r c.args.self.now is nothing after h
+
+pub returns : goal.returns
+returns c = λ journal world at h.
+    let g = group_in journal in
+    let r = c.args.next.now in
+    let J = run_up_to journal c.args.place in
+    let is = is_at journal c.args.place r world at in
+    told_more journal c.args.place r c.args.self.now _ c.in_ok-telling.telling is
+    (c.in_ok-telling.ensures.told g J is.world h.clients) (c.in_ok-telling.ensures.after g J is.world h.clients)
+    (c.in_ok-keep_accepted.ensures ∙ ap (with_accepted c.args.self.now.accepted.items) c.accepted_of-accepted.ensures)
+    (c.in_ok-self.ensures ∙ ap (λ n. c.args.self.now.sent + n) c.len.ensures) h
