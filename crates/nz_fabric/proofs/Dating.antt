@@ -24,7 +24,7 @@ use Rattle.nz_fabric.specs.declared.course.Traffic.{Traffic}
 use Rattle.nz_fabric.specs.Calendars.{StandsFor, Dates, items_in, parcels_of, posted_by, course, traffic_of, count_of, next_number, lines_or}
 use Rattle.nz_fabric.specs.Calendars.{IsCounted, KeepsLines}
 use Rattle.nz_fabric.specs.Posting.{last_delivery_tick, delivery_as_stored, arrival_of, items_arriving}
-use Rattle.nz_fabric.specs.Posting.{arrivals_up_to, days_of, HasRoomFor, HasRooms, AreShort, HasNumber}
+use Rattle.nz_fabric.specs.Posting.{arrivals_up_to, days_of, HasRoomFor, HasRooms, AreKept, AreShort, HasNumber}
 use Rattle.nz_fabric.proofs.Numbering.{counted}
 use Rattle.nz_fabric.proofs.Striking.{checked_lines, kept_after}
 
@@ -172,6 +172,10 @@ set_short days i v lt own short = λ t.
           (sym (ap (items_in (slice_set D i v.items)) e ∙ get_or-set_same D i v.items [] (omega (arith, lt, long)))) own
       | inr ne ↦ subst (λ (is : List Item). length is < 2 ^ 32) (sym (get_or-set_other D i t v.items [] ne)) (short t)
     ])
+
+-- days with the same items are as short
+pub kept_short : (before after : List (Vec Item Global)) → AreKept before after → AreShort before → AreShort after
+kept_short before after same short = λ t. subst (λ (is : List Item). length is < 2 ^ 32) (sym (same t)) (short t)
 
 -- the delivery that is next has its room
 pub record HasOwnRoom (n : ℕ) (days : List (Vec Item Global)) (i : ℕ) (v : Vec Item Global) : Type 0 where

@@ -1,5 +1,6 @@
 -- Helper definitions of posting.rt, which posts a parcel.
-use Rattle.std.specs.Prelude.{◌≡◌, ℕ, ◌+◌, ◌-◌, ◌<◌, ◌≤◌, ◌^◌, ◌==◌, nat_le, min, Bool, true, false, List, [], length, map, filter, get_or, Vec, vec_capacity}
+use Rattle.std.specs.Prelude.{◌≡◌, ℕ, ◌+◌, ◌-◌, ◌<◌, ◌≤◌, ◌^◌, ◌==◌, nat_le, min, Bool, true, false, List, [], ◌∷◌, ◌++◌}
+use Rattle.std.specs.Prelude.{length, map, filter, get_or, Vec, vec_capacity}
 use Rattle.std.specs.Global.{Global}
 use Rattle.std.specs.List.{AllByRecursion}
 use Rattle.nz_base.specs.declared.actor.Actor.{Actor}
@@ -7,7 +8,8 @@ use Rattle.nz_base.specs.declared.scenario.Fault.{Fault}
 use Rattle.nz_base.specs.declared.scenario.Fault.TheVariants as faults
 use Rattle.nz_machine.specs.declared.event.Parcel.{Parcel}
 use Rattle.nz_machine.specs.declared.journal.Item.{Item}
-use Rattle.nz_machine.specs.Schedule.{Delivery as DeliveryModel, is_parcel_of, is_nth, is_blocked, deliveries_later, with_copy, cut_short, item, delivery_event}
+use Rattle.nz_machine.specs.Schedule.{Delivery as DeliveryModel, is_parcel_of, is_nth, is_blocked, deliveries_later, with_copy, cut_short}
+use Rattle.nz_machine.specs.Schedule.{item, delivery_event, after_faults, whole_in}
 use Rattle.nz_fabric.specs.declared.deliveries.Delivery.{Delivery}
 use Rattle.nz_fabric.specs.declared.calendar.Arrival.{Arrival}
 use Rattle.nz_fabric.specs.Calendars.{items_in}
@@ -59,6 +61,11 @@ items_arriving tick arrivals = map (λ a. a.item) (filter (λ a. a.tick == tick)
 abbrev pub arrivals_up_to : ℕ → List Arrival → List Arrival
 arrivals_up_to last arrivals = filter (λ a. nat_le a.tick last) arrivals
 
+-- Those of a parcel that is sent in a tick after earlier ones, as these fault lines leave its deliveries.
+abbrev pub arrivals_by : ℕ → ℕ → List Parcel → Parcel → List Fault → List Arrival
+arrivals_by last tick earlier p lines =
+    arrivals_up_to last (map (arrival_of p) (map delivery_as_stored (after_faults tick earlier p lines (whole_in (tick + 1) ∷ []))))
+
 -- The items of each day, as the code keeps them.
 abbrev pub days_of : List (Vec Item Global) → List (List Item)
 days_of days = map (λ v. v.items) days
@@ -76,3 +83,11 @@ HasRooms count days arrivals = AllByRecursion (λ a. HasRoomFor count days a.tic
 -- No day has 2^32 items.
 abbrev pub AreShort : List (Vec Item Global) → Type 0
 AreShort days = (t : ℕ) → length (items_in (days_of days) t) < 2 ^ 32
+
+-- The days have the same items.
+abbrev pub AreKept : List (Vec Item Global) → List (Vec Item Global) → Type 0
+AreKept before after = (t : ℕ) → items_in (days_of after) t ≡ items_in (days_of before) t
+
+-- Each of these deliveries went last into its day.
+abbrev pub ArePlaced : List (Vec Item Global) → List Arrival → List (Vec Item Global) → Type 0
+ArePlaced before arrived after = (t : ℕ) → items_in (days_of after) t ≡ items_in (days_of before) t ++ items_arriving t arrived

@@ -1,15 +1,17 @@
 //! The calendar of coming deliveries.
 
-ghost use Rattle.std.specs.Prelude.{◌≡◌, ◌+◌, ◌-◌, ◌<◌, ◌≤◌, ◌^◌, ◌∷◌, ◌++◌, [], ℕ, List, length, map, get_or};
-ghost use Rattle.std.specs.Prelude.{min, Option, IfOk, OnOk, OnErr, MatchOption, if◌then◌else◌};
+ghost use Rattle.std.specs.Prelude.{◌≡◌, ◌-◌, ◌<◌, ◌≤◌, ◌^◌, ◌∷◌, ◌++◌, [], ℕ, List, length, map};
+ghost use Rattle.std.specs.Prelude.{None, Some, IfOk, OnOk, OnErr};
 ghost use Rattle.nz_base.specs.declared.scenario.Scenario.{Scenario as ScenarioModel};
-ghost use Rattle.nz_machine.specs.Schedule.{IsPlayable, Posted, posted_in, arrivals};
-ghost use Rattle.nz_fabric.specs.declared.course.Course.{Course as CourseModel};
-ghost use Rattle.nz_fabric.specs.Calendars.{StandsFor, no_dates, course, course_eq, count_of, items_in};
-ghost use Rattle.nz_fabric.specs.Posting.{arrival_of, items_arriving, arrivals_up_to, days_of, HasRoomFor, HasRooms, AreShort};
+ghost use Rattle.nz_machine.specs.declared.event.Parcel.{Parcel as ParcelModel};
+ghost use Rattle.nz_machine.specs.Schedule.{IsPlayable, Posted, posted_in, arrivals, kind_in_frame};
+ghost use Rattle.nz_fabric.specs.Calendars.{StandsFor, IsCounted, no_dates, items_in, lines_or, next_number, traffic_of};
+ghost use Rattle.nz_fabric.specs.Posting.{arrival_of, items_arriving, arrivals_by, arrivals_up_to, days_of, HasNumber, HasRoomFor, HasRooms};
+ghost use Rattle.nz_fabric.specs.Posting.{AreKept, ArePlaced, AreShort};
 
-use crate::course::{Course, Traffic, count_one, deliveries_by_course};
+use crate::course::{Course, Traffic, count_first, course_of};
 use crate::deliveries::Delivery;
+use crate::faults::deliveries_of;
 use indexmap::IndexMap;
 use nz_base::{Actor, List, NoMemory, Scenario, TryCopy};
 use nz_machine::{Event, Item, ItemList, Parcel, kind_of};
@@ -158,6 +160,158 @@ fn place_all(days: &mut Vec<Vec<Item>>, arrivals: Arrivals)
     }
 }
 
+/// One item goes last into a day. A day has fewer than 2^32 of them.
+fn push_short(day: &mut Vec<Item>, item: Item) -> Result<(), NoMemory>
+    ensures short { length day.old.items < 2 ^ 32 → length day.new.items < 2 ^ 32 }
+    ensures ok { OnOk result (day.new.items ≡ day.old.items ++ item ∷ []) }
+    ensures err { OnErr result (day.new.items ≡ day.old.items) }
+{
+    if day.len() >= u32::MAX as usize {
+        return Err(NoMemory);
+    }
+    day.push(item)?;
+    Ok(())
+}
+
+/// One delivery goes last into its day.
+fn place_one(alloc: Global, days: &mut Vec<Vec<Item>>, arrival: Arrival) -> Result<(), NoMemory>
+    requires short { AreShort days.old.items }
+    ensures short { AreShort days.new.items }
+    ensures ok { OnOk result (ArePlaced days.old.items (arrival ∷ []) days.new.items) }
+    ensures err { OnErr result (AreKept days.old.items days.new.items) }
+{
+    let Arrival { tick, item } = arrival;
+    open_days(alloc, tick, days)?;
+    push_short(&mut days[tick as usize], item)
+}
+
+/// A parcel that no fault line may strike comes once and whole, in the next tick.
+fn place_whole(
+    alloc: Global,
+    days: &mut Vec<Vec<Item>>,
+    last: u32,
+    tick: u32,
+    parcel: &Parcel,
+) -> Result<(), NoMemory>
+    requires short { AreShort days.old.items }
+    ensures short { AreShort days.new.items }
+    ensures ok { (earlier : List ParcelModel) → OnOk result (ArePlaced days.old.items (arrivals_by last tick earlier parcel.now []) days.new.items) }
+    ensures err { OnErr result (AreKept days.old.items days.new.items) }
+{
+    let next = tick.saturating_add(1);
+    if next > last {
+        return Ok(());
+    }
+    let delivery = Delivery {
+        tick: next,
+        kept: None,
+    };
+    place_one(alloc, days, arrive(alloc, parcel, delivery)?)
+}
+
+/// The deliveries of a parcel up to the last tick, with room for all of them in their days.
+fn reserve_arrivals(
+    alloc: Global,
+    days: &mut Vec<Vec<Item>>,
+    last: u32,
+    parcel: &Parcel,
+    deliveries: &[Delivery],
+) -> Result<Arrivals, NoMemory>
+    ensures same { AreKept days.old.items days.new.items }
+    ensures room { IfOk result (λ v. HasRooms (length v.items) days.new.items v.items) }
+    ensures arrivals { IfOk result (λ v. v.items ≡ arrivals_up_to last (map (arrival_of parcel.now) deliveries.now)) }
+{
+    let arrivals = arrivals_of(alloc, last, parcel, deliveries)?;
+    reserve_all(alloc, days, arrivals.as_slice())?;
+    Ok(arrivals)
+}
+
+/// What comes of a parcel of a course of which something is kept goes last into its days.
+fn place_on_course(
+    alloc: Global,
+    days: &mut Vec<Vec<Item>>,
+    traffic: &Traffic,
+    last: u32,
+    tick: u32,
+    parcel: &Parcel,
+    kind: Option<u8>,
+) -> Result<(), NoMemory>
+    requires kind { kind ≡ kind_in_frame parcel.now.frame }
+    requires short { AreShort days.old.items }
+    ensures short { AreShort days.new.items }
+    ensures ok { (earlier : List ParcelModel) → HasNumber earlier parcel.now (next_number (Some traffic.now))
+        → OnOk result (ArePlaced days.old.items (arrivals_by last tick earlier parcel.now traffic.now.lines) days.new.items) }
+    ensures err { OnErr result (AreKept days.old.items days.new.items) }
+{
+    let lines = traffic.lines.as_slice();
+    if lines.is_empty() {
+        return place_whole(alloc, days, last, tick, parcel);
+    }
+    let number = traffic.count.saturating_add(1);
+    let deliveries = deliveries_of(alloc, lines, tick, parcel, kind, number)?;
+    let arrivals = reserve_arrivals(alloc, days, last, parcel, deliveries.as_slice())?;
+    place_all(days, arrivals);
+    Ok(())
+}
+
+/// The first parcel of a course, or one of no course, is counted, and what comes of it goes last into its days.
+fn post_first(
+    alloc: Global,
+    courses: &mut IndexMap<Course, Traffic>,
+    days: &mut Vec<Vec<Item>>,
+    scenario: &Scenario,
+    tick: u32,
+    parcel: &Parcel,
+    kind: Option<u8>,
+) -> Result<(), NoMemory>
+    requires kind { kind ≡ kind_in_frame parcel.now.frame }
+    requires first { None ≡ traffic_of courses.old.entries parcel.now kind }
+    requires short { AreShort days.old.items }
+    ensures short { AreShort days.new.items }
+    ensures counted { OnOk result (IsCounted scenario.now.faults courses.old.entries courses.new.entries parcel.now kind) }
+    ensures placed { (earlier : List ParcelModel) → HasNumber earlier parcel.now 1
+        → OnOk result (ArePlaced days.old.items (arrivals_by scenario.now.ticks tick earlier parcel.now scenario.now.faults) days.new.items) }
+    ensures err { OnErr result ((courses.new.entries ≡ courses.old.entries) × AreKept days.old.items days.new.items) }
+{
+    let faults = scenario.faults.as_slice();
+    let deliveries = deliveries_of(alloc, faults, tick, parcel, kind, 1)?;
+    let arrivals = reserve_arrivals(alloc, days, scenario.ticks, parcel, deliveries.as_slice())?;
+    count_first(alloc, courses, faults, parcel, kind)?;
+    place_all(days, arrivals);
+    Ok(())
+}
+
+/// A parcel is counted, and what comes of it goes last into its days. It takes one look at what is kept of its course.
+fn post_parcel(
+    alloc: Global,
+    courses: &mut IndexMap<Course, Traffic>,
+    days: &mut Vec<Vec<Item>>,
+    scenario: &Scenario,
+    tick: u32,
+    parcel: &Parcel,
+) -> Result<(), NoMemory>
+    requires short { AreShort days.old.items }
+    ensures short { AreShort days.new.items }
+    ensures counted { OnOk result (IsCounted scenario.now.faults courses.old.entries courses.new.entries parcel.now (kind_in_frame parcel.now.frame)) }
+    ensures placed { let kept = traffic_of courses.old.entries parcel.now (kind_in_frame parcel.now.frame) in
+        (earlier : List ParcelModel) → HasNumber earlier parcel.now (next_number kept)
+        → OnOk result (ArePlaced days.old.items (arrivals_by scenario.now.ticks tick earlier parcel.now (lines_or scenario.now.faults kept)) days.new.items) }
+    ensures err { OnErr result ((courses.new.entries ≡ courses.old.entries) × AreKept days.old.items days.new.items) }
+{
+    let kind = kind_of(parcel.frame.as_slice());
+    let Some(own) = kind else {
+        return post_first(alloc, courses, days, scenario, tick, parcel, kind);
+    };
+    match courses.get_mut(&course_of(parcel, own)) {
+        None => post_first(alloc, courses, days, scenario, tick, parcel, kind),
+        Some(traffic) => {
+            place_on_course(alloc, days, traffic, scenario.ticks, tick, parcel, kind)?;
+            traffic.count = traffic.count.saturating_add(1);
+            Ok(())
+        }
+    }
+}
+
 impl Calendar {
     /// No parcel was posted, and nothing is to come.
     pub fn new(alloc: Global) -> Calendar
@@ -187,20 +341,14 @@ impl Calendar {
             → OnOk result (StandsFor scenario.now (L ++ posted_in tick parcel.now ∷ []) now self.new) }
         ensures err { (s : ScenarioModel) (L : List Posted) (now : ℕ) → StandsFor s L now self.old → OnErr result (StandsFor s L now self.new) }
     {
-        let kind = kind_of(parcel.frame.as_slice());
-        let faults = scenario.faults.as_slice();
-        let deliveries = deliveries_by_course(
+        post_parcel(
             self.alloc,
-            &self.courses,
-            faults,
+            &mut self.courses,
+            &mut self.days,
+            scenario,
             tick,
             parcel,
-            kind,
         )?;
-        let arrivals = arrivals_of(self.alloc, scenario.ticks, parcel, deliveries.as_slice())?;
-        reserve_all(self.alloc, &mut self.days, arrivals.as_slice())?;
-        count_one(self.alloc, &mut self.courses, faults, parcel, kind)?;
-        place_all(&mut self.days, arrivals);
         self.parcels += 1;
         Ok(())
     }

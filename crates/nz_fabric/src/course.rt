@@ -1,15 +1,10 @@
 //! What is kept of each sender, receiver and kind: a count of parcels, and the fault lines that may strike them.
 
-ghost use Rattle.std.specs.Prelude.{◌≡◌, ◌+◌, ◌<◌, ◌∷◌, [], List, filter, map, IfOk, OnOk, OnErr};
-ghost use Rattle.std.specs.Option.{option_copied};
-ghost use Rattle.nz_machine.specs.declared.event.Parcel.{Parcel as ParcelModel};
-ghost use Rattle.nz_machine.specs.Schedule.{kind_in_frame, whole_in, after_faults};
+ghost use Rattle.std.specs.Prelude.{◌≡◌, ◌<◌, filter, None, IfOk, OnOk, OnErr};
 ghost use Rattle.nz_fabric.specs.Calendars as calendars;
-ghost use Rattle.nz_fabric.specs.Calendars.{course, next_number, lines_or, number_in_all, IsCounted};
-ghost use Rattle.nz_fabric.specs.Posting.{delivery_as_stored, HasNumber};
+ghost use Rattle.nz_fabric.specs.Calendars.{course, number_in_all, traffic_of, IsCounted};
 
-use crate::deliveries::Deliveries;
-use crate::faults::{deliveries_of, may_strike};
+use crate::faults::may_strike;
 use indexmap::IndexMap;
 use nz_base::{Actor, Fault, FaultList, NoMemory};
 use nz_machine::Parcel;
@@ -43,49 +38,14 @@ pub fn number_in_all(actor: Actor) -> u32
     }
 }
 
-fn course_of(parcel: &Parcel, kind: u8) -> Course
+/// The course of a parcel whose frame has this kind.
+pub fn course_of(parcel: &Parcel, kind: u8) -> Course
     ensures { result ≡ course parcel.now.from parcel.now.to kind }
 {
     Course {
         from: number_in_all(parcel.from),
         to: number_in_all(parcel.to),
         kind,
-    }
-}
-
-/// What is kept of the course of a parcel whose frame has this kind.
-fn traffic_of<'a>(
-    courses: &'a IndexMap<Course, Traffic>,
-    parcel: &Parcel,
-    kind: Option<u8>,
-) -> Option<&'a Traffic>
-    ensures { option_copied result ≡ calendars.traffic_of courses.now.entries parcel.now kind }
-{
-    courses.get(&course_of(parcel, kind?))
-}
-
-/// The deliveries of a parcel that is sent in a tick, as the fault lines leave them. It is checked against those that
-/// are kept of its course, or against all where nothing is kept of it.
-pub fn deliveries_by_course(
-    alloc: Global,
-    courses: &IndexMap<Course, Traffic>,
-    faults: &[Fault],
-    tick: u32,
-    parcel: &Parcel,
-    kind: Option<u8>,
-) -> Result<Deliveries, NoMemory>
-    requires { kind ≡ kind_in_frame parcel.now.frame }
-    ensures { (earlier : List ParcelModel) → HasNumber earlier parcel.now (next_number (calendars.traffic_of courses.now.entries parcel.now kind))
-        → IfOk result (λ v. v.items ≡ map delivery_as_stored (after_faults tick earlier parcel.now
-        (lines_or faults.now (calendars.traffic_of courses.now.entries parcel.now kind)) (whole_in (tick + 1) ∷ []))) }
-{
-    match traffic_of(courses, parcel, kind) {
-        None => deliveries_of(alloc, faults, tick, parcel, kind, 1),
-        Some(traffic) => {
-            let lines = traffic.lines.as_slice();
-            let number = traffic.count.saturating_add(1);
-            deliveries_of(alloc, lines, tick, parcel, kind, number)
-        }
     }
 }
 
@@ -107,26 +67,22 @@ fn lines_for(
     Ok(lines)
 }
 
-/// Counts one parcel more of its course. With the first, the fault lines that may strike it are kept.
-pub fn count_one(
+/// Counts the first parcel of a course, and keeps the fault lines that may strike parcels of it.
+pub fn count_first(
     alloc: Global,
     courses: &mut IndexMap<Course, Traffic>,
     faults: &[Fault],
     parcel: &Parcel,
     kind: Option<u8>,
 ) -> Result<(), NoMemory>
+    requires { None ≡ traffic_of courses.old.entries parcel.now kind }
     ensures ok { OnOk result (IsCounted faults.now courses.old.entries courses.new.entries parcel.now kind) }
     ensures err { OnErr result (courses.new.entries ≡ courses.old.entries) }
 {
     let Some(kind) = kind else {
         return Ok(());
     };
-    let course = course_of(parcel, kind);
-    if let Some(traffic) = courses.get_mut(&course) {
-        traffic.count = traffic.count.saturating_add(1);
-        return Ok(());
-    }
     let lines = lines_for(alloc, faults, parcel, kind)?;
-    courses.insert(course, Traffic { count: 1, lines })?;
+    courses.insert(course_of(parcel, kind), Traffic { count: 1, lines })?;
     Ok(())
 }
