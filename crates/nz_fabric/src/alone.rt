@@ -44,7 +44,7 @@ impl Alone {
         let mut records = Vec::new(alloc);
         records.reserve(clocks_of(&scenario))?;
         Ok(Alone {
-            ticks: Ticks::new(alloc, scenario),
+            ticks: Ticks::new(alloc, scenario)?,
             records,
             before: 0,
         })

@@ -1,9 +1,12 @@
 //! A batch: what is due to one actor in a tick, taken by a worker as a whole.
 
-ghost use Rattle.std.specs.Prelude.{◌≡◌};
+ghost use Rattle.std.specs.Prelude.{◌≡◌, map, IfOk};
+ghost use Rattle.nz_machine.specs.Schedule.{item};
+ghost use Rattle.nz_fabric.specs.Shared.{run_of};
 
-use nz_base::{Actor, List};
-use nz_machine::Event;
+use nz_base::{Actor, List, NoMemory, TryCopy};
+use nz_machine::{Event, Item};
+use std::alloc::Global;
 
 /// What is due to one actor in a tick, which was taken as a whole. It must be recorded or given up.
 pub struct Batch {
@@ -25,4 +28,18 @@ impl Batch {
         } = self;
         number
     }
+}
+
+/// The events of the first items, as long as they are of this actor.
+pub fn events_for(alloc: Global, actor: Actor, items: &[Item]) -> Result<List<Event>, NoMemory>
+    ensures { IfOk result (λ events. map (item actor) events ≡ run_of actor items.now) }
+{
+    let mut events = List::new(alloc);
+    for item in items {
+        if !item.actor.is(&actor) {
+            return Ok(events);
+        }
+        events.push(item.event.copy(alloc)?)?;
+    }
+    Ok(events)
 }

@@ -1,13 +1,13 @@
 //! What is due in a tick before what arrives: fault lines and clocks.
 
-ghost use Rattle.std.specs.Prelude.{◌≡◌, ◌<◌, ◌≤◌, ◌+◌, ◌-◌, ◌*◌, ◌^◌, ◌==◌, ◌∷◌, ◌++◌, [], length, map, vec_capacity, IfOk, OnOk};
+ghost use Rattle.std.specs.Prelude.{◌≡◌, ◌<◌, ◌≤◌, ◌+◌, ◌-◌, ◌*◌, ◌^◌, ◌==◌, ◌∷◌, ◌++◌, [], length, map, filter, vec_capacity, IfOk, OnOk};
 ghost use Rattle.nz_base.specs.Cluster.{replica_count};
 ghost use Rattle.nz_machine.specs.Replicas.{numbers_below};
 ghost use Rattle.nz_machine.specs.Schedule as schedule;
 ghost use Rattle.nz_machine.specs.Schedule.{item, if_in, calls, skew_of, actors_of, tick_item};
-ghost use Rattle.nz_fabric.specs.Dues.{actor_of_sort, restarts_in};
+ghost use Rattle.nz_fabric.specs.Dues.{actor_of_sort, is_call, restarts_in};
 
-use nz_base::{Actor, Fault, MAX_CLOCK, NoMemory, Scenario, Skew, UNITS_PER_TICK};
+use nz_base::{Actor, Fault, FaultList, MAX_CLOCK, NoMemory, Scenario, Skew, UNITS_PER_TICK};
 use nz_machine::{Event, Item};
 use std::alloc::Global;
 
@@ -29,6 +29,33 @@ impl Sort {
             Sort::Clients => Actor::Client(number),
         }
     }
+}
+
+/// Whether a fault line asks something of an actor.
+fn is_call(fault: Fault) -> bool
+    ensures { result ≡ is_call fault }
+{
+    match fault {
+        Fault::Crash { .. } | Fault::Restart { .. } | Fault::Alarm { .. } => true,
+        Fault::Drop { .. }
+        | Fault::Hold { .. }
+        | Fault::Twice { .. }
+        | Fault::Cut { .. }
+        | Fault::Block { .. } => false,
+    }
+}
+
+/// The fault lines that ask something of an actor, in their order.
+pub fn calls_among(alloc: Global, faults: &[Fault]) -> Result<FaultList, NoMemory>
+    ensures { IfOk result (λ lines. lines ≡ filter is_call faults.now) }
+{
+    let mut lines = FaultList::new(alloc);
+    for fault in faults {
+        if is_call(*fault) {
+            lines.push(*fault)?;
+        }
+    }
+    Ok(lines)
 }
 
 /// What a fault line asks of an actor in a tick, if it is this one.
@@ -102,31 +129,28 @@ fn clock_at(scenario: &Scenario, tick: u32, actor: Actor) -> u64
         .min(MAX_CLOCK)
 }
 
-/// The clocks of the first actors of a sort.
-fn push_sort(
-    items: &mut Vec<Item>,
-    scenario: &Scenario,
-    tick: u32,
-    sort: Sort,
-    count: u8,
-) -> Result<(), NoMemory>
-    ensures { OnOk result (items.new.items ≡ items.old.items ++ map (tick_item scenario.now tick) (map (actor_of_sort sort) (numbers_below count))) }
+/// The clocks of the first actors of a sort, where there is room.
+fn push_sort(items: &mut Vec<Item>, scenario: &Scenario, tick: u32, sort: Sort, count: u8)
+    requires { length items.old.items + count ≤ vec_capacity items.old }
+    ensures items { items.new.items ≡ items.old.items ++ map (tick_item scenario.now tick) (map (actor_of_sort sort) (numbers_below count)) }
+    ensures len { length items.new.items ≡ length items.old.items + count }
+    ensures capacity { vec_capacity items.new ≡ vec_capacity items.old }
 {
     for number in 0..count {
         let actor = sort.actor(number);
         let event = Event::Tick(clock_at(scenario, tick, actor));
-        items.push(Item { actor, event })?;
+        items.push_reserved(Item { actor, event });
     }
-    Ok(())
 }
 
-/// Every clock.
-fn push_clocks(items: &mut Vec<Item>, scenario: &Scenario, tick: u32) -> Result<(), NoMemory>
-    ensures { OnOk result (items.new.items ≡ items.old.items ++ map (tick_item scenario.now tick) (actors_of scenario.now)) }
+/// Every clock, where there is room.
+fn push_clocks(items: &mut Vec<Item>, scenario: &Scenario, tick: u32)
+    requires { let s = scenario.now in length items.old.items + (replica_count s.cluster + s.proxies + s.clients) ≤ vec_capacity items.old }
+    ensures { items.new.items ≡ items.old.items ++ map (tick_item scenario.now tick) (actors_of scenario.now) }
 {
-    push_sort(items, scenario, tick, Sort::Replicas, scenario.cluster.n())?;
-    push_sort(items, scenario, tick, Sort::Proxies, scenario.proxies)?;
-    push_sort(items, scenario, tick, Sort::Clients, scenario.clients)
+    push_sort(items, scenario, tick, Sort::Replicas, scenario.cluster.n());
+    push_sort(items, scenario, tick, Sort::Proxies, scenario.proxies);
+    push_sort(items, scenario, tick, Sort::Clients, scenario.clients);
 }
 
 /// How many actors there are.
@@ -151,15 +175,19 @@ pub fn clocks_of(scenario: &Scenario) -> usize
 pub fn due_items(
     alloc: Global,
     scenario: &Scenario,
+    lines: &[Fault],
     tick: u32,
     more: usize,
 ) -> Result<Vec<Item>, NoMemory>
+    requires { lines.now ≡ filter is_call scenario.now.faults }
     ensures items { IfOk result (λ v. v.items ≡ calls tick 0 scenario.now.faults ++ map (tick_item scenario.now tick) (actors_of scenario.now)) }
     ensures room { IfOk result (λ v. length v.items + more ≤ vec_capacity v) }
 {
-    let mut items = Vec::with_capacity(alloc, actor_count(scenario).saturating_add(more))?;
-    push_calls(&mut items, scenario.faults.as_slice(), tick)?;
-    push_clocks(&mut items, scenario, tick)?;
+    let clocks = actor_count(scenario);
+    let mut items = Vec::with_capacity(alloc, clocks.saturating_add(more))?;
+    push_calls(&mut items, lines, tick)?;
+    items.reserve(clocks)?;
+    push_clocks(&mut items, scenario, tick);
     items.reserve(more)?;
     Ok(items)
 }

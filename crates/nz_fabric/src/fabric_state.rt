@@ -86,7 +86,7 @@ impl<N: Name> FabricState<N> {
         let records = Records::new(alloc, records, clocks_of(&scenario))?;
         let (book, held) = blank.open::<N>();
         let state = FabricState {
-            ticks: Ticks::new(alloc, scenario),
+            ticks: Ticks::new(alloc, scenario)?,
             records,
             before: 0,
             batches: OpenBatches::new(alloc, takes),

@@ -1,16 +1,14 @@
 //! What the networks of one thread and of several have in common: the tick and its items.
 
-ghost use Rattle.std.specs.Prelude.{◌≡◌, ◌<◌, ◌≤◌, ◌+◌, ◌++◌, vec_capacity, List, length, drop, map, slice_get, Some, IfOk, OnOk, OnErr, IsPermutation};
-ghost use Rattle.nz_base.specs.declared.limits.TheConstants.{MAX_TICKS};
-ghost use Rattle.nz_machine.specs.Schedule.{Posted, item};
-ghost use Rattle.nz_fabric.specs.Calendars.{StandsFor};
-ghost use Rattle.nz_fabric.specs.States.{HasBegun, IsNew};
-ghost use Rattle.nz_fabric.specs.Shared.{run_of};
+ghost use Rattle.std.specs.Prelude.{◌≡◌, ◌<◌, ◌≤◌, ◌+◌, ◌++◌, vec_capacity, List, length, drop, filter, map, slice_get, Some};
+ghost use Rattle.std.specs.Prelude.{IfOk, OnOk, OnErr, IsPermutation};
+ghost use Rattle.nz_fabric.specs.Dues.{is_call};
 
+use crate::batch::events_for;
 use crate::calendar::Calendar;
-use crate::due::due_items;
+use crate::due::{calls_among, due_items};
 use crate::grouping::group;
-use nz_base::{Actor, List, NoMemory, Scenario, TryCopy};
+use nz_base::{Actor, FaultList, List, NoMemory, Scenario, TryCopy};
 use nz_machine::{Event, Item, ItemList};
 use std::alloc::Global;
 
@@ -19,11 +17,14 @@ use std::alloc::Global;
 pub struct Ticks {
     pub alloc: Global,
     pub scenario: Scenario,
+    /// The fault lines that ask something of an actor, in their order.
+    pub calls: FaultList,
     pub tick: u32,
     pub items: Vec<Item>,
     pub next: usize,
     pub calendar: Calendar,
     pub marked: bool,
+    ghost chosen: { calls ≡ filter is_call scenario.faults },
 }
 
 /// Puts items after others, where there is room.
@@ -36,34 +37,28 @@ fn append(items: &mut Vec<Item>, more: ItemList)
     }
 }
 
-/// The events of the first items, as long as they are of this actor.
-fn events_for(alloc: Global, actor: Actor, items: &[Item]) -> Result<List<Event>, NoMemory>
-    ensures { IfOk result (λ events. map (item actor) events ≡ run_of actor items.now) }
-{
-    let mut events = List::new(alloc);
-    for item in items {
-        if !item.actor.is(&actor) {
-            return Ok(events);
-        }
-        events.push(item.event.copy(alloc)?)?;
-    }
-    Ok(events)
-}
-
 impl Ticks {
+    ghost use Rattle.nz_base.specs.declared.limits.TheConstants.{MAX_TICKS};
+    ghost use Rattle.nz_machine.specs.Schedule.{Posted, item};
+    ghost use Rattle.nz_fabric.specs.Calendars.{StandsFor};
+    ghost use Rattle.nz_fabric.specs.States.{HasBegun, IsNew};
+    ghost use Rattle.nz_fabric.specs.Shared.{run_of};
+
     /// A run that has not begun.
-    pub fn new(alloc: Global, scenario: Scenario) -> Ticks
-        ensures { IsNew scenario result }
+    pub fn new(alloc: Global, scenario: Scenario) -> Result<Ticks, NoMemory>
+        ensures { IfOk result (IsNew scenario) }
     {
-        Ticks {
+        let calls = calls_among(alloc, scenario.faults.as_slice())?;
+        Ok(Ticks {
             alloc,
             scenario,
+            calls,
             tick: 0,
             items: Vec::new(alloc),
             next: 0,
             calendar: Calendar::new(alloc),
             marked: false,
-        }
+        })
     }
 
     /// A copy of the next item.
@@ -109,7 +104,13 @@ impl Ticks {
     {
         let tick = self.tick + 1;
         let coming = self.calendar.due(tick);
-        let mut items = due_items(self.alloc, &self.scenario, tick, coming)?;
+        let mut items = due_items(
+            self.alloc,
+            &self.scenario,
+            self.calls.as_slice(),
+            tick,
+            coming,
+        )?;
         append(&mut items, self.calendar.take(tick));
         self.items = items;
         self.tick = tick;

@@ -5,4 +5,5 @@ use Rattle.nz_fabric.proofs.alone.Alone.new.Goals as goal
 
 pub invariant_of-result : goal.invariant_of-result
 invariant_of-result c =
-    held_start c.args.scenario c.new.result c.reserve.new.self.items _ c.requires c.new.ensures (c.reserve.ensures.items ∙ c.new-records.ensures.items)
+    held_start c.args.scenario c.in_ok-new.field-0 c.reserve.new.self.items _ c.requires c.in_ok-new.ensures
+    (c.reserve.ensures.items ∙ c.new-records.ensures.items)

@@ -9,13 +9,13 @@ use Rattle.nz_fabric.proofs.fabric_state.FabricState.new.Goals as goal
 
 pub invariant_of-state : goal.invariant_of-state
 invariant_of-state g c =
-    let t = c.new-2.result in
+    let t = c.in_ok-new.field-0 in
     let records = c.in_ok-records.records in
     let batches = c.new-3.result in
     let total = c.open-book.result.0.total in (
       omega (arith, c.requires.name),
       subst (λ (s : Scenario). IsBooked s total (shared_with (state_in t 0 records.records) batches.running batches.taken) 0
           records.room records.records t.calendar) c.requires.scenario
-          (booked_start c.args.scenario total batches.taken t records.records batches.running records.room c.requires.playable c.new-2.ensures
+          (booked_start c.args.scenario total batches.taken t records.records batches.running records.room c.requires.playable c.in_ok-new.ensures
           c.in_ok-records.ensures (ap (λ (t : Batches). t.running) c.new-3.ensures) c.open-book.ensures.total),
     )

@@ -4,7 +4,7 @@ use Rattle.nz_machine.specs.declared.event.Event.{Event}
 use Rattle.nz_machine.specs.Schedule.{item}
 use Rattle.nz_fabric.specs.Shared.{run_of}
 use Rattle.nz_fabric.proofs.Batching.{run_step}
-use Rattle.nz_fabric.proofs.ticks.events_for.Goals as goal
+use Rattle.nz_fabric.proofs.batch.events_for.Goals as goal
 
 pub loop-item-preserved : goal.loop-item-preserved
 loop-item-preserved c =
