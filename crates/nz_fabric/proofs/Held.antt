@@ -21,19 +21,13 @@ use Rattle.nz_fabric.proofs.Sending.{posted_append}
 
 -- ---- the start
 
-abbrev begin_with : Scenario → List Item → State
-begin_with s items = state_of s 0 0 [] items 0 false
-
-pub new_ticks : (s : Scenario) (t : Ticks) → state_in t 0 [] ≡ begin_with s t.items.items → t.items.items ≡ [] → StandsFor s [] 0 t.calendar → IsNew s t
-new_ticks s t is nothing h = record { state = is ∙ ap (begin_with s) nothing; stands = h }
-
 pub posted_start : (s : Scenario) (c : Dates) → StandsFor s [] 0 c → IsPosted (start_state s) c
 posted_start s c h = record { sent = []; rest = []; prefix = refl; stands = h; none = λ _. refl }
 
 pub held_start : (s : Scenario) (t : Ticks) (records : List Record) (room : ℕ) → IsPlayable s → IsNew s t
-    → records ≡ [] → IsHeld (state_in t 0 records) 0 room records t.calendar
+    → records ≡ [] → IsHeld (state_in t 0 records [] 0) 0 room records t.calendar
 held_start s t records room play new none =
-    subst (λ (rs : List Record). IsHeld (state_in t 0 rs) 0 room rs t.calendar) (sym none)
+    subst (λ (rs : List Record). IsHeld (state_in t 0 rs [] 0) 0 room rs t.calendar) (sym none)
     (subst (λ (f : State). IsHeld f 0 room [] t.calendar) (sym new.state)
     (record {
       kept =
@@ -175,15 +169,14 @@ pub begun_next : (s : Scenario) (tick next : ℕ) (J : List Record) → suc tick
 begun_next s tick next J e order = subst (λ (n : ℕ). IsBegun s n J (due s n J)) e (order, refl)
 
 -- the ticks that began, with their items in some order
-pub begun_grouped : (s : Scenario) (last : ℕ) (L : List Posted) (t u : Ticks) → HasBegun s last L t → u ≡ record t { items = u.items }
-    → IsPermutation t.items.items u.items.items → HasBegunAs IsPermutation s last L u
-begun_grouped s last L t u b same items = record {
-  scenario = ap (λ (x : Ticks). x.scenario) same ∙ b.scenario;
-  tick = ap (λ (x : Ticks). x.tick) same ∙ b.tick;
-  items = subst (λ (is : List Item). IsPermutation is u.items.items) b.items items;
-  next = ap (λ (x : Ticks). x.next) same ∙ b.next;
-  unmarked = ap (λ (x : Ticks). x.marked) same ∙ b.unmarked;
-  stands = subst (λ (c : Dates). StandsFor s L (last + 1) c) (sym (ap (λ (x : Ticks). x.calendar) same)) b.stands;
+pub begun_grouped : (s : Scenario) (last : ℕ) (L : List Posted) (t : Ticks) (items grouped : List Item) → HasBegun s last L t items
+    → IsPermutation items grouped → HasBegunAs IsPermutation s last L t grouped
+begun_grouped s last L t items grouped b same = record {
+  scenario = b.scenario;
+  tick = b.tick;
+  are_due = subst (λ (is : List Item). IsPermutation is grouped) b.are_due same;
+  unmarked = b.unmarked;
+  stands = b.stands;
 }
 
 -- none of the new tick is recorded
@@ -224,25 +217,24 @@ state_next s tick before n records items items' next marked long unmarked =
 
 -- the ticks that began are the next state
 pub next_is : (AreDue : List Item → List Item → Type 0) (s : Scenario) (tick before n : ℕ) (records : List Record)
-    (items : List Item) (next : ℕ) (marked : Bool) (new : Ticks)
-    → HasBegunAs AreDue s tick (posted_by_run (records_of (state_of s tick before records items next marked))) new
+    (items : List Item) (next : ℕ) (marked : Bool) (new : Ticks) (is : List Item)
+    → HasBegunAs AreDue s tick (posted_by_run (records_of (state_of s tick before records items next marked))) new is
     → n ≡ length records → marked ≡ false
-    → state_in new n records ≡ record (after_tick (state_of s tick before records items next marked)) { items = new.items.items }
-next_is AreDue s tick before n records items next marked new b long unmarked =
-    let is = new.items.items in
-    ap (λ (t : Scenario). state_of t new.tick n records is new.next new.marked) b.scenario
-    ∙ ap (λ (t : ℕ). state_of s t n records is new.next new.marked) b.tick
-    ∙ ap (λ (k : ℕ). state_of s (tick + 1) n records is k new.marked) b.next
+    → state_in new n records is 0 ≡ record (after_tick (state_of s tick before records items next marked)) { items = is }
+next_is AreDue s tick before n records items next marked new is b long unmarked =
+    ap (λ (t : Scenario). state_of t new.tick n records is 0 new.marked) b.scenario
+    ∙ ap (λ (t : ℕ). state_of s t n records is 0 new.marked) b.tick
     ∙ ap (λ (m : Bool). state_of s (tick + 1) n records is 0 m) b.unmarked
     ∙ state_next s tick before n records items is next marked long unmarked
 
 -- in the order of the schedule
-pub next_in_order : (s : Scenario) (tick before n : ℕ) (records : List Record) (items : List Item) (next : ℕ) (marked : Bool) (new : Ticks)
-    → HasBegun s tick (posted_by_run (records_of (state_of s tick before records items next marked))) new → n ≡ length records → marked ≡ false
-    → state_in new n records ≡ after_tick (state_of s tick before records items next marked)
-next_in_order s tick before n records items next marked new b long unmarked =
-    next_is AreInOrder s tick before n records items next marked new b long unmarked
-    ∙ ap (λ (is : List Item). record (after_tick (state_of s tick before records items next marked)) { items = is }) b.items
+pub next_in_order : (s : Scenario) (tick before n : ℕ) (records : List Record) (items : List Item) (next : ℕ) (marked : Bool)
+    (new : Ticks) (is : List Item) → HasBegun s tick (posted_by_run (records_of (state_of s tick before records items next marked))) new is
+    → n ≡ length records → marked ≡ false
+    → state_in new n records is 0 ≡ after_tick (state_of s tick before records items next marked)
+next_in_order s tick before n records items next marked new is b long unmarked =
+    next_is AreInOrder s tick before n records items next marked new is b long unmarked
+    ∙ ap (λ (is : List Item). record (after_tick (state_of s tick before records items next marked)) { items = is }) b.are_due
 
 -- ---- what is posted when a tick is over
 
@@ -283,40 +275,41 @@ abbrev pub PostsSome : Scenario → Dates → Dates → List Posted → Type 0
 PostsSome s old new sent = (L : List Posted) (now : ℕ) → StandsFor s L now old → HasPosted s L sent now new
 
 -- the tick is over, and what it sent was posted in part
-pub over_some : (t : Ticks) (before : ℕ) (records sent : List Record) (c : Dates) → t.marked ≡ false
-    → IsPosted (state_in t before records) t.calendar → sent ≡ drop before records
-    → PostsSome t.scenario t.calendar c (posted_by sent) → IsPosted (state_of t.scenario t.tick before records t.items.items t.next true) c
-over_some t before records sent c unmarked posts e some =
+pub over_some : (t : Ticks) (before : ℕ) (records sent : List Record) (items : List Item) (next : ℕ) (c : Dates) → t.marked ≡ false
+    → IsPosted (state_in t before records items next) t.calendar → sent ≡ drop before records
+    → PostsSome t.scenario t.calendar c (posted_by sent) → IsPosted (state_of t.scenario t.tick before records items next true) c
+over_some t before records sent items next c unmarked posts e some =
     let L = posted_by_run (reverse (take before records)) in
-    posted_some t.scenario t.tick before records t.items.items t.next c
+    posted_some t.scenario t.tick before records items next c
     (subst (λ (rs : List Record). HasPosted t.scenario L (posted_by rs) t.tick c) e
-    (some L t.tick (posted_started (state_in t before records) t.calendar unmarked posts)))
+    (some L t.tick (posted_started (state_in t before records items next) t.calendar unmarked posts)))
 
 -- the same, in whole
-over_now : (t : Ticks) (before : ℕ) (records sent : List Record) (c : Dates) → t.marked ≡ false
-    → IsPosted (state_in t before records) t.calendar → sent ≡ drop before records
+over_now : (t : Ticks) (before : ℕ) (records sent : List Record) (items : List Item) (next : ℕ) (c : Dates) → t.marked ≡ false
+    → IsPosted (state_in t before records items next) t.calendar → sent ≡ drop before records
     → PostsAll t.scenario t.calendar c (posted_by sent)
     → StandsFor t.scenario (posted_by_run (reverse (take before records)) ++ posted_by (drop before records)) t.tick c
-over_now t before records sent c unmarked posts e all =
+over_now t before records sent items next c unmarked posts e all =
     let L = posted_by_run (reverse (take before records)) in
     subst (λ (rs : List Record). StandsFor t.scenario (L ++ posted_by rs) t.tick c) e
-    (all L t.tick (posted_started (state_in t before records) t.calendar unmarked posts))
+    (all L t.tick (posted_started (state_in t before records items next) t.calendar unmarked posts))
 
-pub over_whole : (t : Ticks) (before : ℕ) (records sent : List Record) (c : Dates) → t.marked ≡ false
-    → IsPosted (state_in t before records) t.calendar → sent ≡ drop before records
-    → PostsAll t.scenario t.calendar c (posted_by sent) → IsPosted (state_of t.scenario t.tick before records t.items.items t.next true) c
-over_whole t before records sent c unmarked posts e all =
-    posted_whole t.scenario t.tick before records t.items.items t.next c (over_now t before records sent c unmarked posts e all)
+pub over_whole : (t : Ticks) (before : ℕ) (records sent : List Record) (items : List Item) (next : ℕ) (c : Dates) → t.marked ≡ false
+    → IsPosted (state_in t before records items next) t.calendar → sent ≡ drop before records
+    → PostsAll t.scenario t.calendar c (posted_by sent) → IsPosted (state_of t.scenario t.tick before records items next true) c
+over_whole t before records sent items next c unmarked posts e all =
+    posted_whole t.scenario t.tick before records items next c (over_now t before records sent items next c unmarked posts e all)
 
 -- and the next tick began
-pub over_begun : (t : Ticks) (before : ℕ) (records sent : List Record) (c : Dates) (new : Ticks) → t.marked ≡ false
-    → IsPosted (state_in t before records) t.calendar → sent ≡ drop before records
+pub over_begun : (t : Ticks) (before : ℕ) (records sent : List Record) (items : List Item) (next : ℕ) (c : Dates)
+    (new : Ticks) (is : List Item) → t.marked ≡ false
+    → IsPosted (state_in t before records items next) t.calendar → sent ≡ drop before records
     → PostsAll t.scenario t.calendar c (posted_by sent)
-    → ((L : List Posted) → StandsFor t.scenario L t.tick c → HasBegun t.scenario t.tick L new)
-    → HasBegun t.scenario t.tick (posted_by_run (records_of (state_in t before records))) new
-over_begun t before records sent c new unmarked posts e all begins =
-    begins (posted_by_run (records_of (state_in t before records)))
-    (posted_now t.scenario t.tick before records c (over_now t before records sent c unmarked posts e all))
+    → ((L : List Posted) → StandsFor t.scenario L t.tick c → HasBegun t.scenario t.tick L new is)
+    → HasBegun t.scenario t.tick (posted_by_run (records_of (state_in t before records items next))) new is
+over_begun t before records sent items next c new is unmarked posts e all begins =
+    begins (posted_by_run (records_of (state_in t before records items next)))
+    (posted_now t.scenario t.tick before records c (over_now t before records sent items next c unmarked posts e all))
 
 pub posted_next : (f : State) (items : List Item) (c : Dates) → StandsFor f.scenario (posted_by_run (records_of f)) (f.tick + 1) c
     → IsPosted (record (after_tick f) { items = items }) c
@@ -344,18 +337,18 @@ kept_next f k d lt = record {
 }
 
 pub held_next : (s : Scenario) (tick before n room : ℕ) (records : List Record) (items : List Item) (next : ℕ)
-    (marked : Bool) (c : Dates) (new : Ticks) → IsHeld (state_of s tick before records items next marked) before room records c
+    (marked : Bool) (c : Dates) (new : Ticks) (is : List Item) → IsHeld (state_of s tick before records items next marked) before room records c
     → IsDone (state_of s tick before records items next marked) → tick < s.ticks
-    → HasBegun s tick (posted_by_run (records_of (state_of s tick before records items next marked))) new → n ≡ length records
-    → IsHeld (state_in new n records) n room records new.calendar
-held_next s tick before n room records items next marked c new h d lt b long =
+    → HasBegun s tick (posted_by_run (records_of (state_of s tick before records items next marked))) new is → n ≡ length records
+    → IsHeld (state_in new n records is 0) n room records new.calendar
+held_next s tick before n room records items next marked c new is h d lt b long =
     let f = state_of s tick before records items next marked in
     let own = h.has_room d.quiet.unmarked in
     let reserved = own.reserved in
     let few = own.few in
     let closed = d.quiet.closed in
     let here = long_here before records h.within in
-    subst (λ (g : State). IsHeld g n room records new.calendar) (sym (next_in_order s tick before n records items next marked new b long d.quiet.unmarked))
+    subst (λ (g : State). IsHeld g n room records new.calendar) (sym (next_in_order s tick before n records items next marked new is b long d.quiet.unmarked))
     (record {
       kept = kept_next f h.kept d lt;
       within = omega (arith, long);

@@ -12,3 +12,4 @@ pub mod Sharing
 pub mod Taking
 pub mod Batching
 pub mod Pushing
+pub mod Agendas

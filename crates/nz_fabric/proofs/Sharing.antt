@@ -29,10 +29,10 @@ use Rattle.nz_fabric.proofs.Held.{no_records, long_here, state_records, next_is,
 
 pub booked_start : (s : Scenario) (total taken : ℕ) (t : Ticks) (records : List Record) (running : List Batch) (room : ℕ)
     → IsPlayable s → IsNew s t → records ≡ [] → running ≡ [] → total ≡ 0
-    → IsBooked s total (shared_with (state_in t 0 records) running taken) 0 room records t.calendar
+    → IsBooked s total (shared_with (state_in t 0 records [] 0) running taken) 0 room records t.calendar
 booked_start s total taken t records running room play new no_record none nothing =
-    subst (λ (rest : List Batch). IsBooked s total (shared_with (state_in t 0 records) rest taken) 0 room records t.calendar) (sym none)
-    (subst (λ (rs : List Record). IsBooked s total (shared_with (state_in t 0 rs) [] taken) 0 room rs t.calendar) (sym no_record)
+    subst (λ (rest : List Batch). IsBooked s total (shared_with (state_in t 0 records [] 0) rest taken) 0 room records t.calendar) (sym none)
+    (subst (λ (rs : List Record). IsBooked s total (shared_with (state_in t 0 rs [] 0) [] taken) 0 room rs t.calendar) (sym no_record)
     (subst (λ (f : State). IsBooked s total (shared_with f [] taken) 0 room [] t.calendar) (sym new.state)
     (record {
       accounted = record {
@@ -312,13 +312,13 @@ accounted_next s f items k over lt are_due = record {
 
 -- none of the new tick is taken
 pub booked_next : (s : Scenario) (total taken : ℕ) (scenario : Scenario) (tick before n room : ℕ) (records : List Record)
-    (items : List Item) (next : ℕ) (marked : Bool) (running : List Batch) (c : Dates) (new : Ticks)
+    (items : List Item) (next : ℕ) (marked : Bool) (running : List Batch) (c : Dates) (new : Ticks) (is : List Item)
     → IsBooked s total (shared_with (state_of scenario tick before records items next marked) running taken) before room records c
     → IsOver (shared_with (state_of scenario tick before records items next marked) running taken) → tick < scenario.ticks
-    → HasBegunAs IsPermutation scenario tick (posted_by_run (records_of (state_of scenario tick before records items next marked))) new
+    → HasBegunAs IsPermutation scenario tick (posted_by_run (records_of (state_of scenario tick before records items next marked))) new is
     → n ≡ length records
-    → IsBooked s total (shared_with (state_in new n records) running taken) n room records new.calendar
-booked_next s total taken scenario tick before n room records items next marked running c new h over lt b long =
+    → IsBooked s total (shared_with (state_in new n records is 0) running taken) n room records new.calendar
+booked_next s total taken scenario tick before n room records items next marked running c new is h over lt b long =
     let f = shared_with (state_of scenario tick before records items next marked) running taken in
     let recorded = length_permutation items (map item_of f.run.here) (all_recorded s f h.accounted over) in
     let many = length-map f.run.here item_of in
@@ -327,16 +327,16 @@ booked_next s total taken scenario tick before n room records items next marked 
     let reserved = h.reserved in
     let few = h.few in
     subst (λ (g : State). IsBooked s total (shared_with g running taken) n room records new.calendar)
-    (sym (next_is IsPermutation scenario tick before n records items next marked new b long over.unmarked))
+    (sym (next_is IsPermutation scenario tick before n records items next marked new is b long over.unmarked))
     (record {
       accounted =
           subst (λ (rest : List Batch). IsAccounted s
-          (shared_with (record (after_tick f.run) { items = new.items.items }) rest taken)) (sym over.none)
-          (accounted_next s f new.items.items h.accounted over lt b.items);
+          (shared_with (record (after_tick f.run) { items = is }) rest taken)) (sym over.none)
+          (accounted_next s f is h.accounted over lt b.are_due);
       within = omega (arith, long);
       few = omega (arith, long, here, many, recorded, all, few);
       reserved = omega (arith, long, here, many, recorded, all, reserved);
-      is_posted = posted_next f.run new.items.items new.calendar b.stands;
+      is_posted = posted_next f.run is new.calendar b.stands;
       booked = h.booked;
     })
 

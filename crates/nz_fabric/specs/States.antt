@@ -138,24 +138,23 @@ pub record IsHeld (f : State) (before room : ℕ) (records : List Record) (c : D
   pub has_room : f.marked ≡ false → HasRoom f before room
   pub is_posted : IsPosted f c
 
--- The state of a network whose finished ticks and records of the tick are these.
-abbrev pub state_in : Ticks → ℕ → List Record → State
-state_in t before records = state_of t.scenario t.tick before records t.items.items t.next t.marked
+-- The state of a network with these records, so many of them of finished ticks, and these items, so many of them taken.
+abbrev pub state_in : Ticks → ℕ → List Record → List Item → ℕ → State
+state_in t before records items next = state_of t.scenario t.tick before records items next t.marked
 
 -- A run that has not begun.
 pub record IsNew (s : Scenario) (t : Ticks) : Type 0 where
-  pub state : state_in t 0 [] ≡ start_state s
+  pub state : state_in t 0 [] [] 0 ≡ start_state s
   pub stands : StandsFor s [] 0 t.calendar
 
--- The next tick began, after what was posted, and what is due in it has become its items in this way.
-pub record HasBegunAs (AreDue : List Item → List Item → Type 0) (s : Scenario) (last : ℕ) (L : List Posted) (new : Ticks) : Type 0 where
+-- The next tick began, after what was posted, and what is due in it has become these items in this way.
+pub record HasBegunAs (AreDue : List Item → List Item → Type 0) (s : Scenario) (last : ℕ) (L : List Posted) (new : Ticks) (items : List Item) : Type 0 where
   pub scenario : new.scenario ≡ s
   pub tick : new.tick ≡ last + 1
-  pub items : AreDue (calls (last + 1) 0 s.faults ++ (map (tick_item s (last + 1)) (actors_of s) ++ arrivals s (last + 1) [] L)) new.items.items
-  pub next : new.next ≡ 0
+  pub are_due : AreDue (calls (last + 1) 0 s.faults ++ (map (tick_item s (last + 1)) (actors_of s) ++ arrivals s (last + 1) [] L)) items
   pub unmarked : new.marked ≡ false
   pub stands : StandsFor s L (last + 1) new.calendar
 
 -- Its items are in the order of the schedule.
-abbrev pub HasBegun : Scenario → ℕ → List Posted → Ticks → Type 0
-HasBegun s last L new = HasBegunAs AreInOrder s last L new
+abbrev pub HasBegun : Scenario → ℕ → List Posted → Ticks → List Item → Type 0
+HasBegun s last L new items = HasBegunAs AreInOrder s last L new items

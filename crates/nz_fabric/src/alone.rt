@@ -5,6 +5,7 @@ ghost use Rattle.nz_machine.specs.Journals.{run_in};
 ghost use Rattle.nz_machine.specs.Schedule.{InOrder, IsPlayable};
 ghost use Rattle.nz_fabric.specs.States.{IsDone, IsKeptRun, IsNextTurn, IsOpen, after_tick, records_of, start_state, with_mark, with_recorded, with_taken};
 
+use crate::agenda::Agenda;
 use crate::due::clocks_of;
 use crate::posting::post_all;
 use crate::ticks::Ticks;
@@ -18,6 +19,7 @@ use std::marker::Model;
 #[derive(Drop)]
 pub struct Alone {
     ticks: Ticks,
+    agenda: Agenda,
     records: Vec<Record>,
     /// How many records there were before this tick.
     before: usize,
@@ -29,9 +31,10 @@ impl Model for Alone {
 
     ghost Value = { State };
 
-    ghost view = { λ f. state_in f.ticks f.before f.records.items };
+    ghost view = { λ f. state_in f.ticks f.before f.records.items f.agenda.items f.agenda.next };
 
-    ghost invariant = { λ f. IsHeld (state_in f.ticks f.before f.records.items) f.before (vec_capacity f.records) f.records.items f.ticks.calendar };
+    ghost invariant = { λ f. IsHeld (state_in f.ticks f.before f.records.items f.agenda.items f.agenda.next)
+        f.before (vec_capacity f.records) f.records.items f.ticks.calendar };
 }
 
 impl Alone {
@@ -45,6 +48,7 @@ impl Alone {
         records.reserve(clocks_of(&scenario))?;
         Ok(Alone {
             ticks: Ticks::new(alloc, scenario)?,
+            agenda: Agenda::new(Vec::new(alloc)),
             records,
             before: 0,
         })
@@ -67,15 +71,14 @@ impl Alone {
             (λ turn. (self.new ≡ with_taken self.old) × (self.old.marked ≡ false) × IsNextTurn self.old turn))
             (λ _. self.new ≡ self.old) }
     {
-        if self.ticks.marked || self.ticks.next == self.ticks.items.len() {
+        if self.ticks.marked || self.agenda.is_done() {
             return Ok(None);
         }
         if self.records.len() >= u32::MAX as usize {
             return Err(NoMemory);
         }
-        let Item { actor, event } = self.ticks.next_item()?;
         self.records.reserve(1)?;
-        self.ticks.next += 1;
+        let Item { actor, event } = self.agenda.take();
         Ok(Some(Turn {
             number: self.records.len() as u64 + 1,
             tick: self.ticks.tick,
@@ -128,7 +131,8 @@ impl Alone {
         self.ticks.marked = true;
         let sent = &self.records[self.before..];
         post_all(&mut self.ticks.calendar, &self.ticks.scenario, sent)?;
-        self.ticks.begin()?;
+        let items = self.ticks.begin()?;
+        self.agenda = Agenda::new(items);
         self.before = self.records.len();
         Ok(true)
     }

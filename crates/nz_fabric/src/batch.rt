@@ -1,6 +1,6 @@
 //! A batch: what is due to one actor in a tick, taken by a worker as a whole.
 
-ghost use Rattle.std.specs.Prelude.{◌≡◌, map, IfOk};
+ghost use Rattle.std.specs.Prelude.{◌≡◌, ◌<◌, length, map, IfOk};
 ghost use Rattle.nz_machine.specs.Schedule.{item};
 ghost use Rattle.nz_fabric.specs.Shared.{run_of};
 
@@ -31,7 +31,7 @@ impl Batch {
 }
 
 /// The events of the first items, as long as they are of this actor.
-pub fn events_for(alloc: Global, actor: Actor, items: &[Item]) -> Result<List<Event>, NoMemory>
+fn events_for(alloc: Global, actor: Actor, items: &[Item]) -> Result<List<Event>, NoMemory>
     ensures { IfOk result (λ events. map (item actor) events ≡ run_of actor items.now) }
 {
     let mut events = List::new(alloc);
@@ -42,4 +42,14 @@ pub fn events_for(alloc: Global, actor: Actor, items: &[Item]) -> Result<List<Ev
         events.push(item.event.copy(alloc)?)?;
     }
     Ok(events)
+}
+
+/// The first items that are all of one actor, copied as that actor's events.
+pub fn first_events(alloc: Global, items: &[Item]) -> Result<(Actor, List<Event>), NoMemory>
+    requires { 0 < length items.now }
+    ensures some { IfOk result (λ r. 0 < length r.1) }
+    ensures run { IfOk result (λ r. map (item r.0) r.1 ≡ run_of r.0 items.now) }
+{
+    let actor = items[0].actor;
+    Ok((actor, events_for(alloc, actor, items)?))
 }

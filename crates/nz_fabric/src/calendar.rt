@@ -9,11 +9,12 @@ ghost use Rattle.nz_fabric.specs.Calendars.{StandsFor, IsCounted, no_dates, item
 ghost use Rattle.nz_fabric.specs.Posting.{arrival_of, items_arriving, arrivals_by, arrivals_up_to, days_of, HasNumber, HasRoomFor, HasRooms};
 ghost use Rattle.nz_fabric.specs.Posting.{AreKept, ArePlaced, AreShort};
 
+use crate::agenda::no_item;
 use crate::course::{Course, Traffic, count_first, course_of};
 use crate::deliveries::Delivery;
 use crate::faults::deliveries_of;
 use indexmap::IndexMap;
-use nz_base::{Actor, List, NoMemory, Scenario, TryCopy};
+use nz_base::{List, NoMemory, Scenario, TryCopy};
 use nz_machine::{Event, Item, ItemList, Parcel, kind_of};
 use smallvec::SmallVec;
 use std::alloc::Global;
@@ -31,10 +32,7 @@ impl Default for Arrival {
     fn default() -> Arrival {
         Arrival {
             tick: 0,
-            item: Item {
-                actor: Actor::Replica(0),
-                event: Event::Alarm,
-            },
+            item: no_item(),
         }
     }
 }

@@ -13,9 +13,10 @@ ghost use Rattle.nz_fabric.specs.Shared.{IsAccounted, IsGivenUp, IsNextOf, IsNex
 ghost use Rattle.nz_fabric.specs.Shared.{start_shared, with_given_up, with_opened, with_record};
 ghost use Rattle.nz_base.specs.declared.limits.TheConstants.{MAX_WORKERS};
 
-use crate::batch::Batch;
+use crate::batch::{Batch, first_events};
 use crate::chronicle::Opened;
 use crate::due::clocks_of;
+use crate::grouping::group;
 use crate::lane::Lane;
 use crate::name::Name;
 use crate::open_batches::{OpenBatches, Taken};
@@ -24,7 +25,7 @@ use crate::records::Records;
 use crate::share::Share;
 use crate::ticks::Ticks;
 use nz_base::{Actor, List, NoMemory, Scenario};
-use nz_machine::{Event, Journal, Sends};
+use nz_machine::{Event, Item, Journal, Sends};
 use std::alloc::Global;
 use std::marker::Model;
 use std::sync::ledger::{Blank, Book};
@@ -34,6 +35,10 @@ use std::sync::ledger::{Blank, Book};
 #[derive(Drop)]
 pub struct FabricState<N: Name> {
     ticks: Ticks,
+    /// What is due in the tick.
+    items: Vec<Item>,
+    /// How many of the items were taken.
+    next: usize,
     records: Records<N>,
     /// How many records there were before this tick.
     before: usize,
@@ -49,10 +54,10 @@ impl<N: Name> Model for FabricState<N> {
 
     ghost Value = { Shared };
 
-    ghost view = { λ f. shared_with (state_in f.ticks f.before f.records.records) f.batches.running f.batches.taken };
+    ghost view = { λ f. shared_with (state_in f.ticks f.before f.records.records f.items.items f.next) f.batches.running f.batches.taken };
 
     ghost invariant = { λ f. (N.parts ≡ MAX_WORKERS) × IsBooked N.scenario f.book.total
-        (shared_with (state_in f.ticks f.before f.records.records) f.batches.running f.batches.taken)
+        (shared_with (state_in f.ticks f.before f.records.records f.items.items f.next) f.batches.running f.batches.taken)
         f.before f.records.room f.records.records f.ticks.calendar };
 }
 
@@ -87,6 +92,8 @@ impl<N: Name> FabricState<N> {
         let (book, held) = blank.open::<N>();
         let state = FabricState {
             ticks: Ticks::new(alloc, scenario)?,
+            items: Vec::new(alloc),
+            next: 0,
             records,
             before: 0,
             batches: OpenBatches::new(alloc, takes),
@@ -112,15 +119,14 @@ impl<N: Name> FabricState<N> {
             (λ batch. (self.new ≡ with_opened batch self.old) × (share.new ≡ record share.old { amount = share.old.amount + 1 }) × IsNextOf self.old batch))
             (λ _. (self.new ≡ self.old) × (share.new ≡ share.old)) }
     {
-        if self.ticks.marked || self.ticks.next == self.ticks.items.len() {
+        if self.ticks.marked || self.next == self.items.len() {
             return Ok(None);
         }
-        let (actor, events) = self.ticks.next_events()?;
+        let (actor, events) = first_events(self.ticks.alloc, &self.items[self.next..])?;
         let count = events.len() as usize;
-        self.records
-            .reserve_to(self.before + self.ticks.next + count)?;
+        self.records.reserve_to(self.before + self.next + count)?;
         let batch = self.batches.take(actor, events)?;
-        self.ticks.next += count;
+        self.next += count;
         self.book.add(&mut share.held, 1);
         Ok(Some(batch))
     }
@@ -188,31 +194,28 @@ impl<N: Name> FabricState<N> {
     pub fn is_over(&self) -> bool
         ensures { IsTrue result ↔ IsOver self.now }
     {
-        !self.ticks.marked && self.batches.is_empty() && self.ticks.next == self.ticks.items.len()
+        !self.ticks.marked && self.batches.is_empty() && self.next == self.items.len()
     }
 
     /// How many items are due in the tick.
     pub fn due(&self) -> usize
         ensures { result ≡ length self.now.run.items }
     {
-        self.ticks.items.len()
+        self.items.len()
     }
 
     /// Whether some item of the tick brings this many bytes or more.
     pub fn brings(&self, bytes: usize) -> bool
         ensures { result ≡ list_any (λ i. nat_le bytes (shared.bytes_of i.event)) self.now.run.items }
     {
-        self.ticks
-            .items
-            .iter()
-            .any(|item| bytes <= bytes_of(&item.event))
+        self.items.iter().any(|item| bytes <= bytes_of(&item.event))
     }
 
     /// Whether there is nothing to take before an open batch is done.
     pub fn must_wait(&self) -> bool
         ensures { IsTrue result ↔ MustWait self.now }
     {
-        !self.ticks.marked && !self.batches.is_empty() && self.ticks.next == self.ticks.items.len()
+        !self.ticks.marked && !self.batches.is_empty() && self.next == self.items.len()
     }
 
     /// Nothing changes. The amount of the whole share is the number of open batches.
@@ -244,8 +247,10 @@ impl<N: Name> FabricState<N> {
             ..
         } = &mut self.ticks;
         post_all(calendar, scenario, self.records.since(self.before))?;
-        self.ticks.begin()?;
-        self.ticks.group();
+        let mut items = self.ticks.begin()?;
+        group(&mut items);
+        self.items = items;
+        self.next = 0;
         self.before = self.records.len();
         Ok(true)
     }

@@ -2,6 +2,7 @@
 //! the schedule.
 #![tactic(auto)]
 
+mod agenda;
 mod alone;
 mod batch;
 mod calendar;

@@ -11,5 +11,5 @@ invariant_of-self c =
     let t = f.ticks in
     rw (c.push_reserved.ensures.items, c.push_reserved.ensures.capacity)
     (held_record t.scenario t.tick f.before
-    (vec_capacity f.records) f.records.items t.items.items t.next t.marked t.calendar c.args.turn c.args.sends c.self.invariant
+    (vec_capacity f.records) f.records.items f.agenda.items f.agenda.next t.marked t.calendar c.args.turn c.args.sends c.self.invariant
     (subst (λ (s : State). IsOpen s c.args.turn) (sym c.self.view_is) c.requires))

@@ -16,7 +16,7 @@ from_vec-requires g c =
     let f = c.self.inside in
     let t = f.ticks in
     let few = booked_few _ f.book.total f.batches.taken t.scenario t.tick f.before f.records.room f.records.records
-    t.items.items t.next t.marked t.calendar f.batches.running c.self.invariant.1 in
+    f.items.items f.next t.marked t.calendar f.batches.running c.self.invariant.1 in
     omega (arith, few, ap (λ (rs : List Record). length rs) c.into_records.ensures.records)
 
 pub returns-clause-records : goal.returns-clause-records
@@ -28,7 +28,7 @@ returns-clause-records g c =
 pub returns-clause-scheduled : goal.returns-clause-scheduled
 returns-clause-scheduled g c =
     let i = c.self.inside in
-    let f = state_in i.ticks i.before i.records.records in
+    let f = state_in i.ticks i.before i.records.records i.items.items i.next in
     let k = c.self.invariant.1.accounted in
     let J = records_of f in
     let order : ScheduledTo f.scenario f.tick J =

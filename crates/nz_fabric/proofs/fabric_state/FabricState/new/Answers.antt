@@ -1,6 +1,7 @@
 -- What the function of this folder owes, proved.
-use Rattle.std.proofs.Common.{ap, subst, arith}
+use Rattle.std.proofs.Common.{[], List, ap, arith, subst, sym}
 use Rattle.nz_base.specs.declared.scenario.Scenario.{Scenario}
+use Rattle.nz_machine.specs.declared.journal.Item.{Item}
 use Rattle.nz_fabric.specs.Shared.{IsBooked, shared_with}
 use Rattle.nz_fabric.specs.States.{state_in}
 use Rattle.nz_fabric.specs.Takes.{Batches}
@@ -11,11 +12,13 @@ pub invariant_of-state : goal.invariant_of-state
 invariant_of-state g c =
     let t = c.in_ok-new.field-0 in
     let records = c.in_ok-records.records in
-    let batches = c.new-3.result in
+    let batches = c.new-4.result in
     let total = c.open-book.result.0.total in (
       omega (arith, c.requires.name),
-      subst (λ (s : Scenario). IsBooked s total (shared_with (state_in t 0 records.records) batches.running batches.taken) 0
+      subst (λ (is : List Item). IsBooked g.N.Name.scenario total (shared_with (state_in t 0 records.records is 0) batches.running batches.taken) 0
+          records.room records.records t.calendar) (sym c.new-3.ensures.items)
+          (subst (λ (s : Scenario). IsBooked s total (shared_with (state_in t 0 records.records [] 0) batches.running batches.taken) 0
           records.room records.records t.calendar) c.requires.scenario
           (booked_start c.args.scenario total batches.taken t records.records batches.running records.room c.requires.playable c.in_ok-new.ensures
-          c.in_ok-records.ensures (ap (λ (t : Batches). t.running) c.new-3.ensures) c.open-book.ensures.total),
+          c.in_ok-records.ensures (ap (λ (t : Batches). t.running) c.new-4.ensures) c.open-book.ensures.total)),
     )

@@ -18,27 +18,28 @@ invariant_of-self g c =
     let inv = c.self.invariant.1 in
     let unmarked : t.marked ≡ false = ap (λ (f : Shared). f.run.marked) c.self.view_is ∙ c.requires.unmarked in
     let now = c.post_all.new.calendar in
-    let posted = over_some t f.before rs _ now unmarked inv.is_posted c.since.ensures c.in_err-post_all.ensures.err in (
+    let posted = over_some t f.before rs _ f.items.items f.next now unmarked inv.is_posted c.since.ensures c.in_err-post_all.ensures.err in (
       c.self.invariant.0,
-      booked_marked _ f.book.total f.batches.taken t.scenario t.tick f.before f.records.room rs t.items.items t.next
+      booked_marked _ f.book.total f.batches.taken t.scenario t.tick f.before f.records.room rs f.items.items f.next
           t.marked f.batches.running t.calendar now inv posted,
     )
 
-pub invariant_of-self-in_err-begin : goal.invariant_of-self-in_err-begin
-invariant_of-self-in_err-begin g c =
+pub invariant_of-self-in_err-items : goal.invariant_of-self-in_err-items
+invariant_of-self-in_err-items g c =
     let f = c.self.inside in
     let t = f.ticks in
     let rs = f.records.records in
     let inv = c.self.invariant.1 in
     let unmarked : t.marked ≡ false = ap (λ (f : Shared). f.run.marked) c.self.view_is ∙ c.requires.unmarked in
     let now = c.post_all.new.calendar in
-    let posted = over_whole t f.before rs _ now unmarked inv.is_posted c.since.ensures c.in_ok-post_all.ensures.ok in
+    let posted = over_whole t f.before rs _ f.items.items f.next now unmarked inv.is_posted c.since.ensures c.in_ok-post_all.ensures.ok in
     let booked =
-    booked_marked _ f.book.total f.batches.taken t.scenario t.tick f.before f.records.room rs t.items.items t.next t.marked
+    booked_marked _ f.book.total f.batches.taken t.scenario t.tick f.before f.records.room rs f.items.items f.next t.marked
     f.batches.running t.calendar now inv posted in (
       c.self.invariant.0,
       subst (λ (t : Ticks). IsBooked g.N.Name.scenario f.book.total
-          (shared_with (state_in t f.before rs) f.batches.running f.batches.taken) f.before f.records.room rs t.calendar) (sym c.in_err-begin.ensures.err) booked,
+          (shared_with (state_in t f.before rs f.items.items f.next) f.batches.running f.batches.taken)
+          f.before f.records.room rs t.calendar) (sym c.in_err-items.ensures.err) booked,
     )
 
 pub invariant_of-self-2 : goal.invariant_of-self-2
@@ -47,17 +48,18 @@ invariant_of-self-2 g c =
     let t = f.ticks in
     let rs = f.records.records in
     let inv = c.self.invariant.1 in
+    let is = c.group.new.items.items in
     let unmarked : t.marked ≡ false = ap (λ (f : Shared). f.run.marked) c.self.view_is ∙ c.requires.unmarked in
     let begun =
-    begun_grouped t.scenario t.tick (posted_by_run (records_of (state_in t f.before rs))) c.begin.new.self c.group.new.self
-    (over_begun t f.before rs _ c.post_all.new.calendar c.begin.new.self unmarked inv.is_posted c.since.ensures
-    c.in_ok-post_all.ensures.ok c.in_ok-begin.ensures.ok) c.group.ensures.same c.group.ensures.items in
+    begun_grouped t.scenario t.tick (posted_by_run (records_of (state_in t f.before rs f.items.items f.next))) c.begin.new.self c.in_ok-items.items.items is
+    (over_begun t f.before rs _ f.items.items f.next c.post_all.new.calendar c.begin.new.self c.in_ok-items.items.items unmarked inv.is_posted c.since.ensures
+    c.in_ok-post_all.ensures.ok c.in_ok-items.ensures.ok) c.group.ensures in
     let long : c.len-self-inside.result ≡ length rs = omega (arith, c.len-self-inside.ensures) in
     let lt : t.tick < t.scenario.ticks = (let k = inv.accounted.in_run in let ne = c.if-self.false in omega (arith, k, ne)) in
     let over = subst IsOver (sym c.self.view_is) c.requires in (
       c.self.invariant.0,
       booked_next _ f.book.total f.batches.taken t.scenario t.tick f.before c.len-self-inside.result f.records.room rs
-          t.items.items t.next t.marked f.batches.running t.calendar c.group.new.self inv over lt begun long,
+          f.items.items f.next t.marked f.batches.running t.calendar c.begin.new.self is inv over lt begun long,
     )
 
 pub returns : goal.returns
@@ -66,23 +68,23 @@ returns g c =
     let t = f.ticks in
     let rs = f.records.records in
     let inv = c.self.invariant.1 in
-    let new = c.group.new.self in
+    let is = c.group.new.items.items in
     let unmarked : t.marked ≡ false = ap (λ (f : Shared). f.run.marked) c.self.view_is ∙ c.requires.unmarked in
     let begun =
-    begun_grouped t.scenario t.tick (posted_by_run (records_of (state_in t f.before rs))) c.begin.new.self new
-    (over_begun t f.before rs _ c.post_all.new.calendar c.begin.new.self unmarked inv.is_posted c.since.ensures
-    c.in_ok-post_all.ensures.ok c.in_ok-begin.ensures.ok) c.group.ensures.same c.group.ensures.items in
+    begun_grouped t.scenario t.tick (posted_by_run (records_of (state_in t f.before rs f.items.items f.next))) c.begin.new.self c.in_ok-items.items.items is
+    (over_begun t f.before rs _ f.items.items f.next c.post_all.new.calendar c.begin.new.self c.in_ok-items.items.items unmarked inv.is_posted c.since.ensures
+    c.in_ok-post_all.ensures.ok c.in_ok-items.ensures.ok) c.group.ensures in
     let long : c.len-self-inside.result ≡ length rs = omega (arith, c.len-self-inside.ensures) in
     let lt : t.tick < t.scenario.ticks = (let k = inv.accounted.in_run in let ne = c.if-self.false in omega (arith, k, ne)) in
     let over = subst IsOver (sym c.self.view_is) c.requires in (
       record {
         begun =
             ap (λ (run : State). shared_with run f.batches.running f.batches.taken)
-            (next_is IsPermutation t.scenario t.tick f.before c.len-self-inside.result rs t.items.items t.next t.marked new begun long unmarked)
+            (next_is IsPermutation t.scenario t.tick f.before c.len-self-inside.result rs f.items.items f.next t.marked c.begin.new.self is begun long unmarked)
             ∙ ap (λ (running : List Batch). shared_with
-            (record (after_tick (state_in t f.before rs)) { items = new.items.items }) running f.batches.taken) over.none
-            ∙ ap (after_shared new.items.items) c.self.view_is;
-        items = subst (λ (f : Shared). IsPermutation (after_tick f.run).items new.items.items) c.self.view_is begun.items;
+            (record (after_tick (state_in t f.before rs f.items.items f.next)) { items = is }) running f.batches.taken) over.none
+            ∙ ap (after_shared is) c.self.view_is;
+        items = subst (λ (f : Shared). IsPermutation (after_tick f.run).items is) c.self.view_is begun.are_due;
       },
       subst (λ (f : Shared). f.run.tick < f.run.scenario.ticks) c.self.view_is lt,
     )

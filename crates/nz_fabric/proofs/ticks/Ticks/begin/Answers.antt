@@ -15,12 +15,11 @@ returns-clause-ok c = λ L h.
     record {
       scenario = refl;
       tick = refl;
-      items =
+      are_due =
           c.append.ensures
           ∙ ap (λ (is : List Item). is ++ c.take.result) c.in_ok-items.ensures.items
           ∙ ap (λ (is : List Item). (first ++ clocks) ++ is) due
           ∙ append_assoc first clocks (arrivals s next [] L);
-      next = refl;
       unmarked = refl;
       stands = c.take.ensures.stands s L t.tick h (omega arith);
     }
