@@ -113,6 +113,19 @@ fn run_named<N: Name + Send + Sync, R: Threads + Wait + Sync, G: Gate + Sync>(
     Ok(Some(state.into_journal()?))
 }
 
+/// As many of the workers as can have something to do: one worker does an actor's items of a tick.
+fn useful(workers: u8, scenario: &Scenario) -> u8
+    requires { (0 < workers) × (workers ≤ MAX_WORKERS) }
+    ensures { (0 < result) × (result ≤ MAX_WORKERS) }
+{
+    let actors = scenario
+        .cluster
+        .n()
+        .saturating_add(scenario.proxies)
+        .saturating_add(scenario.clients);
+    workers.min(actors.max(1))
+}
+
 /// The journal of a run by this many workers, whichever does what. It may be done anew on one thread, and is with one
 /// worker. May wait.
 pub fn run<R: Threads + Wait + Sync, G: Gate + Sync>(
@@ -139,7 +152,7 @@ pub fn run<R: Threads + Wait + Sync, G: Gate + Sync>(
         Blank::new(MAX_WORKERS as u64),
         opened,
         scenario,
-        workers,
+        useful(workers, scenario),
         gate,
     )? {
         Some(journal) => Ok(journal),
