@@ -1,52 +1,57 @@
--- Entries whose keys rise, and the numbers of each client with them: no id comes twice.
-use Rattle.std.proofs.Common.{◌≡◌, ℕ, ◌<◌, ◌≤◌, nat_lt, true, false, ◌&&◌, List, [], ◌∷◌, ◌++◌, length, refl, sym, ap, subst, ◌∙◌, inl, inr, arith, ltb-true, get_or-set_same, get_or-set_other}
-use Rattle.std.specs.Prelude.{slice_index, slice_set, Ok}
+-- Keys that rise, and the numbers of each client with them: no id comes twice.
+use Rattle.std.proofs.Common.{◌≡◌, ℕ, suc, ◌-◌, ◌<◌, ◌≤◌, nat_lt, true, false, ◌&&◌, List, [], ◌∷◌, ◌++◌, length, refl, sym, subst, ◌∙◌, inl, inr, arith, ltb-true, get_or-set_same, get_or-set_other}
+use Rattle.std.specs.Prelude.{slice_index, slice_set, slice_get, Option, Ok}
+use Rattle.std.specs.Option.{option_map}
 use Rattle.std.proofs.lemmas.Bool.{cases_Bool, cases_eq, and_parts}
 use Rattle.nz_base.specs.declared.key.Id.{Id}
 use Rattle.nz_base.specs.declared.key.Key.{Key}
 use Rattle.nz_base.specs.declared.key.Entry.{Entry}
-use Rattle.nz_base.specs.Key.{id_eq, id_of}
-use Rattle.nz_base.specs.Log.{keys_of, has_id, AreRising, is_above_last}
+use Rattle.nz_base.specs.Key.{key_below, id_eq, id_of}
+use Rattle.nz_base.specs.Log.{keys_of, has_id, is_above_last}
 use Rattle.nz_base.proofs.Booleans.{true_and_false}
 use Rattle.nz_base.proofs.Names.{same_id}
 use Rattle.nz_base.proofs.Logs.{has_id-append, keys_append, rising_more}
 use Rattle.nz_msg.specs.declared.fault.Fault.{Fault}
 use Rattle.nz_msg.specs.declared.fault.Fault.TheVariants as faults
+use Rattle.nz_msg.specs.declared.in_turn.Turns.{Turns}
 use Rattle.nz_msg.specs.Codec.{limited_at}
-use Rattle.nz_msg.specs.Fields.{may_follow, key, command, next_entry}
-use Rattle.nz_msg.specs.Reading.{Fails, comes_in_turn, AreInTurn}
-use Rattle.nz_msg.proofs.Follows.{follows_last}
+use Rattle.nz_msg.specs.Fields.{may_follow, key, command, next_key_by, next_entry}
+use Rattle.nz_msg.specs.Reading.{Fails}
+use Rattle.nz_msg.specs.Turns.{is_above, comes_in_turn, after_turn, AreInTurn}
+use Rattle.nz_msg.proofs.Follows.{follows_last, by_keys}
 
 -- the parts of the test
-pub record Turn (before : List Entry) (numbers : List ℕ) (k : Key) : Type 0 where
-  pub placed : k.client < length numbers
-  pub greater : slice_index numbers k.client < k.num
-  pub above : is_above_last (keys_of before) k ≡ true
+record Turn (before : List Key) (turns : Turns) (k : Key) : Type 0 where
+  pub placed : k.client < length turns.numbers
+  pub greater : slice_index turns.numbers k.client < k.num
+  pub above : is_above_last before k ≡ true
 
-turn_of : (before : List Entry) (numbers : List ℕ) (k : Key) → comes_in_turn before numbers k ≡ true → Turn before numbers k
-turn_of before numbers k h =
-    let all = and_parts (nat_lt k.client (length numbers)) (nat_lt (slice_index numbers k.client) k.num && is_above_last (keys_of before) k) h in
-    let rest = and_parts (nat_lt (slice_index numbers k.client) k.num) (is_above_last (keys_of before) k) all.1 in
+turn_of : (before : List Key) (turns : Turns) (k : Key) → AreInTurn before turns → comes_in_turn turns k ≡ true → Turn before turns k
+turn_of before turns k held h =
+    let all = and_parts (nat_lt k.client (length turns.numbers)) (nat_lt (slice_index turns.numbers k.client) k.num && is_above turns.last k) h in
+    let rest = and_parts (nat_lt (slice_index turns.numbers k.client) k.num) (is_above turns.last k) all.1 in
     record {
-      placed = ltb-true k.client (length numbers) all.0;
-      greater = ltb-true (slice_index numbers k.client) k.num rest.0;
-      above = rest.1;
+      placed = ltb-true k.client (length turns.numbers) all.0;
+      greater = ltb-true (slice_index turns.numbers k.client) k.num rest.0;
+      above = sym (held.up_to_last k) ∙ rest.1;
     }
 
-fresh_id : (before : List Entry) (numbers : List ℕ) (k : Key) → AreInTurn before numbers → slice_index numbers k.client < k.num
-    → has_id (keys_of before) (id_of k) ≡ false
-fresh_id before numbers k held greater =
-    elim (cases_Bool (has_id (keys_of before) (id_of k))) [
-      | inl there ↦ let most : k.num ≤ slice_index numbers k.client = held.numbered (id_of k) there in absurd (omega arith)
+fresh_id : (before : List Key) (turns : Turns) (k : Key) → AreInTurn before turns → slice_index turns.numbers k.client < k.num
+    → has_id before (id_of k) ≡ false
+fresh_id before turns k held greater =
+    elim (cases_Bool (has_id before (id_of k))) [
+      | inl there ↦ let most : k.num ≤ slice_index turns.numbers k.client = held.numbered (id_of k) there in absurd (omega arith)
       | inr fresh ↦ fresh
     ]
 
 -- what comes in turn may follow
-pub turn_follows : (before : List Entry) (numbers : List ℕ) (k : Key) → AreInTurn before numbers
-    → comes_in_turn before numbers k ≡ true → may_follow (λ (e : Entry). e.key) before k ≡ true
-turn_follows before numbers k held h =
-    let turn = turn_of before numbers k h in
-    follows_last before k held.rising ∙ (rw (turn.above, fresh_id before numbers k held turn.greater) refl)
+pub turn_follows : (before : List Key) (turns : Turns) (k : Key) → AreInTurn before turns
+    → comes_in_turn turns k ≡ true → may_follow (λ (x : Key). x) before k ≡ true
+turn_follows before turns k held h =
+    let turn = turn_of before turns k held h in
+    follows_last before k held.rising ∙ (rw (turn.above, fresh_id before turns k held turn.greater) refl)
+
+-- ---- one more key
 
 -- a number that is raised bounds no less
 raised : (numbers : List ℕ) (client num j n : ℕ) → client < length numbers → slice_index numbers client < num
@@ -57,55 +62,89 @@ raised numbers client num j n placed greater le =
       | inr other ↦ rw get_or-set_other le
     ]
 
-earlier_id : (before : List Entry) (e : Entry) (i : Id) → id_eq i (id_of e.key) ≡ false
-    → has_id (keys_of (before ++ e ∷ [])) i ≡ true → has_id (keys_of before) i ≡ true
-earlier_id before e i other h =
-    elim (cases_Bool (has_id (keys_of before) i)) [
+earlier_id : (before : List Key) (k : Key) (i : Id) → id_eq i (id_of k) ≡ false
+    → has_id (before ++ k ∷ []) i ≡ true → has_id before i ≡ true
+earlier_id before k i other h =
+    elim (cases_Bool (has_id before i)) [
       | inl there ↦ there
-      | inr away ↦
-          true_and_false (has_id (keys_of (before ++ e ∷ [])) i) h
-          (ap (λ (ks : List Key). has_id ks i) (keys_append before (e ∷ [])) ∙ has_id-append (keys_of before) (e.key ∷ []) i ∙ (rw (away, other) refl))
+      | inr away ↦ true_and_false (has_id (before ++ k ∷ []) i) h (has_id-append before (k ∷ []) i ∙ (rw (away, other) refl))
     ]
 
-numbered_more : (before : List Entry) (numbers : List ℕ) (e : Entry) → AreInTurn before numbers → Turn before numbers e.key → (i : Id)
-    → has_id (keys_of (before ++ e ∷ [])) i ≡ true → i.num ≤ slice_index (slice_set numbers e.key.client e.key.num) i.client
-numbered_more before numbers e held turn i h =
-    elim (cases_Bool (id_eq i (id_of e.key))) [
+numbered_more : (before : List Key) (turns : Turns) (k : Key) → AreInTurn before turns → Turn before turns k → (i : Id)
+    → has_id (before ++ k ∷ []) i ≡ true → i.num ≤ slice_index (slice_set turns.numbers k.client k.num) i.client
+numbered_more before turns k held turn i h =
+    elim (cases_Bool (id_eq i (id_of k))) [
       | inl same ↦
-          subst (λ (j : Id). j.num ≤ slice_index (slice_set numbers e.key.client e.key.num) j.client) (sym (same_id i (id_of e.key) same))
-          (let placed : e.key.client < length numbers = turn.placed in rw get_or-set_same (omega arith))
+          subst (λ (j : Id). j.num ≤ slice_index (slice_set turns.numbers k.client k.num) j.client) (sym (same_id i (id_of k) same))
+          (let placed : k.client < length turns.numbers = turn.placed in rw get_or-set_same (omega arith))
       | inr other ↦
-          raised numbers e.key.client e.key.num i.client i.num turn.placed turn.greater
-          (held.numbered i (earlier_id before e i other h))
+          raised turns.numbers k.client k.num i.client i.num turn.placed turn.greater
+          (held.numbered i (earlier_id before k i other h))
     ]
 
--- one more entry
-pub in_turn_more : (before : List Entry) (numbers : List ℕ) (e : Entry) → AreInTurn before numbers
-    → comes_in_turn before numbers e.key ≡ true → AreInTurn (before ++ e ∷ []) (slice_set numbers e.key.client e.key.num)
-in_turn_more before numbers e held h =
-    let turn = turn_of before numbers e.key h in
+above_appended : (before : List Key) (last k : Key) → key_below last k ≡ is_above_last (before ++ last ∷ []) k
+above_appended [] last k = refl
+above_appended (a ∷ []) last k = refl
+above_appended (a ∷ b ∷ before) last k = above_appended (b ∷ before) last k
+
+pub in_turn_more : (before : List Key) (turns : Turns) (k : Key) → AreInTurn before turns
+    → comes_in_turn turns k ≡ true → AreInTurn (before ++ k ∷ []) (after_turn turns k)
+in_turn_more before turns k held h =
+    let turn = turn_of before turns k held h in
     record {
-      rising = subst AreRising (sym (keys_append before (e ∷ []))) (rising_more (keys_of before) e.key held.rising turn.above);
-      numbered = numbered_more before numbers e held turn;
+      rising = rising_more before k held.rising turn.above;
+      up_to_last = above_appended before k;
+      numbered = numbered_more before turns k held turn;
     }
 
--- ---- one entry, read in two parts
+-- ---- one key
+
+pub next_key_read : {A : Type 0} (key_of : A → Key) (before : List A) (bytes : List ℕ) (k : Key) (rest : List ℕ)
+    → key.get bytes ≡ Ok (k, rest) → may_follow key_of before k ≡ true → (next_key_by key_of before).get bytes ≡ Ok (k, rest)
+unfolding limited_at
+next_key_read key_of before bytes k rest first next = rw (first, next) refl
+
+pub next_key_fails : {A : Type 0} (key_of : A → Key) (before : List A) (bytes : List ℕ) (fault : Fault)
+    → Fails fault (key.get bytes) → Fails fault ((next_key_by key_of before).get bytes)
+unfolding limited_at
+next_key_fails key_of before bytes faults.NoMemory h = tt
+next_key_fails key_of before bytes (faults.Bad left) h = rw h refl
+
+-- ---- entries, by their keys
+
+-- the key of the last entry tells for all of them
+pub above_entries : (before : List Entry) (last : Option Key) (k : Key)
+    → last ≡ option_map (λ (e : Entry). e.key) (slice_get before (length before - 1)) → is_above last k ≡ is_above_last (keys_of before) k
+above_entries [] last k h = rw h refl
+above_entries (e ∷ []) last k h = rw h refl
+above_entries (e ∷ f ∷ before) last k h =
+    let place : length (e ∷ f ∷ before) - 1 ≡ suc (length (f ∷ before) - 1) = omega arith in
+    above_entries (f ∷ before) last k (rw place at h)
+
+pub entry_follows : (before : List Entry) (turns : Turns) (k : Key) → AreInTurn (keys_of before) turns
+    → comes_in_turn turns k ≡ true → may_follow (λ (e : Entry). e.key) before k ≡ true
+entry_follows before turns k held h = by_keys before k ∙ turn_follows (keys_of before) turns k held h
+
+pub entries_more : (before : List Entry) (turns : Turns) (e : Entry) → AreInTurn (keys_of before) turns
+    → comes_in_turn turns e.key ≡ true → AreInTurn (keys_of (before ++ e ∷ [])) (after_turn turns e.key)
+entries_more before turns e held h =
+    subst (λ (keys : List Key). AreInTurn keys (after_turn turns e.key)) (sym (keys_append before (e ∷ [])))
+    (in_turn_more (keys_of before) turns e.key held h)
 
 pub next_read : (before : List Entry) (bytes : List ℕ) (k : Key) (middle c rest : List ℕ) → key.get bytes ≡ Ok (k, middle)
     → may_follow (λ (e : Entry). e.key) before k ≡ true → command.get middle ≡ Ok (c, rest)
     → (next_entry before).get bytes ≡ Ok (record { key = k; command = c }, rest)
-unfolding limited_at
-next_read before bytes k middle c rest first next second = rw (first, next, second) refl
+next_read before bytes k middle c rest first next second =
+    rw (next_key_read (λ (e : Entry). e.key) before bytes k middle first next, second) refl
 
 pub next_without_key : (before : List Entry) (bytes : List ℕ) (fault : Fault) → Fails fault (key.get bytes)
     → Fails fault ((next_entry before).get bytes)
-unfolding limited_at
 next_without_key before bytes faults.NoMemory h = tt
-next_without_key before bytes (faults.Bad left) h = rw h refl
+next_without_key before bytes (faults.Bad left) h = rw (next_key_fails (λ (e : Entry). e.key) before bytes (faults.Bad left) h) refl
 
 pub next_without_command : (before : List Entry) (bytes : List ℕ) (k : Key) (middle : List ℕ) (fault : Fault) → key.get bytes ≡ Ok (k, middle)
     → may_follow (λ (e : Entry). e.key) before k ≡ true → Fails fault (command.get middle)
     → Fails fault ((next_entry before).get bytes)
-unfolding limited_at
 next_without_command before bytes k middle faults.NoMemory first next h = tt
-next_without_command before bytes k middle (faults.Bad left) first next h = rw (first, next, h) refl
+next_without_command before bytes k middle (faults.Bad left) first next h =
+    rw (next_key_read (λ (e : Entry). e.key) before bytes k middle first next, h) refl

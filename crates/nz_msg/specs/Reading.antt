@@ -1,10 +1,9 @@
 -- What a reader of the code gives, against the same on lists.
-use Rattle.std.specs.Prelude.{◌≡◌, ℕ, ◌-◌, ◌≤◌, Bool, nat_lt, ◌&&◌, List, length, map, slice_index, Result, Ok, Err, IsTrue}
+use Rattle.std.specs.Prelude.{◌≡◌, ℕ, ◌-◌, ◌≤◌, List, map, Result, Ok, Err}
 use Rattle.nz_base.specs.declared.key.Id.{Id}
-use Rattle.nz_base.specs.declared.key.Key.{Key}
 use Rattle.nz_base.specs.declared.key.Entry.{Entry}
 use Rattle.nz_base.specs.Key.{id_of}
-use Rattle.nz_base.specs.Log.{keys_of, has_id, AreRising, is_above_last}
+use Rattle.nz_base.specs.Log.{keys_of, AreRising}
 use Rattle.nz_msg.specs.declared.fault.Fault.{Fault}
 use Rattle.nz_msg.specs.declared.fault.Fault.TheVariants as faults
 use Rattle.nz_msg.specs.declared.refusal.DecodeRefusal.{DecodeRefusal}
@@ -34,13 +33,3 @@ refusal_at size (faults.Bad left) = refusals.BadBody (size - left)
 pub record AreNoted (entries : List Entry) (ids : List Id) : Type 0 where
   pub rising : AreRising (keys_of entries)
   pub ids_are : ids ≡ map (λ e. id_of e.key) entries
-
--- The key is above the last one, and its number above the last one of its client, which has a place among the numbers.
-abbrev pub comes_in_turn : List Entry → List ℕ → Key → Bool
-comes_in_turn before numbers key =
-    nat_lt key.client (length numbers) && (nat_lt (slice_index numbers key.client) key.num && is_above_last (keys_of before) key)
-
--- The keys rise, and no entry has a number above the last one of its client.
-pub record AreInTurn (entries : List Entry) (numbers : List ℕ) : Type 0 where
-  pub rising : AreRising (keys_of entries)
-  pub numbered : (i : Id) → IsTrue (has_id (keys_of entries) i) → i.num ≤ slice_index numbers i.client

@@ -5,6 +5,7 @@ mod bodies;
 mod coding;
 mod envelope;
 mod fault;
+mod in_turn;
 mod laws;
 mod lists;
 mod message;

@@ -3,19 +3,18 @@
 ghost use Rattle.std.specs.Prelude.{◌≡◌, ◌<◌, ◌≤◌, ◌/◌, [], ◌&&◌, not, take, length, min, IfOk, IfErr, IfSome, Ok, IsTrue};
 ghost use Rattle.std.specs.List.{list_all};
 ghost use Rattle.nz_base.specs.Key.{key_below, id_of, id_eq};
-ghost use Rattle.nz_base.specs.Log as log;
 ghost use Rattle.nz_cv.specs.Vectors.{IsClusterSize};
 ghost use Rattle.nz_msg.specs.Codec.{items_at, with_limit, number};
 ghost use Rattle.nz_msg.specs.Fields as fields;
 ghost use Rattle.nz_msg.specs.Fields.{u32, id, vector, next_key_by, next_key, next_entry, ids, keys, entries};
-ghost use Rattle.nz_msg.specs.Reading as reading;
 ghost use Rattle.nz_msg.specs.Reading.{Gives, Fails, AreNoted};
 
 use super::fault::Fault;
+use super::in_turn::{Turns, is_above};
 use super::reading::{command_at, id_at, key_at, u8_at, u8_within, u32_at, u32_within};
 use super::rest::Rest;
 use indexmap::IndexSet;
-use nz_base::{Entry, EntryList, Id, IdList, Key, KeyList, MAX_CLIENTS, MAX_KEYS, MAX_REPLICAS};
+use nz_base::{Entry, EntryList, Id, IdList, Key, KeyList, MAX_KEYS, MAX_REPLICAS};
 use nz_cv::CrashVector;
 use std::alloc::Global;
 
@@ -136,22 +135,12 @@ fn next_key_at<'a>(before: &[Key], bytes: Rest<'a>) -> Result<(Key, Rest<'a>), F
     Ok((key, rest))
 }
 
-// Whether a key is above the last of those before it.
-fn is_above_last(before: &[Entry], key: &Key) -> bool
-    ensures { result ≡ log.is_above_last (log.keys_of before.now) key.now }
-{
-    match before.last() {
-        Some(last) => last.key.is_below(key),
-        None => true,
-    }
-}
-
 // Whether an entry with this key may come next: the last entry has the greatest key so far.
 fn may_be_next(before: &[Entry], ids: &IndexSet<Id>, key: &Key) -> bool
     requires { AreNoted before.now ids.now.keys }
     ensures { result ≡ fields.may_follow (λ e. e.key) before.now key.now }
 {
-    is_above_last(before, key) && !ids.contains(&key.id())
+    is_above(before.last().map(|entry| entry.key), key) && !ids.contains(&key.id())
 }
 
 #[tactic(auto, unfolding(crate::specs::Codec::limited_at))]
@@ -199,11 +188,42 @@ fn list_of_keys(alloc: Global, count: u32, bytes: Rest<'_>) -> Result<(KeyList, 
     Ok((keys, rest))
 }
 
+// The keys where all come in turn, as nearly always: that tells without looking back that no id comes twice.
+fn keys_in_turn(
+    alloc: Global,
+    count: u32,
+    bytes: Rest<'_>,
+) -> Result<Option<(KeyList, Rest<'_>)>, Fault>
+    ensures read { IfOk result (λ read. IfSome read (λ x. items_at next_key [] count bytes.entry ≡ Ok x)) }
+    ensures fault { IfErr result (λ fault. Fails fault (items_at next_key [] count bytes.entry)) }
+{
+    let mut keys = KeyList::with_capacity(alloc, room_for(count, KEY_SIZE, bytes.len()))?;
+    let mut turns = Turns::new();
+    let mut rest = bytes;
+    for _ in 0..count {
+        let (key, after) = key_at(rest)?;
+        if !turns.comes_in_turn(&key) {
+            return Ok(None);
+        }
+        turns.note(key);
+        keys.push(key)?;
+        rest = after;
+    }
+    Ok(Some((keys, rest)))
+}
+
 pub fn keys_at(alloc: Global, bytes: Rest<'_>) -> Result<(KeyList, Rest<'_>), Fault>
     ensures { Gives (λ x. x) result (keys.get bytes.entry) }
 {
     let (count, rest) = u8_within(bytes, 0, MAX_KEYS)?;
-    list_of_keys(alloc, u32::from(count), rest)
+    let count = u32::from(count);
+    // One key has none before it.
+    if count > 1 {
+        if let Some(read) = keys_in_turn(alloc, count, rest.again())? {
+            return Ok(read);
+        }
+    }
+    list_of_keys(alloc, count, rest)
 }
 
 fn list_of_entries(
@@ -226,16 +246,6 @@ fn list_of_entries(
     Ok((entries, rest))
 }
 
-// Whether an entry with this key comes in turn, after entries whose last number of each client is noted.
-fn comes_in_turn(before: &[Entry], numbers: &[u32], key: &Key) -> bool
-    ensures { result ≡ reading.comes_in_turn before.now numbers.now key.now }
-{
-    match numbers.get(key.client as usize) {
-        Some(number) => *number < key.num && is_above_last(before, key),
-        None => false,
-    }
-}
-
 // The entries where all come in turn, as in nearly every log: that tells without a set that no id comes twice.
 fn entries_in_turn(
     alloc: Global,
@@ -247,15 +257,15 @@ fn entries_in_turn(
 {
     let room = room_for(count, ENTRY_SIZE, bytes.len());
     let mut entries = EntryList::with_capacity(alloc, room)?;
-    let mut numbers = [0; MAX_CLIENTS as usize];
+    let mut turns = Turns::new();
     let mut rest = bytes;
     for _ in 0..count {
         let (key, after) = key_at(rest)?;
-        if !comes_in_turn(entries.as_slice(), &numbers, &key) {
+        if !turns.comes_in_turn(&key) {
             return Ok(None);
         }
+        turns.note(key);
         let (command, after) = command_at(after)?;
-        numbers[key.client as usize] = key.num;
         entries.push(Entry { key, command })?;
         rest = after;
     }

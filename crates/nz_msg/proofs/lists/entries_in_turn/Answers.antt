@@ -1,13 +1,11 @@
 -- What the function of this folder owes, proved.
-use Rattle.std.proofs.Common.{◌≡◌, ℕ, true, List, [], length, sym, ap, arith, ◌∙◌}
-use Rattle.std.specs.Prelude.{slice_set}
-use Rattle.std.proofs.Math.ListN.{length-set}
+use Rattle.std.proofs.Common.{◌≡◌, true, [], sym}
 use Rattle.std.proofs.lemmas.Result.{err_from_is_err_and}
 use Rattle.nz_base.specs.declared.key.Entry.{Entry}
 use Rattle.nz_msg.specs.Codec.{items_at}
 use Rattle.nz_msg.specs.Fields.{next_entry}
-use Rattle.nz_msg.specs.Reading.{comes_in_turn}
-use Rattle.nz_msg.proofs.Turns.{turn_follows, in_turn_more, next_read, next_without_key, next_without_command}
+use Rattle.nz_msg.specs.Turns.{comes_in_turn}
+use Rattle.nz_msg.proofs.Turns.{entry_follows, entries_more, next_read, next_without_key, next_without_command}
 use Rattle.nz_msg.proofs.Loops.{goes_on, ends, is_done}
 use Rattle.nz_msg.proofs.lists.entries_in_turn.Goals as goal
 
@@ -20,29 +18,25 @@ returns-in_err-key-clause-fault c =
 
 pub returns-in_err-command-clause-fault : goal.returns-in_err-command-clause-fault
 returns-in_err-command-clause-fault c =
-    let turn : comes_in_turn c.loop.entries c.loop.numbers c.in_ok-key.key ≡ true =
-    ap (λ (before : List Entry). comes_in_turn before c.loop.numbers c.in_ok-key.key) (sym c.as_slice.ensures) ∙ sym c.if-not-comes_in_turn.ensures in
+    let turn : comes_in_turn c.loop.turns c.in_ok-key.key ≡ true = sym c.if-not-comes_in_turn.ensures in
     let p = err_from_is_err_and c.from_residual-in_err-command.result c.from_residual-in_err-command.ensures.1 in
     rw (p.1, p.2) (ends next_entry c.in_err-command.field-0.0 c.loop.entries c.args.count c.loop.counter c.loop.rest
     (items_at next_entry [] c.args.count c.args.bytes) c.loop-test.true
     (next_without_command c.loop.entries c.loop.rest c.in_ok-key.key c.in_ok-key.after c.in_err-command.field-0.0 c.in_ok-key.ensures
-    (turn_follows c.loop.entries c.loop.numbers c.in_ok-key.key c.loop.invariant.in_turn turn) c.in_err-command.ensures) c.loop.invariant.told)
+    (entry_follows c.loop.entries c.loop.turns c.in_ok-key.key c.loop.invariant.in_turn turn) c.in_err-command.ensures) c.loop.invariant.told)
 
 pub loop-preserved : goal.loop-preserved
 loop-preserved c =
     let key = c.in_ok-key.key in
     let entry : Entry = record { key = key; command = c.in_ok-command.command } in
-    let turn : comes_in_turn c.loop.entries c.loop.numbers key ≡ true =
-    ap (λ (before : List Entry). comes_in_turn before c.loop.numbers key) (sym c.as_slice.ensures) ∙ sym c.if-not-comes_in_turn.ensures in
-    let clients : length (slice_set c.loop.numbers key.client key.num) ≡ 64 = omega (arith, length-set {A = ℕ}, c.loop.invariant.clients) in
+    let turn : comes_in_turn c.loop.turns key ≡ true = sym c.if-not-comes_in_turn.ensures in
     record {
       told =
           rw c.in_ok-push.ensures.ok (goes_on next_entry c.loop.entries c.args.count c.loop.counter c.loop.rest entry c.in_ok-command.after
           (items_at next_entry [] c.args.count c.args.bytes) c.loop-test.true
           (next_read c.loop.entries c.loop.rest key c.in_ok-key.after c.in_ok-command.command c.in_ok-command.after c.in_ok-key.ensures
-          (turn_follows c.loop.entries c.loop.numbers key c.loop.invariant.in_turn turn) c.in_ok-command.ensures) c.loop.invariant.told);
-      clients = clients;
-      in_turn = rw c.in_ok-push.ensures.ok (in_turn_more c.loop.entries c.loop.numbers entry c.loop.invariant.in_turn turn);
+          (entry_follows c.loop.entries c.loop.turns key c.loop.invariant.in_turn turn) c.in_ok-command.ensures) c.loop.invariant.told);
+      in_turn = rw (c.in_ok-push.ensures.ok, c.note.ensures) (entries_more c.loop.entries c.loop.turns entry c.loop.invariant.in_turn turn);
     }
 
 pub returns-clause-read : goal.returns-clause-read

@@ -1,8 +1,9 @@
 -- What the loops of the function of this folder keep.
-use Rattle.std.proofs.Common.{◌≡◌, ◌-◌, [], length}
+use Rattle.std.proofs.Common.{◌≡◌, ◌-◌, []}
+use Rattle.nz_base.specs.Log.{keys_of}
 use Rattle.nz_msg.specs.Codec.{items_at}
 use Rattle.nz_msg.specs.Fields.{next_entry}
-use Rattle.nz_msg.specs.Reading.{AreInTurn}
+use Rattle.nz_msg.specs.Turns.{AreInTurn}
 use Rattle.nz_msg.proofs.Loops.{with_earlier}
 use Rattle.nz_msg.proofs.lists.entries_in_turn.Given as goal
 
@@ -10,6 +11,5 @@ use Rattle.nz_msg.proofs.lists.entries_in_turn.Given as goal
 abbrev pub invariant-loop : goal.invariant-loop
 invariant-loop l = record {
   told : with_earlier l.entries (items_at next_entry l.entries (l.count - l.counter) l.rest) ≡ items_at next_entry [] l.count l.fn.bytes;
-  clients : length l.numbers ≡ 64;
-  in_turn : AreInTurn l.entries l.numbers;
+  in_turn : AreInTurn (keys_of l.entries) l.turns;
 }
