@@ -16,7 +16,7 @@ use super::message::{
 };
 use super::writing::{
     put_answer, put_answer_if_any, put_entries, put_ids, put_keys, put_path, put_two_u32, put_u32,
-    put_u64, put_u64_u32, put_vector,
+    put_u64, put_u64_u32, put_vector, write_number_and_id,
 };
 use byteorder::{BigEndian, ByteOrder};
 use nz_base::NoMemory;
@@ -44,9 +44,7 @@ fn timed_head(b: &TimedBody, len: u16) -> [u8; 26]
 {
     let mut head = [0; 26];
     BigEndian::write_u64(&mut head, b.sent);
-    BigEndian::write_u64(&mut head[8..], b.deadline);
-    BigEndian::write_u32(&mut head[16..], b.id.client);
-    BigEndian::write_u32(&mut head[20..], b.id.num);
+    write_number_and_id(&mut head[8..], b.deadline, b.id);
     BigEndian::write_u16(&mut head[24..], len);
     head
 }
@@ -68,9 +66,7 @@ fn put_fast_reply_head(out: &mut Vec<u8>, b: &FastReplyBody) -> Result<(), NoMem
     ensures { OnOk result (Adds out.old.items out.new.items ((u64 then id then digest).put (b.now.view, (b.now.id, b.now.digest)))) }
 {
     let mut head = [0; 36];
-    BigEndian::write_u64(&mut head, b.view);
-    BigEndian::write_u32(&mut head[8..], b.id.client);
-    BigEndian::write_u32(&mut head[12..], b.id.num);
+    write_number_and_id(&mut head, b.view, b.id);
     head[16..].copy_from_slice(b.digest.as_bytes());
     out.extend_from_slice(&head)?;
     Ok(())
@@ -91,9 +87,7 @@ fn put_slow_reply(out: &mut Vec<u8>, b: &SlowReplyBody) -> Result<(), NoMemory>
     ensures { OnOk result (Adds out.old.items out.new.items (slow_reply.put b.now)) }
 {
     let mut bytes = [0; 20];
-    BigEndian::write_u64(&mut bytes, b.view);
-    BigEndian::write_u32(&mut bytes[8..], b.id.client);
-    BigEndian::write_u32(&mut bytes[12..], b.id.num);
+    write_number_and_id(&mut bytes, b.view, b.id);
     BigEndian::write_u32(&mut bytes[16..], b.delay);
     out.extend_from_slice(&bytes)?;
     Ok(())

@@ -1,6 +1,7 @@
 //! Writing of fields.
 
-ghost use Rattle.std.specs.Prelude.{◌<◌, ◌^◌, List, [], OnOk, All, length};
+ghost use Rattle.std.specs.Prelude.{◌≡◌, ◌<◌, ◌≤◌, ◌^◌, ◌++◌, List, [], OnOk, All, length, drop};
+ghost use Rattle.byteorder.specs.Endian.{big_bytes};
 ghost use Rattle.nz_msg.specs.Codec.{number, items_put, optional, ◌then◌};
 ghost use Rattle.nz_msg.specs.Fields.{u32, u64, id, key, command, vector, answer, path, next_key, next_entry, ids, keys, entries};
 ghost use Rattle.nz_msg.specs.Writing.{Adds};
@@ -67,6 +68,16 @@ pub fn put_u64_u32(out: &mut Vec<u8>, first: u64, second: u32) -> Result<(), NoM
     Ok(())
 }
 
+/// Writes a number of 8 bytes and an id over the first 16 bytes.
+pub fn write_number_and_id(bytes: &mut [u8], number: u64, i: Id)
+    requires { 16 ≤ length bytes.old }
+    ensures { bytes.new ≡ big_bytes 8 number ++ (big_bytes 4 i.client ++ (big_bytes 4 i.num ++ drop 16 bytes.old)) }
+{
+    BigEndian::write_u64(bytes, number);
+    BigEndian::write_u32(&mut bytes[8..], i.client);
+    BigEndian::write_u32(&mut bytes[12..], i.num);
+}
+
 fn put_id(out: &mut Vec<u8>, i: Id) -> Result<(), NoMemory>
     ensures { OnOk result (Adds out.old.items out.new.items (id.put i)) }
 {
@@ -78,9 +89,7 @@ fn put_key(out: &mut Vec<u8>, k: &Key) -> Result<(), NoMemory>
     ensures { OnOk result (Adds out.old.items out.new.items (key.put k.now)) }
 {
     let mut bytes = [0; 16];
-    BigEndian::write_u64(&mut bytes, k.deadline);
-    BigEndian::write_u32(&mut bytes[8..], k.client);
-    BigEndian::write_u32(&mut bytes[12..], k.num);
+    write_number_and_id(&mut bytes, k.deadline, k.id());
     out.extend_from_slice(&bytes)?;
     Ok(())
 }
@@ -191,9 +200,7 @@ fn put_entry(out: &mut Vec<u8>, entry: &Entry) -> Result<(), NoMemory>
 {
     let command = entry.command.as_slice();
     let mut head = [0; 18];
-    BigEndian::write_u64(&mut head, entry.key.deadline);
-    BigEndian::write_u32(&mut head[8..], entry.key.client);
-    BigEndian::write_u32(&mut head[12..], entry.key.num);
+    write_number_and_id(&mut head, entry.key.deadline, entry.key.id());
     BigEndian::write_u16(&mut head[16..], command.len() as u16);
     out.extend_from_slice(&head)?;
     out.extend_from_slice(command)?;
