@@ -199,7 +199,7 @@ impl ProxyNotes {
         match event {
             Event::Deliver(parcel) => {
                 let delivery = Delivery {
-                    parcel,
+                    parcel: parcel.get(),
                     sendings,
                     is_quiet,
                 };

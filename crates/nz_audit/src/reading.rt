@@ -158,7 +158,15 @@ fn keep_sendings(
         → IsTable (group_in journal.now) (contains id_eq wanted.now) (next.now ∷ J) sendings.new.kept.entries) }
 {
     for parcel in next.sends.as_slice() {
-        keep_sending(proxies, sendings, alloc, wanted, journal, records, parcel)?;
+        keep_sending(
+            proxies,
+            sendings,
+            alloc,
+            wanted,
+            journal,
+            records,
+            parcel.get(),
+        )?;
     }
     Ok(())
 }

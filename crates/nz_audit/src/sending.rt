@@ -65,7 +65,7 @@ impl Sendings {
         ensures { IfOk result (λ source. source ≡ source_delivered self.now.kept.entries event.now) }
     {
         match event {
-            Event::Deliver(parcel) => self.source_of(parcel),
+            Event::Deliver(parcel) => self.source_of(parcel.get()),
             Event::Cut(..) | Event::Tick(_) | Event::Alarm | Event::Crash | Event::Restart(_) => {
                 Ok(None)
             }

@@ -7,7 +7,7 @@ use super::replaying::replay_one;
 use super::searching::entries_up_to;
 use super::source::{AcceptedAnswer, Counted, Source, longer};
 use nz_base::{Actor, Blob, Cluster, Id};
-use nz_machine::{Core, Event, History, Parcel, Record, Sends};
+use nz_machine::{Core, Event, History, Parcel, Record, Sends, SharedParcel};
 use nz_msg::{Message, TimedBody, encode};
 use nz_replica::Replica;
 use nz_store::Answer;
@@ -26,11 +26,8 @@ fn delivery(alloc: Global, to: Actor, message: &Message) -> Result<Event, Fail> 
     if !message.is_valid() || !to.has_address() {
         return Err("no message".into());
     }
-    Ok(Event::Deliver(Parcel {
-        from,
-        to,
-        frame: encode(alloc, from, to, message)?,
-    }))
+    let frame = encode(alloc, from, to, message)?;
+    Ok(Event::Deliver(SharedParcel::new(alloc, Parcel { from, to, frame })?))
 }
 
 fn timed(

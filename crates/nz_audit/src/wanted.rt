@@ -96,6 +96,7 @@ pub fn is_other_request(wanted: &HashSet<Id>, event: &Event) -> bool
     let Event::Deliver(parcel) = event else {
         return false;
     };
+    let parcel = parcel.get();
     let Actor::Client(client) = parcel.from else {
         return false;
     };

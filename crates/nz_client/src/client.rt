@@ -132,7 +132,7 @@ impl ClientState {
             → OnOk result (sends.new ≡ sends.old ++ (node_step g (actors.Client self.old.me) self.old.state event.now).1) }
     {
         match event {
-            Event::Deliver(p) => self.deliver(p, sends),
+            Event::Deliver(p) => self.deliver(p.get(), sends),
             Event::Tick(_) => self.wait_rule(sends),
             Event::Cut(..) | Event::Alarm | Event::Crash | Event::Restart(_) => Ok(()),
         }

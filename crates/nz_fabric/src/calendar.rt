@@ -15,7 +15,7 @@ use crate::deliveries::Delivery;
 use crate::faults::deliveries_of;
 use indexmap::IndexMap;
 use nz_base::{List, NoMemory, Scenario, TryCopy};
-use nz_machine::{Event, Item, ItemList, Parcel, kind_of};
+use nz_machine::{Event, Item, ItemList, SharedParcel, kind_of};
 use smallvec::SmallVec;
 use std::alloc::Global;
 use std::marker::Model;
@@ -63,7 +63,7 @@ impl Model for Calendar {
 }
 
 /// The event of a delivery of a parcel, with its tick.
-fn arrive(alloc: Global, parcel: &Parcel, delivery: Delivery) -> Result<Arrival, NoMemory>
+fn arrive(alloc: Global, parcel: &SharedParcel, delivery: Delivery) -> Result<Arrival, NoMemory>
     ensures { IfOk result (λ arrival. arrival ≡ arrival_of parcel.now delivery) }
 {
     let copy = parcel.copy(alloc)?;
@@ -74,7 +74,7 @@ fn arrive(alloc: Global, parcel: &Parcel, delivery: Delivery) -> Result<Arrival,
     Ok(Arrival {
         tick: delivery.tick,
         item: Item {
-            actor: parcel.to,
+            actor: parcel.get().to,
             event,
         },
     })
@@ -84,7 +84,7 @@ fn arrive(alloc: Global, parcel: &Parcel, delivery: Delivery) -> Result<Arrival,
 fn arrivals_of(
     alloc: Global,
     last: u32,
-    parcel: &Parcel,
+    parcel: &SharedParcel,
     deliveries: &[Delivery],
 ) -> Result<Arrivals, NoMemory>
     ensures { IfOk result (λ v. v.items ≡ arrivals_up_to last (map (arrival_of parcel.now) deliveries.now)) }
@@ -189,7 +189,7 @@ fn place_whole(
     days: &mut Vec<Vec<Item>>,
     last: u32,
     tick: u32,
-    parcel: &Parcel,
+    parcel: &SharedParcel,
 ) -> Result<(), NoMemory>
     requires short { AreShort days.old.items }
     ensures short { AreShort days.new.items }
@@ -212,7 +212,7 @@ fn reserve_arrivals(
     alloc: Global,
     days: &mut Vec<Vec<Item>>,
     last: u32,
-    parcel: &Parcel,
+    parcel: &SharedParcel,
     deliveries: &[Delivery],
 ) -> Result<Arrivals, NoMemory>
     ensures same { AreKept days.old.items days.new.items }
@@ -231,7 +231,7 @@ fn place_on_course(
     traffic: &Traffic,
     last: u32,
     tick: u32,
-    parcel: &Parcel,
+    parcel: &SharedParcel,
     kind: Option<u8>,
 ) -> Result<(), NoMemory>
     requires kind { kind ≡ kind_in_frame parcel.now.frame }
@@ -246,7 +246,7 @@ fn place_on_course(
         return place_whole(alloc, days, last, tick, parcel);
     }
     let number = traffic.count.saturating_add(1);
-    let deliveries = deliveries_of(alloc, lines, tick, parcel, kind, number)?;
+    let deliveries = deliveries_of(alloc, lines, tick, parcel.get(), kind, number)?;
     let arrivals = reserve_arrivals(alloc, days, last, parcel, deliveries.as_slice())?;
     place_all(days, arrivals);
     Ok(())
@@ -259,7 +259,7 @@ fn post_first(
     days: &mut Vec<Vec<Item>>,
     scenario: &Scenario,
     tick: u32,
-    parcel: &Parcel,
+    parcel: &SharedParcel,
     kind: Option<u8>,
 ) -> Result<(), NoMemory>
     requires kind { kind ≡ kind_in_frame parcel.now.frame }
@@ -272,9 +272,9 @@ fn post_first(
     ensures err { OnErr result ((courses.new.entries ≡ courses.old.entries) × AreKept days.old.items days.new.items) }
 {
     let faults = scenario.faults.as_slice();
-    let deliveries = deliveries_of(alloc, faults, tick, parcel, kind, 1)?;
+    let deliveries = deliveries_of(alloc, faults, tick, parcel.get(), kind, 1)?;
     let arrivals = reserve_arrivals(alloc, days, scenario.ticks, parcel, deliveries.as_slice())?;
-    count_first(alloc, courses, faults, parcel, kind)?;
+    count_first(alloc, courses, faults, parcel.get(), kind)?;
     place_all(days, arrivals);
     Ok(())
 }
@@ -286,7 +286,7 @@ fn post_parcel(
     days: &mut Vec<Vec<Item>>,
     scenario: &Scenario,
     tick: u32,
-    parcel: &Parcel,
+    parcel: &SharedParcel,
 ) -> Result<(), NoMemory>
     requires short { AreShort days.old.items }
     ensures short { AreShort days.new.items }
@@ -296,11 +296,12 @@ fn post_parcel(
         → OnOk result (ArePlaced days.old.items (arrivals_by scenario.now.ticks tick earlier parcel.now (lines_or scenario.now.faults kept)) days.new.items) }
     ensures err { OnErr result ((courses.new.entries ≡ courses.old.entries) × AreKept days.old.items days.new.items) }
 {
-    let kind = kind_of(parcel.frame.as_slice());
+    let sent = parcel.get();
+    let kind = kind_of(sent.frame.as_slice());
     let Some(own) = kind else {
         return post_first(alloc, courses, days, scenario, tick, parcel, kind);
     };
-    match courses.get_mut(&course_of(parcel, own)) {
+    match courses.get_mut(&course_of(sent, own)) {
         None => post_first(alloc, courses, days, scenario, tick, parcel, kind),
         Some(traffic) => {
             place_on_course(alloc, days, traffic, scenario.ticks, tick, parcel, kind)?;
@@ -332,7 +333,12 @@ impl Calendar {
     }
 
     /// A parcel was sent in a tick. Its deliveries up to the last tick are to come.
-    pub fn post(&mut self, scenario: &Scenario, tick: u32, parcel: &Parcel) -> Result<(), NoMemory>
+    pub fn post(
+        &mut self,
+        scenario: &Scenario,
+        tick: u32,
+        parcel: &SharedParcel,
+    ) -> Result<(), NoMemory>
         requires playable { IsPlayable scenario.now }
         requires few { self.old.parcels < 2 ^ 64 - 1 }
         ensures ok { (L : List Posted) (now : ℕ) → StandsFor scenario.now L now self.old

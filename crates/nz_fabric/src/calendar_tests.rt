@@ -11,7 +11,7 @@ use nz_base::{
     Actor, Blob, Cluster, Fault, FaultList, Request, RequestList, Scenario, ScriptList, SkewList,
 };
 use nz_frame::Frame;
-use nz_machine::{Event, Item, Parcel};
+use nz_machine::{Event, Item, Parcel, SharedParcel};
 use nz_store::read_command;
 use std::alloc::Global;
 use std::test::*;
@@ -135,7 +135,8 @@ fn send(
     if calendar.parcels() == u64::MAX {
         return Err("too many parcels".into());
     }
-    calendar.post(scenario, tick, &Parcel { from, to, frame })?;
+    let parcel = SharedParcel::new(alloc, Parcel { from, to, frame })?;
+    calendar.post(scenario, tick, &parcel)?;
     Ok(())
 }
 

@@ -66,7 +66,7 @@ fn bytes_of(event: &Event) -> usize
     ensures { result ≡ shared.bytes_of event.now }
 {
     match event {
-        Event::Deliver(parcel) => parcel.frame.len(),
+        Event::Deliver(parcel) => parcel.get().frame.len(),
         Event::Cut(_, kept) => *kept as usize,
         Event::Tick(_) | Event::Alarm | Event::Crash | Event::Restart(_) => 0,
     }

@@ -19,7 +19,7 @@ fn cause_of(event: &Event) -> Cause {
     match event {
         Event::Crash | Event::Restart(_) | Event::Alarm => Cause::Call,
         Event::Tick(_) => Cause::Clock,
-        Event::Deliver(parcel) | Event::Cut(parcel, _) => Cause::Parcel(parcel.from),
+        Event::Deliver(parcel) | Event::Cut(parcel, _) => Cause::Parcel(parcel.get().from),
     }
 }
 

@@ -6,14 +6,14 @@ ghost use Rattle.nz_fabric.specs.Calendars.{StandsFor, HasPosted, posted_by};
 
 use crate::calendar::Calendar;
 use nz_base::{NoMemory, Scenario};
-use nz_machine::{Parcel, Record};
+use nz_machine::{Record, SharedParcel};
 
 /// Parcels were sent in a tick, in this order. Where memory runs out some of the first are posted.
 pub fn post_sends(
     calendar: &mut Calendar,
     scenario: &Scenario,
     tick: u32,
-    sends: &[Parcel],
+    sends: &[SharedParcel],
 ) -> Result<(), NoMemory>
     requires { IsPlayable scenario.now }
     ensures ok { (L : List Posted) (now : ℕ) → StandsFor scenario.now L now calendar.old

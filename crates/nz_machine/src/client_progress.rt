@@ -13,7 +13,7 @@ ghost use Rattle.nz_machine.specs.ClientProgress.{with_answer, new_in, with_num,
 ghost use Rattle.nz_machine.specs.World.{World};
 ghost use Rattle.nz_machine.specs.declared.event.Record.{Record as RecordModel};
 
-use super::event::{Event, Parcel, Record};
+use super::event::{Event, Record, SharedParcel};
 use super::receiving::heard;
 use nz_base::{Actor, Id, IdList, NoMemory, Scenario};
 use nz_msg::{AnswerBody, DecodeRefusal, Envelope, Message, Path, decode};
@@ -154,7 +154,7 @@ impl Progress {
         &mut self,
         alloc: Global,
         client: u8,
-        sends: &[Parcel],
+        sends: &[SharedParcel],
     ) -> Result<IdList, NoMemory>
         ensures after { OnOk result (self.new ≡ with_all self.old (map client_progress.num_of sends.now)) }
         ensures new { IfOk result (λ ids. ids ≡ new_among client self.old (map client_progress.num_of sends.now)) }
@@ -175,10 +175,10 @@ fn drop_num(nums: &mut Vec<u32>, num: u32)
 
 /// The number of the request that a parcel has, if it has one.
 #[tactic(auto, unfolding(crate::specs::ClientProgress::num_of))]
-fn num_of(alloc: Global, parcel: &Parcel) -> Result<Option<u32>, NoMemory>
+fn num_of(alloc: Global, parcel: &SharedParcel) -> Result<Option<u32>, NoMemory>
     ensures { IfOk result (λ num. num ≡ client_progress.num_of parcel.now) }
 {
-    match decode(alloc, &parcel.frame) {
+    match decode(alloc, &parcel.get().frame) {
         Err(DecodeRefusal::NoMemory) => Err(NoMemory),
         Err(_) => Ok(None),
         Ok(envelope) => match envelope.message {
@@ -198,7 +198,7 @@ fn answer_of(
 {
     match event {
         Event::Deliver(parcel) => {
-            let envelope = heard(alloc, Actor::Client(client), parcel)?;
+            let envelope = heard(alloc, Actor::Client(client), parcel.get())?;
             Ok(progress.accept(client, envelope))
         }
         Event::Cut(..) | Event::Tick(_) | Event::Alarm | Event::Crash | Event::Restart(_) => {

@@ -1,10 +1,14 @@
 //! Parcels, events and records.
 
+ghost use Rattle.std.specs.Prelude.{◌≡◌, IfOk};
+
 use bytes::Bytes;
 use nz_base::{Actor, List, NoMemory, TryCopy};
 use std::alloc::Global;
+use std::marker::Model;
+use std::sync::Arc;
 
-/// A frame on its way. Copies share its bytes.
+/// A frame on its way.
 #[derive(Drop)]
 pub struct Parcel {
     pub from: Actor,
@@ -12,13 +16,52 @@ pub struct Parcel {
     pub frame: Bytes,
 }
 
+/// A parcel that the step which sent it and each step to which it comes have in common. Contracts see the parcel. A copy
+/// takes no memory.
+#[derive(Drop)]
+pub struct SharedParcel {
+    parcel: Arc<Parcel>,
+}
+
+impl Model for SharedParcel {
+    ghost use Rattle.nz_machine.specs.declared.event.Parcel.{Parcel as ParcelModel};
+
+    ghost Value = { ParcelModel };
+
+    ghost view = { λ s. s.parcel.value };
+}
+
+impl SharedParcel {
+    pub fn new(alloc: Global, parcel: Parcel) -> Result<SharedParcel, NoMemory>
+        ensures { IfOk result (λ shared. shared ≡ parcel) }
+    {
+        Ok(SharedParcel {
+            parcel: Arc::new(alloc, parcel)?,
+        })
+    }
+
+    pub fn get(&self) -> &Parcel
+        ensures { result.now ≡ self.now }
+    {
+        &self.parcel
+    }
+}
+
+impl TryCopy for SharedParcel {
+    fn copy(&self, _alloc: Global) -> Result<SharedParcel, NoMemory> {
+        Ok(SharedParcel {
+            parcel: Arc::try_clone(&self.parcel)?,
+        })
+    }
+}
+
 /// What happens to an actor.
 #[derive(Drop)]
 pub enum Event {
     /// The parcel comes whole.
-    Deliver(Parcel),
+    Deliver(SharedParcel),
     /// This many bytes of the parcel come.
-    Cut(Parcel, u32),
+    Cut(SharedParcel, u32),
     /// The actor's clock reads this many clock units.
     Tick(u64),
     /// The actor is told that the leader is lost.
@@ -30,7 +73,7 @@ pub enum Event {
 }
 
 /// The parcels of a step, in the order in which they were sent.
-pub type Sends = List<Parcel>;
+pub type Sends = List<SharedParcel>;
 
 /// A step of a run.
 #[derive(Drop)]
@@ -42,16 +85,6 @@ pub struct Record {
 }
 
 pub type RecordList = List<Record>;
-
-impl TryCopy for Parcel {
-    fn copy(&self, _alloc: Global) -> Result<Parcel, NoMemory> {
-        Ok(Parcel {
-            from: self.from,
-            to: self.to,
-            frame: self.frame.slice(..)?,
-        })
-    }
-}
 
 impl TryCopy for Event {
     fn copy(&self, alloc: Global) -> Result<Event, NoMemory> {

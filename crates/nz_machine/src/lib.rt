@@ -25,7 +25,7 @@ pub use answers::copy_answer;
 pub use client_progress::{Acceptance, Clients, Progress, Telling};
 pub use cores::Core;
 pub use data::{Attempt, Origin, Phase, Rejoin, Reported, Status, ToldView};
-pub use event::{Event, Parcel, Record, RecordList, Sends};
+pub use event::{Event, Parcel, Record, RecordList, Sends, SharedParcel};
 pub use frame_kind::kind_of;
 pub use from_cluster::is_from_cluster;
 pub use journal::{Executed, History, Item, ItemList, Journal};

@@ -5,7 +5,7 @@ ghost use Rattle.nz_base.specs.Actor.{HasAddress};
 ghost use Rattle.nz_msg.specs.Messages.{Fits, body_of};
 ghost use Rattle.nz_machine.specs.Step.{parcel};
 
-use super::event::{Parcel, Sends};
+use super::event::{Parcel, Sends, SharedParcel};
 use nz_base::{Actor, NoMemory};
 use nz_msg::{Message, encode, frame_of};
 use std::alloc::Global;
@@ -36,7 +36,7 @@ pub fn send_written(
     ensures { OnOk result (sends.new ≡ sends.old ++ parcel from (to, message.now) ∷ []) }
 {
     let frame = frame_of(alloc, from, to, message, body)?;
-    sends.push(Parcel { from, to, frame })
+    sends.push(SharedParcel::new(alloc, Parcel { from, to, frame })?)
 }
 
 /// Adds the parcel of a message.
@@ -53,5 +53,5 @@ pub fn send(
     ensures { OnOk result (sends.new ≡ sends.old ++ parcel from (to, message.now) ∷ []) }
 {
     let frame = encode(alloc, from, to, message)?;
-    sends.push(Parcel { from, to, frame })
+    sends.push(SharedParcel::new(alloc, Parcel { from, to, frame })?)
 }

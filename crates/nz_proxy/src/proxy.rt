@@ -179,7 +179,7 @@ impl ProxyState {
             ++ (node_step (group_with_cluster self.old.f) (actors.Proxy self.old.me) self.old.state event.now).1) }
     {
         match event {
-            Event::Deliver(p) => self.deliver(p, sends),
+            Event::Deliver(p) => self.deliver(p.get(), sends),
             Event::Tick(clock) => {
                 self.tick(*clock);
                 Ok(())

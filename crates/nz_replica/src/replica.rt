@@ -191,7 +191,7 @@ fn event_step(state: &mut ReplicaState, event: &Event, sends: &mut Sends) -> Res
         (g : Group) → IsOf g s → OnOk result (Does s state.new sends.old sends.new (step_words.event_step g (actors.Replica s.me) s.state event.now)) }
 {
     match event {
-        Event::Deliver(p) => deliver(state, p, sends),
+        Event::Deliver(p) => deliver(state, p.get(), sends),
         Event::Tick(clock) if !state.is_down() => tick_rule(state, *clock, sends),
         Event::Alarm => on_alarm(state, sends),
         Event::Crash => {

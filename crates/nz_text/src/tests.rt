@@ -6,7 +6,9 @@ use super::texts::spell;
 use super::*;
 use bytes::Bytes;
 use nz_base::{Actor, Blob, Cluster, FaultList, Id, NoMemory, Scenario, ScriptList, SkewList};
-use nz_machine::{Event as Step, Executed, History, Journal, Parcel, Record, RecordList, Sends};
+use nz_machine::{
+    Event as Step, Executed, History, Journal, Parcel, Record, RecordList, Sends, SharedParcel,
+};
 use nz_msg::Path;
 use nz_store::{Answer, Blob as Value};
 use std::alloc::Global;
@@ -101,17 +103,21 @@ fn lines_of_each_sort(rt: HostRuntime) -> Result<(), Fail> {
 }
 
 /// A request of client 0 to proxy 0, `get a`, in its frame.
-fn request(alloc: Global) -> Result<Parcel, NoMemory> {
-    Ok(Parcel {
-        from: Actor::Client(0),
-        to: Actor::Proxy(0),
-        frame: Bytes::copy_from_slice(
-            alloc,
-            &[
-                0, 0, 0, 15, 1, 1, 0, 64, 0, 16, 0, 0, 0, 1, 0, 3, 2, 1, b'a',
-            ],
-        )?,
-    })
+fn request(alloc: Global) -> Result<SharedParcel, NoMemory> {
+    let frame = Bytes::copy_from_slice(
+        alloc,
+        &[
+            0, 0, 0, 15, 1, 1, 0, 64, 0, 16, 0, 0, 0, 1, 0, 3, 2, 1, b'a',
+        ],
+    )?;
+    SharedParcel::new(
+        alloc,
+        Parcel {
+            from: Actor::Client(0),
+            to: Actor::Proxy(0),
+            frame,
+        },
+    )
 }
 
 const TRACE: &[u8] = b"1 r0 tick 1000 -> 2

@@ -27,11 +27,11 @@ fn put_what(alloc: Global, out: &mut Vec<u8>, event: &Event) -> Result<(), NoMem
     match event {
         Event::Deliver(parcel) => {
             put(out, b"deliver ")?;
-            put_parcel(alloc, out, parcel)
+            put_parcel(alloc, out, parcel.get())
         }
         Event::Cut(parcel, kept) => {
             put(out, b"cut ")?;
-            put_parcel(alloc, out, parcel)?;
+            put_parcel(alloc, out, parcel.get())?;
             put(out, b" ")?;
             put_number(alloc, out, u64::from(*kept))
         }

@@ -1,9 +1,9 @@
 //! Steps of a client, with what it sends.
 
-use super::parcels::parcel;
+use super::parcels::valid_frame;
 use nz_base::{Actor, Blob, NoMemory, Request, RequestList};
 use nz_client::{Client, are_sendable};
-use nz_machine::{Core, Event, Parcel, Sends};
+use nz_machine::{Core, Event, Parcel, Sends, SharedParcel};
 use nz_msg::{AnswerBody, Message, Path, decode};
 use nz_store::Answer;
 use std::alloc::Global;
@@ -24,18 +24,18 @@ fn script(alloc: Global, waits: &[u32]) -> Result<RequestList, NoMemory> {
 }
 
 /// A parcel of proxy 0 for client 1: the answer to request `num`, in a frame from one actor to another.
-fn answer(alloc: Global, from: Actor, to: Actor, num: u32) -> Result<Parcel, Fail> {
+fn answer(alloc: Global, from: Actor, to: Actor, num: u32) -> Result<SharedParcel, Fail> {
     let message = Message::Answer(AnswerBody {
         num,
         answer: Answer::Absent,
         path: Path::Fast,
     });
-    let frame = parcel(alloc, from, to, &message)?.frame;
-    Ok(Parcel {
+    let parcel = Parcel {
         from: Actor::Proxy(0),
         to: ME,
-        frame,
-    })
+        frame: valid_frame(alloc, from, to, &message)?,
+    };
+    Ok(SharedParcel::new(alloc, parcel)?)
 }
 
 /// What happens to client 1.
@@ -67,6 +67,7 @@ fn event(alloc: Global, case: Case) -> Result<Event, Fail> {
 fn asked(alloc: Global, sends: &Sends) -> Result<Vec<(Actor, u32)>, Fail> {
     let mut asked = Vec::new(alloc);
     for parcel in sends.as_slice() {
+        let parcel = parcel.get();
         let Ok(envelope) = decode(alloc, &parcel.frame) else {
             return Err("a frame that is none".into());
         };
@@ -163,16 +164,18 @@ fn hears_whole_frames_alone(rt: HostRuntime) -> Result<(), Fail> {
     let alloc = rt.alloc();
     let mut client = client(alloc, &[0])?;
     let _ = step(alloc, &mut client, &Event::Tick(0))?;
-    let whole = answer(alloc, Actor::Proxy(0), ME, 1)?;
+    let parcel = answer(alloc, Actor::Proxy(0), ME, 1)?;
+    let whole = parcel.get();
     let end = whole.frame.len().saturating_sub(1);
     let cut = Parcel {
         from: whole.from,
         to: whole.to,
         frame: whole.frame.slice(..end)?,
     };
+    let cut = SharedParcel::new(alloc, cut)?;
     let _ = step(alloc, &mut client, &Event::Deliver(cut))?;
     assert_eq!(rt; client.finished(), 0);
-    let _ = step(alloc, &mut client, &Event::Cut(whole, 18))?;
+    let _ = step(alloc, &mut client, &Event::Cut(parcel, 18))?;
     assert_eq!(rt; client.finished(), 0);
     Ok(())
 }

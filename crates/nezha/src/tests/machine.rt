@@ -7,7 +7,7 @@ use nz_base::{
     TryCopy,
 };
 use nz_machine::{
-    Acceptance, Clients, Event, Parcel, Record, Sends, Telling, heard, reserve_sends,
+    Acceptance, Clients, Event, Parcel, Record, Sends, SharedParcel, Telling, heard, reserve_sends,
 };
 use nz_msg::{AnswerBody, Envelope, Message, Path, RequestBody, ViewAskBody};
 use nz_store::Answer;
@@ -21,12 +21,13 @@ fn frame(from: u8, to: u8) -> [u8; 18] {
 }
 
 // A parcel between replicas, with these bytes.
-fn parcel_of(alloc: Global, from: u8, to: u8, bytes: &[u8]) -> Result<Parcel, NoMemory> {
-    Ok(Parcel {
+fn parcel_of(alloc: Global, from: u8, to: u8, bytes: &[u8]) -> Result<SharedParcel, NoMemory> {
+    let parcel = Parcel {
         from: Actor::Replica(from),
         to: Actor::Replica(to),
         frame: Bytes::copy_from_slice(alloc, bytes)?,
-    })
+    };
+    SharedParcel::new(alloc, parcel)
 }
 
 // The parcel's sender and receiver, those of its frame, how many of the frame's bytes there are, and whether replica 0
@@ -53,7 +54,7 @@ fn heard_in(alloc: Global, row: &Row) -> Result<Option<Envelope>, NoMemory> {
     let (from, to, sender, receiver, count, _) = *row;
     let bytes = frame(sender, receiver);
     let parcel = parcel_of(alloc, from, to, &bytes[..18.min(count)])?;
-    heard(alloc, Actor::Replica(0), &parcel)
+    heard(alloc, Actor::Replica(0), parcel.get())
 }
 
 fn check_view_ask(rt: &impl Abort, envelope: &Envelope) {
@@ -94,8 +95,21 @@ fn copies_an_event_of_each_sort(rt: HostRuntime) -> Result<(), Fail> {
     Ok(())
 }
 
+#[test]
+fn copies_a_shared_parcel(rt: HostRuntime) -> Result<(), Fail> {
+    let alloc = rt.alloc();
+    let shared = parcel_of(alloc, 1, 0, &frame(1, 0))?;
+    let copy = shared.copy(alloc)?;
+    for parcel in [shared.get(), copy.get()] {
+        assert_eq!(rt; parcel.from, Actor::Replica(1));
+        assert_eq!(rt; parcel.to, Actor::Replica(0));
+        assert_eq!(rt; parcel.frame.as_slice(), frame(1, 0).as_slice());
+    }
+    Ok(())
+}
+
 // The client's request of this number, to proxy 0.
-fn request(alloc: Global, num: u32) -> Result<Parcel, Fail> {
+fn request(alloc: Global, num: u32) -> Result<SharedParcel, Fail> {
     let command = Blob::from_slice(alloc, &[2, 1, b'a'])?;
     let message = Message::Request(RequestBody { num, command });
     parcel(alloc, Actor::Client(0), Actor::Proxy(0), &message)

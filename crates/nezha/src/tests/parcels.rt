@@ -1,15 +1,30 @@
-//! A message in its frame, as a parcel.
+//! A message in its frame, and as a parcel.
 
+use bytes::Bytes;
 use nz_base::Actor;
-use nz_machine::Parcel;
+use nz_machine::{Parcel, SharedParcel};
 use nz_msg::{Message, encode};
 use std::alloc::Global;
 use std::test::Fail;
 
-pub fn parcel(alloc: Global, from: Actor, to: Actor, message: &Message) -> Result<Parcel, Fail> {
+pub fn valid_frame(
+    alloc: Global,
+    from: Actor,
+    to: Actor,
+    message: &Message,
+) -> Result<Bytes, Fail> {
     if !from.has_address() || !to.has_address() || !message.is_valid() {
         return Err("no frame carries this".into());
     }
-    let frame = encode(alloc, from, to, message)?;
-    Ok(Parcel { from, to, frame })
+    Ok(encode(alloc, from, to, message)?)
+}
+
+pub fn parcel(
+    alloc: Global,
+    from: Actor,
+    to: Actor,
+    message: &Message,
+) -> Result<SharedParcel, Fail> {
+    let frame = valid_frame(alloc, from, to, message)?;
+    Ok(SharedParcel::new(alloc, Parcel { from, to, frame })?)
 }

@@ -4,7 +4,7 @@ use super::parcels::parcel;
 use nz_base::{Actor, Blob, Cluster, Id};
 use nz_cv::CrashVector;
 use nz_digest::Digest;
-use nz_machine::{Core, Event, Parcel, Sends};
+use nz_machine::{Core, Event, Sends, SharedParcel};
 use nz_msg::{FastReplyBody, Message, Path, RequestBody, SlowReplyBody, decode};
 use nz_proxy::Proxy;
 use nz_store::Answer;
@@ -27,6 +27,7 @@ enum Sent {
 fn told(alloc: Global, sends: &Sends) -> Result<Vec<(Actor, Sent)>, Fail> {
     let mut sent = Vec::new(alloc);
     for parcel in sends.as_slice() {
+        let parcel = parcel.get();
         let Ok(envelope) = decode(alloc, &parcel.frame) else {
             return Err("a frame that is none".into());
         };
@@ -106,7 +107,7 @@ fn late() -> Message {
     fast(1, 2, 9000, CrashVector::zero(3))
 }
 
-fn own_late(alloc: Global, to: Actor) -> Result<Parcel, Fail> {
+fn own_late(alloc: Global, to: Actor) -> Result<SharedParcel, Fail> {
     parcel(alloc, Actor::Replica(1), to, &late())
 }
 

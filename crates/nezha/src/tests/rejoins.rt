@@ -129,7 +129,7 @@ impl TestStep for Step {
 fn sent_of(sends: &Sends, kind: u8) -> u32 {
     let mut count = 0u32;
     for parcel in sends.as_slice() {
-        if kind_of(parcel.frame.as_slice()) == Some(kind) {
+        if kind_of(parcel.get().frame.as_slice()) == Some(kind) {
             count = count.saturating_add(1);
         }
     }
@@ -139,7 +139,7 @@ fn sent_of(sends: &Sends, kind: u8) -> u32 {
 // To which replica the last parcel goes.
 fn last_receiver(sends: &Sends) -> u8 {
     match sends.as_slice().last() {
-        Some(parcel) => match parcel.to {
+        Some(parcel) => match parcel.get().to {
             Actor::Replica(replica) => replica,
             Actor::Proxy(_) | Actor::Client(_) => 99,
         },

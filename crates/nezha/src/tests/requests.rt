@@ -131,7 +131,7 @@ fn is_reply(alloc: Global, sends: &Sends, place: u32, want: &Want) -> bool {
     if place >= sends.len() {
         return false;
     }
-    match fast_reply(alloc, sends.get(place), want.me, want.client) {
+    match fast_reply(alloc, sends.get(place).get(), want.me, want.client) {
         None => false,
         Some(body) => {
             body.delay == want.delay

@@ -187,6 +187,7 @@ fn are_sent(sends: &Sends, want: &[(u8, u8)]) -> bool {
         return false;
     }
     for (parcel, one) in sends.as_slice().iter().zip(want) {
+        let parcel = parcel.get();
         if addressed(parcel.to, parcel.frame.as_slice()) != *one {
             return false;
         }

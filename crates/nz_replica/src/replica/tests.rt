@@ -7,6 +7,7 @@ use Content::{Fetch, Fetched, LogMod, Plain, Report, Slow, Timed};
 use bytes::Bytes;
 use frames::{Content, Field, Place, frame, head};
 use nz_base::TryCopy;
+use nz_machine::SharedParcel;
 use std::process::Abort;
 use std::test::*;
 
@@ -41,21 +42,21 @@ fn step(core: &mut Replica, event: &Event) -> Result<Sends, Fail> {
     Ok(core.step(event)?)
 }
 
-fn parcel(alloc: Global, from: u16, to: u16, bytes: &[u8]) -> Result<Parcel, Fail> {
+fn parcel(alloc: Global, from: u16, to: u16, bytes: &[u8]) -> Result<SharedParcel, Fail> {
     let from = Actor::from_address(from).ok_or("no sender")?;
     let to = Actor::from_address(to).ok_or("no receiver")?;
     let frame = Bytes::copy_from_slice(alloc, bytes)?;
-    Ok(Parcel { from, to, frame })
+    Ok(SharedParcel::new(alloc, Parcel { from, to, frame })?)
 }
 
 // The parcel of a message.
-fn sent(alloc: Global, replica: u16, content: &Content) -> Result<Parcel, Fail> {
+fn sent(alloc: Global, replica: u16, content: &Content) -> Result<SharedParcel, Fail> {
     let head = head(replica, content);
     parcel(alloc, head.1, head.2, &frame(alloc, head, content)?)
 }
 
 // The event of an input.
-fn event_of(alloc: Global, me: u16, input: &Input, mail: &[Parcel]) -> Result<Event, Fail> {
+fn event_of(alloc: Global, me: u16, input: &Input, mail: &[SharedParcel]) -> Result<Event, Fail> {
     match input {
         Hear(content) => Ok(Event::Deliver(sent(alloc, me, content)?)),
         Clock(clock) => Ok(Event::Tick(*clock)),
@@ -71,7 +72,7 @@ fn take(
     core: &mut Replica,
     me: u16,
     input: &Input,
-    mail: &[Parcel],
+    mail: &[SharedParcel],
 ) -> Result<Sends, Fail> {
     let event = event_of(alloc, me, input, mail)?;
     step(core, &event)
@@ -84,8 +85,9 @@ fn take_all(alloc: Global, core: &mut Replica, me: u16, inputs: &[Input]) -> Res
     Ok(())
 }
 
-fn is(alloc: Global, parcel: &Parcel, replica: u16, content: &Content) -> Result<bool, Fail> {
+fn is(alloc: Global, parcel: &SharedParcel, replica: u16, content: &Content) -> Result<bool, Fail> {
     let wanted = sent(alloc, replica, content)?;
+    let (parcel, wanted) = (parcel.get(), wanted.get());
     Ok(
         parcel.from == wanted.from
             && parcel.to == wanted.to
@@ -96,7 +98,7 @@ fn is(alloc: Global, parcel: &Parcel, replica: u16, content: &Content) -> Result
 /// What is sent by a replica, or by the leader to it.
 type Sent<'a> = (u16, Content<'a>);
 
-fn are(alloc: Global, parcels: &[Parcel], wanted: &[Sent]) -> Result<bool, Fail> {
+fn are(alloc: Global, parcels: &[SharedParcel], wanted: &[Sent]) -> Result<bool, Fail> {
     if parcels.len() != wanted.len() {
         return Ok(false);
     }
@@ -610,7 +612,7 @@ fn cases() -> &'static [Case] {
 }
 
 // The parcel of a case.
-fn parcel_of(alloc: Global, case: &Case) -> Result<Parcel, Fail> {
+fn parcel_of(alloc: Global, case: &Case) -> Result<SharedParcel, Fail> {
     let (_, (from, to), (sender, receiver), lost, content, _) = case;
     let mut bytes = frame(alloc, (head(0, content).0, *sender, *receiver), content)?;
     bytes.truncate(bytes.len().saturating_sub(*lost));
@@ -682,7 +684,7 @@ fn check_up(rt: &impl Abort, core: &mut Replica) -> Result<(), Fail> {
 fn check_asks(rt: &impl Abort, alloc: Global, sends: &Sends) -> Result<(), Fail> {
     let wanted = frame(alloc, (13, 1, 2), &Plain(13, &[(8, 2)]))?;
     assert_eq!(rt; sends.len(), 2);
-    assert_eq!(rt; sends.get(1).frame.as_slice(), wanted.as_slice());
+    assert_eq!(rt; sends.get(1).get().frame.as_slice(), wanted.as_slice());
     Ok(())
 }
 

@@ -60,7 +60,7 @@ fn add_replies(
     lists: &mut Vec<RepliedOver>,
 ) -> Result<(), NoMemory> {
     for parcel in record.sends.as_slice() {
-        match decode(alloc, &parcel.frame) {
+        match decode(alloc, &parcel.get().frame) {
             Ok(envelope) => add_reply(alloc, &envelope.message, log, lists)?,
             Err(DecodeRefusal::NoMemory) => return Err(NoMemory),
             Err(_) => {}
