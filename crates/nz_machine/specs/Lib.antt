@@ -27,6 +27,7 @@ pub mod Begun
 pub mod Knowledge
 pub mod Committed
 pub mod Schedule
+pub mod Records
 pub mod Journals
 pub mod ClientProgress
 pub mod Hearing

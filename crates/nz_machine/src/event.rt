@@ -84,8 +84,6 @@ pub struct Record {
     pub sends: Sends,
 }
 
-pub type RecordList = List<Record>;
-
 impl TryCopy for Event {
     fn copy(&self, alloc: Global) -> Result<Event, NoMemory> {
         match self {

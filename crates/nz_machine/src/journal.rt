@@ -1,6 +1,7 @@
 //! Items, journals and histories.
 
-use super::event::{Event, RecordList};
+use super::event::Event;
+use super::records::RecordList;
 use nz_base::{Actor, Blob, Id, List, Scenario};
 use nz_store::Answer;
 
