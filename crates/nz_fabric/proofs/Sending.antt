@@ -1,12 +1,14 @@
 -- What a tick sent is posted, one parcel after the other.
-use Rattle.std.proofs.Common.{◌≡◌, ℕ, ◌+◌, ◌<◌, List, [], ◌∷◌, ◌++◌, length, map, refl, sym, ap, ◌∙◌, subst, append_assoc}
+use Rattle.std.proofs.Common.{◌≡◌, ℕ, ◌+◌, ◌<◌, ◌≤◌, List, [], ◌∷◌, ◌++◌, length, map, refl, sym, ap, ◌∙◌, subst, arith, zero, suc, append_assoc}
 use Rattle.std.proofs.Common.{Result, Ok, Err}
-use Rattle.std.specs.Prelude.{take, drop, get_or, OnErr}
-use Rattle.std.proofs.lemmas.List.{map-append, map_more, take_more, take-append-drop}
+use Rattle.std.specs.Prelude.{take, drop, get_or, slice_get, Some, OnErr}
+use Rattle.std.proofs.lemmas.List.{map-append, map_more, take-append-drop, length-take-le, drop-append-le}
+use Rattle.std.proofs.lemmas.Option.{slice_get_within}
 use Rattle.nz_base.specs.declared.scenario.Scenario.{Scenario}
 use Rattle.nz_machine.specs.declared.event.Parcel.{Parcel}
 use Rattle.nz_machine.specs.declared.event.Record.{Record}
 use Rattle.nz_machine.specs.Schedule.{Posted, posted_in}
+use Rattle.nz_machine.proofs.ListParts.{take_next}
 use Rattle.nz_fabric.specs.Calendars.{Dates, StandsFor, HasPosted, posted_by}
 use Rattle.nz_fabric.proofs.Dating.{posted_push}
 
@@ -34,13 +36,38 @@ some_sent s L now c tick sends i h = record {
 
 -- ---- records
 
-pub one_record : (s : Scenario) (L : List Posted) (now : ℕ) (c : Dates) (rs : List Record) (i : ℕ) (r : Record) → i < length rs → r ≡ get_or rs i r
-    → StandsFor s ((L ++ posted_by (take i rs)) ++ map (posted_in r.tick) r.sends) now c → StandsFor s (L ++ posted_by (take (i + 1) rs)) now c
-one_record s L now c rs i r lt at h =
+pub record_at : (rs : List Record) (place : ℕ) → place < length rs → (r : Record) × (slice_get rs place ≡ Some r)
+record_at [] place lt = absurd (omega (arith, lt))
+record_at (r ∷ rs) zero lt = (r, refl)
+record_at (r ∷ rs) (suc place) lt = record_at rs place (omega (arith, lt))
+
+-- the records from one place up to the next
+pub next_from : (rs : List Record) (from place : ℕ) (r : Record) → from ≤ place → slice_get rs place ≡ Some r
+    → drop from (take (place + 1) rs) ≡ drop from (take place rs) ++ r ∷ []
+next_from rs from place r le at =
+    let lt = slice_get_within rs place r at in
+    let long = length-take-le place rs (omega (arith, lt)) in
+    ap (drop from) (take_next rs place r at) ∙ drop-append-le from (take place rs) (r ∷ []) (omega (arith, long, le))
+
+-- and those that follow
+pub rest_from : (rs : List Record) (from place : ℕ) (r : Record) → from ≤ place → slice_get rs place ≡ Some r
+    → drop from rs ≡ (drop from (take place rs) ++ r ∷ []) ++ drop (place + 1) rs
+rest_from rs from place r le at =
+    let lt = slice_get_within rs place r at in
+    let long = length-take-le (place + 1) rs (omega (arith, lt)) in
+    ap (drop from) (sym (take-append-drop (place + 1) rs))
+    ∙ drop-append-le from (take (place + 1) rs) (drop (place + 1) rs) (omega (arith, long, le))
+    ∙ ap (λ (xs : List Record). xs ++ drop (place + 1) rs) (next_from rs from place r le at)
+
+pub one_record : (s : Scenario) (L : List Posted) (now : ℕ) (c : Dates) (rs : List Record) (from place : ℕ) (r : Record)
+    → from ≤ place → slice_get rs place ≡ Some r
+    → StandsFor s ((L ++ posted_by (drop from (take place rs))) ++ map (posted_in r.tick) r.sends) now c
+    → StandsFor s (L ++ posted_by (drop from (take (place + 1) rs))) now c
+one_record s L now c rs from place r le at h =
+    let before = drop from (take place rs) in
     subst (λ (M : List Posted). StandsFor s M now c)
-    (append_assoc L (posted_by (take i rs)) (map (posted_in r.tick) r.sends)
-    ∙ ap (λ (M : List Posted). L ++ M)
-    (sym (posted_push (take i rs) r) ∙ ap posted_by (ap (λ (x : Record). take i rs ++ x ∷ []) at ∙ sym (take_more rs i r lt))))
+    (append_assoc L (posted_by before) (map (posted_in r.tick) r.sends)
+    ∙ ap (λ (M : List Posted). L ++ M) (sym (posted_push before r) ∙ ap posted_by (sym (next_from rs from place r le at))))
     h
 
 pub posted_append : (xs ys : List Record) → posted_by (xs ++ ys) ≡ posted_by xs ++ posted_by ys
@@ -49,20 +76,22 @@ posted_append (r ∷ xs) ys =
     ap (λ (L : List Posted). map (posted_in r.tick) r.sends ++ L) (posted_append xs ys)
     ∙ sym (append_assoc (map (posted_in r.tick) r.sends) (posted_by xs) (posted_by ys))
 
-pub some_records : (s : Scenario) (L : List Posted) (now : ℕ) (c : Dates) (rs : List Record) (i : ℕ) (r : Record) → i < length rs → r ≡ get_or rs i r
-    → HasPosted s (L ++ posted_by (take i rs)) (map (posted_in r.tick) r.sends) now c → HasPosted s L (posted_by rs) now c
-some_records s L now c rs i r lt at h =
-    let before = posted_by (take i rs) in
-    let after = posted_by (drop (i + 1) rs) in
-    let first : posted_by (take (i + 1) rs) ≡ before ++ map (posted_in r.tick) r.sends =
-    ap posted_by (take_more rs i r lt ∙ ap (λ (x : Record). take i rs ++ x ∷ []) (sym at)) ∙ posted_push (take i rs) r in
+pub some_records : (s : Scenario) (L : List Posted) (now : ℕ) (c : Dates) (rs : List Record) (from place : ℕ) (r : Record)
+    → from ≤ place → slice_get rs place ≡ Some r
+    → HasPosted s (L ++ posted_by (drop from (take place rs))) (map (posted_in r.tick) r.sends) now c
+    → HasPosted s L (posted_by (drop from rs)) now c
+some_records s L now c rs from place r le at h =
+    let first = drop from (take place rs) in
+    let before = posted_by first in
+    let after = posted_by (drop (place + 1) rs) in
     record {
       sent = before ++ h.sent;
       rest = h.rest ++ after;
       prefix =
-          ap posted_by (sym (take-append-drop (i + 1) rs))
-          ∙ posted_append (take (i + 1) rs) (drop (i + 1) rs)
-          ∙ ap (λ (M : List Posted). M ++ after) (first ∙ ap (λ (M : List Posted). before ++ M) h.prefix ∙ sym (append_assoc before h.sent h.rest))
+          ap posted_by (rest_from rs from place r le at)
+          ∙ posted_append (first ++ r ∷ []) (drop (place + 1) rs)
+          ∙ ap (λ (M : List Posted). M ++ after)
+          (posted_push first r ∙ ap (λ (M : List Posted). before ++ M) h.prefix ∙ sym (append_assoc before h.sent h.rest))
           ∙ append_assoc (before ++ h.sent) h.rest after;
       stands = subst (λ (M : List Posted). StandsFor s M now c) (append_assoc L before h.sent) h.stands;
     }

@@ -1,14 +1,9 @@
--- The records of a run in the order of recording, and those of each actor among them.
+-- The records of each actor among those of a run.
 use Rattle.std.specs.Prelude.{◌≡◌, ℕ, List, ◌∷◌, ◌++◌, length, filter, get_or}
 use Rattle.nz_base.specs.Actor.{actor_eq}
 use Rattle.nz_base.specs.declared.actor.Actor.{Actor}
 use Rattle.nz_machine.specs.declared.event.Record.{Record}
 use Rattle.nz_fabric.specs.Calendars.{number_in_all}
-
--- The records in the order of recording, and how many there is room for.
-pub record Recorded : Type 0 where
-  pub records : List Record
-  pub room : ℕ
 
 -- The records of an actor among others.
 abbrev pub of_actor : Actor → List Record → List Record

@@ -10,8 +10,8 @@ use crate::due::clocks_of;
 use crate::posting::post_all;
 use crate::ticks::Ticks;
 use crate::turn::Turn;
-use nz_base::{List, NoMemory, Scenario};
-use nz_machine::{Item, Journal, Record, Sends};
+use nz_base::{NoMemory, Scenario};
+use nz_machine::{Item, Journal, Record, Recording, Sends};
 use std::alloc::Global;
 use std::marker::Model;
 
@@ -20,21 +20,20 @@ use std::marker::Model;
 pub struct Alone {
     ticks: Ticks,
     agenda: Agenda,
-    records: Vec<Record>,
+    records: Recording,
     /// How many records there were before this tick.
     before: usize,
 }
 
 impl Model for Alone {
-    ghost use Rattle.std.specs.Prelude.{vec_capacity};
     ghost use Rattle.nz_fabric.specs.States.{State, IsHeld, state_in};
 
     ghost Value = { State };
 
-    ghost view = { λ f. state_in f.ticks f.before f.records.items f.agenda.items f.agenda.next };
+    ghost view = { λ f. state_in f.ticks f.before f.records.records f.agenda.items f.agenda.next };
 
-    ghost invariant = { λ f. IsHeld (state_in f.ticks f.before f.records.items f.agenda.items f.agenda.next)
-        f.before (vec_capacity f.records) f.records.items f.ticks.calendar };
+    ghost invariant = { λ f. IsHeld (state_in f.ticks f.before f.records.records f.agenda.items f.agenda.next)
+        f.before f.records.room f.records.records f.ticks.calendar };
 }
 
 impl Alone {
@@ -44,8 +43,7 @@ impl Alone {
         ensures { IfOk result (λ alone. alone ≡ start_state scenario) }
     {
         // Each clock has a record, so none of these places is left.
-        let mut records = Vec::new(alloc);
-        records.reserve(clocks_of(&scenario))?;
+        let records = Recording::new(alloc, clocks_of(&scenario))?;
         Ok(Alone {
             ticks: Ticks::new(alloc, scenario)?,
             agenda: Agenda::new(Vec::new(alloc)),
@@ -129,8 +127,12 @@ impl Alone {
             return Ok(false);
         }
         self.ticks.marked = true;
-        let sent = &self.records[self.before..];
-        post_all(&mut self.ticks.calendar, &self.ticks.scenario, sent)?;
+        post_all(
+            &mut self.ticks.calendar,
+            &self.ticks.scenario,
+            &self.records,
+            self.before,
+        )?;
         let items = self.ticks.begin()?;
         self.agenda = Agenda::new(items);
         self.before = self.records.len();
@@ -148,7 +150,7 @@ impl Alone {
         let Alone { ticks, records, .. } = self;
         Journal {
             scenario: ticks.scenario,
-            records: List::from_vec(records),
+            records: records.into_list(),
         }
     }
 }

@@ -24,7 +24,7 @@ use crate::posting::post_all;
 use crate::records::Records;
 use crate::share::Share;
 use crate::ticks::Ticks;
-use nz_base::{Actor, List, NoMemory, Scenario};
+use nz_base::{Actor, NoMemory, Scenario};
 use nz_machine::{Event, Item, Journal, Sends};
 use std::alloc::Global;
 use std::marker::Model;
@@ -246,7 +246,7 @@ impl<N: Name> FabricState<N> {
             scenario,
             ..
         } = &mut self.ticks;
-        post_all(calendar, scenario, self.records.since(self.before))?;
+        post_all(calendar, scenario, self.records.recording(), self.before)?;
         let mut items = self.ticks.begin()?;
         group(&mut items);
         self.items = items;
@@ -274,7 +274,7 @@ impl<N: Name> FabricState<N> {
         let FabricState { ticks, records, .. } = self;
         Ok(Journal {
             scenario: ticks.scenario,
-            records: List::from_vec(records.into_records()),
+            records: records.into_recording().into_list(),
         })
     }
 }

@@ -1,12 +1,13 @@
 //! How what was sent in a tick is put into the calendar.
 
-ghost use Rattle.std.specs.Prelude.{◌≡◌, ◌++◌, ℕ, List, map, OnOk, OnErr};
+ghost use Rattle.std.specs.Prelude.{◌≡◌, ◌<◌, ◌≤◌, ◌++◌, ℕ, List, Some, length, drop, map, slice_get, OnOk, OnErr};
+ghost use Rattle.nz_machine.specs.declared.event.Record.{Record};
 ghost use Rattle.nz_machine.specs.Schedule.{IsPlayable, Posted, posted_in};
 ghost use Rattle.nz_fabric.specs.Calendars.{StandsFor, HasPosted, posted_by};
 
 use crate::calendar::Calendar;
 use nz_base::{NoMemory, Scenario};
-use nz_machine::{Record, SharedParcel};
+use nz_machine::{Recording, SharedParcel};
 
 /// Parcels were sent in a tick, in this order. Where memory runs out some of the first are posted.
 pub fn post_sends(
@@ -30,20 +31,42 @@ pub fn post_sends(
     Ok(())
 }
 
-/// What the records sent is sent, in their order.
+/// What the record at this place sent is sent.
+fn post_record(
+    calendar: &mut Calendar,
+    scenario: &Scenario,
+    records: &Recording,
+    place: usize,
+) -> Result<(), NoMemory>
+    requires playable { IsPlayable scenario.now }
+    requires place { place < length records.now.records }
+    ensures ok { (L : List Posted) (now : ℕ) (step : Record) → slice_get records.now.records place ≡ Some step → StandsFor scenario.now L now calendar.old
+        → OnOk result (StandsFor scenario.now (L ++ map (posted_in step.tick) step.sends) now calendar.new) }
+    ensures err { (L : List Posted) (now : ℕ) (step : Record) → slice_get records.now.records place ≡ Some step → StandsFor scenario.now L now calendar.old
+        → OnErr result (HasPosted scenario.now L (map (posted_in step.tick) step.sends) now calendar.new) }
+{
+    match records.get_whole(place) {
+        Some(step) => post_sends(calendar, scenario, step.tick, step.sends.as_slice()),
+        None => Ok(()),
+    }
+}
+
+/// What the records from this place on sent is sent, in their order.
 pub fn post_all(
     calendar: &mut Calendar,
     scenario: &Scenario,
-    records: &[Record],
+    records: &Recording,
+    from: usize,
 ) -> Result<(), NoMemory>
-    requires { IsPlayable scenario.now }
+    requires playable { IsPlayable scenario.now }
+    requires from { from ≤ length records.now.records }
     ensures ok { (L : List Posted) (now : ℕ) → StandsFor scenario.now L now calendar.old
-        → OnOk result (StandsFor scenario.now (L ++ posted_by records.now) now calendar.new) }
+        → OnOk result (StandsFor scenario.now (L ++ posted_by (drop from records.now.records)) now calendar.new) }
     ensures err { (L : List Posted) (now : ℕ) → StandsFor scenario.now L now calendar.old
-        → OnErr result (HasPosted scenario.now L (posted_by records.now) now calendar.new) }
+        → OnErr result (HasPosted scenario.now L (posted_by (drop from records.now.records)) now calendar.new) }
 {
-    for record in records {
-        post_sends(calendar, scenario, record.tick, record.sends.as_slice())?;
+    for place in from..records.len() {
+        post_record(calendar, scenario, records, place)?;
     }
     Ok(())
 }

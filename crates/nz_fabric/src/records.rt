@@ -1,6 +1,6 @@
 //! The records of a run, and how many each actor has.
 
-ghost use Rattle.std.specs.Prelude.{◌≡◌, ◌+◌, ◌<◌, ◌≤◌, ◌^◌, ◌∷◌, ◌++◌, [], length, drop, reverse, replicate, MatchBool, IfOk, OnOk};
+ghost use Rattle.std.specs.Prelude.{◌≡◌, ◌+◌, ◌<◌, ◌≤◌, ◌^◌, ◌∷◌, ◌++◌, [], length, reverse, replicate, MatchBool, IfOk, OnOk};
 ghost use Rattle.nz_machine.specs.Schedule.{group_of};
 ghost use Rattle.nz_fabric.specs.Calendars.{number_in_all};
 ghost use Rattle.nz_fabric.specs.Records.{steps_of, with_step, AddsSome};
@@ -11,7 +11,7 @@ use crate::course::number_in_all;
 use crate::lane::Lane;
 use crate::name::Name;
 use nz_base::{Actor, List, NoMemory};
-use nz_machine::{Event, Record, Sends};
+use nz_machine::{Event, Record, Recording, Sends};
 use std::alloc::Global;
 use std::marker::Model;
 
@@ -22,7 +22,7 @@ const ACTORS: usize = 768;
 /// those before it.
 #[derive(Drop)]
 pub struct Records<N: Name> {
-    records: Vec<Record>,
+    records: Recording,
     /// How many records each actor has.
     counts: Vec<u32>,
     chronicle: Chronicle<Record, RecordsOf<N>>,
@@ -30,17 +30,18 @@ pub struct Records<N: Name> {
 }
 
 impl<N: Name> Model for Records<N> {
-    ghost use Rattle.std.specs.Prelude.{◌≡◌, reverse, vec_capacity};
+    ghost use Rattle.std.specs.Prelude.{◌≡◌, reverse};
+    ghost use Rattle.nz_machine.specs.Records.{Recorded};
     ghost use Rattle.nz_machine.specs.Schedule.{group_of};
-    ghost use Rattle.nz_fabric.specs.Records.{Recorded, AreCounts};
+    ghost use Rattle.nz_fabric.specs.Records.{AreCounts};
     ghost use Rattle.nz_fabric.specs.Steps.{AreSteps};
 
     ghost Value = { Recorded };
 
-    ghost view = { λ f. record { records = f.records.items; room = vec_capacity f.records } };
+    ghost view = { λ f. f.records };
 
-    ghost invariant = { λ f. (f.seen ≡ f.records.items) × AreCounts (reverse f.records.items) f.counts.items
-        × AreSteps (group_of N.scenario) (reverse f.records.items) };
+    ghost invariant = { λ f. (f.seen ≡ f.records.records) × AreCounts (reverse f.records.records) f.counts.items
+        × AreSteps (group_of N.scenario) (reverse f.records.records) };
 }
 
 /// The place of the actor's count.
@@ -52,17 +53,19 @@ fn place_of(actor: Actor) -> usize
 }
 
 impl<N: Name> Records<N> {
-    /// No record, and room for this many.
-    pub fn new(alloc: Global, opened: Unnamed<Record>, room: usize) -> Result<Records<N>, NoMemory>
+    /// No record, and memory for the rows of this many clocks.
+    pub fn new(
+        alloc: Global,
+        opened: Unnamed<Record>,
+        clocks: usize,
+    ) -> Result<Records<N>, NoMemory>
         requires { opened ≡ N.chronicles.records }
         ensures { IfOk result (λ records. records.records ≡ []) }
     {
         let counts = vec![in alloc; 0u32; ACTORS]?;
         let (chronicle, seen) = opened.named::<RecordsOf<N>>();
-        let mut records = Vec::new(alloc);
-        records.reserve(room)?;
         Ok(Records {
-            records,
+            records: Recording::new(alloc, clocks)?,
             counts,
             chronicle,
             seen,
@@ -167,18 +170,17 @@ impl<N: Name> Records<N> {
         true
     }
 
-    /// The records from this one on, in the order of recording.
-    pub fn since(&self, before: usize) -> &[Record]
-        requires { before ≤ length self.now.records }
-        ensures { result.now ≡ drop before self.now.records }
+    /// The records in the order of recording.
+    pub fn recording(&self) -> &Recording
+        ensures { result.now ≡ self.now }
     {
-        &self.records[before..]
+        &self.records
     }
 
     /// The records in the order of recording, which are not copied.
-    pub fn into_records(self) -> Vec<Record>
-        ensures records { result.items ≡ self.records }
-        ensures steps { AreSteps (group_of N.scenario) (reverse result.items) }
+    pub fn into_recording(self) -> Recording
+        ensures records { result ≡ self }
+        ensures steps { AreSteps (group_of N.scenario) (reverse result.records) }
     {
         let Records { records, .. } = self;
         records

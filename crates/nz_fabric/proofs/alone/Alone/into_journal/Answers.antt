@@ -12,8 +12,8 @@ returns-clause-in_order c =
     let f = c.args.self in
     let order = in_order_now f (subst IsKeptRun c.self.view_is c.self.invariant.kept) c.requires.done in
     subst (λ (J : List Record). InOrder f.scenario J)
-    (sym (ap reverse c.from_vec.ensures ∙ sym (all_records c.self.inside.before c.self.inside.records.items)
+    (sym (ap reverse c.into_list.ensures ∙ sym (all_records c.self.inside.before c.self.inside.records.records)
     ∙ ap records_of c.self.view_is)) (subst (λ (n : ℕ). InOrderTo f.scenario n (records_of f)) c.requires.last order)
 
 pub returns-clause-records : goal.returns-clause-records
-returns-clause-records c = ap reverse c.from_vec.ensures ∙ sym (all_records c.self.inside.before c.self.inside.records.items) ∙ ap records_of c.self.view_is
+returns-clause-records c = ap reverse c.into_list.ensures ∙ sym (all_records c.self.inside.before c.self.inside.records.records) ∙ ap records_of c.self.view_is

@@ -3,6 +3,7 @@ use Rattle.std.proofs.Common.{◌≡◌, ◌∙◌, ap, subst, sym, arith, ℕ, 
 use Rattle.std.specs.Prelude.{reverse}
 use Rattle.nz_base.specs.declared.scenario.Scenario.{Scenario}
 use Rattle.nz_machine.specs.declared.event.Record.{Record}
+use Rattle.nz_machine.specs.Records.{Recorded}
 use Rattle.nz_machine.specs.Schedule.{group_of, Scheduled, ScheduledTo}
 use Rattle.nz_fabric.specs.Steps.{AreSteps}
 use Rattle.nz_fabric.specs.States.{records_of, state_in}
@@ -11,18 +12,18 @@ use Rattle.nz_fabric.proofs.Held.{all_records}
 use Rattle.nz_fabric.proofs.Sharing.{booked_few, scheduled_now}
 use Rattle.nz_fabric.proofs.fabric_state.FabricState.into_journal.Goals as goal
 
-pub from_vec-requires : goal.from_vec-requires
-from_vec-requires g c =
+pub into_list-requires : goal.into_list-requires
+into_list-requires g c =
     let f = c.self.inside in
     let t = f.ticks in
     let few = booked_few _ f.book.total f.batches.taken t.scenario t.tick f.before f.records.room f.records.records
     f.items.items f.next t.marked t.calendar f.batches.running c.self.invariant.1 in
-    omega (arith, few, ap (λ (rs : List Record). length rs) c.into_records.ensures.records)
+    omega (arith, few, ap (λ (r : Recorded). length r.records) c.into_recording.ensures.records)
 
 pub returns-clause-records : goal.returns-clause-records
 returns-clause-records g c =
     let f = c.self.inside in
-    ap reverse (c.from_vec.ensures ∙ c.into_records.ensures.records)
+    ap reverse (c.into_list.ensures ∙ ap (λ (r : Recorded). r.records) c.into_recording.ensures.records)
     ∙ sym (all_records f.before f.records.records) ∙ ap (λ (f : Shared). records_of f.run) c.self.view_is
 
 pub returns-clause-scheduled : goal.returns-clause-scheduled
@@ -36,9 +37,9 @@ returns-clause-scheduled g c =
     let last : f.tick ≡ f.scenario.ticks = subst (λ (f : Shared). f.run.tick ≡ f.run.scenario.ticks) (sym c.self.view_is) c.requires.last in
     let whole : Scheduled f.scenario J = subst (λ (n : ℕ). ScheduledTo f.scenario n J) last order in
     subst (λ (J : List Record). Scheduled g.N.Name.scenario J)
-    (sym (ap reverse (c.from_vec.ensures ∙ c.into_records.ensures.records) ∙ sym (all_records i.before i.records.records)))
+    (sym (ap reverse (c.into_list.ensures ∙ ap (λ (r : Recorded). r.records) c.into_recording.ensures.records) ∙ sym (all_records i.before i.records.records)))
     (subst (λ (s : Scenario). Scheduled s J) k.scenario whole)
 
 pub returns-clause-steps : goal.returns-clause-steps
 returns-clause-steps g c =
-    subst (λ (rs : List Record). AreSteps (group_of g.N.Name.scenario) (reverse rs)) (sym c.from_vec.ensures) c.into_records.ensures.steps
+    subst (λ (rs : List Record). AreSteps (group_of g.N.Name.scenario) (reverse rs)) (sym c.into_list.ensures) c.into_recording.ensures.steps

@@ -1,6 +1,7 @@
 -- What the function of this folder owes, proved.
 use Rattle.std.proofs.Common.{◌≡◌, ◌<◌, ◌∙◌, false, List, length, sym, ap, subst, arith}
-use Rattle.std.specs.Prelude.{IsPermutation}
+use Rattle.std.specs.Prelude.{IsPermutation, drop}
+use Rattle.nz_machine.specs.Records.{Recorded}
 use Rattle.nz_machine.specs.Schedule.{posted_by_run}
 use Rattle.nz_fabric.specs.declared.batch.Batch.{Batch}
 use Rattle.nz_fabric.specs.declared.ticks.Ticks.{Ticks}
@@ -15,10 +16,11 @@ invariant_of-self g c =
     let f = c.self.inside in
     let t = f.ticks in
     let rs = f.records.records in
+    let rest = ap (λ (r : Recorded). drop f.before r.records) c.recording.ensures in
     let inv = c.self.invariant.1 in
     let unmarked : t.marked ≡ false = ap (λ (f : Shared). f.run.marked) c.self.view_is ∙ c.requires.unmarked in
     let now = c.post_all.new.calendar in
-    let posted = over_some t f.before rs _ f.items.items f.next now unmarked inv.is_posted c.since.ensures c.in_err-post_all.ensures.err in (
+    let posted = over_some t f.before rs _ f.items.items f.next now unmarked inv.is_posted rest c.in_err-post_all.ensures.err in (
       c.self.invariant.0,
       booked_marked _ f.book.total f.batches.taken t.scenario t.tick f.before f.records.room rs f.items.items f.next
           t.marked f.batches.running t.calendar now inv posted,
@@ -29,10 +31,11 @@ invariant_of-self-in_err-items g c =
     let f = c.self.inside in
     let t = f.ticks in
     let rs = f.records.records in
+    let rest = ap (λ (r : Recorded). drop f.before r.records) c.recording.ensures in
     let inv = c.self.invariant.1 in
     let unmarked : t.marked ≡ false = ap (λ (f : Shared). f.run.marked) c.self.view_is ∙ c.requires.unmarked in
     let now = c.post_all.new.calendar in
-    let posted = over_whole t f.before rs _ f.items.items f.next now unmarked inv.is_posted c.since.ensures c.in_ok-post_all.ensures.ok in
+    let posted = over_whole t f.before rs _ f.items.items f.next now unmarked inv.is_posted rest c.in_ok-post_all.ensures.ok in
     let booked =
     booked_marked _ f.book.total f.batches.taken t.scenario t.tick f.before f.records.room rs f.items.items f.next t.marked
     f.batches.running t.calendar now inv posted in (
@@ -47,12 +50,13 @@ invariant_of-self-2 g c =
     let f = c.self.inside in
     let t = f.ticks in
     let rs = f.records.records in
+    let rest = ap (λ (r : Recorded). drop f.before r.records) c.recording.ensures in
     let inv = c.self.invariant.1 in
     let is = c.group.new.items.items in
     let unmarked : t.marked ≡ false = ap (λ (f : Shared). f.run.marked) c.self.view_is ∙ c.requires.unmarked in
     let begun =
     begun_grouped t.scenario t.tick (posted_by_run (records_of (state_in t f.before rs f.items.items f.next))) c.begin.new.self c.in_ok-items.items.items is
-    (over_begun t f.before rs _ f.items.items f.next c.post_all.new.calendar c.begin.new.self c.in_ok-items.items.items unmarked inv.is_posted c.since.ensures
+    (over_begun t f.before rs _ f.items.items f.next c.post_all.new.calendar c.begin.new.self c.in_ok-items.items.items unmarked inv.is_posted rest
     c.in_ok-post_all.ensures.ok c.in_ok-items.ensures.ok) c.group.ensures in
     let long : c.len-self-inside.result ≡ length rs = omega (arith, c.len-self-inside.ensures) in
     let lt : t.tick < t.scenario.ticks = (let k = inv.accounted.in_run in let ne = c.if-self.false in omega (arith, k, ne)) in
@@ -67,12 +71,13 @@ returns g c =
     let f = c.self.inside in
     let t = f.ticks in
     let rs = f.records.records in
+    let rest = ap (λ (r : Recorded). drop f.before r.records) c.recording.ensures in
     let inv = c.self.invariant.1 in
     let is = c.group.new.items.items in
     let unmarked : t.marked ≡ false = ap (λ (f : Shared). f.run.marked) c.self.view_is ∙ c.requires.unmarked in
     let begun =
     begun_grouped t.scenario t.tick (posted_by_run (records_of (state_in t f.before rs f.items.items f.next))) c.begin.new.self c.in_ok-items.items.items is
-    (over_begun t f.before rs _ f.items.items f.next c.post_all.new.calendar c.begin.new.self c.in_ok-items.items.items unmarked inv.is_posted c.since.ensures
+    (over_begun t f.before rs _ f.items.items f.next c.post_all.new.calendar c.begin.new.self c.in_ok-items.items.items unmarked inv.is_posted rest
     c.in_ok-post_all.ensures.ok c.in_ok-items.ensures.ok) c.group.ensures in
     let long : c.len-self-inside.result ≡ length rs = omega (arith, c.len-self-inside.ensures) in
     let lt : t.tick < t.scenario.ticks = (let k = inv.accounted.in_run in let ne = c.if-self.false in omega (arith, k, ne)) in
