@@ -1,6 +1,8 @@
 -- The events of the records that were read, one record at a time.
-use Rattle.std.proofs.Common.{◌≡◌, ℕ, ◌+◌, ◌<◌, List, [], ◌∷◌, ◌++◌, length, map, take, reverse, get_or, sym, ap, subst, ◌∙◌}
+use Rattle.std.proofs.Common.{◌≡◌, ℕ, ◌+◌, List, [], ◌∷◌, ◌++◌, map, take, reverse, sym, ap, subst, ◌∙◌}
 use Rattle.std.proofs.lemmas.List.{append-nil, map-append}
+use Rattle.std.proofs.lemmas.Option.{slice_get_within, get_or_from_slice_get}
+use Rattle.std.specs.Prelude.{slice_get, Some}
 use Rattle.nz_machine.specs.declared.event.Record.{Record}
 use Rattle.nz_machine.specs.declared.client_progress.Progress.{Progress}
 use Rattle.nz_machine.specs.declared.client_progress.Telling.{Telling}
@@ -47,9 +49,10 @@ told_nothing g r J clients told w h nothing after = record {
 
 -- the next record was read
 pub next_read : (g : Group) (rs : List Record) (i : ℕ) (r : Record) (clients after : List Progress) (told new : List Event)
-    → World g (reverse rs) → i < length rs → r ≡ get_or rs i r
-    → AreRead g (reverse (take i rs)) clients told
+    → World g (reverse rs) → slice_get rs i ≡ Some r → AreRead g (reverse (take i rs)) clients told
     → ((J : List Record) → World g (r ∷ J) → AreRead g J clients told → AreRead g (r ∷ J) after new)
     → AreRead g (reverse (take (i + 1) rs)) after new
-next_read g rs i r clients after told new w lt at h reads =
-    subst (λ (K : List Record). AreRead g K after new) (sym (one_record rs i r lt at)) (reads (reverse (take i rs)) (world_with g rs i r w lt at) h)
+next_read g rs i r clients after told new w at h reads =
+    let lt = slice_get_within rs i r at in
+    let is = sym (get_or_from_slice_get rs i r r at) in
+    subst (λ (K : List Record). AreRead g K after new) (sym (one_record rs i r lt is)) (reads (reverse (take i rs)) (world_with g rs i r w lt is) h)

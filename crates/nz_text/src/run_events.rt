@@ -119,8 +119,15 @@ pub fn events_of(alloc: Global, journal: &Journal) -> Result<EventList, NoMemory
 {
     let mut clients = Clients::new(alloc, &journal.scenario)?;
     let mut events = EventList::new(alloc);
-    for next in journal.records.as_slice() {
-        add_next(alloc, &journal.scenario, &mut clients, next, &mut events)?;
+    for place in 0..journal.records.len() {
+        let next = journal.records.get(place);
+        add_next(
+            alloc,
+            &journal.scenario,
+            &mut clients,
+            next.as_record(),
+            &mut events,
+        )?;
     }
     Ok(events)
 }

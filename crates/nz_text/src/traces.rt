@@ -7,7 +7,7 @@ ghost use Rattle.nz_text.specs.Trace as trace_words;
 ghost use Rattle.nz_text.specs.Trace.{parcel_text, what_text, sends_text, record_line};
 
 use nz_base::{Blob, NoMemory};
-use nz_machine::{Event, Journal, Parcel, Record, Sends, kind_of};
+use nz_machine::{Event, Journal, Parcel, Record, RecordList, Sends, kind_of};
 use nz_script::{name_of, put, put_actor, put_number};
 use std::alloc::Global;
 
@@ -67,11 +67,11 @@ fn put_record(alloc: Global, out: &mut Vec<u8>, step: &Record) -> Result<(), NoM
     put_sends(alloc, out, &step.sends)
 }
 
-fn put_records(alloc: Global, out: &mut Vec<u8>, records: &[Record]) -> Result<(), NoMemory>
+fn put_records(alloc: Global, out: &mut Vec<u8>, records: &RecordList) -> Result<(), NoMemory>
     ensures { OnOk result (out.new.items ≡ out.old.items ++ flat_map record_line records.now) }
 {
-    for step in records {
-        put_record(alloc, out, step)?;
+    for place in 0..records.len() {
+        put_record(alloc, out, records.get(place).as_record())?;
     }
     Ok(())
 }
@@ -81,6 +81,6 @@ pub fn trace(alloc: Global, journal: &Journal) -> Result<Blob, NoMemory>
     ensures { IfOk result (λ bytes. bytes ≡ trace_words.trace (run_in journal.now)) }
 {
     let mut out = Vec::new(alloc);
-    put_records(alloc, &mut out, journal.records.as_slice())?;
+    put_records(alloc, &mut out, &journal.records)?;
     Ok(Blob::from_vec(out))
 }
