@@ -264,7 +264,7 @@ pub fn sendings_in(
             wanted,
             journal,
             place + 1,
-            journal.records.get(place),
+            journal.records.get(place).as_record(),
         )?;
     }
     Ok(reading.sendings)

@@ -56,7 +56,7 @@ fn replay_on(
     ensures { OnOk result (IsCore (group_in journal.now) (run_up_to journal.now to) number core.new) }
 {
     for place in from..to {
-        replay_one(core, number, journal.records.get(place))?;
+        replay_one(core, number, journal.records.get(place).as_record())?;
     }
     Ok(())
 }

@@ -90,7 +90,7 @@ pub fn accepted_in(alloc: Global, journal: &Journal) -> Result<Vec<AcceptedAt>, 
 {
     let mut told = Told::new(alloc, &journal.scenario)?;
     for place in 0..journal.records.len() {
-        told.read(alloc, place, journal.records.get(place))?;
+        told.read(alloc, place, journal.records.get(place).as_record())?;
     }
     Ok(told.accepted)
 }

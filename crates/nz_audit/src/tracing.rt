@@ -41,7 +41,7 @@ fn add_traced(
     ensures { OnOk result (found.new.items ≡ with_accepted found.old.items (traced journal.now answer.now)) }
 {
     let accepting = journal.records.get(answer.place);
-    if let Some(source) = sendings.source_of_event(&accepting.event)? {
+    if let Some(source) = sendings.source_of_event(&accepting.as_record().event)? {
         found.push(answer.from(source))?;
     }
     Ok(())
