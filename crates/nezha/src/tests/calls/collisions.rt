@@ -8,7 +8,7 @@ use nz_base::{Actor, Cluster, Id, Key, NoMemory};
 use nz_digest::Digest;
 use nz_edge::OpenGate;
 use nz_log::HashedLog;
-use nz_machine::{Core, Record};
+use nz_machine::{Core, Record, RecordList};
 use nz_msg::{DecodeRefusal, Message, decode};
 use nz_replica::Replica;
 use std::alloc::Global;
@@ -74,14 +74,16 @@ fn add_replica(
     alloc: Global,
     cluster: Cluster,
     number: u8,
-    records: &[Record],
+    records: &RecordList,
     lists: &mut Vec<RepliedOver>,
 ) -> Result<(), NoMemory> {
     if number >= cluster.n() {
         return Ok(());
     }
     let mut replica = Replica::new(alloc, cluster, number)?;
-    for record in records {
+    for place in 0..records.len() {
+        let next = records.get(place);
+        let record = next.as_record();
         if record.actor.is(&Actor::Replica(number)) {
             if replica.is_live() {
                 replica.step(&record.event)?;
@@ -107,13 +109,7 @@ fn no_lists_of_keys_collide(rt: HostRuntime) -> Result<(), Fail> {
     let cluster = journal.scenario.cluster;
     let mut lists = Vec::new(rt.alloc());
     for number in 0..cluster.n() {
-        add_replica(
-            rt.alloc(),
-            cluster,
-            number,
-            journal.records.as_slice(),
-            &mut lists,
-        )?;
+        add_replica(rt.alloc(), cluster, number, &journal.records, &mut lists)?;
     }
     // Each replica replies to the put over one key, and to the get over two.
     assert_eq!(rt; lists.len(), 6);

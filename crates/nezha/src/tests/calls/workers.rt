@@ -8,7 +8,7 @@ use super::{answer_through, plain};
 use nz_audit::history_of;
 use nz_base::{Actor, Id, NoMemory};
 use nz_edge::{Gate, OpenGate};
-use nz_machine::{Acceptance, Clients, Executed, Journal, Record};
+use nz_machine::{Acceptance, Clients, Executed, Journal, RecordList};
 use nz_store::Answer;
 use nz_text::{Event, read_text};
 use nz_top::Status;
@@ -69,8 +69,9 @@ fn are_sendings(events: &[Event], journal: &Journal, sent: &[Id]) -> bool {
 fn are_events(alloc: Global, journal: &Journal, events: &[Event]) -> Result<bool, NoMemory> {
     let mut clients = Clients::new(alloc, &journal.scenario)?;
     let mut place = 0usize;
-    for next in journal.records.as_slice() {
-        let telling = clients.tell(alloc, next)?;
+    for count in 0..journal.records.len() {
+        let next = journal.records.get(count);
+        let telling = clients.tell(alloc, next.as_record())?;
         if let Some(accepted) = &telling.accepted {
             if !is_acceptance(events.get(place), accepted) {
                 return Ok(false);
@@ -199,8 +200,13 @@ impl Gate for Holding {
 }
 
 /// The place of the first record of an actor.
-fn first_of(records: &[Record], actor: Actor) -> Option<usize> {
-    records.iter().position(|record| record.actor == actor)
+fn first_of(records: &RecordList, actor: Actor) -> Option<u32> {
+    for place in 0..records.len() {
+        if records.get(place).as_record().actor == actor {
+            return Some(place);
+        }
+    }
+    None
 }
 
 #[test]
@@ -219,9 +225,8 @@ fn held_lock_stops_no_other_worker(rt: HostRuntime) -> Result<(), Fail> {
     let Some(journal) = &outcome.journal else {
         return Err("a run".into());
     };
-    let records = journal.records.as_slice();
-    let held = first_of(records, Actor::Replica(0)).ok_or("r0 steps")?;
-    let next = first_of(records, Actor::Replica(1)).ok_or("r1 steps")?;
+    let held = first_of(&journal.records, Actor::Replica(0)).ok_or("r0 steps")?;
+    let next = first_of(&journal.records, Actor::Replica(1)).ok_or("r1 steps")?;
     assert!(rt; next < held);
     Ok(())
 }
