@@ -12,8 +12,9 @@ use Rattle.nz_machine.specs.World.{state_after}
 use Rattle.nz_machine.proofs.Runs.{acts_itself}
 use Rattle.nz_fabric.specs.declared.batch.Batch.{Batch}
 use Rattle.nz_fabric.specs.Records.{ActorSteps, with_step}
-use Rattle.nz_fabric.specs.Steps.{batch_records, node_after, node_from, sends_from, with_steps}
-use Rattle.nz_actor.specs.Actings.{Acting, IsActing, IsStopped, sends_in, with_batch}
+use Rattle.nz_fabric.specs.Shared.{Shared, next_item, next_record}
+use Rattle.nz_fabric.specs.Steps.{batch_records, node_after, node_from, sends_after, sends_from, with_steps}
+use Rattle.nz_actor.specs.Actings.{Acting, IsActing, IsStopped, sends_in, with_batch, with_item}
 
 -- ---- the start
 
@@ -129,3 +130,40 @@ pub played_some : (g : Group) (own now : ActorSteps) (batch : Batch) (tick : ℕ
     (IsStopped (record { own = own; ready = before }) (record { own = now; ready = recorded }))
 played_some g own now batch tick sends known true before sent lane = (tick, (played g own now batch tick sends known true before sent lane).1)
 played_some g own now batch tick sends known false before sent lane = played g own now batch tick sends known false before sent lane
+
+-- ---- one item
+
+-- what the core sends on an event is what the actor sends after its records
+pub sent_once : (g : Group) (own : ActorSteps) (old new : Node) (i e : Event) (sends : List Parcel) → i ≡ e → old ≡ node_after g own
+    → node_run g old i ≡ (new, sends) → sends ≡ sends_after g own e
+sent_once g own old new i e sends same stands step =
+    sym (ap (λ (t : Node × List Parcel). t.1) step) ∙ ap (λ (n : Node). (node_run g n i).1) stands ∙ ap (sends_after g own) same
+
+-- the core is there after the item, where this was recorded
+pub acting_next : (g : Group) (own now : ActorSteps) (old new : Node) (live : Bool) (fits : Type 0) (i : Event) (sends : List Parcel) (f : Shared)
+    (known : Type 0) (recorded : Bool) → fits → live ≡ true → i ≡ (next_item f).event → old ≡ node_after g own → node_run g old i ≡ (new, sends)
+    → (next_item f).actor ≡ own.actor → MatchBool recorded (known × (now ≡ with_step (next_record sends f) own)) (now ≡ own)
+    → IsActing g new live fits (record { own = now; ready = recorded })
+acting_next g own now old new live fits i sends f known recorded is_of lives same stands step actor lane = record {
+  is_of = is_of;
+  there = λ is. record {
+    lives = lives;
+    stands =
+        sym (ap (λ (t : Node × List Parcel). t.0) step) ∙ ap (λ (n : Node). (node_run g n i).0) stands
+        ∙ ap (λ (e : Event). (node_run g (node_after g own) e).0) same ∙ sym (node_with_step g own (next_record sends f) actor)
+        ∙ ap (node_after g) (sym (subst (λ (b : Bool). MatchBool b (known × (now ≡ with_step (next_record sends f) own)) (now ≡ own)) is lane).1);
+  };
+}
+
+-- the actor after the item, where it was recorded and where it was not
+pub stepped : (g : Group) (own now : ActorSteps) (f : Shared) (sends : List Parcel) (known : Type 0) (recorded before : Bool)
+    → sends ≡ sends_after g own (next_item f).event → MatchBool recorded (known × (now ≡ with_step (next_record sends f) own)) (now ≡ own)
+    → MatchBool recorded
+    (known × (let s : Acting = record { own = now; ready = recorded } in s ≡ with_item g f (record { own = own; ready = before })))
+    (let s : Acting = record { own = now; ready = recorded } in s ≡ record { own = own; ready = false })
+stepped g own now f sends known true before sent lane = (
+  lane.0,
+  ap (λ (o : ActorSteps). let s : Acting = record { own = o; ready = true } in s)
+      (lane.1 ∙ ap (λ (sends : List Parcel). with_step (next_record sends f) own) sent),
+)
+stepped g own now f sends known false before sent lane = ap (λ (o : ActorSteps). let s : Acting = record { own = o; ready = false } in s) lane

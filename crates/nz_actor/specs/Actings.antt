@@ -4,8 +4,9 @@ use Rattle.nz_machine.specs.declared.event.Parcel.{Parcel}
 use Rattle.nz_machine.specs.State.{Group}
 use Rattle.nz_machine.specs.Step.{Node}
 use Rattle.nz_fabric.specs.declared.batch.Batch.{Batch}
-use Rattle.nz_fabric.specs.Records.{ActorSteps}
-use Rattle.nz_fabric.specs.Steps.{batch_records, node_after, sends_from, with_steps}
+use Rattle.nz_fabric.specs.Records.{ActorSteps, with_step}
+use Rattle.nz_fabric.specs.Shared.{Shared, next_item, next_record}
+use Rattle.nz_fabric.specs.Steps.{batch_records, node_after, sends_after, sends_from, with_steps}
 
 -- An actor with its records, and whether it takes batches.
 pub record Acting : Type 0 where
@@ -32,6 +33,10 @@ with_batch g tick batch s = record {
   own = with_steps (batch_records tick batch.actor batch.events (sends_in g s.own batch)) s.own;
   ready = true;
 }
+
+-- The actor after the next item of a network, which was recorded with what the machine says.
+abbrev pub with_item : Group → Shared → Acting → Acting
+with_item g f s = record { own = with_step (next_record (sends_after g s.own (next_item f).event) f) s.own; ready = true }
 
 -- After a batch that was given up the actor takes no further one. It may have some of the batch's records.
 pub record IsStopped (old new : Acting) : Type 0 where

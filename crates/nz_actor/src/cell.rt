@@ -1,11 +1,11 @@
 //! The lock around an actor, and how a batch is played under it.
 
 ghost use Rattle.std.specs.Prelude.{◌≡◌, ◌+◌, ◌<◌};
-ghost use Rattle.nz_fabric.specs.Shared.{ClosesBatch};
+ghost use Rattle.nz_fabric.specs.Shared.{ClosesBatch, PlaysNext};
 
 use crate::state::ActorState;
 use nz_edge::Gate;
-use nz_fabric::{Fabric, Name, Share, Taken};
+use nz_fabric::{Fabric, FabricState, Name, Share, Taken};
 use nz_machine::Core;
 use std::sync::{Mutex, Wait};
 
@@ -47,6 +47,19 @@ impl<N: Name, C: Core> ActorCell<N, C> {
             return;
         }
         state.play(rt, batch, fabric, share);
+    }
+
+    /// Plays the next item of the network under the actor's lock, and records it at once. Where it is not the actor's, or
+    /// there is no memory, no further item is given. May wait.
+    pub fn step_next(&self, rt: &impl Wait, fabric: &mut FabricState<N>) -> bool
+        ensures { PlaysNext result fabric.old fabric.new }
+    {
+        let mut state = self.state.lock(rt);
+        if !state.is_next(fabric) {
+            fabric.stop();
+            return false;
+        }
+        state.step_next(fabric)
     }
 }
 

@@ -1,12 +1,14 @@
 //! An actor's core with what the actor knows of its records.
 
-ghost use Rattle.std.specs.Prelude.{◌≡◌, ◌↔◌, ◌+◌, ◌<◌, ℕ, [], true, IsTrue, MatchBool};
+ghost use Rattle.std.specs.Prelude.{◌≡◌, ◌↔◌, ◌+◌, ◌<◌, ℕ, [], true, false, IsTrue, MatchBool};
 ghost use Rattle.nz_machine.specs.Schedule.{group_of};
 ghost use Rattle.nz_machine.specs.Step.{first_node};
 ghost use Rattle.nz_fabric.specs.Records.{steps_of};
 ghost use Rattle.nz_fabric.specs.Shared.{with_record, ClosesBatch, IsGivenUp};
+ghost use Rattle.nz_fabric.specs.Shared.{next_item, with_next, with_stop, HasNext};
 ghost use Rattle.nz_fabric.specs.States.{records_of};
-ghost use Rattle.nz_actor.specs.Actings.{sends_in, with_batch, IsStopped};
+ghost use Rattle.nz_fabric.specs.Steps.{sends_after};
+ghost use Rattle.nz_actor.specs.Actings.{sends_in, with_batch, with_item, IsStopped};
 
 use crate::steps::step_all;
 use nz_fabric::{Fabric, FabricState, Lane, Name, Share, Taken};
@@ -113,6 +115,42 @@ impl<N: Name, C: Core> ActorState<N, C> {
             return false;
         };
         self.ready = fabric.record(batch, sends, share, &mut self.lane);
+        self.ready
+    }
+
+    /// Whether the next item of the network is this actor's, and the actor takes items.
+    pub fn is_next(&self, fabric: &FabricState<N>) -> bool
+        ensures { IsTrue result ↔ (HasNext fabric.now × ((self.now.ready ≡ true) × ((next_item fabric.now).actor ≡ self.now.own.actor))) }
+    {
+        match fabric.next_item() {
+            Some(item) => self.ready && item.actor.is(&self.lane.actor()),
+            None => false,
+        }
+    }
+
+    /// The core takes the next item of the network, which is recorded at once. Where it is not, no further item is given,
+    /// and the actor takes none.
+    pub fn step_next(&mut self, fabric: &mut FabricState<N>) -> bool
+        requires next { HasNext fabric.old }
+        requires ready { self.old.ready ≡ true }
+        requires actor { (next_item fabric.old).actor ≡ self.old.own.actor }
+        ensures recorded { MatchBool result
+            ((self.old.own ≡ steps_of self.old.own.actor (records_of fabric.old.run))
+            × (self.new ≡ with_item (group_of N.scenario) fabric.old self.old))
+            (self.new ≡ record self.old { ready = false }) }
+        ensures fabric { MatchBool result
+            (fabric.new ≡ with_next (sends_after (group_of N.scenario) self.old.own (next_item fabric.old).event) fabric.old)
+            (fabric.new ≡ with_stop fabric.old) }
+    {
+        let Some(item) = fabric.next_item() else {
+            unreachable!();
+        };
+        self.ready = false;
+        let Ok(sends) = self.core.step(&item.event) else {
+            fabric.stop();
+            return false;
+        };
+        self.ready = fabric.record_next(sends, &mut self.lane);
         self.ready
     }
 }

@@ -128,6 +128,14 @@ one_closed given_up running here done done' rest i b lt at whole turned =
     (IsPermutation-append_left here _ _ (IsPermutation-append_comm done left))) in
     IsPermutation-trans _ _ _ swapped (IsPermutation-append_right left _ _ (IsPermutation-append_left here _ _ turned))
 
+-- one more is recorded, of which no batch was open
+pub one_recorded : (others here taken : List Item) (i : Item) → IsPermutation taken (others ++ here)
+    → IsPermutation (taken ++ i ∷ []) (others ++ (i ∷ here))
+one_recorded others here taken i h =
+    IsPermutation-trans _ _ _ (IsPermutation-append_left (i ∷ []) _ _ h)
+    (subst (λ (is : List Item). IsPermutation is (others ++ (i ∷ here))) (sym (append_assoc others here (i ∷ [])))
+    (IsPermutation-append_right others _ _ (IsPermutation-append_comm here (i ∷ []))))
+
 -- ---- the records of a batch
 
 items_by : (g : Group) (n : Node) (tick : ℕ) (a : Actor) (events : List Event)

@@ -3,11 +3,14 @@ use Rattle.std.proofs.Common.{◌≡◌, ℕ, zero, suc, ◌+◌, ◌^◌, ◌<�
 use Rattle.std.proofs.Common.{refl, sym, ap, ◌∙◌, subst, arith, length-append, append-nil, take_all}
 use Rattle.std.specs.Prelude.{take, drop, reverse, get_or, IsPermutation}
 use Rattle.std.specs.List.{AllByRecursion, flat_map, remove}
-use Rattle.std.proofs.lemmas.List.{map-append, length-map, length-take-le}
+use Rattle.std.proofs.lemmas.List.{map-append, length-map, length-take-le, get_or_default}
+use Rattle.std.proofs.lemmas.Option.{slice_get-get_or}
 use Rattle.std.proofs.lemmas.Grind.{reverse_onto}
 use Rattle.std.proofs.lemmas.List.Sorted.{IsPermutation-refl, IsPermutation-map, IsPermutation-trans}
 use Rattle.std.proofs.lemmas.List.Sorted.{IsPermutation-reverse, IsPermutation-remove, length_permutation}
+use Rattle.nz_base.specs.declared.actor.Actor.{Actor}
 use Rattle.nz_base.specs.declared.scenario.Scenario.{Scenario}
+use Rattle.nz_machine.specs.declared.event.Event.{Event}
 use Rattle.nz_machine.specs.declared.event.Record.{Record}
 use Rattle.nz_machine.specs.declared.journal.Item.{Item}
 use Rattle.nz_machine.specs.Schedule.{item, item_of, due, posted_by_run, ScheduledTo, IsPlayable}
@@ -15,14 +18,16 @@ use Rattle.nz_machine.specs.State.{Group}
 use Rattle.nz_machine.specs.Step.{Node}
 use Rattle.nz_machine.specs.declared.event.Parcel.{Parcel}
 use Rattle.nz_machine.proofs.EachItem.{all_append, all_of_prefix}
+use Rattle.nz_machine.proofs.ListParts.{take_next}
 use Rattle.nz_fabric.specs.Records.{AddsSome}
-use Rattle.nz_fabric.specs.Steps.{batch_records, sends_from}
+use Rattle.nz_fabric.specs.Steps.{batch_records, sends_from, step_of}
 use Rattle.nz_fabric.specs.declared.batch.Batch.{Batch}
 use Rattle.nz_fabric.specs.declared.ticks.Ticks.{Ticks}
 use Rattle.nz_fabric.specs.States.{State, records_of, IsNew, IsPosted, after_tick, IsBegunInSomeOrder, state_of, state_in, HasBegunAs}
 use Rattle.nz_fabric.specs.Calendars.{Dates}
 use Rattle.nz_fabric.specs.Shared.{Shared, shared_with, items_of, IsNextOf, with_opened, after_shared, IsOver, IsAccounted, IsBooked}
-use Rattle.nz_fabric.proofs.Batching.{run_taken, batch_apart, one_opened, one_closed, records_items, records_tick}
+use Rattle.nz_fabric.specs.Shared.{HasNext, next_item, next_record, no_item, with_next}
+use Rattle.nz_fabric.proofs.Batching.{run_taken, batch_apart, one_opened, one_closed, one_recorded, records_items, records_tick}
 use Rattle.nz_fabric.proofs.Held.{no_records, long_here, state_records, next_is, posted_start, posted_more, posted_next}
 
 -- ---- the start
@@ -55,11 +60,12 @@ booked_start s total taken t records running room play new no_record none nothin
 
 -- ---- how many records there are
 
-pub booked_few : (s : Scenario) (total taken : ℕ) (scenario : Scenario) (tick before room : ℕ)
+-- no more of them than items that were taken
+pub booked_long : (s : Scenario) (total taken : ℕ) (scenario : Scenario) (tick before room : ℕ)
     (records : List Record) (items : List Item) (next : ℕ) (marked : Bool) (c : Dates) (running : List Batch)
     → IsBooked s total (shared_with (state_of scenario tick before records items next marked) running taken) before room records c
-    → length records < 2 ^ 32
-booked_few s total taken scenario tick before room records items next marked c running h =
+    → length records ≤ before + next
+booked_long s total taken scenario tick before room records items next marked c running h =
     let k = h.accounted in
     let here = reverse (drop before records) in
     let others = k.given_up ++ flat_map items_of running in
@@ -68,8 +74,16 @@ booked_few s total taken scenario tick before room records items next marked c r
     let a = length-append others (map item_of here) in
     let recorded = length-map here item_of in
     let long = long_here before records h.within in
+    omega (arith, all, first, a, recorded, long)
+
+pub booked_few : (s : Scenario) (total taken : ℕ) (scenario : Scenario) (tick before room : ℕ)
+    (records : List Record) (items : List Item) (next : ℕ) (marked : Bool) (c : Dates) (running : List Batch)
+    → IsBooked s total (shared_with (state_of scenario tick before records items next marked) running taken) before room records c
+    → length records < 2 ^ 32
+booked_few s total taken scenario tick before room records items next marked c running h =
+    let long = booked_long s total taken scenario tick before room records items next marked c running h in
     let few = h.few in
-    omega (arith, all, first, a, recorded, long, few)
+    omega (arith, long, few)
 
 -- ---- one batch more
 
@@ -252,6 +266,70 @@ booked_given_up s total total' taken scenario tick before room records items nex
     (append-nil records)
     (booked_closed s total total' taken scenario tick before room records [] (items_of b) items next marked true c running left i b h lt at without count
     tt refl (λ e. cc))
+
+-- ---- the next item is taken, and at once recorded
+
+-- the record of the item that was read
+pub next_record_is : (f : Shared) (sends : List Parcel) (a : Actor) (e : Event) (i : Item) → HasNext f → i ≡ get_or f.run.items f.run.next i
+    → a ≡ (next_item f).actor → e ≡ i.event → step_of f.run.tick a e sends ≡ next_record sends f
+next_record_is f sends a e i has at own same =
+    ap (λ (a : Actor). step_of f.run.tick a e sends) own
+    ∙ ap (λ (e : Event). step_of f.run.tick (next_item f).actor e sends)
+    (same ∙ ap (λ (i : Item). i.event) (at ∙ get_or_default f.run.items f.run.next i no_item has.some))
+
+-- it has its record in front
+pub with_next_is : (scenario : Scenario) (tick before : ℕ) (records : List Record) (items : List Item) (next : ℕ) (marked : Bool)
+    (running : List Batch) (taken : ℕ) (sends : List Parcel) (r : Record) → before ≤ length records
+    → r ≡ next_record sends (shared_with (state_of scenario tick before records items next marked) running taken)
+    → shared_with (state_of scenario tick before (records ++ r ∷ []) items (next + 1) marked) running taken
+    ≡ with_next sends (shared_with (state_of scenario tick before records items next marked) running taken)
+with_next_is scenario tick before records items next marked running taken sends r le is =
+    ap (λ (run : State). shared_with run running taken) (state_records scenario tick before records (r ∷ []) items (next + 1) marked le)
+    ∙ ap (λ (r : Record). shared_with (record (state_of scenario tick before records items next marked) {
+      next = next + 1;
+      here = r ∷ reverse (drop before records);
+    }) running taken) is
+
+accounted_next_item : (s : Scenario) (f : Shared) (sends : List Parcel) → IsAccounted s f → HasNext f → IsAccounted s (with_next sends f)
+accounted_next_item s f sends k has =
+    let some = has.some in
+    record {
+      scenario = k.scenario;
+      playable = k.playable;
+      in_run = k.in_run;
+      begun = k.begun;
+      here = (refl, k.here);
+      next = omega (arith, some);
+      given_up = k.given_up;
+      each_once =
+          subst (λ (is : List Item). IsPermutation is ((k.given_up ++ flat_map items_of f.running) ++ (next_item f ∷ map item_of f.run.here)))
+          (sym (take_next f.run.items f.run.next (next_item f) (slice_get-get_or f.run.items f.run.next no_item some)))
+          (one_recorded (k.given_up ++ flat_map items_of f.running) (map item_of f.run.here) (take f.run.next f.run.items) (next_item f) k.each_once);
+      all_kept = k.all_kept;
+    }
+
+pub booked_next_item : (s : Scenario) (total taken : ℕ) (scenario : Scenario) (tick before room room' : ℕ) (records : List Record)
+    (items : List Item) (next : ℕ) (marked : Bool) (c : Dates) (running : List Batch) (sends : List Parcel) (r : Record)
+    → IsBooked s total (shared_with (state_of scenario tick before records items next marked) running taken) before room records c
+    → HasNext (shared_with (state_of scenario tick before records items next marked) running taken)
+    → r ≡ next_record sends (shared_with (state_of scenario tick before records items next marked) running taken)
+    → before + (next + 1) ≤ room' → before + (next + 1) < 2 ^ 32
+    → IsBooked s total (shared_with (state_of scenario tick before (records ++ r ∷ []) items (next + 1) marked) running taken) before room' (records ++ r ∷ []) c
+booked_next_item s total taken scenario tick before room room' records items next marked c running sends r h has is reserved few =
+    let f = shared_with (state_of scenario tick before records items next marked) running taken in
+    let long = length-append records (r ∷ []) in
+    let within = h.within in
+    let posted = posted_more f.run (next_record sends f ∷ []) marked c (λ e. e) h.is_posted in
+    subst (λ (f : Shared). IsBooked s total f before room' (records ++ r ∷ []) c)
+    (sym (with_next_is scenario tick before records items next marked running taken sends r h.within is))
+    (record {
+      accounted = accounted_next_item s f sends h.accounted has;
+      within = omega (arith, long, within);
+      few = few;
+      reserved = reserved;
+      is_posted = record { sent = posted.sent; rest = posted.rest; prefix = posted.prefix; stands = posted.stands; none = posted.none };
+      booked = h.booked;
+    })
 
 -- ---- the next tick
 

@@ -1,13 +1,14 @@
 -- What contracts see of a fabric of threads, and what it keeps.
-use Rattle.std.specs.Prelude.{◌≡◌, ℕ, ◌+◌, ◌≤◌, ◌<◌, ◌^◌, ◌==◌, false, List, [], ◌∷◌, ◌++◌, length}
-use Rattle.std.specs.Prelude.{map, take, drop, reverse, get_or, unwrap_or, IsPermutation}
+use Rattle.std.specs.Prelude.{◌≡◌, ℕ, ◌+◌, ◌≤◌, ◌<◌, ◌^◌, ◌==◌, Bool, false, List, [], ◌∷◌, ◌++◌, length}
+use Rattle.std.specs.Prelude.{map, take, drop, reverse, get_or, unwrap_or, IsPermutation, MatchBool}
 use Rattle.std.specs.List.{AllByRecursion, flat_map, remove, position, take_while}
 use Rattle.nz_base.specs.Actor.{actor_eq}
 use Rattle.nz_base.specs.declared.actor.Actor.{Actor}
+use Rattle.nz_base.specs.declared.actor.Actor.TheVariants.{Replica}
 use Rattle.nz_base.specs.declared.limits.TheConstants.{MAX_WORKERS}
 use Rattle.nz_base.specs.declared.scenario.Scenario.{Scenario}
 use Rattle.nz_machine.specs.declared.event.Event.{Event}
-use Rattle.nz_machine.specs.declared.event.Event.TheVariants.{Deliver, Cut}
+use Rattle.nz_machine.specs.declared.event.Event.TheVariants.{Alarm, Deliver, Cut}
 use Rattle.nz_machine.specs.declared.event.Parcel.{Parcel}
 use Rattle.nz_machine.specs.declared.event.Record.{Record}
 use Rattle.nz_machine.specs.declared.journal.Item.{Item}
@@ -16,7 +17,7 @@ use Rattle.nz_fabric.specs.declared.batch.Batch.{Batch}
 use Rattle.nz_fabric.specs.Takes.{no_batch}
 use Rattle.nz_fabric.specs.Calendars.{Dates}
 use Rattle.nz_fabric.specs.States.{State, start_state, IsPosted, with_mark, after_tick, IsBegunInSomeOrder}
-use Rattle.nz_fabric.specs.Steps.{batch_records}
+use Rattle.nz_fabric.specs.Steps.{batch_records, step_of}
 
 -- The run; the batches that are open: they were taken, and neither recorded nor given up; and how many were taken in all.
 pub record Shared : Type 0 where
@@ -105,6 +106,35 @@ with_given_up number f = record f { run = with_mark f.run; running = without_bat
 -- while the batch is recorded, some first records of the batch are left.
 abbrev pub IsGivenUp : ℕ → Shared → Shared → Type 0
 IsGivenUp number old new = let f = with_given_up number old in new ≡ record f { run = record f.run { here = new.run.here } }
+
+-- What is read where no item is left.
+abbrev pub no_item : Item
+no_item = item (Replica 0) Alarm
+
+-- The next item, the first that was not taken.
+abbrev pub next_item : Shared → Item
+next_item f = get_or f.run.items f.run.next no_item
+
+-- The run goes on, and there is a next item.
+pub record HasNext (f : Shared) : Type 0 where
+  pub unmarked : f.run.marked ≡ false
+  pub some : f.run.next < length f.run.items
+
+-- The record of the next item, with these sends.
+abbrev pub next_record : List Parcel → Shared → Record
+next_record sends f = let i = next_item f in step_of f.run.tick i.actor i.event sends
+
+-- The next item is taken, and at once recorded with these sends.
+abbrev pub with_next : List Parcel → Shared → Shared
+with_next sends f = record f { run = record f.run { next = f.run.next + 1; here = next_record sends f ∷ f.run.here } }
+
+-- No further item is given.
+abbrev pub with_stop : Shared → Shared
+with_stop f = record f { run = with_mark f.run }
+
+-- The next item was recorded, with some sends; or it was not, and no further one is given.
+abbrev pub PlaysNext : Bool → Shared → Shared → Type 0
+PlaysNext recorded old new = MatchBool recorded (HasNext old × (sends : List Parcel) × (new ≡ with_next sends old)) (new ≡ with_stop old)
 
 -- All that is due in the tick was recorded.
 pub record IsOver (f : Shared) : Type 0 where

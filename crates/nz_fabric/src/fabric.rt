@@ -4,12 +4,6 @@ use crate::fabric_state::FabricState;
 use crate::name::Name;
 use std::sync::{Condvar, Mutex, MutexGuard, Wait};
 
-/// A tick with fewer items wakes no worker: those that are awake do it sooner. A cluster has at most 81
-/// clocks, which are done sooner than a thread is woken.
-const MANY: usize = 128;
-/// A tick that brings as many bytes to somebody wakes workers too: whole logs take long.
-const LONG: usize = 1 << 14;
-
 /// The state of a run on several threads, under its lock.
 #[derive(Drop)]
 pub struct Fabric<N: Name> {
@@ -18,7 +12,10 @@ pub struct Fabric<N: Name> {
 }
 
 impl<N: Name> Fabric<N> {
-    pub fn new(state: FabricState<N>) -> Fabric<N> {
+    /// For this many workers.
+    pub fn new(state: FabricState<N>, workers: u8) -> Fabric<N> {
+        let mut state = state;
+        state.begin_awake(workers);
         Fabric {
             state: Mutex::new(state),
             moved: Condvar::new(),
@@ -30,19 +27,12 @@ impl<N: Name> Fabric<N> {
         self.state.lock(rt)
     }
 
-    /// For a worker that was given no batch. Begins the next tick where all that was due in this one was recorded,
-    /// and waits where only batches of other workers are left. False where no further batch is given.
-    pub fn go_on(&self, rt: &impl Wait) -> bool {
-        let mut guard = self.state.lock(rt);
-        let state = &mut *guard;
-        if state.is_over() {
-            let begun = state.next_tick().unwrap_or(false);
-            if !begun || state.due() >= MANY || state.brings(LONG) {
-                self.wake_all();
-            }
-            return begun;
-        }
-        let guard = self.moved.wait_while(rt, guard, |state| state.must_wait());
+    /// Waits while only batches of other workers are left. False where no further batch is given.
+    pub fn wait(&self, rt: &impl Wait, guard: MutexGuard<'_, FabricState<N>>) -> bool {
+        let mut guard = guard;
+        guard.fall_asleep();
+        let mut guard = self.moved.wait_while(rt, guard, |state| state.must_wait());
+        guard.wake_up();
         !guard.is_marked()
     }
 

@@ -6,11 +6,11 @@ ghost use Rattle.nz_fabric.specs.Shared as shared;
 ghost use Rattle.std.specs.Prelude.{IsTrue, IfOk, IfSome, MatchBool, MatchOption, MatchResult};
 ghost use Rattle.nz_machine.specs.Journals.{run_in};
 ghost use Rattle.nz_machine.specs.Schedule.{group_of, IsPlayable, Scheduled};
-ghost use Rattle.nz_fabric.specs.Records.{steps_of};
-ghost use Rattle.nz_fabric.specs.Steps.{AreSteps, batch_records, node_after, sends_from, with_steps};
-ghost use Rattle.nz_fabric.specs.States.{records_of, with_mark};
-ghost use Rattle.nz_fabric.specs.Shared.{IsAccounted, IsGivenUp, IsNextOf, IsNextTick, IsOver, MustWait, ClosesBatch, IsWhole};
-ghost use Rattle.nz_fabric.specs.Shared.{start_shared, with_given_up, with_opened, with_record};
+ghost use Rattle.nz_fabric.specs.Records.{steps_of, with_step};
+ghost use Rattle.nz_fabric.specs.Steps.{AreSteps, batch_records, node_after, sends_after, sends_from, with_steps};
+ghost use Rattle.nz_fabric.specs.States.{records_of};
+ghost use Rattle.nz_fabric.specs.Shared.{HasNext, IsAccounted, IsGivenUp, IsNextOf, IsNextTick, IsOver, MustWait, ClosesBatch, IsWhole};
+ghost use Rattle.nz_fabric.specs.Shared.{next_item, next_record, start_shared, with_given_up, with_next, with_opened, with_record, with_stop};
 ghost use Rattle.nz_base.specs.declared.limits.TheConstants.{MAX_WORKERS};
 
 use crate::batch::{Batch, first_events};
@@ -24,11 +24,17 @@ use crate::posting::post_all;
 use crate::records::Records;
 use crate::share::Share;
 use crate::ticks::Ticks;
-use nz_base::{Actor, NoMemory, Scenario};
-use nz_machine::{Event, Item, Journal, Sends};
+use nz_base::{Actor, NoMemory, Scenario, TryCopy};
+use nz_machine::{Event, Item, Journal, Record, Sends};
 use std::alloc::Global;
 use std::marker::Model;
 use std::sync::ledger::{Blank, Book};
+
+/// A tick with fewer items is small: those that are awake do it sooner than others are woken. A cluster has at most 81
+/// clocks, which are done sooner than a thread is woken.
+const MANY: usize = 128;
+/// A tick that brings as many bytes to somebody is not small: whole logs take long.
+const LONG: usize = 1 << 14;
 
 /// The network of a run on several threads: what is due, the batches that are open, and the journal, in which the
 /// records of a tick are in any order.
@@ -44,6 +50,8 @@ pub struct FabricState<N: Name> {
     before: usize,
     batches: OpenBatches<N>,
     book: Book<N>,
+    /// How many workers do not wait.
+    awake: u8,
 }
 
 impl<N: Name> Model for FabricState<N> {
@@ -98,6 +106,7 @@ impl<N: Name> FabricState<N> {
             before: 0,
             batches: OpenBatches::new(alloc, takes),
             book,
+            awake: 1,
         };
         Ok((state, Share { held }))
     }
@@ -183,6 +192,68 @@ impl<N: Name> FabricState<N> {
         self.book.sub(&mut share.held, 1);
     }
 
+    /// The next item of the tick, which was not taken. None where all were taken, and where no further one is given.
+    pub fn next_item(&self) -> Option<&Item>
+        ensures { MatchOption result ((self.now.run.marked ≡ true) ⊎ (self.now.run.next ≡ length self.now.run.items))
+            (λ item. HasNext self.now × (item.now ≡ next_item self.now)) }
+    {
+        if self.ticks.marked || self.next == self.items.len() {
+            return None;
+        }
+        Some(&self.items[self.next])
+    }
+
+    /// The next item is taken, and is at once the last record. `NoMemory` also where its actor has not seen all of its
+    /// earlier records.
+    fn push_next(&mut self, sends: Sends, lane: &mut Lane<N>) -> Result<(), NoMemory>
+        requires next { HasNext self.old }
+        requires own { (next_item self.old).actor ≡ lane.old.actor }
+        requires sent { sends ≡ sends_after (group_of N.scenario) lane.old (next_item self.old).event }
+        ensures { MatchResult result
+            (λ _. (self.new ≡ with_next sends self.old)
+            × ((lane.old ≡ steps_of lane.old.actor (records_of self.old.run)) × (lane.new ≡ with_step (next_record sends self.old) lane.old)))
+            (λ _. (self.new ≡ self.old) × (lane.new ≡ lane.old)) }
+    {
+        let event = self.items[self.next].event.copy(self.ticks.alloc)?;
+        self.records.reserve_to(self.before + self.next + 1)?;
+        let step = Record {
+            tick: self.ticks.tick,
+            actor: lane.actor(),
+            event,
+            sends,
+        };
+        if !self.records.push(lane, step) {
+            return Err(NoMemory);
+        }
+        self.next += 1;
+        Ok(())
+    }
+
+    /// The next item is taken, and is at once the last record. Where there is no memory, or its actor has not seen all of
+    /// its earlier records, no further item is given.
+    pub fn record_next(&mut self, sends: Sends, lane: &mut Lane<N>) -> bool
+        requires next { HasNext self.old }
+        requires own { (next_item self.old).actor ≡ lane.old.actor }
+        requires sent { sends ≡ sends_after (group_of N.scenario) lane.old (next_item self.old).event }
+        ensures recorded { MatchBool result (self.new ≡ with_next sends self.old) (self.new ≡ with_stop self.old) }
+        ensures lane { MatchBool result
+            ((lane.old ≡ steps_of lane.old.actor (records_of self.old.run)) × (lane.new ≡ with_step (next_record sends self.old) lane.old))
+            (lane.new ≡ lane.old) }
+    {
+        if self.push_next(sends, lane).is_ok() {
+            return true;
+        }
+        self.stop();
+        false
+    }
+
+    /// No further item is given.
+    pub fn stop(&mut self)
+        ensures { self.new ≡ with_stop self.old }
+    {
+        self.ticks.marked = true;
+    }
+
     /// Whether a batch was given up, or a tick could not begin.
     pub fn is_marked(&self) -> bool
         ensures { result ≡ self.now.run.marked }
@@ -197,18 +268,42 @@ impl<N: Name> FabricState<N> {
         !self.ticks.marked && self.batches.is_empty() && self.next == self.items.len()
     }
 
-    /// How many items are due in the tick.
-    pub fn due(&self) -> usize
-        ensures { result ≡ length self.now.run.items }
-    {
-        self.items.len()
-    }
-
     /// Whether some item of the tick brings this many bytes or more.
-    pub fn brings(&self, bytes: usize) -> bool
+    fn brings(&self, bytes: usize) -> bool
         ensures { result ≡ list_any (λ i. nat_le bytes (shared.bytes_of i.event)) self.now.run.items }
     {
         self.items.iter().any(|item| bytes <= bytes_of(&item.event))
+    }
+
+    /// Whether the tick is done sooner by those that are awake than others are woken.
+    pub fn is_small(&self) -> bool {
+        self.items.len() < MANY && !self.brings(LONG)
+    }
+
+    /// So many workers begin, and none of them waits.
+    pub(crate) fn begin_awake(&mut self, workers: u8)
+        ensures { self.new ≡ self.old }
+    {
+        self.awake = workers;
+    }
+
+    /// A worker begins to wait.
+    pub(crate) fn fall_asleep(&mut self)
+        ensures { self.new ≡ self.old }
+    {
+        self.awake = self.awake.saturating_sub(1);
+    }
+
+    /// A worker waits no more.
+    pub(crate) fn wake_up(&mut self)
+        ensures { self.new ≡ self.old }
+    {
+        self.awake = self.awake.saturating_add(1);
+    }
+
+    /// Whether all other workers wait.
+    pub fn is_alone(&self) -> bool {
+        self.awake == 1
     }
 
     /// Whether there is nothing to take before an open batch is done.
@@ -235,7 +330,7 @@ impl<N: Name> FabricState<N> {
             MatchBool more
             (IsNextTick self.old self.new × (self.old.run.tick < self.old.run.scenario.ticks))
             ((self.new ≡ self.old) × (self.old.run.tick ≡ self.old.run.scenario.ticks)))
-            (λ _. self.new ≡ record self.old { run = with_mark self.old.run }) }
+            (λ _. self.new ≡ with_stop self.old) }
     {
         if self.ticks.tick == self.ticks.scenario.ticks {
             return Ok(false);

@@ -172,7 +172,7 @@ fn seen_at_once<N: Name + Send + Sync, R: Threads + Wait + Sync>(
             lanes.1,
         )),
     ];
-    let fabric = Fabric::new(state);
+    let fabric = Fabric::new(state, 2);
     thread::for_each_mut(
         rt,
         workers.as_mut_slice(),

@@ -4,7 +4,7 @@ ghost use Rattle.std.specs.Prelude.{◌≡◌, ◌+◌, ◌<◌, [], All};
 ghost use Rattle.nz_machine.specs.Schedule.{group_of, IsPlayable};
 ghost use Rattle.nz_fabric.specs.States.{records_of};
 ghost use Rattle.nz_run.specs.Stages.{HasNotStepped};
-ghost use Rattle.nz_fabric.specs.Shared.{ClosesBatch};
+ghost use Rattle.nz_fabric.specs.Shared.{ClosesBatch, PlaysNext};
 
 use crate::cast::Cast;
 use nz_actor::{ActorCell, ActorState};
@@ -61,6 +61,22 @@ pub fn play_at<N: Name, C: Core>(
         Some(cell) => cell.play(rt, batch, worker, gate, fabric, share),
         None => fabric.lock(rt).give_up(batch, share),
     }
+}
+
+/// The cell of a place plays the next item. Where there is none no further item is given.
+fn step_at<N: Name, C: Core>(
+    rt: &impl Wait,
+    cells: &[ActorCell<N, C>],
+    place: u8,
+    state: &mut FabricState<N>,
+) -> bool
+    ensures { PlaysNext result state.old state.new }
+{
+    let Some(cell) = cells.get(usize::from(place)) else {
+        state.stop();
+        return false;
+    };
+    cell.step_next(rt, state)
 }
 
 /// Plays the batch where no other thread has the cells.
@@ -142,6 +158,22 @@ impl<N: Name> Stage<N> {
             Actor::Client(place) => {
                 play_at(rt, &self.clients, place, batch, worker, gate, fabric, share)
             }
+        }
+    }
+
+    /// The next item's actor plays it under its lock, and it is recorded at once. Where it is not, no further item is given.
+    /// May wait.
+    pub fn step_next(&self, rt: &impl Wait, state: &mut FabricState<N>) -> bool
+        ensures { PlaysNext result state.old state.new }
+    {
+        let Some(item) = state.next_item() else {
+            state.stop();
+            return false;
+        };
+        match item.actor {
+            Actor::Replica(place) => step_at(rt, &self.replicas, place, state),
+            Actor::Proxy(place) => step_at(rt, &self.proxies, place, state),
+            Actor::Client(place) => step_at(rt, &self.clients, place, state),
         }
     }
 

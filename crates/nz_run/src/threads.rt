@@ -56,7 +56,7 @@ fn at_once<N: Name + Send + Sync, R: Threads + Wait + Sync, G: Gate + Sync>(
     let mut workers = Vec::new(alloc);
     workers.reserve(MAX_WORKERS)?;
     deal(share, &mut workers, count);
-    let fabric = Fabric::new(state);
+    let fabric = Fabric::new(state, count);
     work_all(rt, workers.as_mut_slice(), stage, &fabric, gate);
     let share = gather(workers);
     Ok((fabric.into_state(), share))

@@ -6,10 +6,52 @@ use crate::shares::Worker;
 use crate::stage::Stage;
 use nz_base::MAX_WORKERS;
 use nz_edge::Gate;
-use nz_fabric::{Fabric, Name};
+use nz_fabric::{Fabric, FabricState, Name};
 use std::sync::Wait;
 use std::thread;
 use std::thread::Threads;
+
+/// Begins the next tick and plays it item by item where it is small, and so on. For a worker that has the network while all
+/// others wait: none of them has an actor's lock then, and wants the network. True once a tick that is not small began,
+/// false where no further item is given.
+fn play_small_ticks<N: Name, R: Wait>(
+    rt: &R,
+    stage: &Stage<N>,
+    state: &mut FabricState<N>,
+) -> bool {
+    for _ in rt.forever() {
+        if state.is_over() {
+            if !state.next_tick().unwrap_or(false) {
+                return false;
+            }
+            if !state.is_small() {
+                return true;
+            }
+        } else if !stage.step_next(rt, state) {
+            return false;
+        }
+    }
+    unreachable!()
+}
+
+/// For a worker that was given no batch. Begins the next tick where all that was due in this one was recorded, and waits
+/// where only batches of other workers are left. False where no further batch is given.
+fn go_on<N: Name, R: Wait>(rt: &R, stage: &Stage<N>, fabric: &Fabric<N>) -> bool {
+    let mut guard = fabric.lock(rt);
+    if !guard.is_over() {
+        return fabric.wait(rt, guard);
+    }
+    let state = &mut *guard;
+    let begun = if state.is_alone() {
+        play_small_ticks(rt, stage, state)
+    } else {
+        state.next_tick().unwrap_or(false)
+    };
+    if !begun || !state.is_small() {
+        fabric.wake_all();
+    }
+    begun
+}
 
 /// Takes batches, tick after tick, until no further one is given.
 fn work<N: Name, R: Wait, G: Gate>(
@@ -29,7 +71,7 @@ fn work<N: Name, R: Wait, G: Gate>(
                 stage.play(rt, batch, worker.number, gate, fabric, &mut worker.share)
             }
             Ok(None) => {
-                if !fabric.go_on(rt) {
+                if !go_on(rt, stage, fabric) {
                     break;
                 }
             }
