@@ -30,8 +30,8 @@ use std::alloc::Global;
 use std::marker::Model;
 use std::sync::ledger::{Blank, Book};
 
-/// A tick with fewer items is small: those that are awake do it sooner than others are woken. A cluster has at most 81
-/// clocks, which are done sooner than a thread is woken.
+/// A tick with fewer items is small, if the ticks before it had not many more: those that are awake do it sooner than others
+/// are woken. A cluster has at most 81 clocks, which are done sooner than a thread is woken.
 const MANY: usize = 128;
 /// A tick that brings as many bytes to somebody is not small: whole logs take long.
 const LONG: usize = 1 << 14;
@@ -52,6 +52,9 @@ pub struct FabricState<N: Name> {
     book: Book<N>,
     /// How many workers do not wait.
     awake: u8,
+    /// How many items are due in the tick, or half as many as lately in the tick before it, if these are more: clocks
+    /// release later what a busy tick brought.
+    lately: usize,
 }
 
 impl<N: Name> Model for FabricState<N> {
@@ -107,6 +110,7 @@ impl<N: Name> FabricState<N> {
             batches: OpenBatches::new(alloc, takes),
             book,
             awake: 1,
+            lately: 0,
         };
         Ok((state, Share { held }))
     }
@@ -277,7 +281,7 @@ impl<N: Name> FabricState<N> {
 
     /// Whether the tick is done sooner by those that are awake than others are woken.
     pub fn is_small(&self) -> bool {
-        self.items.len() < MANY && !self.brings(LONG)
+        self.lately < MANY && !self.brings(LONG)
     }
 
     /// So many workers begin, and none of them waits.
@@ -344,6 +348,7 @@ impl<N: Name> FabricState<N> {
         post_all(calendar, scenario, self.records.recording(), self.before)?;
         let mut items = self.ticks.begin()?;
         group(&mut items);
+        self.lately = items.len().max(self.lately / 2);
         self.items = items;
         self.next = 0;
         self.before = self.records.len();
