@@ -1,9 +1,10 @@
 //! The lock around an actor, and how a batch is played under it.
 
-ghost use Rattle.std.specs.Prelude.{◌≡◌, ◌+◌, ◌<◌};
-ghost use Rattle.nz_fabric.specs.Shared.{ClosesBatch, PlaysNext};
+ghost use Rattle.std.specs.Prelude.{◌<◌};
+ghost use Rattle.nz_fabric.specs.Shared.{ClosesAndTakes, PlaysNext};
 
 use crate::state::ActorState;
+use nz_base::NoMemory;
 use nz_edge::Gate;
 use nz_fabric::{Fabric, FabricState, Name, Share, Taken};
 use nz_machine::Core;
@@ -27,7 +28,7 @@ impl<N: Name, C: Core> ActorCell<N, C> {
     }
 
     /// Plays the batch under the actor's lock, and records it before the lock is let go. A batch that is not the
-    /// actor's is given up, and one in which a step runs out of memory. May wait.
+    /// actor's is given up, and one in which a step runs out of memory. Gives the next batch of the worker. May wait.
     pub fn play(
         &self,
         rt: &impl Wait,
@@ -36,17 +37,17 @@ impl<N: Name, C: Core> ActorCell<N, C> {
         gate: &impl Gate,
         fabric: &Fabric<N>,
         share: &mut Share<N>,
-    )
+    ) -> Result<Option<Taken<N>>, NoMemory>
         requires { 0 < share.old.amount }
-        ensures { ClosesBatch share.old share.new }
+        ensures { ClosesAndTakes result share.old share.new }
     {
         let mut state = self.state.lock(rt);
         gate.arrive(worker, batch.batch().number);
         if !state.is_ready(&batch) {
             fabric.lock(rt).give_up(batch, share);
-            return;
+            return Ok(None);
         }
-        state.play(rt, batch, fabric, share);
+        state.play(rt, batch, fabric, share)
     }
 
     /// Plays the next item of the network under the actor's lock, and records it at once. Where it is not the actor's, or

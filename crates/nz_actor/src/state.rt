@@ -1,16 +1,17 @@
 //! An actor's core with what the actor knows of its records.
 
-ghost use Rattle.std.specs.Prelude.{◌≡◌, ◌↔◌, ◌+◌, ◌<◌, ℕ, [], true, false, IsTrue, MatchBool};
+ghost use Rattle.std.specs.Prelude.{◌≡◌, ◌↔◌, ◌<◌, ℕ, [], true, false, IsTrue, MatchBool};
 ghost use Rattle.nz_machine.specs.Schedule.{group_of};
 ghost use Rattle.nz_machine.specs.Step.{first_node};
 ghost use Rattle.nz_fabric.specs.Records.{steps_of};
-ghost use Rattle.nz_fabric.specs.Shared.{with_record, ClosesBatch, IsGivenUp};
+ghost use Rattle.nz_fabric.specs.Shared.{with_record, ClosesAndTakes, ClosesBatch, IsGivenUp};
 ghost use Rattle.nz_fabric.specs.Shared.{next_item, with_next, with_stop, HasNext};
 ghost use Rattle.nz_fabric.specs.States.{records_of};
 ghost use Rattle.nz_fabric.specs.Steps.{sends_after};
 ghost use Rattle.nz_actor.specs.Actings.{sends_in, with_batch, with_item, IsStopped};
 
 use crate::steps::step_all;
+use nz_base::NoMemory;
 use nz_fabric::{Fabric, FabricState, Lane, Name, Share, Taken};
 use nz_machine::Core;
 use std::alloc::Global;
@@ -64,32 +65,34 @@ impl<N: Name, C: Core> ActorState<N, C> {
         self.ready && batch.batch().actor.is(&self.lane.actor())
     }
 
-    /// The core takes the events of the batch, and then the batch is recorded. Where it is not, it is given up, and no
-    /// further batch is taken. The network is locked only to record. May wait.
+    /// The core takes the events of the batch, and then the batch is recorded. Where it is not, it is given up, and the actor
+    /// takes no further batch. Gives the next batch of the worker. The network is locked only to record the one and to take
+    /// the other. May wait.
     pub fn play(
         &mut self,
         rt: &impl Wait,
         batch: Taken<N>,
         fabric: &Fabric<N>,
         share: &mut Share<N>,
-    ) -> bool
+    ) -> Result<Option<Taken<N>>, NoMemory>
         requires open { 0 < share.old.amount }
         requires ready { self.old.ready ≡ true }
         requires actor { batch.actor ≡ self.old.own.actor }
-        ensures recorded { MatchBool result ((tick : ℕ) × (self.new ≡ with_batch (group_of N.scenario) tick batch self.old)) (IsStopped self.old self.new) }
-        ensures share { ClosesBatch share.old share.new }
+        ensures recorded { MatchBool self.new.ready ((tick : ℕ) × (self.new ≡ with_batch (group_of N.scenario) tick batch self.old)) (IsStopped self.old self.new) }
+        ensures share { ClosesAndTakes result share.old share.new }
     {
         self.ready = false;
         let events = &batch.batch().events;
         let Ok(sends) = step_all(self.alloc, &mut self.core, events.as_slice()) else {
             fabric.lock(rt).give_up(batch, share);
-            return false;
+            return Ok(None);
         };
-        self.ready = fabric.lock(rt).record(batch, sends, share, &mut self.lane);
-        self.ready
+        let mut guard = fabric.lock(rt);
+        self.ready = guard.record(batch, sends, share, &mut self.lane);
+        guard.take(share)
     }
 
-    /// The same, where no other thread has the network.
+    /// Plays the batch where no other thread has the network.
     pub fn settle(
         &mut self,
         batch: Taken<N>,

@@ -1,6 +1,7 @@
 -- What contracts see of a fabric of threads, and what it keeps.
 use Rattle.std.specs.Prelude.{◌≡◌, ℕ, ◌+◌, ◌≤◌, ◌<◌, ◌^◌, ◌==◌, Bool, false, List, [], ◌∷◌, ◌++◌, length}
 use Rattle.std.specs.Prelude.{map, take, drop, reverse, get_or, unwrap_or, IsPermutation, MatchBool}
+use Rattle.std.specs.Prelude.{Option, Result, MatchOption, MatchResult}
 use Rattle.std.specs.List.{AllByRecursion, flat_map, remove, position, take_while}
 use Rattle.nz_base.specs.Actor.{actor_eq}
 use Rattle.nz_base.specs.declared.actor.Actor.{Actor}
@@ -41,6 +42,10 @@ IsWhole share = (share.parts ≡ MAX_WORKERS) × (share.amount ≡ 0)
 -- A batch on the share was closed: recorded or given up.
 abbrev pub ClosesBatch : Holding → Holding → Type 0
 ClosesBatch old new = (new.amount + 1 ≡ old.amount) × (new.parts ≡ old.parts)
+
+-- A batch on the share was closed, and where another was taken it is on the share.
+abbrev pub ClosesAndTakes : {B E : Type 0} → Result (Option B) E → Holding → Holding → Type 0
+ClosesAndTakes taken old new = MatchResult taken (λ next. MatchOption next (ClosesBatch old new) (λ _. new ≡ old)) (λ _. ClosesBatch old new)
 
 -- A scenario without actors.
 abbrev pub no_scenario : Scenario

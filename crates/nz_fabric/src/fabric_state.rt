@@ -52,8 +52,8 @@ pub struct FabricState<N: Name> {
     book: Book<N>,
     /// How many workers do not wait.
     awake: u8,
-    /// How many items are due in the tick, or half as many as lately in the tick before it, if these are more: clocks
-    /// release later what a busy tick brought.
+    /// How many items are due in the tick, or half of this number in the tick before, if that is more: clocks release later
+    /// what a busy tick brought.
     lately: usize,
 }
 
@@ -258,7 +258,7 @@ impl<N: Name> FabricState<N> {
         self.ticks.marked = true;
     }
 
-    /// Whether a batch was given up, or a tick could not begin.
+    /// Whether a batch was given up, the run was stopped, or a tick could not begin.
     pub fn is_marked(&self) -> bool
         ensures { result ≡ self.now.run.marked }
     {

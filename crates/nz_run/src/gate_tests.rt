@@ -13,7 +13,7 @@ use nz_base::{
     ScriptList, SkewList, TryCopy,
 };
 use nz_edge::OpenGate;
-use nz_fabric::{Fabric, FabricState, Name, Opened};
+use nz_fabric::{Batch, Fabric, FabricState, Name, Opened};
 use nz_machine::{Core, Event, Sends};
 use nz_replica::Replica;
 use nz_store::read_command;
@@ -110,7 +110,7 @@ impl<'a> Core for Watcher<'a> {
     }
 }
 
-/// Plays one batch, which is of one of the cells.
+/// Plays one batch, which is of one of the cells. The next one is left open.
 fn one_batch<N: Name, C: Core, R: Wait>(
     rt: &R,
     worker: &mut Worker<N>,
@@ -122,11 +122,17 @@ fn one_batch<N: Name, C: Core, R: Wait>(
     };
     let gate = OpenGate::new();
     let share = &mut worker.share;
-    match batch.batch().actor {
-        Actor::Replica(place) => {
-            play_at(rt, cells, place, batch, worker.number, &gate, fabric, share)
-        }
-        _ => fabric.lock(rt).give_up(batch, share),
+    let Actor::Replica(place) = batch.batch().actor else {
+        fabric.lock(rt).give_up(batch, share);
+        return;
+    };
+    let next = play_at(rt, cells, place, batch, worker.number, &gate, fabric, share);
+    if let Ok(Some(next)) = next {
+        let Batch {
+            number: _,
+            actor: _,
+            events: _,
+        } = next.into_batch();
     }
 }
 

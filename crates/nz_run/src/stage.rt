@@ -4,7 +4,7 @@ ghost use Rattle.std.specs.Prelude.{◌≡◌, ◌+◌, ◌<◌, [], All};
 ghost use Rattle.nz_machine.specs.Schedule.{group_of, IsPlayable};
 ghost use Rattle.nz_fabric.specs.States.{records_of};
 ghost use Rattle.nz_run.specs.Stages.{HasNotStepped};
-ghost use Rattle.nz_fabric.specs.Shared.{ClosesBatch, PlaysNext};
+ghost use Rattle.nz_fabric.specs.Shared.{ClosesAndTakes, ClosesBatch, PlaysNext};
 
 use crate::cast::Cast;
 use nz_actor::{ActorCell, ActorState};
@@ -43,7 +43,7 @@ fn cells_of<N: Name, C: Core + Drop>(
     Ok(cells)
 }
 
-/// The cell of a place plays the batch. Where there is none it is given up.
+/// The cell of a place plays the batch. Where there is none it is given up. Gives the next batch of the worker.
 pub fn play_at<N: Name, C: Core>(
     rt: &impl Wait,
     cells: &[ActorCell<N, C>],
@@ -53,14 +53,15 @@ pub fn play_at<N: Name, C: Core>(
     gate: &impl Gate,
     fabric: &Fabric<N>,
     share: &mut Share<N>,
-)
+) -> Result<Option<Taken<N>>, NoMemory>
     requires { 0 < share.old.amount }
-    ensures { ClosesBatch share.old share.new }
+    ensures { ClosesAndTakes result share.old share.new }
 {
-    match cells.get(usize::from(place)) {
-        Some(cell) => cell.play(rt, batch, worker, gate, fabric, share),
-        None => fabric.lock(rt).give_up(batch, share),
-    }
+    let Some(cell) = cells.get(usize::from(place)) else {
+        fabric.lock(rt).give_up(batch, share);
+        return Ok(None);
+    };
+    cell.play(rt, batch, worker, gate, fabric, share)
 }
 
 /// The cell of a place plays the next item. Where there is none no further item is given.
@@ -126,7 +127,7 @@ impl<N: Name> Stage<N> {
         })
     }
 
-    /// The batch's actor plays it under its lock. May wait.
+    /// The batch's actor plays it under its lock. Gives the next batch of the worker. May wait.
     pub fn play(
         &self,
         rt: &impl Wait,
@@ -135,9 +136,9 @@ impl<N: Name> Stage<N> {
         gate: &impl Gate,
         fabric: &Fabric<N>,
         share: &mut Share<N>,
-    )
+    ) -> Result<Option<Taken<N>>, NoMemory>
         requires { 0 < share.old.amount }
-        ensures { ClosesBatch share.old share.new }
+        ensures { ClosesAndTakes result share.old share.new }
     {
         match batch.batch().actor {
             Actor::Replica(place) => {

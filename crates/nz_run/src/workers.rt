@@ -54,6 +54,35 @@ fn go_on<N: Name, R: Wait>(rt: &R, stage: &Stage<N>, fabric: &Fabric<N>) -> bool
 }
 
 /// Takes batches, tick after tick, until no further one is given.
+fn play_batches<N: Name, R: Wait, G: Gate>(
+    rt: &R,
+    worker: &mut Worker<N>,
+    stage: &Stage<N>,
+    fabric: &Fabric<N>,
+    gate: &G,
+)
+    requires { worker.old.share.amount ≡ 0 }
+    ensures { (worker.new.share.amount ≡ 0) × (worker.new.share.parts ≡ worker.old.share.parts) }
+{
+    let mut taken = fabric.lock(rt).take(&mut worker.share);
+    'batches: for _ in rt.forever() {
+        taken = match taken {
+            Ok(Some(batch)) => {
+                stage.play(rt, batch, worker.number, gate, fabric, &mut worker.share)
+            }
+            Ok(None) => {
+                if !go_on(rt, stage, fabric) {
+                    return;
+                }
+                fabric.lock(rt).take(&mut worker.share)
+            }
+            Err(_) => return,
+        };
+    }
+    unreachable!()
+}
+
+/// Does what a worker does, and then wakes the others, since no further batch is given.
 fn work<N: Name, R: Wait, G: Gate>(
     rt: &R,
     worker: &mut Worker<N>,
@@ -64,20 +93,7 @@ fn work<N: Name, R: Wait, G: Gate>(
     requires { worker.old.share.amount ≡ 0 }
     ensures { (worker.new.share.amount ≡ 0) × (worker.new.share.parts ≡ worker.old.share.parts) }
 {
-    'batches: for _ in rt.forever() {
-        let taken = fabric.lock(rt).take(&mut worker.share);
-        match taken {
-            Ok(Some(batch)) => {
-                stage.play(rt, batch, worker.number, gate, fabric, &mut worker.share)
-            }
-            Ok(None) => {
-                if !go_on(rt, stage, fabric) {
-                    break;
-                }
-            }
-            Err(_) => break,
-        }
-    }
+    play_batches(rt, worker, stage, fabric, gate);
     fabric.wake_all();
 }
 
