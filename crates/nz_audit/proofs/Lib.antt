@@ -17,4 +17,5 @@ pub mod Accepting
 pub mod Found
 pub mod Rounds
 pub mod Told
+pub mod Silences
 pub mod Traces

@@ -1,6 +1,6 @@
 //! One reading of the records of a run, for the answers to some requests.
 
-ghost use Rattle.std.specs.Prelude.{◌≡◌, ◌≤◌, ◌∷◌, ◌++◌, [], Bool, true, false, ℕ, nat_eq, List, length, Some, IfOk, OnOk};
+ghost use Rattle.std.specs.Prelude.{◌≡◌, ◌≤◌, ◌<◌, ◌+◌, ◌∷◌, ◌++◌, [], Bool, true, false, ℕ, nat_eq, List, length, Some, IfOk, OnOk};
 ghost use Rattle.std.specs.HashSet.{contains};
 ghost use Rattle.indexmap.specs.IndexMap.{get};
 ghost use Rattle.nz_base.specs.Key.{id_eq};
@@ -246,6 +246,27 @@ impl Reading {
             next,
         )
     }
+
+    /// Takes the record at this place. A clock at which nothing was sent changes nothing.
+    fn read_at(
+        &mut self,
+        alloc: Global,
+        wanted: &HashSet<Id>,
+        journal: &Journal,
+        place: u32,
+    ) -> Result<(), NoMemory>
+        requires world { World (group_in journal.now) (run_in journal.now) }
+        requires place { place < length journal.now.records }
+        requires run { IsRead journal.now (contains id_eq wanted.now) (run_up_to journal.now place) self.old }
+        ensures { OnOk result (IsRead journal.now (contains id_eq wanted.now) (run_up_to journal.now (place + 1)) self.new) }
+    {
+        // Places are below it.
+        let _count = journal.records.len();
+        match journal.records.get_whole(place) {
+            Some(next) => self.read(alloc, wanted, journal, place + 1, next),
+            None => Ok(()),
+        }
+    }
 }
 
 /// What each parcel about a wanted request stands for, of those that were sent in the run.
@@ -259,13 +280,7 @@ pub fn sendings_in(
 {
     let mut reading = Reading::new(alloc);
     for place in 0..journal.records.len() {
-        reading.read(
-            alloc,
-            wanted,
-            journal,
-            place + 1,
-            journal.records.get(place).as_record(),
-        )?;
+        reading.read_at(alloc, wanted, journal, place)?;
     }
     Ok(reading.sendings)
 }

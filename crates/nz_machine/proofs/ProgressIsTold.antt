@@ -33,6 +33,7 @@ use Rattle.nz_machine.specs.Events.{read_in, accepted_in, accepted_by, sent_afte
 use Rattle.nz_machine.specs.ClientProgress.{Progress, first_progress, acceptance_events, request_event, request_events, events_of_telling}
 use Rattle.nz_machine.specs.ClientProgress.{progress_of, acceptance_in, acceptance_read, acceptance_of, with_answer, num_in, num_read, num_of}
 use Rattle.nz_machine.specs.ClientProgress.{new_in, with_num, new_among, with_all, after_client_record, AreAfter, IsNoneOf}
+use Rattle.nz_machine.specs.Records.{IsSilentClock}
 use Rattle.nz_machine.specs.World.{state_after, IsMember, World}
 use Rattle.nz_machine.proofs.Runs.{FitsOut, AllFit, acts_itself, stays, sends_have}
 use Rattle.nz_machine.proofs.EachItem.{all_append}
@@ -431,3 +432,24 @@ other_after g r J clients w other h = record {
       λ c lt. h.each c lt ∙ ap (λ (s : ClientData). Some (progress_of s))
       (sym (stays g (Client c) r J (not_client g r.actor c w.0.member (other_client g J clients r.actor h other))));
 }
+
+-- ---- a clock at which nothing was sent tells nothing
+
+clock_accepts : (e : Event) (reading : ℕ) → e ≡ Tick reading → (k : ℕ) (p : Progress) → acceptance_of k p e ≡ None
+clock_accepts e reading is k p = ap (acceptance_of k p) is
+
+clock_of_other : (g : Group) (r : Record) (J : List Record) (clients : List Progress) → IsNoneOf (length clients) r.actor
+    → World g (r ∷ J) → AreAfter g J clients → (client_events g r.actor r J ≡ []) × AreAfter g (r ∷ J) clients
+clock_of_other g r J clients other w h = (sym (other_told g r J clients w other h), other_after g r J clients w other h)
+
+clock_of : (g : Group) (a : Actor) (r : Record) (J : List Record) (clients : List Progress) → r.actor ≡ a → IsMember g a → IsSilentClock r
+    → World g (r ∷ J) → AreAfter g J clients → (client_events g r.actor r J ≡ []) × AreAfter g (r ∷ J) clients
+clock_of g (Client c) r J clients by member s w h =
+    let count = h.count in
+    silent_tells g c r J clients w by (omega (arith, member, count)) s.silent (clock_accepts r.event s.reading s.read) h
+clock_of g (Replica m) r J clients by member s w h = clock_of_other g r J clients (subst (IsNoneOf (length clients)) (sym by) tt) w h
+clock_of g (Proxy p) r J clients by member s w h = clock_of_other g r J clients (subst (IsNoneOf (length clients)) (sym by) tt) w h
+
+pub silent_clock_tells : (g : Group) (r : Record) (J : List Record) (clients : List Progress) → IsSilentClock r → World g (r ∷ J)
+    → AreAfter g J clients → (client_events g r.actor r J ≡ []) × AreAfter g (r ∷ J) clients
+silent_clock_tells g r J clients s w h = clock_of g r.actor r J clients refl w.0.member s w h

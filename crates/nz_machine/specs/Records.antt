@@ -1,5 +1,5 @@
 -- The records of a run, and how they are kept.
-use Rattle.std.specs.Prelude.{ℕ, ◌+◌, ◌≤◌, ◌<◌, List, [], length, map, get_or}
+use Rattle.std.specs.Prelude.{◌≡◌, ℕ, ◌+◌, ◌≤◌, ◌<◌, List, [], length, map, get_or}
 use Rattle.std.specs.List.{AllByRecursion}
 use Rattle.nz_base.specs.declared.actor.Actor.{Actor}
 use Rattle.nz_base.specs.declared.actor.Actor.TheVariants.{Replica}
@@ -18,6 +18,12 @@ pub record Recorded : Type 0 where
 -- The record of a clock at which nothing was sent.
 abbrev pub silent_clock : ℕ → Actor → ℕ → Record
 silent_clock tick actor reading = record { tick = tick; actor = actor; event = Tick reading; sends = [] }
+
+-- The record is of a clock at which nothing was sent.
+pub record IsSilentClock (step : Record) : Type 0 where
+  pub reading : ℕ
+  pub read : step.event ≡ Tick reading
+  pub silent : step.sends ≡ []
 
 -- The record of a row, beside those that are kept whole.
 abbrev pub record_of_row : List Record → Row → Record

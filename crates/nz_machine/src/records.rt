@@ -1,7 +1,7 @@
 //! The records of a run. A clock at which nothing was sent takes 16 bytes of them.
 
-ghost use Rattle.std.specs.Prelude.{◌≡◌, ◌≤◌, ◌<◌, ◌+◌, ◌^◌, ◌∷◌, ◌++◌, [], length, slice_get, vec_len, vec_capacity, Some, IfOk, OnOk, OnErr, IfSome, MatchOption, List as Listed};
-ghost use Rattle.nz_machine.specs.Records.{IsKept, record_of_row};
+ghost use Rattle.std.specs.Prelude.{◌≡◌, ◌≤◌, ◌<◌, ◌+◌, ◌-◌, ◌^◌, min, ◌∷◌, ◌++◌, [], length, slice_get, vec_len, vec_capacity, Some, IfOk, OnOk, OnErr, IfSome, MatchOption, List as Listed};
+ghost use Rattle.nz_machine.specs.Records.{IsKept, IsSilentClock, record_of_row};
 ghost use Rattle.nz_machine.specs.declared.event.Record.{Record as RecordModel};
 ghost use Rattle.nz_machine.specs.declared.records.Row.{Row as RowModel};
 
@@ -117,6 +117,14 @@ fn row_of(step: Record, others: &mut Vec<Record>) -> Row
     }
 }
 
+/// How many records more there is memory for, of either kind.
+fn spare(rows: &Vec<Row>, others: &Vec<Record>) -> usize
+    ensures least { min (vec_capacity rows.now - vec_len rows.now) (vec_capacity others.now - vec_len others.now) ≡ result }
+{
+    let places = rows.capacity() - rows.len();
+    places.min(others.capacity() - others.len())
+}
+
 impl Recording {
     fn empty(alloc: Global) -> Recording
         ensures { result.records ≡ [] }
@@ -153,7 +161,7 @@ impl Recording {
         if count > self.room - self.rows.len() {
             self.rows.reserve(count)?;
             self.others.reserve(count)?;
-            self.room = self.rows.len() + count;
+            self.room = self.rows.len() + spare(&self.rows, &self.others);
         }
         Ok(())
     }
@@ -192,7 +200,7 @@ impl Recording {
     pub fn get_whole(&self, place: usize) -> Option<&Record>
         requires { place < length self.now.records }
         ensures { MatchOption result
-            ((step : RecordModel) → slice_get self.now.records place ≡ Some step → step.sends ≡ [])
+            ((step : RecordModel) → slice_get self.now.records place ≡ Some step → IsSilentClock step)
             (λ step. slice_get self.now.records place ≡ Some step.now) }
     {
         match self.rows[place] {
@@ -258,5 +266,15 @@ impl RecordList {
         ensures { slice_get self.now place ≡ Some result }
     {
         self.recording.get(place as usize)
+    }
+
+    /// The record, unless it is of a clock at which nothing was sent.
+    pub fn get_whole(&self, place: u32) -> Option<&Record>
+        requires { place < length self.now }
+        ensures { MatchOption result
+            ((step : RecordModel) → slice_get self.now place ≡ Some step → IsSilentClock step)
+            (λ step. slice_get self.now place ≡ Some step.now) }
+    {
+        self.recording.get_whole(place as usize)
     }
 }

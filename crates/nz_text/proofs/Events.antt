@@ -1,16 +1,19 @@
 -- The events of the records that were read, one record at a time.
-use Rattle.std.proofs.Common.{◌≡◌, ℕ, ◌+◌, List, [], ◌∷◌, ◌++◌, map, take, reverse, sym, ap, subst, ◌∙◌}
+use Rattle.std.proofs.Common.{◌≡◌, ℕ, ◌+◌, ◌<◌, List, [], ◌∷◌, ◌++◌, length, map, take, reverse, sym, ap, subst, ◌∙◌}
 use Rattle.std.proofs.lemmas.List.{append-nil, map-append}
-use Rattle.std.proofs.lemmas.Option.{slice_get_within, get_or_from_slice_get}
-use Rattle.std.specs.Prelude.{slice_get, Some}
+use Rattle.std.proofs.lemmas.Option.{slice_get_within, get_or_from_slice_get, slice_get-get_or}
+use Rattle.std.specs.Prelude.{slice_get, get_or, Some}
+use Rattle.nz_base.specs.declared.actor.Actor.TheVariants.{Replica}
 use Rattle.nz_machine.specs.declared.event.Record.{Record}
 use Rattle.nz_machine.specs.declared.client_progress.Progress.{Progress}
 use Rattle.nz_machine.specs.declared.client_progress.Telling.{Telling}
 use Rattle.nz_machine.specs.State.{Group}
 use Rattle.nz_machine.specs.Events.{ClientEvent, events, client_events}
 use Rattle.nz_machine.specs.ClientProgress.{events_of_telling, AreAfter}
+use Rattle.nz_machine.specs.Records.{IsSilentClock, silent_clock}
 use Rattle.nz_machine.specs.World.{World}
 use Rattle.nz_machine.proofs.JournalPrefixes.{one_record, world_with}
+use Rattle.nz_machine.proofs.ProgressIsTold.{silent_clock_tells}
 use Rattle.nz_text.specs.declared.printed.Event.{Event}
 use Rattle.nz_text.specs.Text.{event_of, events_in, AreRead}
 
@@ -56,3 +59,15 @@ next_read g rs i r clients after told new w at h reads =
     let lt = slice_get_within rs i r at in
     let is = sym (get_or_from_slice_get rs i r r at) in
     subst (λ (K : List Record). AreRead g K after new) (sym (one_record rs i r lt is)) (reads (reverse (take i rs)) (world_with g rs i r w lt is) h)
+
+-- a clock at which nothing was sent was passed over
+pub silent_read : (g : Group) (rs : List Record) (i : ℕ) (clients : List Progress) (told : List Event) → World g (reverse rs) → i < length rs
+    → ((step : Record) → slice_get rs i ≡ Some step → IsSilentClock step) → AreRead g (reverse (take i rs)) clients told
+    → AreRead g (reverse (take (i + 1) rs)) clients told
+silent_read g rs i clients told w lt silent h =
+    let none = silent_clock 0 (Replica 0) 0 in
+    let r = get_or rs i none in
+    let at : slice_get rs i ≡ Some r = slice_get-get_or rs i none lt in
+    next_read g rs i r clients clients told told w at h (λ J v read. told_nothing g r J clients told v read
+    (λ g' K v' after. (silent_clock_tells g' r K clients (silent r at) v' after).0)
+    (λ g' K v' after. (silent_clock_tells g' r K clients (silent r at) v' after).1))

@@ -1,5 +1,5 @@
 //! What a run's records say, as events, and which requests are open after them.
-ghost use Rattle.std.specs.Prelude.{◌≡◌, ◌++◌, ◌∷◌, [], List, map, IfOk, OnOk};
+ghost use Rattle.std.specs.Prelude.{◌≡◌, ◌<◌, ◌+◌, ◌++◌, ◌∷◌, [], List, length, map, take, reverse, IfOk, OnOk};
 ghost use Rattle.std.specs.List.{list_any};
 ghost use Rattle.std.specs.HashSet.{contains};
 ghost use Rattle.nz_base.specs.Key.{id_eq};
@@ -112,6 +112,25 @@ fn add_next(
     add(alloc, scenario, telling, events)
 }
 
+/// Adds the events of the record at this place. A clock at which nothing was sent has none.
+fn add_at(
+    alloc: Global,
+    journal: &Journal,
+    place: u32,
+    clients: &mut Clients,
+    events: &mut EventList,
+) -> Result<(), NoMemory>
+    requires world { World (group_in journal.now) (run_in journal.now) }
+    requires place { place < length journal.now.records }
+    ensures { let records = journal.now.records in OnOk result (AreRead (group_in journal.now) (reverse (take place records)) clients.old events.old
+        → AreRead (group_in journal.now) (reverse (take (place + 1) records)) clients.new events.new) }
+{
+    match journal.records.get_whole(place) {
+        Some(next) => add_next(alloc, &journal.scenario, clients, next, events),
+        None => Ok(()),
+    }
+}
+
 /// The events of the journal's run.
 pub fn events_of(alloc: Global, journal: &Journal) -> Result<EventList, NoMemory>
     requires { World (group_in journal.now) (run_in journal.now) }
@@ -120,14 +139,7 @@ pub fn events_of(alloc: Global, journal: &Journal) -> Result<EventList, NoMemory
     let mut clients = Clients::new(alloc, &journal.scenario)?;
     let mut events = EventList::new(alloc);
     for place in 0..journal.records.len() {
-        let next = journal.records.get(place);
-        add_next(
-            alloc,
-            &journal.scenario,
-            &mut clients,
-            next.as_record(),
-            &mut events,
-        )?;
+        add_at(alloc, journal, place, &mut clients, &mut events)?;
     }
     Ok(events)
 }
