@@ -13,7 +13,7 @@ use super::address::{is_address, is_kind};
 use super::error::NoMemory;
 use super::refusal::FrameRefusal;
 use byteorder::{BigEndian, ByteOrder};
-use bytes::Bytes;
+use bytes::{Bytes, BytesMut};
 use std::alloc::Global;
 
 /// The version that every frame states.
@@ -24,6 +24,13 @@ const HEAD: u32 = 6;
 
 /// The greatest length that a frame may state.
 const MAX_LEN: u32 = 16_777_216;
+
+/// Small frames are written one after the other into blocks of this many bytes.
+const BLOCK: usize = 4096;
+
+/// The greatest body of a small frame. A larger frame gets memory of its own: a block is filled with zeros when it is
+/// taken, so the bytes of a large frame would be gone over twice.
+pub const MOST_SHARED: usize = 1024;
 
 /// Frames as bytes.
 #[derive(Clone, Copy, Debug)]
@@ -120,18 +127,49 @@ fn put_header(bytes: &mut [u8], header: &[u8; 10])
 }
 
 impl Frame {
-    /// The first bytes of a frame, which are to be filled, with room for a body of this size after them.
-    pub fn open(alloc: Global, room: usize) -> Result<Vec<u8>, NoMemory>
+    /// Begins a small frame in the room: ten bytes, which are to be filled, and memory for a body of this size after
+    /// them. Bytes that the room still has are given up.
+    pub fn open(room: &mut BytesMut, body: usize) -> Result<(), NoMemory>
+        ensures { OnOk result (length room.new.items ≡ 10) }
+    {
+        room.clear();
+        let size = body.saturating_add(10);
+        if room.capacity() < size {
+            room.reserve(size.max(BLOCK))?;
+        }
+        room.extend_from_slice(&[0; 10])?;
+        Ok(())
+    }
+
+    /// The frame whose body follows the first ten bytes of the room, which are filled. It is taken out of the room.
+    #[tactic(auto, unfolding(crate::specs::Grammar::frame))]
+    pub fn close(room: &mut BytesMut, kind: u8, from: u16, to: u16) -> Result<Bytes, NoMemory>
+        requires kind { IsKind kind }
+        requires from { IsAddress from }
+        requires to { IsAddress to }
+        requires opened { 10 ≤ length room.old.items }
+        requires body { length room.old.items ≤ 16777220 }
+        ensures { IfOk result (λ b. b ≡ frame kind from to (drop 10 room.old.items)) }
+    {
+        let size = room.len();
+        let header = header(kind, from, to, (size - 4) as u32);
+        put_header(room.as_mut_slice(), &header);
+        Ok(room.freeze_to(size)?)
+    }
+
+    /// Begins a frame in memory of its own: ten bytes, which are to be filled, and memory for a body of this size after
+    /// them.
+    pub fn open_alone(alloc: Global, body: usize) -> Result<Vec<u8>, NoMemory>
         ensures { IfOk result (λ bytes. length bytes.items ≡ 10) }
     {
-        let mut bytes = Vec::with_capacity(alloc, room.saturating_add(10))?;
+        let mut bytes = Vec::with_capacity(alloc, body.saturating_add(10))?;
         bytes.extend_from_slice(&[0; 10])?;
         Ok(bytes)
     }
 
-    /// The frame whose body follows the first ten bytes, which are filled. What room is left over is given back.
+    /// The frame whose body follows the first ten bytes, which are filled. What memory is left over is given back.
     #[tactic(auto, unfolding(crate::specs::Grammar::frame))]
-    pub fn close(bytes: Vec<u8>, kind: u8, from: u16, to: u16) -> Result<Bytes, NoMemory>
+    pub fn close_alone(bytes: Vec<u8>, kind: u8, from: u16, to: u16) -> Result<Bytes, NoMemory>
         requires kind { IsKind kind }
         requires from { IsAddress from }
         requires to { IsAddress to }
@@ -147,9 +185,9 @@ impl Frame {
         Ok(Bytes::from_vec(bytes)?)
     }
 
-    /// The frame of these parts.
+    /// The frame of these parts, in the room if it is small.
     pub fn write(
-        alloc: Global,
+        room: &mut BytesMut,
         kind: u8,
         from: u16,
         to: u16,
@@ -161,9 +199,14 @@ impl Frame {
         requires body { length body.now ≤ 16777210 }
         ensures { IfOk result (λ b. b ≡ frame kind from to body.now) }
     {
-        let mut bytes = Frame::open(alloc, body.len())?;
+        if body.len() <= MOST_SHARED {
+            Frame::open(room, body.len())?;
+            room.extend_from_slice(body)?;
+            return Frame::close(room, kind, from, to);
+        }
+        let mut bytes = Frame::open_alone(*room.allocator(), body.len())?;
         bytes.extend_from_slice(body)?;
-        Frame::close(bytes, kind, from, to)
+        Frame::close_alone(bytes, kind, from, to)
     }
 
     /// The parts of the frame that the bytes are. What is read borrows the bytes.

@@ -1,6 +1,11 @@
 //! Frames, their prefixes, and refusals with their places.
 
+ghost use Rattle.std.specs.Prelude.{length, ◌≤◌};
+
 use super::*;
+use bytes::{Bytes, BytesMut};
+use std::alloc::Global;
+use std::process::Abort;
 use std::test::*;
 
 // A request from client 0 to proxy 0: number 1, get a.
@@ -17,7 +22,8 @@ fn frames_and_their_prefixes(rt: HostRuntime) -> Result<(), Fail> {
         let view = Frame::read(bytes).ok().ok_or("the bytes are a frame")?;
         assert_eq!(rt; (view.kind, view.from, view.to), (kind, from, to));
         assert_eq!(rt; view.body, &bytes[10..]);
-        let written = Frame::write(rt.alloc(), kind, from, to, &bytes[10..]);
+        let mut room = BytesMut::new(rt.alloc());
+        let written = Frame::write(&mut room, kind, from, to, view.body);
         let written = written.ok().ok_or("there is memory")?;
         assert_eq!(rt; written.as_slice(), bytes);
         for end in 0..bytes.len() {
@@ -74,4 +80,59 @@ fn refusals(rt: HostRuntime) {
     for (bytes, want) in table {
         assert_eq!(rt; Frame::read(bytes).err(), Some(want));
     }
+}
+
+// The frame, tried once more where memory was not found.
+fn written(room: &mut BytesMut, body: &[u8]) -> Result<Bytes, NoMemory>
+    requires { length body.now ≤ 16777210 }
+{
+    match Frame::write(room, 2, 16, 1, body) {
+        Ok(frame) => Ok(frame),
+        Err(_) => Frame::write(room, 2, 16, 1, body),
+    }
+}
+
+// Bodies that are cut from these bytes at other places differ.
+fn bytes_of_bodies() -> [u8; 2048] {
+    let mut bytes = [0; 2048];
+    for place in 0..bytes.len() {
+        bytes[place] = (place % 251) as u8;
+    }
+    bytes
+}
+
+// Frames of two bodies in turn, from one room, as they are once all are written.
+fn check_frames(rt: &impl Abort, alloc: Global, first: &[u8], last: &[u8]) -> Result<(), Fail>
+    requires first { length first.now ≤ 16777210 }
+    requires last { length last.now ≤ 16777210 }
+{
+    let mut room = BytesMut::new(alloc);
+    let frames = [
+        written(&mut room, first)?,
+        written(&mut room, last)?,
+        written(&mut room, first)?,
+        written(&mut room, last)?,
+    ];
+    for (frame, body) in frames.iter().zip([first, last, first, last]) {
+        let view = Frame::read(frame.as_slice()).ok().ok_or("it is a frame")?;
+        assert_eq!(rt; (view.kind, view.from, view.to), (2, 16, 1));
+        assert_eq!(rt; view.body, body);
+    }
+    Ok(())
+}
+
+// Small frames share blocks, and large ones between them do not: each stays as it was written.
+#[test]
+fn frames_of_one_room(rt: HostRuntime) -> Result<(), Fail> {
+    let bytes = bytes_of_bodies();
+    let table: [(&[u8], &[u8]); 4] = [
+        (&bytes[..3], &bytes[3..11]),
+        (&bytes[..MOST_SHARED], &bytes[3..MOST_SHARED + 3]),
+        (&bytes[..MOST_SHARED + 1], &bytes[3..MOST_SHARED + 3]),
+        (&[], &bytes[3..MOST_SHARED + 4]),
+    ];
+    for (first, last) in table {
+        check_frames(&rt, rt.alloc(), first, last)?;
+    }
+    Ok(())
 }
