@@ -18,9 +18,9 @@ use super::refusal::DecodeRefusal;
 use super::rest::Rest;
 use super::sizes::size_of;
 use super::spelling::{kind, put_body};
-use bytes::Bytes;
+use bytes::{Bytes, BytesMut};
 use nz_base::{Actor, NoMemory};
-use nz_frame::Frame;
+use nz_frame::{Frame, MOST_SHARED};
 use std::alloc::Global;
 
 /// The body of the message, which all its frames have.
@@ -33,10 +33,10 @@ pub fn write_body(alloc: Global, message: &Message) -> Result<Vec<u8>, NoMemory>
     Ok(body)
 }
 
-/// The one frame of the message, whose body was written, from one actor to another.
+/// The one frame of the message, whose body was written, from one actor to another. A small one is written in the room.
 #[tactic(auto, unfolding(crate::specs::Envelope::encode_of))]
 pub fn frame_of(
-    alloc: Global,
+    room: &mut BytesMut,
     from: Actor,
     to: Actor,
     message: &Message,
@@ -48,28 +48,77 @@ pub fn frame_of(
     requires to { HasAddress to }
     ensures { IfOk result (λ bytes. bytes ≡ encode_of from to message.now) }
 {
-    match Frame::write(alloc, kind(message), from.address(), to.address(), body) {
+    match Frame::write(room, kind(message), from.address(), to.address(), body) {
         Ok(bytes) => Ok(bytes),
         Err(_) => Err(NoMemory),
     }
 }
 
-/// The one frame of the message from one actor to another. Its body is written where it stays.
+// A small frame, whose body is written where it stays.
 #[tactic(auto, unfolding(crate::specs::Envelope::encode_of))]
-pub fn encode(alloc: Global, from: Actor, to: Actor, message: &Message) -> Result<Bytes, NoMemory>
+fn encode_in(
+    room: &mut BytesMut,
+    from: Actor,
+    to: Actor,
+    message: &Message,
+    size: usize,
+) -> Result<Bytes, NoMemory>
     requires valid { Fits message.now }
     requires from { HasAddress from }
     requires to { HasAddress to }
     ensures { IfOk result (λ bytes. bytes ≡ encode_of from to message.now) }
 {
-    let Ok(mut bytes) = Frame::open(alloc, size_of(message)) else {
+    let Ok(()) = Frame::open(room, size) else {
         return Err(NoMemory);
     };
-    put_body(&mut bytes, message)?;
-    match Frame::close(bytes, kind(message), from.address(), to.address()) {
+    put_body(room, message)?;
+    match Frame::close(room, kind(message), from.address(), to.address()) {
         Ok(frame) => Ok(frame),
         Err(_) => Err(NoMemory),
     }
+}
+
+// A frame in memory of its own, whose body is written where it stays.
+#[tactic(auto, unfolding(crate::specs::Envelope::encode_of))]
+fn encode_alone(
+    alloc: Global,
+    from: Actor,
+    to: Actor,
+    message: &Message,
+    size: usize,
+) -> Result<Bytes, NoMemory>
+    requires valid { Fits message.now }
+    requires from { HasAddress from }
+    requires to { HasAddress to }
+    ensures { IfOk result (λ bytes. bytes ≡ encode_of from to message.now) }
+{
+    let Ok(mut bytes) = Frame::open_alone(alloc, size) else {
+        return Err(NoMemory);
+    };
+    put_body(&mut bytes, message)?;
+    match Frame::close_alone(bytes, kind(message), from.address(), to.address()) {
+        Ok(frame) => Ok(frame),
+        Err(_) => Err(NoMemory),
+    }
+}
+
+/// The one frame of the message from one actor to another. A small one is written in the room.
+pub fn encode(
+    room: &mut BytesMut,
+    from: Actor,
+    to: Actor,
+    message: &Message,
+) -> Result<Bytes, NoMemory>
+    requires valid { Fits message.now }
+    requires from { HasAddress from }
+    requires to { HasAddress to }
+    ensures { IfOk result (λ bytes. bytes ≡ encode_of from to message.now) }
+{
+    let size = size_of(message);
+    if size <= MOST_SHARED {
+        return encode_in(room, from, to, message, size);
+    }
+    encode_alone(*room.allocator(), from, to, message, size)
 }
 
 // The actor at an address that belongs to somebody.

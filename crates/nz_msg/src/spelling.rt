@@ -19,21 +19,22 @@ use super::writing::{
     put_u64, put_u64_u32, put_vector, write_number_and_id,
 };
 use byteorder::{BigEndian, ByteOrder};
+use bytes::BufMut;
 use nz_base::NoMemory;
 use nz_cv::CrashVector;
 
 // The number and the length of the command, at once, and then the command.
 #[tactic(auto, unfolding(crate::specs::Codec::number_bytes))]
-fn put_request(out: &mut Vec<u8>, b: &RequestBody) -> Result<(), NoMemory>
+fn put_request<B: BufMut>(out: &mut B, b: &RequestBody) -> Result<(), NoMemory>
     requires { request.fits b.now }
-    ensures { OnOk result (Adds out.old.items out.new.items (request.put b.now)) }
+    ensures { OnOk result (Adds (B.written out.old) (B.written out.new) (request.put b.now)) }
 {
     let command = b.command.as_slice();
     let mut head = [0; 6];
     BigEndian::write_u32(&mut head, b.num);
     BigEndian::write_u16(&mut head[4..], command.len() as u16);
-    out.extend_from_slice(&head)?;
-    out.extend_from_slice(command)?;
+    out.put_slice(&head)?;
+    out.put_slice(command)?;
     Ok(())
 }
 
@@ -50,31 +51,31 @@ fn timed_head(b: &TimedBody, len: u16) -> [u8; 26]
 }
 
 #[tactic(auto, unfolding(crate::specs::Codec::number_bytes))]
-fn put_timed(out: &mut Vec<u8>, b: &TimedBody) -> Result<(), NoMemory>
+fn put_timed<B: BufMut>(out: &mut B, b: &TimedBody) -> Result<(), NoMemory>
     requires { timed.fits b.now }
-    ensures { OnOk result (Adds out.old.items out.new.items (timed.put b.now)) }
+    ensures { OnOk result (Adds (B.written out.old) (B.written out.new) (timed.put b.now)) }
 {
     let command = b.command.as_slice();
-    out.extend_from_slice(&timed_head(b, command.len() as u16))?;
-    out.extend_from_slice(command)?;
+    out.put_slice(&timed_head(b, command.len() as u16))?;
+    out.put_slice(command)?;
     Ok(())
 }
 
 // All up to the vector, at once.
 #[tactic(auto, unfolding(crate::specs::Codec::number_bytes))]
-fn put_fast_reply_head(out: &mut Vec<u8>, b: &FastReplyBody) -> Result<(), NoMemory>
-    ensures { OnOk result (Adds out.old.items out.new.items ((u64 then id then digest).put (b.now.view, (b.now.id, b.now.digest)))) }
+fn put_fast_reply_head<B: BufMut>(out: &mut B, b: &FastReplyBody) -> Result<(), NoMemory>
+    ensures { OnOk result (Adds (B.written out.old) (B.written out.new) ((u64 then id then digest).put (b.now.view, (b.now.id, b.now.digest)))) }
 {
     let mut head = [0; 36];
     write_number_and_id(&mut head, b.view, b.id);
     head[16..].copy_from_slice(b.digest.as_bytes());
-    out.extend_from_slice(&head)?;
+    out.put_slice(&head)?;
     Ok(())
 }
 
-fn put_fast_reply(out: &mut Vec<u8>, b: &FastReplyBody) -> Result<(), NoMemory>
+fn put_fast_reply<B: BufMut>(out: &mut B, b: &FastReplyBody) -> Result<(), NoMemory>
     requires { fast_reply.fits b.now }
-    ensures { OnOk result (Adds out.old.items out.new.items (fast_reply.put b.now)) }
+    ensures { OnOk result (Adds (B.written out.old) (B.written out.new) (fast_reply.put b.now)) }
 {
     put_fast_reply_head(out, b)?;
     put_vector(out, &b.vector)?;
@@ -83,28 +84,28 @@ fn put_fast_reply(out: &mut Vec<u8>, b: &FastReplyBody) -> Result<(), NoMemory>
 }
 
 #[tactic(auto, unfolding(crate::specs::Codec::number_bytes))]
-fn put_slow_reply(out: &mut Vec<u8>, b: &SlowReplyBody) -> Result<(), NoMemory>
-    ensures { OnOk result (Adds out.old.items out.new.items (slow_reply.put b.now)) }
+fn put_slow_reply<B: BufMut>(out: &mut B, b: &SlowReplyBody) -> Result<(), NoMemory>
+    ensures { OnOk result (Adds (B.written out.old) (B.written out.new) (slow_reply.put b.now)) }
 {
     let mut bytes = [0; 20];
     write_number_and_id(&mut bytes, b.view, b.id);
     BigEndian::write_u32(&mut bytes[16..], b.delay);
-    out.extend_from_slice(&bytes)?;
+    out.put_slice(&bytes)?;
     Ok(())
 }
 
-fn put_client_answer(out: &mut Vec<u8>, b: &AnswerBody) -> Result<(), NoMemory>
+fn put_client_answer<B: BufMut>(out: &mut B, b: &AnswerBody) -> Result<(), NoMemory>
     requires { client_answer.fits b.now }
-    ensures { OnOk result (Adds out.old.items out.new.items (client_answer.put b.now)) }
+    ensures { OnOk result (Adds (B.written out.old) (B.written out.new) (client_answer.put b.now)) }
 {
     put_u32(out, b.num)?;
     put_answer(out, &b.answer)?;
     put_path(out, b.path)
 }
 
-fn put_log_mod(out: &mut Vec<u8>, b: &LogModBody) -> Result<(), NoMemory>
+fn put_log_mod<B: BufMut>(out: &mut B, b: &LogModBody) -> Result<(), NoMemory>
     requires { log_mod.fits b.now }
-    ensures { OnOk result (Adds out.old.items out.new.items (log_mod.put b.now)) }
+    ensures { OnOk result (Adds (B.written out.old) (B.written out.new) (log_mod.put b.now)) }
 {
     put_u64(out, b.view)?;
     put_vector(out, &b.vector)?;
@@ -112,27 +113,27 @@ fn put_log_mod(out: &mut Vec<u8>, b: &LogModBody) -> Result<(), NoMemory>
     put_keys(out, &b.keys)
 }
 
-fn put_fetch(out: &mut Vec<u8>, b: &FetchBody) -> Result<(), NoMemory>
+fn put_fetch<B: BufMut>(out: &mut B, b: &FetchBody) -> Result<(), NoMemory>
     requires { fetch.fits b.now }
-    ensures { OnOk result (Adds out.old.items out.new.items (fetch.put b.now)) }
+    ensures { OnOk result (Adds (B.written out.old) (B.written out.new) (fetch.put b.now)) }
 {
     put_u64(out, b.view)?;
     put_ids(out, &b.ids)
 }
 
 #[tactic(auto, using(crate::proofs::Writes::commands_fit))]
-fn put_fetch_reply(out: &mut Vec<u8>, b: &FetchReplyBody) -> Result<(), NoMemory>
+fn put_fetch_reply<B: BufMut>(out: &mut B, b: &FetchReplyBody) -> Result<(), NoMemory>
     requires { fetch_reply.fits b.now }
-    ensures { OnOk result (Adds out.old.items out.new.items (fetch_reply.put b.now)) }
+    ensures { OnOk result (Adds (B.written out.old) (B.written out.new) (fetch_reply.put b.now)) }
 {
     put_u64(out, b.view)?;
     put_entries(out, &b.entries)
 }
 
 #[tactic(auto, using(crate::proofs::Writes::commands_fit))]
-fn put_view_change(out: &mut Vec<u8>, b: &ViewChangeBody) -> Result<(), NoMemory>
+fn put_view_change<B: BufMut>(out: &mut B, b: &ViewChangeBody) -> Result<(), NoMemory>
     requires { view_change.fits b.now }
-    ensures { OnOk result (Adds out.old.items out.new.items (view_change.put b.now)) }
+    ensures { OnOk result (Adds (B.written out.old) (B.written out.new) (view_change.put b.now)) }
 {
     put_u64(out, b.view)?;
     put_u64(out, b.last)?;
@@ -142,9 +143,9 @@ fn put_view_change(out: &mut Vec<u8>, b: &ViewChangeBody) -> Result<(), NoMemory
 }
 
 #[tactic(auto, using(crate::proofs::Writes::commands_fit))]
-fn put_start_view(out: &mut Vec<u8>, b: &StartViewBody) -> Result<(), NoMemory>
+fn put_start_view<B: BufMut>(out: &mut B, b: &StartViewBody) -> Result<(), NoMemory>
     requires { start_view.fits b.now }
-    ensures { OnOk result (Adds out.old.items out.new.items (start_view.put b.now)) }
+    ensures { OnOk result (Adds (B.written out.old) (B.written out.new) (start_view.put b.now)) }
 {
     put_u64(out, b.view)?;
     put_vector(out, &b.vector)?;
@@ -153,23 +154,23 @@ fn put_start_view(out: &mut Vec<u8>, b: &StartViewBody) -> Result<(), NoMemory>
 }
 
 // A nonce and a vector.
-fn put_nonce(out: &mut Vec<u8>, nonce: u64, vector: &CrashVector) -> Result<(), NoMemory>
-    ensures { OnOk result (Adds out.old.items out.new.items (vector_tell.put (record { nonce = nonce; vector = vector.now }))) }
+fn put_nonce<B: BufMut>(out: &mut B, nonce: u64, vector: &CrashVector) -> Result<(), NoMemory>
+    ensures { OnOk result (Adds (B.written out.old) (B.written out.new) (vector_tell.put (record { nonce = nonce; vector = vector.now }))) }
 {
     put_u64(out, nonce)?;
     put_vector(out, vector)
 }
 
-fn put_rejoin_tell(out: &mut Vec<u8>, b: &RejoinTellBody) -> Result<(), NoMemory>
-    ensures { OnOk result (Adds out.old.items out.new.items (rejoin_tell.put b.now)) }
+fn put_rejoin_tell<B: BufMut>(out: &mut B, b: &RejoinTellBody) -> Result<(), NoMemory>
+    ensures { OnOk result (Adds (B.written out.old) (B.written out.new) (rejoin_tell.put b.now)) }
 {
     put_u64(out, b.nonce)?;
     put_u64(out, b.view)?;
     put_vector(out, &b.vector)
 }
 
-fn put_state_ask(out: &mut Vec<u8>, b: &StateAskBody) -> Result<(), NoMemory>
-    ensures { OnOk result (Adds out.old.items out.new.items (state_ask.put b.now)) }
+fn put_state_ask<B: BufMut>(out: &mut B, b: &StateAskBody) -> Result<(), NoMemory>
+    ensures { OnOk result (Adds (B.written out.old) (B.written out.new) (state_ask.put b.now)) }
 {
     put_u64(out, b.nonce)?;
     put_u64(out, b.view)?;
@@ -177,9 +178,9 @@ fn put_state_ask(out: &mut Vec<u8>, b: &StateAskBody) -> Result<(), NoMemory>
 }
 
 #[tactic(auto, using(crate::proofs::Writes::commands_fit))]
-fn put_state_tell(out: &mut Vec<u8>, b: &StateTellBody) -> Result<(), NoMemory>
+fn put_state_tell<B: BufMut>(out: &mut B, b: &StateTellBody) -> Result<(), NoMemory>
     requires { state_tell.fits b.now }
-    ensures { OnOk result (Adds out.old.items out.new.items (state_tell.put b.now)) }
+    ensures { OnOk result (Adds (B.written out.old) (B.written out.new) (state_tell.put b.now)) }
 {
     put_u64(out, b.nonce)?;
     put_u64(out, b.view)?;
@@ -189,9 +190,9 @@ fn put_state_tell(out: &mut Vec<u8>, b: &StateTellBody) -> Result<(), NoMemory>
 }
 
 /// Writes the message's body.
-pub fn put_body(out: &mut Vec<u8>, message: &Message) -> Result<(), NoMemory>
+pub fn put_body<B: BufMut>(out: &mut B, message: &Message) -> Result<(), NoMemory>
     requires { Fits message.now }
-    ensures { OnOk result (out.new.items ++ [] ≡ out.old.items ++ body_of message.now) }
+    ensures { OnOk result (B.written out.new ++ [] ≡ B.written out.old ++ body_of message.now) }
 {
     match message {
         Message::Request(b) => put_request(out, b),

@@ -1,10 +1,11 @@
 //! Bytes that another program worked out, and each call that takes memory where there is enough.
-ghost use Rattle.std.specs.Prelude.{◌<◌};
+ghost use Rattle.std.specs.Prelude.{◌<◌, ◌≤◌};
+ghost use Rattle.nz_msg.specs.Messages.{Fits};
 
 use super::sizes::size_of;
 use super::*;
-use bytes::Bytes;
-use nz_base::{Actor, Blob, NoMemory};
+use bytes::{Bytes, BytesMut};
+use nz_base::{Actor, Blob, Entry, EntryList, Key, NoMemory};
 use std::alloc::Global;
 use std::test::Fail;
 
@@ -137,7 +138,10 @@ fn frame_of(alloc: Global, text: &str) -> Result<Bytes, NoMemory> {
 // The frame of what a frame is decoded as.
 fn again(alloc: Global, frame: &Bytes) -> Option<Bytes> {
     match decode(alloc, frame) {
-        Ok(envelope) => encode(alloc, envelope.from, envelope.to, &envelope.message).ok(),
+        Ok(envelope) => {
+            let mut room = BytesMut::new(alloc);
+            encode(&mut room, envelope.from, envelope.to, &envelope.message).ok()
+        }
         Err(_) => None,
     }
 }
@@ -178,17 +182,68 @@ fn number(word: Option<&str>) -> Result<u64, Fail> {
 #[test]
 fn messages_made_here(rt: HostRuntime) -> Result<(), Fail> {
     let alloc = rt.alloc();
+    let mut room = BytesMut::new(alloc);
     let request = Message::Request(RequestBody {
         num: 1,
         command: Blob::from_slice(alloc, &[2, 1, 97])?,
     });
     assert!(rt; request.is_valid());
-    let bytes = encode(alloc, Actor::Client(0), Actor::Proxy(0), &request)?;
+    let bytes = encode(&mut room, Actor::Client(0), Actor::Proxy(0), &request)?;
     assert_eq!(rt; bytes.as_slice(), bytes_of(alloc, REQUEST)?.as_slice());
     let view_ask = Message::ViewAsk(ViewAskBody { view: 1 });
     assert!(rt; view_ask.is_valid());
-    let bytes = encode(alloc, Actor::Replica(1), Actor::Replica(0), &view_ask)?;
+    let bytes = encode(&mut room, Actor::Replica(1), Actor::Replica(0), &view_ask)?;
     assert_eq!(rt; bytes.as_slice(), bytes_of(alloc, VIEW_ASK)?.as_slice());
+    Ok(())
+}
+
+// A fetch-reply whose body has 1,023 bytes, and so many more.
+fn fetch_reply(alloc: Global, more: usize) -> Result<Message, NoMemory>
+    requires { more ≤ 2 }
+{
+    let bytes = [1; 500];
+    let mut entries = EntryList::new(alloc);
+    for (num, len) in [(1, 500), (2, 475 + more)] {
+        let command = Blob::from_slice(alloc, &bytes[..len])?;
+        let key = Key {
+            deadline: 7,
+            client: num,
+            num: 1,
+        };
+        entries.push(Entry { key, command })?;
+    }
+    Ok(Message::FetchReply(FetchReplyBody { view: 0, entries }))
+}
+
+// The message's frame, from replica 1 to replica 0. Its body is written where it stays, and once more before.
+fn two_frames(room: &mut BytesMut, message: &Message) -> Result<[Bytes; 2], NoMemory>
+    requires { Fits message.now }
+{
+    let (from, to) = (Actor::Replica(1), Actor::Replica(0));
+    let frame = encode(room, from, to, message)?;
+    let body = write_body(*room.allocator(), message)?;
+    Ok([frame, super::frame_of(room, from, to, message, &body)?])
+}
+
+#[test]
+fn frames_of_one_room(rt: HostRuntime) -> Result<(), Fail> {
+    let alloc = rt.alloc();
+    let mut room = BytesMut::new(alloc);
+    let view_ask = Message::ViewAsk(ViewAskBody { view: 1 });
+    for more in 0..3 {
+        let message = fetch_reply(alloc, more)?;
+        assert!(rt; view_ask.is_valid() && message.is_valid());
+        let small = two_frames(&mut room, &view_ask)?;
+        let large = two_frames(&mut room, &message)?;
+        for frame in &small {
+            assert_eq!(rt; frame.as_slice(), bytes_of(alloc, VIEW_ASK)?.as_slice());
+        }
+        for frame in &large {
+            assert_eq!(rt; frame.len(), 1_033 + more);
+            let same = again(alloc, frame).ok_or("the frame is decoded")?;
+            assert_eq!(rt; &same, frame);
+        }
+    }
     Ok(())
 }
 

@@ -5,7 +5,7 @@ use Rattle.nz_msg.proofs.spelling.put_timed.Goals as goal
 
 pub returns : goal.returns
 unfolding number_bytes
-returns c rest =
-    let head = c.in_ok-extend_from_slice.ensures.items in
-    let text = c.in_ok-extend_from_slice-2.ensures.items in
+returns g c rest =
+    let head = c.in_ok-put_slice.ensures.ok in
+    let text = c.in_ok-put_slice-2.ensures.ok in
     rw (text, head, c.timed_head.ensures, c.as_slice-command.ensures) (simp append_assoc)

@@ -7,4 +7,4 @@ use Rattle.nz_msg.proofs.writing.put_each_entry.Given as goal
 
 -- the items so far are written
 abbrev pub invariant-loop-entry : goal.invariant-loop-entry
-invariant-loop-entry l = Adds l.fn.out.items l.out.items (items_put next_entry [] (take l.entry-index l.list))
+invariant-loop-entry g l = Adds (g.B.BufMut.written l.fn.out) (g.B.BufMut.written l.out) (items_put next_entry [] (take l.entry-index l.list))

@@ -7,4 +7,4 @@ use Rattle.nz_msg.proofs.writing.put_each_id.Given as goal
 
 -- the items so far are written
 abbrev pub invariant-loop-i : goal.invariant-loop-i
-invariant-loop-i l = Adds l.fn.out.items l.out.items (items_put (λ _. id) [] (take l.i-index l.list))
+invariant-loop-i g l = Adds (g.B.BufMut.written l.fn.out) (g.B.BufMut.written l.out) (items_put (λ _. id) [] (take l.i-index l.list))

@@ -7,4 +7,4 @@ use Rattle.nz_msg.proofs.writing.put_each_key.Given as goal
 
 -- the items so far are written
 abbrev pub invariant-loop-k : goal.invariant-loop-k
-invariant-loop-k l = Adds l.fn.out.items l.out.items (items_put next_key [] (take l.k-index l.list))
+invariant-loop-k g l = Adds (g.B.BufMut.written l.fn.out) (g.B.BufMut.written l.out) (items_put next_key [] (take l.k-index l.list))

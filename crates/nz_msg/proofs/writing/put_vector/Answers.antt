@@ -6,11 +6,11 @@ use Rattle.nz_msg.proofs.writing.put_vector.Goals as goal
 
 pub loop-place-init : goal.loop-place-init
 unfolding items_put
-loop-place-init c rest =
+loop-place-init g c rest =
     ap (λ (n : ℕ). n ∷ rest) (c.size.ensures.size ∙ ap (λ (ns : List ℕ). length ns) (sym c.as_slice-counters.ensures))
 
 pub loop-place-preserved : goal.loop-place-preserved
-loop-place-preserved c =
+loop-place-preserved g c =
     let l = c.loop-place in
     let size : c.size.result ≡ length c.as_slice-counters.result.now = c.size.ensures.size ∙ ap (λ (ns : List ℕ). length ns) (sym c.as_slice-counters.ensures) in
     let few = c.size.ensures.cluster in

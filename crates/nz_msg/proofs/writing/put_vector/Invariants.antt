@@ -7,5 +7,5 @@ use Rattle.nz_msg.proofs.writing.put_vector.Given as goal
 
 -- the size and the counters so far are written
 abbrev pub invariant-loop-place : goal.invariant-loop-place
-invariant-loop-place l =
+invariant-loop-place g l =
     Adds (length l.counters ∷ []) (take (1 + 4 * l.place) l.bytes) (items_put (λ _. u32) [] (take l.place l.counters))
