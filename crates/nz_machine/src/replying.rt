@@ -7,15 +7,14 @@ ghost use Rattle.nz_base.specs.declared.actor.Actor.TheVariants.{Replica};
 ghost use Rattle.nz_machine.specs.Replicas.{fast_replies, slow_replies};
 ghost use Rattle.nz_machine.specs.Step.{parcel};
 
-use super::event::Sends;
-use super::sending::send;
+use super::outbox::Outbox;
 use super::state::ReplicaState;
 use nz_base::{Actor, Id, NoMemory};
 use nz_msg::{FastReplyBody, Message, SlowReplyBody};
 
 impl ReplicaState {
     /// Sends the fast reply for the entry at a place to where its request came from, if that is known.
-    pub fn reply_fast(&self, id: Id, place: u32, sends: &mut Sends) -> Result<(), NoMemory>
+    pub fn reply_fast(&self, id: Id, place: u32, sends: &mut Outbox) -> Result<(), NoMemory>
         requires { place < length self.now.state.log.entries }
         ensures { OnOk result (sends.new ≡ sends.old
             ++ map (parcel (Replica self.now.me))
@@ -33,13 +32,13 @@ impl ReplicaState {
                     answer: self.answer_at(place)?,
                 });
                 let to = Actor::Proxy(origin.proxy);
-                send(self.allocator(), self.name(), to, &message, sends)
+                sends.send(self.name(), to, &message)
             }
         }
     }
 
     /// Sends the slow reply for a request to where it came from, if that is known.
-    pub fn reply_slowly(&self, id: Id, sends: &mut Sends) -> Result<(), NoMemory>
+    pub fn reply_slowly(&self, id: Id, sends: &mut Outbox) -> Result<(), NoMemory>
         ensures { OnOk result (sends.new ≡ sends.old
             ++ map (parcel (Replica self.now.me)) (slow_replies self.now.state id (lookup (id_eq id) self.now.state.origin))) }
     {
@@ -52,7 +51,7 @@ impl ReplicaState {
                     delay: origin.delay,
                 });
                 let to = Actor::Proxy(origin.proxy);
-                send(self.allocator(), self.name(), to, &message, sends)
+                sends.send(self.name(), to, &message)
             }
         }
     }

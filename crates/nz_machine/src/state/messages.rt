@@ -11,8 +11,7 @@ ghost use Rattle.nz_machine.specs.Views.{view_ask_message, view_change_message, 
 ghost use Rattle.nz_machine.specs.Adopting.{start_view_message};
 ghost use Rattle.nz_machine.specs.Rejoining.{vector_ask_message, rejoin_ask_message, rejoin_tell_message, state_ask_message, state_tell_message};
 
-use super::super::event::Sends;
-use super::super::sending::{send, send_written};
+use super::super::outbox::Outbox;
 use super::ReplicaState;
 use nz_base::{Actor, NoMemory};
 use nz_msg::{
@@ -27,7 +26,7 @@ impl ReplicaState {
         replica: u8,
         message: &Message,
         body: &[u8],
-        sends: &mut Sends,
+        sends: &mut Outbox,
     ) -> Result<(), NoMemory>
         requires replica { replica ≤ MAX_REPLICA }
         requires message { Fits message.now }
@@ -35,17 +34,22 @@ impl ReplicaState {
         ensures { OnOk result (sends.new ≡ sends.old ++ map (parcel (actors.Replica self.now.me)) (to_replica replica message.now)) }
     {
         let to = Actor::Replica(replica);
-        send_written(self.allocator(), self.name(), to, message, body, sends)
+        sends.send_written(self.name(), to, message, body)
     }
 
     /// Sends the message to one replica.
-    pub fn send_to(&self, replica: u8, message: &Message, sends: &mut Sends) -> Result<(), NoMemory>
+    pub fn send_to(
+        &self,
+        replica: u8,
+        message: &Message,
+        sends: &mut Outbox,
+    ) -> Result<(), NoMemory>
         requires replica { replica ≤ MAX_REPLICA }
         requires message { Fits message.now }
         ensures { OnOk result (sends.new ≡ sends.old ++ map (parcel (actors.Replica self.now.me)) (to_replica replica message.now)) }
     {
         let to = Actor::Replica(replica);
-        send(self.allocator(), self.name(), to, message, sends)
+        sends.send(self.name(), to, message)
     }
 
     /// Sends the message, whose body was written, to each of the others.
@@ -53,7 +57,7 @@ impl ReplicaState {
         &self,
         message: &Message,
         body: &[u8],
-        sends: &mut Sends,
+        sends: &mut Outbox,
     ) -> Result<(), NoMemory>
         requires message { Fits message.now }
         requires body { body.now ≡ body_of message.now }
@@ -70,7 +74,7 @@ impl ReplicaState {
     }
 
     /// Sends the message to each of the others.
-    pub fn send_to_others(&self, message: &Message, sends: &mut Sends) -> Result<(), NoMemory>
+    pub fn send_to_others(&self, message: &Message, sends: &mut Outbox) -> Result<(), NoMemory>
         requires { Fits message.now }
         ensures { OnOk result (sends.new ≡ sends.old ++ map (parcel (actors.Replica self.now.me)) (to_others self.now.f self.now.me message.now)) }
     {
@@ -102,7 +106,7 @@ impl ReplicaState {
     }
 
     /// The others are asked to enter the view, and its leader, if another, gets the report.
-    pub fn call_for_view(&self, sends: &mut Sends) -> Result<(), NoMemory>
+    pub fn call_for_view(&self, sends: &mut Outbox) -> Result<(), NoMemory>
         ensures { OnOk result (sends.new ≡ sends.old ++ map (parcel (actors.Replica self.now.me)) (view_calls self.now.f self.now.me self.now.state)) }
     {
         self.send_to_others(&self.view_ask(), sends)?;

@@ -13,7 +13,7 @@ ghost use Rattle.nz_machine.specs.Adopting.{normal_in};
 
 use super::super::collecting::adopt;
 use super::super::data::Status;
-use super::super::event::Sends;
+use super::super::outbox::Outbox;
 use super::{ReplicaState, forget};
 use nz_base::{EntryList, MAX_QUIET, MAX_VIEW, NoMemory};
 
@@ -67,7 +67,7 @@ impl ReplicaState {
 
     /// A later view is entered, and everybody hears of it.
     #[tactic(auto, unfolding(crate::specs::Views::enter_view))]
-    pub fn enter_view(&mut self, view: u64, sends: &mut Sends) -> Result<(), NoMemory>
+    pub fn enter_view(&mut self, view: u64, sends: &mut Outbox) -> Result<(), NoMemory>
         requires later { self.old.state.view ≤ view }
         requires last { view ≤ MAX_VIEW }
         ensures { let s = self.old in OnOk result (Does s self.new sends.old sends.new (views.enter_view s.f s.me view s.state)) }

@@ -1,0 +1,99 @@
+//! What a step sends, and how a message becomes a parcel.
+
+ghost use Rattle.std.specs.Prelude.{◌≡◌, ◌∷◌, ◌++◌, [], OnOk};
+ghost use Rattle.nz_base.specs.Actor.{HasAddress};
+ghost use Rattle.nz_msg.specs.Messages.{Fits, body_of};
+ghost use Rattle.nz_machine.specs.Step.{parcel};
+
+use super::event::{Parcel, Sends, SharedParcel};
+use bytes::BytesMut;
+use nz_base::{Actor, NoMemory};
+use nz_msg::{Message, encode, frame_of};
+use std::alloc::Global;
+use std::marker::Model;
+use std::mem;
+
+/// What a step has sent so far. Contracts see the parcels. Small frames are written one after the other into memory that
+/// lasts from step to step.
+#[derive(Drop)]
+pub struct Outbox {
+    alloc: Global,
+    sends: Sends,
+    room: BytesMut,
+}
+
+impl Model for Outbox {
+    ghost use Rattle.std.specs.Prelude.{List};
+    ghost use Rattle.nz_machine.specs.declared.event.Parcel.{Parcel as ParcelModel};
+
+    ghost Value = { List ParcelModel };
+
+    ghost view = { λ o. o.sends };
+}
+
+impl Outbox {
+    /// Nothing is sent yet. It takes no memory.
+    pub fn new(alloc: Global) -> Outbox
+        ensures { result ≡ [] }
+    {
+        Outbox {
+            alloc,
+            sends: Sends::new(alloc),
+            room: BytesMut::new(alloc),
+        }
+    }
+
+    /// Where nothing is sent yet, the list gets room for so many parcels and no more: the journal keeps it as it is.
+    pub fn reserve(&mut self, count: u32) -> Result<(), NoMemory>
+        ensures { self.new ≡ self.old }
+    {
+        if self.sends.is_empty() {
+            self.sends = Sends::with_capacity(self.alloc, count)?;
+        }
+        Ok(())
+    }
+
+    /// Sends a frame.
+    fn push(&mut self, parcel: Parcel) -> Result<(), NoMemory>
+        ensures { OnOk result (self.new ≡ self.old ++ parcel ∷ []) }
+    {
+        self.sends.push(SharedParcel::new(self.alloc, parcel)?)
+    }
+
+    /// Sends a message.
+    pub fn send(&mut self, from: Actor, to: Actor, message: &Message) -> Result<(), NoMemory>
+        requires from { HasAddress from }
+        requires to { HasAddress to }
+        requires message { Fits message.now }
+        ensures { OnOk result (self.new ≡ self.old ++ parcel from (to, message.now) ∷ []) }
+    {
+        let frame = encode(&mut self.room, from, to, message)?;
+        self.push(Parcel { from, to, frame })
+    }
+
+    /// Sends a message whose body was written: a message to several actors is written once.
+    pub fn send_written(
+        &mut self,
+        from: Actor,
+        to: Actor,
+        message: &Message,
+        body: &[u8],
+    ) -> Result<(), NoMemory>
+        requires from { HasAddress from }
+        requires to { HasAddress to }
+        requires message { Fits message.now }
+        requires body { body.now ≡ body_of message.now }
+        ensures { OnOk result (self.new ≡ self.old ++ parcel from (to, message.now) ∷ []) }
+    {
+        let frame = frame_of(&mut self.room, from, to, message, body)?;
+        self.push(Parcel { from, to, frame })
+    }
+
+    /// Gives what was sent, in the order of sending. Nothing is sent from then on.
+    pub fn take(&mut self) -> Sends
+        ensures value { result ≡ self.old }
+        ensures empty { self.new ≡ [] }
+    {
+        mem::replace(&mut self.sends, Sends::new(self.alloc))
+    }
+}
