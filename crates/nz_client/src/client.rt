@@ -12,7 +12,7 @@ ghost use Rattle.nz_client.specs.Models.{AreSendable, IsClientInGroup, IsSameCli
 
 use crate::state::ClientState;
 use nz_base::{Actor, MAX_COMMAND, NoMemory, RequestList};
-use nz_machine::{Core, Event, Parcel, Sends, heard};
+use nz_machine::{Core, Event, Outbox, Parcel, Sends, heard};
 use nz_msg::{Envelope, Message};
 use std::alloc::Global;
 use std::marker::Model;
@@ -38,15 +38,20 @@ fn is_command(bytes: &[u8]) -> bool
 #[derive(Drop)]
 pub struct Client {
     state: ClientState,
+    /// Between steps it is empty, unless a step ran out of memory.
+    outbox: Outbox,
     live: bool,
 }
 
 impl Model for Client {
+    ghost use Rattle.std.specs.Prelude.{◌≡◌, [], IsTrue};
     ghost use Rattle.nz_client.specs.Models.{ClientCore};
 
     ghost Value = { ClientCore };
 
     ghost view = { λ c. record { model = c.state; live = c.live } };
+
+    ghost invariant = { λ c. IsTrue c.live → c.outbox ≡ [] };
 }
 
 impl Client {
@@ -62,6 +67,7 @@ impl Client {
     {
         Client {
             state: ClientState::new(alloc, me, proxies, window, script),
+            outbox: Outbox::new(alloc),
             live: true,
         }
     }
@@ -89,7 +95,7 @@ impl Client {
 }
 
 impl ClientState {
-    fn handle(&mut self, envelope: &Envelope, sends: &mut Sends) -> Result<(), NoMemory>
+    fn handle(&mut self, envelope: &Envelope, sends: &mut Outbox) -> Result<(), NoMemory>
         ensures same { IsSameClient self.old self.new }
         ensures state { OnOk result (self.new ≡ record self.old {
           state = (client_message self.old.window self.old.proxies
@@ -106,7 +112,7 @@ impl ClientState {
         }
     }
 
-    fn deliver(&mut self, p: &Parcel, sends: &mut Sends) -> Result<(), NoMemory>
+    fn deliver(&mut self, p: &Parcel, sends: &mut Outbox) -> Result<(), NoMemory>
         ensures same { IsSameClient self.old self.new }
         ensures state { (g : Group) → IsClientInGroup g self.old
             → OnOk result (self.new ≡ record self.old {
@@ -124,7 +130,7 @@ impl ClientState {
         }
     }
 
-    fn take(&mut self, event: &Event, sends: &mut Sends) -> Result<(), NoMemory>
+    fn take(&mut self, event: &Event, sends: &mut Outbox) -> Result<(), NoMemory>
         ensures same { IsSameClient self.old self.new }
         ensures state { (g : Group) → IsClientInGroup g self.old
             → OnOk result (self.new ≡ record self.old { state = (node_step g (actors.Client self.old.me) self.old.state event.now).0 }) }
@@ -150,9 +156,8 @@ impl Core for Client {
     ghost fits = { λ c g. IsClientInGroup g c.model };
 
     fn step(&mut self, event: &Event) -> Result<Sends, NoMemory> {
-        let mut sends = Sends::new(self.state.allocator());
-        match self.state.take(event, &mut sends) {
-            Ok(()) => Ok(sends),
+        match self.state.take(event, &mut self.outbox) {
+            Ok(()) => Ok(self.outbox.take()),
             Err(error) => {
                 self.live = false;
                 Err(error)

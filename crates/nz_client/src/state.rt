@@ -14,7 +14,7 @@ ghost use Rattle.nz_client.specs.Models as models;
 ghost use Rattle.nz_client.specs.Models.{IsSendable, AreSendable, IsOfProxies, IsSameClient};
 
 use nz_base::{Actor, NoMemory, PATIENCE, Request, RequestList, TryCopy};
-use nz_machine::{Attempt, Sends, send};
+use nz_machine::{Attempt, Outbox};
 use nz_msg::{AnswerBody, Message, RequestBody};
 use std::alloc::Global;
 use std::marker::Model;
@@ -121,7 +121,13 @@ impl ClientState {
     }
 
     /// Sends the request of this number, counted from 1, to a proxy.
-    fn ask(&self, proxy: u8, num: u32, request: &Request, sends: &mut Sends) -> Result<(), NoMemory>
+    fn ask(
+        &self,
+        proxy: u8,
+        num: u32,
+        request: &Request,
+        sends: &mut Outbox,
+    ) -> Result<(), NoMemory>
         requires proxy { proxy ≤ MAX_PROXY }
         requires request { IsSendable request.now }
         ensures { OnOk result (sends.new ≡ sends.old ++ map (parcel (actors.Client self.now.me)) (clients.ask proxy num request.now ∷ [])) }
@@ -129,7 +135,7 @@ impl ClientState {
         let command = request.command.copy(self.alloc)?;
         let message = Message::Request(RequestBody { num, command });
         let to = Actor::Proxy(proxy);
-        send(self.alloc, self.name(), to, &message, sends)
+        sends.send(self.name(), to, &message)
     }
 
     /// The next request, if it may be sent now.
@@ -176,7 +182,7 @@ impl ClientState {
     }
 
     /// The next request is opened if it is due.
-    fn open_next(&mut self, sends: &mut Sends) -> Result<(), NoMemory>
+    fn open_next(&mut self, sends: &mut Outbox) -> Result<(), NoMemory>
         requires { length self.old.state.attempts < self.old.window }
         ensures same { IsSameClient self.old self.new }
         ensures state { OnOk result (self.new ≡ record self.old {
@@ -205,7 +211,7 @@ impl ClientState {
     }
 
     /// Each free place of the window takes the next request, if it is due.
-    fn fill_window(&mut self, sends: &mut Sends) -> Result<(), NoMemory>
+    fn fill_window(&mut self, sends: &mut Outbox) -> Result<(), NoMemory>
         ensures same { IsSameClient self.old self.new }
         ensures state { OnOk result (self.new ≡ record self.old {
           state = (clients.fill_window self.old.window
@@ -222,7 +228,7 @@ impl ClientState {
     }
 
     /// Sends the request of this number again.
-    fn ask_again(&self, proxy: u8, num: u32, sends: &mut Sends) -> Result<(), NoMemory>
+    fn ask_again(&self, proxy: u8, num: u32, sends: &mut Outbox) -> Result<(), NoMemory>
         requires { proxy ≤ MAX_PROXY }
         ensures { OnOk result (sends.new ≡ sends.old
             ++ map (parcel (actors.Client self.now.me)) (request_again proxy num (slice_get self.now.script (num - 1)))) }
@@ -234,7 +240,7 @@ impl ClientState {
     }
 
     /// Sends an open request again where it has waited long enough.
-    fn retry(&self, attempt: Attempt, sends: &mut Sends) -> Result<(), NoMemory>
+    fn retry(&self, attempt: Attempt, sends: &mut Outbox) -> Result<(), NoMemory>
         requires { IsOfProxies self.now.proxies attempt }
         ensures { OnOk result (sends.new ≡ sends.old ++ map (parcel (actors.Client self.now.me)) (clients.retry self.now.proxies self.now.script attempt)) }
     {
@@ -247,7 +253,7 @@ impl ClientState {
     }
 
     /// Sends again what has waited long enough, in rising number.
-    fn retry_all(&self, sends: &mut Sends) -> Result<(), NoMemory>
+    fn retry_all(&self, sends: &mut Outbox) -> Result<(), NoMemory>
         ensures { OnOk result (sends.new ≡ sends.old
             ++ map (parcel (actors.Client self.now.me)) (retries self.now.proxies self.now.script self.now.state.attempts)) }
     {
@@ -268,7 +274,7 @@ impl ClientState {
 
     /// The rule for a tick.
     #[tactic(auto, unfolding(nz_machine::specs::Clients::wait_rule))]
-    pub fn wait_rule(&mut self, sends: &mut Sends) -> Result<(), NoMemory>
+    pub fn wait_rule(&mut self, sends: &mut Outbox) -> Result<(), NoMemory>
         ensures same { IsSameClient self.old self.new }
         ensures state { OnOk result (self.new ≡ record self.old {
           state = (clients.wait_rule self.old.window
@@ -294,7 +300,7 @@ impl ClientState {
 
     /// The rule for an answer of a proxy.
     #[tactic(auto, unfolding(nz_machine::specs::Clients::accept_rule))]
-    pub fn accept_rule(&mut self, body: &AnswerBody, sends: &mut Sends) -> Result<(), NoMemory>
+    pub fn accept_rule(&mut self, body: &AnswerBody, sends: &mut Outbox) -> Result<(), NoMemory>
         ensures same { IsSameClient self.old self.new }
         ensures state { OnOk result (self.new ≡ record self.old {
           state = (clients.accept_rule self.old.window

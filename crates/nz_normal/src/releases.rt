@@ -9,10 +9,10 @@ ghost use Rattle.nz_machine.specs.Does.{Does};
 ghost use Rattle.nz_machine.specs.Step.{parcel};
 
 use nz_base::NoMemory;
-use nz_machine::{ReplicaState, Sends};
+use nz_machine::{Outbox, ReplicaState};
 
 /// Releases the first early entry, and replies to its request.
-fn release_first(state: &mut ReplicaState, sends: &mut Sends) -> Result<(), NoMemory>
+fn release_first(state: &mut ReplicaState, sends: &mut Outbox) -> Result<(), NoMemory>
     requires normal { IsTrue (is_normal state.old.state.status) }
     requires first { IsTrue (first_may state.old.state state.old.state.early) }
     ensures state { OnOk result ((e : Entry) (es : List Entry) → state.old.state.early ≡ e ∷ es
@@ -27,7 +27,7 @@ fn release_first(state: &mut ReplicaState, sends: &mut Sends) -> Result<(), NoMe
 }
 
 /// Releases early entries up to the first that may not be.
-fn release_due(state: &mut ReplicaState, sends: &mut Sends) -> Result<(), NoMemory>
+fn release_due(state: &mut ReplicaState, sends: &mut Outbox) -> Result<(), NoMemory>
     requires normal { IsTrue (is_normal state.old.state.status) }
     ensures { let s = state.old in OnOk result (Does s state.new sends.old sends.new (releases s.f s.me s.state s.state.early)) }
 {
@@ -39,7 +39,7 @@ fn release_due(state: &mut ReplicaState, sends: &mut Sends) -> Result<(), NoMemo
 
 /// The release rule: what a replica does when its clock reads this many clock units.
 #[tactic(auto, unfolding(nz_machine::specs::Releases::release_rule))]
-pub fn tick(state: &mut ReplicaState, clock: u64, sends: &mut Sends) -> Result<(), NoMemory>
+pub fn tick(state: &mut ReplicaState, clock: u64, sends: &mut Outbox) -> Result<(), NoMemory>
     ensures { let s = state.old in OnOk result (Does s state.new sends.old sends.new (release_rule s.f s.me s.state clock)) }
 {
     state.set_clock(clock);

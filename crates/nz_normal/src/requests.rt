@@ -16,7 +16,7 @@ ghost use Rattle.nz_machine.specs.Step.{parcel, replica_message};
 
 use nz_base::{Actor, Entry, Id, Key, MAX_DEADLINE, NoMemory, TryCopy};
 use nz_log::HashedLog;
-use nz_machine::{ReplicaState, Sends};
+use nz_machine::{Outbox, ReplicaState};
 use nz_msg::TimedBody;
 use std::alloc::Global;
 
@@ -105,7 +105,7 @@ fn take_new_request(state: &mut ReplicaState, body: &TimedBody) -> Result<(), No
 }
 
 /// Replies to a request whose entry is at this place in the log.
-fn reply_at(state: &ReplicaState, id: Id, place: u32, sends: &mut Sends) -> Result<(), NoMemory>
+fn reply_at(state: &ReplicaState, id: Id, place: u32, sends: &mut Outbox) -> Result<(), NoMemory>
     requires { place < length state.now.state.log.entries }
     ensures { OnOk result (sends.new ≡ sends.old ++ map (parcel (actors.Replica state.now.me)) (replies_at state.now.f state.now.me state.now.state id place)) }
 {
@@ -122,7 +122,7 @@ fn request_rule(
     state: &mut ReplicaState,
     proxy: u8,
     body: &TimedBody,
-    sends: &mut Sends,
+    sends: &mut Outbox,
 ) -> Result<(), NoMemory>
     requires proxy { proxy ≤ MAX_PROXY }
     requires fits { timed.fits body.now }
@@ -143,7 +143,7 @@ pub fn on_timed(
     state: &mut ReplicaState,
     from: Actor,
     body: &TimedBody,
-    sends: &mut Sends,
+    sends: &mut Outbox,
 ) -> Result<(), NoMemory>
     requires from { HasAddress from }
     requires fits { timed.fits body.now }

@@ -14,7 +14,7 @@ ghost use Rattle.nz_proxy.specs.Models.{IsSameProxy, group_with_cluster, proxy_a
 
 use crate::state::ProxyState;
 use nz_base::{Actor, Cluster, NoMemory};
-use nz_machine::{Core, Event, Parcel, Reply, Sends, heard, is_from_cluster};
+use nz_machine::{Core, Event, Outbox, Parcel, Reply, Sends, heard, is_from_cluster};
 use nz_msg::{Envelope, FastReplyBody, Message, SlowReplyBody};
 use std::alloc::Global;
 use std::marker::Model;
@@ -24,15 +24,20 @@ use std::marker::Model;
 #[derive(Drop)]
 pub struct Proxy {
     state: ProxyState,
+    /// Between steps it is empty, unless a step ran out of memory.
+    outbox: Outbox,
     live: bool,
 }
 
 impl Model for Proxy {
+    ghost use Rattle.std.specs.Prelude.{◌≡◌, [], IsTrue};
     ghost use Rattle.nz_proxy.specs.Models.{ProxyCore};
 
     ghost Value = { ProxyCore };
 
     ghost view = { λ p. record { model = p.state; live = p.live } };
+
+    ghost invariant = { λ p. IsTrue p.live → p.outbox ≡ [] };
 }
 
 impl Proxy {
@@ -43,6 +48,7 @@ impl Proxy {
     {
         Proxy {
             state: ProxyState::new(alloc, cluster, me),
+            outbox: Outbox::new(alloc),
             live: true,
         }
     }
@@ -67,7 +73,7 @@ impl ProxyState {
         &mut self,
         replica: u8,
         body: FastReplyBody,
-        sends: &mut Sends,
+        sends: &mut Outbox,
     ) -> Result<(), NoMemory>
         requires replica { replica < replica_count self.old.f }
         requires vector { length body.vector ≡ replica_count self.old.f }
@@ -95,7 +101,7 @@ impl ProxyState {
         &mut self,
         replica: u8,
         body: SlowReplyBody,
-        sends: &mut Sends,
+        sends: &mut Outbox,
     ) -> Result<(), NoMemory>
         requires { replica < replica_count self.old.f }
         ensures same { IsSameProxy self.old self.new }
@@ -115,7 +121,7 @@ impl ProxyState {
     }
 
     /// Takes a message that counts, while the proxy is up.
-    fn handle(&mut self, envelope: Envelope, sends: &mut Sends) -> Result<(), NoMemory>
+    fn handle(&mut self, envelope: Envelope, sends: &mut Outbox) -> Result<(), NoMemory>
         requires from { HasAddress envelope.from }
         requires message { Fits envelope.message }
         requires sender { IsTrue (is_in_cluster self.old.f envelope.from) }
@@ -139,7 +145,7 @@ impl ProxyState {
         }
     }
 
-    fn deliver(&mut self, p: &Parcel, sends: &mut Sends) -> Result<(), NoMemory>
+    fn deliver(&mut self, p: &Parcel, sends: &mut Outbox) -> Result<(), NoMemory>
         ensures same { IsSameProxy self.old self.new }
         ensures state { OnOk result (self.new ≡ record self.old {
           state = (envelope_step (group_with_cluster self.old.f)
@@ -169,7 +175,7 @@ impl ProxyState {
         }
     }
 
-    fn take(&mut self, event: &Event, sends: &mut Sends) -> Result<(), NoMemory>
+    fn take(&mut self, event: &Event, sends: &mut Outbox) -> Result<(), NoMemory>
         ensures same { IsSameProxy self.old self.new }
         ensures state { OnOk result (self.new ≡ record self.old {
           state = (node_step (group_with_cluster self.old.f)
@@ -208,9 +214,8 @@ impl Core for Proxy {
     ghost fits = { λ p g. g.f ≡ p.model.f };
 
     fn step(&mut self, event: &Event) -> Result<Sends, NoMemory> {
-        let mut sends = Sends::new(self.state.allocator());
-        match self.state.take(event, &mut sends) {
-            Ok(()) => Ok(sends),
+        match self.state.take(event, &mut self.outbox) {
+            Ok(()) => Ok(self.outbox.take()),
             Err(error) => {
                 self.live = false;
                 Err(error)

@@ -24,7 +24,7 @@ ghost use Rattle.nz_proxy.specs.Models.{IsSameProxy};
 use crate::standing::Standing;
 use indexmap::IndexMap;
 use nz_base::{Actor, Blob, Cluster, Id, MARGIN, MAX_CLOCK, NoMemory};
-use nz_machine::{Reply, Sends, copy_answer, reserve_sends, send, send_written};
+use nz_machine::{Outbox, Reply, copy_answer};
 use nz_msg::{AnswerBody, Message, Path, RequestBody, TimedBody, write_body};
 use nz_quorum::Tally;
 use nz_store::Answer;
@@ -172,20 +172,20 @@ impl ProxyState {
         id: Id,
         answer: Answer,
         path: Path,
-        sends: &mut Sends,
+        sends: &mut Outbox,
     ) -> Result<(), NoMemory>
         requires client { id.client ≤ MAX_CLIENT }
         requires answer { fields.answer.fits answer }
         ensures { OnOk result (sends.new ≡ sends.old ++ map (parcel (actors.Proxy self.now.me)) (answer_to_client id answer path ∷ [])) }
     {
-        reserve_sends(self.alloc, 1, sends)?;
+        sends.reserve(1)?;
         let message = Message::Answer(AnswerBody {
             num: id.num,
             answer,
             path,
         });
         let to = Actor::Client(id.client as u8);
-        send(self.alloc, self.name(), to, &message, sends)
+        sends.send(self.name(), to, &message)
     }
 
     fn timed(&self, id: Id, command: Blob) -> TimedBody
@@ -207,7 +207,7 @@ impl ProxyState {
     }
 
     /// Sends the message to each replica.
-    fn send_to_replicas(&self, message: &Message, sends: &mut Sends) -> Result<(), NoMemory>
+    fn send_to_replicas(&self, message: &Message, sends: &mut Outbox) -> Result<(), NoMemory>
         requires { Fits message.now }
         ensures { OnOk result (sends.new ≡ sends.old
             ++ map (parcel (actors.Proxy self.now.me)) (to_each message.now (numbers_below (replica_count self.now.f)))) }
@@ -216,13 +216,13 @@ impl ProxyState {
         let body = write_body(self.alloc, message)?;
         for replica in 0..cluster.n() {
             let to = Actor::Replica(replica);
-            send_written(self.alloc, self.name(), to, message, &body, sends)?;
+            sends.send_written(self.name(), to, message, &body)?;
         }
         Ok(())
     }
 
     /// Sends the request to each replica, stamped with its deadline.
-    fn send_to_all(&self, id: Id, command: Blob, sends: &mut Sends) -> Result<(), NoMemory>
+    fn send_to_all(&self, id: Id, command: Blob, sends: &mut Outbox) -> Result<(), NoMemory>
         requires { fields.command.fits command }
         ensures { OnOk result (sends.new ≡ sends.old ++ map (parcel (actors.Proxy self.now.me)) (timed_to_all self.now.f self.now.state id command)) }
     {
@@ -236,7 +236,7 @@ impl ProxyState {
         &mut self,
         client: u8,
         body: RequestBody,
-        sends: &mut Sends,
+        sends: &mut Outbox,
     ) -> Result<(), NoMemory>
         requires client { client ≤ MAX_CLIENT }
         requires body { messages.request.fits body }
@@ -272,7 +272,7 @@ impl ProxyState {
         id: Id,
         delay: u32,
         reply: Reply,
-        sends: &mut Sends,
+        sends: &mut Outbox,
     ) -> Result<(), NoMemory>
         requires replica { replica < replica_count self.old.f }
         requires reply { IsOfCluster self.old.f reply }

@@ -11,7 +11,7 @@ ghost use Rattle.nz_machine.specs.Does.{Does};
 ghost use Rattle.nz_machine.specs.Step.{replica_message, is_in_cluster};
 
 use nz_base::{Actor, NoMemory};
-use nz_machine::{ReplicaState, Sends};
+use nz_machine::{Outbox, ReplicaState};
 use nz_msg::{RejoinAskBody, StateAskBody, VectorAskBody};
 
 /// A replica in normal operation tells its vector.
@@ -20,7 +20,7 @@ fn vector_ask_rule(
     state: &ReplicaState,
     sender: u8,
     body: &VectorAskBody,
-    sends: &mut Sends,
+    sends: &mut Outbox,
 ) -> Result<(), NoMemory>
     requires sender { sender ≤ MAX_REPLICA }
     requires fits { vector_ask.fits body.now }
@@ -37,7 +37,7 @@ pub fn on_vector_ask(
     state: &ReplicaState,
     from: Actor,
     body: &VectorAskBody,
-    sends: &mut Sends,
+    sends: &mut Outbox,
 ) -> Result<(), NoMemory>
     requires from { HasAddress from }
     requires fits { vector_ask.fits body.now }
@@ -55,7 +55,7 @@ fn rejoin_ask_rule(
     state: &mut ReplicaState,
     sender: u8,
     body: &RejoinAskBody,
-    sends: &mut Sends,
+    sends: &mut Outbox,
 ) -> Result<(), NoMemory>
     requires address { sender ≤ MAX_REPLICA }
     requires sender { sender < replica_count state.old.f }
@@ -76,7 +76,7 @@ pub fn on_rejoin_ask(
     state: &mut ReplicaState,
     from: Actor,
     body: &RejoinAskBody,
-    sends: &mut Sends,
+    sends: &mut Outbox,
 ) -> Result<(), NoMemory>
     requires from { HasAddress from }
     requires member { IsTrue (is_in_cluster state.old.f from) }
@@ -96,7 +96,7 @@ fn state_ask_rule(
     state: &mut ReplicaState,
     sender: u8,
     body: &StateAskBody,
-    sends: &mut Sends,
+    sends: &mut Outbox,
 ) -> Result<(), NoMemory>
     requires address { sender ≤ MAX_REPLICA }
     requires sender { sender < replica_count state.old.f }
@@ -121,7 +121,7 @@ pub fn on_state_ask(
     state: &mut ReplicaState,
     from: Actor,
     body: &StateAskBody,
-    sends: &mut Sends,
+    sends: &mut Outbox,
 ) -> Result<(), NoMemory>
     requires from { HasAddress from }
     requires member { IsTrue (is_in_cluster state.old.f from) }

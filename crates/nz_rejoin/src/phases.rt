@@ -14,13 +14,13 @@ ghost use Rattle.nz_machine.specs.Does.{Does, DoesSilently};
 ghost use Rattle.nz_machine.specs.Step.{replica_message, is_in_cluster};
 
 use nz_base::{Actor, NoMemory, TryCopy};
-use nz_machine::{Phase, ReplicaState, Sends};
+use nz_machine::{Outbox, Phase, ReplicaState};
 use nz_msg::{RejoinTellBody, StateTellBody, VectorTellBody};
 
 // ---- the first phase: vectors
 
 /// The second phase starts with nothing collected: the others are asked for their views.
-pub(super) fn ask_views(state: &mut ReplicaState, sends: &mut Sends) -> Result<(), NoMemory>
+pub(super) fn ask_views(state: &mut ReplicaState, sends: &mut Outbox) -> Result<(), NoMemory>
     ensures { let s = state.old in OnOk result (Does s state.new sends.old sends.new (rejoining.ask_views s.f s.me s.state)) }
 {
     state.start_views();
@@ -31,7 +31,7 @@ pub(super) fn ask_views(state: &mut ReplicaState, sends: &mut Sends) -> Result<(
 fn after_vectors(
     state: &mut ReplicaState,
     tellers: usize,
-    sends: &mut Sends,
+    sends: &mut Outbox,
 ) -> Result<(), NoMemory>
     requires { tellers ≡ length state.old.state.rejoin.tellers }
     ensures { let s = state.old in OnOk result (Does s state.new sends.old sends.new (rejoining.after_vectors s.f s.me s.state)) }
@@ -48,7 +48,7 @@ fn vector_tell_rule(
     state: &mut ReplicaState,
     sender: u8,
     body: &VectorTellBody,
-    sends: &mut Sends,
+    sends: &mut Outbox,
 ) -> Result<(), NoMemory>
     requires sender { sender < replica_count state.old.f }
     requires vector { length body.now.vector ≡ replica_count state.old.f }
@@ -69,7 +69,7 @@ pub fn on_vector_tell(
     state: &mut ReplicaState,
     from: Actor,
     body: &VectorTellBody,
-    sends: &mut Sends,
+    sends: &mut Outbox,
 ) -> Result<(), NoMemory>
     requires member { IsTrue (is_in_cluster state.old.f from) }
     requires vector { length body.now.vector ≡ replica_count state.old.f }
@@ -85,7 +85,7 @@ pub fn on_vector_tell(
 // ---- the second phase: views
 
 /// The third phase: the leader of the view is asked for its log.
-fn ask_log(state: &mut ReplicaState, view: u64, sends: &mut Sends) -> Result<(), NoMemory>
+fn ask_log(state: &mut ReplicaState, view: u64, sends: &mut Outbox) -> Result<(), NoMemory>
     requires { view ≤ MAX_VIEW }
     ensures { let s = state.old in OnOk result (Does s state.new sends.old sends.new (rejoining.ask_log s.f s.state view)) }
 {
@@ -97,7 +97,7 @@ fn ask_log(state: &mut ReplicaState, view: u64, sends: &mut Sends) -> Result<(),
 }
 
 /// With enough views the third phase starts. A replica that led the latest one itself waits until there is a later.
-fn after_views(state: &mut ReplicaState, tells: usize, sends: &mut Sends) -> Result<(), NoMemory>
+fn after_views(state: &mut ReplicaState, tells: usize, sends: &mut Outbox) -> Result<(), NoMemory>
     requires { tells ≡ length state.old.state.rejoin.tells }
     ensures { let s = state.old in OnOk result (Does s state.new sends.old sends.new (rejoining.after_views s.f s.me s.state)) }
 {
@@ -118,7 +118,7 @@ fn rejoin_tell_rule(
     state: &mut ReplicaState,
     sender: u8,
     body: &RejoinTellBody,
-    sends: &mut Sends,
+    sends: &mut Outbox,
 ) -> Result<(), NoMemory>
     requires sender { sender < replica_count state.old.f }
     requires vector { length body.now.vector ≡ replica_count state.old.f }
@@ -139,7 +139,7 @@ pub fn on_rejoin_tell(
     state: &mut ReplicaState,
     from: Actor,
     body: &RejoinTellBody,
-    sends: &mut Sends,
+    sends: &mut Outbox,
 ) -> Result<(), NoMemory>
     requires member { IsTrue (is_in_cluster state.old.f from) }
     requires vector { length body.now.vector ≡ replica_count state.old.f }

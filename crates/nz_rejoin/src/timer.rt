@@ -8,11 +8,11 @@ ghost use Rattle.nz_machine.specs.Does.{Does};
 
 use super::phases::ask_views;
 use nz_base::NoMemory;
-use nz_machine::{Phase, ReplicaState, Sends};
+use nz_machine::{Outbox, Phase, ReplicaState};
 
 /// A restart begins the next incarnation. Only a replica that is down restarts.
 #[tactic(auto, unfolding(nz_machine::specs::Rejoining::restart_rule))]
-pub fn restart(state: &mut ReplicaState, nonce: u64, sends: &mut Sends) -> Result<(), NoMemory>
+pub fn restart(state: &mut ReplicaState, nonce: u64, sends: &mut Outbox) -> Result<(), NoMemory>
     ensures { let s = state.old in OnOk result (Does s state.new sends.old sends.new (restart_rule s.f s.me s.state nonce)) }
 {
     if !state.is_down() {
@@ -23,7 +23,7 @@ pub fn restart(state: &mut ReplicaState, nonce: u64, sends: &mut Sends) -> Resul
 }
 
 /// In each phase what was asked is asked again; from the third the replica goes back to the second.
-fn ask_again(state: &mut ReplicaState, sends: &mut Sends) -> Result<(), NoMemory>
+fn ask_again(state: &mut ReplicaState, sends: &mut Outbox) -> Result<(), NoMemory>
     ensures { let s = state.old in OnOk result (Does s state.new sends.old sends.new (rejoining.ask_again s.state.rejoin.phase s.f s.me s.state)) }
 {
     match state.phase() {
@@ -34,7 +34,7 @@ fn ask_again(state: &mut ReplicaState, sends: &mut Sends) -> Result<(), NoMemory
 }
 
 /// After each period a replica that rejoins asks again.
-pub fn rejoin_timer(state: &mut ReplicaState, sends: &mut Sends) -> Result<(), NoMemory>
+pub fn rejoin_timer(state: &mut ReplicaState, sends: &mut Outbox) -> Result<(), NoMemory>
     requires { IsTrue (is_rejoining state.old.state.status) }
     ensures { let s = state.old in OnOk result (Does s state.new sends.old sends.new (rejoining.rejoin_timer s.f s.me s.state)) }
 {

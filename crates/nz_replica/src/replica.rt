@@ -16,7 +16,7 @@ ghost use Rattle.nz_replica.specs.Models.{IsOf};
 
 use nz_base::{Actor, Cluster, NoMemory};
 use nz_log::HashedLog;
-use nz_machine::{Core, Event, Parcel, ReplicaState, Sends, heard, is_from_cluster};
+use nz_machine::{Core, Event, Outbox, Parcel, ReplicaState, Sends, heard, is_from_cluster};
 use nz_msg::{Envelope, Message};
 use nz_normal::{on_timed, tick};
 use nz_rejoin::{
@@ -33,18 +33,20 @@ use std::marker::Model;
 pub struct Replica {
     cluster: Cluster,
     state: ReplicaState,
+    /// Between steps it is empty, unless a step ran out of memory.
+    outbox: Outbox,
     live: bool,
 }
 
 impl Model for Replica {
-    ghost use Rattle.std.specs.Prelude.{◌≡◌, IsTrue};
+    ghost use Rattle.std.specs.Prelude.{◌≡◌, [], IsTrue};
     ghost use Rattle.nz_replica.specs.Models.{ReplicaCore};
 
     ghost Value = { ReplicaCore };
 
     ghost view = { λ r. record { f = r.cluster; model = r.state; live = r.live } };
 
-    ghost invariant = { λ r. IsTrue r.live → r.state.f ≡ r.cluster };
+    ghost invariant = { λ r. IsTrue r.live → (r.state.f ≡ r.cluster) × (r.outbox ≡ []) };
 }
 
 impl Replica {
@@ -57,6 +59,7 @@ impl Replica {
         Ok(Replica {
             cluster,
             state: ReplicaState::new(alloc, cluster, me)?,
+            outbox: Outbox::new(alloc),
             live: true,
         })
     }
@@ -95,7 +98,7 @@ impl Replica {
 }
 
 /// Which rule handles a message.
-fn handle(state: &mut ReplicaState, envelope: &Envelope, sends: &mut Sends) -> Result<(), NoMemory>
+fn handle(state: &mut ReplicaState, envelope: &Envelope, sends: &mut Outbox) -> Result<(), NoMemory>
     requires from { HasAddress envelope.now.from }
     requires other { envelope.now.from ≢ actors.Replica state.old.me }
     requires fits { Fits envelope.now.message }
@@ -128,7 +131,7 @@ fn handle(state: &mut ReplicaState, envelope: &Envelope, sends: &mut Sends) -> R
 }
 
 /// What a replica does with what it read: nothing where it is down, or where this is not from the cluster.
-fn hear(state: &mut ReplicaState, envelope: &Envelope, sends: &mut Sends) -> Result<(), NoMemory>
+fn hear(state: &mut ReplicaState, envelope: &Envelope, sends: &mut Outbox) -> Result<(), NoMemory>
     requires from { HasAddress envelope.now.from }
     requires other { envelope.now.from ≢ actors.Replica state.old.me }
     requires fits { Fits envelope.now.message }
@@ -146,7 +149,7 @@ fn hear(state: &mut ReplicaState, envelope: &Envelope, sends: &mut Sends) -> Res
     handle(state, envelope, sends)
 }
 
-fn deliver(state: &mut ReplicaState, p: &Parcel, sends: &mut Sends) -> Result<(), NoMemory>
+fn deliver(state: &mut ReplicaState, p: &Parcel, sends: &mut Outbox) -> Result<(), NoMemory>
     ensures { let s = state.old in
         (g : Group) → IsOf g s
         → OnOk result (Does s state.new sends.old sends.new
@@ -159,7 +162,7 @@ fn deliver(state: &mut ReplicaState, p: &Parcel, sends: &mut Sends) -> Result<()
 }
 
 /// What a replica does at a tick after its releases, by its mode.
-fn mode_timer(state: &mut ReplicaState, sends: &mut Sends) -> Result<(), NoMemory>
+fn mode_timer(state: &mut ReplicaState, sends: &mut Outbox) -> Result<(), NoMemory>
     ensures { let s = state.old in OnOk result (Does s state.new sends.old sends.new (step_words.mode_timer s.state.status s.f s.me s.state)) }
 {
     if state.is_normal() {
@@ -178,7 +181,7 @@ fn mode_timer(state: &mut ReplicaState, sends: &mut Sends) -> Result<(), NoMemor
 }
 
 /// Releases what is due, and then the mode's timer counts.
-fn tick_rule(state: &mut ReplicaState, clock: u64, sends: &mut Sends) -> Result<(), NoMemory>
+fn tick_rule(state: &mut ReplicaState, clock: u64, sends: &mut Outbox) -> Result<(), NoMemory>
     ensures { let s = state.old in OnOk result (Does s state.new sends.old sends.new (step_words.tick_rule s.f s.me s.state clock)) }
 {
     tick(state, clock, sends)?;
@@ -186,7 +189,7 @@ fn tick_rule(state: &mut ReplicaState, clock: u64, sends: &mut Sends) -> Result<
 }
 
 #[tactic(auto, unfolding(nz_machine::specs::Rejoining::crash_rule))]
-fn event_step(state: &mut ReplicaState, event: &Event, sends: &mut Sends) -> Result<(), NoMemory>
+fn event_step(state: &mut ReplicaState, event: &Event, sends: &mut Outbox) -> Result<(), NoMemory>
     ensures { let s = state.old in
         (g : Group) → IsOf g s → OnOk result (Does s state.new sends.old sends.new (step_words.event_step g (actors.Replica s.me) s.state event.now)) }
 {
@@ -214,9 +217,8 @@ impl Core for Replica {
     ghost fits = { λ r g. g.f ≡ r.f };
 
     fn step(&mut self, event: &Event) -> Result<Sends, NoMemory> {
-        let mut sends = Sends::new(self.state.allocator());
-        match event_step(&mut self.state, event, &mut sends) {
-            Ok(()) => Ok(sends),
+        match event_step(&mut self.state, event, &mut self.outbox) {
+            Ok(()) => Ok(self.outbox.take()),
             Err(error) => {
                 self.live = false;
                 Err(error)

@@ -9,7 +9,7 @@ ghost use Rattle.nz_machine.specs.LogMods.{log_mod_to, log_mods_to_others};
 ghost use Rattle.nz_machine.specs.Step.{parcel};
 
 use nz_base::{Actor, KeyList, MAX_KEYS, NoMemory};
-use nz_machine::{ReplicaState, Sends, send};
+use nz_machine::{Outbox, ReplicaState};
 use nz_msg::{LogModBody, Message};
 
 /// The first keys of the log from a place on.
@@ -30,7 +30,7 @@ fn keys_from(state: &ReplicaState, start: u32) -> Result<KeyList, NoMemory>
 }
 
 /// Sends a replica the keys of the log, from where its own agrees.
-fn send_log_mod(state: &ReplicaState, replica: u8, sends: &mut Sends) -> Result<(), NoMemory>
+fn send_log_mod(state: &ReplicaState, replica: u8, sends: &mut Outbox) -> Result<(), NoMemory>
     requires { replica < replica_count state.now.f }
     ensures { OnOk result (sends.new ≡ sends.old ++ map (parcel (actors.Replica state.now.me)) (log_mod_to state.now.state replica ∷ [])) }
 {
@@ -45,11 +45,11 @@ fn send_log_mod(state: &ReplicaState, replica: u8, sends: &mut Sends) -> Result<
         keys: keys_from(state, start)?,
     });
     let to = Actor::Replica(replica);
-    send(state.allocator(), state.name(), to, &message, sends)
+    sends.send(state.name(), to, &message)
 }
 
 /// At a tick the leader in normal operation sends each of the others what its log has.
-pub fn tell_others(state: &ReplicaState, sends: &mut Sends) -> Result<(), NoMemory>
+pub fn tell_others(state: &ReplicaState, sends: &mut Outbox) -> Result<(), NoMemory>
     ensures { OnOk result (sends.new ≡ sends.old ++ map (parcel (actors.Replica state.now.me)) (log_mods_to_others state.now.f state.now.me state.now.state)) }
 {
     for replica in 0..state.cluster().n() {

@@ -15,7 +15,7 @@ ghost use Rattle.nz_machine.specs.Does.{Does, DoesSilently};
 ghost use Rattle.nz_machine.specs.Step.{parcel, replica_message};
 
 use nz_base::{Actor, Entry, EntryList, Id, NoMemory, TryCopy};
-use nz_machine::{ReplicaState, Sends, send};
+use nz_machine::{Outbox, ReplicaState};
 use nz_msg::{FetchBody, FetchReplyBody, Message};
 
 fn is_asked(ids: &[Id], entry: &Entry) -> bool
@@ -53,7 +53,7 @@ fn fetch_rule(
     state: &ReplicaState,
     sender: u8,
     body: &FetchBody,
-    sends: &mut Sends,
+    sends: &mut Outbox,
 ) -> Result<(), NoMemory>
     requires sender { sender ≤ MAX_REPLICA }
     requires fits { fetch.fits body.now }
@@ -67,7 +67,7 @@ fn fetch_rule(
         entries: asked_entries(state, body.ids.as_slice())?,
     });
     let to = Actor::Replica(sender);
-    send(state.allocator(), state.name(), to, &message, sends)
+    sends.send(state.name(), to, &message)
 }
 
 /// What a replica does with a fetch. It changes nothing, and takes them from replicas alone.
@@ -75,7 +75,7 @@ pub fn on_fetch(
     state: &ReplicaState,
     from: Actor,
     body: &FetchBody,
-    sends: &mut Sends,
+    sends: &mut Outbox,
 ) -> Result<(), NoMemory>
     requires from { HasAddress from }
     requires fits { fetch.fits body.now }

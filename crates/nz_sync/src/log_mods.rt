@@ -19,21 +19,21 @@ ghost use Rattle.nz_machine.specs.Does.{Does};
 ghost use Rattle.nz_machine.specs.Step.{parcel, replica_message, is_in_cluster};
 
 use nz_base::{Actor, IdList, NoMemory};
-use nz_machine::{ReplicaState, Sends, reserve_sends, send};
+use nz_machine::{Outbox, ReplicaState};
 use nz_msg::{FetchBody, LogModBody, Message, SyncReportBody};
 
 /// Tells the leader how much of the log agrees with its own.
-fn send_sync_report(state: &ReplicaState, leader: u8, sends: &mut Sends) -> Result<(), NoMemory>
+fn send_sync_report(state: &ReplicaState, leader: u8, sends: &mut Outbox) -> Result<(), NoMemory>
     requires { leader ≤ MAX_REPLICA }
     ensures { OnOk result (sends.new ≡ sends.old ++ map (parcel (actors.Replica state.now.me)) (sync_report_to leader state.now.state ∷ [])) }
 {
-    reserve_sends(state.allocator(), 1, sends)?;
+    sends.reserve(1)?;
     let message = Message::SyncReport(SyncReportBody {
         view: state.view(),
         synced: state.log().synced(),
     });
     let to = Actor::Replica(leader);
-    send(state.allocator(), state.name(), to, &message, sends)
+    sends.send(state.name(), to, &message)
 }
 
 /// Asks the leader for the entries with these ids, if there are any.
@@ -41,7 +41,7 @@ fn send_fetch(
     state: &ReplicaState,
     leader: u8,
     ids: IdList,
-    sends: &mut Sends,
+    sends: &mut Outbox,
 ) -> Result<(), NoMemory>
     requires leader { leader ≤ MAX_REPLICA }
     requires few { length ids ≤ MAX_KEYS }
@@ -56,11 +56,11 @@ fn send_fetch(
         ids,
     });
     let to = Actor::Replica(leader);
-    send(state.allocator(), state.name(), to, &message, sends)
+    sends.send(state.name(), to, &message)
 }
 
 /// Sends the slow replies for the entries that are synced since a count.
-fn reply_since(state: &ReplicaState, count: u32, sends: &mut Sends) -> Result<(), NoMemory>
+fn reply_since(state: &ReplicaState, count: u32, sends: &mut Outbox) -> Result<(), NoMemory>
     ensures { OnOk result (sends.new ≡ sends.old ++ map (parcel (actors.Replica state.now.me)) (replies_since state.now.state count)) }
 {
     state.has_facts();
@@ -75,7 +75,7 @@ fn take_keys(
     state: &mut ReplicaState,
     leader: u8,
     body: &LogModBody,
-    sends: &mut Sends,
+    sends: &mut Outbox,
 ) -> Result<(), NoMemory>
     requires leader { leader ≤ MAX_REPLICA }
     requires normal { IsTrue (is_normal state.old.state.status) }
@@ -97,7 +97,7 @@ fn take_log_mod(
     state: &mut ReplicaState,
     leader: u8,
     body: &LogModBody,
-    sends: &mut Sends,
+    sends: &mut Outbox,
 ) -> Result<(), NoMemory>
     requires leader { leader ≤ MAX_REPLICA }
     requires normal { IsTrue (is_normal state.old.state.status) }
@@ -133,7 +133,7 @@ fn enter_unless_stray(
     state: &mut ReplicaState,
     sender: u8,
     body: &LogModBody,
-    sends: &mut Sends,
+    sends: &mut Outbox,
 ) -> Result<(), NoMemory>
     requires sender { sender < replica_count state.old.f }
     requires vector { length body.now.vector ≡ replica_count state.old.f }
@@ -155,7 +155,7 @@ fn follow_unless_stray(
     state: &mut ReplicaState,
     sender: u8,
     body: &LogModBody,
-    sends: &mut Sends,
+    sends: &mut Outbox,
 ) -> Result<(), NoMemory>
     requires address { sender ≤ MAX_REPLICA }
     requires sender { sender < replica_count state.old.f }
@@ -180,7 +180,7 @@ fn log_mod_rule(
     state: &mut ReplicaState,
     sender: u8,
     body: &LogModBody,
-    sends: &mut Sends,
+    sends: &mut Outbox,
 ) -> Result<(), NoMemory>
     requires address { sender ≤ MAX_REPLICA }
     requires sender { sender < replica_count state.old.f }
@@ -202,7 +202,7 @@ pub fn on_log_mod(
     state: &mut ReplicaState,
     from: Actor,
     body: &LogModBody,
-    sends: &mut Sends,
+    sends: &mut Outbox,
 ) -> Result<(), NoMemory>
     requires from { HasAddress from }
     requires member { IsTrue (is_in_cluster state.old.f from) }

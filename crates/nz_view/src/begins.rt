@@ -15,12 +15,12 @@ ghost use Rattle.nz_machine.specs.Step.{replica_message, is_in_cluster};
 
 use super::starts::enter_later;
 use nz_base::{Actor, NoMemory};
-use nz_machine::{ReplicaState, Sends};
+use nz_machine::{Outbox, ReplicaState};
 use nz_msg::ViewChangeBody;
 
 /// The view begins with the merged log, where a log has room for it, and the others get a start-view.
 #[tactic(auto, unfolding(nz_machine::specs::Begins::begin))]
-fn begin(state: &mut ReplicaState, sends: &mut Sends) -> Result<(), NoMemory>
+fn begin(state: &mut ReplicaState, sends: &mut Outbox) -> Result<(), NoMemory>
     requires changing { IsTrue (is_changing state.old.state.status) }
     requires leads { IsTrue (leads state.old.f state.old.me state.old.state) }
     ensures { let s = state.old in OnOk result (Does s state.new sends.old sends.new (begins.begin s.f s.me s.state)) }
@@ -37,7 +37,7 @@ fn collect(
     state: &mut ReplicaState,
     sender: u8,
     body: &ViewChangeBody,
-    sends: &mut Sends,
+    sends: &mut Outbox,
 ) -> Result<(), NoMemory>
     requires sender { sender < replica_count state.old.f }
     requires other { IsFalse (sender == state.old.me) }
@@ -58,7 +58,7 @@ fn hear_report(
     state: &mut ReplicaState,
     sender: u8,
     body: &ViewChangeBody,
-    sends: &mut Sends,
+    sends: &mut Outbox,
 ) -> Result<(), NoMemory>
     requires address { sender ≤ MAX_REPLICA }
     requires sender { sender < replica_count state.old.f }
@@ -80,7 +80,7 @@ fn enter_and_hear_report(
     state: &mut ReplicaState,
     sender: u8,
     body: &ViewChangeBody,
-    sends: &mut Sends,
+    sends: &mut Outbox,
 ) -> Result<(), NoMemory>
     requires address { sender ≤ MAX_REPLICA }
     requires sender { sender < replica_count state.old.f }
@@ -113,7 +113,7 @@ fn view_change_rule(
     state: &mut ReplicaState,
     sender: u8,
     body: &ViewChangeBody,
-    sends: &mut Sends,
+    sends: &mut Outbox,
 ) -> Result<(), NoMemory>
     requires address { sender ≤ MAX_REPLICA }
     requires sender { sender < replica_count state.old.f }
@@ -136,7 +136,7 @@ pub fn on_view_change(
     state: &mut ReplicaState,
     from: Actor,
     body: &ViewChangeBody,
-    sends: &mut Sends,
+    sends: &mut Outbox,
 ) -> Result<(), NoMemory>
     requires from { HasAddress from }
     requires member { IsTrue (is_in_cluster state.old.f from) }

@@ -13,11 +13,11 @@ ghost use Rattle.nz_machine.specs.Does.{Does, DoesSilently};
 ghost use Rattle.nz_machine.specs.Step.{replica_message, is_in_cluster};
 
 use nz_base::{Actor, NoMemory, TryCopy};
-use nz_machine::{ReplicaState, Sends};
+use nz_machine::{Outbox, ReplicaState};
 use nz_msg::{StartViewBody, ViewAskBody};
 
 /// The view is entered where it is later than the replica's own.
-pub fn enter_later(state: &mut ReplicaState, view: u64, sends: &mut Sends) -> Result<(), NoMemory>
+pub fn enter_later(state: &mut ReplicaState, view: u64, sends: &mut Outbox) -> Result<(), NoMemory>
     requires { fields.view.fits view }
     ensures { let s = state.old in OnOk result (Does s state.new sends.old sends.new (views.enter_later s.f s.me view s.state)) }
 {
@@ -32,7 +32,7 @@ pub fn enter_later(state: &mut ReplicaState, view: u64, sends: &mut Sends) -> Re
 fn view_ask_rule(
     state: &mut ReplicaState,
     body: &ViewAskBody,
-    sends: &mut Sends,
+    sends: &mut Outbox,
 ) -> Result<(), NoMemory>
     requires { view_ask.fits body.now }
     ensures { let s = state.old in OnOk result (Does s state.new sends.old sends.new (views.view_ask_rule s.f s.me s.state body.now)) }
@@ -48,7 +48,7 @@ pub fn on_view_ask(
     state: &mut ReplicaState,
     from: Actor,
     body: &ViewAskBody,
-    sends: &mut Sends,
+    sends: &mut Outbox,
 ) -> Result<(), NoMemory>
     requires { view_ask.fits body.now }
     ensures { let s = state.old in OnOk result (Does s state.new sends.old sends.new (replica_message s.f s.me s.state from (ViewAsk body.now))) }

@@ -7,10 +7,10 @@ ghost use Rattle.nz_machine.specs.Views.{alarm_rule};
 ghost use Rattle.nz_machine.specs.Does.{Does};
 
 use nz_base::{ASK_PERIOD, MAX_QUIET, NoMemory};
-use nz_machine::{ReplicaState, Sends};
+use nz_machine::{Outbox, ReplicaState};
 
 /// The next view is entered, where there is one.
-fn enter_next(state: &mut ReplicaState, sends: &mut Sends) -> Result<(), NoMemory>
+fn enter_next(state: &mut ReplicaState, sends: &mut Outbox) -> Result<(), NoMemory>
     ensures { let s = state.old in OnOk result (Does s state.new sends.old sends.new (views.enter_next s.f s.me s.state)) }
 {
     if !state.has_next_view() {
@@ -21,7 +21,7 @@ fn enter_next(state: &mut ReplicaState, sends: &mut Sends) -> Result<(), NoMemor
 }
 
 /// A follower in normal operation counts the ticks since it heard from its leader.
-pub fn quiet_timer(state: &mut ReplicaState, sends: &mut Sends) -> Result<(), NoMemory>
+pub fn quiet_timer(state: &mut ReplicaState, sends: &mut Outbox) -> Result<(), NoMemory>
     requires { IsTrue (is_normal state.old.state.status) }
     ensures { let s = state.old in OnOk result (Does s state.new sends.old sends.new (views.quiet_timer s.f s.me s.state)) }
 {
@@ -33,7 +33,7 @@ pub fn quiet_timer(state: &mut ReplicaState, sends: &mut Sends) -> Result<(), No
 
 /// In a view change: at the end of the count it begins anew, and the next view is entered, where there is one. On
 /// the way the replica asks again now and then.
-pub fn change_timer(state: &mut ReplicaState, sends: &mut Sends) -> Result<(), NoMemory>
+pub fn change_timer(state: &mut ReplicaState, sends: &mut Outbox) -> Result<(), NoMemory>
     requires { IsTrue (is_changing state.old.state.status) }
     ensures { let s = state.old in OnOk result (Does s state.new sends.old sends.new (views.change_timer s.f s.me s.state)) }
 {
@@ -49,7 +49,7 @@ pub fn change_timer(state: &mut ReplicaState, sends: &mut Sends) -> Result<(), N
 
 /// What a replica does when it is told that the leader is lost.
 #[tactic(auto, unfolding(nz_machine::specs::Views::alarm_rule))]
-pub fn on_alarm(state: &mut ReplicaState, sends: &mut Sends) -> Result<(), NoMemory>
+pub fn on_alarm(state: &mut ReplicaState, sends: &mut Outbox) -> Result<(), NoMemory>
     ensures { let s = state.old in OnOk result (Does s state.new sends.old sends.new (alarm_rule s.f s.me s.state)) }
 {
     if !state.is_up() {
