@@ -6,6 +6,7 @@ use super::executing::execute;
 use super::replaying::replay_one;
 use super::searching::entries_up_to;
 use super::source::{AcceptedAnswer, Counted, Source, longer};
+use bytes::BytesMut;
 use nz_base::{Actor, Blob, Cluster, Id};
 use nz_machine::{Core, Event, History, Parcel, Record, Sends, SharedParcel};
 use nz_msg::{Message, TimedBody, encode};
@@ -26,7 +27,8 @@ fn delivery(alloc: Global, to: Actor, message: &Message) -> Result<Event, Fail> 
     if !message.is_valid() || !to.has_address() {
         return Err("no message".into());
     }
-    let frame = encode(alloc, from, to, message)?;
+    let mut room = BytesMut::new(alloc);
+    let frame = encode(&mut room, from, to, message)?;
     Ok(Event::Deliver(SharedParcel::new(alloc, Parcel { from, to, frame })?))
 }
 

@@ -7,6 +7,7 @@ ghost use Rattle.nz_machine.specs.Schedule.{IsPlayable, NamesMember};
 ghost use Rattle.nz_machine.specs.World.{IsAsked, request_count};
 
 use super::calendar::Calendar;
+use bytes::BytesMut;
 use nz_base::{
     Actor, Blob, Cluster, Fault, FaultList, Request, RequestList, Scenario, ScriptList, SkewList,
 };
@@ -131,7 +132,8 @@ fn send(
     requires to { to ≤ MAX_REPLICA }
 {
     let (from, to) = (Actor::Proxy(0), Actor::Replica(to));
-    let frame = Frame::write(alloc, TIMED, from.address(), to.address(), &[])?;
+    let mut room = BytesMut::new(alloc);
+    let frame = Frame::write(&mut room, TIMED, from.address(), to.address(), &[])?;
     if calendar.parcels() == u64::MAX {
         return Err("too many parcels".into());
     }

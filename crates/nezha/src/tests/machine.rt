@@ -7,7 +7,7 @@ use nz_base::{
     TryCopy,
 };
 use nz_machine::{
-    Acceptance, Clients, Event, Parcel, Record, Sends, SharedParcel, Telling, heard, reserve_sends,
+    Acceptance, Clients, Event, Outbox, Parcel, Record, Sends, SharedParcel, Telling, heard,
 };
 use nz_msg::{AnswerBody, Envelope, Message, Path, RequestBody, ViewAskBody};
 use nz_store::Answer;
@@ -251,6 +251,18 @@ fn tells_what_the_records_of_a_client_show(rt: HostRuntime) -> Result<(), Fail> 
     check_turns(&rt, rt.alloc(), &mut clients)
 }
 
+// The same, by an outbox that has room for one.
+fn send_request(alloc: Global, num: u32, outbox: &mut Outbox) -> Result<(), Fail> {
+    let command = Blob::from_slice(alloc, &[2, 1, b'a'])?;
+    let message = Message::Request(RequestBody { num, command });
+    if !message.is_valid() {
+        return Err("no frame carries this".into());
+    }
+    outbox.reserve(1)?;
+    outbox.send(Actor::Client(0), Actor::Proxy(0), &message)?;
+    Ok(())
+}
+
 #[test]
 fn a_clock_in_silence_tells_nothing(rt: HostRuntime) -> Result<(), Fail> {
     let clients = clients(rt.alloc())?;
@@ -262,12 +274,18 @@ fn a_clock_in_silence_tells_nothing(rt: HostRuntime) -> Result<(), Fail> {
 }
 
 #[test]
-fn room_for_sends_changes_none(rt: HostRuntime) -> Result<(), Fail> {
-    let mut sends = Sends::new(rt.alloc());
+fn an_outbox_gives_what_was_sent(rt: HostRuntime) -> Result<(), Fail> {
+    let mut outbox = Outbox::new(rt.alloc());
     for count in 0..3 {
-        assert!(rt; reserve_sends(rt.alloc(), 1, &mut sends).is_ok());
+        for num in 0..count {
+            send_request(rt.alloc(), num, &mut outbox)?;
+        }
+        let sends = outbox.take();
         assert_eq!(rt; sends.len(), count);
-        sends.push(request(rt.alloc(), 1)?)?;
+        for (num, parcel) in (0..count).zip(sends.as_slice()) {
+            let want = request(rt.alloc(), num)?;
+            assert_eq!(rt; parcel.get().frame, want.get().frame);
+        }
     }
     Ok(())
 }

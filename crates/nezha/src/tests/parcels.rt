@@ -1,6 +1,6 @@
 //! A message in its frame, and as a parcel.
 
-use bytes::Bytes;
+use bytes::{Bytes, BytesMut};
 use nz_base::Actor;
 use nz_machine::{Parcel, SharedParcel};
 use nz_msg::{Message, encode};
@@ -16,7 +16,8 @@ pub fn valid_frame(
     if !from.has_address() || !to.has_address() || !message.is_valid() {
         return Err("no frame carries this".into());
     }
-    Ok(encode(alloc, from, to, message)?)
+    let mut room = BytesMut::new(alloc);
+    Ok(encode(&mut room, from, to, message)?)
 }
 
 pub fn parcel(

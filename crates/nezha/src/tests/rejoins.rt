@@ -9,9 +9,9 @@ ghost use Rattle.nz_machine.specs.Step.{is_in_cluster, is_sized, message_vector}
 
 use super::entries::{entry_with, key};
 use super::states::{TestStep, first_state, take_all};
-use nz_base::{Actor, EntryList, List, NoMemory};
+use nz_base::{Actor, EntryList, NoMemory};
 use nz_cv::CrashVector;
-use nz_machine::{Phase, ReplicaState, Sends, is_from_cluster, kind_of};
+use nz_machine::{Outbox, Phase, ReplicaState, Sends, is_from_cluster, kind_of};
 use nz_msg::{Envelope, Message, RejoinTellBody, StateTellBody, VectorTellBody};
 use nz_rejoin::{on_rejoin_tell, on_state_tell, on_vector_tell, restart};
 use std::alloc::Global;
@@ -74,7 +74,7 @@ fn handle(
     state: &mut ReplicaState,
     from: Actor,
     message: &Message,
-    sends: &mut Sends,
+    sends: &mut Outbox,
 ) -> Result<(), NoMemory>
     requires other { from ≢ actors.Replica state.old.me }
     requires fits { Fits message.now }
@@ -92,7 +92,7 @@ fn hear(
     state: &mut ReplicaState,
     from: Actor,
     message: Message,
-    sends: &mut Sends,
+    sends: &mut Outbox,
 ) -> Result<(), NoMemory> {
     let to = state.name();
     let envelope = Envelope { from, to, message };
@@ -110,7 +110,7 @@ impl TestStep for Step {
         self,
         alloc: Global,
         state: &mut ReplicaState,
-        sends: &mut Sends,
+        sends: &mut Outbox,
     ) -> Result<(), NoMemory> {
         match self {
             Vector(from) => hear(state, Actor::Replica(from), vector_told(), sends),
@@ -308,11 +308,11 @@ fn check_row(
     state: &mut ReplicaState,
     row: &Row,
 ) -> Result<(), Fail> {
-    let mut sends = List::new(alloc);
+    let mut sends = Outbox::new(alloc);
     state.crash();
     restart(state, NONCE, &mut sends)?;
     take_all(alloc, state, row.0, &mut sends)?;
-    assert_eq!(rt; sent(&sends), row.1);
+    assert_eq!(rt; sent(&sends.take()), row.1);
     assert_eq!(rt; progress(state), row.2);
     Ok(())
 }

@@ -1,9 +1,9 @@
 //! Replicas that take requests and ticks. The outcomes are worked out apart from the program.
 
 use super::states::{TestStep, first_state, take_all};
-use nz_base::{Actor, Blob, Id, List, NoMemory};
+use nz_base::{Actor, Blob, Id, NoMemory};
 use nz_digest::Digest;
-use nz_machine::{Parcel, ReplicaState, Sends};
+use nz_machine::{Outbox, Parcel, ReplicaState, Sends};
 use nz_msg::{FastReplyBody, Message, TimedBody, decode};
 use nz_normal::{on_timed, tick};
 use nz_store::Answer;
@@ -45,7 +45,7 @@ fn asked(alloc: Global, id: Id, sent: u64, deadline: u64) -> Result<Message, NoM
     }))
 }
 
-fn hear(state: &mut ReplicaState, message: &Message, sends: &mut Sends) -> Result<(), NoMemory> {
+fn hear(state: &mut ReplicaState, message: &Message, sends: &mut Outbox) -> Result<(), NoMemory> {
     if !message.is_valid() {
         return Ok(());
     }
@@ -60,7 +60,7 @@ impl TestStep for Step {
         self,
         alloc: Global,
         state: &mut ReplicaState,
-        sends: &mut Sends,
+        sends: &mut Outbox,
     ) -> Result<(), NoMemory> {
         match self {
             Step::Tick(clock) => tick(state, clock, sends),
@@ -216,11 +216,11 @@ fn check_replies(rt: &impl Abort, alloc: Global, sends: &Sends, wanted: &[Want])
 
 // What the replica then has logged, and its replies.
 fn check_leader(rt: &impl Abort, alloc: Global, state: &mut ReplicaState) -> Result<(), Fail> {
-    let mut sends = List::new(alloc);
+    let mut sends = Outbox::new(alloc);
     take_all(alloc, state, late_request(), &mut sends)?;
     assert_eq!(rt; deadline_at(state, 0), 12_500);
     assert_eq!(rt; deadline_at(state, 1), 12_501);
-    check_replies(rt, alloc, &sends, leaders_replies());
+    check_replies(rt, alloc, &sends.take(), leaders_replies());
     Ok(())
 }
 
@@ -234,11 +234,11 @@ fn leader_stamps_a_late_request_anew(rt: HostRuntime) -> Result<(), Fail> {
 }
 
 fn check_follower(rt: &impl Abort, alloc: Global, state: &mut ReplicaState) -> Result<(), Fail> {
-    let mut sends = List::new(alloc);
+    let mut sends = Outbox::new(alloc);
     take_all(alloc, state, late_request(), &mut sends)?;
     assert_eq!(rt; state.log().len(), 1);
     assert!(rt; state.late().find(Id { client: 1, num: 1 }).is_some());
-    check_replies(rt, alloc, &sends, followers_replies());
+    check_replies(rt, alloc, &sends.take(), followers_replies());
     Ok(())
 }
 
@@ -338,9 +338,9 @@ fn check_row(
     state: &mut ReplicaState,
     row: &Row,
 ) -> Result<(), Fail> {
-    let mut sends = List::new(alloc);
+    let mut sends = Outbox::new(alloc);
     take_all(alloc, state, row.1, &mut sends)?;
-    assert_eq!(rt; counts(state, &sends), row.2);
+    assert_eq!(rt; counts(state, &sends.take()), row.2);
     Ok(())
 }
 
@@ -356,7 +356,7 @@ fn requests_and_where_they_stand(rt: HostRuntime) -> Result<(), Fail> {
 }
 
 // Each next key is below those before, so it is placed at once.
-fn ask_often(alloc: Global, state: &mut ReplicaState, sends: &mut Sends) -> Result<(), NoMemory> {
+fn ask_often(alloc: Global, state: &mut ReplicaState, sends: &mut Outbox) -> Result<(), NoMemory> {
     for num in 0..4_097 {
         let deadline = 9_000u64.saturating_sub(u64::from(num));
         Ask(0, num, 0, deadline).take(alloc, state, sends)?;
@@ -365,7 +365,7 @@ fn ask_often(alloc: Global, state: &mut ReplicaState, sends: &mut Sends) -> Resu
 }
 
 fn check_full(rt: &impl Abort, alloc: Global, state: &mut ReplicaState) -> Result<(), Fail> {
-    let mut sends = List::new(alloc);
+    let mut sends = Outbox::new(alloc);
     ask_often(alloc, state, &mut sends)?;
     assert_eq!(rt; state.early().len(), 4_096);
     let last = Id {

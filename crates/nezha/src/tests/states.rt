@@ -1,7 +1,7 @@
 //! A replica in its first state, and what it takes in a test.
 
 use nz_base::{Cluster, NoMemory};
-use nz_machine::{ReplicaState, Sends};
+use nz_machine::{Outbox, ReplicaState};
 use std::alloc::Global;
 use std::test::Fail;
 
@@ -19,7 +19,7 @@ pub trait TestStep: Copy {
         self,
         alloc: Global,
         state: &mut ReplicaState,
-        sends: &mut Sends,
+        sends: &mut Outbox,
     ) -> Result<(), NoMemory>;
 }
 
@@ -28,7 +28,7 @@ pub fn take_all<S: TestStep>(
     alloc: Global,
     state: &mut ReplicaState,
     steps: &[S],
-    sends: &mut Sends,
+    sends: &mut Outbox,
 ) -> Result<(), NoMemory> {
     for step in steps {
         step.take(alloc, state, sends)?;

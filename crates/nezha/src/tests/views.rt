@@ -10,9 +10,9 @@ mod long;
 
 use super::entries::{entry_with, key};
 use super::states::{TestStep, first_state, take_all};
-use nz_base::{Actor, Cluster, EntryList, List, NoMemory};
+use nz_base::{Actor, Cluster, EntryList, NoMemory};
 use nz_cv::CrashVector;
-use nz_machine::{ReplicaState, Sends, is_from_cluster, kind_of};
+use nz_machine::{Outbox, ReplicaState, Sends, is_from_cluster, kind_of};
 use nz_msg::{Envelope, Message, StartViewBody, ViewAskBody, ViewChangeBody};
 use nz_view::{change_timer, on_alarm, on_start_view, on_view_ask, on_view_change, quiet_timer};
 use std::alloc::Global;
@@ -53,7 +53,7 @@ fn handle(
     state: &mut ReplicaState,
     from: Actor,
     message: &Message,
-    sends: &mut Sends,
+    sends: &mut Outbox,
 ) -> Result<(), NoMemory>
     requires from { HasAddress from }
     requires other { from ≢ actors.Replica state.old.me }
@@ -72,7 +72,7 @@ fn hear(
     state: &mut ReplicaState,
     from: Actor,
     message: Message,
-    sends: &mut Sends,
+    sends: &mut Outbox,
 ) -> Result<(), NoMemory> {
     let to = state.name();
     let envelope = Envelope { from, to, message };
@@ -86,7 +86,7 @@ fn hear(
     handle(state, from, &envelope.message, sends)
 }
 
-fn wait(state: &mut ReplicaState, sends: &mut Sends) -> Result<(), NoMemory> {
+fn wait(state: &mut ReplicaState, sends: &mut Outbox) -> Result<(), NoMemory> {
     if state.is_changing() {
         return change_timer(state, sends);
     }
@@ -143,7 +143,7 @@ fn hear_step(
     alloc: Global,
     state: &mut ReplicaState,
     step: Step,
-    sends: &mut Sends,
+    sends: &mut Outbox,
 ) -> Result<(), NoMemory> {
     match message_of(alloc, state.cluster(), step)? {
         None => Ok(()),
@@ -151,7 +151,7 @@ fn hear_step(
     }
 }
 
-fn wait_all(state: &mut ReplicaState, ticks: u8, sends: &mut Sends) -> Result<(), NoMemory> {
+fn wait_all(state: &mut ReplicaState, ticks: u8, sends: &mut Outbox) -> Result<(), NoMemory> {
     for _ in 0..ticks {
         wait(state, sends)?;
     }
@@ -163,7 +163,7 @@ impl TestStep for Step {
         self,
         alloc: Global,
         state: &mut ReplicaState,
-        sends: &mut Sends,
+        sends: &mut Outbox,
     ) -> Result<(), NoMemory> {
         match self {
             Alarm => on_alarm(state, sends),
@@ -311,9 +311,9 @@ fn check_row(
     state: &mut ReplicaState,
     row: &Row,
 ) -> Result<(), Fail> {
-    let mut sends = List::new(alloc);
+    let mut sends = Outbox::new(alloc);
     take_all(alloc, state, row.2, &mut sends)?;
-    assert!(rt; are_sent(&sends, row.3));
+    assert!(rt; are_sent(&sends.take(), row.3));
     assert_eq!(rt; end_of(state), row.4);
     Ok(())
 }

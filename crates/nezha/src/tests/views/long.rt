@@ -3,8 +3,8 @@
 use super::super::entries::entry_with;
 use super::super::states::first_state;
 use super::{are_sent, hear, vector};
-use nz_base::{Actor, Cluster, EntryList, Key, List, NoMemory};
-use nz_machine::{ReplicaState, Sends};
+use nz_base::{Actor, Cluster, EntryList, Key, NoMemory};
+use nz_machine::{Outbox, ReplicaState, Sends};
 use nz_msg::{Message, StartViewBody, ViewChangeBody};
 use nz_store::Answer;
 use nz_view::on_alarm;
@@ -94,18 +94,22 @@ fn hear_start(
     view: u64,
     other: bool,
     commit: u32,
-    sends: &mut Sends,
+    sends: &mut Outbox,
 ) -> Result<(), NoMemory> {
     let message = start(alloc, state.cluster(), view, other, commit)?;
     hear(state, Actor::Replica(0), message, sends)
 }
 
 // It follows with the first log, of which 1,500 entries are committed, in view 3.
-fn follow(alloc: Global, state: &mut ReplicaState, sends: &mut Sends) -> Result<(), NoMemory> {
+fn follow(alloc: Global, state: &mut ReplicaState, sends: &mut Outbox) -> Result<(), NoMemory> {
     hear_start(alloc, state, 3, false, 1_500, sends)
 }
 
-fn hear_change(alloc: Global, state: &mut ReplicaState, sends: &mut Sends) -> Result<(), NoMemory> {
+fn hear_change(
+    alloc: Global,
+    state: &mut ReplicaState,
+    sends: &mut Outbox,
+) -> Result<(), NoMemory> {
     let message = change(alloc, state.cluster(), 4, 3, 1_700)?;
     hear(state, Actor::Replica(2), message, sends)
 }
@@ -121,11 +125,11 @@ fn check_adopted(rt: &impl Abort, state: &ReplicaState, sends: &Sends) {
 }
 
 fn check_adopts(rt: &impl Abort, alloc: Global, state: &mut ReplicaState) -> Result<(), Fail> {
-    let mut sends = List::new(alloc);
+    let mut sends = Outbox::new(alloc);
     follow(alloc, state, &mut sends)?;
     check_followed(rt, state);
     hear_start(alloc, state, 6, true, 1_000, &mut sends)?;
-    check_adopted(rt, state, &sends);
+    check_adopted(rt, state, &sends.take());
     Ok(())
 }
 
@@ -145,7 +149,7 @@ fn has_executed(state: &ReplicaState) -> Result<bool, NoMemory> {
     Ok(matches!(last, Some(Answer::Done)) && after.is_none())
 }
 
-fn lead_next(alloc: Global, state: &mut ReplicaState, sends: &mut Sends) -> Result<(), NoMemory> {
+fn lead_next(alloc: Global, state: &mut ReplicaState, sends: &mut Outbox) -> Result<(), NoMemory> {
     follow(alloc, state, sends)?;
     on_alarm(state, sends)?;
     hear_change(alloc, state, sends)
@@ -159,10 +163,10 @@ fn check_leads(rt: &impl Abort, state: &ReplicaState) -> Result<(), NoMemory> {
 }
 
 fn check_begins(rt: &impl Abort, alloc: Global, state: &mut ReplicaState) -> Result<(), Fail> {
-    let mut sends = List::new(alloc);
+    let mut sends = Outbox::new(alloc);
     lead_next(alloc, state, &mut sends)?;
     check_leads(rt, state)?;
-    assert!(rt; are_sent(&sends, &[(0, 10), (2, 10), (0, 12), (2, 12)]));
+    assert!(rt; are_sent(&sends.take(), &[(0, 10), (2, 10), (0, 12), (2, 12)]));
     Ok(())
 }
 
