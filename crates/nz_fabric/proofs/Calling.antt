@@ -1,13 +1,12 @@
 -- Fault lines that ask something of an actor.
-use Rattle.std.proofs.Common.{◌≡◌, ℕ, ◌+◌, ◌<◌, ◌≤◌, List, [], ◌∷◌, ◌++◌, take, get_or, length, refl, sym, ap, ◌∙◌, arith, append_assoc}
-use Rattle.std.specs.Prelude.{filter}
+use Rattle.std.proofs.Common.{◌≡◌, ℕ, ◌+◌, ◌<◌, ◌≤◌, List, [], ◌∷◌, ◌++◌, take, get_or, length, sym, ap, ◌∙◌, arith, append_assoc}
 use Rattle.std.proofs.lemmas.List.{take_more}
 use Rattle.nz_base.specs.declared.scenario.Fault.{Fault}
 use Rattle.nz_base.specs.declared.scenario.Fault.TheVariants as faults
 use Rattle.nz_machine.specs.declared.journal.Item.{Item}
 use Rattle.nz_machine.specs.Schedule.{calls, if_in, item}
 use Rattle.nz_machine.specs.declared.event.Event.TheVariants.{Crash, Restart, Alarm}
-use Rattle.nz_fabric.specs.Dues.{is_call, restarts_in}
+use Rattle.nz_fabric.specs.Dues.{restarts_in}
 
 pub restarts_push : (lines : List Fault) (line : Fault) → restarts_in (lines ++ line ∷ []) ≡ restarts_in lines + restarts_in (line ∷ [])
 restarts_push [] line = omega arith
@@ -67,28 +66,13 @@ restarts_step lines i line d now next lt at so_far e =
     e ∙ ap (λ n. n + restarts_in (line ∷ [])) so_far
     ∙ ap (λ (x : Fault). restarts_in (take i lines) + restarts_in (x ∷ [])) at ∙ sym (restarts_more lines i d lt)
 
-pub calls_step : (tick : ℕ) (lines : List Fault) (i : ℕ) (line d : Fault) (restarts : ℕ) (old now next : List Item)
+pub calls_step : (tick : ℕ) (lines : List Fault) (i : ℕ) (line d : Fault) (restarts : ℕ) (now next : List Item)
     → i < length lines → line ≡ get_or lines i d → restarts ≡ restarts_in (take i lines)
-    → now ≡ old ++ calls tick 0 (take i lines) → next ≡ now ++ calls tick restarts (line ∷ []) → next ≡ old ++ calls tick 0 (take (i + 1) lines)
-calls_step tick lines i line d restarts old now next lt at count so_far e =
+    → now ≡ calls tick 0 (take i lines) → next ≡ now ++ calls tick restarts (line ∷ []) → next ≡ calls tick 0 (take (i + 1) lines)
+calls_step tick lines i line d restarts now next lt at count so_far e =
     e ∙ ap (λ (is : List Item). is ++ calls tick restarts (line ∷ [])) so_far
-    ∙ append_assoc old (calls tick 0 (take i lines)) (calls tick restarts (line ∷ []))
-    ∙ ap (λ (is : List Item). old ++ is)
-    (ap (λ n. calls tick 0 (take i lines) ++ calls tick n (line ∷ [])) count
-    ∙ ap (λ (x : Fault). calls tick 0 (take i lines) ++ calls tick (restarts_in (take i lines)) (x ∷ [])) at ∙ sym (calls_more tick lines i d lt))
+    ∙ ap (λ n. calls tick 0 (take i lines) ++ calls tick n (line ∷ [])) count
+    ∙ ap (λ (x : Fault). calls tick 0 (take i lines) ++ calls tick (restarts_in (take i lines)) (x ∷ [])) at ∙ sym (calls_more tick lines i d lt)
 
 pub few_step : (i : ℕ) (line : Fault) (now next : ℕ) → now ≤ i → next ≡ now + restarts_in (line ∷ []) → next ≤ i + 1
 few_step i line now next few e = let one = at_most_one line in omega (arith, few, e, one)
-
--- the lines that ask nothing of an actor can be left out
-pub calls_among : (tick n : ℕ) (lines : List Fault) → calls tick n (filter is_call lines) ≡ calls tick n lines
-calls_among tick n [] = refl
-calls_among tick n (faults.Drop from to kind count ∷ lines) = calls_among tick n lines
-calls_among tick n (faults.Hold from to kind count by ∷ lines) = calls_among tick n lines
-calls_among tick n (faults.Twice from to kind count by ∷ lines) = calls_among tick n lines
-calls_among tick n (faults.Cut from to kind count keep ∷ lines) = calls_among tick n lines
-calls_among tick n (faults.Block from to first last ∷ lines) = calls_among tick n lines
-calls_among tick n (faults.Crash a t ∷ lines) = ap (λ (is : List Item). if_in tick t (item a Crash) ++ is) (calls_among tick n lines)
-calls_among tick n (faults.Restart a t ∷ lines) =
-    ap (λ (is : List Item). if_in tick t (item a (Restart (n + 1))) ++ is) (calls_among tick (n + 1) lines)
-calls_among tick n (faults.Alarm a t ∷ lines) = ap (λ (is : List Item). if_in tick t (item a Alarm) ++ is) (calls_among tick n lines)

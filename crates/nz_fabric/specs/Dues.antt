@@ -1,5 +1,5 @@
 -- Helper definitions of due.rt, which lists what is due in a tick.
-use Rattle.std.specs.Prelude.{ℕ, ◌+◌, Bool, true, false, List, [], ◌∷◌}
+use Rattle.std.specs.Prelude.{ℕ, ◌+◌, List, [], ◌∷◌}
 use Rattle.nz_base.specs.declared.actor.Actor.{Actor}
 use Rattle.nz_base.specs.declared.actor.Actor.TheVariants as actors
 use Rattle.nz_base.specs.declared.scenario.Fault.{Fault}
@@ -12,13 +12,6 @@ abbrev pub actor_of_sort : Sort → ℕ → Actor
 actor_of_sort sorts.Replicas = actors.Replica
 actor_of_sort sorts.Proxies = actors.Proxy
 actor_of_sort sorts.Clients = actors.Client
-
--- Whether a fault line asks something of an actor.
-abbrev pub is_call : Fault → Bool
-is_call (faults.Crash a t) = true
-is_call (faults.Restart a t) = true
-is_call (faults.Alarm a t) = true
-is_call _ = false
 
 -- How many of the fault lines are restarts.
 abbrev pub restarts_in : List Fault → ℕ

@@ -4,6 +4,7 @@ pub mod Posting
 pub mod Records
 pub mod Chronicles
 pub mod Dues
+pub mod Numbered
 pub mod Agendas
 pub mod States
 pub mod Shared

@@ -1,13 +1,15 @@
 //! What is due in a tick before what arrives: fault lines and clocks.
 
-ghost use Rattle.std.specs.Prelude.{◌≡◌, ◌<◌, ◌≤◌, ◌+◌, ◌-◌, ◌*◌, ◌^◌, ◌==◌, ◌∷◌, ◌++◌, [], length, map, filter, vec_capacity, IfOk, OnOk};
+ghost use Rattle.std.specs.Prelude.{◌≡◌, ◌<◌, ◌≤◌, ◌+◌, ◌-◌, ◌*◌, ◌^◌, ◌∷◌, ◌++◌, [], ℕ, length, map, vec_capacity, IfOk, OnOk};
 ghost use Rattle.nz_base.specs.Cluster.{replica_count};
 ghost use Rattle.nz_machine.specs.Replicas.{numbers_below};
 ghost use Rattle.nz_machine.specs.Schedule as schedule;
 ghost use Rattle.nz_machine.specs.Schedule.{item, if_in, calls, skew_of, actors_of, tick_item};
-ghost use Rattle.nz_fabric.specs.Dues.{actor_of_sort, is_call, restarts_in};
+ghost use Rattle.nz_fabric.specs.Dues.{actor_of_sort, restarts_in};
+ghost use Rattle.nz_fabric.specs.Numbered.{items_under};
 
-use nz_base::{Actor, Fault, FaultList, MAX_CLOCK, NoMemory, Scenario, Skew, UNITS_PER_TICK};
+use crate::numbered::Numbered;
+use nz_base::{Actor, Fault, MAX_CLOCK, NoMemory, Scenario, Skew, TryCopy, UNITS_PER_TICK};
 use nz_machine::{Event, Item};
 use std::alloc::Global;
 
@@ -31,78 +33,63 @@ impl Sort {
     }
 }
 
-/// Whether a fault line asks something of an actor.
-fn is_call(fault: Fault) -> bool
-    ensures { result ≡ is_call fault }
-{
-    match fault {
-        Fault::Crash { .. } | Fault::Restart { .. } | Fault::Alarm { .. } => true,
-        Fault::Drop { .. }
-        | Fault::Hold { .. }
-        | Fault::Twice { .. }
-        | Fault::Cut { .. }
-        | Fault::Block { .. } => false,
-    }
-}
-
-/// The fault lines that ask something of an actor, in their order.
-pub fn calls_among(alloc: Global, faults: &[Fault]) -> Result<FaultList, NoMemory>
-    ensures { IfOk result (λ lines. lines ≡ filter is_call faults.now) }
-{
-    let mut lines = FaultList::new(alloc);
-    for fault in faults {
-        if is_call(*fault) {
-            lines.push(*fault)?;
-        }
-    }
-    Ok(lines)
-}
-
-/// What a fault line asks of an actor in a tick, if it is this one.
-fn push_if(
-    items: &mut Vec<Item>,
-    tick: u32,
+/// An event of an actor goes last into its tick.
+fn push_event(
+    alloc: Global,
+    asked: &mut Numbered<Item>,
     at: u32,
     actor: Actor,
     event: Event,
 ) -> Result<(), NoMemory>
-    ensures { OnOk result (items.new.items ≡ items.old.items ++ if_in tick at (item actor event)) }
+    ensures { OnOk result ((tick : ℕ) → items_under asked.new tick ≡ items_under asked.old tick ++ if_in tick at (item actor event)) }
 {
-    if at == tick {
-        items.push(Item { actor, event })?;
-    }
-    Ok(())
+    asked.push(alloc, u64::from(at), Item { actor, event })
 }
 
-/// What a fault line asks of an actor in a tick, after this many restart lines.
+/// What a fault line asks of an actor, after this many restart lines, goes last into its tick.
 fn push_call(
-    items: &mut Vec<Item>,
+    alloc: Global,
+    asked: &mut Numbered<Item>,
     restarts: &mut u64,
     fault: &Fault,
-    tick: u32,
 ) -> Result<(), NoMemory>
     requires { restarts.old < 2 ^ 64 - 1 }
-    ensures items { OnOk result (items.new.items ≡ items.old.items ++ calls tick restarts.old (fault.now ∷ [])) }
+    ensures items { OnOk result ((tick : ℕ) → items_under asked.new tick ≡ items_under asked.old tick ++ calls tick restarts.old (fault.now ∷ [])) }
     ensures restarts { OnOk result (restarts.new ≡ restarts.old + restarts_in (fault.now ∷ [])) }
 {
     match fault {
-        Fault::Crash { actor, tick: at } => push_if(items, tick, *at, *actor, Event::Crash),
-        Fault::Restart { actor, tick: at } => {
+        Fault::Crash { actor, tick } => push_event(alloc, asked, *tick, *actor, Event::Crash),
+        Fault::Restart { actor, tick } => {
             *restarts += 1;
-            push_if(items, tick, *at, *actor, Event::Restart(*restarts))
+            push_event(alloc, asked, *tick, *actor, Event::Restart(*restarts))
         }
-        Fault::Alarm { actor, tick: at } => push_if(items, tick, *at, *actor, Event::Alarm),
+        Fault::Alarm { actor, tick } => push_event(alloc, asked, *tick, *actor, Event::Alarm),
         _ => Ok(()),
     }
 }
 
-/// The crashes, restarts and alarms of a tick.
-fn push_calls(items: &mut Vec<Item>, faults: &[Fault], tick: u32) -> Result<(), NoMemory>
-    ensures { OnOk result (items.new.items ≡ items.old.items ++ calls tick 0 faults.now) }
+/// What the fault lines ask of actors in each tick: crashes, restarts and alarms, in the order of the lines.
+pub fn calls_of(alloc: Global, faults: &[Fault]) -> Result<Numbered<Item>, NoMemory>
+    ensures { IfOk result (λ asked. (tick : ℕ) → items_under asked tick ≡ calls tick 0 faults.now) }
 {
+    let mut asked = Numbered::new(alloc);
     let mut restarts = 0;
     for fault in faults {
-        push_call(items, &mut restarts, fault, tick)?;
+        push_call(alloc, &mut asked, &mut restarts, fault)?;
+    }
+    Ok(asked)
+}
+
+/// Copies of the items go last.
+fn push_copies(alloc: Global, items: &mut Vec<Item>, more: &[Item]) -> Result<(), NoMemory>
+    ensures { OnOk result (items.new.items ≡ items.old.items ++ more.now) }
+{
+    for item in more {
+        let event = item.event.copy(alloc)?;
+        items.push(Item {
+            actor: item.actor,
+            event,
+        })?;
     }
     Ok(())
 }
@@ -170,22 +157,20 @@ pub fn clocks_of(scenario: &Scenario) -> usize
     actor_count(scenario) * ticks as usize
 }
 
-/// What is due in a tick before what arrives: crashes, restarts and alarms, then every clock. There is room for this
-/// many more.
+/// What is due in a tick before what arrives: what is asked of actors, then every clock. There is room for this many more.
 pub fn due_items(
     alloc: Global,
     scenario: &Scenario,
-    lines: &[Fault],
+    asked: &[Item],
     tick: u32,
     more: usize,
 ) -> Result<Vec<Item>, NoMemory>
-    requires { lines.now ≡ filter is_call scenario.now.faults }
-    ensures items { IfOk result (λ v. v.items ≡ calls tick 0 scenario.now.faults ++ map (tick_item scenario.now tick) (actors_of scenario.now)) }
+    ensures items { IfOk result (λ v. v.items ≡ asked.now ++ map (tick_item scenario.now tick) (actors_of scenario.now)) }
     ensures room { IfOk result (λ v. length v.items + more ≤ vec_capacity v) }
 {
     let clocks = actor_count(scenario);
     let mut items = Vec::with_capacity(alloc, clocks.saturating_add(more))?;
-    push_calls(&mut items, lines, tick)?;
+    push_copies(alloc, &mut items, asked)?;
     items.reserve(clocks)?;
     push_clocks(&mut items, scenario, tick);
     items.reserve(more)?;

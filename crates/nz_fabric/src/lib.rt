@@ -18,11 +18,14 @@ mod faults;
 mod grouping;
 mod lane;
 mod name;
+mod numbered;
 mod open_batches;
 mod posting;
 mod records;
 mod share;
 mod ticks;
+#[cfg(test)]
+mod ticks_tests;
 mod turn;
 
 pub use alone::Alone;

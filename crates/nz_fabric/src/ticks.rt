@@ -1,12 +1,14 @@
 //! What the networks of one thread and of several have in common: the tick and the calendar.
 
-ghost use Rattle.std.specs.Prelude.{◌≡◌, ◌<◌, ◌≤◌, ◌+◌, ◌++◌, vec_capacity, List, length, filter};
+ghost use Rattle.std.specs.Prelude.{◌≡◌, ◌<◌, ◌≤◌, ◌+◌, ◌++◌, ℕ, vec_capacity, List, length};
 ghost use Rattle.std.specs.Prelude.{IfOk, OnErr};
-ghost use Rattle.nz_fabric.specs.Dues.{is_call};
+ghost use Rattle.nz_machine.specs.Schedule as schedule;
+ghost use Rattle.nz_fabric.specs.Numbered.{items_under};
 
 use crate::calendar::Calendar;
-use crate::due::{calls_among, due_items};
-use nz_base::{FaultList, NoMemory, Scenario};
+use crate::due::{calls_of, due_items};
+use crate::numbered::Numbered;
+use nz_base::{NoMemory, Scenario};
 use nz_machine::{Item, ItemList};
 use std::alloc::Global;
 
@@ -15,12 +17,12 @@ use std::alloc::Global;
 pub struct Ticks {
     pub alloc: Global,
     pub scenario: Scenario,
-    /// The fault lines that ask something of an actor, in their order.
-    pub calls: FaultList,
+    /// What is asked of actors in each tick, in the order of the fault lines.
+    pub calls: Numbered<Item>,
     pub tick: u32,
     pub calendar: Calendar,
     pub marked: bool,
-    ghost chosen: { calls ≡ filter is_call scenario.faults },
+    ghost asked: { (tick : ℕ) → items_under calls tick ≡ schedule.calls tick 0 scenario.faults },
 }
 
 /// Puts items after others, where there is room.
@@ -43,7 +45,7 @@ impl Ticks {
     pub fn new(alloc: Global, scenario: Scenario) -> Result<Ticks, NoMemory>
         ensures { IfOk result (IsNew scenario) }
     {
-        let calls = calls_among(alloc, scenario.faults.as_slice())?;
+        let calls = calls_of(alloc, scenario.faults.as_slice())?;
         Ok(Ticks {
             alloc,
             scenario,
@@ -65,13 +67,8 @@ impl Ticks {
     {
         let tick = self.tick + 1;
         let coming = self.calendar.due(tick);
-        let mut items = due_items(
-            self.alloc,
-            &self.scenario,
-            self.calls.as_slice(),
-            tick,
-            coming,
-        )?;
+        let asked = self.calls.under(u64::from(tick));
+        let mut items = due_items(self.alloc, &self.scenario, asked, tick, coming)?;
         append(&mut items, self.calendar.take(tick));
         self.tick = tick;
         self.marked = false;

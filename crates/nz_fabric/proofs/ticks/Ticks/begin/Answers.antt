@@ -2,6 +2,7 @@
 use Rattle.std.proofs.Common.{◌≡◌, ◌+◌, ◌++◌, ◌∙◌, [], List, map, refl, ap, arith, append_assoc}
 use Rattle.nz_machine.specs.declared.journal.Item.{Item}
 use Rattle.nz_machine.specs.Schedule.{calls, tick_item, actors_of, arrivals}
+use Rattle.nz_fabric.specs.Numbered.{items_under}
 use Rattle.nz_fabric.proofs.ticks.Ticks.begin.Goals as goal
 
 pub returns-clause-ok : goal.returns-clause-ok
@@ -18,6 +19,7 @@ returns-clause-ok c = λ L h.
       are_due =
           c.append.ensures
           ∙ ap (λ (is : List Item). is ++ c.take.result) c.in_ok-items.ensures.items
+          ∙ ap (λ (is : List Item). (is ++ clocks) ++ c.take.result) (c.under-asked.ensures ∙ ap (items_under t.calls) c.from.ensures ∙ t.asked next)
           ∙ ap (λ (is : List Item). (first ++ clocks) ++ is) due
           ∙ append_assoc first clocks (arrivals s next [] L);
       unmarked = refl;

@@ -1,7 +1,7 @@
 -- What the function of this folder owes, proved.
 use Rattle.std.proofs.Common.{refl}
 use Rattle.nz_fabric.proofs.Calling.{restarts_step, calls_step, few_step}
-use Rattle.nz_fabric.proofs.due.push_calls.Goals as goal
+use Rattle.nz_fabric.proofs.due.calls_of.Goals as goal
 
 pub loop-fault-preserved : goal.loop-fault-preserved
 loop-fault-preserved c =
@@ -12,5 +12,5 @@ loop-fault-preserved c =
     record {
       few = few_step i _ _ _ inv.few call.restarts;
       restarts = restarts_step lines i _ _ _ _ c.loop-fault-test.true refl inv.restarts call.restarts;
-      items = calls_step c.args.tick lines i _ _ _ _ _ _ c.loop-fault-test.true refl inv.restarts inv.items call.items;
+      items = λ tick. calls_step tick lines i _ _ _ _ _ c.loop-fault-test.true refl inv.restarts (inv.items tick) (call.items tick);
     }

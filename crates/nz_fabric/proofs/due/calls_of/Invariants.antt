@@ -1,12 +1,13 @@
 -- What the loops of the function of this folder keep.
-use Rattle.std.proofs.Common.{◌≡◌, ◌≤◌, ◌++◌, take}
+use Rattle.std.proofs.Common.{◌≡◌, ◌≤◌, ℕ, take}
 use Rattle.nz_machine.specs.Schedule.{calls}
 use Rattle.nz_fabric.specs.Dues.{restarts_in}
-use Rattle.nz_fabric.proofs.due.push_calls.Given as goal
+use Rattle.nz_fabric.specs.Numbered.{items_under}
+use Rattle.nz_fabric.proofs.due.calls_of.Given as goal
 
 abbrev pub invariant-loop-fault : goal.invariant-loop-fault
 invariant-loop-fault l = record {
   few : l.restarts ≤ l.fault-index;
   restarts : l.restarts ≡ restarts_in (take l.fault-index l.faults);
-  items : l.items.items ≡ l.initial.items.items ++ calls l.tick 0 (take l.fault-index l.faults);
+  items : (tick : ℕ) → items_under l.asked tick ≡ calls tick 0 (take l.fault-index l.faults);
 }
