@@ -17,16 +17,15 @@ use Rattle.nz_machine.specs.declared.event.Parcel.{Parcel}
 use Rattle.nz_machine.specs.declared.event.Record.{Record}
 use Rattle.nz_machine.specs.declared.journal.Item.{Item}
 use Rattle.nz_machine.specs.Schedule.{Delivery, Posted, posted_in, posted_by_run, arrivals, deliveries, delivery_item, due_of, kind_in_frame}
-use Rattle.nz_machine.specs.Schedule.{whole_in, after_faults}
 use Rattle.nz_fabric.specs.declared.calendar.Arrival.{Arrival}
 use Rattle.nz_fabric.specs.declared.course.Course.{Course}
 use Rattle.nz_fabric.specs.declared.course.Traffic.{Traffic}
-use Rattle.nz_fabric.specs.Calendars.{StandsFor, Dates, items_in, parcels_of, posted_by, course, traffic_of, count_of, next_number, lines_or}
+use Rattle.nz_fabric.specs.Calendars.{StandsFor, Dates, items_in, parcels_of, posted_by, course, traffic_of, count_of, next_number}
 use Rattle.nz_fabric.specs.Calendars.{IsCounted, KeepsLines}
 use Rattle.nz_fabric.specs.Posting.{last_delivery_tick, delivery_as_stored, arrival_of, items_arriving}
 use Rattle.nz_fabric.specs.Posting.{arrivals_up_to, days_of, HasRoomFor, HasRooms, AreKept, AreShort, HasNumber}
 use Rattle.nz_fabric.proofs.Numbering.{counted}
-use Rattle.nz_fabric.proofs.Striking.{checked_lines, kept_after}
+use Rattle.nz_fabric.proofs.Striking.{kept_after}
 
 -- ---- what is due of a parcel's deliveries
 
@@ -252,8 +251,7 @@ arrivals_push s t earlier (y ∷ L) x =
 pub posted_one : (s : Scenario) (L : List Posted) (now : ℕ) (c c' : Dates) (tick : ℕ) (k : Option ℕ) (p : Parcel) (arrived : List Arrival)
     → StandsFor s L now c → s.ticks < last_delivery_tick → k ≡ kind_in_frame p.frame → HasNumber (parcels_of L) p (next_number (traffic_of c.courses p k))
     → c'.parcels ≡ c.parcels + 1 → IsCounted s.faults c.courses c'.courses p k
-    → arrived ≡ arrivals_up_to s.ticks (map (arrival_of p) (map delivery_as_stored (after_faults tick (parcels_of L) p
-    (lines_or s.faults (traffic_of c.courses p k)) (whole_in (tick + 1) ∷ []))))
+    → arrived ≡ arrivals_up_to s.ticks (map (arrival_of p) (map delivery_as_stored (deliveries s tick (parcels_of L) p)))
     → ((t : ℕ) → items_in c'.days t ≡ items_in c.days t ++ items_arriving t arrived) → StandsFor s (L ++ posted_in tick p ∷ []) now c'
 posted_one s L now c c' tick k p arrived h below own is parcels count arrive items =
     let ds = deliveries s tick (parcels_of L) p in
@@ -265,8 +263,6 @@ posted_one s L now c c' tick k p arrived h below own is parcels count arrive ite
           items t
           ∙ ap (λ (is : List Item). is ++ items_arriving t arrived) (h.items t after le)
           ∙ ap (λ (xs : List Arrival). arrivals s t [] L ++ items_arriving t xs) arrive
-          ∙ ap (λ (ds : List Delivery). arrivals s t [] L ++ items_arriving t (arrivals_up_to s.ticks (map (arrival_of p) (map delivery_as_stored ds))))
-          (checked_lines tick (parcels_of L) p k c.courses s.faults (whole_in (tick + 1) ∷ []) own h.lines)
           ∙ ap (λ (is : List Item). arrivals s t [] L ++ is)
           (up_to_is s.ticks t (map (arrival_of p) (map delivery_as_stored ds)) le ∙ arriving_of t p ds (omega (arith, le, below)))
           ∙ sym (arrivals_push s t [] L (posted_in tick p));

@@ -20,7 +20,7 @@ use Rattle.nz_machine.specs.Schedule.{cut_short, is_parcel_of, is_nth, has_kind,
 use Rattle.nz_fabric.specs.declared.deliveries.Delivery.{Delivery}
 use Rattle.nz_fabric.specs.declared.course.Course.{Course}
 use Rattle.nz_fabric.specs.declared.course.Traffic.{Traffic}
-use Rattle.nz_fabric.specs.Calendars.{course, course_eq, traffic_on, traffic_of, count_in, count_of, next_number, with_parcel, may_strike}
+use Rattle.nz_fabric.specs.Calendars.{course, course_eq, traffic_on, traffic_of, count_in, count_of, next_number}
 use Rattle.nz_fabric.specs.Calendars.{parcels_of, number_in_all, IsCounted}
 use Rattle.nz_fabric.specs.Posting.{delivery_as_stored, put_off, HasNumber, strikes, after_strike}
 
@@ -131,9 +131,9 @@ counted_one lines before after p None from to kind own h =
     none_of false b c h = refl
 counted_one lines before after p (Some k) from to kind own h =
     let number = next_number (traffic_of before p (Some k)) in
-    ap count_in (h (course from to kind))
-    ∙ count_if (course_eq (course p.from p.to k) (course from to kind)) (with_parcel (filter (may_strike p.from p.to k) lines)
-    (traffic_of before p (Some k))) (traffic_on before (course from to kind))
+    ap count_in (h.courses (course from to kind))
+    ∙ count_if (course_eq (course p.from p.to k) (course from to kind)) h.traffic (traffic_on before (course from to kind))
+    ∙ ap (λ (n : ℕ). cond (course_eq (course p.from p.to k) (course from to kind)) n (count_of before (course from to kind))) h.count
     ∙ ap (λ (b : Bool). cond b number (count_of before (course from to kind))) (same_course p from to k kind)
     ∙ ap (λ (o : Option ℕ). cond (actor_eq p.from from && (actor_eq p.to to && has_kind kind o)) number (count_of before (course from to kind))) own
   where
@@ -165,10 +165,10 @@ faulted_is tick earlier p (faults.Crash a t) ds b e = ap (λ (b : Bool). cond b 
 faulted_is tick earlier p (faults.Restart a t) ds b e = ap (λ (b : Bool). cond b ds ds) e
 faulted_is tick earlier p (faults.Alarm a t) ds b e = ap (λ (b : Bool). cond b ds ds) e
 
-faulted_by_push : (tick : ℕ) (earlier : List Parcel) (p : Parcel) (lines : List Fault) (line : Fault) (ds : List DeliveryModel)
-    → after_faults tick earlier p (lines ++ line ∷ []) ds ≡ after_fault tick earlier p line (after_faults tick earlier p lines ds)
-faulted_by_push tick earlier p [] line ds = refl
-faulted_by_push tick earlier p (x ∷ lines) line ds = faulted_by_push tick earlier p lines line (after_fault tick earlier p x ds)
+pub faulted_by_both : (tick : ℕ) (earlier : List Parcel) (p : Parcel) (first then : List Fault) (ds : List DeliveryModel)
+    → after_faults tick earlier p (first ++ then) ds ≡ after_faults tick earlier p then (after_faults tick earlier p first ds)
+faulted_by_both tick earlier p [] then ds = refl
+faulted_by_both tick earlier p (x ∷ first) then ds = faulted_by_both tick earlier p first then (after_fault tick earlier p x ds)
 
 pub one_line : (tick : ℕ) (earlier : List Parcel) (p : Parcel) (faults : List Fault) (first : List DeliveryModel)
     (i : ℕ) (line : Fault) (now next : List Delivery)
@@ -178,7 +178,7 @@ pub one_line : (tick : ℕ) (earlier : List Parcel) (p : Parcel) (faults : List 
 one_line tick earlier p faults first i line now next lt at so_far step =
     let more : take (i + 1) faults ≡ take i faults ++ line ∷ [] = take_more faults i line lt ∙ ap (λ (x : Fault). take i faults ++ x ∷ []) (sym at) in
     step (after_faults tick earlier p (take i faults) first) so_far
-    ∙ ap (map delivery_as_stored) (sym (faulted_by_push tick earlier p (take i faults) line first)
+    ∙ ap (map delivery_as_stored) (sym (faulted_by_both tick earlier p (take i faults) (line ∷ []) first)
     ∙ ap (λ (xs : List Fault). after_faults tick earlier p xs first) (sym more))
 
 -- ---- loops

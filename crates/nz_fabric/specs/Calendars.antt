@@ -1,6 +1,6 @@
 -- What a calendar says of what was sent: how many parcels, how many of each sender, receiver and kind, which fault
 -- lines may strike them, and what is to come in each tick.
-use Rattle.std.specs.Prelude.{◌≡◌, ℕ, ◌+◌, ◌-◌, ◌*◌, ◌^◌, ◌<◌, ◌≤◌, ◌==◌, ◌&&◌, min, Bool, false, Option, None, Some, MatchOption, IfSome, if◌then◌else◌}
+use Rattle.std.specs.Prelude.{◌≡◌, ℕ, ◌+◌, ◌-◌, ◌*◌, ◌^◌, ◌<◌, ◌≤◌, ◌==◌, ◌&&◌, min, Bool, true, false, Option, None, Some, MatchOption, IfSome, if◌then◌else◌}
 use Rattle.std.specs.Prelude.{List, [], ◌∷◌, ◌++◌, length, map, filter, get_or}
 use Rattle.std.specs.Map.{lookup}
 use Rattle.std.specs.Option.{option_map_or}
@@ -16,6 +16,7 @@ use Rattle.nz_machine.specs.declared.journal.Item.{Item}
 use Rattle.nz_machine.specs.Schedule.{Posted, is_parcel_of, is_named, posted_in, arrivals}
 use Rattle.nz_fabric.specs.declared.course.Course.{Course}
 use Rattle.nz_fabric.specs.declared.course.Traffic.{Traffic}
+use Rattle.nz_fabric.specs.Numbered.{items_under}
 
 -- The number of parcels, the traffic of each course, and the items of each tick from 0 on.
 pub record Dates : Type 0 where
@@ -58,10 +59,6 @@ count_of courses c = count_in (traffic_on courses c)
 abbrev pub next_number : Option Traffic → ℕ
 next_number traffic = min (count_in traffic + 1) (2 ^ 64 - 1)
 
--- The fault lines that are kept of a course, or these where nothing is kept of it.
-abbrev pub lines_or : List Fault → Option Traffic → List Fault
-lines_or lines traffic = option_map_or (λ t. t.lines) traffic lines
-
 -- A fault line that names the second sender, receiver and kind is about parcels of the first.
 abbrev pub is_about : Actor → Actor → ℕ → Actor → Actor → ℕ → Bool
 is_about from to kind a b k = actor_eq from a && (actor_eq to b && (kind == k))
@@ -75,16 +72,39 @@ may_strike from to kind (faults.Cut a b k count keep) = is_about from to kind a 
 may_strike from to kind (faults.Block a b first last) = is_named a from && is_named b to
 may_strike from to kind _ = false
 
--- What is kept of a course with one parcel more: with its first parcel these fault lines.
-abbrev pub with_parcel : List Fault → Option Traffic → Traffic
-with_parcel lines traffic = record { count = next_number traffic; lines = lines_or lines traffic }
+-- A fault line that names no parcel, and blocks what is sent in some ticks.
+abbrev pub is_block : Fault → Bool
+is_block (faults.Block a b first last) = true
+is_block _ = false
 
--- One more is counted of a parcel's course, where its frame has a kind. Of these fault lines, those that may strike it
--- are kept with the first.
+-- Whether a fault line names the parcel of this number.
+abbrev pub names : ℕ → Fault → Bool
+names n (faults.Drop a b k count) = count == n
+names n (faults.Hold a b k count by) = count == n
+names n (faults.Twice a b k count by) = count == n
+names n (faults.Cut a b k count keep) = count == n
+names n _ = false
+
+-- These fault lines are kept: the blocks, and under each number the lines that name it, each list in their order.
+pub record HasLines (lines : List Fault) (t : Traffic) : Type 0 where
+  pub blocks : t.blocks ≡ filter is_block lines
+  pub named : (n : ℕ) → items_under t.named n ≡ filter (names n) lines
+
+-- Those that may strike the parcel of a number.
+abbrev pub lines_at : ℕ → Traffic → List Fault
+lines_at n t = t.blocks ++ items_under t.named n
+
+-- One more is counted of a parcel's course, and of these fault lines those that may strike it are kept. What is kept of
+-- every other course stays.
+pub record IsOneMore (lines : List Fault) (before after : List (Course × Traffic)) (p : Parcel) (kind : ℕ) : Type 0 where
+  pub traffic : Traffic
+  pub count : traffic.count ≡ next_number (traffic_on before (course p.from p.to kind))
+  pub kept : HasLines (filter (may_strike p.from p.to kind) lines) traffic
+  pub courses : (c : Course) → traffic_on after c ≡ (if course_eq (course p.from p.to kind) c then Some traffic else traffic_on before c)
+
+-- A parcel is counted, where its frame has a kind.
 abbrev pub IsCounted : List Fault → List (Course × Traffic) → List (Course × Traffic) → Parcel → Option ℕ → Type 0
-IsCounted lines before after p k = MatchOption k (after ≡ before) (λ k. (c : Course) → traffic_on after c
-    ≡ (if course_eq (course p.from p.to k) c then Some (with_parcel (filter (may_strike p.from p.to k) lines) (traffic_on before (course p.from p.to k)))
-    else traffic_on before c))
+IsCounted lines before after p k = MatchOption k (after ≡ before) (IsOneMore lines before after p)
 
 -- The items of a tick.
 abbrev pub items_in : List (List Item) → ℕ → List Item
@@ -99,10 +119,10 @@ abbrev pub posted_by : List Record → List Posted
 posted_by [] = []
 posted_by (r ∷ rs) = map (posted_in r.tick) r.sends ++ posted_by rs
 
--- Of each course of which something is kept, these are kept: those of the fault lines that may strike it, in their order.
+-- Of each course of which something is kept, those of the fault lines that may strike it are kept.
 abbrev pub KeepsLines : List Fault → List (Course × Traffic) → Type 0
 KeepsLines lines courses =
-    (from to : Actor) (kind : ℕ) → IfSome (traffic_on courses (course from to kind)) (λ t. t.lines ≡ filter (may_strike from to kind) lines)
+    (from to : Actor) (kind : ℕ) → IfSome (traffic_on courses (course from to kind)) (HasLines (filter (may_strike from to kind) lines))
 
 -- The calendar counts these parcels, keeps of each course the fault lines that may strike it, and has of each later
 -- tick what the schedule says of the parcels.

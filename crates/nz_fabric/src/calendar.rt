@@ -5,12 +5,12 @@ ghost use Rattle.std.specs.Prelude.{None, Some, IfOk, OnOk, OnErr};
 ghost use Rattle.nz_base.specs.declared.scenario.Scenario.{Scenario as ScenarioModel};
 ghost use Rattle.nz_machine.specs.declared.event.Parcel.{Parcel as ParcelModel};
 ghost use Rattle.nz_machine.specs.Schedule.{IsPlayable, Posted, posted_in, arrivals, kind_in_frame};
-ghost use Rattle.nz_fabric.specs.Calendars.{StandsFor, IsCounted, no_dates, items_in, lines_or, next_number, traffic_of};
+ghost use Rattle.nz_fabric.specs.Calendars.{course, StandsFor, IsCounted, IsOneMore, KeepsLines, no_dates, items_in, lines_at, next_number, traffic_of, traffic_on};
 ghost use Rattle.nz_fabric.specs.Posting.{arrival_of, items_arriving, arrivals_by, arrivals_up_to, days_of, HasNumber, HasRoomFor, HasRooms};
 ghost use Rattle.nz_fabric.specs.Posting.{AreKept, ArePlaced, AreShort};
 
 use crate::agenda::no_item;
-use crate::course::{Course, Traffic, count_first, course_of};
+use crate::course::{Course, Traffic, course_of, first_traffic};
 use crate::deliveries::Delivery;
 use crate::faults::deliveries_of;
 use indexmap::IndexMap;
@@ -40,8 +40,8 @@ impl Default for Arrival {
 /// The deliveries of one parcel that are to come. One takes no memory of its own.
 type Arrivals = SmallVec<Arrival, 1>;
 
-/// What is still to come of what was sent. A parcel costs a look at each fault line that may strike parcels of its course,
-/// and the first of a course a look at every line. A tick costs what is due in it.
+/// What is still to come of what was sent. A parcel costs a look at each block that may strike parcels of its course and at
+/// each fault line that names it, and the first of a course a look at every line. A tick costs what is due in it.
 #[derive(Drop)]
 pub struct Calendar {
     alloc: Global,
@@ -224,7 +224,25 @@ fn reserve_arrivals(
     Ok(arrivals)
 }
 
-/// What comes of a parcel of a course of which something is kept goes last into its days.
+/// What comes of a parcel goes last into its days.
+fn place_deliveries(
+    alloc: Global,
+    days: &mut Vec<Vec<Item>>,
+    last: u32,
+    parcel: &SharedParcel,
+    deliveries: &[Delivery],
+) -> Result<(), NoMemory>
+    requires short { AreShort days.old.items }
+    ensures short { AreShort days.new.items }
+    ensures ok { OnOk result (ArePlaced days.old.items (arrivals_up_to last (map (arrival_of parcel.now) deliveries.now)) days.new.items) }
+    ensures err { OnErr result (AreKept days.old.items days.new.items) }
+{
+    let arrivals = reserve_arrivals(alloc, days, last, parcel, deliveries)?;
+    place_all(days, arrivals);
+    Ok(())
+}
+
+/// What comes of the next parcel of a course of which something is kept goes last into its days.
 fn place_on_course(
     alloc: Global,
     days: &mut Vec<Vec<Item>>,
@@ -237,22 +255,21 @@ fn place_on_course(
     requires kind { kind ≡ kind_in_frame parcel.now.frame }
     requires short { AreShort days.old.items }
     ensures short { AreShort days.new.items }
-    ensures ok { (earlier : List ParcelModel) → HasNumber earlier parcel.now (next_number (Some traffic.now))
-        → OnOk result (ArePlaced days.old.items (arrivals_by last tick earlier parcel.now traffic.now.lines) days.new.items) }
+    ensures ok { let number = next_number (Some traffic.now) in (earlier : List ParcelModel) → HasNumber earlier parcel.now number
+        → OnOk result (ArePlaced days.old.items (arrivals_by last tick earlier parcel.now (lines_at number traffic.now)) days.new.items) }
     ensures err { OnErr result (AreKept days.old.items days.new.items) }
 {
-    let lines = traffic.lines.as_slice();
-    if lines.is_empty() {
+    let number = traffic.count.saturating_add(1);
+    let blocks = traffic.blocks.as_slice();
+    let named = traffic.named.under(number);
+    if blocks.is_empty() && named.is_empty() {
         return place_whole(alloc, days, last, tick, parcel);
     }
-    let number = traffic.count.saturating_add(1);
-    let deliveries = deliveries_of(alloc, lines, tick, parcel.get(), kind, number)?;
-    let arrivals = reserve_arrivals(alloc, days, last, parcel, deliveries.as_slice())?;
-    place_all(days, arrivals);
-    Ok(())
+    let deliveries = deliveries_of(alloc, blocks, named, tick, parcel.get(), kind, number)?;
+    place_deliveries(alloc, days, last, parcel, deliveries.as_slice())
 }
 
-/// The first parcel of a course, or one of no course, is counted, and what comes of it goes last into its days.
+/// The first parcel of a course is counted, and what comes of it goes last into its days.
 fn post_first(
     alloc: Global,
     courses: &mut IndexMap<Course, Traffic>,
@@ -260,23 +277,46 @@ fn post_first(
     scenario: &Scenario,
     tick: u32,
     parcel: &SharedParcel,
-    kind: Option<u8>,
+    kind: u8,
 ) -> Result<(), NoMemory>
-    requires kind { kind ≡ kind_in_frame parcel.now.frame }
-    requires first { None ≡ traffic_of courses.old.entries parcel.now kind }
+    requires kind { Some kind ≡ kind_in_frame parcel.now.frame }
+    requires first { None ≡ traffic_on courses.old.entries (course parcel.now.from parcel.now.to kind) }
     requires short { AreShort days.old.items }
     ensures short { AreShort days.new.items }
-    ensures counted { OnOk result (IsCounted scenario.now.faults courses.old.entries courses.new.entries parcel.now kind) }
+    ensures counted { OnOk result (IsOneMore scenario.now.faults courses.old.entries courses.new.entries parcel.now kind) }
     ensures placed { (earlier : List ParcelModel) → HasNumber earlier parcel.now 1
         → OnOk result (ArePlaced days.old.items (arrivals_by scenario.now.ticks tick earlier parcel.now scenario.now.faults) days.new.items) }
     ensures err { OnErr result ((courses.new.entries ≡ courses.old.entries) × AreKept days.old.items days.new.items) }
 {
-    let faults = scenario.faults.as_slice();
-    let deliveries = deliveries_of(alloc, faults, tick, parcel.get(), kind, 1)?;
+    let sent = parcel.get();
+    let traffic = first_traffic(alloc, scenario.faults.as_slice(), sent, kind)?;
+    let blocks = traffic.blocks.as_slice();
+    let named = traffic.named.under(1);
+    let deliveries = deliveries_of(alloc, blocks, named, tick, sent, Some(kind), 1)?;
     let arrivals = reserve_arrivals(alloc, days, scenario.ticks, parcel, deliveries.as_slice())?;
-    count_first(alloc, courses, faults, parcel.get(), kind)?;
+    courses.insert(course_of(sent, kind), traffic)?;
     place_all(days, arrivals);
     Ok(())
+}
+
+/// What comes of a parcel of no kind, which is of no course, goes last into its days.
+fn place_without_course(
+    alloc: Global,
+    days: &mut Vec<Vec<Item>>,
+    scenario: &Scenario,
+    tick: u32,
+    parcel: &SharedParcel,
+) -> Result<(), NoMemory>
+    requires kind { None ≡ kind_in_frame parcel.now.frame }
+    requires short { AreShort days.old.items }
+    ensures short { AreShort days.new.items }
+    ensures ok { (earlier : List ParcelModel) → HasNumber earlier parcel.now 1
+        → OnOk result (ArePlaced days.old.items (arrivals_by scenario.now.ticks tick earlier parcel.now scenario.now.faults) days.new.items) }
+    ensures err { OnErr result (AreKept days.old.items days.new.items) }
+{
+    let faults = scenario.faults.as_slice();
+    let deliveries = deliveries_of(alloc, faults, &[], tick, parcel.get(), None, 1)?;
+    place_deliveries(alloc, days, scenario.ticks, parcel, deliveries.as_slice())
 }
 
 /// A parcel is counted, and what comes of it goes last into its days. It takes one look at what is kept of its course.
@@ -290,19 +330,20 @@ fn post_parcel(
 ) -> Result<(), NoMemory>
     requires short { AreShort days.old.items }
     ensures short { AreShort days.new.items }
-    ensures counted { OnOk result (IsCounted scenario.now.faults courses.old.entries courses.new.entries parcel.now (kind_in_frame parcel.now.frame)) }
-    ensures placed { let kept = traffic_of courses.old.entries parcel.now (kind_in_frame parcel.now.frame) in
-        (earlier : List ParcelModel) → HasNumber earlier parcel.now (next_number kept)
-        → OnOk result (ArePlaced days.old.items (arrivals_by scenario.now.ticks tick earlier parcel.now (lines_or scenario.now.faults kept)) days.new.items) }
+    ensures counted { KeepsLines scenario.now.faults courses.old.entries
+        → OnOk result (IsCounted scenario.now.faults courses.old.entries courses.new.entries parcel.now (kind_in_frame parcel.now.frame)) }
+    ensures placed { KeepsLines scenario.now.faults courses.old.entries
+        → (earlier : List ParcelModel) → HasNumber earlier parcel.now (next_number (traffic_of courses.old.entries parcel.now (kind_in_frame parcel.now.frame)))
+        → OnOk result (ArePlaced days.old.items (arrivals_by scenario.now.ticks tick earlier parcel.now scenario.now.faults) days.new.items) }
     ensures err { OnErr result ((courses.new.entries ≡ courses.old.entries) × AreKept days.old.items days.new.items) }
 {
     let sent = parcel.get();
     let kind = kind_of(sent.frame.as_slice());
     let Some(own) = kind else {
-        return post_first(alloc, courses, days, scenario, tick, parcel, kind);
+        return place_without_course(alloc, days, scenario, tick, parcel);
     };
     match courses.get_mut(&course_of(sent, own)) {
-        None => post_first(alloc, courses, days, scenario, tick, parcel, kind),
+        None => post_first(alloc, courses, days, scenario, tick, parcel, own),
         Some(traffic) => {
             place_on_course(alloc, days, traffic, scenario.ticks, tick, parcel, kind)?;
             traffic.count = traffic.count.saturating_add(1);

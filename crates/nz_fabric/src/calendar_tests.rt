@@ -120,6 +120,57 @@ fn lines_on_two_courses(alloc: Global) -> Result<Scenario, Fail>
     scenario_with(alloc, faults)
 }
 
+/// Of what the proxy sends to replica 0, the third parcel comes 2 ticks later, and again 4 ticks after that. To replica 1 the
+/// first comes again 4 ticks later, and both 3 ticks later. What it sends to replica 1 in tick 4 is lost. A ninth parcel,
+/// which would be lost, is not sent.
+fn lines_on_one_parcel(alloc: Global) -> Result<Scenario, Fail>
+    ensures { IfOk result IsPlayable }
+{
+    let (from, to) = (Actor::Proxy(0), Actor::Replica(0));
+    let mut faults = FaultList::new(alloc);
+    faults.push(Fault::Hold {
+        from,
+        to,
+        kind: TIMED,
+        count: 3,
+        by: 2,
+    })?;
+    faults.push(Fault::Block {
+        from: None,
+        to: Some(Actor::Replica(1)),
+        first: 4,
+        last: 4,
+    })?;
+    faults.push(Fault::Twice {
+        from,
+        to,
+        kind: TIMED,
+        count: 3,
+        by: 4,
+    })?;
+    faults.push(Fault::Twice {
+        from,
+        to: Actor::Replica(1),
+        kind: TIMED,
+        count: 1,
+        by: 4,
+    })?;
+    faults.push(Fault::Drop {
+        from,
+        to,
+        kind: TIMED,
+        count: 9,
+    })?;
+    faults.push(Fault::Hold {
+        from,
+        to: Actor::Replica(1),
+        kind: TIMED,
+        count: 1,
+        by: 3,
+    })?;
+    scenario_with(alloc, faults)
+}
+
 /// A message of the kind from the proxy to a replica, in a tick.
 fn send(
     alloc: Global,
@@ -175,19 +226,26 @@ fn a_copy_and_a_held_delivery_come_in_their_ticks(rt: HostRuntime) -> Result<(),
     Ok(())
 }
 
-#[test]
-fn each_course_has_the_faults_of_its_own_parcels(rt: HostRuntime) -> Result<(), Fail> {
-    let alloc = rt.alloc();
-    let scenario = lines_on_two_courses(alloc)?;
+/// The tick and the replica of each delivery, where in each tick from 2 to the last the proxy sends to replica 0 and then to 1.
+fn sent_to_two(alloc: Global, scenario: &Scenario, last: u32) -> Result<Vec<(u32, u8)>, Fail>
+    requires { IsPlayable scenario.now }
+{
     let mut calendar = Calendar::new(alloc);
     let mut came = Vec::new(alloc);
     for tick in 1..41 {
         note(&mut came, tick, calendar.take(tick).as_slice())?;
-        if tick >= 2 && tick <= 6 {
-            send(alloc, &mut calendar, &scenario, tick, 0)?;
-            send(alloc, &mut calendar, &scenario, tick, 1)?;
+        if tick >= 2 && tick <= last {
+            send(alloc, &mut calendar, scenario, tick, 0)?;
+            send(alloc, &mut calendar, scenario, tick, 1)?;
         }
     }
+    Ok(came)
+}
+
+#[test]
+fn each_course_has_the_faults_of_its_own_parcels(rt: HostRuntime) -> Result<(), Fail> {
+    let alloc = rt.alloc();
+    let came = sent_to_two(alloc, &lines_on_two_courses(alloc)?, 6)?;
     assert_eq!(rt;
         came.as_slice(),
         [
@@ -199,6 +257,28 @@ fn each_course_has_the_faults_of_its_own_parcels(rt: HostRuntime) -> Result<(), 
             (7, 0),
             (7, 1),
             (8, 1)
+        ]
+        .as_slice()
+    );
+    Ok(())
+}
+
+#[test]
+fn lines_on_one_parcel_apply_in_their_order(rt: HostRuntime) -> Result<(), Fail> {
+    let alloc = rt.alloc();
+    let came = sent_to_two(alloc, &lines_on_one_parcel(alloc)?, 5)?;
+    assert_eq!(rt;
+        came.as_slice(),
+        [
+            (3, 0),
+            (4, 0),
+            (4, 1),
+            (6, 1),
+            (6, 0),
+            (6, 1),
+            (7, 0),
+            (10, 1),
+            (11, 0)
         ]
         .as_slice()
     );

@@ -1,11 +1,12 @@
 //! What is kept of each sender, receiver and kind: a count of parcels, and the fault lines that may strike them.
 
-ghost use Rattle.std.specs.Prelude.{◌≡◌, ◌<◌, filter, None, IfOk, OnOk, OnErr};
+ghost use Rattle.std.specs.Prelude.{◌≡◌, ◌<◌, ◌∷◌, ◌++◌, [], ℕ, filter, IfOk, OnOk};
 ghost use Rattle.nz_fabric.specs.Calendars as calendars;
-ghost use Rattle.nz_fabric.specs.Calendars.{course, number_in_all, traffic_of, IsCounted};
+ghost use Rattle.nz_fabric.specs.Numbered.{items_under};
+ghost use Rattle.nz_fabric.specs.Calendars.{course, is_block, names, number_in_all, HasLines};
 
 use crate::faults::may_strike;
-use indexmap::IndexMap;
+use crate::numbered::Numbered;
 use nz_base::{Actor, Fault, FaultList, NoMemory};
 use nz_machine::Parcel;
 use std::alloc::Global;
@@ -18,12 +19,15 @@ pub struct Course {
     pub kind: u8,
 }
 
-/// What is kept of a course: how many of its parcels were sent, and the fault lines that may strike them, in the order
-/// of the scenario.
+/// What is kept of a course: how many of its parcels were sent, and the fault lines that may strike them, each list in the
+/// order of the scenario.
 #[derive(Drop)]
 pub struct Traffic {
     pub count: u64,
-    pub lines: FaultList,
+    /// The lines that name no parcel.
+    pub blocks: FaultList,
+    /// The lines that name a parcel, under its number.
+    pub named: Numbered<Fault>,
 }
 
 /// A number that only this actor has.
@@ -49,40 +53,50 @@ pub fn course_of(parcel: &Parcel, kind: u8) -> Course
     }
 }
 
-/// The fault lines that may strike a parcel of a kind.
-fn lines_for(
+/// A fault line is kept, if it may strike a parcel of a kind.
+fn keep_line(
+    alloc: Global,
+    traffic: &mut Traffic,
+    parcel: &Parcel,
+    kind: u8,
+    fault: Fault,
+) -> Result<(), NoMemory>
+    ensures count { traffic.new.count ≡ traffic.old.count }
+    ensures blocks { let line = filter (calendars.may_strike parcel.now.from parcel.now.to kind) (fault ∷ []) in
+        OnOk result (traffic.new.blocks ≡ traffic.old.blocks ++ filter is_block line) }
+    ensures named { let line = filter (calendars.may_strike parcel.now.from parcel.now.to kind) (fault ∷ []) in
+        OnOk result ((n : ℕ) → items_under traffic.new.named n ≡ items_under traffic.old.named n ++ filter (names n) line) }
+{
+    if !may_strike(fault, parcel, kind) {
+        return Ok(());
+    }
+    match fault {
+        Fault::Drop { count, .. }
+        | Fault::Hold { count, .. }
+        | Fault::Twice { count, .. }
+        | Fault::Cut { count, .. } => { traffic.named.push(alloc, u64::from(count), fault) }
+        Fault::Block { .. } => traffic.blocks.push(fault),
+        Fault::Crash { .. } | Fault::Restart { .. } | Fault::Alarm { .. } => Ok(()),
+    }
+}
+
+/// What is kept of a course with its first parcel.
+pub fn first_traffic(
     alloc: Global,
     faults: &[Fault],
     parcel: &Parcel,
     kind: u8,
-) -> Result<FaultList, NoMemory>
-    ensures { IfOk result (λ lines. lines ≡ filter (calendars.may_strike parcel.now.from parcel.now.to kind) faults.now) }
+) -> Result<Traffic, NoMemory>
+    ensures count { IfOk result (λ traffic. traffic.count ≡ 1) }
+    ensures lines { IfOk result (HasLines (filter (calendars.may_strike parcel.now.from parcel.now.to kind) faults.now)) }
 {
-    let mut lines = FaultList::new(alloc);
-    for fault in faults {
-        if may_strike(*fault, parcel, kind) {
-            lines.push(*fault)?;
-        }
-    }
-    Ok(lines)
-}
-
-/// Counts the first parcel of a course, and keeps the fault lines that may strike parcels of it.
-pub fn count_first(
-    alloc: Global,
-    courses: &mut IndexMap<Course, Traffic>,
-    faults: &[Fault],
-    parcel: &Parcel,
-    kind: Option<u8>,
-) -> Result<(), NoMemory>
-    requires { None ≡ traffic_of courses.old.entries parcel.now kind }
-    ensures ok { OnOk result (IsCounted faults.now courses.old.entries courses.new.entries parcel.now kind) }
-    ensures err { OnErr result (courses.new.entries ≡ courses.old.entries) }
-{
-    let Some(kind) = kind else {
-        return Ok(());
+    let mut traffic = Traffic {
+        count: 1,
+        blocks: FaultList::new(alloc),
+        named: Numbered::new(alloc),
     };
-    let lines = lines_for(alloc, faults, parcel, kind)?;
-    courses.insert(course_of(parcel, kind), Traffic { count: 1, lines })?;
-    Ok(())
+    for fault in faults {
+        keep_line(alloc, &mut traffic, parcel, kind, *fault)?;
+    }
+    Ok(traffic)
 }

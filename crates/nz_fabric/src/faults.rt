@@ -1,6 +1,6 @@
 //! The deliveries of a parcel, by fault lines.
 
-ghost use Rattle.std.specs.Prelude.{◌≡◌, ◌+◌, ◌&&◌, ◌==◌, ◌∷◌, [], List, map, IfOk, OnOk};
+ghost use Rattle.std.specs.Prelude.{◌≡◌, ◌+◌, ◌&&◌, ◌==◌, ◌∷◌, ◌++◌, [], List, map, IfOk, OnOk};
 ghost use Rattle.nz_machine.specs.declared.event.Parcel.{Parcel as ParcelModel};
 ghost use Rattle.nz_machine.specs.Schedule as schedule;
 ghost use Rattle.nz_machine.specs.Schedule.{Delivery as DeliveryModel, is_parcel_of, kind_in_frame, whole_in, after_fault, after_faults};
@@ -173,10 +173,31 @@ fn faulted(
     Ok(())
 }
 
-/// The deliveries of a parcel that is sent in a tick, as the fault lines leave them.
+/// What fault lines make of the deliveries of a parcel that is sent in a tick, each of what those before it left.
+fn faulted_by_all(
+    faults: &[Fault],
+    tick: u32,
+    parcel: &Parcel,
+    own: Option<u8>,
+    number: u64,
+    deliveries: &mut Deliveries,
+) -> Result<(), NoMemory>
+    requires { own ≡ kind_in_frame parcel.now.frame }
+    ensures { (earlier : List ParcelModel) (ds : List DeliveryModel) → HasNumber earlier parcel.now number → deliveries.old.items ≡ map delivery_as_stored ds
+        → OnOk result (deliveries.new.items ≡ map delivery_as_stored (after_faults tick earlier parcel.now faults.now ds)) }
+{
+    for fault in faults {
+        faulted(*fault, tick, parcel, own, number, deliveries)?;
+    }
+    Ok(())
+}
+
+/// The deliveries of a parcel that is sent in a tick, as these fault lines leave them: first the blocks, then the lines
+/// that name it.
 pub fn deliveries_of(
     alloc: Global,
-    faults: &[Fault],
+    blocks: &[Fault],
+    named: &[Fault],
     tick: u32,
     parcel: &Parcel,
     own: Option<u8>,
@@ -184,15 +205,14 @@ pub fn deliveries_of(
 ) -> Result<Deliveries, NoMemory>
     requires { own ≡ kind_in_frame parcel.now.frame }
     ensures { (earlier : List ParcelModel) → HasNumber earlier parcel.now number
-        → IfOk result (λ v. v.items ≡ map delivery_as_stored (after_faults tick earlier parcel.now faults.now (whole_in (tick + 1) ∷ []))) }
+        → IfOk result (λ v. v.items ≡ map delivery_as_stored (after_faults tick earlier parcel.now (blocks.now ++ named.now) (whole_in (tick + 1) ∷ []))) }
 {
     let mut deliveries = Deliveries::new(alloc);
     deliveries.push(Delivery {
         tick: tick.saturating_add(1),
         kept: None,
     })?;
-    for fault in faults {
-        faulted(*fault, tick, parcel, own, number, &mut deliveries)?;
-    }
+    faulted_by_all(blocks, tick, parcel, own, number, &mut deliveries)?;
+    faulted_by_all(named, tick, parcel, own, number, &mut deliveries)?;
     Ok(deliveries)
 }

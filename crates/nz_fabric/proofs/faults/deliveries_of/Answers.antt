@@ -1,13 +1,15 @@
 -- What the function of this folder owes, proved.
-use Rattle.std.proofs.Common.{◌+◌, ◌∷◌, []}
-use Rattle.std.proofs.lemmas.List.{get_or_default}
-use Rattle.nz_machine.specs.Schedule.{whole_in}
-use Rattle.nz_fabric.proofs.Numbering.{one_line}
+use Rattle.std.proofs.Common.{rules, ◌≡◌, ◌∙◌, ◌+◌, ◌∷◌, [], List, map, sym, ap}
+use Rattle.nz_machine.specs.Schedule.{Delivery, whole_in, after_faults}
+use Rattle.nz_fabric.specs.Posting.{delivery_as_stored}
+use Rattle.nz_fabric.proofs.Numbering.{faulted_by_both}
 use Rattle.nz_fabric.proofs.faults.deliveries_of.Goals as goal
 
-pub loop-fault-preserved : goal.loop-fault-preserved
-loop-fault-preserved c = λ earlier h.
-    one_line c.args.tick earlier c.args.parcel.now c.args.faults.now
-    (whole_in (c.args.tick + 1) ∷ []) c.loop-fault.fault-index _ c.loop-fault.deliveries.items c.faulted.new.deliveries.items c.loop-fault-test.true
-    (get_or_default c.args.faults.now c.loop-fault.fault-index _ _ c.loop-fault-test.true)
-    (c.loop-fault.invariant earlier h) (λ ds e. c.in_ok-faulted.ensures earlier ds h e)
+pub returns : goal.returns
+returns c = λ earlier h.
+    let p = c.args.parcel.now in
+    let whole : List Delivery = whole_in (c.args.tick + 1) ∷ [] in
+    let first : c.push.new.self.items ≡ map delivery_as_stored whole = search rules in
+    c.in_ok-faulted_by_all-2.ensures earlier (after_faults c.args.tick earlier p c.args.blocks.now whole) h
+    (c.in_ok-faulted_by_all.ensures earlier whole h first)
+    ∙ ap (map delivery_as_stored) (sym (faulted_by_both c.args.tick earlier p c.args.blocks.now c.args.named.now whole))

@@ -2,7 +2,7 @@
 use Rattle.std.proofs.Common.{◌∙◌, refl, sym, ap, subst, arith}
 use Rattle.std.proofs.lemmas.List.{length-map}
 use Rattle.nz_machine.specs.Schedule.{Posted, kind_in_frame}
-use Rattle.nz_fabric.specs.Calendars.{Dates, StandsFor, parcels_of, items_in, traffic_of, lines_or}
+use Rattle.nz_fabric.specs.Calendars.{Dates, StandsFor, parcels_of, items_in}
 use Rattle.nz_fabric.specs.Posting.{arrivals_by, days_of}
 use Rattle.nz_fabric.proofs.Numbering.{numbered}
 use Rattle.nz_fabric.proofs.Dating.{posted_one, stands_by}
@@ -21,10 +21,9 @@ returns-clause-ok c = λ L now h.
     let same = ap (λ (d : Dates). d.parcels) c.self.view_is in
     let long = length-map L (λ (x : Posted). x.parcel) in
     let is = numbered (parcels_of L) p k f.courses.entries refl h'.counts (omega (arith, long, parcels, same, c.requires.few)) in
-    let kept = traffic_of f.courses.entries p k in
-    posted_one s L now old _ c.args.tick k p (arrivals_by s.ticks c.args.tick (parcels_of L) p (lines_or s.faults kept)) h'
-    (let k = c.requires.playable.ticks in omega (arith, k)) refl is refl c.in_ok-post_parcel.ensures.counted refl
-    (c.in_ok-post_parcel.ensures.placed (parcels_of L) is)
+    posted_one s L now old _ c.args.tick k p (arrivals_by s.ticks c.args.tick (parcels_of L) p s.faults) h'
+    (let k = c.requires.playable.ticks in omega (arith, k)) refl is refl (c.in_ok-post_parcel.ensures.counted h'.lines) refl
+    (c.in_ok-post_parcel.ensures.placed h'.lines (parcels_of L) is)
 
 -- ---- where memory runs out
 
