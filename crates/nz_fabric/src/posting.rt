@@ -10,7 +10,7 @@ use nz_base::{NoMemory, Scenario};
 use nz_machine::{Recording, SharedParcel};
 
 /// Parcels were sent in a tick, in this order. Where memory runs out some of the first are posted.
-pub fn post_sends(
+fn post_sends(
     calendar: &mut Calendar,
     scenario: &Scenario,
     tick: u32,
