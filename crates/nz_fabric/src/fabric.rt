@@ -12,10 +12,7 @@ pub struct Fabric<N: Name> {
 }
 
 impl<N: Name> Fabric<N> {
-    /// For this many workers.
-    pub fn new(state: FabricState<N>, workers: u8) -> Fabric<N> {
-        let mut state = state;
-        state.begin_awake(workers);
+    pub fn new(state: FabricState<N>) -> Fabric<N> {
         Fabric {
             state: Mutex::new(state),
             moved: Condvar::new(),

@@ -84,12 +84,13 @@ fn bytes_of(event: &Event) -> usize
 }
 
 impl<N: Name> FabricState<N> {
-    /// A run that has not begun, and the whole share.
+    /// A run that has not begun, and the whole share. So many workers begin it, and none of them waits.
     pub fn new(
         alloc: Global,
         blank: Blank,
         opened: Opened,
         scenario: Scenario,
+        workers: u8,
     ) -> Result<(FabricState<N>, Share<N>), NoMemory>
         requires name { (blank.name ≡ N.name) × (blank.parts ≡ N.parts) × (blank.parts ≡ MAX_WORKERS) }
         requires chronicles { opened ≡ N.chronicles }
@@ -109,7 +110,7 @@ impl<N: Name> FabricState<N> {
             before: 0,
             batches: OpenBatches::new(alloc, takes),
             book,
-            awake: 1,
+            awake: workers,
             lately: 0,
         };
         Ok((state, Share { held }))
@@ -282,13 +283,6 @@ impl<N: Name> FabricState<N> {
     /// Whether the tick is done sooner by those that are awake than others are woken.
     pub fn is_small(&self) -> bool {
         self.lately < MANY && !self.brings(LONG)
-    }
-
-    /// So many workers begin, and none of them waits.
-    pub(crate) fn begin_awake(&mut self, workers: u8)
-        ensures { self.new ≡ self.old }
-    {
-        self.awake = workers;
     }
 
     /// A worker begins to wait.

@@ -149,7 +149,7 @@ fn seen_at_once<N: Name + Send + Sync, R: Threads + Wait + Sync>(
     requires scenario { scenario.now ≡ N.scenario }
     requires playable { IsPlayable scenario.now }
 {
-    let (mut state, whole) = FabricState::<N>::new(alloc, blank, opened, scenario.copy(alloc)?)?;
+    let (mut state, whole) = FabricState::<N>::new(alloc, blank, opened, scenario.copy(alloc)?, 2)?;
     let lanes = (state.lane(Actor::Replica(0)), state.lane(Actor::Replica(1)));
     state.next_tick()?;
     let (a, b, seen) = (AtomicU64::new(0), AtomicU64::new(0), AtomicU64::new(0));
@@ -178,7 +178,7 @@ fn seen_at_once<N: Name + Send + Sync, R: Threads + Wait + Sync>(
             lanes.1,
         )),
     ];
-    let fabric = Fabric::new(state, 2);
+    let fabric = Fabric::new(state);
     thread::for_each_mut(
         rt,
         workers.as_mut_slice(),

@@ -56,7 +56,7 @@ fn at_once<N: Name + Send + Sync, R: Threads + Wait + Sync, G: Gate + Sync>(
     let mut workers = Vec::new(alloc);
     workers.reserve(MAX_WORKERS)?;
     deal(share, &mut workers, count);
-    let fabric = Fabric::new(state, count);
+    let fabric = Fabric::new(state);
     work_all(rt, workers.as_mut_slice(), stage, &fabric, gate);
     let share = gather(workers);
     Ok((fabric.into_state(), share))
@@ -104,7 +104,7 @@ fn run_named<N: Name + Send + Sync, R: Threads + Wait + Sync, G: Gate + Sync>(
     ensures { IfOk result (λ o. IfSome o (λ journal. (journal.scenario ≡ scenario.now)
         × (Scheduled scenario.now (run_in journal) × World (group_in journal) (run_in journal)))) }
 {
-    let (state, share) = FabricState::<N>::new(alloc, blank, opened, scenario.copy(alloc)?)?;
+    let (state, share) = FabricState::<N>::new(alloc, blank, opened, scenario.copy(alloc)?, count)?;
     let mut stage = Stage::<N>::new(alloc, scenario, &state)?;
     let (state, share) = at_once(rt, alloc, state, share, count, &stage, gate)?;
     let Some(state) = finish_all(rt, state, share, &mut stage)? else {
