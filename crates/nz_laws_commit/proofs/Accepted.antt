@@ -23,7 +23,7 @@ use Rattle.nz_machine.specs.Events.{ClientEvent, Sent, Accepted, id_at, client_e
 use Rattle.nz_machine.specs.declared.reply.Reply.{Reply}
 use Rattle.nz_machine.specs.Quorums.{view_of}
 use Rattle.nz_machine.specs.Committed.{view_of_sender, accepted_view, AcceptsIn, IsAcceptedIn}
-use Rattle.nz_machine.specs.History.{ReplySource, source_of_sender, prefix_at_source, accepted_prefix, entries_or, prefix_in}
+use Rattle.nz_machine.specs.History.{ReplySource, source_of_sender, accepted_source, prefix_at_source, accepted_prefix, entries_or, prefix_in}
 use Rattle.nz_machine.specs.OneHistory.{IsAccepted}
 use Rattle.nz_machine.proofs.Runs.{acts_itself, delivered, has_left}
 use Rattle.nz_base.specs.Moments.{At}
@@ -89,6 +89,7 @@ pub record Gives (g : Group) (r : Record) (J : List Record) (id : Id) (a : Answe
   pub is : prefix_in g (client_events g r.actor r J) r.event J ≡ prefix
   pub reply : Reply
   pub source : ReplySource
+  pub leads : accepted_source g id parcel J ≡ Some source
   pub at_source : prefix ≡ prefix_at_source g id source
   pub view : accepted_view g id parcel J ≡ Some (view_of reply)
   pub backed : IsBacked g J id reply source
@@ -119,9 +120,8 @@ gives_by g r J id a path w t to =
     (record { proxy = to.proxy; sender = to.sender; receiver = read_to g J (Client c) p e w.1 may d.heard; message = t.message }) in
     let mine : LeadsBack g J id t.body.answer p.from s.0 = subst (λ (x : Id). LeadsBack g J x t.body.answer p.from s.0) id_is back in
     let prefix = prefix_at_source g id mine.source in
-    let found : accepted_prefix g id p J ≡ Some prefix =
-    ap (λ (o : Option (List Record)). option_map (prefix_at_source g id) (option_and_then (source_of_sender g id p.from) o)) s.1
-    ∙ ap (option_map (prefix_at_source g id)) mine.is in
+    let leads : accepted_source g id p J ≡ Some mine.source = ap (option_and_then (source_of_sender g id p.from)) s.1 ∙ mine.is in
+    let found : accepted_prefix g id p J ≡ Some prefix = ap (option_map (prefix_at_source g id)) leads in
     record {
       parcel = p;
       event = d.is;
@@ -131,6 +131,7 @@ gives_by g r J id a path w t to =
           ∙ ap entries_or found;
       reply = mine.reply;
       source = mine.source;
+      leads = leads;
       at_source = refl;
       view = ap (option_and_then (view_of_sender g id p.from)) s.1 ∙ mine.view;
       backed = mine.backed;
@@ -159,7 +160,7 @@ pub record IsGivenOnce (g : Group) (J : List Record) (P : List Entry) : Type 0 w
   pub view : ℕ
   pub given : IsGiven g J view id answer P
 
-same_parcel : (p q : Parcel) → Deliver p ≡ Deliver q → p ≡ q
+pub same_parcel : (p q : Parcel) → Deliver p ≡ Deliver q → p ≡ q
 same_parcel p q e = cc
 
 pub accepted_given : (g : Group) (J : List Record) → World g J → (P : List Entry) → IsAccepted g P J → IsGivenOnce g J P

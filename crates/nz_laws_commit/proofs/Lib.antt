@@ -30,3 +30,4 @@ pub mod TurnDoes
 pub mod Following
 pub mod Begun
 pub mod Whole
+pub mod Led

@@ -25,7 +25,7 @@ follows g J w = follows_by g J w (begins_of g J w) (record_does g J w)
 pub prefixes : (g : Group) (J : List Record) → World g J → NoCollision g J → Prefixes g J
 prefixes g J w apart = committing.prefixes_of g J w (follows g J w) apart
 
-after_newer : (newer J : List Record) → At (newer ++ J) J
+pub after_newer : (newer J : List Record) → At (newer ++ J) J
 after_newer [] J = at_self J
 after_newer (r ∷ newer) J = inr (after_newer newer J)
 

@@ -1,6 +1,7 @@
 //! The laws of support, for every run that follows the rules; and that every run of the machine follows them.
 
 ghost use Rattle.std.specs.Prelude.{◌≡◌, ◌≤◌, ◌⊎◌, ℕ, Bool, List, [], ◌∷◌, ◌++◌, length, Some, IsTrue};
+ghost use Rattle.nz_base.specs.declared.key.Entry.{Entry};
 ghost use Rattle.nz_base.specs.declared.key.Key.{Key};
 ghost use Rattle.nz_base.specs.Moments.{At};
 ghost use Rattle.nz_base.specs.Cluster.{leader_of};
@@ -16,7 +17,7 @@ ghost use Rattle.nz_machine.specs.Replicas.{commands};
 ghost use Rattle.nz_machine.specs.World.{state_after, World};
 ghost use Rattle.nz_machine.specs.OneHistory.{NoCollision};
 ghost use Rattle.nz_machine.specs.Leading.{is_normal_in, leader_at, is_led, lead};
-ghost use Rattle.nz_machine.specs.Committed.{Prefixes};
+ghost use Rattle.nz_machine.specs.Committed.{IsAcceptedIn, Prefixes};
 ghost use Rattle.nz_laws_commit.specs.Supports.{HadSynced, FastReplied, IsLedAt, Support, InLaterStarts};
 ghost use Rattle.nz_laws_commit.specs.Machines.{GroupStates, machine_of, start_of};
 ghost use Rattle.nz_laws_commit.specs.Does.{FollowsRules};
@@ -37,6 +38,11 @@ pub fn rules_are_followed()
 /// The log that the leader of a view leads with only grows.
 pub fn leader_log_grows()
     ensures { (g : Group) (newer J : List Record) (v : ℕ) → World g (newer ++ J) → IsPrefix (lead g v J) (lead g v (newer ++ J)) }
+{}
+
+/// What was accepted in a view is a prefix of the log that the view's leader leads with, however far the run goes on.
+pub fn accepted_prefixes_are_led()
+    ensures { (g : Group) (J : List Record) (v : ℕ) (P : List Entry) → World g J → IsAcceptedIn g v P J → IsPrefix P (lead g v J) }
 {}
 
 /// The answers of a leader are those of one store that executes its log.
