@@ -12,10 +12,10 @@ use Rattle.nz_machine.specs.Replicas.{first_replica}
 use Rattle.nz_machine.specs.Step.{Node, node_step, node_run}
 use Rattle.nz_machine.specs.World.{state_after}
 use Rattle.nz_machine.proofs.Runs.{acts, stays}
-use Rattle.nz_replica.specs.Models.{ReplicaCore}
+use Rattle.nz_replica.specs.Models.{ReplicaCore, IsCore}
 use Rattle.nz_machine.specs.declared.journal.Journal.{Journal}
 use Rattle.nz_machine.proofs.ListParts.{take_next}
-use Rattle.nz_audit.specs.Cores.{IsCore, run_up_to}
+use Rattle.nz_audit.specs.Cores.{run_up_to}
 
 abbrev replica_number : Actor → ℕ
 replica_number (Replica r) = r

@@ -5,7 +5,8 @@ ghost use Rattle.nz_base.specs.Cluster.{replica_count};
 ghost use Rattle.nz_machine.specs.Journals.{group_in};
 ghost use Rattle.nz_machine.specs.State.{Group};
 ghost use Rattle.nz_machine.specs.declared.event.Record.{Record as RecordModel};
-ghost use Rattle.nz_audit.specs.Cores.{IsCore, IsReplayed, run_up_to};
+ghost use Rattle.nz_replica.specs.Models.{IsCore};
+ghost use Rattle.nz_audit.specs.Cores.{IsReplayed, run_up_to};
 
 use super::source::Source;
 use nz_base::{Actor, NoMemory};
