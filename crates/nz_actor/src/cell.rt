@@ -27,6 +27,12 @@ impl<N: Name, C: Core> ActorCell<N, C> {
         self.state.get_mut()
     }
 
+    /// The state, which no other thread has then.
+    pub fn into_state(self) -> ActorState<N, C> {
+        let ActorCell { state } = self;
+        state.into_inner()
+    }
+
     /// Plays the batch under the actor's lock, and records it before the lock is let go. A batch that is not the
     /// actor's is given up, and one in which a step runs out of memory. Gives the next batch of the worker. May wait.
     pub fn play(

@@ -1,6 +1,6 @@
 //! An actor's core with what the actor knows of its records.
 
-ghost use Rattle.std.specs.Prelude.{◌≡◌, ◌↔◌, ◌<◌, ℕ, [], true, false, IsTrue, MatchBool};
+ghost use Rattle.std.specs.Prelude.{◌≡◌, ◌↔◌, ◌<◌, ℕ, [], true, false, IfSome, IsTrue, MatchBool};
 ghost use Rattle.nz_machine.specs.Schedule.{group_of};
 ghost use Rattle.nz_machine.specs.Step.{first_node};
 ghost use Rattle.nz_fabric.specs.Records.{steps_of};
@@ -8,7 +8,7 @@ ghost use Rattle.nz_fabric.specs.Shared.{with_record, ClosesAndTakes, ClosesBatc
 ghost use Rattle.nz_fabric.specs.Shared.{next_item, with_next, with_stop, HasNext};
 ghost use Rattle.nz_fabric.specs.States.{records_of};
 ghost use Rattle.nz_fabric.specs.Steps.{sends_after};
-ghost use Rattle.nz_actor.specs.Actings.{sends_in, with_batch, with_item, IsStopped};
+ghost use Rattle.nz_actor.specs.Actings.{sends_in, with_batch, with_item, IsStopped, IsThere};
 
 use crate::steps::step_all;
 use nz_base::NoMemory;
@@ -155,5 +155,26 @@ impl<N: Name, C: Core> ActorState<N, C> {
         };
         self.ready = fabric.record_next(sends, &mut self.lane);
         self.ready
+    }
+}
+
+impl<N: Name, C: Core + Drop> ActorState<N, C> {
+    /// The core, where all of its actor's records led it to its state.
+    pub fn into_core(self, fabric: &FabricState<N>) -> Option<C>
+        ensures fits { IfSome result (λ core. C.fits core (group_of N.scenario)) }
+        ensures there { IfSome result (λ core. IsThere (group_of N.scenario)
+            (steps_of (C.meaning core).actor (records_of fabric.now.run)) (C.meaning core) (C.live core)) }
+    {
+        let ActorState {
+            core,
+            lane,
+            ready,
+            ..
+        } = self;
+        if ready && fabric.is_seen_by(&lane) {
+            Some(core)
+        } else {
+            None
+        }
     }
 }

@@ -1,8 +1,9 @@
 -- The counts of a run's records, and what each record sends.
-use Rattle.std.proofs.Common.{◌≡◌, ◌≢◌, ℕ, zero, suc, ◌+◌, ◌<◌, Bool, true, false, cond, List, [], ◌∷◌, ◌++◌}
+use Rattle.std.proofs.Common.{◌≡◌, ◌≢◌, ◌↔◌, ℕ, zero, suc, ◌+◌, ◌<◌, Bool, true, false, cond, List, [], ◌∷◌, ◌++◌}
 use Rattle.std.proofs.Common.{length, refl, sym, ap, ◌∙◌, subst, arith}
-use Rattle.std.specs.Prelude.{get_or, slice_set, replicate, reverse}
-use Rattle.std.proofs.lemmas.Bool.{cond_both}
+use Rattle.std.specs.Prelude.{◌==◌, get_or, slice_set, replicate, reverse, IsTrue}
+use Rattle.std.proofs.lemmas.Bool.{cond_both, eqb-true}
+use Rattle.std.proofs.lemmas.Bool.Decides.{nat_tests}
 use Rattle.std.proofs.lemmas.List.{get_or-set_same, get_or-set_other, get_or_default, length-replicate, length-set, reverse-append}
 use mathlib.Core.List.{IsPrefix}
 use Rattle.nz_base.proofs.Names.{actor_eq_self, same_actor}
@@ -17,7 +18,7 @@ use Rattle.nz_machine.proofs.Runs.{acts, stays}
 use Rattle.nz_fabric.specs.Calendars.{number_in_all}
 use Rattle.nz_fabric.specs.Records.{ActorSteps, of_actor, steps_of, AreCounts}
 use Rattle.nz_fabric.specs.Steps.{AreSteps, sends_after}
-use Rattle.nz_fabric.proofs.Prefixes.{same_part}
+use Rattle.nz_fabric.proofs.Prefixes.{same_part, same_parts}
 
 -- ---- each actor has a number of its own
 
@@ -79,6 +80,24 @@ all_seen records seen a b prefix same many =
     (many ∙ ap (λ (x : Actor). length (of_actor x (reverse records))) same))
     ∙ ap (λ (x : Actor). steps_of x (reverse records)) (sym same)
 
+-- of two prefixes of one chronicle, the one has all of an actor's records in the other exactly if it has as many
+pub all_seen_if : (records seen whole : List Record) (a : Actor) (own : ActorSteps) (known count : ℕ) → IsPrefix records whole → IsPrefix seen whole
+    → steps_of a (reverse seen) ≡ own → known ≡ length (of_actor a (reverse seen)) → count ≡ length (of_actor a (reverse records))
+    → IsTrue (known == count) ↔ (own ≡ steps_of own.actor (reverse records))
+all_seen_if records seen whole a own known count p q is knows counted =
+    let same : a ≡ own.actor = ap (λ (x : ActorSteps). x.actor) is in (
+      (λ e.
+          let many : known ≡ count = eqb-true known count e in
+          sym is
+          ∙ ap (λ (rs : List Record). let s : ActorSteps = record { actor = a; steps = rs } in s)
+          (same_parts (λ (r : Record). actor_eq r.actor a) seen records whole q p (sym knows ∙ many ∙ counted))
+          ∙ ap (λ (x : Actor). steps_of x (reverse records)) same),
+      (λ e.
+          let all : steps_of a (reverse seen) ≡ steps_of a (reverse records) = is ∙ e ∙ ap (λ (x : Actor). steps_of x (reverse records)) (sym same) in
+          let many : known ≡ count = knows ∙ ap (λ (x : ActorSteps). length x.steps) all ∙ sym counted in
+          grind (arith, nat_tests)),
+    )
+
 pub own_pushed : (records : List Record) (r : Record) (a : Actor) → r.actor ≡ a
     → of_actor a (reverse (records ++ r ∷ [])) ≡ r ∷ of_actor a (reverse records)
 own_pushed records r a same =
@@ -96,7 +115,7 @@ counts_pushed J counts i n r h at lt more =
     })
 
 -- an actor has the state that its own records lead it to
-own_state : (g : Group) (a : Actor) (J : List Record) → state_after g a (of_actor a J) ≡ state_after g a J
+pub own_state : (g : Group) (a : Actor) (J : List Record) → state_after g a (of_actor a J) ≡ state_after g a J
 own_state g a [] = refl
 own_state g a (r ∷ J) =
     let own = of_actor a J in

@@ -356,6 +356,13 @@ impl<N: Name> FabricState<N> {
         self.records.lane(actor)
     }
 
+    /// Whether an actor has seen all of its records.
+    pub fn is_seen_by(&self, lane: &Lane<N>) -> bool
+        ensures { IsTrue result ↔ (lane.now ≡ steps_of lane.now.actor (records_of self.now.run)) }
+    {
+        self.records.is_seen_by(lane)
+    }
+
     /// The scenario and the records, once the last tick was done.
     pub fn into_journal(self) -> Result<Journal, NoMemory>
         requires over { IsOver self }

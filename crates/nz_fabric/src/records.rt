@@ -1,6 +1,6 @@
 //! The records of a run, and how many each actor has.
 
-ghost use Rattle.std.specs.Prelude.{◌≡◌, ◌+◌, ◌<◌, ◌≤◌, ◌^◌, ◌∷◌, ◌++◌, [], length, reverse, replicate, MatchBool, IfOk, OnOk};
+ghost use Rattle.std.specs.Prelude.{◌≡◌, ◌+◌, ◌<◌, ◌≤◌, ◌^◌, ◌∷◌, ◌++◌, [], ◌↔◌, length, reverse, replicate, IsTrue, MatchBool, IfOk, OnOk};
 ghost use Rattle.nz_machine.specs.Schedule.{group_of};
 ghost use Rattle.nz_fabric.specs.Calendars.{number_in_all};
 ghost use Rattle.nz_fabric.specs.Records.{steps_of, with_step, AddsSome};
@@ -102,6 +102,15 @@ impl<N: Name> Records<N> {
             count: self.counts[place_of(actor)],
             seen: self.seen.again(),
         }
+    }
+
+    /// Whether an actor has seen all of its records.
+    pub fn is_seen_by(&self, lane: &Lane<N>) -> bool
+        ensures { IsTrue result ↔ (lane.now ≡ steps_of lane.now.actor (reverse self.now.records)) }
+    {
+        // What the actor has seen and what was recorded are prefixes of one chronicle.
+        let _ = self.seen.both(&lane.seen);
+        lane.count == self.counts[place_of(lane.actor)]
     }
 
     /// The record is the last of all where its actor has seen all of its earlier ones. Where it has not, nothing changes.
