@@ -8,4 +8,5 @@ pub mod AllCores
 pub mod Replaying
 pub mod DealtShares
 pub mod FirstCores
+pub mod LastCores
 mod Settling

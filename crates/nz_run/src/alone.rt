@@ -4,13 +4,15 @@ ghost use Rattle.std.specs.Prelude.{◌≡◌, ◌+◌, ◌<◌, length, MatchBo
 ghost use Rattle.nz_machine.specs.Journals.{group_in, run_in};
 ghost use Rattle.nz_machine.specs.Schedule.{InOrder, IsPlayable};
 ghost use Rattle.nz_machine.specs.World.{World};
+ghost use Rattle.nz_base.specs.Cluster.{replica_count};
 ghost use Rattle.nz_fabric.specs.States.{IsDone, IsQuiet};
+ghost use Rattle.nz_replica.specs.Models.{AreCores};
 ghost use Rattle.nz_run.specs.Casts.{IsUnderWay};
 
 use crate::cast::Cast;
+use crate::played::Played;
 use nz_base::{NoMemory, Scenario, TryCopy};
 use nz_fabric::Alone;
-use nz_machine::Journal;
 use std::alloc::Global;
 
 /// Plays the next due item of the tick. False where there is none left.
@@ -51,17 +53,22 @@ fn play_tick(alone: &mut Alone, cast: &mut Cast) -> Result<(), NoMemory>
     Ok(())
 }
 
-/// The journal of a run on one thread.
-pub fn run_alone(alloc: Global, scenario: &Scenario) -> Result<Journal, NoMemory>
+/// A run on one thread, with its replicas.
+pub fn run_alone(alloc: Global, scenario: &Scenario) -> Result<Played, NoMemory>
     requires { IsPlayable scenario.now }
-    ensures scenario { IfOk result (λ journal. journal.scenario ≡ scenario.now) }
-    ensures in_order { IfOk result (λ journal. InOrder scenario.now (run_in journal)) }
-    ensures world { IfOk result (λ journal. World (group_in journal) (run_in journal)) }
+    ensures scenario { IfOk result (λ played. played.journal.scenario ≡ scenario.now) }
+    ensures in_order { IfOk result (λ played. InOrder scenario.now (run_in played.journal)) }
+    ensures world { IfOk result (λ played. World (group_in played.journal) (run_in played.journal)) }
+    ensures replicas { IfOk result (λ played. AreCores (group_in played.journal) (run_in played.journal) played.replicas.items) }
+    ensures all { IfOk result (λ played. length played.replicas.items ≡ replica_count scenario.now.cluster) }
 {
     let mut cast = Cast::new(alloc, scenario)?;
     let mut alone = Alone::new(alloc, scenario.copy(alloc)?)?;
     'ticks: while alone.next_tick()? {
         play_tick(&mut alone, &mut cast)?;
     }
-    Ok(alone.into_journal())
+    Ok(Played {
+        journal: alone.into_journal(),
+        replicas: cast.into_replicas(),
+    })
 }

@@ -9,6 +9,7 @@ ghost use Rattle.nz_machine.specs.Replicas.{numbers_below};
 ghost use Rattle.nz_machine.specs.Schedule.{group_of, IsPlayable};
 ghost use Rattle.nz_machine.specs.State.{Group};
 ghost use Rattle.nz_machine.specs.World.{IsMember};
+ghost use Rattle.nz_replica.specs.Models.{AreCores};
 ghost use Rattle.nz_run.specs.Casts.{AreAt, IsCast, record_of, sends_of, new_replica, new_proxy, new_client};
 
 use nz_base::{Actor, NoMemory, Scenario, TryCopy};
@@ -104,5 +105,14 @@ impl Cast {
             Actor::Proxy(number) => step_at(&mut self.proxies, number, event),
             Actor::Client(number) => step_at(&mut self.clients, number, event),
         }
+    }
+
+    /// The replicas, by their numbers.
+    pub fn into_replicas(self) -> Vec<Replica>
+        ensures cores { (g : Group) (J : List Record) → IsCast g J self → AreCores g J result.items }
+        ensures all { length result.items ≡ length self.replicas.items }
+    {
+        let Cast { replicas, .. } = self;
+        replicas
     }
 }

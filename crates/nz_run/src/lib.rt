@@ -5,10 +5,12 @@ mod alone;
 mod cast;
 #[cfg(test)]
 mod gate_tests;
+mod played;
 mod shares;
 mod stage;
 mod threads;
 mod workers;
 
 pub use alone::run_alone;
+pub use played::Played;
 pub use threads::run;

@@ -1,8 +1,9 @@
 //! All actors, each under its own lock.
 
-ghost use Rattle.std.specs.Prelude.{◌≡◌, ◌+◌, ◌<◌, [], All};
+ghost use Rattle.std.specs.Prelude.{◌≡◌, ◌+◌, ◌<◌, [], length, All, IfOk, IfSome};
 ghost use Rattle.nz_machine.specs.Schedule.{group_of, IsPlayable};
 ghost use Rattle.nz_fabric.specs.States.{records_of};
+ghost use Rattle.nz_replica.specs.Models.{AreCores, IsCore};
 ghost use Rattle.nz_run.specs.Stages.{HasNotStepped};
 ghost use Rattle.nz_fabric.specs.Shared.{ClosesAndTakes, ClosesBatch, PlaysNext};
 
@@ -104,6 +105,21 @@ fn settle_at<N: Name, C: Core>(
     own.settle(batch, state, share);
 }
 
+/// The replica of a place, where all of its records led it to its state.
+fn replica_at<N: Name>(
+    cell: ActorCell<N, Replica>,
+    place: usize,
+    state: &FabricState<N>,
+) -> Option<Replica>
+    ensures { IfSome result (IsCore (group_of N.scenario) (records_of state.now.run) place) }
+{
+    let core = cell.into_state().into_core(state)?;
+    match core.actor() {
+        Actor::Replica(number) if usize::from(number) == place => Some(core),
+        _ => None,
+    }
+}
+
 impl<N: Name> Stage<N> {
     /// Actors that have not stepped.
     pub fn new(
@@ -189,5 +205,23 @@ impl<N: Name> Stage<N> {
             Actor::Proxy(place) => settle_at(&mut self.proxies, place, batch, state, share),
             Actor::Client(place) => settle_at(&mut self.clients, place, batch, state, share),
         }
+    }
+
+    /// The replicas, by their numbers, up to the first that has not all of its records.
+    pub fn into_replicas(
+        self,
+        alloc: Global,
+        state: &FabricState<N>,
+    ) -> Result<Vec<Replica>, NoMemory>
+        ensures { IfOk result (λ replicas. AreCores (group_of N.scenario) (records_of state.now.run) replicas.items) }
+    {
+        let mut replicas = Vec::new(alloc);
+        for cell in self.replicas {
+            let Some(replica) = replica_at(cell, replicas.len(), state) else {
+                break;
+            };
+            replicas.push(replica)?;
+        }
+        Ok(replicas)
     }
 }

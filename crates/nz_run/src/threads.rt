@@ -5,16 +5,18 @@ ghost use Rattle.nz_machine.specs.Journals.{group_in, run_in};
 ghost use Rattle.nz_machine.specs.Schedule.{InOrder, IsPlayable, Scheduled};
 ghost use Rattle.nz_machine.specs.World.{World};
 ghost use Rattle.nz_fabric.specs.Shared.{IsOver, IsWhole};
+ghost use Rattle.nz_base.specs.Cluster.{replica_count};
+ghost use Rattle.nz_replica.specs.Models.{AreCores};
 ghost use Rattle.nz_base.specs.declared.limits.TheConstants.{MAX_WORKERS};
 
 use crate::alone::run_alone;
+use crate::played::Played;
 use crate::shares::{deal, gather};
 use crate::stage::Stage;
 use crate::workers::work_all;
 use nz_base::{MAX_WORKERS, NoMemory, Scenario, TryCopy};
 use nz_edge::Gate;
 use nz_fabric::{Fabric, FabricState, Name, Opened, Share};
-use nz_machine::Journal;
 use std::alloc::Global;
 use std::marker::Brand;
 use std::sync::Wait;
@@ -95,14 +97,15 @@ fn run_named<N: Name + Send + Sync, R: Threads + Wait + Sync, G: Gate + Sync>(
     scenario: &Scenario,
     count: u8,
     gate: &G,
-) -> Result<Option<Journal>, NoMemory>
+) -> Result<Option<Played>, NoMemory>
     requires name { (blank.name ≡ N.name) × (blank.parts ≡ N.parts) × (blank.parts ≡ MAX_WORKERS) }
     requires chronicles { opened ≡ N.chronicles }
     requires scenario { scenario.now ≡ N.scenario }
     requires playable { IsPlayable scenario.now }
     requires count { (0 < count) × (count ≤ MAX_WORKERS) }
-    ensures { IfOk result (λ o. IfSome o (λ journal. (journal.scenario ≡ scenario.now)
-        × (Scheduled scenario.now (run_in journal) × World (group_in journal) (run_in journal)))) }
+    ensures run { IfOk result (λ o. IfSome o (λ played. (played.journal.scenario ≡ scenario.now)
+        × (Scheduled scenario.now (run_in played.journal) × World (group_in played.journal) (run_in played.journal)))) }
+    ensures replicas { IfOk result (λ o. IfSome o (λ played. AreCores (group_in played.journal) (run_in played.journal) played.replicas.items)) }
 {
     let (state, share) = FabricState::<N>::new(alloc, blank, opened, scenario.copy(alloc)?, count)?;
     let mut stage = Stage::<N>::new(alloc, scenario, &state)?;
@@ -110,7 +113,9 @@ fn run_named<N: Name + Send + Sync, R: Threads + Wait + Sync, G: Gate + Sync>(
     let Some(state) = finish_all(rt, state, share, &mut stage)? else {
         return Ok(None);
     };
-    Ok(Some(state.into_journal()?))
+    let replicas = stage.into_replicas(alloc, &state)?;
+    let journal = state.into_journal()?;
+    Ok(Some(Played { journal, replicas }))
 }
 
 /// As many of the workers as can have something to do: one worker does an actor's items of a tick.
@@ -126,21 +131,23 @@ fn useful(workers: u8, scenario: &Scenario) -> u8
     workers.min(actors.max(1))
 }
 
-/// The journal of a run by this many workers, whichever does what. It may be done anew on one thread, and is with one
-/// worker. May wait.
+/// A run by this many workers, whichever does what. It may be done anew on one thread, and is with one worker. With
+/// several workers the last replicas, or all, may be missing. May wait.
 pub fn run<R: Threads + Wait + Sync, G: Gate + Sync>(
     rt: &R,
     alloc: Global,
     scenario: &Scenario,
     workers: u8,
     gate: &G,
-) -> Result<Journal, NoMemory>
+) -> Result<Played, NoMemory>
     requires playable { IsPlayable scenario.now }
     requires workers { (0 < workers) × (workers ≤ MAX_WORKERS) }
-    ensures scenario { IfOk result (λ journal. journal.scenario ≡ scenario.now) }
-    ensures scheduled { IfOk result (λ journal. Scheduled scenario.now (run_in journal)) }
-    ensures in_order { workers ≡ 1 → IfOk result (λ journal. InOrder scenario.now (run_in journal)) }
-    ensures world { IfOk result (λ journal. World (group_in journal) (run_in journal)) }
+    ensures scenario { IfOk result (λ played. played.journal.scenario ≡ scenario.now) }
+    ensures scheduled { IfOk result (λ played. Scheduled scenario.now (run_in played.journal)) }
+    ensures in_order { workers ≡ 1 → IfOk result (λ played. InOrder scenario.now (run_in played.journal)) }
+    ensures world { IfOk result (λ played. World (group_in played.journal) (run_in played.journal)) }
+    ensures replicas { IfOk result (λ played. AreCores (group_in played.journal) (run_in played.journal) played.replicas.items) }
+    ensures all { workers ≡ 1 → IfOk result (λ played. length played.replicas.items ≡ replica_count scenario.now.cluster) }
 {
     if workers == 1 {
         return run_alone(alloc, scenario);
@@ -155,7 +162,7 @@ pub fn run<R: Threads + Wait + Sync, G: Gate + Sync>(
         useful(workers, scenario),
         gate,
     )? {
-        Some(journal) => Ok(journal),
+        Some(played) => Ok(played),
         None => run_alone(alloc, scenario),
     }
 }

@@ -1,17 +1,19 @@
 -- What the function of this folder owes, proved.
-use Rattle.std.proofs.Common.{◌≡◌, ◌∙◌, sym, subst}
+use Rattle.std.proofs.Common.{◌≡◌, ◌∙◌, List, sym, subst}
 use Rattle.nz_base.specs.declared.scenario.Scenario.{Scenario}
+use Rattle.nz_machine.specs.declared.event.Record.{Record}
 use Rattle.nz_machine.specs.Journals.{run_in}
 use Rattle.nz_machine.specs.Schedule.{group_of, Scheduled}
 use Rattle.nz_machine.specs.World.{World}
 use Rattle.nz_fabric.specs.Steps.{AreSteps}
+use Rattle.nz_replica.specs.Models.{AreCores}
 use Rattle.nz_run.proofs.Replaying.{world_now}
 use Rattle.nz_run.proofs.threads.run_named.Goals as goal
 
-pub returns : goal.returns
-returns g c =
-    let j = c.in_ok-into_journal.field-0 in
-    let known = c.in_ok-into_journal.ensures in
+pub returns-clause-run : goal.returns-clause-run
+returns-clause-run g c =
+    let j = c.in_ok-journal.journal in
+    let known = c.in_ok-journal.ensures in
     let name = sym c.requires.scenario in
     let s = c.args.scenario.now in
     let same : j.scenario ≡ s = known.scenario ∙ name in
@@ -24,3 +26,9 @@ returns g c =
             (world_now s s.ticks (run_in j) c.requires.playable scheduled steps),
       ),
     )
+
+pub returns-clause-replicas : goal.returns-clause-replicas
+returns-clause-replicas g c =
+    let known = c.in_ok-journal.ensures in
+    subst (λ (s : Scenario). AreCores (group_of s) (run_in c.in_ok-journal.journal) c.in_ok-replicas.replicas.items) (sym known.scenario)
+    (subst (λ (J : List Record). AreCores (group_of g.N.Name.scenario) J c.in_ok-replicas.replicas.items) (sym known.records) c.in_ok-replicas.ensures)
