@@ -76,6 +76,13 @@ impl Replica {
         self.state.view()
     }
 
+    /// Whether it leads its view in normal operation.
+    pub fn leads_view(&self) -> bool
+        ensures { IsTrue self.now.live → result ≡ replicas.leads_view self.now.f self.now.model.me self.now.model.state }
+    {
+        self.state.leads_view()
+    }
+
     pub fn commit(&self) -> u32
         ensures { result ≡ self.now.model.state.commit }
     {
