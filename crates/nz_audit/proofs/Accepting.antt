@@ -1,6 +1,6 @@
 -- An acceptance leads to its prefix, and the longest of them to the history.
 use Rattle.std.proofs.Common.{◌≡◌, ℕ, suc, ◌-◌, ◌<◌, List, [], ◌∷◌, ◌++◌, length, map, append_assoc, append-nil}
-use Rattle.std.proofs.Common.{zero, Option, Some, None, refl, sym, ap, subst, ◌∙◌, arith, ltb-true}
+use Rattle.std.proofs.Common.{zero, Option, Some, None, refl, sym, ap, subst, ◌∙◌, arith, ltb-true, inl}
 use Rattle.std.specs.Prelude.{nat_lt, slice_get}
 use Rattle.std.specs.List.{cons_option}
 use Rattle.std.specs.Option.{option_map, option_and_then, option_flatten}
@@ -13,6 +13,7 @@ use Rattle.nz_base.specs.declared.actor.Actor.TheVariants.{Replica, Proxy, Clien
 use Rattle.nz_base.specs.declared.key.Id.{Id}
 use Rattle.nz_base.specs.declared.key.Entry.{Entry}
 use Rattle.nz_base.specs.declared.scenario.Request.{Request}
+use Rattle.nz_base.specs.Moments.{At}
 use Rattle.nz_store.specs.declared.command.Answer.{Answer as AnswerModel}
 use Rattle.nz_msg.specs.declared.message.Path.{Path}
 use Rattle.nz_msg.specs.declared.envelope.Envelope.{Envelope}
@@ -28,7 +29,8 @@ use Rattle.nz_machine.specs.Journals.{group_in, run_in}
 use Rattle.nz_machine.specs.declared.client_progress.Acceptance.{Acceptance}
 use Rattle.nz_machine.specs.State.{ClientData, Group}
 use Rattle.nz_machine.specs.Step.{accepted_envelope, envelope_step, event_step, script_of}
-use Rattle.nz_machine.specs.World.{state_after, World, IsMember}
+use Rattle.nz_machine.specs.World.{state_after, Has, World, IsMember}
+use Rattle.nz_machine.specs.Leading.{lead}
 use Rattle.nz_machine.specs.Events.{ClientEvent, Accepted, id_at, read_in, accepted_in, accepted_by, sent_after, sent_by, client_events, events}
 use Rattle.nz_machine.specs.ClientProgress.{acceptance_events, request_events}
 use Rattle.nz_machine.specs.History.{ReplySource, source, log_at, cut_after, source_of_sender, accepted_source}
@@ -37,10 +39,14 @@ use Rattle.nz_machine.proofs.EachItem.{all_append}
 use Rattle.nz_machine.proofs.Moments.{at_world}
 use Rattle.nz_machine.proofs.Runs.{acts_itself}
 use Rattle.nz_machine.proofs.Accepting.{client_accepts}
+use Rattle.nz_laws_commit.proofs.Accepted.{same_parcel, gives}
+use Rattle.nz_laws_commit.proofs.ClientEvents.{told_accepted}
+use Rattle.nz_laws_commit.proofs.Whole.{after_newer}
 use Rattle.nz_audit.specs.declared.source.Source.{Source}
 use Rattle.nz_audit.specs.Sources.{numbers_of, in_numbers, about_message, about, source_sent, stands_for, delivered_source}
 use Rattle.nz_audit.specs.Cores.{run_up_to}
 use Rattle.nz_audit.specs.Prefixes.{prefix_for, longest_from, requests_sent, accepted_at, with_accepted, with_source, source_by, traced, all_traced}
+use Rattle.nz_audit.specs.Leading.{RepliesIn}
 use Rattle.nz_audit.specs.Prefixes.{Brings, IsAccepted, IsWithin, GiveHistory, AreAccepted}
 use Rattle.nz_audit.specs.declared.source.AcceptedAt.{AcceptedAt}
 use Rattle.nz_audit.specs.declared.source.AcceptedAnswer.{AcceptedAnswer}
@@ -49,6 +55,7 @@ use Rattle.nz_audit.proofs.Longest.{longer_stays, longest_append, order_later, o
 use Rattle.nz_audit.proofs.Sent.{prefix_few}
 use Rattle.nz_audit.proofs.Hearing.{is_received, about_heard}
 use Rattle.nz_audit.proofs.Reached.{accepted_reached, at_later}
+use Rattle.nz_audit.proofs.LedPrefixes.{prefix_led}
 
 -- ---- an accepted answer with its source
 
@@ -67,10 +74,18 @@ record IsPart (journal : Journal) (J : List Record) : Type 0 where
   newer : List Record
   whole : run_in journal ≡ newer ++ J
 
+part_at : (journal : Journal) (J : List Record) → IsPart journal J → At (run_in journal) J
+part_at journal J part = subst (λ (l : List Record). At l J) (sym part.whole) (after_newer part.newer J)
+
+-- the log that the leader of the last replies' view leads with in the end has the sender's log up to the entry
+abbrev IsLed : Journal → Id → Actor → List Record → Type 0
+IsLed journal id a K = (v : ℕ) → RepliesIn v K
+    → cut_after id (lead (group_in journal) v (run_in journal)) ≡ cut_after id (log_at (group_in journal) a K)
+
 from_sender : (journal : Journal) (J later K : List Record) (x : AcceptedAt) (a : Actor) → IsPart journal J → J ≡ later ++ K
-    → World (group_in journal) K → IsMember (group_in journal) a → x.sent ≡ requests_sent (events (group_in journal) J)
+    → World (group_in journal) K → IsMember (group_in journal) a → x.sent ≡ requests_sent (events (group_in journal) J) → IsLed journal x.id a K
     → Gives journal x.place (cut_after x.id (log_at (group_in journal) a K)) (with_source (numbers_of a K) x)
-from_sender journal J later K x (Replica m) part split w member count =
+from_sender journal J later K x (Replica m) part split w member count led =
     let g = group_in journal in
     let whole : run_in journal ≡ (part.newer ++ later) ++ K =
     part.whole ∙ ap (λ (l : List Record). part.newer ++ l) split ∙ sym (append_assoc part.newer later K) in
@@ -80,21 +95,27 @@ from_sender journal J later K x (Replica m) part split w member count =
     ap (λ (l : List Record). length (cut_after x.id (log_at g (Replica m) l))) (sym run) in
     record {
       prefix = ap (λ (l : List Record). cut_after x.id (log_at g (Replica m) l)) run;
-      within = record { replica = member; records = run_within journal (part.newer ++ later) K (length K) whole refl; sent = omega (arith, few, long, count) };
+      within = record {
+        replica = member;
+        records = run_within journal (part.newer ++ later) K (length K) whole refl;
+        sent = omega (arith, few, long, count);
+        led = subst (IsLed journal x.id (Replica m)) run led;
+      };
       at = refl;
     }
-from_sender journal J later K x (Proxy p) part split w member count = refl
-from_sender journal J later K x (Client c) part split w member count = refl
+from_sender journal J later K x (Proxy p) part split w member count led = refl
+from_sender journal J later K x (Client c) part split w member count led = refl
 
 from_source : (journal : Journal) (J : List Record) (x : AcceptedAt) (p : Parcel) (o : Option ReplySource) → IsPart journal J
     → World (group_in journal) J → x.sent ≡ requests_sent (events (group_in journal) J) → accepted_source (group_in journal) x.id p J ≡ o
+    → ((at : ReplySource) → o ≡ Some at → IsLed journal x.id at.sender at.run)
     → Gives journal x.place (entries_or (option_map (prefix_at_source (group_in journal) x.id) o)) (with_source (in_numbers o) x)
-from_source journal J x p None part w count e = refl
-from_source journal J x p (Some at) part w count e =
+from_source journal J x p None part w count e led = refl
+from_source journal J x p (Some at) part w count e led =
     let g = group_in journal in
     let h = accepted_reached g x.id p J at w e in
     let t = at_later J at.run h.moment in
-    from_sender journal J t.0 at.run x at.sender part t.1 (at_world g J at.run w h.moment) h.member count
+    from_sender journal J t.0 at.run x at.sender part t.1 (at_world g J at.run w h.moment) h.member count (led at refl)
 
 -- ---- which request an accepted answer is to
 
@@ -177,22 +198,36 @@ no_prefix : (g : Group) (sent : List Id) (e : Event) (J : List Record) → prefi
 no_prefix g [] e J = refl
 no_prefix g (id ∷ ids) e J = refl
 
+-- the source of an answer that is accepted
+source_led : (journal : Journal) (r : Record) (J : List Record) (id : Id) (answer : AnswerModel) (path : Path) (rest : List ClientEvent) (p : Parcel)
+    → World (group_in journal) (run_in journal) → World (group_in journal) (r ∷ J) → At (run_in journal) J → r.event ≡ Deliver p
+    → Accepted id answer path ∷ rest ≡ client_events (group_in journal) r.actor r J
+    → (at : ReplySource) → accepted_source (group_in journal) id p J ≡ Some at → IsLed journal id at.sender at.run
+source_led journal r J id answer path rest p world w moment is told at from =
+    let g = group_in journal in
+    let event = Accepted id answer path in
+    let t = gives g r J id answer path w (told_accepted g r J id answer path (subst (λ (l : List ClientEvent). Has l event) told (inl refl))) in
+    let parcel : p ≡ t.parcel = same_parcel p t.parcel (sym is ∙ t.event) in
+    let same : t.source ≡ at = same_Some t.source at (sym t.leads ∙ ap (λ (q : Parcel). accepted_source g id q J) (sym parcel) ∙ from) in
+    subst (λ (s : ReplySource). IsLed journal id s.sender s.run) same (λ v replies. prefix_led g (run_in journal) r J id answer v world moment t replies)
+
 accepts_at : (journal : Journal) (r : Record) (J : List Record) (x : AcceptedAt) (answer : AnswerModel) (path : Path) (rest : List ClientEvent)
-    (e : Event) → World (group_in journal) (r ∷ J) → IsPart journal J → r.event ≡ e
+    (e : Event) → World (group_in journal) (run_in journal) → World (group_in journal) (r ∷ J) → IsPart journal J → r.event ≡ e
     → Accepted x.id answer path ∷ rest ≡ client_events (group_in journal) r.actor r J
     → x.sent ≡ requests_sent (events (group_in journal) J)
     → Gives journal x.place (prefix_in (group_in journal) (Accepted x.id answer path ∷ rest) e J)
     (with_source (delivered_source (group_in journal) J e) x)
-accepts_at journal r J x answer path rest (Deliver p) w part is told count =
+accepts_at journal r J x answer path rest (Deliver p) world w part is told count =
     let g = group_in journal in
     let begins = told_by_actor g r.actor r J p x.id refl is (subst (λ (l : List ClientEvent). Begins l x.id) told refl) in
     subst (λ (s : Option Source). Gives journal x.place (entries_or (accepted_prefix g x.id p J)) (with_source s x))
-    (sym (source_is_accepted g J p x.id begins)) (from_source journal J x p (accepted_source g x.id p J) part w.1 count refl)
-accepts_at journal r J x answer path rest (Cut p kept) w part is told count = refl
-accepts_at journal r J x answer path rest (Tick clock) w part is told count = refl
-accepts_at journal r J x answer path rest Alarm w part is told count = refl
-accepts_at journal r J x answer path rest Crash w part is told count = refl
-accepts_at journal r J x answer path rest (Restart nonce) w part is told count = refl
+    (sym (source_is_accepted g J p x.id begins)) (from_source journal J x p (accepted_source g x.id p J) part w.1 count refl
+    (source_led journal r J x.id answer path rest p world w (part_at journal J part) is told))
+accepts_at journal r J x answer path rest (Cut p kept) world w part is told count = refl
+accepts_at journal r J x answer path rest (Tick clock) world w part is told count = refl
+accepts_at journal r J x answer path rest Alarm world w part is told count = refl
+accepts_at journal r J x answer path rest Crash world w part is told count = refl
+accepts_at journal r J x answer path rest (Restart nonce) world w part is told count = refl
 
 -- what its record delivers is about its request
 brings_at : (g : Group) (r : Record) (J : List Record) (id : Id) (answer : AnswerModel) (path : Path) (rest : List ClientEvent) (e : Event)
@@ -238,6 +273,7 @@ traced_more journal answers a = filter_map-append (traced journal) answers (a �
 pub record IsAt (journal : Journal) (place : ℕ) (r : Record) : Type 0 where
   pub there : place < length journal.records
   pub at : slice_get journal.records place ≡ Some r
+  pub run : World (group_in journal) (run_in journal)
   pub world : World (group_in journal) (r ∷ run_up_to journal place)
   pub newer : List Record
   pub whole : run_in journal ≡ newer ++ (r ∷ run_up_to journal place)
@@ -273,7 +309,7 @@ one_accepted journal place r a ids answers sent is told count h =
     let gives : Gives journal (length J) (prefix_in g (Accepted a.id a.answer a.path ∷ rest) r.event J) (traced journal x) =
     subst (λ (n : ℕ). Gives journal n (prefix_in g (Accepted a.id a.answer a.path ∷ rest) r.event J) (traced journal x)) (sym long)
     (subst (Gives journal place (prefix_in g (Accepted a.id a.answer a.path ∷ rest) r.event J)) (sym own)
-    (accepts_at journal r J x a.answer a.path rest r.event is.world part refl told count)) in
+    (accepts_at journal r J x a.answer a.path rest r.event is.run is.world part refl told count)) in
     let brings = brings_at g r J a.id a.answer a.path rest r.event refl told in
     record {
       each = all_append (IsAccepted journal) answers (x ∷ []) h.each (

@@ -60,6 +60,7 @@ is_at journal k r w at =
     record {
       there = lt;
       at = at;
+      run = w;
       world = next.world;
       newer = next.newer;
       whole = next.whole;

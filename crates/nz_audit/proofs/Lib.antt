@@ -13,6 +13,7 @@ pub mod Acting
 pub mod Runs
 pub mod Sent
 pub mod Longest
+pub mod LedPrefixes
 pub mod Accepting
 pub mod Found
 pub mod Rounds

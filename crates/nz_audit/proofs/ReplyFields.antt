@@ -113,7 +113,7 @@ decoded_ok : (me : Actor) (p : Parcel) (d : Result Envelope DecodeRefusal) (e : 
 decoded_ok me p (Err refusal) e h = absurd (none-some e h)
 decoded_ok me p (Ok found) e h = ap Ok (cond_some (is_for me p found) found e h).1
 
-decoded_of : (me : Actor) (p : Parcel) (e : Envelope) → envelope_for me p ≡ Some e → decode_of p.frame ≡ Ok e
+pub decoded_of : (me : Actor) (p : Parcel) (e : Envelope) → envelope_for me p ≡ Some e → decode_of p.frame ≡ Ok e
 unfolding envelope_for
 decoded_of me p e h = decoded_ok me p (decode_of p.frame) e h
 

@@ -12,7 +12,8 @@ use Rattle.nz_machine.specs.declared.event.Event.TheVariants.{Deliver, Cut, Tick
 use Rattle.nz_machine.specs.declared.event.Record.{Record}
 use Rattle.nz_machine.specs.declared.journal.Journal.{Journal}
 use Rattle.nz_machine.specs.declared.client_progress.Acceptance.{Acceptance}
-use Rattle.nz_machine.specs.Journals.{group_in}
+use Rattle.nz_machine.specs.Journals.{group_in, run_in}
+use Rattle.nz_machine.specs.Leading.{lead}
 use Rattle.nz_machine.specs.Events.{ClientEvent, Sent}
 use Rattle.nz_machine.specs.Events as events
 use Rattle.nz_machine.specs.History.{log_at, cut_after, longer, history}
@@ -24,6 +25,7 @@ use Rattle.nz_audit.specs.declared.source.Counted.{Counted}
 use Rattle.nz_audit.specs.declared.searching.Search.{Search}
 use Rattle.nz_audit.specs.Sources.{about, delivered_source}
 use Rattle.nz_audit.specs.Cores.{run_up_to, IsReplayed}
+use Rattle.nz_audit.specs.Leading.{RepliesIn}
 
 -- ---- accepted answers, with their sources
 
@@ -93,11 +95,17 @@ abbrev pub AreInOrder : ℕ → ℕ → List AcceptedAnswer → Type 0
 AreInOrder n end [] = n ≤ end
 AreInOrder n end (a ∷ xs) = (n ≤ a.place) × AreInOrder (suc a.place) end xs
 
--- The source is one in the journal, and the prefix has at most as many entries as requests were sent.
+-- The log has the prefix of the answer, up to and with the entry of its request.
+abbrev pub HasPrefix : Journal → AcceptedAnswer → List Entry → Type 0
+HasPrefix journal a log = cut_after a.id log ≡ prefix_for journal a
+
+-- The source is one in the journal. The prefix has at most as many entries as requests were sent. It is the beginning
+-- of the log that the leader of the view of the source's replies leads with in the end.
 pub record IsWithin (journal : Journal) (a : AcceptedAnswer) : Type 0 where
   pub replica : a.source.replica < replica_count (group_in journal).f
   pub records : a.source.records ≤ length journal.records
   pub sent : length (prefix_for journal a) ≤ a.sent
+  pub led : (v : ℕ) → RepliesIn v (run_up_to journal a.source.records) → HasPrefix journal a (lead (group_in journal) v (run_in journal))
 
 -- The history is the longest of the prefixes of these, which are in the order in which they were accepted.
 pub record GiveHistory (journal : Journal) (J : List Record) (accepted : List AcceptedAnswer) : Type 0 where

@@ -1,30 +1,64 @@
 //! The history of a journal.
 
-ghost use Rattle.std.specs.Prelude.{◌≡◌, IfOk};
-ghost use Rattle.nz_machine.specs.Journals.{group_in, run_in, history_in};
+ghost use Rattle.std.specs.Prelude.{◌≡◌, length, IfOk, IfSome};
+ghost use Rattle.nz_machine.specs.Journals.{group_in, run_in, executed_entries, history_in};
 ghost use Rattle.nz_machine.specs.World.{World};
+ghost use Rattle.nz_replica.specs.Models.{AreCores};
+ghost use Rattle.nz_audit.specs.Cores.{IsReplayed};
+ghost use Rattle.nz_audit.specs.Prefixes.{prefix_for, IsWithin};
 
 use super::executing::execute;
-use super::replaying::replay;
+use super::leading::log_since;
+use super::replaying::{Replayed, replay};
 use super::searching::longest_of;
+use super::source::Counted;
 use super::telling::accepted_in;
 use nz_base::NoMemory;
 use nz_machine::{History, Journal};
+use nz_replica::Replica;
 use std::alloc::Global;
+
+/// The prefix of the answer, with what one store that executes it answers. Its replica is replayed up to the source
+/// only where it does not lead the view of its reply to the end of the run. The replay goes on from this one.
+fn executed(
+    alloc: Global,
+    journal: &Journal,
+    replicas: &[Replica],
+    at: Option<Replayed>,
+    best: Counted,
+) -> Result<History, NoMemory>
+    requires within { IsWithin journal.now best.accepted }
+    requires counted { best.entries ≡ length (prefix_for journal.now best.accepted) }
+    requires replicas { AreCores (group_in journal.now) (run_in journal.now) replicas.now }
+    requires at { IfSome at (IsReplayed journal.now) }
+    ensures { IfOk result (λ history. history ≡ executed_entries (prefix_for journal.now best.accepted)) }
+{
+    if let Some(log) = log_since(alloc, journal, replicas, &best.accepted)? {
+        return execute(alloc, log, best.entries);
+    }
+    let replayed = replay(alloc, journal, at, best.accepted.source)?;
+    execute(alloc, replayed.core.log(), best.entries)
+}
 
 /// The history of the journal's run, with what the one store that executes it answers. It is the longest of
 /// the prefixes that the clients' acceptances lead back to. Only those are looked for that may be the longest.
-pub fn history_of(alloc: Global, journal: &Journal) -> Result<History, NoMemory>
-    requires { World (group_in journal.now) (run_in journal.now) }
+///
+/// The replicas are those of the run as they are after its last record, or the first of them, or none. A prefix is read
+/// off the log of the replica that answered, where that leads the same view to the end. Where it does not, or is not
+/// given, the replica is replayed from the journal up to its answer, which takes about as long as the run took it.
+pub fn history_of(
+    alloc: Global,
+    journal: &Journal,
+    replicas: &[Replica],
+) -> Result<History, NoMemory>
+    requires world { World (group_in journal.now) (run_in journal.now) }
+    requires replicas { AreCores (group_in journal.now) (run_in journal.now) replicas.now }
     ensures { IfOk result (λ history. history ≡ history_in journal.now) }
 {
     let accepted = accepted_in(alloc, journal)?;
-    let found = longest_of(alloc, journal, accepted)?;
+    let found = longest_of(alloc, journal, replicas, accepted)?;
     match found.best {
         None => Ok(History::new(alloc)),
-        Some(best) => {
-            let replayed = replay(alloc, journal, found.at, best.accepted.source)?;
-            execute(alloc, replayed.core.log(), best.entries)
-        }
+        Some(best) => executed(alloc, journal, replicas, found.at, best),
     }
 }

@@ -4,6 +4,7 @@
 mod executing;
 mod fields;
 mod history;
+mod leading;
 mod noting;
 mod proxy;
 mod reading;

@@ -6,15 +6,18 @@ ghost use Rattle.nz_machine.specs.History.{cut_after};
 ghost use Rattle.nz_machine.specs.Journals.{group_in, run_in};
 ghost use Rattle.nz_machine.specs.World.{World};
 ghost use Rattle.nz_audit.specs.declared.source.AcceptedAnswer.{AcceptedAnswer as AcceptedModel};
-ghost use Rattle.nz_audit.specs.Prefixes.{all_traced, is_shorter, IsAccepted, IsWithin, IsFound};
+ghost use Rattle.nz_replica.specs.Models.{AreCores};
+ghost use Rattle.nz_audit.specs.Prefixes.{prefix_for, all_traced, is_shorter, IsAccepted, IsWithin, IsFound};
 ghost use Rattle.nz_audit.specs.Cores.{IsReplayed};
 
+use super::leading::log_since;
 use super::replaying::{Replayed, replay};
 use super::source::{AcceptedAnswer, AcceptedAt, Counted, longer};
 use super::tracing::trace;
 use nz_base::{Id, NoMemory};
 use nz_log::HashedLog;
 use nz_machine::Journal;
+use nz_replica::Replica;
 use std::alloc::Global;
 
 /// What a search has found.
@@ -78,14 +81,41 @@ impl Search {
         }
     }
 
+    /// How many entries the prefix has. The replica is replayed up to the source only where it does not lead the view
+    /// of its reply to the end of the run.
+    fn count(
+        &mut self,
+        alloc: Global,
+        journal: &Journal,
+        replicas: &[Replica],
+        next: &AcceptedAnswer,
+    ) -> Result<u32, NoMemory>
+        requires within { IsWithin journal.now next.now }
+        requires replicas { AreCores (group_in journal.now) (run_in journal.now) replicas.now }
+        requires at { IfSome self.old.at (IsReplayed journal.now) }
+        ensures at { OnOk result (IfSome self.new.at (IsReplayed journal.now)) }
+        ensures best { OnOk result (self.new.best ≡ self.old.best) }
+        ensures entries { IfOk result (λ entries. entries ≡ length (prefix_for journal.now next.now)) }
+    {
+        if let Some(log) = log_since(alloc, journal, replicas, next)? {
+            return Ok(entries_up_to(log, next.id));
+        }
+        let at = replay(alloc, journal, self.at.take(), next.source)?;
+        let entries = entries_up_to(at.core.log(), next.id);
+        self.at = Some(at);
+        Ok(entries)
+    }
+
     /// Counts the prefix, if it may be the longest.
     fn weigh(
         &mut self,
         alloc: Global,
         journal: &Journal,
+        replicas: &[Replica],
         next: &AcceptedAnswer,
     ) -> Result<(), NoMemory>
         requires within { IsWithin journal.now next.now }
+        requires replicas { AreCores (group_in journal.now) (run_in journal.now) replicas.now }
         requires at { IfSome self.old.at (IsReplayed journal.now) }
         ensures at { OnOk result (IfSome self.new.at (IsReplayed journal.now)) }
         ensures found { OnOk result ((done : List AcceptedModel) → IsFound journal.now done self.old → IsFound journal.now (done ++ next.now ∷ []) self.new) }
@@ -93,9 +123,7 @@ impl Search {
         if self.is_shorter(next.sent) {
             return Ok(());
         }
-        let at = replay(alloc, journal, self.at.take(), next.source)?;
-        let entries = entries_up_to(at.core.log(), next.id);
-        self.at = Some(at);
+        let entries = self.count(alloc, journal, replicas, next)?;
         let counted = Counted {
             accepted: *next,
             entries,
@@ -109,15 +137,17 @@ impl Search {
         &mut self,
         alloc: Global,
         journal: &Journal,
+        replicas: &[Replica],
         accepted: &[AcceptedAnswer],
     ) -> Result<(), NoMemory>
         requires within { AllByRecursion (IsWithin journal.now) accepted.now }
+        requires replicas { AreCores (group_in journal.now) (run_in journal.now) replicas.now }
         requires at { IfSome self.old.at (IsReplayed journal.now) }
         ensures at { OnOk result (IfSome self.new.at (IsReplayed journal.now)) }
         ensures found { OnOk result ((done : List AcceptedModel) → IsFound journal.now done self.old → IsFound journal.now (done ++ accepted.now) self.new) }
     {
         for next in accepted {
-            self.weigh(alloc, journal, next)?;
+            self.weigh(alloc, journal, replicas, next)?;
         }
         Ok(())
     }
@@ -127,9 +157,11 @@ impl Search {
         &mut self,
         alloc: Global,
         journal: &Journal,
+        replicas: &[Replica],
         answers: &[AcceptedAt],
     ) -> Result<(), NoMemory>
         requires world { World (group_in journal.now) (run_in journal.now) }
+        requires replicas { AreCores (group_in journal.now) (run_in journal.now) replicas.now }
         requires accepted { AllByRecursion (IsAccepted journal.now) answers.now }
         requires within { AllByRecursion (IsWithin journal.now) (all_traced journal.now answers.now) }
         requires at { IfSome self.old.at (IsReplayed journal.now) }
@@ -139,7 +171,7 @@ impl Search {
     {
         let mut accepted = trace(alloc, journal, answers)?;
         put_in_order(&mut accepted);
-        self.weigh_each(alloc, journal, accepted.as_slice())
+        self.weigh_each(alloc, journal, replicas, accepted.as_slice())
     }
 
     /// Counts those prefixes of these answers that may be the longest. The other answers are not traced.
@@ -147,9 +179,11 @@ impl Search {
         &mut self,
         alloc: Global,
         journal: &Journal,
+        replicas: &[Replica],
         answers: Vec<AcceptedAt>,
     ) -> Result<(), NoMemory>
         requires world { World (group_in journal.now) (run_in journal.now) }
+        requires replicas { AreCores (group_in journal.now) (run_in journal.now) replicas.now }
         requires accepted { AllByRecursion (IsAccepted journal.now) answers.items }
         requires within { AllByRecursion (IsWithin journal.now) (all_traced journal.now answers.items) }
         requires at { IfSome self.old.at (IsReplayed journal.now) }
@@ -158,7 +192,7 @@ impl Search {
     {
         let mut answers = answers;
         answers.retain(|next| !self.is_shorter(next.sent));
-        self.weigh_all(alloc, journal, answers.as_slice())
+        self.weigh_all(alloc, journal, replicas, answers.as_slice())
     }
 }
 
@@ -178,9 +212,11 @@ fn first_late(answers: &[AcceptedAt]) -> usize
 pub fn longest_of(
     alloc: Global,
     journal: &Journal,
+    replicas: &[Replica],
     answers: Vec<AcceptedAt>,
 ) -> Result<Search, NoMemory>
     requires world { World (group_in journal.now) (run_in journal.now) }
+    requires replicas { AreCores (group_in journal.now) (run_in journal.now) replicas.now }
     requires accepted { AllByRecursion (IsAccepted journal.now) answers.items }
     requires within { AllByRecursion (IsWithin journal.now) (all_traced journal.now answers.items) }
     ensures { IfOk result (λ found. IsFound journal.now (all_traced journal.now answers.items) found) }
@@ -189,8 +225,8 @@ pub fn longest_of(
     let mut others = answers;
     let place = first_late(others.as_slice());
     let (_, late) = others.as_slice().split_at(place);
-    found.weigh_all(alloc, journal, late)?;
+    found.weigh_all(alloc, journal, replicas, late)?;
     others.truncate(place);
-    found.weigh_others(alloc, journal, others)?;
+    found.weigh_others(alloc, journal, replicas, others)?;
     Ok(found)
 }

@@ -1,15 +1,18 @@
-//! A log that is executed up to an entry, and which prefix is the longest.
+//! A log that is executed up to an entry, which prefix is the longest, and whose log has it.
 
-ghost use Rattle.std.specs.Prelude.{◌≡◌, length, IfOk};
+ghost use Rattle.std.specs.Prelude.{◌≡◌, ◌<◌, length, IfOk};
 
 use super::executing::execute;
+use super::leading::{first_view, log_leading};
 use super::replaying::replay_one;
 use super::searching::entries_up_to;
 use super::source::{AcceptedAnswer, Counted, Source, longer};
 use bytes::BytesMut;
 use nz_base::{Actor, Blob, Cluster, Id};
+use nz_cv::CrashVector;
+use nz_digest::Digest;
 use nz_machine::{Core, Event, History, Parcel, Record, Sends, SharedParcel};
-use nz_msg::{Message, TimedBody, encode};
+use nz_msg::{FastReplyBody, Message, SlowReplyBody, TimedBody, encode};
 use nz_replica::Replica;
 use nz_store::Answer;
 use std::alloc::Global;
@@ -21,15 +24,13 @@ const GET_A: [u8; 3] = [2, 1, b'a'];
 
 const DEL_A: [u8; 3] = [3, 1, b'a'];
 
-// The message comes from the proxy.
-fn delivery(alloc: Global, to: Actor, message: &Message) -> Result<Event, Fail> {
-    let from = Actor::Proxy(0);
-    if !message.is_valid() || !to.has_address() {
+fn parcel(alloc: Global, from: Actor, to: Actor, message: &Message) -> Result<SharedParcel, Fail> {
+    if !message.is_valid() || !from.has_address() || !to.has_address() {
         return Err("no message".into());
     }
     let mut room = BytesMut::new(alloc);
     let frame = encode(&mut room, from, to, message)?;
-    Ok(Event::Deliver(SharedParcel::new(alloc, Parcel { from, to, frame })?))
+    Ok(SharedParcel::new(alloc, Parcel { from, to, frame })?)
 }
 
 fn timed(
@@ -46,7 +47,7 @@ fn timed(
         command: Blob::from_slice(alloc, command)?,
     });
     let actor = Actor::Replica(replica);
-    let event = delivery(alloc, actor, &message)?;
+    let event = Event::Deliver(parcel(alloc, Actor::Proxy(0), actor, &message)?);
     Ok(quiet(alloc, actor, event))
 }
 
@@ -72,12 +73,29 @@ fn records(alloc: Global) -> Result<Vec<Record>, Fail> {
     ]?)
 }
 
+fn fast_reply(id: Id, view: u64) -> Message {
+    Message::FastReply(FastReplyBody {
+        view,
+        id,
+        digest: Digest::zero(),
+        vector: CrashVector::zero(3),
+        delay: 0,
+        answer: None,
+    })
+}
+
+fn replica(alloc: Global, number: u8) -> Result<Replica, Fail>
+    requires { number < 3 }
+{
+    match Cluster::new(1) {
+        Some(cluster) => Ok(Replica::new(alloc, cluster, number)?),
+        None => Err("no cluster".into()),
+    }
+}
+
 // Replica 0 after them.
 fn replayed(alloc: Global) -> Result<Replica, Fail> {
-    let Some(cluster) = Cluster::new(1) else {
-        return Err("no cluster".into());
-    };
-    let mut core = Replica::new(alloc, cluster, 0)?;
+    let mut core = replica(alloc, 0)?;
     for record in &records(alloc)? {
         if !core.is_live() {
             return Err("no memory".into());
@@ -85,6 +103,41 @@ fn replayed(alloc: Global) -> Result<Replica, Fail> {
         replay_one(&mut core, 0, record)?;
     }
     Ok(core)
+}
+
+// The log of replica 0 is taken in view 0, which it leads; no log of replica 1, which leads no view; and none of replica
+// 2, which is not given.
+#[test]
+fn log_of_a_leader_is_taken(rt: HostRuntime) -> Result<(), Fail> {
+    let alloc = rt.alloc();
+    let replicas = vec![in alloc; replayed(alloc)?, replica(alloc, 1)?]?;
+    let table = [(0, 0, Some(3)), (0, 3, None), (1, 0, None), (2, 0, None)];
+    for (number, view, entries) in table {
+        let log = log_leading(replicas.as_slice(), number, view);
+        assert_eq!(rt; log.map(|log| log.len()), entries);
+    }
+    Ok(())
+}
+
+// A slow reply of view 3, a fast one of view 2 and one of view 1.
+#[test]
+fn view_is_that_of_the_first_fast_reply(rt: HostRuntime) -> Result<(), Fail> {
+    let alloc = rt.alloc();
+    let id = Id { client: 0, num: 1 };
+    let slow = Message::SlowReply(SlowReplyBody {
+        view: 3,
+        id,
+        delay: 0,
+    });
+    let (from, to) = (Actor::Replica(0), Actor::Proxy(0));
+    let sends = vec![in alloc;
+        parcel(alloc, from, to, &slow)?,
+        parcel(alloc, from, to, &fast_reply(id, 2))?,
+        parcel(alloc, from, to, &fast_reply(id, 1))?,
+    ]?;
+    let first = first_view(alloc, sends.as_slice())?;
+    assert_eq!(rt; first, Some(2));
+    Ok(())
 }
 
 #[test]

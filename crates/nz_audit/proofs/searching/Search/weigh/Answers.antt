@@ -1,9 +1,8 @@
 -- What the function of this folder owes, proved.
-use Rattle.std.proofs.Common.{◌≡◌, ◌∷◌, ◌++◌, [], length, sym, ap, ◌∙◌, subst}
+use Rattle.std.proofs.Common.{◌∷◌, ◌++◌, [], sym, ◌∙◌, subst}
 use Rattle.nz_audit.specs.declared.source.Counted.{Counted}
-use Rattle.nz_audit.specs.Prefixes.{prefix_for, IsBest}
+use Rattle.nz_audit.specs.Prefixes.{IsBest, IsBestIfAny}
 use Rattle.nz_audit.proofs.Longest.{best_stays, best_then}
-use Rattle.nz_audit.proofs.Found.{log_replayed}
 use Rattle.nz_audit.proofs.searching.Search.weigh.Goals as goal
 
 pub returns-then-is_shorter-clause-found : goal.returns-then-is_shorter-clause-found
@@ -17,10 +16,9 @@ pub returns-clause-found : goal.returns-clause-found
 returns-clause-found c = λ done h.
     let j = c.args.journal.now in
     let a = c.args.next.now in
-    let next : Counted = record { accepted = a; entries = c.entries_up_to-entries.result } in
-    let cut = log_replayed j a c.in_ok-at.at c.log.result.now c.in_ok-at.ensures.source c.in_ok-at.ensures.core c.log.ensures in
-    let counted : next.entries ≡ length (prefix_for j a) = c.entries_up_to-entries.ensures ∙ ap length cut in
+    let next : Counted = record { accepted = a; entries = c.in_ok-entries.entries } in
+    let before : IsBestIfAny j done c.count.new.self.best = subst (IsBestIfAny j done) (sym c.in_ok-entries.ensures.best) h.best in
     record {
-      at = c.in_ok-at.ensures.core;
-      best = subst (IsBest j (done ++ a ∷ [])) (sym c.longer.ensures) (best_then j done next c.args.self.now.best counted h.best);
+      at = c.in_ok-entries.ensures.at;
+      best = subst (IsBest j (done ++ a ∷ [])) (sym c.longer.ensures) (best_then j done next c.count.new.self.best c.in_ok-entries.ensures.entries before);
     }

@@ -1,0 +1,146 @@
+-- The prefix of an accepted answer is in the log that the leader of its view leads with at the end of the run.
+use Rattle.std.proofs.Common.{◌≡◌, ℕ, zero, suc, ◌<◌, eqb, eq-eqb, eqb-true, true, List, [], ◌∷◌, length, get_or}
+use Rattle.std.proofs.Common.{Option, Some, None, Result, Ok, refl, sym, ap, subst, ◌∙◌, inl, inr, arith}
+use Rattle.std.specs.Prelude.{IfSome}
+use Rattle.std.proofs.lemmas.Bool.{and_parts, and_from}
+use Rattle.std.proofs.lemmas.Option.{none-some, same_Some}
+use Rattle.std.specs.Option.{option_and_then}
+use Rattle.nz_base.specs.Cluster.{leader_of}
+use Rattle.nz_base.specs.declared.actor.Actor.{Actor}
+use Rattle.nz_base.specs.declared.actor.Actor.TheVariants.{Replica}
+use Rattle.nz_base.specs.declared.key.Id.{Id}
+use Rattle.nz_base.proofs.Booleans.{true_and_false}
+use Rattle.nz_store.specs.declared.command.Answer.{Answer}
+use Rattle.nz_msg.specs.declared.envelope.Envelope.{Envelope}
+use Rattle.nz_msg.specs.declared.refusal.DecodeRefusal.{DecodeRefusal}
+use Rattle.nz_msg.specs.declared.message.FastReplyBody.{FastReplyBody}
+use Rattle.nz_msg.specs.declared.message.Message.{Message}
+use Rattle.nz_msg.specs.declared.message.Message.TheVariants.{FastReply}
+use Rattle.nz_msg.specs.Envelope.{decode_of}
+use Rattle.nz_msg.proofs.Envelopes.{decode-encode}
+use Rattle.nz_machine.specs.declared.event.Parcel.{Parcel}
+use Rattle.nz_machine.specs.declared.event.Record.{Record}
+use Rattle.nz_machine.specs.declared.reply.Reply.{Reply}
+use Rattle.nz_machine.specs.Hearing.{heard_at}
+use Rattle.nz_machine.specs.Quorums.{view_of, is_of_leader}
+use Rattle.nz_machine.specs.Replicas.{is_normal, leads_view}
+use Rattle.nz_machine.specs.Shows.{Shows, ShowsFast}
+use Rattle.nz_machine.specs.State.{ReplicaData, Group}
+use Rattle.nz_machine.specs.Step.{envelope_for}
+use Rattle.nz_machine.specs.World.{state_after, Has, World}
+use Rattle.nz_machine.specs.History.{ReplySource, cut_after, prefix_at_source}
+use Rattle.nz_machine.specs.Leading.{is_normal_in, leader_at, is_led, lead}
+use Rattle.nz_machine.proofs.Moments.{at_world}
+use Rattle.nz_machine.proofs.ReadShows.{fits_here}
+use Rattle.nz_machine.proofs.Runs.{sent_by}
+use Rattle.nz_machine.proofs.Sends.{shown}
+use Rattle.nz_base.specs.Moments.{At}
+use Rattle.nz_laws_commit.proofs.Accepted.{Gives}
+use Rattle.nz_laws_commit.proofs.Answering.{given_later}
+use Rattle.nz_laws_commit.proofs.Chosen.{HasQuorum, BySlow, ByFast}
+use Rattle.nz_laws_commit.proofs.Instance.{led_log}
+use Rattle.nz_laws_commit.proofs.Led.{given_cut}
+use Rattle.nz_laws_commit.proofs.NotedWereSent.{IsSaid, Fastly, Slowly, IsBacked}
+use Rattle.nz_replica.specs.Models.{ReplicaCore, IsCore, AreCores}
+use Rattle.nz_audit.specs.Leading.{view_of_message, view_brought, BringsReplyOf, RepliesIn}
+use Rattle.nz_audit.proofs.ReplyFields.{decoded_of}
+
+-- ---- the view of a reply that is sent
+
+same_ok : (x y : Envelope) (d : Result Envelope DecodeRefusal) → d ≡ Ok x → d ≡ Ok y → x ≡ y
+same_ok x y d p q = cc
+
+-- it is the view in which its replica was before the record
+fast_view : (g : Group) (r : Record) (J : List Record) (m : ℕ) (p : Parcel) (e : Envelope) (b : FastReplyBody) → World g (r ∷ J) → r.actor ≡ Replica m
+    → Has r.sends p → envelope_for p.to p ≡ Some e → e.message ≡ FastReply b → b.view ≡ (state_after g (Replica m) J).view
+fast_view g r J m p e b w by sent read is =
+    let t = sent_by g r J p w sent in
+    let fit = fits_here g r J t.out w t.among in
+    let own : Envelope = record { from = r.actor; to = t.out.0; message = t.out.1 } in
+    let spelled : decode_of p.frame ≡ Ok own =
+    ap (λ (q : Parcel). decode_of q.frame) t.is ∙ decode-encode r.actor t.out.0 t.out.1 fit.sender fit.receiver fit.message in
+    let message : t.out.1 ≡ FastReply b =
+    ap (λ (x : Envelope). x.message) (same_ok own e (decode_of p.frame) spelled (decoded_of p.to p e read)) ∙ is in
+    let shows : Shows g (Replica m) (heard_at g (Replica m) r.event) (state_after g (Replica m) J) (state_after g (Replica m) (r ∷ J)) t.out.0 t.out.1 =
+    subst (λ (a : Actor). Shows g a (heard_at g a r.event) (state_after g a J) (state_after g a (r ∷ J)) t.out.0 t.out.1) by (shown g r J t.out w t.among) in
+    let fast : ShowsFast g.f m (state_after g (Replica m) J) (state_after g (Replica m) (r ∷ J)) t.out.0 b =
+    subst (Shows g (Replica m) (heard_at g (Replica m) r.event) (state_after g (Replica m) J) (state_after g (Replica m) (r ∷ J)) t.out.0) message shows in
+    fast.view
+
+record IsFastReply (p : Parcel) (v : ℕ) : Type 0 where
+  envelope : Envelope
+  read : envelope_for p.to p ≡ Some envelope
+  body : FastReplyBody
+  message : envelope.message ≡ FastReply body
+  view : body.view ≡ v
+
+reply_of : (m : Message) (v : ℕ) → view_of_message m ≡ Some v → (b : FastReplyBody) × ((m ≡ FastReply b) × (b.view ≡ v))
+reply_of (FastReply b) v is = (b, (refl, same_Some b.view v is))
+reply_of _ v is = absurd (none-some v is)
+
+reply_brought : (p : Parcel) (v : ℕ) (o : Option Envelope) → envelope_for p.to p ≡ o
+    → option_and_then (λ (e : Envelope). view_of_message e.message) o ≡ Some v → IsFastReply p v
+reply_brought p v None read is = absurd (none-some v is)
+reply_brought p v (Some e) read is =
+    let t = reply_of e.message v is in
+    record { envelope = e; read = read; body = t.0; message = t.1.0; view = t.1.1 }
+
+view_before : (g : Group) (r : Record) (J : List Record) (m v : ℕ) → World g (r ∷ J) → r.actor ≡ Replica m → BringsReplyOf v r.sends
+    → v ≡ (state_after g (Replica m) J).view
+view_before g r J m v w by brings =
+    let p = brings.parcel in
+    let t = reply_brought p v (envelope_for p.to p) refl brings.view in
+    sym t.view ∙ fast_view g r J m p t.envelope t.body w by brings.sent t.read t.message
+
+-- ---- the view of an accepted answer
+
+leads : (f : ℕ) (replies : List Reply) (reply : Reply) → HasQuorum f replies reply → is_of_leader f reply ≡ true
+leads f replies reply (BySlow enough) = (and_parts (is_of_leader f reply) _ enough).0
+leads f replies reply (ByFast enough) = (and_parts (is_of_leader f reply) _ enough).0
+
+-- the source's record sends replies of no other view
+source_view : (g : Group) (J : List Record) (id : Id) (reply : Reply) (source : ReplySource) (v : ℕ) → World g J → IsBacked g J id reply source
+    → RepliesIn v source.run → v ≡ view_of reply
+source_view g J id reply source v w backed replies = by_said backed.own
+  where
+    by_said : IsSaid g J id reply source.sender source.run → v ≡ view_of reply
+    by_said (Fastly m from s) =
+        view_before g s.newest s.older m v (at_world g J (s.newest ∷ s.older) w s.at) s.actor (subst (RepliesIn v) s.is replies)
+        ∙ sym s.shows.view ∙ sym (ap view_of s.reply_is)
+    by_said (Slowly m from s) =
+        absurd (true_and_false (is_of_leader g.f reply) (leads g.f backed.replies reply backed.quorum) (ap (is_of_leader g.f) s.reply_is))
+
+-- the prefix of an acceptance is cut from the log that the leader of its view leads with later in the run
+pub prefix_led : (g : Group) (later : List Record) (r : Record) (J : List Record) (id : Id) (a : Answer) (v : ℕ) → World g later → At later J
+    → (t : Gives g r J id a) → RepliesIn v t.source.run → cut_after id (lead g v later) ≡ prefix_at_source g id t.source
+prefix_led g later r J id a v w at t replies =
+    let view = source_view g J id t.reply t.source v (at_world g later J w at) t.backed replies in
+    let given = given_later g later J at (view_of t.reply) id a t.prefix t.given in
+    ap (λ n. cut_after id (lead g n later)) view ∙ sym (given_cut g later (view_of t.reply) id a t.prefix w given) ∙ t.at_source
+
+-- ---- the log of a replica that leads after the run
+
+pub log_leads : (g : Group) (J : List Record) (n v : ℕ) (core : ReplicaCore) → IsCore g J n core
+    → leads_view core.f core.model.me core.model.state ≡ true → core.model.state.view ≡ v → core.model.state.log.entries ≡ lead g v J
+log_leads g J n v core h leading view =
+    let s = core.model.state in
+    let both = and_parts (is_normal s.status) (eqb (leader_of core.f s.view) core.model.me) leading in
+    let leader : leader_of g.f v ≡ n =
+    ap (leader_of g.f) (sym view) ∙ ap (λ f. leader_of f s.view) h.cluster ∙ eqb-true (leader_of core.f s.view) core.model.me both.1 ∙ h.number in
+    let here : s ≡ leader_at g v J = h.state ∙ ap (λ k. state_after g (Replica k) J) (sym leader) in
+    let led : is_led g v J ≡ true =
+    subst (λ (t : ReplicaData). is_normal_in v t ≡ true) here (and_from (is_normal s.status) (eqb s.view v) both.0 (eq-eqb s.view v view)) in
+    ap (λ (t : ReplicaData). t.log.entries) here ∙ sym (led_log g v J led)
+
+pub core_at : (g : Group) (J : List Record) (cores : List ReplicaCore) (n : ℕ) (core : ReplicaCore) → AreCores g J cores → n < length cores
+    → core ≡ get_or cores n core → IsCore g J n core
+core_at g J cores n core all lt at = subst (IsCore g J n) (sym at) (all n core lt)
+
+pub has_there : {X : Type 0} (xs : List X) (i : ℕ) (d : X) → i < length xs → Has xs (get_or xs i d)
+has_there [] i d lt = absurd (omega (arith, lt))
+has_there (x ∷ xs) zero d lt = inl refl
+has_there (x ∷ xs) (suc i) d lt = inr (has_there xs i d (omega (arith, lt)))
+
+pub view_found : (sends : List Parcel) (p : Parcel) (view : Option ℕ) → Has sends p → view ≡ view_brought p → IfSome view (λ v. BringsReplyOf v sends)
+view_found sends p None sent is = tt
+view_found sends p (Some v) sent is = record { parcel = p; sent = sent; view = sym is }

@@ -1,0 +1,30 @@
+-- The view of the replies that a record sends, and when a log has the prefix of an answer.
+use Rattle.std.specs.Prelude.{◌≡◌, ℕ, List, [], ◌∷◌, Option, Some, None}
+use Rattle.std.specs.Option.{option_and_then}
+use Rattle.nz_msg.specs.declared.envelope.Envelope.{Envelope}
+use Rattle.nz_msg.specs.declared.message.Message.{Message}
+use Rattle.nz_msg.specs.declared.message.Message.TheVariants.{FastReply}
+use Rattle.nz_machine.specs.declared.event.Parcel.{Parcel}
+use Rattle.nz_machine.specs.declared.event.Record.{Record}
+use Rattle.nz_machine.specs.Step.{envelope_for}
+use Rattle.nz_machine.specs.World.{Has}
+
+-- The view of a fast reply.
+abbrev pub view_of_message : Message → Option ℕ
+view_of_message (FastReply b) = Some b.view
+view_of_message _ = None
+
+-- The view of the fast reply that a parcel brings, if it brings one.
+abbrev pub view_brought : Parcel → Option ℕ
+view_brought p = option_and_then (λ (e : Envelope). view_of_message e.message) (envelope_for p.to p)
+
+-- One of the parcels brings a fast reply of the view.
+pub record BringsReplyOf (v : ℕ) (sends : List Parcel) : Type 0 where
+  pub parcel : Parcel
+  pub sent : Has sends parcel
+  pub view : view_brought parcel ≡ Some v
+
+-- The last of the records sends a fast reply of the view.
+abbrev pub RepliesIn : ℕ → List Record → Type 0
+RepliesIn v [] = ⊥
+RepliesIn v (r ∷ J) = BringsReplyOf v r.sends

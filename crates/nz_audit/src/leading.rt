@@ -1,0 +1,99 @@
+//! The log of a replica that leads the view of its reply to the end of the run.
+
+ghost use Rattle.std.specs.Prelude.{◌≡◌, ◌≤◌, ◌==◌, ◌&&◌, length, List, IfOk, IfSome, IsTrue};
+ghost use Rattle.nz_machine.specs.Journals.{group_in, run_in};
+ghost use Rattle.nz_machine.specs.Leading.{lead};
+ghost use Rattle.nz_machine.specs.Replicas.{leads_view};
+ghost use Rattle.nz_machine.specs.State.{Group};
+ghost use Rattle.nz_machine.specs.declared.event.Record.{Record};
+ghost use Rattle.nz_replica.specs.Models.{AreCores};
+ghost use Rattle.nz_audit.specs.Cores.{run_up_to};
+ghost use Rattle.nz_audit.specs.Leading.{view_brought, BringsReplyOf, RepliesIn};
+ghost use Rattle.nz_audit.specs.Prefixes.{HasPrefix, IsWithin};
+
+use super::source::{AcceptedAnswer, Source};
+use nz_base::NoMemory;
+use nz_log::HashedLog;
+use nz_machine::{Journal, Parcel, SharedParcel, heard};
+use nz_msg::Message;
+use nz_replica::Replica;
+use std::alloc::Global;
+
+/// The view of the fast reply that the parcel brings, if it brings one.
+fn view_of(alloc: Global, parcel: &Parcel) -> Result<Option<u64>, NoMemory>
+    ensures { IfOk result (λ view. view ≡ view_brought parcel.now) }
+{
+    let Some(envelope) = heard(alloc, parcel.to, parcel)? else {
+        return Ok(None);
+    };
+    match &envelope.message {
+        Message::FastReply(body) => Ok(Some(body.view)),
+        _ => Ok(None),
+    }
+}
+
+/// The view of the first fast reply among the parcels, if there is one.
+pub fn first_view(alloc: Global, sends: &[SharedParcel]) -> Result<Option<u64>, NoMemory>
+    ensures { IfOk result (λ view. IfSome view (λ v. BringsReplyOf v sends.now)) }
+{
+    for parcel in sends {
+        let view = view_of(alloc, parcel.get())?;
+        if view.is_some() {
+            return Ok(view);
+        }
+    }
+    Ok(None)
+}
+
+/// The view of the replies that the source's record sends.
+fn view_at(alloc: Global, journal: &Journal, source: Source) -> Result<Option<u64>, NoMemory>
+    requires { source.records ≤ length journal.now.records }
+    ensures { IfOk result (λ view. IfSome view (λ v. RepliesIn v (run_up_to journal.now source.records))) }
+{
+    let Some(place) = source.records.checked_sub(1) else {
+        return Ok(None);
+    };
+    match journal.records.get_whole(place) {
+        Some(replying) => first_view(alloc, replying.sends.as_slice()),
+        None => Ok(None),
+    }
+}
+
+/// Whether the replica leads the view in normal operation.
+fn is_leader_in(replica: &Replica, view: u64) -> bool
+    ensures { let s = replica.now.model.state in
+        IsTrue replica.now.live → result ≡ (leads_view replica.now.f replica.now.model.me s && (s.view == view)) }
+{
+    replica.leads_view() && replica.view() == view
+}
+
+/// The log of the replica with this number, if it leads the view.
+pub fn log_leading(replicas: &[Replica], number: u8, view: u64) -> Option<&HashedLog>
+    ensures { IfSome result (λ log. (g : Group) (J : List Record) → AreCores g J replicas.now → log.now.entries ≡ lead g view J) }
+{
+    let replica = replicas.get(usize::from(number))?;
+    if is_leader_in(replica, view) {
+        Some(replica.log())
+    } else {
+        None
+    }
+}
+
+/// The log of the replica that sent the reply, if after the run it leads the view of the reply: its log has only grown
+/// since, so the prefix of the answer is its beginning.
+pub fn log_since<'a>(
+    alloc: Global,
+    journal: &Journal,
+    replicas: &'a [Replica],
+    next: &AcceptedAnswer,
+) -> Result<Option<&'a HashedLog>, NoMemory>
+    requires within { IsWithin journal.now next.now }
+    requires replicas { AreCores (group_in journal.now) (run_in journal.now) replicas.now }
+    ensures { IfOk result (λ log. IfSome log (λ log. HasPrefix journal.now next.now log.now.entries)) }
+{
+    let source = next.source;
+    match view_at(alloc, journal, source)? {
+        Some(view) => Ok(log_leading(replicas, source.replica, view)),
+        None => Ok(None),
+    }
+}
