@@ -8,6 +8,7 @@ ghost use Rattle.nz_machine.specs.Journals.{group_in, run_in};
 ghost use Rattle.nz_machine.specs.OneHistory.{Lin, NoCollision};
 ghost use Rattle.nz_machine.specs.Schedule.{IsPlayable, InOrder, Scheduled};
 ghost use Rattle.nz_machine.specs.World.{World};
+ghost use Rattle.nz_replica.specs.Models.{AreCores};
 ghost use Rattle.nz_top.specs.declared.status.Status.TheVariants as status;
 ghost use Rattle.nz_top.specs.Calls as calls;
 ghost use Rattle.nz_top.specs.Calls.{CanPlay, Explains, HasRead, HasRun, IsPlayed, IsReadable, IsRefused, IsRun};
@@ -25,7 +26,8 @@ use nz_audit::history_of;
 use nz_base::{Blob, NoMemory, Scenario};
 use nz_edge::{Gate, Sink, Source};
 use nz_machine::Journal;
-use nz_run::run;
+use nz_replica::Replica;
+use nz_run::{Played, run};
 use nz_script::{Kind, ScriptFault, generate, read};
 use nz_text::{summary, text, trace};
 use std::alloc::Global;
@@ -108,22 +110,29 @@ fn play<R: Threads + Wait + Sync, G: Gate + Sync>(
     command: Command,
     scenario: &Scenario,
     gate: &G,
-) -> Result<Journal, NoMemory>
+) -> Result<Played, NoMemory>
     requires called { IsCalled command }
     requires playable { IsPlayable scenario.now }
-    ensures scenario { IfOk result (λ journal. journal.scenario ≡ scenario.now) }
-    ensures run { IfOk result IsRun }
-    ensures in_order { IsAlone (Some command) → IfOk result (λ journal. InOrder journal.scenario (run_in journal)) }
+    ensures scenario { IfOk result (λ played. played.journal.scenario ≡ scenario.now) }
+    ensures run { IfOk result (λ played. IsRun played.journal) }
+    ensures in_order { IsAlone (Some command) → IfOk result (λ played. InOrder played.journal.scenario (run_in played.journal)) }
+    ensures replicas { IfOk result (λ played. AreCores (group_in played.journal) (run_in played.journal) played.replicas.items) }
 {
     run(rt, alloc, scenario, command.workers(), gate)
 }
 
-/// What the command prints of the run.
-fn print(alloc: Global, command: Command, journal: &Journal) -> Result<Blob, NoMemory>
-    requires { IsRun journal.now }
+/// What the command prints of the run. These are its replicas after the last record, or none.
+fn print(
+    alloc: Global,
+    command: Command,
+    journal: &Journal,
+    replicas: &[Replica],
+) -> Result<Blob, NoMemory>
+    requires run { IsRun journal.now }
+    requires replicas { AreCores (group_in journal.now) (run_in journal.now) replicas.now }
     ensures { IfOk result (λ bytes. bytes ≡ printed_by command journal.now) }
 {
-    let history = history_of(alloc, journal)?;
+    let history = history_of(alloc, journal, replicas)?;
     match command {
         Command::Run { .. } => text(alloc, journal, &history),
         Command::Trace { .. } => {
@@ -178,10 +187,10 @@ fn answer<O: Sink, R: Threads + Wait + Sync, G: Gate + Sync>(
     ensures prefix { IfSome result.journal (λ journal. TakesPrefix (O.taken out.old) (O.taken out.new) (printed_by command journal)) }
     ensures counts { O.faults out.old ≤ O.faults out.new }
 {
-    let Ok(journal) = play(rt, alloc, command, scenario, gate) else {
+    let Ok(Played { journal, replicas }) = play(rt, alloc, command, scenario, gate) else {
         return Outcome::without_run(Status::NoMemory);
     };
-    let Ok(bytes) = print(alloc, command, &journal) else {
+    let Ok(bytes) = print(alloc, command, &journal, replicas.as_slice()) else {
         return Outcome::without_run(Status::NoMemory);
     };
     write_run(journal, bytes.as_slice(), out)

@@ -107,7 +107,7 @@ fn says(alloc: Global, text: &[u8], journal: &Journal, requests: u8) -> Result<b
     let Ok(printed) = read_text(alloc, text) else {
         return Err("a text".into());
     };
-    let history = history_of(alloc, journal)?;
+    let history = history_of(alloc, journal, &[])?;
     let events = are_events(alloc, journal, printed.events.as_slice())?;
     let same = are_same(printed.history.as_slice(), history.as_slice());
     let requests = u32::from(requests);
