@@ -9,6 +9,7 @@ mod cuts;
 mod hostile;
 mod limits;
 mod losses;
+mod replicas;
 mod rows;
 mod workers;
 
