@@ -6,6 +6,7 @@ ghost use Rattle.nz_machine.specs.World.{World};
 mod collisions;
 mod crashes;
 mod cuts;
+mod histories;
 mod hostile;
 mod limits;
 mod losses;

@@ -14,7 +14,7 @@ use nz_script::read;
 use std::alloc::Global;
 use std::test::Fail;
 
-fn scenario_of(alloc: Global, input: &str) -> Result<Scenario, Fail>
+pub fn scenario_of(alloc: Global, input: &str) -> Result<Scenario, Fail>
     ensures { IfOk result IsPlayable }
 {
     match read(alloc, input.as_bytes()) {

@@ -93,7 +93,7 @@ fn is_same(a: &Executed, b: &Executed) -> bool {
         && parts(&a.answer) == parts(&b.answer)
 }
 
-fn are_same(a: &[Executed], b: &[Executed]) -> bool {
+pub fn are_same(a: &[Executed], b: &[Executed]) -> bool {
     a.len() == b.len() && a.iter().zip(b.iter()).all(|(x, y)| is_same(x, y))
 }
 
