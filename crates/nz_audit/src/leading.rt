@@ -15,7 +15,7 @@ use super::source::{AcceptedAnswer, Source};
 use nz_base::NoMemory;
 use nz_log::HashedLog;
 use nz_machine::{Journal, Parcel, SharedParcel, heard};
-use nz_msg::Message;
+use nz_msg::{Message, decode};
 use nz_replica::Replica;
 use std::alloc::Global;
 
@@ -23,7 +23,8 @@ use std::alloc::Global;
 fn view_of(alloc: Global, parcel: &Parcel) -> Result<Option<u64>, NoMemory>
     ensures { IfOk result (λ view. view ≡ view_brought parcel.now) }
 {
-    let Some(envelope) = heard(alloc, parcel.to, parcel)? else {
+    let decoded = decode(alloc, &parcel.frame);
+    let Some(envelope) = heard(parcel.to, parcel, &decoded)? else {
         return Ok(None);
     };
     match &envelope.message {

@@ -19,7 +19,7 @@ use super::sending::{Delivery, Sendings};
 use indexmap::IndexMap;
 use nz_base::{Actor, Cluster, Id, NoMemory};
 use nz_machine::{Event, Parcel, Reply, heard, is_from_cluster};
-use nz_msg::{Envelope, Message};
+use nz_msg::{Envelope, Message, decode};
 use std::alloc::Global;
 
 #[derive(Drop)]
@@ -169,14 +169,16 @@ impl ProxyNotes {
         if self.is_past(delivery.parcel) {
             return Ok(());
         }
-        match heard(alloc, Actor::Proxy(me), delivery.parcel)? {
-            None => Ok(()),
-            Some(envelope) => {
-                if self.is_down || !is_from_cluster(cluster, &envelope) {
-                    return Ok(());
-                }
-                self.take_message(alloc, cluster, envelope, delivery)
-            }
+        let decoded = decode(alloc, &delivery.parcel.frame);
+        let Some(envelope) = heard(Actor::Proxy(me), delivery.parcel, &decoded)? else {
+            return Ok(());
+        };
+        if self.is_down || !is_from_cluster(cluster, envelope) {
+            return Ok(());
+        }
+        match decoded {
+            Ok(envelope) => self.take_message(alloc, cluster, envelope, delivery),
+            Err(_) => unreachable!(),
         }
     }
 

@@ -13,7 +13,7 @@ ghost use Rattle.nz_client.specs.Models.{AreSendable, IsClientInGroup, IsSameCli
 use crate::state::ClientState;
 use nz_base::{Actor, MAX_COMMAND, NoMemory, RequestList};
 use nz_machine::{Core, Event, Outbox, Parcel, Sends, heard};
-use nz_msg::{Envelope, Message};
+use nz_msg::{Envelope, Message, decode};
 use std::alloc::Global;
 use std::marker::Model;
 
@@ -124,9 +124,10 @@ impl ClientState {
             ++ map (parcel (actors.Client self.old.me))
             (envelope_step g (actors.Client self.old.me) self.old.state (accepted_envelope g.f (actors.Client self.old.me) p.now)).1) }
     {
-        match heard(self.allocator(), self.name(), p)? {
+        let decoded = decode(self.allocator(), &p.frame);
+        match heard(self.name(), p, &decoded)? {
             None => Ok(()),
-            Some(envelope) => self.handle(&envelope, sends),
+            Some(envelope) => self.handle(envelope, sends),
         }
     }
 

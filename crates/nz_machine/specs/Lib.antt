@@ -15,6 +15,7 @@ pub mod Quorums
 pub mod Proxies
 pub mod Clients
 pub mod Step
+pub mod Decoded
 pub mod Does
 pub mod Taking
 pub mod World

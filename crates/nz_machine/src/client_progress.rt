@@ -198,8 +198,12 @@ fn answer_of(
 {
     match event {
         Event::Deliver(parcel) => {
-            let envelope = heard(alloc, Actor::Client(client), parcel.get())?;
-            Ok(progress.accept(client, envelope))
+            let parcel = parcel.get();
+            let decoded = decode(alloc, &parcel.frame);
+            match heard(Actor::Client(client), parcel, &decoded)? {
+                Some(_) => Ok(progress.accept(client, decoded.ok())),
+                None => Ok(None),
+            }
         }
         Event::Cut(..) | Event::Tick(_) | Event::Alarm | Event::Crash | Event::Restart(_) => {
             Ok(None)

@@ -15,7 +15,7 @@ ghost use Rattle.nz_proxy.specs.Models.{IsSameProxy, group_with_cluster, proxy_a
 use crate::state::ProxyState;
 use nz_base::{Actor, Cluster, NoMemory};
 use nz_machine::{Core, Event, Outbox, Parcel, Reply, Sends, heard, is_from_cluster};
-use nz_msg::{Envelope, FastReplyBody, Message, SlowReplyBody};
+use nz_msg::{Envelope, FastReplyBody, Message, SlowReplyBody, decode};
 use std::alloc::Global;
 use std::marker::Model;
 
@@ -156,14 +156,16 @@ impl ProxyState {
             (envelope_step (group_with_cluster self.old.f) (actors.Proxy self.old.me) self.old.state
             (accepted_envelope self.old.f (actors.Proxy self.old.me) p.now)).1) }
     {
-        match heard(self.allocator(), self.name(), p)? {
-            None => Ok(()),
-            Some(envelope) => {
-                if self.is_down() || !is_from_cluster(self.cluster(), &envelope) {
-                    return Ok(());
-                }
-                self.handle(envelope, sends)
-            }
+        let decoded = decode(self.allocator(), &p.frame);
+        let Some(envelope) = heard(self.name(), p, &decoded)? else {
+            return Ok(());
+        };
+        if self.is_down() || !is_from_cluster(self.cluster(), envelope) {
+            return Ok(());
+        }
+        match decoded {
+            Ok(envelope) => self.handle(envelope, sends),
+            Err(_) => unreachable!(),
         }
     }
 

@@ -17,7 +17,7 @@ ghost use Rattle.nz_replica.specs.Models.{IsOf};
 use nz_base::{Actor, Cluster, NoMemory};
 use nz_log::HashedLog;
 use nz_machine::{Core, Event, Outbox, Parcel, ReplicaState, Sends, heard, is_from_cluster};
-use nz_msg::{Envelope, Message};
+use nz_msg::{Envelope, Message, decode};
 use nz_normal::{on_timed, tick};
 use nz_rejoin::{
     on_rejoin_ask, on_rejoin_tell, on_state_ask, on_state_tell, on_vector_ask, on_vector_tell,
@@ -162,9 +162,10 @@ fn deliver(state: &mut ReplicaState, p: &Parcel, sends: &mut Outbox) -> Result<(
         → OnOk result (Does s state.new sends.old sends.new
         (envelope_step g (actors.Replica s.me) s.state (accepted_envelope g.f (actors.Replica s.me) p.now))) }
 {
-    match heard(state.allocator(), state.name(), p)? {
+    let decoded = decode(state.allocator(), &p.frame);
+    match heard(state.name(), p, &decoded)? {
         None => Ok(()),
-        Some(envelope) => hear(state, &envelope, sends),
+        Some(envelope) => hear(state, envelope, sends),
     }
 }
 
