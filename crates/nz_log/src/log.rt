@@ -53,6 +53,16 @@ impl HashedLog {
         }
     }
 
+    // No entries, and room for what is kept of so many beside them.
+    fn with_room(alloc: Global, count: usize) -> Result<HashedLog, NoMemory>
+        ensures { IfOk result (λ log. log ≡ record { entries = []; synced = 0 }) }
+    {
+        let mut log = HashedLog::new(alloc);
+        log.digests.reserve(count)?;
+        log.places.reserve(count)?;
+        Ok(log)
+    }
+
     pub fn len(&self) -> u32
         ensures { result ≡ length self.now.entries }
     {
@@ -265,7 +275,7 @@ impl HashedLog {
         requires few { length list ≤ MAX_ENTRIES }
         ensures { IfOk result (λ log. log ≡ record { entries = list; synced = length list }) }
     {
-        let mut log = HashedLog::new(self.entries.alloc());
+        let mut log = HashedLog::with_room(self.entries.alloc(), list.len() as usize)?;
         for entry in list.into_vec() {
             let digest = self.digest_of_more(common, &log, &entry);
             log.append_summed(entry, digest)?;

@@ -138,7 +138,8 @@ impl Pages {
         ensures { IfOk result (λ list. list ≡ self.now) }
     {
         let alloc = self.alloc();
-        let mut list = List::new(alloc);
+        let count = self.len().min(u32::MAX as usize) as u32;
+        let mut list = List::with_capacity(alloc, count)?;
         for place in 0..self.len() {
             list.push(self.get(place).copy(alloc)?)?;
         }
