@@ -11,11 +11,12 @@ ghost use Rattle.nz_audit.specs.Cores.{run_up_to};
 ghost use Rattle.nz_audit.specs.Leading.{view_brought, BringsReplyOf, RepliesIn};
 ghost use Rattle.nz_audit.specs.Prefixes.{HasPrefix, IsWithin};
 
+use super::envelopes::envelope_of;
 use super::source::{AcceptedAnswer, Source};
 use nz_base::NoMemory;
 use nz_log::HashedLog;
-use nz_machine::{Journal, Parcel, SharedParcel, heard};
-use nz_msg::{Message, decode};
+use nz_machine::{Journal, Parcel, SharedParcel};
+use nz_msg::Message;
 use nz_replica::Replica;
 use std::alloc::Global;
 
@@ -23,8 +24,7 @@ use std::alloc::Global;
 fn view_of(alloc: Global, parcel: &Parcel) -> Result<Option<u64>, NoMemory>
     ensures { IfOk result (λ view. view ≡ view_brought parcel.now) }
 {
-    let decoded = decode(alloc, &parcel.frame);
-    let Some(envelope) = heard(parcel.to, parcel, &decoded)? else {
+    let Some(envelope) = envelope_of(alloc, parcel.to, parcel)? else {
         return Ok(None);
     };
     match &envelope.message {

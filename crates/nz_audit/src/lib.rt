@@ -1,6 +1,7 @@
 //! The history of a run, read off its journal.
 #![tactic(auto)]
 
+mod envelopes;
 mod executing;
 mod fields;
 mod history;

@@ -13,13 +13,14 @@ ghost use Rattle.nz_audit.specs.Noting.{is_open, IsSized};
 ghost use Rattle.nz_audit.specs.Sources.{kept_of, source_delivered};
 ghost use Rattle.nz_audit.specs.declared.source.Source.{Source as SourceModel};
 
+use super::envelopes::envelope_of;
 use super::fields::named_id;
 use super::noting::{Noted, Notes};
 use super::sending::{Delivery, Sendings};
 use indexmap::IndexMap;
 use nz_base::{Actor, Cluster, Id, NoMemory};
-use nz_machine::{Event, Parcel, Reply, heard, is_from_cluster};
-use nz_msg::{Envelope, Message, decode};
+use nz_machine::{Event, Parcel, Reply, is_from_cluster};
+use nz_msg::{Envelope, Message};
 use std::alloc::Global;
 
 #[derive(Drop)]
@@ -169,16 +170,14 @@ impl ProxyNotes {
         if self.is_past(delivery.parcel) {
             return Ok(());
         }
-        let decoded = decode(alloc, &delivery.parcel.frame);
-        let Some(envelope) = heard(Actor::Proxy(me), delivery.parcel, &decoded)? else {
-            return Ok(());
-        };
-        if self.is_down || !is_from_cluster(cluster, envelope) {
-            return Ok(());
-        }
-        match decoded {
-            Ok(envelope) => self.take_message(alloc, cluster, envelope, delivery),
-            Err(_) => unreachable!(),
+        match envelope_of(alloc, Actor::Proxy(me), delivery.parcel)? {
+            None => Ok(()),
+            Some(envelope) => {
+                if self.is_down || !is_from_cluster(cluster, &envelope) {
+                    return Ok(());
+                }
+                self.take_message(alloc, cluster, envelope, delivery)
+            }
         }
     }
 
