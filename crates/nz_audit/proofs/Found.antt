@@ -1,7 +1,7 @@
 -- What a reading has found after a record, and what it says of the journal's history.
 use Rattle.std.proofs.Common.{◌≡◌, ℕ, zero, suc, ◌+◌, ◌<◌, ◌≤◌, List, [], ◌∷◌, ◌++◌, length, map, take, drop, reverse}
 use Rattle.std.proofs.Common.{Option, None, Some, refl, sym, ap, subst, ◌∙◌, inl, inr, arith, length-take}
-use Rattle.std.specs.Prelude.{slice_get, IfSome, IsPermutation}
+use Rattle.std.specs.Prelude.{slice_get, IsPermutation}
 use Rattle.std.specs.List.{AllByRecursion}
 use Rattle.std.proofs.lemmas.List.Elements.{All-from_recursion, recursion_from_All}
 use Rattle.std.proofs.lemmas.List.Sorted.{All-permutation, IsPermutation-sym}
@@ -26,7 +26,7 @@ use Rattle.nz_audit.specs.declared.source.AcceptedAnswer.{AcceptedAnswer}
 use Rattle.nz_audit.specs.declared.source.Counted.{Counted}
 use Rattle.nz_audit.specs.declared.searching.Search.{Search}
 use Rattle.nz_audit.specs.declared.replaying.Replayed.{Replayed}
-use Rattle.nz_audit.specs.Cores.{IsReplayed, run_up_to}
+use Rattle.nz_audit.specs.Cores.{IsReplayed, AreReplayed, run_up_to}
 use Rattle.nz_audit.specs.Prefixes.{prefix_for, longest_from, GiveHistory, AreAccepted, IsNoLonger, IsBestIfAny, IsFound}
 use Rattle.nz_audit.specs.Readings.{IsNextRecord}
 use Rattle.nz_audit.proofs.Replays.{run_then}
@@ -109,9 +109,9 @@ nothing_accepted journal J accepted h none = h.longest ∙ ap (λ (xs : List Acc
 -- ---- the search
 
 -- nothing was counted
-pub found_first : (journal : Journal) (s : Search) → s.at ≡ None → s.best ≡ None → IsFound journal [] s
-found_first journal s at best = record {
-  at = subst (λ (o : Option Replayed). IfSome o (IsReplayed journal)) (sym at) tt;
+pub found_first : (journal : Journal) (s : Search) → AreReplayed journal s.replays → s.best ≡ None → IsFound journal [] s
+found_first journal s replays best = record {
+  replays = replays;
   best = subst (IsBestIfAny journal []) (sym best) refl;
 }
 
@@ -126,7 +126,7 @@ all_of P (x ∷ xs) h = (h x (inl refl), all_of P xs (λ y k. h y (inr k)))
 -- the order does not matter
 pub found_among : (journal : Journal) (xs ys : List AcceptedAnswer) (s : Search) → ((a : AcceptedAnswer) → Has xs a → Has ys a)
     → ((a : AcceptedAnswer) → Has ys a → Has xs a) → IsFound journal xs s → IsFound journal ys s
-found_among journal xs ys s there back h = record { at = h.at; best = by_best s.best h.best }
+found_among journal xs ys s there back h = record { replays = h.replays; best = by_best s.best h.best }
   where
     by_best : (o : Option Counted) → IsBestIfAny journal xs o → IsBestIfAny journal ys o
     by_best None none = none_without ys (λ a k. subst (λ (l : List AcceptedAnswer). Has l a) none (back a k))

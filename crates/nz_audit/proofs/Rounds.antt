@@ -99,7 +99,7 @@ pub found_skips : (journal : Journal) (done : List AcceptedAnswer) (others : Lis
 found_skips journal done others s within h =
     let shorts = filter (is_short s.best) others in
     record {
-      at = h.at;
+      replays = h.replays;
       best =
           best_stays_longest journal done (all_traced journal shorts) s.best
           (traced_within journal shorts others (λ a k. (filtered_has (is_short s.best) others a k).0) within)

@@ -1,6 +1,6 @@
 -- The accepted prefixes of a journal's run, and the longest of them.
 use Rattle.std.specs.Prelude.{◌≡◌, ℕ, suc, ◌<◌, ◌≤◌, ◌⊎◌, Bool, ◌||◌, ◌&&◌, ◌==◌, nat_lt, false, if◌then◌else◌}
-use Rattle.std.specs.Prelude.{List, [], ◌∷◌, ◌++◌, map, length, slice_get, Option, Some, None, IfSome}
+use Rattle.std.specs.Prelude.{List, [], ◌∷◌, ◌++◌, map, length, slice_get, Option, Some, None}
 use Rattle.std.specs.List.{AllByRecursion, filter_map}
 use Rattle.nz_base.specs.Cluster.{replica_count}
 use Rattle.nz_base.specs.declared.actor.Actor.TheVariants.{Replica}
@@ -24,7 +24,7 @@ use Rattle.nz_audit.specs.declared.source.AcceptedAnswer.{AcceptedAnswer}
 use Rattle.nz_audit.specs.declared.source.Counted.{Counted}
 use Rattle.nz_audit.specs.declared.searching.Search.{Search}
 use Rattle.nz_audit.specs.Sources.{about, delivered_source}
-use Rattle.nz_audit.specs.Cores.{run_up_to, IsReplayed}
+use Rattle.nz_audit.specs.Cores.{run_up_to, AreReplayed}
 use Rattle.nz_audit.specs.Leading.{RepliesIn}
 
 -- ---- accepted answers, with their sources
@@ -151,5 +151,5 @@ IsBestIfAny journal done (Some b) = IsBest journal done b
 
 -- What a search has found among these.
 pub record IsFound (journal : Journal) (done : List AcceptedAnswer) (s : Search) : Type 0 where
-  pub at : IfSome s.at (IsReplayed journal)
+  pub replays : AreReplayed journal s.replays
   pub best : IsBestIfAny journal done s.best

@@ -59,6 +59,9 @@ pub fn history_of(
     let found = longest_of(alloc, journal, replicas, accepted)?;
     match found.best {
         None => Ok(History::new(alloc)),
-        Some(best) => executed(alloc, journal, replicas, found.at, best),
+        Some(best) => {
+            let at = found.replays.for_longest(best.accepted.source);
+            executed(alloc, journal, replicas, at, best)
+        }
     }
 }

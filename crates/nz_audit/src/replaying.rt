@@ -5,8 +5,9 @@ ghost use Rattle.nz_base.specs.Cluster.{replica_count};
 ghost use Rattle.nz_machine.specs.Journals.{group_in};
 ghost use Rattle.nz_machine.specs.State.{Group};
 ghost use Rattle.nz_machine.specs.declared.event.Record.{Record as RecordModel};
+ghost use Rattle.nz_machine.specs.declared.journal.Journal.{Journal as JournalModel};
 ghost use Rattle.nz_replica.specs.Models.{IsCore};
-ghost use Rattle.nz_audit.specs.Cores.{IsReplayed, run_up_to};
+ghost use Rattle.nz_audit.specs.Cores.{IsReplayed, AreReplayed, run_up_to};
 
 use super::source::Source;
 use nz_base::{Actor, NoMemory};
@@ -28,6 +29,60 @@ impl Replayed {
         ensures records { IsTrue result → self.now.source.records ≤ source.records }
     {
         self.source.replica == source.replica && self.source.records <= source.records
+    }
+
+    /// Whether it is the replica at the source.
+    fn is_at(&self, source: Source) -> bool {
+        self.source.replica == source.replica && self.source.records == source.records
+    }
+}
+
+/// The replicas that a search has at hand.
+#[derive(Drop)]
+pub struct Replays {
+    /// The one that was replayed last.
+    pub at: Option<Replayed>,
+    /// The one of the longest prefix, if another was replayed since.
+    pub kept: Option<Replayed>,
+}
+
+impl Replays {
+    pub fn new() -> Replays
+        ensures { (journal : JournalModel) → AreReplayed journal result }
+    {
+        Replays {
+            at: None,
+            kept: None,
+        }
+    }
+
+    /// Whether the replica of the longest prefix was replayed last, and a replay of the next source does not go on from
+    /// it.
+    fn leaves(&self, longest: Option<Source>, next: Source) -> bool {
+        match (&self.at, longest) {
+            (Some(at), Some(longest)) => at.is_at(longest) && !at.leads_to(next),
+            _ => false,
+        }
+    }
+
+    /// Keeps the replica of the longest prefix, if there is one and the replay of the next source would drop its replica.
+    pub fn keep_longest(&mut self, longest: Option<Source>, next: Source)
+        ensures { (journal : JournalModel) → AreReplayed journal self.old → AreReplayed journal self.new }
+    {
+        if self.leaves(longest, next) {
+            self.kept = self.at.take();
+        }
+    }
+
+    /// What a replay of the source of the longest prefix goes on from.
+    pub fn for_longest(self, longest: Source) -> Option<Replayed>
+        ensures { (journal : JournalModel) → AreReplayed journal self → IfSome result (IsReplayed journal) }
+    {
+        let Replays { at, kept } = self;
+        match kept {
+            Some(kept) if kept.is_at(longest) => Some(kept),
+            _ => at,
+        }
     }
 }
 

@@ -1,18 +1,19 @@
 //! The longest of the accepted prefixes.
 
-ghost use Rattle.std.specs.Prelude.{◌≤◌, ◌≡◌, ◌++◌, ◌∷◌, [], None, List, length, IfOk, IfSome, OnOk, IsPermutation};
+ghost use Rattle.std.specs.Prelude.{◌≤◌, ◌≡◌, ◌++◌, ◌∷◌, [], None, List, length, IfOk, OnOk, IsPermutation};
 ghost use Rattle.std.specs.List.{AllByRecursion};
 ghost use Rattle.nz_machine.specs.History.{cut_after};
 ghost use Rattle.nz_machine.specs.Journals.{group_in, run_in};
 ghost use Rattle.nz_machine.specs.World.{World};
+ghost use Rattle.nz_machine.specs.declared.journal.Journal.{Journal as JournalModel};
 ghost use Rattle.nz_audit.specs.declared.source.AcceptedAnswer.{AcceptedAnswer as AcceptedModel};
 ghost use Rattle.nz_replica.specs.Models.{AreCores};
 ghost use Rattle.nz_audit.specs.Prefixes.{prefix_for, all_traced, is_shorter, IsAccepted, IsWithin, IsFound};
-ghost use Rattle.nz_audit.specs.Cores.{IsReplayed};
+ghost use Rattle.nz_audit.specs.Cores.{AreReplayed};
 
 use super::leading::log_since;
-use super::replaying::{Replayed, replay};
-use super::source::{AcceptedAnswer, AcceptedAt, Counted, longer};
+use super::replaying::{Replays, replay};
+use super::source::{AcceptedAnswer, AcceptedAt, Counted, Source, longer};
 use super::tracing::trace;
 use nz_base::{Id, NoMemory};
 use nz_log::HashedLog;
@@ -23,8 +24,8 @@ use std::alloc::Global;
 /// What a search has found.
 #[derive(Drop)]
 pub struct Search {
-    /// The replica that was replayed last.
-    pub at: Option<Replayed>,
+    /// The replicas that were replayed for it.
+    pub replays: Replays,
     /// The longest prefix so far.
     pub best: Option<Counted>,
 }
@@ -62,11 +63,11 @@ fn put_in_order(accepted: &mut Vec<AcceptedAnswer>)
 
 impl Search {
     fn new() -> Search
-        ensures at { result.at ≡ None }
+        ensures replays { (journal : JournalModel) → AreReplayed journal result.replays }
         ensures best { result.best ≡ None }
     {
         Search {
-            at: None,
+            replays: Replays::new(),
             best: None,
         }
     }
@@ -81,6 +82,14 @@ impl Search {
         }
     }
 
+    /// The source of the longest prefix so far.
+    fn longest(&self) -> Option<Source> {
+        match &self.best {
+            Some(best) => Some(best.accepted.source),
+            None => None,
+        }
+    }
+
     /// How many entries the prefix has. The replica is replayed up to the source only where it does not lead the view
     /// of its reply to the end of the run.
     fn count(
@@ -92,17 +101,19 @@ impl Search {
     ) -> Result<u32, NoMemory>
         requires within { IsWithin journal.now next.now }
         requires replicas { AreCores (group_in journal.now) (run_in journal.now) replicas.now }
-        requires at { IfSome self.old.at (IsReplayed journal.now) }
-        ensures at { OnOk result (IfSome self.new.at (IsReplayed journal.now)) }
+        requires replays { AreReplayed journal.now self.old.replays }
+        ensures replays { OnOk result (AreReplayed journal.now self.new.replays) }
         ensures best { OnOk result (self.new.best ≡ self.old.best) }
         ensures entries { IfOk result (λ entries. entries ≡ length (prefix_for journal.now next.now)) }
     {
         if let Some(log) = log_since(alloc, journal, replicas, next)? {
             return Ok(entries_up_to(log, next.id));
         }
-        let at = replay(alloc, journal, self.at.take(), next.source)?;
+        let longest = self.longest();
+        self.replays.keep_longest(longest, next.source);
+        let at = replay(alloc, journal, self.replays.at.take(), next.source)?;
         let entries = entries_up_to(at.core.log(), next.id);
-        self.at = Some(at);
+        self.replays.at = Some(at);
         Ok(entries)
     }
 
@@ -116,8 +127,8 @@ impl Search {
     ) -> Result<(), NoMemory>
         requires within { IsWithin journal.now next.now }
         requires replicas { AreCores (group_in journal.now) (run_in journal.now) replicas.now }
-        requires at { IfSome self.old.at (IsReplayed journal.now) }
-        ensures at { OnOk result (IfSome self.new.at (IsReplayed journal.now)) }
+        requires replays { AreReplayed journal.now self.old.replays }
+        ensures replays { OnOk result (AreReplayed journal.now self.new.replays) }
         ensures found { OnOk result ((done : List AcceptedModel) → IsFound journal.now done self.old → IsFound journal.now (done ++ next.now ∷ []) self.new) }
     {
         if self.is_shorter(next.sent) {
@@ -142,8 +153,8 @@ impl Search {
     ) -> Result<(), NoMemory>
         requires within { AllByRecursion (IsWithin journal.now) accepted.now }
         requires replicas { AreCores (group_in journal.now) (run_in journal.now) replicas.now }
-        requires at { IfSome self.old.at (IsReplayed journal.now) }
-        ensures at { OnOk result (IfSome self.new.at (IsReplayed journal.now)) }
+        requires replays { AreReplayed journal.now self.old.replays }
+        ensures replays { OnOk result (AreReplayed journal.now self.new.replays) }
         ensures found { OnOk result ((done : List AcceptedModel) → IsFound journal.now done self.old → IsFound journal.now (done ++ accepted.now) self.new) }
     {
         for next in accepted {
@@ -164,8 +175,8 @@ impl Search {
         requires replicas { AreCores (group_in journal.now) (run_in journal.now) replicas.now }
         requires accepted { AllByRecursion (IsAccepted journal.now) answers.now }
         requires within { AllByRecursion (IsWithin journal.now) (all_traced journal.now answers.now) }
-        requires at { IfSome self.old.at (IsReplayed journal.now) }
-        ensures at { OnOk result (IfSome self.new.at (IsReplayed journal.now)) }
+        requires replays { AreReplayed journal.now self.old.replays }
+        ensures replays { OnOk result (AreReplayed journal.now self.new.replays) }
         ensures found { OnOk result ((done : List AcceptedModel) → IsFound journal.now done self.old
             → IsFound journal.now (done ++ all_traced journal.now answers.now) self.new) }
     {
@@ -186,7 +197,7 @@ impl Search {
         requires replicas { AreCores (group_in journal.now) (run_in journal.now) replicas.now }
         requires accepted { AllByRecursion (IsAccepted journal.now) answers.items }
         requires within { AllByRecursion (IsWithin journal.now) (all_traced journal.now answers.items) }
-        requires at { IfSome self.old.at (IsReplayed journal.now) }
+        requires replays { AreReplayed journal.now self.old.replays }
         ensures { OnOk result ((done : List AcceptedModel) → IsFound journal.now done self.old
             → IsFound journal.now (done ++ all_traced journal.now answers.items) self.new) }
     {

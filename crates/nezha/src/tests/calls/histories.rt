@@ -24,6 +24,7 @@ fn histories_with_the_replicas_and_without(rt: HostRuntime) -> Result<(), Fail> 
         (PUT_THEN_GET.input, 2),
         (ALARM.input, 2),
         (LEADER_LOST.input, 3),
+        // Without the replicas, two of them are replayed, and the longest prefix is that of the first.
         (LEADER_CUT_OFF.input, 2),
         (LEADER_REJOINS.input, 2),
         (CRASHES_LATER, 1),

@@ -8,11 +8,17 @@ use Rattle.nz_audit.proofs.Found.{found_first}
 use Rattle.nz_audit.proofs.Rounds.{parts_within, found_in_turn}
 use Rattle.nz_audit.proofs.searching.longest_of.Goals as goal
 
+pub weigh_all-requires-clause-replays : goal.weigh_all-requires-clause-replays
+weigh_all-requires-clause-replays c = c.new-found.ensures.replays c.args.journal.now
+
 pub weigh_all-requires-clause-within : goal.weigh_all-requires-clause-within
 weigh_all-requires-clause-within c =
     subst (λ (l : List AcceptedAt). AllByRecursion (IsWithin c.args.journal.now) (all_traced c.args.journal.now l))
     (sym (c.split_at.ensures.back ∙ ap (drop c.first_late-place.result) c.as_slice-2.ensures.value))
     (parts_within c.args.journal.now c.first_late-place.result c.args.answers.items c.requires.within).0
+
+pub weigh_others-requires-clause-replays : goal.weigh_others-requires-clause-replays
+weigh_others-requires-clause-replays c = c.in_ok-weigh_all.ensures.replays
 
 pub weigh_others-requires-clause-within : goal.weigh_others-requires-clause-within
 weigh_others-requires-clause-within c =
@@ -26,4 +32,4 @@ returns c =
     found_in_turn j c.first_late-place.result c.args.answers.items late c.truncate.new.self.items c.weigh_others.new.self
     (c.split_at.ensures.back ∙ ap (drop c.first_late-place.result) c.as_slice-2.ensures.value) c.truncate.ensures.items
     (c.in_ok-weigh_others.ensures (all_traced j late)
-    (c.in_ok-weigh_all.ensures.found [] (found_first j c.new-found.result c.new-found.ensures.at c.new-found.ensures.best)))
+    (c.in_ok-weigh_all.ensures.found [] (found_first j c.new-found.result (c.new-found.ensures.replays j) c.new-found.ensures.best)))

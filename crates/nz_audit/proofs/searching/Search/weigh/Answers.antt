@@ -7,7 +7,7 @@ use Rattle.nz_audit.proofs.searching.Search.weigh.Goals as goal
 
 pub returns-then-is_shorter-clause-found : goal.returns-then-is_shorter-clause-found
 returns-then-is_shorter-clause-found c = λ done h. record {
-  at = h.at;
+  replays = h.replays;
   best =
       best_stays c.args.journal.now done c.args.next.now c.args.self.now.best c.requires.within.sent (sym c.is_shorter.ensures ∙ c.if-is_shorter.true) h.best;
 }
@@ -19,6 +19,6 @@ returns-clause-found c = λ done h.
     let next : Counted = record { accepted = a; entries = c.in_ok-entries.entries } in
     let before : IsBestIfAny j done c.count.new.self.best = subst (IsBestIfAny j done) (sym c.in_ok-entries.ensures.best) h.best in
     record {
-      at = c.in_ok-entries.ensures.at;
+      replays = c.in_ok-entries.ensures.replays;
       best = subst (IsBest j (done ++ a ∷ [])) (sym c.longer.ensures) (best_then j done next c.count.new.self.best c.in_ok-entries.ensures.entries before);
     }

@@ -7,7 +7,7 @@ use Rattle.nz_audit.proofs.searching.Search.weigh_each.Goals as goal
 
 pub loop-next-init : goal.loop-next-init
 loop-next-init c = record {
-  at = c.requires.at;
+  replays = c.requires.replays;
   found = λ done h. subst (λ (l : List AcceptedAnswer). IsFound c.args.journal.now l c.args.self.now) (sym (append-nil done)) h;
 }
 
@@ -18,7 +18,7 @@ returns-clause-found c = λ done h.
 
 pub loop-next-preserved : goal.loop-next-preserved
 loop-next-preserved c = record {
-  at = c.in_ok-weigh.ensures.at;
+  replays = c.in_ok-weigh.ensures.replays;
   found = λ done h.
       let i = c.loop-next.next-index in
       let xs = c.args.accepted.now in
