@@ -4,7 +4,7 @@ ghost use Rattle.std.specs.Prelude.{◌≡◌, ◌<◌, length, IfOk};
 
 use super::executing::execute;
 use super::leading::{first_view, log_leading};
-use super::replaying::{Replayed, Replays, replay_one};
+use super::replaying::replay_one;
 use super::searching::entries_up_to;
 use super::source::{AcceptedAnswer, Counted, Source, longer};
 use bytes::BytesMut;
@@ -119,24 +119,25 @@ fn log_of_a_leader_is_taken(rt: HostRuntime) -> Result<(), Fail> {
     Ok(())
 }
 
+// The parcel that brings a reply of replica 0 to proxy 0.
+fn reply_parcel(alloc: Global, reply: Message) -> Result<SharedParcel, Fail> {
+    parcel(alloc, Actor::Replica(0), Actor::Proxy(0), &reply)
+}
+
+fn slow_reply(id: Id, view: u64) -> Message {
+    Message::SlowReply(SlowReplyBody { view, id, delay: 0 })
+}
+
 // A slow reply of view 3, a fast one of view 2 and one of view 1.
 #[test]
 fn view_is_that_of_the_first_fast_reply(rt: HostRuntime) -> Result<(), Fail> {
     let alloc = rt.alloc();
     let id = Id { client: 0, num: 1 };
-    let slow = Message::SlowReply(SlowReplyBody {
-        view: 3,
-        id,
-        delay: 0,
-    });
-    let (from, to) = (Actor::Replica(0), Actor::Proxy(0));
-    let sends = vec![in alloc;
-        parcel(alloc, from, to, &slow)?,
-        parcel(alloc, from, to, &fast_reply(id, 2))?,
-        parcel(alloc, from, to, &fast_reply(id, 1))?,
-    ]?;
-    let first = first_view(alloc, sends.as_slice())?;
-    assert_eq!(rt; first, Some(2));
+    let slow = reply_parcel(alloc, slow_reply(id, 3))?;
+    let first = reply_parcel(alloc, fast_reply(id, 2))?;
+    let second = reply_parcel(alloc, fast_reply(id, 1))?;
+    let sends = [slow, first, second];
+    assert_eq!(rt; first_view(alloc, &sends)?, Some(2));
     Ok(())
 }
 
@@ -206,42 +207,5 @@ fn first_of_the_longest_stays(rt: HostRuntime) -> Result<(), Fail> {
     }
     let found = best.map(|best| (best.accepted.place, best.entries));
     assert_eq!(rt; found, Some((1, 3)));
-    Ok(())
-}
-
-fn source(replica: u8, records: u32) -> Source {
-    Source { replica, records }
-}
-
-// What is at hand is a replica of this source. That it is as it was there does not matter here.
-fn at_hand(alloc: Global, source: Source) -> Result<Option<Replayed>, Fail> {
-    let core = replica(alloc, 0)?;
-    Ok(Some(Replayed { core, source }))
-}
-
-// Replica 0 is replayed up to 3 records, and then up to the next source. It is kept if the longest prefix is at the
-// first of these sources, and the replay of the next one starts anew: it is of another replica, or earlier.
-#[test]
-fn replica_of_the_longest_prefix_is_kept(rt: HostRuntime) -> Result<(), Fail> {
-    let alloc = rt.alloc();
-    // The source of the longest prefix, the next source, and the one that is at hand for the longest prefix after it.
-    let table = [
-        (source(0, 3), source(1, 2), source(0, 3)),
-        (source(0, 3), source(0, 2), source(0, 3)),
-        (source(0, 3), source(0, 5), source(0, 5)),
-        (source(0, 1), source(1, 2), source(1, 2)),
-        (source(2, 3), source(1, 4), source(1, 4)),
-    ];
-    for (longest, next, expected) in table {
-        let mut replays = Replays::new();
-        replays.at = at_hand(alloc, source(0, 3))?;
-        replays.keep_longest(Some(longest), next);
-        replays.at = at_hand(alloc, next)?;
-        let start = replays.for_longest(longest).ok_or("a replica at hand")?;
-        assert_eq!(rt;
-            (start.source.replica, start.source.records),
-            (expected.replica, expected.records)
-        );
-    }
     Ok(())
 }
