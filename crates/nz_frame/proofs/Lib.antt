@@ -1,4 +1,5 @@
 -- The modules of this crate's proofs.
 pub mod Bytes
+pub mod Headers
 pub mod Parts
 pub mod Readings

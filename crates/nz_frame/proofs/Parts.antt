@@ -2,7 +2,6 @@
 use Rattle.std.proofs.Common.{◌≡◌, ℕ, ◌+◌, ◌^◌, ◌<◌, ◌≤◌, List, ◌∷◌, ◌++◌, length, drop, refl, sym, ap, ◌∙◌, arith, drop-cons, length-drop}
 use Rattle.std.proofs.lemmas.List.{drop-drop}
 use Rattle.std.proofs.lemmas.Grind.{common_steps}
-use Rattle.std.proofs.Math.Seq.{drop-append_seam}
 use Rattle.std.specs.Prelude.{slice_index}
 use Rattle.byteorder.specs.Endian.{big_bytes}
 use Rattle.byteorder.specs.Numbers.{big_number-reads_back}
@@ -13,11 +12,6 @@ use Rattle.nz_frame.proofs.Bytes.{AreBytes-drop, four_bytes, two_bytes}
 
 pub address_fits : (a : ℕ) → IsAddress a → a < 2 ^ 16
 address_fits a h = grind (arith, common_steps)
-
--- what was added after the first ten bytes
-pub after_ten : (opened added all : List ℕ) → length opened ≡ 10 → all ≡ opened ++ added → drop 10 all ≡ added
-after_ten opened added all ten is =
-    ap (drop 10) is ∙ ap (λ (n : ℕ). drop n (opened ++ added)) (sym ten) ∙ drop-append_seam opened added
 
 -- what the tests look at, in a frame
 pub record IsRead (bytes : List ℕ) (kind from to : ℕ) (body : List ℕ) : Type 0 where

@@ -1,13 +1,14 @@
 -- The laws of frames and refusals.
 use Rattle.std.proofs.Common.{◌≡◌, ℕ, ◌+◌, ◌^◌, ◌<◌, Bool, true, false, List, [], ◌∷◌, ◌++◌, length, drop}
 use Rattle.std.proofs.Common.{Some, None, refl, sym, ap, subst, ◌∙◌, arith, inl, inr, length-append, leb}
-use Rattle.std.specs.Prelude.{slice_index}
+use Rattle.std.specs.Prelude.{slice_index, Result, Ok, Err, IfOk, IfErr, OnOk, IsOkAnd}
 use Rattle.std.proofs.lemmas.Bool.{cases_lt, le-leb, lt-leb, leb-true, eqb-true}
 use Rattle.std.proofs.lemmas.List.{nil_from_length}
 use Rattle.byteorder.specs.Numbers.{big_from-append}
 use Rattle.nz_frame.specs.Address.{is_kind, is_address}
 use Rattle.nz_frame.specs.Grammar.{IsFrame, SameParts, AreBytes}
 use Rattle.nz_frame.specs.Refusal.{Test, test, first_failed, tests, stated_size, end_of, sender, receiver, refusal}
+use Rattle.nz_frame.specs.declared.reading.FrameView.{FrameView}
 use Rattle.nz_frame.specs.declared.refusal.FrameRefusal.{FrameRefusal}
 use Rattle.nz_frame.specs.declared.refusal.FrameRefusal.TheVariants.{Short, Trailing}
 use Rattle.nz_frame.proofs.Parts.{address_fits, IsRead, frame_read, is_frame}
@@ -144,21 +145,17 @@ no_prefix bytes rest kind from to body kind' from' to' body' h h' =
 pub never_refused : (bytes : List ℕ) (kind from to : ℕ) (body : List ℕ) (r : FrameRefusal) → IsFrame bytes kind from to body → refusal bytes ≡ Some r → ⊥
 never_refused bytes kind from to body r h e = let none = accepted bytes kind from to body h in cc
 
--- what the reader tests holds of a frame
-pub frame_version : (bytes : List ℕ) (kind from to : ℕ) (body : List ℕ) → IsFrame bytes kind from to body → slice_index bytes 4 ≡ 1
-frame_version bytes kind from to body h = let r = read_of bytes kind from to body h in r.version
+-- what is read of the parts of a frame is all of it
+pub every_frame : (parts bytes : List ℕ) (r : Result FrameView FrameRefusal) → parts ≡ bytes
+    → IfOk r (λ v. IsFrame parts v.kind v.from v.to v.body.now) → IfErr r (λ d. refusal parts ≡ Some d)
+    → (kind from to : ℕ) (body : List ℕ) → IsFrame bytes kind from to body → IsOkAnd r (λ v. SameParts v.kind v.from v.to v.body.now kind from to body)
+every_frame parts bytes (Ok v) e frame refused kind from to body f =
+    one_reading bytes v.kind v.from v.to v.body.now kind from to body
+    (subst (λ (xs : List ℕ). IsFrame xs v.kind v.from v.to v.body.now) e frame) f
+every_frame parts bytes (Err d) e frame refused kind from to body f =
+    absurd (never_refused bytes kind from to body d f (ap refusal (sym e) ∙ refused))
 
-pub frame_kind : (bytes : List ℕ) (kind from to : ℕ) (body : List ℕ) → IsFrame bytes kind from to body → is_kind (slice_index bytes 5) ≡ true
-frame_kind bytes kind from to body h = let r = read_of bytes kind from to body h in subst (λ (k : ℕ). is_kind k ≡ true) (sym r.kind_is) h.known
-
-pub frame_sender : (bytes : List ℕ) (kind from to : ℕ) (body : List ℕ) → IsFrame bytes kind from to body → is_address (sender bytes) ≡ false → ⊥
-frame_sender bytes kind from to body h other =
-    let r = read_of bytes kind from to body h in
-    let yes : is_address (sender bytes) ≡ true = subst (λ (k : ℕ). is_address k ≡ true) (sym r.from_is) h.sender in
-    let clash : true ≡ false = sym yes ∙ other in cc
-
-pub frame_receiver : (bytes : List ℕ) (kind from to : ℕ) (body : List ℕ) → IsFrame bytes kind from to body → is_address (receiver bytes) ≡ false → ⊥
-frame_receiver bytes kind from to body h other =
-    let r = read_of bytes kind from to body h in
-    let yes : is_address (receiver bytes) ≡ true = subst (λ (k : ℕ). is_address k ≡ true) (sym r.to_is) h.receiver in
-    let clash : true ≡ false = sym yes ∙ other in cc
+pub none_refused : (parts bytes : List ℕ) (r : Result FrameView FrameRefusal) → parts ≡ bytes
+    → IfOk r (λ v. IsFrame parts v.kind v.from v.to v.body.now) → OnOk r (refusal bytes ≡ None)
+none_refused parts bytes (Ok v) e frame = ap refusal (sym e) ∙ accepted parts v.kind v.from v.to v.body.now frame
+none_refused parts bytes (Err d) e frame = tt

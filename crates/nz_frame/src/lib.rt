@@ -3,18 +3,19 @@
 #![tactic(auto)]
 
 mod address;
-mod error;
+mod comparing;
 mod frame;
 mod laws;
+mod reading;
 mod refusal;
 #[cfg(test)]
 mod tests;
 
 pub use address::{is_address, is_kind};
-pub use error::NoMemory;
-pub use frame::{Frame, FrameView, MOST_SHARED, frame_len};
+pub use frame::Frame;
 pub use laws::{
     cut_is_short, frames_pass, more_is_trailing, no_prefix, one_reading, only_frames_pass,
     short_place,
 };
+pub use reading::{FrameView, frame_len};
 pub use refusal::FrameRefusal;

@@ -1,10 +1,8 @@
 //! Frames, their prefixes, and refusals with their places.
 
-ghost use Rattle.std.specs.Prelude.{length, ◌≤◌};
-
 use super::*;
-use bytes::{Bytes, BytesMut};
-use std::alloc::Global;
+use bytes::Bytes;
+use std::alloc::{AllocError, Global};
 use std::process::Abort;
 use std::test::*;
 
@@ -14,6 +12,11 @@ const REQUEST: [u8; 19] = [0, 0, 0, 15, 1, 1, 0, 64, 0, 16, 0, 0, 0, 1, 0, 3, 2,
 // A view-ask from replica 1 to replica 0 for view 1.
 const VIEW_ASK: [u8; 18] = [0, 0, 0, 14, 1, 10, 0, 1, 0, 0, 0, 0, 0, 0, 0, 0, 0, 1];
 
+// The bytes, parted into a header and a body.
+fn frame_of(alloc: Global, bytes: &[u8]) -> Result<Frame, AllocError> {
+    Ok(Frame::from_bytes(Bytes::copy_from_slice(alloc, bytes)?))
+}
+
 #[test]
 fn frames_and_their_prefixes(rt: HostRuntime) -> Result<(), Fail> {
     let table: [(&[u8], u8, u16, u16); 2] = [(&REQUEST, 1, 64, 16), (&VIEW_ASK, 10, 1, 0)];
@@ -22,20 +25,22 @@ fn frames_and_their_prefixes(rt: HostRuntime) -> Result<(), Fail> {
         let view = Frame::read(bytes).ok().ok_or("the bytes are a frame")?;
         assert_eq!(rt; (view.kind, view.from, view.to), (kind, from, to));
         assert_eq!(rt; view.body, &bytes[10..]);
-        let mut room = BytesMut::new(rt.alloc());
-        let written = Frame::write(&mut room, kind, from, to, view.body);
-        let written = written.ok().ok_or("there is memory")?;
-        assert_eq!(rt; written.as_slice(), bytes);
+        let body = Bytes::copy_from_slice(rt.alloc(), view.body)?;
+        let made = Frame::new(kind, from, to, body);
+        assert_eq!(rt; made, frame_of(rt.alloc(), bytes)?);
         for end in 0..bytes.len() {
             let want = FrameRefusal::Short { place: end as u32 };
             assert_eq!(rt; Frame::read(&bytes[..end]).err(), Some(want));
+            let cut = frame_of(rt.alloc(), &bytes[..end])?;
+            assert_eq!(rt; cut.parts().err(), Some(want));
+            assert!(rt; cut != made);
         }
     }
     Ok(())
 }
 
 #[test]
-fn refusals(rt: HostRuntime) {
+fn refusals(rt: HostRuntime) -> Result<(), Fail> {
     let mut longer = [0; 20];
     longer[..19].copy_from_slice(&REQUEST);
     let mut other_version = REQUEST;
@@ -79,60 +84,40 @@ fn refusals(rt: HostRuntime) {
     ];
     for (bytes, want) in table {
         assert_eq!(rt; Frame::read(bytes).err(), Some(want));
-    }
-}
-
-// The frame, tried once more where memory was not found.
-fn written(room: &mut BytesMut, body: &[u8]) -> Result<Bytes, NoMemory>
-    requires { length body.now ≤ 16777210 }
-{
-    match Frame::write(room, 2, 16, 1, body) {
-        Ok(frame) => Ok(frame),
-        Err(_) => Frame::write(room, 2, 16, 1, body),
-    }
-}
-
-// Bodies that are cut from these bytes at other places differ.
-fn bytes_of_bodies() -> [u8; 2048] {
-    let mut bytes = [0; 2048];
-    for place in 0..bytes.len() {
-        bytes[place] = (place % 251) as u8;
-    }
-    bytes
-}
-
-// Frames of two bodies in turn, from one room, as they are once all are written.
-fn check_frames(rt: &impl Abort, alloc: Global, first: &[u8], last: &[u8]) -> Result<(), Fail>
-    requires first { length first.now ≤ 16777210 }
-    requires last { length last.now ≤ 16777210 }
-{
-    let mut room = BytesMut::new(alloc);
-    let frames = [
-        written(&mut room, first)?,
-        written(&mut room, last)?,
-        written(&mut room, first)?,
-        written(&mut room, last)?,
-    ];
-    for (frame, body) in frames.iter().zip([first, last, first, last]) {
-        let view = Frame::read(frame.as_slice()).ok().ok_or("it is a frame")?;
-        assert_eq!(rt; (view.kind, view.from, view.to), (2, 16, 1));
-        assert_eq!(rt; view.body, body);
+        assert_eq!(rt; frame_of(rt.alloc(), bytes)?.parts().err(), Some(want));
     }
     Ok(())
 }
 
-// Small frames share blocks, and large ones between them do not: each stays as it was written.
-#[test]
-fn frames_of_one_room(rt: HostRuntime) -> Result<(), Fail> {
-    let bytes = bytes_of_bodies();
-    let table: [(&[u8], &[u8]); 4] = [
-        (&bytes[..3], &bytes[3..11]),
-        (&bytes[..MOST_SHARED], &bytes[3..MOST_SHARED + 3]),
-        (&bytes[..MOST_SHARED + 1], &bytes[3..MOST_SHARED + 3]),
-        (&[], &bytes[3..MOST_SHARED + 4]),
-    ];
-    for (first, last) in table {
-        check_frames(&rt, rt.alloc(), first, last)?;
+// Of so many of the bytes: the length, the header and the body.
+fn check_parts(rt: &impl Abort, alloc: Global, bytes: &[u8]) -> Result<(), AllocError> {
+    let frame = frame_of(alloc, bytes)?;
+    let (header, body) = bytes.split_at(bytes.len().min(10));
+    for frame in [&frame, &frame.clone()?] {
+        assert_eq!(rt; frame.len(), bytes.len());
+        assert_eq!(rt; frame.header(), header);
+        assert_eq!(rt; frame.body().as_slice(), body);
     }
+    Ok(())
+}
+
+#[test]
+fn bytes_in_two_parts(rt: HostRuntime) -> Result<(), Fail> {
+    for count in 0..20 {
+        check_parts(&rt, rt.alloc(), &REQUEST[..count])?;
+    }
+    Ok(())
+}
+
+// Two frames with one body differ in their headers alone.
+#[test]
+fn one_body_of_two_frames(rt: HostRuntime) -> Result<(), Fail> {
+    let body = Bytes::copy_from_slice(rt.alloc(), &REQUEST[10..])?;
+    let first = Frame::new(1, 64, 16, body.clone()?);
+    let second = Frame::new(1, 64, 17, body);
+    assert_eq!(rt; first, frame_of(rt.alloc(), &REQUEST)?);
+    assert!(rt; first != second);
+    assert_eq!(rt; second.parts().map(|view| view.to), Ok(17));
+    assert_eq!(rt; first.body(), second.body());
     Ok(())
 }

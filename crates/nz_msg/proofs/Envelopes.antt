@@ -26,7 +26,6 @@ use Rattle.nz_msg.specs.Envelope.{encode_of, Spells, actor_if_known, unless_refu
 use Rattle.nz_msg.specs.declared.fault.Fault.{Fault}
 use Rattle.nz_msg.specs.declared.fault.Fault.TheVariants as faults
 use Rattle.nz_msg.specs.Reading.{Fails, IsPlaced, refusal_at}
-use Rattle.nz_msg.specs.Rest.{IsEndOf}
 use Rattle.nz_msg.proofs.Messages.{body_again, body_takes, body_long, body_within}
 
 -- ---- kinds and addresses
@@ -164,12 +163,9 @@ fault_placed bytes kind from to body (faults.Bad left) f e =
 pub frame_small : (bytes : List ℕ) (kind from to : ℕ) (body : List ℕ) → IsFrame bytes kind from to body → length bytes < 2 ^ 32
 frame_small bytes kind from to body f = let r = frames.read_of bytes kind from to body f in let fits = f.fits in omega (arith, r.long)
 
--- the body is the end of its frame
-pub body_ends : (bytes : List ℕ) (kind from to : ℕ) (body : List ℕ) → IsFrame bytes kind from to body → IsEndOf body bytes
-body_ends bytes kind from to body f =
-    let r = frames.read_of bytes kind from to body f in
-    let ten : length bytes - length body ≡ 10 = omega (arith, r.long) in
-    record { short = omega (arith, r.long); last = rw ten (sym r.body_is) }
+-- what follows the header is the body
+pub rest_is_body : (bytes : List ℕ) (kind from to : ℕ) (body rest : List ℕ) → IsFrame bytes kind from to body → rest ≡ drop 10 bytes → rest ≡ body
+rest_is_body bytes kind from to body rest f is = let r = frames.read_of bytes kind from to body f in is ∙ r.body_is
 
 pub fault_refused : (bytes : List ℕ) (kind from to : ℕ) (body : List ℕ) (a b : Actor) (fault : Fault)
     → refusal bytes ≡ None → IsFrame bytes kind from to body → actor_at from ≡ Some a → actor_at to ≡ Some b → Fails fault (body_at kind body)

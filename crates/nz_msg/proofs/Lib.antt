@@ -3,7 +3,6 @@ pub mod Codecs
 pub mod Fields
 pub mod Messages
 pub mod Envelopes
-pub mod Frames
 pub mod Follows
 pub mod Turns
 pub mod Loops

@@ -20,105 +20,79 @@ use super::sizes::size_of;
 use super::spelling::{kind, put_body};
 use bytes::{Bytes, BytesMut};
 use nz_base::{Actor, NoMemory};
-use nz_frame::{Frame, MOST_SHARED};
+use nz_frame::Frame;
 use std::alloc::Global;
 
-/// The body of the message, which all its frames have.
-pub fn write_body(alloc: Global, message: &Message) -> Result<Vec<u8>, NoMemory>
+/// Small bodies are written one after the other into blocks of this many bytes.
+const BLOCK: usize = 4096;
+
+/// The greatest small body. A larger one gets memory of its own: a block is filled with zeros when it is taken, so the
+/// bytes of a large body would be gone over twice.
+const MOST_SHARED: usize = 1024;
+
+// A small body, in the room. Bytes that the room still has are given up.
+fn write_small(room: &mut BytesMut, message: &Message, size: usize) -> Result<Bytes, NoMemory>
     requires { Fits message.now }
-    ensures { IfOk result (λ body. body.items ≡ body_of message.now) }
+    ensures { IfOk result (λ body. body ≡ body_of message.now) }
 {
-    let mut body = Vec::with_capacity(alloc, size_of(message))?;
-    put_body(&mut body, message)?;
-    Ok(body)
-}
-
-/// The one frame of the message, whose body was written, from one actor to another. A small one is written in the room.
-#[tactic(auto, unfolding(crate::specs::Envelope::encode_of))]
-pub fn frame_of(
-    room: &mut BytesMut,
-    from: Actor,
-    to: Actor,
-    message: &Message,
-    body: &[u8],
-) -> Result<Bytes, NoMemory>
-    requires valid { Fits message.now }
-    requires body { body.now ≡ body_of message.now }
-    requires from { HasAddress from }
-    requires to { HasAddress to }
-    ensures { IfOk result (λ bytes. bytes ≡ encode_of from to message.now) }
-{
-    match Frame::write(room, kind(message), from.address(), to.address(), body) {
-        Ok(bytes) => Ok(bytes),
-        Err(_) => Err(NoMemory),
+    room.clear();
+    if room.capacity() < size {
+        room.reserve(BLOCK)?;
     }
-}
-
-// A small frame, whose body is written where it stays.
-#[tactic(auto, unfolding(crate::specs::Envelope::encode_of))]
-fn encode_in(
-    room: &mut BytesMut,
-    from: Actor,
-    to: Actor,
-    message: &Message,
-    size: usize,
-) -> Result<Bytes, NoMemory>
-    requires valid { Fits message.now }
-    requires from { HasAddress from }
-    requires to { HasAddress to }
-    ensures { IfOk result (λ bytes. bytes ≡ encode_of from to message.now) }
-{
-    let Ok(()) = Frame::open(room, size) else {
-        return Err(NoMemory);
-    };
     put_body(room, message)?;
-    match Frame::close(room, kind(message), from.address(), to.address()) {
-        Ok(frame) => Ok(frame),
-        Err(_) => Err(NoMemory),
-    }
+    let size = room.len();
+    Ok(room.freeze_to(size)?)
 }
 
-// A frame in memory of its own, whose body is written where it stays.
+// A large body, in memory of its own. What memory is left over is given back.
+fn write_large(alloc: Global, message: &Message, size: usize) -> Result<Bytes, NoMemory>
+    requires { Fits message.now }
+    ensures { IfOk result (λ body. body ≡ body_of message.now) }
+{
+    let mut body = Vec::with_capacity(alloc, size)?;
+    put_body(&mut body, message)?;
+    body.shrink_to_fit();
+    Ok(Bytes::from_vec(body)?)
+}
+
+/// The body of the message, which all its frames have in common. A small one is written in the room.
+pub fn write_body(room: &mut BytesMut, message: &Message) -> Result<Bytes, NoMemory>
+    requires { Fits message.now }
+    ensures { IfOk result (λ body. body ≡ body_of message.now) }
+{
+    let size = size_of(message);
+    if size <= MOST_SHARED {
+        return write_small(room, message, size);
+    }
+    write_large(*room.allocator(), message, size)
+}
+
+/// The one frame of the message, whose body was written, from one actor to another. It takes no memory.
 #[tactic(auto, unfolding(crate::specs::Envelope::encode_of))]
-fn encode_alone(
-    alloc: Global,
-    from: Actor,
-    to: Actor,
-    message: &Message,
-    size: usize,
-) -> Result<Bytes, NoMemory>
+pub fn frame_of(from: Actor, to: Actor, message: &Message, body: Bytes) -> Frame
     requires valid { Fits message.now }
+    requires body { body ≡ body_of message.now }
     requires from { HasAddress from }
     requires to { HasAddress to }
-    ensures { IfOk result (λ bytes. bytes ≡ encode_of from to message.now) }
+    ensures { result ≡ encode_of from to message.now }
 {
-    let Ok(mut bytes) = Frame::open_alone(alloc, size) else {
-        return Err(NoMemory);
-    };
-    put_body(&mut bytes, message)?;
-    match Frame::close_alone(bytes, kind(message), from.address(), to.address()) {
-        Ok(frame) => Ok(frame),
-        Err(_) => Err(NoMemory),
-    }
+    Frame::new(kind(message), from.address(), to.address(), body)
 }
 
-/// The one frame of the message from one actor to another. A small one is written in the room.
+/// The one frame of the message from one actor to another. A small body is written in the room.
 pub fn encode(
     room: &mut BytesMut,
     from: Actor,
     to: Actor,
     message: &Message,
-) -> Result<Bytes, NoMemory>
+) -> Result<Frame, NoMemory>
     requires valid { Fits message.now }
     requires from { HasAddress from }
     requires to { HasAddress to }
-    ensures { IfOk result (λ bytes. bytes ≡ encode_of from to message.now) }
+    ensures { IfOk result (λ frame. frame ≡ encode_of from to message.now) }
 {
-    let size = size_of(message);
-    if size <= MOST_SHARED {
-        return encode_in(room, from, to, message, size);
-    }
-    encode_alone(*room.allocator(), from, to, message, size)
+    let body = write_body(room, message)?;
+    Ok(frame_of(from, to, message, body))
 }
 
 // The actor at an address that belongs to somebody.
@@ -146,28 +120,27 @@ fn placed(fault: Fault, size: usize) -> DecodeRefusal
     }
 }
 
-// What a frame of these bytes says.
-fn read(alloc: Global, frame: &Bytes, bytes: &[u8]) -> Result<Envelope, DecodeRefusal>
-    requires { bytes.now ≡ frame.now }
+// What the frame says.
+fn read(alloc: Global, frame: &Frame) -> Result<Envelope, DecodeRefusal>
     ensures decoded { IfOk result (λ envelope. decode_of frame.now ≡ Ok envelope) }
     ensures refused { IfErr result (λ refusal. IsRefusedAs frame.now refusal) }
     ensures bytes { AreBytes frame.now }
 {
-    let view = match Frame::read(bytes) {
+    let view = match frame.parts() {
         Ok(view) => view,
         Err(refusal) => return Err(DecodeRefusal::Frame(refusal)),
     };
     let from = actor_of(view.from);
     let to = actor_of(view.to);
-    match message_of(alloc, view.kind, Rest::new(frame, view.body)) {
+    match message_of(alloc, view.kind, Rest::new(frame.body())) {
         Ok(message) => Ok(Envelope { from, to, message }),
-        Err(fault) => Err(placed(fault, bytes.len())),
+        Err(fault) => Err(placed(fault, frame.len())),
     }
 }
 
 /// The message of a frame, with who sends it and who gets it. The frame's own tests come before those of
 /// its body.
-pub fn decode(alloc: Global, frame: &Bytes) -> Result<Envelope, DecodeRefusal>
+pub fn decode(alloc: Global, frame: &Frame) -> Result<Envelope, DecodeRefusal>
     // The bytes are the frame of what is decoded.
     ensures spelled { IfOk result (λ envelope. Spells envelope frame.now) }
     // Whatever the bytes are the frame of is decoded, where there is memory.
@@ -177,5 +150,5 @@ pub fn decode(alloc: Global, frame: &Bytes) -> Result<Envelope, DecodeRefusal>
     ensures decoded { IfOk result (λ envelope. decode_of frame.now ≡ Ok envelope) }
     ensures refused { IfErr result (λ refusal. IsRefusedAs frame.now refusal) }
 {
-    read(alloc, frame, frame.as_slice())
+    read(alloc, frame)
 }

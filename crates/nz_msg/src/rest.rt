@@ -1,16 +1,15 @@
-//! What is left to read of a frame.
+//! What is left to read of a body.
 
 ghost use Rattle.std.specs.Prelude.{◌≡◌, ◌≤◌, ◌==◌, length, take, drop, IfOk};
-ghost use Rattle.nz_msg.specs.Rest.{IsEndOf};
 
 use bytes::Bytes;
 use nz_base::{Blob, NoMemory};
 use std::marker::Model;
 
-/// The last bytes of a frame, which are still to be read. A clause sees the list of them.
+/// The last bytes of a body, which are still to be read. A clause sees the list of them.
 #[derive(Debug, Drop)]
 pub struct Rest<'a> {
-    frame: &'a Bytes,
+    body: &'a Bytes,
     bytes: &'a [u8],
 }
 
@@ -22,16 +21,18 @@ impl<'a> Model for Rest<'a> {
 
     ghost view = { λ r. r.bytes.now };
 
-    ghost invariant = { λ r. IsEndOf r.bytes.now r.frame.now };
+    ghost invariant = { λ r. IsEndOf r.bytes.now r.body.now };
 }
 
 impl<'a> Rest<'a> {
-    /// These bytes, which end the frame.
-    pub fn new(frame: &'a Bytes, bytes: &'a [u8]) -> Rest<'a>
-        requires { IsEndOf bytes.now frame.now }
-        ensures { result ≡ bytes.now }
+    /// The whole body.
+    pub fn new(body: &'a Bytes) -> Rest<'a>
+        ensures { result ≡ body.now }
     {
-        Rest { frame, bytes }
+        Rest {
+            body,
+            bytes: body.as_slice(),
+        }
     }
 
     pub fn len(&self) -> usize
@@ -57,7 +58,7 @@ impl<'a> Rest<'a> {
         ensures { result ≡ self.now }
     {
         Rest {
-            frame: self.frame,
+            body: self.body,
             bytes: self.bytes,
         }
     }
@@ -68,17 +69,17 @@ impl<'a> Rest<'a> {
         ensures { result ≡ drop len self.entry }
     {
         Rest {
-            frame: self.frame,
+            body: self.body,
             bytes: &self.bytes[len..],
         }
     }
 
-    /// The first so many bytes, as a share of the frame.
+    /// The first so many bytes, as a share of the body.
     pub fn share(&self, len: usize) -> Result<Blob, NoMemory>
         requires { len ≤ length self.now }
         ensures { IfOk result (λ blob. blob ≡ take len self.now) }
     {
-        let from = self.frame.len() - self.bytes.len();
-        Ok(Blob::from_bytes(self.frame.slice(from..from + len)?))
+        let from = self.body.len() - self.bytes.len();
+        Ok(Blob::from_bytes(self.body.slice(from..from + len)?))
     }
 }

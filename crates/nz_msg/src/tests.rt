@@ -6,6 +6,7 @@ use super::sizes::size_of;
 use super::*;
 use bytes::{Bytes, BytesMut};
 use nz_base::{Actor, Blob, Entry, EntryList, Key, NoMemory};
+use nz_frame::Frame;
 use std::alloc::Global;
 use std::test::Fail;
 
@@ -131,12 +132,12 @@ fn bytes_of(alloc: Global, text: &str) -> Result<Vec<u8>, NoMemory> {
 }
 
 // The same as a frame.
-fn frame_of(alloc: Global, text: &str) -> Result<Bytes, NoMemory> {
-    Ok(Bytes::from_vec(bytes_of(alloc, text)?)?)
+fn frame_of(alloc: Global, text: &str) -> Result<Frame, NoMemory> {
+    Ok(Frame::from_bytes(Bytes::from_vec(bytes_of(alloc, text)?)?))
 }
 
 // The frame of what a frame is decoded as.
-fn again(alloc: Global, frame: &Bytes) -> Option<Bytes> {
+fn again(alloc: Global, frame: &Frame) -> Option<Frame> {
     match decode(alloc, frame) {
         Ok(envelope) => {
             let mut room = BytesMut::new(alloc);
@@ -188,12 +189,12 @@ fn messages_made_here(rt: HostRuntime) -> Result<(), Fail> {
         command: Blob::from_slice(alloc, &[2, 1, 97])?,
     });
     assert!(rt; request.is_valid());
-    let bytes = encode(&mut room, Actor::Client(0), Actor::Proxy(0), &request)?;
-    assert_eq!(rt; bytes.as_slice(), bytes_of(alloc, REQUEST)?.as_slice());
+    let frame = encode(&mut room, Actor::Client(0), Actor::Proxy(0), &request)?;
+    assert_eq!(rt; frame, frame_of(alloc, REQUEST)?);
     let view_ask = Message::ViewAsk(ViewAskBody { view: 1 });
     assert!(rt; view_ask.is_valid());
-    let bytes = encode(&mut room, Actor::Replica(1), Actor::Replica(0), &view_ask)?;
-    assert_eq!(rt; bytes.as_slice(), bytes_of(alloc, VIEW_ASK)?.as_slice());
+    let frame = encode(&mut room, Actor::Replica(1), Actor::Replica(0), &view_ask)?;
+    assert_eq!(rt; frame, frame_of(alloc, VIEW_ASK)?);
     Ok(())
 }
 
@@ -215,14 +216,14 @@ fn fetch_reply(alloc: Global, more: usize) -> Result<Message, NoMemory>
     Ok(Message::FetchReply(FetchReplyBody { view: 0, entries }))
 }
 
-// The message's frame, from replica 1 to replica 0. Its body is written where it stays, and once more before.
-fn two_frames(room: &mut BytesMut, message: &Message) -> Result<[Bytes; 2], NoMemory>
+// The message's frame, from replica 1 to replica 0, and another whose body was written before.
+fn two_frames(room: &mut BytesMut, message: &Message) -> Result<[Frame; 2], NoMemory>
     requires { Fits message.now }
 {
     let (from, to) = (Actor::Replica(1), Actor::Replica(0));
     let frame = encode(room, from, to, message)?;
-    let body = write_body(*room.allocator(), message)?;
-    Ok([frame, super::frame_of(room, from, to, message, &body)?])
+    let body = write_body(room, message)?;
+    Ok([frame, super::frame_of(from, to, message, body)])
 }
 
 #[test]
@@ -236,7 +237,7 @@ fn frames_of_one_room(rt: HostRuntime) -> Result<(), Fail> {
         let small = two_frames(&mut room, &view_ask)?;
         let large = two_frames(&mut room, &message)?;
         for frame in &small {
-            assert_eq!(rt; frame.as_slice(), bytes_of(alloc, VIEW_ASK)?.as_slice());
+            assert_eq!(rt; frame, &frame_of(alloc, VIEW_ASK)?);
         }
         for frame in &large {
             assert_eq!(rt; frame.len(), 1_033 + more);
@@ -267,7 +268,7 @@ fn is_as_told(alloc: Global, line: &str) -> Result<bool, Fail> {
             && Actor::from_address((from % 256) as u16) == Some(envelope.from)
             && Actor::from_address((to % 256) as u16) == Some(envelope.to)
             && same == frame
-            && size_of(&envelope.message) == frame.len().saturating_sub(10),
+            && size_of(&envelope.message) == frame.body().len(),
     )
 }
 
@@ -279,7 +280,7 @@ fn messages_of_each_kind(rt: HostRuntime) -> Result<(), Fail> {
     Ok(())
 }
 
-fn is_refused(alloc: Global, frame: &Bytes, want: DecodeRefusal) -> bool {
+fn is_refused(alloc: Global, frame: &Frame, want: DecodeRefusal) -> bool {
     decode(alloc, frame).err() == Some(want)
 }
 
@@ -308,7 +309,7 @@ fn long_log() -> &'static str {
 }
 
 // The frame of 2,000 entries of 21 bytes, the last of which is the last client's request by this number.
-fn log_of(alloc: Global, last: u32) -> Result<Bytes, NoMemory> {
+fn log_of(alloc: Global, last: u32) -> Result<Frame, NoMemory> {
     let mut bytes = bytes_of(alloc, long_log())?;
     for place in 0..2000u32 {
         let num = if place == 1999 { last } else { place + 1 };
@@ -317,7 +318,7 @@ fn log_of(alloc: Global, last: u32) -> Result<Bytes, NoMemory> {
         bytes.extend_from_slice(&num.to_be_bytes())?;
         bytes.extend_from_slice(&[0, 3, 2, 1, 97])?;
     }
-    Ok(Bytes::from_vec(bytes)?)
+    Ok(Frame::from_bytes(Bytes::from_vec(bytes)?))
 }
 
 // The last client has greater numbers before it, and not this one.
