@@ -1,11 +1,10 @@
 -- What is where in a log, and the digest of the entries up to a place.
-use Rattle.std.specs.Prelude.{◌≡◌, ℕ, suc, ◌-◌, ◌<◌, true, false, List, [], ◌∷◌, length, map, take}
+use Rattle.std.specs.Prelude.{◌≡◌, ℕ, suc, ◌-◌, ◌<◌, true, List, [], ◌∷◌, length, map, take}
 use Rattle.std.specs.Prelude.{slice_get, slice_index_or, Option, Some, None, if◌then◌else◌}
 use Rattle.std.specs.Option.{option_map}
 use Rattle.nz_base.specs.declared.key.Id.{Id}
 use Rattle.nz_base.specs.declared.key.Entry.{Entry}
 use Rattle.nz_base.specs.Key.{id_eq, id_of}
-use Rattle.nz_base.specs.Log.{keys_of, has_id}
 use Rattle.nz_digest.specs.Digests.{EntryKey, digest}
 
 -- The first place of an entry with the id, if there is one.

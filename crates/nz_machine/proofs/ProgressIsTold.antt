@@ -34,6 +34,7 @@ use Rattle.nz_machine.specs.ClientProgress.{Progress, first_progress, acceptance
 use Rattle.nz_machine.specs.ClientProgress.{progress_of, acceptance_in, acceptance_read, acceptance_of, with_answer, num_in, num_read, num_of}
 use Rattle.nz_machine.specs.ClientProgress.{new_in, with_num, new_among, with_all, after_client_record, AreAfter, IsNoneOf}
 use Rattle.nz_machine.specs.Records.{IsSilentClock}
+use Rattle.nz_machine.specs.Tellings.{nothing_told, telling_in}
 use Rattle.nz_machine.specs.World.{state_after, IsMember, World}
 use Rattle.nz_machine.proofs.Runs.{FitsOut, AllFit, acts_itself, stays, sends_have}
 use Rattle.nz_machine.proofs.EachItem.{all_append}
@@ -341,11 +342,11 @@ kept_progress : (g : Group) (J : List Record) (clients : List Progress) (c : ℕ
 kept_progress g J clients c p h lt is = same_Some p (progress_of (state_after g (Client c) J)) (sym is ∙ h.each c (omega (arith, h.count, lt)))
 
 pub own_told : (g : Group) (c : ℕ) (r : Record) (J : List Record) (clients : List Progress) (p : Progress)
-    → World g (r ∷ J) → r.actor ≡ Client c → AreAfter g J clients → c < length clients → slice_get clients c ≡ Some p
-    → events_of_telling g (after_client_record c p r.event r.sends).0 ≡ client_events g r.actor r J
-own_told g c r J clients p w by h lt is =
-    ap (λ (x : Progress). events_of_telling g (after_client_record c x r.event r.sends).0)
-    (kept_progress g J clients c p h lt is) ∙ (record_shows g c r J w by).told
+    → r.actor ≡ Client c → AreAfter g J clients → c < length clients → slice_get clients c ≡ Some p
+    → (after_client_record c p r.event r.sends).0 ≡ telling_in g r.actor r J
+own_told g c r J clients p by h lt is =
+    ap (λ (x : Progress). (after_client_record c x r.event r.sends).0) (kept_progress g J clients c p h lt is)
+    ∙ ap (λ (a : Actor). telling_in g a r J) (sym by)
 
 set_other : {X : Type 0} (xs : List X) (i k : ℕ) (x : X) → k ≢ i → slice_get (set xs i x) k ≡ slice_get xs k
 set_other [] i k x ne = refl
@@ -384,7 +385,8 @@ own_after g c r J clients p w by h lt is = record {
   each = λ k member. own_each g c r J clients p w by h lt is k member (eqb c k) refl;
 }
 
-tells_nothing : (g : Group) (a : Actor) (r : Record) (J : List Record) → IsMember g a → IsNoneOf (length g.scripts) a → [] ≡ client_events g a r J
+tells_nothing : (g : Group) (a : Actor) (r : Record) (J : List Record) → IsMember g a → IsNoneOf (length g.scripts) a
+    → nothing_told ≡ telling_in g a r J
 tells_nothing g (Client c) r J member other = absurd (omega (arith, member, other))
 tells_nothing g (Replica m) r J member other = refl
 tells_nothing g (Proxy p) r J member other = refl
@@ -404,19 +406,19 @@ told_by c p a sends =
 pub silent_tells : (g : Group) (c : ℕ) (r : Record) (J : List Record) (clients : List Progress)
     → World g (r ∷ J) → r.actor ≡ Client c → c < length clients → r.sends ≡ []
     → ((k : ℕ) (p : Progress) → acceptance_of k p r.event ≡ None) → AreAfter g J clients
-    → (client_events g r.actor r J ≡ []) × AreAfter g (r ∷ J) clients
+    → (telling_in g r.actor r J ≡ nothing_told) × AreAfter g (r ∷ J) clients
 silent_tells g c r J clients w by lt none quiet h =
     let p = get_or clients c first_progress in
     let there : slice_get clients c ≡ Some p = slice_get-get_or clients c first_progress lt in
     let is : told_by c p (acceptance_of c p r.event) r.sends ≡ told_by c p None [] =
     ap (λ (a : Option Acceptance). told_by c p a r.sends) (quiet c p) ∙ ap (told_by c p None) none in (
-      sym (own_told g c r J clients p w by h lt there) ∙ ap (λ (x : Telling × Progress). events_of_telling g x.0) is,
+      sym (own_told g c r J clients p by h lt there) ∙ ap (λ (x : Telling × Progress). x.0) is,
       subst (AreAfter g (r ∷ J)) (ap (λ (x : Telling × Progress). set clients c x.1) is ∙ set-get_or clients c first_progress)
           (own_after g c r J clients p w by h lt there),
     )
 
 pub other_told : (g : Group) (r : Record) (J : List Record) (clients : List Progress) → World g (r ∷ J)
-    → IsNoneOf (length clients) r.actor → AreAfter g J clients → [] ≡ client_events g r.actor r J
+    → IsNoneOf (length clients) r.actor → AreAfter g J clients → nothing_told ≡ telling_in g r.actor r J
 other_told g r J clients w other h = tells_nothing g r.actor r J w.0.member (other_client g J clients r.actor h other)
 
 not_client : (g : Group) (a : Actor) (c : ℕ) → IsMember g a → IsNoneOf (length g.scripts) a → actor_eq a (Client c) ≡ false
@@ -439,11 +441,11 @@ clock_accepts : (e : Event) (reading : ℕ) → e ≡ Tick reading → (k : ℕ)
 clock_accepts e reading is k p = ap (acceptance_of k p) is
 
 clock_of_other : (g : Group) (r : Record) (J : List Record) (clients : List Progress) → IsNoneOf (length clients) r.actor
-    → World g (r ∷ J) → AreAfter g J clients → (client_events g r.actor r J ≡ []) × AreAfter g (r ∷ J) clients
+    → World g (r ∷ J) → AreAfter g J clients → (telling_in g r.actor r J ≡ nothing_told) × AreAfter g (r ∷ J) clients
 clock_of_other g r J clients other w h = (sym (other_told g r J clients w other h), other_after g r J clients w other h)
 
 clock_of : (g : Group) (a : Actor) (r : Record) (J : List Record) (clients : List Progress) → r.actor ≡ a → IsMember g a → IsSilentClock r
-    → World g (r ∷ J) → AreAfter g J clients → (client_events g r.actor r J ≡ []) × AreAfter g (r ∷ J) clients
+    → World g (r ∷ J) → AreAfter g J clients → (telling_in g r.actor r J ≡ nothing_told) × AreAfter g (r ∷ J) clients
 clock_of g (Client c) r J clients by member s w h =
     let count = h.count in
     silent_tells g c r J clients w by (omega (arith, member, count)) s.silent (clock_accepts r.event s.reading s.read) h
@@ -451,5 +453,5 @@ clock_of g (Replica m) r J clients by member s w h = clock_of_other g r J client
 clock_of g (Proxy p) r J clients by member s w h = clock_of_other g r J clients (subst (IsNoneOf (length clients)) (sym by) tt) w h
 
 pub silent_clock_tells : (g : Group) (r : Record) (J : List Record) (clients : List Progress) → IsSilentClock r → World g (r ∷ J)
-    → AreAfter g J clients → (client_events g r.actor r J ≡ []) × AreAfter g (r ∷ J) clients
+    → AreAfter g J clients → (telling_in g r.actor r J ≡ nothing_told) × AreAfter g (r ∷ J) clients
 silent_clock_tells g r J clients s w h = clock_of g r.actor r J clients refl w.0.member s w h

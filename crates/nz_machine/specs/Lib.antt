@@ -31,5 +31,6 @@ pub mod Schedule
 pub mod Records
 pub mod Journals
 pub mod ClientProgress
+pub mod Tellings
 pub mod Hearing
 pub mod Shows

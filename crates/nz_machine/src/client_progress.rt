@@ -3,13 +3,14 @@ ghost use Rattle.std.specs.Prelude.{◌≡◌, ◌<◌, ◌∷◌, ◌++◌, [],
 ghost use Rattle.std.specs.List.{list_any};
 ghost use Rattle.nz_base.specs.declared.actor.Actor.TheVariants as actors;
 ghost use Rattle.nz_msg.specs.declared.message.Message.TheVariants as messages;
-ghost use Rattle.nz_machine.specs.Events.{id_at, client_events};
+ghost use Rattle.nz_machine.specs.Events.{id_at};
 ghost use Rattle.nz_machine.specs.Schedule.{group_of};
 ghost use Rattle.nz_machine.specs.State.{Group};
 ghost use Rattle.nz_machine.specs.ClientProgress as client_progress;
 ghost use Rattle.nz_machine.specs.ClientProgress.{Progress as ProgressModel};
-ghost use Rattle.nz_machine.specs.ClientProgress.{events_of_telling, first_progress, AreAfter, IsNoneOf, acceptance_in, acceptance_read, acceptance_of};
+ghost use Rattle.nz_machine.specs.ClientProgress.{first_progress, AreAfter, IsNoneOf, acceptance_in, acceptance_read, acceptance_of};
 ghost use Rattle.nz_machine.specs.ClientProgress.{with_answer, new_in, with_num, new_among, with_all, after_client_record};
+ghost use Rattle.nz_machine.specs.Tellings.{nothing_told, telling_in};
 ghost use Rattle.nz_machine.specs.World.{World};
 ghost use Rattle.nz_machine.specs.declared.event.Record.{Record as RecordModel};
 
@@ -268,7 +269,7 @@ impl Clients {
     /// Whether the next record of a run, of which the earlier ones were read, tells nothing.
     pub fn tells_nothing(&self, next: &Record) -> bool
         ensures told { IsTrue result → (g : Group) (J : List RecordModel) → World g (next.now ∷ J)
-            → AreAfter g J self.now → client_events g next.now.actor next.now J ≡ [] }
+            → AreAfter g J self.now → telling_in g next.now.actor next.now J ≡ nothing_told }
         ensures after { IsTrue result → (g : Group) (J : List RecordModel) → World g (next.now ∷ J) → AreAfter g J self.now → AreAfter g (next.now ∷ J) self.now }
     {
         match self.number_of(next.actor) {
@@ -282,7 +283,7 @@ impl Clients {
         requires actor { next.now.actor ≡ actors.Client client }
         requires there { client < length self.old }
         ensures told { IfOk result (λ telling. (g : Group) (J : List RecordModel) → World g (next.now ∷ J)
-            → AreAfter g J self.old → events_of_telling g telling ≡ client_events g next.now.actor next.now J) }
+            → AreAfter g J self.old → telling ≡ telling_in g next.now.actor next.now J) }
         ensures after { OnOk result ((g : Group) (J : List RecordModel) → World g (next.now ∷ J) → AreAfter g J self.old → AreAfter g (next.now ∷ J) self.new) }
     {
         let place = client as usize;
@@ -292,7 +293,7 @@ impl Clients {
     /// What the next record of a run says, of which the earlier ones were read.
     pub fn tell(&mut self, alloc: Global, next: &Record) -> Result<Telling, NoMemory>
         ensures told { IfOk result (λ telling. (g : Group) (J : List RecordModel) → World g (next.now ∷ J)
-            → AreAfter g J self.old → events_of_telling g telling ≡ client_events g next.now.actor next.now J) }
+            → AreAfter g J self.old → telling ≡ telling_in g next.now.actor next.now J) }
         ensures after { OnOk result ((g : Group) (J : List RecordModel) → World g (next.now ∷ J) → AreAfter g J self.old → AreAfter g (next.now ∷ J) self.new) }
     {
         match self.number_of(next.actor) {

@@ -2,8 +2,8 @@
 
 ghost use Rattle.std.specs.Prelude.{◌≡◌, IfOk};
 
-use bytes::Bytes;
 use nz_base::{Actor, List, NoMemory, TryCopy};
+use nz_frame::Frame;
 use std::alloc::Global;
 use std::marker::Model;
 use std::sync::Arc;
@@ -13,7 +13,7 @@ use std::sync::Arc;
 pub struct Parcel {
     pub from: Actor,
     pub to: Actor,
-    pub frame: Bytes,
+    pub frame: Frame,
 }
 
 /// A parcel that the step which sent it and each step to which it comes have in common. Contracts see the parcel. A copy

@@ -7,10 +7,10 @@ use nz_frame::Frame;
 
 /// The kind of the message in a frame. What is no frame has none.
 #[tactic(auto, unfolding(nz_frame::specs::Grammar::frame))]
-pub fn kind_of(frame: &[u8]) -> Option<u8>
+pub fn kind_of(frame: &Frame) -> Option<u8>
     ensures { result ≡ kind_in_frame frame.now }
 {
-    match Frame::read(frame) {
+    match frame.parts() {
         Ok(view) => Some(view.kind),
         Err(_) => None,
     }

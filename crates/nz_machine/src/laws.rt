@@ -32,7 +32,9 @@ ghost use Rattle.nz_msg.specs.Messages.{
 };
 ghost use Rattle.nz_machine.specs.declared.event.Parcel.{Parcel};
 ghost use Rattle.nz_machine.specs.declared.event.Record.{Record};
+ghost use Rattle.nz_machine.specs.Events.{events};
 ghost use Rattle.nz_machine.specs.State.{ReplicaData, Group};
+ghost use Rattle.nz_machine.specs.Tellings.{told_by_run, events_of_told};
 ghost use Rattle.nz_machine.specs.World.{World, sent_in, Has, IsMember};
 ghost use Rattle.nz_machine.specs.Facts.{HasFacts};
 ghost use Rattle.nz_machine.specs.Replicas.{first_replica, is_normal};
@@ -112,4 +114,9 @@ pub fn due_entries_are_released()
 /// In every run each parcel is for an actor of the group.
 pub fn receivers_take_part()
     ensures { (g : Group) (J : List Record) (parcel : Parcel) → World g J → Has (sent_in J) parcel → IsMember g parcel.to }
+{}
+
+/// What the records of a run tell is what its clients see.
+pub fn events_are_told()
+    ensures { (g : Group) (J : List Record) → World g J → events_of_told g (told_by_run g J) ≡ events g J }
 {}

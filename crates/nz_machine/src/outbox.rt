@@ -1,19 +1,19 @@
 //! What a step sends, and how a message becomes a parcel.
 
-ghost use Rattle.std.specs.Prelude.{◌≡◌, ◌∷◌, ◌++◌, [], OnOk};
+ghost use Rattle.std.specs.Prelude.{◌≡◌, ◌∷◌, ◌++◌, [], IfOk, OnOk};
 ghost use Rattle.nz_base.specs.Actor.{HasAddress};
 ghost use Rattle.nz_msg.specs.Messages.{Fits, body_of};
 ghost use Rattle.nz_machine.specs.Step.{parcel};
 
 use super::event::{Parcel, Sends, SharedParcel};
-use bytes::BytesMut;
+use bytes::{Bytes, BytesMut};
 use nz_base::{Actor, NoMemory};
-use nz_msg::{Message, encode, frame_of};
+use nz_msg::{Message, encode, frame_of, write_body};
 use std::alloc::Global;
 use std::marker::Model;
 use std::mem;
 
-/// What a step has sent so far. Contracts see the parcels. Small frames are written one after the other into memory that
+/// What a step has sent so far. Contracts see the parcels. Small bodies are written one after the other into memory that
 /// lasts from step to step.
 #[derive(Drop)]
 pub struct Outbox {
@@ -71,13 +71,22 @@ impl Outbox {
         self.push(Parcel { from, to, frame })
     }
 
-    /// Sends a message whose body was written: a message to several actors is written once.
+    /// The body of a message that several actors get. Nothing is sent by it.
+    pub fn write_body(&mut self, message: &Message) -> Result<Bytes, NoMemory>
+        requires { Fits message.now }
+        ensures body { IfOk result (λ body. body ≡ body_of message.now) }
+        ensures same { self.new ≡ self.old }
+    {
+        write_body(&mut self.room, message)
+    }
+
+    /// Sends a message whose body was written. Its parcels have the body in common.
     pub fn send_written(
         &mut self,
         from: Actor,
         to: Actor,
         message: &Message,
-        body: &[u8],
+        body: &Bytes,
     ) -> Result<(), NoMemory>
         requires from { HasAddress from }
         requires to { HasAddress to }
@@ -85,7 +94,7 @@ impl Outbox {
         requires body { body.now ≡ body_of message.now }
         ensures { OnOk result (self.new ≡ self.old ++ parcel from (to, message.now) ∷ []) }
     {
-        let frame = frame_of(&mut self.room, from, to, message, body)?;
+        let frame = frame_of(from, to, message, body.clone()?);
         self.push(Parcel { from, to, frame })
     }
 

@@ -25,7 +25,7 @@ use crate::standing::Standing;
 use indexmap::IndexMap;
 use nz_base::{Actor, Blob, Cluster, Id, MARGIN, MAX_CLOCK, NoMemory};
 use nz_machine::{Outbox, Reply, copy_answer};
-use nz_msg::{AnswerBody, Message, Path, RequestBody, TimedBody, write_body};
+use nz_msg::{AnswerBody, Message, Path, RequestBody, TimedBody};
 use nz_quorum::Tally;
 use nz_store::Answer;
 use nz_window::Window;
@@ -213,7 +213,7 @@ impl ProxyState {
             ++ map (parcel (actors.Proxy self.now.me)) (to_each message.now (numbers_below (replica_count self.now.f)))) }
     {
         let cluster = self.cluster();
-        let body = write_body(self.alloc, message)?;
+        let body = sends.write_body(message)?;
         for replica in 0..cluster.n() {
             let to = Actor::Replica(replica);
             sends.send_written(self.name(), to, message, &body)?;

@@ -13,10 +13,11 @@ ghost use Rattle.nz_machine.specs.Rejoining.{vector_ask_message, rejoin_ask_mess
 
 use super::super::outbox::Outbox;
 use super::ReplicaState;
+use bytes::Bytes;
 use nz_base::{Actor, NoMemory};
 use nz_msg::{
     Message, RejoinAskBody, RejoinTellBody, StartViewBody, StateAskBody, StateTellBody,
-    VectorAskBody, VectorTellBody, ViewAskBody, ViewChangeBody, write_body,
+    VectorAskBody, VectorTellBody, ViewAskBody, ViewChangeBody,
 };
 
 impl ReplicaState {
@@ -25,7 +26,7 @@ impl ReplicaState {
         &self,
         replica: u8,
         message: &Message,
-        body: &[u8],
+        body: &Bytes,
         sends: &mut Outbox,
     ) -> Result<(), NoMemory>
         requires replica { replica ≤ MAX_REPLICA }
@@ -56,7 +57,7 @@ impl ReplicaState {
     fn send_written_to_others(
         &self,
         message: &Message,
-        body: &[u8],
+        body: &Bytes,
         sends: &mut Outbox,
     ) -> Result<(), NoMemory>
         requires message { Fits message.now }
@@ -78,7 +79,7 @@ impl ReplicaState {
         requires { Fits message.now }
         ensures { OnOk result (sends.new ≡ sends.old ++ map (parcel (actors.Replica self.now.me)) (to_others self.now.f self.now.me message.now)) }
     {
-        let body = write_body(self.allocator(), message)?;
+        let body = sends.write_body(message)?;
         self.send_written_to_others(message, &body, sends)
     }
 

@@ -7,6 +7,7 @@ use Content::{Fetch, Fetched, LogMod, Plain, Report, Slow, Timed};
 use bytes::Bytes;
 use frames::{Content, Field, Place, frame, head};
 use nz_base::TryCopy;
+use nz_frame::Frame;
 use nz_machine::SharedParcel;
 use std::process::Abort;
 use std::test::*;
@@ -45,7 +46,7 @@ fn step(core: &mut Replica, event: &Event) -> Result<Sends, Fail> {
 fn parcel(alloc: Global, from: u16, to: u16, bytes: &[u8]) -> Result<SharedParcel, Fail> {
     let from = Actor::from_address(from).ok_or("no sender")?;
     let to = Actor::from_address(to).ok_or("no receiver")?;
-    let frame = Bytes::copy_from_slice(alloc, bytes)?;
+    let frame = Frame::from_bytes(Bytes::copy_from_slice(alloc, bytes)?);
     Ok(SharedParcel::new(alloc, Parcel { from, to, frame })?)
 }
 
@@ -88,11 +89,7 @@ fn take_all(alloc: Global, core: &mut Replica, me: u16, inputs: &[Input]) -> Res
 fn is(alloc: Global, parcel: &SharedParcel, replica: u16, content: &Content) -> Result<bool, Fail> {
     let wanted = sent(alloc, replica, content)?;
     let (parcel, wanted) = (parcel.get(), wanted.get());
-    Ok(
-        parcel.from == wanted.from
-            && parcel.to == wanted.to
-            && parcel.frame.as_slice() == wanted.frame.as_slice(),
-    )
+    Ok(parcel.from == wanted.from && parcel.to == wanted.to && parcel.frame == wanted.frame)
 }
 
 /// What is sent by a replica, or by the leader to it.
@@ -682,9 +679,10 @@ fn check_up(rt: &impl Abort, core: &mut Replica) -> Result<(), Fail> {
 }
 
 fn check_asks(rt: &impl Abort, alloc: Global, sends: &Sends) -> Result<(), Fail> {
-    let wanted = frame(alloc, (13, 1, 2), &Plain(13, &[(8, 2)]))?;
+    let wanted = Plain(13, &[(8, 2)]);
+    let wanted = parcel(alloc, 1, 2, &frame(alloc, (13, 1, 2), &wanted)?)?;
     assert_eq!(rt; sends.len(), 2);
-    assert_eq!(rt; sends.get(1).get().frame.as_slice(), wanted.as_slice());
+    assert_eq!(rt; sends.get(1).get().frame, wanted.get().frame);
     Ok(())
 }
 

@@ -3,8 +3,7 @@ use Rattle.std.proofs.Common.{◌≡◌, ◌<◌, length, ap, ◌∙◌, sym, su
 use Rattle.std.specs.Prelude.{slice_get}
 use Rattle.std.proofs.lemmas.Option.{slice_get-get_or}
 use Rattle.std.proofs.lemmas.Result.{IfOk-weaker, on_ok_weaker}
-use Rattle.nz_machine.specs.declared.client_progress.Telling.{Telling}
-use Rattle.nz_machine.specs.ClientProgress.{Progress, events_of_telling, AreAfter}
+use Rattle.nz_machine.specs.ClientProgress.{Progress, AreAfter}
 use Rattle.nz_machine.proofs.ProgressIsTold.{own_told, own_after}
 use Rattle.nz_machine.proofs.client_progress.Clients.tell_own.Goals as goal
 
@@ -15,8 +14,7 @@ returns-clause-told c =
     let there : c.args.client < length xs = subst (λ (x : List Progress). c.args.client < length x) (sym c.self.view_is) c.requires.there in
     let at : slice_get xs c.args.client ≡ Some p = slice_get-get_or xs c.args.client p there ∙ ap Some (sym c.index_mut.ensures.value) in
     IfOk-weaker c.read.result _ _ (λ telling is g J w h.
-    ap (λ (x : Telling). events_of_telling g x) is
-    ∙ own_told g c.args.client c.args.next.now J xs p w c.requires.actor (subst (λ (x : List Progress). AreAfter g J x) (sym c.self.view_is) h) there at)
+    is ∙ own_told g c.args.client c.args.next.now J xs p c.requires.actor (subst (λ (x : List Progress). AreAfter g J x) (sym c.self.view_is) h) there at)
     c.read.ensures.told
 
 pub returns-clause-after : goal.returns-clause-after

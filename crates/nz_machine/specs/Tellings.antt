@@ -1,0 +1,49 @@
+-- What the clients of a run tell, record by record.
+use Rattle.std.specs.Prelude.{◌≡◌, ℕ, List, [], ◌∷◌, ◌++◌, length, Option, None}
+use Rattle.std.specs.List.{flat_map}
+use Rattle.nz_base.specs.declared.actor.Actor.{Actor}
+use Rattle.nz_base.specs.declared.actor.Actor.TheVariants.{Replica, Proxy, Client}
+use Rattle.nz_base.specs.declared.key.Id.{Id}
+use Rattle.nz_machine.specs.declared.client_progress.Acceptance.{Acceptance}
+use Rattle.nz_machine.specs.declared.client_progress.Telling.{Telling}
+use Rattle.nz_machine.specs.declared.event.Record.{Record}
+use Rattle.nz_machine.specs.declared.tellings.ToldAt.{ToldAt}
+use Rattle.nz_machine.specs.State.{Group}
+use Rattle.nz_machine.specs.World.{state_after}
+use Rattle.nz_machine.specs.Events.{ClientEvent}
+use Rattle.nz_machine.specs.ClientProgress.{Progress, progress_of, after_client_record, events_of_telling, AreAfter}
+
+-- No answer was accepted, and no request was sent for the first time.
+abbrev pub nothing_told : Telling
+nothing_told = record { accepted = None; sent = [] }
+
+-- What a record says, after the records J: which answer its client accepts, and which requests the client sends for the first
+-- time. A record of another actor says nothing.
+abbrev pub telling_in : Group → Actor → Record → List Record → Telling
+telling_in g (Client c) r J = (after_client_record c (progress_of (state_after g (Client c) J)) r.event r.sends).0
+telling_in g (Replica m) r J = nothing_told
+telling_in g (Proxy p) r J = nothing_told
+
+-- What the record at this place says, by what it accepts and sends: nothing, where it does neither.
+abbrev pub told_of : ℕ → Option Acceptance → List Id → List ToldAt
+told_of place None [] = []
+told_of place accepted sent = record { place = place; telling = record { accepted = accepted; sent = sent } } ∷ []
+
+-- The same, of a telling.
+abbrev pub told_at : ℕ → Telling → List ToldAt
+told_at place t = told_of place t.accepted t.sent
+
+-- What the records of a run say, the oldest first, each with the place of its record, counted from 0. Records that say
+-- nothing are left out.
+abbrev pub told_by_run : Group → List Record → List ToldAt
+told_by_run g [] = []
+told_by_run g (r ∷ J) = told_by_run g J ++ told_at (length J) (telling_in g r.actor r J)
+
+-- The events of what was told, in its order.
+abbrev pub events_of_told : Group → List ToldAt → List ClientEvent
+events_of_told g told = flat_map (λ t. events_of_telling g t.telling) told
+
+-- The records were read: so far the clients are, and this is what was told.
+pub record AreTold (g : Group) (J : List Record) (clients : List Progress) (told : List ToldAt) : Type 0 where
+  pub after : AreAfter g J clients
+  pub all : told ≡ told_by_run g J
