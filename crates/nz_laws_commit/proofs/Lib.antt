@@ -31,3 +31,4 @@ pub mod Following
 pub mod Begun
 pub mod Whole
 pub mod Led
+pub mod Rising

@@ -7,3 +7,4 @@ pub mod Does
 pub mod Instance
 pub mod Once
 pub mod Example
+pub mod Present

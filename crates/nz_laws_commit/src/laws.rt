@@ -13,7 +13,7 @@ ghost use Rattle.nz_store.specs.Sequence.{replies};
 ghost use Rattle.nz_log.specs.Synced.{synced_part};
 ghost use Rattle.nz_machine.specs.declared.event.Record.{Record};
 ghost use Rattle.nz_machine.specs.State.{Group};
-ghost use Rattle.nz_machine.specs.Replicas.{commands};
+ghost use Rattle.nz_machine.specs.Replicas.{commands, is_up};
 ghost use Rattle.nz_machine.specs.World.{state_after, World};
 ghost use Rattle.nz_machine.specs.OneHistory.{NoCollision};
 ghost use Rattle.nz_machine.specs.Leading.{is_normal_in, leader_at, is_led, lead};
@@ -22,6 +22,7 @@ ghost use Rattle.nz_laws_commit.specs.Supports.{HadSynced, FastReplied, IsLedAt,
 ghost use Rattle.nz_laws_commit.specs.Machines.{GroupStates, machine_of, start_of};
 ghost use Rattle.nz_laws_commit.specs.Does.{FollowsRules};
 ghost use Rattle.nz_laws_commit.specs.Instance.{states_of};
+ghost use Rattle.nz_laws_commit.specs.Present.{AreUpWithin};
 ghost use Rattle.nz_laws_commit.specs.Example as example;
 
 /// In every run of the machine, whoever crashes and rejoins, each later view starts with what was accepted in a view,
@@ -49,6 +50,17 @@ pub fn accepted_prefixes_are_led()
 pub fn leader_executes_its_log()
     ensures { (g : Group) (J : List Record) (v : ℕ) → World g J → IsTrue (is_led g v J)
         → (leader_at g v J).results ≡ replies (commands (lead g v J)) }
+{}
+
+/// A replica that is up was never in normal operation, in whatever incarnation, in a view above the one in which it is.
+pub fn views_of_a_replica_rise()
+    ensures { (g : Group) (J K : List Record) (r v : ℕ) → World g J → At J K → IsTrue (is_up (state_after g (Replica r) J).status)
+        → IsTrue (is_normal_in v (state_after g (Replica r) K)) → v ≤ (state_after g (Replica r) J).view }
+{}
+
+/// Where all replicas are up after the run, in no view above this one, nothing was accepted in a view above it.
+pub fn nothing_is_accepted_above()
+    ensures { (g : Group) (J : List Record) (top v : ℕ) (P : List Entry) → World g J → AreUpWithin top g J → IsAcceptedIn g v P J → v ≤ top }
 {}
 
 /// The synced part of the log of a replica in normal operation is a prefix of the log that the leader of its
