@@ -2,7 +2,7 @@
 
 ghost use Rattle.std.specs.Prelude.{◌≡◌, ◌+◌, ◌<◌, ◌≤◌, IfOk, IsTrue, OnOk};
 ghost use Rattle.nz_base.specs.declared.limits.TheConstants.{MAX_F, MAX_REQUESTS};
-ghost use Rattle.nz_store.specs.Grammar.{IsValidCommand};
+ghost use Rattle.nz_store.specs.Grammar.{spelling, IsValidCommand};
 ghost use Rattle.nz_script.specs.Shapes.{forms_of, head_shape_of};
 ghost use Rattle.nz_script.specs.Drafts.{all_within, has_room_for_line, command_asked, fault_in, skew_in, with_head};
 ghost use Rattle.nz_script.specs.Drafts.{with_request, with_script, with_words, first_draft, scenario_of};
@@ -12,6 +12,7 @@ use super::line_forms::{Ask, Head, Mishap, Place, Verb};
 use super::word::{
     Word, actor_at, actors_at, byte_at, choice_at, kind_at, number_at, text_at, units_at,
 };
+use bytes::Bytes;
 use nz_base::{
     Blob, Cluster, Fault, FaultList, NoMemory, Request, RequestList, Scenario, ScriptList, Skew,
     SkewList,
@@ -37,6 +38,16 @@ pub struct Draft {
     /// How many requests were read in all.
     pub requests: u32,
     pub faults: FaultList,
+}
+
+/// The request of this command. Copies of it share the command's bytes.
+pub fn new_request(alloc: Global, wait: u32, command: &Command) -> Result<Request, NoMemory>
+    requires { IsValidCommand command.now }
+    ensures { IfOk result (λ request. request ≡ record { wait = wait; command = spelling command.now }) }
+{
+    let bytes = write_command(alloc, command).map_err(|_| NoMemory)?;
+    let command = Blob::from_bytes(Bytes::copy_from_slice(alloc, bytes.as_slice())?);
+    Ok(Request { wait, command })
 }
 
 /// The command that the words mean.
@@ -197,10 +208,8 @@ impl Draft {
         requires few { self.old.requests < MAX_REQUESTS }
         ensures { OnOk result (self.new ≡ with_request self.old command.now) }
     {
-        let bytes = write_command(alloc, command).map_err(|_| NoMemory)?;
-        let command = Blob::from_slice(alloc, bytes.as_slice())?;
         let wait = std::mem::replace(&mut self.wait, 0);
-        self.block.push(Request { wait, command })?;
+        self.block.push(new_request(alloc, wait, command)?)?;
         self.requests += 1;
         Ok(())
     }

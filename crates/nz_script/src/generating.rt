@@ -8,11 +8,13 @@ ghost use Rattle.nz_script.specs.Draws as draws_words;
 ghost use Rattle.nz_script.specs.Draws.{draw_after, draws_after, drawn_key, drawn_value, command_for, request_for, requests_for};
 ghost use Rattle.nz_script.specs.Draws.{script_for, scripts_for, fault_for, faults_for, scenario_of_seed};
 
+use super::draft::new_request;
+use super::printing::put_number;
 use nz_base::{
-    Actor, Blob, Cluster, Fault, FaultList, NoMemory, Request, RequestList, Scenario, ScriptList,
+    Actor, Cluster, Fault, FaultList, NoMemory, Request, RequestList, Scenario, ScriptList,
     SkewList, TryCopy,
 };
-use nz_store::{Blob as Text, Command, write_command};
+use nz_store::{Blob as Text, Command};
 use std::alloc::Global;
 
 /// A linear congruential generator, of which the high bits are drawn.
@@ -41,8 +43,7 @@ fn lettered(alloc: Global, letter: u8, number: u64) -> Result<Text, NoMemory>
 {
     let mut bytes = Vec::new(alloc);
     bytes.push(letter)?;
-    let digits = format!(in alloc; "{number}")?;
-    bytes.extend_from_slice(digits.as_bytes())?;
+    put_number(&mut bytes, number)?;
     Ok(Text::from_slice(alloc, &bytes).map_err(|_| NoMemory)?)
 }
 
@@ -76,11 +77,7 @@ fn request_of(alloc: Global, draws: &mut Draws, i: u64) -> Result<Request, NoMem
     let a = draws.next() % 4;
     let b = draws.next() % 16;
     let command = command_of(alloc, a, b, i)?;
-    let bytes = write_command(alloc, &command).map_err(|_| NoMemory)?;
-    Ok(Request {
-        wait: 0,
-        command: Blob::from_slice(alloc, bytes.as_slice())?,
-    })
+    new_request(alloc, 0, &command)
 }
 
 fn requests_of(alloc: Global, draws: &mut Draws, count: u32) -> Result<RequestList, NoMemory>

@@ -2,7 +2,8 @@
 
 ghost use Rattle.std.specs.Prelude.{◌≡◌, ◌++◌, ◌∷◌, [], IfOk, OnOk, Ok, Some, map, length, take, ◌≤◌};
 ghost use Rattle.std.specs.Fmt.{decimal};
-ghost use Rattle.nz_store.specs.Reading.{command_of};
+ghost use Rattle.std.specs.Option.{option_map};
+ghost use Rattle.nz_store.specs.Reading.{command_of, command_owned};
 ghost use Rattle.nz_script.specs.Lines.{a_line};
 ghost use Rattle.nz_script.specs.Texts as texts;
 ghost use Rattle.nz_script.specs.Texts.{actor_text, word_text, words_text, line_text, text_of_lines, number_line, window_lines, head_lines, skew_line};
@@ -15,8 +16,9 @@ ghost use Rattle.nz_script.specs.Reading as reading;
 use super::line_forms::{Ask, Head, Mishap, Verb};
 use super::message::name_of;
 use super::word::Word;
+use itoa::Buffer;
 use nz_base::{Actor, Blob, Fault, NoMemory, Request, RequestList, Scenario, Skew};
-use nz_store::{Blob as Text, Command, read_command};
+use nz_store::{CommandRef, command_in};
 use std::alloc::Global;
 
 /// Writes the bytes.
@@ -27,16 +29,15 @@ pub fn put(out: &mut Vec<u8>, bytes: &[u8]) -> Result<(), NoMemory>
     Ok(())
 }
 
-/// Writes the number in decimal.
-pub fn put_number(alloc: Global, out: &mut Vec<u8>, number: u64) -> Result<(), NoMemory>
+/// Writes the number in decimal. Its digits take no memory but that of `out`.
+pub fn put_number(out: &mut Vec<u8>, number: u64) -> Result<(), NoMemory>
     ensures { OnOk result (out.new.items ≡ out.old.items ++ decimal number) }
 {
-    let digits = format!(in alloc; "{number}")?;
-    put(out, digits.as_bytes())
+    put(out, Buffer::new().format(number).as_bytes())
 }
 
 /// Writes the actor's name.
-pub fn put_actor(alloc: Global, out: &mut Vec<u8>, actor: Actor) -> Result<(), NoMemory>
+pub fn put_actor(out: &mut Vec<u8>, actor: Actor) -> Result<(), NoMemory>
     ensures { OnOk result (out.new.items ≡ out.old.items ++ actor_text actor) }
 {
     let (letter, number) = match actor {
@@ -45,21 +46,21 @@ pub fn put_actor(alloc: Global, out: &mut Vec<u8>, actor: Actor) -> Result<(), N
         Actor::Client(number) => (b'c', number),
     };
     out.push(letter)?;
-    put_number(alloc, out, u64::from(number))
+    put_number(out, u64::from(number))
 }
 
-fn put_word(alloc: Global, out: &mut Vec<u8>, word: &Word) -> Result<(), NoMemory>
+fn put_word(out: &mut Vec<u8>, word: &Word) -> Result<(), NoMemory>
     ensures { OnOk result (out.new.items ≡ out.old.items ++ word_text word.now) }
 {
     match word {
-        Word::Number(number) => put_number(alloc, out, *number),
+        Word::Number(number) => put_number(out, *number),
         Word::Units { back, number } => {
             if *back {
                 out.push(b'-')?;
             }
-            put_number(alloc, out, *number)
+            put_number(out, *number)
         }
-        Word::Named(actor) => put_actor(alloc, out, *actor),
+        Word::Named(actor) => put_actor(out, *actor),
         Word::Everyone => put(out, b"*"),
         Word::Kind(Some(kind)) => put(out, name_of(*kind)),
         Word::Kind(None) => Ok(()),
@@ -68,43 +69,38 @@ fn put_word(alloc: Global, out: &mut Vec<u8>, word: &Word) -> Result<(), NoMemor
     }
 }
 
-fn put_words(alloc: Global, out: &mut Vec<u8>, words: &[Word]) -> Result<(), NoMemory>
+fn put_words(out: &mut Vec<u8>, words: &[Word]) -> Result<(), NoMemory>
     ensures { OnOk result (out.new.items ≡ out.old.items ++ words_text words.now) }
 {
     let [word, others @ ..] = words else {
         return Ok(());
     };
     out.push(b' ')?;
-    put_word(alloc, out, word)?;
-    put_words(alloc, out, others)
+    put_word(out, word)?;
+    put_words(out, others)
 }
 
 /// Writes a line without its newline.
-fn put_shaped(alloc: Global, out: &mut Vec<u8>, verb: Verb, words: &[Word]) -> Result<(), NoMemory>
+fn put_shaped(out: &mut Vec<u8>, verb: Verb, words: &[Word]) -> Result<(), NoMemory>
     ensures { OnOk result (out.new.items ≡ out.old.items ++ line_text (a_line verb words.now)) }
 {
     put(out, verb.shape().word)?;
-    put_words(alloc, out, words)
+    put_words(out, words)
 }
 
 /// Writes a line and its newline.
-fn put_line(alloc: Global, out: &mut Vec<u8>, verb: Verb, words: &[Word]) -> Result<(), NoMemory>
+fn put_line(out: &mut Vec<u8>, verb: Verb, words: &[Word]) -> Result<(), NoMemory>
     ensures { OnOk result (out.new.items ≡ out.old.items ++ text_of_lines (a_line verb words.now ∷ [])) }
 {
-    put_shaped(alloc, out, verb, words)?;
+    put_shaped(out, verb, words)?;
     out.push(b'\n')?;
     Ok(())
 }
 
-fn put_number_line(
-    alloc: Global,
-    out: &mut Vec<u8>,
-    verb: Verb,
-    number: u32,
-) -> Result<(), NoMemory>
+fn put_number_line(out: &mut Vec<u8>, verb: Verb, number: u32) -> Result<(), NoMemory>
     ensures { OnOk result (out.new.items ≡ out.old.items ++ text_of_lines (number_line verb number ∷ [])) }
 {
-    put_line(alloc, out, verb, &[Word::Number(u64::from(number))])
+    put_line(out, verb, &[Word::Number(u64::from(number))])
 }
 
 /// Version 1 is that of the texts where each client has at most one request open.
@@ -114,40 +110,29 @@ pub fn version_of(window: u8) -> u32
     if window == 1 { 1 } else { 2 }
 }
 
-fn put_window(alloc: Global, out: &mut Vec<u8>, window: u8) -> Result<(), NoMemory>
+fn put_window(out: &mut Vec<u8>, window: u8) -> Result<(), NoMemory>
     ensures { OnOk result (out.new.items ≡ out.old.items ++ text_of_lines (window_lines window)) }
 {
     if window == 1 {
         return Ok(());
     }
-    put_number_line(alloc, out, Verb::Head(Head::Window), u32::from(window))
+    put_number_line(out, Verb::Head(Head::Window), u32::from(window))
 }
 
-fn put_head(alloc: Global, out: &mut Vec<u8>, scenario: &Scenario) -> Result<(), NoMemory>
+fn put_head(out: &mut Vec<u8>, scenario: &Scenario) -> Result<(), NoMemory>
     ensures { OnOk result (out.new.items ≡ out.old.items ++ text_of_lines (head_lines scenario.now)) }
 {
     let version = version_of(scenario.window);
-    put_number_line(alloc, out, Verb::Head(Head::Version), version)?;
+    put_number_line(out, Verb::Head(Head::Version), version)?;
     put_number_line(
-        alloc,
         out,
         Verb::Head(Head::Faulty),
         u32::from(scenario.cluster.f()),
     )?;
-    put_number_line(
-        alloc,
-        out,
-        Verb::Head(Head::Proxies),
-        u32::from(scenario.proxies),
-    )?;
-    put_number_line(
-        alloc,
-        out,
-        Verb::Head(Head::Clients),
-        u32::from(scenario.clients),
-    )?;
-    put_number_line(alloc, out, Verb::Head(Head::Ticks), scenario.ticks)?;
-    put_window(alloc, out, scenario.window)
+    put_number_line(out, Verb::Head(Head::Proxies), u32::from(scenario.proxies))?;
+    put_number_line(out, Verb::Head(Head::Clients), u32::from(scenario.clients))?;
+    put_number_line(out, Verb::Head(Head::Ticks), scenario.ticks)?;
+    put_window(out, scenario.window)
 }
 
 pub fn units_of(units: i64) -> Word
@@ -159,12 +144,11 @@ pub fn units_of(units: i64) -> Word
     }
 }
 
-fn put_skews(alloc: Global, out: &mut Vec<u8>, skews: &[Skew]) -> Result<(), NoMemory>
+fn put_skews(out: &mut Vec<u8>, skews: &[Skew]) -> Result<(), NoMemory>
     ensures { OnOk result (out.new.items ≡ out.old.items ++ text_of_lines (map skew_line skews.now)) }
 {
     for skew in skews {
         put_line(
-            alloc,
             out,
             Verb::Skew,
             &[Word::Named(skew.actor), units_of(skew.units)],
@@ -173,86 +157,93 @@ fn put_skews(alloc: Global, out: &mut Vec<u8>, skews: &[Skew]) -> Result<(), NoM
     Ok(())
 }
 
-fn choice_of(choice: Option<Text>) -> Word
-    ensures { result ≡ texts.choice_of choice }
+/// The choice as a word of a line.
+fn choice_text(choice: Option<&[u8]>) -> &[u8]
+    ensures { result.now ≡ word_text (texts.choice_of (option_map (λ v. v.now) choice.entry)) }
 {
     match choice {
-        None => Word::Nothing,
-        Some(value) => Word::Text(value),
+        None => b"-",
+        Some(value) => value,
     }
+}
+
+/// Writes the words, each after a space.
+fn put_texts(out: &mut Vec<u8>, words: &[&[u8]]) -> Result<(), NoMemory>
+    ensures { OnOk result (out.new.items ≡ out.old.items ++ words_text (map (λ w. word.Text w.now) words.now)) }
+{
+    for word in words {
+        out.push(b' ')?;
+        put(out, word)?;
+    }
+    Ok(())
+}
+
+/// Writes the line of a command of these words, without its newline.
+fn put_asked(out: &mut Vec<u8>, ask: Ask, words: &[&[u8]]) -> Result<(), NoMemory>
+    ensures { OnOk result (out.new.items ≡ out.old.items ++ line_text (a_line (verb.Ask ask) (map (λ w. word.Text w.now) words.now))) }
+{
+    put(out, Verb::Ask(ask).shape().word)?;
+    put_texts(out, words)
 }
 
 /// Writes the command as its line in a scenario has it, without the newline.
-pub fn put_command(alloc: Global, out: &mut Vec<u8>, command: Command) -> Result<(), NoMemory>
-    ensures { OnOk result (out.new.items ≡ out.old.items ++ line_text (command_line command)) }
+pub fn put_command(out: &mut Vec<u8>, command: CommandRef<'_>) -> Result<(), NoMemory>
+    ensures { OnOk result (out.new.items ≡ out.old.items ++ line_text (command_line (command_owned command.entry))) }
 {
     match command {
-        Command::Put { key, value } => put_shaped(
-            alloc,
-            out,
-            Verb::Ask(Ask::Put),
-            &[Word::Text(key), Word::Text(value)],
-        ),
-        Command::Get { key } => put_shaped(alloc, out, Verb::Ask(Ask::Get), &[Word::Text(key)]),
-        Command::Del { key } => put_shaped(alloc, out, Verb::Ask(Ask::Del), &[Word::Text(key)]),
-        Command::Cas { key, old, new } => put_shaped(
-            alloc,
-            out,
-            Verb::Ask(Ask::Cas),
-            &[Word::Text(key), choice_of(old), choice_of(new)],
-        ),
+        CommandRef::Put { key, value } => put_asked(out, Ask::Put, &[key, value]),
+        CommandRef::Get { key } => put_asked(out, Ask::Get, &[key]),
+        CommandRef::Del { key } => put_asked(out, Ask::Del, &[key]),
+        CommandRef::Cas { key, old, new } => {
+            put_asked(out, Ask::Cas, &[key, choice_text(old), choice_text(new)])
+        }
     }
 }
 
-fn put_command_line(alloc: Global, out: &mut Vec<u8>, command: Command) -> Result<(), NoMemory>
-    ensures { OnOk result (out.new.items ≡ out.old.items ++ text_of_lines (command_line command ∷ [])) }
+fn put_command_line(out: &mut Vec<u8>, command: CommandRef<'_>) -> Result<(), NoMemory>
+    ensures { OnOk result (out.new.items ≡ out.old.items ++ text_of_lines (command_line (command_owned command.entry) ∷ [])) }
 {
-    put_command(alloc, out, command)?;
+    put_command(out, command)?;
     out.push(b'\n')?;
     Ok(())
 }
 
-fn put_wait(alloc: Global, out: &mut Vec<u8>, wait: u32) -> Result<(), NoMemory>
+fn put_wait(out: &mut Vec<u8>, wait: u32) -> Result<(), NoMemory>
     ensures { OnOk result (out.new.items ≡ out.old.items ++ text_of_lines (wait_lines wait)) }
 {
     if wait == 0 {
         return Ok(());
     }
-    put_number_line(alloc, out, Verb::Wait, wait)
+    put_number_line(out, Verb::Wait, wait)
 }
 
-fn put_request(alloc: Global, out: &mut Vec<u8>, request: &Request) -> Result<(), NoMemory>
+fn put_request(out: &mut Vec<u8>, request: &Request) -> Result<(), NoMemory>
     ensures { OnOk result (out.new.items ≡ out.old.items ++ text_of_lines (request_lines request.now)) }
 {
-    put_wait(alloc, out, request.wait)?;
-    match read_command(alloc, request.command.as_slice()).map_err(|_| NoMemory)? {
+    put_wait(out, request.wait)?;
+    match command_in(request.command.as_slice()) {
         None => Ok(()),
-        Some(command) => put_command_line(alloc, out, command),
+        Some(command) => put_command_line(out, command),
     }
 }
 
-fn put_script(alloc: Global, out: &mut Vec<u8>, script: &[Request]) -> Result<(), NoMemory>
+fn put_script(out: &mut Vec<u8>, script: &[Request]) -> Result<(), NoMemory>
     ensures { OnOk result (out.new.items ≡ out.old.items ++ text_of_lines (script_lines script.now)) }
 {
     for request in script {
-        put_request(alloc, out, request)?;
+        put_request(out, request)?;
     }
-    put_line(alloc, out, Verb::End, &[])
+    put_line(out, Verb::End, &[])
 }
 
-fn put_scripts(alloc: Global, out: &mut Vec<u8>, scripts: &[RequestList]) -> Result<(), NoMemory>
+fn put_scripts(out: &mut Vec<u8>, scripts: &[RequestList]) -> Result<(), NoMemory>
     requires { length scripts.now ≤ 255 }
     ensures { OnOk result (out.new.items ≡ out.old.items ++ text_of_lines (scripts_lines 0 scripts.now)) }
 {
     let mut client = 0;
     for script in scripts {
-        put_line(
-            alloc,
-            out,
-            Verb::Client,
-            &[Word::Named(Actor::Client(client))],
-        )?;
-        put_script(alloc, out, script.as_slice())?;
+        put_line(out, Verb::Client, &[Word::Named(Actor::Client(client))])?;
+        put_script(out, script.as_slice())?;
         client += 1;
     }
     Ok(())
@@ -383,18 +374,18 @@ pub fn fault_parts(fault: &Fault) -> Parts
     }
 }
 
-fn put_fault(alloc: Global, out: &mut Vec<u8>, fault: &Fault) -> Result<(), NoMemory>
+fn put_fault(out: &mut Vec<u8>, fault: &Fault) -> Result<(), NoMemory>
     ensures { OnOk result (out.new.items ≡ out.old.items ++ text_of_lines (fault_line fault.now ∷ [])) }
 {
     let (verb, words, len) = fault_parts(fault);
-    put_line(alloc, out, verb, &words[..len])
+    put_line(out, verb, &words[..len])
 }
 
-fn put_faults(alloc: Global, out: &mut Vec<u8>, faults: &[Fault]) -> Result<(), NoMemory>
+fn put_faults(out: &mut Vec<u8>, faults: &[Fault]) -> Result<(), NoMemory>
     ensures { OnOk result (out.new.items ≡ out.old.items ++ text_of_lines (map fault_line faults.now)) }
 {
     for fault in faults {
-        put_fault(alloc, out, fault)?;
+        put_fault(out, fault)?;
     }
     Ok(())
 }
@@ -407,10 +398,10 @@ pub fn print(alloc: Global, scenario: &Scenario) -> Result<Blob, NoMemory>
     ensures read_back { IfOk result (λ text. reading.scenario text ≡ Ok scenario.now) }
 {
     let mut out = Vec::new(alloc);
-    put_head(alloc, &mut out, scenario)?;
-    put_skews(alloc, &mut out, scenario.skews.as_slice())?;
-    put_scripts(alloc, &mut out, scenario.scripts.as_slice())?;
-    put_faults(alloc, &mut out, scenario.faults.as_slice())?;
-    put_line(alloc, &mut out, Verb::Done, &[])?;
+    put_head(&mut out, scenario)?;
+    put_skews(&mut out, scenario.skews.as_slice())?;
+    put_scripts(&mut out, scenario.scripts.as_slice())?;
+    put_faults(&mut out, scenario.faults.as_slice())?;
+    put_line(&mut out, Verb::Done, &[])?;
     Ok(Blob::from_vec(out))
 }

@@ -4,7 +4,7 @@ use Rattle.nz_store.specs.Grammar.{IsValidCommand}
 use Rattle.nz_script.proofs.Drawing.{command_for_is_valid}
 use Rattle.nz_script.proofs.generating.request_of.Goals as goal
 
-pub write_command-requires : goal.write_command-requires
-write_command-requires c =
+pub new_request-requires : goal.new_request-requires
+new_request-requires c =
     subst IsValidCommand (sym c.in_ok-command.ensures)
     (command_for_is_valid (c.next-a.result % 4) (c.next-b.result % 16) c.args.i (omega arith) (omega (arith, c.requires)))
