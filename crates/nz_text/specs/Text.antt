@@ -1,5 +1,5 @@
 -- The text of a run: what its clients saw, what is open, the history, and the end. Its summary counts the lines.
-use Rattle.std.specs.Prelude.{◌≡◌, ℕ, suc, Bool, true, false, List, [], ◌∷◌, ◌++◌, length, map, Option, Some, None, if◌then◌else◌, codes, count_by}
+use Rattle.std.specs.Prelude.{ℕ, suc, Bool, true, false, List, [], ◌∷◌, ◌++◌, length, map, Option, Some, None, if◌then◌else◌, codes, count_by}
 use Rattle.std.specs.Fmt.{decimal}
 use Rattle.std.specs.List.{list_any, flat_map}
 use Rattle.nz_base.specs.Key.{id_eq}
@@ -14,8 +14,6 @@ use Rattle.nz_msg.specs.declared.message.Path.TheVariants.{Fast, Slow}
 use Rattle.nz_machine.specs.declared.event.Record.{Record}
 use Rattle.nz_machine.specs.declared.journal.Executed.{Executed}
 use Rattle.nz_machine.specs.State.{Group}
-use Rattle.nz_machine.specs.declared.client_progress.Progress.{Progress}
-use Rattle.nz_machine.specs.ClientProgress.{AreAfter}
 use Rattle.nz_machine.specs.Events.{ClientEvent, Sent, Accepted, events}
 use Rattle.nz_machine.specs.History.{history}
 use Rattle.nz_machine.specs.Journals.{executed_entries}
@@ -100,11 +98,6 @@ unanswered_in E = flat_map (open_in E) E
 -- The events of the run's clients.
 abbrev pub events_in : Group → List Record → List Event
 events_in g J = map event_of (events g J)
-
--- The records were read: so far the clients are, and these are the events.
-pub record AreRead (g : Group) (J : List Record) (clients : List Progress) (told : List Event) : Type 0 where
-  pub standing : AreAfter g J clients
-  pub told_all : told ≡ events_in g J
 
 -- What is printed of a run: its events, its open requests, and its history with the answers of one store.
 abbrev pub printed_of_run : Group → List Record → Printed

@@ -9,27 +9,26 @@ use nz_base::{Id, NoMemory};
 use nz_machine::Executed;
 use nz_msg::Path;
 use nz_script::{put, put_command, put_number};
-use nz_store::{Answer, read_command};
-use std::alloc::Global;
+use nz_store::{Answer, command_in};
 
-fn put_id(alloc: Global, out: &mut Vec<u8>, id: Id) -> Result<(), NoMemory>
+fn put_id(out: &mut Vec<u8>, id: Id) -> Result<(), NoMemory>
     ensures { OnOk result (out.new.items ≡ out.old.items ++ id_text id) }
 {
     put(out, b" c")?;
-    put_number(alloc, out, u64::from(id.client))?;
+    put_number(out, u64::from(id.client))?;
     put(out, b" ")?;
-    put_number(alloc, out, u64::from(id.num))
+    put_number(out, u64::from(id.num))
 }
 
 /// Bytes that are no command have no text.
-fn put_found(alloc: Global, out: &mut Vec<u8>, bytes: &[u8]) -> Result<(), NoMemory>
+fn put_found(out: &mut Vec<u8>, bytes: &[u8]) -> Result<(), NoMemory>
     ensures { OnOk result (out.new.items ≡ out.old.items ++ found_text (command_of bytes.now)) }
 {
-    match read_command(alloc, bytes).map_err(|_| NoMemory)? {
+    match command_in(bytes) {
         None => Ok(()),
         Some(command) => {
             put(out, b" ")?;
-            put_command(alloc, out, command)
+            put_command(out, command)
         }
     }
 }
@@ -57,18 +56,18 @@ fn put_path(out: &mut Vec<u8>, path: Path) -> Result<(), NoMemory>
     }
 }
 
-fn put_event(alloc: Global, out: &mut Vec<u8>, event: &Event) -> Result<(), NoMemory>
+fn put_event(out: &mut Vec<u8>, event: &Event) -> Result<(), NoMemory>
     ensures { OnOk result (out.new.items ≡ out.old.items ++ event_line event.now) }
 {
     match event {
         Event::Send { id, command } => {
             put(out, b"send")?;
-            put_id(alloc, out, *id)?;
-            put_found(alloc, out, command.as_slice())?;
+            put_id(out, *id)?;
+            put_found(out, command.as_slice())?;
         }
         Event::Accept { id, answer, path } => {
             put(out, b"accept")?;
-            put_id(alloc, out, *id)?;
+            put_id(out, *id)?;
             put_answer(out, answer)?;
             put_path(out, *path)?;
         }
@@ -77,54 +76,54 @@ fn put_event(alloc: Global, out: &mut Vec<u8>, event: &Event) -> Result<(), NoMe
 }
 
 /// Writes a line for each event.
-pub fn put_events(alloc: Global, out: &mut Vec<u8>, events: &[Event]) -> Result<(), NoMemory>
+pub fn put_events(out: &mut Vec<u8>, events: &[Event]) -> Result<(), NoMemory>
     ensures { OnOk result (out.new.items ≡ out.old.items ++ flat_map event_line events.now) }
 {
     for event in events {
-        put_event(alloc, out, event)?;
+        put_event(out, event)?;
     }
     Ok(())
 }
 
-fn put_open(alloc: Global, out: &mut Vec<u8>, id: Id) -> Result<(), NoMemory>
+fn put_open(out: &mut Vec<u8>, id: Id) -> Result<(), NoMemory>
     ensures { OnOk result (out.new.items ≡ out.old.items ++ open_line id) }
 {
     put(out, b"open")?;
-    put_id(alloc, out, id)?;
+    put_id(out, id)?;
     put(out, b"\n")
 }
 
 /// Writes a line for each open request.
-pub fn put_opens(alloc: Global, out: &mut Vec<u8>, ids: &[Id]) -> Result<(), NoMemory>
+pub fn put_opens(out: &mut Vec<u8>, ids: &[Id]) -> Result<(), NoMemory>
     ensures { OnOk result (out.new.items ≡ out.old.items ++ flat_map open_line ids.now) }
 {
     for id in ids {
-        put_open(alloc, out, *id)?;
+        put_open(out, *id)?;
     }
     Ok(())
 }
 
-fn put_at(alloc: Global, out: &mut Vec<u8>, place: u32, executed: &Executed) -> Result<(), NoMemory>
+fn put_at(out: &mut Vec<u8>, place: u32, executed: &Executed) -> Result<(), NoMemory>
     ensures { OnOk result (out.new.items ≡ out.old.items ++ at_line place executed.now) }
 {
     put(out, b"at ")?;
-    put_number(alloc, out, u64::from(place))?;
-    put_id(alloc, out, executed.id)?;
-    put_found(alloc, out, executed.command.as_slice())?;
+    put_number(out, u64::from(place))?;
+    put_id(out, executed.id)?;
+    put_found(out, executed.command.as_slice())?;
     put(out, b" gives")?;
     put_answer(out, &executed.answer)?;
     put(out, b"\n")
 }
 
 /// Writes a line for each entry of the history, with its place from 1.
-pub fn put_history(alloc: Global, out: &mut Vec<u8>, history: &[Executed]) -> Result<(), NoMemory>
+pub fn put_history(out: &mut Vec<u8>, history: &[Executed]) -> Result<(), NoMemory>
     requires { length history.now < 2 ^ 32 }
     ensures { OnOk result (out.new.items ≡ out.old.items ++ at_lines 1 history.now) }
 {
     let mut place = 0;
     for executed in history {
         place += 1;
-        put_at(alloc, out, place, executed)?;
+        put_at(out, place, executed)?;
     }
     Ok(())
 }

@@ -1,5 +1,5 @@
 //! What a run's records say, as events, and which requests are open after them.
-ghost use Rattle.std.specs.Prelude.{◌≡◌, ◌<◌, ◌+◌, ◌++◌, ◌∷◌, [], List, length, map, take, reverse, IfOk, OnOk};
+ghost use Rattle.std.specs.Prelude.{◌≡◌, ◌++◌, ◌∷◌, [], List, map, IfOk, OnOk};
 ghost use Rattle.std.specs.List.{list_any};
 ghost use Rattle.std.specs.HashSet.{contains};
 ghost use Rattle.nz_base.specs.Key.{id_eq};
@@ -9,14 +9,14 @@ ghost use Rattle.nz_machine.specs.Journals.{group_in, run_in};
 ghost use Rattle.nz_machine.specs.Schedule.{group_of};
 ghost use Rattle.nz_machine.specs.Step.{script_of};
 ghost use Rattle.nz_machine.specs.ClientProgress.{acceptance_events, request_event, request_events, events_of_telling};
+ghost use Rattle.nz_machine.specs.Tellings.{told_by_run};
 ghost use Rattle.nz_machine.specs.World.{World};
-ghost use Rattle.nz_machine.specs.declared.event.Record.{Record as RecordModel};
 ghost use Rattle.nz_text.specs.declared.printed.Event.{Event as EventModel};
-ghost use Rattle.nz_text.specs.Text.{event_of, accepts_it, open_in, unanswered_in, events_in, AreRead};
+ghost use Rattle.nz_text.specs.Text.{event_of, accepts_it, open_in, unanswered_in, events_in};
 
 use super::printed::{Event, EventList};
-use nz_base::{Blob, Id, IdList, NoMemory, Request, Scenario};
-use nz_machine::{Acceptance, Clients, Journal, Record, Telling};
+use nz_base::{Blob, Id, IdList, NoMemory, Request, Scenario, TryCopy};
+use nz_machine::{Acceptance, Journal, Telling, ToldList};
 use std::alloc::Global;
 use std::collections::HashSet;
 
@@ -29,13 +29,14 @@ fn script_at(scenario: &Scenario, client: u32) -> &[Request]
     }
 }
 
-/// The command of the client's request with this number, no bytes where there is none.
-fn command_at(script: &[Request], num: u32) -> &[u8]
-    ensures { result.now ≡ script_command script.now num }
+/// The command of the client's request with this number, no bytes where there is none. Bytes that the script shares are
+/// not copied.
+fn command_at(alloc: Global, script: &[Request], num: u32) -> Result<Blob, NoMemory>
+    ensures { IfOk result (λ command. command ≡ script_command script.now num) }
 {
     match script.get(num.saturating_sub(1) as usize) {
-        None => &[],
-        Some(request) => request.command.as_slice(),
+        None => Ok(Blob::from_vec(Vec::new(alloc))),
+        Some(request) => request.command.copy(alloc),
     }
 }
 
@@ -60,11 +61,8 @@ fn add_request(
 ) -> Result<(), NoMemory>
     ensures { OnOk result (events.new ≡ events.old ++ event_of (request_event (group_of scenario.now) id) ∷ []) }
 {
-    let command = command_at(script_at(scenario, id.client), id.num);
-    events.push(Event::Send {
-        id,
-        command: Blob::from_slice(alloc, command)?,
-    })
+    let command = command_at(alloc, script_at(scenario, id.client), id.num)?;
+    events.push(Event::Send { id, command })
 }
 
 fn add_requests(
@@ -81,6 +79,7 @@ fn add_requests(
     Ok(())
 }
 
+/// Adds the events of a telling.
 fn add(
     alloc: Global,
     scenario: &Scenario,
@@ -93,53 +92,15 @@ fn add(
     add_requests(alloc, scenario, telling.sent.as_slice(), events)
 }
 
-/// Adds the events of the next record.
-#[tactic(auto, using(crate::proofs::Events::told_next, crate::proofs::Events::told_nothing))]
-fn add_next(
-    alloc: Global,
-    scenario: &Scenario,
-    clients: &mut Clients,
-    next: &Record,
-    events: &mut EventList,
-) -> Result<(), NoMemory>
-    ensures { OnOk result ((J : List RecordModel) → World (group_of scenario.now) (next.now ∷ J) → AreRead (group_of scenario.now) J clients.old events.old
-        → AreRead (group_of scenario.now) (next.now ∷ J) clients.new events.new) }
-{
-    if clients.tells_nothing(next) {
-        return Ok(());
-    }
-    let telling = clients.tell(alloc, next)?;
-    add(alloc, scenario, telling, events)
-}
-
-/// Adds the events of the record at this place. A clock at which nothing was sent has none.
-fn add_at(
-    alloc: Global,
-    journal: &Journal,
-    place: u32,
-    clients: &mut Clients,
-    events: &mut EventList,
-) -> Result<(), NoMemory>
+/// The events of the journal's run, by what its clients told.
+pub fn events_of(alloc: Global, journal: &Journal, told: ToldList) -> Result<EventList, NoMemory>
     requires world { World (group_in journal.now) (run_in journal.now) }
-    requires place { place < length journal.now.records }
-    ensures { let records = journal.now.records in OnOk result (AreRead (group_in journal.now) (reverse (take place records)) clients.old events.old
-        → AreRead (group_in journal.now) (reverse (take (place + 1) records)) clients.new events.new) }
-{
-    match journal.records.get_whole(place) {
-        Some(next) => add_next(alloc, &journal.scenario, clients, next, events),
-        None => Ok(()),
-    }
-}
-
-/// The events of the journal's run.
-pub fn events_of(alloc: Global, journal: &Journal) -> Result<EventList, NoMemory>
-    requires { World (group_in journal.now) (run_in journal.now) }
+    requires told { told ≡ told_by_run (group_in journal.now) (run_in journal.now) }
     ensures { IfOk result (λ events. events ≡ events_in (group_in journal.now) (run_in journal.now)) }
 {
-    let mut clients = Clients::new(alloc, &journal.scenario)?;
     let mut events = EventList::new(alloc);
-    for place in 0..journal.records.len() {
-        add_at(alloc, journal, place, &mut clients, &mut events)?;
+    for next in told.into_vec() {
+        add(alloc, &journal.scenario, next.telling, &mut events)?;
     }
     Ok(events)
 }

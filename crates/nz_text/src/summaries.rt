@@ -2,6 +2,7 @@
 
 ghost use Rattle.std.specs.Prelude.{◌≡◌, ◌++◌, count_by, IfOk, OnOk};
 ghost use Rattle.nz_machine.specs.Journals.{group_in, run_in, history_in};
+ghost use Rattle.nz_machine.specs.Tellings.{told_by_run};
 ghost use Rattle.nz_machine.specs.World.{World};
 ghost use Rattle.nz_text.specs.Text as text;
 ghost use Rattle.nz_text.specs.Text.{is_event_of, count_line, summary_of};
@@ -9,7 +10,7 @@ ghost use Rattle.nz_text.specs.Text.{is_event_of, count_line, summary_of};
 use super::printed::Event;
 use super::run_events::{events_of, unanswered_of};
 use nz_base::{Blob, IdList, NoMemory};
-use nz_machine::{History, Journal};
+use nz_machine::{History, Journal, ToldList};
 use nz_msg::Path;
 use nz_script::{put, put_number};
 use std::alloc::Global;
@@ -55,12 +56,12 @@ impl Sort {
     }
 }
 
-fn put_count(alloc: Global, out: &mut Vec<u8>, name: &[u8], count: usize) -> Result<(), NoMemory>
+fn put_count(out: &mut Vec<u8>, name: &[u8], count: usize) -> Result<(), NoMemory>
     ensures { OnOk result (out.new.items ≡ out.old.items ++ count_line name.now count) }
 {
     put(out, name)?;
     put(out, b" ")?;
-    put_number(alloc, out, count as u64)?;
+    put_number(out, count as u64)?;
     put(out, b"\n")
 }
 
@@ -74,23 +75,29 @@ pub fn count(
     ensures { IfOk result (λ bytes. bytes ≡ summary_of (record { events = events.now; unanswered = unanswered.now; history = history.now })) }
 {
     let mut out = Vec::new(alloc);
-    put_count(alloc, &mut out, b"sent", Sort::Sent.count(events))?;
-    put_count(alloc, &mut out, b"accepted", Sort::Accepted.count(events))?;
-    put_count(alloc, &mut out, b"fast", Sort::Fast.count(events))?;
-    put_count(alloc, &mut out, b"slow", Sort::Slow.count(events))?;
-    put_count(alloc, &mut out, b"open", unanswered.len() as usize)?;
-    put_count(alloc, &mut out, b"history", history.len() as usize)?;
+    put_count(&mut out, b"sent", Sort::Sent.count(events))?;
+    put_count(&mut out, b"accepted", Sort::Accepted.count(events))?;
+    put_count(&mut out, b"fast", Sort::Fast.count(events))?;
+    put_count(&mut out, b"slow", Sort::Slow.count(events))?;
+    put_count(&mut out, b"open", unanswered.len() as usize)?;
+    put_count(&mut out, b"history", history.len() as usize)?;
     put(&mut out, b"end\n")?;
     Ok(Blob::from_vec(out))
 }
 
-/// How many lines of each sort the text of the run has.
-pub fn summary(alloc: Global, journal: &Journal, history: &History) -> Result<Blob, NoMemory>
+/// How many lines of each sort the text of the run has. What the clients told is given, and is not read again.
+pub fn summary(
+    alloc: Global,
+    journal: &Journal,
+    told: ToldList,
+    history: &History,
+) -> Result<Blob, NoMemory>
     requires run { World (group_in journal.now) (run_in journal.now) }
+    requires told { told ≡ told_by_run (group_in journal.now) (run_in journal.now) }
     requires history { history.now ≡ history_in journal.now }
     ensures { IfOk result (λ bytes. bytes ≡ text.summary (group_in journal.now) (run_in journal.now)) }
 {
-    let events = events_of(alloc, journal)?;
+    let events = events_of(alloc, journal, told)?;
     let unanswered = unanswered_of(alloc, events.as_slice())?;
     count(alloc, events.as_slice(), &unanswered, history)
 }

@@ -6,6 +6,7 @@ use super::texts::spell;
 use super::*;
 use bytes::Bytes;
 use nz_base::{Actor, Blob, Cluster, FaultList, Id, NoMemory, Scenario, ScriptList, SkewList};
+use nz_frame::Frame;
 use nz_machine::{
     Event as Step, Executed, History, Journal, Parcel, Record, RecordList, Sends, SharedParcel,
 };
@@ -104,7 +105,7 @@ fn lines_of_each_sort(rt: HostRuntime) -> Result<(), Fail> {
 
 /// A request of client 0 to proxy 0, `get a`, in its frame.
 fn request(alloc: Global) -> Result<SharedParcel, NoMemory> {
-    let frame = Bytes::copy_from_slice(
+    let bytes = Bytes::copy_from_slice(
         alloc,
         &[
             0, 0, 0, 15, 1, 1, 0, 64, 0, 16, 0, 0, 0, 1, 0, 3, 2, 1, b'a',
@@ -115,7 +116,7 @@ fn request(alloc: Global) -> Result<SharedParcel, NoMemory> {
         Parcel {
             from: Actor::Client(0),
             to: Actor::Proxy(0),
-            frame,
+            frame: Frame::from_bytes(bytes),
         },
     )
 }

@@ -2,6 +2,7 @@
 
 ghost use Rattle.std.specs.Prelude.{◌≡◌, IfOk};
 ghost use Rattle.nz_machine.specs.Journals.{group_in, run_in, history_in};
+ghost use Rattle.nz_machine.specs.Tellings.{told_by_run};
 ghost use Rattle.nz_machine.specs.World.{World};
 ghost use Rattle.nz_text.specs.Text as text_words;
 ghost use Rattle.nz_text.specs.Text.{text_of_printed};
@@ -10,7 +11,7 @@ use super::lines::{put_events, put_history, put_opens};
 use super::printed::Event;
 use super::run_events::{events_of, unanswered_of};
 use nz_base::{Blob, Id, NoMemory};
-use nz_machine::{History, Journal};
+use nz_machine::{History, Journal, ToldList};
 use nz_script::put;
 use std::alloc::Global;
 
@@ -24,22 +25,28 @@ pub fn spell(
     ensures { IfOk result (λ bytes. bytes ≡ text_of_printed (record { events = events.now; unanswered = unanswered.now; history = history.now })) }
 {
     let mut out = Vec::new(alloc);
-    put_events(alloc, &mut out, events)?;
-    put_opens(alloc, &mut out, unanswered)?;
+    put_events(&mut out, events)?;
+    put_opens(&mut out, unanswered)?;
     let _entries = history.len();
-    put_history(alloc, &mut out, history.as_slice())?;
+    put_history(&mut out, history.as_slice())?;
     put(&mut out, b"end\n")?;
     Ok(Blob::from_vec(out))
 }
 
 /// The text of a run: a line for each event of the clients, for each request that is open, and for each
-/// entry of the history, and `end`.
-pub fn text(alloc: Global, journal: &Journal, history: &History) -> Result<Blob, NoMemory>
+/// entry of the history, and `end`. What the clients told is given, and is not read again.
+pub fn text(
+    alloc: Global,
+    journal: &Journal,
+    told: ToldList,
+    history: &History,
+) -> Result<Blob, NoMemory>
     requires run { World (group_in journal.now) (run_in journal.now) }
+    requires told { told ≡ told_by_run (group_in journal.now) (run_in journal.now) }
     requires history { history.now ≡ history_in journal.now }
     ensures { IfOk result (λ bytes. bytes ≡ text_words.text (group_in journal.now) (run_in journal.now)) }
 {
-    let events = events_of(alloc, journal)?;
+    let events = events_of(alloc, journal, told)?;
     let unanswered = unanswered_of(alloc, events.as_slice())?;
     spell(alloc, events.as_slice(), unanswered.as_slice(), history)
 }

@@ -11,67 +11,67 @@ use nz_machine::{Event, Journal, Parcel, Record, RecordList, Sends, kind_of};
 use nz_script::{name_of, put, put_actor, put_number};
 use std::alloc::Global;
 
-fn put_parcel(alloc: Global, out: &mut Vec<u8>, parcel: &Parcel) -> Result<(), NoMemory>
+fn put_parcel(out: &mut Vec<u8>, parcel: &Parcel) -> Result<(), NoMemory>
     ensures { OnOk result (out.new.items ≡ out.old.items ++ parcel_text parcel.now) }
 {
-    if let Some(kind) = kind_of(parcel.frame.as_slice()) {
+    if let Some(kind) = kind_of(&parcel.frame) {
         put(out, name_of(kind))?;
     }
     put(out, b" ")?;
-    put_actor(alloc, out, parcel.from)
+    put_actor(out, parcel.from)
 }
 
-fn put_what(alloc: Global, out: &mut Vec<u8>, event: &Event) -> Result<(), NoMemory>
+fn put_what(out: &mut Vec<u8>, event: &Event) -> Result<(), NoMemory>
     ensures { OnOk result (out.new.items ≡ out.old.items ++ what_text event.now) }
 {
     match event {
         Event::Deliver(parcel) => {
             put(out, b"deliver ")?;
-            put_parcel(alloc, out, parcel.get())
+            put_parcel(out, parcel.get())
         }
         Event::Cut(parcel, kept) => {
             put(out, b"cut ")?;
-            put_parcel(alloc, out, parcel.get())?;
+            put_parcel(out, parcel.get())?;
             put(out, b" ")?;
-            put_number(alloc, out, u64::from(*kept))
+            put_number(out, u64::from(*kept))
         }
         Event::Tick(clock) => {
             put(out, b"tick ")?;
-            put_number(alloc, out, *clock)
+            put_number(out, *clock)
         }
         Event::Alarm => put(out, b"alarm"),
         Event::Crash => put(out, b"crash"),
         Event::Restart(nonce) => {
             put(out, b"restart ")?;
-            put_number(alloc, out, *nonce)
+            put_number(out, *nonce)
         }
     }
 }
 
-fn put_sends(alloc: Global, out: &mut Vec<u8>, sends: &Sends) -> Result<(), NoMemory>
+fn put_sends(out: &mut Vec<u8>, sends: &Sends) -> Result<(), NoMemory>
     ensures { OnOk result (out.new.items ≡ out.old.items ++ sends_text sends.now) }
 {
     put(out, b" -> ")?;
-    put_number(alloc, out, u64::from(sends.len()))?;
+    put_number(out, u64::from(sends.len()))?;
     put(out, b"\n")
 }
 
-fn put_record(alloc: Global, out: &mut Vec<u8>, step: &Record) -> Result<(), NoMemory>
+fn put_record(out: &mut Vec<u8>, step: &Record) -> Result<(), NoMemory>
     ensures { OnOk result (out.new.items ≡ out.old.items ++ record_line step.now) }
 {
-    put_number(alloc, out, u64::from(step.tick))?;
+    put_number(out, u64::from(step.tick))?;
     put(out, b" ")?;
-    put_actor(alloc, out, step.actor)?;
+    put_actor(out, step.actor)?;
     put(out, b" ")?;
-    put_what(alloc, out, &step.event)?;
-    put_sends(alloc, out, &step.sends)
+    put_what(out, &step.event)?;
+    put_sends(out, &step.sends)
 }
 
-fn put_records(alloc: Global, out: &mut Vec<u8>, records: &RecordList) -> Result<(), NoMemory>
+fn put_records(out: &mut Vec<u8>, records: &RecordList) -> Result<(), NoMemory>
     ensures { OnOk result (out.new.items ≡ out.old.items ++ flat_map record_line records.now) }
 {
     for place in 0..records.len() {
-        put_record(alloc, out, records.get(place).as_record())?;
+        put_record(out, records.get(place).as_record())?;
     }
     Ok(())
 }
@@ -81,6 +81,6 @@ pub fn trace(alloc: Global, journal: &Journal) -> Result<Blob, NoMemory>
     ensures { IfOk result (λ bytes. bytes ≡ trace_words.trace (run_in journal.now)) }
 {
     let mut out = Vec::new(alloc);
-    put_records(alloc, &mut out, &journal.records)?;
+    put_records(&mut out, &journal.records)?;
     Ok(Blob::from_vec(out))
 }
