@@ -1,11 +1,10 @@
 -- An acceptance leads to its prefix, and the longest of them to the history.
-use Rattle.std.proofs.Common.{◌≡◌, ℕ, suc, ◌-◌, ◌<◌, List, [], ◌∷◌, ◌++◌, length, map, append_assoc, append-nil}
+use Rattle.std.proofs.Common.{◌≡◌, ℕ, suc, ◌-◌, ◌<◌, List, [], ◌∷◌, ◌++◌, length, append_assoc, append-nil}
 use Rattle.std.proofs.Common.{zero, Option, Some, None, refl, sym, ap, subst, ◌∙◌, arith, ltb-true, inl}
 use Rattle.std.specs.Prelude.{nat_lt, slice_get}
 use Rattle.std.specs.List.{cons_option}
 use Rattle.std.specs.Option.{option_map, option_and_then, option_flatten}
 use Rattle.std.proofs.lemmas.Bool.{cond_both}
-use Rattle.std.proofs.lemmas.List.{map-append}
 use Rattle.std.proofs.lemmas.List.Elements.{filter_map-append}
 use Rattle.std.proofs.lemmas.Option.{same_Some}
 use Rattle.nz_base.specs.declared.actor.Actor.{Actor}
@@ -39,23 +38,24 @@ use Rattle.nz_machine.proofs.EachItem.{all_append}
 use Rattle.nz_machine.proofs.Moments.{at_world}
 use Rattle.nz_machine.proofs.Runs.{acts_itself}
 use Rattle.nz_machine.proofs.Accepting.{client_accepts}
+use Rattle.nz_laws_commit.specs.Present.{AreUpWithin}
 use Rattle.nz_laws_commit.proofs.Accepted.{same_parcel, gives}
 use Rattle.nz_laws_commit.proofs.ClientEvents.{told_accepted}
 use Rattle.nz_laws_commit.proofs.Whole.{after_newer}
 use Rattle.nz_audit.specs.declared.source.Source.{Source}
 use Rattle.nz_audit.specs.Sources.{numbers_of, in_numbers, about_message, about, source_sent, stands_for, delivered_source}
 use Rattle.nz_audit.specs.Cores.{run_up_to}
-use Rattle.nz_audit.specs.Prefixes.{prefix_for, longest_from, requests_sent, accepted_at, with_accepted, with_source, source_by, traced, all_traced}
+use Rattle.nz_audit.specs.Prefixes.{prefix_for, requests_sent, accepted_at, with_accepted, with_source, source_by, traced, all_traced}
 use Rattle.nz_audit.specs.Leading.{RepliesIn}
 use Rattle.nz_audit.specs.Prefixes.{Brings, IsAccepted, IsWithin, GiveHistory, AreAccepted}
 use Rattle.nz_audit.specs.declared.source.AcceptedAt.{AcceptedAt}
 use Rattle.nz_audit.specs.declared.source.AcceptedAnswer.{AcceptedAnswer}
 use Rattle.nz_audit.proofs.Runs.{run_named, run_within, run_length}
-use Rattle.nz_audit.proofs.Longest.{longer_stays, longest_append, order_later, order_more}
+use Rattle.nz_audit.proofs.Longest.{longer_stays, longest_more, order_later, order_more}
 use Rattle.nz_audit.proofs.Sent.{prefix_few}
 use Rattle.nz_audit.proofs.Hearing.{is_received, about_heard}
 use Rattle.nz_audit.proofs.Reached.{accepted_reached, at_later}
-use Rattle.nz_audit.proofs.LedPrefixes.{prefix_led}
+use Rattle.nz_audit.proofs.LedPrefixes.{prefix_led, prefix_led_first}
 
 -- ---- an accepted answer with its source
 
@@ -194,6 +194,9 @@ source_is_accepted : (g : Group) (J : List Record) (p : Parcel) (id : Id) → Is
 source_is_accepted g J p id told =
     ap (λ (o : Option Id). option_flatten (stands_for g p (source p J) o)) told.about ∙ answer_stands_for g id p told.proxy (source p J) told.from
 
+told_first : (event : ClientEvent) (rest told : List ClientEvent) → event ∷ rest ≡ told → Has told event
+told_first event rest told is = subst (λ (l : List ClientEvent). Has l event) is (inl refl)
+
 no_prefix : (g : Group) (sent : List Id) (e : Event) (J : List Record) → prefix_in g (request_events g sent) e J ≡ []
 no_prefix g [] e J = refl
 no_prefix g (id ∷ ids) e J = refl
@@ -205,11 +208,20 @@ source_led : (journal : Journal) (r : Record) (J : List Record) (id : Id) (answe
     → (at : ReplySource) → accepted_source (group_in journal) id p J ≡ Some at → IsLed journal id at.sender at.run
 source_led journal r J id answer path rest p world w moment is told at from =
     let g = group_in journal in
-    let event = Accepted id answer path in
-    let t = gives g r J id answer path w (told_accepted g r J id answer path (subst (λ (l : List ClientEvent). Has l event) told (inl refl))) in
+    let t = gives g r J id answer path w (told_accepted g r J id answer path (told_first (Accepted id answer path) rest _ told)) in
     let parcel : p ≡ t.parcel = same_parcel p t.parcel (sym is ∙ t.event) in
     let same : t.source ≡ at = same_Some t.source at (sym t.leads ∙ ap (λ (q : Parcel). accepted_source g id q J) (sym parcel) ∙ from) in
     subst (λ (s : ReplySource). IsLed journal id s.sender s.run) same (λ v replies. prefix_led g (run_in journal) r J id answer v world moment t replies)
+
+-- its prefix, where all replicas are up in view 0 in the end
+prefix_first : (journal : Journal) (r : Record) (J : List Record) (id : Id) (answer : AnswerModel) (path : Path) (rest : List ClientEvent)
+    → World (group_in journal) (run_in journal) → World (group_in journal) (r ∷ J) → At (run_in journal) J
+    → Accepted id answer path ∷ rest ≡ client_events (group_in journal) r.actor r J → AreUpWithin 0 (group_in journal) (run_in journal)
+    → prefix_in (group_in journal) (Accepted id answer path ∷ rest) r.event J ≡ cut_after id (lead (group_in journal) 0 (run_in journal))
+prefix_first journal r J id answer path rest world w moment told up =
+    let g = group_in journal in
+    let t = gives g r J id answer path w (told_accepted g r J id answer path (told_first (Accepted id answer path) rest _ told)) in
+    ap (λ (l : List ClientEvent). prefix_in g l r.event J) told ∙ t.is ∙ prefix_led_first g (run_in journal) r J id answer world moment up t
 
 accepts_at : (journal : Journal) (r : Record) (J : List Record) (x : AcceptedAt) (answer : AnswerModel) (path : Path) (rest : List ClientEvent)
     (e : Event) → World (group_in journal) (run_in journal) → World (group_in journal) (r ∷ J) → IsPart journal J → r.event ≡ e
@@ -242,21 +254,24 @@ brings_at g r J id answer path rest (Restart nonce) is told = tt
 
 -- ---- one record more
 
+-- it stays where nothing is added
+history_stays : (g : Group) (r : Record) (J : List Record) (P : List Entry) → history g (r ∷ J) ≡ longer (history g J) P → P ≡ []
+    → history g (r ∷ J) ≡ history g J
+history_stays g r J P then none = then ∙ ap (longer (history g J)) none ∙ longer_stays (history g J) [] (omega arith)
+
 history_more : (journal : Journal) (r : Record) (J : List Record) (P : List Entry) (accepted : List AcceptedAnswer) (o : Option AcceptedAnswer)
     → history (group_in journal) (r ∷ J) ≡ longer (history (group_in journal) J) P → GiveHistory journal J accepted → Gives journal (length J) P o
     → GiveHistory journal (r ∷ J) (with_accepted accepted o)
 history_more journal r J P accepted None then h none = record {
-  longest = then ∙ ap (longer (history (group_in journal) J)) none ∙ longer_stays (history (group_in journal) J) [] (omega arith) ∙ h.longest;
+  longest = history_stays (group_in journal) r J P then none ∙ h.longest;
   places = order_later 0 (length J) (suc (length J)) accepted h.places (omega arith);
   within = h.within;
 }
 history_more journal r J P accepted (Some a) then h one =
-    let prefixes = map (prefix_for journal) accepted in
+    let g = group_in journal in
     let at = one.at in
     record {
-      longest =
-          then ∙ (λ i. longer (h.longest i) (one.prefix i)) ∙ sym (longest_append [] prefixes (prefix_for journal a))
-          ∙ ap (longest_from []) (sym (map-append (prefix_for journal) accepted (a ∷ [])));
+      longest = longest_more (prefix_for journal) accepted a (history g J) (history g (r ∷ J)) P then h.longest one.prefix;
       places = order_more 0 (length J) (suc (length J)) accepted a h.places (omega (arith, at)) (omega (arith, at));
       within = all_append (IsWithin journal) accepted (a ∷ []) h.within (one.within, tt);
     }
@@ -284,11 +299,13 @@ pub none_accepted : (journal : Journal) (r : Record) (J : List Record) (ids : Li
     → AreAccepted journal (r ∷ J) answers
 none_accepted journal r J ids answers told h =
     let g = group_in journal in
+    let P = prefix_in g (request_events g ids) r.event J in
+    let none = no_prefix g ids r.event J in
+    let then : history g (r ∷ J) ≡ longer (history g J) P = ap (λ (l : List ClientEvent). longer (history g J) (prefix_in g l r.event J)) (sym told) in
     record {
       each = h.each;
-      history =
-          history_more journal r J (prefix_in g (request_events g ids) r.event J) (all_traced journal answers) None
-          (ap (λ (l : List ClientEvent). longer (history g J) (prefix_in g l r.event J)) (sym told)) h.history (no_prefix g ids r.event J);
+      history = history_more journal r J P (all_traced journal answers) None then h.history none;
+      one_log = λ up. history_stays g r J P then none ∙ h.one_log up;
     }
 
 one_accepted : (journal : Journal) (place : ℕ) (r : Record) (a : Acceptance) (ids : List Id) (answers : List AcceptedAt) (sent : ℕ)
@@ -306,9 +323,11 @@ one_accepted journal place r a ids answers sent is told count h =
     let long : length J ≡ place = run_length journal place (omega (arith, there)) in
     let own : traced journal x ≡ with_source (delivered_source g J r.event) x =
     ap (λ (o : Option Record). with_source (source_by journal place o) x) is.at in
-    let gives : Gives journal (length J) (prefix_in g (Accepted a.id a.answer a.path ∷ rest) r.event J) (traced journal x) =
-    subst (λ (n : ℕ). Gives journal n (prefix_in g (Accepted a.id a.answer a.path ∷ rest) r.event J) (traced journal x)) (sym long)
-    (subst (Gives journal place (prefix_in g (Accepted a.id a.answer a.path ∷ rest) r.event J)) (sym own)
+    let P = prefix_in g (Accepted a.id a.answer a.path ∷ rest) r.event J in
+    let then : history g (r ∷ J) ≡ longer (history g J) P = ap (λ (l : List ClientEvent). longer (history g J) (prefix_in g l r.event J)) (sym told) in
+    let gives : Gives journal (length J) P (traced journal x) =
+    subst (λ (n : ℕ). Gives journal n P (traced journal x)) (sym long)
+    (subst (Gives journal place P) (sym own)
     (accepts_at journal r J x a.answer a.path rest r.event is.run is.world part refl told count)) in
     let brings = brings_at g r J a.id a.answer a.path rest r.event refl told in
     record {
@@ -320,8 +339,11 @@ one_accepted journal place r a ids answers sent is told count h =
         tt,
       );
       history = subst (GiveHistory journal (r ∷ J)) (sym (traced_more journal answers x))
-          (history_more journal r J (prefix_in g (Accepted a.id a.answer a.path ∷ rest) r.event J) (all_traced journal answers) (traced journal x)
-          (ap (λ (l : List ClientEvent). longer (history g J) (prefix_in g l r.event J)) (sym told)) h.history gives);
+          (history_more journal r J P (all_traced journal answers) (traced journal x) then h.history gives);
+      one_log = λ up.
+          let log = lead g 0 (run_in journal) in
+          longest_more (λ (y : AcceptedAt). cut_after y.id log) answers x (history g J) (history g (r ∷ J)) P then (h.one_log up)
+          (prefix_first journal r J a.id a.answer a.path rest is.run is.world (part_at journal J part) told up);
     }
 
 pub accepted_then : (journal : Journal) (place : ℕ) (r : Record) (accepted : Option Acceptance) (ids : List Id) (answers : List AcceptedAt) (sent : ℕ)

@@ -34,7 +34,8 @@ use Rattle.nz_audit.proofs.Accepting.{IsAt}
 
 pub accepted_first : (journal : Journal) (answers : List AcceptedAt) → answers ≡ [] → AreAccepted journal [] answers
 accepted_first journal answers none =
-    subst (AreAccepted journal []) (sym none) (record { each = tt; history = record { longest = refl; places = omega arith; within = tt } })
+    subst (AreAccepted journal []) (sym none)
+    (record { each = tt; history = record { longest = refl; places = omega arith; within = tt }; one_log = λ up. refl })
 
 -- a journal's run is some later records, and the run up to a record
 newer_records : (journal : Journal) (n : ℕ) → run_in journal ≡ reverse (drop n journal.records) ++ run_up_to journal n

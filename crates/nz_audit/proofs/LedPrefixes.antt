@@ -1,4 +1,5 @@
--- The prefix of an accepted answer is in the log that the leader of its view leads with at the end of the run.
+-- The prefix of an accepted answer is in the log that the leader of its view leads with at the end of the run. That is the
+-- log of view 0 where all replicas are up in view 0 then.
 use Rattle.std.proofs.Common.{◌≡◌, ℕ, zero, suc, ◌<◌, eqb, eq-eqb, eqb-true, true, List, [], ◌∷◌, length, get_or}
 use Rattle.std.proofs.Common.{Option, Some, None, Result, Ok, refl, sym, ap, subst, ◌∙◌, inl, inr, arith}
 use Rattle.std.specs.Prelude.{IfSome}
@@ -35,12 +36,14 @@ use Rattle.nz_machine.proofs.ReadShows.{fits_here}
 use Rattle.nz_machine.proofs.Runs.{sent_by}
 use Rattle.nz_machine.proofs.Sends.{shown}
 use Rattle.nz_base.specs.Moments.{At}
+use Rattle.nz_laws_commit.specs.Present.{AreUpWithin}
 use Rattle.nz_laws_commit.proofs.Accepted.{Gives}
 use Rattle.nz_laws_commit.proofs.Answering.{given_later}
 use Rattle.nz_laws_commit.proofs.Chosen.{HasQuorum, BySlow, ByFast}
 use Rattle.nz_laws_commit.proofs.Instance.{led_log}
 use Rattle.nz_laws_commit.proofs.Led.{given_cut}
 use Rattle.nz_laws_commit.proofs.NotedWereSent.{IsSaid, Fastly, Slowly, IsBacked}
+use Rattle.nz_laws_commit.proofs.Rising.{given_within}
 use Rattle.nz_replica.specs.Models.{ReplicaCore, IsCore, AreCores}
 use Rattle.nz_audit.specs.Leading.{view_of_message, view_brought, BringsReplyOf, RepliesIn}
 use Rattle.nz_audit.proofs.ReplyFields.{decoded_of}
@@ -117,6 +120,15 @@ prefix_led g later r J id a v w at t replies =
     let view = source_view g J id t.reply t.source v (at_world g later J w at) t.backed replies in
     let given = given_later g later J at (view_of t.reply) id a t.prefix t.given in
     ap (λ n. cut_after id (lead g n later)) view ∙ sym (given_cut g later (view_of t.reply) id a t.prefix w given) ∙ t.at_source
+
+-- where all replicas are up in view 0 later in the run, the prefix was given in view 0
+pub prefix_led_first : (g : Group) (later : List Record) (r : Record) (J : List Record) (id : Id) (a : Answer) → World g later → At later J
+    → AreUpWithin 0 g later → (t : Gives g r J id a) → t.prefix ≡ cut_after id (lead g 0 later)
+prefix_led_first g later r J id a w at up t =
+    let v = view_of t.reply in
+    let given = given_later g later J at v id a t.prefix t.given in
+    let low = given_within g later 0 v id a t.prefix w up given in
+    given_cut g later v id a t.prefix w given ∙ ap (λ n. cut_after id (lead g n later)) (omega (arith, low))
 
 -- ---- the log of a replica that leads after the run
 

@@ -16,6 +16,7 @@ pub mod Longest
 pub mod LedPrefixes
 pub mod Accepting
 pub mod Found
+pub mod FirstView
 pub mod Rounds
 pub mod Told
 pub mod Silences

@@ -4,6 +4,7 @@ use Rattle.std.proofs.Common.{ap, subst, ◌∙◌, inl, inr, arith, lt-ltb, ltb
 use Rattle.std.specs.Prelude.{nat_lt}
 use Rattle.std.specs.List.{AllByRecursion}
 use Rattle.std.proofs.lemmas.Bool.{cases_Bool, cond_both, eqb-false}
+use Rattle.std.proofs.lemmas.List.{map-append}
 use Rattle.nz_base.specs.declared.key.Entry.{Entry}
 use Rattle.nz_machine.specs.declared.journal.Journal.{Journal}
 use Rattle.nz_machine.specs.World.{Has}
@@ -34,6 +35,13 @@ no_entries (x ∷ P) e = absurd (omega (arith, e))
 pub longest_append : (best : List Entry) (Ps : List (List Entry)) (P : List Entry) → longest_from best (Ps ++ P ∷ []) ≡ longer (longest_from best Ps) P
 longest_append best [] P = refl
 longest_append best (Q ∷ Ps) P = longest_append (longer best Q) Ps P
+
+-- one list more
+pub longest_more : {X : Type 0} (prefix : X → List Entry) (xs : List X) (x : X) (old new P : List Entry) → new ≡ longer old P
+    → old ≡ longest_from [] (map prefix xs) → P ≡ prefix x → new ≡ longest_from [] (map prefix (xs ++ x ∷ []))
+longest_more prefix xs x old new P then is one =
+    then ∙ (λ i. longer (is i) (one i)) ∙ sym (longest_append [] (map prefix xs) (prefix x))
+    ∙ ap (longest_from []) (sym (map-append prefix xs (x ∷ [])))
 
 -- ---- the first of the longest
 

@@ -16,36 +16,21 @@ use Rattle.nz_machine.specs.Journals.{group_in, run_in}
 use Rattle.nz_machine.specs.Records.{IsSilentClock, silent_clock}
 use Rattle.nz_machine.specs.State.{Group}
 use Rattle.nz_machine.specs.World.{World}
-use Rattle.nz_machine.proofs.ProgressIsTold.{silent_clock_tells}
 use Rattle.nz_audit.specs.declared.source.Source.{Source}
 use Rattle.nz_audit.specs.declared.noting.Noted.{Noted}
 use Rattle.nz_audit.specs.declared.proxy.ProxyNotes.{ProxyNotes}
 use Rattle.nz_audit.specs.declared.sending.ParcelKey.{ParcelKey}
 use Rattle.nz_audit.specs.declared.reading.Reading.{Reading}
-use Rattle.nz_audit.specs.declared.telling.Told.{Told}
 use Rattle.nz_audit.specs.Cores.{run_up_to}
 use Rattle.nz_audit.specs.Noting.{after_event, down_after}
-use Rattle.nz_audit.specs.Readings.{IsProxy, IsTable, IsTableWith, IsRead, IsToldBy}
+use Rattle.nz_audit.specs.Readings.{IsProxy, IsTable, IsTableWith, IsRead}
 use Rattle.nz_audit.proofs.Acting.{proxy_stays, proxy_ignores, is_read}
-use Rattle.nz_audit.proofs.Found.{is_next, is_at}
+use Rattle.nz_audit.proofs.Found.{is_next}
 use Rattle.nz_audit.proofs.Tables.{table_starts, table_ends}
-use Rattle.nz_audit.proofs.Told.{told_nothing}
 
 -- the record at a place, which is of such a clock
 abbrev record_at : Journal → ℕ → Record
 record_at journal place = get_or journal.records place (silent_clock 0 (Replica 0) 0)
-
--- ---- what clients told
-
-pub silent_told : (journal : Journal) (place : ℕ) (told : Told) → World (group_in journal) (run_in journal) → place < length journal.records
-    → ((step : Record) → slice_get journal.records place ≡ Some step → IsSilentClock step)
-    → IsToldBy journal (run_up_to journal place) told → IsToldBy journal (run_up_to journal (place + 1)) told
-silent_told journal place told w lt silent h =
-    let r = record_at journal place in
-    let at : slice_get journal.records place ≡ Some r = slice_get-get_or journal.records place (silent_clock 0 (Replica 0) 0) lt in
-    let is = is_at journal place r w at in
-    let quiet = silent_clock_tells (group_in journal) r (run_up_to journal place) told.clients (silent r at) is.world h.clients in
-    told_nothing journal place r told is quiet.0 quiet.1 h
 
 -- ---- what is known of proxies, and what was sent
 

@@ -1,13 +1,18 @@
--- The view of the replies that a record sends, and when a log has the prefix of an answer.
-use Rattle.std.specs.Prelude.{◌≡◌, ℕ, List, [], ◌∷◌, Option, Some, None}
+-- The view of the replies that a record sends, and the log of the one view that was led.
+use Rattle.std.specs.Prelude.{◌≡◌, ◌==◌, ◌&&◌, ℕ, Bool, List, [], ◌∷◌, Option, Some, None}
 use Rattle.std.specs.Option.{option_and_then}
+use Rattle.nz_base.specs.declared.key.Entry.{Entry}
 use Rattle.nz_msg.specs.declared.envelope.Envelope.{Envelope}
 use Rattle.nz_msg.specs.declared.message.Message.{Message}
 use Rattle.nz_msg.specs.declared.message.Message.TheVariants.{FastReply}
 use Rattle.nz_machine.specs.declared.event.Parcel.{Parcel}
 use Rattle.nz_machine.specs.declared.event.Record.{Record}
+use Rattle.nz_machine.specs.Leading.{lead}
+use Rattle.nz_machine.specs.Replicas.{is_up}
+use Rattle.nz_machine.specs.State.{ReplicaData, Group}
 use Rattle.nz_machine.specs.Step.{envelope_for}
 use Rattle.nz_machine.specs.World.{Has}
+use Rattle.nz_laws_commit.specs.Present.{AreUpWithin}
 
 -- The view of a fast reply.
 abbrev pub view_of_message : Message → Option ℕ
@@ -28,3 +33,12 @@ pub record BringsReplyOf (v : ℕ) (sends : List Parcel) : Type 0 where
 abbrev pub RepliesIn : ℕ → List Record → Type 0
 RepliesIn v [] = ⊥
 RepliesIn v (r ∷ J) = BringsReplyOf v r.sends
+
+-- Whether the replica is up in the first view.
+abbrev pub is_up_in_first_view : ReplicaData → Bool
+is_up_in_first_view s = is_up s.status && (s.view == 0)
+
+-- After the records all replicas are up in view 0, and this is the log of its leader: no other view was ever led.
+pub record IsOnlyLog (g : Group) (J : List Record) (entries : List Entry) : Type 0 where
+  pub up : AreUpWithin 0 g J
+  pub log : entries ≡ lead g 0 J

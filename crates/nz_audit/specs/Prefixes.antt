@@ -18,6 +18,7 @@ use Rattle.nz_machine.specs.Events.{ClientEvent, Sent}
 use Rattle.nz_machine.specs.Events as events
 use Rattle.nz_machine.specs.History.{log_at, cut_after, longer, history}
 use Rattle.nz_machine.specs.World.{Has}
+use Rattle.nz_laws_commit.specs.Present.{AreUpWithin}
 use Rattle.nz_audit.specs.declared.source.Source.{Source}
 use Rattle.nz_audit.specs.declared.source.AcceptedAt.{AcceptedAt}
 use Rattle.nz_audit.specs.declared.source.AcceptedAnswer.{AcceptedAnswer}
@@ -113,10 +114,20 @@ pub record GiveHistory (journal : Journal) (J : List Record) (accepted : List Ac
   pub places : AreInOrder 0 (length J) accepted
   pub within : AllByRecursion (IsWithin journal) accepted
 
+-- The prefixes that one log has of some answers.
+abbrev pub prefixes_in : List Entry → List AcceptedAt → List (List Entry)
+prefixes_in log answers = map (λ (a : AcceptedAt). cut_after a.id log) answers
+
+-- The history is the longest of the prefixes that the log has of these answers.
+abbrev pub IsHistoryIn : Journal → List Record → List AcceptedAt → List Entry → Type 0
+IsHistoryIn journal J answers log = history (group_in journal) J ≡ longest_from [] (prefixes_in log answers)
+
 -- These are the accepted answers of the run.
 pub record AreAccepted (journal : Journal) (J : List Record) (answers : List AcceptedAt) : Type 0 where
   pub each : AllByRecursion (IsAccepted journal) answers
   pub history : GiveHistory journal J (all_traced journal answers)
+  -- Where all replicas are up in view 0 in the end, the log of its leader has each prefix.
+  pub one_log : AreUpWithin 0 (group_in journal) (run_in journal) → IsHistoryIn journal J answers (lead (group_in journal) 0 (run_in journal))
 
 -- ---- the search for the longest
 

@@ -11,21 +11,17 @@ use Rattle.nz_machine.specs.declared.journal.Journal.{Journal}
 use Rattle.nz_machine.specs.Journals.{group_in, run_in}
 use Rattle.nz_machine.specs.State.{Group}
 use Rattle.nz_machine.specs.World.{state_after, World}
-use Rattle.nz_machine.specs.ClientProgress.{AreAfter}
-use Rattle.nz_machine.specs.Events.{events}
 use Rattle.nz_machine.specs.History.{parcel_eq, older_or, source}
 use Rattle.nz_audit.specs.declared.source.Source.{Source}
 use Rattle.nz_audit.specs.declared.noting.Noted.{Noted}
 use Rattle.nz_audit.specs.declared.proxy.ProxyNotes.{ProxyNotes}
 use Rattle.nz_audit.specs.declared.sending.ParcelKey.{ParcelKey}
-use Rattle.nz_audit.specs.declared.telling.Told.{Told}
 use Rattle.nz_audit.specs.declared.reading.Reading.{Reading}
 use Rattle.nz_audit.specs.Sources.{about, stands_for, kept_of, IsNoOther, source_delivered, delivered_source}
 use Rattle.nz_audit.specs.declared.source.AcceptedAt.{AcceptedAt}
 use Rattle.nz_audit.specs.Noting.{IsSized}
 use Rattle.nz_audit.specs.Memories.{memory}
 use Rattle.nz_audit.specs.Cores.{run_up_to}
-use Rattle.nz_audit.specs.Prefixes.{AreAccepted, requests_sent}
 
 -- What is known of a request: nothing of a proxy that did nothing yet.
 abbrev pub known_to : Option ProxyNotes → Id → Option Noted
@@ -65,12 +61,6 @@ pub record IsKnown (journal : Journal) (table : List (ParcelKey × Option Source
 pub record IsRead (journal : Journal) (w : Id → Bool) (J : List Record) (reading : Reading) : Type 0 where
   pub proxies : (q : ℕ) → IsProxy (group_in journal) w J q (get nat_eq reading.proxies q)
   pub table : IsTable (group_in journal) w J reading.sendings.kept.entries
-
--- What the records of the clients have told, after these records of a journal.
-pub record IsToldBy (journal : Journal) (J : List Record) (told : Told) : Type 0 where
-  pub clients : AreAfter (group_in journal) J told.clients
-  pub accepted : AreAccepted journal J told.accepted.items
-  pub sent : told.sent ≡ requests_sent (events (group_in journal) J)
 
 -- The record follows these, and is the one of this count in a journal.
 pub record IsNextRecord (journal : Journal) (records : ℕ) (r : Record) (J : List Record) : Type 0 where

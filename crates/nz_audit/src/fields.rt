@@ -1,4 +1,4 @@
-//! Fields of a frame, read at their places without decoding the frame.
+//! Fields of a frame, read at their places in its body without decoding it.
 
 ghost use Rattle.std.specs.Prelude.{◌≡◌};
 ghost use Rattle.nz_frame.specs.Grammar.{AreBytes};
@@ -6,42 +6,46 @@ ghost use Rattle.nz_audit.specs.Sources as sources;
 
 use byteorder::{BigEndian, ByteOrder};
 use nz_base::Id;
+use nz_frame::Frame;
 
 /// Whether the frame of a fast reply has an answer, by the byte that says it.
-pub fn shows_answer(frame: &[u8]) -> bool
+pub fn shows_answer(frame: &Frame) -> bool
     ensures shown { result ≡ sources.shows_answer frame.now }
     ensures bytes { AreBytes frame.now }
 {
-    let Some(size) = frame.get(46) else {
+    let body = frame.body().as_slice();
+    let Some(size) = body.get(36) else {
         return false;
     };
-    match frame.get(51 + 4 * usize::from(*size)) {
+    match body.get(41 + 4 * usize::from(*size)) {
         Some(flag) => *flag == 1,
         None => false,
     }
 }
 
 /// The request that the frame of a reply names.
-pub fn named_id(frame: &[u8]) -> Option<Id>
+pub fn named_id(frame: &Frame) -> Option<Id>
     ensures shown { result ≡ sources.named_id frame.now }
     ensures bytes { AreBytes frame.now }
 {
-    if frame.len() < 26 {
+    let body = frame.body().as_slice();
+    if body.len() < 16 {
         return None;
     }
     Some(Id {
-        client: BigEndian::read_u32(&frame[18..]),
-        num: BigEndian::read_u32(&frame[22..]),
+        client: BigEndian::read_u32(&body[8..]),
+        num: BigEndian::read_u32(&body[12..]),
     })
 }
 
 /// The number of the request that the frame of a request or an answer names.
-pub fn named_num(frame: &[u8]) -> Option<u32>
+pub fn named_num(frame: &Frame) -> Option<u32>
     ensures shown { result ≡ sources.named_num frame.now }
     ensures bytes { AreBytes frame.now }
 {
-    if frame.len() < 14 {
+    let body = frame.body().as_slice();
+    if body.len() < 4 {
         return None;
     }
-    Some(BigEndian::read_u32(&frame[10..]))
+    Some(BigEndian::read_u32(body))
 }

@@ -2,19 +2,21 @@
 
 ghost use Rattle.std.specs.Prelude.{◌≡◌, length, IfOk, IfSome};
 ghost use Rattle.nz_machine.specs.Journals.{group_in, run_in, executed_entries, history_in};
+ghost use Rattle.nz_machine.specs.Tellings.{told_by_run};
 ghost use Rattle.nz_machine.specs.World.{World};
 ghost use Rattle.nz_replica.specs.Models.{AreCores};
 ghost use Rattle.nz_audit.specs.Cores.{IsReplayed};
-ghost use Rattle.nz_audit.specs.Prefixes.{prefix_for, IsWithin};
+ghost use Rattle.nz_audit.specs.Prefixes.{prefix_for, IsWithin, AreAccepted};
 
 use super::executing::execute;
+use super::first_view::{longest_in, only_log};
 use super::leading::log_since;
 use super::replaying::{Replayed, replay};
 use super::searching::longest_of;
-use super::source::Counted;
+use super::source::{AcceptedAt, Counted};
 use super::telling::accepted_in;
 use nz_base::NoMemory;
-use nz_machine::{History, Journal};
+use nz_machine::{History, Journal, ToldAt};
 use nz_replica::Replica;
 use std::alloc::Global;
 
@@ -40,22 +42,18 @@ fn executed(
     execute(alloc, replayed.core.log(), best.entries)
 }
 
-/// The history of the journal's run, with what the one store that executes it answers. It is the longest of
-/// the prefixes that the clients' acceptances lead back to. Only those are looked for that may be the longest.
-///
-/// The replicas are those of the run as they are after its last record, or the first of them, or none. A prefix is read
-/// off the log of the replica that answered, where that leads the same view to the end. Where it does not, or is not
-/// given, the replica is replayed from the journal up to its answer, which takes about as long as the run took it.
-pub fn history_of(
+/// The history, found among the prefixes of the accepted answers. Only those are looked for that may be the longest.
+fn searched(
     alloc: Global,
     journal: &Journal,
     replicas: &[Replica],
+    accepted: Vec<AcceptedAt>,
 ) -> Result<History, NoMemory>
     requires world { World (group_in journal.now) (run_in journal.now) }
     requires replicas { AreCores (group_in journal.now) (run_in journal.now) replicas.now }
+    requires accepted { AreAccepted journal.now (run_in journal.now) accepted.items }
     ensures { IfOk result (λ history. history ≡ history_in journal.now) }
 {
-    let accepted = accepted_in(alloc, journal)?;
     let found = longest_of(alloc, journal, replicas, accepted)?;
     match found.best {
         None => Ok(History::new(alloc)),
@@ -63,5 +61,30 @@ pub fn history_of(
             let at = found.replays.for_longest(best.accepted.source);
             executed(alloc, journal, replicas, at, best)
         }
+    }
+}
+
+/// The history of the journal's run, with what the one store that executes it answers. It is the longest of
+/// the prefixes that the clients' acceptances lead back to. What the clients told is given, and is not read again.
+///
+/// The replicas are those of the run as they are after its last record, or the first of them, or none. Where all are up
+/// in view 0, the log of its leader has all prefixes. Where they are not, a prefix is read off the log of the replica
+/// that answered, if that leads the same view to the end. If it does not, or is not given, the replica is replayed from
+/// the journal up to its answer, which takes about as long as the run took it.
+pub fn history_of(
+    alloc: Global,
+    journal: &Journal,
+    told: &[ToldAt],
+    replicas: &[Replica],
+) -> Result<History, NoMemory>
+    requires world { World (group_in journal.now) (run_in journal.now) }
+    requires told { told.now ≡ told_by_run (group_in journal.now) (run_in journal.now) }
+    requires replicas { AreCores (group_in journal.now) (run_in journal.now) replicas.now }
+    ensures { IfOk result (λ history. history ≡ history_in journal.now) }
+{
+    let accepted = accepted_in(alloc, told)?;
+    match only_log(journal.scenario.cluster, replicas) {
+        Some(log) => execute(alloc, log, longest_in(log, accepted.as_slice())),
+        None => searched(alloc, journal, replicas, accepted),
     }
 }

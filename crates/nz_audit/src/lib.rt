@@ -4,6 +4,7 @@
 mod envelopes;
 mod executing;
 mod fields;
+mod first_view;
 mod history;
 mod leading;
 mod noting;

@@ -147,7 +147,7 @@ impl ProxyNotes {
         let Actor::Replica(_) = parcel.from else {
             return false;
         };
-        let Some(id) = named_id(parcel.frame.as_slice()) else {
+        let Some(id) = named_id(&parcel.frame) else {
             return false;
         };
         !self.is_open(id)

@@ -8,18 +8,18 @@ ghost use Rattle.nz_audit.specs.Sources.{parcel_key_of, kept_of, source_delivere
 ghost use Rattle.nz_audit.specs.Noting.{source_if_answer};
 
 use super::source::Source;
-use bytes::Bytes;
 use indexmap::IndexMap;
 use nz_base::{Actor, NoMemory};
+use nz_frame::Frame;
 use nz_machine::{Event, Parcel, Reply};
 use std::alloc::Global;
 
-/// A parcel as a key. Its frame is shared.
+/// A parcel as a key. The body of its frame is shared.
 #[derive(Debug, Drop, PartialEq, Eq, Hash)]
 pub struct ParcelKey {
     pub from: Actor,
     pub to: Actor,
-    pub frame: Bytes,
+    pub frame: Frame,
 }
 
 impl ParcelKey {
@@ -29,7 +29,7 @@ impl ParcelKey {
         Ok(ParcelKey {
             from: parcel.from,
             to: parcel.to,
-            frame: parcel.frame.slice(..)?,
+            frame: parcel.frame.clone()?,
         })
     }
 }

@@ -3,10 +3,11 @@
 ghost use Rattle.std.specs.Prelude.{◌≡◌, ◌<◌, length, IfOk};
 
 use super::executing::execute;
+use super::first_view::longest_in;
 use super::leading::{first_view, log_leading};
 use super::replaying::replay_one;
 use super::searching::entries_up_to;
-use super::source::{AcceptedAnswer, Counted, Source, longer};
+use super::source::{AcceptedAnswer, AcceptedAt, Counted, Source, longer};
 use bytes::BytesMut;
 use nz_base::{Actor, Blob, Cluster, Id};
 use nz_cv::CrashVector;
@@ -148,6 +149,26 @@ fn entries_up_to_a_request_are_counted(rt: HostRuntime) -> Result<(), Fail> {
     assert_eq!(rt; log.len(), 3);
     assert_eq!(rt; entries_up_to(log, Id { client: 1, num: 1 }), 2);
     assert_eq!(rt; entries_up_to(log, Id { client: 1, num: 2 }), 0);
+    Ok(())
+}
+
+fn answer_to(client: u32) -> AcceptedAt {
+    AcceptedAt {
+        place: 0,
+        id: Id { client, num: 1 },
+        sent: 9,
+    }
+}
+
+// The requests of clients 0 and 1 are the first two entries, and client 3 has none.
+#[test]
+fn longest_prefix_in_a_log(rt: HostRuntime) -> Result<(), Fail> {
+    let core = replayed(rt.alloc())?;
+    let log = core.log();
+    let answers = [answer_to(0), answer_to(1), answer_to(0), answer_to(3)];
+    assert_eq!(rt; longest_in(log, &answers), 2);
+    assert_eq!(rt; longest_in(log, &[answer_to(3)]), 0);
+    assert_eq!(rt; longest_in(log, &[]), 0);
     Ok(())
 }
 

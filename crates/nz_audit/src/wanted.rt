@@ -50,7 +50,7 @@ fn about_in(envelope: &Envelope) -> Option<Id>
 fn shown_id(parcel: &Parcel) -> Option<Id>
     ensures { (id : IdModel) → sources.about parcel.now ≡ Some id → result ≡ Some id }
 {
-    let frame = parcel.frame.as_slice();
+    let frame = &parcel.frame;
     match (parcel.from, parcel.to) {
         (Actor::Replica(_), Actor::Proxy(_)) => {
             if shows_answer(frame) {
@@ -101,7 +101,7 @@ pub fn is_other_request(wanted: &HashSet<Id>, event: &Event) -> bool
     let Actor::Client(client) = parcel.from else {
         return false;
     };
-    match named_num(parcel.frame.as_slice()) {
+    match named_num(&parcel.frame) {
         Some(num) => !wanted.contains(&id_of(client, num)),
         None => false,
     }

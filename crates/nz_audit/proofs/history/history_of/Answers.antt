@@ -1,40 +1,28 @@
 -- What the function of this folder owes, proved.
-use Rattle.std.proofs.Common.{◌≡◌, List, length, IfOk, sym, ap, subst, ◌∙◌}
+use Rattle.std.proofs.Common.{◌≡◌, List, [], length, IfOk, refl, sym, subst, ◌∙◌}
 use Rattle.nz_base.specs.declared.key.Entry.{Entry}
-use Rattle.nz_machine.specs.Journals.{run_in, executed_entries}
-use Rattle.nz_machine.proofs.Runs.{all_has}
-use Rattle.nz_audit.specs.Prefixes.{IsBest, IsBestIfAny, IsWithin, all_traced}
-use Rattle.nz_audit.proofs.Longest.{first_of_all}
-use Rattle.nz_audit.proofs.Found.{nothing_accepted}
+use Rattle.nz_machine.specs.Journals.{group_in, run_in, executed_entries}
+use Rattle.nz_audit.specs.Prefixes.{longest_from, prefixes_in, AreAccepted}
+use Rattle.nz_audit.proofs.Found.{within_log}
+use Rattle.nz_audit.proofs.FirstView.{longest_of_log, history_in_log}
 use Rattle.nz_audit.proofs.history.history_of.Goals as goal
 
-pub returns-in-None : goal.returns-in-None
-returns-in-None c =
-    let j = c.args.journal.now in
-    let all = all_traced j c.in_ok-accepted.accepted.items in
-    let none = subst (IsBestIfAny j all) c.in-None.is c.in_ok-found.ensures.best in
-    c.new.ensures ∙ sym (ap executed_entries (nothing_accepted j (run_in j) all c.in_ok-accepted.ensures.history none))
-
-pub executed-requires-clause-within : goal.executed-requires-clause-within
-executed-requires-clause-within c =
-    let j = c.args.journal.now in
-    let all = all_traced j c.in_ok-accepted.accepted.items in
-    let h : IsBest j all c.in-Some.best = subst (IsBestIfAny j all) c.in-Some.is c.in_ok-found.ensures.best in
-    all_has (IsWithin j) all c.in-Some.best.accepted c.in_ok-accepted.ensures.history.within h.among
-
-pub executed-requires-clause-counted : goal.executed-requires-clause-counted
-executed-requires-clause-counted c =
-    let j = c.args.journal.now in
-    let all = all_traced j c.in_ok-accepted.accepted.items in
-    let h : IsBest j all c.in-Some.best = subst (IsBestIfAny j all) c.in-Some.is c.in_ok-found.ensures.best in
-    h.counted
+pub execute-requires : goal.execute-requires
+execute-requires c =
+    let log = c.in-Some.log.now.entries in
+    let answers = c.as_slice.result.now in
+    let count = c.longest_in.ensures in
+    within_log c.longest_in.result log (longest_from [] (prefixes_in log answers)) count (longest_of_log log answers c.longest_in.result count)
 
 pub returns-in-Some : goal.returns-in-Some
 returns-in-Some c =
     let j = c.args.journal.now in
-    let b = c.in-Some.best in
-    let all = all_traced j c.in_ok-accepted.accepted.items in
-    let told = c.in_ok-accepted.ensures.history in
-    let h : IsBest j all b = subst (IsBestIfAny j all) c.in-Some.is c.in_ok-found.ensures.best in
-    let whole = told.longest ∙ first_of_all j b (length (run_in j)) all told.places h in
-    subst (λ (es : List Entry). IfOk c.executed.result (λ x. x ≡ executed_entries es)) (sym whole) c.executed.ensures
+    let log = c.in-Some.log.now.entries in
+    let answers = c.as_slice.result.now in
+    let told = subst (AreAccepted j (run_in j)) (sym c.as_slice.ensures.value) (c.in_ok-accepted.ensures j c.requires.world c.requires.told) in
+    let only = c.in-Some.ensures (group_in j) (run_in j) refl c.requires.replicas in
+    subst (λ (es : List Entry). IfOk c.execute.result (λ x. x ≡ executed_entries es))
+    (longest_of_log log answers c.longest_in.result c.longest_in.ensures ∙ sym (history_in_log j answers log told only)) c.execute.ensures
+
+pub searched-requires-clause-accepted : goal.searched-requires-clause-accepted
+searched-requires-clause-accepted c = c.in_ok-accepted.ensures c.args.journal.now c.requires.world c.requires.told

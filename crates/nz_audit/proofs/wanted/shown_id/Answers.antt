@@ -1,9 +1,7 @@
 -- What the function of this folder owes, proved.
-use Rattle.std.proofs.Common.{Some, ◌∙◌, sym, ap, subst}
+use Rattle.std.proofs.Common.{Some, ◌∙◌, sym, ap}
 use Rattle.std.specs.Option.{option_map}
-use Rattle.nz_frame.specs.Grammar.{AreBytes}
 use Rattle.nz_machine.specs.Events.{id_at}
-use Rattle.nz_audit.specs.Sources as sources
 use Rattle.nz_audit.proofs.Hearing.{replica_about, proxy_about, client_about}
 use Rattle.nz_audit.proofs.ReplyFields.{without_answer, reply_about, answer_about}
 use Rattle.nz_audit.proofs.wanted.shown_id.Goals as goal
@@ -12,29 +10,29 @@ pub returns-in_err-named_num-in-Proxy-Client : goal.returns-in_err-named_num-in-
 returns-in_err-named_num-in-Proxy-Client c = λ id is.
     c.from_residual.ensures
     ∙ ap (option_map (id_at c.in-Proxy-Client.client))
-    (sym c.in_err-named_num-in-Proxy-Client.was ∙ c.named_num.ensures.shown ∙ ap sources.named_num c.as_slice-frame.ensures)
+    (sym c.in_err-named_num-in-Proxy-Client.was ∙ c.named_num.ensures.shown)
     ∙ answer_about c.args.parcel.now c.in-Proxy-Client.field-0-0 c.in-Proxy-Client.client id
-    (subst AreBytes c.as_slice-frame.ensures c.named_num.ensures.bytes) c.in-Proxy-Client.is-0 c.in-Proxy-Client.is-1 is
+    c.named_num.ensures.bytes c.in-Proxy-Client.is-0 c.in-Proxy-Client.is-1 is
 
 pub returns-then-shows_answer : goal.returns-then-shows_answer
 returns-then-shows_answer c = λ id is.
-    c.named_id.ensures.shown ∙ ap sources.named_id c.as_slice-frame.ensures
+    c.named_id.ensures.shown
     ∙ reply_about c.args.parcel.now c.in-Replica-Proxy.field-0-0 c.in-Replica-Proxy.field-0-1 id
-    (subst AreBytes c.as_slice-frame.ensures c.named_id.ensures.bytes) c.in-Replica-Proxy.is-0 c.in-Replica-Proxy.is-1 is
+    c.named_id.ensures.bytes c.in-Replica-Proxy.is-0 c.in-Replica-Proxy.is-1 is
 
 pub returns-else-shows_answer : goal.returns-else-shows_answer
 returns-else-shows_answer c = λ id is.
     sym (without_answer c.args.parcel.now c.in-Replica-Proxy.field-0-0 c.in-Replica-Proxy.field-0-1
-    (subst AreBytes c.as_slice-frame.ensures c.shows_answer.ensures.bytes) c.in-Replica-Proxy.is-0 c.in-Replica-Proxy.is-1
-    (ap sources.shows_answer (sym c.as_slice-frame.ensures) ∙ sym c.shows_answer.ensures.shown ∙ c.if-shows_answer.false)) ∙ is
+    c.shows_answer.ensures.bytes c.in-Replica-Proxy.is-0 c.in-Replica-Proxy.is-1
+    (sym c.shows_answer.ensures.shown ∙ c.if-shows_answer.false)) ∙ is
 
 pub returns-in_ok-named_num-in-Proxy-Client : goal.returns-in_ok-named_num-in-Proxy-Client
 returns-in_ok-named_num-in-Proxy-Client c = λ id is.
     ap Some c.id_of.ensures
     ∙ ap (option_map (id_at c.in-Proxy-Client.client))
-    (sym c.in_ok-named_num-in-Proxy-Client.was ∙ c.named_num.ensures.shown ∙ ap sources.named_num c.as_slice-frame.ensures)
+    (sym c.in_ok-named_num-in-Proxy-Client.was ∙ c.named_num.ensures.shown)
     ∙ answer_about c.args.parcel.now c.in-Proxy-Client.field-0-0 c.in-Proxy-Client.client id
-    (subst AreBytes c.as_slice-frame.ensures c.named_num.ensures.bytes) c.in-Proxy-Client.is-0 c.in-Proxy-Client.is-1 is
+    c.named_num.ensures.bytes c.in-Proxy-Client.is-0 c.in-Proxy-Client.is-1 is
 
 pub returns-in_default : goal.returns-in_default
 returns-in_default c = λ id is. sym (replica_about c.args.parcel.now c.in_default.field-0-0 c.in_default.is-0 c.in_default.not-Proxy-1) ∙ is
