@@ -338,7 +338,7 @@ fn post_parcel(
     ensures err { OnErr result ((courses.new.entries ≡ courses.old.entries) × AreKept days.old.items days.new.items) }
 {
     let sent = parcel.get();
-    let kind = kind_of(sent.frame.as_slice());
+    let kind = kind_of(&sent.frame);
     let Some(own) = kind else {
         return place_without_course(alloc, days, scenario, tick, parcel);
     };

@@ -7,7 +7,7 @@ ghost use Rattle.nz_machine.specs.Schedule.{IsPlayable, NamesMember};
 ghost use Rattle.nz_machine.specs.World.{IsAsked, request_count};
 
 use super::calendar::Calendar;
-use bytes::BytesMut;
+use bytes::Bytes;
 use nz_base::{
     Actor, Blob, Cluster, Fault, FaultList, Request, RequestList, Scenario, ScriptList, SkewList,
 };
@@ -45,9 +45,9 @@ fn scripts(alloc: Global) -> Result<ScriptList, Fail>
 }
 
 /// One client with one request, and these faults of parcels.
-fn scenario_with(alloc: Global, faults: FaultList) -> Result<Scenario, Fail>
-    requires few { length faults ≤ MAX_FAULTS }
-    requires members { (s : ScenarioModel) → AllByRecursion (NamesMember s) faults }
+fn scenario_with(alloc: Global, faults: &[Fault]) -> Result<Scenario, Fail>
+    requires few { length faults.now ≤ MAX_FAULTS }
+    requires members { (s : ScenarioModel) → AllByRecursion (NamesMember s) faults.now }
     ensures { IfOk result IsPlayable }
 {
     Ok(Scenario {
@@ -58,7 +58,7 @@ fn scenario_with(alloc: Global, faults: FaultList) -> Result<Scenario, Fail>
         ticks: 40,
         skews: SkewList::new(alloc),
         scripts: scripts(alloc)?,
-        faults,
+        faults: FaultList::from_slice(alloc, faults)?,
     })
 }
 
@@ -66,22 +66,23 @@ fn scenario_with(alloc: Global, faults: FaultList) -> Result<Scenario, Fail>
 fn twice_and_held(alloc: Global) -> Result<Scenario, Fail>
     ensures { IfOk result IsPlayable }
 {
-    let mut faults = FaultList::new(alloc);
-    faults.push(Fault::Twice {
-        from: Actor::Proxy(0),
-        to: Actor::Replica(0),
-        kind: TIMED,
-        count: 1,
-        by: 20,
-    })?;
-    faults.push(Fault::Hold {
-        from: Actor::Proxy(0),
-        to: Actor::Replica(1),
-        kind: TIMED,
-        count: 1,
-        by: 5,
-    })?;
-    scenario_with(alloc, faults)
+    let faults = [
+        Fault::Twice {
+            from: Actor::Proxy(0),
+            to: Actor::Replica(0),
+            kind: TIMED,
+            count: 1,
+            by: 20,
+        },
+        Fault::Hold {
+            from: Actor::Proxy(0),
+            to: Actor::Replica(1),
+            kind: TIMED,
+            count: 1,
+            by: 5,
+        },
+    ];
+    scenario_with(alloc, &faults)
 }
 
 /// Of what the proxy sends to replica 0, the second parcel is lost, and the third comes again 2 ticks later. To replica
@@ -90,34 +91,35 @@ fn lines_on_two_courses(alloc: Global) -> Result<Scenario, Fail>
     ensures { IfOk result IsPlayable }
 {
     let (from, to) = (Actor::Proxy(0), Actor::Replica(0));
-    let mut faults = FaultList::new(alloc);
-    faults.push(Fault::Drop {
-        from,
-        to,
-        kind: TIMED,
-        count: 2,
-    })?;
-    faults.push(Fault::Hold {
-        from,
-        to: Actor::Replica(1),
-        kind: TIMED,
-        count: 2,
-        by: 4,
-    })?;
-    faults.push(Fault::Block {
-        from: Some(from),
-        to: None,
-        first: 5,
-        last: 5,
-    })?;
-    faults.push(Fault::Twice {
-        from,
-        to,
-        kind: TIMED,
-        count: 3,
-        by: 2,
-    })?;
-    scenario_with(alloc, faults)
+    let faults = [
+        Fault::Drop {
+            from,
+            to,
+            kind: TIMED,
+            count: 2,
+        },
+        Fault::Hold {
+            from,
+            to: Actor::Replica(1),
+            kind: TIMED,
+            count: 2,
+            by: 4,
+        },
+        Fault::Block {
+            from: Some(from),
+            to: None,
+            first: 5,
+            last: 5,
+        },
+        Fault::Twice {
+            from,
+            to,
+            kind: TIMED,
+            count: 3,
+            by: 2,
+        },
+    ];
+    scenario_with(alloc, &faults)
 }
 
 /// Of what the proxy sends to replica 0, the third parcel comes 2 ticks later, and again 4 ticks after that. To replica 1 the
@@ -127,48 +129,49 @@ fn lines_on_one_parcel(alloc: Global) -> Result<Scenario, Fail>
     ensures { IfOk result IsPlayable }
 {
     let (from, to) = (Actor::Proxy(0), Actor::Replica(0));
-    let mut faults = FaultList::new(alloc);
-    faults.push(Fault::Hold {
-        from,
-        to,
-        kind: TIMED,
-        count: 3,
-        by: 2,
-    })?;
-    faults.push(Fault::Block {
-        from: None,
-        to: Some(Actor::Replica(1)),
-        first: 4,
-        last: 4,
-    })?;
-    faults.push(Fault::Twice {
-        from,
-        to,
-        kind: TIMED,
-        count: 3,
-        by: 4,
-    })?;
-    faults.push(Fault::Twice {
-        from,
-        to: Actor::Replica(1),
-        kind: TIMED,
-        count: 1,
-        by: 4,
-    })?;
-    faults.push(Fault::Drop {
-        from,
-        to,
-        kind: TIMED,
-        count: 9,
-    })?;
-    faults.push(Fault::Hold {
-        from,
-        to: Actor::Replica(1),
-        kind: TIMED,
-        count: 1,
-        by: 3,
-    })?;
-    scenario_with(alloc, faults)
+    let faults = [
+        Fault::Hold {
+            from,
+            to,
+            kind: TIMED,
+            count: 3,
+            by: 2,
+        },
+        Fault::Block {
+            from: None,
+            to: Some(Actor::Replica(1)),
+            first: 4,
+            last: 4,
+        },
+        Fault::Twice {
+            from,
+            to,
+            kind: TIMED,
+            count: 3,
+            by: 4,
+        },
+        Fault::Twice {
+            from,
+            to: Actor::Replica(1),
+            kind: TIMED,
+            count: 1,
+            by: 4,
+        },
+        Fault::Drop {
+            from,
+            to,
+            kind: TIMED,
+            count: 9,
+        },
+        Fault::Hold {
+            from,
+            to: Actor::Replica(1),
+            kind: TIMED,
+            count: 1,
+            by: 3,
+        },
+    ];
+    scenario_with(alloc, &faults)
 }
 
 /// A message of the kind from the proxy to a replica, in a tick.
@@ -183,8 +186,7 @@ fn send(
     requires to { to ≤ MAX_REPLICA }
 {
     let (from, to) = (Actor::Proxy(0), Actor::Replica(to));
-    let mut room = BytesMut::new(alloc);
-    let frame = Frame::write(&mut room, TIMED, from.address(), to.address(), &[])?;
+    let frame = Frame::new(TIMED, from.address(), to.address(), Bytes::new());
     if calendar.parcels() == u64::MAX {
         return Err("too many parcels".into());
     }

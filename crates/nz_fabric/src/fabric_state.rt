@@ -35,6 +35,8 @@ use std::sync::ledger::{Blank, Book};
 const MANY: usize = 128;
 /// A tick that brings as many bytes to somebody is not small: whole logs take long.
 const LONG: usize = 1 << 14;
+/// A tick in which a step sends as many parcels is not small: mostly other actors have as much to send.
+const MUCH: u32 = 32;
 
 /// The network of a run on several threads: what is due, the batches that are open, and the journal, in which the
 /// records of a tick are in any order.
@@ -55,6 +57,8 @@ pub struct FabricState<N: Name> {
     /// How many items are due in the tick, or half of this number in the tick before, if that is more: clocks release later
     /// what a busy tick brought.
     lately: usize,
+    /// Whether the rest of the tick is done sooner by those that are awake than others are woken.
+    small: bool,
 }
 
 impl<N: Name> Model for FabricState<N> {
@@ -81,6 +85,18 @@ fn bytes_of(event: &Event) -> usize
         Event::Cut(_, kept) => *kept as usize,
         Event::Tick(_) | Event::Alarm | Event::Crash | Event::Restart(_) => 0,
     }
+}
+
+/// Whether some item brings this many bytes or more.
+fn bring(items: &[Item], bytes: usize) -> bool
+    ensures { result ≡ list_any (λ i. nat_le bytes (shared.bytes_of i.event)) items.now }
+{
+    items.iter().any(|item| bytes <= bytes_of(&item.event))
+}
+
+/// Whether a tick that begins with these items is done sooner by those that are awake than others are woken.
+fn begins_small(items: &[Item], lately: usize) -> bool {
+    lately < MANY && !bring(items, LONG)
 }
 
 impl<N: Name> FabricState<N> {
@@ -112,6 +128,7 @@ impl<N: Name> FabricState<N> {
             book,
             awake: workers,
             lately: 0,
+            small: true,
         };
         Ok((state, Share { held }))
     }
@@ -219,6 +236,7 @@ impl<N: Name> FabricState<N> {
             × ((lane.old ≡ steps_of lane.old.actor (records_of self.old.run)) × (lane.new ≡ with_step (next_record sends self.old) lane.old)))
             (λ _. (self.new ≡ self.old) × (lane.new ≡ lane.old)) }
     {
+        let small = self.small && sends.len() < MUCH;
         let event = self.items[self.next].event.copy(self.ticks.alloc)?;
         self.records.reserve_to(self.before + self.next + 1)?;
         let step = Record {
@@ -231,6 +249,7 @@ impl<N: Name> FabricState<N> {
             return Err(NoMemory);
         }
         self.next += 1;
+        self.small = small;
         Ok(())
     }
 
@@ -273,16 +292,9 @@ impl<N: Name> FabricState<N> {
         !self.ticks.marked && self.batches.is_empty() && self.next == self.items.len()
     }
 
-    /// Whether some item of the tick brings this many bytes or more.
-    fn brings(&self, bytes: usize) -> bool
-        ensures { result ≡ list_any (λ i. nat_le bytes (shared.bytes_of i.event)) self.now.run.items }
-    {
-        self.items.iter().any(|item| bytes <= bytes_of(&item.event))
-    }
-
-    /// Whether the tick is done sooner by those that are awake than others are woken.
+    /// Whether the rest of the tick is done sooner by those that are awake than others are woken.
     pub fn is_small(&self) -> bool {
-        self.lately < MANY && !self.brings(LONG)
+        self.small
     }
 
     /// A worker begins to wait.
@@ -343,6 +355,7 @@ impl<N: Name> FabricState<N> {
         let mut items = self.ticks.begin()?;
         group(&mut items);
         self.lately = items.len().max(self.lately / 2);
+        self.small = begins_small(&items, self.lately);
         self.items = items;
         self.next = 0;
         self.before = self.records.len();

@@ -192,12 +192,11 @@ fn faulted_by_all(
     Ok(())
 }
 
-/// The deliveries of a parcel that is sent in a tick, as these fault lines leave them: first the blocks, then the lines
-/// that name it.
+/// The deliveries of a parcel that is sent in a tick, as the first fault lines leave them, and then the others.
 pub fn deliveries_of(
     alloc: Global,
-    blocks: &[Fault],
-    named: &[Fault],
+    first: &[Fault],
+    then: &[Fault],
     tick: u32,
     parcel: &Parcel,
     own: Option<u8>,
@@ -205,14 +204,14 @@ pub fn deliveries_of(
 ) -> Result<Deliveries, NoMemory>
     requires { own ≡ kind_in_frame parcel.now.frame }
     ensures { (earlier : List ParcelModel) → HasNumber earlier parcel.now number
-        → IfOk result (λ v. v.items ≡ map delivery_as_stored (after_faults tick earlier parcel.now (blocks.now ++ named.now) (whole_in (tick + 1) ∷ []))) }
+        → IfOk result (λ v. v.items ≡ map delivery_as_stored (after_faults tick earlier parcel.now (first.now ++ then.now) (whole_in (tick + 1) ∷ []))) }
 {
     let mut deliveries = Deliveries::new(alloc);
     deliveries.push(Delivery {
         tick: tick.saturating_add(1),
         kept: None,
     })?;
-    faulted_by_all(blocks, tick, parcel, own, number, &mut deliveries)?;
-    faulted_by_all(named, tick, parcel, own, number, &mut deliveries)?;
+    faulted_by_all(first, tick, parcel, own, number, &mut deliveries)?;
+    faulted_by_all(then, tick, parcel, own, number, &mut deliveries)?;
     Ok(deliveries)
 }

@@ -28,5 +28,5 @@ fn cause_of(event: &Event) -> Cause {
 pub fn group(items: &mut Vec<Item>)
     ensures { IsPermutation items.old.items items.new.items }
 {
-    let _ = items.sort_by_key(|item| (item.actor, cause_of(&item.event)));
+    let _ = items.sort_by_cached_key(|item| (item.actor, cause_of(&item.event)));
 }

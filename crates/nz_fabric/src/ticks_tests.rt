@@ -7,7 +7,7 @@ use std::alloc::Global;
 use std::test::*;
 
 /// Nobody but three replicas, for this many ticks.
-fn scenario_with(alloc: Global, ticks: u32, faults: FaultList) -> Result<Scenario, Fail> {
+fn scenario_with(alloc: Global, ticks: u32, faults: &[Fault]) -> Result<Scenario, Fail> {
     Ok(Scenario {
         cluster: Cluster::new(1).ok_or("1 is an f")?,
         proxies: 0,
@@ -16,7 +16,7 @@ fn scenario_with(alloc: Global, ticks: u32, faults: FaultList) -> Result<Scenari
         ticks,
         skews: SkewList::new(alloc),
         scripts: ScriptList::new(alloc),
-        faults,
+        faults: FaultList::from_slice(alloc, faults)?,
     })
 }
 
@@ -39,8 +39,7 @@ fn note(called: &mut Vec<(u32, u8, u64)>, tick: u32, items: &[Item]) -> Result<(
 #[test]
 fn calls_come_in_their_ticks_in_the_order_of_their_lines(rt: HostRuntime) -> Result<(), Fail> {
     let alloc = rt.alloc();
-    let mut faults = FaultList::new(alloc);
-    for fault in [
+    let faults = [
         Fault::Alarm {
             actor: Actor::Replica(0),
             tick: 5,
@@ -69,10 +68,8 @@ fn calls_come_in_their_ticks_in_the_order_of_their_lines(rt: HostRuntime) -> Res
             actor: Actor::Replica(0),
             tick: 6,
         },
-    ] {
-        faults.push(fault)?;
-    }
-    let mut ticks = Ticks::new(alloc, scenario_with(alloc, 5, faults)?)?;
+    ];
+    let mut ticks = Ticks::new(alloc, scenario_with(alloc, 5, &faults)?)?;
     let mut called = Vec::new(alloc);
     for tick in 1..6 {
         if ticks.scenario.ticks > MAX_TICKS || ticks.tick >= ticks.scenario.ticks {

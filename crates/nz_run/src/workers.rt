@@ -11,9 +11,9 @@ use std::sync::Wait;
 use std::thread;
 use std::thread::Threads;
 
-/// Begins the next tick and plays it item by item where it is small, and so on. For a worker that has the network while all
-/// others wait: none of them has an actor's lock then, and wants the network. True once a tick that is not small began,
-/// false where no further item is given.
+/// Begins the next tick and plays it item by item as long as it is small, and so on. For a worker that has the network while
+/// all others wait: none of them has an actor's lock then, and wants the network. True once a tick is not small, false where
+/// no further item is given.
 fn play_small_ticks<N: Name, R: Wait>(
     rt: &R,
     stage: &Stage<N>,
@@ -24,11 +24,11 @@ fn play_small_ticks<N: Name, R: Wait>(
             if !state.next_tick().unwrap_or(false) {
                 return false;
             }
-            if !state.is_small() {
-                return true;
-            }
         } else if !stage.step_next(rt, state) {
             return false;
+        }
+        if !state.is_small() {
+            return true;
         }
     }
     unreachable!()

@@ -16,7 +16,7 @@ pub returns-in_default-clause-placed : goal.returns-in_default-clause-placed
 returns-in_default-clause-placed c = λ keeps earlier is.
     let p = c.args.parcel.now in
     let s = c.args.scenario.now in
-    let own : None ≡ kind_in_frame p.frame = sym c.in_default.is ∙ c.kind_of-kind.ensures ∙ ap kind_in_frame (c.as_slice.ensures ∙ ap (λ (q : Parcel). q.frame) c.get-sent.ensures) in
+    let own : None ≡ kind_in_frame p.frame = sym c.in_default.is ∙ c.kind_of-kind.ensures ∙ ap (λ (q : Parcel). kind_in_frame q.frame) c.get-sent.ensures in
     subst (λ (k : Option ℕ). HasNumber earlier p (next_number (traffic_of c.args.courses.now.entries p k)) → OnOk c.place_without_course.result
     (ArePlaced c.args.days.now.items (arrivals_by s.ticks c.args.tick earlier p s.faults) c.place_without_course.new.days.items))
     own (c.place_without_course.ensures.ok earlier) is
@@ -39,7 +39,7 @@ returns-in-None-clause-placed c = λ keeps earlier is.
     let courses = c.args.courses.now.entries in
     let none : None ≡ traffic_of courses p (kind_in_frame p.frame) =
     c.in-None.ensures.value ∙ ap (traffic_on courses) (c.course_of.ensures ∙ ap (λ (q : Parcel). course q.from q.to c.in-Some.own) c.get-sent.ensures)
-    ∙ ap (traffic_of courses p) (sym c.in-Some.is ∙ c.kind_of-kind.ensures ∙ ap kind_in_frame (c.as_slice.ensures ∙ ap (λ (q : Parcel). q.frame) c.get-sent.ensures)) in
+    ∙ ap (traffic_of courses p) (sym c.in-Some.is ∙ c.kind_of-kind.ensures ∙ ap (λ (q : Parcel). kind_in_frame q.frame) c.get-sent.ensures) in
     subst (λ (kept : Option Traffic). HasNumber earlier p (next_number kept) → OnOk c.post_first.result
     (ArePlaced c.args.days.now.items (arrivals_by s.ticks c.args.tick earlier p s.faults) c.post_first.new.days.items))
     none (c.post_first.ensures.placed earlier) is
@@ -53,7 +53,7 @@ returns-in_ok-place_on_course-in-Some-get_mut-clause-counted c = λ keeps.
     let old = c.in-Some-get_mut.traffic.now in
     let new : Traffic = record { count = c.saturating_add-traffic.result; blocks = old.blocks; named = old.named } in
     let kind : Some own ≡ kind_in_frame p.frame =
-    sym c.in-Some.is ∙ c.kind_of-kind.ensures ∙ ap kind_in_frame (c.as_slice.ensures ∙ ap (λ (q : Parcel). q.frame) c.get-sent.ensures) in
+    sym c.in-Some.is ∙ c.kind_of-kind.ensures ∙ ap (λ (q : Parcel). kind_in_frame q.frame) c.get-sent.ensures in
     let at : Some old ≡ traffic_on before (course p.from p.to own) =
     c.in-Some-get_mut.ensures.value ∙ ap (traffic_on before) (c.course_of.ensures ∙ ap (λ (q : Parcel). course q.from q.to own) c.get-sent.ensures) in
     let kept = subst (λ (o : Option Traffic). IfSome o (HasLines (filter (may_strike p.from p.to own) lines))) (sym at) (keeps p.from p.to own) in
@@ -74,7 +74,7 @@ returns-in_ok-place_on_course-in-Some-get_mut-clause-placed c = λ keeps earlier
     let old = c.in-Some-get_mut.traffic.now in
     let whole : List Delivery = whole_in (tick + 1) ∷ [] in
     let kind : Some own ≡ kind_in_frame p.frame =
-    sym c.in-Some.is ∙ c.kind_of-kind.ensures ∙ ap kind_in_frame (c.as_slice.ensures ∙ ap (λ (q : Parcel). q.frame) c.get-sent.ensures) in
+    sym c.in-Some.is ∙ c.kind_of-kind.ensures ∙ ap (λ (q : Parcel). kind_in_frame q.frame) c.get-sent.ensures in
     let at : Some old ≡ traffic_on before (course p.from p.to own) =
     c.in-Some-get_mut.ensures.value ∙ ap (traffic_on before) (c.course_of.ensures ∙ ap (λ (q : Parcel). course q.from q.to own) c.get-sent.ensures) in
     let kept = subst (λ (o : Option Traffic). IfSome o (HasLines (filter (may_strike p.from p.to own) s.faults))) (sym at) (keeps p.from p.to own) in

@@ -9,7 +9,7 @@ pub returns : goal.returns
 returns c = λ earlier h.
     let p = c.args.parcel.now in
     let whole : List Delivery = whole_in (c.args.tick + 1) ∷ [] in
-    let first : c.push.new.self.items ≡ map delivery_as_stored whole = search rules in
-    c.in_ok-faulted_by_all-2.ensures earlier (after_faults c.args.tick earlier p c.args.blocks.now whole) h
-    (c.in_ok-faulted_by_all.ensures earlier whole h first)
-    ∙ ap (map delivery_as_stored) (sym (faulted_by_both c.args.tick earlier p c.args.blocks.now c.args.named.now whole))
+    let whole_first : c.push.new.self.items ≡ map delivery_as_stored whole = search rules in
+    c.in_ok-faulted_by_all-2.ensures earlier (after_faults c.args.tick earlier p c.args.first.now whole) h
+    (c.in_ok-faulted_by_all.ensures earlier whole h whole_first)
+    ∙ ap (map delivery_as_stored) (sym (faulted_by_both c.args.tick earlier p c.args.first.now c.args.then.now whole))
