@@ -1,6 +1,6 @@
 -- What is read can be played.
-use Rattle.std.proofs.Common.{◌≡◌, ℕ, ◌<◌, ◌≤◌, true, List, [], ◌∷◌, Option, Ok, sym, subst, arith, length}
-use Rattle.std.specs.Prelude.{◌*◌, nat_le, nat_lt, is_some, IsSome}
+use Rattle.std.proofs.Common.{◌≡◌, ℕ, ◌≤◌, true, List, [], ◌∷◌, Option, Ok, sym, subst, arith, length}
+use Rattle.std.specs.Prelude.{◌*◌, nat_le, is_some, IsSome}
 use Rattle.std.specs.List.{list_all, AllByRecursion}
 use Rattle.std.proofs.lemmas.Bool.{eqb-true, and_parts, leb-true, ltb-true}
 use Rattle.std.proofs.lemmas.List.Sums.{sum-map}

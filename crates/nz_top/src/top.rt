@@ -25,7 +25,7 @@ use crate::words::{Command, Words};
 use nz_audit::history_of;
 use nz_base::{Blob, NoMemory, Scenario};
 use nz_edge::{Gate, Sink, Source};
-use nz_machine::Journal;
+use nz_machine::{Journal, told_in};
 use nz_replica::Replica;
 use nz_run::{Played, run};
 use nz_script::{Kind, ScriptFault, generate, read};
@@ -132,16 +132,17 @@ fn print(
     requires replicas { AreCores (group_in journal.now) (run_in journal.now) replicas.now }
     ensures { IfOk result (λ bytes. bytes ≡ printed_by command journal.now) }
 {
-    let history = history_of(alloc, journal, replicas)?;
+    let told = told_in(alloc, journal)?;
+    let history = history_of(alloc, journal, told.as_slice(), replicas)?;
     match command {
-        Command::Run { .. } => text(alloc, journal, &history),
+        Command::Run { .. } => text(alloc, journal, told, &history),
         Command::Trace { .. } => {
             let mut bytes = trace(alloc, journal)?.into_vec(alloc)?;
             bytes.extend_from_slice(b"text\n")?;
-            bytes.extend_from_slice(text(alloc, journal, &history)?.as_slice())?;
+            bytes.extend_from_slice(text(alloc, journal, told, &history)?.as_slice())?;
             Ok(Blob::from_vec(bytes))
         }
-        Command::Gen { .. } => summary(alloc, journal, &history),
+        Command::Gen { .. } => summary(alloc, journal, told, &history),
     }
 }
 

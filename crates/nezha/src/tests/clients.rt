@@ -1,6 +1,6 @@
 //! Steps of a client, with what it sends.
 
-use super::parcels::valid_frame;
+use super::parcels::{cut_frame, valid_frame};
 use nz_base::{Actor, Blob, NoMemory, Request, RequestList};
 use nz_client::{Client, are_sendable};
 use nz_machine::{Core, Event, Parcel, Sends, SharedParcel};
@@ -166,11 +166,10 @@ fn hears_whole_frames_alone(rt: HostRuntime) -> Result<(), Fail> {
     let _ = step(alloc, &mut client, &Event::Tick(0))?;
     let parcel = answer(alloc, Actor::Proxy(0), ME, 1)?;
     let whole = parcel.get();
-    let end = whole.frame.len().saturating_sub(1);
     let cut = Parcel {
         from: whole.from,
         to: whole.to,
-        frame: whole.frame.slice(..end)?,
+        frame: cut_frame(alloc, &whole.frame)?,
     };
     let cut = SharedParcel::new(alloc, cut)?;
     let _ = step(alloc, &mut client, &Event::Deliver(cut))?;

@@ -1,6 +1,6 @@
 //! Frames that end early, and bodies with a byte that is wrong. The places were worked out apart from the program.
 use bytes::Bytes;
-use nz_frame::FrameRefusal;
+use nz_frame::{Frame, FrameRefusal};
 use nz_msg::{DecodeRefusal, decode};
 use std::alloc::{AllocError, Global};
 use std::test::Fail;
@@ -14,7 +14,7 @@ const REQUEST: [u8; 19] = [
 const VIEW_ASK: [u8; 18] = [0, 0, 0, 14, 1, 10, 0, 1, 0, 0, 0, 0, 0, 0, 0, 0, 0, 1];
 
 fn is_refused(alloc: Global, frame: &[u8], refusal: DecodeRefusal) -> Result<bool, AllocError> {
-    let frame = Bytes::copy_from_slice(alloc, frame)?;
+    let frame = Frame::from_bytes(Bytes::copy_from_slice(alloc, frame)?);
     Ok(decode(alloc, &frame).err() == Some(refusal))
 }
 

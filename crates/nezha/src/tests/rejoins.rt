@@ -129,7 +129,7 @@ impl TestStep for Step {
 fn sent_of(sends: &Sends, kind: u8) -> u32 {
     let mut count = 0u32;
     for parcel in sends.as_slice() {
-        if kind_of(parcel.get().frame.as_slice()) == Some(kind) {
+        if kind_of(&parcel.get().frame) == Some(kind) {
             count = count.saturating_add(1);
         }
     }

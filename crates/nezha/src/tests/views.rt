@@ -12,6 +12,7 @@ use super::entries::{entry_with, key};
 use super::states::{TestStep, first_state, take_all};
 use nz_base::{Actor, Cluster, EntryList, NoMemory};
 use nz_cv::CrashVector;
+use nz_frame::Frame;
 use nz_machine::{Outbox, ReplicaState, Sends, is_from_cluster, kind_of};
 use nz_msg::{Envelope, Message, StartViewBody, ViewAskBody, ViewChangeBody};
 use nz_view::{change_timer, on_alarm, on_start_view, on_view_ask, on_view_change, quiet_timer};
@@ -174,7 +175,7 @@ impl TestStep for Step {
 }
 
 // To whom a parcel goes, and the kind of its message.
-fn addressed(to: Actor, frame: &[u8]) -> (u8, u8) {
+fn addressed(to: Actor, frame: &Frame) -> (u8, u8) {
     let kind = kind_of(frame).unwrap_or(0);
     match to {
         Actor::Replica(replica) => (replica, kind),
@@ -188,7 +189,7 @@ fn are_sent(sends: &Sends, want: &[(u8, u8)]) -> bool {
     }
     for (parcel, one) in sends.as_slice().iter().zip(want) {
         let parcel = parcel.get();
-        if addressed(parcel.to, parcel.frame.as_slice()) != *one {
+        if addressed(parcel.to, &parcel.frame) != *one {
             return false;
         }
     }

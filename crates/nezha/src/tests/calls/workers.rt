@@ -8,7 +8,7 @@ use super::{answer_through, plain};
 use nz_audit::history_of;
 use nz_base::{Actor, Id, NoMemory};
 use nz_edge::{Gate, OpenGate};
-use nz_machine::{Acceptance, Clients, Executed, Journal, RecordList};
+use nz_machine::{Acceptance, Executed, Journal, RecordList, ToldAt, told_in};
 use nz_store::Answer;
 use nz_text::{Event, read_text};
 use nz_top::Status;
@@ -65,26 +65,23 @@ fn are_sendings(events: &[Event], journal: &Journal, sent: &[Id]) -> bool {
             .all(|(event, id)| is_sending(Some(event), journal, *id))
 }
 
-/// Whether these are the events of the journal, in their order.
-fn are_events(alloc: Global, journal: &Journal, events: &[Event]) -> Result<bool, NoMemory> {
-    let mut clients = Clients::new(alloc, &journal.scenario)?;
+/// Whether these are the events of what the journal's clients told, in their order.
+fn are_events(journal: &Journal, told: &[ToldAt], events: &[Event]) -> bool {
     let mut place = 0usize;
-    for count in 0..journal.records.len() {
-        let next = journal.records.get(count);
-        let telling = clients.tell(alloc, next.as_record())?;
-        if let Some(accepted) = &telling.accepted {
+    for next in told {
+        if let Some(accepted) = &next.telling.accepted {
             if !is_acceptance(events.get(place), accepted) {
-                return Ok(false);
+                return false;
             }
             place = place.saturating_add(1);
         }
-        let sent = telling.sent.as_slice();
+        let sent = next.telling.sent.as_slice();
         if !are_sendings(&events[place.min(events.len())..], journal, sent) {
-            return Ok(false);
+            return false;
         }
         place = place.saturating_add(sent.len());
     }
-    Ok(place == events.len())
+    place == events.len()
 }
 
 fn is_same(a: &Executed, b: &Executed) -> bool {
@@ -107,8 +104,9 @@ fn says(alloc: Global, text: &[u8], journal: &Journal, requests: u8) -> Result<b
     let Ok(printed) = read_text(alloc, text) else {
         return Err("a text".into());
     };
-    let history = history_of(alloc, journal, &[])?;
-    let events = are_events(alloc, journal, printed.events.as_slice())?;
+    let told = told_in(alloc, journal)?;
+    let history = history_of(alloc, journal, told.as_slice(), &[])?;
+    let events = are_events(journal, told.as_slice(), printed.events.as_slice());
     let same = are_same(printed.history.as_slice(), history.as_slice());
     let requests = u32::from(requests);
     let counts = printed.unanswered.is_empty()
