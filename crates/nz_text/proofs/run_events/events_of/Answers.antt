@@ -17,6 +17,6 @@ returns c =
     let g = group_in c.args.journal.now in
     let items = c.into_vec-next-items.result.items in
     let end = YieldsList-end (YieldsList-from_vec {s = c.into_iter-next-iterator.result} items (search rules) (search rules))
-        c.loop-next.yielded c.loop-next.next-iterator c.loop-next.yielded_by c.next.result c.next.new.self c.in-None.is c.next.ensures.steps in
+    c.loop-next.yielded c.loop-next.next-iterator c.loop-next.yielded_by c.next.result c.next.new.self c.in-None.is c.next.ensures.steps in
     all_events g (run_in c.args.journal.now) c.args.told c.loop-next.events c.requires.world c.requires.told
     (c.loop-next.invariant ∙ ap (told_events g) (sym (map-id c.loop-next.yielded) ∙ end.0 ∙ c.into_vec-next-items.ensures))
