@@ -33,8 +33,8 @@ use Rattle.nz_laws_cv.proofs.SentShows.{letter, Shows, shows_at, shows_before, s
 use Rattle.nz_machine.proofs.Sources.{source_is, has_source}
 use Rattle.nz_laws_cv.proofs.Lists.{in_map}
 use Rattle.nz_laws_cv.proofs.Changes.{AreReports, collected, reporter, report_message}
-use Rattle.nz_laws_cv.proofs.Collected.{Sent, HasCollected, collected_later, collected_at, hears_sent, IsBegun}
-use Rattle.nz_laws_cv.proofs.Collected.{Arrives, Was, Starts, Returns, arrives, up_at, own_zero}
+use Rattle.nz_laws_cv.proofs.Collected.{Sent, collected_later, collected_at, hears_sent, IsBegun}
+use Rattle.nz_laws_cv.proofs.Collected.{Arrives, Was, Starts, Returns, arrives, own_zero}
 use Rattle.nz_laws_cv.proofs.Collected as arrivals
 use Rattle.nz_laws_cv.proofs.ViewNotions.{Begins, notions}
 use Rattle.nz_laws_cv.proofs.Grounds.{later_at, stays_at, claimed_at, completion_at}

@@ -1,5 +1,5 @@
 -- Knowledge and views, from the ground.
-use Rattle.std.proofs.Common.{◌≡◌, ℕ, ◌+◌, ◌<◌, List, ◌∷◌, length, refl, arith}
+use Rattle.std.proofs.Common.{◌≡◌, ℕ, ◌+◌, List, ◌∷◌, length, refl, arith}
 use Rattle.nz_base.specs.Moments.{At}
 use Rattle.nz_laws_cv.specs.Notions.{Notions, IsIn}
 use Rattle.nz_laws_cv.specs.Ground.{Ground}

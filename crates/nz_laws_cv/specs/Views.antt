@@ -2,7 +2,7 @@
 use Rattle.std.specs.Prelude.{◌≡◌, ℕ, ◌<◌, ◌≤◌, List, ◌∷◌, ◌⊎◌}
 use Rattle.nz_base.specs.Moments.{At}
 use Rattle.nz_laws_cv.specs.Notions.{Notions, IsIn}
-use Rattle.nz_laws_cv.specs.Ground.{IsCompletion, HasModes}
+use Rattle.nz_laws_cv.specs.Ground.{IsCompletion}
 
 module _ {R : Type 0} (N : Notions R) where
   -- The replica's state at K grew from its completion at C.

@@ -43,7 +43,7 @@ told_by_run g (r ∷ J) = told_by_run g J ++ told_at (length J) (telling_in g r.
 abbrev pub events_of_told : Group → List ToldAt → List ClientEvent
 events_of_told g told = flat_map (λ t. events_of_telling g t.telling) told
 
--- The records were read: so far the clients are, and this is what was told.
+-- The records were read up to here: the clients stand as after them, and this is what was told.
 pub record AreTold (g : Group) (J : List Record) (clients : List Progress) (told : List ToldAt) : Type 0 where
   pub after : AreAfter g J clients
   pub all : told ≡ told_by_run g J
