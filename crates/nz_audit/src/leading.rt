@@ -34,7 +34,7 @@ fn view_of(alloc: Global, parcel: &Parcel) -> Result<Option<u64>, NoMemory>
 }
 
 /// The view of the first fast reply among the parcels, if there is one.
-pub fn first_view(alloc: Global, sends: &[SharedParcel]) -> Result<Option<u64>, NoMemory>
+pub fn view_of_first(alloc: Global, sends: &[SharedParcel]) -> Result<Option<u64>, NoMemory>
     ensures { IfOk result (λ view. IfSome view (λ v. BringsReplyOf v sends.now)) }
 {
     for parcel in sends {
@@ -55,7 +55,7 @@ fn view_at(alloc: Global, journal: &Journal, source: Source) -> Result<Option<u6
         return Ok(None);
     };
     match journal.records.get_whole(place) {
-        Some(replying) => first_view(alloc, replying.sends.as_slice()),
+        Some(replying) => view_of_first(alloc, replying.sends.as_slice()),
         None => Ok(None),
     }
 }
@@ -80,8 +80,16 @@ pub fn log_leading(replicas: &[Replica], number: u8, view: u64) -> Option<&Hashe
     }
 }
 
+/// Whether the replica with this number is given, and leads a view.
+fn leads(replicas: &[Replica], number: u8) -> bool {
+    match replicas.get(usize::from(number)) {
+        Some(replica) => replica.leads_view(),
+        None => false,
+    }
+}
+
 /// The log of the replica that sent the reply, if after the run it leads the view of the reply: its log has only grown
-/// since, so the prefix of the answer is its beginning.
+/// since, so the prefix of the answer is its beginning. The reply is read only where the replica leads.
 pub fn log_since<'a>(
     alloc: Global,
     journal: &Journal,
@@ -93,6 +101,9 @@ pub fn log_since<'a>(
     ensures { IfOk result (λ log. IfSome log (λ log. HasPrefix journal.now next.now log.now.entries)) }
 {
     let source = next.source;
+    if !leads(replicas, source.replica) {
+        return Ok(None);
+    }
     match view_at(alloc, journal, source)? {
         Some(view) => Ok(log_leading(replicas, source.replica, view)),
         None => Ok(None),

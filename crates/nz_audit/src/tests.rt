@@ -4,7 +4,7 @@ ghost use Rattle.std.specs.Prelude.{◌≡◌, ◌<◌, length, IfOk};
 
 use super::executing::execute;
 use super::first_view::longest_in;
-use super::leading::{first_view, log_leading};
+use super::leading::{log_leading, view_of_first};
 use super::replaying::replay_one;
 use super::searching::entries_up_to;
 use super::source::{AcceptedAnswer, AcceptedAt, Counted, Source, longer};
@@ -138,7 +138,7 @@ fn view_is_that_of_the_first_fast_reply(rt: HostRuntime) -> Result<(), Fail> {
     let first = reply_parcel(alloc, fast_reply(id, 2))?;
     let second = reply_parcel(alloc, fast_reply(id, 1))?;
     let sends = [slow, first, second];
-    assert_eq!(rt; first_view(alloc, &sends)?, Some(2));
+    assert_eq!(rt; view_of_first(alloc, &sends)?, Some(2));
     Ok(())
 }
 

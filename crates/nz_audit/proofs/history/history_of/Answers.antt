@@ -1,5 +1,5 @@
 -- What the function of this folder owes, proved.
-use Rattle.std.proofs.Common.{◌≡◌, List, [], length, IfOk, refl, sym, subst, ◌∙◌}
+use Rattle.std.proofs.Common.{◌≡◌, List, [], IfOk, refl, sym, subst, ◌∙◌}
 use Rattle.nz_base.specs.declared.key.Entry.{Entry}
 use Rattle.nz_machine.specs.Journals.{group_in, run_in, executed_entries}
 use Rattle.nz_audit.specs.Prefixes.{longest_from, prefixes_in, AreAccepted}

@@ -15,5 +15,5 @@ returns-in-Some-get_whole c =
     let k = c.in-Some.place in
     let count = c.in-Some.ensures in
     let run : run_up_to j c.args.source.records ≡ r ∷ run_up_to j k = ap (run_up_to j) (omega (arith, count)) ∙ run_then j k r c.in-Some-get_whole.ensures in
-    subst (λ (K : List Record). IfOk c.first_view.result (λ view. IfSome view (λ v. RepliesIn v K))) (sym run)
-    (subst (λ (sends : List Parcel). IfOk c.first_view.result (λ view. IfSome view (λ v. BringsReplyOf v sends))) c.as_slice.ensures c.first_view.ensures)
+    subst (λ (K : List Record). IfOk c.view_of_first.result (λ view. IfSome view (λ v. RepliesIn v K))) (sym run)
+    (subst (λ (sends : List Parcel). IfOk c.view_of_first.result (λ view. IfSome view (λ v. BringsReplyOf v sends))) c.as_slice.ensures c.view_of_first.ensures)

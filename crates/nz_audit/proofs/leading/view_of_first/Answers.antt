@@ -3,7 +3,7 @@ use Rattle.std.proofs.Common.{sym, subst, ◌∙◌}
 use Rattle.nz_machine.specs.World.{Has}
 use Rattle.nz_machine.specs.declared.event.Parcel.{Parcel}
 use Rattle.nz_audit.proofs.LedPrefixes.{has_there, view_found}
-use Rattle.nz_audit.proofs.leading.first_view.Goals as goal
+use Rattle.nz_audit.proofs.leading.view_of_first.Goals as goal
 
 pub returns-then-is_some : goal.returns-then-is_some
 returns-then-is_some c =
