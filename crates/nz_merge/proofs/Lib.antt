@@ -9,6 +9,7 @@ pub mod Merging
 pub mod Search
 pub mod Loops
 pub mod Sets
+pub mod Above
 pub mod Turns
 pub mod Fitting
 pub mod Senders

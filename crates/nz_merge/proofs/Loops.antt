@@ -1,12 +1,12 @@
--- One step of a loop over changes.
+-- One step of a loop over a list, and what loops over changes keep.
 use Rattle.std.proofs.Common.{◌≡◌, ℕ, suc, ◌+◌, ◌<◌, Bool, ◌&&◌, eqb, List, ◌∷◌, length, get_or, drop, sym, ap, ◌∙◌, add-one, drop-cons, Option, Some, None}
 use Rattle.nz_base.specs.declared.key.Key.{Key}
 use Rattle.nz_base.specs.Log.{keys_of, has_key}
 use Rattle.nz_merge.specs.Merged.{lower}
 use Rattle.nz_merge.specs.declared.change.Change.{Change}
 
-pub next_item : (changes : List Change) (i : ℕ) (x : Change) → i < length changes → x ≡ get_or changes i x → drop i changes ≡ x ∷ drop (i + 1) changes
-next_item changes i x lt is = rw add-one (drop-cons changes i x lt ∙ ap (λ (c : Change). c ∷ drop (suc i) changes) (sym is))
+pub next_item : {X : Type 0} (xs : List X) (i : ℕ) (x : X) → i < length xs → x ≡ get_or xs i x → drop i xs ≡ x ∷ drop (i + 1) xs
+next_item {X} xs i x lt is = rw add-one (drop-cons xs i x lt ∙ ap (λ (y : X). y ∷ drop (suc i) xs) (sym is))
 
 -- whether the change is of the view and holds the key
 abbrev pub counts : ℕ → Key → Change → Bool

@@ -11,7 +11,7 @@ use Rattle.nz_base.proofs.Logs.{has_first, has_later}
 use Rattle.nz_merge.specs.Merged.{put_in_order, put_all_in_order, sorted_keys}
 
 -- by how two keys are ordered
-put_cases : (P : List Key → Type 0) (key k : Key) (keys : List Key)
+pub put_cases : (P : List Key → Type 0) (key k : Key) (keys : List Key)
     → (key_below key k ≡ true → P (key ∷ k ∷ keys))
     → (key ≡ k → P (k ∷ keys))
     → (key_below k key ≡ true → P (k ∷ put_in_order key keys))

@@ -1,7 +1,8 @@
 -- A set of keys in their order, and keys that are put into it.
 use Rattle.std.proofs.Common.{◌≡◌, Bool, true, false, List, [], ◌∷◌, ◌++◌, refl, sym, ap, subst, ◌∙◌}
-use Rattle.std.proofs.Common.{drop, length, get_or, ℕ, suc, ◌+◌, ◌<◌, add-one, drop-cons, eqb}
-use Rattle.std.specs.List.{flat_map}
+use Rattle.std.proofs.Common.{drop, length, get_or, ℕ, ◌+◌, ◌<◌, eqb}
+use Rattle.std.specs.List.{filter, flat_map}
+use Rattle.std.proofs.lemmas.List.Elements.{filter-append}
 use Rattle.std.specs.BTreeSet.{insert_key}
 use Rattle.std.specs.declared.cmp.Ordering.{Ordering}
 use Rattle.std.specs.declared.cmp.Ordering.TheVariants.{Less, Equal, Greater}
@@ -38,33 +39,51 @@ insert_is cmp same (k ∷ keys) key = by_answer (key_cmp key k) refl (insert_is 
         let other = greater_apart key k e in
         rw (same key k, e, other) (ap (λ (xs : List Key). k ∷ xs) rest)
 
--- one key more is put
-pub put_step : (cmp : Key → Key → Ordering) → ((a b : Key) → cmp a b ≡ key_cmp a b) → (before after total : List Key) (log : List Entry) (i : ℕ) (e : Entry)
-    → i < length log → e ≡ get_or log i e → after ≡ insert_key cmp before e.key
-    → put_all_in_order before (keys_of (drop i log)) ≡ total → put_all_in_order after (keys_of (drop (i + 1) log)) ≡ total
-put_step cmp same before after total log i e lt is put h =
-    let next : drop i log ≡ e ∷ drop (i + 1) log = rw add-one (drop-cons log i e lt ∙ ap (λ (x : Entry). x ∷ drop (suc i) log) (sym is)) in
+-- the next key passes the test, and is put
+pub put_step : (p : Key → Bool) (cmp : Key → Key → Ordering) → ((a b : Key) → cmp a b ≡ key_cmp a b)
+    → (before after total : List Key) (log : List Entry) (i : ℕ) (e : Entry)
+    → i < length log → e ≡ get_or log i e → p e.key ≡ true → after ≡ insert_key cmp before e.key
+    → put_all_in_order before (filter p (keys_of (drop i log))) ≡ total
+    → put_all_in_order after (filter p (keys_of (drop (i + 1) log))) ≡ total
+put_step p cmp same before after total log i e lt is passes put h =
     let ordered : after ≡ put_in_order e.key before = put ∙ insert_is cmp same before e.key in
-    ap (λ (xs : List Key). put_all_in_order xs (keys_of (drop (i + 1) log))) ordered
-    ∙ ap (λ (xs : List Entry). put_all_in_order before (keys_of xs)) (sym next) ∙ h
+    let whole : put_all_in_order before (filter p (keys_of (e ∷ drop (i + 1) log))) ≡ total =
+    ap (λ (xs : List Entry). put_all_in_order before (filter p (keys_of xs))) (sym (next_item log i e lt is)) ∙ h in
+    ap (λ (xs : List Key). put_all_in_order xs (filter p (keys_of (drop (i + 1) log)))) ordered ∙ rw passes at whole
+
+-- the next key fails the test, and is left out
+pub leave_step : (p : Key → Bool) (before total : List Key) (log : List Entry) (i : ℕ) (e : Entry)
+    → i < length log → e ≡ get_or log i e → p e.key ≡ false
+    → put_all_in_order before (filter p (keys_of (drop i log))) ≡ total
+    → put_all_in_order before (filter p (keys_of (drop (i + 1) log))) ≡ total
+leave_step p before total log i e lt is fails h =
+    let whole : put_all_in_order before (filter p (keys_of (e ∷ drop (i + 1) log))) ≡ total =
+    ap (λ (xs : List Entry). put_all_in_order before (filter p (keys_of xs))) (sym (next_item log i e lt is)) ∙ h in
+    rw fails at whole
+
+-- those keys of the changes' logs that pass a test
+abbrev pub keys_passing : (Key → Bool) → List Change → List Key
+keys_passing p changes = filter p (flat_map (λ c. keys_of c.log) changes)
 
 -- the keys of one log more are put
-pub log_step : (view : ℕ) (before after total : List Key) (changes : List Change) (i : ℕ) (c : Change)
+pub log_step : (p : Key → Bool) (view : ℕ) (before after total : List Key) (changes : List Change) (i : ℕ) (c : Change)
     → i < length changes → c ≡ get_or changes i c → eqb c.last view ≡ true
-    → after ≡ put_all_in_order before (keys_of c.log) → put_all_in_order before (flat_map (λ d. keys_of d.log) (of_view view (drop i changes))) ≡ total
-    → put_all_in_order after (flat_map (λ d. keys_of d.log) (of_view view (drop (i + 1) changes))) ≡ total
-log_step view before after total changes i c lt is of put h =
+    → after ≡ put_all_in_order before (filter p (keys_of c.log)) → put_all_in_order before (keys_passing p (of_view view (drop i changes))) ≡ total
+    → put_all_in_order after (keys_passing p (of_view view (drop (i + 1) changes))) ≡ total
+log_step p view before after total changes i c lt is of put h =
     let rest = flat_map (λ d. keys_of d.log) (of_view view (drop (i + 1) changes)) in
-    let whole : put_all_in_order before (flat_map (λ d. keys_of d.log) (of_view view (c ∷ drop (i + 1) changes))) ≡ total =
-    ap (λ (xs : List Change). put_all_in_order before (flat_map (λ d. keys_of d.log) (of_view view xs))) (sym (next_item changes i c lt is)) ∙ h in
-    let mine : put_all_in_order before (keys_of c.log ++ rest) ≡ total = rw of at whole in
-    ap (λ (xs : List Key). put_all_in_order xs rest) put ∙ sym (put_all-append before (keys_of c.log) rest) ∙ mine
+    let whole : put_all_in_order before (keys_passing p (of_view view (c ∷ drop (i + 1) changes))) ≡ total =
+    ap (λ (xs : List Change). put_all_in_order before (keys_passing p (of_view view xs))) (sym (next_item changes i c lt is)) ∙ h in
+    let mine : put_all_in_order before (filter p (keys_of c.log ++ rest)) ≡ total = rw of at whole in
+    ap (λ (xs : List Key). put_all_in_order xs (filter p rest)) put
+    ∙ sym (put_all-append before (filter p (keys_of c.log)) (filter p rest))
+    ∙ ap (λ (xs : List Key). put_all_in_order before xs) (sym (filter-append p (keys_of c.log) rest)) ∙ mine
 
-pub skip_step : (view : ℕ) (before total : List Key) (changes : List Change) (i : ℕ) (c : Change) → i < length changes
+pub skip_step : (p : Key → Bool) (view : ℕ) (before total : List Key) (changes : List Change) (i : ℕ) (c : Change) → i < length changes
     → c ≡ get_or changes i c → eqb c.last view ≡ false
-    → put_all_in_order before (flat_map (λ d. keys_of d.log) (of_view view (drop i changes))) ≡ total
-    → put_all_in_order before (flat_map (λ d. keys_of d.log) (of_view view (drop (i + 1) changes))) ≡ total
-skip_step view before total changes i c lt is other h =
-    let whole : put_all_in_order before (flat_map (λ d. keys_of d.log) (of_view view (c ∷ drop (i + 1) changes))) ≡ total =
-    ap (λ (xs : List Change). put_all_in_order before (flat_map (λ d. keys_of d.log) (of_view view xs))) (sym (next_item changes i c lt is)) ∙ h in
+    → put_all_in_order before (keys_passing p (of_view view (drop i changes))) ≡ total
+    → put_all_in_order before (keys_passing p (of_view view (drop (i + 1) changes))) ≡ total
+skip_step p view before total changes i c lt is other h =
+    let whole : put_all_in_order before (keys_passing p (of_view view (c ∷ drop (i + 1) changes))) ≡ total =
+    ap (λ (xs : List Change). put_all_in_order before (keys_passing p (of_view view xs))) (sym (next_item changes i c lt is)) ∙ h in
     rw other at whole

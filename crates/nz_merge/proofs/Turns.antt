@@ -7,9 +7,10 @@ use Rattle.nz_base.specs.declared.key.Key.{Key}
 use Rattle.nz_base.specs.declared.key.Entry.{Entry}
 use Rattle.nz_base.specs.Key.{id_of}
 use Rattle.nz_base.specs.Log.{keys_of, has_id, is_above_last}
-use Rattle.nz_merge.specs.Merged.{holders, is_taken, later_keys, entry_in, merged_synced_part, all_keys}
+use Rattle.nz_merge.specs.Merged.{holders, is_taken, later_keys, entry_in, merged_synced_part, keys_above}
 use Rattle.nz_merge.specs.Merged.{merged_from, merged, threshold, greatest, of_view, changes_kept}
 use Rattle.nz_merge.specs.declared.change.Change.{Change}
+use Rattle.nz_merge.proofs.Above.{same_later}
 
 -- what is taken so far, and what will be
 abbrev pub in_all : ℕ → List Change → List Entry → List Key → List Entry
@@ -54,9 +55,12 @@ no_turn limit changes log total h = sym (append-nil log) ∙ h
 -- ---- the same, as the loop has them
 
 pub start : (limit : ℕ) (changes : List Change) (log : List Entry) (set keys : List Key)
-    → log ≡ merged_synced_part changes → keys ≡ set → set ≡ all_keys changes → in_all limit changes log keys ≡ merged_from limit changes
-start limit changes log set keys synced same all =
-    ap (λ (l : List Entry). in_all limit changes l keys) synced ∙ ap (λ (ks : List Key). in_all limit changes (merged_synced_part changes) ks) (same ∙ all)
+    → log ≡ merged_synced_part changes → keys ≡ set → set ≡ keys_above (keys_of log) changes
+    → in_all limit changes log keys ≡ merged_from limit changes
+start limit changes log set keys synced same above =
+    ap (λ (ks : List Key). in_all limit changes log ks) (same ∙ above)
+    ∙ ap (λ (l : List Entry). in_all limit changes l (keys_above (keys_of l) changes)) synced
+    ∙ ap (λ (ks : List Key). merged_synced_part changes ++ map (entry_in changes) ks) (same_later limit changes (keys_of (merged_synced_part changes)))
 
 pub taken : (limit : ℕ) (changes : List Change) (log after total : List Entry) (before keys : List Key) (key : Key)
     (entry : Entry) (count : ℕ) (follows : Bool) → before ≡ key ∷ keys

@@ -88,6 +88,10 @@ sorted_keys keys = put_all_in_order [] keys
 abbrev pub all_keys : List Change → List Key
 all_keys changes = sorted_keys (flat_map (λ c. keys_of c.log) changes)
 
+-- The keys of the logs that are above the last of some keys, in their order.
+abbrev pub keys_above : List Key → List Change → List Key
+keys_above base changes = sorted_keys (filter (is_above_last base) (flat_map (λ c. keys_of c.log) changes))
+
 -- Whether a key is taken after those that were taken: enough logs hold it, it is above the last of them, and its id
 -- is not among theirs.
 abbrev pub is_taken : ℕ → List Change → List Key → Key → Bool

@@ -5,7 +5,7 @@ ghost use Rattle.nz_merge.specs.Merged.{AreFit, merged};
 
 use super::change::ViewChanges;
 use super::reports::{
-    copy_entry, copy_synced_part, count_holders, greatest_last, keys_in_order, may_follow,
+    copy_entry, copy_synced_part, count_holders, greatest_last, keys_above, may_follow,
 };
 use nz_base::{Cluster, EntryList, NoMemory};
 use std::alloc::Global;
@@ -20,7 +20,8 @@ pub fn merge(alloc: Global, cluster: Cluster, changes: &ViewChanges) -> Result<E
     let view = greatest_last(changes);
     let least = usize::from(cluster.f().div_ceil(2)) + 1;
     let mut log = copy_synced_part(alloc, changes, view)?;
-    let keys = keys_in_order(alloc, changes, view)?;
+    // Only keys above the synced part may follow.
+    let keys = keys_above(alloc, changes, view, log.as_slice())?;
     for key in &keys {
         if count_holders(changes, view, *key) >= least && may_follow(log.as_slice(), *key) {
             log.push(copy_entry(alloc, changes, view, *key)?)?;

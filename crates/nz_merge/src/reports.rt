@@ -2,10 +2,12 @@
 
 ghost use Rattle.std.specs.Prelude.{◌≡◌, ◌+◌, ◌≤◌, ◌<◌, ◌&&◌, ◌==◌, not, length, map, IfOk, OnOk, IfSome, is_some, IsFalse, IsTrue, slice_get, Some, drop};
 ghost use Rattle.std.specs.Option.{option_copied};
+ghost use Rattle.std.specs.List.{filter};
 ghost use Rattle.nz_base.specs.Key.{id_of};
 ghost use Rattle.nz_base.specs.Log.{keys_of, has_key, has_id, AreRising, is_above_last};
+ghost use Rattle.nz_merge.specs.Merged as merged;
 ghost use Rattle.nz_merge.specs.Merged.{AreFit, command_of_key, put_all_in_order, IsFit, greatest, of_view, lower_of, lowest};
-ghost use Rattle.nz_merge.specs.Merged.{with_synced, merged_synced_part, holders, all_keys, entry_in};
+ghost use Rattle.nz_merge.specs.Merged.{with_synced, merged_synced_part, holders, entry_in};
 
 use super::change::Change;
 use nz_base::{Blob, Entry, EntryList, Id, Key, List, NoMemory, TryCopy};
@@ -138,28 +140,32 @@ pub fn copy_entry(alloc: Global, changes: &[Change], view: u64, key: Key) -> Res
     Ok(Entry { key, command })
 }
 
-/// All keys of the logs, in their order.
-pub fn keys_in_order(
+/// The keys of the logs that are above the last of some entries, in their order.
+pub fn keys_above(
     alloc: Global,
     changes: &[Change],
     view: u64,
+    base: &[Entry],
 ) -> Result<BTreeSet<Key>, NoMemory>
-    ensures { IfOk result (λ set. set.keys ≡ all_keys (of_view view changes.now)) }
+    ensures { IfOk result (λ set. set.keys ≡ merged.keys_above (keys_of base.now) (of_view view changes.now)) }
 {
     let mut keys = BTreeSet::new(alloc);
     for change in changes {
         if change.last == view {
-            put_keys(&mut keys, change.log.as_slice())?;
+            put_keys_above(&mut keys, base, change.log.as_slice())?;
         }
     }
     Ok(keys)
 }
 
-fn put_keys(keys: &mut BTreeSet<Key>, log: &[Entry]) -> Result<(), NoMemory>
-    ensures { OnOk result (keys.new.keys ≡ put_all_in_order keys.old.keys (keys_of log.now)) }
+fn put_keys_above(keys: &mut BTreeSet<Key>, base: &[Entry], log: &[Entry]) -> Result<(), NoMemory>
+    ensures { OnOk result
+        (keys.new.keys ≡ put_all_in_order keys.old.keys (filter (is_above_last (keys_of base.now)) (keys_of log.now))) }
 {
     for entry in log {
-        keys.insert(entry.key)?;
+        if is_above(base, entry.key) {
+            keys.insert(entry.key)?;
+        }
     }
     Ok(())
 }

@@ -11,7 +11,9 @@ use Rattle.nz_merge.proofs.new_log.merge.Goals.{else-count_holders-least-via-els
 use Rattle.nz_merge.proofs.new_log.merge.Goals as goal
 
 pub loop-key-init : goal.loop-key-init
-loop-key-init c = start _ _ _ c.in_ok-keys.keys.keys _ c.in_ok-log.ensures c.into_iter-key-iterator.ensures.into_iter_gives.0 c.in_ok-keys.ensures
+loop-key-init c =
+    start _ _ _ c.in_ok-keys.keys.keys _ c.in_ok-log.ensures c.into_iter-key-iterator.ensures.into_iter_gives.0
+    (rw (← c.as_slice.ensures) c.in_ok-keys.ensures)
 
 pub loop-key-preserved-then-may_follow : goal.loop-key-preserved-then-may_follow
 loop-key-preserved-then-may_follow c =
@@ -20,7 +22,7 @@ loop-key-preserved-then-may_follow c =
     c.count_holders.result c.may_follow.result first c.count_holders.ensures c.if-count_holders-least.true
     (subst (λ (log : List Entry). c.may_follow.result
     ≡ (is_above_last (keys_of log) c.in-Some.key.now && not (has_id (keys_of log) (id_of c.in-Some.key.now))))
-    c.as_slice.ensures c.may_follow.ensures) c.if-may_follow.true c.in_ok-copy_entry.ensures c.in_ok-push.ensures.ok c.loop-key.invariant
+    c.as_slice-then-count_holders-least.ensures c.may_follow.ensures) c.if-may_follow.true c.in_ok-copy_entry.ensures c.in_ok-push.ensures.ok c.loop-key.invariant
 
 pub loop-key-preserved : goal.loop-key-preserved
 loop-key-preserved c =
@@ -31,7 +33,7 @@ loop-key-preserved c =
           w.may_follow.result first c.count_holders.ensures w.if-count_holders-least.true
           (subst (λ (log : List Entry). w.may_follow.result
           ≡ (is_above_last (keys_of log) c.in-Some.key.now && not (has_id (keys_of log) (id_of c.in-Some.key.now))))
-          w.as_slice.ensures w.may_follow.ensures) w.if-may_follow.false c.loop-key.invariant
+          w.as_slice-then-count_holders-least.ensures w.may_follow.ensures) w.if-may_follow.false c.loop-key.invariant
       | else-count_holders-least-via-else-count_holders-least w ↦
           left_few _ _ c.loop-key.log _ c.loop-key.key-iterator _ c.in-Some.key.now c.count_holders.result first
           c.count_holders.ensures w.if-count_holders-least.false c.loop-key.invariant
