@@ -38,6 +38,27 @@ place_push_old (f ∷ es) e i there =
       | inr away ↦ rw away (ap (λ (o : Option ℕ). option_map suc o) (place_push_old es e i (rw away at there)))
     ]
 
+-- the id of one more entry is noted
+pub place_noted : (es : List Entry) (e : Entry) (f g : Id → Option ℕ) → has_id (keys_of es) (id_of e.key) ≡ false
+    → ((i : Id) → f i ≡ place_of es i) → ((i : Id) → g i ≡ (if id_eq (id_of e.key) i then Some (length es) else f i))
+    → (i : Id) → g i ≡ place_of (es ++ e ∷ []) i
+place_noted es e f g fresh old now i = now i ∙ elim (cases_Bool (id_eq (id_of e.key) i)) [
+  | inl here ↦
+      rw here (sym (place_push_new es e i
+      (subst (λ (j : Id). has_id (keys_of es) j ≡ false) (same_id (id_of e.key) i here) fresh) (id_turn (id_of e.key) i here)))
+  | inr away ↦ rw away (old i ∙ sym (place_push_other es e i (id_turn_away (id_of e.key) i away)))
+]
+
+-- the id of the last entry is forgotten
+pub place_forgotten : (es : List Entry) (e : Entry) (f g : Id → Option ℕ) → has_id (keys_of es) (id_of e.key) ≡ false
+    → ((i : Id) → f i ≡ place_of (es ++ e ∷ []) i) → ((i : Id) → g i ≡ (if id_eq (id_of e.key) i then None else f i))
+    → (i : Id) → g i ≡ place_of es i
+place_forgotten es e f g fresh old now i = now i ∙ elim (cases_Bool (id_eq (id_of e.key) i)) [
+  | inl here ↦
+      rw here (sym (place_none es i (subst (λ (j : Id). has_id (keys_of es) j ≡ false) (same_id (id_of e.key) i here) fresh)))
+  | inr away ↦ rw away (old i ∙ place_push_other es e i (id_turn_away (id_of e.key) i away))
+]
+
 -- ---- one entry after another
 
 pub midway_own : (key : Key) (settled : List Entry) (x : Entry) (rest : List Entry) (f : Id → Option ℕ) → id_eq (id_of key) (id_of x.key) ≡ true

@@ -12,13 +12,12 @@ use Rattle.nz_base.specs.declared.key.Key.{Key}
 use Rattle.nz_base.specs.declared.key.Entry.{Entry}
 use Rattle.nz_base.specs.Key.{key_below, id_eq, id_of}
 use Rattle.nz_base.specs.Log.{keys_of, has_id, is_above_last, AreRising, HaveOwnIds, IsLog}
-use Rattle.nz_base.proofs.Names.{same_id, id_turn, id_turn_away}
 use Rattle.nz_base.proofs.Logs.{has_first, has_id-append, keys_append, prefix_below, above_last, above_some, own_id}
 use Rattle.nz_log.specs.Places.{place_of}
 use Rattle.nz_log.specs.Synced.{Log, synced_part, unsynced_part}
 use Rattle.nz_log.specs.Keeping.{IsKeptLog, IsMidway, digest_with}
 use Rattle.nz_log.proofs.Placing.{place_found, place_held, held_at}
-use Rattle.nz_log.proofs.Indexing.{place_push_new, place_push_other, midway_start}
+use Rattle.nz_log.proofs.Indexing.{place_noted, midway_start}
 use Rattle.nz_log.proofs.Summing.{sums_push}
 use Rattle.nz_log.proofs.Modifying.{pushed_sound, put_prefix, put_back}
 
@@ -97,12 +96,7 @@ pub kept_push : (log : Log) (sums : List (List ℕ)) (places now : List (Id × �
 kept_push log sums places now e sum kept above fresh room is index = record {
   sound = pushed_sound log e kept.sound above fresh room;
   summed = sums_push log.entries sums e sum kept.summed is;
-  found = λ i. index i ∙ elim (cases_Bool (id_eq (id_of e.key) i)) [
-    | inl here ↦
-        rw here (sym (place_push_new log.entries e i
-        (subst (λ (j : Id). has_id (keys_of log.entries) j ≡ false) (same_id (id_of e.key) i here) fresh) (id_turn (id_of e.key) i here)))
-    | inr away ↦ rw away (kept.found i ∙ sym (place_push_other log.entries e i (id_turn_away (id_of e.key) i away)))
-  ];
+  found = place_noted log.entries e (λ i. lookup (id_eq i) places) (λ i. lookup (id_eq i) now) fresh kept.found index;
 }
 
 -- ---- an entry put at the end of the synced part

@@ -30,6 +30,29 @@ module _ {P : Type 0} (f : P → List Entry) where
       ∙ get_or-append-add (f p) (flat_map f ps) (256 * page + i) d
       ∙ joined_at ps page i e d all.1 (omega arith) small
 
+  -- a page is no longer than what is left of all entries
+  pages_before : (ps : List P) (page : ℕ) → AllByRecursion (λ p. length (f p) ≡ 256) ps → page ≤ length ps → length (flat_map f (take page ps)) ≡ 256 * page
+  pages_before ps zero all within = refl
+  pages_before [] (suc page) all within = absurd (omega arith)
+  pages_before (p ∷ ps) (suc page) all within =
+      let rest = pages_before ps page all.1 (omega arith) in
+      let here : length (f p) ≡ 256 = all.0 in
+      let long = length-append (f p) (flat_map f (take page ps)) in
+      omega (arith, rest, here, long)
+
+  full_page : (ps : List P) (page : ℕ) (d : P) → AllByRecursion (λ p. length (f p) ≡ 256) ps → page < length ps → length (f (get_or ps page d)) ≡ 256
+  full_page [] page d all within = absurd (omega arith)
+  full_page (p ∷ ps) zero d all within = all.0
+  full_page (p ∷ ps) (suc page) d all within = full_page ps page d all.1 (omega arith)
+
+  pub page_fits : (ps : List P) (last : List Entry) (page count : ℕ) (p : P) → ArePages f ps last count → page < length ps → p ≡ get_or ps page p
+      → length (flat_map f (take page ps)) + length (f p) ≤ count
+  page_fits ps last page count p pages within is =
+      let before = pages_before ps page pages.each (omega (arith, within)) in
+      let here : length (f p) ≡ 256 = ap (λ (q : P). length (f q)) is ∙ full_page ps page p pages.each within in
+      let counted = pages.counted in
+      omega (arith, within, before, here, counted)
+
   parts_of_place : (place : ℕ) → place ≡ 256 * (place / 256) + place % 256
   parts_of_place place = omega arith
 

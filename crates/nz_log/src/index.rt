@@ -4,6 +4,7 @@ ghost use Rattle.std.specs.Prelude.{◌≡◌, ◌+◌, ◌≤◌, ◌<◌, ◌^
 ghost use Rattle.indexmap.specs.IndexMap.{get, spare};
 ghost use Rattle.nz_base.specs.declared.key.Id.{Id as IdModel};
 ghost use Rattle.nz_base.specs.Key.{id_eq};
+ghost use Rattle.nz_base.specs.Log.{IsLog};
 ghost use Rattle.nz_log.specs.Places.{place_of};
 ghost use Rattle.nz_log.specs.Synced.{stays_after};
 ghost use Rattle.nz_log.specs.Keeping.{IsMidway};
@@ -15,16 +16,46 @@ use nz_base::{Id, Key};
 /// Notes the place of an id that has one already, or for which there is room.
 pub fn set_place(places: &mut IndexMap<Id, u32>, id: Id, place: u32)
     requires { IsSome (get id_eq places.old id) ⊎ (0 < spare places.old) }
-    ensures { (i : IdModel) → get id_eq places.new i ≡ (if id_eq id i then Some place else get id_eq places.old i) }
+    ensures value { (i : IdModel) → get id_eq places.new i ≡ (if id_eq id i then Some place else get id_eq places.old i) }
+    ensures room { spare places.old ≤ spare places.new + 1 }
 {
     let _ = places.insert(id, place);
 }
 
 /// Forgets an id.
 pub fn drop_place(places: &mut IndexMap<Id, u32>, id: Id)
-    ensures { (i : IdModel) → get id_eq places.new i ≡ (if id_eq id i then None else get id_eq places.old i) }
+    ensures value { (i : IdModel) → get id_eq places.new i ≡ (if id_eq id i then None else get id_eq places.old i) }
+    ensures room { spare places.old ≤ spare places.new }
 {
     let _ = places.swap_remove(&id);
+}
+
+/// Forgets the ids of the entries from a place on. The last one goes first, so that where they were
+/// noted in order none of the others moves in the index.
+pub fn drop_places(places: &mut IndexMap<Id, u32>, entries: &Pages, from: usize)
+    requires within { from ≤ length entries.now }
+    requires log { IsLog entries.now }
+    requires right { (i : IdModel) → get id_eq places.old i ≡ place_of entries.now i }
+    ensures places { (i : IdModel) → get id_eq places.new i ≡ place_of (take from entries.now) i }
+    ensures room { spare places.old ≤ spare places.new }
+{
+    for place in (from..entries.len()).rev() {
+        drop_place(places, entries.get(place).key.id());
+    }
+}
+
+/// Notes the places of the entries from a place on, for which there is room.
+pub fn set_places(places: &mut IndexMap<Id, u32>, entries: &Pages, from: usize)
+    requires within { from ≤ length entries.now }
+    requires log { IsLog entries.now }
+    requires few { length entries.now < 2 ^ 32 }
+    requires room { length entries.now ≤ from + spare places.old }
+    requires first { (i : IdModel) → get id_eq places.old i ≡ place_of (take from entries.now) i }
+    ensures { (i : IdModel) → get id_eq places.new i ≡ place_of entries.now i }
+{
+    for place in from..entries.len() {
+        set_place(places, entries.get(place).key.id(), place as u32);
+    }
 }
 
 /// Of the entries from a place on keeps those that may follow one with this key, and notes where.

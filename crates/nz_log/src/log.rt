@@ -5,13 +5,13 @@ ghost use Rattle.std.specs.Option.{option_copied};
 ghost use Rattle.nz_base.specs.Key.{id_of};
 ghost use Rattle.nz_base.specs.Log.{keys_of, has_id, is_above_last, IsLog};
 ghost use Rattle.nz_log.specs.Places.{place_of, last_entry, digest_at};
-ghost use Rattle.nz_log.specs.Synced.{IsSound, synced_part, log_with_synced, displaced_entries, left_out};
-ghost use Rattle.nz_log.specs.Keeping.{IsNext, HaveCommonPrefix, digest_with};
+ghost use Rattle.nz_log.specs.Synced.{synced_part, log_with_synced, displaced_entries, left_out};
+ghost use Rattle.nz_log.specs.Keeping.{IsNext, HaveCommonPrefix};
 
-use super::index::{keep_above, set_place};
+use super::index::{drop_places, keep_above, set_place, set_places};
 use super::log_rep::{Allocating, LogRep};
 use super::pages::Pages;
-use super::sums::{digest_after, put_digest};
+use super::sums::{digest_after, put_digest, put_digests};
 use indexmap::IndexMap;
 use nz_base::{Entry, EntryList, Id, Key, List, MAX_ENTRIES, NoMemory, TryCopy};
 use nz_digest::Digest;
@@ -51,16 +51,6 @@ impl HashedLog {
             places: IndexMap::new(alloc),
             synced: 0,
         }
-    }
-
-    // No entries, and room for what is kept of so many beside them.
-    fn with_room(alloc: Global, count: usize) -> Result<HashedLog, NoMemory>
-        ensures { IfOk result (λ log. log ≡ record { entries = []; synced = 0 }) }
-    {
-        let mut log = HashedLog::new(alloc);
-        log.digests.reserve(count)?;
-        log.places.reserve(count)?;
-        Ok(log)
     }
 
     pub fn len(&self) -> u32
@@ -151,18 +141,6 @@ impl HashedLog {
         ensures err { OnErr result (self.new ≡ self.old) }
     {
         let digest = digest_after(&self.digests, &entry.key);
-        self.append_summed(entry, digest)
-    }
-
-    // Puts the entry last. The digest is that of the log with it.
-    fn append_summed(&mut self, entry: Entry, digest: Digest) -> Result<(), NoMemory>
-        requires above { IsTrue (is_above_last (keys_of self.old.entries) entry.key) }
-        requires fresh { IsFalse (has_id (keys_of self.old.entries) (id_of entry.key)) }
-        requires room { length self.old.entries < MAX_ENTRIES }
-        requires summed { digest ≡ digest_with self.old.entries entry.key }
-        ensures ok { OnOk result (self.new ≡ record self.old { entries = self.old.entries ++ entry ∷ [] }) }
-        ensures err { OnErr result (self.new ≡ self.old) }
-    {
         let place = self.len();
         let id = entry.key.id();
         self.digests.reserve(1)?;
@@ -249,10 +227,11 @@ impl HashedLog {
         ensures err { OnErr result (self.new ≡ self.old) }
     {
         let common = self.common_prefix(list.as_slice());
-        let new = self.with_entries(common, list)?;
-        let left_out = self.left_out(common, &new)?;
-        *self = new;
-        Ok(left_out)
+        let mut others = self.entries.copies_from(common)?;
+        let pages = Pages::from_list(self.entries.alloc(), list)?;
+        self.take_over(common, pages)?;
+        self.keep_others(&mut others);
+        Ok(List::from_vec(others))
     }
 
     // How many entries, from the first on, have the keys of those of the list.
@@ -267,52 +246,32 @@ impl HashedLog {
         list.len()
     }
 
-    // The log of these entries, all of which are synced. The first of them, with the keys of as
-    // many of this log's, have the digests that they have here.
-    fn with_entries(&self, common: usize, list: EntryList) -> Result<HashedLog, NoMemory>
-        requires common { HaveCommonPrefix self.now.entries list common }
-        requires log { IsLog list }
-        requires few { length list ≤ MAX_ENTRIES }
-        ensures { IfOk result (λ log. log ≡ record { entries = list; synced = length list }) }
+    // Puts the entries in the place of the log. The first of them have the keys of as many of the
+    // log's, whose digests and places stay.
+    fn take_over(&mut self, common: usize, pages: Pages) -> Result<(), NoMemory>
+        requires common { HaveCommonPrefix self.old.entries pages common }
+        requires log { IsLog pages }
+        requires few { length pages ≤ MAX_ENTRIES }
+        ensures ok { OnOk result (self.new ≡ record { entries = pages; synced = length pages }) }
+        ensures err { OnErr result (self.new ≡ self.old) }
     {
-        let mut log = HashedLog::with_room(self.entries.alloc(), list.len() as usize)?;
-        for entry in list.into_vec() {
-            let digest = self.digest_of_more(common, &log, &entry);
-            log.append_summed(entry, digest)?;
-        }
-        log.sync_all();
-        Ok(log)
+        let more = pages.len() - common;
+        self.digests.reserve(more)?;
+        self.places.reserve(more)?;
+        // Nothing takes memory any more.
+        put_digests(&mut self.digests, &pages, common);
+        drop_places(&mut self.places, &self.entries, common);
+        set_places(&mut self.places, &pages, common);
+        self.synced = pages.len() as u32;
+        self.entries = pages;
+        Ok(())
     }
 
-    // The digest of another log with one more entry, which is this log's where the keys are.
-    fn digest_of_more(&self, common: usize, log: &HashedLog, entry: &Entry) -> Digest
-        requires within { common ≤ length self.now.entries }
-        requires same { length log.now.entries < common
-            → keys_of (take (length log.now.entries + 1) self.now.entries) ≡ keys_of (log.now.entries ++ entry.now ∷ []) }
-        ensures { result ≡ digest_with log.now.entries entry.now.key }
+    // Keeps those of the entries whose ids are not in the log.
+    fn keep_others(&self, entries: &mut Vec<Entry>)
+        ensures { entries.new.items ≡ left_out entries.old.items self.now.entries }
     {
-        let place = log.entries.len();
-        if place < common {
-            self.digests[place]
-        } else {
-            digest_after(&log.digests, &entry.key)
-        }
-    }
-
-    // Copies of the entries whose ids are not in the other log, which has the first keys of this.
-    fn left_out(&self, common: usize, other: &HashedLog) -> Result<EntryList, NoMemory>
-        requires { HaveCommonPrefix self.now.entries other.now.entries common }
-        ensures { IfOk result (λ list. list ≡ left_out self.now.entries other.now.entries) }
-    {
-        let alloc = self.entries.alloc();
-        let mut list = List::new(alloc);
-        for place in common..self.entries.len() {
-            let entry = self.entries.get(place);
-            if other.place_of(entry.key.id()).is_none() {
-                list.push(entry.copy(alloc)?)?;
-            }
-        }
-        Ok(list)
+        entries.retain(|entry| self.place_of(entry.key.id()).is_none());
     }
 
     /// Copies of the entries.

@@ -1,5 +1,5 @@
 //! The entries of a log.
-ghost use Rattle.std.specs.Prelude.{◌≡◌, ◌+◌, ◌-◌, ◌≤◌, ◌<◌, [], ◌∷◌, ◌++◌, length, take, drop, OnOk, OnErr, IfOk, filter, slice_set, slice_index_or};
+ghost use Rattle.std.specs.Prelude.{◌≡◌, ◌+◌, ◌-◌, ◌≤◌, ◌<◌, [], ◌∷◌, ◌++◌, length, take, drop, OnOk, OnErr, IfOk, filter, slice_set, slice_index_or, vec_len, vec_capacity};
 ghost use Rattle.std.specs.Option.{option_copied};
 ghost use Rattle.nz_log.specs.Places.{last_entry};
 ghost use Rattle.nz_log.specs.Synced.{is_displaced};
@@ -43,6 +43,17 @@ impl Pages {
             last: Vec::new(alloc),
             len: 0,
         }
+    }
+
+    /// The entries of the list, which are not copied.
+    pub fn from_list(alloc: Global, list: EntryList) -> Result<Pages, NoMemory>
+        ensures { IfOk result (λ pages. pages ≡ list) }
+    {
+        let mut pages = Pages::new(alloc);
+        for entry in list.into_vec() {
+            pages.push(entry)?;
+        }
+        Ok(pages)
     }
 
     pub fn alloc(&self) -> Global {
@@ -133,17 +144,32 @@ impl Pages {
         }
     }
 
-    /// Copies of the entries.
+    /// Copies of the entries. For more than 2^32 - 1 of them the answer is `NoMemory`.
     pub fn copies(&self) -> Result<EntryList, NoMemory>
         ensures { IfOk result (λ list. list ≡ self.now) }
     {
-        let alloc = self.alloc();
-        let count = self.len().min(u32::MAX as usize) as u32;
-        let mut list = List::with_capacity(alloc, count)?;
-        for place in 0..self.len() {
-            list.push(self.get(place).copy(alloc)?)?;
+        if self.len() > u32::MAX as usize {
+            return Err(NoMemory);
         }
-        Ok(list)
+        let mut copies = Vec::with_capacity(self.alloc(), self.len())?;
+        for page in &self.full {
+            put_copies(&mut copies, page)?;
+        }
+        put_copies(&mut copies, &self.last)?;
+        Ok(List::from_vec(copies))
+    }
+
+    /// Copies of the entries from a place on.
+    pub fn copies_from(&self, from: usize) -> Result<Vec<Entry>, NoMemory>
+        requires { from ≤ length self.now }
+        ensures { IfOk result (λ copies. copies.items ≡ drop from self.now) }
+    {
+        let alloc = self.alloc();
+        let mut copies = Vec::with_capacity(alloc, self.len() - from)?;
+        for place in from..self.len() {
+            copies.push_reserved(self.get(place).copy(alloc)?);
+        }
+        Ok(copies)
     }
 
     /// Copies of the entries from a place on that lose their places to one with this key.
@@ -197,6 +223,19 @@ impl Pages {
         let entry = self.replace(from, no_request(self.alloc()));
         let _ = self.replace(to, entry);
     }
+}
+
+// Puts copies of the entries, for which there is room, after those that are there.
+fn put_copies(copies: &mut Vec<Entry>, entries: &[Entry]) -> Result<(), NoMemory>
+    requires { vec_len copies.old + length entries.now ≤ vec_capacity copies.old }
+    ensures items { OnOk result (copies.new.items ≡ copies.old.items ++ entries.now) }
+    ensures capacity { vec_capacity copies.new ≡ vec_capacity copies.old }
+{
+    let alloc = *copies.allocator();
+    for entry in entries {
+        copies.push_reserved(entry.copy(alloc)?);
+    }
+    Ok(())
 }
 
 // Holds a place for a moment.

@@ -62,3 +62,18 @@ pub fn put_digest(digests: &mut Vec<Digest>, entries: &Pages, place: usize, key:
     digests.truncate(kept);
     digests.push_reserved(sum);
 }
+
+/// The first digests, up to a place, are those of the entries. Puts those of the other entries after
+/// them, in the place of what is there.
+pub fn put_digests(digests: &mut Vec<Digest>, entries: &Pages, from: usize)
+    requires within { from ≤ length entries.now }
+    requires room { length entries.now ≤ vec_capacity digests.old }
+    requires first { IsSummed (take from entries.now) (take from digests.old.items) }
+    ensures { IsSummed entries.now digests.new.items }
+{
+    digests.truncate(from);
+    for place in from..entries.len() {
+        let digest = digest_after(digests, &entries.get(place).key);
+        digests.push_reserved(digest);
+    }
+}

@@ -253,28 +253,70 @@ fn one_answer(alloc: Global, rows: &[Row]) -> Result<LogAnswerList, NoMemory> {
     Ok(answers)
 }
 
+// A list, and what of the log before it is left out.
+type Replacement = (&'static [Row], &'static [Row]);
+
+// In turn: another first entry, all of the log and more, its first part, the same list, its first entry and others,
+// another first entry before some of it, no entry, and no log before it. Ids that were left out come again later.
+const REPLACEMENTS: &[Replacement] = &[
+    (&[(20, 1, 1), (30, 2, 1)], &[(10, 0, 1)]),
+    (&[(20, 1, 1), (30, 2, 1), (35, 0, 1), (40, 3, 1)], &[]),
+    (&[(20, 1, 1), (30, 2, 1)], &[(35, 0, 1), (40, 3, 1)]),
+    (&[(20, 1, 1), (30, 2, 1)], &[]),
+    (&[(20, 1, 1), (33, 3, 1), (37, 2, 1), (50, 0, 1)], &[]),
+    (
+        &[(15, 4, 1), (20, 1, 1), (33, 3, 1)],
+        &[(37, 2, 1), (50, 0, 1)],
+    ),
+    (&[], &[(15, 4, 1), (20, 1, 1), (33, 3, 1)]),
+    (&[(37, 2, 1), (50, 0, 1)], &[]),
+];
+
+fn replacements() -> &'static [Replacement] {
+    REPLACEMENTS
+}
+
+fn questions(alloc: Global) -> Result<LogCallList, NoMemory> {
+    let mut calls = List::new(alloc);
+    ask(&mut calls)?;
+    Ok(calls)
+}
+
+// Asks a log for its digests and places, and another one to which the same entries were appended.
+fn check_same(
+    rt: &impl Abort,
+    alloc: Global,
+    log: &mut HashedLog,
+    other: &mut HashedLog,
+) -> Result<(), NoMemory> {
+    let questions = questions(alloc)?;
+    let answers = run_calls(log, &questions)?;
+    assert_eq!(rt; answers, run_calls(other, &questions)?);
+    check_entries(rt, log, &other.entries()?)?;
+    assert_eq!(rt; log.synced(), other.synced());
+    Ok(())
+}
+
 fn check_replaced(
     rt: &impl Abort,
     alloc: Global,
     log: &mut HashedLog,
-    other: &HashedLog,
+    case: &Replacement,
 ) -> Result<(), NoMemory> {
-    let answers = run_calls(
-        log,
-        &one_call(alloc, LogCall::ReplaceAll(other.entries()?))?,
-    )?;
-    assert_eq!(rt; answers, one_answer(alloc, &[(20, 1, 1)])?);
-    check_entries(rt, log, &other.entries()?)?;
-    assert_eq!(rt; log.synced(), 2);
+    let list = list_of(alloc, case.0)?;
+    let answers = run_calls(log, &one_call(alloc, LogCall::ReplaceAll(list))?)?;
+    assert_eq!(rt; answers, one_answer(alloc, case.1)?);
+    for other in &mut one_log(alloc, case.0, &[])? {
+        check_same(rt, alloc, log, other)?;
+    }
     Ok(())
 }
 
 #[test]
 fn takes_a_list_in_place_of_its_entries(rt: HostRuntime) -> Result<(), Fail> {
-    let alloc = rt.alloc();
-    for log in &mut one_log(alloc, &[(10, 0, 1)], &[(20, 1, 1)])? {
-        for other in &one_log(alloc, &[(10, 0, 1), (30, 2, 2)], &[])? {
-            check_replaced(&rt, alloc, log, other)?;
+    for log in &mut one_log(rt.alloc(), &[(10, 0, 1)], &[(20, 1, 1)])? {
+        for case in replacements() {
+            check_replaced(&rt, rt.alloc(), log, case)?;
         }
     }
     Ok(())

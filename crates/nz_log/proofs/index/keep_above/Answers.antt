@@ -34,7 +34,7 @@ loop-place-preserved c =
           w.move_down.new.self (get id_eq w.set_place.new.places) (omega (arith, down, within)) other
           (sym w.if-is_below.ensures.value)
           (w.move_down.ensures.moved x ∙ ap (λ (y : Entry). take kept es ++ y ∷ []) (sym c.get.ensures)) w.move_down.ensures.above
-          (λ i. w.set_place.ensures i ∙ ap (λ (j : Id). if id_eq j i then Some kept else get id_eq c.loop-place.places i) w.id-then-is_below.ensures) in
+          (λ i. w.set_place.ensures.value i ∙ ap (λ (j : Id). if id_eq j i then Some kept else get id_eq c.loop-place.places i) w.id-then-is_below.ensures) in
           let all : IsAlong key c.if-is_below.entries c.if-is_below.kept (place + 1) (get id_eq c.if-is_below.places) whole =
           rw (w.entries-is, w.kept-is, w.places-is) now in
           record {
@@ -47,7 +47,7 @@ loop-place-preserved c =
           let now =
           along_gone key es kept place (get id_eq c.loop-place.places) whole x within c.get.ensures along
           (get id_eq w.drop_place.new.places) other (sym w.if-is_below.ensures.value)
-          (λ i. w.drop_place.ensures i ∙ ap (λ (j : Id). if id_eq j i then None else get id_eq c.loop-place.places i) w.id-else-is_below.ensures) in
+          (λ i. w.drop_place.ensures.value i ∙ ap (λ (j : Id). if id_eq j i then None else get id_eq c.loop-place.places i) w.id-else-is_below.ensures) in
           let all : IsAlong key c.if-is_below.entries c.if-is_below.kept (place + 1) (get id_eq c.if-is_below.places) whole =
           rw (w.entries-is, w.kept-is, w.places-is) now in
           record { down = let k = w.kept-is in omega (arith, k, down); long = ap length w.entries-is ∙ long; same = all.same; midway = all.midway }

@@ -20,7 +20,7 @@ keep_above-requires-clause-midway c =
     let fresh = subst (λ (l : Log). has_id (keys_of (synced_part l)) (id_of e.key) ≡ false) (sym c.self.view_is) c.requires.fresh in
     midway_put log e c.self.inside.digests.items c.self.inside.places.entries
     (λ i. lookup (id_eq i) c.set_place.new.places.entries) c.insert.new.self c.self.invariant fresh c.in_ok-insert.ensures.ok
-    (λ i. c.set_place.ensures i
+    (λ i. c.set_place.ensures.value i
     ∙ ap (λ (j : Id). if id_eq j i then Some log.synced else lookup (id_eq i) c.reserve-2.new.self.entries) c.id.ensures
     ∙ ap (λ (m : List (Id × ℕ)). if id_eq (id_of e.key) i then Some log.synced else lookup (id_eq i) m) c.reserve-2.ensures.entries)
 
