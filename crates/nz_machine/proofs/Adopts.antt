@@ -1,8 +1,8 @@
 -- What becomes of log, early and late where a list is put in the place of the log.
-use Rattle.std.proofs.Common.{◌≡◌, ℕ, ◌+◌, ◌<◌, true, false, not, ◌||◌, List, [], ◌∷◌, ◌++◌, length, take, get_or, refl, sym, ap, subst, ◌∙◌, inl, inr}
+use Rattle.std.proofs.Common.{◌≡◌, ℕ, ◌+◌, ◌<◌, true, false, not, ◌||◌, List, [], ◌∷◌, ◌++◌, length, take, drop, get_or, refl, sym, ap, subst, ◌∙◌, inl, inr, append_assoc, append-nil}
 use Rattle.std.proofs.lemmas.Bool.{cases_Bool, or_left, or_right}
 use Rattle.std.specs.List.{filter}
-use Rattle.std.proofs.lemmas.List.{take_more}
+use Rattle.std.proofs.lemmas.List.{take_more, take-append-drop}
 use Rattle.std.proofs.lemmas.List.Elements.{filter-append}
 use Rattle.nz_base.specs.declared.key.Id.{Id}
 use Rattle.nz_base.specs.declared.key.Key.{Key}
@@ -54,6 +54,16 @@ left_next (e ∷ es) xs x =
 pub left_step : (es list : List Entry) (i : ℕ) (d : Entry) → i < length list
     → without (left_out es (take i list)) (id_of (get_or list i d).key) ≡ left_out es (take (i + 1) list)
 left_step es list i d within = left_next es (take i list) (get_or list i d) ∙ ap (left_out es) (sym (take_more list i d within))
+
+-- where nothing is left after the first of the list, nothing is left after all of it
+none_left : (es xs ys : List Entry) → left_out es xs ≡ [] → left_out es (xs ++ ys) ≡ []
+none_left es xs [] none = ap (left_out es) (append-nil xs) ∙ none
+none_left es xs (y ∷ ys) none =
+    let more : left_out es (xs ++ y ∷ []) ≡ [] = sym (left_next es xs y) ∙ ap (λ (l : List Entry). without l (id_of y.key)) none in
+    ap (left_out es) (sym (append_assoc xs (y ∷ []) ys)) ∙ none_left es (xs ++ y ∷ []) ys more
+
+pub left_nothing : (es list : List Entry) (i : ℕ) → left_out es (take i list) ≡ [] → left_out es list ≡ []
+left_nothing es list i none = ap (left_out es) (sym (take-append-drop i list)) ∙ none_left es (take i list) (drop i list) none
 
 -- ---- log, early and late
 

@@ -172,7 +172,7 @@ pub fn execute_all(alloc: Global, list: &[Entry]) -> Result<(Store, Vec<Answer>)
     ensures answers { IfOk result (λ made. made.1.items ≡ replies (commands list.now)) }
 {
     let mut store = Store::new(alloc);
-    let mut answers = Vec::new(alloc);
+    let mut answers = Vec::with_capacity(alloc, list.len())?;
     for entry in list {
         match store.apply_bytes(entry.command.as_slice()) {
             Ok(answer) => answers.push(answer)?,
@@ -182,13 +182,16 @@ pub fn execute_all(alloc: Global, list: &[Entry]) -> Result<(Store, Vec<Answer>)
     Ok((store, answers))
 }
 
-/// The ids of the list leave early and late.
-#[tactic(auto, using(crate::proofs::Adopts::left_none, crate::proofs::Adopts::left_step))]
+/// The ids of the list leave early and late. Mostly these have few entries, or none, and the list has thousands.
+#[tactic(auto, using(crate::proofs::Adopts::left_none, crate::proofs::Adopts::left_step, crate::proofs::Adopts::left_nothing))]
 fn drop_ids(early: &mut Early, late: &mut Late, list: &[Entry])
     ensures early { early.new ≡ left_out early.old list.now }
     ensures late { late.new ≡ left_out late.old list.now }
 {
     for entry in list {
+        if early.is_empty() && late.is_empty() {
+            return;
+        }
         let id = entry.key.id();
         let _ = early.remove(id);
         let _ = late.remove(id);

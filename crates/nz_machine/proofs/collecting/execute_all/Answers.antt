@@ -5,4 +5,4 @@ use Rattle.nz_machine.proofs.Collects.{no_replies}
 use Rattle.nz_machine.proofs.collecting.execute_all.Goals as goal
 
 pub loop-entry-init : goal.loop-entry-init
-loop-entry-init c = record { store = c.new-store.ensures ∙ sym no_store; answers = c.new-answers.ensures.items ∙ sym no_replies }
+loop-entry-init c = record { store = c.new-store.ensures ∙ sym no_store; answers = c.in_ok-answers.ensures.items ∙ sym no_replies }
