@@ -1,25 +1,30 @@
 //! The order in which the items of a tick are done where several workers do them: grouped by actor.
 
-ghost use Rattle.std.specs.Prelude.{IsPermutation};
+ghost use Rattle.std.specs.Prelude.{◌<◌, IsPermutation};
 
 use nz_base::Actor;
 use nz_machine::{Event, Item};
 
-/// What an item comes of, in the order in which an actor's items are done.
-#[derive(Clone, Copy, Debug, PartialEq, Eq, PartialOrd, Ord)]
-enum Cause {
-    /// A crash, a restart or an alarm.
-    Call,
-    Clock,
-    /// A parcel of this sender.
-    Parcel(Actor),
+/// A number that orders actors: replicas, then proxies, then clients.
+fn rank(actor: Actor) -> u32
+    ensures { result < 768 }
+{
+    match actor {
+        Actor::Replica(number) => u32::from(number),
+        Actor::Proxy(number) => 256 + u32::from(number),
+        Actor::Client(number) => 512 + u32::from(number),
+    }
 }
 
-fn cause_of(event: &Event) -> Cause {
+/// A number that orders an actor's items by what they come of: crashes, restarts and alarms, then the clock, then parcels by
+/// their senders.
+fn cause(event: &Event) -> u32
+    ensures { result < 1024 }
+{
     match event {
-        Event::Crash | Event::Restart(_) | Event::Alarm => Cause::Call,
-        Event::Tick(_) => Cause::Clock,
-        Event::Deliver(parcel) | Event::Cut(parcel, _) => Cause::Parcel(parcel.get().from),
+        Event::Crash | Event::Restart(_) | Event::Alarm => 0,
+        Event::Tick(_) => 1,
+        Event::Deliver(parcel) | Event::Cut(parcel, _) => 2 + rank(parcel.get().from),
     }
 }
 
@@ -28,5 +33,5 @@ fn cause_of(event: &Event) -> Cause {
 pub fn group(items: &mut Vec<Item>)
     ensures { IsPermutation items.old.items items.new.items }
 {
-    let _ = items.sort_by_cached_key(|item| (item.actor, cause_of(&item.event)));
+    let _ = items.sort_by_cached_key(|item| 1024 * rank(item.actor) + cause(&item.event));
 }
