@@ -47,7 +47,10 @@ fn go_on<N: Name, R: Wait>(rt: &R, stage: &Stage<N>, fabric: &Fabric<N>) -> bool
     } else {
         state.next_tick().unwrap_or(false)
     };
-    if !begun || !state.is_small() {
+    let wakes = !begun || !state.is_small();
+    // Those that wake want the network.
+    drop(guard);
+    if wakes {
         fabric.wake_all();
     }
     begun
