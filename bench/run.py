@@ -5,9 +5,12 @@
     bench/run.py [PROGRAM [WORKERS [REFERENCE]]]
 
 prints a line for each scenario: how many requests and ticks it has, how long the run took by so many workers
-(1 if left out), how much memory it took at most, and how many lines of output it made in a second. Several numbers of
-workers, as 1,2,4,8, give the seconds by each, and their ratios to the first. It judges nothing: compare two runs on one
-quiet machine.
+(1 if left out), how much memory it took at most, and how many lines of output it made in a second. It judges nothing:
+compare two runs on one quiet machine.
+
+Several numbers of workers, as 1,2,4,8, give the seconds by each, the medians of seven runs in turn, and their ratios to
+the first. Beside each ratio stands the least that the machine lets any program reach: as many runs by the first number of
+workers, side by side, share nothing, and take so much of the time that they take one after another.
 
 With the path of a REFERENCE, another program with the same words, it first prints both side by side on the
 generated runs `gen 7 COUNT`, ours by one worker: the best of five times each, their ratio, the memory of both,
@@ -21,6 +24,7 @@ seconds, by one worker; with each the exponent by which its time grows to twice 
 """
 import math
 import os
+import statistics
 import sys
 import tempfile
 import time
@@ -109,11 +113,11 @@ def wide(requests, ticks):
     return scenario(4, 8, 64, ticks, scripts, window=16)
 
 
-def rejoins(requests, rounds):
+def rejoins(requests, rounds, value="v" * 250):
     """After the requests, again and again, four of nine replicas crash at once and rejoin: each gets the whole log."""
     scripts = [[] for _ in range(64)]
     for i in range(requests):
-        scripts[i % 64].append(f"put k{i % 97} {'v' * 250}{i:06}")
+        scripts[i % 64].append(f"put k{i % 97} {value}{i:06}")
     lines = []
     for k in range(rounds):
         for j in range(4):
@@ -134,6 +138,7 @@ def cases():
     yield "nine replicas, full ticks", 2000, 500, even(4, 8, 64, 2000, 500)
     yield "nine replicas, window 16", 2000, 60, wide(2000, 60)
     yield "four of nine rejoin at once", 500, 460, rejoins(500, 50)
+    yield "the same, short values", 1000, 260, rejoins(1000, 25, "v")
     yield "little to do", 100, 20000, even(1, 1, 4, 100, 20000)
     yield "1,000 fault lines", 200, 1000, faulty(200, 1000, 1000)
     for requests in (250, 500, 1000):
@@ -142,21 +147,58 @@ def cases():
         yield f"{count} crashes", 500, 4000, crashes(500, 4000, count)
 
 
+def opened(text):
+    """A file that holds the text."""
+    given = tempfile.TemporaryFile()
+    given.write(text.encode())
+    given.seek(0)
+    return given
+
+
+def begun(program, words, given, made):
+    """The process of a run that reads the one file and writes the other."""
+    child = os.fork()
+    if child == 0:
+        os.dup2(given.fileno(), 0)
+        os.dup2(made.fileno(), 1)
+        os.execv(program, [program, *words])
+    return child
+
+
 def measure(program, words, text):
     """Seconds, the most memory in MiB, lines of output, and the exit status."""
-    with tempfile.TemporaryFile() as given, tempfile.TemporaryFile() as made:
-        given.write(text.encode())
-        given.seek(0)
+    with opened(text) as given, tempfile.TemporaryFile() as made:
         start = time.monotonic()
-        child = os.fork()
-        if child == 0:
-            os.dup2(given.fileno(), 0)
-            os.dup2(made.fileno(), 1)
-            os.execv(program, [program, *words])
-        _, status, used = os.wait4(child, 0)
+        _, status, used = os.wait4(begun(program, words, given, made), 0)
         seconds = time.monotonic() - start
         made.seek(0)
         return seconds, used.ru_maxrss / 1024, made.read().count(b"\n"), os.waitstatus_to_exitcode(status)
+
+
+def apart(program, words, text, count):
+    """The seconds of so many runs side by side, divided by their number."""
+    with open(os.devnull, "wb") as made:
+        files = [opened(text) for _ in range(count)]
+        start = time.monotonic()
+        for child in [begun(program, words, given, made) for given in files]:
+            os.waitpid(child, 0)
+        return (time.monotonic() - start) / count
+
+
+def in_turn(runs, rounds=7):
+    """The median seconds of each of the runs, which take turns, so that each meets the machine in all its moods."""
+    times = [[run() for run in runs] for _ in range(rounds)]
+    return [statistics.median(column) for column in zip(*times)]
+
+
+def shared(program, counts, text):
+    """What the numbers of workers after the first cost: seconds, their ratio to the first's, and the least that can be."""
+    words = [["run", "--workers", count] for count in counts]
+    runs = [lambda own=own: measure(program, own, text)[0] for own in words]
+    runs += [lambda count=count: apart(program, words[0], text, int(count)) for count in counts[1:]]
+    one, *others = in_turn(runs)
+    many = len(counts) - 1
+    return "".join(f" {by:9.3f} {by / one:7.2f} {least / one:7.2f}" for by, least in zip(others[:many], others[many:]))
 
 
 def best(program, count):
@@ -210,15 +252,9 @@ def least(program, text):
 
 
 def spent(program, text):
-    with tempfile.TemporaryFile() as given:
-        given.write(text.encode())
-        given.seek(0)
-        child = os.fork()
-        if child == 0:
-            os.dup2(given.fileno(), 0)
-            os.dup2(os.open(os.devnull, os.O_WRONLY), 1)
-            os.execv(program, [program, "run"])
-        _, status, used = os.wait4(child, 0)
+    """The processor's seconds of a run, and the most memory in MiB."""
+    with opened(text) as given, open(os.devnull, "wb") as made:
+        _, status, used = os.wait4(begun(program, ["run"], given, made), 0)
         if os.waitstatus_to_exitcode(status) != 0:
             sys.exit(f"{program} ended with status {os.waitstatus_to_exitcode(status)}")
         return used.ru_utime + used.ru_stime, used.ru_maxrss / 1024
@@ -243,15 +279,14 @@ def main():
     reference = os.path.abspath(sys.argv[3]) if len(sys.argv) > 3 else None
     if reference:
         side_by_side(program, reference)
-    more = "".join(f" {'by ' + count + ', s':>9} {'ratio':>7}" for count in counts[1:])
+    more = "".join(f" {'by ' + count + ', s':>9} {'ratio':>7} {'least':>7}" for count in counts[1:])
     more += f" {'ref, s':>9} {'ratio':>7}" if reference else ""
     print(f"{'scenario':28} {'requests':>8} {'ticks':>6} {'seconds':>9} {'MiB':>8} {'lines/s':>9} status{more}")
     for name, requests, ticks, text in cases():
         seconds, memory, lines, status = measure(program, ["run", "--workers", counts[0]], text)
         line = f"{name:28} {requests:8} {ticks:6} {seconds:9.3f} {memory:8.1f} {lines / seconds:9.0f} {status:6}"
-        for count in counts[1:]:
-            other = measure(program, ["run", "--workers", count], text)[0]
-            line += f" {other:9.3f} {other / seconds:7.1f}"
+        if counts[1:]:
+            line += shared(program, counts, text)
         if reference:
             other = measure(reference, ["run"], text)[0]
             line += f" {other:9.3f} {seconds / other:7.1f}"
