@@ -198,7 +198,7 @@ def shared(program, counts, text):
     runs += [lambda count=count: apart(program, words[0], text, int(count)) for count in counts[1:]]
     one, *others = in_turn(runs)
     many = len(counts) - 1
-    return "".join(f" {by:9.3f} {by / one:7.2f} {least / one:7.2f}" for by, least in zip(others[:many], others[many:]))
+    return "".join(f" {by:9.3f} {by / one:7.2f} {floor / one:7.2f}" for by, floor in zip(others[:many], others[many:]))
 
 
 def best(program, count):
