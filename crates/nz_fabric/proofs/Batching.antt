@@ -1,10 +1,10 @@
 -- Batches: what they have of the items of a tick, and what their records are of.
-use Rattle.std.proofs.Common.{◌≡◌, ℕ, zero, suc, ◌+◌, ◌<◌, ◌≤◌, Bool, cond, List, [], ◌∷◌, ◌++◌, length, map}
+use Rattle.std.proofs.Common.{◌≡◌, ℕ, zero, suc, ◌+◌, ◌<◌, ◌≤◌, Bool, false, cond, List, [], ◌∷◌, ◌++◌, length, map}
 use Rattle.std.proofs.Common.{refl, sym, ap, ◌∙◌, subst, arith, add-one, append_assoc, append-nil, length-drop}
 use Rattle.std.specs.Prelude.{take, drop, get_or, IsPermutation}
 use Rattle.std.specs.List.{AllByRecursion, flat_map, prefix_len, remove}
 use Rattle.std.proofs.Math.Seq.{drop-cons, take-add}
-use Rattle.std.proofs.lemmas.List.{map-append}
+use Rattle.std.proofs.lemmas.List.{length-map, map-append}
 use Rattle.std.proofs.lemmas.List.Sums.{take_while-cons, prefix_len-le-length}
 use Rattle.std.proofs.lemmas.List.Folds.{length-prefix_len}
 use Rattle.std.proofs.lemmas.Grind.{flat_map-append}
@@ -21,8 +21,9 @@ use Rattle.nz_machine.specs.State.{Group}
 use Rattle.nz_machine.specs.Step.{Node, node_run}
 use Rattle.nz_machine.specs.declared.event.Parcel.{Parcel}
 use Rattle.nz_fabric.specs.declared.batch.Batch.{Batch}
-use Rattle.nz_fabric.specs.Shared.{items_of, run_of}
+use Rattle.nz_fabric.specs.Shared.{Shared, IsNextOf, items_of, run_of}
 use Rattle.nz_fabric.specs.Steps.{batch_records, sends_from}
+use Rattle.nz_fabric.specs.Takes.{batch_of}
 
 -- ---- the next batch
 
@@ -63,13 +64,24 @@ run_taken a items next n is run long =
     ∙ ap (λ (k : ℕ). take next items ++ take k (drop next items)) (run_long a items next n is run long)
     ∙ ap (λ (ys : List Item). take next items ++ ys) (sym run)
 
-pub run_within : (a : Actor) (items : List Item) (next n : ℕ) (is : List Item) → is ≡ run_of a (drop next items) → n ≡ length is
+run_within : (a : Actor) (items : List Item) (next n : ℕ) (is : List Item) → is ≡ run_of a (drop next items) → n ≡ length is
     → next ≤ length items → next + n ≤ length items
 run_within a items next n is run long le =
     let most = prefix_len-le-length (λ (i : Item). actor_eq i.actor a) (drop next items) in
     let same = run_long a items next n is run long in
     let left = length-drop next items in
     omega (arith, most, same, left, le)
+
+-- the events of the next run are the next batch
+pub next_batch : (f : Shared) (a : Actor) (events : List Event) → f.run.marked ≡ false → f.run.next ≤ length f.run.items → 0 < length events
+    → map (item a) events ≡ run_of a (drop f.run.next f.run.items) → IsNextOf f (batch_of (f.taken + 1) a events)
+next_batch f a events unmarked le some run = record {
+  unmarked = unmarked;
+  number = refl;
+  some = some;
+  items = run;
+  within = run_within a f.run.items f.run.next (length events) (map (item a) events) run (sym (length-map events (item a))) le;
+}
 
 -- ---- the items of the open batches
 
@@ -106,6 +118,15 @@ one_opened given_up running b here taken h =
     (sym (append_assoc (given_up ++ open_items) (items_of b) here)
     ∙ ap (λ (is : List Item). is ++ here) (append_assoc given_up open_items (items_of b) ∙ ap (λ (is : List Item). given_up ++ is) (sym all)))
     last
+
+-- or its items are given up
+pub one_lost : (given_up open_items here taken items : List Item) → IsPermutation taken ((given_up ++ open_items) ++ here)
+    → IsPermutation (taken ++ items) (((items ++ given_up) ++ open_items) ++ here)
+one_lost given_up open_items here taken items h =
+    IsPermutation-trans _ _ _ (IsPermutation-append_comm taken items)
+    (subst (λ (is : List Item). IsPermutation (items ++ taken) (is ++ here)) (sym (append_assoc items given_up open_items))
+    (subst (λ (is : List Item). IsPermutation (items ++ taken) is) (sym (append_assoc items (given_up ++ open_items) here))
+    (IsPermutation-append_right items _ _ h)))
 
 -- one is closed: some of its items are recorded, and the rest is given up
 pub one_closed : (given_up : List Item) (running : List Batch) (here done done' rest : List Item) (i : ℕ) (b : Batch)

@@ -23,11 +23,11 @@ use Rattle.nz_fabric.specs.Records.{AddsSome}
 use Rattle.nz_fabric.specs.Steps.{batch_records, sends_from, step_of}
 use Rattle.nz_fabric.specs.declared.batch.Batch.{Batch}
 use Rattle.nz_fabric.specs.declared.ticks.Ticks.{Ticks}
-use Rattle.nz_fabric.specs.States.{State, records_of, IsNew, IsPosted, after_tick, IsBegunInSomeOrder, state_of, state_in, HasBegunAs}
+use Rattle.nz_fabric.specs.States.{State, records_of, IsNew, IsPosted, with_mark, after_tick, IsBegunInSomeOrder, state_of, state_in, HasBegunAs}
 use Rattle.nz_fabric.specs.Calendars.{Dates}
 use Rattle.nz_fabric.specs.Shared.{Shared, shared_with, items_of, IsNextOf, with_opened, after_shared, IsOver, IsAccounted, IsBooked}
 use Rattle.nz_fabric.specs.Shared.{HasNext, next_item, next_record, no_item, with_next}
-use Rattle.nz_fabric.proofs.Batching.{run_taken, batch_apart, one_opened, one_closed, one_recorded, records_items, records_tick}
+use Rattle.nz_fabric.proofs.Batching.{run_taken, batch_apart, one_opened, one_lost, one_closed, one_recorded, records_items, records_tick}
 use Rattle.nz_fabric.proofs.Held.{no_records, long_here, state_records, next_is, posted_start, posted_more, posted_next}
 
 -- ---- the start
@@ -121,6 +121,39 @@ booked_taken s total total' f b before room records c h is count reserved few =
       reserved = reserved;
       is_posted = record { sent = posted.sent; rest = posted.rest; prefix = posted.prefix; stands = posted.stands; none = posted.none };
       booked = omega (arith, long, booked, count);
+    }
+
+accounted_lost : (s : Scenario) (f : Shared) (b : Batch) → IsAccounted s f → IsNextOf f b
+    → IsAccounted s (shared_with (with_mark (record f.run { next = f.run.next + length b.events })) f.running f.taken)
+accounted_lost s f b k is = record {
+  scenario = k.scenario;
+  playable = k.playable;
+  in_run = k.in_run;
+  begun = k.begun;
+  here = k.here;
+  next = is.within;
+  given_up = items_of b ++ k.given_up;
+  each_once =
+      subst (λ (is : List Item). IsPermutation is (((items_of b ++ k.given_up) ++ flat_map items_of f.running) ++ map item_of f.run.here))
+      (sym (run_taken b.actor f.run.items f.run.next (length b.events) (items_of b) is.items (sym (length-map b.events (item b.actor)))))
+      (one_lost k.given_up (flat_map items_of f.running) (map item_of f.run.here) (take f.run.next f.run.items) (items_of b) k.each_once);
+  all_kept = λ e. cc;
+}
+
+-- its items were taken, but it is not open: nobody does them
+pub booked_lost : (s : Scenario) (total : ℕ) (f : Shared) (b : Batch) (before room : ℕ) (records : List Record) (c : Dates)
+    → IsBooked s total f before room records c → IsNextOf f b
+    → before + (f.run.next + length b.events) ≤ room → before + (f.run.next + length b.events) < 2 ^ 32
+    → IsBooked s total (shared_with (with_mark (record f.run { next = f.run.next + length b.events })) f.running f.taken) before room records c
+booked_lost s total f b before room records c h is reserved few =
+    let posted = h.is_posted in
+    record {
+      accounted = accounted_lost s f b h.accounted is;
+      within = h.within;
+      few = few;
+      reserved = reserved;
+      is_posted = record { sent = posted.sent; rest = posted.rest; prefix = posted.prefix; stands = posted.stands; none = λ e. cc };
+      booked = h.booked;
     }
 
 -- the journal has more room

@@ -1,5 +1,5 @@
 -- What contracts see of a fabric of threads, and what it keeps.
-use Rattle.std.specs.Prelude.{◌≡◌, ℕ, ◌+◌, ◌≤◌, ◌<◌, ◌^◌, ◌==◌, Bool, false, List, [], ◌∷◌, ◌++◌, length}
+use Rattle.std.specs.Prelude.{◌≡◌, ◌⊎◌, ℕ, ◌+◌, ◌≤◌, ◌<◌, ◌^◌, ◌==◌, Bool, false, List, [], ◌∷◌, ◌++◌, length}
 use Rattle.std.specs.Prelude.{map, take, drop, reverse, get_or, unwrap_or, IsPermutation, MatchBool}
 use Rattle.std.specs.Prelude.{Option, Result, MatchOption, MatchResult}
 use Rattle.std.specs.List.{AllByRecursion, flat_map, remove, position, take_while}
@@ -80,6 +80,10 @@ pub record IsNextOf (f : Shared) (b : Batch) : Type 0 where
 -- The batch was taken, and is open.
 abbrev pub with_opened : Batch → Shared → Shared
 with_opened b f = shared_with (record f.run { next = f.run.next + length b.events }) (f.running ++ b ∷ []) (f.taken + 1)
+
+-- Nothing was taken; or some next items were, which nobody does, and no further one is given.
+abbrev pub IsLost : Shared → Shared → Type 0
+IsLost old new = (new ≡ old) ⊎ ((count : ℕ) × (new ≡ shared_with (with_mark (record old.run { next = old.run.next + count })) old.running old.taken))
 
 -- The place of the open batch that a number names: that of the number, or else the oldest.
 abbrev pub place_of_batch : ℕ → List Batch → ℕ

@@ -1,10 +1,15 @@
-//! The items of a tick on one thread, and how many of them were taken.
+//! The items of a tick, and how many of them were taken.
 
-ghost use Rattle.std.specs.Prelude.{◌≡◌, ◌<◌, ◌+◌, ◌↔◌, length, slice_get, Some, IsTrue};
+ghost use Rattle.std.specs.Prelude.{◌≡◌, ◌<◌, ◌≤◌, ◌+◌, ◌^◌, ◌↔◌, length, map, drop, take, not, slice_get, Some, IsTrue, IfOk, OnErr};
+ghost use Rattle.std.specs.List.{position};
+ghost use Rattle.nz_base.specs.Actor.{actor_eq};
+ghost use Rattle.nz_machine.specs.Schedule.{item};
+ghost use Rattle.nz_fabric.specs.Shared.{run_of};
 ghost use Rattle.nz_fabric.specs.Agendas.{at_start};
 
-use nz_base::Actor;
+use nz_base::{Actor, List, NoMemory};
 use nz_machine::{Event, Item};
+use std::alloc::Global;
 use std::marker::Model;
 use std::snapshot::Snapshot;
 
@@ -38,6 +43,35 @@ pub fn no_item() -> Item {
     }
 }
 
+/// The place of the first item that is not of this actor.
+fn run_end(actor: Actor, items: &[Item]) -> Option<usize>
+    ensures { result ≡ position (λ i. not (actor_eq i.actor actor)) items.now }
+{
+    items.iter().position(|item| !item.actor.is(&actor))
+}
+
+/// The events of so many items from a place on, which have others in their places then.
+fn move_events(
+    alloc: Global,
+    items: &mut Vec<Item>,
+    from: usize,
+    count: usize,
+) -> Result<List<Event>, NoMemory>
+    requires within { from + count ≤ length items.old.items }
+    requires few { count < 2 ^ 32 }
+    ensures events { IfOk result (λ events. events ≡ map (λ i. i.event) (take count (drop from items.old.items))) }
+    ensures left { drop (from + count) items.new.items ≡ drop (from + count) items.old.items }
+    ensures len { length items.new.items ≡ length items.old.items }
+    ensures err { OnErr result (items.new.items ≡ items.old.items) }
+{
+    let mut events = Vec::with_capacity(alloc, count)?;
+    for place in 0..count {
+        let event = &mut items[from + place].event;
+        events.push_reserved(std::mem::replace(event, Event::Alarm));
+    }
+    Ok(List::from_vec(events))
+}
+
 impl Agenda {
     /// None of the items was taken.
     pub fn new(items: Vec<Item>) -> Agenda
@@ -68,5 +102,44 @@ impl Agenda {
         let item = std::mem::replace(&mut self.items[self.next], no_item());
         self.next += 1;
         item
+    }
+
+    /// How many items there are, taken or not.
+    pub fn len(&self) -> usize
+        ensures { result ≡ length self.now.items }
+    {
+        self.items.len()
+    }
+
+    /// How many were taken.
+    pub fn taken(&self) -> usize
+        ensures { result ≡ self.now.next }
+    {
+        self.next
+    }
+
+    /// The next item.
+    pub fn peek(&self) -> &Item
+        requires { self.now.next < length self.now.items }
+        ensures { slice_get self.now.items self.now.next ≡ Some result.now }
+    {
+        &self.items[self.next]
+    }
+
+    /// The next item and those after it that are of the same actor, as its events, which are moved out.
+    pub fn take_run(&mut self, alloc: Global) -> Result<(Actor, List<Event>), NoMemory>
+        requires some { self.old.next < length self.old.items }
+        requires few { length self.old.items < 2 ^ 32 }
+        ensures some { IfOk result (λ r. 0 < length r.1) }
+        ensures run { IfOk result (λ r. map (item r.0) r.1 ≡ run_of r.0 (drop self.old.next self.old.items)) }
+        ensures ok { IfOk result (λ r. self.new ≡ record self.old { next = self.old.next + length r.1 }) }
+        ensures err { OnErr result (self.new ≡ self.old) }
+    {
+        let left = &self.items[self.next..];
+        let actor = left[0].actor;
+        let count = run_end(actor, left).unwrap_or(left.len());
+        let events = move_events(alloc, &mut self.items, self.next, count)?;
+        self.next += count;
+        Ok((actor, events))
     }
 }

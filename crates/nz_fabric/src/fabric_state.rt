@@ -9,11 +9,12 @@ ghost use Rattle.nz_machine.specs.Schedule.{group_of, IsPlayable, Scheduled};
 ghost use Rattle.nz_fabric.specs.Records.{steps_of, with_step};
 ghost use Rattle.nz_fabric.specs.Steps.{AreSteps, batch_records, node_after, sends_after, sends_from, with_steps};
 ghost use Rattle.nz_fabric.specs.States.{records_of};
-ghost use Rattle.nz_fabric.specs.Shared.{HasNext, IsAccounted, IsGivenUp, IsNextOf, IsNextTick, IsOver, MustWait, ClosesBatch, IsWhole};
+ghost use Rattle.nz_fabric.specs.Shared.{HasNext, IsAccounted, IsGivenUp, IsLost, IsNextOf, IsNextTick, IsOver, MustWait, ClosesBatch, IsWhole};
 ghost use Rattle.nz_fabric.specs.Shared.{next_item, next_record, start_shared, with_given_up, with_next, with_opened, with_record, with_stop};
 ghost use Rattle.nz_base.specs.declared.limits.TheConstants.{MAX_WORKERS};
 
-use crate::batch::{Batch, first_events};
+use crate::agenda::Agenda;
+use crate::batch::Batch;
 use crate::chronicle::Opened;
 use crate::due::clocks_of;
 use crate::grouping::group;
@@ -44,9 +45,7 @@ const MUCH: u32 = 32;
 pub struct FabricState<N: Name> {
     ticks: Ticks,
     /// What is due in the tick.
-    items: Vec<Item>,
-    /// How many of the items were taken.
-    next: usize,
+    agenda: Agenda,
     records: Records<N>,
     /// How many records there were before this tick.
     before: usize,
@@ -69,10 +68,10 @@ impl<N: Name> Model for FabricState<N> {
 
     ghost Value = { Shared };
 
-    ghost view = { λ f. shared_with (state_in f.ticks f.before f.records.records f.items.items f.next) f.batches.running f.batches.taken };
+    ghost view = { λ f. shared_with (state_in f.ticks f.before f.records.records f.agenda.items f.agenda.next) f.batches.running f.batches.taken };
 
     ghost invariant = { λ f. (N.parts ≡ MAX_WORKERS) × IsBooked N.scenario f.book.total
-        (shared_with (state_in f.ticks f.before f.records.records f.items.items f.next) f.batches.running f.batches.taken)
+        (shared_with (state_in f.ticks f.before f.records.records f.agenda.items f.agenda.next) f.batches.running f.batches.taken)
         f.before f.records.room f.records.records f.ticks.calendar };
 }
 
@@ -120,8 +119,7 @@ impl<N: Name> FabricState<N> {
         let (book, held) = blank.open::<N>();
         let state = FabricState {
             ticks: Ticks::new(alloc, scenario)?,
-            items: Vec::new(alloc),
-            next: 0,
+            agenda: Agenda::new(Vec::new(alloc)),
             records,
             before: 0,
             batches: OpenBatches::new(alloc, takes),
@@ -140,24 +138,27 @@ impl<N: Name> FabricState<N> {
         let _ = &self.ticks;
     }
 
-    /// The next batch of the tick. Its places in the journal are reserved here. Also `NoMemory` where another network of
-    /// this name took one.
+    /// The next batch of the tick. The tick's places in the journal are reserved here. Also `NoMemory` where another
+    /// network of this name took one. Events that were moved out before memory was refused are lost, and no further batch
+    /// is given then.
     pub fn take(&mut self, share: &mut Share<N>) -> Result<Option<Taken<N>>, NoMemory>
         ensures { MatchResult result
             (λ batch.
             MatchOption batch
             ((self.new ≡ self.old) × (share.new ≡ share.old) × ((self.old.run.marked ≡ true) ⊎ (self.old.run.next ≡ length self.old.run.items)))
             (λ batch. (self.new ≡ with_opened batch self.old) × (share.new ≡ record share.old { amount = share.old.amount + 1 }) × IsNextOf self.old batch))
-            (λ _. (self.new ≡ self.old) × (share.new ≡ share.old)) }
+            (λ _. (IsLost self.old self.new) × (share.new ≡ share.old)) }
     {
-        if self.ticks.marked || self.next == self.items.len() {
+        if self.ticks.marked || self.agenda.is_done() {
             return Ok(None);
         }
-        let (actor, events) = first_events(self.ticks.alloc, &self.items[self.next..])?;
-        let count = events.len() as usize;
-        self.records.reserve_to(self.before + self.next + count)?;
-        let batch = self.batches.take(actor, events)?;
-        self.next += count;
+        self.records
+            .reserve_to(self.before.saturating_add(self.agenda.len()))?;
+        let (actor, events) = self.agenda.take_run(self.ticks.alloc)?;
+        let Ok(batch) = self.batches.take(actor, events) else {
+            self.ticks.marked = true;
+            return Err(NoMemory);
+        };
         self.book.add(&mut share.held, 1);
         Ok(Some(batch))
     }
@@ -219,10 +220,10 @@ impl<N: Name> FabricState<N> {
         ensures { MatchOption result ((self.now.run.marked ≡ true) ⊎ (self.now.run.next ≡ length self.now.run.items))
             (λ item. HasNext self.now × (item.now ≡ next_item self.now)) }
     {
-        if self.ticks.marked || self.next == self.items.len() {
+        if self.ticks.marked || self.agenda.is_done() {
             return None;
         }
-        Some(&self.items[self.next])
+        Some(self.agenda.peek())
     }
 
     /// The next item is taken, and is at once the last record. `NoMemory` also where its actor has not seen all of its
@@ -237,8 +238,9 @@ impl<N: Name> FabricState<N> {
             (λ _. (self.new ≡ self.old) × (lane.new ≡ lane.old)) }
     {
         let small = self.small && sends.len() < MUCH;
-        let event = self.items[self.next].event.copy(self.ticks.alloc)?;
-        self.records.reserve_to(self.before + self.next + 1)?;
+        let event = self.agenda.peek().event.copy(self.ticks.alloc)?;
+        self.records
+            .reserve_to(self.before + self.agenda.taken() + 1)?;
         let step = Record {
             tick: self.ticks.tick,
             actor: lane.actor(),
@@ -248,7 +250,7 @@ impl<N: Name> FabricState<N> {
         if !self.records.push(lane, step) {
             return Err(NoMemory);
         }
-        self.next += 1;
+        self.agenda.take();
         self.small = small;
         Ok(())
     }
@@ -289,7 +291,7 @@ impl<N: Name> FabricState<N> {
     pub fn is_over(&self) -> bool
         ensures { IsTrue result ↔ IsOver self.now }
     {
-        !self.ticks.marked && self.batches.is_empty() && self.next == self.items.len()
+        !self.ticks.marked && self.batches.is_empty() && self.agenda.is_done()
     }
 
     /// Whether the rest of the tick is done sooner by those that are awake than others are woken.
@@ -320,7 +322,7 @@ impl<N: Name> FabricState<N> {
     pub fn must_wait(&self) -> bool
         ensures { IsTrue result ↔ MustWait self.now }
     {
-        !self.ticks.marked && !self.batches.is_empty() && self.next == self.items.len()
+        !self.ticks.marked && !self.batches.is_empty() && self.agenda.is_done()
     }
 
     /// Nothing changes. The amount of the whole share is the number of open batches.
@@ -356,8 +358,7 @@ impl<N: Name> FabricState<N> {
         group(&mut items);
         self.lately = items.len().max(self.lately / 2);
         self.small = begins_small(&items, self.lately);
-        self.items = items;
-        self.next = 0;
+        self.agenda = Agenda::new(items);
         self.before = self.records.len();
         Ok(true)
     }

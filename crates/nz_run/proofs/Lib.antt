@@ -1,4 +1,5 @@
 -- The modules of this crate's proofs.
+pub mod Crossing
 pub mod Scheduling
 pub mod DueMayHappen
 pub mod FreshNonces

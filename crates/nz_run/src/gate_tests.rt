@@ -136,6 +136,21 @@ fn one_batch<N: Name, C: Core, R: Wait>(
     }
 }
 
+/// Two workers play a batch each, at once.
+fn a_batch_each<'a, N: Name + Send + Sync, R: Threads + Wait + Sync>(
+    rt: &R,
+    workers: &mut [Worker<N>],
+    cells: &[ActorCell<N, Watcher<'a>>; 2],
+    fabric: &Fabric<N>,
+) {
+    thread::for_each_mut(
+        rt,
+        workers,
+        2,
+        &|_, worker| one_batch(rt, worker, cells, fabric),
+    );
+}
+
 /// How many of two replicas, each in a batch of its own, saw the other in its step, and whether a batch was given up.
 fn seen_at_once<N: Name + Send + Sync, R: Threads + Wait + Sync>(
     rt: &R,
@@ -179,12 +194,7 @@ fn seen_at_once<N: Name + Send + Sync, R: Threads + Wait + Sync>(
         )),
     ];
     let fabric = Fabric::new(state);
-    thread::for_each_mut(
-        rt,
-        workers.as_mut_slice(),
-        2,
-        &|_, worker| one_batch(rt, worker, &cells, &fabric),
-    );
+    a_batch_each(rt, workers.as_mut_slice(), &cells, &fabric);
     let given_up = fabric.into_state().is_marked();
     Ok((seen.load(Ordering::SeqCst), given_up))
 }

@@ -16,7 +16,7 @@ invariant_of-self g c =
       c.self.invariant.0,
       rw (out.closed)
           (booked_given_up _ f.book.total c.sub.new.self.total f.batches.taken t.scenario t.tick f.before f.records.room f.records.records
-          f.items.items f.next t.marked t.calendar f.batches.running _ i b
+          f.agenda.items f.agenda.next t.marked t.calendar f.batches.running _ i b
           c.self.invariant.1 out.place (get_or_default f.batches.running i no_batch b out.place) refl
           (omega (arith, c.sub.ensures.total, c.audit.ensures.total))),
     )

@@ -17,7 +17,7 @@ into_list-requires g c =
     let f = c.self.inside in
     let t = f.ticks in
     let few = booked_few _ f.book.total f.batches.taken t.scenario t.tick f.before f.records.room f.records.records
-    f.items.items f.next t.marked t.calendar f.batches.running c.self.invariant.1 in
+    f.agenda.items f.agenda.next t.marked t.calendar f.batches.running c.self.invariant.1 in
     omega (arith, few, ap (λ (r : Recorded). length r.records) c.into_recording.ensures.records)
 
 pub returns-clause-records : goal.returns-clause-records
@@ -29,7 +29,7 @@ returns-clause-records g c =
 pub returns-clause-scheduled : goal.returns-clause-scheduled
 returns-clause-scheduled g c =
     let i = c.self.inside in
-    let f = state_in i.ticks i.before i.records.records i.items.items i.next in
+    let f = state_in i.ticks i.before i.records.records i.agenda.items i.agenda.next in
     let k = c.self.invariant.1.accounted in
     let J = records_of f in
     let order : ScheduledTo f.scenario f.tick J =

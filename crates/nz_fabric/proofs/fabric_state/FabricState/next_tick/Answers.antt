@@ -20,9 +20,9 @@ invariant_of-self g c =
     let inv = c.self.invariant.1 in
     let unmarked : t.marked ≡ false = ap (λ (f : Shared). f.run.marked) c.self.view_is ∙ c.requires.unmarked in
     let now = c.post_all.new.calendar in
-    let posted = over_some t f.before rs _ f.items.items f.next now unmarked inv.is_posted rest c.in_err-post_all.ensures.err in (
+    let posted = over_some t f.before rs _ f.agenda.items f.agenda.next now unmarked inv.is_posted rest c.in_err-post_all.ensures.err in (
       c.self.invariant.0,
-      booked_marked _ f.book.total f.batches.taken t.scenario t.tick f.before f.records.room rs f.items.items f.next
+      booked_marked _ f.book.total f.batches.taken t.scenario t.tick f.before f.records.room rs f.agenda.items f.agenda.next
           t.marked f.batches.running t.calendar now inv posted,
     )
 
@@ -35,13 +35,13 @@ invariant_of-self-in_err-items g c =
     let inv = c.self.invariant.1 in
     let unmarked : t.marked ≡ false = ap (λ (f : Shared). f.run.marked) c.self.view_is ∙ c.requires.unmarked in
     let now = c.post_all.new.calendar in
-    let posted = over_whole t f.before rs _ f.items.items f.next now unmarked inv.is_posted rest c.in_ok-post_all.ensures.ok in
+    let posted = over_whole t f.before rs _ f.agenda.items f.agenda.next now unmarked inv.is_posted rest c.in_ok-post_all.ensures.ok in
     let booked =
-    booked_marked _ f.book.total f.batches.taken t.scenario t.tick f.before f.records.room rs f.items.items f.next t.marked
+    booked_marked _ f.book.total f.batches.taken t.scenario t.tick f.before f.records.room rs f.agenda.items f.agenda.next t.marked
     f.batches.running t.calendar now inv posted in (
       c.self.invariant.0,
       subst (λ (t : Ticks). IsBooked g.N.Name.scenario f.book.total
-          (shared_with (state_in t f.before rs f.items.items f.next) f.batches.running f.batches.taken)
+          (shared_with (state_in t f.before rs f.agenda.items f.agenda.next) f.batches.running f.batches.taken)
           f.before f.records.room rs t.calendar) (sym c.in_err-items.ensures.err) booked,
     )
 
@@ -55,15 +55,16 @@ invariant_of-self-2 g c =
     let is = c.group.new.items.items in
     let unmarked : t.marked ≡ false = ap (λ (f : Shared). f.run.marked) c.self.view_is ∙ c.requires.unmarked in
     let begun =
-    begun_grouped t.scenario t.tick (posted_by_run (records_of (state_in t f.before rs f.items.items f.next))) c.begin.new.self c.in_ok-items.items.items is
-    (over_begun t f.before rs _ f.items.items f.next c.post_all.new.calendar c.begin.new.self c.in_ok-items.items.items unmarked inv.is_posted rest
+    begun_grouped t.scenario t.tick (posted_by_run (records_of (state_in t f.before rs f.agenda.items f.agenda.next))) c.begin.new.self c.in_ok-items.items.items is
+    (over_begun t f.before rs _ f.agenda.items f.agenda.next c.post_all.new.calendar c.begin.new.self c.in_ok-items.items.items unmarked inv.is_posted rest
     c.in_ok-post_all.ensures.ok c.in_ok-items.ensures.ok) c.group.ensures in
     let long : c.len-self-inside.result ≡ length rs = omega (arith, c.len-self-inside.ensures) in
     let lt : t.tick < t.scenario.ticks = (let k = inv.accounted.in_run in let ne = c.if-self.false in omega (arith, k, ne)) in
     let over = subst IsOver (sym c.self.view_is) c.requires in (
       c.self.invariant.0,
-      booked_next _ f.book.total f.batches.taken t.scenario t.tick f.before c.len-self-inside.result f.records.room rs
-          f.items.items f.next t.marked f.batches.running t.calendar c.begin.new.self is inv over lt begun long,
+      rw (c.new.ensures)
+          (booked_next _ f.book.total f.batches.taken t.scenario t.tick f.before c.len-self-inside.result f.records.room rs
+          f.agenda.items f.agenda.next t.marked f.batches.running t.calendar c.begin.new.self is inv over lt begun long),
     )
 
 pub returns : goal.returns
@@ -76,20 +77,20 @@ returns g c =
     let is = c.group.new.items.items in
     let unmarked : t.marked ≡ false = ap (λ (f : Shared). f.run.marked) c.self.view_is ∙ c.requires.unmarked in
     let begun =
-    begun_grouped t.scenario t.tick (posted_by_run (records_of (state_in t f.before rs f.items.items f.next))) c.begin.new.self c.in_ok-items.items.items is
-    (over_begun t f.before rs _ f.items.items f.next c.post_all.new.calendar c.begin.new.self c.in_ok-items.items.items unmarked inv.is_posted rest
+    begun_grouped t.scenario t.tick (posted_by_run (records_of (state_in t f.before rs f.agenda.items f.agenda.next))) c.begin.new.self c.in_ok-items.items.items is
+    (over_begun t f.before rs _ f.agenda.items f.agenda.next c.post_all.new.calendar c.begin.new.self c.in_ok-items.items.items unmarked inv.is_posted rest
     c.in_ok-post_all.ensures.ok c.in_ok-items.ensures.ok) c.group.ensures in
     let long : c.len-self-inside.result ≡ length rs = omega (arith, c.len-self-inside.ensures) in
     let lt : t.tick < t.scenario.ticks = (let k = inv.accounted.in_run in let ne = c.if-self.false in omega (arith, k, ne)) in
     let over = subst IsOver (sym c.self.view_is) c.requires in (
-      record {
+      rw (c.new.ensures) (record {
         begun =
             ap (λ (run : State). shared_with run f.batches.running f.batches.taken)
-            (next_is IsPermutation t.scenario t.tick f.before c.len-self-inside.result rs f.items.items f.next t.marked c.begin.new.self is begun long unmarked)
+            (next_is IsPermutation t.scenario t.tick f.before c.len-self-inside.result rs f.agenda.items f.agenda.next t.marked c.begin.new.self is begun long unmarked)
             ∙ ap (λ (running : List Batch). shared_with
-            (record (after_tick (state_in t f.before rs f.items.items f.next)) { items = is }) running f.batches.taken) over.none
+            (record (after_tick (state_in t f.before rs f.agenda.items f.agenda.next)) { items = is }) running f.batches.taken) over.none
             ∙ ap (after_shared is) c.self.view_is;
         items = subst (λ (f : Shared). IsPermutation (after_tick f.run).items is) c.self.view_is begun.are_due;
-      },
+      }),
       subst (λ (f : Shared). f.run.tick < f.run.scenario.ticks) c.self.view_is lt,
     )

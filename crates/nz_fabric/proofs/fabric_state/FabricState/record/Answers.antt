@@ -27,7 +27,7 @@ invariant_of-self g c =
       c.self.invariant.0,
       rw (out.closed)
           (booked_given_up _ f.book.total c.sub.new.self.total f.batches.taken t.scenario t.tick f.before f.records.room f.records.records
-          f.items.items f.next t.marked t.calendar running _ i b
+          f.agenda.items f.agenda.next t.marked t.calendar running _ i b
           c.self.invariant.1 out.place (get_or_default running i no_batch b out.place) refl
           (omega (arith, c.sub.ensures.total, c.audit.ensures.total))),
     )
@@ -44,7 +44,7 @@ push_all-requires-clause-few g c =
     let agreed : b ≡ c.args.batch =
     c.agree.ensures i no_batch out.place (sym (out.number no_batch) ∙ c.if-found-number.false ∙ ap (λ (b : Batch). b.number) c.into_batch-number.ensures.batch) in
     let places =
-    booked_places _ f.book.total f.batches.taken t.scenario t.tick f.before f.records.room f.records.records f.items.items f.next t.marked
+    booked_places _ f.book.total f.batches.taken t.scenario t.tick f.before f.records.room f.records.records f.agenda.items f.agenda.next t.marked
     t.calendar running i b c.self.invariant.1 out.place (get_or_default running i no_batch b out.place) in
     omega (arith, places.1, ap (λ (b : Batch). length b.events) agreed, ap (λ (b : Batch). length b.events) c.into_batch-number.ensures.batch)
 
@@ -60,7 +60,7 @@ push_all-requires-clause-room g c =
     let agreed : b ≡ c.args.batch =
     c.agree.ensures i no_batch out.place (sym (out.number no_batch) ∙ c.if-found-number.false ∙ ap (λ (b : Batch). b.number) c.into_batch-number.ensures.batch) in
     let places =
-    booked_places _ f.book.total f.batches.taken t.scenario t.tick f.before f.records.room f.records.records f.items.items f.next t.marked
+    booked_places _ f.book.total f.batches.taken t.scenario t.tick f.before f.records.room f.records.records f.agenda.items f.agenda.next t.marked
     t.calendar running i b c.self.invariant.1 out.place (get_or_default running i no_batch b out.place) in
     omega (arith, places.0, ap (λ (b : Batch). length b.events) agreed, ap (λ (b : Batch). length b.events) c.into_batch-number.ensures.batch)
 
@@ -86,7 +86,7 @@ invariant_of-self-then-not-push_all g c =
       c.self.invariant.0,
       rw (c.push_all.ensures.room, out.closed)
           (booked_stopped G n _ f.book.total c.sub.new.self.total f.batches.taken t.scenario t.tick f.before f.records.room f.records.records
-          c.push_all.new.self.records f.items.items f.next t.marked t.calendar running _ i b c.args.sends.items
+          c.push_all.new.self.records f.agenda.items f.agenda.next t.marked t.calendar running _ i b c.args.sends.items
           c.self.invariant.1 out.place (get_or_default running i no_batch b out.place) refl
           (omega (arith, c.sub.ensures.total, c.audit.ensures.total)) sent
           (subst (λ (steps : List Record). AddsSome steps f.records.records c.push_all.new.self.records) steps c.if-not-push_all.ensures.pushed.0)),
@@ -114,7 +114,7 @@ invariant_of-self-else-not-push_all g c =
       c.self.invariant.0,
       rw (c.push_all.ensures.room, out.closed)
           (booked_recorded G n _ f.book.total c.sub.new.self.total f.batches.taken t.scenario t.tick f.before f.records.room f.records.records
-          c.push_all.new.self.records f.items.items f.next t.marked t.calendar running _ i b c.args.sends.items
+          c.push_all.new.self.records f.agenda.items f.agenda.next t.marked t.calendar running _ i b c.args.sends.items
           c.self.invariant.1 out.place (get_or_default running i no_batch b out.place) refl
           (omega (arith, c.sub.ensures.total, c.audit.ensures.total)) sent
           (c.if-not-push_all.ensures.pushed.0 ∙ ap (λ (steps : List Record). f.records.records ++ steps) steps)),
