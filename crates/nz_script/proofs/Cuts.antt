@@ -1,33 +1,33 @@
 -- Lines and words, by the first newline or space.
 use Rattle.std.proofs.Common.{◌≡◌, ◌≢◌, ℕ, Bool, true, false, cond, List, [], ◌∷◌, ◌++◌, Option, Some, None, refl, sym, ap, subst, ◌∙◌, arith}
-use Rattle.std.proofs.Common.{length, take, drop, get_or, zero, suc, ◌<◌, ◌≤◌, take_all, length-drop, length-append, add-one, ◌+◌, ◌-◌}
+use Rattle.std.proofs.Common.{length, take, drop, zero, suc, ◌<◌, take_all, length-drop, length-append, add-one, ◌+◌, ◌-◌}
 use Rattle.std.specs.Prelude.{◌==◌, ◌||◌}
 use Rattle.std.specs.List.{list_any}
 use Rattle.std.proofs.lemmas.Option.{none-some, same_Some}
 use Rattle.std.proofs.lemmas.Bool.{eqb-false}
 use Rattle.std.proofs.lemmas.List.{append-nil}
+use Rattle.memchr.specs.Find.{is_byte, Passes, Nowhere}
 use Rattle.nz_script.specs.Bytes.{space, newline, Lacks, cut, with_byte_before, onto_first, lines_in, tail_in, is_word_end, words_in}
 
 pub cut-takes : (b : ℕ) (l : List ℕ) (p : List ℕ × List ℕ) → cut b l ≡ Some p → l ≡ p.0 ++ b ∷ p.1
 cut-takes b [] p e = absurd cc
 cut-takes b (x ∷ xs) p e = let ih = cut-takes b xs in grind (arith, ih)
 
-pub cut-none : (b : ℕ) (x : List ℕ) → Lacks b x → cut b x ≡ None
-cut-none b [] h = refl
-cut-none b (c ∷ cs) h = let ih = cut-none b cs h.1 in grind (arith, ih)
-
-pub cut-whole : (b : ℕ) (x l : List ℕ) → Lacks b x → x ≡ l → cut b l ≡ None
-cut-whole b x l h e = ap (cut b) (sym e) ∙ cut-none b x h
-
--- what is before and after a place that has the byte, where no place before has it
-pub cut-at_place : (b : ℕ) (l : List ℕ) (k : ℕ) → k < length l → Lacks b (take k l) → get_or l k 0 ≡ b → cut b l ≡ Some (take k l, drop (suc k) l)
+-- what is before and after the first place that has the byte
+pub cut-at_place : (b : ℕ) (l : List ℕ) (k : ℕ) → k < length l → Nowhere (Passes (is_byte b) l) 0 k → Passes (is_byte b) l k
+    → cut b l ≡ Some (take k l, drop (suc k) l)
 cut-at_place b [] k within passed here = absurd (omega (arith, within))
 cut-at_place b (x ∷ xs) zero within passed here = grind (arith, here)
 cut-at_place b (x ∷ xs) (suc k) within passed here =
-    let ih = cut-at_place b xs k (omega (arith, within)) passed.1 here in grind (arith, ih)
+    let ih = cut-at_place b xs k (omega (arith, within)) (λ i low below. passed (suc i) (omega arith) (omega (arith, below))) here in
+    let other = passed 0 (omega arith) (omega arith) in grind (arith, ih, other)
 
-pub cut-no_place : (b : ℕ) (l : List ℕ) (k : ℕ) → length l ≤ k → Lacks b (take k l) → cut b l ≡ None
-cut-no_place b l k all passed = cut-whole b (take k l) l passed (take_all k l all)
+-- without the byte there is no cut
+pub cut-nowhere : (b : ℕ) (l : List ℕ) → Nowhere (Passes (is_byte b) l) 0 (length l) → cut b l ≡ None
+cut-nowhere b [] passed = refl
+cut-nowhere b (x ∷ xs) passed =
+    let ih = cut-nowhere b xs (λ i low below. passed (suc i) (omega arith) (omega (arith, below))) in
+    let other = passed 0 (omega arith) (omega arith) in grind (arith, ih, other)
 
 pub rest_is : (l : List ℕ) (k : ℕ) → take (length l - (k + 1)) (drop (k + 1) l) ≡ drop (suc k) l
 rest_is l k = take_all (length l - (k + 1)) (drop (k + 1) l) (omega (arith, length-drop (k + 1) l)) ∙ ap (λ (n : ℕ). drop n l) (add-one k)

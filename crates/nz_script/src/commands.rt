@@ -61,7 +61,7 @@ fn command_of_ask<'a, 'b>(
     if !are_within(forms, meant.as_slice()) {
         return Ok(None);
     }
-    let command = command_of(alloc, ask, meant.as_slice())?;
+    let command = command_of(alloc, ask, meant)?;
     Ok(Some((command, rest)))
 }
 

@@ -10,7 +10,7 @@ ghost use Rattle.nz_script.specs.Drafts.{with_request, with_script, with_words, 
 use super::group::Group;
 use super::line_forms::{Ask, Head, Mishap, Place, Verb};
 use super::word::{
-    Word, actor_at, actors_at, byte_at, choice_at, kind_at, number_at, text_at, units_at,
+    Word, WordList, actor_at, actors_at, byte_at, choice_of, kind_at, number_at, text_of, units_at,
 };
 use bytes::Bytes;
 use nz_base::{
@@ -50,21 +50,22 @@ pub fn new_request(alloc: Global, wait: u32, command: &Command) -> Result<Reques
     Ok(Request { wait, command })
 }
 
-/// The command that the words mean.
-pub fn command_of(alloc: Global, ask: Ask, words: &[Word]) -> Result<Command, NoMemory>
-    ensures { IfOk result (λ command. command ≡ command_asked ask words.now) }
+/// The command that the words mean. Its key and values are not copied.
+pub fn command_of(alloc: Global, ask: Ask, words: WordList) -> Result<Command, NoMemory>
+    ensures { IfOk result (λ command. command ≡ command_asked ask words) }
 {
-    let key = text_at(alloc, words, 0)?;
+    let mut words = words.into_vec().into_iter();
+    let key = text_of(alloc, words.next())?;
     match ask {
         Ask::Put => {
-            let value = text_at(alloc, words, 1)?;
+            let value = text_of(alloc, words.next())?;
             Ok(Command::Put { key, value })
         }
         Ask::Get => Ok(Command::Get { key }),
         Ask::Del => Ok(Command::Del { key }),
         Ask::Cas => {
-            let old = choice_at(alloc, words, 1)?;
-            let new = choice_at(alloc, words, 2)?;
+            let old = choice_of(words.next());
+            let new = choice_of(words.next());
             Ok(Command::Cas { key, old, new })
         }
     }
@@ -230,22 +231,22 @@ impl Draft {
     }
 
     /// Takes a line in that has passed its tests.
-    pub fn take(&mut self, alloc: Global, verb: Verb, words: &[Word]) -> Result<(), NoMemory>
-        requires within { IsTrue (all_within (forms_of verb) words.now) }
+    pub fn take(&mut self, alloc: Global, verb: Verb, words: WordList) -> Result<(), NoMemory>
+        requires within { IsTrue (all_within (forms_of verb) words) }
         requires room { IsTrue (has_room_for_line self.old verb) }
-        ensures { OnOk result (self.new ≡ with_words self.old verb words.now) }
+        ensures { OnOk result (self.new ≡ with_words self.old verb words) }
     {
         match verb {
-            Verb::Head(head) => self.take_head(head, words),
-            Verb::Skew => self.skews.push(skew_of(words))?,
+            Verb::Head(head) => self.take_head(head, words.as_slice()),
+            Verb::Skew => self.skews.push(skew_of(words.as_slice()))?,
             Verb::Client => self.place = Place::Block,
             Verb::Ask(ask) => {
                 let command = command_of(alloc, ask, words)?;
                 self.take_request(alloc, &command)?;
             }
-            Verb::Wait => self.wait = number_at(words, 0),
+            Verb::Wait => self.wait = number_at(words.as_slice(), 0),
             Verb::End => self.take_script(alloc)?,
-            Verb::Mishap(mishap) => self.faults.push(fault_of(mishap, words))?,
+            Verb::Mishap(mishap) => self.faults.push(fault_of(mishap, words.as_slice()))?,
             Verb::Done => self.place = Place::Ended,
         }
         Ok(())

@@ -19,10 +19,16 @@ pub struct Line {
     pub words: WordList,
 }
 
+#[tactic(auto, using(std::proofs::lemmas::List::Folds::list_all_more))]
 fn are_printed(line: &[u8]) -> bool
     ensures { result ≡ list_all is_printed line.now }
 {
-    line.iter().all(|b| 0x20 <= *b && *b <= 0x7e)
+    // Without an early end the bytes are looked at many at a time.
+    let mut all = true;
+    for byte in line {
+        all &= 0x20 <= *byte && *byte <= 0x7e;
+    }
+    all
 }
 
 /// What the words of the line mean, where each has its form and none is missing or too many.

@@ -290,14 +290,12 @@ impl Verb {
 fn verb_in(verbs: &[Verb], word: &[u8]) -> Option<Verb>
     ensures { result ≡ shapes.verb_in verbs.now word.now }
 {
-    let [verb, others @ ..] = verbs else {
-        return None;
-    };
-    if verb.shape().word == word {
-        Some(*verb)
-    } else {
-        verb_in(others, word)
+    for verb in verbs {
+        if verb.shape().word == word {
+            return Some(*verb);
+        }
     }
+    None
 }
 
 #[tactic(auto, unfolding(crate::specs::Shapes::verb_of))]

@@ -7,19 +7,14 @@ ghost use Rattle.std.specs.Option.{option_map};
 ghost use Rattle.nz_script.specs.Bytes as bytes_words;
 ghost use Rattle.nz_script.specs.Bytes.{cut, words_in};
 
+use memchr::memchr;
+
 /// What is before and after the first byte that is `at`.
 pub fn cut_at(bytes: &[u8], at: u8) -> Option<(&[u8], &[u8])>
     ensures { option_map (λ x. (x.0.now, x.1.now)) result ≡ cut at bytes.now }
 {
-    let mut place = 0;
-    while place < bytes.len() && bytes[place] != at {
-        place += 1;
-    }
-    if place < bytes.len() {
-        Some((&bytes[..place], &bytes[place + 1..]))
-    } else {
-        None
-    }
+    let place = memchr(at, bytes)?;
+    Some((&bytes[..place], &bytes[place + 1..]))
 }
 
 /// The next word, and what follows it.

@@ -39,7 +39,7 @@ fn step(alloc: Global, draft: &mut Draft, bytes: &[u8]) -> Result<Option<Kind>, 
     match fault_of(draft, &line) {
         Some(kind) => Ok(Some(kind)),
         None => {
-            draft.take(alloc, line.verb, line.words.as_slice())?;
+            draft.take(alloc, line.verb, line.words)?;
             Ok(None)
         }
     }

@@ -3,7 +3,7 @@
 ghost use Rattle.std.specs.Prelude.{◌≡◌, IfOk, slice_get};
 ghost use Rattle.std.specs.Option.{option_copied};
 ghost use Rattle.nz_script.specs.Forms as forms;
-ghost use Rattle.nz_script.specs.Forms.{actor_of_letter, actor_named, number_in, byte_in, units_in, actor_in, actors_in, kind_in, text_in, choice_in};
+ghost use Rattle.nz_script.specs.Forms.{actor_of_letter, actor_named, number_in, byte_in, units_in, actor_in, actors_in, kind_in, text_as, choice_as};
 ghost use Rattle.nz_script.specs.declared.word.Word.TheVariants.{Text};
 
 use super::line_forms::Form;
@@ -209,20 +209,22 @@ pub fn kind_at(words: &[Word], place: usize) -> u8
     }
 }
 
-pub fn text_at(alloc: Global, words: &[Word], place: usize) -> Result<Blob, NoMemory>
-    ensures { IfOk result (λ text. text ≡ text_in place words.now) }
+/// The bytes of a word that is a key or a value. Other words have none.
+pub fn text_of(alloc: Global, word: Option<Word>) -> Result<Blob, NoMemory>
+    ensures { IfOk result (λ text. text ≡ text_as word) }
 {
-    match at(words, place) {
-        Some(Word::Text(text)) => Ok(text.copy(alloc).map_err(|_| NoMemory)?),
+    match word {
+        Some(Word::Text(text)) => Ok(text),
         _ => Ok(Blob::from_slice(alloc, b"").map_err(|_| NoMemory)?),
     }
 }
 
-pub fn choice_at(alloc: Global, words: &[Word], place: usize) -> Result<Option<Blob>, NoMemory>
-    ensures { IfOk result (λ choice. choice ≡ choice_in place words.now) }
+/// The value that a word is, if it is one.
+pub fn choice_of(word: Option<Word>) -> Option<Blob>
+    ensures { result ≡ choice_as word }
 {
-    match at(words, place) {
-        Some(Word::Text(text)) => Ok(Some(text.copy(alloc).map_err(|_| NoMemory)?)),
-        _ => Ok(None),
+    match word {
+        Some(Word::Text(text)) => Some(text),
+        _ => None,
     }
 }

@@ -9,6 +9,6 @@ use Rattle.nz_script.proofs.draft.Draft.take.Goals as goal
 
 pub take_request-requires-clause-valid : goal.take_request-requires-clause-valid
 take_request-requires-clause-valid c =
-    let within : all_within (ask_shape_of c.in-Ask.ask).forms c.args.words.now ≡ true =
-    subst (λ (v : Verb). all_within (forms_of v) c.args.words.now ≡ true) c.in-Ask.is c.requires.within in
-    subst IsValidCommand (sym c.in_ok-command-in-Ask.ensures) (command_is_valid c.in-Ask.ask c.args.words.now within)
+    let within : all_within (ask_shape_of c.in-Ask.ask).forms c.args.words ≡ true =
+    subst (λ (v : Verb). all_within (forms_of v) c.args.words ≡ true) c.in-Ask.is c.requires.within in
+    subst IsValidCommand (sym c.in_ok-command-in-Ask.ensures) (command_is_valid c.in-Ask.ask c.args.words within)
