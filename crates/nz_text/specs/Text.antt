@@ -22,6 +22,8 @@ use Rattle.nz_text.specs.declared.summaries.Sort.TheVariants as sort
 use Rattle.nz_text.specs.declared.printed.Event.{Event}
 use Rattle.nz_text.specs.declared.printed.Event.TheVariants.{Send, Accept}
 use Rattle.nz_text.specs.declared.printed.Printed.{Printed}
+use Rattle.nz_text.specs.declared.printed.Lent.{Lent}
+use Rattle.nz_text.specs.declared.printed.Lent.TheVariants as lent
 
 -- ---- lines
 
@@ -106,6 +108,11 @@ printed_of_run g J = record { events = events_in g J; unanswered = unanswered_in
 -- The text of a run.
 abbrev pub text : Group → List Record → List ℕ
 text g J = text_of_printed (printed_of_run g J)
+
+-- The event that is lent.
+abbrev pub event_lent : Lent → Event
+event_lent (lent.Send id command) = Send id command.now
+event_lent (lent.Accept id answer path) = Accept id answer.now path
 
 -- ---- the summary
 

@@ -4,7 +4,7 @@ ghost use Rattle.std.specs.List.{flat_map};
 ghost use Rattle.nz_store.specs.Reading.{command_of};
 ghost use Rattle.nz_text.specs.Text.{id_text, found_text, answer_text, path_text, event_line, open_line, at_line, at_lines};
 
-use super::printed::Event;
+use super::printed::{EventRef, Lent};
 use nz_base::{Id, NoMemory};
 use nz_machine::Executed;
 use nz_msg::Path;
@@ -56,27 +56,27 @@ fn put_path(out: &mut Vec<u8>, path: Path) -> Result<(), NoMemory>
     }
 }
 
-fn put_event(out: &mut Vec<u8>, event: &Event) -> Result<(), NoMemory>
+fn put_event(out: &mut Vec<u8>, event: &EventRef<'_>) -> Result<(), NoMemory>
     ensures { OnOk result (out.new.items ≡ out.old.items ++ event_line event.now) }
 {
-    match event {
-        Event::Send { id, command } => {
+    match event.lent {
+        Lent::Send { id, command } => {
             put(out, b"send")?;
-            put_id(out, *id)?;
-            put_found(out, command.as_slice())?;
+            put_id(out, id)?;
+            put_found(out, command)?;
         }
-        Event::Accept { id, answer, path } => {
+        Lent::Accept { id, answer, path } => {
             put(out, b"accept")?;
-            put_id(out, *id)?;
+            put_id(out, id)?;
             put_answer(out, answer)?;
-            put_path(out, *path)?;
+            put_path(out, path)?;
         }
     }
     put(out, b"\n")
 }
 
 /// Writes a line for each event.
-pub fn put_events(out: &mut Vec<u8>, events: &[Event]) -> Result<(), NoMemory>
+pub fn put_events(out: &mut Vec<u8>, events: &[EventRef<'_>]) -> Result<(), NoMemory>
     ensures { OnOk result (out.new.items ≡ out.old.items ++ flat_map event_line events.now) }
 {
     for event in events {

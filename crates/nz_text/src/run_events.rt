@@ -14,9 +14,9 @@ ghost use Rattle.nz_machine.specs.World.{World};
 ghost use Rattle.nz_text.specs.declared.printed.Event.{Event as EventModel};
 ghost use Rattle.nz_text.specs.Text.{event_of, accepts_it, open_in, unanswered_in, events_in};
 
-use super::printed::{Event, EventList};
-use nz_base::{Blob, Id, IdList, NoMemory, Request, Scenario, TryCopy};
-use nz_machine::{Acceptance, Journal, Telling, ToldList};
+use super::printed::{EventRef, Lent};
+use nz_base::{Id, IdList, List, NoMemory, Request, Scenario};
+use nz_machine::{Acceptance, Journal, Telling, ToldAt};
 use std::alloc::Global;
 use std::collections::HashSet;
 
@@ -29,114 +29,125 @@ fn script_at(scenario: &Scenario, client: u32) -> &[Request]
     }
 }
 
-/// The command of the client's request with this number, no bytes where there is none. Bytes that the script shares are
-/// not copied.
-fn command_at(alloc: Global, script: &[Request], num: u32) -> Result<Blob, NoMemory>
-    ensures { IfOk result (λ command. command ≡ script_command script.now num) }
+/// The command of the client's request with this number, no bytes where there is none.
+fn command_at(script: &[Request], num: u32) -> &[u8]
+    ensures { result.now ≡ script_command script.now num }
 {
     match script.get(num.saturating_sub(1) as usize) {
-        None => Ok(Blob::from_vec(Vec::new(alloc))),
-        Some(request) => request.command.copy(alloc),
+        None => &[],
+        Some(request) => request.command.as_slice(),
     }
 }
 
-fn add_acceptance(accepted: Option<Acceptance>, events: &mut EventList) -> Result<(), NoMemory>
-    ensures { OnOk result (events.new ≡ events.old ++ map event_of (acceptance_events accepted)) }
+fn add_acceptance<'a>(
+    accepted: &'a Option<Acceptance>,
+    events: &mut List<EventRef<'a>>,
+) -> Result<(), NoMemory>
+    ensures { OnOk result (events.new ≡ events.old ++ map event_of (acceptance_events accepted.now)) }
 {
     match accepted {
         None => Ok(()),
-        Some(acceptance) => events.push(Event::Accept {
-            id: acceptance.id,
-            answer: acceptance.answer,
-            path: acceptance.path,
+        Some(acceptance) => events.push(EventRef {
+            lent: Lent::Accept {
+                id: acceptance.id,
+                answer: &acceptance.answer,
+                path: acceptance.path,
+            },
         }),
     }
 }
 
-fn add_request(
-    alloc: Global,
-    scenario: &Scenario,
+fn add_request<'a>(
+    scenario: &'a Scenario,
     id: Id,
-    events: &mut EventList,
+    events: &mut List<EventRef<'a>>,
 ) -> Result<(), NoMemory>
     ensures { OnOk result (events.new ≡ events.old ++ event_of (request_event (group_of scenario.now) id) ∷ []) }
 {
-    let command = command_at(alloc, script_at(scenario, id.client), id.num)?;
-    events.push(Event::Send { id, command })
+    let command = command_at(script_at(scenario, id.client), id.num);
+    events.push(EventRef {
+        lent: Lent::Send { id, command },
+    })
 }
 
-fn add_requests(
-    alloc: Global,
-    scenario: &Scenario,
+fn add_requests<'a>(
+    scenario: &'a Scenario,
     sent: &[Id],
-    events: &mut EventList,
+    events: &mut List<EventRef<'a>>,
 ) -> Result<(), NoMemory>
     ensures { OnOk result (events.new ≡ events.old ++ map event_of (request_events (group_of scenario.now) sent.now)) }
 {
     for id in sent {
-        add_request(alloc, scenario, *id, events)?;
+        add_request(scenario, *id, events)?;
     }
     Ok(())
 }
 
 /// Adds the events of a telling.
-fn add(
-    alloc: Global,
-    scenario: &Scenario,
-    telling: Telling,
-    events: &mut EventList,
+fn add<'a>(
+    scenario: &'a Scenario,
+    telling: &'a Telling,
+    events: &mut List<EventRef<'a>>,
 ) -> Result<(), NoMemory>
-    ensures { OnOk result (events.new ≡ events.old ++ map event_of (events_of_telling (group_of scenario.now) telling)) }
+    ensures { OnOk result (events.new ≡ events.old ++ map event_of (events_of_telling (group_of scenario.now) telling.now)) }
 {
-    add_acceptance(telling.accepted, events)?;
-    add_requests(alloc, scenario, telling.sent.as_slice(), events)
+    add_acceptance(&telling.accepted, events)?;
+    add_requests(scenario, telling.sent.as_slice(), events)
 }
 
 /// The events of the journal's run, by what its clients told.
-pub fn events_of(alloc: Global, journal: &Journal, told: ToldList) -> Result<EventList, NoMemory>
+pub fn events_of<'a>(
+    alloc: Global,
+    journal: &'a Journal,
+    told: &'a [ToldAt],
+) -> Result<List<EventRef<'a>>, NoMemory>
     requires world { World (group_in journal.now) (run_in journal.now) }
-    requires told { told ≡ told_by_run (group_in journal.now) (run_in journal.now) }
+    requires told { told.now ≡ told_by_run (group_in journal.now) (run_in journal.now) }
     ensures { IfOk result (λ events. events ≡ events_in (group_in journal.now) (run_in journal.now)) }
 {
-    let mut events = EventList::new(alloc);
-    for next in told.into_vec() {
-        add(alloc, &journal.scenario, next.telling, &mut events)?;
+    let mut events = List::new(alloc);
+    for next in told {
+        add(&journal.scenario, &next.telling, &mut events)?;
     }
     Ok(events)
 }
 
 /// The requests that events accept an answer to.
-fn accepted_in(alloc: Global, events: &[Event]) -> Result<HashSet<Id>, NoMemory>
+fn accepted_in(alloc: Global, events: &[EventRef<'_>]) -> Result<HashSet<Id>, NoMemory>
     ensures { IfOk result (λ accepted. (id : IdModel) → contains id_eq accepted id ≡ list_any (accepts_it id) events.now) }
 {
     let mut accepted = HashSet::new(alloc);
     for event in events {
-        if let Event::Accept { id, .. } = event {
-            accepted.insert(*id)?;
+        if let Lent::Accept { id, .. } = event.lent {
+            accepted.insert(id)?;
         }
     }
     Ok(accepted)
 }
 
 /// Adds the request that the event sent, where it is open.
-fn add_if_open(accepted: &HashSet<Id>, event: &Event, ids: &mut IdList) -> Result<(), NoMemory>
+fn add_if_open(
+    accepted: &HashSet<Id>,
+    event: &EventRef<'_>,
+    ids: &mut IdList,
+) -> Result<(), NoMemory>
     ensures { (E : List EventModel) → ((id : IdModel) → contains id_eq accepted.now id ≡ list_any (accepts_it id) E)
         → OnOk result (ids.new ≡ ids.old ++ open_in E event.now) }
 {
-    match event {
-        Event::Send { id, .. } => {
-            if accepted.contains(id) {
+    match event.lent {
+        Lent::Send { id, .. } => {
+            if accepted.contains(&id) {
                 Ok(())
             } else {
-                ids.push(*id)
+                ids.push(id)
             }
         }
-        Event::Accept { .. } => Ok(()),
+        Lent::Accept { .. } => Ok(()),
     }
 }
 
 /// The requests without an acceptance, in the order in which they were sent.
-pub fn unanswered_of(alloc: Global, events: &[Event]) -> Result<IdList, NoMemory>
+pub fn unanswered_of(alloc: Global, events: &[EventRef<'_>]) -> Result<IdList, NoMemory>
     ensures { IfOk result (λ ids. ids ≡ unanswered_in events.now) }
 {
     let accepted = accepted_in(alloc, events)?;

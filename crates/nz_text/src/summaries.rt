@@ -7,7 +7,7 @@ ghost use Rattle.nz_machine.specs.World.{World};
 ghost use Rattle.nz_text.specs.Text as text;
 ghost use Rattle.nz_text.specs.Text.{is_event_of, count_line, summary_of};
 
-use super::printed::Event;
+use super::printed::{EventRef, Lent};
 use super::run_events::{events_of, unanswered_of};
 use nz_base::{Blob, IdList, NoMemory};
 use nz_machine::{History, Journal, ToldList};
@@ -25,22 +25,22 @@ pub enum Sort {
 }
 
 impl Sort {
-    fn has(self, event: &Event) -> bool
+    fn has(self, event: &EventRef<'_>) -> bool
         ensures { result ≡ is_event_of self event.now }
     {
-        match (self, event) {
-            (Sort::Sent, Event::Send { .. }) => true,
-            (Sort::Accepted, Event::Accept { .. }) => true,
+        match (self, event.lent) {
+            (Sort::Sent, Lent::Send { .. }) => true,
+            (Sort::Accepted, Lent::Accept { .. }) => true,
             (
                 Sort::Fast,
-                Event::Accept {
+                Lent::Accept {
                     path: Path::Fast,
                     ..
                 },
             ) => true,
             (
                 Sort::Slow,
-                Event::Accept {
+                Lent::Accept {
                     path: Path::Slow,
                     ..
                 },
@@ -49,7 +49,7 @@ impl Sort {
         }
     }
 
-    fn count(self, events: &[Event]) -> usize
+    fn count(self, events: &[EventRef<'_>]) -> usize
         ensures { result ≡ count_by (is_event_of self) events.now }
     {
         events.iter().filter(|event| self.has(event)).count()
@@ -68,7 +68,7 @@ fn put_count(out: &mut Vec<u8>, name: &[u8], count: usize) -> Result<(), NoMemor
 /// The summary of these.
 pub fn count(
     alloc: Global,
-    events: &[Event],
+    events: &[EventRef<'_>],
     unanswered: &IdList,
     history: &History,
 ) -> Result<Blob, NoMemory>
@@ -97,7 +97,7 @@ pub fn summary(
     requires history { history.now ≡ history_in journal.now }
     ensures { IfOk result (λ bytes. bytes ≡ text.summary (group_in journal.now) (run_in journal.now)) }
 {
-    let events = events_of(alloc, journal, told)?;
+    let events = events_of(alloc, journal, told.as_slice())?;
     let unanswered = unanswered_of(alloc, events.as_slice())?;
     count(alloc, events.as_slice(), &unanswered, history)
 }

@@ -1,11 +1,14 @@
 //! Texts and traces, and first bad lines.
 
+use super::printed::{EventRef, Lent};
 use super::run_events::unanswered_of;
 use super::summaries::count;
 use super::texts::spell;
 use super::*;
 use bytes::Bytes;
-use nz_base::{Actor, Blob, Cluster, FaultList, Id, NoMemory, Scenario, ScriptList, SkewList};
+use nz_base::{
+    Actor, Blob, Cluster, FaultList, Id, List, NoMemory, Scenario, ScriptList, SkewList,
+};
 use nz_frame::Frame;
 use nz_machine::{
     Event as Step, Executed, History, Journal, Parcel, Record, RecordList, Sends, SharedParcel,
@@ -63,6 +66,29 @@ fn events(alloc: Global) -> Result<EventList, Fail> {
     Ok(events)
 }
 
+fn lent(event: &Event) -> EventRef<'_> {
+    let lent = match event {
+        Event::Send { id, command } => Lent::Send {
+            id: *id,
+            command: command.as_slice(),
+        },
+        Event::Accept { id, answer, path } => Lent::Accept {
+            id: *id,
+            answer,
+            path: *path,
+        },
+    };
+    EventRef { lent }
+}
+
+fn each_lent(alloc: Global, events: &[Event]) -> Result<List<EventRef<'_>>, NoMemory> {
+    let mut each = List::new(alloc);
+    for event in events {
+        each.push(lent(event))?;
+    }
+    Ok(each)
+}
+
 fn history(alloc: Global) -> Result<History, Fail> {
     let mut history = History::new(alloc);
     history.push(executed(alloc, 1, PUT, Answer::Done)?)?;
@@ -93,7 +119,8 @@ end
 #[test]
 fn lines_of_each_sort(rt: HostRuntime) -> Result<(), Fail> {
     let alloc = rt.alloc();
-    let events = events(alloc)?;
+    let owned = events(alloc)?;
+    let events = each_lent(alloc, owned.as_slice())?;
     let unanswered = unanswered_of(alloc, events.as_slice())?;
     let history = history(alloc)?;
     let text = spell(alloc, events.as_slice(), unanswered.as_slice(), &history)?;
@@ -198,9 +225,10 @@ fn what_was_printed_is_read_back(rt: HostRuntime) -> Result<(), Fail> {
     let Ok(printed) = read_text(alloc, TEXT) else {
         return Err("a text that is none".into());
     };
+    let events = each_lent(alloc, printed.events.as_slice())?;
     let text = spell(
         alloc,
-        printed.events.as_slice(),
+        events.as_slice(),
         printed.unanswered.as_slice(),
         &printed.history,
     )?;

@@ -8,23 +8,37 @@ ghost use Rattle.nz_text.specs.Text as text_words;
 ghost use Rattle.nz_text.specs.Text.{text_of_printed};
 
 use super::lines::{put_events, put_history, put_opens};
-use super::printed::Event;
+use super::printed::EventRef;
 use super::run_events::{events_of, unanswered_of};
 use nz_base::{Blob, Id, NoMemory};
-use nz_machine::{History, Journal, ToldList};
+use nz_machine::{Executed, History, Journal, ToldList};
 use nz_script::put;
 use std::alloc::Global;
+
+/// The lines of a request mostly have less than this beside its command, which is in two of them.
+const OTHER_WORDS: usize = 128;
+
+/// About how many bytes the text of a run with this history has. They are asked for at once: a text that grows is
+/// copied each time.
+fn likely_len(history: &[Executed]) -> usize {
+    let mut len: usize = 0;
+    for executed in history {
+        let command = executed.command.as_slice().len();
+        len = len.saturating_add(command.saturating_mul(2).saturating_add(OTHER_WORDS));
+    }
+    len
+}
 
 /// The text of these events, open requests and executed entries.
 pub fn spell(
     alloc: Global,
-    events: &[Event],
+    events: &[EventRef<'_>],
     unanswered: &[Id],
     history: &History,
 ) -> Result<Blob, NoMemory>
     ensures { IfOk result (λ bytes. bytes ≡ text_of_printed (record { events = events.now; unanswered = unanswered.now; history = history.now })) }
 {
-    let mut out = Vec::new(alloc);
+    let mut out = Vec::with_capacity(alloc, likely_len(history.as_slice()))?;
     put_events(&mut out, events)?;
     put_opens(&mut out, unanswered)?;
     let _entries = history.len();
@@ -46,7 +60,7 @@ pub fn text(
     requires history { history.now ≡ history_in journal.now }
     ensures { IfOk result (λ bytes. bytes ≡ text_words.text (group_in journal.now) (run_in journal.now)) }
 {
-    let events = events_of(alloc, journal, told)?;
+    let events = events_of(alloc, journal, told.as_slice())?;
     let unanswered = unanswered_of(alloc, events.as_slice())?;
     spell(alloc, events.as_slice(), unanswered.as_slice(), history)
 }
