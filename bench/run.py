@@ -8,9 +8,10 @@ prints a line for each scenario: how many requests and ticks it has, how long th
 (1 if left out), how much memory it took at most, and how many lines of output it made in a second. It judges nothing:
 compare two runs on one quiet machine.
 
-Several numbers of workers, as 1,2,4,8, give the seconds by each, the medians of seven runs in turn, and their ratios to
-the first. Beside each ratio stands the least that the machine lets any program reach: as many runs by the first number of
-workers, side by side, share nothing, and take so much of the time that they take one after another.
+Several numbers of workers, as 1,2,4,8, give the seconds by each, the medians of seven runs in turn, and two ratios: to a
+run by the first number of workers that is alone, and to one that has others beside it, as many as keep the processors as
+busy. The second is the fairer one where processors are threads of shared cores: there a thread that is alone may be nearly
+twice as fast as each of several, whatever they do.
 
 With the path of a REFERENCE, another program with the same words, it first prints both side by side on the
 generated runs `gen 7 COUNT`, ours by one worker: the best of five times each, their ratio, the memory of both,
@@ -24,6 +25,7 @@ seconds, by one worker; with each the exponent by which its time grows to twice 
 """
 import math
 import os
+import signal
 import statistics
 import sys
 import tempfile
@@ -175,14 +177,27 @@ def measure(program, words, text):
         return seconds, used.ru_maxrss / 1024, made.read().count(b"\n"), os.waitstatus_to_exitcode(status)
 
 
-def apart(program, words, text, count):
-    """The seconds of so many runs side by side, divided by their number."""
-    with open(os.devnull, "wb") as made:
-        files = [opened(text) for _ in range(count)]
-        start = time.monotonic()
-        for child in [begun(program, words, given, made) for given in files]:
+def again_and_again(program, words, text):
+    """A process that begins the run anew whenever it ends, in a group of its own."""
+    child = os.fork()
+    if child == 0:
+        os.setpgid(0, 0)
+        while True:
+            with opened(text) as given, open(os.devnull, "wb") as made:
+                os.waitpid(begun(program, words, given, made), 0)
+    os.setpgid(child, child)
+    return child
+
+
+def beside(program, words, text, count):
+    """The seconds of a run while so many others go on beside it."""
+    others = [again_and_again(program, words, text) for _ in range(count)]
+    try:
+        return measure(program, words, text)[0]
+    finally:
+        for child in others:
+            os.killpg(child, signal.SIGKILL)
             os.waitpid(child, 0)
-        return (time.monotonic() - start) / count
 
 
 def in_turn(runs, rounds=7):
@@ -192,13 +207,14 @@ def in_turn(runs, rounds=7):
 
 
 def shared(program, counts, text):
-    """What the numbers of workers after the first cost: seconds, their ratio to the first's, and the least that can be."""
+    """What the numbers of workers after the first cost: seconds, and their ratios to the first's, alone and beside others."""
     words = [["run", "--workers", count] for count in counts]
+    others = [min(int(count), len(os.sched_getaffinity(0))) - 1 for count in counts[1:]]
     runs = [lambda own=own: measure(program, own, text)[0] for own in words]
-    runs += [lambda count=count: apart(program, words[0], text, int(count)) for count in counts[1:]]
-    one, *others = in_turn(runs)
-    many = len(counts) - 1
-    return "".join(f" {by:9.3f} {by / one:7.2f} {floor / one:7.2f}" for by, floor in zip(others[:many], others[many:]))
+    runs += [lambda count=count: beside(program, words[0], text, count) for count in others]
+    one, *rest = in_turn(runs)
+    many = len(others)
+    return "".join(f" {by:9.3f} {by / one:7.2f} {by / same:7.2f}" for by, same in zip(rest[:many], rest[many:]))
 
 
 def best(program, count):
@@ -279,7 +295,7 @@ def main():
     reference = os.path.abspath(sys.argv[3]) if len(sys.argv) > 3 else None
     if reference:
         side_by_side(program, reference)
-    more = "".join(f" {'by ' + count + ', s':>9} {'ratio':>7} {'least':>7}" for count in counts[1:])
+    more = "".join(f" {'by ' + count + ', s':>9} {'alone':>7} {'beside':>7}" for count in counts[1:])
     more += f" {'ref, s':>9} {'ratio':>7}" if reference else ""
     print(f"{'scenario':28} {'requests':>8} {'ticks':>6} {'seconds':>9} {'MiB':>8} {'lines/s':>9} status{more}")
     for name, requests, ticks, text in cases():
