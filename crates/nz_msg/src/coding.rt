@@ -6,9 +6,9 @@ ghost use Rattle.nz_frame.specs.Address.{IsAddress};
 ghost use Rattle.nz_frame.specs.Grammar.{AreBytes};
 ghost use Rattle.nz_msg.specs.declared.envelope.Envelope.{Envelope as EnvelopeModel};
 ghost use Rattle.nz_msg.specs.declared.refusal.DecodeRefusal.TheVariants as refusals;
-ghost use Rattle.nz_msg.specs.Messages.{Fits, body_of};
+ghost use Rattle.nz_msg.specs.Messages.{Fits, body_at, body_of};
 ghost use Rattle.nz_msg.specs.Envelope.{encode_of, Spells, decode_of, IsRefusedAs};
-ghost use Rattle.nz_msg.specs.Reading.{IsPlaced, refusal_at};
+ghost use Rattle.nz_msg.specs.Reading.{Gives, IsPlaced, refusal_at};
 
 use super::bodies::message_of;
 use super::envelope::Envelope;
@@ -29,6 +29,9 @@ const BLOCK: usize = 4096;
 /// The greatest small body. A larger one gets memory of its own: a block is filled with zeros when it is taken, so the
 /// bytes of a large body would be gone over twice.
 const MOST_SHARED: usize = 1024;
+
+/// A body that is as long is a whole log.
+const LONG: usize = 1 << 14;
 
 // A small body, in the room. Bytes that the room still has are given up.
 fn write_small(room: &mut BytesMut, message: &Message, size: usize) -> Result<Bytes, NoMemory>
@@ -120,6 +123,18 @@ fn placed(fault: Fault, size: usize) -> DecodeRefusal
     }
 }
 
+// The message of a body. Those that read a whole log at the same time would all count the owners of its commands in one
+// place, so each has a copy of the bytes.
+fn message_in(alloc: Global, kind: u8, body: &Bytes) -> Result<Message, Fault>
+    ensures { Gives (λ m. m) result (body_at kind body.now) }
+{
+    if body.len() < LONG {
+        return message_of(alloc, kind, Rest::new(body));
+    }
+    let own = Bytes::copy_from_slice(alloc, body.as_slice())?;
+    message_of(alloc, kind, Rest::new(&own))
+}
+
 // What the frame says.
 fn read(alloc: Global, frame: &Frame) -> Result<Envelope, DecodeRefusal>
     ensures decoded { IfOk result (λ envelope. decode_of frame.now ≡ Ok envelope) }
@@ -132,7 +147,7 @@ fn read(alloc: Global, frame: &Frame) -> Result<Envelope, DecodeRefusal>
     };
     let from = actor_of(view.from);
     let to = actor_of(view.to);
-    match message_of(alloc, view.kind, Rest::new(frame.body())) {
+    match message_in(alloc, view.kind, frame.body()) {
         Ok(message) => Ok(Envelope { from, to, message }),
         Err(fault) => Err(placed(fault, frame.len())),
     }
