@@ -34,7 +34,7 @@ use std::sync::ledger::{Blank, Book};
 /// A tick with fewer items is small, if the ticks before it had not many more: those that are awake do it sooner than others
 /// are woken. A cluster has at most 81 clocks, which are done sooner than a thread is woken.
 const MANY: usize = 128;
-/// A tick that brings as many bytes to somebody is not small: whole logs take long.
+/// A tick that brings as many bytes to somebody is not small, nor one in which somebody sends as many: whole logs take long.
 const LONG: usize = 1 << 14;
 /// A tick in which a step sends as many parcels is not small: mostly other actors have as much to send.
 const MUCH: u32 = 32;
@@ -96,6 +96,15 @@ fn bring(items: &[Item], bytes: usize) -> bool
 /// Whether a tick that begins with these items is done sooner by those that are awake than others are woken.
 fn begins_small(items: &[Item], lately: usize) -> bool {
     lately < MANY && !bring(items, LONG)
+}
+
+/// Whether others most likely have as much to do in a tick in which a step sends this.
+fn are_much(sends: &Sends) -> bool {
+    MUCH <= sends.len()
+        || sends
+            .as_slice()
+            .iter()
+            .any(|sent| LONG <= sent.get().frame.len())
 }
 
 impl<N: Name> FabricState<N> {
@@ -237,7 +246,7 @@ impl<N: Name> FabricState<N> {
             × ((lane.old ≡ steps_of lane.old.actor (records_of self.old.run)) × (lane.new ≡ with_step (next_record sends self.old) lane.old)))
             (λ _. (self.new ≡ self.old) × (lane.new ≡ lane.old)) }
     {
-        let small = self.small && sends.len() < MUCH;
+        let small = self.small && !are_much(&sends);
         let event = self.agenda.peek().event.copy(self.ticks.alloc)?;
         self.records
             .reserve_to(self.before + self.agenda.taken() + 1)?;
