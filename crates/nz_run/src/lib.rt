@@ -3,8 +3,6 @@
 
 mod alone;
 mod cast;
-#[cfg(test)]
-mod gate_tests;
 mod played;
 mod shares;
 mod stage;

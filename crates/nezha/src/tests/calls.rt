@@ -10,6 +10,7 @@ mod histories;
 mod hostile;
 mod limits;
 mod losses;
+mod overlap;
 mod replicas;
 mod rows;
 mod workers;
