@@ -74,13 +74,18 @@ def even(f, proxies, clients, requests, ticks, window=1):
     return scenario(f, proxies, clients, ticks, scripts, window=window)
 
 
+def puts(clients, requests, value="v" * 250):
+    """The scripts of so many clients, which put values that begin so, of 256 bytes if that is left out."""
+    scripts = [[] for _ in range(clients)]
+    for i in range(requests):
+        scripts[i % clients].append(f"put k{i % 97} {value}{i:06}")
+    return scripts
+
+
 def storm(requests, ticks, period):
     """Values of 256 bytes, and every so many ticks one of five replicas is alarmed."""
-    scripts = [[] for _ in range(16)]
-    for i in range(requests):
-        scripts[i % 16].append(f"put k{i % 97} {'v' * 250}{i:06}")
     alarms = [f"alarm r{tick // period % 5} {tick}" for tick in range(period, ticks + 1, period)]
-    return scenario(2, 2, 16, ticks, scripts, alarms)
+    return scenario(2, 2, 16, ticks, puts(16, requests), alarms)
 
 
 def crashes(requests, ticks, count):
@@ -109,23 +114,23 @@ def faulty(requests, ticks, count):
 
 def wide(requests, ticks):
     """64 clients with 16 requests open each, values of 256 bytes, nine replicas: each tick has thousands of items."""
-    scripts = [[] for _ in range(64)]
-    for i in range(requests):
-        scripts[i % 64].append(f"put k{i % 97} {'v' * 250}{i:06}")
-    return scenario(4, 8, 64, ticks, scripts, window=16)
+    return scenario(4, 8, 64, ticks, puts(64, requests), window=16)
 
 
 def rejoins(requests, rounds, value="v" * 250):
     """After the requests, again and again, four of nine replicas crash at once and rejoin: each gets the whole log."""
-    scripts = [[] for _ in range(64)]
-    for i in range(requests):
-        scripts[i % 64].append(f"put k{i % 97} {value}{i:06}")
     lines = []
     for k in range(rounds):
         for j in range(4):
             replica, tick = (4 * k + j) % 8 + 1, 40 + 8 * k
             lines += [f"crash r{replica} {tick}", f"restart r{replica} {tick + 1}"]
-    return scenario(4, 8, 64, 60 + 8 * rounds, scripts, lines, window=16)
+    return scenario(4, 8, 64, 60 + 8 * rounds, puts(64, requests, value), lines, window=16)
+
+
+def views(requests, rounds, value="v" * 250):
+    """After the requests, again and again, nine replicas enter the next view: each sends its whole log, and gets one."""
+    alarms = [f"alarm r{(k + 1) % 9} {40 + 12 * k}" for k in range(rounds)]
+    return scenario(4, 8, 64, 60 + 12 * rounds, puts(64, requests, value), alarms, window=16)
 
 
 def cases():
@@ -141,6 +146,8 @@ def cases():
     yield "nine replicas, window 16", 2000, 60, wide(2000, 60)
     yield "four of nine rejoin at once", 500, 460, rejoins(500, 50)
     yield "the same, short values", 1000, 260, rejoins(1000, 25, "v")
+    yield "nine replicas change views", 1000, 264, views(1000, 17)
+    yield "the same, short values", 1000, 264, views(1000, 17, "v")
     yield "little to do", 100, 20000, even(1, 1, 4, 100, 20000)
     yield "1,000 fault lines", 200, 1000, faulty(200, 1000, 1000)
     for requests in (250, 500, 1000):
