@@ -74,50 +74,48 @@ def even(f, proxies, clients, requests, ticks, window=1):
     return scenario(f, proxies, clients, ticks, scripts, window=window)
 
 
-def puts(clients, requests, value="v" * 250):
-    """The scripts of so many clients, which put values that begin so, of 256 bytes if that is left out."""
+# A value of 256 bytes, with the number of its request.
+LONG = "v" * 250 + "{:06}"
+
+
+def puts(clients, requests, value):
+    """The scripts of so many clients, which put values of this form."""
     scripts = [[] for _ in range(clients)]
     for i in range(requests):
-        scripts[i % clients].append(f"put k{i % 97} {value}{i:06}")
+        scripts[i % clients].append(f"put k{i % 97} {value.format(i)}")
     return scripts
 
 
 def storm(requests, ticks, period):
     """Values of 256 bytes, and every so many ticks one of five replicas is alarmed."""
     alarms = [f"alarm r{tick // period % 5} {tick}" for tick in range(period, ticks + 1, period)]
-    return scenario(2, 2, 16, ticks, puts(16, requests), alarms)
+    return scenario(2, 2, 16, ticks, puts(16, requests, LONG), alarms)
 
 
 def crashes(requests, ticks, count):
     """One of five replicas after another crashes, and restarts three ticks later."""
-    scripts = [[] for _ in range(16)]
-    for i in range(requests):
-        scripts[i % 16].append(f"put k{i % 97} v{i}")
     lines = []
     for k in range(count):
         tick = 20 + k * (ticks - 40) // count
         lines += [f"crash r{k % 5} {tick}", f"restart r{k % 5} {tick + 3}"]
-    return scenario(2, 2, 16, ticks, scripts, lines)
+    return scenario(2, 2, 16, ticks, puts(16, requests, "v{}"), lines)
 
 
 def faulty(requests, ticks, count):
     """As many fault lines as there may be, which strike early and late parcels of five replicas and two proxies."""
-    scripts = [[] for _ in range(16)]
-    for i in range(requests):
-        scripts[i % 16].append(f"put k{i % 97} v{i}")
     lines = []
     for j in range(count):
         to, nth = f"p{j % 2} r{j % 5} timed", 1 + j * requests // count
         lines.append([f"drop {to} {nth}", f"hold {to} {nth} {1 + j % 9}", f"twice {to} {nth} {j % 7}"][j % 3])
-    return scenario(2, 2, 16, ticks, scripts, lines)
+    return scenario(2, 2, 16, ticks, puts(16, requests, "v{}"), lines)
 
 
 def wide(requests, ticks):
     """64 clients with 16 requests open each, values of 256 bytes, nine replicas: each tick has thousands of items."""
-    return scenario(4, 8, 64, ticks, puts(64, requests), window=16)
+    return scenario(4, 8, 64, ticks, puts(64, requests, LONG), window=16)
 
 
-def rejoins(requests, rounds, value="v" * 250):
+def rejoins(requests, rounds, value):
     """After the requests, again and again, four of nine replicas crash at once and rejoin: each gets the whole log."""
     lines = []
     for k in range(rounds):
@@ -127,7 +125,7 @@ def rejoins(requests, rounds, value="v" * 250):
     return scenario(4, 8, 64, 60 + 8 * rounds, puts(64, requests, value), lines, window=16)
 
 
-def views(requests, rounds, value="v" * 250):
+def views(requests, rounds, value):
     """After the requests, again and again, nine replicas enter the next view: each sends its whole log, and gets one."""
     alarms = [f"alarm r{(k + 1) % 9} {40 + 12 * k}" for k in range(rounds)]
     return scenario(4, 8, 64, 60 + 12 * rounds, puts(64, requests, value), alarms, window=16)
@@ -144,10 +142,10 @@ def cases():
     yield "nine replicas, 64 clients", 1000, 2000, even(4, 8, 64, 1000, 2000)
     yield "nine replicas, full ticks", 2000, 500, even(4, 8, 64, 2000, 500)
     yield "nine replicas, window 16", 2000, 60, wide(2000, 60)
-    yield "four of nine rejoin at once", 500, 460, rejoins(500, 50)
-    yield "the same, short values", 1000, 260, rejoins(1000, 25, "v")
-    yield "nine replicas change views", 1000, 264, views(1000, 17)
-    yield "the same, short values", 1000, 264, views(1000, 17, "v")
+    yield "four of nine rejoin at once", 500, 460, rejoins(500, 50, LONG)
+    yield "the same, short values", 1000, 260, rejoins(1000, 25, "v{:06}")
+    yield "nine replicas change views", 1000, 264, views(1000, 17, LONG)
+    yield "the same, short values", 1000, 264, views(1000, 17, "v{:06}")
     yield "little to do", 100, 20000, even(1, 1, 4, 100, 20000)
     yield "1,000 fault lines", 200, 1000, faulty(200, 1000, 1000)
     for requests in (250, 500, 1000):
