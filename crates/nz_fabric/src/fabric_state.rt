@@ -27,6 +27,7 @@ use crate::share::Share;
 use crate::ticks::Ticks;
 use nz_base::{Actor, NoMemory, Scenario, TryCopy};
 use nz_machine::{Event, Item, Journal, Record, Sends};
+use nz_msg::LONG_BODY;
 use std::alloc::Global;
 use std::marker::Model;
 use std::sync::ledger::{Blank, Book};
@@ -34,8 +35,6 @@ use std::sync::ledger::{Blank, Book};
 /// A tick with fewer items is small, if the ticks before it had not many more: those that are awake do it sooner than others
 /// are woken. A cluster has at most 81 clocks, which are done sooner than a thread is woken.
 const MANY: usize = 128;
-/// A tick that brings as many bytes to somebody is not small, nor one in which somebody sends as many: whole logs take long.
-const LONG: usize = 1 << 14;
 /// A tick in which a step sends as many parcels is not small: mostly other actors have as much to send.
 const MUCH: u32 = 32;
 
@@ -93,9 +92,10 @@ fn bring(items: &[Item], bytes: usize) -> bool
     items.iter().any(|item| bytes <= bytes_of(&item.event))
 }
 
-/// Whether a tick that begins with these items is done sooner by those that are awake than others are woken.
+/// Whether a tick that begins with these items is done sooner by those that are awake than others are woken. It is not where
+/// a long frame arrives: whole logs take long.
 fn begins_small(items: &[Item], lately: usize) -> bool {
-    lately < MANY && !bring(items, LONG)
+    lately < MANY && !bring(items, LONG_BODY)
 }
 
 /// Whether others most likely have as much to do in a tick in which a step sends this.
@@ -104,7 +104,7 @@ fn are_much(sends: &Sends) -> bool {
         || sends
             .as_slice()
             .iter()
-            .any(|sent| LONG <= sent.get().frame.len())
+            .any(|sent| LONG_BODY <= sent.get().frame.len())
 }
 
 impl<N: Name> FabricState<N> {

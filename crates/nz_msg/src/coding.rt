@@ -30,8 +30,8 @@ const BLOCK: usize = 4096;
 /// bytes of a large body would be gone over twice.
 const MOST_SHARED: usize = 1024;
 
-/// A body that is as long is a whole log.
-const LONG: usize = 1 << 14;
+/// A body of so many bytes or more is long: it is mostly a whole log.
+pub const LONG_BODY: usize = 1 << 14;
 
 // A small body, in the room. Bytes that the room still has are given up.
 fn write_small(room: &mut BytesMut, message: &Message, size: usize) -> Result<Bytes, NoMemory>
@@ -123,12 +123,12 @@ fn placed(fault: Fault, size: usize) -> DecodeRefusal
     }
 }
 
-// The message of a body. Those that read a whole log at the same time would all count the owners of its commands in one
+// The message of a body. Those that read a long one at the same time would all count the owners of its commands in one
 // place, so each has a copy of the bytes.
 fn message_in(alloc: Global, kind: u8, body: &Bytes) -> Result<Message, Fault>
     ensures { Gives (λ m. m) result (body_at kind body.now) }
 {
-    if body.len() < LONG {
+    if body.len() < LONG_BODY {
         return message_of(alloc, kind, Rest::new(body));
     }
     let own = Bytes::copy_from_slice(alloc, body.as_slice())?;

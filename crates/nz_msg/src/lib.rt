@@ -17,7 +17,7 @@ mod spelling;
 mod validity;
 mod writing;
 
-pub use coding::{decode, encode, frame_of, write_body};
+pub use coding::{LONG_BODY, decode, encode, frame_of, write_body};
 pub use envelope::Envelope;
 pub use laws::{
     bodies_are_the_grammar, cut_message_is_short, frames_are_the_grammar, frames_come_first,
