@@ -13,7 +13,7 @@ use crate::alone::run_alone;
 use crate::played::Played;
 use crate::shares::{deal, gather};
 use crate::stage::Stage;
-use crate::workers::work_all;
+use crate::workers::{play_small_ticks, work_all};
 use nz_base::{MAX_WORKERS, NoMemory, Scenario, TryCopy};
 use nz_edge::Gate;
 use nz_fabric::{Fabric, FabricState, Name, Opened, Share};
@@ -41,8 +41,9 @@ fn finish<N: Name>(
     Ok(())
 }
 
-/// All workers, through all ticks. The whole share comes back, with no batch on it.
-fn at_once<N: Name + Send + Sync, R: Threads + Wait + Sync, G: Gate + Sync>(
+/// All ticks, but what is left of them where memory runs out. One worker plays alone until a tick is not small, and only then
+/// are the others started. The whole share comes back, with no batch on it.
+fn play_ticks<N: Name + Send + Sync, R: Threads + Wait + Sync, G: Gate + Sync>(
     rt: &R,
     alloc: Global,
     state: FabricState<N>,
@@ -55,6 +56,10 @@ fn at_once<N: Name + Send + Sync, R: Threads + Wait + Sync, G: Gate + Sync>(
     requires count { (0 < count) × (count ≤ MAX_WORKERS) }
     ensures { IfOk result (λ r. IsWhole r.1) }
 {
+    let mut state = state;
+    if !play_small_ticks(rt, stage, &mut state) {
+        return Ok((state, share));
+    }
     let mut workers = Vec::new(alloc);
     workers.reserve(MAX_WORKERS)?;
     deal(share, &mut workers, count);
@@ -109,7 +114,7 @@ fn run_named<N: Name + Send + Sync, R: Threads + Wait + Sync, G: Gate + Sync>(
 {
     let (state, share) = FabricState::<N>::new(alloc, blank, opened, scenario.copy(alloc)?, count)?;
     let mut stage = Stage::<N>::new(alloc, scenario, &state)?;
-    let (state, share) = at_once(rt, alloc, state, share, count, &stage, gate)?;
+    let (state, share) = play_ticks(rt, alloc, state, share, count, &stage, gate)?;
     let Some(state) = finish_all(rt, state, share, &mut stage)? else {
         return Ok(None);
     };

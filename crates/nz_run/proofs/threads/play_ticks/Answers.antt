@@ -1,7 +1,7 @@
 -- What the function of this folder owes, proved.
 use Rattle.std.proofs.Common.{◌≡◌, ◌∙◌, ap, arith, length, get_or}
 use Rattle.nz_run.proofs.DealtShares.{written, all_idle, same_sum}
-use Rattle.nz_run.proofs.threads.at_once.Goals as goal
+use Rattle.nz_run.proofs.threads.play_ticks.Goals as goal
 
 pub gather-share-requires-clause-idle : goal.gather-share-requires-clause-idle
 gather-share-requires-clause-idle g c =
