@@ -1,11 +1,12 @@
 -- The prefix of an accepted answer is in the log that the leader of its view leads with at the end of the run. That is the
 -- log of view 0 where all replicas are up in view 0 then.
-use Rattle.std.proofs.Common.{◌≡◌, ℕ, zero, suc, ◌<◌, eqb, eq-eqb, eqb-true, true, List, [], ◌∷◌, length, get_or}
+use Rattle.std.proofs.Common.{◌≡◌, ℕ, ◌<◌, ◌+◌, eqb, eq-eqb, eqb-true, true, false, is_some, List, [], ◌∷◌, length, drop, get_or}
 use Rattle.std.proofs.Common.{Option, Some, None, Result, Ok, refl, sym, ap, subst, ◌∙◌, inl, inr, arith}
 use Rattle.std.specs.Prelude.{IfSome}
 use Rattle.std.proofs.lemmas.Bool.{and_parts, and_from}
-use Rattle.std.proofs.lemmas.Option.{none-some, same_Some}
-use Rattle.std.specs.Option.{option_and_then}
+use Rattle.std.proofs.lemmas.List.{at_drop_more}
+use Rattle.std.proofs.lemmas.Option.{none-some, same_Some, IfSome_then}
+use Rattle.std.specs.Option.{option_and_then, option_or}
 use Rattle.nz_base.specs.Cluster.{leader_of}
 use Rattle.nz_base.specs.declared.actor.Actor.{Actor}
 use Rattle.nz_base.specs.declared.actor.Actor.TheVariants.{Replica}
@@ -45,7 +46,7 @@ use Rattle.nz_laws_commit.proofs.Led.{given_cut}
 use Rattle.nz_laws_commit.proofs.NotedWereSent.{IsSaid, Fastly, Slowly, IsBacked}
 use Rattle.nz_laws_commit.proofs.Rising.{given_within}
 use Rattle.nz_replica.specs.Models.{ReplicaCore, IsCore, AreCores}
-use Rattle.nz_audit.specs.Leading.{view_of_message, view_brought, BringsReplyOf, RepliesIn}
+use Rattle.nz_audit.specs.Leading.{view_of_message, view_brought, first_view_brought, BringsReplyOf, RepliesIn}
 use Rattle.nz_audit.proofs.ReplyFields.{decoded_of}
 
 -- ---- the view of a reply that is sent
@@ -148,11 +149,40 @@ pub core_at : (g : Group) (J : List Record) (cores : List ReplicaCore) (n : ℕ)
     → core ≡ get_or cores n core → IsCore g J n core
 core_at g J cores n core all lt at = subst (IsCore g J n) (sym at) (all n core lt)
 
-pub has_there : {X : Type 0} (xs : List X) (i : ℕ) (d : X) → i < length xs → Has xs (get_or xs i d)
-has_there [] i d lt = absurd (omega (arith, lt))
-has_there (x ∷ xs) zero d lt = inl refl
-has_there (x ∷ xs) (suc i) d lt = inr (has_there xs i d (omega (arith, lt)))
+-- ---- the first view that parcels bring
 
-pub view_found : (sends : List Parcel) (p : Parcel) (view : Option ℕ) → Has sends p → view ≡ view_brought p → IfSome view (λ v. BringsReplyOf v sends)
-view_found sends p None sent is = tt
-view_found sends p (Some v) sent is = record { parcel = p; sent = sent; view = sym is }
+brought : (p : Parcel) (ps : List Parcel) (view : Option ℕ) → view ≡ view_brought p → IfSome (first_view_brought ps) (λ v. BringsReplyOf v ps)
+    → IfSome (option_or view (first_view_brought ps)) (λ v. BringsReplyOf v (p ∷ ps))
+brought p ps (Some v) is others = record { parcel = p; sent = inl refl; view = sym is }
+brought p ps None is others =
+    IfSome_then (first_view_brought ps) others (λ v b. record { parcel = b.parcel; sent = inr b.sent; view = b.view })
+
+-- one of them brings it
+pub first_brings : (sends : List Parcel) → IfSome (first_view_brought sends) (λ v. BringsReplyOf v sends)
+unfolding first_view_brought
+first_brings [] = tt
+first_brings (p ∷ ps) = brought p ps (view_brought p) refl (first_brings ps)
+
+-- it is that of the parcel at this place, or else of those behind it
+first_here : (sends : List Parcel) (i : ℕ) (d : Parcel) (p : Parcel) (view : Option ℕ) → i < length sends → p ≡ get_or sends i d → view ≡ view_brought p
+    → first_view_brought (drop i sends) ≡ option_or view (first_view_brought (drop (i + 1) sends))
+unfolding first_view_brought
+first_here sends i d p view lt at is =
+    at_drop_more first_view_brought sends i d lt
+    ∙ ap (λ (o : Option ℕ). option_or o (first_view_brought (drop (i + 1) sends))) (sym (is ∙ ap view_brought at))
+
+taken : (view rest : Option ℕ) → is_some view ≡ true → option_or view rest ≡ view
+taken None rest h = true_and_false false h refl
+taken (Some v) rest h = refl
+
+passed : (view rest : Option ℕ) → is_some view ≡ false → option_or view rest ≡ rest
+passed None rest h = refl
+passed (Some v) rest h = true_and_false true refl h
+
+pub first_found : (sends : List Parcel) (i : ℕ) (d : Parcel) (p : Parcel) (view : Option ℕ) → i < length sends → p ≡ get_or sends i d → view ≡ view_brought p
+    → is_some view ≡ true → first_view_brought (drop i sends) ≡ view
+first_found sends i d p view lt at is h = first_here sends i d p view lt at is ∙ taken view (first_view_brought (drop (i + 1) sends)) h
+
+pub first_behind : (sends : List Parcel) (i : ℕ) (d : Parcel) (p : Parcel) (view : Option ℕ) → i < length sends → p ≡ get_or sends i d → view ≡ view_brought p
+    → is_some view ≡ false → first_view_brought (drop i sends) ≡ first_view_brought (drop (i + 1) sends)
+first_behind sends i d p view lt at is h = first_here sends i d p view lt at is ∙ passed view (first_view_brought (drop (i + 1) sends)) h

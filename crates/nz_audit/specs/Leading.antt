@@ -1,6 +1,6 @@
 -- The view of the replies that a record sends, and the log of the one view that was led.
 use Rattle.std.specs.Prelude.{◌≡◌, ◌==◌, ◌&&◌, ℕ, Bool, List, [], ◌∷◌, Option, Some, None}
-use Rattle.std.specs.Option.{option_and_then}
+use Rattle.std.specs.Option.{option_and_then, option_or}
 use Rattle.nz_base.specs.declared.key.Entry.{Entry}
 use Rattle.nz_msg.specs.declared.envelope.Envelope.{Envelope}
 use Rattle.nz_msg.specs.declared.message.Message.{Message}
@@ -22,6 +22,11 @@ view_of_message _ = None
 -- The view of the fast reply that a parcel brings, if it brings one.
 abbrev pub view_brought : Parcel → Option ℕ
 view_brought p = option_and_then (λ (e : Envelope). view_of_message e.message) (envelope_for p.to p)
+
+-- The view of the first fast reply among those that the parcels bring, if there is one.
+unfoldable pub first_view_brought : List Parcel → Option ℕ
+first_view_brought [] = None
+first_view_brought (p ∷ ps) = option_or (view_brought p) (first_view_brought ps)
 
 -- One of the parcels brings a fast reply of the view.
 pub record BringsReplyOf (v : ℕ) (sends : List Parcel) : Type 0 where

@@ -1,6 +1,6 @@
 //! The log of a replica that leads the view of its reply to the end of the run.
 
-ghost use Rattle.std.specs.Prelude.{◌≡◌, ◌≤◌, ◌==◌, ◌&&◌, length, List, IfOk, IfSome, IsTrue};
+ghost use Rattle.std.specs.Prelude.{◌≡◌, ◌≤◌, ◌==◌, ◌&&◌, false, length, slice_get, List, IfOk, IfNone, IfSome, IsTrue};
 ghost use Rattle.nz_machine.specs.Journals.{group_in, run_in};
 ghost use Rattle.nz_machine.specs.Leading.{lead};
 ghost use Rattle.nz_machine.specs.Replicas.{leads_view};
@@ -8,7 +8,7 @@ ghost use Rattle.nz_machine.specs.State.{Group};
 ghost use Rattle.nz_machine.specs.declared.event.Record.{Record};
 ghost use Rattle.nz_replica.specs.Models.{AreCores};
 ghost use Rattle.nz_audit.specs.Cores.{run_up_to};
-ghost use Rattle.nz_audit.specs.Leading.{view_brought, BringsReplyOf, RepliesIn};
+ghost use Rattle.nz_audit.specs.Leading.{view_brought, first_view_brought, RepliesIn};
 ghost use Rattle.nz_audit.specs.Prefixes.{HasPrefix, IsWithin};
 
 use super::envelopes::envelope_of;
@@ -34,8 +34,8 @@ fn view_of(alloc: Global, parcel: &Parcel) -> Result<Option<u64>, NoMemory>
 }
 
 /// The view of the first fast reply among the parcels, if there is one.
-pub fn view_of_first(alloc: Global, sends: &[SharedParcel]) -> Result<Option<u64>, NoMemory>
-    ensures { IfOk result (λ view. IfSome view (λ v. BringsReplyOf v sends.now)) }
+fn view_of_first(alloc: Global, sends: &[SharedParcel]) -> Result<Option<u64>, NoMemory>
+    ensures { IfOk result (λ view. view ≡ first_view_brought sends.now) }
 {
     for parcel in sends {
         let view = view_of(alloc, parcel.get())?;
@@ -70,7 +70,9 @@ fn is_leader_in(replica: &Replica, view: u64) -> bool
 
 /// The log of the replica with this number, if it leads the view.
 pub fn log_leading(replicas: &[Replica], number: u8, view: u64) -> Option<&HashedLog>
-    ensures { IfSome result (λ log. (g : Group) (J : List Record) → AreCores g J replicas.now → log.now.entries ≡ lead g view J) }
+    ensures log { IfSome result (λ log. (g : Group) (J : List Record) → AreCores g J replicas.now → log.now.entries ≡ lead g view J) }
+    ensures none { IfNone result (IfSome (slice_get replicas.now number) (λ replica.
+        IsTrue replica.live → (leads_view replica.f replica.model.me replica.model.state && (replica.model.state.view == view)) ≡ false)) }
 {
     let replica = replicas.get(usize::from(number))?;
     if is_leader_in(replica, view) {

@@ -19,6 +19,3 @@ mod tracing;
 mod wanted;
 
 pub use history::history_of;
-
-#[cfg(test)]
-mod tests;

@@ -7,8 +7,8 @@ use Rattle.nz_replica.specs.Models.{IsCore}
 use Rattle.nz_audit.proofs.LedPrefixes.{core_at, log_leads}
 use Rattle.nz_audit.proofs.leading.log_leading.Goals as goal
 
-pub returns-then-is_leader_in : goal.returns-then-is_leader_in
-returns-then-is_leader_in c = λ g J all.
+pub returns-then-is_leader_in-clause-log : goal.returns-then-is_leader_in-clause-log
+returns-then-is_leader_in-clause-log c = λ g J all.
     let core = c.in_ok-replica.replica.now in
     let s = core.model.state in
     let at = c.in_ok-replica.ensures.lookup in
