@@ -166,6 +166,21 @@ fn same_steps_by_any_workers(rt: HostRuntime) -> Result<(), Fail> {
     Ok(())
 }
 
+/// Eight clients send 16 requests each in the first tick. So the second is not small, and the workers begin with it.
+const MUCH_AT_ONCE: &str =
+    "nezha 2\nf 1\nproxies 1\nclients 8\nticks 4\nwindow 16\nclient c0\nget a\nget a\nget a\nget a\n\
+get a\nget a\nget a\nget a\nget a\nget a\nget a\nget a\nget a\nget a\nget a\nget a\nend\n\
+client c1\nget a\nget a\nget a\nget a\nget a\nget a\nget a\nget a\nget a\nget a\nget a\nget a\n\
+get a\nget a\nget a\nget a\nend\nclient c2\nget a\nget a\nget a\nget a\nget a\nget a\nget a\n\
+get a\nget a\nget a\nget a\nget a\nget a\nget a\nget a\nget a\nend\nclient c3\nget a\nget a\n\
+get a\nget a\nget a\nget a\nget a\nget a\nget a\nget a\nget a\nget a\nget a\nget a\nget a\n\
+get a\nend\nclient c4\nget a\nget a\nget a\nget a\nget a\nget a\nget a\nget a\nget a\nget a\n\
+get a\nget a\nget a\nget a\nget a\nget a\nend\nclient c5\nget a\nget a\nget a\nget a\nget a\n\
+get a\nget a\nget a\nget a\nget a\nget a\nget a\nget a\nget a\nget a\nget a\nend\nclient c6\n\
+get a\nget a\nget a\nget a\nget a\nget a\nget a\nget a\nget a\nget a\nget a\nget a\nget a\n\
+get a\nget a\nget a\nend\nclient c7\nget a\nget a\nget a\nget a\nget a\nget a\nget a\nget a\n\
+get a\nget a\nget a\nget a\nget a\nget a\nget a\nget a\nend\ndone\n";
+
 /// How often a worker that holds a lock looks for the other.
 const LOOKS: u64 = 100_000_000;
 
@@ -197,10 +212,12 @@ impl Gate for Holding {
     }
 }
 
-/// The place of the first record of an actor.
+/// The place of the first record of an actor in the second tick.
 fn first_of(records: &RecordList, actor: Actor) -> Option<u32> {
     for place in 0..records.len() {
-        if records.get(place).as_record().actor == actor {
+        if records.get(place).as_record().tick == 2
+            && records.get(place).as_record().actor == actor
+        {
             return Some(place);
         }
     }
@@ -214,10 +231,7 @@ fn held_lock_stops_no_other_worker(rt: HostRuntime) -> Result<(), Fail> {
         second: AtomicU64::new(0),
         met: AtomicU64::new(0),
     };
-    let call = plain(
-        &["run", "--workers", "2"],
-        THREE_EQUAL_DEADLINES.input.as_bytes(),
-    );
+    let call = plain(&["run", "--workers", "2"], MUCH_AT_ONCE.as_bytes());
     let (outcome, _) = answer_through(&rt, rt.alloc(), &call, &gate)?;
     assert_eq!(rt; gate.met.load(Ordering::SeqCst), 1);
     let Some(journal) = &outcome.journal else {
