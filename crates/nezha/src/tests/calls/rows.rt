@@ -126,7 +126,7 @@ clients 1\nticks 1\nclient c0\nend\ndone\n",
 1 c0 tick 1000 -> 0\ntext\nend\n",
 };
 
-/// All but the first, which the tests of sources and sinks play, and the stored run of crates/nezha.
+/// All but the first, which the tests of sources and sinks play. One more, every_line, is the stored run of crates/nezha.
 pub const ROWS: [Row; 20] = [
     SEVEN_ANSWERS,
     EMPTY,
