@@ -18,10 +18,10 @@ generated runs `gen 7 COUNT`, ours by one worker: the best of five times each, t
 and the exponents by which the times grow from one count to the next. Each line of a scenario then has the seconds of
 the reference and the ratio, too.
 
-    bench/run.py --table PROGRAM REFERENCE
+    bench/run.py --table PROGRAM [REFERENCE]
 
-prints the table of README.md: for each run the processor's seconds and the memory of both, the best of 25 or of six
-seconds, by one worker; with each the exponent by which its time grows to twice the requests (or ticks), where it has a smaller twin.
+prints the table of docs/SPEED.md: for each run by one worker the processor's least seconds and the most memory, of 25
+runs or of as many as six seconds allow, and how many records it has. With a REFERENCE the same of that program, too.
 """
 import math
 import os
@@ -252,16 +252,15 @@ def side_by_side(program, reference):
 
 
 def table_rows():
-    """Each run of the table, and the same with half as much to do."""
     with open(f"{HERE}/../scenarios/put_then_get") as it:
-        yield "a put and a get", it.read(), None
-    yield "`gen 7 2000`", drawn(7, 2000), drawn(7, 1000)
-    yield "nine replicas, 64 clients, 1,000 requests, 2,000 ticks", even(4, 8, 64, 1000, 2000), even(4, 8, 64, 500, 2000)
-    yield "100 requests in 20,000 ticks", even(1, 1, 4, 100, 20000), even(1, 1, 4, 100, 10000)
-    yield "1,000 fault lines, 200 requests", faulty(200, 1000, 1000), faulty(200, 1000, 500)
-    yield "1,990 requests of 256 bytes, 100 alarms", storm(1990, 1000, 10), storm(995, 1000, 10)
-    yield "500 requests, 100 crashes and restarts", crashes(500, 4000, 100), crashes(500, 4000, 50)
-    yield "64 clients, window 16, 2,000 requests", even(2, 2, 64, 2000, 1000, 16), even(2, 2, 64, 1000, 1000, 16)
+        yield "a put and a get", it.read()
+    yield "`gen 7 2000`", drawn(7, 2000)
+    yield "nine replicas, 64 clients, 1,000 requests, 2,000 ticks", even(4, 8, 64, 1000, 2000)
+    yield "100 requests in 20,000 ticks", even(1, 1, 4, 100, 20000)
+    yield "1,000 fault lines, 200 requests", faulty(200, 1000, 1000)
+    yield "1,990 requests of 256 bytes, 100 alarms", storm(1990, 1000, 10)
+    yield "500 requests, 100 crashes and restarts", crashes(500, 4000, 100)
+    yield "64 clients, window 16, 2,000 requests", even(2, 2, 64, 2000, 1000, 16)
 
 
 def least(program, text):
@@ -281,13 +280,24 @@ def spent(program, text):
         return used.ru_utime + used.ru_stime, used.ru_maxrss / 1024
 
 
-def table(program, reference):
-    print("| run | seconds | the other | times | growth | MiB | the other |")
-    print("|---|---|---|---|---|---|---|")
-    for name, text, half in table_rows():
-        (ours, memory), (theirs, other_memory) = least(program, text), least(reference, text)
-        growth = f"{math.log2(ours / least(program, half)[0]):.1f}" if half else "-"
-        print(f"| {name} | {ours:.3f} | {theirs:.3f} | {ours / theirs:.1f} | {growth} | {memory:.0f} | {other_memory:.0f} |", flush=True)
+def records(program, text):
+    """How many records a run has: the lines of its trace before the text."""
+    with opened(text) as given, tempfile.TemporaryFile() as made:
+        os.waitpid(begun(program, ["trace"], given, made), 0)
+        made.seek(0)
+        return made.read().split(b"text\n", 1)[0].count(b"\n")
+
+
+def table(program, reference=None):
+    heads = ["run", "seconds", "MiB", "records"] + ["the other, s", "times", "MiB"] * (reference is not None)
+    print("| " + " | ".join(heads) + " |\n" + "|---" * len(heads) + "|")
+    for name, text in table_rows():
+        seconds, memory = least(program, text)
+        cells = [name, f"{seconds:.3f}", f"{memory:.0f}", f"{records(program, text):,}"]
+        if reference:
+            other, other_memory = least(reference, text)
+            cells += [f"{other:.3f}", f"{seconds / other:.1f}", f"{other_memory:.0f}"]
+        print("| " + " | ".join(cells) + " |", flush=True)
 
 
 def main():
