@@ -1,4 +1,12 @@
 //! The calendar of coming deliveries.
+//!
+//! A *course* is a sender, a receiver and a kind, whose parcels are counted together. Its *traffic* is their
+//! number, and the fault lines that may strike them. A *day* is the items of one later tick.
+//!
+//! A parcel costs one look at its traffic, one comparison with each block whose ends name its sender and
+//! receiver, and one with each line that names its number. The lines of a course are found with its first
+//! parcel, which costs a look at every line, and copied. A tick costs what is due in it. What the lines for
+//! crashes, restarts and alarms ask is listed once, at the start, by ticks.
 
 ghost use Rattle.std.specs.Prelude.{◌≡◌, ◌-◌, ◌<◌, ◌≤◌, ◌^◌, ◌∷◌, ◌++◌, [], ℕ, List, length, map};
 ghost use Rattle.std.specs.Prelude.{None, Some, IfOk, OnOk, OnErr};

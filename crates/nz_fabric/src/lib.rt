@@ -1,5 +1,21 @@
 //! The scripted network: what of a scenario is due in each tick, and the journal of a run in the order of
 //! the schedule.
+//!
+//! The words of this crate:
+//!
+//! - An *item* is an actor and an event that is due for it. The *agenda* of a tick is its items, and how
+//!   many of them were taken.
+//! - A *turn* is an item that was taken on one thread, a *batch* all that is due to one actor in a tick,
+//!   taken by a worker. Each is open until it is recorded or given up. A network is *marked* if one was
+//!   given up, or if memory ran out. It gives no journal then.
+//! - The *ledger* counts the open batches of a run, in parts. A *share* is some of these parts, held by a
+//!   worker.
+//! - A *chronicle* is a list that the proofs alone know, all records of a run or all its takes; in memory it
+//!   is one number, its length. A *take* is a batch that was taken. Batches are numbered from 1 as they are
+//!   taken.
+//! - A *name* is a type that identifies a run, so that values under locks are known to belong to it.
+//! - A tick is *small* if it has few items, brings no whole log, and no tick shortly before it had many
+//!   items.
 #![tactic(auto)]
 
 mod agenda;

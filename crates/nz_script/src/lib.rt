@@ -1,4 +1,8 @@
 //! The scenario language: what a text says, line by line, and the one text of each scenario.
+//!
+//! A *line* has a sort, its *verb*, which its first word gives. The *form* of a word is what it may be. The
+//! *shape* of a line is its first word, where it may come, and the forms of its other words. A *draft* is
+//! what has been read so far, and its *room* how many bytes the text may still have.
 #![tactic(auto)]
 
 mod checks;
