@@ -1,4 +1,7 @@
 //! A replica's log, which knows its digest at each place and how much of it is synced.
+//!
+//! A log is in memory in *pages* of fixed size. An old entry is *displaced* if a newly synced one takes it
+//! out of the log.
 #![tactic(auto)]
 
 mod calls;

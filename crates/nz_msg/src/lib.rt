@@ -1,4 +1,11 @@
 //! The eighteen messages, and how each is a frame.
+//!
+//! A reader takes and gives the bytes that are left of a body (`Rest`), and reports a fault by their number,
+//! so it needs no place. A struct with a model and a lifetime cannot be `Copy`, so they are passed on and
+//! used up.
+//!
+//! A codec gives the fields of a body as nested pairs. The record of each message is made of them once, in
+//! specs/Messages.antt.
 #![tactic(auto)]
 
 mod bodies;
