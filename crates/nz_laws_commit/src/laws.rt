@@ -25,8 +25,8 @@ ghost use Rattle.nz_laws_commit.specs.Instance.{states_of};
 ghost use Rattle.nz_laws_commit.specs.Present.{AreUpWithin};
 ghost use Rattle.nz_laws_commit.specs.Example as example;
 
-/// In every run of the machine, whoever crashes and rejoins, each later view starts with what was accepted in a view,
-/// and of two accepted prefixes one begins with the other.
+/// In every run of the machine with the premise on digests, whoever crashes and rejoins, each later view starts with
+/// what was accepted in a view, and of two accepted prefixes one begins with the other.
 pub fn prefixes()
     ensures { (g : Group) (J : List Record) → World g J → NoCollision g J → Prefixes g J }
 {}

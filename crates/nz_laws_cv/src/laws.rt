@@ -14,7 +14,7 @@ ghost use Rattle.nz_laws_cv.specs.Tests.{Tests, notions};
 ghost use Rattle.nz_laws_cv.specs.Example as example;
 
 /// In every run of the machine the own counters of a replica's completed rejoins rise, and the counter of
-/// a completed rejoin stays known to each replica whose answer it used, also after that one rejoins.
+/// a completed rejoin is known to each later incarnation of a replica whose answer it used, while that is up.
 pub fn knowledge()
     ensures { (g : Group) (J : List Record) → World g J → Knowledge g J }
 {}

@@ -56,8 +56,8 @@ pub fn history_of_paired_prefixes()
     ensures { (g : Group) (J : List Record) → World g J → ArePaired g J → Lin (events g J) (history g J) }
 {}
 
-/// In every run, whatever was lost, repeated, reordered or cut, whatever clocks read and whoever crashes and
-/// rejoins, the answers that clients accepted are those of one store that executes the history.
+/// In every run with the premise on digests, whatever was lost, repeated, reordered or cut, whatever clocks read and
+/// whoever crashes and rejoins, the answers that clients accepted are those of one store that executes the history.
 pub fn one_history()
     ensures { (g : Group) (J : List Record) → World g J → NoCollision g J → Lin (events g J) (history g J) }
 {}
