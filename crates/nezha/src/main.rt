@@ -7,8 +7,8 @@ use std::io::ErrorKind;
 use std::process::ExitCode;
 use std::{env, mem};
 
-/// The words after the program's name, or None where memory was not found. A word that is not UTF-8 is in
-/// no command: where one is not, there are no words, which call no command either.
+/// The words after the program's name, or None where memory was not found. Words that are not UTF-8 are dropped,
+/// all of them: no words are no command, so the status is 1.
 fn words_of(rt: &HostRuntime) -> Option<Words> {
     let mut args = Vec::new(rt.alloc());
     match env::args(rt) {

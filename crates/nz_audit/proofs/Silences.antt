@@ -1,4 +1,4 @@
--- A clock at which nothing was sent changes nothing of what a reading has found.
+-- A silent tick changes nothing of what a reading has found.
 use Rattle.std.proofs.Common.{◌≡◌, ℕ, ◌+◌, ◌<◌, Bool, List, [], ◌∷◌, length, Option, Some, refl, sym, ap, subst}
 use Rattle.std.specs.Prelude.{slice_get, get_or, nat_eq}
 use Rattle.std.proofs.lemmas.Option.{slice_get-get_or}

@@ -247,7 +247,7 @@ impl Reading {
         )
     }
 
-    /// Takes the record at this place. A clock at which nothing was sent changes nothing.
+    /// Takes the record at this place. A silent tick changes nothing.
     fn read_at(
         &mut self,
         alloc: Global,

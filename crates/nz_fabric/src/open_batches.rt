@@ -95,7 +95,7 @@ impl<N: Name> OpenBatches<N> {
         self.numbers.is_empty()
     }
 
-    /// Takes a batch, which is open then. Also `NoMemory` where another fabric of this name took one.
+    /// Opens a batch. Also `NoMemory` where another fabric of this name took one.
     pub fn take(&mut self, actor: Actor, events: List<Event>) -> Result<Taken<N>, NoMemory>
         requires some { 0 < length events }
         ensures { MatchResult result

@@ -12,7 +12,7 @@ use std::thread;
 use std::thread::Threads;
 
 /// Begins the next tick and plays it item by item as long as it is small, and so on. For a worker that has the network while
-/// all others wait, or before they are started: none of them has an actor's lock then, and wants the network. True once a
+/// all others wait, or before they are started, so nobody holds an actor's lock while waiting for the network. True once a
 /// tick is not small, false where no further item is given.
 pub fn play_small_ticks<N: Name, R: Wait>(
     rt: &R,
