@@ -18,6 +18,7 @@ What is checked:
                is one of the output, in their order, and two spaces begin a comment of the page's own. After
                <!-- file: PATH --> it is that file. No other block looks like an output
     theorem    the quotation in README.md is that of docs/THEOREMS.md
+    whole      each crate is in README.md and docs/ARCHITECTURE.md, and README.md has a link to each page
     sizes      README.md and docs/DECISIONS.md are no larger than LIMITS says
 
 A command `nezha WORDS < scenarios/NAME` prints what is stored for it: scenarios/NAME.stdout, or crates/nezha/stdout.
@@ -290,15 +291,27 @@ def quotation(text):
     return [line for line in text.split("\n") if line.startswith(">")]
 
 
+def missing(top, pages):
+    """The crates and pages that README.md and the map leave out."""
+    first, theorems, architecture = (read(f"{top}/{name}") for name in ("README.md", "docs/THEOREMS.md", "docs/ARCHITECTURE.md"))
+    if quotation(first) != quotation(theorems):
+        yield "README.md: its theorem is not that of docs/THEOREMS.md"
+    for crate in re.findall(r"(?m)^(\w+)[^#\n]*:", read(f"{top}/crates.txt")):
+        for name, text in (("README.md", first), ("docs/ARCHITECTURE.md", architecture)):
+            if not re.search(rf"\b{crate}\b", text):
+                yield f"{name}: no word of the crate {crate}"
+    for name in pages:
+        if f"({name})" not in first:
+            yield f"README.md: no link to {name}"
+
+
 def check(top, program=None):
     """The faults of all pages, and the commands that wait for the program."""
     repository = Repository(top, program)
     words = repository.words()
-    names = ["README.md", *sorted(f"docs/{os.path.basename(path)}" for path in glob.glob(f"{top}/docs/*.md"))]
-    faults = [fault for name in names for fault in Page(repository, name, words).check()]
-    if os.path.isfile(f"{top}/docs/THEOREMS.md") and quotation(read(f"{top}/README.md")) != quotation(read(f"{top}/docs/THEOREMS.md")):
-        faults.append("README.md: its theorem is not that of docs/THEOREMS.md")
-    return faults, repository.waiting
+    pages = sorted(f"docs/{os.path.basename(path)}" for path in glob.glob(f"{top}/docs/*.md"))
+    faults = [fault for name in ["README.md", *pages] for fault in Page(repository, name, words).check()]
+    return faults + list(missing(top, pages)), repository.waiting
 
 
 def main(words):

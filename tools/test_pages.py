@@ -22,12 +22,13 @@ FILES = {
     "scenarios/first": "put a 1\n",
     "scenarios/first.args": "run\n",
     "scenarios/first.stdout": "send c0 1\nend\n",
+    "docs/ARCHITECTURE.md": "# The map\n\nnz_low, nezha\n",
     "docs/THEOREMS.md": "# Theorems\n\n> Each answer is right.\n\n| law | file |\n|---|---|\n| `one_law` | nz_low/src/laws.rt; specs/Words.antt |\n",
     "README.md": """# A page
 
 > Each answer is right.
 
-See [the laws](docs/THEOREMS.md#theorems), nz_low/specs/Words.antt, laws.rt of nz_low, and `word_of` in `crates/nz_low`.
+See [the laws](docs/THEOREMS.md#theorems), [the laws](docs/THEOREMS.md), [the map](docs/ARCHITECTURE.md), nz_low/specs/Words.antt, laws.rt of nz_low, and `word_of` in `crates/nz_low`.
 
 ```sh
 (cd crates/nezha && rt try -- run < ../../scenarios/first)
@@ -64,7 +65,7 @@ end
 
 # What is planted: a file, what is in it, what it becomes, and a word of the fault that is found.
 PLANTED = {
-    "a link to no file": ("README.md", "(docs/THEOREMS.md", "(docs/THEOREM.md", "no file docs/THEOREM.md"),
+    "a link to no file": ("README.md", "(docs/THEOREMS.md#", "(docs/THEOREM.md#", "no file docs/THEOREM.md"),
     "a link to no heading": ("README.md", "#theorems", "#lemmas", "no heading"),
     "a path that is no file": ("README.md", "nz_low/specs/Words.antt", "nz_low/specs/Verbs.antt", "no file nz_low/specs/Verbs.antt"),
     "a file of no folder": ("README.md", "laws.rt of", "rules.rt of", "no file rules.rt"),
@@ -84,6 +85,8 @@ PLANTED = {
     "another output of a tool": ("README.md", "echo end", "echo done", "differs from what is printed by echo done"),
     "an output without a command": ("README.md", "<!-- lines: nezha trace < scenarios/first -->\n", "", "no command that prints it"),
     "another theorem": ("README.md", "> Each answer", "> Every answer", "its theorem is not that of"),
+    "a page without a link": ("README.md", "[the map](docs/ARCHITECTURE.md)", "the map", "no link to docs/ARCHITECTURE.md"),
+    "a crate that the map leaves out": ("docs/ARCHITECTURE.md", "nz_low, nezha", "nezha", "no word of the crate nz_low"),
     "a page that is too large": ("README.md", "# A page", "# A page" + " and more" * 1400, "and may have 11264"),
 }
 
