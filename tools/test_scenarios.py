@@ -1,6 +1,6 @@
 #!/usr/bin/env python3
-"""Tests that the gate plays what is in scenarios/: each scenario and its output is a string of a test of crates/nezha,
-or the stored run of that crate."""
+"""Tests that the gate plays what is in scenarios/: each scenario and its output is a string of a test, a file that a
+stored run reads with the output that it prints, or the stored run of crates/nezha."""
 import glob
 import os
 import re
@@ -20,14 +20,14 @@ def literals(text):
     return {re.sub(r"\\(\n\s*|.)", lambda it: {"n": "\n"}.get(it[1], it[1].strip()), found) for found in LITERAL.findall(text)}
 
 
-def not_played(scenarios, sources, stored):
-    """The files of the folder that no test plays, or whose output none compares."""
+def not_played(scenarios, sources, read_files, printed):
+    """The files of the folder that nothing plays, or whose output nothing compares."""
     strings = set().union(*map(literals, sources))
     faults = []
     for name, (text, output) in sorted(scenarios.items()):
-        if text == stored[0] and stored[1].endswith(output):
-            continue
-        faults += [name] * (text not in strings) + [f"{name}.stdout"] * (output not in strings)
+        is_printed = text in read_files and any(output in it for it in [*read_files, *printed])
+        faults += [name] * (text not in strings and text not in read_files)
+        faults += [f"{name}.stdout"] * (output not in strings and not is_printed)
     return faults
 
 
@@ -37,19 +37,26 @@ class Scenarios(unittest.TestCase):
 
     def test_what_is_refused(self):
         source = 'Row { input: "put a\\n", output: "end\\n" }'
-        self.assertEqual(not_played({"one": ("put a\n", "end\n")}, [source], ("", "")), [])
-        self.assertEqual(not_played({"one": ("put b\n", "end\n")}, [source], ("", "")), ["one"])
-        self.assertEqual(not_played({"one": ("put a\n", "done\n")}, [source], ("", "")), ["one.stdout"])
-        self.assertEqual(not_played({"one": ("get\n", "end\n")}, [source], ("get\n", "1 r0\nend\n")), [])
-        self.assertEqual(not_played({"one": ("get\n", "done\n")}, [source], ("get\n", "1 r0\nend\n")), ["one", "one.stdout"])
+
+        def faults(text, output):
+            return not_played({"one": (text, output)}, [source], ["get\n"], ["1 r0\nsend\n"])
+
+        self.assertEqual(faults("put a\n", "end\n"), [])
+        self.assertEqual(faults("put b\n", "end\n"), ["one"])
+        self.assertEqual(faults("put a\n", "done\n"), ["one.stdout"])
+        self.assertEqual(faults("get\n", "send\n"), [])
+        self.assertEqual(faults("get\n", "done\n"), ["one.stdout"])
+        self.assertEqual(faults("del\n", "send\n"), ["one", "one.stdout"])
 
     def test_this_repository(self):
         names = [path for path in glob.glob(f"{TOP}/scenarios/*") if os.path.isfile(path) and "." not in os.path.basename(path)]
         self.assertGreater(len(names), 20)
         scenarios = {os.path.basename(path): (read(path), read(f"{path}.stdout")) for path in names}
-        sources = [read(path) for path in glob.glob(f"{TOP}/crates/nezha/src/tests/**/*.rt", recursive=True)]
-        stored = tuple(read(f"{TOP}/crates/nezha/{name}") for name in ("stdin", "stdout"))
-        self.assertEqual(not_played(scenarios, sources, stored), [])
+        sources, files, given, printed = (
+            [read(path) for path in glob.glob(f"{TOP}/crates/{pattern}", recursive=True) if os.path.isfile(path)]
+            for pattern in ("nezha*/src/tests/**/*.rt", "nezha*/data/**/*", "nezha*/stdin", "nezha*/stdout")
+        )
+        self.assertEqual(not_played(scenarios, sources, files + given, printed), [])
 
 
 if __name__ == "__main__":
