@@ -11,7 +11,7 @@ LITERAL = re.compile(r'"((?:[^"\\]|\\.)*)"', re.DOTALL)
 
 
 def read(path):
-    with open(path, encoding="utf-8") as it:
+    with open(path, encoding="utf-8", errors="replace") as it:
         return it.read()
 
 
