@@ -28,6 +28,3 @@ pub use limits::{
 pub use list::List;
 pub use memory::{NoMemory, TryCopy};
 pub use scenario::{Fault, FaultList, Request, RequestList, Scenario, ScriptList, Skew, SkewList};
-
-#[cfg(test)]
-mod tests;

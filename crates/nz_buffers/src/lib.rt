@@ -13,6 +13,3 @@ pub use early_rep::EarlyRep;
 pub use late::Late;
 pub use laws::due_entries_come_first;
 pub use list_early::ListEarly;
-
-#[cfg(test)]
-mod tests;

@@ -17,6 +17,3 @@ pub use mem_source::MemSource;
 pub use sink::Sink;
 pub use source::{Failed, Source};
 pub use standard::{StdSink, StdSource};
-
-#[cfg(test)]
-mod tests;

@@ -8,8 +8,6 @@ mod frame;
 mod laws;
 mod reading;
 mod refusal;
-#[cfg(test)]
-mod tests;
 
 pub use address::{is_address, is_kind};
 pub use frame::Frame;

@@ -28,6 +28,3 @@ pub const MAX_ENTRIES: u32 = nz_base::MAX_ENTRIES;
 
 /// The entries of a page of a log.
 const PAGE: usize = 256;
-
-#[cfg(test)]
-mod tests;

@@ -36,6 +36,3 @@ pub use message::{
     SyncReportBody, TimedBody, VectorAskBody, VectorTellBody, ViewAskBody, ViewChangeBody,
 };
 pub use refusal::DecodeRefusal;
-
-#[cfg(test)]
-mod tests;

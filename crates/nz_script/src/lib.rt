@@ -32,6 +32,3 @@ pub use pieces::{cut_at, number_of};
 pub use printing::{print, put, put_actor, put_command, put_number};
 pub use reading::read;
 pub use validity::ValidScenario;
-
-#[cfg(test)]
-mod tests;

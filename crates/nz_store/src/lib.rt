@@ -16,6 +16,3 @@ pub use laws::{commands_in_turn, no_command_begins_another, one_spelling, store_
 pub use reading::{command_in, is_key, is_value, read_command};
 pub use store::Store;
 pub use writing::write_command;
-
-#[cfg(test)]
-mod tests;
