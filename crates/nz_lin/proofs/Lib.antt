@@ -4,4 +4,5 @@ pub mod Histories
 pub mod OneHistory
 pub mod Snapshots
 pub mod Replied
+pub mod Determined
 mod PutAndGet

@@ -1,13 +1,15 @@
 //! The laws over all runs, up to one history.
 
-ghost use Rattle.std.specs.Prelude.{ℕ, List};
+ghost use Rattle.std.specs.Prelude.{◌≡◌, ℕ, List};
 ghost use Rattle.nz_base.specs.Key.{id_of};
 ghost use Rattle.nz_base.specs.declared.actor.Actor.TheVariants.{Replica};
 ghost use Rattle.nz_base.specs.declared.key.Entry.{Entry};
+ghost use Rattle.nz_base.specs.declared.scenario.Scenario.{Scenario};
 ghost use Rattle.nz_machine.specs.declared.event.Parcel.{Parcel};
 ghost use Rattle.nz_machine.specs.declared.event.Record.{Record};
 ghost use Rattle.nz_machine.specs.State.{Group};
 ghost use Rattle.nz_machine.specs.Facts.{HasFacts};
+ghost use Rattle.nz_machine.specs.Schedule.{group_of, InOrder};
 ghost use Rattle.nz_machine.specs.World.{state_after, sent_in, Has, World};
 ghost use Rattle.nz_machine.specs.Events.{Sent, events};
 ghost use Rattle.nz_machine.specs.History.{log_at, history};
@@ -60,4 +62,10 @@ pub fn history_of_paired_prefixes()
 /// whoever crashes and rejoins, the answers that clients accepted are those of one store that executes the history.
 pub fn one_history()
     ensures { (g : Group) (J : List Record) → World g J → NoCollision g J → Lin (events g J) (history g J) }
+{}
+
+/// A run in order is a function of its scenario: two runs of the machine that have all ticks of one scenario, each in
+/// its order, are the same.
+pub fn one_run_in_order()
+    ensures { (s : Scenario) (J K : List Record) → World (group_of s) J → World (group_of s) K → InOrder s J → InOrder s K → J ≡ K }
 {}

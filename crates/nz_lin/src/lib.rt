@@ -5,5 +5,5 @@ mod laws;
 
 pub use laws::{
     each_parcel_decodes, facts_stay, history_of_paired_prefixes, messages_are_snapshots, once_each,
-    one_history, own_commands, premise_on_digests,
+    one_history, one_run_in_order, own_commands, premise_on_digests,
 };
