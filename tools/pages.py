@@ -19,6 +19,7 @@ What is checked:
                <!-- file: PATH --> it is that file. No other block looks like an output
     theorem    the quotation in README.md is that of docs/THEOREMS.md
     whole      each crate is in README.md and docs/ARCHITECTURE.md, and README.md has a link to each page
+    marks      no mark of a merge is left
     sizes      README.md and docs/DECISIONS.md are no larger than LIMITS says
 
 A command `nezha WORDS < scenarios/NAME` prints what is stored for it: scenarios/NAME.stdout, or crates/nezha/stdout.
@@ -149,6 +150,9 @@ class Page:
         size = len(text.encode())
         if size > LIMITS.get(self.name, size):
             self.fault(1, f"has {size} bytes, and may have {LIMITS[self.name]}")
+        for number, line in enumerate(text.split("\n"), 1):
+            if re.match(r"<{7}|={7}$|>{7}", line):
+                self.fault(number, "a mark that a merge has left")
         blocks = list(blocks_of(text))
         for kind, begin, lines in blocks:
             column = None

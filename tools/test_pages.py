@@ -87,6 +87,7 @@ PLANTED = {
     "another theorem": ("README.md", "> Each answer", "> Every answer", "its theorem is not that of"),
     "a page without a link": ("README.md", "[the map](docs/ARCHITECTURE.md)", "the map", "no link to docs/ARCHITECTURE.md"),
     "a crate that the map leaves out": ("docs/ARCHITECTURE.md", "nz_low, nezha", "nezha", "no word of the crate nz_low"),
+    "a mark of a merge": ("README.md", "Two lines of a trace", "<<<<<<< HEAD\nTwo lines of a trace", "a mark that a merge has left"),
     "a page that is too large": ("README.md", "# A page", "# A page" + " and more" * 1400, "and may have 11264"),
 }
 
