@@ -1,0 +1,140 @@
+#!/usr/bin/env python3
+"""Tests of reading.py, on the stored stories and on stories of a few lines."""
+
+import os
+import unittest
+
+from reading import MESSAGES, Scenario, Story, event_of, example, examples, fields_of
+from store import load, stored_path, with_stories
+
+
+class Scenarios(unittest.TestCase):
+    def test_parts(self):
+        text = "# a title\nnezha 1\nf 1\nproxies 1\nclients 2\nticks 9\nskew p0 -5\nclient c0\nwait 3\nwait 4\nput a 1\nget a\nend\n"
+        text += "client c1\nwait 2\nend\n# why\ncrash r0 1\n\ndrop p0 r0 timed 1\ndone\n"
+        it = Scenario(text)
+        self.assertEqual(it.title, "a title")
+        self.assertEqual(it.scripts, [[(4, ["put", "a", "1"]), (None, ["get", "a"])], []])
+        self.assertEqual(it.commands(), {"c0/1": "put a 1", "c0/2": "get a"})
+        self.assertEqual((it.replicas, it.proxies, it.clients), (["r0", "r1", "r2"], ["p0"], ["c0", "c1"]))
+        self.assertEqual(it.remarks, ["why", ""])
+        self.assertEqual(it.leader(4), "r1")
+        self.assertEqual(Scenario(it.text()).text(), it.text())
+        self.assertEqual(it.text().count("wait"), 1)
+
+    def test_the_text_of_a_scenario_has_its_lines(self):
+        for name in examples():
+            with open(example(name)) as source:
+                text = source.read()
+            lines = [line for line in text.splitlines() if not line.startswith("#")]
+            self.assertEqual(Scenario(text).text().splitlines(), lines, name)
+
+
+class Texts(unittest.TestCase):
+    def test_lines(self):
+        for line, parts in (
+            ("send c0 1 put gives at", ("send", "c0/1", "put gives at", "", "")),
+            ("accept c0 1 value fast slow", ("accept", "c0/1", "", "value fast", "slow")),
+            ("open c12 3", ("open", "c12/3", "", "", "")),
+            ("at 3 c0 1 get gives gives value gives", ("at", "c0/1", "get gives", "value gives", "")),
+            ("at 1 c0 1 cas a - 2 gives done", ("at", "c0/1", "cas a - 2", "done", "")),
+        ):
+            it = event_of(line)
+            self.assertEqual((it.word, it.id, it.command, it.answer, it.path), parts, line)
+
+
+class Stories(unittest.TestCase):
+    def test_each_ends_with_the_text_that_the_program_prints(self):
+        """The gate compares the stored outputs of the scenarios with the program."""
+        for name in with_stories():
+            with open(stored_path(name)) as story, open(example(f"{name}.stdout")) as output:
+                _, _, text = story.read().partition("\ntext\n")
+                output = output.read()
+            if examples()[name] not in ("run", "pace"):
+                _, _, output = output.partition("text\n")
+            if examples()[name] != "pace":
+                self.assertEqual(text, output, name)
+
+    def test_no_story_is_stored_for_nothing(self):
+        stored = sorted(os.listdir(os.path.dirname(stored_path(""))))
+        self.assertEqual(stored, sorted(f"{name}.story" for name in with_stories()))
+
+    def test_what_arrives_was_sent(self):
+        for name in with_stories():
+            scenario, story = load(name)
+            due = 0
+            for p in story.parcels:
+                self.assertEqual(p.sender[0] + p.to[0], MESSAGES[p.kind][0])
+                came = [(arrival.tick, arrival.kept) for arrival in p.arrivals]
+                expected = sorted((tick, -1 if kept is None else kept) for tick, kept in p.fates if tick <= scenario.ticks)
+                self.assertEqual(sorted((tick, -1 if kept is None else kept) for tick, kept in came), expected)
+                self.assertTrue(all(arrival.actor == p.to for arrival in p.arrivals))
+                due += len(came)
+            self.assertEqual(due, sum(now.what in ("deliver", "cut") for now in story.records))
+
+    def test_each_message_has_the_fields_of_its_kind(self):
+        for name in with_stories():
+            for p in load(name)[1].parcels:
+                names = MESSAGES[p.kind][1].split()
+                self.assertIn(list(p.fields), (names, [it for it in names if it != "answer"]))
+                self.assertEqual(" ".join(f"{it} {value}".strip() for it, value in p.fields.items()), p.text)
+
+    def test_logs_are_followed(self):
+        _, story = load("leader_cut_off")
+        last = {now.actor: now.after for now in story.records if now.after}
+        self.assertEqual(sorted(last), ["r0", "r1", "r2", "r3", "r4"])
+        for state in last.values():
+            self.assertEqual(state.log, ((12500, "c0/1"), (33500, "c1/1")))
+            self.assertEqual((state.early, state.late, state.view), ((), (), 1))
+        late = [(now.tick, now.after.log, now.after.late) for now in story.records if now.actor == "r4" and now.after and now.after.late]
+        self.assertEqual(late[0], (22, ((12500, "c0/1"),), ((10500, "c1/1"),)))
+
+    def test_a_rejoin_is_followed(self):
+        _, story = load("replica_rejoins")
+        states = [now.after for now in story.records if now.actor == "r2" and now.after and now.tick >= 20]
+        self.assertEqual([s.mode for s in states[:6]], ["down"] + ["rejoining"] * 5)
+        self.assertEqual([s.phase for s in states[1:6]], ["vectors", "vectors", "views", "views", "log"])
+        self.assertEqual((states[0].log, states[1].log, states[6].mode), ((), (), "normal"))
+        self.assertEqual(states[6].ids("log"), ["c0/1"])
+        self.assertEqual(states[-1].vector, (0, 0, 1))
+
+    def test_decisions_are_found(self):
+        _, story = load("leader_cut_off")
+        found = [(now.tick, now.actor, p.id, p.fields["path"], now.parcel.fields["view"]) for now in story.records for p in now.decides()]
+        self.assertEqual(found, [(14, "p0", "c0/1", "fast", "0"), (35, "p0", "c1/1", "fast", "1")])
+
+    def test_copies_and_cuts_are_told_apart(self):
+        story = Story("""1 c0 tick 1000
+  sends request p0 at 2 cut 5 at 2: num 1 command put a 1
+  sends request p0 at 2: num 2 command get a
+2 p0 cut request c0 5
+2 p0 deliver request c0
+2 p0 deliver request c0
+text
+end""".splitlines())
+        self.assertEqual([now.parcel.number for now in story.records[1:]], [0, 0, 1])
+        self.assertEqual([p.id for p in story.parcels], ["c0/1", "c0/2"])
+
+    def test_stray_messages(self):
+        story = Story("""60 r3 tick 60000
+  sends rejoin-ask r1 at 63: nonce 1 vector 0,0,0,1,0
+61 r3 alarm
+  sends view-change r1 at 62 at 64: view 1 last 0 vector 0,0,0,0,0 synced 0 commit 0 entries 0
+62 r1 deliver view-change r3
+  now view-change collected 1 view 1 vector 0,0,0,0,0 synced 0 commit 0
+63 r1 deliver rejoin-ask r3
+  now normal view 1 vector 0,0,0,1,0 synced 0 commit 0
+64 r1 deliver view-change r3
+text
+end""".splitlines())
+        self.assertEqual([now.tick for now in story.records if now.is_stray()], [64])
+
+    def test_words_of_commands_are_not_fields(self):
+        self.assertEqual(fields_of("request", "num 1 command put num path".split()), {"num": "1", "command": "put num path"})
+        self.assertEqual(
+            fields_of("answer", "num 1 answer value path path slow".split()), {"num": "1", "answer": "value path", "path": "slow"})
+        self.assertEqual(fields_of("log-mod", "view 0 vector 0,0,0 commit 0 start 0 keys".split())["keys"], "")
+
+
+if __name__ == "__main__":
+    unittest.main()
