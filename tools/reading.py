@@ -166,14 +166,11 @@ def event_of(line):
 
 
 def read_text(lines):
-    """The events of a text, up to its line `end`."""
-    events = []
-    for line in lines:
-        line = line.rstrip("\n")
-        if line == "end":
-            break
-        events.append(event_of(line))
-    return events
+    """The events of a text. What a trace or a story has before its line `text` is passed over."""
+    lines = [line.rstrip("\n") for line in lines]
+    if "text" in lines:
+        lines = lines[lines.index("text") + 1 :]
+    return [event_of(line) for line in lines if line != "end"]
 
 
 # Stories

@@ -146,7 +146,8 @@ def main():
         return subprocess.run(given.command, shell=True, input=text.encode(), **quiet).returncode == 0
 
     def say(tries, lines):
-        print(f"\r{tries} tries, {lines} lines ", end="", file=sys.stderr, flush=True)
+        if sys.stderr.isatty():
+            print(f"\r{tries} tries, {lines} lines ", end="", file=sys.stderr, flush=True)
 
     shrinker = Shrinker(read_scenario(given.scenario), is_interesting, given.keep.split(","), say)
     if not shrinker.accepts(shrinker.best):
