@@ -1,13 +1,15 @@
 #!/usr/bin/env python3
 """Says what is wrong with a scenario, where, and what is expected there.
 
-    lint.py [SCENARIO]      standard input, if no file is given
+    lint.py SCENARIO           a file, or - for standard input
+    lint.py --brief SCENARIO   in a line, FILE:LINE:COLUMN: KIND: WHAT, as editors read it
 
 Of a scenario that the program refuses, the first line is the program's own refusal. Then come the line, a caret, what is
 expected and perhaps what was meant; the status is 2. Of one that it takes, a line for each fault that cannot strike; the
 status is 0.
 """
 
+import argparse
 import difflib
 import re
 import sys
@@ -309,16 +311,19 @@ def warnings(text):
 
 
 def main():
-    if len(sys.argv) > 2 or sys.argv[1:2] in (["-h"], ["--help"]):
-        sys.exit(__doc__)
-    if len(sys.argv) == 2:
-        with open(sys.argv[1], "rb") as source:
-            data = source.read()
-    else:
-        data = sys.stdin.buffer.read()
+    words = argparse.ArgumentParser(description=__doc__, formatter_class=argparse.RawDescriptionHelpFormatter)
+    words.add_argument("scenario", nargs="?", default="-")
+    words.add_argument("--brief", action="store_true", help="one line, as editors read it")
+    given = words.parse_args()
+    with open(0 if given.scenario == "-" else given.scenario, "rb") as source:
+        data = source.read()
     refusal = refusal_of(data)
-    for line in explained(data, refusal) if refusal else warnings(data.decode()):
-        print(line)
+    if refusal and given.brief:
+        hint = f"; {refusal.hint}" if refusal.hint else ""
+        print(f"{given.scenario}:{refusal.line}:{refusal.column}: {refusal.kind}: {refusal.said}{hint}")
+    else:
+        for line in explained(data, refusal) if refusal else warnings(data.decode()):
+            print(line)
     sys.exit(2 if refusal else 0)
 
 

@@ -20,7 +20,7 @@ import operator
 import re
 import sys
 
-from reading import ABOUT_ACTORS, ABOUT_PARCELS, FAULTS, MESSAGES
+from reading import ABOUT_ACTORS, ABOUT_PARCELS, FAULTS, MESSAGES, opened
 
 MASK = 2**64 - 1
 # Kinds that each run has many of; the others come with view changes and rejoins.
@@ -203,7 +203,7 @@ def main():
     if sheet is None:
         print(Drawn(seed, **given).text(), end="")
         return
-    with sys.stdin if sheet == "-" else open(sheet) as source:
+    with opened(sheet) as source:
         print(Sheet(seed).text(source.read()), end="")
 
 

@@ -117,8 +117,13 @@ class Scenario:
         return "\n".join([*lines, *(" ".join(words) for words in self.faults), "done", ""])
 
 
+def opened(path):
+    """The file for reading; - is standard input."""
+    return open(0 if path == "-" else path)
+
+
 def read_scenario(path):
-    with open(path) as source:
+    with opened(path) as source:
         return Scenario(source.read())
 
 
@@ -357,7 +362,7 @@ class Story:
 
 
 def read_story(path):
-    with sys.stdin if path == "-" else open(path) as source:
+    with opened(path) as source:
         return Story(source)
 
 

@@ -5,7 +5,7 @@
     store.py --check [--program PATH]   compares the stories with what the program prints; status 1 if one differs
 
 The tests of the tools read the stories, so that they need no program. A story is stored for each scenario that has a
-fault, and for one with a late request.
+fault, and for two others.
 """
 
 import argparse
@@ -18,6 +18,7 @@ from reading import ROOT, Story, call, example, examples, program, read_scenario
 STORIES = os.path.join(ROOT, "tools", "stories")
 PICTURES = os.path.join(ROOT, "docs", "pictures")
 DRAWN = ("leader_cut_off", "replica_rejoins")
+OTHERS = ("late_request", "put_then_get")
 
 
 def stored_path(name):
@@ -30,7 +31,7 @@ def picture_path(name):
 
 def with_stories():
     """The names of the scenarios whose story is stored."""
-    return [name for name in examples() if name == "late_request" or read_scenario(example(name)).faults]
+    return [name for name in examples() if name in OTHERS or read_scenario(example(name)).faults]
 
 
 def load(name):

@@ -4,6 +4,7 @@
     test_random_scenario.py --long [PROGRAM] [COUNT]   plays so many drawn scenarios, 1,000 if left out
 """
 
+import os
 import sys
 import unittest
 from collections import Counter
@@ -12,26 +13,8 @@ from lint import refusal_of, warnings
 from random_scenario import Drawn, Sheet
 from reading import FAULTS, Scenario, call, program
 
-SHEET = """nezha 1   # the leader fails and recovers
-f 2
-proxies 2
-clients 4           # four clients under load
-ticks 400
-repeat 4
-  client c$(i-1)
-  repeat 20
-    wait $(1 + 15*$j + $i)
-    any of put k#1 v$i.$j | get k$(rnd(0,3)) | cas k$(rnd(2,3)) - w$j
-  end
-  end
-end
-# twice
-repeat 2
-  crash r$(i-1) $(20 + 100*$i)
-  restart r$(i-1) $(10 * (5 + 10*$i))
-end
-done
-"""
+with open(os.path.join(os.path.dirname(os.path.abspath(__file__)), "leader_fails.sheet")) as source:
+    SHEET = source.read()
 
 
 class FromASeed(unittest.TestCase):
@@ -79,9 +62,9 @@ class FromASheet(unittest.TestCase):
         self.assertEqual(scenario.faults, [w.split() for w in ("crash r0 120", "restart r0 150", "crash r1 220", "restart r1 250")])
         commands = [words for script in scenario.scripts for _, words in script]
         self.assertEqual({words[0] for words in commands}, {"put", "get", "cas"})
-        self.assertEqual({words[1] for words in commands if words[0] == "get"}, {"k0", "k1", "k2", "k3"})
-        self.assertEqual({words[1] for words in commands if words[0] == "cas"}, {"k2", "k3"})
-        self.assertTrue(all(words[1] == "k#1" for words in commands if words[0] == "put"))
+        self.assertEqual({words[1] for words in commands}, {"k0", "k1", "k2", "k3"})
+        self.assertEqual([words[2] for words in commands[:20] if words[0] == "put"][0][:3], "v1.")
+        self.assertEqual(Sheet(1).text("put a#b 1 # why\n#end\nend"), "put a#b 1\nend\n")
 
     def test_a_seed_has_one_scenario(self):
         self.assertEqual(Sheet(3).text(SHEET), Sheet(3).text(SHEET))
