@@ -1,11 +1,21 @@
 #!/usr/bin/env python3
-"""Tests of reading.py, on the stored stories and on stories of a few lines."""
+"""Tests of reading.py, on the stored stories and on stories of a few lines.
+
+    test_reading.py --long [PROGRAM] [COUNT]   the stories of so many drawn scenarios, 1,000 if left out: each ends with what
+                                               `run` prints, and draw.py, why.py and hits.py say what agrees with it
+"""
 
 import os
+import sys
 import unittest
+import xml.dom.minidom
 
-from reading import MESSAGES, Scenario, Story, event_of, example, examples, fields_of
+from draw import Drawing
+from hits import Hits
+from random_scenario import Drawn
+from reading import MESSAGES, Scenario, Story, call, event_of, example, examples, fields_of, program
 from store import load, stored_path, with_stories
+from why import explain, requests_of, table
 
 
 class Scenarios(unittest.TestCase):
@@ -136,5 +146,45 @@ end""".splitlines())
         self.assertEqual(fields_of("log-mod", "view 0 vector 0,0,0 commit 0 start 0 keys".split())["keys"], "")
 
 
+def faults_of(path, seed):
+    """What does not agree in the story of a drawn scenario."""
+    text = Drawn(seed).text()
+    output, status = call(path, ["story"], text)
+    lines, scenario = output.splitlines(), Scenario(text)
+    story = Story(lines)
+    if status != 0 or output.partition("\ntext\n")[2] != call(path, ["run"], text)[0]:
+        yield "the text of its story is not that of the run"
+    if sum(len(p.arrivals) for p in story.parcels) != sum(now.what in ("deliver", "cut") for now in story.records):
+        yield "messages arrive that were not sent"
+    xml.dom.minidom.parseString(Drawing(scenario, story).svg())
+    hits = Hits(scenario, Story([]))
+    for p in story.parcels:
+        before = sum(map(len, hits.ticks))
+        hits.strike_parcel(p)
+        if (sum(map(len, hits.ticks)) > before) != (p.fates != [(p.tick + 1, None)]):
+            yield f"hits.py: the fate of {p.kind} of tick {p.tick} from {p.sender} to {p.to}"
+    ends = {event.id: event.path or "open" for event in story.text if event.word in ("accept", "open")}
+    for request in requests_of(story):
+        said = explain(scenario, request)
+        if not said.startswith(f"{request.name} {request.command}: {ends[request.name]}"):
+            yield f"why.py: {said}, and the text {ends[request.name]}"
+    paces, status = call(path, ["pace"], text)
+    counts = [line.replace("requests ", "") for line in table(requests_of(story))]
+    if status == 0 and [line for line in paces.splitlines() if line.startswith(("ticks", "open"))] != counts:
+        yield f"why.py --table: {counts}, and pace {paces}"
+
+
+def compare(path, count):
+    bad = 0
+    for seed in range(count):
+        for fault in faults_of(path, seed):
+            print(f"seed {seed}: {fault}")
+            bad += 1
+    print(f"{count} stories; {bad} differ")
+    return bad
+
+
 if __name__ == "__main__":
+    if sys.argv[1:2] == ["--long"]:
+        sys.exit(compare(program(*sys.argv[2:3]), int(*sys.argv[3:4] or [1000])) > 0)
     unittest.main()

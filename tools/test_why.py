@@ -85,7 +85,25 @@ class Why(unittest.TestCase):
             "3 r2 deliver timed p0", reply.format("00", "0,0,1", ""),
             "4 p0 deliver fast-reply r0", "4 p0 deliver fast-reply r1", "4 p0 deliver fast-reply r2",
         ])
-        self.assertEqual(told, "c0/1 put a 1: open: p0 has an answer of a leader and replies of r0, r1, r2")
+        self.assertEqual(
+            told, "c0/1 put a 1: open: p0 has an answer of a leader and replies of r0, r1, r2 "
+            "(r1's log before it differs from the leader's, r2 has another crash vector (0,0,1; the leader 0,0,0))")
+
+    def test_a_reply_of_the_view_before_is_not_the_cause_if_one_of_this_view_comes_late(self):
+        def reply(tick, actor, view, answer=""):
+            body = f"view {view} id c0/1 digest 00 vector 0,0,0 delay 1{answer}"
+            return [f"{tick} {actor} tick {tick}000", f"  sends fast-reply p0 at {tick + 1}: {body}"]
+
+        copies = ["  sends request p0 at 2: num 1 command put a 1", "2 p0 deliver request c0",
+                  *(f"  sends timed r{k} at 3: sent 2000 deadline 2500 id c0/1" for k in range(3))]
+        early = [*reply(3, "r2", 0), "4 p0 deliver fast-reply r2"]
+        decision = [*reply(8, "r0", 1), *reply(8, "r1", 1, " answer done"), "9 p0 deliver fast-reply r0", "9 p0 deliver fast-reply r1",
+                    "  sends answer c0 lost: num 1 answer done path slow"]
+        late = [*reply(9, "r2", 1), "10 p0 deliver fast-reply r2"]
+        head = "c0/1 put a 1: open, though p0 decided it at 9 (slow): a slow quorum came first (r0, r1; fast needs 3); "
+        rest = "; an answer of tick 9 was lost"
+        self.assertEqual(self.told([*copies, *early, *decision]), f"{head}r2 replied in view 0{rest}")
+        self.assertEqual(self.told([*copies, *early, *decision, *late]), f"{head}r2: its reply came after the decision{rest}")
 
 
 if __name__ == "__main__":

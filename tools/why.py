@@ -84,14 +84,18 @@ def difference(replica, reply, lead):
 def why_not(request, replica, proxy, upto, lead):
     """Why a replica is not in the quorum of this proxy at a place of the story: the first cause that fits."""
     replies = request.replies_to(proxy, upto, replica)
-    if replies and lead and difference(replica, replies[-1], lead):
+    later = request.replies_to(proxy, float("inf"), replica)[len(replies) :]
+    in_view = [p for p in replies if lead and p.fields["view"] == lead.fields["view"]]
+    if in_view and difference(replica, in_view[-1], lead):
+        return difference(replica, in_view[-1], lead)
+    if any(not lead or p.fields["view"] == lead.fields["view"] for p in later):
+        return f"{replica}: its reply came after the decision"
+    if replies and lead:
         return difference(replica, replies[-1], lead)
     copies = [p for p in request.copies if p.to == replica and p.sender == proxy]
     arrivals = [arrival for p in copies for arrival in p.arrivals]
     if not copies:
         return f"{replica} was sent nothing"
-    if len(request.replies_to(proxy, float("inf"), replica)) > len(replies):
-        return f"{replica}: its reply came after the decision"
     if not any(p.fates for p in copies):
         return f"{replica}: its copy was lost"
     if not arrivals:
@@ -125,8 +129,11 @@ def undecided(scenario, request):
             continue
         replies = request.replies_to(ask.to, end)
         leads = [p for p in replies if "answer" in p.fields]
-        heard = sorted({p.sender for p in replies})
-        others = [why_not(request, r, ask.to, end, leads[-1] if leads else None) for r in scenario.replicas if r not in heard]
+        lead = leads[-1] if leads else None
+        last = {p.sender: p for p in replies}
+        heard = sorted(last)
+        outside = [r for r in scenario.replicas if r not in last or lead and difference(r, last[r], lead)]
+        others = [why_not(request, r, ask.to, end, lead) for r in outside]
         has = "an answer of a leader" if leads else "no answer of a leader"
         said.append(f"{ask.to} has {has} and replies of {', '.join(heard) or 'nobody'}" + (f" ({', '.join(others)})" if others else ""))
     return "; ".join(dict.fromkeys(said))
