@@ -313,7 +313,7 @@ class Drawing:
         return [self.band(actor, a, b, state) for a, b, state in spans if b > a and (actor[0] == "r" or state.mode == "down")]
 
     def band(self, actor, x0, x1, state):
-        leads = state.mode == "normal" and self.scenario.leader(state.view) == actor
+        leads = self.scenario.leader(state.view) == actor
         sort, *said = {
             "normal": ("leader" if leads else "follower", f"view {state.view}" + ", leader" * leads, f"view {state.view}"),
             "view-change": ("view change", f"to view {state.view}", f"to {state.view}"),

@@ -5,7 +5,7 @@ import re
 import unittest
 import xml.dom.minidom
 
-from draw import Drawing, News, page
+from draw import Drawing, News, page, wide
 from reading import Scenario, Story
 from store import DRAWN, load, picture, picture_path, with_stories
 
@@ -111,8 +111,15 @@ class Pictures(unittest.TestCase):
         it = Drawing(*load("rejoins_twice"))
         it.svg()
         self.assertIn("rejoin-tell", [label[3] for label in it.labels])
-        places = [re.search(r'x="([\d.]+)" y="([\d.]+)"', word).groups() for word in it.words()]
-        self.assertEqual(len(places), len(set(places)))
+        boxes = []
+        for word in it.words():
+            x, y, size, said = re.match(r'<text x="([\d.]+)" y="([\d.]+)" font-size="(\d+)"[^>]*>([^<]*)', word).groups()
+            boxes.append((float(x), float(y) - int(size), float(x) + wide(said, int(size)), float(y), said))
+        self.assertGreater(len(boxes), 20)
+        for k, (a, b, c, d, said) in enumerate(boxes):
+            for e, f, g, h, other in boxes[:k]:
+                across, down = min(c, g) - max(a, e), min(d, h) - max(b, f)
+                self.assertFalse(across > 2 and down > 3, f"{said} and {other}")
 
     def test_an_open_request_and_one_on_its_way(self):
         story = Story("""1 c0 tick 1000

@@ -52,6 +52,10 @@ class Grammar(unittest.TestCase):
                 if refusal.line == place:
                     self.assertEqual(matching(bad)[0]["name"], "invalid.illegal.nezha", bad)
 
+    def test_an_actor_of_another_sort_is_invalid(self):
+        for line in ("skew c0 1", "client r0", "crash c0 3", "restart c1 3", "alarm p1 3", "drop p0 * timed 1", "drop p0 r0 timmed 1"):
+            self.assertEqual(matching(line)[0]["name"], "invalid.illegal.nezha", line)
+
     def test_its_words_are_those_of_the_language(self):
         first = {word for p in PATTERNS if "captures" in p for word in re.match(r"\^ \*\(([^)]*)\)", p["match"])[1].split("|")}
         self.assertEqual(first, set(LINES))

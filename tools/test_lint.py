@@ -111,6 +111,8 @@ class Refusals(unittest.TestCase):
         self.assertEqual(kind(of(200, 1001)), (1208, "limit"))
         self.assertIsNone(kind(of(100, 0, 20000)))
         self.assertEqual(kind(of(101, 0, 20000)), (107, "limit"))
+        self.assertEqual(kind(of(202, 0, 9901)), (208, "limit"))
+        self.assertEqual(kind(of(489, 409)), (905, "limit"))
         rest = 1_048_576 - len(BASE)
         self.assertIsNone(kind(BASE.encode() + b"#" * (rest - 1) + b"\n"))
         self.assertEqual(kind(BASE.encode() + b"#" * rest + b"\n"), (18, "limit"))

@@ -65,6 +65,12 @@ class Stories(unittest.TestCase):
             if examples()[name] != "pace":
                 self.assertEqual(text, output, name)
 
+    def test_what_clients_see_is_in_the_text(self):
+        for name in with_stories():
+            _, story = load(name)
+            seen = [event for now in story.records for event in now.events]
+            self.assertEqual(seen, [event for event in story.text if event.word in ("send", "accept")], name)
+
     def test_no_story_is_stored_for_nothing(self):
         stored = sorted(os.listdir(os.path.dirname(stored_path(""))))
         self.assertEqual(stored, sorted(f"{name}.story" for name in with_stories()))
@@ -112,6 +118,10 @@ class Stories(unittest.TestCase):
         _, story = load("leader_cut_off")
         found = [(now.tick, now.actor, p.id, p.fields["path"], now.parcel.fields["view"]) for now in story.records for p in now.decides()]
         self.assertEqual(found, [(14, "p0", "c0/1", "fast", "0"), (35, "p0", "c1/1", "fast", "1")])
+        # An answer that is sent again for a request that comes again is no decision.
+        _, story = load("window_lost_answer")
+        self.assertEqual(sum(p.kind == "answer" for p in story.parcels), 4)
+        self.assertEqual(sum(len(now.decides()) for now in story.records), 3)
 
     def test_copies_and_cuts_are_told_apart(self):
         story = Story("""1 c0 tick 1000
@@ -127,7 +137,7 @@ end""".splitlines())
 
     def test_stray_messages(self):
         story = Story("""60 r3 tick 60000
-  sends rejoin-ask r1 at 63: nonce 1 vector 0,0,0,1,0
+  sends rejoin-ask r1 at 63 at 64: nonce 1 vector 0,0,0,1,0
 61 r3 alarm
   sends view-change r1 at 62 at 64: view 1 last 0 vector 0,0,0,0,0 synced 0 commit 0 entries 0
 62 r1 deliver view-change r3
@@ -135,9 +145,19 @@ end""".splitlines())
 63 r1 deliver rejoin-ask r3
   now normal view 1 vector 0,0,0,1,0 synced 0 commit 0
 64 r1 deliver view-change r3
+64 r1 deliver rejoin-ask r3
 text
 end""".splitlines())
         self.assertEqual([now.tick for now in story.records if now.is_stray()], [64])
+
+    def test_lists_are_in_the_order_of_their_keys(self):
+        lines = ["3 r0 deliver timed p0"] * 4
+        for at, key in zip((1, 3, 5, 7), ("20/c0/1", "10/c10/1", "10/c9/2", "10/c9/10")):
+            lines.insert(at, f"  now normal view 0 vector 0,0,0 synced 0 commit 0 early +{key}")
+        for tick in range(4):
+            lines.insert(0, "  sends timed r0 at 3: sent 2 deadline 9 id c0/1")
+        story = Story(["2 p0 tick 2000", *lines, "text", "end"])
+        self.assertEqual(story.records[-1].after.ids("early"), ["c9/2", "c9/10", "c10/1", "c0/1"])
 
     def test_words_of_commands_are_not_fields(self):
         self.assertEqual(fields_of("request", "num 1 command put num path".split()), {"num": "1", "command": "put num path"})

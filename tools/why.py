@@ -88,7 +88,7 @@ def why_not(request, replica, proxy, upto, lead):
     in_view = [p for p in replies if lead and p.fields["view"] == lead.fields["view"]]
     if in_view and difference(replica, in_view[-1], lead):
         return difference(replica, in_view[-1], lead)
-    if any(not lead or p.fields["view"] == lead.fields["view"] for p in later):
+    if later:
         return f"{replica}: its reply came after the decision"
     if replies and lead:
         return difference(replica, replies[-1], lead)
