@@ -140,7 +140,8 @@ class Drawing:
         self.lanes = [a for a in scenario.clients if a in busy] + scenario.proxies + scenario.replicas
         self.lay_ticks()
         self.lay_lanes()
-        self.over, self.labels = [], []  # what is drawn above all else; and words that must not cover each other
+        # What is drawn above all else; words that must not cover each other; and boxes that words must not cover.
+        self.over, self.labels, self.taken = [], [], []
 
     # Where things are
 
@@ -214,7 +215,7 @@ class Drawing:
 
     def words(self):
         """Each label in its place, or a line or two away; one that finds no room is left out."""
-        taken, out = [], []
+        taken, out = list(self.taken), []
         for must, x, y, said, away, attributes in sorted(self.labels, key=lambda label: label[0]):
             size, width = attributes.get("size", 11), wide(said, **attributes)
             x = min(x, self.width - width - 4)
@@ -344,7 +345,10 @@ class Drawing:
             vector = self.new_vector(now)
             width = wide(vector)
             if following is None or end + width <= self.place(following) + 2 or following.before.mode == "down":
-                out += [boxes] if boxes else []
+                if boxes:
+                    out.append(boxes)
+                    top = self.y[actor] + BAND + 4
+                    self.taken.append((self.place(now), top, end, top + BOX))
                 gone = []
                 if vector:
                     self.say(end, self.y[actor] + BAND + 14, vector, fill=VIOLET, font_weight="bold")
@@ -369,13 +373,14 @@ class Drawing:
             said = f"tick {now.tick}: place {place + 1} of the log of {now.actor} is {name} ({self.commands[name]}), "
             about = title(said + ("synced" if is_synced else "not synced"))
             fill = hue if is_synced else "white"
-            out.append(tag("rect", about, x=x, y=y, width=BOX, height=BOX, fill=fill, stroke=hue, stroke_width=1.6))
+            box = {"x": x, "y": y, "width": BOX, "height": BOX, "class_": "box", "data_id": name}
+            out.append(tag("rect", about, fill=fill, stroke=hue, stroke_width=1.6, **box))
             x += BOX + 2.5
         for name in gone:
             about = title(f"tick {now.tick}: {name} ({self.commands[name]}) leaves the log of {now.actor}")
             box = tag("rect", x=x + 1, y=y, width=BOX, height=BOX, fill="white", stroke=self.hue[name], stroke_dasharray="2 1.5")
             cross = tag("path", d=f"M{x - 1:.1f} {y - 2}l14 14m0 -14l-14 14", stroke=self.hue[name], stroke_width=1.8)
-            out.append(tag("g", about, box, cross))
+            out.append(tag("g", about, box, cross, class_="box", data_id=name))
             x += BOX + 6
         return tag("g", *out) if out else "", x
 
@@ -407,12 +412,13 @@ class Drawing:
             tag("rect", fill="white", **bar),
             tag("rect", fill=hue, fill_opacity=0.14, stroke=hue, stroke_dasharray=None if end else "4 3", **bar),
         ]
-        self.over.append(text(x0 + 8, y + 4, said, 11.5, fill=hue, font_weight="bold", pointer_events="none"))
+        of_it = {"class_": "bar", "data_id": name, "font_weight": "bold"}
+        self.over.append(text(x0 + 8, y + 4, said, 11.5, fill=hue, pointer_events="none", **of_it))
         if answer:
             ink = FAMILIES[answer.path][1]
             told = f"{answer.answer}, {answer.path}"
             out.append(tag("circle", title(f"tick {end.tick}: accepts {name}: {told}"), cx=x1, cy=y, r=5, fill=ink))
-            self.say(x1 + 6, y - 12, f"✓ {clipped(told, 30)}", fill=ink, font_weight="bold")
+            self.say(x1 + 6, y - 12, f"✓ {clipped(told, 30)}", fill=ink, **of_it)
         elif self.last == self.scenario.ticks:
             out.append(text(x1 - 6, y - 13, "open", 11, fill="#b91c1c", font_weight="bold", text_anchor="end"))
         return tag("g", *out, class_="bar", data_id=name)
@@ -444,7 +450,8 @@ class Drawing:
     def label(self, now, p, word):
         x, y, up = self.place(now), self.y[now.actor], self.y[p.to] < self.y[now.actor]
         y += -BAND - 3 if up else BAND + 24
-        self.say(x + 4, y, word, -1 if up else 1, size=10, fill=FAMILIES[FAMILY[p.kind]][1])
+        family = FAMILY[p.kind]
+        self.say(x + 4, y, word, -1 if up else 1, size=10, fill=FAMILIES[family][1], class_=family, data_id=p.id)
 
     def arrows_of(self, now, p):
         """An arrow for each arrival, and a cross where a message is lost."""
@@ -476,7 +483,7 @@ class Drawing:
             )
             if is_dead:
                 x, y = self.within(tick, ARRIVES) + 4, y1 + (-4 if down else 12)
-                self.say(x, y, "stray" if is_stray else "cut", -1 if down else 1, size=10, fill=GREY)
+                self.say(x, y, "stray" if is_stray else "cut", -1 if down else 1, size=10, fill=GREY, **group)
             out.append(tag("g", title(said_of_it), line, **group))
         return out
 
@@ -533,17 +540,19 @@ class Drawing:
 PAGE = """<!doctype html>
 <html lang="en"><head><meta charset="utf-8"><title>{title}</title><style>
 body {{ margin: 0; font: 14px sans-serif; padding-bottom: 3em }}
-#bar {{ position: sticky; top: 0; left: 0; width: 100vw; box-sizing: border-box; padding: 6px 12px; background: #f8fafc; border-bottom: 1px solid #e5e7eb; z-index: 1 }}
-#said {{ position: fixed; bottom: 0; left: 0; right: 0; background: #111827; color: #f9fafb; padding: 6px 12px; font: 13px monospace; min-height: 1.2em }}
+#bar {{ position: sticky; top: 0; left: 0; width: 100vw; box-sizing: border-box; padding: 6px 12px; z-index: 1 }}
+#bar {{ background: #f8fafc; border-bottom: 1px solid #e5e7eb }}
+#said {{ position: fixed; bottom: 0; left: 0; right: 0; padding: 6px 12px; min-height: 1.2em }}
+#said {{ background: #111827; color: #f9fafb; font: 13px monospace }}
 svg {{ display: block }}
-label {{ margin-right: 12px; white-space: nowrap }}
+label {{ margin-right: 9px; white-space: nowrap }}
 .dim {{ opacity: .08 }}
-g[data-id] {{ cursor: pointer }}
+[data-id] {{ cursor: pointer }}
 g[class]:hover line {{ stroke-width: 3.5 }}
 </style></head><body>
 <div id="bar">{boxes}
 <label>size <input id="size" type="range" min="0.5" max="3" step="0.1"></label>
-<span style="color:#6b7280">Point at anything to read it; click a request to follow it.</span></div>
+<span style="color:#6b7280">Point to read, click to follow.</span></div>
 {svg}
 <div id="said">&nbsp;</div>
 <script>
@@ -567,10 +576,10 @@ svg.onmousemove = e => {{
 }};
 svg.onclick = e => {{
   const id = e.target.closest('[data-id]')?.dataset.id;
-  svg.querySelectorAll('g[class]').forEach(g => g.classList.toggle('dim', id !== undefined && g.dataset.id !== id));
+  svg.querySelectorAll('[class]').forEach(it => it.classList.toggle('dim', id !== undefined && it.dataset.id !== id));
 }};
 document.querySelectorAll('input[type=checkbox]').forEach(box => box.onchange = () =>
-  svg.querySelectorAll('g.' + box.value).forEach(g => g.style.display = box.checked ? '' : 'none'));
+  svg.querySelectorAll('.' + box.value).forEach(it => it.style.display = box.checked ? '' : 'none'));
 </script></body></html>
 """
 

@@ -114,7 +114,7 @@ class Pictures(unittest.TestCase):
         boxes = []
         for word in it.words():
             x, y, size, said = re.match(r'<text x="([\d.]+)" y="([\d.]+)" font-size="(\d+)"[^>]*>([^<]*)', word).groups()
-            boxes.append((float(x), float(y) - int(size), float(x) + wide(said, int(size)), float(y), said))
+            boxes.append((float(x), float(y) - int(size), float(x) + wide(said, int(size), "bold" if "bold" in word else None), float(y), said))
         self.assertGreater(len(boxes), 20)
         for k, (a, b, c, d, said) in enumerate(boxes):
             for e, f, g, h, other in boxes[:k]:
