@@ -132,8 +132,13 @@ def example(name):
     return os.path.join(ROOT, "scenarios", name)
 
 
+def stored_output(name):
+    with open(example(f"{name}.stdout")) as output:
+        return output.read()
+
+
 def examples():
-    """The names of the scenarios in the folder scenarios that are played, with the first word of the command for each."""
+    """The names of the scenarios in the folder scenarios that are played or refused, with the command's first word for each."""
     found = {}
     for name in sorted(os.listdir(os.path.join(ROOT, "scenarios"))):
         if not os.path.exists(example(f"{name}.args")):
@@ -143,6 +148,11 @@ def examples():
         if word in ("run", "trace", "story", "locks", "peek", "pace"):
             found[name] = word
     return found
+
+
+def played():
+    """Those that are played."""
+    return {name: word for name, word in examples().items() if not stored_output(name).startswith("refused")}
 
 
 # The text of a run
@@ -210,6 +220,7 @@ class Parcel:
     sender: str
     to: str
     tick: int
+    place: int  # of the record that sends it
     fates: list
     text: str
     fields: dict
@@ -354,7 +365,8 @@ class Story:
         now = self.records[-1]
         head, _, text = line.partition(": ")
         kind, to, *fate = head.split()
-        parcel = Parcel(len(self.parcels), kind, now.actor, to, now.tick, fates_of(fate), text, fields_of(kind, text.split()))
+        fields = fields_of(kind, text.split())
+        parcel = Parcel(len(self.parcels), kind, now.actor, to, now.tick, now.place, fates_of(fate), text, fields)
         self.parcels.append(parcel)
         now.sends.append(parcel)
         for tick, kept in parcel.fates:

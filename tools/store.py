@@ -13,7 +13,7 @@ import os
 import sys
 
 from draw import Drawing
-from reading import ROOT, Story, call, example, examples, program, read_scenario
+from reading import ROOT, Story, call, example, played, program, read_scenario
 
 STORIES = os.path.join(ROOT, "tools", "stories")
 PICTURES = os.path.join(ROOT, "docs", "pictures")
@@ -31,7 +31,7 @@ def picture_path(name):
 
 def with_stories():
     """The names of the scenarios whose story is stored."""
-    return [name for name in examples() if name in OTHERS or read_scenario(example(name)).faults]
+    return [name for name in played() if name in OTHERS or read_scenario(example(name)).faults]
 
 
 def load(name):

@@ -12,11 +12,16 @@ import unittest
 
 from history import edn, executed, operations, unexplained
 from random_scenario import Drawn
-from reading import call, example, examples, program, read_text
+from reading import call, played, program, read_text, stored_output
 
 
 def explained(text):
     return unexplained(read_text(text.splitlines())) is None
+
+
+def texts():
+    """The stored outputs that have the text of a run."""
+    return [(name, stored_output(name)) for name, word in played().items() if word != "pace"]
 
 
 class Histories(unittest.TestCase):
@@ -33,18 +38,14 @@ class Histories(unittest.TestCase):
         ])
 
     def test_a_process_has_one_operation_open(self):
-        for name in examples():
-            with open(example(f"{name}.stdout")) as output:
-                if output.readline().startswith("refused"):
-                    continue
-                output.seek(0)
-                open_now = set()
-                for operation in operations(read_text(output)):
-                    if operation["type"] == "invoke":
-                        self.assertNotIn(operation["process"], open_now)
-                        open_now.add(operation["process"])
-                    elif operation["type"] == "ok":
-                        open_now.remove(operation["process"])
+        for name, text in texts():
+            open_now = set()
+            for operation in operations(read_text(text.splitlines())):
+                if operation["type"] == "invoke":
+                    self.assertNotIn(operation["process"], open_now, name)
+                    open_now.add(operation["process"])
+                elif operation["type"] == "ok":
+                    open_now.remove(operation["process"])
 
     def test_edn(self):
         operation = {"index": 2, "process": 16, "type": "ok", "f": "cas", "key": 'a"', "value": ["-", "2"], "answer": "value 1"}
@@ -69,11 +70,8 @@ PUT = "send c0 1 put a 1\naccept c0 1 done fast\n"
 
 class Search(unittest.TestCase):
     def test_the_stored_outputs_are_explained(self):
-        for name, word in examples().items():
-            with open(example(f"{name}.stdout")) as output:
-                text = output.read()
-            if word != "pace" and not text.startswith("refused"):
-                self.assertTrue(explained(text), name)
+        for name, text in texts():
+            self.assertTrue(explained(text), name)
 
     def test_answers_that_no_order_gives(self):
         for text in (
@@ -103,8 +101,7 @@ class Search(unittest.TestCase):
             self.assertTrue(explained(text + "end\n"), text)
 
     def test_each_answer_of_a_run_that_is_changed_matters(self):
-        with open(example("seven_answers.stdout")) as output:
-            lines = output.read().splitlines()
+        lines = stored_output("seven_answers").splitlines()
         for at, line in enumerate(lines):
             if line.startswith("accept"):
                 head, path = line.split()[:3], line.split()[-1]

@@ -10,7 +10,7 @@ import sys
 import unittest
 
 from lint import KINDS, LINES, explained, refusal_of, warnings
-from reading import FAULTS, call, example, examples, program
+from reading import FAULTS, call, example, examples, program, stored_output
 
 BASE = """nezha 2
 f 1
@@ -137,11 +137,11 @@ class Refusals(unittest.TestCase):
     def test_the_scenarios_are_taken_as_the_program_does(self):
         """The gate compares what the program prints with the stored outputs, so these are the program's own."""
         for name in examples():
-            with open(example(name), "rb") as text, open(example(f"{name}.stdout")) as output:
-                data, first = text.read(), output.readline()
-            found = refusal_of(data)
+            with open(example(name), "rb") as text:
+                found = refusal_of(text.read())
+            output = stored_output(name)
             self.assertEqual(f"refused line {found.line}: {found.kind}\n" if found else None,
-                             first if first.startswith("refused line") else None, name)
+                             output if output.startswith("refused") else None, name)
 
     def test_faults_that_cannot_strike(self):
         faults = [

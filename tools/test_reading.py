@@ -13,7 +13,7 @@ import xml.dom.minidom
 from draw import Drawing
 from hits import Hits
 from random_scenario import Drawn
-from reading import MESSAGES, Scenario, Story, call, event_of, example, examples, fields_of, program
+from reading import MESSAGES, Scenario, Story, call, event_of, example, fields_of, played, program, stored_output
 from store import load, stored_path, with_stories
 from why import explain, requests_of, table
 
@@ -33,11 +33,11 @@ class Scenarios(unittest.TestCase):
         self.assertEqual(it.text().count("wait"), 1)
 
     def test_the_text_of_a_scenario_has_its_lines(self):
-        for name in examples():
+        for name in played():
             with open(example(name)) as source:
                 text = source.read()
-            lines = [line for line in text.splitlines() if not line.startswith("#")]
-            self.assertEqual(Scenario(text).text().splitlines(), lines, name)
+            lines = [line.split() for line in text.splitlines() if line and not line.startswith("#")]
+            self.assertEqual([line.split() for line in Scenario(text).text().splitlines()], lines, name)
 
 
 class Texts(unittest.TestCase):
@@ -57,13 +57,11 @@ class Stories(unittest.TestCase):
     def test_each_ends_with_the_text_that_the_program_prints(self):
         """The gate compares the stored outputs of the scenarios with the program."""
         for name in with_stories():
-            with open(stored_path(name)) as story, open(example(f"{name}.stdout")) as output:
+            word, output = played()[name], stored_output(name)
+            with open(stored_path(name)) as story:
                 _, _, text = story.read().partition("\ntext\n")
-                output = output.read()
-            if examples()[name] not in ("run", "pace"):
-                _, _, output = output.partition("text\n")
-            if examples()[name] != "pace":
-                self.assertEqual(text, output, name)
+            if word != "pace":
+                self.assertEqual(text, output if word == "run" else output.partition("text\n")[2], name)
 
     def test_what_clients_see_is_in_the_text(self):
         for name in with_stories():

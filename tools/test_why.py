@@ -89,6 +89,23 @@ class Why(unittest.TestCase):
             told, "c0/1 put a 1: open: p0 has an answer of a leader and replies of r0, r1, r2 "
             "(r1's log before it differs from the leader's, r2 has another crash vector (0,0,1; the leader 0,0,0))")
 
+    def test_what_comes_after_the_decision_is_no_cause(self):
+        def copy(tick, fate):
+            return [f"  sends timed r{k} {fate if k == 2 else f'at {tick + 1}'}: sent 2000 deadline 2500 id c0/1" for k in range(3)]
+
+        def reply(k, answer=""):
+            return [f"3 r{k} deliver timed p0", f"  sends slow-reply p0 at 4: view 0 id c0/1 delay 1{answer}"] if k else \
+                ["3 r0 deliver timed p0", "  sends fast-reply p0 at 4: view 0 id c0/1 digest 00 vector 0,0,0 delay 1 answer done"]
+
+        for fate, said in (("lost", "r2: its copy was lost"), ("at 9", "r2: its copy is on the way")):
+            told = self.told([
+                "  sends request p0 at 2 at 6: num 1 command put a 1", "2 p0 deliver request c0", *copy(2, fate), *reply(0), *reply(1),
+                "4 p0 deliver fast-reply r0", "4 p0 deliver slow-reply r1", "  sends answer c0 lost: num 1 answer done path slow",
+                "6 p0 deliver request c0", *copy(6, "at 7"), "7 r0 deliver timed p0", "7 r1 deliver timed p0", "7 r2 deliver timed p0",
+                *(["9 r2 deliver timed p0"] if "9" in fate else []),
+            ])
+            self.assertIn(f"(r0, r1; fast needs 3); {said}; an answer", told)
+
     def test_a_reply_of_the_view_before_is_not_the_cause_if_one_of_this_view_comes_late(self):
         def reply(tick, actor, view, answer=""):
             body = f"view {view} id c0/1 digest 00 vector 0,0,0 delay 1{answer}"

@@ -92,8 +92,8 @@ def why_not(request, replica, proxy, upto, lead):
         return f"{replica}: its reply came after the decision"
     if replies and lead:
         return difference(replica, replies[-1], lead)
-    copies = [p for p in request.copies if p.to == replica and p.sender == proxy]
-    arrivals = [arrival for p in copies for arrival in p.arrivals]
+    copies = [p for p in request.copies if p.to == replica and p.sender == proxy and p.place <= upto]
+    arrivals = [arrival for p in copies for arrival in p.arrivals if arrival.place <= upto]
     if not copies:
         return f"{replica} was sent nothing"
     if not any(p.fates for p in copies):
