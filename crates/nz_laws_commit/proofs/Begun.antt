@@ -38,7 +38,7 @@ use Rattle.nz_laws_commit.proofs.Instance.{normal_status, up_status, normal_up_s
 
 -- ---- the reports
 
-all_reports : (P : Change → Type 0) (xs : List Reported) → ((x : Reported) → Has xs x → P x.change) → AllByRecursion P (map (λ (x : Reported). x.change) xs)
+pub all_reports : (P : Change → Type 0) (xs : List Reported) → ((x : Reported) → Has xs x → P x.change) → AllByRecursion P (map (λ (x : Reported). x.change) xs)
 all_reports P [] each = tt
 all_reports P (x ∷ xs) each = (each x (inl refl), all_reports P xs (λ z has. each z (inr has)))
 

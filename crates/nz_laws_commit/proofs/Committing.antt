@@ -44,7 +44,7 @@ led_results g J v w led =
     let now = normal_in_is v (leader_at g v J) led in
     (facts.executed.led now.0 (led_leads g v J led)).results ∙ ap (λ (l : List Entry). replies (commands l)) (sym (led_log g v J led))
 
-taken_has : (n : ℕ) (es : List Entry) (e : Entry) → Has (take n es) e → Has es e
+pub taken_has : (n : ℕ) (es : List Entry) (e : Entry) → Has (take n es) e → Has es e
 taken_has zero es e h = absurd h
 taken_has (suc n) [] e h = absurd h
 taken_has (suc n) (x ∷ es) e (inl h) = inl h

@@ -101,7 +101,7 @@ pub normal_at_is : (g : Group) (y v : ℕ) (K : List Record) → IsNormal (logs_
 normal_at_is g y v K n = is_in_view v (replica_at g y K) (status_normal (replica_at g y K).status n.status) n.view
 
 -- who leads now and did not before is the record's actor
-led_by : (g : Group) (v : ℕ) (r : Record) (K : List Record) → is_led g v (r ∷ K) ≡ true → is_led g v K ≡ false
+pub led_by : (g : Group) (v : ℕ) (r : Record) (K : List Record) → is_led g v (r ∷ K) ≡ true → is_led g v K ≡ false
     → actor_eq r.actor (Replica (leader_of g.f v)) ≡ true
 led_by g v r K led not_led = elim (cases_Bool (actor_eq r.actor (Replica (leader_of g.f v)))) [
   | inl acts ↦ acts
@@ -233,3 +233,13 @@ start_is g v (r ∷ K) =
         ap (λ (b : Bool). cond b (Some (keys_of (leader_at g v (r ∷ K)).log.entries)) None)
         (leads_is g v r K ∙ led_test g v r K acts (is_led g v (r ∷ K)) refl refl led)
         ∙ some_keys (is_led g v (r ∷ K)) (leader_at g v (r ∷ K)).log.entries
+
+-- a view that had not begun starts with the log of the leader that begins it
+pub start_now : (g : Group) (v : ℕ) (r : Record) (K : List Record) → start_of (states_of g) v K ≡ None → is_led g v (r ∷ K) ≡ true → is_led g v K ≡ false
+    → start_of (states_of g) v (r ∷ K) ≡ Some (keys_of (leader_at g v (r ∷ K)).log.entries)
+unfolding start_of
+start_now g v r K none led not_led =
+    let log = keys_of (leader_at g v (r ∷ K)).log.entries in
+    let test = leads_is g v r K ∙ and_from (actor_eq r.actor (Replica (leader_of g.f v))) (is_led g v (r ∷ K)) (led_by g v r K led not_led) led in
+    ap (λ (o : Option (List Key)). option_or o (cond (leads_by (states_of g) v r K) (Some log) None)) none
+    ∙ ap (λ (b : Bool). cond b (Some log) None) test

@@ -30,5 +30,10 @@ pub mod TurnDoes
 pub mod Following
 pub mod Begun
 pub mod Whole
+pub mod CommitPoints
+pub mod Acks
+pub mod Backing
+pub mod Committed
+pub mod Stabling
 pub mod Led
 pub mod Rising

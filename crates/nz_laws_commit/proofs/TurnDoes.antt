@@ -73,21 +73,23 @@ pub record KnowsLog (f y : ℕ) (s : TurnState) : Type 0 where
   pub sound : logs.IsSound s.log
   pub led : is_normal s.status ≡ true → eqb (leader_of f s.view) y ≡ true → s.log.synced ≡ length s.log.entries
 
--- a log modification has the keys of its sender's log, in whose view it was in normal operation
+-- a log modification has the keys of its sender's log and its commit, in whose view it was in normal operation
 pub record IsToldMod (g : Group) (K : List Record) (sender : ℕ) (b : LogModBody) : Type 0 where
   pub told : List Record
   pub moment : At K told
   pub normal : is_normal (replica_at g sender told).status ≡ true
   pub view : (replica_at g sender told).view ≡ b.view
+  pub commit : (replica_at g sender told).commit ≡ b.commit
   pub keys : b.keys ≡ take MAX_KEYS (drop b.start (keys_of (replica_at g sender told).log.entries))
 
--- a whole log is its sender's
-pub record IsToldLog (g : Group) (K : List Record) (sender named : ℕ) (list : List Entry) : Type 0 where
+-- a whole log is its sender's, with its commit
+pub record IsToldLog (g : Group) (K : List Record) (sender named : ℕ) (list : List Entry) (count : ℕ) : Type 0 where
   pub told : List Record
   pub moment : At K told
   pub normal : is_normal (replica_at g sender told).status ≡ true
   pub view : (replica_at g sender told).view ≡ named
   pub entries : (replica_at g sender told).log.entries ≡ list
+  pub commit : (replica_at g sender told).commit ≡ count
 
 -- ---- released entries
 
@@ -103,8 +105,8 @@ grown_synced f y s _ (More log normal follows more) = more.follows refl
 
 module _ (g : Group) (y : ℕ) (r : Record) (K : List Record) (knows : KnowsLog g.f y (turn_state_at g y K)) (sound : IsSound g.f (turn_state_at g y K))
     (mods : (sender : ℕ) (b : LogModBody) → heard_by g y r.event ≡ Some (Replica sender, messages.LogMod b) → IsToldMod g K sender b)
-    (starts : (sender : ℕ) (b : StartViewBody) → heard_by g y r.event ≡ Some (Replica sender, messages.StartView b) → IsToldLog g K sender b.view b.entries)
-    (tells : (sender : ℕ) (b : StateTellBody) → heard_by g y r.event ≡ Some (Replica sender, messages.StateTell b) → IsToldLog g K sender b.view b.entries)
+    (starts : (sender : ℕ) (b : StartViewBody) → heard_by g y r.event ≡ Some (Replica sender, messages.StartView b) → IsToldLog g K sender b.view b.entries b.commit)
+    (tells : (sender : ℕ) (b : StateTellBody) → heard_by g y r.event ≡ Some (Replica sender, messages.StateTell b) → IsToldLog g K sender b.view b.entries b.commit)
   where
     abbrev s : TurnState
     s = turn_state_at g y K
@@ -165,7 +167,7 @@ module _ (g : Group) (y : ℕ) (r : Record) (K : List Record) (knows : KnowsLog 
           entries = taken.entries;
           modified = λ lead part prefix. record { part = taken.part lead part prefix; prefixes = λ P p either. taken.prefixes lead part prefix P p either };
         })
-    turn_is _ (Tally commit normal led more) is = unchanged _ is (record { status = refl; view = refl; last = refl; synced = refl; log = refl })
+    turn_is _ (Tally sender b heard normal led same few) is = unchanged _ is (record { status = refl; view = refl; last = refl; synced = refl; log = refl })
     turn_is _ (Enter w up later log grown) is =
         entered _ is (record {
           before = up_status s.status up;
@@ -210,7 +212,7 @@ module _ (g : Group) (y : ℕ) (r : Record) (K : List Record) (knows : KnowsLog 
           synced = refl;
         }))
     turn_is _ (Start sender b new may) is =
-        let told = subst (λ (z : ℕ). IsToldLog g K z b.view b.entries) may.leader (starts sender b new.is) in
+        let told = subst (λ (z : ℕ). IsToldLog g K z b.view b.entries b.commit) may.leader (starts sender b new.is) in
         adopted _ is (record {
           before = λ down. up_not_down s.status may.up down;
           after = refl;
@@ -234,7 +236,7 @@ module _ (g : Group) (y : ℕ) (r : Record) (K : List Record) (knows : KnowsLog 
     turn_is _ (AskLog sender b new ours heard_tells same enough) is =
         unchanged _ is (record { status = refl; view = refl; last = refl; synced = refl; log = refl })
     turn_is _ (Return sender b new ours late leader) is =
-        let told = subst (λ (z : ℕ). IsToldLog g K z b.view b.entries) leader (tells sender b new.is) in
+        let told = subst (λ (z : ℕ). IsToldLog g K z b.view b.entries b.commit) leader (tells sender b new.is) in
         adopted _ is (record {
           before = λ down. rejoining_not_down s.status ours.rejoining down;
           after = refl;
@@ -251,7 +253,7 @@ module _ (g : Group) (y : ℕ) (r : Record) (K : List Record) (knows : KnowsLog 
 
 -- ---- what is known in every run
 
-knows_log : (g : Group) (y : ℕ) (K : List Record) → World g K → KnowsLog g.f y (turn_state_at g y K)
+pub knows_log : (g : Group) (y : ℕ) (K : List Record) → World g K → KnowsLog g.f y (turn_state_at g y K)
 knows_log g y K w =
     let facts : HasFacts g.f y (replica_at g y K) = (all_fit g K w).states (Replica y) in
     let carried = own_carried g.f y (replica_at g y K) facts in
@@ -260,7 +262,7 @@ knows_log g y K w =
       led = λ normal led. (facts.executed.led normal led).synced;
     }
 
-told_mod : (g : Group) (y : ℕ) (r : Record) (K : List Record) → World g (r ∷ K) → r.actor ≡ Replica y → (sender : ℕ) (b : LogModBody)
+pub told_mod : (g : Group) (y : ℕ) (r : Record) (K : List Record) → World g (r ∷ K) → r.actor ≡ Replica y → (sender : ℕ) (b : LogModBody)
     → heard_by g y r.event ≡ Some (Replica sender, messages.LogMod b) → IsToldMod g K sender b
 told_mod g y r K w a sender b heard =
     let was = was_sent g r K w (Replica y) (Replica sender) (messages.LogMod b) a heard in
@@ -275,25 +277,26 @@ told_mod g y r K w a sender b heard =
       moment = s.at;
       normal = shows.normal;
       view = ap (λ (x : LogModBody). x.view) same;
+      commit = ap (λ (x : LogModBody). x.commit) same;
       keys = sym (ap (λ (x : LogModBody). x.keys) same)
           ∙ ap (λ (n : ℕ). take MAX_KEYS (drop n (keys_of (replica_at g sender (s.newest ∷ s.older)).log.entries))) start;
     }
 
-told_start : (g : Group) (y : ℕ) (r : Record) (K : List Record) → World g (r ∷ K) → r.actor ≡ Replica y → (sender : ℕ) (b : StartViewBody)
-    → heard_by g y r.event ≡ Some (Replica sender, messages.StartView b) → IsToldLog g K sender b.view b.entries
+pub told_start : (g : Group) (y : ℕ) (r : Record) (K : List Record) → World g (r ∷ K) → r.actor ≡ Replica y → (sender : ℕ) (b : StartViewBody)
+    → heard_by g y r.event ≡ Some (Replica sender, messages.StartView b) → IsToldLog g K sender b.view b.entries b.commit
 told_start g y r K w a sender b heard =
     let h = shows g K w.1 in
     let s = letters.sent_at sender y (messages.StartView b) K (letters.was_sent g y r K w a sender (messages.StartView b) heard) in
     let told = h.start_view sender y b s.record_of s.older s.at s.sends in
-    record { told = s.record_of ∷ s.older; moment = s.at; normal = told.normal; view = told.view; entries = told.entries }
+    record { told = s.record_of ∷ s.older; moment = s.at; normal = told.normal; view = told.view; entries = told.entries; commit = told.commit }
 
-told_state : (g : Group) (y : ℕ) (r : Record) (K : List Record) → World g (r ∷ K) → r.actor ≡ Replica y → (sender : ℕ) (b : StateTellBody)
-    → heard_by g y r.event ≡ Some (Replica sender, messages.StateTell b) → IsToldLog g K sender b.view b.entries
+pub told_state : (g : Group) (y : ℕ) (r : Record) (K : List Record) → World g (r ∷ K) → r.actor ≡ Replica y → (sender : ℕ) (b : StateTellBody)
+    → heard_by g y r.event ≡ Some (Replica sender, messages.StateTell b) → IsToldLog g K sender b.view b.entries b.commit
 told_state g y r K w a sender b heard =
     let h = shows g K w.1 in
     let s = letters.sent_at sender y (messages.StateTell b) K (letters.was_sent g y r K w a sender (messages.StateTell b) heard) in
     let told = h.state_tell sender y b s.record_of s.older s.at s.sends in
-    record { told = s.record_of ∷ s.older; moment = s.at; normal = told.normal; view = told.view; entries = told.entries }
+    record { told = s.record_of ∷ s.older; moment = s.at; normal = told.normal; view = told.view; entries = told.entries; commit = told.commit }
 
 -- ---- the premises on the rules
 

@@ -8,3 +8,4 @@ pub mod Instance
 pub mod Once
 pub mod Example
 pub mod Present
+pub mod Stable

@@ -15,7 +15,7 @@ ghost use Rattle.nz_machine.specs.declared.event.Record.{Record};
 ghost use Rattle.nz_machine.specs.State.{Group};
 ghost use Rattle.nz_machine.specs.Replicas.{commands, is_up};
 ghost use Rattle.nz_machine.specs.World.{state_after, World};
-ghost use Rattle.nz_machine.specs.OneHistory.{NoCollision};
+ghost use Rattle.nz_machine.specs.OneHistory.{NoCollision, IsAccepted};
 ghost use Rattle.nz_machine.specs.Leading.{is_normal_in, leader_at, is_led, lead};
 ghost use Rattle.nz_machine.specs.Committed.{IsAcceptedIn, Prefixes};
 ghost use Rattle.nz_laws_commit.specs.Supports.{HadSynced, FastReplied, IsLedAt, Support, InLaterStarts};
@@ -23,12 +23,21 @@ ghost use Rattle.nz_laws_commit.specs.Machines.{GroupStates, machine_of, start_o
 ghost use Rattle.nz_laws_commit.specs.Does.{FollowsRules};
 ghost use Rattle.nz_laws_commit.specs.Instance.{states_of};
 ghost use Rattle.nz_laws_commit.specs.Present.{AreUpWithin};
+ghost use Rattle.nz_laws_commit.specs.Stable.{Stable, IsComparableWith};
 ghost use Rattle.nz_laws_commit.specs.Example as example;
 
 /// In every run of the machine with the premise on digests, whoever crashes and rejoins, each later view starts with
 /// what was accepted in a view, and of two accepted prefixes one begins with the other.
 pub fn prefixes()
     ensures { (g : Group) (J : List Record) → World g J → NoCollision g J → Prefixes g J }
+{}
+
+/// In every run of the machine what a replica knew to be committed stays: each view above the replica's last one starts
+/// with it, the same incarnation knows no less later, and any two replicas know comparable prefixes at whatever moments.
+/// Only that it is comparable with what was accepted needs the premise on digests.
+pub fn committed_prefixes_are_stable()
+    ensures stable { (g : Group) (J : List Record) → World g J → Stable g J }
+    ensures accepted { (g : Group) (J : List Record) → World g J → NoCollision g J → (A : List Entry) → IsAccepted g A J → IsComparableWith g J A }
 {}
 
 /// Every run of the machine follows the rules that the laws of support ask for.

@@ -1,10 +1,11 @@
--- With which log a view begins: the merge of the reports that its leader collected, each of which is its sender's
--- state.
+-- With which log and commit a view begins: the merge of the reports that its leader collected, each of which is its
+-- sender's state, and the greatest commit of these.
 use Rattle.std.proofs.Common.{◌≡◌, ℕ, ◌≤◌, ◌<◌, true, false, List, ◌∷◌, length, map, Some, refl, sym, ap, ◌∙◌, inr, arith}
+use Rattle.std.specs.Prelude.{min}
 use Rattle.nz_base.specs.Cluster.{leader_of}
 use Rattle.nz_base.specs.Moments.{At}
 use Rattle.nz_merge.specs.declared.change.Change.{Change}
-use Rattle.nz_merge.specs.Merged.{merged}
+use Rattle.nz_merge.specs.Merged.{greatest, merged}
 use Rattle.nz_machine.specs.declared.event.Record.{Record}
 use Rattle.nz_machine.specs.declared.data.Reported.{Reported}
 use Rattle.nz_machine.specs.State.{Group}
@@ -24,10 +25,15 @@ use Rattle.nz_laws_cv.proofs.WithinIncarnation.{sound_at}
 use Rattle.nz_laws_cv.proofs.SentShows.{Shows}
 use Rattle.nz_laws_cv.proofs.Beginnings.{normal_in_is, begun_turn, begin_of}
 
--- the leader's log after the record, and its state before
+-- what the leader's reports are: its own state before the record, and those that it has after it
+abbrev pub begun_reports : Group → ℕ → Record → List Record → List Change
+begun_reports g w r K = own_change (leader_of g.f w) (leader_at g w K) ∷ map (λ (x : Reported). x.change) (leader_at g w (r ∷ K)).changes
+
+-- the leader's log and commit after the record, and its state before
 pub record IsBegunLog (g : Group) (w : ℕ) (r : Record) (K : List Record) : Type 0 where
-  pub entries : (leader_at g w (r ∷ K)).log.entries
-      ≡ merged g.f (own_change (leader_of g.f w) (leader_at g w K) ∷ map (λ (x : Reported). x.change) (leader_at g w (r ∷ K)).changes)
+  pub entries : (leader_at g w (r ∷ K)).log.entries ≡ merged g.f (begun_reports g w r K)
+  pub commit : (leader_at g w (r ∷ K)).commit
+      ≡ min (length (leader_at g w (r ∷ K)).log.entries) (greatest (map (λ (c : Change). c.commit) (begun_reports g w r K)))
   pub synced : (leader_at g w (r ∷ K)).log.synced ≡ length (leader_at g w (r ∷ K)).log.entries
   pub up : is_up (leader_at g w K).status ≡ true
   pub view : (leader_at g w K).view ≤ w
@@ -45,6 +51,10 @@ begun_log_is g w r K world led not_led =
       entries = ap (λ (s : TurnState). s.log.entries) b.is
           ∙ ap (λ (changes : List Reported). merged g.f (own_change l (replica_at g l K) ∷ map (λ (x : Reported). x.change) changes))
           (sym (ap (λ (s : TurnState). s.changes) b.is));
+      commit = ap (λ (s : TurnState). s.commit) b.is
+          ∙ ap (λ (s : TurnState). min (length s.log.entries)
+          (greatest (map (λ (c : Change). c.commit) (own_change l (replica_at g l K) ∷ map (λ (x : Reported). x.change) s.changes))))
+          (sym b.is);
       synced = ap (λ (s : TurnState). s.log.synced) b.is ∙ sym (ap (λ (s : TurnState). length s.log.entries) b.is);
       up = b.may.up;
       view = omega (arith, view, later);

@@ -137,7 +137,7 @@ module _ (f me : ℕ) (Sent : ℕ → Message → Type 0) where
     reports_kept s _ sound Stays h = h
     reports_kept s _ sound (Release log normal more) h = record { reports = λ c. normal_no_change s.status normal c }
     reports_kept s _ sound (Sync sender b new hears le log changed) h = record { reports = λ c. normal_no_change s.status hears.normal c }
-    reports_kept s _ sound (Tally commit normal led more) h = record { reports = λ c. normal_no_change s.status normal c }
+    reports_kept s _ sound (Tally sender b is normal led same few) h = record { reports = λ c. normal_no_change s.status normal c }
     reports_kept s _ sound (Merge sender m u new normal) h = record { reports = λ c. normal_no_change s.status normal c }
     reports_kept s _ sound (Enter w up later log grown) h = record { reports = λ _. no_reports w s.vector }
     reports_kept s _ sound (Follow sender m u new w up later) h = record { reports = λ _. no_reports w _ }

@@ -19,7 +19,7 @@ use Rattle.nz_machine.specs.Replicas.{first_replica, is_normal, is_up, is_rejoin
 use Rattle.nz_machine.specs.World.{World}
 use Rattle.nz_machine.specs.Incarnations.{replica_at, incarnation}
 use Rattle.nz_machine.specs.Hearing.{Heard}
-use Rattle.nz_laws_cv.proofs.Turns.{TurnState, turn_state, merging, starting, with_changes, with_change, begun_log, begun_commit, IsNew}
+use Rattle.nz_laws_cv.proofs.Turns.{TurnState, turn_state, merging, starting, unreported, with_changes, with_change, begun_log, begun_commit, IsNew}
 use Rattle.nz_laws_cv.proofs.Turns.{MayLead, Base, Awaits, Turn, Stays, Release, Merge, Sync, Tally, Enter, Follow, Answer, Collect}
 use Rattle.nz_laws_cv.proofs.Turns.{Begin, Start, Fall, Wake, HearVector, Count, HearView, Forget, AskLog, Return, Back}
 use Rattle.nz_laws_cv.proofs.TurnRules.{heard_by}
@@ -96,7 +96,7 @@ module _ (f me : ℕ) (e : Event) (heard : Heard) where
   returns s _ Stays r n = normal_no_rejoin s.status n r
   returns s _ (Release log normal more) r n = normal_no_rejoin s.status normal r
   returns s _ (Sync sender b new hears le log changed) r n = normal_no_rejoin s.status hears.normal r
-  returns s _ (Tally commit normal led more) r n = normal_no_rejoin s.status normal r
+  returns s _ (Tally sender b is normal led same few) r n = normal_no_rejoin s.status normal r
   returns s _ (Merge sender m u new normal) r n = normal_no_rejoin s.status normal r
   returns s _ (Enter w up later log grown) r n = up_no_rejoin s.status up r
   returns s _ (Follow sender m u new w up later) r n = up_no_rejoin s.status up r
@@ -124,7 +124,8 @@ module _ (f me : ℕ) (e : Event) (heard : Heard) where
     pub full : length (with_change base sender body) ≡ f
     pub is : t
         ≡ with_changes
-        (starting (merging me s body.vector) body.view (begun_log f me s (with_change base sender body)) (begun_commit f me s (with_change base sender body)))
+        (unreported f
+        (starting (merging me s body.vector) body.view (begun_log f me s (with_change base sender body)) (begun_commit f me s (with_change base sender body))))
         (with_change base sender body)
 
   -- it was so before, begins a view that it leads, or follows the leader of a view
@@ -140,7 +141,7 @@ module _ (f me : ℕ) (e : Event) (heard : Heard) where
   arrives s _ Stays n = Was n refl
   arrives s _ (Release log normal more) n = Was normal refl
   arrives s _ (Sync sender b new hears le log changed) n = Was hears.normal refl
-  arrives s _ (Tally commit normal led more) n = Was normal refl
+  arrives s _ (Tally sender b is normal led same few) n = Was normal refl
   arrives s _ (Merge sender m u new normal) n = Was normal refl
   arrives s _ (Enter w up later log grown) n = absurd cc
   arrives s _ (Follow sender m u new w up later) n = absurd cc
@@ -207,7 +208,7 @@ was_up g m r K w up = elim (passing g m r K w) [
   ]
 ]
 
-zeros : (n k : ℕ) → slice_index (replicate n 0) k ≡ 0
+pub zeros : (n k : ℕ) → slice_index (replicate n 0) k ≡ 0
 zeros zero k = refl
 zeros (suc n) zero = refl
 zeros (suc n) (suc k) = zeros n k

@@ -182,9 +182,9 @@ module _ (f me : ℕ) (e : Event) (heard : Heard) (fit : HearsFit f me heard) wh
   rejoins_on s p n v r h ours size =
       record { sized = size; normal = h.normal; changing = h.changing; rejoining = h.rejoining; rejoining_last = h.rejoining_last }
 
-  starts : (s : TurnState) (v : List ℕ) (w : ℕ) (log : Log) (commit : ℕ) (changes : List Reported) → length v ≡ replica_count f
-      → IsSound f (record s { status = Normal; view = w; last = w; log = log; commit = commit; vector = v; changes = changes })
-  starts s v w log commit changes size =
+  starts : (s : TurnState) (v : List ℕ) (w : ℕ) (log : Log) (commit : ℕ) (ack : List ℕ) (changes : List Reported) → length v ≡ replica_count f
+      → IsSound f (record s { status = Normal; view = w; last = w; log = log; commit = commit; ack = ack; vector = v; changes = changes })
+  starts s v w log commit ack changes size =
       record { sized = size; normal = λ _. refl; changing = λ h. absurd cc; rejoining = λ h. absurd cc; rejoining_last = λ h. absurd cc }
 
   enters : (s : TurnState) (v : List ℕ) (w : ℕ) (log : Log) (changes : List Reported) → s.last < w → length v ≡ replica_count f
@@ -209,7 +209,7 @@ module _ (f me : ℕ) (e : Event) (heard : Heard) (fit : HearsFit f me heard) wh
         rejoining = h.rejoining;
         rejoining_last = h.rejoining_last;
       }
-  sound_kept s _ (Tally commit normal led more) h =
+  sound_kept s _ (Tally sender b is normal led same few) h =
       record { sized = h.sized; normal = h.normal; changing = h.changing; rejoining = h.rejoining; rejoining_last = h.rejoining_last }
   sound_kept s _ (Merge sender m u new normal) h =
       record { sized = merged_size s sender m u h new; normal = h.normal; changing = h.changing; rejoining = h.rejoining; rejoining_last = h.rejoining_last }
@@ -227,8 +227,8 @@ module _ (f me : ℕ) (e : Event) (heard : Heard) (fit : HearsFit f me heard) wh
       }
   sound_kept s _ (Collect sender b new may base on) h =
       enters s _ b.view s.log _ (collects_low s b.view _ base h may.up on) (merged_size s sender _ b.vector h new)
-  sound_kept s _ (Begin sender b new may base on full) h = starts s _ b.view _ _ _ (merged_size s sender _ b.vector h new)
-  sound_kept s _ (Start sender b new may) h = starts s _ b.view _ _ s.changes (merged_size s sender _ b.vector h new)
+  sound_kept s _ (Begin sender b new may base on full) h = starts s _ b.view _ _ _ _ (merged_size s sender _ b.vector h new)
+  sound_kept s _ (Start sender b new may) h = starts s _ b.view _ _ s.ack s.changes (merged_size s sender _ b.vector h new)
   sound_kept s _ (Fall is) h = crashed_sound f
   sound_kept s _ (Wake nonce is down) h = restarted_sound f nonce
   sound_kept s _ (HearVector sender b new ours) h = rejoins_on s _ _ _ _ h ours (merged_size s sender _ b.vector h new)
@@ -237,7 +237,7 @@ module _ (f me : ℕ) (e : Event) (heard : Heard) (fit : HearsFit f me heard) wh
   sound_kept s _ (HearView sender b new ours) h = rejoins_on s _ _ _ _ h ours (merged_size s sender _ b.vector h new)
   sound_kept s _ (Forget sender b new ours) h = rejoins_on s _ _ _ _ h ours (merged_size s sender _ b.vector h new)
   sound_kept s _ (AskLog sender b new ours tells is enough) h = rejoins_on s _ _ _ _ h ours (merged_size s sender _ b.vector h new)
-  sound_kept s _ (Return sender b new ours late leader) h = starts s _ b.view _ _ s.changes (merged_size s sender _ b.vector h new)
+  sound_kept s _ (Return sender b new ours late leader) h = starts s _ b.view _ _ s.ack s.changes (merged_size s sender _ b.vector h new)
   sound_kept s _ (Back rejoining is) h =
       record { sized = h.sized; normal = h.normal; changing = h.changing; rejoining = h.rejoining; rejoining_last = h.rejoining_last }
 
@@ -265,11 +265,11 @@ module _ (f me : ℕ) (e : Event) (heard : Heard) (fit : HearsFit f me heard) wh
       takes_in s.vector u me k (omega (arith, size, own)) (omega (arith, in_group, own)) other
 
   -- up before and after, with this vector
-  goes_up : (s : TurnState) (a : Status) (w l : ℕ) (log : Log) (commit : ℕ) (v : List ℕ) (changes : List Reported) → is_up s.status ≡ true → is_up a ≡ true
+  goes_up : (s : TurnState) (a : Status) (w l : ℕ) (log : Log) (commit : ℕ) (ack v : List ℕ) (changes : List Reported) → is_up s.status ≡ true → is_up a ≡ true
       → s.view ≤ w → s.last ≤ l
       → ((k : ℕ) → slice_index s.vector k ≤ slice_index v k) → slice_index s.vector me ≡ slice_index v me
-      → Goes me s (record s { status = a; view = w; last = l; log = log; commit = commit; vector = v; changes = changes })
-  goes_up s a w l log commit v changes up after view last places own = record {
+      → Goes me s (record s { status = a; view = w; last = l; log = log; commit = commit; ack = ack; vector = v; changes = changes })
+  goes_up s a w l log commit ack v changes up after view last places own = record {
     down = up_not_down a after ∙ sym (up_not_down s.status up);
     view = view;
     last = last;
@@ -305,35 +305,35 @@ module _ (f me : ℕ) (e : Event) (heard : Heard) (fit : HearsFit f me heard) wh
   pub course : (s t : TurnState) → me < replica_count f → IsSound f s → Turn f me e heard s t → Course f me e s t
   course s _ in_group h Stays = GoesOn (goes_same me s s refl) (λ x y. up_no_rejoin s.status y x)
   course s _ in_group h (Release log normal more) =
-      GoesOn (goes_up s s.status s.view s.last log s.commit s.vector s.changes (normal_up s.status normal) (normal_up s.status normal) (omega arith)
+      GoesOn (goes_up s s.status s.view s.last log s.commit s.ack s.vector s.changes (normal_up s.status normal) (normal_up s.status normal) (omega arith)
       (omega arith) (λ k. omega arith) refl) (λ x y. up_no_rejoin s.status y x)
   course s _ in_group h (Sync sender b new hears le log changed) =
-      GoesOn (goes_up s s.status s.view s.last log _ _ s.changes (normal_up s.status hears.normal) (normal_up s.status hears.normal) (omega arith)
+      GoesOn (goes_up s s.status s.view s.last log _ s.ack _ s.changes (normal_up s.status hears.normal) (normal_up s.status hears.normal) (omega arith)
       (omega arith) (merges s sender _ b.vector in_group h new) (merges_own s sender _ b.vector in_group h new)) (λ x y. up_no_rejoin s.status y x)
-  course s _ in_group h (Tally commit normal led more) =
-      GoesOn (goes_up s s.status s.view s.last s.log commit s.vector s.changes (normal_up s.status normal) (normal_up s.status normal) (omega arith)
+  course s _ in_group h (Tally sender b is normal led same few) =
+      GoesOn (goes_up s s.status s.view s.last s.log _ _ s.vector s.changes (normal_up s.status normal) (normal_up s.status normal) (omega arith)
       (omega arith) (λ k. omega arith) refl) (λ x y. up_no_rejoin s.status y x)
   course s _ in_group h (Merge sender m u new normal) =
-      GoesOn (goes_up s s.status s.view s.last s.log s.commit _ s.changes (normal_up s.status normal) (normal_up s.status normal) (omega arith)
+      GoesOn (goes_up s s.status s.view s.last s.log s.commit s.ack _ s.changes (normal_up s.status normal) (normal_up s.status normal) (omega arith)
       (omega arith) (merges s sender m u in_group h new) (merges_own s sender m u in_group h new)) (λ x y. up_no_rejoin s.status y x)
   course s _ in_group h (Enter w up later log grown) =
-      GoesOn (goes_up s ViewChange w s.last log s.commit s.vector [] up refl (omega (arith, later)) (omega arith) (λ k. omega arith) refl)
+      GoesOn (goes_up s ViewChange w s.last log s.commit s.ack s.vector [] up refl (omega (arith, later)) (omega arith) (λ k. omega arith) refl)
       (λ x y. up_no_rejoin s.status up x)
   course s _ in_group h (Follow sender m u new w up later) =
-      GoesOn (goes_up s ViewChange w s.last s.log s.commit _ [] up refl (omega (arith, later)) (omega arith) (merges s sender m u in_group h new)
+      GoesOn (goes_up s ViewChange w s.last s.log s.commit s.ack _ [] up refl (omega (arith, later)) (omega arith) (merges s sender m u in_group h new)
       (merges_own s sender m u in_group h new)) (λ x y. up_no_rejoin s.status up x)
   course s _ in_group h (Answer sender b new normal same) =
-      GoesOn (goes_up s s.status s.view s.last s.log s.commit _ _ (normal_up s.status normal) (normal_up s.status normal) (omega arith) (omega arith)
+      GoesOn (goes_up s s.status s.view s.last s.log s.commit s.ack _ _ (normal_up s.status normal) (normal_up s.status normal) (omega arith) (omega arith)
       (merges s sender _ b.vector in_group h new) (merges_own s sender _ b.vector in_group h new)) (λ x y. up_no_rejoin s.status y x)
   course s _ in_group h (Collect sender b new may base on) =
-      GoesOn (goes_up s ViewChange b.view s.last s.log s.commit _ _ may.up refl may.later (omega arith) (merges s sender _ b.vector in_group h new)
+      GoesOn (goes_up s ViewChange b.view s.last s.log s.commit s.ack _ _ may.up refl may.later (omega arith) (merges s sender _ b.vector in_group h new)
       (merges_own s sender _ b.vector in_group h new)) (λ x y. up_no_rejoin s.status may.up x)
   course s _ in_group h (Begin sender b new may base on full) =
-      GoesOn (goes_up s Normal b.view b.view _ _ _ _ may.up refl may.later
+      GoesOn (goes_up s Normal b.view b.view _ _ _ _ _ may.up refl may.later
       (let low = last_low f s h may.up in let later = may.later in omega (arith, low, later)) (merges s sender _ b.vector in_group h new)
       (merges_own s sender _ b.vector in_group h new)) (λ x y. up_no_rejoin s.status may.up x)
   course s _ in_group h (Start sender b new may) =
-      GoesOn (goes_up s Normal b.view b.view _ _ _ _ may.up refl may.later
+      GoesOn (goes_up s Normal b.view b.view _ _ _ _ _ may.up refl may.later
       (let low = last_low f s h may.up in let later = may.later in omega (arith, low, later)) (merges s sender _ b.vector in_group h new)
       (merges_own s sender _ b.vector in_group h new)) (λ x y. up_no_rejoin s.status may.up x)
   course s _ in_group h (Fall is) = Falls refl

@@ -26,7 +26,7 @@ use Rattle.nz_machine.proofs.Moments.{at_world}
 use Rattle.nz_machine.proofs.ReadShows.{IsShown, shown_by, delivers, was_sent, rejoin_tell_takes, state_tell_takes}
 use Rattle.nz_laws_cv.proofs.SentShows.{IsSent, Sends, AsksVector, AsksView, AsksLog, TellsVector, TellsView, TellsLog, Reports, StartsView, Shows}
 
-same_replica : (r q : ℕ) → Replica r ≡ Replica q → r ≡ q
+pub same_replica : (r q : ℕ) → Replica r ≡ Replica q → r ≡ q
 same_replica r q e = cc
 
 -- an ask that was heard was sent by the receiver of the answer, another replica

@@ -135,7 +135,7 @@ module _ (f me : ℕ) (Sent : ℕ → Message → Type 0) where
     tellers_kept s _ sound (Release log normal more) h = leaves s _ (record { tellers = refl; claim = refl; nonce = refl; settled = λ x. x; own = refl }) h
     tellers_kept s _ sound (Sync sender b new hears le log changed) h =
         leaves s _ (record { tellers = refl; claim = refl; nonce = refl; settled = λ x. x; own = own s sender _ b.vector sound new }) h
-    tellers_kept s _ sound (Tally commit normal led more) h = leaves s _ (record { tellers = refl; claim = refl; nonce = refl; settled = λ x. x; own = refl }) h
+    tellers_kept s _ sound (Tally sender b is normal led same few) h = leaves s _ (record { tellers = refl; claim = refl; nonce = refl; settled = λ x. x; own = refl }) h
     tellers_kept s _ sound (Merge sender m u new normal) h =
         leaves s _ (record { tellers = refl; claim = refl; nonce = refl; settled = λ x. x; own = own s sender m u sound new }) h
     tellers_kept s _ sound (Enter w up later log grown) h = leaves s _ (record { tellers = refl; claim = refl; nonce = refl; settled = λ x. x; own = refl }) h

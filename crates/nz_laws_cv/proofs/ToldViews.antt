@@ -80,10 +80,10 @@ module _ (f me : ℕ) (Sent : ℕ → Message → Type 0) where
   first_tells = nothing (turn_state (first_replica f)) refl (λ h. cc)
 
   -- a rule of a replica that is up, or comes up
-  up_tells : (s : TurnState) (a : Status) (w l : ℕ) (log : Log) (commit : ℕ) (v : List ℕ) (changes : List Reported) → (is_rejoining a ≡ true → ⊥)
+  up_tells : (s : TurnState) (a : Status) (w l : ℕ) (log : Log) (commit : ℕ) (ack v : List ℕ) (changes : List Reported) → (is_rejoining a ≡ true → ⊥)
       → ((k : ℕ) → slice_index s.vector k ≤ slice_index v k) → HasTells s
-      → HasTells (record s { status = a; view = w; last = l; log = log; commit = commit; vector = v; changes = changes })
-  up_tells s a w l log commit v changes up grows h = record {
+      → HasTells (record s { status = a; view = w; last = l; log = log; commit = commit; ack = ack; vector = v; changes = changes })
+  up_tells s a w l log commit ack v changes up grows h = record {
     distinct = h.distinct;
     each = λ t has. let k =
         h.each t has in record {
@@ -163,20 +163,20 @@ module _ (f me : ℕ) (Sent : ℕ → Message → Type 0) where
     pub tells_kept : (s t : TurnState) → IsSound f s → Turn f me e heard s t → HasTells s → HasTells t
     tells_kept s _ sound Stays h = h
     tells_kept s _ sound (Release log normal more) h =
-        up_tells s s.status s.view s.last log s.commit s.vector s.changes (λ r. normal_no_rejoin s.status normal r) (λ k. omega arith) h
+        up_tells s s.status s.view s.last log s.commit s.ack s.vector s.changes (λ r. normal_no_rejoin s.status normal r) (λ k. omega arith) h
     tells_kept s _ sound (Sync sender b new hears le log changed) h =
-        up_tells s s.status s.view s.last log _ _ s.changes (λ r. normal_no_rejoin s.status hears.normal r) (grows s sender _ b.vector sound new) h
-    tells_kept s _ sound (Tally commit normal led more) h =
-        up_tells s s.status s.view s.last s.log commit s.vector s.changes (λ r. normal_no_rejoin s.status normal r) (λ k. omega arith) h
+        up_tells s s.status s.view s.last log _ s.ack _ s.changes (λ r. normal_no_rejoin s.status hears.normal r) (grows s sender _ b.vector sound new) h
+    tells_kept s _ sound (Tally sender b is normal led same few) h =
+        up_tells s s.status s.view s.last s.log _ _ s.vector s.changes (λ r. normal_no_rejoin s.status normal r) (λ k. omega arith) h
     tells_kept s _ sound (Merge sender m u new normal) h =
-        up_tells s s.status s.view s.last s.log s.commit _ s.changes (λ r. normal_no_rejoin s.status normal r) (grows s sender m u sound new) h
-    tells_kept s _ sound (Enter w up later log grown) h = up_tells s _ w s.last log s.commit s.vector _ (λ r. cc) (λ k. omega arith) h
-    tells_kept s _ sound (Follow sender m u new w up later) h = up_tells s _ w s.last s.log s.commit _ _ (λ r. cc) (grows s sender m u sound new) h
+        up_tells s s.status s.view s.last s.log s.commit s.ack _ s.changes (λ r. normal_no_rejoin s.status normal r) (grows s sender m u sound new) h
+    tells_kept s _ sound (Enter w up later log grown) h = up_tells s _ w s.last log s.commit s.ack s.vector _ (λ r. cc) (λ k. omega arith) h
+    tells_kept s _ sound (Follow sender m u new w up later) h = up_tells s _ w s.last s.log s.commit s.ack _ _ (λ r. cc) (grows s sender m u sound new) h
     tells_kept s _ sound (Answer sender b new normal same) h =
-        up_tells s s.status s.view s.last s.log s.commit _ _ (λ r. normal_no_rejoin s.status normal r) (grows s sender _ b.vector sound new) h
-    tells_kept s _ sound (Collect sender b new may base on) h = up_tells s _ b.view s.last s.log s.commit _ _ (λ r. cc) (grows s sender _ b.vector sound new) h
-    tells_kept s _ sound (Begin sender b new may base on full) h = up_tells s _ b.view b.view _ _ _ _ (λ r. cc) (grows s sender _ b.vector sound new) h
-    tells_kept s _ sound (Start sender b new may) h = up_tells s _ b.view b.view _ _ _ _ (λ r. cc) (grows s sender _ b.vector sound new) h
+        up_tells s s.status s.view s.last s.log s.commit s.ack _ _ (λ r. normal_no_rejoin s.status normal r) (grows s sender _ b.vector sound new) h
+    tells_kept s _ sound (Collect sender b new may base on) h = up_tells s _ b.view s.last s.log s.commit s.ack _ _ (λ r. cc) (grows s sender _ b.vector sound new) h
+    tells_kept s _ sound (Begin sender b new may base on full) h = up_tells s _ b.view b.view _ _ _ _ _ (λ r. cc) (grows s sender _ b.vector sound new) h
+    tells_kept s _ sound (Start sender b new may) h = up_tells s _ b.view b.view _ _ _ _ _ (λ r. cc) (grows s sender _ b.vector sound new) h
     tells_kept s _ sound (Fall is) h = nothing (turn_state (crashed_replica f)) refl (λ x. cc)
     tells_kept s _ sound (Wake nonce is down) h = nothing (turn_state (restarted_replica f nonce)) refl (λ x. cc)
     tells_kept s _ sound (HearVector sender b new ours) h = nothing _ (h.none_yet ours.in_phase) (λ log. log_not_vectors s.rejoin log ours.in_phase)
@@ -204,7 +204,7 @@ module _ (f me : ℕ) (Sent : ℕ → Message → Type 0) where
           wanted = λ _ t has. above_each (λ (x : ToldView). x.view) tells t has;
           none_yet = λ first. absurd cc;
         }
-    tells_kept s _ sound (Return sender b new ours late leader) h = up_tells s _ b.view b.view _ _ _ _ (λ r. cc) (grows s sender _ b.vector sound new) h
+    tells_kept s _ sound (Return sender b new ours late leader) h = up_tells s _ b.view b.view _ _ _ _ _ (λ r. cc) (grows s sender _ b.vector sound new) h
     tells_kept s _ sound (Back rejoining is) h = nothing _ refl (λ x. cc)
 
 -- what was sent stays sent

@@ -1,7 +1,7 @@
 -- Each rule of a replica is one turn.
 use Rattle.std.proofs.Common.{◌≡◌, cond, ℕ, ◌+◌, ◌≤◌, ◌<◌, Bool, ◌&&◌, eqb, true, false, List, [], ◌∷◌, length, max}
 use Rattle.std.proofs.Common.{Option, Some, None, refl, sym, ap, subst, ◌∙◌, inl, inr, ◌⊎◌, arith, eqb-true}
-use Rattle.std.proofs.lemmas.Bool.{and_parts, cond_both}
+use Rattle.std.proofs.lemmas.Bool.{and_parts, cond_both, leb-true}
 use Rattle.std.specs.Prelude.{nat_lt, nat_le, min, map, drop, ◌-◌}
 use Rattle.std.proofs.lemmas.Bool.Decides.{nat_tests}
 use Rattle.nz_base.specs.Cluster.{leader_of, slow_size}
@@ -53,7 +53,7 @@ use Rattle.nz_machine.specs.Rejoining.{rejoin_tell_rule, state_ask_rule, state_t
 use Rattle.nz_machine.specs.Step.{replica_message, tick_rule, mode_timer, accepted_envelope, envelope_step, event_step}
 use Rattle.nz_machine.proofs.Runs.{unless_down}
 use Rattle.nz_machine.proofs.Guards.{HearsLeader, hears_leader_parts}
-use Rattle.nz_laws_cv.proofs.Turns.{TurnState, turn_state, merging, holding, committing, entering, starting, with_changes, fresh_changes, with_change}
+use Rattle.nz_laws_cv.proofs.Turns.{TurnState, turn_state, merging, holding, committing, entering, starting, unreported, with_changes, fresh_changes, with_change}
 use Rattle.nz_laws_cv.proofs.Turns.{begun_log, begun_commit, more_tellers, Appends, Same, More, IsNew, MayLead, Base, Anew, Going}
 use Rattle.nz_laws_cv.proofs.Turns.{MayStart, Awaits, Turn, Stays, Release, Merge, Sync, Tally, Enter, Follow, Answer, Collect, Begin}
 use Rattle.nz_laws_cv.proofs.Turns.{Start, Fall, Wake, HearVector, Count, HearView, Forget, AskLog, Return, Back}
@@ -125,6 +125,7 @@ same_changing me s u view same changing =
       last = s.last;
       log = s.log;
       commit = s.commit;
+      ack = s.ack;
       vector = merged_vector s.vector u me;
       changes = fresh_changes s.changes (merged_vector s.vector u me);
       rejoin = s.rejoin;
@@ -185,14 +186,18 @@ module _ (f me : ℕ) (e : Event) where
       (λ new. own_turn s sender b new (hears_leader_parts f me s b.view sender hears)))
       (λ _. Stays))
 
-  pub sync_report_turn : (heard : Heard) (s : ReplicaData) (sender : ℕ) (b : SyncReportBody) → Turns heard s (sync_report_rule f me s sender b).0
+  pub sync_report_turn : (s : ReplicaData) (sender : ℕ) (b : SyncReportBody)
+      → Turns (Some (Replica sender, messages.SyncReport b)) s (sync_report_rule f me s sender b).0
   unfolding sync_report_rule
-  sync_report_turn heard s sender b =
+  sync_report_turn s sender b =
       cond_both (leads_view f me s && (eqb b.view s.view && nat_le b.synced (length s.log.entries))) _ (s, [])
-      (λ (x : ReplicaData × List Out). Turns heard s x.0)
+      (λ (x : ReplicaData × List Out). Turns (Some (Replica sender, messages.SyncReport b)) s x.0)
       (λ tested.
       let led = (and_parts (leads_view f me s) _ tested).0 in
-      Tally _ (and_parts (is_normal s.status) (leads f me s) led).0 (and_parts (is_normal s.status) (leads f me s) led).1 (omega arith))
+      let fits = (and_parts (leads_view f me s) _ tested).1 in
+      let view = eqb-true b.view s.view (and_parts (eqb b.view s.view) _ fits).0 in
+      let few = leb-true b.synced (length s.log.entries) (and_parts (eqb b.view s.view) _ fits).1 in
+      Tally sender b refl (and_parts (is_normal s.status) (leads f me s) led).0 (and_parts (is_normal s.status) (leads f me s) led).1 view few)
       (λ _. Stays)
 
   pub view_ask_turn : (heard : Heard) (s : ReplicaData) (b : ViewAskBody) → Turns heard s (view_ask_rule f me s b).0
@@ -236,7 +241,8 @@ module _ (f me : ℕ) (e : Event) where
       (greatest (map (λ (c : Change). c.commit) (changes_of me (with_report t sender b))))) =
       subst (λ (u : TurnState). length (with_change u.changes sender b) ≡ f
       → Turn f me e heard (turn_state s)
-      (with_changes (starting u u.view (begun_log f me u (with_change u.changes sender b)) (begun_commit f me u (with_change u.changes sender b)))
+      (with_changes
+      (unreported f (starting u u.view (begun_log f me u (with_change u.changes sender b)) (begun_commit f me u (with_change u.changes sender b))))
       (with_change u.changes sender b)))
       (sym is) (λ full. Begin sender b new may base on full) in
       let merged_log = merged f (changes_of me (with_report t sender b)) in
@@ -334,7 +340,7 @@ module _ (f me : ℕ) (e : Event) where
   message_turn s (Replica r) (messages.LogMod b) = log_mod_turn s r b
   message_turn s (Replica r) (messages.Fetch b) = same_turn f me e _ _ _ (fetch_state f me s r b)
   message_turn s (Replica r) (messages.FetchReply b) = same_turn f me e _ _ _ (fetch_reply_state f me s r b)
-  message_turn s (Replica r) (messages.SyncReport b) = sync_report_turn _ s r b
+  message_turn s (Replica r) (messages.SyncReport b) = sync_report_turn s r b
   message_turn s (Replica r) (messages.ViewAsk b) = view_ask_turn _ s b
   message_turn s (Replica r) (messages.ViewChange b) = view_change_turn s r b
   message_turn s (Replica r) (messages.StartView b) = start_view_turn s r b

@@ -1,8 +1,8 @@
 -- All that a whole rule does to the fields that views, rejoins and logs are about: a turn, with its exact outcome.
 use Rattle.std.proofs.Common.{◌≡◌, ℕ, ◌+◌, ◌≤◌, ◌<◌, true, false, not, List, [], ◌∷◌, ◌++◌, length, max, eqb, take, drop, Bool, Some}
-use Rattle.std.specs.Prelude.{slice_index, slice_set, filter, map, min, if◌then◌else◌, ◌==◌}
+use Rattle.std.specs.Prelude.{slice_index, slice_set, filter, map, min, replicate, if◌then◌else◌, ◌==◌}
 use Rattle.std.specs.List.{list_any}
-use Rattle.nz_base.specs.Cluster.{leader_of, slow_size}
+use Rattle.nz_base.specs.Cluster.{replica_count, leader_of, slow_size}
 use Rattle.nz_base.specs.Log.{keys_of}
 use Rattle.nz_base.specs.Prefixes.{IsPrefix, Comparable}
 use Rattle.nz_base.specs.declared.key.Key.{Key}
@@ -14,6 +14,7 @@ use Rattle.nz_log.specs.Synced.{Log, IsSound}
 use Rattle.nz_merge.specs.declared.change.Change.{Change}
 use Rattle.nz_merge.specs.Merged.{greatest, merged}
 use Rattle.nz_msg.specs.declared.message.LogModBody.{LogModBody}
+use Rattle.nz_msg.specs.declared.message.SyncReportBody.{SyncReportBody}
 use Rattle.nz_msg.specs.declared.message.ViewChangeBody.{ViewChangeBody}
 use Rattle.nz_msg.specs.declared.message.StartViewBody.{StartViewBody}
 use Rattle.nz_msg.specs.declared.message.VectorTellBody.{VectorTellBody}
@@ -33,6 +34,7 @@ use Rattle.nz_machine.specs.declared.data.ToldView.{ToldView}
 use Rattle.nz_machine.specs.State.{ReplicaData}
 use Rattle.nz_machine.specs.Hearing.{Heard}
 use Rattle.nz_machine.specs.Replicas.{is_normal, is_changing, is_up, is_rejoining, is_down, crashed_replica}
+use Rattle.nz_machine.specs.LogMods.{commit_point}
 use Rattle.nz_machine.specs.Begins.{report_of}
 use Rattle.nz_machine.specs.Rejoining.{restarted_replica, is_phase}
 use Rattle.nz_machine.specs.Step.{message_vector}
@@ -45,6 +47,7 @@ pub record TurnState : Type 0 where
   pub last : ℕ
   pub log : Log
   pub commit : ℕ
+  pub ack : List ℕ
   pub vector : List ℕ
   pub changes : List Reported
   pub rejoin : Rejoin
@@ -56,6 +59,7 @@ turn_state s = record {
   last = s.last;
   log = s.log;
   commit = s.commit;
+  ack = s.ack;
   vector = s.vector;
   changes = s.changes;
   rejoin = s.rejoin;
@@ -79,6 +83,16 @@ entering s w = record s { status = ViewChange; view = w; changes = [] }
 abbrev pub starting : TurnState → ℕ → List Entry → ℕ → TurnState
 starting s w entries commit =
     record s { status = Normal; view = w; last = w; log = record { entries = entries; synced = length entries }; commit = commit }
+
+-- nobody has reported a sync point
+abbrev pub unreported : ℕ → TurnState → TurnState
+unreported f s = record s { ack = replicate (replica_count f) 0 }
+
+-- a leader counts a sync report, and commits what f others reported
+abbrev pub tallying : ℕ → ℕ → TurnState → ℕ → ℕ → TurnState
+tallying f me s sender count =
+    let ack = slice_set s.ack sender (max (slice_index s.ack sender) count) in
+    record s { ack = ack; commit = max s.commit (commit_point f me ack) }
 
 abbrev pub with_changes : TurnState → List Reported → TurnState
 with_changes s changes = record s { changes = changes }
@@ -200,8 +214,10 @@ pub data Turn (f me : ℕ) (e : Event) (heard : Heard) (s : TurnState) : TurnSta
   Sync : (sender : ℕ) (b : LogModBody) → IsNew heard s sender (messages.LogMod b) b.vector → HearsLeader f me s.status s.view sender b.view
       → b.start ≤ s.log.synced
       → (log : Log) → Modifies b s.log log → Turn f me e heard s (committing (holding (merging me s b.vector) log) (max s.commit (min b.commit log.synced)))
-  -- a leader counts sync reports
-  Tally : (commit : ℕ) → is_normal s.status ≡ true → eqb (leader_of f s.view) me ≡ true → s.commit ≤ commit → Turn f me e heard s (committing s commit)
+  -- a leader counts a sync report of its view
+  Tally : (sender : ℕ) (b : SyncReportBody) → heard ≡ Some (Replica sender, messages.SyncReport b) → is_normal s.status ≡ true
+      → eqb (leader_of f s.view) me ≡ true → b.view ≡ s.view → b.synced ≤ length s.log.entries
+      → Turn f me e heard s (tallying f me s sender b.synced)
   Enter : (w : ℕ) → is_up s.status ≡ true → s.view < w → (log : Log) → Grown f me s log → Turn f me e heard s (holding (entering s w) log)
   Follow : (sender : ℕ) (m : Message) (u : List ℕ) → IsNew heard s sender m u → (w : ℕ) → is_up s.status ≡ true → s.view < w
       → Turn f me e heard s (entering (merging me s u) w)
@@ -215,7 +231,8 @@ pub data Turn (f me : ℕ) (e : Event) (heard : Heard) (s : TurnState) : TurnSta
       → (base : List Reported) → Base s b.view (merged_vector s.vector b.vector me) base → length (with_change base sender b) ≡ f
       → Turn f me e heard s (
       with_changes
-      (starting (merging me s b.vector) b.view (begun_log f me s (with_change base sender b)) (begun_commit f me s (with_change base sender b)))
+      (unreported f
+      (starting (merging me s b.vector) b.view (begun_log f me s (with_change base sender b)) (begun_commit f me s (with_change base sender b))))
       (with_change base sender b)
       )
   Start : (sender : ℕ) (b : StartViewBody) → IsNew heard s sender (messages.StartView b) b.vector → MayStart f s sender b.view

@@ -1,4 +1,4 @@
-//! Whether sender and crash vector of a message fit the cluster.
+//! Whether a message counts in a cluster.
 
 ghost use Rattle.std.specs.Prelude.{◌≡◌, ◌&&◌};
 ghost use Rattle.std.specs.Option.{option_copied};

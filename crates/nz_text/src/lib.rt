@@ -15,11 +15,13 @@ mod traces;
 
 pub use fault::TextFault;
 pub use laws::texts_are_read_back;
-pub use printed::{Event, EventList, Printed};
+pub use lines::{put_answer, put_event, put_found, put_path};
+pub use printed::{Event, EventList, EventRef, Printed};
 pub use reading::read_text;
+pub use run_events::add_events;
 pub use summaries::summary;
 pub use texts::text;
-pub use traces::trace;
+pub use traces::{put_what, trace};
 
 #[cfg(test)]
 mod tests;

@@ -20,8 +20,8 @@ fn put_id(out: &mut Vec<u8>, id: Id) -> Result<(), NoMemory>
     put_number(out, u64::from(id.num))
 }
 
-/// Bytes that are no command have no text.
-fn put_found(out: &mut Vec<u8>, bytes: &[u8]) -> Result<(), NoMemory>
+/// Writes the command after a space. Bytes that are no command have no text.
+pub fn put_found(out: &mut Vec<u8>, bytes: &[u8]) -> Result<(), NoMemory>
     ensures { OnOk result (out.new.items ≡ out.old.items ++ found_text (command_of bytes.now)) }
 {
     match command_in(bytes) {
@@ -33,7 +33,8 @@ fn put_found(out: &mut Vec<u8>, bytes: &[u8]) -> Result<(), NoMemory>
     }
 }
 
-fn put_answer(out: &mut Vec<u8>, answer: &Answer) -> Result<(), NoMemory>
+/// Writes the answer after a space.
+pub fn put_answer(out: &mut Vec<u8>, answer: &Answer) -> Result<(), NoMemory>
     ensures { OnOk result (out.new.items ≡ out.old.items ++ answer_text answer.now) }
 {
     match answer {
@@ -47,7 +48,8 @@ fn put_answer(out: &mut Vec<u8>, answer: &Answer) -> Result<(), NoMemory>
     }
 }
 
-fn put_path(out: &mut Vec<u8>, path: Path) -> Result<(), NoMemory>
+/// Writes how a request was decided, after a space.
+pub fn put_path(out: &mut Vec<u8>, path: Path) -> Result<(), NoMemory>
     ensures { OnOk result (out.new.items ≡ out.old.items ++ path_text path) }
 {
     match path {
@@ -56,7 +58,8 @@ fn put_path(out: &mut Vec<u8>, path: Path) -> Result<(), NoMemory>
     }
 }
 
-fn put_event(out: &mut Vec<u8>, event: &EventRef<'_>) -> Result<(), NoMemory>
+/// Writes the line of the event.
+pub fn put_event(out: &mut Vec<u8>, event: &EventRef<'_>) -> Result<(), NoMemory>
     ensures { OnOk result (out.new.items ≡ out.old.items ++ event_line event.now) }
 {
     match event.lent {

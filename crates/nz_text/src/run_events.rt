@@ -84,7 +84,7 @@ fn add_requests<'a>(
 }
 
 /// Adds the events of a telling.
-fn add<'a>(
+pub fn add_events<'a>(
     scenario: &'a Scenario,
     telling: &'a Telling,
     events: &mut List<EventRef<'a>>,
@@ -107,7 +107,7 @@ pub fn events_of<'a>(
 {
     let mut events = List::new(alloc);
     for next in told {
-        add(&journal.scenario, &next.telling, &mut events)?;
+        add_events(&journal.scenario, &next.telling, &mut events)?;
     }
     Ok(events)
 }

@@ -21,7 +21,8 @@ fn put_parcel(out: &mut Vec<u8>, parcel: &Parcel) -> Result<(), NoMemory>
     put_actor(out, parcel.from)
 }
 
-fn put_what(out: &mut Vec<u8>, event: &Event) -> Result<(), NoMemory>
+/// Writes what happened to an actor, as a line of a trace has it.
+pub fn put_what(out: &mut Vec<u8>, event: &Event) -> Result<(), NoMemory>
     ensures { OnOk result (out.new.items ≡ out.old.items ++ what_text event.now) }
 {
     match event {

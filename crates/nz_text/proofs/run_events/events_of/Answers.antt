@@ -12,7 +12,7 @@ loop-next-preserved c =
     let told = c.args.told.now in
     let i = c.loop-next.next-index in
     let next = c.next-item.result in
-    one_more g (take i told) next c.loop-next.events c.add.new.events c.loop-next.invariant c.in_ok-add.ensures
+    one_more g (take i told) next c.loop-next.events c.add_events.new.events c.loop-next.invariant c.in_ok-add_events.ensures
     ∙ ap (told_events g) (ap (λ (t : ToldAt). take i told ++ t ∷ []) c.next-item.is ∙ sym (take_more told i next c.loop-next-test.true))
 
 pub returns : goal.returns
