@@ -1,0 +1,679 @@
+1 r0 tick 1000
+  sends log-mod r1 at 2: view 0 vector 0,0,0 commit 0 start 0 keys
+  sends log-mod r2 at 2: view 0 vector 0,0,0 commit 0 start 0 keys
+1 c0 tick 1000
+  send c0 1 put a 1
+  sends request p0 at 2: num 1 command put a 1
+2 r0 tick 2000
+  sends log-mod r1 at 3: view 0 vector 0,0,0 commit 0 start 0 keys
+  sends log-mod r2 at 3: view 0 vector 0,0,0 commit 0 start 0 keys
+2 r1 deliver log-mod r0
+  sends sync-report r0 at 3: view 0 synced 0
+2 r2 deliver log-mod r0
+  sends sync-report r0 at 3: view 0 synced 0
+2 p0 deliver request c0
+  sends timed r0 at 3: sent 2000 deadline 12500 id c0/1
+  sends timed r1 at 3: sent 2000 deadline 12500 id c0/1
+  sends timed r2 at 3: sent 2000 deadline 12500 id c0/1
+3 r0 tick 3000
+  sends log-mod r1 at 4: view 0 vector 0,0,0 commit 0 start 0 keys
+  sends log-mod r2 at 4: view 0 vector 0,0,0 commit 0 start 0 keys
+3 r1 deliver log-mod r0
+  sends sync-report r0 at 4: view 0 synced 0
+3 r2 deliver log-mod r0
+  sends sync-report r0 at 4: view 0 synced 0
+3 r0 deliver sync-report r1
+3 r0 deliver sync-report r2
+3 r0 deliver timed p0
+  now normal view 0 vector 0,0,0 synced 0 commit 0 early +12500/c0/1
+3 r1 deliver timed p0
+  now normal view 0 vector 0,0,0 synced 0 commit 0 early +12500/c0/1
+3 r2 deliver timed p0
+  now normal view 0 vector 0,0,0 synced 0 commit 0 early +12500/c0/1
+4 r0 tick 4000
+  sends log-mod r1 at 5: view 0 vector 0,0,0 commit 0 start 0 keys
+  sends log-mod r2 at 5: view 0 vector 0,0,0 commit 0 start 0 keys
+4 r1 deliver log-mod r0
+  sends sync-report r0 at 5: view 0 synced 0
+4 r2 deliver log-mod r0
+  sends sync-report r0 at 5: view 0 synced 0
+4 r0 deliver sync-report r1
+4 r0 deliver sync-report r2
+5 r0 tick 5000
+  sends log-mod r1 at 6: view 0 vector 0,0,0 commit 0 start 0 keys
+  sends log-mod r2 at 6: view 0 vector 0,0,0 commit 0 start 0 keys
+5 r1 deliver log-mod r0
+  sends sync-report r0 at 6: view 0 synced 0
+5 r2 deliver log-mod r0
+  sends sync-report r0 at 6: view 0 synced 0
+5 r0 deliver sync-report r1
+5 r0 deliver sync-report r2
+6 r0 tick 6000
+  sends log-mod r1 at 7: view 0 vector 0,0,0 commit 0 start 0 keys
+  sends log-mod r2 at 7: view 0 vector 0,0,0 commit 0 start 0 keys
+6 r1 deliver log-mod r0
+  sends sync-report r0 at 7: view 0 synced 0
+6 r2 deliver log-mod r0
+  sends sync-report r0 at 7: view 0 synced 0
+6 r0 deliver sync-report r1
+6 r0 deliver sync-report r2
+7 r0 tick 7000
+  sends log-mod r1 at 8: view 0 vector 0,0,0 commit 0 start 0 keys
+  sends log-mod r2 at 8: view 0 vector 0,0,0 commit 0 start 0 keys
+7 r1 deliver log-mod r0
+  sends sync-report r0 at 8: view 0 synced 0
+7 r2 deliver log-mod r0
+  sends sync-report r0 at 8: view 0 synced 0
+7 r0 deliver sync-report r1
+7 r0 deliver sync-report r2
+8 r0 tick 8000
+  sends log-mod r1 at 9: view 0 vector 0,0,0 commit 0 start 0 keys
+  sends log-mod r2 at 9: view 0 vector 0,0,0 commit 0 start 0 keys
+8 r1 deliver log-mod r0
+  sends sync-report r0 at 9: view 0 synced 0
+8 r2 deliver log-mod r0
+  sends sync-report r0 at 9: view 0 synced 0
+8 r0 deliver sync-report r1
+8 r0 deliver sync-report r2
+9 r0 tick 9000
+  sends log-mod r1 at 10: view 0 vector 0,0,0 commit 0 start 0 keys
+  sends log-mod r2 at 10: view 0 vector 0,0,0 commit 0 start 0 keys
+9 r1 deliver log-mod r0
+  sends sync-report r0 at 10: view 0 synced 0
+9 r2 deliver log-mod r0
+  sends sync-report r0 at 10: view 0 synced 0
+9 r0 deliver sync-report r1
+9 r0 deliver sync-report r2
+10 r0 tick 10000
+  sends log-mod r1 at 11: view 0 vector 0,0,0 commit 0 start 0 keys
+  sends log-mod r2 at 11: view 0 vector 0,0,0 commit 0 start 0 keys
+10 r1 deliver log-mod r0
+  sends sync-report r0 at 11: view 0 synced 0
+10 r2 deliver log-mod r0
+  sends sync-report r0 at 11: view 0 synced 0
+10 r0 deliver sync-report r1
+10 r0 deliver sync-report r2
+11 r0 tick 11000
+  sends log-mod r1 at 12: view 0 vector 0,0,0 commit 0 start 0 keys
+  sends log-mod r2 at 12: view 0 vector 0,0,0 commit 0 start 0 keys
+11 r1 deliver log-mod r0
+  sends sync-report r0 at 12: view 0 synced 0
+11 r2 deliver log-mod r0
+  sends sync-report r0 at 12: view 0 synced 0
+11 r0 deliver sync-report r1
+11 r0 deliver sync-report r2
+12 r0 tick 12000
+  sends log-mod r1 at 13: view 0 vector 0,0,0 commit 0 start 0 keys
+  sends log-mod r2 at 13: view 0 vector 0,0,0 commit 0 start 0 keys
+12 r1 deliver log-mod r0
+  sends sync-report r0 at 13: view 0 synced 0
+12 r2 deliver log-mod r0
+  sends sync-report r0 at 13: view 0 synced 0
+12 r0 deliver sync-report r1
+12 r0 deliver sync-report r2
+13 r0 tick 13000
+  now normal view 0 vector 0,0,0 synced 1 commit 0 log +12500/c0/1
+  sends fast-reply p0 at 14: view 0 id c0/1 digest 67a78bbee5eb7bbd613220a92e03218955332dee vector 0,0,0 delay 1000 answer done
+  sends log-mod r1 at 14: view 0 vector 0,0,0 commit 0 start 0 keys 12500/c0/1
+  sends log-mod r2 at 14: view 0 vector 0,0,0 commit 0 start 0 keys 12500/c0/1
+13 r1 tick 13000
+  now normal view 0 vector 0,0,0 synced 0 commit 0 log +12500/c0/1
+  sends fast-reply p0 at 14: view 0 id c0/1 digest 67a78bbee5eb7bbd613220a92e03218955332dee vector 0,0,0 delay 1000
+13 r2 tick 13000
+  now normal view 0 vector 0,0,0 synced 0 commit 0 log +12500/c0/1
+  sends fast-reply p0 at 14: view 0 id c0/1 digest 67a78bbee5eb7bbd613220a92e03218955332dee vector 0,0,0 delay 1000
+13 r1 deliver log-mod r0
+  sends sync-report r0 at 14: view 0 synced 0
+13 r2 deliver log-mod r0
+  sends sync-report r0 at 14: view 0 synced 0
+13 r0 deliver sync-report r1
+13 r0 deliver sync-report r2
+14 r0 tick 14000
+  sends log-mod r1 at 15: view 0 vector 0,0,0 commit 0 start 0 keys 12500/c0/1
+  sends log-mod r2 at 15: view 0 vector 0,0,0 commit 0 start 0 keys 12500/c0/1
+14 p0 deliver fast-reply r0
+14 r1 deliver log-mod r0
+  now normal view 0 vector 0,0,0 synced 1 commit 0
+  sends slow-reply p0 at 15: view 0 id c0/1 delay 1000
+  sends sync-report r0 at 15: view 0 synced 1
+14 r2 deliver log-mod r0
+  now normal view 0 vector 0,0,0 synced 1 commit 0
+  sends slow-reply p0 at 15: view 0 id c0/1 delay 1000
+  sends sync-report r0 at 15: view 0 synced 1
+14 p0 deliver fast-reply r1
+14 p0 deliver fast-reply r2
+  sends answer c0 at 15: num 1 answer done path fast
+14 r0 deliver sync-report r1
+14 r0 deliver sync-report r2
+15 r0 tick 15000
+  sends log-mod r1 at 16: view 0 vector 0,0,0 commit 0 start 0 keys 12500/c0/1
+  sends log-mod r2 at 16: view 0 vector 0,0,0 commit 0 start 0 keys 12500/c0/1
+15 r1 deliver log-mod r0
+  sends sync-report r0 at 16: view 0 synced 1
+15 r2 deliver log-mod r0
+  sends sync-report r0 at 16: view 0 synced 1
+15 p0 deliver slow-reply r1
+15 r0 deliver sync-report r1
+  now normal view 0 vector 0,0,0 synced 1 commit 1
+15 p0 deliver slow-reply r2
+15 r0 deliver sync-report r2
+15 c0 deliver answer p0
+  accept c0 1 done fast
+16 r0 tick 16000
+  sends log-mod r1 at 17: view 0 vector 0,0,0 commit 1 start 1 keys
+  sends log-mod r2 at 17: view 0 vector 0,0,0 commit 1 start 1 keys
+16 r1 deliver log-mod r0
+  sends sync-report r0 at 17: view 0 synced 1
+16 r2 deliver log-mod r0
+  sends sync-report r0 at 17: view 0 synced 1
+16 r0 deliver sync-report r1
+16 r0 deliver sync-report r2
+17 r0 tick 17000
+  sends log-mod r1 at 18: view 0 vector 0,0,0 commit 1 start 1 keys
+  sends log-mod r2 at 18: view 0 vector 0,0,0 commit 1 start 1 keys
+17 r1 deliver log-mod r0
+  now normal view 0 vector 0,0,0 synced 1 commit 1
+  sends sync-report r0 at 18: view 0 synced 1
+17 r2 deliver log-mod r0
+  now normal view 0 vector 0,0,0 synced 1 commit 1
+  sends sync-report r0 at 18: view 0 synced 1
+17 r0 deliver sync-report r1
+17 r0 deliver sync-report r2
+18 r0 tick 18000
+  sends log-mod r1 at 19: view 0 vector 0,0,0 commit 1 start 1 keys
+  sends log-mod r2 at 19: view 0 vector 0,0,0 commit 1 start 1 keys
+18 r1 deliver log-mod r0
+  sends sync-report r0 at 19: view 0 synced 1
+18 r2 deliver log-mod r0
+  sends sync-report r0 at 19: view 0 synced 1
+18 r0 deliver sync-report r1
+18 r0 deliver sync-report r2
+19 r0 tick 19000
+  sends log-mod r1 at 20: view 0 vector 0,0,0 commit 1 start 1 keys
+  sends log-mod r2 at 20: view 0 vector 0,0,0 commit 1 start 1 keys
+19 r1 deliver log-mod r0
+  sends sync-report r0 at 20: view 0 synced 1
+19 r2 deliver log-mod r0
+  sends sync-report r0 at 20: view 0 synced 1
+19 r0 deliver sync-report r1
+19 r0 deliver sync-report r2
+20 r0 crash
+  now down
+20 r1 deliver log-mod r0
+  sends sync-report r0 at 21: view 0 synced 1
+20 r2 deliver log-mod r0
+  sends sync-report r0 at 21: view 0 synced 1
+20 r0 deliver sync-report r1
+20 r0 deliver sync-report r2
+21 r0 restart 1
+  now rejoining vectors collected 0 view 0 vector 0,0,0 synced 0 commit 0
+  sends vector-ask r1 at 22: nonce 1
+  sends vector-ask r2 at 22: nonce 1
+21 r0 deliver sync-report r1
+21 r0 deliver sync-report r2
+22 r1 deliver vector-ask r0
+  sends vector-tell r0 at 23: nonce 1 vector 0,0,0
+22 r2 deliver vector-ask r0
+  sends vector-tell r0 at 23: nonce 1 vector 0,0,0
+23 r0 deliver vector-tell r1
+  now rejoining vectors collected 1 view 0 vector 0,0,0 synced 0 commit 0
+23 r0 deliver vector-tell r2
+  now rejoining views collected 0 view 0 vector 1,0,0 synced 0 commit 0
+  sends rejoin-ask r1 at 24: nonce 1 vector 1,0,0
+  sends rejoin-ask r2 at 24: nonce 1 vector 1,0,0
+24 r1 deliver rejoin-ask r0
+  now normal view 0 vector 1,0,0 synced 1 commit 1
+  sends rejoin-tell r0 at 25: nonce 1 view 0 vector 1,0,0
+24 r2 deliver rejoin-ask r0
+  now normal view 0 vector 1,0,0 synced 1 commit 1
+  sends rejoin-tell r0 at 25: nonce 1 view 0 vector 1,0,0
+25 r0 deliver rejoin-tell r1
+  now rejoining views collected 1 view 0 vector 1,0,0 synced 0 commit 0
+25 r0 deliver rejoin-tell r2
+  now rejoining views collected 0 view 0 vector 1,0,0 synced 0 commit 0
+28 r0 tick 28000
+  sends rejoin-ask r1 at 29: nonce 1 vector 1,0,0
+  sends rejoin-ask r2 at 29: nonce 1 vector 1,0,0
+29 r1 deliver rejoin-ask r0
+  sends rejoin-tell r0 at 30: nonce 1 view 0 vector 1,0,0
+29 r2 deliver rejoin-ask r0
+  sends rejoin-tell r0 at 30: nonce 1 view 0 vector 1,0,0
+30 r0 deliver rejoin-tell r1
+  now rejoining views collected 1 view 0 vector 1,0,0 synced 0 commit 0
+30 r0 deliver rejoin-tell r2
+  now rejoining views collected 0 view 0 vector 1,0,0 synced 0 commit 0
+33 r0 tick 33000
+  sends rejoin-ask r1 at 34: nonce 1 vector 1,0,0
+  sends rejoin-ask r2 at 34: nonce 1 vector 1,0,0
+34 r1 deliver rejoin-ask r0
+  sends rejoin-tell r0 at 35: nonce 1 view 0 vector 1,0,0
+34 r2 deliver rejoin-ask r0
+  sends rejoin-tell r0 at 35: nonce 1 view 0 vector 1,0,0
+35 r0 deliver rejoin-tell r1
+  now rejoining views collected 1 view 0 vector 1,0,0 synced 0 commit 0
+35 r0 deliver rejoin-tell r2
+  now rejoining views collected 0 view 0 vector 1,0,0 synced 0 commit 0
+38 r0 tick 38000
+  sends rejoin-ask r1 at 39: nonce 1 vector 1,0,0
+  sends rejoin-ask r2 at 39: nonce 1 vector 1,0,0
+39 r1 deliver rejoin-ask r0
+  sends rejoin-tell r0 at 40: nonce 1 view 0 vector 1,0,0
+39 r2 deliver rejoin-ask r0
+  sends rejoin-tell r0 at 40: nonce 1 view 0 vector 1,0,0
+40 r1 tick 40000
+  now view-change collected 0 view 1 vector 1,0,0 synced 1 commit 1
+  sends view-ask r0 at 41: view 1
+  sends view-ask r2 at 41: view 1
+40 r2 tick 40000
+  now view-change collected 0 view 1 vector 1,0,0 synced 1 commit 1
+  sends view-ask r0 at 41: view 1
+  sends view-ask r1 at 41: view 1
+  sends view-change r1 at 41: view 1 last 0 vector 1,0,0 synced 1 commit 1 entries 1
+40 r0 deliver rejoin-tell r1
+  now rejoining views collected 1 view 0 vector 1,0,0 synced 0 commit 0
+40 r0 deliver rejoin-tell r2
+  now rejoining views collected 0 view 0 vector 1,0,0 synced 0 commit 0
+41 r0 deliver view-ask r1
+41 r2 deliver view-ask r1
+41 r0 deliver view-ask r2
+41 r1 deliver view-ask r2
+41 r1 deliver view-change r2
+  now normal view 1 vector 1,0,0 synced 1 commit 1
+  sends start-view r0 at 42: view 1 vector 1,0,0 commit 1 entries 1
+  sends start-view r2 at 42: view 1 vector 1,0,0 commit 1 entries 1
+42 r1 tick 42000
+  sends log-mod r0 at 43: view 1 vector 1,0,0 commit 1 start 0 keys 12500/c0/1
+  sends log-mod r2 at 43: view 1 vector 1,0,0 commit 1 start 0 keys 12500/c0/1
+42 r0 deliver start-view r1
+42 r2 deliver start-view r1
+  now normal view 1 vector 1,0,0 synced 1 commit 1
+43 r0 tick 43000
+  sends rejoin-ask r1 at 44: nonce 1 vector 1,0,0
+  sends rejoin-ask r2 at 44: nonce 1 vector 1,0,0
+43 r1 tick 43000
+  sends log-mod r0 at 44: view 1 vector 1,0,0 commit 1 start 0 keys 12500/c0/1
+  sends log-mod r2 at 44: view 1 vector 1,0,0 commit 1 start 0 keys 12500/c0/1
+43 r0 deliver log-mod r1
+43 r2 deliver log-mod r1
+  sends sync-report r1 at 44: view 1 synced 1
+44 r1 tick 44000
+  sends log-mod r0 at 45: view 1 vector 1,0,0 commit 1 start 0 keys 12500/c0/1
+  sends log-mod r2 at 45: view 1 vector 1,0,0 commit 1 start 0 keys 12500/c0/1
+44 r1 deliver rejoin-ask r0
+  sends rejoin-tell r0 at 45: nonce 1 view 1 vector 1,0,0
+44 r2 deliver rejoin-ask r0
+  sends rejoin-tell r0 at 45: nonce 1 view 1 vector 1,0,0
+44 r0 deliver log-mod r1
+44 r2 deliver log-mod r1
+  sends sync-report r1 at 45: view 1 synced 1
+44 r1 deliver sync-report r2
+45 r1 tick 45000
+  sends log-mod r0 at 46: view 1 vector 1,0,0 commit 1 start 0 keys 12500/c0/1
+  sends log-mod r2 at 46: view 1 vector 1,0,0 commit 1 start 1 keys
+45 r0 deliver log-mod r1
+45 r2 deliver log-mod r1
+  sends sync-report r1 at 46: view 1 synced 1
+45 r0 deliver rejoin-tell r1
+  now rejoining views collected 1 view 0 vector 1,0,0 synced 0 commit 0
+45 r0 deliver rejoin-tell r2
+  now rejoining log view 0 vector 1,0,0 synced 0 commit 0
+  sends state-ask r1 at 46: nonce 1 view 1 vector 1,0,0
+45 r1 deliver sync-report r2
+46 r1 tick 46000
+  sends log-mod r0 at 47: view 1 vector 1,0,0 commit 1 start 0 keys 12500/c0/1
+  sends log-mod r2 at 47: view 1 vector 1,0,0 commit 1 start 1 keys
+46 r0 deliver log-mod r1
+46 r2 deliver log-mod r1
+  sends sync-report r1 at 47: view 1 synced 1
+46 r1 deliver sync-report r2
+46 r1 deliver state-ask r0
+  sends state-tell r0 at 47: nonce 1 view 1 vector 1,0,0 commit 1 entries 1
+47 r1 tick 47000
+  sends log-mod r0 at 48: view 1 vector 1,0,0 commit 1 start 0 keys 12500/c0/1
+  sends log-mod r2 at 48: view 1 vector 1,0,0 commit 1 start 1 keys
+47 r0 deliver log-mod r1
+47 r2 deliver log-mod r1
+  sends sync-report r1 at 48: view 1 synced 1
+47 r1 deliver sync-report r2
+47 r0 deliver state-tell r1
+  now normal view 1 vector 1,0,0 synced 1 commit 1 log +12500/c0/1
+48 r1 tick 48000
+  sends log-mod r0 at 49: view 1 vector 1,0,0 commit 1 start 0 keys 12500/c0/1
+  sends log-mod r2 at 49: view 1 vector 1,0,0 commit 1 start 1 keys
+48 r0 deliver log-mod r1
+  sends sync-report r1 at 49: view 1 synced 1
+48 r2 deliver log-mod r1
+  sends sync-report r1 at 49: view 1 synced 1
+48 r1 deliver sync-report r2
+49 r1 tick 49000
+  sends log-mod r0 at 50: view 1 vector 1,0,0 commit 1 start 0 keys 12500/c0/1
+  sends log-mod r2 at 50: view 1 vector 1,0,0 commit 1 start 1 keys
+49 r0 deliver log-mod r1
+  sends sync-report r1 at 50: view 1 synced 1
+49 r2 deliver log-mod r1
+  sends sync-report r1 at 50: view 1 synced 1
+49 r1 deliver sync-report r0
+49 r1 deliver sync-report r2
+50 r1 tick 50000
+  sends log-mod r0 at 51: view 1 vector 1,0,0 commit 1 start 1 keys
+  sends log-mod r2 at 51: view 1 vector 1,0,0 commit 1 start 1 keys
+50 r0 deliver log-mod r1
+  sends sync-report r1 at 51: view 1 synced 1
+50 r2 deliver log-mod r1
+  sends sync-report r1 at 51: view 1 synced 1
+50 r1 deliver sync-report r0
+50 r1 deliver sync-report r2
+51 r1 tick 51000
+  sends log-mod r0 at 52: view 1 vector 1,0,0 commit 1 start 1 keys
+  sends log-mod r2 at 52: view 1 vector 1,0,0 commit 1 start 1 keys
+51 r0 deliver log-mod r1
+  sends sync-report r1 at 52: view 1 synced 1
+51 r2 deliver log-mod r1
+  sends sync-report r1 at 52: view 1 synced 1
+51 r1 deliver sync-report r0
+51 r1 deliver sync-report r2
+52 r1 tick 52000
+  sends log-mod r0 at 53: view 1 vector 1,0,0 commit 1 start 1 keys
+  sends log-mod r2 at 53: view 1 vector 1,0,0 commit 1 start 1 keys
+52 r0 deliver log-mod r1
+  sends sync-report r1 at 53: view 1 synced 1
+52 r2 deliver log-mod r1
+  sends sync-report r1 at 53: view 1 synced 1
+52 r1 deliver sync-report r0
+52 r1 deliver sync-report r2
+53 r1 tick 53000
+  sends log-mod r0 at 54: view 1 vector 1,0,0 commit 1 start 1 keys
+  sends log-mod r2 at 54: view 1 vector 1,0,0 commit 1 start 1 keys
+53 r0 deliver log-mod r1
+  sends sync-report r1 at 54: view 1 synced 1
+53 r2 deliver log-mod r1
+  sends sync-report r1 at 54: view 1 synced 1
+53 r1 deliver sync-report r0
+53 r1 deliver sync-report r2
+54 r1 tick 54000
+  sends log-mod r0 at 55: view 1 vector 1,0,0 commit 1 start 1 keys
+  sends log-mod r2 at 55: view 1 vector 1,0,0 commit 1 start 1 keys
+54 r0 deliver log-mod r1
+  sends sync-report r1 at 55: view 1 synced 1
+54 r2 deliver log-mod r1
+  sends sync-report r1 at 55: view 1 synced 1
+54 r1 deliver sync-report r0
+54 r1 deliver sync-report r2
+55 r1 tick 55000
+  sends log-mod r0 at 56: view 1 vector 1,0,0 commit 1 start 1 keys
+  sends log-mod r2 at 56: view 1 vector 1,0,0 commit 1 start 1 keys
+55 r0 deliver log-mod r1
+  sends sync-report r1 at 56: view 1 synced 1
+55 r2 deliver log-mod r1
+  sends sync-report r1 at 56: view 1 synced 1
+55 r1 deliver sync-report r0
+55 r1 deliver sync-report r2
+56 r1 tick 56000
+  sends log-mod r0 at 57: view 1 vector 1,0,0 commit 1 start 1 keys
+  sends log-mod r2 at 57: view 1 vector 1,0,0 commit 1 start 1 keys
+56 r0 deliver log-mod r1
+  sends sync-report r1 at 57: view 1 synced 1
+56 r2 deliver log-mod r1
+  sends sync-report r1 at 57: view 1 synced 1
+56 r1 deliver sync-report r0
+56 r1 deliver sync-report r2
+57 r1 tick 57000
+  sends log-mod r0 at 58: view 1 vector 1,0,0 commit 1 start 1 keys
+  sends log-mod r2 at 58: view 1 vector 1,0,0 commit 1 start 1 keys
+57 r0 deliver log-mod r1
+  sends sync-report r1 at 58: view 1 synced 1
+57 r2 deliver log-mod r1
+  sends sync-report r1 at 58: view 1 synced 1
+57 r1 deliver sync-report r0
+57 r1 deliver sync-report r2
+58 r1 tick 58000
+  sends log-mod r0 at 59: view 1 vector 1,0,0 commit 1 start 1 keys
+  sends log-mod r2 at 59: view 1 vector 1,0,0 commit 1 start 1 keys
+58 r0 deliver log-mod r1
+  sends sync-report r1 at 59: view 1 synced 1
+58 r2 deliver log-mod r1
+  sends sync-report r1 at 59: view 1 synced 1
+58 r1 deliver sync-report r0
+58 r1 deliver sync-report r2
+59 r1 tick 59000
+  sends log-mod r0 at 60: view 1 vector 1,0,0 commit 1 start 1 keys
+  sends log-mod r2 at 60: view 1 vector 1,0,0 commit 1 start 1 keys
+59 r0 deliver log-mod r1
+  sends sync-report r1 at 60: view 1 synced 1
+59 r2 deliver log-mod r1
+  sends sync-report r1 at 60: view 1 synced 1
+59 r1 deliver sync-report r0
+59 r1 deliver sync-report r2
+60 r1 tick 60000
+  sends log-mod r0 at 61: view 1 vector 1,0,0 commit 1 start 1 keys
+  sends log-mod r2 at 61: view 1 vector 1,0,0 commit 1 start 1 keys
+60 c0 tick 60000
+  send c0 2 get a
+  sends request p0 at 61: num 2 command get a
+60 r0 deliver log-mod r1
+  sends sync-report r1 at 61: view 1 synced 1
+60 r2 deliver log-mod r1
+  sends sync-report r1 at 61: view 1 synced 1
+60 r1 deliver sync-report r0
+60 r1 deliver sync-report r2
+61 r1 tick 61000
+  sends log-mod r0 at 62: view 1 vector 1,0,0 commit 1 start 1 keys
+  sends log-mod r2 at 62: view 1 vector 1,0,0 commit 1 start 1 keys
+61 r0 deliver log-mod r1
+  sends sync-report r1 at 62: view 1 synced 1
+61 r2 deliver log-mod r1
+  sends sync-report r1 at 62: view 1 synced 1
+61 p0 deliver request c0
+  sends timed r0 at 62: sent 61000 deadline 62500 id c0/2
+  sends timed r1 at 62: sent 61000 deadline 62500 id c0/2
+  sends timed r2 at 62: sent 61000 deadline 62500 id c0/2
+61 r1 deliver sync-report r0
+61 r1 deliver sync-report r2
+62 r1 tick 62000
+  sends log-mod r0 at 63: view 1 vector 1,0,0 commit 1 start 1 keys
+  sends log-mod r2 at 63: view 1 vector 1,0,0 commit 1 start 1 keys
+62 r0 deliver log-mod r1
+  sends sync-report r1 at 63: view 1 synced 1
+62 r2 deliver log-mod r1
+  sends sync-report r1 at 63: view 1 synced 1
+62 r1 deliver sync-report r0
+62 r1 deliver sync-report r2
+62 r0 deliver timed p0
+  now normal view 1 vector 1,0,0 synced 1 commit 1 early +62500/c0/2
+62 r1 deliver timed p0
+  now normal view 1 vector 1,0,0 synced 1 commit 1 early +62500/c0/2
+62 r2 deliver timed p0
+  now normal view 1 vector 1,0,0 synced 1 commit 1 early +62500/c0/2
+63 r0 tick 63000
+  now normal view 1 vector 1,0,0 synced 1 commit 1 log +62500/c0/2
+  sends fast-reply p0 at 64: view 1 id c0/2 digest 5b86c05b7f64544ae1862193ec58d26b2ad04f67 vector 1,0,0 delay 1000
+63 r1 tick 63000
+  now normal view 1 vector 1,0,0 synced 2 commit 1 log +62500/c0/2
+  sends fast-reply p0 at 64: view 1 id c0/2 digest 5b86c05b7f64544ae1862193ec58d26b2ad04f67 vector 1,0,0 delay 1000 answer value 1
+  sends log-mod r0 at 64: view 1 vector 1,0,0 commit 1 start 1 keys 62500/c0/2
+  sends log-mod r2 at 64: view 1 vector 1,0,0 commit 1 start 1 keys 62500/c0/2
+63 r2 tick 63000
+  now normal view 1 vector 1,0,0 synced 1 commit 1 log +62500/c0/2
+  sends fast-reply p0 at 64: view 1 id c0/2 digest 5b86c05b7f64544ae1862193ec58d26b2ad04f67 vector 1,0,0 delay 1000
+63 r0 deliver log-mod r1
+  sends sync-report r1 at 64: view 1 synced 1
+63 r2 deliver log-mod r1
+  sends sync-report r1 at 64: view 1 synced 1
+63 r1 deliver sync-report r0
+63 r1 deliver sync-report r2
+64 r1 tick 64000
+  sends log-mod r0 at 65: view 1 vector 1,0,0 commit 1 start 1 keys 62500/c0/2
+  sends log-mod r2 at 65: view 1 vector 1,0,0 commit 1 start 1 keys 62500/c0/2
+64 p0 deliver fast-reply r0
+64 p0 deliver fast-reply r1
+64 r0 deliver log-mod r1
+  now normal view 1 vector 1,0,0 synced 2 commit 1
+  sends slow-reply p0 at 65: view 1 id c0/2 delay 1000
+  sends sync-report r1 at 65: view 1 synced 2
+64 r2 deliver log-mod r1
+  now normal view 1 vector 1,0,0 synced 2 commit 1
+  sends slow-reply p0 at 65: view 1 id c0/2 delay 1000
+  sends sync-report r1 at 65: view 1 synced 2
+64 p0 deliver fast-reply r2
+  sends answer c0 at 65: num 2 answer value 1 path fast
+64 r1 deliver sync-report r0
+64 r1 deliver sync-report r2
+65 r1 tick 65000
+  sends log-mod r0 at 66: view 1 vector 1,0,0 commit 1 start 1 keys 62500/c0/2
+  sends log-mod r2 at 66: view 1 vector 1,0,0 commit 1 start 1 keys 62500/c0/2
+65 r0 deliver log-mod r1
+  sends sync-report r1 at 66: view 1 synced 2
+65 r2 deliver log-mod r1
+  sends sync-report r1 at 66: view 1 synced 2
+65 p0 deliver slow-reply r0
+65 r1 deliver sync-report r0
+  now normal view 1 vector 1,0,0 synced 2 commit 2
+65 p0 deliver slow-reply r2
+65 r1 deliver sync-report r2
+65 c0 deliver answer p0
+  accept c0 2 value 1 fast
+66 r1 tick 66000
+  sends log-mod r0 at 67: view 1 vector 1,0,0 commit 2 start 2 keys
+  sends log-mod r2 at 67: view 1 vector 1,0,0 commit 2 start 2 keys
+66 r0 deliver log-mod r1
+  sends sync-report r1 at 67: view 1 synced 2
+66 r2 deliver log-mod r1
+  sends sync-report r1 at 67: view 1 synced 2
+66 r1 deliver sync-report r0
+66 r1 deliver sync-report r2
+67 r1 tick 67000
+  sends log-mod r0 at 68: view 1 vector 1,0,0 commit 2 start 2 keys
+  sends log-mod r2 at 68: view 1 vector 1,0,0 commit 2 start 2 keys
+67 r0 deliver log-mod r1
+  now normal view 1 vector 1,0,0 synced 2 commit 2
+  sends sync-report r1 at 68: view 1 synced 2
+67 r2 deliver log-mod r1
+  now normal view 1 vector 1,0,0 synced 2 commit 2
+  sends sync-report r1 at 68: view 1 synced 2
+67 r1 deliver sync-report r0
+67 r1 deliver sync-report r2
+68 r1 tick 68000
+  sends log-mod r0 at 69: view 1 vector 1,0,0 commit 2 start 2 keys
+  sends log-mod r2 at 69: view 1 vector 1,0,0 commit 2 start 2 keys
+68 r0 deliver log-mod r1
+  sends sync-report r1 at 69: view 1 synced 2
+68 r2 deliver log-mod r1
+  sends sync-report r1 at 69: view 1 synced 2
+68 r1 deliver sync-report r0
+68 r1 deliver sync-report r2
+69 r1 tick 69000
+  sends log-mod r0 at 70: view 1 vector 1,0,0 commit 2 start 2 keys
+  sends log-mod r2 at 70: view 1 vector 1,0,0 commit 2 start 2 keys
+69 r0 deliver log-mod r1
+  sends sync-report r1 at 70: view 1 synced 2
+69 r2 deliver log-mod r1
+  sends sync-report r1 at 70: view 1 synced 2
+69 r1 deliver sync-report r0
+69 r1 deliver sync-report r2
+70 r1 tick 70000
+  sends log-mod r0 at 71: view 1 vector 1,0,0 commit 2 start 2 keys
+  sends log-mod r2 at 71: view 1 vector 1,0,0 commit 2 start 2 keys
+70 r0 deliver log-mod r1
+  sends sync-report r1 at 71: view 1 synced 2
+70 r2 deliver log-mod r1
+  sends sync-report r1 at 71: view 1 synced 2
+70 r1 deliver sync-report r0
+70 r1 deliver sync-report r2
+71 r1 tick 71000
+  sends log-mod r0 at 72: view 1 vector 1,0,0 commit 2 start 2 keys
+  sends log-mod r2 at 72: view 1 vector 1,0,0 commit 2 start 2 keys
+71 r0 deliver log-mod r1
+  sends sync-report r1 at 72: view 1 synced 2
+71 r2 deliver log-mod r1
+  sends sync-report r1 at 72: view 1 synced 2
+71 r1 deliver sync-report r0
+71 r1 deliver sync-report r2
+72 r1 tick 72000
+  sends log-mod r0 at 73: view 1 vector 1,0,0 commit 2 start 2 keys
+  sends log-mod r2 at 73: view 1 vector 1,0,0 commit 2 start 2 keys
+72 r0 deliver log-mod r1
+  sends sync-report r1 at 73: view 1 synced 2
+72 r2 deliver log-mod r1
+  sends sync-report r1 at 73: view 1 synced 2
+72 r1 deliver sync-report r0
+72 r1 deliver sync-report r2
+73 r1 tick 73000
+  sends log-mod r0 at 74: view 1 vector 1,0,0 commit 2 start 2 keys
+  sends log-mod r2 at 74: view 1 vector 1,0,0 commit 2 start 2 keys
+73 r0 deliver log-mod r1
+  sends sync-report r1 at 74: view 1 synced 2
+73 r2 deliver log-mod r1
+  sends sync-report r1 at 74: view 1 synced 2
+73 r1 deliver sync-report r0
+73 r1 deliver sync-report r2
+74 r1 tick 74000
+  sends log-mod r0 at 75: view 1 vector 1,0,0 commit 2 start 2 keys
+  sends log-mod r2 at 75: view 1 vector 1,0,0 commit 2 start 2 keys
+74 r0 deliver log-mod r1
+  sends sync-report r1 at 75: view 1 synced 2
+74 r2 deliver log-mod r1
+  sends sync-report r1 at 75: view 1 synced 2
+74 r1 deliver sync-report r0
+74 r1 deliver sync-report r2
+75 r1 tick 75000
+  sends log-mod r0 at 76: view 1 vector 1,0,0 commit 2 start 2 keys
+  sends log-mod r2 at 76: view 1 vector 1,0,0 commit 2 start 2 keys
+75 r0 deliver log-mod r1
+  sends sync-report r1 at 76: view 1 synced 2
+75 r2 deliver log-mod r1
+  sends sync-report r1 at 76: view 1 synced 2
+75 r1 deliver sync-report r0
+75 r1 deliver sync-report r2
+76 r1 tick 76000
+  sends log-mod r0 at 77: view 1 vector 1,0,0 commit 2 start 2 keys
+  sends log-mod r2 at 77: view 1 vector 1,0,0 commit 2 start 2 keys
+76 r0 deliver log-mod r1
+  sends sync-report r1 at 77: view 1 synced 2
+76 r2 deliver log-mod r1
+  sends sync-report r1 at 77: view 1 synced 2
+76 r1 deliver sync-report r0
+76 r1 deliver sync-report r2
+77 r1 tick 77000
+  sends log-mod r0 at 78: view 1 vector 1,0,0 commit 2 start 2 keys
+  sends log-mod r2 at 78: view 1 vector 1,0,0 commit 2 start 2 keys
+77 r0 deliver log-mod r1
+  sends sync-report r1 at 78: view 1 synced 2
+77 r2 deliver log-mod r1
+  sends sync-report r1 at 78: view 1 synced 2
+77 r1 deliver sync-report r0
+77 r1 deliver sync-report r2
+78 r1 tick 78000
+  sends log-mod r0 at 79: view 1 vector 1,0,0 commit 2 start 2 keys
+  sends log-mod r2 at 79: view 1 vector 1,0,0 commit 2 start 2 keys
+78 r0 deliver log-mod r1
+  sends sync-report r1 at 79: view 1 synced 2
+78 r2 deliver log-mod r1
+  sends sync-report r1 at 79: view 1 synced 2
+78 r1 deliver sync-report r0
+78 r1 deliver sync-report r2
+79 r1 tick 79000
+  sends log-mod r0 at 80: view 1 vector 1,0,0 commit 2 start 2 keys
+  sends log-mod r2 at 80: view 1 vector 1,0,0 commit 2 start 2 keys
+79 r0 deliver log-mod r1
+  sends sync-report r1 at 80: view 1 synced 2
+79 r2 deliver log-mod r1
+  sends sync-report r1 at 80: view 1 synced 2
+79 r1 deliver sync-report r0
+79 r1 deliver sync-report r2
+80 r1 tick 80000
+  sends log-mod r0 at 81: view 1 vector 1,0,0 commit 2 start 2 keys
+  sends log-mod r2 at 81: view 1 vector 1,0,0 commit 2 start 2 keys
+80 r0 deliver log-mod r1
+  sends sync-report r1 at 81: view 1 synced 2
+80 r2 deliver log-mod r1
+  sends sync-report r1 at 81: view 1 synced 2
+80 r1 deliver sync-report r0
+80 r1 deliver sync-report r2
+text
+send c0 1 put a 1
+accept c0 1 done fast
+send c0 2 get a
+accept c0 2 value 1 fast
+at 1 c0 1 put a 1 gives done
+at 2 c0 2 get a gives value 1
+end
