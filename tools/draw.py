@@ -324,7 +324,8 @@ class Drawing:
         y, room = self.y[actor], x1 - x0 - 8
         fitting = next((words for words in said if wide(words, 10) < room), "")
         halo = "white" if state.mode == "down" else BANDS[sort]
-        self.over.append(text(x0 + 5, y + 4, fitting, 10.5, halo, pointer_events="none"))
+        if fitting:
+            self.over.append(text(x0 + 5, y + 4, fitting, 10.5, halo, pointer_events="none"))
         about = title(f"{actor}: {state.text}" if actor[0] == "r" else f"{actor}: down")
         return tag("rect", about, x=x0, y=y - BAND, width=x1 - x0, height=2 * BAND, rx=3, fill=BANDS[sort], stroke="white")
 
@@ -340,7 +341,8 @@ class Drawing:
         ]
         out, gone = [], []
         for now, following in zip(changes, [*changes[1:], None]):
-            gone += [name for name in now.before.ids("log") if name not in now.after.ids("log")]
+            kept = set(now.after.ids("log"))
+            gone += [name for name in now.before.ids("log") if name not in kept]
             boxes, end = self.row(now, gone)
             vector = self.new_vector(now)
             width = wide(vector)

@@ -307,6 +307,14 @@ def key_order(key):
     return key[0], int(client), int(number)
 
 
+def inserted(keys, key):
+    """The keys with one more, in rising order; most often it is the last."""
+    place = len(keys)
+    while place and key_order(keys[place - 1]) > key_order(key):
+        place -= 1
+    return (*keys[:place], key, *keys[place:])
+
+
 def state_of(text, before):
     """The state after a line `now`. It tells the keys that came to a list; a key that comes leaves where its id was."""
     words = deque(text.split())
@@ -322,7 +330,7 @@ def state_of(text, before):
         while words and words[0].startswith("+"):
             key = key_of(words.popleft()[1:])
             lists = {other: tuple(k for k in keys if k[1] != key[1]) for other, keys in lists.items()}
-            lists[name] = tuple(sorted((*lists[name], key), key=key_order))
+            lists[name] = inserted(lists[name], key)
     told.pop("collected", None)
     return replace(State() if mode == "down" else before, mode=mode, text=text, **told, **lists)
 
