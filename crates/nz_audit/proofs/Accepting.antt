@@ -44,7 +44,7 @@ use Rattle.nz_laws_commit.proofs.ClientEvents.{told_accepted}
 use Rattle.nz_laws_commit.proofs.Whole.{after_newer}
 use Rattle.nz_audit.specs.declared.source.Source.{Source}
 use Rattle.nz_audit.specs.Sources.{numbers_of, in_numbers, about_message, about, source_sent, stands_for, delivered_source}
-use Rattle.nz_audit.specs.Cores.{run_up_to}
+use Rattle.nz_replay.specs.Runs.{run_up_to}
 use Rattle.nz_audit.specs.Prefixes.{prefix_for, requests_sent, accepted_at, with_accepted, with_source, source_by, traced, all_traced}
 use Rattle.nz_audit.specs.Leading.{RepliesIn}
 use Rattle.nz_audit.specs.Prefixes.{Brings, IsAccepted, IsWithin, GiveHistory, AreAccepted}

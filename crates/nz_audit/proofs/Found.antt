@@ -26,10 +26,11 @@ use Rattle.nz_audit.specs.declared.source.AcceptedAnswer.{AcceptedAnswer}
 use Rattle.nz_audit.specs.declared.source.Counted.{Counted}
 use Rattle.nz_audit.specs.declared.searching.Search.{Search}
 use Rattle.nz_audit.specs.declared.replaying.Replayed.{Replayed}
-use Rattle.nz_audit.specs.Cores.{IsReplayed, AreReplayed, run_up_to}
+use Rattle.nz_replay.specs.Runs.{run_up_to}
+use Rattle.nz_audit.specs.Cores.{IsReplayed, AreReplayed}
 use Rattle.nz_audit.specs.Prefixes.{prefix_for, longest_from, GiveHistory, AreAccepted, IsNoLonger, IsBestIfAny, IsFound}
 use Rattle.nz_audit.specs.Readings.{IsNextRecord}
-use Rattle.nz_audit.proofs.Replays.{run_then}
+use Rattle.nz_replay.proofs.Replays.{run_then}
 use Rattle.nz_audit.proofs.Accepting.{IsAt}
 
 pub accepted_first : (journal : Journal) (answers : List AcceptedAt) → answers ≡ [] → AreAccepted journal [] answers

@@ -1,6 +1,5 @@
 -- The modules of this crate's proofs.
 pub mod Executions
-pub mod Replays
 pub mod Places
 pub mod Memories
 pub mod Standings

@@ -21,7 +21,7 @@ use Rattle.nz_audit.specs.declared.noting.Noted.{Noted}
 use Rattle.nz_audit.specs.declared.proxy.ProxyNotes.{ProxyNotes}
 use Rattle.nz_audit.specs.declared.sending.ParcelKey.{ParcelKey}
 use Rattle.nz_audit.specs.declared.reading.Reading.{Reading}
-use Rattle.nz_audit.specs.Cores.{run_up_to}
+use Rattle.nz_replay.specs.Runs.{run_up_to}
 use Rattle.nz_audit.specs.Noting.{after_event, down_after}
 use Rattle.nz_audit.specs.Readings.{IsProxy, IsTable, IsTableWith, IsRead}
 use Rattle.nz_audit.proofs.Acting.{proxy_stays, proxy_ignores, is_read}

@@ -17,11 +17,11 @@ use Rattle.nz_machine.specs.Tellings.{telling_in, told_of, told_at, told_by_run}
 use Rattle.nz_machine.specs.World.{World}
 use Rattle.nz_machine.proofs.TellingsOfRuns.{telling_shows}
 use Rattle.nz_audit.specs.declared.source.AcceptedAt.{AcceptedAt}
-use Rattle.nz_audit.specs.Cores.{run_up_to}
+use Rattle.nz_replay.specs.Runs.{run_up_to}
 use Rattle.nz_audit.specs.Prefixes.{requests_sent, accepted_at, with_accepted, AreAccepted}
 use Rattle.nz_audit.proofs.Accepting.{accepted_then}
 use Rattle.nz_audit.proofs.Found.{accepted_first, is_at}
-use Rattle.nz_audit.proofs.Replays.{run_then}
+use Rattle.nz_replay.proofs.Replays.{run_then}
 use Rattle.nz_audit.proofs.Runs.{run_length}
 use Rattle.nz_audit.proofs.Sent.{sent_then}
 

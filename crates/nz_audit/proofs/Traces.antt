@@ -14,7 +14,7 @@ use Rattle.nz_audit.specs.declared.source.Source.{Source}
 use Rattle.nz_audit.specs.declared.source.AcceptedAt.{AcceptedAt}
 use Rattle.nz_audit.specs.declared.source.AcceptedAnswer.{AcceptedAnswer}
 use Rattle.nz_audit.specs.declared.sending.ParcelKey.{ParcelKey}
-use Rattle.nz_audit.specs.Cores.{run_up_to}
+use Rattle.nz_replay.specs.Runs.{run_up_to}
 use Rattle.nz_audit.specs.Prefixes.{is_to, traced, all_traced, with_accepted, IsAccepted}
 use Rattle.nz_audit.specs.Readings.{IsTable, IsKnown}
 use Rattle.nz_audit.proofs.Accepting.{traced_more}

@@ -25,7 +25,8 @@ use Rattle.nz_audit.specs.declared.source.AcceptedAnswer.{AcceptedAnswer}
 use Rattle.nz_audit.specs.declared.source.Counted.{Counted}
 use Rattle.nz_audit.specs.declared.searching.Search.{Search}
 use Rattle.nz_audit.specs.Sources.{about, delivered_source}
-use Rattle.nz_audit.specs.Cores.{run_up_to, AreReplayed}
+use Rattle.nz_replay.specs.Runs.{run_up_to}
+use Rattle.nz_audit.specs.Cores.{AreReplayed}
 use Rattle.nz_audit.specs.Leading.{RepliesIn}
 
 -- ---- accepted answers, with their sources

@@ -21,7 +21,7 @@ use Rattle.nz_audit.specs.Sources.{about, stands_for, kept_of, IsNoOther, source
 use Rattle.nz_audit.specs.declared.source.AcceptedAt.{AcceptedAt}
 use Rattle.nz_audit.specs.Noting.{IsSized}
 use Rattle.nz_audit.specs.Memories.{memory}
-use Rattle.nz_audit.specs.Cores.{run_up_to}
+use Rattle.nz_replay.specs.Runs.{run_up_to}
 
 -- What is known of a request: nothing of a proxy that did nothing yet.
 abbrev pub known_to : Option ProxyNotes → Id → Option Noted

@@ -7,7 +7,7 @@ ghost use Rattle.nz_machine.specs.Replicas.{leads_view};
 ghost use Rattle.nz_machine.specs.State.{Group};
 ghost use Rattle.nz_machine.specs.declared.event.Record.{Record};
 ghost use Rattle.nz_replica.specs.Models.{AreCores};
-ghost use Rattle.nz_audit.specs.Cores.{run_up_to};
+ghost use Rattle.nz_replay.specs.Runs.{run_up_to};
 ghost use Rattle.nz_audit.specs.Leading.{view_brought, first_view_brought, RepliesIn};
 ghost use Rattle.nz_audit.specs.Prefixes.{HasPrefix, IsWithin};
 

@@ -11,7 +11,7 @@ ghost use Rattle.nz_machine.specs.World.{World};
 ghost use Rattle.nz_machine.specs.declared.event.Parcel.{Parcel as ParcelModel};
 ghost use Rattle.nz_machine.specs.declared.event.Record.{Record as RecordModel};
 ghost use Rattle.nz_machine.specs.declared.journal.Journal.{Journal as JournalModel};
-ghost use Rattle.nz_audit.specs.Cores.{run_up_to};
+ghost use Rattle.nz_replay.specs.Runs.{run_up_to};
 ghost use Rattle.nz_audit.specs.Noting.{after_event, down_after, decided_in, IsSized};
 ghost use Rattle.nz_audit.specs.Memories.{memory};
 ghost use Rattle.nz_audit.specs.Sources as sources;

@@ -1,17 +1,17 @@
 //! A replica as it was after some records.
 
-ghost use Rattle.std.specs.Prelude.{◌≡◌, ◌≤◌, ◌<◌, ◌∷◌, true, List, length, IfOk, IfSome, IsTrue, OnOk};
+ghost use Rattle.std.specs.Prelude.{◌≡◌, ◌≤◌, ◌<◌, length, IfOk, IfSome, IsTrue, OnOk};
 ghost use Rattle.nz_base.specs.Cluster.{replica_count};
 ghost use Rattle.nz_machine.specs.Journals.{group_in};
-ghost use Rattle.nz_machine.specs.State.{Group};
-ghost use Rattle.nz_machine.specs.declared.event.Record.{Record as RecordModel};
 ghost use Rattle.nz_machine.specs.declared.journal.Journal.{Journal as JournalModel};
 ghost use Rattle.nz_replica.specs.Models.{IsCore};
-ghost use Rattle.nz_audit.specs.Cores.{IsReplayed, AreReplayed, run_up_to};
+ghost use Rattle.nz_replay.specs.Runs.{run_up_to};
+ghost use Rattle.nz_audit.specs.Cores.{IsReplayed, AreReplayed};
 
 use super::source::Source;
-use nz_base::{Actor, NoMemory};
-use nz_machine::{Core, Journal, Record};
+use nz_base::NoMemory;
+use nz_machine::Journal;
+use nz_replay::replay_one;
 use nz_replica::Replica;
 use std::alloc::Global;
 
@@ -84,18 +84,6 @@ impl Replays {
             _ => at,
         }
     }
-}
-
-/// The replica takes the record, if it is its own.
-pub fn replay_one(core: &mut Replica, number: u8, next: &Record) -> Result<(), NoMemory>
-    requires { core.old.live ≡ true }
-    ensures live { OnOk result (core.new.live ≡ true) }
-    ensures core { OnOk result ((g : Group) (J : List RecordModel) → IsCore g J number core.old → IsCore g (next.now ∷ J) number core.new) }
-{
-    if next.actor.is(&Actor::Replica(number)) {
-        core.step(&next.event)?;
-    }
-    Ok(())
 }
 
 /// The replica takes its records from the first count of records to the second.

@@ -3,10 +3,10 @@ use Rattle.std.proofs.Common.{◌≡◌, ℕ, List, ◌∷◌, Option, IfOk, sym
 use Rattle.std.specs.Prelude.{IfSome}
 use Rattle.std.proofs.lemmas.Result.{IfOk-weaker}
 use Rattle.nz_machine.specs.declared.event.Record.{Record}
-use Rattle.nz_audit.specs.Cores.{run_up_to}
+use Rattle.nz_replay.specs.Runs.{run_up_to}
 use Rattle.nz_audit.specs.Leading.{first_view_brought, BringsReplyOf, RepliesIn}
 use Rattle.nz_audit.proofs.LedPrefixes.{first_brings}
-use Rattle.nz_audit.proofs.Replays.{run_then}
+use Rattle.nz_replay.proofs.Replays.{run_then}
 use Rattle.nz_audit.proofs.leading.view_at.Goals as goal
 
 pub returns-in-Some-get_whole : goal.returns-in-Some-get_whole

@@ -2,7 +2,7 @@
 use Rattle.std.proofs.Common.{◌∙◌, Some, sym, ap}
 use Rattle.nz_base.specs.declared.actor.Actor.{Actor}
 use Rattle.nz_machine.specs.Journals.{group_in}
-use Rattle.nz_audit.specs.Cores.{run_up_to}
+use Rattle.nz_replay.specs.Runs.{run_up_to}
 use Rattle.nz_audit.specs.Sources.{source_sent}
 use Rattle.nz_audit.proofs.Acting.{decided_by}
 use Rattle.nz_audit.proofs.Runs.{run_length}

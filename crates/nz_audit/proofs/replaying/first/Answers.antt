@@ -2,7 +2,7 @@
 use Rattle.std.proofs.Common.{[], sym, subst}
 use Rattle.nz_machine.specs.Journals.{group_in}
 use Rattle.nz_replica.specs.Models.{ReplicaCore, IsCore}
-use Rattle.nz_audit.proofs.Replays.{core_first}
+use Rattle.nz_replay.proofs.Replays.{core_first}
 use Rattle.nz_audit.proofs.replaying.first.Goals as goal
 
 pub returns-clause-core : goal.returns-clause-core

@@ -4,8 +4,8 @@ use Rattle.std.specs.Prelude.{Some}
 use Rattle.nz_machine.specs.declared.event.Record.{Record}
 use Rattle.nz_machine.specs.Journals.{group_in}
 use Rattle.nz_replica.specs.Models.{IsCore}
-use Rattle.nz_audit.specs.Cores.{run_up_to}
-use Rattle.nz_audit.proofs.Replays.{run_then}
+use Rattle.nz_replay.specs.Runs.{run_up_to}
+use Rattle.nz_replay.proofs.Replays.{run_then}
 use Rattle.nz_audit.proofs.replaying.replay_on.Goals as goal
 
 pub loop-place-preserved : goal.loop-place-preserved

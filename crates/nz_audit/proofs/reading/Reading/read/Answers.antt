@@ -7,7 +7,7 @@ use Rattle.indexmap.specs.IndexMap.{get}
 use Rattle.nz_base.specs.Key.{id_eq}
 use Rattle.nz_machine.specs.Journals.{group_in}
 use Rattle.nz_machine.specs.declared.event.Record.{Record}
-use Rattle.nz_audit.specs.Cores.{run_up_to}
+use Rattle.nz_replay.specs.Runs.{run_up_to}
 use Rattle.nz_audit.specs.Readings.{IsProxy}
 use Rattle.nz_audit.proofs.Acting.{is_read}
 use Rattle.nz_audit.proofs.reading.Reading.read.Goals as goal

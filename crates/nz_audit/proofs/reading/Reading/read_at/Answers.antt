@@ -1,7 +1,7 @@
 -- What the function of this folder owes, proved.
 use Rattle.std.specs.HashSet.{contains}
 use Rattle.nz_base.specs.Key.{id_eq}
-use Rattle.nz_audit.specs.Cores.{run_up_to}
+use Rattle.nz_replay.specs.Runs.{run_up_to}
 use Rattle.nz_audit.proofs.Found.{is_next}
 use Rattle.nz_audit.proofs.Silences.{silent_is_read}
 use Rattle.nz_audit.proofs.reading.Reading.read_at.Goals as goal

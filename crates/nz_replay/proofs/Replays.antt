@@ -15,7 +15,7 @@ use Rattle.nz_machine.proofs.Runs.{acts, stays}
 use Rattle.nz_replica.specs.Models.{ReplicaCore, IsCore}
 use Rattle.nz_machine.specs.declared.journal.Journal.{Journal}
 use Rattle.nz_machine.proofs.ListParts.{take_next}
-use Rattle.nz_audit.specs.Cores.{run_up_to}
+use Rattle.nz_replay.specs.Runs.{run_up_to}
 
 abbrev replica_number : Actor → ℕ
 replica_number (Replica r) = r

@@ -1,7 +1,7 @@
 -- What the function of this folder owes, proved.
 use Rattle.std.proofs.Common.{sym, ◌∙◌}
-use Rattle.nz_audit.proofs.Replays.{core_steps, core_stays}
-use Rattle.nz_audit.proofs.replaying.replay_one.Goals as goal
+use Rattle.nz_replay.proofs.Replays.{core_steps, core_stays}
+use Rattle.nz_replay.proofs.replaying.replay_one.Goals as goal
 
 pub returns-in_ok-step-clause-core : goal.returns-in_ok-step-clause-core
 returns-in_ok-step-clause-core c = λ g J h.
