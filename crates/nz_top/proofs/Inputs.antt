@@ -12,9 +12,9 @@ use Rattle.nz_script.specs.declared.faults.ScriptFault.{ScriptFault}
 use Rattle.nz_script.specs.declared.faults.ScriptFault.TheVariants.{Refusal, NoMemory}
 use Rattle.nz_script.specs.Reading.{scenario}
 use Rattle.nz_top.specs.Moves.{most_input, input}
-use Rattle.nz_top.specs.declared.words.Command.{Command}
-use Rattle.nz_top.specs.declared.top.NoScenario.{NoScenario}
-use Rattle.nz_top.specs.declared.top.NoScenario.TheVariants.{Refused}
+use Rattle.nz_top.specs.declared.words.Play.{Play}
+use Rattle.nz_top.specs.declared.playing.NoScenario.{NoScenario}
+use Rattle.nz_top.specs.declared.playing.NoScenario.TheVariants.{Refused}
 use Rattle.nz_top.specs.Calls.{ReadsAs, RefusedAt, Explains, WritesLine, TellsBadLine, refusal_line}
 
 at_end : (bytes rest : List ℕ) → length bytes ≤ most_input → (length bytes < most_input → rest ≡ []) → bytes ≡ input (bytes ++ rest)
@@ -50,13 +50,13 @@ pub refused_is_input : (before : Option (List ℕ)) (bytes read : List ℕ) (fau
 refused_is_input before bytes read fault line kind h same is f =
     refused_as before bytes line kind h (ap scenario (sym same) ∙ f (λ e. no_want line kind (sym is ∙ e)) ∙ ap Err is)
 
-pub line_told : (command : Command) (left before after : Option (List ℕ)) (counted counts a b line told : ℕ) (kind said : Kind) (why : NoScenario)
-    → why ≡ Refused line kind → told ≡ line → said ≡ kind → Explains command left a b why
+pub line_told : (play : Play) (left before after : Option (List ℕ)) (counted counts a b line told : ℕ) (kind said : Kind) (why : NoScenario)
+    → why ≡ Refused line kind → told ≡ line → said ≡ kind → Explains play left a b why
     → WritesLine (refusal_line told said) before after counted counts → TellsBadLine left before after counted counts
-line_told command left before after counted counts a b line told kind said why is same_line same_kind first written = record {
+line_told play left before after counted counts a b line told kind said why is same_line same_kind first written = record {
   line = line;
   kind = kind;
-  first = (subst (Explains command left a b) is first).1;
+  first = (subst (Explains play left a b) is first).1;
   told =
       subst (λ (n : ℕ). WritesLine (refusal_line n kind) before after counted counts) same_line
       (subst (λ (k : Kind). WritesLine (refusal_line told k) before after counted counts) same_kind written);

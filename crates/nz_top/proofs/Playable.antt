@@ -21,9 +21,9 @@ use Rattle.nz_script.proofs.Sections.{group_parts, between_most}
 use Rattle.nz_script.proofs.Generated.{generated_runnable}
 use Rattle.nz_script.proofs.ReadIsPlayable.{read_runnable}
 use Rattle.nz_script.specs.Draws.{scenario_of_seed}
-use Rattle.nz_top.specs.declared.words.Command.{Command as CommandModel}
-use Rattle.nz_top.specs.declared.words.Command.TheVariants.{Gen}
-use Rattle.nz_top.specs.Words.{IsCalled}
+use Rattle.nz_top.specs.declared.words.Origin.{Origin}
+use Rattle.nz_top.specs.declared.words.Origin.TheVariants.{Seed}
+use Rattle.nz_top.specs.Words.{IsDrawable}
 use Rattle.nz_machine.specs.World.{IsAsked, IsMember, request_count}
 use Rattle.nz_machine.specs.Schedule.{group_of, NamesMember, IsPlayable}
 
@@ -101,10 +101,10 @@ playable s h =
 pub read_playable : (bytes : List ℕ) (s : Scenario) → scenario bytes ≡ Ok s → IsPlayable s
 read_playable bytes s e = playable s (read_runnable bytes s e)
 
-few_called : (command : CommandModel) (seed count : ℕ) → command ≡ Gen seed count → IsCalled command → count ≤ 2000
-few_called command seed count is called = (subst IsCalled is called).1
+few_drawn : (origin : Origin) (seed count : ℕ) → origin ≡ Seed seed count → IsDrawable origin → count ≤ 2000
+few_drawn origin seed count is drawable = (subst IsDrawable is drawable).1
 
-pub drawn_playable : (command : CommandModel) (seed count : ℕ) (s : Scenario) → command ≡ Gen seed count
-    → IsCalled command → s ≡ scenario_of_seed seed count → IsPlayable s
-drawn_playable command seed count s is called drawn =
-    subst IsPlayable (sym drawn) (playable (scenario_of_seed seed count) (generated_runnable seed count (few_called command seed count is called)))
+pub drawn_playable : (origin : Origin) (seed count : ℕ) (s : Scenario) → origin ≡ Seed seed count
+    → IsDrawable origin → s ≡ scenario_of_seed seed count → IsPlayable s
+drawn_playable origin seed count s is drawable drawn =
+    subst IsPlayable (sym drawn) (playable (scenario_of_seed seed count) (generated_runnable seed count (few_drawn origin seed count is drawable)))

@@ -1,5 +1,5 @@
 -- What a call of the program is answered.
-use Rattle.std.specs.Prelude.{ℕ, ◌≡◌, ◌⊎◌, List, [], ◌++◌, Option, Some, None, Ok, Err, IsSome, IsNone, IfSome, IsTrue, codes}
+use Rattle.std.specs.Prelude.{ℕ, ◌≡◌, ◌⊎◌, List, [], ◌++◌, Option, Some, None, Ok, Err, IsSome, IsNone, IfSome, codes}
 use Rattle.std.specs.Fmt.{decimal}
 use Rattle.nz_edge.specs.Faults.{Rose}
 use Rattle.nz_edge.specs.Exposed.{Gains}
@@ -13,16 +13,15 @@ use Rattle.nz_machine.specs.declared.journal.Journal.{Journal}
 use Rattle.nz_machine.specs.Journals.{group_in, run_in}
 use Rattle.nz_machine.specs.Schedule.{Scheduled}
 use Rattle.nz_machine.specs.World.{World}
-use Rattle.nz_text.specs.Text.{text, summary}
-use Rattle.nz_text.specs.Trace.{trace}
 use Rattle.nz_top.specs.declared.status.Status.{Status}
 use Rattle.nz_top.specs.declared.status.Status.TheVariants.{Done, Usage, BadScenario, ReadFault, WriteFault, NoMemory}
-use Rattle.nz_top.specs.declared.top.NoScenario.{NoScenario}
-use Rattle.nz_top.specs.declared.top.NoScenario.TheVariants as no_scenario
-use Rattle.nz_top.specs.declared.words.Command.{Command}
-use Rattle.nz_top.specs.declared.words.Command.TheVariants.{Run, Trace, Gen}
+use Rattle.nz_top.specs.declared.playing.NoScenario.{NoScenario}
+use Rattle.nz_top.specs.declared.playing.NoScenario.TheVariants as no_scenario
+use Rattle.nz_top.specs.declared.words.Origin.{Origin}
+use Rattle.nz_top.specs.declared.words.Origin.TheVariants.{Input, Seed}
+use Rattle.nz_top.specs.declared.words.Play.{Play}
 use Rattle.nz_top.specs.Moves.{input, TakesPrefix}
-use Rattle.nz_top.specs.Words.{reads}
+use Rattle.nz_top.specs.Reports.{printed_by}
 
 -- The source exposes its bytes, and those that are looked at are the text of this scenario.
 abbrev pub ReadsAs : Option (List ℕ) → Scenario → Type 0
@@ -42,35 +41,41 @@ abbrev pub IsRefused : Option (List ℕ) → Type 0
 IsRefused None = ⊥
 IsRefused (Some bytes) = (line : ℕ) × ((kind : Kind) × (scenario (input bytes) ≡ Err (Refusal line kind)))
 
--- The scenario that a command plays: that of the input, or one that is drawn.
-abbrev pub Plays : Command → Option (List ℕ) → Scenario → Type 0
-Plays (Run workers) left s = ReadsAs left s
-Plays (Trace workers) left s = ReadsAs left s
-Plays (Gen seed count) left s = s ≡ scenario_of_seed seed count
+-- The scenario that is played: that of the input, or one that is drawn.
+abbrev pub Gives : Origin → Option (List ℕ) → Scenario → Type 0
+Gives Input left s = ReadsAs left s
+Gives (Seed seed count) left s = s ≡ scenario_of_seed seed count
 
 -- What is left of the input then: nothing, or all of it where it is not read.
-abbrev pub HasRead : Command → Option (List ℕ) → Option (List ℕ) → Type 0
-HasRead (Run workers) before after = IfSome after (λ rest. rest ≡ [])
-HasRead (Trace workers) before after = IfSome after (λ rest. rest ≡ [])
-HasRead (Gen seed count) before after = after ≡ before
+abbrev pub HasRead : Origin → Option (List ℕ) → Option (List ℕ) → Type 0
+HasRead Input before after = IfSome after (λ rest. rest ≡ [])
+HasRead (Seed seed count) before after = after ≡ before
 
--- There is a scenario to play, and nothing keeps it from being read.
-abbrev pub CanPlay : Option Command → Option (List ℕ) → ℕ → ℕ → Type 0
-CanPlay None left counted counts = ⊥
-CanPlay (Some (Run workers)) left counted counts = ¬ Rose counted counts × IsReadable left
-CanPlay (Some (Trace workers)) left counted counts = ¬ Rose counted counts × IsReadable left
-CanPlay (Some (Gen seed count)) left counted counts = Unit {0}
+-- The scenario is read from the source.
+abbrev pub IsInput : Origin → Type 0
+IsInput Input = Unit {0}
+IsInput (Seed seed count) = ⊥
 
--- The command reads a scenario from the source.
-abbrev pub Reads : Option Command → Type 0
+-- What is played is read from the source.
+abbrev pub Reads : Option Play → Type 0
 Reads None = ⊥
-Reads (Some command) = IsTrue (reads command)
+Reads (Some play) = IsInput play.origin
+
+-- There is a scenario, and nothing keeps it from being read.
+abbrev pub HasScenario : Origin → Option (List ℕ) → ℕ → ℕ → Type 0
+HasScenario Input left counted counts = ¬ Rose counted counts × IsReadable left
+HasScenario (Seed seed count) left counted counts = Unit {0}
+
+-- There is a scenario to play.
+abbrev pub CanPlay : Option Play → Option (List ℕ) → ℕ → ℕ → Type 0
+CanPlay None left counted counts = ⊥
+CanPlay (Some play) left counted counts = HasScenario play.origin left counted counts
 
 -- Why there is no scenario.
-abbrev pub Explains : Command → Option (List ℕ) → ℕ → ℕ → NoScenario → Type 0
-Explains command left counted counts (no_scenario.Refused line kind) = IsTrue (reads command) × RefusedAt left line kind
-Explains command left counted counts no_scenario.Fault = IsTrue (reads command) × Rose counted counts
-Explains command left counted counts no_scenario.NoMemory = Unit {0}
+abbrev pub Explains : Play → Option (List ℕ) → ℕ → ℕ → NoScenario → Type 0
+Explains play left counted counts (no_scenario.Refused line kind) = IsInput play.origin × RefusedAt left line kind
+Explains play left counted counts no_scenario.Fault = IsInput play.origin × Rose counted counts
+Explains play left counted counts no_scenario.NoMemory = Unit {0}
 
 -- The line is written whole, or a prefix of it where the sink counted a fault.
 pub record WritesLine (line : List ℕ) (before after : Option (List ℕ)) (counted counts : ℕ) : Type 0 where
@@ -95,16 +100,10 @@ pub record TellsBadLine (left before after : Option (List ℕ)) (counted counts 
   pub first : RefusedAt left line kind
   pub told : WritesLine (refusal_line line kind) before after counted counts
 
--- What a command prints of a run.
-abbrev pub printed_by : Command → Journal → List ℕ
-printed_by (Run workers) j = text (group_in j) (run_in j)
-printed_by (Gen seed count) j = summary (group_in j) (run_in j)
-printed_by (Trace workers) j = trace (run_in j) ++ (codes "text\n" ++ text (group_in j) (run_in j))
-
--- What the command prints of a journal, nothing where there is no command.
-abbrev pub output_of : Option Command → Journal → List ℕ
+-- What is printed of the journal, nothing where nothing is played.
+abbrev pub output_of : Option Play → Journal → List ℕ
 output_of None j = []
-output_of (Some command) j = printed_by command j
+output_of (Some play) j = printed_by play.report j
 
 -- The codes that the program ends with.
 abbrev pub code_of : Status → ℕ

@@ -1,11 +1,25 @@
 -- Which commands there are, and the words that call them.
-use Rattle.std.specs.Prelude.{◌≡◌, ℕ, ◌≤◌, Bool, true, false, List, [], ◌∷◌, take, drop, Option, Some, None, if◌then◌else◌, codes}
+use Rattle.std.specs.Prelude.{◌≡◌, ℕ, ◌≤◌, List, [], ◌∷◌, take, drop, Option, Some, None, if◌then◌else◌, codes}
 use Rattle.std.specs.Str.{bytes_eq}
 use Rattle.nz_base.specs.Actor.{is_within}
 use Rattle.nz_base.specs.declared.limits.TheConstants.{MAX_REQUESTS, MAX_WORKERS}
 use Rattle.nz_script.specs.Bytes.{number_of}
+use Rattle.nz_top.specs.declared.reports.Report.{Report}
+use Rattle.nz_top.specs.declared.reports.Report.TheVariants as reports
 use Rattle.nz_top.specs.declared.words.Command.{Command}
-use Rattle.nz_top.specs.declared.words.Command.TheVariants.{Run, Trace, Gen}
+use Rattle.nz_top.specs.declared.words.Command.TheVariants as commands
+use Rattle.nz_top.specs.declared.words.Origin.{Origin}
+use Rattle.nz_top.specs.declared.words.Origin.TheVariants as origins
+use Rattle.nz_top.specs.declared.words.Play.{Play}
+use Rattle.nz_top.specs.declared.words.Verb.{Verb}
+use Rattle.nz_top.specs.declared.words.Verb.TheVariants as verbs
+
+-- The table of words: what the first word of a call asks for.
+abbrev pub verb_of_word : List ℕ → Option Verb
+verb_of_word word =
+    if bytes_eq word (codes "run") then Some (verbs.Show reports.Text)
+    else (if bytes_eq word (codes "trace") then Some (verbs.Show reports.Trace)
+    else (if bytes_eq word (codes "gen") then Some verbs.Gen else None))
 
 -- The number, where it is from 1 to this.
 abbrev pub up_to : ℕ → Option ℕ → Option ℕ
@@ -20,52 +34,65 @@ workers_in numeral = up_to MAX_WORKERS (number_of numeral)
 abbrev pub workers_at : List ℕ → Option ℕ
 workers_at word = if bytes_eq (take 10 word) (codes "--workers=") then workers_in (drop 10 word) else None
 
--- `run` prints the text of the run, and `trace` its records before that.
-abbrev pub command_named : List ℕ → ℕ → Option Command
-command_named word workers = if bytes_eq word (codes "run") then Some (Run workers) else (if bytes_eq word (codes "trace") then Some (Trace workers) else None)
+-- How many workers the words after the first one ask for: one, where there is no word.
+abbrev pub workers_of_words : List (List ℕ) → Option ℕ
+workers_of_words [] = Some 1
+workers_of_words (option ∷ []) = workers_at option
+workers_of_words (option ∷ numeral ∷ []) = if bytes_eq option (codes "--workers") then workers_in numeral else None
+workers_of_words _ = None
 
--- The command of a first word and a number of workers.
-abbrev pub play_command : List ℕ → Option ℕ → Option Command
-play_command word None = None
-play_command word (Some workers) = command_named word workers
+-- How many requests a numeral asks for.
+abbrev pub count_in : List ℕ → Option ℕ
+count_in numeral = up_to MAX_REQUESTS (number_of numeral)
 
--- The command `gen`, of a seed and a count.
+-- The scenario of the input is played, and this is reported.
+abbrev pub show_command : Report → Option ℕ → Option Command
+show_command report None = None
+show_command report (Some workers) = Some (commands.Play (record { origin = origins.Input; workers = workers; report = report }))
+
+-- The scenario that the seed draws, with this many requests, is played, and its summary is reported.
 abbrev pub gen_command : Option ℕ → Option ℕ → Option Command
-gen_command (Some seed) (Some count) = Some (Gen seed count)
+gen_command (Some seed) (Some count) =
+    Some (commands.Play (record { origin = origins.Seed seed count; workers = 1; report = reports.Summary }))
 gen_command _ _ = None
 
--- `gen SEED COUNT` plays the scenario that the seed draws, with this many requests, and prints its summary.
-abbrev pub of_three : List ℕ → List ℕ → List ℕ → Option Command
-of_three word second third =
-    if bytes_eq word (codes "gen") then gen_command (number_of second) (up_to MAX_REQUESTS (number_of third))
-    else (if bytes_eq second (codes "--workers") then play_command word (workers_in third) else None)
+-- The command of a first word and the words after it.
+abbrev pub command_after : Option Verb → List (List ℕ) → Option Command
+command_after None rest = None
+command_after (Some (verbs.Show report)) rest = show_command report (workers_of_words rest)
+command_after (Some verbs.Gen) (seed ∷ count ∷ []) = gen_command (number_of seed) (count_in count)
+command_after (Some verbs.Gen) _ = None
 
--- The command that the words call: with no other number there is one worker.
+-- The command that the words call. The first word decides what the others may be.
 abbrev pub command_of_words : List (List ℕ) → Option Command
-command_of_words (word ∷ []) = command_named word 1
-command_of_words (word ∷ option ∷ []) = play_command word (workers_at option)
-command_of_words (word ∷ second ∷ third ∷ []) = of_three word second third
-command_of_words _ = None
+command_of_words [] = None
+command_of_words (word ∷ rest) = command_after (verb_of_word word) rest
 
--- The commands that read a scenario from the source.
-abbrev pub reads : Command → Bool
-reads (Run workers) = true
-reads (Trace workers) = true
-reads (Gen seed count) = false
+-- What a command plays.
+abbrev pub play_of : Option Command → Option Play
+play_of None = None
+play_of (Some (commands.Play play)) = Some play
 
--- How many workers play it.
-abbrev pub workers_of : Command → ℕ
-workers_of (Run workers) = workers
-workers_of (Trace workers) = workers
-workers_of (Gen seed count) = 1
+-- What the words have played.
+abbrev pub play_of_words : List (List ℕ) → Option Play
+play_of_words words = play_of (command_of_words words)
 
--- A command that words can call: with 1 to MAX_WORKERS workers, or one that draws at least one request and no more than a scenario has.
+-- At least one request is drawn, and no more than a scenario has.
+abbrev pub IsDrawable : Origin → Type 0
+IsDrawable origins.Input = Unit {0}
+IsDrawable (origins.Seed seed count) = (1 ≤ count) × (count ≤ MAX_REQUESTS)
+
+-- There are 1 to MAX_WORKERS workers, and a scenario that is drawn is not too large.
+pub record IsInRange (play : Play) : Type 0 where
+  pub some : 1 ≤ play.workers
+  pub few : play.workers ≤ MAX_WORKERS
+  pub drawable : IsDrawable play.origin
+
+-- What words can call.
 abbrev pub IsCalled : Command → Type 0
-IsCalled (Run workers) = (1 ≤ workers) × (workers ≤ MAX_WORKERS)
-IsCalled (Trace workers) = (1 ≤ workers) × (workers ≤ MAX_WORKERS)
-IsCalled (Gen seed count) = (1 ≤ count) × (count ≤ MAX_REQUESTS)
+IsCalled (commands.Play play) = IsInRange play
 
 -- One worker plays it.
-abbrev pub IsAlone : Option Command → Type 0
+abbrev pub IsAlone : Option Play → Type 0
 IsAlone None = ⊥
-IsAlone (Some command) = workers_of command ≡ 1
+IsAlone (Some play) = play.workers ≡ 1

@@ -1,9 +1,12 @@
 //! The line of a refusal, which takes no memory.
-ghost use Rattle.std.specs.Prelude.{◌≡◌};
+ghost use Rattle.std.specs.Prelude.{◌≡◌, ◌≤◌};
 ghost use Rattle.nz_top.specs.Calls as calls;
+ghost use Rattle.nz_top.specs.Calls.{WritesLine};
 
+use crate::output::write_all;
 use arrayvec::ArrayString;
 use itoa::Buffer;
+use nz_edge::Sink;
 use nz_script::Kind;
 
 /// No line is longer: the words, a number of ten digits, and the kind.
@@ -22,7 +25,7 @@ fn kind_name(kind: Kind) -> &'static str
 
 #[tactic(auto, unfolding(crate::specs::Calls::refusal_line))]
 /// The line that reports a bad line of the input, counted from 1, and what is wrong in it.
-pub fn refusal_line(line: u32, kind: Kind) -> ArrayString<LONGEST>
+fn refusal_line(line: u32, kind: Kind) -> ArrayString<LONGEST>
     ensures { result.bytes ≡ calls.refusal_line line kind }
 {
     let mut text = ArrayString::new();
@@ -32,4 +35,20 @@ pub fn refusal_line(line: u32, kind: Kind) -> ArrayString<LONGEST>
     text.push_str(kind_name(kind));
     text.push_str("\n");
     text
+}
+
+/// Writes the one line of a refusal.
+pub fn refuse<O: Sink>(out: &mut O, line: &[u8])
+    ensures line { WritesLine line.now (O.taken out.old) (O.taken out.new) (O.faults out.old) (O.faults out.new) }
+    ensures counts { O.faults out.old ≤ O.faults out.new }
+{
+    let _ = write_all(out, line);
+}
+
+/// Reports the bad line of the input.
+pub fn tell_bad_line<O: Sink>(out: &mut O, line: u32, kind: Kind)
+    ensures line { WritesLine (calls.refusal_line line kind) (O.taken out.old) (O.taken out.new) (O.faults out.old) (O.faults out.new) }
+    ensures counts { O.faults out.old ≤ O.faults out.new }
+{
+    refuse(out, refusal_line(line, kind).as_bytes());
 }

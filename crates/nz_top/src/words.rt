@@ -1,8 +1,9 @@
 //! The words of a call.
-ghost use Rattle.std.specs.Prelude.{◌≡◌, ◌<◌, ◌≤◌, IfOk, IfSome, map};
-ghost use Rattle.nz_top.specs.Words as words_words;
-ghost use Rattle.nz_top.specs.Words.{up_to, command_named, play_command, gen_command, workers_of, command_of_words, IsCalled};
+ghost use Rattle.std.specs.Prelude.{◌≡◌, ◌≤◌, IfOk, IfSome, Some, map};
+ghost use Rattle.nz_top.specs.Words as spec;
+ghost use Rattle.nz_top.specs.Words.{verb_of_word, workers_of_words, show_command, gen_command, command_after, command_of_words, IsCalled};
 
+use crate::reports::Report;
 use nz_base::{Blob, List, MAX_REQUESTS, MAX_WORKERS, NoMemory};
 use nz_script::number_of;
 use std::alloc::Global;
@@ -11,27 +12,35 @@ use std::marker::Model;
 /// What the program is to do.
 #[derive(Clone, Copy, Debug, PartialEq, Eq)]
 pub enum Command {
-    /// Play the scenario with this many workers, 1 to `MAX_WORKERS`, and print the text of the run.
-    Run { workers: u8 },
-    /// The same, and print each record of the run before that.
-    Trace { workers: u8 },
-    /// Play the scenario that the seed draws, with this many requests, at most `MAX_REQUESTS`, and print its summary.
-    Gen { seed: u64, count: u32 },
+    /// Play a scenario, and print a report of the run.
+    Play(Play),
 }
 
-impl Command {
+/// A scenario, who plays it, and what is reported of the run.
+#[derive(Clone, Copy, Debug, PartialEq, Eq)]
+pub struct Play {
+    pub origin: Origin,
     /// How many workers play it, 1 to `MAX_WORKERS`.
-    pub fn workers(self) -> u8
-        requires { IsCalled self }
-        ensures value { result ≡ workers_of self }
-        ensures some { 0 < result }
-        ensures few { result ≤ MAX_WORKERS }
-    {
-        match self {
-            Command::Run { workers } | Command::Trace { workers } => workers,
-            Command::Gen { .. } => 1,
-        }
-    }
+    pub workers: u8,
+    pub report: Report,
+}
+
+/// Where a scenario comes from.
+#[derive(Clone, Copy, Debug, PartialEq, Eq)]
+pub enum Origin {
+    /// It is read from the source.
+    Input,
+    /// It is the one that the seed draws, with this many requests, at most `MAX_REQUESTS`.
+    Seed { seed: u64, count: u32 },
+}
+
+/// What the first word of a call asks for. It decides what the words after it may be.
+#[derive(Clone, Copy, Debug, PartialEq, Eq)]
+pub enum Verb {
+    /// To play the scenario of the input, and report this. A number of workers may follow.
+    Show(Report),
+    /// To play a scenario that is drawn, and print its summary. The seed and the count follow.
+    Gen,
 }
 
 /// The words after the program's name.
@@ -49,7 +58,7 @@ impl Model for Words {
 }
 
 fn workers_in(numeral: &[u8]) -> Option<u8>
-    ensures value { result ≡ words_words.workers_in numeral.now }
+    ensures value { result ≡ spec.workers_in numeral.now }
     ensures some { IfSome result (λ workers. 1 ≤ workers) }
     ensures few { IfSome result (λ workers. workers ≤ MAX_WORKERS) }
 {
@@ -60,7 +69,7 @@ fn workers_in(numeral: &[u8]) -> Option<u8>
 }
 
 fn workers_at(word: &[u8]) -> Option<u8>
-    ensures value { result ≡ words_words.workers_at word.now }
+    ensures value { result ≡ spec.workers_at word.now }
     ensures some { IfSome result (λ workers. 1 ≤ workers) }
     ensures few { IfSome result (λ workers. workers ≤ MAX_WORKERS) }
 {
@@ -70,63 +79,90 @@ fn workers_at(word: &[u8]) -> Option<u8>
     }
 }
 
-fn named(word: &[u8], workers: u8) -> Option<Command>
-    requires { (1 ≤ workers) × (workers ≤ MAX_WORKERS) }
-    ensures value { result ≡ command_named word.now workers }
-    ensures called { IfSome result IsCalled }
+fn workers(rest: &[Blob]) -> Option<u8>
+    ensures value { result ≡ workers_of_words rest.now }
+    ensures some { IfSome result (λ workers. 1 ≤ workers) }
+    ensures few { IfSome result (λ workers. workers ≤ MAX_WORKERS) }
 {
-    if word == b"run".as_slice() {
-        Some(Command::Run { workers })
-    } else if word == b"trace".as_slice() {
-        Some(Command::Trace { workers })
-    } else {
-        None
+    match rest {
+        [] => Some(1),
+        [option] => workers_at(option.as_slice()),
+        [option, numeral] if option.as_slice() == b"--workers".as_slice() => {
+            workers_in(numeral.as_slice())
+        }
+        _ => None,
     }
 }
 
-fn played(word: &[u8], workers: Option<u8>) -> Option<Command>
-    requires { IfSome workers (λ n. (1 ≤ n) × (n ≤ MAX_WORKERS)) }
-    ensures value { result ≡ play_command word.now workers }
-    ensures called { IfSome result IsCalled }
-{
-    match workers {
-        Some(workers) => named(word, workers),
-        None => None,
-    }
-}
-
-fn counted(number: Option<u64>) -> Option<u32>
-    ensures value { result ≡ up_to MAX_REQUESTS number }
+fn count_in(numeral: &[u8]) -> Option<u32>
+    ensures value { result ≡ spec.count_in numeral.now }
     ensures some { IfSome result (λ count. 1 ≤ count) }
     ensures few { IfSome result (λ count. count ≤ MAX_REQUESTS) }
 {
-    match number {
+    match number_of(numeral) {
         Some(count) if 1 <= count && count <= MAX_REQUESTS => Some(count as u32),
         _ => None,
     }
 }
 
-fn drawn(seed: Option<u64>, count: Option<u32>) -> Option<Command>
+fn to_show(report: Report, workers: Option<u8>) -> Option<Command>
+    requires { IfSome workers (λ n. (1 ≤ n) × (n ≤ MAX_WORKERS)) }
+    ensures value { result ≡ show_command report workers }
+    ensures called { IfSome result IsCalled }
+{
+    match workers {
+        Some(workers) => Some(Command::Play(Play {
+            origin: Origin::Input,
+            workers,
+            report,
+        })),
+        None => None,
+    }
+}
+
+fn to_draw(seed: Option<u64>, count: Option<u32>) -> Option<Command>
     requires { IfSome count (λ n. (1 ≤ n) × (n ≤ MAX_REQUESTS)) }
     ensures value { result ≡ gen_command seed count }
     ensures called { IfSome result IsCalled }
 {
     match (seed, count) {
-        (Some(seed), Some(count)) => Some(Command::Gen { seed, count }),
+        (Some(seed), Some(count)) => Some(Command::Play(Play {
+            origin: Origin::Seed { seed, count },
+            workers: 1,
+            report: Report::Summary,
+        })),
         _ => None,
     }
 }
 
-fn of_three(word: &[u8], second: &[u8], third: &[u8]) -> Option<Command>
-    ensures value { result ≡ words_words.of_three word.now second.now third.now }
-    ensures called { IfSome result IsCalled }
-{
-    if word == b"gen".as_slice() {
-        drawn(number_of(second), counted(number_of(third)))
-    } else if second == b"--workers".as_slice() {
-        played(word, workers_in(third))
-    } else {
-        None
+impl Verb {
+    /// The table of words.
+    fn of_word(word: &[u8]) -> Option<Verb>
+        ensures { result ≡ verb_of_word word.now }
+    {
+        if word == b"run".as_slice() {
+            Some(Verb::Show(Report::Text))
+        } else if word == b"trace".as_slice() {
+            Some(Verb::Show(Report::Trace))
+        } else if word == b"gen".as_slice() {
+            Some(Verb::Gen)
+        } else {
+            None
+        }
+    }
+
+    /// The command of the words after the first one.
+    fn command(self, rest: &[Blob]) -> Option<Command>
+        ensures value { result ≡ command_after (Some self) rest.now }
+        ensures called { IfSome result IsCalled }
+    {
+        match (self, rest) {
+            (Verb::Show(report), _) => to_show(report, workers(rest)),
+            (Verb::Gen, [seed, count]) => {
+                to_draw(number_of(seed.as_slice()), count_in(count.as_slice()))
+            }
+            (Verb::Gen, _) => None,
+        }
     }
 }
 
@@ -147,12 +183,11 @@ impl Words {
         ensures called { IfSome result IsCalled }
     {
         match self.words.as_slice() {
-            [word] => named(word.as_slice(), 1),
-            [word, option] => played(word.as_slice(), workers_at(option.as_slice())),
-            [word, second, third] => {
-                of_three(word.as_slice(), second.as_slice(), third.as_slice())
-            }
-            _ => None,
+            [word, rest @ ..] => match Verb::of_word(word.as_slice()) {
+                Some(verb) => verb.command(rest),
+                None => None,
+            },
+            [] => None,
         }
     }
 }

@@ -2,6 +2,7 @@
 use Rattle.std.proofs.lemmas.Option.{IfSome_then}
 use Rattle.nz_machine.specs.Journals.{group_in, run_in}
 use Rattle.nz_lin.proofs.OneHistory.{one_history}
+use Rattle.nz_top.specs.declared.reports.Report.TheVariants.{Text}
 use Rattle.nz_top.proofs.Inputs.{line_told}
 use Rattle.nz_top.proofs.top.nezha.Goals as goal
 
@@ -13,5 +14,5 @@ returns-in-Ok-clause-one_history g c = IfSome_then c.answer.result.journal c.ans
 
 pub returns-in-Err-Refused-clause-bad_line : goal.returns-in-Err-Refused-clause-bad_line
 returns-in-Err-Refused-clause-bad_line g c =
-    λ _. line_told _ (g.S.Source.left c.args.source.now) _ _ _ _ _ _ _ _ _ _ c.in-Err-Refused.field-0
+    λ _. line_told (record { origin = _; workers = 1; report = Text }) (g.S.Source.left c.args.source.now) _ _ _ _ _ _ _ _ _ _ c.in-Err-Refused.field-0
     c.in-Err-Refused.field-0-is c.in-Err-Refused.line-is c.in-Err-Refused.kind-is c.in-Err-Refused.ensures.none c.tell_bad_line.ensures.line

@@ -4,7 +4,7 @@ use Rattle.nz_script.proofs.ReadIsPlayable.{read_short}
 use Rattle.nz_script.specs.Reading.{scenario}
 use Rattle.nz_top.proofs.Inputs.{read_is_input, found_is_input, refused_is_input}
 use Rattle.nz_top.proofs.Playable.{read_playable}
-use Rattle.nz_top.proofs.top.scenario_of.Goals as goal
+use Rattle.nz_top.proofs.playing.scenario_of.Goals as goal
 
 pub returns-in-Ok-read-clause-found : goal.returns-in-Ok-read-clause-found
 returns-in-Ok-read-clause-found g c =
@@ -24,7 +24,7 @@ returns-in-Ok-read-clause-end g c =
 pub returns-in-Err-Refusal-clause-none : goal.returns-in-Err-Refusal-clause-none
 returns-in-Err-Refusal-clause-none g c =
     let whole = read_is_input (g.S.Source.left c.args.source.now) _ c.in-Ok.bytes.items c.in-Ok.ensures.lost c.in-Ok.ensures.most c.in-Ok.ensures.end in
-    λ command is_reading. (
+    λ play is_reading. (
       is_reading,
       refused_is_input (g.S.Source.left c.args.source.now) c.in-Ok.bytes.items _ c.in-Err-Refusal.field-0
           c.in-Err-Refusal.line c.in-Err-Refusal.kind whole c.deref.ensures.value c.in-Err-Refusal.field-0-is c.in-Err-Refusal.ensures.refused,

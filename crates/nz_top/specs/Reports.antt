@@ -1,0 +1,18 @@
+-- What is reported of a run.
+use Rattle.std.specs.Prelude.{ℕ, List, ◌++◌, codes}
+use Rattle.nz_machine.specs.declared.journal.Journal.{Journal}
+use Rattle.nz_machine.specs.Journals.{group_in, run_in}
+use Rattle.nz_text.specs.Text.{text, summary}
+use Rattle.nz_text.specs.Trace.{trace}
+use Rattle.nz_top.specs.declared.reports.Report.{Report}
+use Rattle.nz_top.specs.declared.reports.Report.TheVariants.{Text, Trace, Summary}
+
+-- A report that the text of the run follows, after a line of its own.
+abbrev pub headed : List ℕ → Journal → List ℕ
+headed head j = head ++ (codes "text\n" ++ text (group_in j) (run_in j))
+
+-- What is printed of the run.
+abbrev pub printed_by : Report → Journal → List ℕ
+printed_by Text j = text (group_in j) (run_in j)
+printed_by Trace j = headed (trace (run_in j)) j
+printed_by Summary j = summary (group_in j) (run_in j)

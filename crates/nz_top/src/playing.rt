@@ -1,0 +1,130 @@
+//! Playing a scenario, and writing a report of the run.
+ghost use Rattle.std.specs.Prelude.{◌≡◌, ◌≤◌, ◌⊎◌, [], IfOk, IfErr, IfSome, OnOk, Some};
+ghost use Rattle.nz_edge.specs.Faults.{Rose};
+ghost use Rattle.nz_edge.specs.Exposed.{Gains};
+ghost use Rattle.nz_machine.specs.Journals.{group_in, run_in};
+ghost use Rattle.nz_machine.specs.Schedule.{IsPlayable, InOrder};
+ghost use Rattle.nz_replica.specs.Models.{AreCores};
+ghost use Rattle.nz_top.specs.declared.status.Status.TheVariants as status;
+ghost use Rattle.nz_top.specs.declared.words.Play.{Play as PlayModel};
+ghost use Rattle.nz_top.specs.Calls.{Explains, Gives, HasRead, HasRun, IsInput, IsPlayed, IsRun, ReadsAs};
+ghost use Rattle.nz_top.specs.Moves.{TakesPrefix};
+ghost use Rattle.nz_top.specs.Reports.{printed_by};
+ghost use Rattle.nz_top.specs.Words.{IsDrawable, IsInRange};
+
+use crate::input::{Stop, read_input};
+use crate::output::write_all;
+use crate::status::{Outcome, Status};
+use crate::words::{Origin, Play};
+use nz_base::{NoMemory, Scenario};
+use nz_edge::{Gate, Sink, Source};
+use nz_machine::Journal;
+use nz_run::{Played, run};
+use nz_script::{Kind, ScriptFault, generate, read};
+use std::alloc::Global;
+use std::sync::Wait;
+use std::thread::Threads;
+
+/// Why there is no scenario.
+#[derive(Clone, Copy, Debug)]
+pub enum NoScenario {
+    /// The first bad line of the input, counted from 1.
+    Refused { line: u32, kind: Kind },
+    /// The source counted a fault.
+    Fault,
+    NoMemory,
+}
+
+/// Reads the scenario of the input.
+fn scenario_of<S: Source>(alloc: Global, source: &mut S) -> Result<Scenario, NoScenario>
+    ensures found { IfOk result (ReadsAs (S.left source.old)) }
+    ensures playable { IfOk result IsPlayable }
+    ensures end { OnOk result (IfSome (S.left source.new) (λ rest. rest ≡ [])) }
+    ensures none { (play : PlayModel) → IsInput play.origin
+        → IfErr result (Explains play (S.left source.old) (S.faults source.old) (S.faults source.new)) }
+    ensures counts { S.faults source.old ≤ S.faults source.new }
+{
+    let bytes = match read_input(alloc, source) {
+        Ok(bytes) => bytes,
+        Err(Stop::Fault) => return Err(NoScenario::Fault),
+        Err(Stop::NoMemory) => return Err(NoScenario::NoMemory),
+    };
+    match read(alloc, &bytes) {
+        Ok(scenario) => Ok(scenario),
+        Err(ScriptFault::Refusal { line, kind }) => Err(NoScenario::Refused { line, kind }),
+        Err(ScriptFault::NoMemory) => Err(NoScenario::NoMemory),
+    }
+}
+
+/// The scenario that is played.
+pub fn scenario_for<S: Source>(
+    alloc: Global,
+    play: Play,
+    source: &mut S,
+) -> Result<Scenario, NoScenario>
+    requires { IsDrawable play.origin }
+    ensures found { IfOk result (Gives play.origin (S.left source.old)) }
+    ensures playable { IfOk result IsPlayable }
+    ensures read { OnOk result (HasRead play.origin (S.left source.old) (S.left source.new)) }
+    ensures none { IfErr result (Explains play (S.left source.old) (S.faults source.old) (S.faults source.new)) }
+    ensures counts { S.faults source.old ≤ S.faults source.new }
+{
+    match play.origin {
+        Origin::Input => scenario_of(alloc, source),
+        Origin::Seed { seed, count } => match generate(alloc, seed, count) {
+            Ok(scenario) => Ok(scenario),
+            Err(_) => Err(NoScenario::NoMemory),
+        },
+    }
+}
+
+/// Writes the bytes of a run that was played.
+fn write_run<O: Sink>(journal: Journal, bytes: &[u8], out: &mut O) -> Outcome
+    ensures played { (result.status ≡ status.Done) ⊎ (result.status ≡ status.WriteFault) }
+    ensures done { result.status ≡ status.Done → Gains (O.taken out.old) (O.taken out.new) bytes.now }
+    ensures write_fault { result.status ≡ status.WriteFault → Rose (O.faults out.old) (O.faults out.new) }
+    ensures prefix { TakesPrefix (O.taken out.old) (O.taken out.new) bytes.now }
+    ensures run { result.journal ≡ Some journal }
+    ensures counts { O.faults out.old ≤ O.faults out.new }
+{
+    let status = match write_all(out, bytes) {
+        Ok(()) => Status::Done,
+        Err(_) => Status::WriteFault,
+    };
+    Outcome {
+        status,
+        journal: Some(journal),
+    }
+}
+
+/// Plays the scenario, and writes the report of the run.
+pub fn answer<O: Sink, R: Threads + Wait + Sync, G: Gate + Sync>(
+    rt: &R,
+    alloc: Global,
+    play: Play,
+    scenario: &Scenario,
+    out: &mut O,
+    gate: &G,
+) -> Outcome
+    requires called { IsInRange play }
+    requires playable { IsPlayable scenario.now }
+    ensures played { IsPlayed result.status }
+    ensures done { ¬ Rose (O.faults out.old) (O.faults out.new) → (result.status ≡ status.Done) ⊎ (result.status ≡ status.NoMemory) }
+    ensures write_fault { result.status ≡ status.WriteFault → Rose (O.faults out.old) (O.faults out.new) }
+    ensures no_memory { result.status ≡ status.NoMemory → O.taken out.new ≡ O.taken out.old }
+    ensures run { HasRun result.status result.journal }
+    ensures scenario { IfSome result.journal (λ journal. journal.scenario ≡ scenario.now) }
+    ensures is_run { IfSome result.journal IsRun }
+    ensures in_order { play.workers ≡ 1 → IfSome result.journal (λ journal. InOrder journal.scenario (run_in journal)) }
+    ensures text { result.status ≡ status.Done → IfSome result.journal (λ journal. Gains (O.taken out.old) (O.taken out.new) (printed_by play.report journal)) }
+    ensures prefix { IfSome result.journal (λ journal. TakesPrefix (O.taken out.old) (O.taken out.new) (printed_by play.report journal)) }
+    ensures counts { O.faults out.old ≤ O.faults out.new }
+{
+    let Ok(Played { journal, replicas }) = run(rt, alloc, scenario, play.workers, gate) else {
+        return Outcome::without_run(Status::NoMemory);
+    };
+    let Ok(bytes) = play.report.print(alloc, &journal, replicas.as_slice()) else {
+        return Outcome::without_run(Status::NoMemory);
+    };
+    write_run(journal, bytes.as_slice(), out)
+}

@@ -1,0 +1,59 @@
+//! What is reported of a run.
+ghost use Rattle.std.specs.Prelude.{◌≡◌, ◌++◌, IfOk, codes};
+ghost use Rattle.nz_machine.specs.Journals.{group_in, run_in};
+ghost use Rattle.nz_replica.specs.Models.{AreCores};
+ghost use Rattle.nz_top.specs.Calls.{IsRun};
+ghost use Rattle.nz_top.specs.Reports.{printed_by};
+
+use nz_audit::history_of;
+use nz_base::{Blob, NoMemory};
+use nz_machine::{Journal, told_in};
+use nz_replica::Replica;
+use nz_text::{summary, text, trace};
+use std::alloc::Global;
+
+/// What is reported of a run.
+#[derive(Clone, Copy, Debug, PartialEq, Eq)]
+pub enum Report {
+    /// The text of the run.
+    Text,
+    /// A line for each record, and the text after that.
+    Trace,
+    /// Counts.
+    Summary,
+}
+
+/// The head, a line of its own, and the text.
+fn headed(alloc: Global, head: Blob, text: Blob) -> Result<Blob, NoMemory>
+    ensures { IfOk result (λ bytes. bytes ≡ head ++ (codes "text\n" ++ text)) }
+{
+    let mut bytes = head.into_vec(alloc)?;
+    bytes.extend_from_slice(b"text\n")?;
+    bytes.extend_from_slice(text.as_slice())?;
+    Ok(Blob::from_vec(bytes))
+}
+
+impl Report {
+    /// What is printed of the run. These are its replicas after the last record, or none.
+    pub fn print(
+        self,
+        alloc: Global,
+        journal: &Journal,
+        replicas: &[Replica],
+    ) -> Result<Blob, NoMemory>
+        requires run { IsRun journal.now }
+        requires replicas { AreCores (group_in journal.now) (run_in journal.now) replicas.now }
+        ensures { IfOk result (λ bytes. bytes ≡ printed_by self journal.now) }
+    {
+        let told = told_in(alloc, journal)?;
+        let history = history_of(alloc, journal, told.as_slice(), replicas)?;
+        match self {
+            Report::Text => text(alloc, journal, told, &history),
+            Report::Trace => {
+                let head = trace(alloc, journal)?;
+                headed(alloc, head, text(alloc, journal, told, &history)?)
+            }
+            Report::Summary => summary(alloc, journal, told, &history),
+        }
+    }
+}
