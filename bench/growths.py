@@ -2,13 +2,17 @@
 """Refuses each growth of memory in turn, in a run with a view change and in one with a rejoin.
 
     (cd crates/nezha && rt run < ../../scenarios/put_then_get)     makes crates/nezha/out/nezha
-    bench/growths.py PROGRAM [SCENARIO ..]
+    bench/growths.py [--workers N] [--every K] PROGRAM [SCENARIO ..]
 
 PROGRAM is run on each scenario of the folder `scenarios` (leader_cut_off and replica_rejoins if left out) as often as it
 asks for memory: in the N-th run its N-th request for memory is refused. Each run has to end with status 6 and a prefix
-of the scenario's output, or with status 0 and all of it. A line for each scenario says how many growths were tried, and
-how many ended in each way; the runs that end otherwise are printed, and make the status 1. It wants cc.
+of the scenario's output, or with status 0 and all of it. By several workers the lines come in another order, so that all
+of the output is the same lines, and a prefix none. Scenarios with less to do are played by one thread all the same; 32_actors
+and 31_actors of crates/nezha_cases are shared, and want a K, since of so many requests for memory only each K-th can be
+refused. A line for each scenario says how many growths were tried, and how many ended in each way; the runs that end
+otherwise are printed, and make the status 1. It wants cc.
 """
+import argparse
 import collections
 import os
 import subprocess
@@ -49,8 +53,9 @@ void *realloc(void *old, size_t size) { return is_refused() ? 0 : __libc_realloc
 class Growths:
     """A program whose requests for memory are counted, and refused by their number."""
 
-    def __init__(self, program, folder):
-        self.program, self.shim, self.counted = program, f"{folder}/shim.so", f"{folder}/counted"
+    def __init__(self, program, workers, folder):
+        self.words = [program, "run", "--workers", str(workers)]
+        self.shim, self.counted = f"{folder}/shim.so", f"{folder}/counted"
         source = f"{folder}/shim.c"
         with open(source, "w") as it:
             it.write(SHIM)
@@ -61,9 +66,14 @@ class Growths:
         with open(self.counted, "wb") as it:
             it.write(bytes(8))
         env = {"LD_PRELOAD": self.shim, "COUNTED": self.counted, "REFUSED": str(refused)}
-        ended = subprocess.run([self.program, "run"], input=text, stdout=subprocess.PIPE, env=env, check=False)
+        ended = subprocess.run(self.words, input=text, stdout=subprocess.PIPE, env=env, check=False)
         with open(self.counted, "rb") as it:
             return ended.returncode, ended.stdout, int.from_bytes(it.read(), sys.byteorder)
+
+
+def in_order(workers, output):
+    """The output, or its lines in one order where several workers made it."""
+    return output if workers == 1 else b"".join(sorted(output.splitlines(True)))
 
 
 def ending(status, output, wanted):
@@ -77,34 +87,49 @@ def ending(status, output, wanted):
     return None
 
 
-def tried(growths, name):
-    """Tries each growth of a scenario's run; whether all runs ended as they may."""
-    with open(f"{HERE}/../scenarios/{name}", "rb") as it:
-        text = it.read()
-    with open(f"{HERE}/../scenarios/{name}.stdout", "rb") as it:
-        wanted = it.read()
+def text_of(name):
+    """A scenario and its output."""
+    if os.path.exists(f"{HERE}/../scenarios/{name}"):
+        with open(f"{HERE}/../scenarios/{name}", "rb") as it:
+            text = it.read()
+        with open(f"{HERE}/../scenarios/{name}.stdout", "rb") as it:
+            return text, it.read()
+    with open(f"{HERE}/../crates/nezha_cases/data/{name}", "rb") as it:
+        return it.read().split(b"\n", 1)[1], None
+
+
+def tried(growths, name, given):
+    """Tries growths of a scenario's run; whether all runs ended as they may."""
+    text, wanted = text_of(name)
     status, output, count = growths.run(text, 0)
-    if (status, output) != (0, wanted):
+    output = in_order(given.workers, output)
+    if status != 0 or (wanted is not None and output != in_order(given.workers, wanted)):
         sys.exit(f"{name}: with all its memory the program ends with status {status} or another output")
+    wanted = output
     ways, wrong = collections.Counter(), 0
-    for number in range(1, count + 1):
+    numbers = range(1, count + 1, given.every)
+    for number in numbers:
         status, output, _ = growths.run(text, number)
-        way = ending(status, output, wanted)
+        way = ending(status, in_order(given.workers, output), wanted)
         ways[way] += 1
         if way is None:
             wrong += 1
             print(f"  {name}, growth {number}: status {status}, {len(output)} bytes")
-    print(f"{name}: {count} growths; " + ", ".join(f"{count} ended with {way}" for way, count in ways.items() if way))
+    told = ", ".join(f"{count} ended with {way}" for way, count in ways.items() if way)
+    print(f"{name}: {len(numbers)} of {count} growths; {told}")
     return wrong == 0
 
 
 def main():
-    if len(sys.argv) < 2:
-        sys.exit(__doc__)
+    parser = argparse.ArgumentParser(usage=__doc__)
+    parser.add_argument("--workers", type=int, default=1)
+    parser.add_argument("--every", type=int, default=1)
+    parser.add_argument("program")
+    parser.add_argument("names", nargs="*", default=["leader_cut_off", "replica_rejoins"])
+    given = parser.parse_args()
     with tempfile.TemporaryDirectory() as folder:
-        growths = Growths(os.path.abspath(sys.argv[1]), folder)
-        names = sys.argv[2:] or ["leader_cut_off", "replica_rejoins"]
-        endings = [tried(growths, name) for name in names]
+        growths = Growths(os.path.abspath(given.program), given.workers, folder)
+        endings = [tried(growths, name, given) for name in given.names]
     sys.exit(not all(endings))
 
 
