@@ -1,11 +1,16 @@
 -- What the function of this folder owes, proved.
-use Rattle.std.proofs.Common.{sym, subst}
-use Rattle.nz_top.specs.Calls.{IsInput}
-use Rattle.nz_top.proofs.Playable.{drawn_playable}
+use Rattle.std.proofs.Common.{refl}
+use Rattle.nz_top.specs.declared.playing.NoScenario.TheVariants.{Foul}
+use Rattle.nz_top.proofs.Inputs.{found_foul, only_memory}
 use Rattle.nz_top.proofs.playing.scenario_for.Goals as goal
 
-pub returns-in-Ok-clause-playable : goal.returns-in-Ok-clause-playable
-returns-in-Ok-clause-playable g c = drawn_playable c.args.play.origin c.in-Seed.seed c.in-Seed.count c.in-Ok.scenario c.in-Seed.is c.requires c.in-Ok.ensures
+pub returns-in-Err-clause-none : goal.returns-in-Err-clause-none
+returns-in-Err-clause-none g c = c.in-Err.ensures.none c.args.play refl
 
-pub returns-in-Input-clause-none : goal.returns-in-Input-clause-none
-returns-in-Input-clause-none g c = c.scenario_of.ensures.none c.args.play (subst IsInput (sym c.in-Input.is) tt)
+pub returns-in-Err-clause-complete : goal.returns-in-Err-clause-complete
+returns-in-Err-clause-complete g c = only_memory c.args.play _ _ _ _ (c.in-Err.ensures.none c.args.play refl)
+
+pub returns-in-Some-clause-complete : goal.returns-in-Some-clause-complete
+returns-in-Some-clause-complete g c =
+    only_memory c.args.play _ _ _ (Foul c.in-Some.id)
+    (found_foul c.args.play _ c.in-Ok.scenario c.in-Some.id c.requires c.in-Ok.ensures.found c.in-Some.ensures.refused)
