@@ -289,7 +289,7 @@ impl<N: Name> FabricState<N> {
         self.ticks.marked = true;
     }
 
-    /// Whether a batch was given up, the run was stopped, or a tick could not begin.
+    /// Whether a batch was given up or lost when it was taken, the run was stopped, or a tick could not begin.
     pub fn is_marked(&self) -> bool
         ensures { result ≡ self.now.run.marked }
     {
@@ -387,18 +387,18 @@ impl<N: Name> FabricState<N> {
     }
 
     /// The scenario and the records, once the last tick was done.
-    pub fn into_journal(self) -> Result<Journal, NoMemory>
+    pub fn into_journal(self) -> Journal
         requires over { IsOver self }
         requires last { self.run.tick ≡ self.run.scenario.ticks }
-        ensures scenario { IfOk result (λ journal. journal.scenario ≡ N.scenario) }
-        ensures records { IfOk result (λ journal. run_in journal ≡ records_of self.run) }
-        ensures scheduled { IfOk result (λ journal. Scheduled N.scenario (run_in journal)) }
-        ensures steps { IfOk result (λ journal. AreSteps (group_of N.scenario) (run_in journal)) }
+        ensures scenario { result.scenario ≡ N.scenario }
+        ensures records { run_in result ≡ records_of self.run }
+        ensures scheduled { Scheduled N.scenario (run_in result) }
+        ensures steps { AreSteps (group_of N.scenario) (run_in result) }
     {
         let FabricState { ticks, records, .. } = self;
-        Ok(Journal {
+        Journal {
             scenario: ticks.scenario,
             records: records.into_recording().into_list(),
-        })
+        }
     }
 }

@@ -119,8 +119,10 @@ fn run_named<N: Name + Send + Sync, R: Threads + Wait + Sync, G: Gate + Sync>(
         return Ok(None);
     };
     let replicas = stage.into_replicas(alloc, &state)?;
-    let journal = state.into_journal()?;
-    Ok(Some(Played { journal, replicas }))
+    Ok(Some(Played {
+        journal: state.into_journal(),
+        replicas,
+    }))
 }
 
 /// As many of the workers as can have something to do: one worker does an actor's items of a tick.

@@ -12,8 +12,8 @@ use Rattle.nz_run.proofs.threads.run_named.Goals as goal
 
 pub returns-clause-run : goal.returns-clause-run
 returns-clause-run g c =
-    let j = c.in_ok-journal.journal in
-    let known = c.in_ok-journal.ensures in
+    let j = c.into_journal.result in
+    let known = c.into_journal.ensures in
     let name = sym c.requires.scenario in
     let s = c.args.scenario.now in
     let same : j.scenario ≡ s = known.scenario ∙ name in
@@ -29,6 +29,6 @@ returns-clause-run g c =
 
 pub returns-clause-replicas : goal.returns-clause-replicas
 returns-clause-replicas g c =
-    let known = c.in_ok-journal.ensures in
-    subst (λ (s : Scenario). AreCores (group_of s) (run_in c.in_ok-journal.journal) c.in_ok-replicas.replicas.items) (sym known.scenario)
+    let known = c.into_journal.ensures in
+    subst (λ (s : Scenario). AreCores (group_of s) (run_in c.into_journal.result) c.in_ok-replicas.replicas.items) (sym known.scenario)
     (subst (λ (J : List Record). AreCores (group_of g.N.Name.scenario) J c.in_ok-replicas.replicas.items) (sym known.records) c.in_ok-replicas.ensures)
