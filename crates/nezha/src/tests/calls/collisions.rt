@@ -2,15 +2,14 @@
 //! replicas replied over, no two that differ have the same digest.
 ghost use Rattle.std.specs.Prelude.{◌<◌};
 
-use super::rows::PUT_THEN_GET;
-use super::{answer_through, plain};
+use super::{PUT_THEN_GET, scenario_of};
 use nz_base::{Actor, Cluster, Id, Key, NoMemory};
 use nz_digest::Digest;
-use nz_edge::OpenGate;
 use nz_log::HashedLog;
 use nz_machine::{Core, Record, RecordList};
 use nz_msg::{DecodeRefusal, Message, decode};
 use nz_replica::Replica;
+use nz_run::run_alone;
 use std::alloc::Global;
 use std::test::Fail;
 
@@ -100,16 +99,18 @@ fn collides(list: &RepliedOver, others: &[RepliedOver]) -> bool {
 
 #[test]
 fn no_lists_of_keys_collide(rt: HostRuntime) -> Result<(), Fail> {
-    let call = plain(&["run"], PUT_THEN_GET.input.as_bytes());
-    let (outcome, _) = answer_through(&rt, rt.alloc(), &call, &OpenGate::new())?;
-    let Some(journal) = &outcome.journal else {
-        assert!(rt; false);
-        return Ok(());
-    };
-    let cluster = journal.scenario.cluster;
-    let mut lists = Vec::new(rt.alloc());
-    for number in 0..cluster.n() {
-        add_replica(rt.alloc(), cluster, number, &journal.records, &mut lists)?;
+    let alloc = rt.alloc();
+    let scenario = scenario_of(alloc, PUT_THEN_GET)?;
+    let journal = run_alone(alloc, &scenario)?.journal;
+    let mut lists = Vec::new(alloc);
+    for number in 0..scenario.cluster.n() {
+        add_replica(
+            alloc,
+            scenario.cluster,
+            number,
+            &journal.records,
+            &mut lists,
+        )?;
     }
     // Each replica replies to the put over one key, and to the get over two.
     assert_eq!(rt; lists.len(), 6);

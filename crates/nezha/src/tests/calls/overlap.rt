@@ -3,8 +3,7 @@ ghost use Rattle.std.specs.Prelude.{◌≡◌};
 ghost use Rattle.nz_base.specs.declared.limits.TheConstants.{MAX_WORKERS};
 ghost use Rattle.nz_machine.specs.Schedule.{IsPlayable};
 
-use super::replicas::scenario_of;
-use super::rows::THREE_EQUAL_DEADLINES;
+use super::{PUT_THEN_GET, scenario_of};
 use nz_actor::{ActorCell, ActorState};
 use nz_base::{Actor, MAX_WORKERS, NoMemory, Scenario, TryCopy};
 use nz_edge::OpenGate;
@@ -158,7 +157,7 @@ fn seen_at_once<N: Name + Send + Sync, R: Threads + Wait + Sync>(
 #[test]
 fn two_steps_at_once(rt: HostRuntime) -> Result<(), Fail> {
     let alloc = rt.alloc();
-    let scenario = scenario_of(alloc, THREE_EQUAL_DEADLINES.input)?;
+    let scenario = scenario_of(alloc, PUT_THEN_GET)?;
     let (seen, given_up) = seen_at_once::<Brand, _>(
         &rt,
         alloc,

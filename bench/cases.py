@@ -1,0 +1,275 @@
+#!/usr/bin/env python3
+"""Writes the cases of crates/nezha_cases, and what it has to print of them by a reference, another program with the same words.
+
+    bench/cases.py REFERENCE             writes crates/nezha_cases/data and crates/nezha_cases/stdout
+    bench/cases.py --check [REFERENCE]   compares them with what it would write; without a reference, the data alone
+
+The list of the cases, and what each of its lines asks for, is below. Nothing that is printed is taken from the proved
+program: outputs are the reference's; of an end that fails, its output up to there; of runs by several workers, whether they
+are as that by one, and how many batches there are, which is the number of actors in each tick that they share.
+"""
+import hashlib
+import itertools
+import os
+import subprocess
+import sys
+
+import hostile
+
+HERE = os.path.dirname(os.path.abspath(__file__))
+FOLDER = f"{HERE}/../crates/nezha_cases"
+SHORT = 40
+KEPT = [0, 7, 10, 13, 16777216]
+BUSY = [12, 14, 16, 28]
+
+REFUSALS = [
+    ("an empty input", ""),
+    ("no number of faults", "nezha 1\nf one\n"),
+    ("nine proxies", "nezha 1\nf 1\nproxies 9\n"),
+    ("the second client first", "nezha 1\nf 1\nproxies 1\nclients 1\nticks 10\nclient c1\n"),
+]
+
+NO_CALLS = """
+|gen|gen 7|gen 7 0|gen 7 2001|walk|--help|run run|run --workers|run --workers=|run --workers=0|gen --workers=1|run --workers 0
+run --workers 01|trace --workers 17|run --worker 1|runs
+""".replace("\n", "|").split("|")[1:-1]
+
+HEAD = "nezha 1\nf 1\nproxies 1\nclients 1\n"
+
+# Runs whose histories are found with the replicas as they are at the end, and without them.
+HISTORIES = {
+    "a leader crashes after its reply": HEAD + "ticks 60\nclient c0\nput a 1\nend\ncrash r0 40\ndone\n",
+    "the first answer arrives after the second": "nezha 1\nf 1\nproxies 1\nclients 2\nticks 40\nclient c0\nput a 1\nend\n"
+    "client c1\nput b 2\nend\nhold p0 c0 answer 1 8\ndone\n",
+    "the second answer is lost": HEAD + "ticks 60\nclient c0\nput a 1\nwait 30\nput b 2\nend\nblock p0 c0 30 60\ndone\n",
+    "the second answer and a follower are lost": HEAD
+    + "ticks 60\nclient c0\nput a 1\nwait 30\nput b 2\nend\ncrash r2 20\nblock p0 c0 30 60\ndone\n",
+    "a leader leads a later view": HEAD
+    + "ticks 90\nclient c0\nput a 1\nend\nalarm r0 30\nalarm r0 45\nalarm r0 60\ndone\n",
+}
+
+
+def scenarios():
+    for name in sorted(os.listdir(f"{HERE}/../scenarios")):
+        if "." not in name:
+            with open(f"{HERE}/../scenarios/{name}") as it:
+                yield name, it.read()
+
+
+def lost():
+    """One replica of three, or of five in every other tick."""
+    for number, (what, text) in enumerate(hostile.crashes()):
+        if what.startswith("f 1") or number % 2:
+            yield what, text
+
+
+def lost_in_turn():
+    for a, b, first, second in itertools.product(range(3), range(3), BUSY, BUSY):
+        faults = hostile.lost(a, first) + hostile.lost(b, second)
+        yield f"r{a} at {first}, r{b} at {second}", hostile.scenario(hostile.PUT_THEN_GET, faults)
+
+
+def cuts(reference):
+    for kind, (sender, receiver) in hostile.first_deliveries(reference).items():
+        for kept in KEPT:
+            fault = f"cut {sender} {receiver} {kind} 1 {kept}"
+            yield fault, hostile.scenario(hostile.BUSY_SCRIPT, [*hostile.BUSY_FAULTS, fault], ticks=120)
+
+
+def small_limits():
+    """Those of the hostile scenarios at a limit that are short."""
+    for what, text in hostile.limits():
+        if len(packed(text)) < 1500:
+            yield what, text
+
+
+def counts():
+    """Ticks, puts, and lines that drop a message that is never sent, at a limit and one past it."""
+    table = [(20000, 100, 0), (20001, 0, 0), (20000, 101, 0), (1000, 2000, 0), (1001, 2000, 0), (1, 2000, 0)]
+    table += [(1, 2001, 0), (1, 0, 1000), (1, 0, 1001), (1, 200, 1000), (1, 201, 1000), (1, 2000, 100), (1, 2000, 101)]
+    for ticks, puts, drops in table:
+        text = hostile.scenario(["put a 1"] * puts, ["drop p0 r0 answer 1"] * drops, ticks=ticks)
+        yield f"{ticks} ticks, {puts} puts and {drops} drops", text
+
+
+def long_texts():
+    short = hostile.scenario(hostile.PUT_THEN_GET, ticks=40)
+    for size in (1048576, 1048577):
+        count, rest = divmod(size - len(short), 10)
+        comments = "#3456789\n" + "#23456789\n" * (count - 1) + "#" * rest + "\n"
+        assert len(comments + short) == size
+        yield f"{size} bytes with comments before", comments + short
+        yield f"{size} bytes with comments after", short + comments
+    yield "1048577 empty lines", "\n" * 1048577
+
+
+def busy(f, clients, proxies, ticks, faults=()):
+    """Each client sends a request in each tick but the last four, so each tick but the first two has 128 items or more."""
+    lines = ["nezha 2", f"f {f}", f"proxies {proxies}", f"clients {clients}", f"ticks {ticks}", "window 16"]
+    for client in range(clients):
+        lines.append(f"client c{client}")
+        for tick in range(1, ticks - 3):
+            key = "abcdefgh"[(client + tick - 1) % 8]
+            commands = [f"put {key} {client}", f"get {key}", f"cas {key} {client} -", f"put {key} {tick - 1}"]
+            lines += [*([f"wait {tick}"] if tick > 1 else []), commands[(client * 3 + tick - 1) % 4]]
+        lines.append("end")
+    return "\n".join([*lines, *faults, "done"]) + "\n"
+
+
+BUSY_RUNS = {
+    "32_actors": busy(1, 28, 1, 30),
+    "31_actors": busy(2, 24, 2, 30, ["drop p0 r2 timed 3", "hold p0 r1 timed 5 4", "twice p1 r0 timed 2 3", "drop p1 r4 timed 7"]),
+}
+ACTORS = {name: int(name.split("_")[0]) for name in BUSY_RUNS}
+# The ticks that workers share in these runs: the third one and those after it, of 30.
+SHARED = 28
+
+
+def files(reference):
+    """The cases of each file, by their names."""
+    own = dict(scenarios())
+    yield "scenarios", own
+    yield "put_then_get", {"put_then_get": own["put_then_get"]}
+    yield "leader_cut_off", {"leader_cut_off": own["leader_cut_off"]}
+    yield "stray_view_change", {"stray_view_change": own["stray_view_change"]}
+    yield "not_read", {"not read": "not read\n"}
+    yield "refusals", dict(REFUSALS)
+    yield "lost", dict(lost())
+    yield "lost_together", {what: text for what, text in hostile.together() if what.startswith("f 1")}
+    yield "lost_in_turn", dict(lost_in_turn())
+    yield "cuts", dict(cuts(reference)) if reference else None
+    yield "limits", {**dict(small_limits()), **dict(counts()), **dict(long_texts())}
+    used = ["put_then_get", "replica_rejoins", "alarm", "leader_lost", "leader_cut_off", "leader_rejoins"]
+    yield "histories", {**HISTORIES, **{name: own[name] for name in used}}
+    for name, text in BUSY_RUNS.items():
+        yield name, {name: text}
+
+
+def listed():
+    """The lines of the list."""
+    lines = ["# The kind of each case, the file with its inputs, and its words.", "call scenarios run", "call scenarios trace"]
+    lines += ["lines stray_view_change 61 r1 deliver view-change", "call refusals run"]
+    lines += [f"call put_then_get {words}".rstrip() for words in NO_CALLS]
+    lines += ["call not_read gen 7 1", "call not_read gen 7 2000", "call not_read gen 7 2000"]
+    lines += ["prefixes leader_cut_off run", "reads put_then_get run", "writes put_then_get run", "rooms put_then_get run"]
+    lines += ["call lost trace", "call lost_together trace", "call lost_in_turn trace", "call cuts trace", "call limits run"]
+    lines += ["histories histories"]
+    for name in BUSY_RUNS:
+        first = ACTORS[name] * (SHARED - 1) + 1
+        lines += [f"call {name} run", f"call {name} trace", f"shared {name} {first}", f"replicas {name}"]
+    return lines
+
+
+def packed(text):
+    """The text, in which =COUNT LINE stands for lines that are the same."""
+    lines = []
+    for line, group in itertools.groupby(text.split("\n")[:-1]):
+        count = len(list(group))
+        lines += [line] * count if count < 3 else [f"={count} {line}"]
+    return "".join(f"{line}\n" for line in lines)
+
+
+def text_of(cases):
+    return "".join(f"== {name}\n{packed(text)}" for name, text in cases.items())
+
+
+def is_short(output):
+    return output[-1:] in (b"", b"\n") and output.count(b"\n") <= SHORT
+
+
+def told(what, status, output):
+    head = f"{what}: status {status}\n".encode()
+    if is_short(output):
+        return head + output
+    accepts = sum(line.startswith(b"accept ") for line in output.split(b"\n"))
+    sha1 = hashlib.sha1(output).hexdigest()
+    return head + f"{len(output)} bytes, {output.count(10)} lines, {accepts} accepted, sha1 {sha1}\n".encode()
+
+
+class Printer:
+    """What the program has to print, by a reference."""
+
+    def __init__(self, reference):
+        self.reference = reference
+
+    def ended(self, words, text):
+        ended = subprocess.run([self.reference, *words], input=text.encode(), stdout=subprocess.PIPE, check=False)
+        return ended.returncode, ended.stdout
+
+    def call(self, name, text, words):
+        yield told(f"{name}, {' '.join(words)}", *self.ended(words, text))
+
+    def lines(self, name, text, words):
+        start = " ".join(words).encode()
+        yield f"{name}, {' '.join(words)}\n".encode()
+        for line in self.ended(["trace"], text)[1].split(b"\n"):
+            if line.startswith(start):
+                yield line + b"\n"
+
+    def prefixes(self, name, text, words):
+        for kept in range(len(text)):
+            yield told(f"{name}, the first {kept} bytes", *self.ended(words, text[:kept]))
+
+    def reads(self, name, text, words):
+        for given in range(len(text) + 1):
+            yield told(f"{name}, a fault after {given} bytes are read", 3, b"")
+
+    def writes(self, name, text, words):
+        output = self.ended(words, text)[1]
+        for calls in range(len(output) + 2):
+            status = 4 if calls <= len(output) else 0
+            yield told(f"{name}, a fault after {calls} calls of the sink", status, output[:calls])
+
+    def rooms(self, name, text, words):
+        output = self.ended(words, text)[1]
+        for room in range(len(output)):
+            yield told(f"{name}, a room of {room} bytes", 4, output[:room])
+
+    def shared(self, name, text, words):
+        batches = ACTORS[name] * SHARED
+        for workers in (2, 4, 16):
+            yield f"{name}, trace by {workers} workers: status 0, as by one, {batches} batches, 0 missed\n".encode()
+
+    def replicas(self, name, text, words):
+        count = 2 * int(text.split("\n")[1].split()[1]) + 1
+        yield f"{name}, replicas that runs by 2, 4 and 16 workers give: {count}, {count}, {count}\n".encode()
+
+    def histories(self, name, text, words):
+        count = sum(line.startswith(b"at ") for line in self.ended(["run"], text)[1].split(b"\n"))
+        yield f"{name}: {count} entries by the replicas, {count} without\n".encode()
+
+
+def printed(reference, contents):
+    printer = Printer(reference)
+    for line in listed()[1:]:
+        kind, file, *words = line.split(" ")
+        for name, text in contents[file].items():
+            yield from getattr(printer, kind)(name, text, words)
+
+
+def main():
+    check = sys.argv[1:2] == ["--check"]
+    reference = os.path.abspath(sys.argv[1 + check]) if len(sys.argv) > 1 + check else None
+    if not check and not reference:
+        sys.exit(__doc__)
+    contents = {name: cases for name, cases in files(reference) if cases is not None}
+    wanted = {f"data/{name}": text_of(cases).encode() for name, cases in contents.items()}
+    wanted["data/list"] = "".join(f"{line}\n" for line in listed()).encode()
+    if reference:
+        wanted["stdout"] = b"".join(printed(reference, contents))
+    wrong = []
+    for name, data in wanted.items():
+        path = f"{FOLDER}/{name}"
+        if check:
+            with open(path, "rb") as it:
+                wrong += [name] * (it.read() != data)
+            continue
+        os.makedirs(os.path.dirname(path), exist_ok=True)
+        with open(path, "wb") as it:
+            it.write(data)
+    print(f"{len(wanted)} files, {sum(map(len, contents.values()))} cases" + "".join(f"\nnot as it has to be: {it}" for it in wrong))
+    sys.exit(bool(wrong))
+
+
+if __name__ == "__main__":
+    main()
