@@ -1,21 +1,33 @@
 -- The input is what was read.
-use Rattle.std.proofs.Common.{◌≡◌, ◌≢◌, ◌<◌, ◌≤◌, ◌⊎◌, inl, inr, ℕ, List, [], ◌++◌, length, Option, Some}
+use Rattle.std.proofs.Common.{◌≡◌, ◌≢◌, ◌<◌, ◌≤◌, ◌⊎◌, inl, inr, ℕ, List, [], ◌++◌, length, Option, Some, Result, refl}
 use Rattle.std.proofs.Common.{None, Ok, Err, sym, ap, subst, ◌∙◌, arith, append-nil, take_all}
 use Rattle.std.specs.Prelude.{IfSome}
 use Rattle.std.proofs.lemmas.List.{take_at}
 use Rattle.std.proofs.lemmas.Bool.{cases_lt}
 use Rattle.std.proofs.lemmas.Option.{none-some, same_Some}
 use Rattle.nz_edge.specs.Exposed.{Loses}
+use Rattle.nz_edge.specs.Faults.{Rose}
+use Rattle.nz_base.specs.declared.key.Id.{Id}
 use Rattle.nz_base.specs.declared.scenario.Scenario.{Scenario}
+use Rattle.nz_locks.proofs.Fouls.{not_clean}
+use Rattle.nz_locks.specs.Clean.{IsFirstFoul}
 use Rattle.nz_script.specs.declared.faults.Kind.{Kind}
 use Rattle.nz_script.specs.declared.faults.ScriptFault.{ScriptFault}
 use Rattle.nz_script.specs.declared.faults.ScriptFault.TheVariants.{Refusal, NoMemory}
 use Rattle.nz_script.specs.Reading.{scenario}
 use Rattle.nz_top.specs.Moves.{most_input, input}
+use Rattle.nz_top.specs.declared.reports.Report.{Report}
+use Rattle.nz_top.specs.declared.reports.Report.TheVariants.{Summary, Locks}
+use Rattle.nz_top.specs.declared.words.Command.{Command}
+use Rattle.nz_top.specs.declared.words.Command.TheVariants as commands
+use Rattle.nz_top.specs.declared.words.Origin.{Origin}
+use Rattle.nz_top.specs.declared.words.Origin.TheVariants.{Input, Seed}
 use Rattle.nz_top.specs.declared.words.Play.{Play}
 use Rattle.nz_top.specs.declared.playing.NoScenario.{NoScenario}
-use Rattle.nz_top.specs.declared.playing.NoScenario.TheVariants.{Refused}
-use Rattle.nz_top.specs.Calls.{ReadsAs, RefusedAt, Explains, WritesLine, TellsBadLine, refusal_line}
+use Rattle.nz_top.specs.declared.playing.NoScenario.TheVariants as no_scenario
+use Rattle.nz_top.specs.Reports.{Admits}
+use Rattle.nz_top.specs.Words.{IsInRange, IsReportOf, play_of}
+use Rattle.nz_top.specs.Calls.{CanPlay, Explains, Gives, HasFoul, HasScenario, IsInput, ReadsAs, RefusedAt, TellsBadLine, TellsWhy, WritesLine, refusal_line}
 
 at_end : (bytes rest : List ℕ) → length bytes ≤ most_input → (length bytes < most_input → rest ≡ []) → bytes ≡ input (bytes ++ rest)
 at_end bytes rest most end = go (cases_lt (length bytes) most_input)
@@ -51,7 +63,7 @@ refused_is_input before bytes read fault line kind h same is f =
     refused_as before bytes line kind h (ap scenario (sym same) ∙ f (λ e. no_want line kind (sym is ∙ e)) ∙ ap Err is)
 
 pub line_told : (play : Play) (left before after : Option (List ℕ)) (counted counts a b line told : ℕ) (kind said : Kind) (why : NoScenario)
-    → why ≡ Refused line kind → told ≡ line → said ≡ kind → Explains play left a b why
+    → why ≡ no_scenario.Refused line kind → told ≡ line → said ≡ kind → Explains play left a b why
     → WritesLine (refusal_line told said) before after counted counts → TellsBadLine left before after counted counts
 line_told play left before after counted counts a b line told kind said why is same_line same_kind first written = record {
   line = line;
@@ -61,3 +73,55 @@ line_told play left before after counted counts a b line told kind said why is s
       subst (λ (n : ℕ). WritesLine (refusal_line n kind) before after counted counts) same_line
       (subst (λ (k : Kind). WritesLine (refusal_line told k) before after counted counts) same_kind written);
 }
+
+-- what is read is one scenario
+same_read : (r : Result Scenario ScriptFault) (s t : Scenario) → r ≡ Ok s → r ≡ Ok t → s ≡ t
+same_read r s t a b = cc
+
+-- a scenario with a foul command is not to be played
+foul_not : (origin : Origin) (report : Report) (left : Option (List ℕ)) (s : Scenario) (id : Id) (a b : ℕ) → IsInput origin → ReadsAs left s
+    → report ≡ Locks → IsFirstFoul s id → HasScenario origin report left a b → ⊥
+foul_not Input report None s id a b read given locks foul has = has.1
+foul_not Input report (Some bytes) s id a b read given locks foul has =
+    not_clean s id foul
+    (subst (λ (r : Report). Admits r s) locks
+    (subst (Admits report) (same_read (scenario (input bytes)) has.1.0 s has.1.1.0 given) has.1.1.1))
+foul_not (Seed seed count) report left s id a b read given locks foul has = read
+
+-- nor is a text with a bad line
+refused_not : (origin : Origin) (report : Report) (left : Option (List ℕ)) (line : ℕ) (kind : Kind) (a b : ℕ) → IsInput origin
+    → RefusedAt left line kind → HasScenario origin report left a b → ⊥
+refused_not Input report None line kind a b read refused has = has.1
+refused_not Input report (Some bytes) line kind a b read refused has = let read_as = has.1.1.0 in absurd cc
+refused_not (Seed seed count) report left line kind a b read refused has = read
+
+fault_not : (origin : Origin) (report : Report) (left : Option (List ℕ)) (a b : ℕ) → IsInput origin → Rose a b → HasScenario origin report left a b → ⊥
+fault_not Input report left a b read rose has = has.0 rose
+fault_not (Seed seed count) report left a b read rose has = read
+
+-- where there is a scenario to play, memory alone can be missing
+pub only_memory : (play : Play) (left : Option (List ℕ)) (a b : ℕ) (why : NoScenario) → Explains play left a b why
+    → CanPlay (Some play) left a b → why ≡ no_scenario.NoMemory
+only_memory play left a b (no_scenario.Refused line kind) h has = absurd (refused_not play.origin play.report left line kind a b h.0 h.1 has)
+only_memory play left a b (no_scenario.Foul id) h has = absurd (foul_not play.origin play.report left h.scenario id a b h.read h.given h.report h.first has)
+only_memory play left a b no_scenario.Fault h has = absurd (fault_not play.origin play.report left a b h.0 h.1 has)
+only_memory play left a b no_scenario.NoMemory h has = refl
+
+-- a foul command is one of the input, since a scenario that is drawn has another report
+read_for_locks : (origin : Origin) (report : Report) (left : Option (List ℕ)) (s : Scenario) → IsReportOf origin report → report ≡ Locks
+    → Gives origin left s → IsInput origin × ReadsAs left s
+read_for_locks Input report left s of locks given = (tt, given)
+read_for_locks (Seed seed count) report left s of locks given = let other : Summary ≡ Locks = sym of ∙ locks in absurd cc
+
+pub found_foul : (play : Play) (left : Option (List ℕ)) (s : Scenario) (id : Id) → IsInRange play → Gives play.origin left s
+    → (play.report ≡ Locks) × IsFirstFoul s id → HasFoul play left id
+found_foul play left s id range given foul =
+    let read = read_for_locks play.origin play.report left s range.report foul.0 given in
+    record { read = read.0; scenario = s; given = read.1; report = foul.0; first = foul.1 }
+
+-- ---- what is reported
+
+pub bad_line_why : (o : Option Command) (command : Command) (left before after : Option (List ℕ)) (counted counts : ℕ) → Some command ≡ o
+    → TellsBadLine left before after counted counts → TellsWhy (play_of o) left before after counted counts
+bad_line_why o (commands.Play play) left before after counted counts is h =
+    subst (λ (p : Option Command). TellsWhy (play_of p) left before after counted counts) is (inl h)

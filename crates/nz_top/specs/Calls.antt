@@ -3,6 +3,7 @@ use Rattle.std.specs.Prelude.{ℕ, ◌≡◌, ◌⊎◌, List, [], ◌++◌, Opt
 use Rattle.std.specs.Fmt.{decimal}
 use Rattle.nz_edge.specs.Faults.{Rose}
 use Rattle.nz_edge.specs.Exposed.{Gains}
+use Rattle.nz_base.specs.declared.key.Id.{Id}
 use Rattle.nz_base.specs.declared.scenario.Scenario.{Scenario}
 use Rattle.nz_script.specs.declared.faults.Kind.{Kind}
 use Rattle.nz_script.specs.declared.faults.Kind.TheVariants.{Syntax, Order, Name, Limit}
@@ -10,6 +11,11 @@ use Rattle.nz_script.specs.declared.faults.ScriptFault.TheVariants.{Refusal}
 use Rattle.nz_script.specs.Draws.{scenario_of_seed}
 use Rattle.nz_script.specs.Reading.{scenario}
 use Rattle.nz_machine.specs.declared.journal.Journal.{Journal}
+use Rattle.nz_locks.specs.Clean.{IsClean, IsFirstFoul}
+use Rattle.nz_locks.specs.Exclusive.{HasOneHolder, AreInTurn}
+use Rattle.nz_machine.specs.Events.{events}
+use Rattle.nz_machine.specs.History.{history}
+use Rattle.nz_machine.specs.OneHistory.{NoCollision}
 use Rattle.nz_machine.specs.Journals.{group_in, run_in}
 use Rattle.nz_machine.specs.Schedule.{Scheduled}
 use Rattle.nz_machine.specs.World.{World}
@@ -21,7 +27,9 @@ use Rattle.nz_top.specs.declared.words.Origin.{Origin}
 use Rattle.nz_top.specs.declared.words.Origin.TheVariants.{Input, Seed}
 use Rattle.nz_top.specs.declared.words.Play.{Play}
 use Rattle.nz_top.specs.Moves.{input, TakesPrefix}
-use Rattle.nz_top.specs.Reports.{printed_by}
+use Rattle.nz_top.specs.declared.reports.Report.{Report}
+use Rattle.nz_top.specs.declared.reports.Report.TheVariants.{Locks}
+use Rattle.nz_top.specs.Reports.{printed_by, Admits}
 
 -- The source exposes its bytes, and those that are looked at are the text of this scenario.
 abbrev pub ReadsAs : Option (List ℕ) → Scenario → Type 0
@@ -31,10 +39,10 @@ ReadsAs left s = IfSome left (λ bytes. scenario (input bytes) ≡ Ok s)
 abbrev pub RefusedAt : Option (List ℕ) → ℕ → Kind → Type 0
 RefusedAt left line kind = IfSome left (λ bytes. scenario (input bytes) ≡ Err (Refusal line kind))
 
--- The source exposes its bytes, and those that are looked at are the text of some scenario.
-abbrev pub IsReadable : Option (List ℕ) → Type 0
-IsReadable None = ⊥
-IsReadable (Some bytes) = (s : Scenario) × (scenario (input bytes) ≡ Ok s)
+-- The source exposes its bytes, and those that are looked at are the text of some scenario that the report admits.
+abbrev pub IsReadable : Report → Option (List ℕ) → Type 0
+IsReadable report None = ⊥
+IsReadable report (Some bytes) = (s : Scenario) × ((scenario (input bytes) ≡ Ok s) × Admits report s)
 
 -- The source exposes its bytes, and those that are looked at have a bad line.
 abbrev pub IsRefused : Option (List ℕ) → Type 0
@@ -45,6 +53,11 @@ IsRefused (Some bytes) = (line : ℕ) × ((kind : Kind) × (scenario (input byte
 abbrev pub Gives : Origin → Option (List ℕ) → Scenario → Type 0
 Gives Input left s = ReadsAs left s
 Gives (Seed seed count) left s = s ≡ scenario_of_seed seed count
+
+-- The source exposes its bytes, and those that are looked at are the text of some scenario that the report does not admit.
+abbrev pub IsInadmissible : Report → Option (List ℕ) → Type 0
+IsInadmissible report None = ⊥
+IsInadmissible report (Some bytes) = (s : Scenario) × ((scenario (input bytes) ≡ Ok s) × (Admits report s → ⊥))
 
 -- What is left of the input then: nothing, or all of it where it is not read.
 abbrev pub HasRead : Origin → Option (List ℕ) → Option (List ℕ) → Type 0
@@ -61,19 +74,38 @@ abbrev pub Reads : Option Play → Type 0
 Reads None = ⊥
 Reads (Some play) = IsInput play.origin
 
--- There is a scenario, and nothing keeps it from being read.
-abbrev pub HasScenario : Origin → Option (List ℕ) → ℕ → ℕ → Type 0
-HasScenario Input left counted counts = ¬ Rose counted counts × IsReadable left
-HasScenario (Seed seed count) left counted counts = Unit {0}
+-- There is a scenario that the report admits, and nothing keeps it from being read. The summary admits each that is drawn.
+abbrev pub HasScenario : Origin → Report → Option (List ℕ) → ℕ → ℕ → Type 0
+HasScenario Input report left counted counts = ¬ Rose counted counts × IsReadable report left
+HasScenario (Seed seed count) report left counted counts = Unit {0}
 
 -- There is a scenario to play.
 abbrev pub CanPlay : Option Play → Option (List ℕ) → ℕ → ℕ → Type 0
 CanPlay None left counted counts = ⊥
-CanPlay (Some play) left counted counts = HasScenario play.origin left counted counts
+CanPlay (Some play) left counted counts = HasScenario play.origin play.report left counted counts
+
+-- What is read is a scenario that the report does not admit.
+abbrev pub ReadsInadmissible : Option Play → Option (List ℕ) → Type 0
+ReadsInadmissible None left = ⊥
+ReadsInadmissible (Some play) left = IsInput play.origin × IsInadmissible play.report left
+
+-- The report admits the scenario.
+abbrev pub IsAdmitted : Option Play → Scenario → Type 0
+IsAdmitted None s = Unit {0}
+IsAdmitted (Some play) s = Admits play.report s
+
+-- The report is that of locks, and the scenario of the input has a foul command: this is its first.
+pub record HasFoul (play : Play) (left : Option (List ℕ)) (id : Id) : Type 0 where
+  pub read : IsInput play.origin
+  pub scenario : Scenario
+  pub given : ReadsAs left scenario
+  pub report : play.report ≡ Locks
+  pub first : IsFirstFoul scenario id
 
 -- Why there is no scenario.
 abbrev pub Explains : Play → Option (List ℕ) → ℕ → ℕ → NoScenario → Type 0
 Explains play left counted counts (no_scenario.Refused line kind) = IsInput play.origin × RefusedAt left line kind
+Explains play left counted counts (no_scenario.Foul id) = HasFoul play left id
 Explains play left counted counts no_scenario.Fault = IsInput play.origin × Rose counted counts
 Explains play left counted counts no_scenario.NoMemory = Unit {0}
 
@@ -99,6 +131,22 @@ pub record TellsBadLine (left before after : Option (List ℕ)) (counted counts 
   pub kind : Kind
   pub first : RefusedAt left line kind
   pub told : WritesLine (refusal_line line kind) before after counted counts
+
+-- The line that reports the first foul command.
+unfoldable pub foul_line : Id → List ℕ
+foul_line id = codes "refused lock c" ++ (decimal id.client ++ (codes " " ++ (decimal id.num ++ codes "\n")))
+
+-- The first foul command of the scenario is reported.
+pub record TellsFoul (play : Play) (left before after : Option (List ℕ)) (counted counts : ℕ) : Type 0 where
+  pub id : Id
+  pub foul : HasFoul play left id
+  pub told : WritesLine (foul_line id) before after counted counts
+
+-- What is wrong with the scenario is reported: its first bad line, or its first foul command.
+abbrev pub TellsWhy : Option Play → Option (List ℕ) → Option (List ℕ) → Option (List ℕ) → ℕ → ℕ → Type 0
+TellsWhy None left before after counted counts = ⊥
+TellsWhy (Some play) left before after counted counts =
+    TellsBadLine left before after counted counts ⊎ TellsFoul play left before after counted counts
 
 -- What is printed of the journal, nothing where nothing is played.
 abbrev pub output_of : Option Play → Journal → List ℕ
@@ -134,3 +182,10 @@ IsPlayed _ = ⊥
 pub record IsRun (j : Journal) : Type 0 where
   pub world : World (group_in j) (run_in j)
   pub scheduled : Scheduled j.scenario (run_in j)
+
+-- The run's history has no foul command, at each place at most one client holds a lock, and an acquire that was accepted
+-- is over before a later one takes the lock.
+pub record Excludes (j : Journal) : Type 0 where
+  pub clean : IsClean (history (group_in j) (run_in j))
+  pub one_holder : HasOneHolder (history (group_in j) (run_in j))
+  pub in_turn : NoCollision (group_in j) (run_in j) → AreInTurn (events (group_in j) (run_in j)) (history (group_in j) (run_in j))

@@ -19,7 +19,8 @@ abbrev pub verb_of_word : List ℕ → Option Verb
 verb_of_word word =
     if bytes_eq word (codes "run") then Some (verbs.Show reports.Text)
     else (if bytes_eq word (codes "trace") then Some (verbs.Show reports.Trace)
-    else (if bytes_eq word (codes "gen") then Some verbs.Gen else None))
+    else (if bytes_eq word (codes "locks") then Some (verbs.Show reports.Locks)
+    else (if bytes_eq word (codes "gen") then Some verbs.Gen else None)))
 
 -- The number, where it is from 1 to this.
 abbrev pub up_to : ℕ → Option ℕ → Option ℕ
@@ -82,11 +83,17 @@ abbrev pub IsDrawable : Origin → Type 0
 IsDrawable origins.Input = Unit {0}
 IsDrawable (origins.Seed seed count) = (1 ≤ count) × (count ≤ MAX_REQUESTS)
 
+-- Of a scenario that is drawn the summary is reported.
+abbrev pub IsReportOf : Origin → Report → Type 0
+IsReportOf origins.Input report = Unit {0}
+IsReportOf (origins.Seed seed count) report = report ≡ reports.Summary
+
 -- There are 1 to MAX_WORKERS workers, and a scenario that is drawn is not too large.
 pub record IsInRange (play : Play) : Type 0 where
   pub some : 1 ≤ play.workers
   pub few : play.workers ≤ MAX_WORKERS
   pub drawable : IsDrawable play.origin
+  pub report : IsReportOf play.origin play.report
 
 -- What words can call.
 abbrev pub IsCalled : Command → Type 0

@@ -7,16 +7,17 @@ ghost use Rattle.nz_machine.specs.Schedule.{IsPlayable, InOrder};
 ghost use Rattle.nz_replica.specs.Models.{AreCores};
 ghost use Rattle.nz_top.specs.declared.status.Status.TheVariants as status;
 ghost use Rattle.nz_top.specs.declared.words.Play.{Play as PlayModel};
-ghost use Rattle.nz_top.specs.Calls.{Explains, Gives, HasRead, HasRun, IsInput, IsPlayed, IsRun, ReadsAs};
+ghost use Rattle.nz_top.specs.declared.playing.NoScenario.TheVariants as whys;
+ghost use Rattle.nz_top.specs.Calls.{CanPlay, Explains, Gives, HasRead, HasRun, IsInput, IsPlayed, IsRun, ReadsAs};
 ghost use Rattle.nz_top.specs.Moves.{TakesPrefix};
-ghost use Rattle.nz_top.specs.Reports.{printed_by};
+ghost use Rattle.nz_top.specs.Reports.{printed_by, Admits};
 ghost use Rattle.nz_top.specs.Words.{IsDrawable, IsInRange};
 
 use crate::input::{Stop, read_input};
 use crate::output::write_all;
 use crate::status::{Outcome, Status};
 use crate::words::{Origin, Play};
-use nz_base::{NoMemory, Scenario};
+use nz_base::{Id, Scenario};
 use nz_edge::{Gate, Sink, Source};
 use nz_machine::Journal;
 use nz_run::{Played, run};
@@ -30,6 +31,8 @@ use std::thread::Threads;
 pub enum NoScenario {
     /// The first bad line of the input, counted from 1.
     Refused { line: u32, kind: Kind },
+    /// The first foul command of the scenario.
+    Foul { id: Id },
     /// The source counted a fault.
     Fault,
     NoMemory,
@@ -56,25 +59,50 @@ fn scenario_of<S: Source>(alloc: Global, source: &mut S) -> Result<Scenario, NoS
     }
 }
 
-/// The scenario that is played.
-pub fn scenario_for<S: Source>(
+/// The scenario of the origin.
+fn scenario_from<S: Source>(
     alloc: Global,
-    play: Play,
+    origin: Origin,
     source: &mut S,
 ) -> Result<Scenario, NoScenario>
-    requires { IsDrawable play.origin }
-    ensures found { IfOk result (Gives play.origin (S.left source.old)) }
+    requires { IsDrawable origin }
+    ensures found { IfOk result (Gives origin (S.left source.old)) }
     ensures playable { IfOk result IsPlayable }
-    ensures read { OnOk result (HasRead play.origin (S.left source.old) (S.left source.new)) }
-    ensures none { IfErr result (Explains play (S.left source.old) (S.faults source.old) (S.faults source.new)) }
+    ensures read { OnOk result (HasRead origin (S.left source.old) (S.left source.new)) }
+    ensures none { (play : PlayModel) → play.origin ≡ origin → IfErr result (Explains play (S.left source.old) (S.faults source.old) (S.faults source.new)) }
     ensures counts { S.faults source.old ≤ S.faults source.new }
 {
-    match play.origin {
+    match origin {
         Origin::Input => scenario_of(alloc, source),
         Origin::Seed { seed, count } => match generate(alloc, seed, count) {
             Ok(scenario) => Ok(scenario),
             Err(_) => Err(NoScenario::NoMemory),
         },
+    }
+}
+
+/// The scenario that is played, which the report admits.
+pub fn scenario_for<S: Source>(
+    alloc: Global,
+    play: Play,
+    source: &mut S,
+) -> Result<Scenario, NoScenario>
+    requires { IsInRange play }
+    ensures found { IfOk result (Gives play.origin (S.left source.old)) }
+    ensures admitted { IfOk result (Admits play.report) }
+    ensures playable { IfOk result IsPlayable }
+    ensures read { OnOk result (HasRead play.origin (S.left source.old) (S.left source.new)) }
+    ensures none { IfErr result (Explains play (S.left source.old) (S.faults source.old) (S.faults source.new)) }
+    ensures complete { IfErr result (λ why. CanPlay (Some play) (S.left source.old) (S.faults source.old) (S.faults source.new) → why ≡ whys.NoMemory) }
+    ensures counts { S.faults source.old ≤ S.faults source.new }
+{
+    let scenario = match scenario_from(alloc, play.origin, source) {
+        Ok(scenario) => scenario,
+        Err(why) => return Err(why),
+    };
+    match play.report.refused_request(&scenario) {
+        Some(id) => Err(NoScenario::Foul { id }),
+        None => Ok(scenario),
     }
 }
 

@@ -1,4 +1,4 @@
-//! The line of a refusal, which takes no memory.
+//! The lines of refusals, which take no memory.
 ghost use Rattle.std.specs.Prelude.{◌≡◌, ◌≤◌};
 ghost use Rattle.nz_top.specs.Calls as calls;
 ghost use Rattle.nz_top.specs.Calls.{WritesLine};
@@ -6,11 +6,12 @@ ghost use Rattle.nz_top.specs.Calls.{WritesLine};
 use crate::output::write_all;
 use arrayvec::ArrayString;
 use itoa::Buffer;
+use nz_base::Id;
 use nz_edge::Sink;
 use nz_script::Kind;
 
-/// No line is longer: the words, a number of ten digits, and the kind.
-const LONGEST: usize = 32;
+/// No line is longer: the words, and numbers of ten digits.
+const LONGEST: usize = 36;
 
 fn kind_name(kind: Kind) -> &'static str
     ensures { result.now ≡ calls.kind_name kind }
@@ -37,6 +38,20 @@ fn refusal_line(line: u32, kind: Kind) -> ArrayString<LONGEST>
     text
 }
 
+#[tactic(auto, unfolding(crate::specs::Calls::foul_line))]
+/// The line that reports the first foul command.
+fn foul_line(id: Id) -> ArrayString<LONGEST>
+    ensures { result.bytes ≡ calls.foul_line id }
+{
+    let mut text = ArrayString::new();
+    text.push_str("refused lock c");
+    text.push_str(Buffer::new().format(id.client));
+    text.push_str(" ");
+    text.push_str(Buffer::new().format(id.num));
+    text.push_str("\n");
+    text
+}
+
 /// Writes the one line of a refusal.
 pub fn refuse<O: Sink>(out: &mut O, line: &[u8])
     ensures line { WritesLine line.now (O.taken out.old) (O.taken out.new) (O.faults out.old) (O.faults out.new) }
@@ -51,4 +66,12 @@ pub fn tell_bad_line<O: Sink>(out: &mut O, line: u32, kind: Kind)
     ensures counts { O.faults out.old ≤ O.faults out.new }
 {
     refuse(out, refusal_line(line, kind).as_bytes());
+}
+
+/// Reports the first foul command of the scenario.
+pub fn tell_foul<O: Sink>(out: &mut O, id: Id)
+    ensures line { WritesLine (calls.foul_line id) (O.taken out.old) (O.taken out.new) (O.faults out.old) (O.faults out.new) }
+    ensures counts { O.faults out.old ≤ O.faults out.new }
+{
+    refuse(out, foul_line(id).as_bytes());
 }

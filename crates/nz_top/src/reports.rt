@@ -1,12 +1,15 @@
 //! What is reported of a run.
-ghost use Rattle.std.specs.Prelude.{◌≡◌, ◌++◌, IfOk, codes};
+ghost use Rattle.std.specs.Prelude.{◌≡◌, ◌++◌, IfOk, IfSome, IfNone, codes};
 ghost use Rattle.nz_machine.specs.Journals.{group_in, run_in};
 ghost use Rattle.nz_replica.specs.Models.{AreCores};
 ghost use Rattle.nz_top.specs.Calls.{IsRun};
-ghost use Rattle.nz_top.specs.Reports.{printed_by};
+ghost use Rattle.nz_locks.specs.Clean.{IsFirstFoul};
+ghost use Rattle.nz_top.specs.declared.reports.Report.TheVariants as reports;
+ghost use Rattle.nz_top.specs.Reports.{printed_by, Admits};
 
 use nz_audit::history_of;
-use nz_base::{Blob, NoMemory};
+use nz_base::{Blob, Id, NoMemory, Scenario};
+use nz_locks::{first_foul, tenure_lines};
 use nz_machine::{Journal, told_in};
 use nz_replica::Replica;
 use nz_text::{summary, text, trace};
@@ -21,6 +24,8 @@ pub enum Report {
     Trace,
     /// Counts.
     Summary,
+    /// A line for each tenure of a lock, and the text after that. No command of the scenario may be foul.
+    Locks,
 }
 
 /// The head, a line of its own, and the text.
@@ -34,6 +39,17 @@ fn headed(alloc: Global, head: Blob, text: Blob) -> Result<Blob, NoMemory>
 }
 
 impl Report {
+    /// The first request of the scenario that the report does not admit.
+    pub fn refused_request(self, scenario: &Scenario) -> Option<Id>
+        ensures admitted { IfNone result (Admits self scenario.now) }
+        ensures refused { IfSome result (λ id. (self ≡ reports.Locks) × IsFirstFoul scenario.now id) }
+    {
+        match self {
+            Report::Locks => first_foul(scenario),
+            Report::Text | Report::Trace | Report::Summary => None,
+        }
+    }
+
     /// What is printed of the run. These are its replicas after the last record, or none.
     pub fn print(
         self,
@@ -54,6 +70,10 @@ impl Report {
                 headed(alloc, head, text(alloc, journal, told, &history)?)
             }
             Report::Summary => summary(alloc, journal, told, &history),
+            Report::Locks => {
+                let head = tenure_lines(alloc, &history)?;
+                headed(alloc, head, text(alloc, journal, told, &history)?)
+            }
         }
     }
 }

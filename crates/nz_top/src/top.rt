@@ -9,13 +9,14 @@ ghost use Rattle.nz_machine.specs.OneHistory.{Lin, NoCollision};
 ghost use Rattle.nz_machine.specs.Schedule.{InOrder, Scheduled};
 ghost use Rattle.nz_machine.specs.World.{World};
 ghost use Rattle.nz_top.specs.declared.status.Status.TheVariants as status;
-ghost use Rattle.nz_top.specs.Calls.{CanPlay, Gives, HasRead, HasRun, IsRefused};
-ghost use Rattle.nz_top.specs.Calls.{Reads, TellsBadLine, WritesLine, output_of};
+ghost use Rattle.nz_locks.specs.Clean.{IsCleanScenario};
+ghost use Rattle.nz_top.specs.Calls.{CanPlay, Excludes, Gives, HasRead, HasRun, IsAdmitted, IsRefused};
+ghost use Rattle.nz_top.specs.Calls.{Reads, ReadsInadmissible, TellsWhy, WritesLine, output_of};
 ghost use Rattle.nz_top.specs.Moves.{TakesPrefix};
 ghost use Rattle.nz_top.specs.Words.{command_of_words, play_of_words, IsAlone};
 
 use crate::playing::{NoScenario, answer, scenario_for};
-use crate::refusal::{refuse, tell_bad_line};
+use crate::refusal::{refuse, tell_bad_line, tell_foul};
 use crate::status::{Outcome, Status};
 use crate::words::{Command, Words};
 use nz_edge::{Gate, Sink, Source};
@@ -23,9 +24,9 @@ use std::alloc::Global;
 use std::sync::Wait;
 use std::thread::Threads;
 
-/// What the program does with the words after its name: `run` and `trace` read a scenario from the source, play it,
-/// and write the run to the sink; `gen` plays one that is drawn, and writes its summary. Each worker calls the gate
-/// before each batch. May wait.
+/// What the program does with the words after its name: `run`, `trace` and `locks` read a scenario from the source,
+/// play it, and write a report of the run to the sink; `gen` plays one that is drawn, and writes its summary. Each
+/// worker calls the gate before each batch. May wait.
 pub fn nezha<R: Threads + Wait + Sync, S: Source, O: Sink, G: Gate + Sync>(
     rt: &R,
     alloc: Global,
@@ -39,6 +40,8 @@ pub fn nezha<R: Threads + Wait + Sync, S: Source, O: Sink, G: Gate + Sync>(
     ensures reading { (result.status ≡ status.BadScenario) ⊎ (result.status ≡ status.ReadFault) → Reads (play_of_words words.now) }
     ensures refused { Reads (play_of_words words.now) → ¬ Rose (S.faults source.old) (S.faults source.new) → IsRefused (S.left source.old)
         → (result.status ≡ status.BadScenario) ⊎ (result.status ≡ status.NoMemory) }
+    ensures inadmissible { ¬ Rose (S.faults source.old) (S.faults source.new) → ReadsInadmissible (play_of_words words.now) (S.left source.old)
+        → (result.status ≡ status.BadScenario) ⊎ (result.status ≡ status.NoMemory) }
     ensures read_fault { result.status ≡ status.ReadFault → Rose (S.faults source.old) (S.faults source.new) }
     ensures write_fault { result.status ≡ status.WriteFault → Rose (O.faults out.old) (O.faults out.new) }
     ensures no_memory { result.status ≡ status.NoMemory → IsSome (command_of_words words.now) }
@@ -51,6 +54,7 @@ pub fn nezha<R: Threads + Wait + Sync, S: Source, O: Sink, G: Gate + Sync>(
     // The run, and the scenario that it is a run of.
     ensures run { HasRun result.status result.journal }
     ensures scenario { IfSome result.journal (λ journal. IfSome (play_of_words words.now) (λ play. Gives play.origin (S.left source.old) journal.scenario)) }
+    ensures admitted { IfSome result.journal (λ journal. IsAdmitted (play_of_words words.now) journal.scenario) }
     ensures whole_input { OnSome result.journal (IfSome (play_of_words words.now) (λ play. HasRead play.origin (S.left source.old) (S.left source.new))) }
     ensures world { IfSome result.journal (λ journal. World (group_in journal) (run_in journal)) }
     ensures scheduled { IfSome result.journal (λ journal. Scheduled journal.scenario (run_in journal)) }
@@ -58,11 +62,13 @@ pub fn nezha<R: Threads + Wait + Sync, S: Source, O: Sink, G: Gate + Sync>(
     ensures one_history { IfSome result.journal (λ journal. NoCollision (group_in journal) (run_in journal)
         → Lin (events (group_in journal) (run_in journal)) (history (group_in journal) (run_in journal))) }
 
+    ensures locks { IfSome result.journal (λ journal. IsCleanScenario journal.scenario → Excludes journal) }
+
     // What is written.
     ensures usage_line { result.status ≡ status.Usage
         → WritesLine (codes "refused words\n") (O.taken out.old) (O.taken out.new) (O.faults out.old) (O.faults out.new) }
-    ensures bad_line { result.status ≡ status.BadScenario
-        → TellsBadLine (S.left source.old) (O.taken out.old) (O.taken out.new) (O.faults out.old) (O.faults out.new) }
+    ensures bad_scenario { result.status ≡ status.BadScenario
+        → TellsWhy (play_of_words words.now) (S.left source.old) (O.taken out.old) (O.taken out.new) (O.faults out.old) (O.faults out.new) }
     ensures text { result.status ≡ status.Done
         → IfSome result.journal (λ journal. Gains (O.taken out.old) (O.taken out.new) (output_of (play_of_words words.now) journal)) }
     ensures prefix { IfSome result.journal (λ journal. TakesPrefix (O.taken out.old) (O.taken out.new) (output_of (play_of_words words.now) journal)) }
@@ -73,14 +79,19 @@ pub fn nezha<R: Threads + Wait + Sync, S: Source, O: Sink, G: Gate + Sync>(
         refuse(out, b"refused words\n");
         return Outcome::without_run(Status::Usage);
     };
-    let Command::Play(play) = command;
-    match scenario_for(alloc, play, source) {
-        Ok(scenario) => answer(rt, alloc, play, &scenario, out, gate),
-        Err(NoScenario::Refused { line, kind }) => {
-            tell_bad_line(out, line, kind);
-            Outcome::without_run(Status::BadScenario)
-        }
-        Err(NoScenario::Fault) => Outcome::without_run(Status::ReadFault),
-        Err(NoScenario::NoMemory) => Outcome::without_run(Status::NoMemory),
+    match command {
+        Command::Play(play) => match scenario_for(alloc, play, source) {
+            Ok(scenario) => answer(rt, alloc, play, &scenario, out, gate),
+            Err(NoScenario::Refused { line, kind }) => {
+                tell_bad_line(out, line, kind);
+                Outcome::without_run(Status::BadScenario)
+            }
+            Err(NoScenario::Foul { id }) => {
+                tell_foul(out, id);
+                Outcome::without_run(Status::BadScenario)
+            }
+            Err(NoScenario::Fault) => Outcome::without_run(Status::ReadFault),
+            Err(NoScenario::NoMemory) => Outcome::without_run(Status::NoMemory),
+        },
     }
 }

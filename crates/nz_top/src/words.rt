@@ -144,6 +144,8 @@ impl Verb {
             Some(Verb::Show(Report::Text))
         } else if word == b"trace".as_slice() {
             Some(Verb::Show(Report::Trace))
+        } else if word == b"locks".as_slice() {
+            Some(Verb::Show(Report::Locks))
         } else if word == b"gen".as_slice() {
             Some(Verb::Gen)
         } else {

@@ -2,8 +2,8 @@
 use Rattle.std.proofs.lemmas.Option.{IfSome_then}
 use Rattle.nz_machine.specs.Journals.{group_in, run_in}
 use Rattle.nz_lin.proofs.OneHistory.{one_history}
-use Rattle.nz_top.specs.declared.reports.Report.TheVariants.{Text}
-use Rattle.nz_top.proofs.Inputs.{line_told}
+use Rattle.nz_top.proofs.Inputs.{line_told, bad_line_why}
+use Rattle.nz_top.proofs.Excluded.{excludes}
 use Rattle.nz_top.proofs.top.nezha.Goals as goal
 
 pub returns-in-Ok-clause-scheduled : goal.returns-in-Ok-clause-scheduled
@@ -12,7 +12,11 @@ returns-in-Ok-clause-scheduled g c = IfSome_then c.answer.result.journal c.answe
 pub returns-in-Ok-clause-one_history : goal.returns-in-Ok-clause-one_history
 returns-in-Ok-clause-one_history g c = IfSome_then c.answer.result.journal c.answer.ensures.is_run (λ j h. one_history (group_in j) (run_in j) h.world)
 
-pub returns-in-Err-Refused-clause-bad_line : goal.returns-in-Err-Refused-clause-bad_line
-returns-in-Err-Refused-clause-bad_line g c =
-    λ _. line_told (record { origin = _; workers = 1; report = Text }) (g.S.Source.left c.args.source.now) _ _ _ _ _ _ _ _ _ _ c.in-Err-Refused.field-0
-    c.in-Err-Refused.field-0-is c.in-Err-Refused.line-is c.in-Err-Refused.kind-is c.in-Err-Refused.ensures.none c.tell_bad_line.ensures.line
+pub returns-in-Ok-clause-locks : goal.returns-in-Ok-clause-locks
+returns-in-Ok-clause-locks g c = IfSome_then c.answer.result.journal c.answer.ensures.is_run (λ j h. excludes j h.world)
+
+pub returns-in-Err-Refused-clause-bad_scenario : goal.returns-in-Err-Refused-clause-bad_scenario
+returns-in-Err-Refused-clause-bad_scenario g c =
+    λ _. bad_line_why _ c.in-Some.command _ _ _ _ _ c.in-Some.ensures.value
+    (line_told _ (g.S.Source.left c.args.source.now) _ _ _ _ _ _ _ _ _ _ c.in-Err-Refused.field-0
+    c.in-Err-Refused.field-0-is c.in-Err-Refused.line-is c.in-Err-Refused.kind-is c.in-Err-Refused.ensures.none c.tell_bad_line.ensures.line)
