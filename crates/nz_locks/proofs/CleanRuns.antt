@@ -1,5 +1,5 @@
 -- The history of a scenario without a foul command has none.
-use Rattle.std.proofs.Common.{◌≡◌, ◌<◌, ◌≤◌, ◌+◌, ◌-◌, ◌^◌, ℕ, zero, suc, Bool, true, false, List, [], ◌∷◌, length, Option, Some, None, refl, inl, inr, arith}
+use Rattle.std.proofs.Common.{◌≡◌, ◌<◌, ◌+◌, ◌-◌, ◌^◌, ℕ, zero, suc, Bool, true, false, List, [], ◌∷◌, Option, Some, None, refl, inl, inr, arith}
 use Rattle.std.specs.Prelude.{◌||◌, nat_lt, slice_get}
 use Rattle.std.specs.List.{AllByRecursion, list_any}
 use Rattle.std.proofs.lemmas.Bool.{cond_both}
@@ -16,7 +16,7 @@ use Rattle.nz_machine.specs.declared.event.Record.{Record}
 use Rattle.nz_machine.specs.State.{ClientData, Group}
 use Rattle.nz_machine.specs.Step.{script_of}
 use Rattle.nz_machine.specs.World.{state_after, Has, IsGroup, IsMember, World}
-use Rattle.nz_machine.specs.Events.{ClientEvent, Sent, Accepted, id_at, command_of_request, script_command, read_in, accepted_in}
+use Rattle.nz_machine.specs.Events.{ClientEvent, Sent, Accepted, id_at, command_of_request, read_in, accepted_in}
 use Rattle.nz_machine.specs.Events.{accepted_by, sent_after, sent_by, client_events, events}
 use Rattle.nz_machine.specs.History.{history}
 use Rattle.nz_machine.proofs.Runs.{all_has, group_of}

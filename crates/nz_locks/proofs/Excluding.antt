@@ -1,6 +1,6 @@
 -- Locks exclude.
 use Rattle.std.proofs.Common.{◌≡◌, ◌<◌, ◌^◌, ℕ, zero, suc, Bool, true, false, cond, List, [], ◌∷◌, take, drop, length, Option, Some, None, refl, sym, ap, subst, ◌∙◌, inl, inr, arith, eq-eqb}
-use Rattle.std.specs.Prelude.{◌&&◌, ◌==◌, ◌↔◌, slice_get}
+use Rattle.std.specs.Prelude.{◌&&◌, ◌↔◌, slice_get}
 use Rattle.std.specs.List.{list_any}
 use Rattle.std.specs.Option.{option_map}
 use Rattle.std.proofs.lemmas.Bool.{cases_Bool}
@@ -9,7 +9,6 @@ use Rattle.std.proofs.lemmas.Slice.Eq.{bytes_eq-Decides}
 use Rattle.nz_base.specs.Key.{id_of, id_eq}
 use Rattle.nz_base.specs.Log.{keys_of, HaveOwnIds}
 use Rattle.nz_base.proofs.Names.{id_eq_self}
-use Rattle.nz_base.specs.declared.key.Id.{Id}
 use Rattle.nz_base.specs.declared.key.Entry.{Entry}
 use Rattle.nz_store.specs.declared.command.Answer.{Answer}
 use Rattle.nz_store.specs.declared.command.Answer.TheVariants.{Done}
@@ -17,7 +16,6 @@ use Rattle.nz_store.specs.Entries.{Entries, empty, value_of}
 use Rattle.nz_store.specs.Sequence.{apply_bytes, store_from, store_after, answer_after, reply}
 use Rattle.nz_log.specs.Places.{place_of, IsPlace}
 use Rattle.nz_log.proofs.Placing.{place_only}
-use Rattle.nz_msg.specs.declared.message.Path.{Path}
 use Rattle.nz_machine.specs.declared.journal.Executed.{Executed}
 use Rattle.nz_machine.specs.Events.{ClientEvent, Sent, Accepted}
 use Rattle.nz_machine.specs.Journals.{executed_entries}

@@ -1,9 +1,8 @@
 -- Who holds a lock is the one whose value the store has at its key.
-use Rattle.std.proofs.Common.{◌≡◌, ◌<◌, ◌≤◌, ◌^◌, ℕ, zero, suc, Bool, true, false, cond, not, List, [], ◌∷◌, take, drop, Option, Some, None, refl, sym, ap, subst, ◌∙◌, inl, inr, ◌⊎◌, arith, eq-eqb}
+use Rattle.std.proofs.Common.{◌≡◌, ◌<◌, ◌≤◌, ◌^◌, ℕ, zero, suc, Bool, true, false, not, List, [], ◌∷◌, drop, Option, Some, refl, sym, ap, subst, ◌∙◌, inl, inr, ◌⊎◌, arith, eq-eqb}
 use Rattle.std.specs.Prelude.{◌&&◌, ◌||◌, ◌==◌, ◌↔◌, slice_get}
-use Rattle.std.specs.List.{AllByRecursion, list_any}
-use Rattle.std.specs.Fmt.{decimal}
-use Rattle.std.proofs.lemmas.Bool.{cases_Bool, and_parts, eqb-true}
+use Rattle.std.specs.List.{list_any}
+use Rattle.std.proofs.lemmas.Bool.{and_parts, eqb-true}
 use Rattle.std.proofs.lemmas.Fmt.{decimal_injective}
 use Rattle.std.proofs.lemmas.Option.{none-some, same_Some}
 use Rattle.nz_base.specs.declared.key.Entry.{Entry}
@@ -11,7 +10,7 @@ use Rattle.nz_store.specs.Entries.{Entries, empty, value_of}
 use Rattle.nz_store.specs.Sequence.{apply_bytes, store_from}
 use Rattle.nz_machine.specs.declared.journal.Executed.{Executed}
 use Rattle.nz_machine.specs.Replicas.{commands}
-use Rattle.nz_locks.specs.Clean.{IsClean, IsCleanEntry}
+use Rattle.nz_locks.specs.Clean.{IsClean}
 use Rattle.nz_locks.specs.Uses.{lock_key, holder_value, Use}
 use Rattle.nz_locks.specs.Tenures.{done_use, is_acquire_of, is_release_of, acquires, releases, holds}
 use Rattle.nz_locks.proofs.Effects.{Effect, took, gave, kept, effect}

@@ -7,7 +7,7 @@ use Rattle.nz_store.specs.declared.command.Answer.{Answer}
 use Rattle.nz_store.specs.declared.command.Answer.TheVariants.{Done, Value, Absent, Differs}
 use Rattle.nz_machine.specs.declared.journal.Executed.{Executed}
 use Rattle.nz_locks.specs.declared.holding.Tenure.{Tenure}
-use Rattle.nz_locks.specs.Uses.{Use, Acquire, Release, Foul, Other, use_of}
+use Rattle.nz_locks.specs.Uses.{Use, Acquire, Release, Other, use_of}
 
 -- Whether the store did what the command asked for.
 abbrev pub is_done : Answer → Bool

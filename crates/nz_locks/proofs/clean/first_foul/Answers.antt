@@ -4,7 +4,6 @@ use Rattle.std.specs.List.{list_any}
 use Rattle.std.proofs.lemmas.Option.{get_or_from_slice_get}
 use Rattle.nz_base.specs.declared.scenario.Request.{Request}
 use Rattle.nz_locks.specs.Clean.{is_foul_request, IsFirstFoulPlace}
-use Rattle.nz_locks.proofs.Fouls.{beyond}
 use Rattle.nz_locks.proofs.clean.first_foul.Goals as goal
 
 pub returns-in-Some-clause-found : goal.returns-in-Some-clause-found
