@@ -35,6 +35,21 @@ run --workers 01|trace --workers 17|run --worker 1|runs
 """.replace("\n", "|").split("|")[1:-1]
 
 HEAD = "nezha 1\nf 1\nproxies 1\nclients 1\n"
+TWO = "nezha 1\nf 1\nproxies 1\nclients 2\nticks 60\n"
+
+# Commands on keys of locks: foul ones, and what is refused before them.
+LOCK_USES = {
+    "a put on a lock": HEAD + "ticks 40\nclient c0\nput a 1\nput lock.a c0\nend\ndone\n",
+    "a lock is removed": HEAD + "ticks 40\nclient c0\ncas lock.a - c0\ndel lock.a\nend\ndone\n",
+    "another client's number": HEAD + "ticks 40\nclient c0\ncas lock.a - c1\nend\ndone\n",
+    "a number with a zero before it": HEAD + "ticks 40\nclient c0\ncas lock.a - c00\nend\ndone\n",
+    "taken and given back at once": HEAD + "ticks 40\nclient c0\ncas lock.a c0 c0\nend\ndone\n",
+    "a lock without a name": HEAD + "ticks 40\nclient c0\nget lock.\ncas lock. - c0\nend\ndone\n",
+    "both clients, the second one first": TWO + "client c0\nget lock.a\ndel lock.a\nend\nclient c1\ndel lock.a\nend\ndone\n",
+    "a bad line after it": HEAD + "ticks 40\nclient c0\ndel lock.a\nend\nput a\ndone\n",
+    "a key that is no lock": HEAD + "ticks 40\nclient c0\nput lock c0\nput lockx c0\nget lock.a\nend\ndone\n",
+    "a lock that stays": TWO + "client c0\ncas lock.a - c0\nend\nclient c1\nwait 30\ncas lock.a - c1\ncas lock.a c1 -\nend\ndone\n",
+}
 
 # Runs whose histories are found with the replicas as they are at the end, and without them.
 HISTORIES = {
@@ -134,6 +149,7 @@ def files(reference):
     yield "stray_view_change", {"stray_view_change": own["stray_view_change"]}
     yield "not_read", {"not read": "not read\n"}
     yield "refusals", dict(REFUSALS)
+    yield "lock_uses", LOCK_USES
     yield "lost", dict(lost())
     yield "lost_together", {what: text for what, text in hostile.together() if what.startswith("f 1")}
     yield "lost_in_turn", dict(lost_in_turn())
@@ -153,7 +169,7 @@ def listed():
     lines += ["call not_read gen 7 1", "call not_read gen 7 2000", "call not_read gen 7 2000"]
     lines += ["prefixes leader_cut_off run", "reads put_then_get run", "writes put_then_get run", "rooms put_then_get run"]
     lines += ["call lost trace", "call lost_together trace", "call lost_in_turn trace", "call cuts trace", "call limits run"]
-    lines += ["histories histories"]
+    lines += ["histories histories", "call scenarios locks", "call lock_uses locks", "call put_then_get locks --workers 0", "call put_then_get locks x"]
     for name in BUSY_RUNS:
         first = ACTORS[name] * (SHARED - 1) + 1
         lines += [f"call {name} run", f"call {name} trace", f"shared {name} {first}", f"replicas {name}"]

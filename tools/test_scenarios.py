@@ -1,6 +1,6 @@
 #!/usr/bin/env python3
 """Tests that the gate plays what is in scenarios/: each scenario and its output is a string of a test, a file that a
-stored run reads with the output that it prints, or the stored run of crates/nezha."""
+stored run reads with the output that it prints, as crates/nezha and crates/nezha_cases do."""
 import glob
 import os
 import re
@@ -20,9 +20,15 @@ def literals(text):
     return {re.sub(r"\\(\n\s*|.)", lambda it: {"n": "\n"}.get(it[1], it[1].strip()), found) for found in LITERAL.findall(text)}
 
 
+def cases(text):
+    """The inputs of a file of cases, each after a line `== NAME`."""
+    return [case.partition("\n")[2] for case in re.split(r"^== ", text, flags=re.MULTILINE)[1:]]
+
+
 def not_played(scenarios, sources, read_files, printed):
     """The files of the folder that nothing plays, or whose output nothing compares."""
     strings = set().union(*map(literals, sources))
+    read_files = [*read_files, *(case for text in read_files for case in cases(text))]
     faults = []
     for name, (text, output) in sorted(scenarios.items()):
         is_printed = text in read_files and any(output in it for it in [*read_files, *printed])
@@ -47,6 +53,12 @@ class Scenarios(unittest.TestCase):
         self.assertEqual(faults("get\n", "send\n"), [])
         self.assertEqual(faults("get\n", "done\n"), ["one.stdout"])
         self.assertEqual(faults("del\n", "send\n"), ["one", "one.stdout"])
+
+    def test_cases(self):
+        text = "== one\nput a\n== two\nget\n"
+        self.assertEqual(cases(text), ["put a\n", "get\n"])
+        self.assertEqual(not_played({"one": ("put a\n", "1 r0\n")}, [], [text], ["1 r0\nsend\n"]), [])
+        self.assertEqual(not_played({"one": ("put b\n", "1 r0\n")}, [], [text], ["1 r0\nsend\n"]), ["one", "one.stdout"])
 
     def test_this_repository(self):
         names = [path for path in glob.glob(f"{TOP}/scenarios/*") if os.path.isfile(path) and "." not in os.path.basename(path)]
