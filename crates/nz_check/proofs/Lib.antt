@@ -1,0 +1,19 @@
+-- The modules of this crate's proofs.
+mod Meanings
+mod Lines
+mod Splits
+mod Forms
+mod OpenLines
+mod Histories
+mod Whole
+mod Passes
+mod Notes
+mod Taking
+mod OpenPass
+mod Applied
+mod FirstPlaces
+mod Judging
+mod Sizes
+mod Answers
+mod TextsOfRuns
+mod Accepted

@@ -1,0 +1,123 @@
+//! The entries of the history of a text, one after another.
+
+ghost use Rattle.std.specs.Prelude.{◌≡◌, ◌+◌, ◌<◌, ◌^◌, ◌==◌, ◌&&◌, List, [], length, take, slice_get, Some, OnOk, IfOk};
+ghost use Rattle.nz_machine.specs.Quorums.{answer_eq};
+ghost use Rattle.indexmap.specs.IndexMap.{get};
+ghost use Rattle.nz_base.specs.Key.{id_eq};
+ghost use Rattle.nz_machine.specs.declared.journal.Executed.{Executed as ExecutedModel};
+ghost use Rattle.nz_store.specs.Sequence.{apply_bytes, store_after};
+ghost use Rattle.nz_check.specs.Checked.{first_line, whys, at_why, lacks_open, commands_of};
+ghost use Rattle.nz_check.specs.Noting.{AreFirstPlaces, AreNoted, is_sent_at};
+ghost use Rattle.nz_check.specs.Applying.{IsApplied};
+
+use super::events::{Noted, is_same_answer};
+use super::places::{Places, place_of};
+use super::verdict::{Verdict, Why};
+use nz_base::NoMemory;
+use nz_machine::Executed;
+use nz_store::Store;
+use nz_text::{Event, Printed};
+use std::alloc::Global;
+
+/// Whether the event at this place sends the command.
+fn sends_command(events: &[Event], place: u32, command: &[u8]) -> bool
+    ensures { result ≡ is_sent_at events.now place command.now }
+{
+    match events.get(place as usize) {
+        Some(Event::Send { command: sent, .. }) => sent.as_slice() == command,
+        _ => false,
+    }
+}
+
+/// Whether no entry is above the place, and open lines are missing.
+fn lacks_above(lacks: bool, place: u32) -> bool
+    ensures { result ≡ ((place == 0) && lacks) }
+{
+    place == 0 && lacks
+}
+
+/// Whether the store answers the entry's command as the entry says. The command is applied.
+fn answers(store: &mut Store, entry: &Executed) -> Result<bool, NoMemory>
+    ensures store { OnOk result (store.new ≡ (apply_bytes store.old entry.now.command).0) }
+    ensures same { IfOk result (λ same. same ≡ answer_eq (apply_bytes store.old entry.now.command).1 entry.now.answer) }
+{
+    match store.apply_bytes(entry.command.as_slice()) {
+        Ok(answer) => Ok(is_same_answer(&answer, &entry.answer)),
+        Err(_) => Err(NoMemory),
+    }
+}
+
+/// What is wrong with the entry at this place, or applies its command. `lacks` says that open lines are missing.
+fn take(
+    store: &mut Store,
+    printed: &Printed,
+    places: &Places,
+    noted: &Noted,
+    lacks: bool,
+    place: u32,
+    entry: &Executed,
+) -> Result<Option<Why>, NoMemory>
+    requires places { AreFirstPlaces printed.now.history (get id_eq places.now) }
+    requires noted { AreNoted printed.now.history printed.now.events noted.now }
+    requires lacks { lacks ≡ lacks_open printed.now }
+    requires entry { slice_get printed.now.history place ≡ Some entry.now }
+    requires store { store.old ≡ store_after (commands_of (take place printed.now.history)) }
+    ensures { IfOk result (λ why. IsApplied printed.now place entry.now why store.new) }
+{
+    let is_first = place_of(places, entry.id) == Some(place);
+    if !is_first {
+        return Ok(Some(Why::Repeat));
+    }
+    let Some(sent) = noted.of(entry.id) else {
+        return Ok(Some(Why::Unsent));
+    };
+    if !sends_command(
+        printed.events.as_slice(),
+        sent.place,
+        entry.command.as_slice(),
+    ) {
+        return Ok(Some(Why::Unsent));
+    }
+    if lacks_above(lacks, place) {
+        return Ok(Some(Why::Open));
+    }
+    if place < sent.reach {
+        return Ok(Some(Why::Order));
+    }
+    let same = answers(store, entry)?;
+    if !same {
+        return Ok(Some(Why::Answer));
+    }
+    Ok(None)
+}
+
+/// The first entry with which something is wrong.
+pub fn check_entries(
+    alloc: Global,
+    printed: &Printed,
+    places: &Places,
+    noted: &Noted,
+    lacks: bool,
+) -> Result<Verdict, NoMemory>
+    requires few { length printed.now.events + length printed.now.unanswered + length printed.now.history + 1 < 2 ^ 32 }
+    requires places { AreFirstPlaces printed.now.history (get id_eq places.now) }
+    requires noted { AreNoted printed.now.history printed.now.events noted.now }
+    requires lacks { lacks ≡ lacks_open printed.now }
+    ensures { IfOk result (λ verdict. verdict
+        ≡ first_line (length printed.now.events + length printed.now.unanswered + 1) (whys (at_why printed.now) [] printed.now.history)) }
+{
+    let above = printed.events.len() + printed.unanswered.len();
+    let mut store = Store::new(alloc);
+    let history = printed.history.as_slice();
+    let mut place = 0;
+    for entry in history {
+        if let Some(why) = take(&mut store, printed, places, noted, lacks, place, entry)? {
+            return Ok(Verdict::No {
+                line: above + place + 1,
+                why,
+            });
+        }
+        place += 1;
+    }
+    Ok(Verdict::Yes)
+}
