@@ -54,19 +54,20 @@ class Growths:
     """A program whose requests for memory are counted, and refused by their number."""
 
     def __init__(self, program, workers, folder):
-        self.words = [program, "run", "--workers", str(workers)]
+        self.program, self.workers = program, str(workers)
         self.shim, self.counted = f"{folder}/shim.so", f"{folder}/counted"
         source = f"{folder}/shim.c"
         with open(source, "w") as it:
             it.write(SHIM)
         subprocess.run(["cc", "-O2", "-shared", "-fPIC", "-o", self.shim, source], check=True)
 
-    def run(self, text, refused):
+    def run(self, word, text, refused):
         """The status, the output, and how many requests for memory there were."""
         with open(self.counted, "wb") as it:
             it.write(bytes(8))
         env = {"LD_PRELOAD": self.shim, "COUNTED": self.counted, "REFUSED": str(refused)}
-        ended = subprocess.run(self.words, input=text, stdout=subprocess.PIPE, env=env, check=False)
+        words = [self.program, word, "--workers", self.workers]
+        ended = subprocess.run(words, input=text, stdout=subprocess.PIPE, env=env, check=False)
         with open(self.counted, "rb") as it:
             return ended.returncode, ended.stdout, int.from_bytes(it.read(), sys.byteorder)
 
@@ -88,20 +89,22 @@ def ending(status, output, wanted):
 
 
 def text_of(name):
-    """A scenario and its output."""
+    """The word of a scenario's call, the scenario and its output."""
     if os.path.exists(f"{HERE}/../scenarios/{name}"):
+        with open(f"{HERE}/../scenarios/{name}.args") as it:
+            word = it.read().split()[0]
         with open(f"{HERE}/../scenarios/{name}", "rb") as it:
             text = it.read()
         with open(f"{HERE}/../scenarios/{name}.stdout", "rb") as it:
-            return text, it.read()
+            return word, text, it.read()
     with open(f"{HERE}/../crates/nezha_cases/data/{name}", "rb") as it:
-        return it.read().split(b"\n", 1)[1], None
+        return "run", it.read().split(b"\n", 1)[1], None
 
 
 def tried(growths, name, given):
     """Tries growths of a scenario's run; whether all runs ended as they may."""
-    text, wanted = text_of(name)
-    status, output, count = growths.run(text, 0)
+    word, text, wanted = text_of(name)
+    status, output, count = growths.run(word, text, 0)
     output = in_order(given.workers, output)
     if status != 0 or (wanted is not None and output != in_order(given.workers, wanted)):
         sys.exit(f"{name}: with all its memory the program ends with status {status} or another output")
@@ -109,7 +112,7 @@ def tried(growths, name, given):
     ways, wrong = collections.Counter(), 0
     numbers = range(1, count + 1, given.every)
     for number in numbers:
-        status, output, _ = growths.run(text, number)
+        status, output, _ = growths.run(word, text, number)
         way = ending(status, in_order(given.workers, output), wanted)
         ways[way] += 1
         if way is None:
