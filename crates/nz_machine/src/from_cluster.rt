@@ -1,4 +1,4 @@
-//! Whether a message counts in a cluster.
+//! Whether sender and crash vector of a message fit the cluster.
 
 ghost use Rattle.std.specs.Prelude.{◌≡◌, ◌&&◌};
 ghost use Rattle.std.specs.Option.{option_copied};

@@ -1,5 +1,20 @@
 //! The machine: the rules of all actors as definitions, what a run of the world is, and what the code of
 //! an actor is held to.
+//!
+//! Words of this crate, beside those of the rules:
+//!
+//! - An *outbox* is what a step has sent so far, with the *room* of its actor: the memory that bodies of
+//!   small messages are written in, one after the other. A *shared parcel* is in memory once, for the
+//!   records of its sending and its arrivals and for the calendar. An *envelope* is a message with its
+//!   sender and receiver.
+//! - A *row* is 16 bytes of a journal: a silent tick itself, or where another record is stored.
+//! - A *fact* is what holds of every state of a replica (`HasFacts`), a *move* one of the small ways in
+//!   which a rule changes a state.
+//! - A *standing* is what a proxy knows of a request: its *tally* of replies, or the decided answer and its
+//!   path. A *sample* is a delay of a replica, as a proxy has seen it.
+//! - A *claim* is the greatest value of its own counter that others have told a rejoining replica, a
+//!   *teller* one that told it a vector. A *member* of a begin is a replica whose report the view began
+//!   from, the leader included.
 #![tactic(auto)]
 
 mod answers;

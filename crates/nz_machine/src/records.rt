@@ -1,4 +1,4 @@
-//! The records of a run. A clock at which nothing was sent takes 16 bytes of them.
+//! The records of a run. A silent tick, on which its actor sends nothing, takes 16 bytes of them.
 
 ghost use Rattle.std.specs.Prelude.{◌≡◌, ◌≤◌, ◌<◌, ◌+◌, ◌-◌, ◌^◌, min, ◌∷◌, ◌++◌, [], length, slice_get, vec_len, vec_capacity, Some, IfOk, OnOk, OnErr, IfSome, MatchOption, List as Listed};
 ghost use Rattle.nz_machine.specs.Records.{IsKept, IsSilentClock, record_of_row};
@@ -14,7 +14,7 @@ use std::mem::size_of;
 /// How a record is kept. The order of the fields leaves no gaps.
 #[derive(Clone, Copy)]
 enum Row {
-    /// It is of a clock at which nothing was sent.
+    /// It is a silent tick.
     Clock {
         actor: Actor,
         tick: u32,
@@ -84,7 +84,7 @@ impl Model for Recording {
     ghost invariant = { λ r. AreKept r.rows.items r.others.items r.room (vec_capacity r.rows) (vec_capacity r.others) };
 }
 
-/// The row of the record, where it is of a clock at which nothing was sent.
+/// The row of the record, where it is a silent tick.
 fn clock_row(step: &Record) -> Option<Row>
     ensures { IfSome result (λ row. (others : Listed RecordModel) → (record_of_row others row ≡ step.now) × IsKept others row) }
 {
@@ -98,7 +98,7 @@ fn clock_row(step: &Record) -> Option<Row>
     }
 }
 
-/// The row of the record. Unless it is of a clock at which nothing was sent, it is put last of those that are kept whole.
+/// The row of the record. Unless it is a silent tick, it is put last of those that are kept whole.
 fn row_of(step: Record, others: &mut Vec<Record>) -> Row
     requires { vec_len others.old < vec_capacity others.old }
     ensures row { (record_of_row others.new.items result ≡ step) × IsKept others.new.items result }
@@ -196,7 +196,7 @@ impl Recording {
         RecordRef { kept }
     }
 
-    /// The record, unless it is of a clock at which nothing was sent.
+    /// The record, unless it is a silent tick.
     pub fn get_whole(&self, place: usize) -> Option<&Record>
         requires { place < length self.now.records }
         ensures { MatchOption result
@@ -268,7 +268,7 @@ impl RecordList {
         self.recording.get(place as usize)
     }
 
-    /// The record, unless it is of a clock at which nothing was sent.
+    /// The record, unless it is a silent tick.
     pub fn get_whole(&self, place: u32) -> Option<&Record>
         requires { place < length self.now }
         ensures { MatchOption result

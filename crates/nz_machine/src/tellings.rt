@@ -49,7 +49,7 @@ fn add_next(
     add(telling, place, told)
 }
 
-/// Adds what the record at this place says. A clock at which nothing was sent says nothing.
+/// Adds what the record at this place says. A silent tick says nothing.
 fn add_at(
     alloc: Global,
     journal: &Journal,
