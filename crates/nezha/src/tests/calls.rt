@@ -4,7 +4,6 @@ ghost use Rattle.nz_machine.specs.Schedule.{IsPlayable};
 
 mod collisions;
 mod overlap;
-mod settling;
 
 use nz_base::Scenario;
 use nz_script::read;
