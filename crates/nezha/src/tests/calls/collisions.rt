@@ -101,16 +101,12 @@ fn collides(list: &RepliedOver, others: &[RepliedOver]) -> bool {
 fn no_lists_of_keys_collide(rt: HostRuntime) -> Result<(), Fail> {
     let alloc = rt.alloc();
     let scenario = scenario_of(alloc, PUT_THEN_GET)?;
-    let journal = run_alone(alloc, &scenario)?.journal;
+    let played = run_alone(alloc, &scenario)?;
+    let journal = &played.journal;
+    let cluster = journal.scenario.cluster;
     let mut lists = Vec::new(alloc);
-    for number in 0..scenario.cluster.n() {
-        add_replica(
-            alloc,
-            scenario.cluster,
-            number,
-            &journal.records,
-            &mut lists,
-        )?;
+    for number in 0..cluster.n() {
+        add_replica(alloc, cluster, number, &journal.records, &mut lists)?;
     }
     // Each replica replies to the put over one key, and to the get over two.
     assert_eq!(rt; lists.len(), 6);
