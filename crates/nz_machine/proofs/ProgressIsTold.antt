@@ -435,7 +435,7 @@ other_after g r J clients w other h = record {
       (sym (stays g (Client c) r J (not_client g r.actor c w.0.member (other_client g J clients r.actor h other))));
 }
 
--- ---- a silent tick tells nothing
+-- ---- a clock at which nothing was sent tells nothing
 
 clock_accepts : (e : Event) (reading : ℕ) → e ≡ Tick reading → (k : ℕ) (p : Progress) → acceptance_of k p e ≡ None
 clock_accepts e reading is k p = ap (acceptance_of k p) is

@@ -80,7 +80,7 @@ next_told g rs i r clients after told new w at h reads =
     subst (λ (K : List Record). AreTold g K after new) (sym (one_record rs i r lt is))
     (reads (reverse (take i rs)) (world_with g rs i r w lt is) (count_before rs i lt) h)
 
--- a silent tick was passed over
+-- a clock at which nothing was sent was passed over
 pub silent_told : (g : Group) (rs : List Record) (i : ℕ) (clients : List Progress) (told : List ToldAt) → World g (reverse rs) → i < length rs
     → ((step : Record) → slice_get rs i ≡ Some step → IsSilentClock step) → AreTold g (reverse (take i rs)) clients told
     → AreTold g (reverse (take (i + 1) rs)) clients told

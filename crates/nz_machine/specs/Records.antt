@@ -15,11 +15,11 @@ pub record Recorded : Type 0 where
   pub records : List Record
   pub room : ℕ
 
--- The record of a silent tick: its actor sent nothing.
+-- The record of a clock at which nothing was sent.
 abbrev pub silent_clock : ℕ → Actor → ℕ → Record
 silent_clock tick actor reading = record { tick = tick; actor = actor; event = Tick reading; sends = [] }
 
--- The record is a silent tick.
+-- The record is of a clock at which nothing was sent.
 pub record IsSilentClock (step : Record) : Type 0 where
   pub reading : ℕ
   pub read : step.event ≡ Tick reading
