@@ -31,8 +31,12 @@ REFUSALS = [
 
 NO_CALLS = """
 |gen|gen 7|gen 7 0|gen 7 2001|walk|--help|run run|run --workers|run --workers=|run --workers=0|gen --workers=1|run --workers 0
-run --workers 01|trace --workers 17|run --worker 1|runs
+run --workers 01|trace --workers 17|run --worker 1|runs|scenario|scenario 7|scenario 01 1|scenario 1 0|scenario 1 2001
+scenario 1 1 1|scenario 1 --workers=1|check --workers 1|check x|checks|help x|help help|help --workers 1|--help run|pace --workers 1|pace x|story x|story --workers 0
 """.replace("\n", "|").split("|")[1:-1]
+
+# The words that the program has. A reference may have more, and its `help` tells of them too.
+WORDS = "run trace story locks pace gen scenario check help".split()
 
 HEAD = "nezha 1\nf 1\nproxies 1\nclients 1\n"
 TWO = "nezha 1\nf 1\nproxies 1\nclients 2\nticks 60\n"
@@ -48,7 +52,63 @@ LOCK_USES = {
     "both clients, the second one first": TWO + "client c0\nget lock.a\ndel lock.a\nend\nclient c1\ndel lock.a\nend\ndone\n",
     "a bad line after it": HEAD + "ticks 40\nclient c0\ndel lock.a\nend\nput a\ndone\n",
     "a key that is no lock": HEAD + "ticks 40\nclient c0\nput lock c0\nput lockx c0\nget lock.a\nend\ndone\n",
+    "one client after the other": TWO
+    + "client c0\ncas lock.x - c0\nwait 30\ncas lock.x c0 -\nend\nclient c1\nwait 15\ncas lock.x - c1\nwait 45\ncas lock.x - c1\nend\ndone\n",
+    "a lock without a name at the second client": TWO
+    + "client c0\ncas lock.x - c0\ncas lock.x c0 -\nend\nclient c1\nget lock.\nend\ndone\n",
+    "puts on keys that are nearly locks": TWO + "client c0\nput lock c1\nget lock.x\nend\nclient c1\nput locks.x c0\nend\ndone\n",
+    "the second request of the first client": TWO + "client c0\nget a\nput lock.x c0\nend\nclient c1\ndel lock.x\nend\ndone\n",
+    "the second client alone": TWO + "client c0\nget a\nend\nclient c1\ndel lock.x\nend\ndone\n",
+    "neither taken nor given back": HEAD + "ticks 40\nclient c0\ncas lock.x - -\nend\ndone\n",
     "a lock that stays": TWO + "client c0\ncas lock.a - c0\nend\nclient c1\nwait 30\ncas lock.a - c1\ncas lock.a c1 -\nend\ndone\n",
+}
+
+# What a proxy sends in each of several ticks, with fault lines on it; and crashes, restarts and alarms, not in the order of
+# their ticks.
+STREAM = "nezha 2\nf 1\nproxies 1\nclients 1\nticks 40\nwindow 16\nclient c0\n"
+COURSES = {
+    "a copy and a held delivery": HEAD + "ticks 40\nclient c0\nput a 1\nend\ntwice p0 r0 timed 1 20\nhold p0 r1 timed 1 5\ndone\n",
+    "lines on two courses": STREAM
+    + "put a 1\nwait 2\nput a 2\nwait 3\nput a 3\nwait 4\nput a 4\nwait 5\nput a 5\nend\n"
+    + "drop p0 r0 timed 2\nhold p0 r1 timed 2 4\nblock p0 * 5 5\ntwice p0 r0 timed 3 2\ndone\n",
+    "lines on one parcel": STREAM
+    + "put a 1\nwait 2\nput a 2\nwait 3\nput a 3\nwait 4\nput a 4\nend\n"
+    + "hold p0 r0 timed 3 2\nblock * r1 4 4\ntwice p0 r0 timed 3 4\ntwice p0 r1 timed 1 4\n"
+    + "drop p0 r0 timed 9\nhold p0 r1 timed 1 3\ndone\n",
+    "calls in any order": HEAD
+    + "ticks 5\nclient c0\nget a\nend\nalarm r0 5\nrestart r1 5\ncrash r2 2\ncrash r1 1\nrestart r2 4\nalarm r2 5\nalarm r0 6\ndone\n",
+}
+
+# Texts, and bytes that are none for one line.
+ALL_LINES = "send c0 1 put a 1\naccept c0 1 done fast\nsend c0 2 get a\naccept c0 2 value 1 slow\nsend c0 3 cas k - y\nopen c0 3\n"
+ALL_LINES += "at 1 c0 1 put a 1 gives done\nat 2 c0 2 get a gives value 1\n"
+AT = "at 1 c0 1 get k gives done\n"
+NO_TEXTS = [
+    "end\n", "", "end\nend\n", "end\n\n", "\nend\n", "end \n", " end\n", "open c4294967295 0\nend\n", "open c4294967296 0\nend\n",
+    "open c0 00\nend\n", "open r0 1\nend\n", "open c0  1\nend\n", "open c0 1\n", "accept c0 1 value - fast\nend\n",
+    "accept c0 1 value v slow\nsend c7 3 del d\nend\n", "accept c0 1 absent quick\nend\n", "accept c0 1 done fast more\nend\n",
+    "send c0 1 cas k - -\nend\n", "send c0 1 put k -\nend\n", "send c0 1 wait 3\nend\n", "open c0 1\nsend c0 1 get k\nend\n",
+    "at 1 c0 1 get gives gives differs\nend\n", "at 0 c0 1 get k gives done\nend\n", f"{AT}at 3 c0 1 get k gives done\nend\n", f"{AT}{AT}end\n",
+    "at 1 c0 1 get k done\nend\n", f"{AT}open c0 1\nend\n", f"{ALL_LINES}end\n",
+]
+
+MANY = ["cut c0 p0 request 1 5", "twice c0 p0 request 1 0", "crash r0 1", "restart r0 1", "crash p0 1", "restart r1 1", "alarm r2 1"]
+PUT = "client c0\nput a 1\nend\n"
+
+# All that one tick brings, the fates of parcels, and views and rejoins.
+FATES = {
+    "one tick": HEAD + "ticks 1\nclient c0\nend\ndone\n",
+    "all that one tick brings": HEAD + "ticks 1\n" + PUT + "\n".join(MANY) + "\ndone\n",
+    "a copy before the cut": HEAD + "ticks 1\n" + PUT + "\n".join([MANY[1], MANY[0], *MANY[2:]]) + "\ndone\n",
+    "held past the last tick": HEAD + "ticks 40\n" + PUT + "hold p0 r0 timed 1 20000\ndone\n",
+    "lost before it is repeated": HEAD + "ticks 40\n" + PUT + "drop p0 r0 timed 1\ntwice p0 r0 timed 1 2\ndone\n",
+    "blocked before it is held": HEAD + "ticks 40\n" + PUT + "block p0 r0 1 9\nhold p0 r0 timed 1 2\ndone\n",
+    "cut twice": HEAD + "ticks 40\n" + PUT + "cut p0 r0 timed 1 9\ncut p0 r0 timed 1 4\ndone\n",
+    "cut at its end": HEAD + "ticks 40\n" + PUT + "cut p0 r0 timed 1 16777216\ndone\n",
+    "repeated, then held": HEAD + "ticks 40\n" + PUT + "twice p0 r0 timed 1 2\nhold p0 r0 timed 1 2\ndone\n",
+    "a clock near its end": HEAD + "ticks 40\nskew p0 4611686018427387904\n" + PUT + "done\n",
+    "keys that come late": HEAD + "ticks 120\nskew p0 -20000\nclient c0\nput view view\nput a value\nget a\nend\n"
+    "crash r0 10\ncrash r0 12\nrestart r0 20\nrestart r0 21\nalarm r1 50\nalarm r2 70\ndone\n",
 }
 
 # Runs whose histories are found with the replicas as they are at the end, and without them.
@@ -62,6 +122,80 @@ HISTORIES = {
     "a leader leads a later view": HEAD
     + "ticks 90\nclient c0\nput a 1\nend\nalarm r0 30\nalarm r0 45\nalarm r0 60\ndone\n",
 }
+
+
+# Texts that are judged, each in one line: a slash ends a line, and these words stand for lines.
+LINES = {
+    "S1": "send c0 1 put a 1",
+    "A1": "accept c0 1 done fast",
+    "S2": "send c0 2 get a",
+    "A2": "accept c0 2 value 1 fast",
+    "H1": "at 1 c0 1 put a 1 gives done",
+    "H2": "at 2 c0 2 get a gives value 1",
+}
+TEXTS = """
+
+end/
+ end/
+end /
+end//
+end/end/
+open c0 1/end/
+S1/A1/S2/A2/H1/H2/end/
+send c0 1 get a/end/
+send c0 1 get a/at 1 c0 1 get a gives absent/end/
+send c0 1 get a/at 1 c0 1 get b gives absent/end/
+send c0 1 get a/open c0 1/open c0 1/end/
+send c0 1 get a/send c1 1 get a/open c1 1/open c0 1/end/
+A1/S1/H1/end/
+S1/S1/end/
+S1/A1/A1/end/
+S1/accept c0 1 absent fast/end/
+S1/A1/S2/A2/at 1 c0 2 get a gives value 1/at 2 c0 1 put a 1 gives done/end/
+S1/A1/S2/A2/H1/at 2 c0 1 put a 1 gives done/end/
+S1/A1/S2/A2/at 2 c0 1 put a 1 gives done/end/
+S1/A1/S2/open c0 2/H1/end/
+S1/A1/S2/open c0 2/H1/H2/end/
+S1/A1/S2/A2/H1/H2/at 3 c0 2 get a gives value 1/end/
+S1/A1/S2/accept c0 2 absent fast/H1/at 2 c0 2 get a gives absent/end/
+send c0 0 get a/open c0 0/end/
+send c4294967295 4294967295 get a/open c4294967295 4294967295/end/
+send c4294967296 1 get a/end/
+send c01 1 get a/end/
+send c0 1 get KEY/open c0 1/end/
+send c0 1 get KEYk/end/
+send c0 1 put a VALUE/open c0 1/end/
+send c0 1 put a VALUEv/end/
+send c0 1 cas a - -/accept c0 1 done slow/at 1 c0 1 cas a - - gives done/end/
+send c0 1 get gives/open c0 1/at 1 c0 1 get gives gives absent/end/
+send c0 1 cas a b c/open c0 1/at 1 c0 1 cas a b c gives value v/end/
+send c0 1 cas a b c/open c0 1/at 1 c0 1 cas a b c gives value v v/end/
+""".split("\n")[1:-1]
+
+# The longest text that is judged, in bytes.
+LONGEST = 8388608
+LONG_TEXTS = {
+    "as many newlines as bytes may be": "\n" * LONGEST,
+    "one newline more": "\n" * (LONGEST + 1),
+    "one line": "x" * (LONGEST - 1) + "\n",
+    "one line of spaces": " " * (LONGEST - 1) + "\n",
+    "one line and a byte more": "x" * LONGEST + "\n",
+    "two lines, the second one too long": "a" * (LONGEST - 1) + "\nb\n",
+}
+
+
+def said(short):
+    """The text that stands in one line."""
+    lines = short.split("/")[:-1]
+    text = "".join(f"{LINES.get(line, line)}\n" for line in lines)
+    return text.replace("KEY", "k" * 32).replace("VALUE", "v" * 256)
+
+
+def outputs():
+    """What the scenarios print."""
+    for name, _ in scenarios():
+        with open(f"{HERE}/../scenarios/{name}.stdout") as it:
+            yield name, it.read()
 
 
 def scenarios():
@@ -147,9 +281,15 @@ def files(reference):
     yield "put_then_get", {"put_then_get": own["put_then_get"]}
     yield "leader_cut_off", {"leader_cut_off": own["leader_cut_off"]}
     yield "stray_view_change", {"stray_view_change": own["stray_view_change"]}
+    yield "outputs", dict(outputs())
+    yield "texts", {**{f"text {short}": said(short) for short in TEXTS}, **{f"bytes {number}": text for number, text in enumerate(NO_TEXTS)}}
+    yield "long_texts", LONG_TEXTS
+    yield "two_texts", {"a right text": said("S1/A1/H1/end/"), "a wrong text": said("S1/A1/S2/A2/H2/end/")}
     yield "not_read", {"not read": "not read\n"}
     yield "refusals", dict(REFUSALS)
     yield "lock_uses", LOCK_USES
+    yield "courses", COURSES
+    yield "fates", FATES
     yield "lost", dict(lost())
     yield "lost_together", {what: text for what, text in hostile.together() if what.startswith("f 1")}
     yield "lost_in_turn", dict(lost_in_turn())
@@ -167,9 +307,13 @@ def listed():
     lines += ["lines stray_view_change 61 r1 deliver view-change", "call refusals run"]
     lines += [f"call put_then_get {words}".rstrip() for words in NO_CALLS]
     lines += ["call not_read gen 7 1", "call not_read gen 7 2000", "call not_read gen 7 2000"]
+    lines += ["call not_read help", "call not_read scenario 7 1", "call not_read scenario 9999999999999999999 2000"]
     lines += ["prefixes leader_cut_off run", "reads put_then_get run", "writes put_then_get run", "rooms put_then_get run"]
     lines += ["call lost trace", "call lost_together trace", "call lost_in_turn trace", "call cuts trace", "call limits run"]
+    lines += [f"call {file} check" for file in ("put_then_get", "outputs", "texts", "long_texts")]
+    lines += [f"{kind} two_texts check" for kind in ("prefixes", "reads", "writes", "rooms")]
     lines += ["histories histories", "call scenarios locks", "call lock_uses locks", "call put_then_get locks --workers 0", "call put_then_get locks x"]
+    lines += ["call courses trace", "call scenarios pace", "call fates trace", "call scenarios story", "call fates story", "forms texts", "collisions put_then_get"]
     for name in BUSY_RUNS:
         first = ACTORS[name] * (SHARED - 1) + 1
         lines += [f"call {name} run", f"call {name} trace", f"shared {name} {first}", f"replicas {name}"]
@@ -177,10 +321,12 @@ def listed():
 
 
 def packed(text):
-    """The text, in which =COUNT LINE stands for lines that are the same."""
+    """The text, in which =COUNT LINE stands for lines that are the same, and +COUNT BYTE for a long line of one byte."""
     lines = []
     for line, group in itertools.groupby(text.split("\n")[:-1]):
         count = len(list(group))
+        if len(line) > 1000 and line == line[0] * len(line):
+            line = f"+{len(line)} {line[0]}"
         lines += [line] * count if count < 3 else [f"={count} {line}"]
     return "".join(f"{line}\n" for line in lines)
 
@@ -210,6 +356,8 @@ class Printer:
 
     def ended(self, words, text):
         ended = subprocess.run([self.reference, *words], input=text.encode(), stdout=subprocess.PIPE, check=False)
+        if words == ["help"]:
+            return ended.returncode, b"".join(line for line in ended.stdout.splitlines(True) if line.decode().split()[1] in WORDS)
         return ended.returncode, ended.stdout
 
     def call(self, name, text, words):
@@ -231,15 +379,15 @@ class Printer:
             yield told(f"{name}, a fault after {given} bytes are read", 3, b"")
 
     def writes(self, name, text, words):
-        output = self.ended(words, text)[1]
+        whole, output = self.ended(words, text)
         for calls in range(len(output) + 2):
-            status = 4 if calls <= len(output) else 0
+            status = whole or 4 if calls <= len(output) else whole
             yield told(f"{name}, a fault after {calls} calls of the sink", status, output[:calls])
 
     def rooms(self, name, text, words):
-        output = self.ended(words, text)[1]
+        whole, output = self.ended(words, text)
         for room in range(len(output)):
-            yield told(f"{name}, a room of {room} bytes", 4, output[:room])
+            yield told(f"{name}, a room of {room} bytes", whole or 4, output[:room])
 
     def shared(self, name, text, words):
         batches = ACTORS[name] * SHARED
@@ -249,6 +397,16 @@ class Printer:
     def replicas(self, name, text, words):
         count = 2 * int(text.split("\n")[1].split()[1]) + 1
         yield f"{name}, replicas that runs by 2, 4 and 16 workers give: {count}, {count}, {count}\n".encode()
+
+    def collisions(self, name, text, words):
+        """Where nothing is lost, each fast reply arrives."""
+        count = sum(b" deliver fast-reply " in line for line in self.ended(["trace"], text)[1].split(b"\n"))
+        yield f"{name}: {count} lists of keys were replied over, 0 collide\n".encode()
+
+    def forms(self, name, text, words):
+        """A text that says no history has another reason than its form."""
+        line, _, reason = self.ended(["check"], text)[1].partition(b": ")
+        yield f"{name}: {line[3:].decode() if reason == b'form' + bytes([10]) else 'a text'}\n".encode()
 
     def histories(self, name, text, words):
         count = sum(line.startswith(b"at ") for line in self.ended(["run"], text)[1].split(b"\n"))

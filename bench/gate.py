@@ -5,7 +5,8 @@
 
 runs `rt ci` with these words at the top of the repository, and looks each half second at the provers that it started.
 It passes on what `rt ci` prints, and ends with a table: for each crate the minutes of a processor that its own proof,
-the proof of its tests, its must-fail edits and its programs and tests took, the dearest crate first, and their sum.
+the proof of its tests, the seed of its must-fail edits (one more proof, over which they are tried), the edits themselves,
+and its programs and tests took, the dearest crate first, and their sum.
 The status is that of `rt ci`. A prover that lives less than half a second is not seen. What an earlier run on this
 machine proved is not proved again, and so is not in the table: only a machine with nothing kept shows the whole.
 """
@@ -17,7 +18,7 @@ import sys
 import time
 
 PAUSE = 0.5
-PARTS = ("proof", "tests", "edits", "runs")
+PARTS = ("proof", "tests", "seed", "edits", "runs")
 CRATE = re.compile(r"--crate-name (\w+)")
 
 
@@ -55,9 +56,9 @@ def part_of(words):
         return None
     if " --test " in words:
         return crate[1], "tests"
-    if " build " in words:
+    if " build " in words or " -o " in words:
         return crate[1], "proof"
-    return crate[1], "edits"
+    return crate[1], "seed" if words.rstrip().endswith("/seed") else "edits"
 
 
 class Times:

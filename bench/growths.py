@@ -2,14 +2,15 @@
 """Refuses each growth of memory in turn, in a run with a view change and in one with a rejoin.
 
     (cd crates/nezha && rt run < ../../scenarios/put_then_get)     makes crates/nezha/out/nezha
-    bench/growths.py [--workers N] [--every K] PROGRAM [SCENARIO ..]
+    bench/growths.py [--workers N] [--every K] [--word WORD] PROGRAM [SCENARIO ..]
 
 PROGRAM is run on each scenario of the folder `scenarios` (leader_cut_off and replica_rejoins if left out) as often as it
 asks for memory: in the N-th run its N-th request for memory is refused. Each run has to end with status 6 and a prefix
 of the scenario's output, or with status 0 and all of it. By several workers the lines come in another order, so that all
 of the output is the same lines, and a prefix none. Scenarios with less to do are played by one thread all the same; 32_actors
 and 31_actors of crates/nezha_cases are shared, and want a K, since of so many requests for memory only each K-th can be
-refused. A line for each scenario says how many growths were tried, and how many ended in each way; the runs that end
+refused. With a WORD it is that command which is run, and of `check` the input is the
+scenario's output. A line for each scenario says how many growths were tried, and how many ended in each way; the runs that end
 otherwise are printed, and make the status 1. It wants cc.
 """
 import argparse
@@ -20,6 +21,7 @@ import sys
 import tempfile
 
 HERE = os.path.dirname(os.path.abspath(__file__))
+WITH_WORKERS = "run trace story locks".split()
 
 # Counts requests for memory in the file COUNTED, and refuses the one with the number REFUSED.
 SHIM = r"""
@@ -66,7 +68,7 @@ class Growths:
         with open(self.counted, "wb") as it:
             it.write(bytes(8))
         env = {"LD_PRELOAD": self.shim, "COUNTED": self.counted, "REFUSED": str(refused)}
-        words = [self.program, word, "--workers", self.workers]
+        words = [self.program, word] + ["--workers", self.workers] * (word in WITH_WORKERS)
         ended = subprocess.run(words, input=text, stdout=subprocess.PIPE, env=env, check=False)
         with open(self.counted, "rb") as it:
             return ended.returncode, ended.stdout, int.from_bytes(it.read(), sys.byteorder)
@@ -104,6 +106,8 @@ def text_of(name):
 def tried(growths, name, given):
     """Tries growths of a scenario's run; whether all runs ended as they may."""
     word, text, wanted = text_of(name)
+    if given.word:
+        word, text, wanted = given.word, wanted if given.word == "check" else text, None
     status, output, count = growths.run(word, text, 0)
     output = in_order(given.workers, output)
     if status != 0 or (wanted is not None and output != in_order(given.workers, wanted)):
@@ -127,6 +131,7 @@ def main():
     parser = argparse.ArgumentParser(usage=__doc__)
     parser.add_argument("--workers", type=int, default=1)
     parser.add_argument("--every", type=int, default=1)
+    parser.add_argument("--word")
     parser.add_argument("program")
     parser.add_argument("names", nargs="*", default=["leader_cut_off", "replica_rejoins"])
     given = parser.parse_args()

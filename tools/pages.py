@@ -22,7 +22,8 @@ What is checked:
     marks      no mark of a merge is left
     sizes      README.md and docs/DECISIONS.md are no larger than LIMITS says
 
-A command `nezha WORDS < scenarios/NAME` prints what is stored for it: scenarios/NAME.stdout, or crates/nezha/stdout.
+A command `nezha WORDS < scenarios/NAME` prints what is stored for it: scenarios/NAME.stdout,
+crates/nezha/stdout, or the story in tools/stories.
 Where the program is there it is run too. Any other command is run; one that calls nezha only where the program is.
 """
 import glob
@@ -89,6 +90,9 @@ class Repository:
 
     def stored(self, words, scenario):
         """The output that is kept for the command, or None."""
+        story = f"{self.top}/tools/stories/{os.path.basename(scenario)}.story"
+        if words == ["story"] and os.path.isfile(story):
+            return read(story)
         for args, text, output in [
             (f"{scenario}.args", scenario, f"{scenario}.stdout"),
             ("crates/nezha/args", "crates/nezha/stdin", "crates/nezha/stdout"),
@@ -285,7 +289,7 @@ class Page:
     def check_lines(self, begin, lines, output, what):
         rest = iter(output.split("\n"))
         for number, line in enumerate(lines, begin):
-            shown = line.split("  ")[0]
+            shown = "" if line.startswith("   ") else re.split(r"(?<=\S)  ", line)[0]
             if shown and shown not in rest:
                 self.fault(number, f"not printed, or not in this place, by {what}: {shown}")
                 return

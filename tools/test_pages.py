@@ -22,6 +22,7 @@ FILES = {
     "scenarios/first": "put a 1\n",
     "scenarios/first.args": "run\n",
     "scenarios/first.stdout": "send c0 1\nend\n",
+    "tools/stories/first.story": "1 c0 tick 1000\n  send c0 1\n  sends request p0 lost: num 1\ntext\nend\n",
     "docs/ARCHITECTURE.md": "# The map\n\nnz_low, nezha\n",
     "docs/THEOREMS.md": "# Theorems\n\n> Each answer is right.\n\n| law | file |\n|---|---|\n| `one_law` | nz_low/src/laws.rt; specs/Words.antt |\n",
     "README.md": """# A page
@@ -47,6 +48,15 @@ Two lines of a trace:
 ```text
 1 c0 tick 1000 -> 1     a remark
 3 p0 tick 3000 -> 0
+```
+
+Two lines of a story:
+
+<!-- lines: nezha story < scenarios/first -->
+```text
+1 c0 tick 1000  a remark
+  sends request p0 lost: num 1     another
+                                   that goes on
 ```
 
 The scenario:
@@ -81,6 +91,7 @@ PLANTED = {
     "an output that has changed": ("scenarios/first.stdout", "c0 1", "c1 1", "differs from what is printed"),
     "a line that is not printed": ("README.md", "3 p0 tick 3000", "3 p1 tick 3000", "not printed"),
     "a line in another place": ("README.md", "1 c0 tick 1000 -> 1     a remark", "3 p0 tick 3000 -> 0", "not printed"),
+    "a line under a head that is not printed": ("README.md", "sends request p0 lost", "sends request p1 lost", "not printed"),
     "another scenario": ("README.md", "```text\nput a 1", "```text\nput a 2", "differs from scenarios/first"),
     "another output of a tool": ("README.md", "echo end", "echo done", "differs from what is printed by echo done"),
     "an output without a command": ("README.md", "<!-- lines: nezha trace < scenarios/first -->\n", "", "no command that prints it"),
@@ -119,7 +130,7 @@ class Planted(unittest.TestCase):
         self.assertEqual(self.faults(files), ([], ["nezha trace < scenarios/first"]))
 
     def test_program(self):
-        program = '#!/bin/sh\n[ "$1" = trace ] && printf "1 c0 tick 1000 -> 1\\n3 p0 tick 3000 -> 0\\n"\nprintf "send c0 1\\nend\\n"\n'
+        program = '#!/bin/sh\n[ "$1" = trace ] && printf "1 c0 tick 1000 -> 1\\n3 p0 tick 3000 -> 0\\n"\n[ "$1" = story ] && printf "1 c0 tick 1000\\n  sends request p0 lost: num 1\\n"\nprintf "send c0 1\\nend\\n"\n'
         self.assertEqual(self.faults({**FILES, "bin/nezha": program}, "bin/nezha"), ([], []))
         found, _ = self.faults({**FILES, "bin/nezha": program.replace("3000", "4000")}, "bin/nezha")
         self.assertEqual(len(found), 1)

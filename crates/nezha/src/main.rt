@@ -2,7 +2,7 @@
 #![tactic(auto)]
 
 use nz_edge::{OpenGate, StdSink, StdSource};
-use nz_top::{Outcome, Status, Words, nezha};
+use nz_top::{Outcome, Status, Words, help_lines, nezha};
 use std::io::ErrorKind;
 use std::process::ExitCode;
 use std::{env, mem};
@@ -27,6 +27,19 @@ fn words_of(rt: &HostRuntime) -> Option<Words> {
     Words::from_list(rt.alloc(), &words).ok()
 }
 
+/// Says on standard error what may help after a refusal. Where it cannot be said, the refusal still is.
+fn advise(rt: &HostRuntime, status: Status) {
+    let _ = match status {
+        Status::Usage => rt.eprint(help_lines()),
+        Status::BadScenario => { rt.eprintln("see tools/lint.py, or docs/FORMATS.md, Scenarios") }
+        Status::Done
+        | Status::ReadFault
+        | Status::WriteFault
+        | Status::NoMemory
+        | Status::Rejected => Ok(()),
+    };
+}
+
 fn main(rt: HostRuntime) -> ExitCode {
     let Some(words) = words_of(&rt) else {
         return ExitCode::from(Status::NoMemory.code());
@@ -42,10 +55,8 @@ fn main(rt: HostRuntime) -> ExitCode {
         &OpenGate::new(),
     );
     let Outcome { status, journal } = outcome;
+    advise(&rt, status);
     // It is most of the memory, which goes back sooner as a whole, with the process.
     mem::forget(journal);
     ExitCode::from(status.code())
 }
-
-#[cfg(test)]
-mod tests;

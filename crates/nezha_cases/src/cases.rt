@@ -10,23 +10,29 @@ pub struct Case {
     pub input: String,
 }
 
-/// How often a line of a file comes in the input, and its text: a line `=3 get a` stands for three lines `get a`.
-fn repeated(line: &str) -> (u32, &str) {
-    if let Some(rest) = line.strip_prefix("=") {
-        if let Some((numeral, text)) = rest.split_once(' ') {
-            return (numeral.parse().unwrap_or(0), text);
-        }
-    }
-    (1, line)
+/// The count and the text after a sign: `=3 get a` has the count 3 and the text `get a`.
+fn repeated<'a>(line: &'a str, sign: &str) -> Option<(u32, &'a str)> {
+    let (numeral, text) = line.strip_prefix(sign)?.split_once(' ')?;
+    Some((numeral.parse().unwrap_or(0), text))
 }
 
-fn add_lines(input: &mut String, line: &str) -> Result<(), NoMemory> {
-    let (count, text) = repeated(line);
+/// Adds the text so often, each time with the end.
+fn add_times(input: &mut String, count: u32, text: &str, end: &str) -> Result<(), NoMemory> {
     for _ in 0..count {
         input.push_str(text)?;
-        input.push('\n')?;
+        input.push_str(end)?;
     }
     Ok(())
+}
+
+/// Adds what a line of a file stands for: `=3 get a` for three lines `get a`, and `+3 x` for one line `xxx`.
+fn add_lines(input: &mut String, line: &str) -> Result<(), NoMemory> {
+    if let Some((count, text)) = repeated(line, "=") {
+        return add_times(input, count, text, "\n");
+    }
+    let (count, text) = repeated(line, "+").unwrap_or((1, line));
+    add_times(input, count, text, "")?;
+    Ok(input.push('\n')?)
 }
 
 /// The cases of a file, each after a line `== NAME`.

@@ -1,8 +1,10 @@
 //! What a line of the list asks for: a kind, the file of the cases, and the words of the calls.
 
 use crate::cases::{Case, cases_of};
+use crate::collisions::play_collisions;
 use crate::ends::end_of;
-use crate::faults::{play_prefixes, play_reads, play_rooms, play_writes};
+use crate::faults::{Fault, play_faults};
+use crate::forms::play_forms;
 use crate::report::{Stop, print_ended, print_line};
 use crate::runs::{play_histories, play_replicas};
 use crate::shared::play_shared;
@@ -61,16 +63,18 @@ fn play_case<R: Print + Threads + Wait + Sync>(
     match kind {
         "call" => play_each(rt, alloc, case, words),
         "lines" => play_lines(rt, alloc, case, words),
-        "prefixes" => play_prefixes(rt, alloc, case, words),
-        "reads" => play_reads(rt, alloc, case, words),
-        "writes" => play_writes(rt, alloc, case, words),
-        "rooms" => play_rooms(rt, alloc, case, words),
+        "prefixes" => play_faults(rt, alloc, case, words, Fault::Prefix),
+        "reads" => play_faults(rt, alloc, case, words, Fault::Read),
+        "writes" => play_faults(rt, alloc, case, words, Fault::Write),
+        "rooms" => play_faults(rt, alloc, case, words, Fault::Room),
         "shared" => match words.first() {
             Some(last) => play_shared(rt, alloc, case, last),
             None => Err(Stop::Input),
         },
         "replicas" => play_replicas(rt, alloc, case),
         "histories" => play_histories(rt, alloc, case),
+        "collisions" => play_collisions(rt, alloc, case),
+        "forms" => play_forms(rt, alloc, case),
         _ => Err(Stop::Input),
     }
 }

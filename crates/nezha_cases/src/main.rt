@@ -2,8 +2,10 @@
 #![tactic(auto)]
 
 mod cases;
+mod collisions;
 mod ends;
 mod faults;
+mod forms;
 mod kinds;
 mod meeting;
 mod report;

@@ -15,7 +15,8 @@ use std::alloc::Global;
 use std::sync::Wait;
 use std::thread::Threads;
 
-fn scenario_of(alloc: Global, input: &str) -> Result<Scenario, Stop>
+/// The scenario of a case that is one.
+pub fn scenario_of(alloc: Global, input: &str) -> Result<Scenario, Stop>
     ensures { IfOk result IsPlayable }
 {
     match read(alloc, input.as_bytes()) {

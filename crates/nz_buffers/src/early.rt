@@ -68,6 +68,16 @@ impl Early {
         self.entries.is_empty()
     }
 
+    /// Puts the keys, in their order, behind those of the list.
+    pub fn append_keys(&self, keys: &mut Vec<Key>) -> Result<(), NoMemory>
+        ensures { OnOk result (keys.new.items ≡ keys.old.items ++ keys_of self.now) }
+    {
+        for (_, entry) in &self.entries {
+            keys.push(entry.key)?;
+        }
+        Ok(())
+    }
+
     /// The least key.
     pub fn first(&self) -> Option<Key>
         ensures { result ≡ first_key self.now }

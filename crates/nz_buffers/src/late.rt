@@ -7,7 +7,7 @@ ghost use Rattle.nz_base.specs.Log.{keys_of, has_id, HaveOwnIds};
 ghost use Rattle.nz_buffers.specs.Buffers.{find_id, without};
 
 use indexmap::IndexMap;
-use nz_base::{Entry, Id, NoMemory};
+use nz_base::{Entry, Id, Key, NoMemory};
 use std::alloc::Global;
 use std::marker::Model;
 
@@ -50,6 +50,16 @@ impl Late {
         ensures { IsTrue result ↔ (self.now ≡ []) }
     {
         self.entries.is_empty()
+    }
+
+    /// Puts the keys, in the order in which they came, behind those of the list.
+    pub fn append_keys(&self, keys: &mut Vec<Key>) -> Result<(), NoMemory>
+        ensures { OnOk result (keys.new.items ≡ keys.old.items ++ keys_of self.now) }
+    {
+        for (_, entry) in &self.entries {
+            keys.push(entry.key)?;
+        }
+        Ok(())
     }
 
     /// Puts the entry last.

@@ -12,12 +12,12 @@ use Rattle.nz_base.specs.declared.actor.Actor.{Actor}
 use Rattle.nz_base.specs.declared.actor.Actor.TheVariants.{Replica, Proxy, Client}
 use Rattle.nz_machine.specs.declared.event.Record.{Record}
 use Rattle.nz_machine.specs.State.{Group}
-use Rattle.nz_machine.specs.Step.{node_step, event_step}
-use Rattle.nz_machine.specs.World.{state_after}
-use Rattle.nz_machine.proofs.Runs.{acts, stays}
+use Rattle.nz_machine.specs.Step.{node_step}
+use Rattle.nz_machine.specs.Steps.{AreSteps, of_actor}
+use Rattle.nz_machine.proofs.OwnStates.{own_state}
 use Rattle.nz_fabric.specs.Calendars.{number_in_all}
-use Rattle.nz_fabric.specs.Records.{ActorSteps, of_actor, steps_of, AreCounts}
-use Rattle.nz_fabric.specs.Steps.{AreSteps, sends_after}
+use Rattle.nz_fabric.specs.Records.{ActorSteps, steps_of, AreCounts}
+use Rattle.nz_fabric.specs.Steps.{sends_after}
 use Rattle.nz_fabric.proofs.Prefixes.{same_part, same_parts}
 
 -- ---- each actor has a number of its own
@@ -113,16 +113,6 @@ counts_pushed J counts i n r h at lt more =
       many = length-set counts (number_in_all r.actor) n ∙ h.many;
       counted = λ a. count_by J counts r n a (actor_eq r.actor a) h (omega (arith, at, lt)) more refl;
     })
-
--- an actor has the state that its own records lead it to
-pub own_state : (g : Group) (a : Actor) (J : List Record) → state_after g a (of_actor a J) ≡ state_after g a J
-own_state g a [] = refl
-own_state g a (r ∷ J) =
-    let own = of_actor a J in
-    let ih = own_state g a J in
-    cond_both (actor_eq r.actor a) (r ∷ own) own (λ (L : List Record). state_after g a L ≡ state_after g a (r ∷ J))
-    (λ e. acts g a r own e ∙ ap (λ (s : _). (event_step g a s r.event).0) ih ∙ sym (acts g a r J e))
-    (λ e. ih ∙ sym (stays g a r J e))
 
 pub steps_pushed : (g : Group) (J : List Record) (r : Record) → AreSteps g J
     → r.sends ≡ sends_after g (steps_of r.actor J) r.event → AreSteps g (r ∷ J)

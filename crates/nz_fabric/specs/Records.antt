@@ -1,13 +1,9 @@
 -- The records of each actor among those of a run.
-use Rattle.std.specs.Prelude.{◌≡◌, ℕ, List, ◌∷◌, ◌++◌, length, filter, get_or}
-use Rattle.nz_base.specs.Actor.{actor_eq}
+use Rattle.std.specs.Prelude.{◌≡◌, ℕ, List, ◌∷◌, ◌++◌, length, get_or}
 use Rattle.nz_base.specs.declared.actor.Actor.{Actor}
 use Rattle.nz_machine.specs.declared.event.Record.{Record}
+use Rattle.nz_machine.specs.Steps.{of_actor}
 use Rattle.nz_fabric.specs.Calendars.{number_in_all}
-
--- The records of an actor among others.
-abbrev pub of_actor : Actor → List Record → List Record
-of_actor a records = filter (λ r. actor_eq r.actor a) records
 
 -- An actor with its records, the newest first.
 pub record ActorSteps : Type 0 where

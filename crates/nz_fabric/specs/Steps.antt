@@ -1,5 +1,5 @@
--- What the records of a run send.
-use Rattle.std.specs.Prelude.{◌≡◌, ℕ, List, [], ◌∷◌}
+-- What an actor and its records are after events.
+use Rattle.std.specs.Prelude.{ℕ, List, [], ◌∷◌}
 use Rattle.nz_base.specs.declared.actor.Actor.{Actor}
 use Rattle.nz_machine.specs.declared.event.Event.{Event}
 use Rattle.nz_machine.specs.declared.event.Parcel.{Parcel}
@@ -8,11 +8,6 @@ use Rattle.nz_machine.specs.State.{Group}
 use Rattle.nz_machine.specs.Step.{Node, node_run, node_step}
 use Rattle.nz_machine.specs.World.{state_after}
 use Rattle.nz_fabric.specs.Records.{ActorSteps, with_step}
-
--- Each record, the newest first, sends what its actor sends on its event after the earlier records.
-abbrev pub AreSteps : Group → List Record → Type 0
-AreSteps g [] = Unit {0}
-AreSteps g (r ∷ older) = (r.sends ≡ (node_step g r.actor (state_after g r.actor older) r.event).1) × AreSteps g older
 
 -- The actor with the state that its records lead it to.
 abbrev pub node_after : Group → ActorSteps → Node

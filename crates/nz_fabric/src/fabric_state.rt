@@ -7,7 +7,8 @@ ghost use Rattle.std.specs.Prelude.{IsTrue, IfOk, IfSome, MatchBool, MatchOption
 ghost use Rattle.nz_machine.specs.Journals.{run_in};
 ghost use Rattle.nz_machine.specs.Schedule.{group_of, IsPlayable, Scheduled};
 ghost use Rattle.nz_fabric.specs.Records.{steps_of, with_step};
-ghost use Rattle.nz_fabric.specs.Steps.{AreSteps, batch_records, node_after, sends_after, sends_from, with_steps};
+ghost use Rattle.nz_machine.specs.Steps.{AreSteps};
+ghost use Rattle.nz_fabric.specs.Steps.{batch_records, node_after, sends_after, sends_from, with_steps};
 ghost use Rattle.nz_fabric.specs.States.{records_of};
 ghost use Rattle.nz_fabric.specs.Shared.{HasNext, IsAccounted, IsGivenUp, IsLost, IsNextOf, IsNextTick, IsOver, MustWait, ClosesBatch, IsWhole};
 ghost use Rattle.nz_fabric.specs.Shared.{next_item, next_record, start_shared, with_given_up, with_next, with_opened, with_record, with_stop};

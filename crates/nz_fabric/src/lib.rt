@@ -22,8 +22,6 @@ mod agenda;
 mod alone;
 mod batch;
 mod calendar;
-#[cfg(test)]
-mod calendar_tests;
 mod chronicle;
 mod course;
 mod deliveries;
@@ -40,8 +38,6 @@ mod posting;
 mod records;
 mod share;
 mod ticks;
-#[cfg(test)]
-mod ticks_tests;
 mod turn;
 
 pub use alone::Alone;

@@ -4,7 +4,8 @@ ghost use Rattle.std.specs.Prelude.{◌≡◌, ◌+◌, ◌<◌, ◌≤◌, ◌^
 ghost use Rattle.nz_machine.specs.Schedule.{group_of};
 ghost use Rattle.nz_fabric.specs.Calendars.{number_in_all};
 ghost use Rattle.nz_fabric.specs.Records.{steps_of, with_step, AddsSome};
-ghost use Rattle.nz_fabric.specs.Steps.{AreSteps, batch_records, node_after, sends_after, sends_from, with_steps};
+ghost use Rattle.nz_machine.specs.Steps.{AreSteps};
+ghost use Rattle.nz_fabric.specs.Steps.{batch_records, node_after, sends_after, sends_from, with_steps};
 
 use crate::chronicle::{Chronicle, RecordsOf, Seen, Unnamed};
 use crate::course::number_in_all;
@@ -34,7 +35,7 @@ impl<N: Name> Model for Records<N> {
     ghost use Rattle.nz_machine.specs.Records.{Recorded};
     ghost use Rattle.nz_machine.specs.Schedule.{group_of};
     ghost use Rattle.nz_fabric.specs.Records.{AreCounts};
-    ghost use Rattle.nz_fabric.specs.Steps.{AreSteps};
+    ghost use Rattle.nz_machine.specs.Steps.{AreSteps};
 
     ghost Value = { Recorded };
 

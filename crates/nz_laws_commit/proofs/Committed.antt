@@ -45,7 +45,8 @@ use Rattle.nz_laws_cv.proofs.Steps.{turn_state_at, Acts, Rests, steps}
 use Rattle.nz_laws_cv.proofs.WithinIncarnation.{sound_at, first_state, in_group}
 use Rattle.nz_laws_cv.proofs.Showing.{shows, same_replica}
 use Rattle.nz_laws_cv.proofs.Beginnings.{normal_in_is, is_in_view}
-use Rattle.nz_laws_cv.proofs.BegunLogs.{begun_reports, begun_log_is, report_is_read}
+use Rattle.nz_laws_cv.specs.Members.{begun_reports}
+use Rattle.nz_laws_cv.proofs.BegunLogs.{begun_log_is, report_is_read}
 use Rattle.nz_laws_commit.specs.Supports.{IsNormal, IsLedAt, HadSynced}
 use Rattle.nz_laws_commit.specs.Machines.{start_of}
 use Rattle.nz_laws_commit.specs.Does.{FollowsRules}

@@ -144,15 +144,19 @@ module _ (g : Group) (J : List Record) (w : World g J) where
 
   -- ---- begins
 
-  unbegun : (n : ℕ) (r : Record) (K : List Record) → At J (r ∷ K) → Begins g J n (r ∷ K) → start_of (states_of g) n K ≡ None
-  unbegun n r K at b = start_is g n K ∙ by_start (start g n K) refl
+  -- no view begins twice
+  pub not_begun : (n : ℕ) (r : Record) (K : List Record) → At J (r ∷ K) → Begins g J n (r ∷ K) → start g n K ≡ None
+  not_begun n r K at b = by_start (start g n K) refl
     where
-      by_start : (o : Option (List Entry)) → start g n K ≡ o → option_map keys_of o ≡ None
+      by_start : (o : Option (List Entry)) → start g n K ≡ o → o ≡ None
       by_start None is = refl
       by_start (Some S) is =
           let h = start_began g n S K b.later is in
           let same = v.once n h.moment (r ∷ K) (record { at = at_then J K h.moment (at_tail J r K at) h.at; later = b.later; is = h.is }) b in
           absurd (let short = at_shorter K h.moment h.at in let long = ap length same in omega (arith, short, long))
+
+  unbegun : (n : ℕ) (r : Record) (K : List Record) → At J (r ∷ K) → Begins g J n (r ∷ K) → start_of (states_of g) n K ≡ None
+  unbegun n r K at b = start_is g n K ∙ ap (λ (o : Option (List Entry)). option_map keys_of o) (not_begun n r K at b)
 
   begun_once : (n : ℕ) (r : Record) (K : List Record) → At J (r ∷ K) → IsNormal (logs_of g) (leader_of g.f n) n (r ∷ K)
       → (start_of (states_of g) n K ≡ None) ⊎ IsNormal (logs_of g) (leader_of g.f n) n K

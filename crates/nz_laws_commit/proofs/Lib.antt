@@ -28,6 +28,7 @@ pub mod Supporting
 pub mod Committing
 pub mod TurnDoes
 pub mod Following
+pub mod Starts
 pub mod Begun
 pub mod Whole
 pub mod CommitPoints

@@ -9,3 +9,4 @@ pub mod Once
 pub mod Example
 pub mod Present
 pub mod Stable
+pub mod Starts

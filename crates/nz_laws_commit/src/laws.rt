@@ -1,6 +1,6 @@
 //! The laws of support, for every run that follows the rules; and that every run of the machine follows them.
 
-ghost use Rattle.std.specs.Prelude.{◌≡◌, ◌≤◌, ◌⊎◌, ℕ, Bool, List, [], ◌∷◌, ◌++◌, length, Some, IsTrue};
+ghost use Rattle.std.specs.Prelude.{◌≡◌, ◌≤◌, ◌<◌, ◌⊎◌, ◌↔◌, ℕ, Bool, List, [], ◌∷◌, ◌++◌, length, Some, IsTrue};
 ghost use Rattle.nz_base.specs.declared.key.Entry.{Entry};
 ghost use Rattle.nz_base.specs.declared.key.Key.{Key};
 ghost use Rattle.nz_base.specs.Moments.{At};
@@ -17,12 +17,14 @@ ghost use Rattle.nz_machine.specs.Replicas.{commands, is_up};
 ghost use Rattle.nz_machine.specs.World.{state_after, World};
 ghost use Rattle.nz_machine.specs.OneHistory.{NoCollision, IsAccepted};
 ghost use Rattle.nz_machine.specs.Leading.{is_normal_in, leader_at, is_led, lead};
+ghost use Rattle.nz_machine.specs.Begun.{start};
 ghost use Rattle.nz_machine.specs.Committed.{IsAcceptedIn, Prefixes};
 ghost use Rattle.nz_laws_commit.specs.Supports.{HadSynced, FastReplied, IsLedAt, Support, InLaterStarts};
 ghost use Rattle.nz_laws_commit.specs.Machines.{GroupStates, machine_of, start_of};
 ghost use Rattle.nz_laws_commit.specs.Does.{FollowsRules};
 ghost use Rattle.nz_laws_commit.specs.Instance.{states_of};
 ghost use Rattle.nz_laws_commit.specs.Present.{AreUpWithin};
+ghost use Rattle.nz_laws_commit.specs.Starts.{IsMergedStart};
 ghost use Rattle.nz_laws_commit.specs.Stable.{Stable, IsComparableWith};
 ghost use Rattle.nz_laws_commit.specs.Example as example;
 
@@ -30,6 +32,19 @@ ghost use Rattle.nz_laws_commit.specs.Example as example;
 /// what was accepted in a view, and of two accepted prefixes one begins with the other.
 pub fn prefixes()
     ensures { (g : Group) (J : List Record) → World g J → NoCollision g J → Prefixes g J }
+{}
+
+/// In every run of the machine a view above 0 starts with the merged log of the reports that it begins from, and with
+/// nothing else; view 0 starts with the empty log.
+pub fn views_start_with_merged_logs()
+    ensures above { (g : Group) (J : List Record) (v : ℕ) (S : List Entry) → World g J → 0 < v
+        → (start g v J ≡ Some S) ↔ IsMergedStart g v S J }
+    ensures zero { (g : Group) (J : List Record) → start g 0 J ≡ Some [] }
+{}
+
+/// In every run of the machine each accepted prefix was accepted in some view.
+pub fn accepted_prefixes_have_views()
+    ensures { (g : Group) (J : List Record) (P : List Entry) → World g J → IsAccepted g P J → (v : ℕ) × IsAcceptedIn g v P J }
 {}
 
 /// In every run of the machine what a replica knew to be committed stays: each view above the replica's last one starts

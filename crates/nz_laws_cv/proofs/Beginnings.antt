@@ -21,6 +21,7 @@ use Rattle.nz_base.specs.Moments.{At}
 use Rattle.nz_laws_cv.specs.Notions.{IsHeldByMany}
 use Rattle.nz_laws_cv.specs.Ground.{IsReport, IsBegin, HasModes, Ground}
 use Rattle.nz_laws_cv.specs.Views.{HasViews}
+use Rattle.nz_laws_cv.specs.Members.{IsReportedTo}
 use Rattle.nz_laws_cv.proofs.Whole.{views}
 use Rattle.nz_laws_cv.proofs.Turns.{TurnState}
 use Rattle.nz_laws_cv.proofs.TurnRules.{up_kinds, normal_up, changing_up, heard_by}
@@ -157,10 +158,17 @@ module _ (g : Group) (J : List Record) (w : ℕ) (r : Record) (K : List Record) 
   leader_low : l < replica_count g.f
   leader_low = omega arith
 
+  pub is_reported : IsReportedTo g w B
+  is_reported = record {
+    exact = of.full;
+    senders = record { choice = record { distinct = of.reports.distinct; below = λ y has. (others_below y has).0 }; others = leader_out };
+    sent = λ x has. has_source (letter x.change.sender l (report_message w x)) B (of.reports.each x has).sent.has;
+  }
+
   member : (y : ℕ) → is_in (map reporter (replica_at g l B).changes) y ≡ true → (Q : List Record) × IsMemberOf g w B y Q
   member y has =
       let t = in_map reporter (replica_at g l B).changes y has in
-      let from = has_source (letter t.item.change.sender l (report_message w t.item)) B (of.reports.each t.item t.has).sent.has in
+      let from = is_reported.sent t.item t.has in
       (from.0, inr (record { report = t.item; used = t.has; sender = t.is; source = from.1 }))
 
   -- the members are different replicas

@@ -16,6 +16,7 @@ use Rattle.nz_machine.specs.Incarnations.{replica_at}
 use Rattle.nz_machine.specs.Leading.{leader_at, is_led}
 use Rattle.nz_machine.specs.Begun.{report_parcel, IsMemberOf}
 use Rattle.nz_machine.proofs.Sources.{has_source, source_is}
+use Rattle.nz_laws_cv.specs.Members.{begun_reports}
 use Rattle.nz_laws_cv.proofs.Turns.{TurnState}
 use Rattle.nz_laws_cv.proofs.TurnRules.{heard_by}
 use Rattle.nz_laws_cv.proofs.Hearing.{hears_fit}
@@ -24,10 +25,6 @@ use Rattle.nz_laws_cv.proofs.Modes.{collects_low}
 use Rattle.nz_laws_cv.proofs.WithinIncarnation.{sound_at}
 use Rattle.nz_laws_cv.proofs.SentShows.{Shows}
 use Rattle.nz_laws_cv.proofs.Beginnings.{normal_in_is, begun_turn, begin_of}
-
--- what the leader's reports are: its own state before the record, and those that it has after it
-abbrev pub begun_reports : Group → ℕ → Record → List Record → List Change
-begun_reports g w r K = own_change (leader_of g.f w) (leader_at g w K) ∷ map (λ (x : Reported). x.change) (leader_at g w (r ∷ K)).changes
 
 -- the leader's log and commit after the record, and its state before
 pub record IsBegunLog (g : Group) (w : ℕ) (r : Record) (K : List Record) : Type 0 where

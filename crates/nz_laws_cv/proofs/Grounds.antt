@@ -2,7 +2,7 @@
 use Rattle.std.proofs.Common.{◌≡◌, ℕ, ◌≤◌, ◌<◌, true, false, List, [], ◌∷◌, length, map, Some, refl, sym, ap, subst, ◌∙◌, inl, inr, ◌⊎◌, arith}
 use Rattle.std.specs.Prelude.{slice_index}
 use Rattle.std.proofs.lemmas.List.{length-map}
-use Rattle.std.proofs.lemmas.Bool.{cases_eq, and_parts, and_from}
+use Rattle.std.proofs.lemmas.Bool.{cases_Bool, cases_eq, and_parts, and_from}
 use Rattle.nz_base.specs.Cluster.{replica_count, leader_of}
 use Rattle.nz_base.specs.declared.actor.Actor.TheVariants.{Replica}
 use Rattle.nz_msg.specs.declared.message.Message.TheVariants as messages
@@ -18,9 +18,11 @@ use Rattle.nz_machine.specs.World.{Has, sent_in, World}
 use Rattle.nz_machine.specs.History.{source}
 use Rattle.nz_machine.specs.Incarnations.{replica_at, incarnation, completes}
 use Rattle.nz_base.specs.Moments.{At}
+use Rattle.nz_math.specs.Count.{is_in}
 use Rattle.nz_laws_cv.specs.Notions.{IsHeldByMany}
 use Rattle.nz_laws_cv.specs.Ground.{IsLater, StaysUp, IsUsed, IsCompletion}
 use Rattle.nz_laws_cv.specs.Ground.{TellsVector}
+use Rattle.nz_laws_cv.specs.Members.{IsAnswered}
 use Rattle.nz_laws_cv.proofs.Turns.{TurnState}
 use Rattle.nz_laws_cv.proofs.TurnRules.{normal_up, heard_by}
 use Rattle.nz_machine.proofs.Runs.{FitsOut}
@@ -268,18 +270,34 @@ module _ (g : Group) (J : List Record) (m : ℕ) (r : Record) (K : List Record) 
       ∙ ap (λ (v : List ℕ). slice_index v x) (told_at b.told T b.used b.from).vector in
       omega (arith, low, left, right)
 
+  -- the sender of an answer is another replica of the group
+  sender_is : (y : ℕ) → is_in (map sender_of (replica_at g m C).rejoin.tells) y ≡ true → (y < replica_count g.f) × (¬ (y ≡ m))
+  sender_is y has =
+      let t = in_map sender_of (replica_at g m C).rejoin.tells y has in
+      let k = tells.each t.item t.has in
+      (subst (λ (z : ℕ). z < replica_count g.f) t.is k.below, subst (λ (z : ℕ). ¬ (z ≡ m)) t.is k.other)
+
+  pub is_answered : IsAnswered g m C
+  is_answered = record {
+    enough = tells.enough in_log;
+    senders = record {
+      choice = record { distinct = tells.distinct; below = λ y has. (sender_is y has).0 };
+      others = elim (cases_Bool (is_in (map sender_of (replica_at g m C).rejoin.tells) m)) [
+        | inl among ↦ absurd ((sender_is m among).1 refl)
+        | inr out ↦ out
+      ];
+    };
+    sent = λ t has. has_source (letter t.sender m (tell_of (nonce_at g m C) t)) C (tells.each t has).sent.has;
+  }
+
   pub answers_are : IsHeldByMany g.f (Uses g m C)
   answers_are = record {
     members = map sender_of (replica_at g m C).rejoin.tells;
-    choice = record {
-      distinct = tells.distinct;
-      below = λ y has. let t =
-          in_map sender_of (replica_at g m C).rejoin.tells y has in subst (λ (z : ℕ). z < replica_count g.f) t.is (tells.each t.item t.has).below;
-    };
-    enough = let long = length-map (replica_at g m C).rejoin.tells sender_of in let many = tells.enough in_log in omega (arith, long, many);
+    choice = is_answered.senders.choice;
+    enough = let long = length-map (replica_at g m C).rejoin.tells sender_of in let many = is_answered.enough in omega (arith, long, many);
     each = λ y has.
         let t = in_map sender_of (replica_at g m C).rejoin.tells y has in
-        let T = has_source (letter t.item.sender m (tell_of (nonce_at g m C) t.item)) C (tells.each t.item t.has).sent.has in
+        let T = is_answered.sent t.item t.has in
         (T.0, record { told = t.item; used = t.has; sender = t.is; from = T.1 });
   }
 

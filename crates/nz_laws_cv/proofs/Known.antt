@@ -13,16 +13,18 @@ use Rattle.nz_machine.specs.Begun.{begins, Views}
 use Rattle.nz_machine.specs.Knowledge.{Knowledge}
 use Rattle.nz_base.specs.Moments.{At}
 use Rattle.nz_laws_cv.specs.Views.{HasViews}
-use Rattle.nz_base.proofs.Moments.{at_order, at_tail, at_self}
+use Rattle.nz_laws_cv.specs.Members.{IsAnswered, KnownSince, IsReportedTo}
+use Rattle.nz_base.proofs.Moments.{at_order, at_shorter, at_tail, at_self}
 use Rattle.nz_laws_cv.proofs.TurnRules.{normal_up}
 use Rattle.nz_machine.proofs.Moments.{at_world}
 use Rattle.nz_laws_cv.proofs.Modes.{up_no_rejoin, rejoin_not_down}
 use Rattle.nz_laws_cv.proofs.WithinIncarnation.{inc_grows, goes_far}
 use Rattle.nz_laws_cv.proofs.SentShows.{Shows}
 use Rattle.nz_laws_cv.proofs.Showing.{shows}
-use Rattle.nz_laws_cv.proofs.ViewNotions.{notions}
-use Rattle.nz_laws_cv.proofs.Grounds.{completing_is}
-use Rattle.nz_laws_cv.proofs.Beginnings.{normal_in_is, is_in_view, views_at}
+use Rattle.nz_laws_cv.proofs.ViewNotions.{Completes, Uses, notions}
+use Rattle.nz_laws_cv.proofs.Knowing.{has_counter}
+use Rattle.nz_laws_cv.proofs.Grounds.{completing_is, is_answered}
+use Rattle.nz_laws_cv.proofs.Beginnings.{normal_in_is, is_in_view, turning_is, is_reported, ground, views_at}
 
 lower_by : (a b : ℕ) → a ≤ b → (a ≡ b → ⊥) → (a < b) ⊎ (a ≡ b) → a < b
 lower_by a b le apart (inl lt) = lt
@@ -115,3 +117,23 @@ views_of g J w h =
 
 pub has_views : (g : Group) (J : List Record) → World g J → HasViews (notions g J) J
 has_views g J w = views_at g J w (shows g J w)
+
+-- in the incarnation that answered the counter stays, and later ones know it
+pub known_since : (g : Group) (J : List Record) → World g J → KnownSince g J
+known_since g J w m C S K t at_c at_k c has from later up =
+    let done : Completes g J m C = record { at = at_c; is = c } in
+    let used : Uses g m C t.sender S = record { told = t; used = has; sender = refl; from = from } in
+    has_counter (notions g J) J (ground g J w (shows g J w)) m t.sender C S K done used at_k up (at_shorter K S later)
+    (λ more. (has_views g J w).know m t.sender C S K done used at_k up more)
+
+pub answered_at : (g : Group) (J C : List Record) (m : ℕ) → World g J → At J C → completes g m C ≡ true → IsAnswered g m C
+answered_at g J C m w at c =
+    let i = completing_is g m C c in
+    let world = at_world g J (i.newest ∷ i.older) w (subst (At J) i.is at) in
+    subst (IsAnswered g m) (sym i.is) (is_answered g J m i.newest i.older world (shows g (i.newest ∷ i.older) world) i.before i.after)
+
+pub reported_to : (g : Group) (J B : List Record) (v : ℕ) → World g J → At J B → 0 < v → begins g v B ≡ true → IsReportedTo g v B
+reported_to g J B v w at later b =
+    let i = turning_is g v B later b in
+    let world = at_world g J (i.newest ∷ i.older) w (subst (At J) i.is at) in
+    subst (IsReportedTo g v) (sym i.is) (is_reported g J v i.newest i.older world (shows g (i.newest ∷ i.older) world) i.led i.not_led)

@@ -4,3 +4,4 @@ pub mod Ground
 pub mod Views
 pub mod Tests
 pub mod Example
+pub mod Members

@@ -7,4 +7,7 @@
 
 mod laws;
 
-pub use laws::{a_run_has_the_ground, knowledge, leaders_do_not_rejoin, views, views_follow};
+pub use laws::{
+    a_run_has_the_ground, begins_are_reported, knowledge, leaders_do_not_rejoin,
+    rejoins_are_answered, views, views_follow,
+};

@@ -11,6 +11,3 @@ pub use clean::first_foul;
 pub use holding::{Tenure, TenureList, tenures};
 pub use laws::{exclusive, histories_are_clean};
 pub use lines::tenure_lines;
-
-#[cfg(test)]
-mod tests;

@@ -19,6 +19,7 @@ pub mod Decoded
 pub mod Does
 pub mod Taking
 pub mod World
+pub mod Steps
 pub mod Events
 pub mod History
 pub mod OneHistory

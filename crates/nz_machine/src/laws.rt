@@ -2,6 +2,7 @@
 ghost use Rattle.std.specs.Prelude.{◌≡◌, ℕ, List, ◌+◌, ◌≤◌, ◌<◌, ◌^◌, ◌==◌, ◌++◌, length, min, IsTrue, IsFalse};
 ghost use Rattle.nz_buffers.specs.Buffers.{released, held_back};
 ghost use Rattle.nz_base.specs.Cluster.{replica_count};
+ghost use Rattle.nz_base.specs.declared.scenario.Scenario.{Scenario};
 ghost use Rattle.nz_base.specs.declared.limits.TheConstants.{MAX_ENTRIES, MAX_CLOCK, MAX_PROXY};
 ghost use Rattle.nz_msg.specs.declared.message.TimedBody.{TimedBody};
 ghost use Rattle.nz_msg.specs.declared.message.LogModBody.{LogModBody};
@@ -36,6 +37,8 @@ ghost use Rattle.nz_machine.specs.Events.{events};
 ghost use Rattle.nz_machine.specs.State.{ReplicaData, Group};
 ghost use Rattle.nz_machine.specs.Tellings.{told_by_run, events_of_told};
 ghost use Rattle.nz_machine.specs.World.{World, sent_in, Has, IsMember};
+ghost use Rattle.nz_machine.specs.Schedule.{group_of, Scheduled, IsPlayable};
+ghost use Rattle.nz_machine.specs.Steps.{AreSteps};
 ghost use Rattle.nz_machine.specs.Facts.{HasFacts};
 ghost use Rattle.nz_machine.specs.Replicas.{first_replica, is_normal};
 ghost use Rattle.nz_machine.specs.Requests.{request_rule};
@@ -119,4 +122,9 @@ pub fn receivers_take_part()
 /// What the records of a run tell is what its clients see.
 pub fn events_are_told()
     ensures { (g : Group) (J : List Record) → World g J → events_of_told g (told_by_run g J) ≡ events g J }
+{}
+
+/// The records of a schedule of the scenario, each with what its actor sends, are a run of the world.
+pub fn scheduled_steps_are_a_run()
+    ensures { (s : Scenario) (J : List Record) → IsPlayable s → Scheduled s J → AreSteps (group_of s) J → World (group_of s) J }
 {}

@@ -46,7 +46,10 @@ pub use event::{Event, Parcel, Record, Sends, SharedParcel};
 pub use frame_kind::kind_of;
 pub use from_cluster::is_from_cluster;
 pub use journal::{Executed, History, Item, ItemList, Journal};
-pub use laws::{due_entries_are_released, events_are_told, facts_are_kept, receivers_take_part};
+pub use laws::{
+    due_entries_are_released, events_are_told, facts_are_kept, receivers_take_part,
+    scheduled_steps_are_a_run,
+};
 pub use outbox::Outbox;
 pub use receiving::heard;
 pub use records::{RecordList, RecordRef, Recording};

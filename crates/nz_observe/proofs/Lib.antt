@@ -1,2 +1,6 @@
 -- The modules of this crate's proofs.
 pub mod Ticks
+pub mod Rising
+pub mod Follows
+pub mod Printing
+pub mod Sights

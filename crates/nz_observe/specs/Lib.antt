@@ -1,2 +1,4 @@
 -- The modules of this crate's definitions.
 pub mod Ticks
+pub mod Observed
+pub mod Following

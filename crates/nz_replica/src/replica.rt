@@ -64,6 +64,12 @@ impl Replica {
         })
     }
 
+    pub fn state(&self) -> &ReplicaState
+        ensures { result.now ≡ self.now.model }
+    {
+        &self.state
+    }
+
     pub fn log(&self) -> &HashedLog
         ensures { result.now ≡ self.now.model.state.log }
     {
@@ -242,6 +248,3 @@ impl Core for Replica {
         self.state.name()
     }
 }
-
-#[cfg(test)]
-mod tests;

@@ -10,7 +10,7 @@ use Rattle.nz_machine.specs.Replicas.{first_replica}
 use Rattle.nz_machine.specs.State.{Group, ReplicaData, State}
 use Rattle.nz_machine.specs.Step.{Node}
 use Rattle.nz_fabric.specs.Records.{steps_of}
-use Rattle.nz_fabric.proofs.Counting.{own_state}
+use Rattle.nz_machine.proofs.OwnStates.{own_state}
 use Rattle.nz_actor.specs.Actings.{IsThere}
 use Rattle.nz_replica.specs.Models.{ReplicaCore, IsCore, AreCores}
 use Rattle.nz_run.specs.Casts.{IsAt, AreAt, replica_node, ReplicaFits}

@@ -6,30 +6,22 @@ use Rattle.std.proofs.lemmas.Option.{none-some}
 use Rattle.nz_base.specs.declared.actor.Actor.{Actor}
 use Rattle.nz_base.specs.declared.scenario.Scenario.{Scenario}
 use Rattle.nz_machine.specs.declared.event.Event.{Event}
-use Rattle.nz_machine.specs.declared.event.Event.TheVariants.{Deliver, Cut, Tick, Alarm, Crash, Restart}
+use Rattle.nz_machine.specs.declared.event.Event.TheVariants.{Restart}
 use Rattle.nz_machine.specs.declared.event.Parcel.{Parcel}
 use Rattle.nz_machine.specs.declared.event.Record.{Record}
 use Rattle.nz_machine.specs.declared.journal.Item.{Item}
 use Rattle.nz_machine.specs.State.{Group}
-use Rattle.nz_machine.specs.World.{sent_in, Has, IsMember, MayHappen, Restarts, World}
+use Rattle.nz_machine.specs.World.{IsMember, World}
 use Rattle.nz_machine.specs.Schedule.{group_of, item_of, due, IsPlayable}
-use Rattle.nz_machine.proofs.EachItem.{all_append, all_imply}
-use Rattle.nz_machine.proofs.Runs.{has_right}
-use Rattle.nz_machine.proofs.ParcelMembers.{receiver_is_member}
+use Rattle.nz_machine.proofs.EachItem.{all_append}
 use Rattle.nz_fabric.specs.declared.turn.Turn.{Turn}
 use Rattle.nz_fabric.specs.States.{State, records_of, IsBegun, IsKeptRun, IsNextTurn, IsQuiet, item_in, with_taken, with_recorded}
 use Rattle.nz_run.specs.declared.cast.Cast.{Cast}
 use Rattle.nz_run.specs.Casts.{record_of, sends_of, IsCast, IsUnderWay}
-use Rattle.nz_run.proofs.Scheduling.{scheduled_in_order}
-use Rattle.nz_run.proofs.DueMayHappen.{IsFine, ItemIsFine, due_is_fine, few_restarts}
-use Rattle.nz_run.proofs.FreshNonces.{got, here_not, finished_not}
-
-sent_before : (now older : List Record) (p : Parcel) → Has (sent_in older) p → Has (sent_in (now ++ older)) p
-sent_before [] older p h = h
-sent_before (r ∷ now) older p h = has_right r.sends (sent_in (now ++ older)) p (sent_before now older p h)
-
-abbrev pub IsNot : ℕ → Record → Type 0
-IsNot nonce r = ¬ (r.event ≡ Restart nonce)
+use Rattle.nz_machine.proofs.Scheduling.{scheduled_in_order}
+use Rattle.nz_machine.proofs.DueMayHappen.{IsFine, ItemIsFine, due_is_fine}
+use Rattle.nz_machine.proofs.FreshNonces.{got, here_not, finished_not}
+use Rattle.nz_machine.proofs.MayTurn.{IsNot, MayTurn, may_turn}
 
 -- the item may happen in its tick, and no record has its nonce
 record IsTurn (s : Scenario) (tick : ℕ) (finished here : List Record) (i : Item) : Type 0 where
@@ -50,31 +42,6 @@ is_turn s (suc tick) finished here items i play (order, are_due) so_far at =
           all_append (IsNot nonce) here finished (here_not s (suc tick) finished here i nonce (so_far ∙ ap (take (length here)) are_due) now is)
           (finished_not s tick nonce finished play (scheduled_in_order s tick finished order) (subst (IsFine s (suc tick) finished i.actor) is fine).1);
     }
-
--- who acts takes part, and the event may happen
-pub record MayTurn (s : Scenario) (J : List Record) (a : Actor) (e : Event) : Type 0 where
-  pub member : IsMember (group_of s) a
-  pub event : MayHappen J a e
-
-pub may_turn : (s : Scenario) (tick : ℕ) (finished here : List Record) (a : Actor) (e : Event) → IsPlayable s
-    → World (group_of s) (here ++ finished) → IsFine s tick finished a e
-    → ((nonce : ℕ) → e ≡ Restart nonce → AllByRecursion (IsNot nonce) (here ++ finished)) → MayTurn s (here ++ finished) a e
-may_turn s tick finished here a (Deliver p) play w fine fresh =
-    let sent = sent_before here finished p fine.1 in
-    record { member = subst (IsMember (group_of s)) fine.0 (receiver_is_member (group_of s) (here ++ finished) p w sent); event = (fine.0, sent) }
-may_turn s tick finished here a (Cut p kept) play w fine fresh =
-    let sent = sent_before here finished p fine.1 in
-    record { member = subst (IsMember (group_of s)) fine.0 (receiver_is_member (group_of s) (here ++ finished) p w sent); event = (fine.0, sent) }
-may_turn s tick finished here a (Tick clock) play w fine fresh = record { member = fine.0; event = fine.1 }
-may_turn s tick finished here a Alarm play w fine fresh = record { member = fine; event = tt }
-may_turn s tick finished here a Crash play w fine fresh = record { member = fine; event = tt }
-may_turn s tick finished here a (Restart nonce) play w fine fresh = record {
-  member = fine.0;
-  event = (
-    few_restarts s nonce tick play fine.1,
-    all_imply (IsNot nonce) (λ (r : Record). ¬ Restarts a nonce r) (λ r h both. h both.1) (here ++ finished) (fresh nonce refl),
-  );
-}
 
 pub next_may_turn : (f : State) (turn : Turn) → IsKeptRun f → World (group_of f.scenario) (records_of f)
     → IsNextTurn f turn → MayTurn f.scenario (records_of f) turn.actor turn.event

@@ -14,5 +14,6 @@ pub mod Blocks
 pub mod Mishaps
 pub mod RoundTrip
 pub mod ReadIsPlayable
+pub mod DrawnTexts
 pub mod Generated
 pub mod Asking

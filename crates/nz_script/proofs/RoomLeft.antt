@@ -25,7 +25,7 @@ room-some room a b r e = grind (arith, e)
 abbrev pub left : ℕ → List Line → Option ℕ
 left room lines = room_after room (length (text_of_lines lines))
 
-size-append : (a b : List Line) → length (text_of_lines (a ++ b)) ≡ length (text_of_lines a) + length (text_of_lines b)
+pub size-append : (a b : List Line) → length (text_of_lines (a ++ b)) ≡ length (text_of_lines a) + length (text_of_lines b)
 size-append a b = ap length (text-append a b) ∙ length-append (text_of_lines a) (text_of_lines b)
 
 pub some_left : (room r : ℕ) (a rest : List Line) → left room a ≡ Some r → left r rest ≡ left room (a ++ rest)

@@ -22,3 +22,9 @@ pub fn what_is_read_can_be_run()
 pub fn what_is_drawn_can_be_run()
     ensures { (seed count : ℕ) → count ≤ MAX_REQUESTS → IsRunnable (scenario_of_seed seed count) }
 {}
+
+/// The text of what a seed draws is read as what was drawn.
+pub fn what_is_drawn_can_be_read()
+    ensures valid { (seed count : ℕ) → count ≤ MAX_REQUESTS → IsValid (scenario_of_seed seed count) }
+    ensures read_back { (seed count : ℕ) → count ≤ MAX_REQUESTS → scenario (text_of (scenario_of_seed seed count)) ≡ Ok (scenario_of_seed seed count) }
+{}

@@ -26,7 +26,10 @@ mod word;
 pub use commands::command_first;
 pub use faults::{Kind, ScriptFault};
 pub use generating::generate;
-pub use laws::{texts_are_read_back, what_is_drawn_can_be_run, what_is_read_can_be_run};
+pub use laws::{
+    texts_are_read_back, what_is_drawn_can_be_read, what_is_drawn_can_be_run,
+    what_is_read_can_be_run,
+};
 pub use message::name_of;
 pub use pieces::{cut_at, number_of};
 pub use printing::{print, put, put_actor, put_command, put_number};

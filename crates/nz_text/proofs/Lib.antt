@@ -1,5 +1,6 @@
 -- The modules of this crate's proofs.
 mod Events
+mod LongLines
 mod Opens
 mod Pieces
 mod TextLinesLeft

@@ -22,6 +22,3 @@ pub use run_events::add_events;
 pub use summaries::summary;
 pub use texts::text;
 pub use traces::{put_what, trace};
-
-#[cfg(test)]
-mod tests;

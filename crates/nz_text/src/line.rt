@@ -1,19 +1,26 @@
 //! What a line of a text says, by its words.
-ghost use Rattle.std.specs.Prelude.{◌≡◌, map, IfOk, Some, None};
+ghost use Rattle.std.specs.Prelude.{◌≡◌, ◌<◌, length, map, IfOk, IfSome, IfNone, Some, None};
 ghost use Rattle.std.specs.Option.{option_map};
 ghost use Rattle.nz_store.specs.Grammar.{IsValidCommand, spelling};
 ghost use Rattle.nz_text.specs.Reading as reading;
 ghost use Rattle.nz_text.specs.Reading.{pieces_in, number_in_digits, client_in, id_of_words, alone, send_of, accept_of, answer_in_words};
 ghost use Rattle.nz_text.specs.Reading.{send_in_words, accept_in_words, open_in_words, at_in_words, line_in_words};
 ghost use Rattle.nz_text.specs.declared.line.Line.TheVariants as line;
+ghost use Rattle.nz_text.specs.declared.line.TheConstants.{MAX_WORDS};
 
 use super::printed::Event;
+use arrayvec::ArrayVec;
 use nz_base::{Blob, Id, NoMemory};
 use nz_machine::Executed;
 use nz_msg::Path;
 use nz_script::{command_first, cut_at, number_of};
 use nz_store::{Answer, Blob as Value, Command, is_value, write_command};
 use std::alloc::Global;
+
+/// No line of a text has more words.
+const MAX_WORDS: usize = 11;
+
+type WordList<'a> = ArrayVec<&'a [u8], MAX_WORDS>;
 
 /// A line of a text.
 #[derive(Drop)]
@@ -25,18 +32,25 @@ pub enum Line {
     End,
 }
 
-/// What is between the spaces of the line.
-fn pieces<'a>(alloc: Global, line: &'a [u8]) -> Result<Vec<&'a [u8]>, NoMemory>
-    ensures { IfOk result (λ pieces. map (λ p. p.now) pieces.items ≡ pieces_in line.now) }
+/// What is between the spaces of the line, unless it is more than any line of a text has.
+fn pieces<'a>(line: &'a [u8]) -> Option<WordList<'a>>
+    ensures all { IfSome result (λ words. map (λ w. w.now) words.items ≡ pieces_in line.now) }
+    ensures many { IfNone result (MAX_WORDS < length (pieces_in line.now)) }
 {
-    let mut pieces = Vec::new(alloc);
+    let mut words = WordList::new();
     let mut rest = line;
-    while let Some((piece, later)) = cut_at(rest, b' ') {
-        pieces.push(piece)?;
+    while let Some((word, later)) = cut_at(rest, b' ') {
+        if words.is_full() {
+            return None;
+        }
+        words.push(word);
         rest = later;
     }
-    pieces.push(rest)?;
-    Ok(pieces)
+    if words.is_full() {
+        return None;
+    }
+    words.push(rest);
+    Some(words)
 }
 
 fn number(word: &[u8]) -> Option<u32>
@@ -296,9 +310,12 @@ fn line_of_words(alloc: Global, words: &[&[u8]]) -> Result<Option<Line>, NoMemor
 }
 
 /// What the bytes say as a line, without its newline.
+#[tactic(auto, using(crate::proofs::LongLines::many_words))]
 pub fn line_of(alloc: Global, bytes: &[u8]) -> Result<Option<Line>, NoMemory>
     ensures { IfOk result (λ line. line ≡ line_in_words (pieces_in bytes.now)) }
 {
-    let words = pieces(alloc, bytes)?;
-    line_of_words(alloc, &words)
+    match pieces(bytes) {
+        None => Ok(None),
+        Some(words) => line_of_words(alloc, words.as_slice()),
+    }
 }

@@ -1,7 +1,7 @@
 -- The input is what was read.
 use Rattle.std.proofs.Common.{◌≡◌, ◌≢◌, ◌<◌, ◌≤◌, ◌⊎◌, inl, inr, ℕ, List, [], ◌++◌, length, Option, Some, Result, refl}
 use Rattle.std.proofs.Common.{None, Ok, Err, sym, ap, subst, ◌∙◌, arith, append-nil, take_all}
-use Rattle.std.specs.Prelude.{IfSome}
+use Rattle.std.specs.Prelude.{IfSome, take}
 use Rattle.std.proofs.lemmas.List.{take_at}
 use Rattle.std.proofs.lemmas.Bool.{cases_lt}
 use Rattle.std.proofs.lemmas.Option.{none-some, same_Some}
@@ -15,7 +15,7 @@ use Rattle.nz_script.specs.declared.faults.Kind.{Kind}
 use Rattle.nz_script.specs.declared.faults.ScriptFault.{ScriptFault}
 use Rattle.nz_script.specs.declared.faults.ScriptFault.TheVariants.{Refusal, NoMemory}
 use Rattle.nz_script.specs.Reading.{scenario}
-use Rattle.nz_top.specs.Moves.{most_input, input}
+use Rattle.nz_top.specs.Moves.{input}
 use Rattle.nz_top.specs.declared.reports.Report.{Report}
 use Rattle.nz_top.specs.declared.reports.Report.TheVariants.{Summary, Locks}
 use Rattle.nz_top.specs.declared.words.Command.{Command}
@@ -29,19 +29,19 @@ use Rattle.nz_top.specs.Reports.{Admits}
 use Rattle.nz_top.specs.Words.{IsInRange, IsReportOf, play_of}
 use Rattle.nz_top.specs.Calls.{CanPlay, Explains, Gives, HasFoul, HasScenario, IsInput, ReadsAs, RefusedAt, TellsBadLine, TellsWhy, WritesLine, refusal_line}
 
-at_end : (bytes rest : List ℕ) → length bytes ≤ most_input → (length bytes < most_input → rest ≡ []) → bytes ≡ input (bytes ++ rest)
-at_end bytes rest most end = go (cases_lt (length bytes) most_input)
+at_end : (most : ℕ) (bytes rest : List ℕ) → length bytes ≤ most → (length bytes < most → rest ≡ []) → bytes ≡ take most (bytes ++ rest)
+at_end most bytes rest few end = go (cases_lt (length bytes) most)
   where
-    go : (length bytes < most_input) ⊎ (most_input ≤ length bytes) → bytes ≡ input (bytes ++ rest)
-    go (inl less) = sym (ap (λ (r : List ℕ). input (bytes ++ r)) (end less) ∙ ap input (append-nil bytes) ∙ take_all most_input bytes most)
-    go (inr more) = sym (take_at bytes rest most_input (omega (arith, most, more)))
+    go : (length bytes < most) ⊎ (most ≤ length bytes) → bytes ≡ take most (bytes ++ rest)
+    go (inl less) = sym (ap (λ (r : List ℕ). take most (bytes ++ r)) (end less) ∙ ap (take most) (append-nil bytes) ∙ take_all most bytes few)
+    go (inr more) = sym (take_at bytes rest most (omega (arith, few, more)))
 
-pub read_is_input : (before after : Option (List ℕ)) (bytes : List ℕ) → Loses before after bytes → length bytes ≤ most_input
-    → (length bytes < most_input → IfSome after (λ rest. rest ≡ [])) → IfSome before (λ all. bytes ≡ input all)
-read_is_input None after bytes lost most end = tt
-read_is_input (Some all) None bytes lost most end = absurd (none-some all (sym lost))
-read_is_input (Some all) (Some rest) bytes lost most end =
-    at_end bytes rest most end ∙ ap input (sym (same_Some _ _ lost))
+pub read_is_input : (most : ℕ) (before after : Option (List ℕ)) (bytes : List ℕ) → Loses before after bytes → length bytes ≤ most
+    → (length bytes < most → IfSome after (λ rest. rest ≡ [])) → IfSome before (λ all. bytes ≡ take most all)
+read_is_input most None after bytes lost few end = tt
+read_is_input most (Some all) None bytes lost few end = absurd (none-some all (sym lost))
+read_is_input most (Some all) (Some rest) bytes lost few end =
+    at_end most bytes rest few end ∙ ap (take most) (sym (same_Some _ _ lost))
 
 pub found_is_input : (before : Option (List ℕ)) (bytes : List ℕ) (s : Scenario)
     → IfSome before (λ all. bytes ≡ input all) → scenario bytes ≡ Ok s → ReadsAs before s
@@ -121,7 +121,7 @@ found_foul play left s id range given foul =
 
 -- ---- what is reported
 
-pub bad_line_why : (o : Option Command) (command : Command) (left before after : Option (List ℕ)) (counted counts : ℕ) → Some command ≡ o
+pub bad_line_why : (o : Option Command) (play : Play) (left before after : Option (List ℕ)) (counted counts : ℕ) → Some (commands.Play play) ≡ o
     → TellsBadLine left before after counted counts → TellsWhy (play_of o) left before after counted counts
-bad_line_why o (commands.Play play) left before after counted counts is h =
+bad_line_why o play left before after counted counts is h =
     subst (λ (p : Option Command). TellsWhy (play_of p) left before after counted counts) is (inl h)

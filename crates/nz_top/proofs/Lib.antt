@@ -1,6 +1,6 @@
 -- The modules of this crate's proofs.
+mod Checks
 mod Inputs
 mod Excluded
 pub mod Playable
-pub mod Answers
-pub mod TextsOfRuns
+pub mod Pace

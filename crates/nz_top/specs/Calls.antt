@@ -10,6 +10,7 @@ use Rattle.nz_script.specs.declared.faults.Kind.TheVariants.{Syntax, Order, Name
 use Rattle.nz_script.specs.declared.faults.ScriptFault.TheVariants.{Refusal}
 use Rattle.nz_script.specs.Draws.{scenario_of_seed}
 use Rattle.nz_script.specs.Reading.{scenario}
+use Rattle.nz_script.specs.Texts.{text_of}
 use Rattle.nz_machine.specs.declared.journal.Journal.{Journal}
 use Rattle.nz_locks.specs.Clean.{IsClean, IsFirstFoul}
 use Rattle.nz_locks.specs.Exclusive.{HasOneHolder, AreInTurn}
@@ -19,17 +20,22 @@ use Rattle.nz_machine.specs.OneHistory.{NoCollision}
 use Rattle.nz_machine.specs.Journals.{group_in, run_in}
 use Rattle.nz_machine.specs.Schedule.{Scheduled}
 use Rattle.nz_machine.specs.World.{World}
+use Rattle.nz_quiet.specs.Quiet.{IsQuiet, IsPrompt, timed_events}
 use Rattle.nz_top.specs.declared.status.Status.{Status}
-use Rattle.nz_top.specs.declared.status.Status.TheVariants.{Done, Usage, BadScenario, ReadFault, WriteFault, NoMemory}
+use Rattle.nz_top.specs.declared.status.Status.TheVariants.{Done, Usage, BadScenario, ReadFault, WriteFault, NoMemory, Rejected}
 use Rattle.nz_top.specs.declared.playing.NoScenario.{NoScenario}
 use Rattle.nz_top.specs.declared.playing.NoScenario.TheVariants as no_scenario
 use Rattle.nz_top.specs.declared.words.Origin.{Origin}
 use Rattle.nz_top.specs.declared.words.Origin.TheVariants.{Input, Seed}
+use Rattle.nz_top.specs.declared.words.Command.{Command}
+use Rattle.nz_top.specs.declared.words.Command.TheVariants as commands
 use Rattle.nz_top.specs.declared.words.Play.{Play}
+use Rattle.nz_top.specs.Help.{help_lines}
 use Rattle.nz_top.specs.Moves.{input, TakesPrefix}
 use Rattle.nz_top.specs.declared.reports.Report.{Report}
 use Rattle.nz_top.specs.declared.reports.Report.TheVariants.{Locks}
 use Rattle.nz_top.specs.Reports.{printed_by, Admits}
+use Rattle.nz_top.specs.Words.{play_of}
 
 -- The source exposes its bytes, and those that are looked at are the text of this scenario.
 abbrev pub ReadsAs : Option (List ℕ) → Scenario → Type 0
@@ -73,6 +79,11 @@ IsInput (Seed seed count) = ⊥
 abbrev pub Reads : Option Play → Type 0
 Reads None = ⊥
 Reads (Some play) = IsInput play.origin
+
+-- The call reads the source.
+abbrev pub ReadsSource : Option Command → Type 0
+ReadsSource (Some commands.Check) = Unit {0}
+ReadsSource command = Reads (play_of command)
 
 -- There is a scenario that the report admits, and nothing keeps it from being read. The summary admits each that is drawn.
 abbrev pub HasScenario : Origin → Report → Option (List ℕ) → ℕ → ℕ → Type 0
@@ -153,6 +164,25 @@ abbrev pub output_of : Option Play → Journal → List ℕ
 output_of None j = []
 output_of (Some play) j = printed_by play.report j
 
+-- What a command prints whose words alone decide it: it reads nothing and plays nothing.
+abbrev pub fixed_output : Option Command → Option (List ℕ)
+fixed_output (Some (commands.Scenario seed count)) = Some (text_of (scenario_of_seed seed count))
+fixed_output (Some commands.Help) = Some help_lines
+fixed_output _ = None
+
+-- The bytes are written whole, or a prefix of them where the sink counted a fault, or nothing for want of memory.
+abbrev pub IsWritten : List ℕ → Status → Option (List ℕ) → Option (List ℕ) → ℕ → ℕ → Type 0
+IsWritten bytes Done before after counted counts = Gains before after bytes
+IsWritten bytes WriteFault before after counted counts = Rose counted counts × TakesPrefix before after bytes
+IsWritten bytes NoMemory before after counted counts = after ≡ before
+IsWritten bytes _ before after counted counts = ⊥
+
+-- The command takes memory: each does but `help`.
+abbrev pub TakesMemory : Option Command → Type 0
+TakesMemory None = ⊥
+TakesMemory (Some commands.Help) = ⊥
+TakesMemory (Some _) = Unit {0}
+
 -- The codes that the program ends with.
 abbrev pub code_of : Status → ℕ
 code_of Done = 0
@@ -161,8 +191,9 @@ code_of BadScenario = 2
 code_of ReadFault = 3
 code_of WriteFault = 4
 code_of NoMemory = 6
+code_of Rejected = 7
 
--- A run that was played comes back, also where it could not be written; no other call has one.
+-- A run that was played comes back, also where it could not be written.
 abbrev pub HasRun : Status → Option Journal → Type 0
 HasRun Done journal = IsSome journal
 HasRun WriteFault journal = IsSome journal
@@ -170,6 +201,12 @@ HasRun Usage journal = IsNone journal
 HasRun BadScenario journal = IsNone journal
 HasRun ReadFault journal = IsNone journal
 HasRun NoMemory journal = Unit {0}
+HasRun Rejected journal = IsNone journal
+
+-- The run of a call: there is none where nothing is played.
+abbrev pub HasRunOf : Option Play → Status → Option Journal → Type 0
+HasRunOf None status journal = IsNone journal
+HasRunOf (Some play) status journal = HasRun status journal
 
 -- How a call ends once its scenario is read.
 abbrev pub IsPlayed : Status → Type 0
@@ -182,6 +219,11 @@ IsPlayed _ = ⊥
 pub record IsRun (j : Journal) : Type 0 where
   pub world : World (group_in j) (run_in j)
   pub scheduled : Scheduled j.scenario (run_in j)
+
+-- Where the scenario is quiet, each request that is sent 14 ticks before the last or earlier is accepted on the fast path
+-- after 5 or 14 ticks.
+abbrev pub HasPace : Journal → Type 0
+HasPace j = IsQuiet j.scenario → IsPrompt j.scenario.ticks (timed_events (group_in j) (run_in j))
 
 -- The run's history has no foul command, at each place at most one client holds a lock, and an acquire that was accepted
 -- is over before a later one takes the lock.

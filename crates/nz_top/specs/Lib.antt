@@ -1,5 +1,7 @@
 -- The modules of this crate's definitions.
 pub mod Moves
+pub mod Help
 pub mod Words
 pub mod Reports
 pub mod Calls
+pub mod Checking

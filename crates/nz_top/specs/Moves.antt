@@ -1,15 +1,16 @@
 -- Bytes that are moved out of a source or into a sink.
 use Rattle.std.specs.Prelude.{ℕ, ◌≡◌, ◌+◌, List, ◌++◌, length, take, Option}
 use Rattle.nz_base.specs.declared.limits.TheConstants.{MAX_TEXT}
+use Rattle.nz_check.specs.declared.limit.TheConstants.{MAX_PRINTED}
 use Rattle.nz_edge.specs.Exposed.{Loses, Gains}
 
--- An input is looked at up to this many bytes, one more than a scenario may have.
-abbrev pub most_input : ℕ
-most_input = MAX_TEXT + 1
-
--- What is looked at of the bytes that a source has.
+-- What is looked at of the bytes that a source has, where they are to be a scenario: one more than it may have.
 abbrev pub input : List ℕ → List ℕ
-input bytes = take most_input bytes
+input bytes = take (MAX_TEXT + 1) bytes
+
+-- The same where they are to be a text.
+abbrev pub text_input : List ℕ → List ℕ
+text_input bytes = take (MAX_PRINTED + 1) bytes
 
 -- What the source gave was put after the bytes that were there.
 pub record Moved (before after : Option (List ℕ)) (old new : List ℕ) (count : ℕ) : Type 0 where

@@ -19,8 +19,13 @@ abbrev pub verb_of_word : List ℕ → Option Verb
 verb_of_word word =
     if bytes_eq word (codes "run") then Some (verbs.Show reports.Text)
     else (if bytes_eq word (codes "trace") then Some (verbs.Show reports.Trace)
+    else (if bytes_eq word (codes "story") then Some (verbs.Show reports.Story)
     else (if bytes_eq word (codes "locks") then Some (verbs.Show reports.Locks)
-    else (if bytes_eq word (codes "gen") then Some verbs.Gen else None)))
+    else (if bytes_eq word (codes "pace") then Some verbs.Pace
+    else (if bytes_eq word (codes "gen") then Some verbs.Gen
+    else (if bytes_eq word (codes "scenario") then Some verbs.Scenario
+    else (if bytes_eq word (codes "check") then Some verbs.Check
+    else (if bytes_eq word (codes "help") then Some verbs.Help else None))))))))
 
 -- The number, where it is from 1 to this.
 abbrev pub up_to : ℕ → Option ℕ → Option ℕ
@@ -57,22 +62,35 @@ gen_command (Some seed) (Some count) =
     Some (commands.Play (record { origin = origins.Seed seed count; workers = 1; report = reports.Summary }))
 gen_command _ _ = None
 
+-- The scenario that the seed draws, with this many requests, is printed.
+abbrev pub scenario_command : Option ℕ → Option ℕ → Option Command
+scenario_command (Some seed) (Some count) = Some (commands.Scenario seed count)
+scenario_command _ _ = None
+
 -- The command of a first word and the words after it.
 abbrev pub command_after : Option Verb → List (List ℕ) → Option Command
 command_after None rest = None
 command_after (Some (verbs.Show report)) rest = show_command report (workers_of_words rest)
+command_after (Some verbs.Pace) [] = show_command reports.Pace (Some 1)
+command_after (Some verbs.Pace) _ = None
 command_after (Some verbs.Gen) (seed ∷ count ∷ []) = gen_command (number_of seed) (count_in count)
 command_after (Some verbs.Gen) _ = None
+command_after (Some verbs.Scenario) (seed ∷ count ∷ []) = scenario_command (number_of seed) (count_in count)
+command_after (Some verbs.Scenario) _ = None
+command_after (Some verbs.Check) [] = Some commands.Check
+command_after (Some verbs.Check) _ = None
+command_after (Some verbs.Help) [] = Some commands.Help
+command_after (Some verbs.Help) _ = None
 
 -- The command that the words call. The first word decides what the others may be.
 abbrev pub command_of_words : List (List ℕ) → Option Command
 command_of_words [] = None
 command_of_words (word ∷ rest) = command_after (verb_of_word word) rest
 
--- What a command plays.
+-- What a command plays, if it plays something.
 abbrev pub play_of : Option Command → Option Play
-play_of None = None
 play_of (Some (commands.Play play)) = Some play
+play_of _ = None
 
 -- What the words have played.
 abbrev pub play_of_words : List (List ℕ) → Option Play
@@ -98,6 +116,14 @@ pub record IsInRange (play : Play) : Type 0 where
 -- What words can call.
 abbrev pub IsCalled : Command → Type 0
 IsCalled (commands.Play play) = IsInRange play
+IsCalled (commands.Scenario seed count) = IsDrawable (origins.Seed seed count)
+IsCalled commands.Check = Unit {0}
+IsCalled commands.Help = Unit {0}
+
+-- A text is judged.
+abbrev pub IsCheck : Option Command → Type 0
+IsCheck (Some commands.Check) = Unit {0}
+IsCheck _ = ⊥
 
 -- One worker plays it.
 abbrev pub IsAlone : Option Play → Type 0

@@ -2,15 +2,12 @@
 ghost use Rattle.std.specs.Prelude.{◌≡◌, ◌<◌, ◌≤◌, ◌+◌, [], length, vec_len, IfOk, IfSome, Err};
 ghost use Rattle.nz_edge.specs.Faults.{Rose};
 ghost use Rattle.nz_edge.specs.Exposed.{Loses};
-ghost use Rattle.nz_top.specs.Moves.{most_input, Moved};
+ghost use Rattle.nz_top.specs.Moves.{Moved};
 ghost use Rattle.nz_top.specs.declared.input.Stop.TheVariants as stops;
 
-use nz_base::MAX_TEXT;
 use nz_edge::Source;
 use std::alloc::Global;
 
-/// An input is looked at up to this many bytes, one more than a scenario may have.
-const MAX_INPUT: usize = MAX_TEXT + 1;
 /// How much is asked of the source at a time.
 const PIECE: usize = 4_096;
 
@@ -46,17 +43,22 @@ fn read_piece<S: Source>(
 }
 
 /// Reads piece by piece. Each turn of the loop takes at least one byte, or is the last.
-fn read_pieces<S: Source>(alloc: Global, source: &mut S, piece: &mut [u8]) -> Result<Vec<u8>, Stop>
+fn read_pieces<S: Source>(
+    alloc: Global,
+    source: &mut S,
+    most: usize,
+    piece: &mut [u8],
+) -> Result<Vec<u8>, Stop>
     requires { 0 < length piece.old }
     ensures lost { IfOk result (λ bytes. Loses (S.left source.old) (S.left source.new) bytes.items) }
-    ensures most { IfOk result (λ bytes. length bytes.items ≤ most_input) }
-    ensures end { IfOk result (λ bytes. length bytes.items < most_input → IfSome (S.left source.new) (λ rest. rest ≡ [])) }
+    ensures most { IfOk result (λ bytes. length bytes.items ≤ most) }
+    ensures end { IfOk result (λ bytes. length bytes.items < most → IfSome (S.left source.new) (λ rest. rest ≡ [])) }
     ensures fault { result ≡ Err stops.Fault → Rose (S.faults source.old) (S.faults source.new) }
     ensures counts { S.faults source.old ≤ S.faults source.new }
 {
     let mut bytes = Vec::new(alloc);
-    while bytes.len() < MAX_INPUT {
-        let room = (MAX_INPUT - bytes.len()).min(piece.len());
+    while bytes.len() < most {
+        let room = (most - bytes.len()).min(piece.len());
         match read_piece(source, &mut piece[..room], &mut bytes) {
             Err(stop) => return Err(stop),
             Ok(0) => return Ok(bytes),
@@ -66,14 +68,14 @@ fn read_pieces<S: Source>(alloc: Global, source: &mut S, piece: &mut [u8]) -> Re
     Ok(bytes)
 }
 
-/// Reads to the end of the input, or until there are as many bytes as are looked at.
-pub fn read_input<S: Source>(alloc: Global, source: &mut S) -> Result<Vec<u8>, Stop>
+/// Reads to the end of the input, or until there are so many bytes.
+pub fn read_input<S: Source>(alloc: Global, source: &mut S, most: usize) -> Result<Vec<u8>, Stop>
     ensures lost { IfOk result (λ bytes. Loses (S.left source.old) (S.left source.new) bytes.items) }
-    ensures most { IfOk result (λ bytes. length bytes.items ≤ most_input) }
-    ensures end { IfOk result (λ bytes. length bytes.items < most_input → IfSome (S.left source.new) (λ rest. rest ≡ [])) }
+    ensures most { IfOk result (λ bytes. length bytes.items ≤ most) }
+    ensures end { IfOk result (λ bytes. length bytes.items < most → IfSome (S.left source.new) (λ rest. rest ≡ [])) }
     ensures fault { result ≡ Err stops.Fault → Rose (S.faults source.old) (S.faults source.new) }
     ensures counts { S.faults source.old ≤ S.faults source.new }
 {
     let mut piece = [0; PIECE];
-    read_pieces(alloc, source, &mut piece)
+    read_pieces(alloc, source, most, &mut piece)
 }

@@ -1,8 +1,10 @@
 //! The top call of the program.
 #![tactic(auto)]
 
+mod checking;
+mod fixed;
+mod help;
 mod input;
-mod laws;
 mod output;
 mod playing;
 mod refusal;
@@ -11,7 +13,7 @@ mod status;
 mod top;
 mod words;
 
-pub use laws::texts_of_runs_are_read_back;
+pub use help::help_lines;
 pub use reports::Report;
 pub use status::{Outcome, Status};
 pub use top::nezha;

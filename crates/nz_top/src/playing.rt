@@ -8,7 +8,7 @@ ghost use Rattle.nz_replica.specs.Models.{AreCores};
 ghost use Rattle.nz_top.specs.declared.status.Status.TheVariants as status;
 ghost use Rattle.nz_top.specs.declared.words.Play.{Play as PlayModel};
 ghost use Rattle.nz_top.specs.declared.playing.NoScenario.TheVariants as whys;
-ghost use Rattle.nz_top.specs.Calls.{CanPlay, Explains, Gives, HasRead, HasRun, IsInput, IsPlayed, IsRun, ReadsAs};
+ghost use Rattle.nz_top.specs.Calls.{CanPlay, Explains, Gives, HasPace, HasRead, HasRun, IsInput, IsPlayed, IsRun, ReadsAs};
 ghost use Rattle.nz_top.specs.Moves.{TakesPrefix};
 ghost use Rattle.nz_top.specs.Reports.{printed_by, Admits};
 ghost use Rattle.nz_top.specs.Words.{IsDrawable, IsInRange};
@@ -17,7 +17,7 @@ use crate::input::{Stop, read_input};
 use crate::output::write_all;
 use crate::status::{Outcome, Status};
 use crate::words::{Origin, Play};
-use nz_base::{Id, Scenario};
+use nz_base::{Id, MAX_TEXT, Scenario};
 use nz_edge::{Gate, Sink, Source};
 use nz_machine::Journal;
 use nz_run::{Played, run};
@@ -25,6 +25,9 @@ use nz_script::{Kind, ScriptFault, generate, read};
 use std::alloc::Global;
 use std::sync::Wait;
 use std::thread::Threads;
+
+/// An input is looked at up to this many bytes, one more than a scenario may have.
+const MAX_INPUT: usize = MAX_TEXT + 1;
 
 /// Why there is no scenario.
 #[derive(Clone, Copy, Debug)]
@@ -47,7 +50,7 @@ fn scenario_of<S: Source>(alloc: Global, source: &mut S) -> Result<Scenario, NoS
         → IfErr result (Explains play (S.left source.old) (S.faults source.old) (S.faults source.new)) }
     ensures counts { S.faults source.old ≤ S.faults source.new }
 {
-    let bytes = match read_input(alloc, source) {
+    let bytes = match read_input(alloc, source, MAX_INPUT) {
         Ok(bytes) => bytes,
         Err(Stop::Fault) => return Err(NoScenario::Fault),
         Err(Stop::NoMemory) => return Err(NoScenario::NoMemory),
@@ -144,6 +147,7 @@ pub fn answer<O: Sink, R: Threads + Wait + Sync, G: Gate + Sync>(
     ensures scenario { IfSome result.journal (λ journal. journal.scenario ≡ scenario.now) }
     ensures is_run { IfSome result.journal IsRun }
     ensures in_order { play.workers ≡ 1 → IfSome result.journal (λ journal. InOrder journal.scenario (run_in journal)) }
+    ensures pace { play.workers ≡ 1 → IfSome result.journal HasPace }
     ensures text { result.status ≡ status.Done → IfSome result.journal (λ journal. Gains (O.taken out.old) (O.taken out.new) (printed_by play.report journal)) }
     ensures prefix { IfSome result.journal (λ journal. TakesPrefix (O.taken out.old) (O.taken out.new) (printed_by play.report journal)) }
     ensures counts { O.faults out.old ≤ O.faults out.new }

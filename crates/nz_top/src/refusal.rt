@@ -11,7 +11,7 @@ use nz_edge::Sink;
 use nz_script::Kind;
 
 /// No line is longer: the words, and numbers of ten digits.
-const LONGEST: usize = 36;
+pub const LONGEST: usize = 36;
 
 fn kind_name(kind: Kind) -> &'static str
     ensures { result.now ≡ calls.kind_name kind }

@@ -1,7 +1,9 @@
 //! What is reported of a run.
 ghost use Rattle.std.specs.Prelude.{◌≡◌, ◌++◌, IfOk, IfSome, IfNone, codes};
 ghost use Rattle.nz_machine.specs.Journals.{group_in, run_in};
+ghost use Rattle.nz_machine.specs.World.{World};
 ghost use Rattle.nz_replica.specs.Models.{AreCores};
+ghost use Rattle.nz_story.specs.Story as stories;
 ghost use Rattle.nz_top.specs.Calls.{IsRun};
 ghost use Rattle.nz_locks.specs.Clean.{IsFirstFoul};
 ghost use Rattle.nz_top.specs.declared.reports.Report.TheVariants as reports;
@@ -11,7 +13,9 @@ use nz_audit::history_of;
 use nz_base::{Blob, Id, NoMemory, Scenario};
 use nz_locks::{first_foul, tenure_lines};
 use nz_machine::{Journal, told_in};
+use nz_quiet::put_pace;
 use nz_replica::Replica;
+use nz_story::put_story;
 use nz_text::{summary, text, trace};
 use std::alloc::Global;
 
@@ -22,10 +26,14 @@ pub enum Report {
     Text,
     /// A line for each record, and the text after that.
     Trace,
+    /// What each record changed and sent, and the text after that.
+    Story,
     /// Counts.
     Summary,
     /// A line for each tenure of a lock, and the text after that. No command of the scenario may be foul.
     Locks,
+    /// How many ticks the requests took.
+    Pace,
 }
 
 /// The head, a line of its own, and the text.
@@ -38,6 +46,16 @@ fn headed(alloc: Global, head: Blob, text: Blob) -> Result<Blob, NoMemory>
     Ok(Blob::from_vec(bytes))
 }
 
+/// The story of the run.
+fn story(alloc: Global, journal: &Journal) -> Result<Blob, NoMemory>
+    requires { World (group_in journal.now) (run_in journal.now) }
+    ensures { IfOk result (λ bytes. bytes ≡ stories.story journal.now.scenario (run_in journal.now)) }
+{
+    let mut bytes = Vec::new(alloc);
+    put_story(alloc, &mut bytes, journal)?;
+    Ok(Blob::from_vec(bytes))
+}
+
 impl Report {
     /// The first request of the scenario that the report does not admit.
     pub fn refused_request(self, scenario: &Scenario) -> Option<Id>
@@ -46,7 +64,7 @@ impl Report {
     {
         match self {
             Report::Locks => first_foul(scenario),
-            Report::Text | Report::Trace | Report::Summary => None,
+            Report::Text | Report::Trace | Report::Story | Report::Summary | Report::Pace => None,
         }
     }
 
@@ -69,10 +87,19 @@ impl Report {
                 let head = trace(alloc, journal)?;
                 headed(alloc, head, text(alloc, journal, told, &history)?)
             }
+            Report::Story => {
+                let head = story(alloc, journal)?;
+                headed(alloc, head, text(alloc, journal, told, &history)?)
+            }
             Report::Summary => summary(alloc, journal, told, &history),
             Report::Locks => {
                 let head = tenure_lines(alloc, &history)?;
                 headed(alloc, head, text(alloc, journal, told, &history)?)
+            }
+            Report::Pace => {
+                let mut out = Vec::new(alloc);
+                put_pace(alloc, &mut out, journal)?;
+                Ok(Blob::from_vec(out))
             }
         }
     }

@@ -18,6 +18,8 @@ pub enum Status {
     WriteFault,
     /// Memory was not found.
     NoMemory,
+    /// The text of the input is wrong.
+    Rejected,
 }
 
 impl Status {
@@ -34,6 +36,7 @@ impl Status {
             Status::ReadFault => 3,
             Status::WriteFault => 4,
             Status::NoMemory => 6,
+            Status::Rejected => 7,
         }
     }
 }

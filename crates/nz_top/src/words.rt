@@ -1,7 +1,7 @@
 //! The words of a call.
 ghost use Rattle.std.specs.Prelude.{◌≡◌, ◌≤◌, IfOk, IfSome, Some, map};
 ghost use Rattle.nz_top.specs.Words as spec;
-ghost use Rattle.nz_top.specs.Words.{verb_of_word, workers_of_words, show_command, gen_command, command_after, command_of_words, IsCalled};
+ghost use Rattle.nz_top.specs.Words.{verb_of_word, workers_of_words, show_command, gen_command, scenario_command, command_after, command_of_words, IsCalled};
 
 use crate::reports::Report;
 use nz_base::{Blob, List, MAX_REQUESTS, MAX_WORKERS, NoMemory};
@@ -14,6 +14,12 @@ use std::marker::Model;
 pub enum Command {
     /// Play a scenario, and print a report of the run.
     Play(Play),
+    /// Print the scenario that the seed draws, with this many requests, at most `MAX_REQUESTS`.
+    Scenario { seed: u64, count: u32 },
+    /// Judge the text that is read from the source.
+    Check,
+    /// Print a line for each command.
+    Help,
 }
 
 /// A scenario, who plays it, and what is reported of the run.
@@ -39,8 +45,16 @@ pub enum Origin {
 pub enum Verb {
     /// To play the scenario of the input, and report this. A number of workers may follow.
     Show(Report),
+    /// To play the scenario of the input with one worker, and print its pace. No word follows.
+    Pace,
     /// To play a scenario that is drawn, and print its summary. The seed and the count follow.
     Gen,
+    /// To print a scenario that is drawn. The seed and the count follow.
+    Scenario,
+    /// To judge a text. No word follows.
+    Check,
+    /// To print what the commands are. No word follows.
+    Help,
 }
 
 /// The words after the program's name.
@@ -135,6 +149,17 @@ fn to_draw(seed: Option<u64>, count: Option<u32>) -> Option<Command>
     }
 }
 
+fn to_print(seed: Option<u64>, count: Option<u32>) -> Option<Command>
+    requires { IfSome count (λ n. (1 ≤ n) × (n ≤ MAX_REQUESTS)) }
+    ensures value { result ≡ scenario_command seed count }
+    ensures called { IfSome result IsCalled }
+{
+    match (seed, count) {
+        (Some(seed), Some(count)) => Some(Command::Scenario { seed, count }),
+        _ => None,
+    }
+}
+
 impl Verb {
     /// The table of words.
     fn of_word(word: &[u8]) -> Option<Verb>
@@ -144,10 +169,20 @@ impl Verb {
             Some(Verb::Show(Report::Text))
         } else if word == b"trace".as_slice() {
             Some(Verb::Show(Report::Trace))
+        } else if word == b"story".as_slice() {
+            Some(Verb::Show(Report::Story))
         } else if word == b"locks".as_slice() {
             Some(Verb::Show(Report::Locks))
+        } else if word == b"pace".as_slice() {
+            Some(Verb::Pace)
         } else if word == b"gen".as_slice() {
             Some(Verb::Gen)
+        } else if word == b"scenario".as_slice() {
+            Some(Verb::Scenario)
+        } else if word == b"check".as_slice() {
+            Some(Verb::Check)
+        } else if word == b"help".as_slice() {
+            Some(Verb::Help)
         } else {
             None
         }
@@ -160,10 +195,16 @@ impl Verb {
     {
         match (self, rest) {
             (Verb::Show(report), _) => to_show(report, workers(rest)),
+            (Verb::Pace, []) => to_show(Report::Pace, Some(1)),
             (Verb::Gen, [seed, count]) => {
                 to_draw(number_of(seed.as_slice()), count_in(count.as_slice()))
             }
-            (Verb::Gen, _) => None,
+            (Verb::Scenario, [seed, count]) => {
+                to_print(number_of(seed.as_slice()), count_in(count.as_slice()))
+            }
+            (Verb::Check, []) => Some(Command::Check),
+            (Verb::Help, []) => Some(Command::Help),
+            (Verb::Pace | Verb::Gen | Verb::Scenario | Verb::Check | Verb::Help, _) => None,
         }
     }
 }

@@ -41,6 +41,20 @@ impl ReplicaState {
         self.parts.rejoin.phase
     }
 
+    /// How many have told their crash vectors.
+    pub fn tellers(&self) -> u32
+        ensures { result ≡ length self.now.state.rejoin.tellers }
+    {
+        self.parts.rejoin.tellers.len()
+    }
+
+    /// How many have told their views.
+    pub fn tells(&self) -> u32
+        ensures { result ≡ length self.now.state.rejoin.tells }
+    {
+        self.parts.rejoin.tells.len()
+    }
+
     /// The view whose log was asked for.
     pub fn wanted(&self) -> u64
         ensures { result ≡ self.now.state.rejoin.wanted }

@@ -18,6 +18,13 @@ use super::{ReplicaState, forget};
 use nz_base::{EntryList, MAX_QUIET, MAX_VIEW, NoMemory};
 
 impl ReplicaState {
+    /// How many reports the leader of its view holds to begin it.
+    pub fn reports(&self) -> usize
+        ensures { result ≡ length self.now.state.changes }
+    {
+        self.parts.changes.len()
+    }
+
     /// Whether there is a view after this one.
     pub fn has_next_view(&self) -> bool
         ensures { result ≡ nat_lt self.now.state.view MAX_VIEW }

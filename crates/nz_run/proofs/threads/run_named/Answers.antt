@@ -5,9 +5,9 @@ use Rattle.nz_machine.specs.declared.event.Record.{Record}
 use Rattle.nz_machine.specs.Journals.{run_in}
 use Rattle.nz_machine.specs.Schedule.{group_of, Scheduled}
 use Rattle.nz_machine.specs.World.{World}
-use Rattle.nz_fabric.specs.Steps.{AreSteps}
+use Rattle.nz_machine.specs.Steps.{AreSteps}
 use Rattle.nz_replica.specs.Models.{AreCores}
-use Rattle.nz_run.proofs.Replaying.{world_now}
+use Rattle.nz_machine.proofs.Replaying.{world_now}
 use Rattle.nz_run.proofs.threads.run_named.Goals as goal
 
 pub returns-clause-run : goal.returns-clause-run

@@ -8,7 +8,7 @@ use Rattle.nz_top.proofs.playing.scenario_of.Goals as goal
 
 pub returns-in-Ok-read-clause-found : goal.returns-in-Ok-read-clause-found
 returns-in-Ok-read-clause-found g c =
-    let whole = read_is_input (g.S.Source.left c.args.source.now) _ c.in-Ok.bytes.items c.in-Ok.ensures.lost c.in-Ok.ensures.most c.in-Ok.ensures.end in
+    let whole = read_is_input _ (g.S.Source.left c.args.source.now) _ c.in-Ok.bytes.items c.in-Ok.ensures.lost c.in-Ok.ensures.most c.in-Ok.ensures.end in
     found_is_input (g.S.Source.left c.args.source.now) c.in-Ok.bytes.items c.in-Ok-read.scenario whole
     (ap scenario (sym c.deref.ensures.value) ∙ c.in-Ok-read.ensures.ok)
 
@@ -23,7 +23,7 @@ returns-in-Ok-read-clause-end g c =
 
 pub returns-in-Err-Refusal-clause-none : goal.returns-in-Err-Refusal-clause-none
 returns-in-Err-Refusal-clause-none g c =
-    let whole = read_is_input (g.S.Source.left c.args.source.now) _ c.in-Ok.bytes.items c.in-Ok.ensures.lost c.in-Ok.ensures.most c.in-Ok.ensures.end in
+    let whole = read_is_input _ (g.S.Source.left c.args.source.now) _ c.in-Ok.bytes.items c.in-Ok.ensures.lost c.in-Ok.ensures.most c.in-Ok.ensures.end in
     λ play is_reading. (
       is_reading,
       refused_is_input (g.S.Source.left c.args.source.now) c.in-Ok.bytes.items _ c.in-Err-Refusal.field-0

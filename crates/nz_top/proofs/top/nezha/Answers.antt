@@ -1,4 +1,5 @@
 -- What the function of this folder owes, proved.
+use Rattle.std.proofs.Common.{Some, sym, ap, ◌∙◌}
 use Rattle.std.proofs.lemmas.Option.{IfSome_then}
 use Rattle.nz_machine.specs.Journals.{group_in, run_in}
 use Rattle.nz_lin.proofs.OneHistory.{one_history}
@@ -17,6 +18,6 @@ returns-in-Ok-clause-locks g c = IfSome_then c.answer.result.journal c.answer.en
 
 pub returns-in-Err-Refused-clause-bad_scenario : goal.returns-in-Err-Refused-clause-bad_scenario
 returns-in-Err-Refused-clause-bad_scenario g c =
-    λ _. bad_line_why _ c.in-Some.command _ _ _ _ _ c.in-Some.ensures.value
+    λ _. bad_line_why _ c.in-Play.play _ _ _ _ _ (ap Some (sym c.in-Play.is) ∙ c.in-Some.ensures.value)
     (line_told _ (g.S.Source.left c.args.source.now) _ _ _ _ _ _ _ _ _ _ c.in-Err-Refused.field-0
     c.in-Err-Refused.field-0-is c.in-Err-Refused.line-is c.in-Err-Refused.kind-is c.in-Err-Refused.ensures.none c.tell_bad_line.ensures.line)

@@ -7,8 +7,9 @@ use mathlib.Core.List.{IsPrefix}
 use Rattle.nz_base.specs.Actor.{actor_eq}
 use Rattle.nz_machine.specs.declared.event.Record.{Record}
 use Rattle.nz_machine.specs.Schedule.{group_of}
-use Rattle.nz_fabric.specs.Records.{of_actor, steps_of, with_step, ActorSteps, AreCounts}
-use Rattle.nz_fabric.specs.Steps.{AreSteps, sends_after}
+use Rattle.nz_machine.specs.Steps.{AreSteps, of_actor}
+use Rattle.nz_fabric.specs.Records.{steps_of, with_step, ActorSteps, AreCounts}
+use Rattle.nz_fabric.specs.Steps.{sends_after}
 use Rattle.nz_fabric.proofs.Counting.{count_is, all_seen, own_pushed, counts_pushed, steps_pushed}
 use Rattle.nz_fabric.proofs.records.Records.push.Goals as goal
 

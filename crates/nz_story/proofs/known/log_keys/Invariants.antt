@@ -1,0 +1,7 @@
+-- What the loops of the function of this folder keep.
+use Rattle.std.proofs.Common.{◌≡◌, take}
+use Rattle.nz_base.specs.Log.{keys_of}
+use Rattle.nz_story.proofs.known.log_keys.Given as goal
+
+abbrev pub invariant-loop-place : goal.invariant-loop-place
+invariant-loop-place l = l.keys.items ≡ keys_of (take l.place l.log.entries)

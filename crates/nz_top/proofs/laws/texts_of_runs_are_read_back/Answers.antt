@@ -1,6 +1,0 @@
--- What the function of this folder owes, proved.
-use Rattle.nz_top.proofs.TextsOfRuns.{texts_are_read}
-use Rattle.nz_top.proofs.laws.texts_of_runs_are_read_back.Goals as goal
-
-pub returns : goal.returns
-returns c = texts_are_read
