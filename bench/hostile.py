@@ -154,7 +154,7 @@ def long_texts():
 
 
 def outcome(program, word, text):
-    ended = subprocess.run([program, word], input=text.encode(), stdout=subprocess.PIPE, check=False)
+    ended = subprocess.run([program, word], input=text.encode(), stdout=subprocess.PIPE, stderr=subprocess.DEVNULL, check=False)
     return ended.returncode, ended.stdout
 
 
