@@ -126,12 +126,12 @@ HISTORIES = {
 
 # Texts that are judged, each in one line: a slash ends a line, and these words stand for lines.
 LINES = {
-    "S1": "send c0 1 put a 1",
-    "A1": "accept c0 1 done fast",
-    "S2": "send c0 2 get a",
-    "A2": "accept c0 2 value 1 fast",
-    "H1": "at 1 c0 1 put a 1 gives done",
-    "H2": "at 2 c0 2 get a gives value 1",
+    "PUT": "send c0 1 put a 1",
+    "PUT_DONE": "accept c0 1 done fast",
+    "GET": "send c0 2 get a",
+    "GET_DONE": "accept c0 2 value 1 fast",
+    "PUT_AT": "at 1 c0 1 put a 1 gives done",
+    "GET_AT": "at 2 c0 2 get a gives value 1",
 }
 TEXTS = """
 
@@ -141,23 +141,23 @@ end /
 end//
 end/end/
 open c0 1/end/
-S1/A1/S2/A2/H1/H2/end/
+PUT/PUT_DONE/GET/GET_DONE/PUT_AT/GET_AT/end/
 send c0 1 get a/end/
 send c0 1 get a/at 1 c0 1 get a gives absent/end/
 send c0 1 get a/at 1 c0 1 get b gives absent/end/
 send c0 1 get a/open c0 1/open c0 1/end/
 send c0 1 get a/send c1 1 get a/open c1 1/open c0 1/end/
-A1/S1/H1/end/
-S1/S1/end/
-S1/A1/A1/end/
-S1/accept c0 1 absent fast/end/
-S1/A1/S2/A2/at 1 c0 2 get a gives value 1/at 2 c0 1 put a 1 gives done/end/
-S1/A1/S2/A2/H1/at 2 c0 1 put a 1 gives done/end/
-S1/A1/S2/A2/at 2 c0 1 put a 1 gives done/end/
-S1/A1/S2/open c0 2/H1/end/
-S1/A1/S2/open c0 2/H1/H2/end/
-S1/A1/S2/A2/H1/H2/at 3 c0 2 get a gives value 1/end/
-S1/A1/S2/accept c0 2 absent fast/H1/at 2 c0 2 get a gives absent/end/
+PUT_DONE/PUT/PUT_AT/end/
+PUT/PUT/end/
+PUT/PUT_DONE/PUT_DONE/end/
+PUT/accept c0 1 absent fast/end/
+PUT/PUT_DONE/GET/GET_DONE/at 1 c0 2 get a gives value 1/at 2 c0 1 put a 1 gives done/end/
+PUT/PUT_DONE/GET/GET_DONE/PUT_AT/at 2 c0 1 put a 1 gives done/end/
+PUT/PUT_DONE/GET/GET_DONE/at 2 c0 1 put a 1 gives done/end/
+PUT/PUT_DONE/GET/open c0 2/PUT_AT/end/
+PUT/PUT_DONE/GET/open c0 2/PUT_AT/GET_AT/end/
+PUT/PUT_DONE/GET/GET_DONE/PUT_AT/GET_AT/at 3 c0 2 get a gives value 1/end/
+PUT/PUT_DONE/GET/accept c0 2 absent fast/PUT_AT/at 2 c0 2 get a gives absent/end/
 send c0 0 get a/open c0 0/end/
 send c4294967295 4294967295 get a/open c4294967295 4294967295/end/
 send c4294967296 1 get a/end/
@@ -284,7 +284,7 @@ def files(reference):
     yield "outputs", dict(outputs())
     yield "texts", {**{f"text {short}": said(short) for short in TEXTS}, **{f"bytes {number}": text for number, text in enumerate(NO_TEXTS)}}
     yield "long_texts", LONG_TEXTS
-    yield "two_texts", {"a right text": said("S1/A1/H1/end/"), "a wrong text": said("S1/A1/S2/A2/H2/end/")}
+    yield "two_texts", {"a right text": said("PUT/PUT_DONE/PUT_AT/end/"), "a wrong text": said("PUT/PUT_DONE/GET/GET_DONE/GET_AT/end/")}
     yield "not_read", {"not read": "not read\n"}
     yield "refusals", dict(REFUSALS)
     yield "lock_uses", LOCK_USES
