@@ -68,7 +68,7 @@ impl Early {
         self.entries.is_empty()
     }
 
-    /// Puts the keys, in their order, behind those of the list.
+    /// Puts the keys, in their order, after those of the list.
     pub fn append_keys(&self, keys: &mut Vec<Key>) -> Result<(), NoMemory>
         ensures { OnOk result (keys.new.items ≡ keys.old.items ++ keys_of self.now) }
     {

@@ -52,7 +52,7 @@ impl Late {
         self.entries.is_empty()
     }
 
-    /// Puts the keys, in the order in which they came, behind those of the list.
+    /// Puts the keys, in the order in which they came, after those of the list.
     pub fn append_keys(&self, keys: &mut Vec<Key>) -> Result<(), NoMemory>
         ensures { OnOk result (keys.new.items ≡ keys.old.items ++ keys_of self.now) }
     {
