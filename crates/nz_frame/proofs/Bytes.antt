@@ -1,9 +1,9 @@
 -- Numbers of two and of four bytes at the beginning of bytes.
-use Rattle.std.proofs.Common.{◌≡◌, ℕ, ◌+◌, ◌≤◌, List, ◌++◌, length, take, drop, ap, ◌∙◌, arith, inl, inr}
-use Rattle.std.specs.Int.{w16, w32, from_be_bytes}
+use Rattle.std.proofs.Common.{◌≡◌, ℕ, zero, suc, ◌+◌, ◌/◌, ◌^◌, ◌≤◌, ◌<◌, List, ◌∷◌, ◌++◌, length, take, drop, ap, ◌∙◌, arith, inl, inr}
+use Rattle.std.specs.Int.{w16, w32, byte_at, from_be_bytes}
 use Rattle.std.proofs.lemmas.Bool.{cases_lt}
 use Rattle.std.proofs.lemmas.List.{take-append-drop, length-take, get_or-take, get_or-drop, get_or_past}
-use Rattle.std.proofs.lemmas.Nat.{be_bytes_2, be_bytes_4}
+use Rattle.std.proofs.lemmas.Nat.{be_bytes_2, be_bytes_4, mod_below}
 use Rattle.byteorder.specs.Endian.{big_bytes, big_number}
 use Rattle.byteorder.specs.Numbers.{big_from-take}
 use Rattle.nz_frame.specs.Grammar.{AreBytes}
@@ -17,6 +17,18 @@ AreBytes-take n bytes h i =
 
 pub AreBytes-drop : (n : ℕ) (bytes : List ℕ) → AreBytes bytes → AreBytes (drop n bytes)
 AreBytes-drop n bytes h i = rw get_or-drop (h (n + i))
+
+pub AreBytes-cons : (byte : ℕ) (bytes : List ℕ) → byte < 256 → AreBytes bytes → AreBytes (byte ∷ bytes)
+AreBytes-cons byte bytes small h zero = small
+AreBytes-cons byte bytes small h (suc i) = h i
+
+byte_small : (i n : ℕ) → byte_at i n < 256
+byte_small zero n = mod_below n 256 (omega arith)
+byte_small (suc i) n = mod_below (n / 256 ^ suc i) 256 (omega arith)
+
+pub AreBytes-big : (n x : ℕ) → AreBytes (big_bytes n x)
+AreBytes-big zero x = λ i. omega arith
+AreBytes-big (suc n) x = AreBytes-cons (byte_at n x) (big_bytes n x) (byte_small n x) (AreBytes-big n x)
 
 -- the bytes of the number that the first bytes make are these bytes
 pub four_bytes : (bytes : List ℕ) → 4 ≤ length bytes → AreBytes bytes → big_bytes 4 (big_number 4 bytes) ++ drop 4 bytes ≡ bytes

@@ -24,6 +24,8 @@ pub struct Frame {
     header: [u8; 10],
     /// How many bytes of the header there are: ten, or all where there are fewer.
     size: u8,
+    /// Where it is set the bytes are a frame, so that its parts are read without a test.
+    checked: bool,
     body: Bytes,
 }
 
@@ -35,16 +37,17 @@ impl Model for Frame {
 
     ghost view = { λ f. take f.size f.header ++ f.body };
 
-    ghost invariant = { λ f. (f.size ≤ 10) × AreParts (take f.size f.header) f.body };
+    ghost invariant = { λ f. (f.size ≤ 10) × AreParts f.checked (take f.size f.header) f.body };
 }
 
-// The first ten bytes of a frame whose body has this size.
-fn header(kind: u8, from: u16, to: u16, size: usize) -> [u8; 10]
-    requires { size ≤ 16777210 }
-    ensures { result ≡ big_bytes 4 (6 + size) ++ 1 ∷ kind ∷ (big_bytes 2 from ++ big_bytes 2 to) }
+// The first ten bytes of the frame of this body.
+fn header(kind: u8, from: u16, to: u16, body: &[u8]) -> [u8; 10]
+    requires { length body.now ≤ 16777210 }
+    ensures header { result ≡ big_bytes 4 (6 + length body.now) ++ 1 ∷ kind ∷ (big_bytes 2 from ++ big_bytes 2 to) }
+    ensures bytes { AreBytes body.now }
 {
     let mut header = [0; 10];
-    BigEndian::write_u32(&mut header, HEAD + size as u32);
+    BigEndian::write_u32(&mut header, HEAD + body.len() as u32);
     header[4] = VERSION;
     header[5] = kind;
     BigEndian::write_u16(&mut header[6..], from);
@@ -74,11 +77,11 @@ impl Frame {
         requires body { length body ≤ 16777210 }
         ensures { result ≡ frame kind from to body }
     {
-        let bytes = body.as_slice();
-        let header = header(kind, from, to, bytes.len());
+        let header = header(kind, from, to, body.as_slice());
         Frame {
             header,
             size: HEADER,
+            checked: true,
             body,
         }
     }
@@ -94,6 +97,7 @@ impl Frame {
         Frame {
             header,
             size: size as u8,
+            checked: false,
             body,
         }
     }
@@ -120,6 +124,19 @@ impl Frame {
         &self.body
     }
 
+    // The parts of bytes that are a frame.
+    fn known_parts(&self) -> FrameView<'_>
+        requires { refusal self.now ≡ None }
+        ensures { IsFrame self.now result.kind result.from result.to result.body.now }
+    {
+        FrameView {
+            kind: self.header[5],
+            from: BigEndian::read_u16(&self.header[6..]),
+            to: BigEndian::read_u16(&self.header[8..]),
+            body: self.body.as_slice(),
+        }
+    }
+
     /// The parts of the frame. What is read borrows the body.
     pub fn parts(&self) -> Result<FrameView<'_>, FrameRefusal>
         ensures frame { IfOk result (λ v. IsFrame self.now v.kind v.from v.to v.body.now) }
@@ -129,6 +146,9 @@ impl Frame {
         ensures refused { IfErr result (λ r. refusal self.now ≡ Some r) }
         ensures bytes { AreBytes self.now }
     {
+        if self.checked {
+            return Ok(self.known_parts());
+        }
         let header = &self.header[..usize::from(self.size)];
         read_parts(header, self.body.as_slice())
     }
@@ -154,6 +174,7 @@ impl Clone for Frame {
         Ok(Frame {
             header: self.header,
             size: self.size,
+            checked: self.checked,
             body: self.body.clone()?,
         })
     }
