@@ -235,7 +235,7 @@ accepts_at journal r J x answer path rest (Deliver p) world w part is told count
     subst (λ (s : Option Source). Gives journal x.place (entries_or (accepted_prefix g x.id p J)) (with_source s x))
     (sym (source_is_accepted g J p x.id begins)) (from_source journal J x p (accepted_source g x.id p J) part w.1 count refl
     (source_led journal r J x.id answer path rest p world w (part_at journal J part) is told))
-accepts_at journal r J x answer path rest (Cut p kept) world w part is told count = refl
+accepts_at journal r J x answer path rest (Cut kept p) world w part is told count = refl
 accepts_at journal r J x answer path rest (Tick clock) world w part is told count = refl
 accepts_at journal r J x answer path rest Alarm world w part is told count = refl
 accepts_at journal r J x answer path rest Crash world w part is told count = refl
@@ -246,7 +246,7 @@ brings_at : (g : Group) (r : Record) (J : List Record) (id : Id) (answer : Answe
     → r.event ≡ e → Accepted id answer path ∷ rest ≡ client_events g r.actor r J → Brings id e
 brings_at g r J id answer path rest (Deliver p) is told =
     (told_by_actor g r.actor r J p id refl is (subst (λ (l : List ClientEvent). Begins l id) told refl)).about
-brings_at g r J id answer path rest (Cut p kept) is told = tt
+brings_at g r J id answer path rest (Cut kept p) is told = tt
 brings_at g r J id answer path rest (Tick clock) is told = tt
 brings_at g r J id answer path rest Alarm is told = tt
 brings_at g r J id answer path rest Crash is told = tt

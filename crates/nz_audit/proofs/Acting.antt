@@ -69,7 +69,7 @@ no_proxy (Client c) q other = refl
 pub event_source : (g : Group) (w : Id → Bool) (J : List Record) (table : List (ParcelKey × Option Source)) (e : Event) → IsTable g w J table
     → source_in g w J e (source_delivered table e)
 event_source g w J table (Deliver p) t = λ no_other. ap option_flatten (t.exact p no_other)
-event_source g w J table (Cut p kept) t = tt
+event_source g w J table (Cut kept p) t = tt
 event_source g w J table (Tick clock) t = tt
 event_source g w J table Alarm t = tt
 event_source g w J table Crash t = tt
@@ -131,7 +131,7 @@ sized_envelope f source quiet down id (Some e) known h =
 sized_event : (f me : ℕ) (source : Option Source) (quiet down : Bool) (id : Id) (e : Event) (known : Option Noted) → IsSized f known
     → IsSized f (after_event f me source quiet down id e known)
 sized_event f me source quiet down id (Deliver p) known h = sized_envelope f source quiet down id (accepted_envelope f (Proxy me) p) known h
-sized_event f me source quiet down id (Cut p kept) known h = h
+sized_event f me source quiet down id (Cut kept p) known h = h
 sized_event f me source quiet down id (Tick clock) known h = h
 sized_event f me source quiet down id Alarm known h = h
 sized_event f me source quiet down id Crash known h = tt

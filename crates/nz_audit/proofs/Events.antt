@@ -152,7 +152,7 @@ event_by g w q id r J source quiet (Deliver p) world wanted is from silent after
             → source ≡ cond (is_some (answer_in reply)) (in_numbers (source_of (r ∷ J) p)) None
         heard None h k = absurd (none-some reply k)
         heard (Some e) h k = from (wanted_read w g.f q id p e reply h k wanted) ∙ source_read g q id r J p e reply sent h k
-event_by g w q id r J source quiet (Cut p kept) world wanted is from silent after = memory_stays g q id r J after
+event_by g w q id r J source quiet (Cut kept p) world wanted is from silent after = memory_stays g q id r J after
 event_by g w q id r J source quiet (Tick clock) world wanted is from silent after = ticked g q id r J clock (state_after g (Proxy q) J).is_down after
 event_by g w q id r J source quiet Alarm world wanted is from silent after = memory_stays g q id r J after
 event_by g w q id r J source quiet Crash world wanted is from silent after = forgotten g q id r J after
@@ -197,7 +197,7 @@ restarts_up f s false h = h
 up_after : (g : Group) (q : ℕ) (s : ProxyData) (e : Event) → (event_step g (Proxy q) s e).0.is_down ≡ down_after e s.is_down
 unfolding clock_rule
 up_after g q s (Deliver p) = envelope_up g q s (accepted_envelope g.f (Proxy q) p)
-up_after g q s (Cut p kept) = refl
+up_after g q s (Cut kept p) = refl
 up_after g q s (Tick clock) = either_up s (clock_rule s clock, []) s.is_down refl
 up_after g q s Alarm = refl
 up_after g q s Crash = refl

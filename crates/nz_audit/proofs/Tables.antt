@@ -166,7 +166,7 @@ source_at_end g w id r newer J run table (Deliver p) world whole is brings wante
     ap (source p) whole ∙ source_then newer (r ∷ J) p sent.0 (source_stays p r J sent.0 sent.1) ∙ sym sent.1 in
     ap option_flatten (h.exact p (subst (IsNoOther w) (sym brings) wanted))
     ∙ ap (λ (o : Option (List Record)). option_flatten (stands_for g p o (about p))) last
-source_at_end g w id r newer J run table (Cut p kept) world whole is brings wanted h = refl
+source_at_end g w id r newer J run table (Cut kept p) world whole is brings wanted h = refl
 source_at_end g w id r newer J run table (Tick clock) world whole is brings wanted h = refl
 source_at_end g w id r newer J run table Alarm world whole is brings wanted h = refl
 source_at_end g w id r newer J run table Crash world whole is brings wanted h = refl

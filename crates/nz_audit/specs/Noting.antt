@@ -103,7 +103,7 @@ after_envelope f source quiet down id (Some e) known = if down then known else a
 -- What is kept of a request after an event.
 abbrev pub after_event : ℕ → ℕ → Option Source → Bool → Bool → Id → Event → Option Noted → Option Noted
 after_event f me source quiet down id (Deliver p) known = after_envelope f source quiet down id (accepted_envelope f (Proxy me) p) known
-after_event f me source quiet down id (Cut p kept) known = known
+after_event f me source quiet down id (Cut kept p) known = known
 after_event f me source quiet down id (Tick clock) known = known
 after_event f me source quiet down id Alarm known = known
 after_event f me source quiet down id Crash known = None
@@ -112,7 +112,7 @@ after_event f me source quiet down id (Restart nonce) known = if down then None 
 -- Whether the proxy is down after an event.
 abbrev pub down_after : Event → Bool → Bool
 down_after (Deliver p) down = down
-down_after (Cut p kept) down = down
+down_after (Cut kept p) down = down
 down_after (Tick clock) down = down
 down_after Alarm down = down
 down_after Crash down = true

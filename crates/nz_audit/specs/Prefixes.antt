@@ -66,7 +66,7 @@ is_to id a = id_eq a.id id
 -- What the event delivers is about the request.
 abbrev pub Brings : Id → Event → Type 0
 Brings id (Deliver p) = about p ≡ Some id
-Brings id (Cut p kept) = Unit {0}
+Brings id (Cut kept p) = Unit {0}
 Brings id (Tick clock) = Unit {0}
 Brings id Alarm = Unit {0}
 Brings id Crash = Unit {0}

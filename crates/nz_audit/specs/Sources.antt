@@ -100,7 +100,7 @@ stands_for g p first (Some id) = option_map (source_sent g id p.from) first
 -- The source of what is delivered after these records.
 abbrev pub delivered_source : Group → List Record → Event → Option Source
 delivered_source g J (Deliver p) = option_flatten (stands_for g p (source p J) (about p))
-delivered_source g J (Cut p kept) = None
+delivered_source g J (Cut kept p) = None
 delivered_source g J (Tick clock) = None
 delivered_source g J Alarm = None
 delivered_source g J Crash = None
@@ -123,7 +123,7 @@ kept_of table p = lookup (same_key (parcel_key_of p)) table
 -- The source of what is delivered, by the table.
 abbrev pub source_delivered : List (ParcelKey × Option Source) → Event → Option Source
 source_delivered table (Deliver p) = option_flatten (kept_of table p)
-source_delivered table (Cut p kept) = None
+source_delivered table (Cut kept p) = None
 source_delivered table (Tick clock) = None
 source_delivered table Alarm = None
 source_delivered table Crash = None

@@ -58,7 +58,7 @@ start_shared s = shared_with (start_state s) [] 0
 -- How many bytes an event brings.
 abbrev pub bytes_of : Event → ℕ
 bytes_of (Deliver p) = length p.frame
-bytes_of (Cut p kept) = kept
+bytes_of (Cut kept p) = kept
 bytes_of _ = 0
 
 -- The items of a batch.

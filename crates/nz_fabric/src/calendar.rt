@@ -77,7 +77,7 @@ fn arrive(alloc: Global, parcel: &SharedParcel, delivery: Delivery) -> Result<Ar
     let copy = parcel.copy(alloc)?;
     let event = match delivery.kept {
         None => Event::Deliver(copy),
-        Some(kept) => Event::Cut(copy, kept),
+        Some(kept) => Event::Cut(kept, copy),
     };
     Ok(Arrival {
         tick: delivery.tick,

@@ -81,7 +81,7 @@ fn bytes_of(event: &Event) -> usize
 {
     match event {
         Event::Deliver(parcel) => parcel.get().frame.len(),
-        Event::Cut(_, kept) => *kept as usize,
+        Event::Cut(kept, _) => *kept as usize,
         Event::Tick(_) | Event::Alarm | Event::Crash | Event::Restart(_) => 0,
     }
 }

@@ -24,7 +24,7 @@ fn cause(event: &Event) -> u32
     match event {
         Event::Crash | Event::Restart(_) | Event::Alarm => 0,
         Event::Tick(_) => 1,
-        Event::Deliver(parcel) | Event::Cut(parcel, _) => 2 + rank(parcel.get().from),
+        Event::Deliver(parcel) | Event::Cut(_, parcel) => 2 + rank(parcel.get().from),
     }
 }
 

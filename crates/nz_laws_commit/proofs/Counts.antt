@@ -81,7 +81,7 @@ event_shuts : (g : Group) (c : ℕ) (s : ClientData) (event : Event) (e : Envelo
 event_shuts g c s (Deliver p) e b read is h =
     subst (λ (o : Option Envelope). s.accepted < (envelope_step g (Client c) s o).0.accepted → Shuts s (envelope_step g (Client c) s o).0 b.num) (sym read)
     (envelope_shuts g c s e b is h)
-event_shuts g c s (Cut p kept) e b read is h = absurd (none-some e read)
+event_shuts g c s (Cut kept p) e b read is h = absurd (none-some e read)
 event_shuts g c s (Tick clock) e b read is h = absurd (none-some e read)
 event_shuts g c s Alarm e b read is h = absurd (none-some e read)
 event_shuts g c s Crash e b read is h = absurd (none-some e read)

@@ -60,7 +60,7 @@ pub record Delivers (g : Group) (a : Actor) (event : Event) (e : Envelope) : Typ
 
 pub delivers : (g : Group) (a : Actor) (event : Event) (e : Envelope) → read_in g a event ≡ Some e → Delivers g a event e
 delivers g a (Deliver p) e h = record { parcel = p; is = refl; heard = h }
-delivers g a (Cut p kept) e h = absurd (none-some e h)
+delivers g a (Cut kept p) e h = absurd (none-some e h)
 delivers g a (Tick clock) e h = absurd (none-some e h)
 delivers g a Alarm e h = absurd (none-some e h)
 delivers g a Crash e h = absurd (none-some e h)

@@ -115,7 +115,7 @@ pub event_moves : (g : Group) (q : ℕ) (s : ProxyData) (x : Id) (e : Event)
     → Moves g.f (reply_read x (read_in g (Proxy q) e)) (standing_of s x) (standing_of (event_step g (Proxy q) s e).0 x)
 unfolding clock_rule
 event_moves g q s x (Deliver p) = envelope_moves g q s x (accepted_envelope g.f (Proxy q) p)
-event_moves g q s x (Cut p kept) = Stays refl
+event_moves g q s x (Cut kept p) = Stays refl
 event_moves g q s x (Tick clock) = up_moves g.f None s x (clock_rule s clock, []) (Stays refl)
 event_moves g q s x Alarm = Stays refl
 event_moves g q s x Crash = Forgets refl

@@ -448,7 +448,7 @@ heard_by g me e = heard_at g (Replica me) e
 pub event_turn : (g : Group) (me : ℕ) (s : ReplicaData) (e : Event)
     → Turn g.f me e (heard_by g me e) (turn_state s) (turn_state (event_step g (Replica me) s e).0)
 event_turn g me s (Deliver p) = envelope_turn g me (Deliver p) s (accepted_envelope g.f (Replica me) p)
-event_turn g me s (Cut p kept) = Stays
+event_turn g me s (Cut kept p) = Stays
 event_turn g me s (Tick clock) =
     unless_down (λ (t : ReplicaData × List Out). Turn g.f me (Tick clock) None (turn_state s) (turn_state t.0)) s (tick_rule g.f me s clock)
     Stays (tick_turn g.f me (Tick clock) None s clock)

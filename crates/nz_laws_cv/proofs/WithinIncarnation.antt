@@ -70,7 +70,7 @@ pub data Passing (g : Group) (m : ℕ) (r : Record) (J : List Record) : Type 0 w
 restart_of : (e : Event) → is_restart e ≡ true → (nonce : ℕ) × (e ≡ Restart nonce)
 restart_of (Restart nonce) h = (nonce, refl)
 restart_of (Deliver p) h = absurd cc
-restart_of (Cut p kept) h = absurd cc
+restart_of (Cut kept p) h = absurd cc
 restart_of (Tick clock) h = absurd cc
 restart_of Alarm h = absurd cc
 restart_of Crash h = absurd cc

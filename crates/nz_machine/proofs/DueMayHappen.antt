@@ -35,7 +35,7 @@ restart_tick before (_ ∷ lines) nonce = restart_tick before lines nonce
 -- a line asks this of an actor in the tick: restarts have the nonces of their lines
 abbrev pub IsCalled : ℕ → ℕ → List Fault → Event → Type 0
 IsCalled tick before lines (Deliver p) = ⊥
-IsCalled tick before lines (Cut p kept) = ⊥
+IsCalled tick before lines (Cut kept p) = ⊥
 IsCalled tick before lines (Tick clock) = ⊥
 IsCalled tick before lines Alarm = Unit {0}
 IsCalled tick before lines Crash = Unit {0}
@@ -44,7 +44,7 @@ IsCalled tick before lines (Restart nonce) = (before < nonce) × (restart_tick b
 -- the event may happen to the actor in the tick, after these records
 abbrev pub IsFine : Scenario → ℕ → List Record → Actor → Event → Type 0
 IsFine s tick J a (Deliver p) = (p.to ≡ a) × Has (sent_in J) p
-IsFine s tick J a (Cut p kept) = (p.to ≡ a) × Has (sent_in J) p
+IsFine s tick J a (Cut kept p) = (p.to ≡ a) × Has (sent_in J) p
 IsFine s tick J a (Tick clock) = IsMember (group_of s) a × (clock ≤ MAX_CLOCK)
 IsFine s tick J a Alarm = IsMember (group_of s) a
 IsFine s tick J a Crash = IsMember (group_of s) a
@@ -85,7 +85,7 @@ own_tick n t rest = cond_both (eqb (n + 1) (n + 1)) (Some t) rest (λ (o : Optio
 past_restart : (tick before : ℕ) (a : Actor) (t : ℕ) (lines : List Fault) (e : Event)
     → IsCalled tick (before + 1) lines e → IsCalled tick before (faults.Restart a t ∷ lines) e
 past_restart tick before a t lines (Deliver p) h = h
-past_restart tick before a t lines (Cut p kept) h = h
+past_restart tick before a t lines (Cut kept p) h = h
 past_restart tick before a t lines (Tick clock) h = h
 past_restart tick before a t lines Alarm h = tt
 past_restart tick before a t lines Crash h = tt
@@ -134,7 +134,7 @@ calls_members s tick before (faults.Alarm a t ∷ lines) all =
 
 called_fine : (s : Scenario) (tick : ℕ) (J : List Record) (a : Actor) (e : Event) → IsMember (group_of s) a → IsCalled tick 0 s.faults e → IsFine s tick J a e
 called_fine s tick J a (Deliver p) member h = absurd h
-called_fine s tick J a (Cut p kept) member h = absurd h
+called_fine s tick J a (Cut kept p) member h = absurd h
 called_fine s tick J a (Tick clock) member h = absurd h
 called_fine s tick J a Alarm member h = member
 called_fine s tick J a Crash member h = member

@@ -22,7 +22,7 @@ use Rattle.nz_machine.proofs.DueMayHappen.{IsCalled, IsFine, ItemIsFine, restart
 -- a restart has a greater nonce than this
 abbrev pub IsAbove : ℕ → Event → Type 0
 IsAbove n (Deliver p) = Unit {0}
-IsAbove n (Cut p kept) = Unit {0}
+IsAbove n (Cut kept p) = Unit {0}
 IsAbove n (Tick clock) = Unit {0}
 IsAbove n Alarm = Unit {0}
 IsAbove n Crash = Unit {0}
@@ -31,7 +31,7 @@ IsAbove n (Restart nonce) = n < nonce
 -- if both are restarts, the second has the greater nonce
 abbrev pub IsBefore : Event → Event → Type 0
 IsBefore (Deliver p) e = Unit {0}
-IsBefore (Cut p kept) e = Unit {0}
+IsBefore (Cut kept p) e = Unit {0}
 IsBefore (Tick clock) e = Unit {0}
 IsBefore Alarm e = Unit {0}
 IsBefore Crash e = Unit {0}
@@ -45,7 +45,7 @@ AreApart (i ∷ is) = AllByRecursion (λ (j : Item). IsBefore i.event j.event) i
 -- no restart
 abbrev IsOther : Event → Type 0
 IsOther (Deliver p) = Unit {0}
-IsOther (Cut p kept) = Unit {0}
+IsOther (Cut kept p) = Unit {0}
 IsOther (Tick clock) = Unit {0}
 IsOther Alarm = Unit {0}
 IsOther Crash = Unit {0}
@@ -53,7 +53,7 @@ IsOther (Restart nonce) = ⊥
 
 called_above : (tick before : ℕ) (lines : List Fault) (e : Event) → IsCalled tick before lines e → IsAbove before e
 called_above tick before lines (Deliver p) h = tt
-called_above tick before lines (Cut p kept) h = tt
+called_above tick before lines (Cut kept p) h = tt
 called_above tick before lines (Tick clock) h = tt
 called_above tick before lines Alarm h = tt
 called_above tick before lines Crash h = tt
@@ -63,7 +63,7 @@ called_above tick before lines (Restart nonce) h = h.0
 after_other : (e : Event) (is : List Item) → IsOther e → AllByRecursion (λ (j : Item). IsBefore e j.event) is
 after_other e [] h = tt
 after_other (Deliver p) (i ∷ is) h = (tt, after_other (Deliver p) is h)
-after_other (Cut p kept) (i ∷ is) h = (tt, after_other (Cut p kept) is h)
+after_other (Cut kept p) (i ∷ is) h = (tt, after_other (Cut kept p) is h)
 after_other (Tick clock) (i ∷ is) h = (tt, after_other (Tick clock) is h)
 after_other Alarm (i ∷ is) h = (tt, after_other Alarm is h)
 after_other Crash (i ∷ is) h = (tt, after_other Crash is h)
@@ -98,12 +98,12 @@ others_apart (i ∷ is) h = (after_other i.event is h.0, others_apart is h.1)
 
 other_above : (e f : Event) → IsOther f → IsBefore e f
 other_above (Deliver p) f h = tt
-other_above (Cut p kept) f h = tt
+other_above (Cut kept p) f h = tt
 other_above (Tick clock) f h = tt
 other_above Alarm f h = tt
 other_above Crash f h = tt
 other_above (Restart nonce) (Deliver p) h = tt
-other_above (Restart nonce) (Cut p kept) h = tt
+other_above (Restart nonce) (Cut kept p) h = tt
 other_above (Restart nonce) (Tick clock) h = tt
 other_above (Restart nonce) Alarm h = tt
 other_above (Restart nonce) Crash h = tt

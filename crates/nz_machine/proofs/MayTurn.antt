@@ -32,7 +32,7 @@ pub may_turn : (s : Scenario) (tick : ℕ) (finished here : List Record) (a : Ac
 may_turn s tick finished here a (Deliver p) play w fine fresh =
     let sent = sent_before here finished p fine.1 in
     record { member = subst (IsMember (group_of s)) fine.0 (receiver_is_member (group_of s) (here ++ finished) p w sent); event = (fine.0, sent) }
-may_turn s tick finished here a (Cut p kept) play w fine fresh =
+may_turn s tick finished here a (Cut kept p) play w fine fresh =
     let sent = sent_before here finished p fine.1 in
     record { member = subst (IsMember (group_of s)) fine.0 (receiver_is_member (group_of s) (here ++ finished) p w sent); event = (fine.0, sent) }
 may_turn s tick finished here a (Tick clock) play w fine fresh = record { member = fine.0; event = fine.1 }

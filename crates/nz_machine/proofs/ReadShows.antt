@@ -172,7 +172,7 @@ delivers_by g a p (Some e) from message is h =
 
 pub delivers : (g : Group) (a : Actor) (e : Event) (from : Actor) (message : Message) → heard_at g a e ≡ Some (from, message) → Delivers g a e from message
 delivers g a (Deliver p) from message h = delivers_by g a p (accepted_envelope g.f a p) from message refl h
-delivers g a (Cut p kept) from message h = absurd (none-some (from, message) h)
+delivers g a (Cut kept p) from message h = absurd (none-some (from, message) h)
 delivers g a (Tick clock) from message h = absurd (none-some (from, message) h)
 delivers g a Alarm from message h = absurd (none-some (from, message) h)
 delivers g a Crash from message h = absurd (none-some (from, message) h)

@@ -26,7 +26,7 @@ use Rattle.nz_machine.proofs.MayTurn.{IsNot, may_turn}
 -- 1 for a restart with the nonce
 abbrev weight : ℕ → Event → ℕ
 weight n (Deliver p) = 0
-weight n (Cut p kept) = 0
+weight n (Cut kept p) = 0
 weight n (Tick clock) = 0
 weight n Alarm = 0
 weight n Crash = 0
@@ -40,7 +40,7 @@ own_weight n = cond_both (eqb n n) 1 0 (λ (k : ℕ). k ≡ 1) (λ _. refl) (λ 
 
 above_weight : (n : ℕ) (e : Event) → IsAbove n e → weight n e ≡ 0
 above_weight n (Deliver p) h = refl
-above_weight n (Cut p kept) h = refl
+above_weight n (Cut kept p) h = refl
 above_weight n (Tick clock) h = refl
 above_weight n Alarm h = refl
 above_weight n Crash h = refl
@@ -60,7 +60,7 @@ all_above n (i ∷ is) h =
 most_once : (n : ℕ) (e : Event) (is : List Item) → AllByRecursion (λ (j : Item). IsBefore e j.event) is
     → sum_by (item_weight n) is ≤ 1 → weight n e + sum_by (item_weight n) is ≤ 1
 most_once n (Deliver p) is h rest = omega (arith, rest)
-most_once n (Cut p kept) is h rest = omega (arith, rest)
+most_once n (Cut kept p) is h rest = omega (arith, rest)
 most_once n (Tick clock) is h rest = omega (arith, rest)
 most_once n Alarm is h rest = omega (arith, rest)
 most_once n Crash is h rest = omega (arith, rest)

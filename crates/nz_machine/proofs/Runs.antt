@@ -248,7 +248,7 @@ module _ (g : Group) (P : List Record → Actor → Out → Type 0) (Q : List Re
       → state_after g r.actor (r ∷ J) ≡ (event_step g r.actor (state_after g r.actor J) e).0
       → StepHas (r ∷ J) r.actor (event_step g r.actor (state_after g r.actor J) e)
   event_keeps k J r w h (Deliver q) may now = envelope_keeps k J r w (h.states r.actor) (accepted_envelope g.f r.actor q) (delivered k J h r.actor q may) now
-  event_keeps k J r w h (Cut q kept) may now = (k.state_stays J r w r.actor _ (h.states r.actor), tt)
+  event_keeps k J r w h (Cut kept q) may now = (k.state_stays J r w r.actor _ (h.states r.actor), tt)
   event_keeps k J r w h (Tick c) may now = k.tick J r w c may (h.states r.actor) now
   event_keeps k J r w h Alarm may now = k.alarm J r w (h.states r.actor) now
   event_keeps k J r w h Crash may now = k.crash J r w (h.states r.actor) now

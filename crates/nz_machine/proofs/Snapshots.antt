@@ -199,7 +199,7 @@ envelope_shows g a s p (Some e) is may = message_step_shows g a s e.from e.messa
 
 pub event_shows : (g : Group) (a : Actor) (s : State a) (e : Event) → MayShow g a s → StepShows g a (heard_at g a e) s (event_step g a s e)
 event_shows g a s (Deliver p) may = envelope_shows g a s p (accepted_envelope g.f a p) refl may
-event_shows g a s (Cut p kept) may = quiet g a None s s
+event_shows g a s (Cut kept p) may = quiet g a None s s
 event_shows g a s (Tick clock) may = tick_step_shows g a s clock may
 event_shows g a s Alarm may = alarm_step_shows g a s
 event_shows g a s Crash may = crash_step_shows g a s

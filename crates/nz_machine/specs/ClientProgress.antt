@@ -82,7 +82,7 @@ acceptance_read c p (Some e) = acceptance_in c p e.from e.message
 -- The acceptance, where the event delivers one.
 abbrev pub acceptance_of : ℕ → Progress → Event → Option Acceptance
 acceptance_of c p (Deliver parcel) = acceptance_read c p (envelope_for (Client c) parcel)
-acceptance_of c p (Cut parcel kept) = None
+acceptance_of c p (Cut kept parcel) = None
 acceptance_of c p (Tick clock) = None
 acceptance_of c p Alarm = None
 acceptance_of c p Crash = None

@@ -103,7 +103,7 @@ noting_moment g p id reply (r ∷ J) =
 -- The parcel that an event delivers whole.
 abbrev pub parcel_in : Event → Option Parcel
 parcel_in (Deliver p) = Some p
-parcel_in (Cut p kept) = None
+parcel_in (Cut kept p) = None
 parcel_in (Tick clock) = None
 parcel_in Alarm = None
 parcel_in Crash = None

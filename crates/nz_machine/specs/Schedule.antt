@@ -150,7 +150,7 @@ deliveries s tick earlier p = after_faults tick earlier p s.faults (whole_in (ti
 -- A parcel comes whole, or this many bytes of it.
 abbrev pub delivery_event : Parcel → Option ℕ → Event
 delivery_event p None = Deliver p
-delivery_event p (Some kept) = Cut p kept
+delivery_event p (Some kept) = Cut kept p
 
 -- The delivery as an event of the receiver.
 abbrev pub delivery_item : Parcel → Delivery → Item

@@ -176,7 +176,7 @@ restart_step g (Client c) s nonce = (s, [])
 -- The state after an event, and what is sent. A cut parcel changes nothing.
 abbrev pub event_step : Group → (a : Actor) → State a → Event → State a × List Out
 event_step g a s (Deliver p) = envelope_step g a s (accepted_envelope g.f a p)
-event_step g a s (Cut p kept) = (s, [])
+event_step g a s (Cut kept p) = (s, [])
 event_step g a s (Tick clock) = tick_step g a s clock
 event_step g a s Alarm = alarm_step g a s
 event_step g a s Crash = crash_step g a s

@@ -67,7 +67,7 @@ Restarts a nonce r = (r.actor ≡ a) × (r.event ≡ Restart nonce)
 -- time; its clock reads anything; it crashes; it restarts with a nonce of 64 bits that it has not had.
 abbrev pub MayHappen : List Record → Actor → Event → Type 0
 MayHappen J a (Deliver p) = (p.to ≡ a) × Has (sent_in J) p
-MayHappen J a (Cut p kept) = (p.to ≡ a) × Has (sent_in J) p
+MayHappen J a (Cut kept p) = (p.to ≡ a) × Has (sent_in J) p
 MayHappen J a (Tick clock) = clock ≤ MAX_CLOCK
 MayHappen J a Alarm = Unit {0}
 MayHappen J a Crash = Unit {0}

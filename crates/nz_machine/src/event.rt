@@ -60,8 +60,8 @@ impl TryCopy for SharedParcel {
 pub enum Event {
     /// The parcel comes whole.
     Deliver(SharedParcel),
-    /// This many bytes of the parcel come.
-    Cut(SharedParcel, u32),
+    /// This many bytes of the parcel come. The number is first, where it lies beside the tag and an event takes 16 bytes.
+    Cut(u32, SharedParcel),
     /// The actor's clock reads this many clock units.
     Tick(u64),
     /// The actor is told that the leader is lost.
@@ -88,7 +88,7 @@ impl TryCopy for Event {
     fn copy(&self, alloc: Global) -> Result<Event, NoMemory> {
         match self {
             Event::Deliver(parcel) => Ok(Event::Deliver(parcel.copy(alloc)?)),
-            Event::Cut(parcel, kept) => Ok(Event::Cut(parcel.copy(alloc)?, *kept)),
+            Event::Cut(kept, parcel) => Ok(Event::Cut(*kept, parcel.copy(alloc)?)),
             Event::Tick(clock) => Ok(Event::Tick(*clock)),
             Event::Alarm => Ok(Event::Alarm),
             Event::Crash => Ok(Event::Crash),

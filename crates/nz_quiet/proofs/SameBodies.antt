@@ -168,7 +168,7 @@ module _ (g : Group) (p r q : ℕ) (first : r < replica_count g.f) (second : q <
 
   event_same : (s : ProxyData) (e : Event) → AreSame (event_step g (Proxy p) s e).1
   event_same s (Deliver x) = envelope_same s (accepted_envelope g.f (Proxy p) x)
-  event_same s (Cut x kept) = refl
+  event_same s (Cut kept x) = refl
   event_same s (Tick clock) = cond_both s.is_down (s, []) (clock_rule s clock, []) (λ (t : ProxyData × List Out). AreSame t.1) (λ _. refl) (λ _. refl)
   event_same s Alarm = refl
   event_same s Crash = refl

@@ -25,7 +25,7 @@ pub fn event_of(alloc: Global, words: &[&str]) -> Result<Event, Stop> {
         ["tick", clock] => Event::Tick(number_in(clock)?),
         ["hear", from, to, bytes] => Event::Deliver(parcel_of(alloc, from, to, bytes)?),
         ["cut", from, to, bytes, kept] => {
-            Event::Cut(parcel_of(alloc, from, to, bytes)?, count_in(kept)?)
+            Event::Cut(count_in(kept)?, parcel_of(alloc, from, to, bytes)?)
         }
         ["alarm"] => Event::Alarm,
         ["crash"] => Event::Crash,

@@ -38,7 +38,7 @@ lines_under s r J =
 abbrev pub is_clock : EventOf → Bool
 is_clock (Tick clock) = true
 is_clock (Deliver p) = false
-is_clock (Cut p kept) = false
+is_clock (Cut kept p) = false
 is_clock Alarm = false
 is_clock Crash = false
 is_clock (Restart nonce) = false

@@ -16,7 +16,7 @@ parcel_text p = kind_text (kind_in_frame p.frame) ++ (codes " " ++ actor_text p.
 -- What happened, with the clock's reading, how many bytes came, or the nonce.
 abbrev pub what_text : Event → List ℕ
 what_text (Deliver p) = codes "deliver " ++ parcel_text p
-what_text (Cut p kept) = codes "cut " ++ (parcel_text p ++ (codes " " ++ decimal kept))
+what_text (Cut kept p) = codes "cut " ++ (parcel_text p ++ (codes " " ++ decimal kept))
 what_text (Tick clock) = codes "tick " ++ decimal clock
 what_text Alarm = codes "alarm"
 what_text Crash = codes "crash"

@@ -30,7 +30,7 @@ pub fn put_what(out: &mut Vec<u8>, event: &Event) -> Result<(), NoMemory>
             put(out, b"deliver ")?;
             put_parcel(out, parcel.get())
         }
-        Event::Cut(parcel, kept) => {
+        Event::Cut(kept, parcel) => {
             put(out, b"cut ")?;
             put_parcel(out, parcel.get())?;
             put(out, b" ")?;
