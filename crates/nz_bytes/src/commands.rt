@@ -9,8 +9,9 @@ use std::alloc::Global;
 pub fn spelled_again(alloc: Global, bytes: &[u8]) -> Result<String, NoMemory> {
     match read_command(alloc, bytes).map_err(|_| NoMemory)? {
         Some(command) => {
-            let bytes = write_command(alloc, &command).map_err(|_| NoMemory)?;
-            hex_of(alloc, bytes.as_slice())
+            let mut bytes = Vec::new(alloc);
+            write_command(&mut bytes, command.lend()).map_err(|_| NoMemory)?;
+            hex_of(alloc, &bytes)
         }
         None => Ok(String::from_str(alloc, "none")?),
     }

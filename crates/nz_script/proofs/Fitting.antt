@@ -1,9 +1,8 @@
 -- How the words of a line are read.
-use Rattle.std.proofs.Common.{◌≡◌, ℕ, zero, suc, ◌<◌, List, [], ◌∷◌, ◌++◌, None, refl, sym, ap, ◌∙◌, arith, length, map, drop}
+use Rattle.std.proofs.Common.{◌≡◌, ℕ, zero, suc, ◌<◌, List, [], ◌∷◌, ◌++◌, None, refl, sym, ap, ◌∙◌, arith, length, drop}
 use Rattle.std.specs.Option.{option_map}
 use Rattle.nz_script.specs.declared.line_forms.Form.{Form}
 use Rattle.nz_script.specs.declared.word.Word.{Word}
-use Rattle.nz_script.specs.Commands.{fits_first}
 use Rattle.nz_script.specs.Lines.{fits}
 
 fits-short : (forms : List Form) (i : ℕ) → i < length forms → fits (drop i forms) [] ≡ None
@@ -16,17 +15,3 @@ pub word_lacking : (forms : List Form) (i : ℕ) (rest whole : List (List ℕ)) 
     → option_map (λ (more : List Word). prefix ++ more) (fits (drop i forms) rest) ≡ fits forms whole → None ≡ fits forms whole
 word_lacking forms i rest whole prefix lt e inv =
     sym (ap (option_map (λ (more : List Word). prefix ++ more)) (ap (fits (drop i forms)) e ∙ fits-short forms i lt)) ∙ inv
-
-first-short : (forms : List Form) (i : ℕ) → i < length forms → fits_first (drop i forms) [] ≡ None
-first-short [] i lt = absurd (omega (arith, lt))
-first-short (f ∷ fs) zero lt = refl
-first-short (f ∷ fs) (suc i) lt = first-short fs i (omega (arith, lt))
-
--- words that lack one do not fit
-pub first_lacking : {R : Type 0} (now : R → List ℕ) (forms : List Form) (i : ℕ) (rest : List R) (whole : List (List ℕ)) (prefix : List Word)
-    → i < length forms → length rest < 1
-    → option_map (λ (x : List Word × List (List ℕ)). (prefix ++ x.0, x.1)) (fits_first (drop i forms) (map now rest)) ≡ fits_first forms whole
-    → None ≡ fits_first forms whole
-first_lacking now forms i [] whole prefix lt none inv =
-    sym (ap (option_map (λ (x : List Word × List (List ℕ)). (prefix ++ x.0, x.1))) (first-short forms i lt)) ∙ inv
-first_lacking now forms i (r ∷ rest) whole prefix lt none inv = absurd (omega (arith, none))

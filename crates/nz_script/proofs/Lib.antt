@@ -17,3 +17,4 @@ pub mod ReadIsPlayable
 pub mod DrawnTexts
 pub mod Generated
 pub mod Asking
+pub mod CommandWords

@@ -45,8 +45,9 @@ pub fn new_request(alloc: Global, wait: u32, command: &Command) -> Result<Reques
     requires { IsValidCommand command.now }
     ensures { IfOk result (λ request. request ≡ record { wait = wait; command = spelling command.now }) }
 {
-    let bytes = write_command(alloc, command).map_err(|_| NoMemory)?;
-    let command = Blob::from_bytes(Bytes::copy_from_slice(alloc, bytes.as_slice())?);
+    let mut bytes = Vec::new(alloc);
+    write_command(&mut bytes, command.lend()).map_err(|_| NoMemory)?;
+    let command = Blob::from_bytes(Bytes::from_vec(bytes)?);
     Ok(Request { wait, command })
 }
 

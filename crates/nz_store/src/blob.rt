@@ -29,12 +29,6 @@ impl Blob {
         })
     }
 
-    pub(crate) fn from_vec(bytes: Vec<u8>) -> Blob
-        ensures { result ≡ bytes.items }
-    {
-        Blob { bytes }
-    }
-
     pub fn copy(&self, alloc: Global) -> Result<Blob, NoMemory>
         ensures { IfOk result (λ blob. blob ≡ self.now) }
     {

@@ -101,7 +101,7 @@ impl Command {
     ghost use Rattle.nz_store.specs.Reading.{command_owned};
 
     /// The same command, whose key and values stay this one's.
-    pub(crate) fn lend(&self) -> CommandRef<'_>
+    pub fn lend(&self) -> CommandRef<'_>
         ensures { command_owned result ≡ self.now }
     {
         match self {

@@ -2,6 +2,7 @@
 ghost use Rattle.std.specs.Prelude.{◌≡◌, ◌<◌, length, map, IfOk, IfSome, IfNone, Some, None};
 ghost use Rattle.std.specs.Option.{option_map};
 ghost use Rattle.nz_store.specs.Grammar.{IsValidCommand, spelling};
+ghost use Rattle.nz_store.specs.Reading.{command_owned};
 ghost use Rattle.nz_text.specs.Reading as reading;
 ghost use Rattle.nz_text.specs.Reading.{pieces_in, number_in_digits, client_in, id_of_words, alone, send_of, accept_of, answer_in_words};
 ghost use Rattle.nz_text.specs.Reading.{send_in_words, accept_in_words, open_in_words, at_in_words, line_in_words};
@@ -14,7 +15,7 @@ use nz_base::{Blob, Id, NoMemory};
 use nz_machine::Executed;
 use nz_msg::Path;
 use nz_script::{command_first, cut_at, number_of};
-use nz_store::{Answer, Blob as Value, Command, is_value, write_command};
+use nz_store::{Answer, Blob as Value, CommandRef, is_value, write_command};
 use std::alloc::Global;
 
 /// No line of a text has more words.
@@ -154,24 +155,25 @@ fn path_of(words: &[&[u8]]) -> Option<Path>
     None
 }
 
-/// The one spelling of the command.
-fn spelled(alloc: Global, command: &Command) -> Result<Blob, NoMemory>
-    requires { IsValidCommand command.now }
-    ensures { IfOk result (λ bytes. bytes ≡ spelling command.now) }
+/// The one spelling of the command, in the only memory that is taken for it.
+fn spelled(alloc: Global, command: CommandRef<'_>) -> Result<Blob, NoMemory>
+    requires { IsValidCommand (command_owned command) }
+    ensures { IfOk result (λ bytes. bytes ≡ spelling (command_owned command.entry)) }
 {
-    let bytes = write_command(alloc, command).map_err(|_| NoMemory)?;
-    Blob::from_slice(alloc, bytes.as_slice())
+    let mut bytes = Vec::new(alloc);
+    write_command(&mut bytes, command).map_err(|_| NoMemory)?;
+    Ok(Blob::from_vec(bytes))
 }
 
 fn send_line(alloc: Global, id: Id, words: &[&[u8]]) -> Result<Option<Line>, NoMemory>
     ensures { IfOk result (λ line. line ≡ send_of id (map (λ w. w.now) words.now)) }
 {
-    let Some((command, rest)) = command_first(alloc, words)? else {
+    let Some((command, rest)) = command_first(words) else {
         return Ok(None);
     };
     match rest {
         [] => {
-            let command = spelled(alloc, &command)?;
+            let command = spelled(alloc, command)?;
             Ok(Some(Line::Event(Event::Send { id, command })))
         }
         [_, ..] => Ok(None),
@@ -213,13 +215,13 @@ fn given(alloc: Global, words: &[&[u8]]) -> Result<Option<Answer>, NoMemory>
 fn executed_of(alloc: Global, id: Id, words: &[&[u8]]) -> Result<Option<Executed>, NoMemory>
     ensures { IfOk result (λ executed. executed ≡ reading.executed_of id (map (λ w. w.now) words.now)) }
 {
-    let Some((command, rest)) = command_first(alloc, words)? else {
+    let Some((command, rest)) = command_first(words) else {
         return Ok(None);
     };
     let Some(answer) = given(alloc, rest)? else {
         return Ok(None);
     };
-    let command = spelled(alloc, &command)?;
+    let command = spelled(alloc, command)?;
     Ok(Some(Executed {
         id,
         command,
