@@ -104,12 +104,14 @@ impl<T: TryCopy + Drop> List<T> {
     pub fn from_slice(alloc: Global, items: &[T]) -> Result<List<T>, NoMemory>
         ensures { IfOk result (λ list. list ≡ items.now) }
     {
-        let count = u32::try_from(items.len()).map_err(|_| NoMemory)?;
-        let mut list = List::with_capacity(alloc, count)?;
-        for item in items {
-            list.push(item.copy(alloc)?)?;
+        if items.len() > u32::MAX as usize {
+            return Err(NoMemory);
         }
-        Ok(list)
+        let mut copies = Vec::with_capacity(alloc, items.len())?;
+        for item in items {
+            copies.push_reserved(item.copy(alloc)?);
+        }
+        Ok(List::from_vec(copies))
     }
 }
 

@@ -31,8 +31,13 @@ fn set(alloc: Global, table: &mut Table, key: &[u8], value: &[u8]) -> Result<(),
     ensures err { OnErr result (table.new.entries ≡ table.old.entries) }
     ensures order { IsInOrder table.new }
 {
-    let key = Vec::from_slice(alloc, key)?;
     let value = Blob::from_slice(alloc, value)?;
+    // A key that is there takes no memory.
+    if let Some(old) = table.get_mut(key) {
+        *old = value;
+        return Ok(());
+    }
+    let key = Vec::from_slice(alloc, key)?;
     table.insert(key, value)?;
     Ok(())
 }
