@@ -66,6 +66,15 @@ others_next me n = ap (others_below me) (add-one n) ∙ filter-append (λ r. not
 other_next : (me n : ℕ) → (n == me) ≡ false → others_below me (n + 1) ≡ others_below me n ++ n ∷ []
 other_next me n other = others_next me n ∙ (rw other refl)
 
+self_next : (me n : ℕ) → (n == me) ≡ true → others_below me (n + 1) ≡ others_below me n
+self_next me n is = others_next me n ∙ (rw is (append-nil (others_below me n)))
+
+pub self_told : (me n : ℕ) (tell : ℕ → Out) (before sends after : List Parcel) → (n == me) ≡ true
+    → sends ≡ before ++ map (parcel (Replica me)) (map tell (others_below me n))
+    → after ≡ sends → after ≡ before ++ map (parcel (Replica me)) (map tell (others_below me (n + 1)))
+self_told me n tell before sends after is told same =
+    same ∙ told ∙ ap (λ (rs : List ℕ). before ++ map (parcel (Replica me)) (map tell rs)) (sym (self_next me n is))
+
 pub other_told : (me n : ℕ) (tell : ℕ → Out) (before sends after : List Parcel) → (n == me) ≡ false
     → sends ≡ before ++ map (parcel (Replica me)) (map tell (others_below me n))
     → after ≡ sends ++ map (parcel (Replica me)) (tell n ∷ []) → after ≡ before ++ map (parcel (Replica me)) (map tell (others_below me (n + 1)))

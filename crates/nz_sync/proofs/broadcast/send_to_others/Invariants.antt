@@ -5,9 +5,13 @@ use Rattle.nz_base.specs.declared.actor.Actor.TheVariants.{Replica}
 use Rattle.nz_machine.specs.Replicas.{numbers_below}
 use Rattle.nz_machine.specs.LogMods.{log_mod_to}
 use Rattle.nz_machine.specs.Step.{parcel}
-use Rattle.nz_sync.proofs.broadcast.tell_others.Given as goal
+use Rattle.nz_sync.specs.Broadcasts.{IsWritten}
+use Rattle.nz_sync.proofs.broadcast.send_to_others.Given as goal
 
 abbrev pub invariant-loop-replica : goal.invariant-loop-replica
 invariant-loop-replica l =
-    l.sends ≡ l.initial.sends ++ map (parcel (Replica l.state.me))
-    (map (log_mod_to l.state.state) (filter (λ r. not (r == l.state.me)) (numbers_below l.replica)))
+    record {
+      sent : l.sends ≡ l.initial.sends ++ map (parcel (Replica l.state.me))
+          (map (log_mod_to l.state.state) (filter (λ r. not (r == l.state.me)) (numbers_below l.replica)));
+      written : IsWritten l.state.state l.written;
+    }
