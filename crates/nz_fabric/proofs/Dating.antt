@@ -1,5 +1,5 @@
 -- The days of a calendar, and what a calendar says after one parcel more.
-use Rattle.std.proofs.Common.{◌≡◌, ℕ, zero, suc, ◌+◌, ◌-◌, ◌<◌, ◌≤◌, ◌^◌, eqb, Bool, true, false, cond, min, Option, List, [], ◌∷◌, ◌++◌}
+use Rattle.std.proofs.Common.{◌≡◌, ℕ, zero, suc, ◌+◌, ◌-◌, ◌<◌, ◌≤◌, ◌^◌, eqb, Bool, true, false, cond, min, List, [], ◌∷◌, ◌++◌}
 use Rattle.std.proofs.Common.{length, map, refl, sym, ap, ◌∙◌, subst, arith, append-nil, append_assoc, inl, inr, length-append}
 use Rattle.std.specs.Prelude.{filter, take, get_or, nat_le, reverse, Vec, vec_capacity, slice_set}
 use Rattle.std.specs.Global.{Global}
@@ -21,9 +21,9 @@ use Rattle.nz_fabric.specs.declared.calendar.Arrival.{Arrival}
 use Rattle.nz_fabric.specs.declared.course.Course.{Course}
 use Rattle.nz_fabric.specs.declared.course.Traffic.{Traffic}
 use Rattle.nz_fabric.specs.Calendars.{StandsFor, Dates, items_in, parcels_of, posted_by, course, traffic_of, count_of, next_number}
-use Rattle.nz_fabric.specs.Calendars.{IsCounted, KeepsLines}
+use Rattle.nz_fabric.specs.Calendars.{counted_kind, IsCounted, KeepsLines}
 use Rattle.nz_fabric.specs.Posting.{last_delivery_tick, delivery_as_stored, arrival_of, items_arriving}
-use Rattle.nz_fabric.specs.Posting.{arrivals_up_to, days_of, HasRoomFor, HasRooms, AreKept, AreShort, HasNumber}
+use Rattle.nz_fabric.specs.Posting.{arrivals_up_to, days_of, HasRoomFor, HasRooms, AreKept, AreShort, HasNumberIfWatched}
 use Rattle.nz_fabric.proofs.Numbering.{counted}
 use Rattle.nz_fabric.proofs.Striking.{kept_after}
 
@@ -248,17 +248,19 @@ arrivals_push s t earlier (y ∷ L) x =
     ∙ ap (λ (e : List Parcel). (own ++ arrivals s t (earlier ++ y.parcel ∷ []) L)
     ++ due_of t x.parcel (deliveries s x.tick e x.parcel)) (append_assoc earlier (y.parcel ∷ []) (parcels_of L))
 
-pub posted_one : (s : Scenario) (L : List Posted) (now : ℕ) (c c' : Dates) (tick : ℕ) (k : Option ℕ) (p : Parcel) (arrived : List Arrival)
-    → StandsFor s L now c → s.ticks < last_delivery_tick → k ≡ kind_in_frame p.frame → HasNumber (parcels_of L) p (next_number (traffic_of c.courses p k))
-    → c'.parcels ≡ c.parcels + 1 → IsCounted s.faults c.courses c'.courses p k
+pub posted_one : (s : Scenario) (L : List Posted) (now : ℕ) (c c' : Dates) (tick : ℕ) (p : Parcel) (arrived : List Arrival)
+    → StandsFor s L now c → s.ticks < last_delivery_tick
+    → HasNumberIfWatched s.faults (parcels_of L) p (next_number (traffic_of c.courses p (counted_kind s.faults (kind_in_frame p.frame))))
+    → c'.parcels ≡ c.parcels + 1 → c'.watched ≡ c.watched → IsCounted s.faults c.courses c'.courses p (counted_kind s.faults (kind_in_frame p.frame))
     → arrived ≡ arrivals_up_to s.ticks (map (arrival_of p) (map delivery_as_stored (deliveries s tick (parcels_of L) p)))
     → ((t : ℕ) → items_in c'.days t ≡ items_in c.days t ++ items_arriving t arrived) → StandsFor s (L ++ posted_in tick p ∷ []) now c'
-posted_one s L now c c' tick k p arrived h below own is parcels count arrive items =
+posted_one s L now c c' tick p arrived h below is parcels watched count arrive items =
     let ds = deliveries s tick (parcels_of L) p in
     record {
       parcels = (let long = length-append L (posted_in tick p ∷ []) in let n = h.parcels in omega (arith, long, n, parcels));
-      counts = counted s.faults c.courses c'.courses L tick p k own count is h.counts;
-      lines = kept_after s.faults c.courses c'.courses p k count h.lines;
+      watched = watched ∙ h.watched;
+      counts = counted s.faults c.courses c'.courses L tick p count is h.counts;
+      lines = kept_after s.faults c.courses c'.courses p (counted_kind s.faults (kind_in_frame p.frame)) count h.lines;
       items = λ t after le.
           items t
           ∙ ap (λ (is : List Item). is ++ items_arriving t arrived) (h.items t after le)
@@ -269,11 +271,13 @@ posted_one s L now c c' tick k p arrived h below own is parcels count arrive ite
     }
 
 -- only the days' items count
-pub stands_by : (s : Scenario) (L : List Posted) (now : ℕ) (c c' : Dates) → c'.parcels ≡ c.parcels
+pub stands_by : (s : Scenario) (L : List Posted) (now : ℕ) (c c' : Dates) → c'.parcels ≡ c.parcels → c'.watched ≡ c.watched
     → c'.courses ≡ c.courses → ((t : ℕ) → now < t → items_in c'.days t ≡ items_in c.days t) → StandsFor s L now c → StandsFor s L now c'
-stands_by s L now c c' parcels courses items h = record {
+stands_by s L now c c' parcels watched courses items h = record {
   parcels = parcels ∙ h.parcels;
-  counts = λ from to kind. ap (λ (courses : List (Course × Traffic)). count_of courses (course from to kind)) courses ∙ h.counts from to kind;
+  watched = watched ∙ h.watched;
+  counts = λ from to kind is.
+      ap (λ (courses : List (Course × Traffic)). count_of courses (course from to kind)) courses ∙ h.counts from to kind is;
   lines = subst (KeepsLines s.faults) (sym courses) h.lines;
   items = λ t after le. items t after ∙ h.items t after le;
 }
@@ -296,6 +300,7 @@ taken_later days tick t v lt none =
 pub stands_later : (s : Scenario) (L : List Posted) (now tick : ℕ) (c : Dates) → now < tick → StandsFor s L now c → StandsFor s L tick c
 stands_later s L now tick c lt h = record {
   parcels = h.parcels;
+  watched = h.watched;
   counts = h.counts;
   lines = h.lines;
   items = λ t after le. h.items t (omega (arith, lt, after)) le;

@@ -1,6 +1,7 @@
 -- The modules of this crate's proofs.
 pub mod Numbering
 pub mod Striking
+pub mod Marking
 pub mod Dating
 pub mod Sending
 pub mod Calling

@@ -3,7 +3,7 @@ use Rattle.std.proofs.Common.{◌≡◌, ℕ, ◌+◌, ◌-◌, ◌<◌, ◌≤�
 use Rattle.std.proofs.Common.{◌++◌, length, map, refl, sym, ap, ◌∙◌, subst, arith, length-append, append-nil, take_all}
 use Rattle.std.proofs.Math.Bool.{and-true, and-false}
 use Rattle.std.specs.Prelude.{◌^◌, ◌&&◌, filter, take, drop, get_or}
-use Rattle.std.proofs.lemmas.Bool.{eqb-true}
+use Rattle.std.proofs.lemmas.Bool.{cond_both, eqb-true}
 use Rattle.std.proofs.lemmas.Bool.Decides.{nat_tests}
 use Rattle.std.proofs.lemmas.List.{drop_all, take_more, map-append}
 use Rattle.std.proofs.lemmas.List.Elements.{filter-append}
@@ -21,8 +21,8 @@ use Rattle.nz_fabric.specs.declared.deliveries.Delivery.{Delivery}
 use Rattle.nz_fabric.specs.declared.course.Course.{Course}
 use Rattle.nz_fabric.specs.declared.course.Traffic.{Traffic}
 use Rattle.nz_fabric.specs.Calendars.{course, course_eq, traffic_on, traffic_of, count_in, count_of, next_number}
-use Rattle.nz_fabric.specs.Calendars.{parcels_of, number_in_all, IsCounted}
-use Rattle.nz_fabric.specs.Posting.{delivery_as_stored, put_off, HasNumber, strikes, after_strike}
+use Rattle.nz_fabric.specs.Calendars.{parcels_of, number_in_all, is_watched, counted_kind, IsCounted}
+use Rattle.nz_fabric.specs.Posting.{delivery_as_stored, put_off, HasNumber, HasNumberIfWatched, strikes, after_strike}
 
 -- ---- what was held
 
@@ -66,17 +66,44 @@ number_for earlier p k courses kind e count few =
     let le = length-filter_le (is_parcel_of p.from p.to kind) earlier in
     omega (arith, now, count, le, few)
 
-pub numbered : (earlier : List Parcel) (p : Parcel) (k : Option ℕ) (courses : List (Course × Traffic)) → k ≡ kind_in_frame p.frame
-    → ((from to : Actor) (kind : ℕ) → count_of courses (course from to kind) ≡ length (filter (is_parcel_of from to kind) earlier))
-    → length earlier < 2 ^ 64 - 1 → HasNumber earlier p (next_number (traffic_of courses p k))
-numbered earlier p k courses own known few = λ from to kind yes.
+-- of a kind that is watched the next parcel has this number
+pub numbered : (lines : List Fault) (earlier : List Parcel) (p : Parcel) (courses : List (Course × Traffic))
+    → ((from to : Actor) (kind : ℕ) → is_watched lines kind ≡ true
+    → count_of courses (course from to kind) ≡ length (filter (is_parcel_of from to kind) earlier))
+    → length earlier < 2 ^ 64 - 1
+    → HasNumberIfWatched lines earlier p (next_number (traffic_of courses p (counted_kind lines (kind_in_frame p.frame))))
+numbered lines earlier p courses known few = λ from to kind watched yes.
+    let k = counted_kind lines (kind_in_frame p.frame) in
     let number = next_number (traffic_of courses p k) in
     let a = both_true (actor_eq p.from from) _ yes in
     let b = both_true (actor_eq p.to to) _ a.1 in
-    let is : k ≡ Some kind = own ∙ kind_is kind (kind_in_frame p.frame) b.1 in
+    let is : k ≡ Some kind =
+    ap (counted_kind lines) (kind_is kind (kind_in_frame p.frame) b.1)
+    ∙ ap (λ (b : Bool). let o : Option ℕ = cond b (Some kind) None in o) watched in
     subst (λ (x : Actor). number ≡ length (filter (is_parcel_of x to kind) earlier) + 1) (same_actor p.from from a.0)
     (subst (λ (x : Actor). number ≡ length (filter (is_parcel_of p.from x kind) earlier) + 1) (same_actor p.to to b.0)
-    (number_for earlier p k courses kind is (known p.from p.to kind) few))
+    (number_for earlier p k courses kind is (known p.from p.to kind watched) few))
+
+-- a parcel whose kind is watched has its number
+pub number_if : (lines : List Fault) (earlier : List Parcel) (p : Parcel) (n own : ℕ) → Some own ≡ kind_in_frame p.frame
+    → is_watched lines own ≡ true → HasNumberIfWatched lines earlier p n → HasNumber earlier p n
+number_if lines earlier p n own is watched h = λ from to kind yes.
+    let b = both_true (actor_eq p.to to) _ (both_true (actor_eq p.from from) _ yes).1 in
+    let same : own ≡ kind = eqb-true own kind (ap (has_kind kind) is ∙ b.1) in
+    h from to kind (sym (ap (is_watched lines) same) ∙ watched) yes
+
+-- a parcel is counted by its kind if that is watched
+pub kind_counted : (lines : List Fault) (own : ℕ) (p : Parcel) (b : Bool) → Some own ≡ kind_in_frame p.frame → is_watched lines own ≡ b
+    → cond b (Some own) None ≡ counted_kind lines (kind_in_frame p.frame)
+kind_counted lines own p b is e =
+    ap (λ (b : Bool). let o : Option ℕ = cond b (Some own) None in o) (sym e) ∙ ap (counted_kind lines) is
+
+-- a parcel of no kind may have any
+pub number_of_none : (earlier : List Parcel) (p : Parcel) (n : ℕ) → None ≡ kind_in_frame p.frame → HasNumber earlier p n
+number_of_none earlier p n is = λ from to kind yes.
+    let b = both_true (actor_eq p.to to) _ (both_true (actor_eq p.from from) _ yes).1 in
+    let none : false ≡ true = ap (has_kind kind) is ∙ b.1 in
+    cc
 
 -- ---- one parcel more
 
@@ -92,9 +119,11 @@ one_if from to kind earlier p b e =
     lone false p n = refl
 
 counted_by : (from to : Actor) (kind number now then : ℕ) (earlier : List Parcel) (p : Parcel) (b : Bool)
-    → is_parcel_of from to kind p ≡ b → HasNumber earlier p number → now ≡ length (filter (is_parcel_of from to kind) earlier)
+    → is_parcel_of from to kind p ≡ b
+    → (is_parcel_of from to kind p ≡ true → number ≡ length (filter (is_parcel_of from to kind) earlier) + 1)
+    → now ≡ length (filter (is_parcel_of from to kind) earlier)
     → then ≡ cond b number now → then ≡ length (filter (is_parcel_of from to kind) (earlier ++ p ∷ []))
-counted_by from to kind number now then earlier p true e h count step = step ∙ h from to kind e ∙ sym (one_if from to kind earlier p true e)
+counted_by from to kind number now then earlier p true e h count step = step ∙ h e ∙ sym (one_if from to kind earlier p true e)
 counted_by from to kind number now then earlier p false e h count step = let one = one_if from to kind earlier p false e in omega (arith, one, step, count)
 
 -- each actor has a number of its own
@@ -116,14 +145,26 @@ same_course p from to k kind =
     ap (λ (b : Bool). b && (eqb (number_in_all p.to) (number_in_all to) && eqb k kind)) (same_number p.from from)
     ∙ ap (λ (b : Bool). actor_eq p.from from && (b && eqb k kind)) (same_number p.to to)
 
+-- two kinds, of which one is watched
+differ : (lines : List Fault) (k kind : ℕ) (b : Bool) → is_watched lines k ≡ false → is_watched lines kind ≡ true → eqb k kind ≡ b → false ≡ b
+differ lines k kind true e watched same = sym e ∙ ap (is_watched lines) (eqb-true k kind same) ∙ watched
+differ lines k kind false e watched same = refl
+
+-- parcels of a kind that is watched are counted by it
+same_kind : (lines : List Fault) (o : Option ℕ) (kind : ℕ) → is_watched lines kind ≡ true → has_kind kind (counted_kind lines o) ≡ has_kind kind o
+same_kind lines None kind watched = refl
+same_kind lines (Some k) kind watched =
+    cond_both (is_watched lines k) (Some k) None (λ (o : Option ℕ). has_kind kind o ≡ eqb k kind) (λ e. refl)
+    (λ e. differ lines k kind (eqb k kind) e watched refl)
+
 -- the number that a parcel's course has then, and every other course its count
 counted_one : (lines : List Fault) (before after : List (Course × Traffic)) (p : Parcel) (k : Option ℕ) (from to : Actor) (kind : ℕ)
-    → k ≡ kind_in_frame p.frame → IsCounted lines before after p k → count_of after (course from to kind)
+    → has_kind kind k ≡ has_kind kind (kind_in_frame p.frame) → IsCounted lines before after p k → count_of after (course from to kind)
     ≡ cond (is_parcel_of from to kind p) (next_number (traffic_of before p k)) (count_of before (course from to kind))
 counted_one lines before after p None from to kind own h =
     ap (λ (courses : List (Course × Traffic)). count_of courses (course from to kind)) h
     ∙ ap (λ (b : Bool). cond b (next_number None) (count_of before (course from to kind)))
-    (sym (none_of (actor_eq p.from from) (actor_eq p.to to) (has_kind kind (kind_in_frame p.frame)) (ap (has_kind kind) (sym own))))
+    (sym (none_of (actor_eq p.from from) (actor_eq p.to to) (has_kind kind (kind_in_frame p.frame)) (sym own)))
   where
     none_of : (a b c : Bool) → c ≡ false → (a && (b && c)) ≡ false
     none_of true true c h = h
@@ -135,20 +176,24 @@ counted_one lines before after p (Some k) from to kind own h =
     ∙ count_if (course_eq (course p.from p.to k) (course from to kind)) h.traffic (traffic_on before (course from to kind))
     ∙ ap (λ (n : ℕ). cond (course_eq (course p.from p.to k) (course from to kind)) n (count_of before (course from to kind))) h.count
     ∙ ap (λ (b : Bool). cond b number (count_of before (course from to kind))) (same_course p from to k kind)
-    ∙ ap (λ (o : Option ℕ). cond (actor_eq p.from from && (actor_eq p.to to && has_kind kind o)) number (count_of before (course from to kind))) own
+    ∙ ap (λ (b : Bool). cond (actor_eq p.from from && (actor_eq p.to to && b)) number (count_of before (course from to kind))) own
   where
     count_if : (b : Bool) (t : Traffic) (o : Option Traffic) → count_in (cond b (Some t) o) ≡ cond b t.count (count_in o)
     count_if true t o = refl
     count_if false t o = refl
 
-pub counted : (lines : List Fault) (before after : List (Course × Traffic)) (L : List Posted) (tick : ℕ) (p : Parcel) (k : Option ℕ)
-    → k ≡ kind_in_frame p.frame → IsCounted lines before after p k → HasNumber (parcels_of L) p (next_number (traffic_of before p k))
-    → ((from to : Actor) (kind : ℕ) → count_of before (course from to kind) ≡ length (filter (is_parcel_of from to kind) (parcels_of L)))
-    → (from to : Actor) (kind : ℕ)
+pub counted : (lines : List Fault) (before after : List (Course × Traffic)) (L : List Posted) (tick : ℕ) (p : Parcel)
+    → IsCounted lines before after p (counted_kind lines (kind_in_frame p.frame))
+    → HasNumberIfWatched lines (parcels_of L) p (next_number (traffic_of before p (counted_kind lines (kind_in_frame p.frame))))
+    → ((from to : Actor) (kind : ℕ) → is_watched lines kind ≡ true
+    → count_of before (course from to kind) ≡ length (filter (is_parcel_of from to kind) (parcels_of L)))
+    → (from to : Actor) (kind : ℕ) → is_watched lines kind ≡ true
     → count_of after (course from to kind) ≡ length (filter (is_parcel_of from to kind) (parcels_of (L ++ posted_in tick p ∷ [])))
-counted lines before after L tick p k own h is known from to kind =
+counted lines before after L tick p h is known from to kind watched =
+    let k = counted_kind lines (kind_in_frame p.frame) in
     counted_by from to kind (next_number (traffic_of before p k)) (count_of before (course from to kind)) (count_of after (course from to kind))
-    (parcels_of L) p (is_parcel_of from to kind p) refl is (known from to kind) (counted_one lines before after p k from to kind own h)
+    (parcels_of L) p (is_parcel_of from to kind p) refl (is from to kind watched) (known from to kind watched)
+    (counted_one lines before after p k from to kind (same_kind lines (kind_in_frame p.frame) kind watched) h)
     ∙ ap (λ (ps : List Parcel). length (filter (is_parcel_of from to kind) ps)) (sym (map-append (λ (x : Posted). x.parcel) L (posted_in tick p ∷ [])))
 
 -- ---- one fault line more

@@ -1,6 +1,6 @@
 -- The fault lines that may strike a parcel of a course: the others leave its deliveries as they are.
 use Rattle.std.proofs.Common.{◌≡◌, ℕ, ◌+◌, ◌<◌, eqb, Bool, true, false, cond, Option, Some, None, List, [], ◌∷◌, ◌++◌, refl, sym, ap, ◌∙◌, subst, arith}
-use Rattle.std.specs.Prelude.{◌&&◌, filter, length, take, get_or, IfSome}
+use Rattle.std.specs.Prelude.{◌&&◌, ◌||◌, filter, length, take, get_or, IfSome}
 use Rattle.std.proofs.lemmas.Bool.{cond_both, eqb-true}
 use Rattle.std.proofs.lemmas.Bool.Decides.{nat_tests}
 use Rattle.std.proofs.lemmas.List.{take_more}
@@ -14,7 +14,8 @@ use Rattle.nz_machine.specs.declared.event.Parcel.{Parcel}
 use Rattle.nz_machine.specs.Schedule.{Delivery, is_parcel_of, is_nth, is_blocked, is_named, has_kind, kind_in_frame, after_fault, after_faults}
 use Rattle.nz_fabric.specs.declared.course.Course.{Course}
 use Rattle.nz_fabric.specs.declared.course.Traffic.{Traffic}
-use Rattle.nz_fabric.specs.Calendars.{course, course_eq, traffic_on, is_about, is_block, lines_at, may_strike, names, HasLines, IsCounted, KeepsLines}
+use Rattle.nz_fabric.specs.Calendars.{course, course_eq, traffic_on, is_about, is_block, is_watched, lines_at, may_strike, may_strike_kind}
+use Rattle.nz_fabric.specs.Calendars.{names, HasLines, IsCounted, KeepsLines}
 use Rattle.nz_fabric.specs.Numbered.{items_under}
 use Rattle.nz_fabric.specs.Posting.{strikes, HasNumber}
 use Rattle.nz_fabric.proofs.Numbering.{both_true, same_course, faulted_is, struck_by_number}
@@ -57,6 +58,41 @@ lines_suffice tick own earlier p (line ∷ lines) ds is =
     (λ (xs : List Fault). after_faults tick earlier p xs ds ≡ after_faults tick earlier p (line ∷ lines) ds)
     (λ e. ih (after_fault tick earlier p line ds))
     (λ e. ih ds ∙ ap (after_faults tick earlier p lines) (sym (faulted_is tick earlier p line ds false (never_strikes tick own earlier p line is e))))
+
+-- ---- a kind of which no line may strike a parcel
+
+not_of_kind : (a b c : Bool) → c ≡ false → (a && (b && c)) ≡ false
+not_of_kind true true c h = h
+not_of_kind true false c h = refl
+not_of_kind false b c h = refl
+
+spares_kind : (from to : Actor) (kind : ℕ) (line : Fault) → may_strike_kind kind line ≡ false → may_strike from to kind line ≡ false
+spares_kind from to kind (faults.Drop a b k count) e = not_of_kind (actor_eq from a) (actor_eq to b) (eqb kind k) e
+spares_kind from to kind (faults.Hold a b k count by) e = not_of_kind (actor_eq from a) (actor_eq to b) (eqb kind k) e
+spares_kind from to kind (faults.Twice a b k count by) e = not_of_kind (actor_eq from a) (actor_eq to b) (eqb kind k) e
+spares_kind from to kind (faults.Cut a b k count keep) e = not_of_kind (actor_eq from a) (actor_eq to b) (eqb kind k) e
+spares_kind from to kind (faults.Block a b first last) e = cc
+spares_kind from to kind (faults.Crash a t) e = refl
+spares_kind from to kind (faults.Restart a t) e = refl
+spares_kind from to kind (faults.Alarm a t) e = refl
+
+neither : (a b : Bool) → (a || b) ≡ false → (a ≡ false) × (b ≡ false)
+neither true b e = cc
+neither false b e = (refl, e)
+
+none_strike : (from to : Actor) (kind : ℕ) (lines : List Fault) → is_watched lines kind ≡ false → filter (may_strike from to kind) lines ≡ []
+none_strike from to kind [] e = refl
+none_strike from to kind (line ∷ lines) e =
+    let b = neither (may_strike_kind kind line) (is_watched lines kind) e in
+    let some = filter (may_strike from to kind) lines in
+    ap (λ (b : Bool). let xs : List Fault = cond b (line ∷ some) some in xs) (spares_kind from to kind line b.0) ∙ none_strike from to kind lines b.1
+
+-- the lines leave the deliveries of its parcels
+pub unwatched_whole : (tick own : ℕ) (earlier : List Parcel) (p : Parcel) (lines : List Fault) (ds : List Delivery)
+    → kind_in_frame p.frame ≡ Some own → is_watched lines own ≡ false → ds ≡ after_faults tick earlier p lines ds
+unwatched_whole tick own earlier p lines ds is e =
+    ap (λ (xs : List Fault). after_faults tick earlier p xs ds) (sym (none_strike p.from p.to own lines e))
+    ∙ lines_suffice tick own earlier p lines ds is
 
 -- ---- blocks first
 

@@ -1,7 +1,8 @@
--- What a calendar says of what was sent: how many parcels, how many of each sender, receiver and kind, which fault
--- lines may strike them, and what is to come in each tick.
+-- What a calendar says of what was sent: how many parcels, how many of each sender, receiver and kind that a fault line
+-- names, which fault lines may strike them, and what is to come in each tick.
 use Rattle.std.specs.Prelude.{◌≡◌, ℕ, ◌+◌, ◌-◌, ◌*◌, ◌^◌, ◌<◌, ◌≤◌, ◌==◌, ◌&&◌, min, Bool, true, false, Option, None, Some, MatchOption, IfSome, if◌then◌else◌}
 use Rattle.std.specs.Prelude.{List, [], ◌∷◌, ◌++◌, length, map, filter, get_or}
+use Rattle.std.specs.List.{list_any}
 use Rattle.std.specs.Map.{lookup}
 use Rattle.std.specs.Option.{option_map_or}
 use Rattle.nz_base.specs.Actor.{actor_eq}
@@ -18,9 +19,10 @@ use Rattle.nz_fabric.specs.declared.course.Course.{Course}
 use Rattle.nz_fabric.specs.declared.course.Traffic.{Traffic}
 use Rattle.nz_fabric.specs.Numbered.{items_under}
 
--- The number of parcels, the traffic of each course, and the items of each tick from 0 on.
+-- The number of parcels, the fault lines, the traffic of each course, and the items of each tick from 0 on.
 pub record Dates : Type 0 where
   pub parcels : ℕ
+  pub watched : List Fault
   pub courses : List (Course × Traffic)
   pub days : List (List Item)
 
@@ -85,6 +87,28 @@ names n (faults.Twice a b k count by) = count == n
 names n (faults.Cut a b k count keep) = count == n
 names n _ = false
 
+-- Whether a fault line may strike some parcel of this kind. A block may strike each.
+abbrev pub may_strike_kind : ℕ → Fault → Bool
+may_strike_kind kind (faults.Drop a b k count) = kind == k
+may_strike_kind kind (faults.Hold a b k count by) = kind == k
+may_strike_kind kind (faults.Twice a b k count by) = kind == k
+may_strike_kind kind (faults.Cut a b k count keep) = kind == k
+may_strike_kind kind (faults.Block a b first last) = true
+may_strike_kind kind _ = false
+
+-- Whether some of these lines may. Parcels of other kinds are not counted.
+abbrev pub is_watched : List Fault → ℕ → Bool
+is_watched lines kind = list_any (may_strike_kind kind) lines
+
+-- Each kind has a mark exactly where it is watched.
+abbrev pub AreMarked : List Fault → List Bool → Type 0
+AreMarked lines marks = (kind : ℕ) → kind < 256 → get_or marks kind false ≡ is_watched lines kind
+
+-- The kind by which a parcel is counted, if its frame has a kind that is watched.
+abbrev pub counted_kind : List Fault → Option ℕ → Option ℕ
+counted_kind lines None = None
+counted_kind lines (Some k) = if is_watched lines k then Some k else None
+
 -- These fault lines are kept: the blocks, and under each number the lines that name it, each list in their order.
 pub record HasLines (lines : List Fault) (t : Traffic) : Type 0 where
   pub blocks : t.blocks ≡ filter is_block lines
@@ -102,7 +126,7 @@ pub record IsOneMore (lines : List Fault) (before after : List (Course × Traffi
   pub kept : HasLines (filter (may_strike p.from p.to kind) lines) traffic
   pub courses : (c : Course) → traffic_on after c ≡ (if course_eq (course p.from p.to kind) c then Some traffic else traffic_on before c)
 
--- A parcel is counted, where its frame has a kind.
+-- A parcel is counted, where it has a kind by which it is.
 abbrev pub IsCounted : List Fault → List (Course × Traffic) → List (Course × Traffic) → Parcel → Option ℕ → Type 0
 IsCounted lines before after p k = MatchOption k (after ≡ before) (IsOneMore lines before after p)
 
@@ -124,17 +148,19 @@ abbrev pub KeepsLines : List Fault → List (Course × Traffic) → Type 0
 KeepsLines lines courses =
     (from to : Actor) (kind : ℕ) → IfSome (traffic_on courses (course from to kind)) (HasLines (filter (may_strike from to kind) lines))
 
--- The calendar counts these parcels, keeps of each course the fault lines that may strike it, and has of each later
--- tick what the schedule says of the parcels.
+-- The calendar counts these parcels where a fault line may strike their kind, keeps of each course the fault lines that
+-- may strike it, and has of each later tick what the schedule says of the parcels.
 pub record StandsFor (s : Scenario) (L : List Posted) (now : ℕ) (c : Dates) : Type 0 where
   pub parcels : c.parcels ≡ length L
-  pub counts : (from to : Actor) (kind : ℕ) → count_of c.courses (course from to kind) ≡ length (filter (is_parcel_of from to kind) (parcels_of L))
+  pub watched : c.watched ≡ s.faults
+  pub counts : (from to : Actor) (kind : ℕ) → is_watched s.faults kind ≡ true
+      → count_of c.courses (course from to kind) ≡ length (filter (is_parcel_of from to kind) (parcels_of L))
   pub lines : KeepsLines s.faults c.courses
   pub items : (t : ℕ) → now < t → t ≤ s.ticks → items_in c.days t ≡ arrivals s t [] L
 
--- Before the first parcel.
-abbrev pub no_dates : Dates
-no_dates = record { parcels = 0; courses = []; days = [] }
+-- Before the first parcel, with these fault lines.
+abbrev pub no_dates : List Fault → Dates
+no_dates lines = record { parcels = 0; watched = lines; courses = []; days = [] }
 
 -- After some parcels a prefix of these was posted.
 pub record HasPosted (s : Scenario) (L all : List Posted) (now : ℕ) (c : Dates) : Type 0 where

@@ -12,7 +12,7 @@ use Rattle.nz_machine.specs.Schedule.{Delivery as DeliveryModel, is_parcel_of, i
 use Rattle.nz_machine.specs.Schedule.{item, delivery_event, after_faults, whole_in}
 use Rattle.nz_fabric.specs.declared.deliveries.Delivery.{Delivery}
 use Rattle.nz_fabric.specs.declared.calendar.Arrival.{Arrival}
-use Rattle.nz_fabric.specs.Calendars.{items_in}
+use Rattle.nz_fabric.specs.Calendars.{is_watched, items_in}
 
 -- The ticks of deliveries stop here, which is after the last tick of every run.
 abbrev pub last_delivery_tick : ℕ
@@ -30,6 +30,11 @@ put_off by d = record d { tick = min (d.tick + by) last_delivery_tick }
 abbrev pub HasNumber : List Parcel → Parcel → ℕ → Type 0
 HasNumber earlier p number =
     (from to : Actor) (kind : ℕ) → is_parcel_of from to kind p ≡ true → number ≡ length (filter (is_parcel_of from to kind) earlier) + 1
+
+-- The same, if fault lines may strike parcels of its kind.
+abbrev pub HasNumberIfWatched : List Fault → List Parcel → Parcel → ℕ → Type 0
+HasNumberIfWatched lines earlier p number = (from to : Actor) (kind : ℕ) → is_watched lines kind ≡ true
+    → is_parcel_of from to kind p ≡ true → number ≡ length (filter (is_parcel_of from to kind) earlier) + 1
 
 -- Whether a fault line strikes a parcel that is sent in a tick after earlier parcels.
 abbrev pub strikes : ℕ → List Parcel → Parcel → Fault → Bool

@@ -1,28 +1,32 @@
 //! The calendar of coming deliveries.
 //!
 //! A *course* is a sender, a receiver and a kind, whose parcels are counted together. Its *traffic* is their
-//! number, and the fault lines that may strike them. A *day* is the items of one later tick.
+//! number, and the fault lines that may strike them. A *day* is the items of one later tick. A kind is
+//! *watched* if some fault line may strike a parcel of it.
 //!
-//! A parcel costs one look at its traffic, one comparison with each block whose ends name its sender and
-//! receiver, and one with each line that names its number. The lines of a course are found with its first
-//! parcel, which costs a look at every line, and copied. A tick costs what is due in it. What the lines for
-//! crashes, restarts and alarms ask is listed once, at the start, by ticks.
+//! A parcel of a kind that is not watched goes into the next day, and is not counted. Another costs one look
+//! at its traffic, one comparison with each block whose ends name its sender and receiver, and one with each
+//! line that names its number. The lines of a course are found with its first parcel, which costs a look at
+//! every line, and copied. A tick costs what is due in it. What the lines for crashes, restarts and alarms ask
+//! is listed once, at the start, by ticks.
 
 ghost use Rattle.std.specs.Prelude.{◌≡◌, ◌-◌, ◌<◌, ◌≤◌, ◌^◌, ◌∷◌, ◌++◌, [], ℕ, List, length, map};
 ghost use Rattle.std.specs.Prelude.{None, Some, IfOk, OnOk, OnErr};
 ghost use Rattle.nz_base.specs.declared.scenario.Scenario.{Scenario as ScenarioModel};
 ghost use Rattle.nz_machine.specs.declared.event.Parcel.{Parcel as ParcelModel};
 ghost use Rattle.nz_machine.specs.Schedule.{IsPlayable, Posted, posted_in, arrivals, kind_in_frame};
-ghost use Rattle.nz_fabric.specs.Calendars.{course, StandsFor, IsCounted, IsOneMore, KeepsLines, no_dates, items_in, lines_at, next_number, traffic_of, traffic_on};
+ghost use Rattle.nz_fabric.specs.Calendars.{course, StandsFor, IsCounted, IsOneMore, KeepsLines, counted_kind, no_dates, items_in};
+ghost use Rattle.nz_fabric.specs.Calendars.{lines_at, next_number, traffic_of, traffic_on};
 ghost use Rattle.nz_fabric.specs.Posting.{arrival_of, items_arriving, arrivals_by, arrivals_up_to, days_of, HasNumber, HasRoomFor, HasRooms};
-ghost use Rattle.nz_fabric.specs.Posting.{AreKept, ArePlaced, AreShort};
+ghost use Rattle.nz_fabric.specs.Posting.{AreKept, ArePlaced, AreShort, HasNumberIfWatched};
 
 use crate::agenda::no_item;
 use crate::course::{Course, Traffic, course_of, first_traffic};
 use crate::deliveries::Delivery;
 use crate::faults::deliveries_of;
+use crate::kinds::Kinds;
 use indexmap::IndexMap;
-use nz_base::{List, NoMemory, Scenario, TryCopy};
+use nz_base::{FaultList, List, NoMemory, Scenario, TryCopy};
 use nz_machine::{Event, Item, ItemList, SharedParcel, kind_of};
 use smallvec::SmallVec;
 use std::alloc::Global;
@@ -48,12 +52,15 @@ impl Default for Arrival {
 /// The deliveries of one parcel that are to come. One takes no memory of its own.
 type Arrivals = SmallVec<Arrival, 1>;
 
-/// What is still to come of what was sent. A parcel costs a look at each block that may strike parcels of its course and at
-/// each fault line that names it, and the first of a course a look at every line. A tick costs what is due in it.
+/// What is still to come of what was sent. A parcel of a kind that no fault line may strike costs no look at a line. Another
+/// costs a look at each block that may strike parcels of its course and at each line that names it, and the first of a course
+/// a look at every line. A tick costs what is due in it.
 #[derive(Drop)]
 pub struct Calendar {
     alloc: Global,
     parcels: u64,
+    /// The kinds whose parcels are counted.
+    watched: Kinds,
     courses: IndexMap<Course, Traffic>,
     /// The items of each tick, from tick 0 on.
     days: Vec<Vec<Item>>,
@@ -65,7 +72,7 @@ impl Model for Calendar {
 
     ghost Value = { Dates };
 
-    ghost view = { λ c. record { parcels = c.parcels; courses = c.courses.entries; days = days_of c.days.items } };
+    ghost view = { λ c. record { parcels = c.parcels; watched = c.watched; courses = c.courses.entries; days = days_of c.days.items } };
 
     ghost invariant = { λ c. AreShort c.days.items };
 }
@@ -327,9 +334,50 @@ fn place_without_course(
     place_deliveries(alloc, days, scenario.ticks, parcel, deliveries.as_slice())
 }
 
-/// A parcel is counted, and what comes of it goes last into its days. It takes one look at what is kept of its course.
+/// A parcel of a kind that is watched is counted, and what comes of it goes last into its days. It takes one look at what is
+/// kept of its course.
+fn post_on_course(
+    alloc: Global,
+    courses: &mut IndexMap<Course, Traffic>,
+    days: &mut Vec<Vec<Item>>,
+    scenario: &Scenario,
+    tick: u32,
+    parcel: &SharedParcel,
+    kind: u8,
+) -> Result<(), NoMemory>
+    requires kind { Some kind ≡ kind_in_frame parcel.now.frame }
+    requires short { AreShort days.old.items }
+    ensures short { AreShort days.new.items }
+    ensures counted { KeepsLines scenario.now.faults courses.old.entries
+        → OnOk result (IsOneMore scenario.now.faults courses.old.entries courses.new.entries parcel.now kind) }
+    ensures placed { KeepsLines scenario.now.faults courses.old.entries
+        → (earlier : List ParcelModel)
+        → HasNumber earlier parcel.now (next_number (traffic_on courses.old.entries (course parcel.now.from parcel.now.to kind)))
+        → OnOk result (ArePlaced days.old.items (arrivals_by scenario.now.ticks tick earlier parcel.now scenario.now.faults) days.new.items) }
+    ensures err { OnErr result ((courses.new.entries ≡ courses.old.entries) × AreKept days.old.items days.new.items) }
+{
+    match courses.get_mut(&course_of(parcel.get(), kind)) {
+        None => post_first(alloc, courses, days, scenario, tick, parcel, kind),
+        Some(traffic) => {
+            place_on_course(
+                alloc,
+                days,
+                traffic,
+                scenario.ticks,
+                tick,
+                parcel,
+                Some(kind),
+            )?;
+            traffic.count = traffic.count.saturating_add(1);
+            Ok(())
+        }
+    }
+}
+
+/// What comes of a parcel goes last into its days. It is counted, if its kind is watched.
 fn post_parcel(
     alloc: Global,
+    watched: &Kinds,
     courses: &mut IndexMap<Course, Traffic>,
     days: &mut Vec<Vec<Item>>,
     scenario: &Scenario,
@@ -338,37 +386,34 @@ fn post_parcel(
 ) -> Result<(), NoMemory>
     requires short { AreShort days.old.items }
     ensures short { AreShort days.new.items }
-    ensures counted { KeepsLines scenario.now.faults courses.old.entries
-        → OnOk result (IsCounted scenario.now.faults courses.old.entries courses.new.entries parcel.now (kind_in_frame parcel.now.frame)) }
-    ensures placed { KeepsLines scenario.now.faults courses.old.entries
-        → (earlier : List ParcelModel) → HasNumber earlier parcel.now (next_number (traffic_of courses.old.entries parcel.now (kind_in_frame parcel.now.frame)))
+    ensures counted { watched.now ≡ scenario.now.faults → KeepsLines scenario.now.faults courses.old.entries
+        → OnOk result (IsCounted scenario.now.faults courses.old.entries courses.new.entries parcel.now
+        (counted_kind scenario.now.faults (kind_in_frame parcel.now.frame))) }
+    ensures placed { watched.now ≡ scenario.now.faults → KeepsLines scenario.now.faults courses.old.entries → (earlier : List ParcelModel)
+        → HasNumberIfWatched scenario.now.faults earlier parcel.now
+        (next_number (traffic_of courses.old.entries parcel.now (counted_kind scenario.now.faults (kind_in_frame parcel.now.frame))))
         → OnOk result (ArePlaced days.old.items (arrivals_by scenario.now.ticks tick earlier parcel.now scenario.now.faults) days.new.items) }
     ensures err { OnErr result ((courses.new.entries ≡ courses.old.entries) × AreKept days.old.items days.new.items) }
 {
-    let sent = parcel.get();
-    let kind = kind_of(&sent.frame);
-    let Some(own) = kind else {
+    let Some(kind) = kind_of(&parcel.get().frame) else {
         return place_without_course(alloc, days, scenario, tick, parcel);
     };
-    match courses.get_mut(&course_of(sent, own)) {
-        None => post_first(alloc, courses, days, scenario, tick, parcel, own),
-        Some(traffic) => {
-            place_on_course(alloc, days, traffic, scenario.ticks, tick, parcel, kind)?;
-            traffic.count = traffic.count.saturating_add(1);
-            Ok(())
-        }
+    if watched.contains(kind) {
+        return post_on_course(alloc, courses, days, scenario, tick, parcel, kind);
     }
+    place_whole(alloc, days, scenario.ticks, tick, parcel)
 }
 
 impl Calendar {
     /// No parcel was posted, and nothing is to come.
-    pub fn new(alloc: Global) -> Calendar
-        ensures empty { result ≡ no_dates }
-        ensures stands { (s : ScenarioModel) → StandsFor s [] 0 result }
+    pub fn new(alloc: Global, faults: &FaultList) -> Calendar
+        ensures empty { result ≡ no_dates faults.now }
+        ensures stands { (s : ScenarioModel) → s.faults ≡ faults.now → StandsFor s [] 0 result }
     {
         Calendar {
             alloc,
             parcels: 0,
+            watched: Kinds::new(faults),
             courses: IndexMap::new(alloc),
             days: Vec::new(alloc),
         }
@@ -396,6 +441,7 @@ impl Calendar {
     {
         post_parcel(
             self.alloc,
+            &self.watched,
             &mut self.courses,
             &mut self.days,
             scenario,

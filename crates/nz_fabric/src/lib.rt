@@ -30,6 +30,7 @@ mod fabric;
 mod fabric_state;
 mod faults;
 mod grouping;
+mod kinds;
 mod lane;
 mod name;
 mod numbered;

@@ -46,12 +46,13 @@ impl Ticks {
         ensures { IfOk result (IsNew scenario) }
     {
         let calls = calls_of(alloc, scenario.faults.as_slice())?;
+        let calendar = Calendar::new(alloc, &scenario.faults);
         Ok(Ticks {
             alloc,
             scenario,
             calls,
             tick: 0,
-            calendar: Calendar::new(alloc),
+            calendar,
             marked: false,
         })
     }

@@ -1,14 +1,61 @@
--- The fabric may be shared by threads. It has a snapshot, of which rattle does not say so by itself.
+-- The fabric may be shared by threads. The kinds in its calendar and its agenda have snapshots, of which rattle does not say
+-- so by itself.
+use denote.Param.SendFields.{declared_send}
 use denote.Param.Send.{IsSend, IsSync, sendable}
+use denote.Hole.{as_row}
 use denote.RattleType.{RattleType}
 use denote.Struct.Declared.{row}
 use Rattle.std.proofs.Crossing.{crosses}
 use Rattle.std.proofs.sync.ledger.Book.TheSendSync.{the_send as book_send}
-use Rattle.nz_machine.proofs.journal.Item.TheSendSync.{the_send as item_send}
+use Rattle.indexmap.proofs.map.IndexMap.TheSendSync.{the_send as map_send}
+use Rattle.nz_base.proofs.scenario.Scenario.TheSendSync.{the_field_send as scenario_send}
+use Rattle.nz_machine.proofs.journal.Item.TheSendSync.{the_send as item_send, the_field_send as item_field_send}
+use Rattle.nz_fabric.proofs.course.Course.TheSendSync.{the_field_send as course_send}
+use Rattle.nz_fabric.proofs.course.Traffic.TheSendSync.{the_field_send as traffic_send}
+use Rattle.nz_fabric.proofs.numbered.Numbered.TheSendSync.{the_send as numbered_send}
 use Rattle.nz_fabric.proofs.open_batches.OpenBatches.TheSendSync.{the_send as batches_send}
 use Rattle.nz_fabric.proofs.records.Records.TheSendSync.{the_send as records_send}
-use Rattle.nz_fabric.proofs.ticks.Ticks.TheSendSync.{the_field_send as ticks_send}
+use Rattle.nz_fabric.specs.contracts.agenda.Agenda as Agenda
+use Rattle.nz_fabric.specs.contracts.calendar.Calendar as Calendar
 use Rattle.nz_fabric.specs.contracts.fabric.Fabric as Fabric
+use Rattle.nz_fabric.specs.contracts.fabric_state.FabricState.TheInside as Inside
+use Rattle.nz_fabric.specs.contracts.kinds.Kinds as Kinds
+use Rattle.nz_fabric.specs.contracts.ticks.Ticks as Ticks
+
+kinds_send : IsSend Kinds.the_row
+kinds_send = search (sendable, crosses) depth 40 fits 20000
+
+calendar_send : IsSend Calendar.the_row
+calendar_send = search (sendable, crosses, kinds_send, map_send, course_send, traffic_send, item_field_send) depth 40 fits 20000
+
+ticks_send : IsSend (as_row Ticks.the_field)
+ticks_send = search (sendable, crosses, scenario_send, numbered_send, item_send, calendar_send) depth 40 fits 20000
+
+agenda_send : IsSend Agenda.the_row
+agenda_send = search (sendable, crosses, item_send) depth 40 fits 20000
+
+-- the state of the fabric, field by field
+inside_send : (N : RattleType) (name : _) (ledger : _) → IsSend N → IsSend (row (Inside.the_type N name ledger))
+inside_send N name ledger send =
+    declared_send (Inside.the_type N name ledger) (
+      ticks_send,
+      (
+        agenda_send,
+        (
+          search (sendable, crosses, records_send) depth 40 fits 20000,
+          (
+            search sendable,
+            (
+              search (sendable, crosses, batches_send) depth 40 fits 20000,
+              (
+                search (sendable, crosses, book_send) depth 40 fits 20000,
+                (search sendable, (search sendable, (search sendable, tt))),
+              ),
+            ),
+          ),
+        ),
+      ),
+    )
 
 pub fabric_sync : (N : RattleType) (name : _) (ledger : _) → IsSend N → IsSync (row (Fabric.the_type N name ledger))
-fabric_sync N name ledger send = search (sendable, crosses, book_send, item_send, batches_send, records_send, ticks_send) depth 40 fits 20000
+fabric_sync N name ledger send = search (sendable, crosses, inside_send) depth 40 fits 20000

@@ -1,87 +1,67 @@
 -- What the function of this folder owes, proved.
-use Rattle.std.proofs.Common.{◌≡◌, ◌∙◌, ◌+◌, ◌++◌, ◌∷◌, [], ℕ, List, None, Some, Option, map, sym, ap, subst, arith}
-use Rattle.std.proofs.lemmas.Grind.{common_steps}
-use Rattle.std.proofs.lemmas.Map.Steps.{set_value_same}
-use Rattle.std.specs.Prelude.{filter, IfSome, OnOk}
+use Rattle.std.proofs.Common.{◌≡◌, ◌∙◌, ◌+◌, ◌∷◌, [], ℕ, List, true, false, None, Some, Option, map, refl, sym, ap, subst}
+use Rattle.std.proofs.lemmas.Result.{on_ok_weaker}
+use Rattle.std.specs.Prelude.{OnOk}
+use Rattle.nz_base.specs.declared.scenario.Fault.{Fault}
 use Rattle.nz_machine.specs.Schedule.{Delivery, kind_in_frame, whole_in}
 use Rattle.nz_machine.specs.declared.event.Parcel.{Parcel}
-use Rattle.nz_fabric.specs.declared.course.Traffic.{Traffic}
-use Rattle.nz_fabric.specs.Calendars.{course, items_in, may_strike, next_number, traffic_of, traffic_on, HasLines, IsCounted}
-use Rattle.nz_fabric.specs.Posting.{arrival_of, arrivals_by, arrivals_up_to, days_of, delivery_as_stored, items_arriving, AreKept, ArePlaced, HasNumber}
-use Rattle.nz_fabric.proofs.Sending.{on_err}
-use Rattle.nz_fabric.proofs.Striking.{kept_suffice}
+use Rattle.nz_fabric.specs.Calendars.{counted_kind, is_watched, next_number, traffic_of, IsCounted}
+use Rattle.nz_fabric.specs.Posting.{arrival_of, arrivals_up_to, delivery_as_stored, ArePlaced, HasNumberIfWatched}
+use Rattle.nz_fabric.proofs.Numbering.{number_if, number_of_none, kind_counted}
+use Rattle.nz_fabric.proofs.Striking.{unwatched_whole}
 use Rattle.nz_fabric.proofs.calendar.post_parcel.Goals as goal
 
 pub returns-in_default-clause-placed : goal.returns-in_default-clause-placed
-returns-in_default-clause-placed c = λ keeps earlier is.
+returns-in_default-clause-placed c = λ same keeps earlier is.
     let p = c.args.parcel.now in
-    let s = c.args.scenario.now in
-    let own : None ≡ kind_in_frame p.frame = sym c.in_default.is ∙ c.kind_of-kind.ensures ∙ ap (λ (q : Parcel). kind_in_frame q.frame) c.get-sent.ensures in
-    subst (λ (k : Option ℕ). HasNumber earlier p (next_number (traffic_of c.args.courses.now.entries p k)) → OnOk c.place_without_course.result
-    (ArePlaced c.args.days.now.items (arrivals_by s.ticks c.args.tick earlier p s.faults) c.place_without_course.new.days.items))
-    own (c.place_without_course.ensures.ok earlier) is
+    let none : None ≡ kind_in_frame p.frame = sym c.in_default.is ∙ c.kind_of.ensures ∙ ap (λ (q : Parcel). kind_in_frame q.frame) c.get.ensures in
+    c.place_without_course.ensures.ok earlier (number_of_none earlier p 1 none)
 
-pub returns-in_err-place_on_course-in-Some-get_mut-clause-err : goal.returns-in_err-place_on_course-in-Some-get_mut-clause-err
-returns-in_err-place_on_course-in-Some-get_mut-clause-err c =
-    let before = c.args.courses.now.entries in
-    let traffic = c.in-Some-get_mut.traffic.now in
-    let after = (c.get_mut.follows.lender traffic).entries in
-    let same : (after ≡ before) × AreKept c.args.days.now.items c.place_on_course.new.days.items = (
-      (c.get_mut.follows.holds traffic).0 ∙ set_value_same _ before traffic (sym c.in-Some-get_mut.ensures.value),
-      c.in_err-place_on_course-in-Some-get_mut.ensures.err,
-    ) in
-    on_err _ _ same
-
-pub returns-in-None-clause-placed : goal.returns-in-None-clause-placed
-returns-in-None-clause-placed c = λ keeps earlier is.
-    let p = c.args.parcel.now in
-    let s = c.args.scenario.now in
-    let courses = c.args.courses.now.entries in
-    let none : None ≡ traffic_of courses p (kind_in_frame p.frame) =
-    c.in-None.ensures.value ∙ ap (traffic_on courses) (c.course_of.ensures ∙ ap (λ (q : Parcel). course q.from q.to c.in-Some.own) c.get-sent.ensures)
-    ∙ ap (traffic_of courses p) (sym c.in-Some.is ∙ c.kind_of-kind.ensures ∙ ap (λ (q : Parcel). kind_in_frame q.frame) c.get-sent.ensures) in
-    subst (λ (kept : Option Traffic). HasNumber earlier p (next_number kept) → OnOk c.post_first.result
-    (ArePlaced c.args.days.now.items (arrivals_by s.ticks c.args.tick earlier p s.faults) c.post_first.new.days.items))
-    none (c.post_first.ensures.placed earlier) is
-
-pub returns-in_ok-place_on_course-in-Some-get_mut-clause-counted : goal.returns-in_ok-place_on_course-in-Some-get_mut-clause-counted
-returns-in_ok-place_on_course-in-Some-get_mut-clause-counted c = λ keeps.
+pub returns-then-contains-clause-counted : goal.returns-then-contains-clause-counted
+returns-then-contains-clause-counted c = λ same keeps.
     let p = c.args.parcel.now in
     let lines = c.args.scenario.now.faults in
-    let own = c.in-Some.own in
-    let before = c.args.courses.now.entries in
-    let old = c.in-Some-get_mut.traffic.now in
-    let new : Traffic = record { count = c.saturating_add-traffic.result; blocks = old.blocks; named = old.named } in
-    let kind : Some own ≡ kind_in_frame p.frame =
-    sym c.in-Some.is ∙ c.kind_of-kind.ensures ∙ ap (λ (q : Parcel). kind_in_frame q.frame) c.get-sent.ensures in
-    let at : Some old ≡ traffic_on before (course p.from p.to own) =
-    c.in-Some-get_mut.ensures.value ∙ ap (traffic_on before) (c.course_of.ensures ∙ ap (λ (q : Parcel). course q.from q.to own) c.get-sent.ensures) in
-    let kept = subst (λ (o : Option Traffic). IfSome o (HasLines (filter (may_strike p.from p.to own) lines))) (sym at) (keeps p.from p.to own) in
-    subst (IsCounted lines before (c.get_mut.follows.lender new).entries p) kind (record {
-      traffic = new;
-      count = c.saturating_add-traffic.ensures ∙ ap next_number at;
-      kept = record { blocks = kept.blocks; named = kept.named };
-      courses = λ x. grind (arith, common_steps);
-    })
+    let kind = c.in-Some.kind in
+    let own : Some kind ≡ kind_in_frame p.frame = sym c.in-Some.is ∙ c.kind_of.ensures ∙ ap (λ (q : Parcel). kind_in_frame q.frame) c.get.ensures in
+    let watched : is_watched lines kind ≡ true = ap (λ (lines : List Fault). is_watched lines kind) (sym same) ∙ sym c.contains.ensures ∙ c.if-contains.true in
+    subst (λ (k : Option ℕ). OnOk c.post_on_course.result
+    (IsCounted lines c.args.courses.now.entries c.post_on_course.new.courses.entries p k))
+    (kind_counted lines kind p true own watched) (c.post_on_course.ensures.counted keeps)
 
-pub returns-in_ok-place_on_course-in-Some-get_mut-clause-placed : goal.returns-in_ok-place_on_course-in-Some-get_mut-clause-placed
-returns-in_ok-place_on_course-in-Some-get_mut-clause-placed c = λ keeps earlier is t.
+pub returns-then-contains-clause-placed : goal.returns-then-contains-clause-placed
+returns-then-contains-clause-placed c = λ same keeps earlier is.
+    let p = c.args.parcel.now in
+    let lines = c.args.scenario.now.faults in
+    let before = c.args.courses.now.entries in
+    let kind = c.in-Some.kind in
+    let own : Some kind ≡ kind_in_frame p.frame = sym c.in-Some.is ∙ c.kind_of.ensures ∙ ap (λ (q : Parcel). kind_in_frame q.frame) c.get.ensures in
+    let watched : is_watched lines kind ≡ true = ap (λ (lines : List Fault). is_watched lines kind) (sym same) ∙ sym c.contains.ensures ∙ c.if-contains.true in
+    let number = subst (λ (k : Option ℕ). HasNumberIfWatched lines earlier p (next_number (traffic_of before p k)))
+    (sym (kind_counted lines kind p true own watched)) is in
+    c.post_on_course.ensures.placed keeps earlier (number_if lines earlier p _ kind own watched number)
+
+pub returns-clause-counted : goal.returns-clause-counted
+returns-clause-counted c = λ same keeps.
+    let p = c.args.parcel.now in
+    let lines = c.args.scenario.now.faults in
+    let before = c.args.courses.now.entries in
+    let kind = c.in-Some.kind in
+    let own : Some kind ≡ kind_in_frame p.frame = sym c.in-Some.is ∙ c.kind_of.ensures ∙ ap (λ (q : Parcel). kind_in_frame q.frame) c.get.ensures in
+    let free : is_watched lines kind ≡ false = ap (λ (lines : List Fault). is_watched lines kind) (sym same) ∙ sym c.contains.ensures ∙ c.if-contains.false in
+    let counted : IsCounted lines before before p (counted_kind lines (kind_in_frame p.frame)) =
+    subst (IsCounted lines before before p) (kind_counted lines kind p false own free) refl in
+    on_ok_weaker c.place_whole.result (λ placed. counted) (c.place_whole.ensures.ok [])
+
+pub returns-clause-placed : goal.returns-clause-placed
+returns-clause-placed c = λ same keeps earlier is.
     let p = c.args.parcel.now in
     let s = c.args.scenario.now in
     let tick = c.args.tick in
-    let own = c.in-Some.own in
-    let before = c.args.courses.now.entries in
-    let old = c.in-Some-get_mut.traffic.now in
+    let kind = c.in-Some.kind in
     let whole : List Delivery = whole_in (tick + 1) ∷ [] in
-    let kind : Some own ≡ kind_in_frame p.frame =
-    sym c.in-Some.is ∙ c.kind_of-kind.ensures ∙ ap (λ (q : Parcel). kind_in_frame q.frame) c.get-sent.ensures in
-    let at : Some old ≡ traffic_on before (course p.from p.to own) =
-    c.in-Some-get_mut.ensures.value ∙ ap (traffic_on before) (c.course_of.ensures ∙ ap (λ (q : Parcel). course q.from q.to own) c.get-sent.ensures) in
-    let kept = subst (λ (o : Option Traffic). IfSome o (HasLines (filter (may_strike p.from p.to own) s.faults))) (sym at) (keeps p.from p.to own) in
-    let number : HasNumber earlier p (next_number (Some old)) =
-    subst (λ (o : Option Traffic). HasNumber earlier p (next_number o)) (sym at)
-    (subst (λ (k : Option ℕ). HasNumber earlier p (next_number (traffic_of before p k))) (sym kind) is) in
-    c.in_ok-place_on_course-in-Some-get_mut.ensures.ok earlier number t
-    ∙ ap (λ (ds : List Delivery). items_in (days_of c.args.days.now.items) t
-    ++ items_arriving t (arrivals_up_to s.ticks (map (arrival_of p) (map delivery_as_stored ds))))
-    (kept_suffice tick own (next_number (Some old)) earlier p s.faults old whole kind number kept)
+    let own : Some kind ≡ kind_in_frame p.frame = sym c.in-Some.is ∙ c.kind_of.ensures ∙ ap (λ (q : Parcel). kind_in_frame q.frame) c.get.ensures in
+    let free : is_watched s.faults kind ≡ false =
+    ap (λ (lines : List Fault). is_watched lines kind) (sym same) ∙ sym c.contains.ensures ∙ c.if-contains.false in
+    subst (λ (ds : List Delivery). OnOk c.place_whole.result (ArePlaced c.args.days.now.items
+    (arrivals_up_to s.ticks (map (arrival_of p) (map delivery_as_stored ds))) c.place_whole.new.days.items))
+    (unwatched_whole tick kind earlier p s.faults whole (sym own) free) (c.place_whole.ensures.ok earlier)

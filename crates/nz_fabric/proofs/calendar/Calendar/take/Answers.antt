@@ -25,7 +25,7 @@ invariant_of-self c =
 pub returns-clause-stands : goal.returns-clause-stands
 returns-clause-stands c = λ s L now h lt.
     let f = c.self.inside in
-    stands_by s L c.args.tick c.args.self.now _ (ap (λ (d : Dates). d.parcels) c.self.view_is)
+    stands_by s L c.args.tick c.args.self.now _ (ap (λ (d : Dates). d.parcels) c.self.view_is) (ap (λ (d : Dates). d.watched) c.self.view_is)
     (ap (λ (d : Dates). d.courses) c.self.view_is)
     (λ t after. taken_later f.days.items c.args.tick t c.replace-day.new.dest after
     (ap (λ (v : Vec Item Global). v.items) c.replace-day.ensures.after ∙ c.new-2.ensures.items)

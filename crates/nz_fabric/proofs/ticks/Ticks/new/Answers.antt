@@ -3,4 +3,4 @@ use Rattle.std.proofs.Common.{refl}
 use Rattle.nz_fabric.proofs.ticks.Ticks.new.Goals as goal
 
 pub returns : goal.returns
-returns c = record { state = refl; stands = c.new.ensures.stands c.args.scenario }
+returns c = record { state = refl; stands = c.new-calendar.ensures.stands c.args.scenario refl }
