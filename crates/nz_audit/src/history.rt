@@ -1,18 +1,18 @@
 //! The history of a journal.
 
-ghost use Rattle.std.specs.Prelude.{◌≡◌, length, IfOk, IfSome};
+ghost use Rattle.std.specs.Prelude.{◌≡◌, [], length, IfOk};
 ghost use Rattle.nz_machine.specs.Journals.{group_in, run_in, executed_entries, history_in};
 ghost use Rattle.nz_machine.specs.Tellings.{told_by_run};
 ghost use Rattle.nz_machine.specs.World.{World};
 ghost use Rattle.nz_replica.specs.Models.{AreCores};
-ghost use Rattle.nz_audit.specs.Cores.{IsReplayed};
-ghost use Rattle.nz_audit.specs.Prefixes.{prefix_for, IsWithin, AreAccepted};
+ghost use Rattle.nz_audit.specs.Cores.{AreReplayed};
+ghost use Rattle.nz_audit.specs.Prefixes.{prefix_for, IsWithin, AreAccepted, IsFound};
 
 use super::executing::execute;
 use super::first_view::{longest_in, only_log};
 use super::leading::log_since;
-use super::replaying::{Replayed, replay};
-use super::searching::longest_of;
+use super::replaying::{Replays, replay};
+use super::searching::Search;
 use super::source::{AcceptedAt, Counted};
 use super::telling::accepted_in;
 use nz_base::NoMemory;
@@ -20,29 +20,67 @@ use nz_machine::{History, Journal, ToldAt};
 use nz_replica::Replica;
 use std::alloc::Global;
 
-/// The prefix of the answer, with what one store that executes it answers. Its replica is replayed up to the source
-/// only where it does not lead the view of its reply to the end of the run. The replay goes on from this one.
+/// The prefix of the answer, with what one store that executes it answers. Its replica is replayed up to the source.
+fn execute_replayed(
+    alloc: Global,
+    journal: &Journal,
+    replays: &mut Replays,
+    best: Counted,
+) -> Result<History, NoMemory>
+    requires within { IsWithin journal.now best.accepted }
+    requires counted { best.entries ≡ length (prefix_for journal.now best.accepted) }
+    requires replays { AreReplayed journal.now replays.old }
+    ensures { IfOk result (λ history. history ≡ executed_entries (prefix_for journal.now best.accepted)) }
+{
+    let at = replays.take_for(best.accepted.source);
+    let replayed = replay(alloc, journal, at, best.accepted.source)?;
+    execute(alloc, replayed.core.log(), best.entries)
+}
+
+/// The prefix of the answer, with what one store that executes it answers. Its replica is replayed only where it does
+/// not lead the view of its reply to the end of the run. The replay goes on from one of these.
 fn executed(
     alloc: Global,
     journal: &Journal,
     replicas: &[Replica],
-    at: Option<Replayed>,
+    replays: &mut Replays,
     best: Counted,
 ) -> Result<History, NoMemory>
     requires within { IsWithin journal.now best.accepted }
     requires counted { best.entries ≡ length (prefix_for journal.now best.accepted) }
     requires replicas { AreCores (group_in journal.now) (run_in journal.now) replicas.now }
-    requires at { IfSome at (IsReplayed journal.now) }
+    requires replays { AreReplayed journal.now replays.old }
     ensures { IfOk result (λ history. history ≡ executed_entries (prefix_for journal.now best.accepted)) }
 {
-    if let Some(log) = log_since(alloc, journal, replicas, &best.accepted)? {
-        return execute(alloc, log, best.entries);
+    match log_since(alloc, journal, replicas, &best.accepted)? {
+        Some(log) => execute(alloc, log, best.entries),
+        None => execute_replayed(alloc, journal, replays, best),
     }
-    let replayed = replay(alloc, journal, at, best.accepted.source)?;
-    execute(alloc, replayed.core.log(), best.entries)
 }
 
-/// The history, found among the prefixes of the accepted answers. Only those are looked for that may be the longest.
+/// The history, found by a new search among the prefixes of the accepted answers. Only those are looked for that may be
+/// the longest.
+fn longest_history(
+    alloc: Global,
+    journal: &Journal,
+    replicas: &[Replica],
+    accepted: Vec<AcceptedAt>,
+    found: &mut Search,
+) -> Result<History, NoMemory>
+    requires world { World (group_in journal.now) (run_in journal.now) }
+    requires replicas { AreCores (group_in journal.now) (run_in journal.now) replicas.now }
+    requires accepted { AreAccepted journal.now (run_in journal.now) accepted.items }
+    requires first { IsFound journal.now [] found.old }
+    ensures { IfOk result (λ history. history ≡ history_in journal.now) }
+{
+    found.weigh_in_rounds(alloc, journal, replicas, accepted)?;
+    match found.best {
+        None => Ok(History::new(alloc)),
+        Some(best) => executed(alloc, journal, replicas, &mut found.replays, best),
+    }
+}
+
+/// The same, with a search of its own.
 fn searched(
     alloc: Global,
     journal: &Journal,
@@ -54,14 +92,8 @@ fn searched(
     requires accepted { AreAccepted journal.now (run_in journal.now) accepted.items }
     ensures { IfOk result (λ history. history ≡ history_in journal.now) }
 {
-    let found = longest_of(alloc, journal, replicas, accepted)?;
-    match found.best {
-        None => Ok(History::new(alloc)),
-        Some(best) => {
-            let at = found.replays.for_longest(best.accepted.source);
-            executed(alloc, journal, replicas, at, best)
-        }
-    }
+    let mut found = Search::new();
+    longest_history(alloc, journal, replicas, accepted, &mut found)
 }
 
 /// The history of the journal's run, with what the one store that executes it answers. It is the longest of

@@ -8,28 +8,35 @@ ghost use Rattle.nz_machine.specs.State.{Group};
 ghost use Rattle.nz_machine.specs.declared.event.Record.{Record};
 ghost use Rattle.nz_replica.specs.Models.{AreCores};
 ghost use Rattle.nz_replay.specs.Runs.{run_up_to};
-ghost use Rattle.nz_audit.specs.Leading.{view_brought, first_view_brought, RepliesIn};
+ghost use Rattle.nz_audit.specs.Leading.{view_of_message, view_brought, first_view_brought, RepliesIn};
 ghost use Rattle.nz_audit.specs.Prefixes.{HasPrefix, IsWithin};
 
-use super::envelopes::envelope_of;
 use super::source::{AcceptedAnswer, Source};
 use nz_base::NoMemory;
 use nz_log::HashedLog;
-use nz_machine::{Journal, Parcel, SharedParcel};
-use nz_msg::Message;
+use nz_machine::{Journal, Parcel, SharedParcel, heard};
+use nz_msg::{Message, decode};
 use nz_replica::Replica;
 use std::alloc::Global;
+
+/// The view of the message, if it is a fast reply.
+fn view_in(message: &Message) -> Option<u64>
+    ensures { result ≡ view_of_message message.now }
+{
+    match message {
+        Message::FastReply(body) => Some(body.view),
+        _ => None,
+    }
+}
 
 /// The view of the fast reply that the parcel brings, if it brings one.
 fn view_of(alloc: Global, parcel: &Parcel) -> Result<Option<u64>, NoMemory>
     ensures { IfOk result (λ view. view ≡ view_brought parcel.now) }
 {
-    let Some(envelope) = envelope_of(alloc, parcel.to, parcel)? else {
-        return Ok(None);
-    };
-    match &envelope.message {
-        Message::FastReply(body) => Ok(Some(body.view)),
-        _ => Ok(None),
+    let decoded = decode(alloc, &parcel.frame);
+    match heard(parcel.to, parcel, &decoded)? {
+        Some(envelope) => Ok(view_in(&envelope.message)),
+        None => Ok(None),
     }
 }
 

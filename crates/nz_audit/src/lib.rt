@@ -25,7 +25,6 @@
 //!   execution.
 #![tactic(auto)]
 
-mod envelopes;
 mod executing;
 mod fields;
 mod first_view;

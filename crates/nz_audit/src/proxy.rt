@@ -1,27 +1,52 @@
 //! What a proxy knows of all requests.
 
-ghost use Rattle.std.specs.Prelude.{◌≡◌, ℕ, Bool, Option, OnOk, None, false, IsTrue, if◌then◌else◌};
+ghost use Rattle.std.specs.Prelude.{◌≡◌, ℕ, Bool, Option, IfOk, OnOk, None, Some, false, IsTrue, if◌then◌else◌};
 ghost use Rattle.std.specs.Option.{option_map, option_flatten};
 ghost use Rattle.nz_base.specs.Key.{id_eq};
 ghost use Rattle.nz_base.specs.declared.key.Id.{Id as IdModel};
 ghost use Rattle.nz_base.specs.declared.actor.Actor.TheVariants as actors;
 ghost use Rattle.indexmap.specs.IndexMap.{get};
-ghost use Rattle.nz_machine.specs.Step.{accepted_envelope, is_in_cluster, is_sized, message_vector};
+ghost use Rattle.nz_machine.specs.Proxies.{of_fast, of_slow};
+ghost use Rattle.nz_machine.specs.Step.{accepted_envelope, if_from_cluster, is_in_cluster, is_sized, message_vector};
 ghost use Rattle.nz_quorum.specs.Tallies.{IsOfCluster};
 ghost use Rattle.nz_audit.specs.Noting.{noted_after_request, noted_by, source_if_answer, after_message, after_envelope, after_event, down_after};
 ghost use Rattle.nz_audit.specs.Noting.{is_open, IsSized};
 ghost use Rattle.nz_audit.specs.Sources.{kept_of, source_delivered};
 ghost use Rattle.nz_audit.specs.declared.source.Source.{Source as SourceModel};
 
-use super::envelopes::envelope_of;
 use super::fields::named_id;
 use super::noting::{Noted, Notes};
 use super::sending::{Delivery, Sendings};
 use indexmap::IndexMap;
 use nz_base::{Actor, Cluster, Id, NoMemory};
-use nz_machine::{Event, Parcel, Reply, is_from_cluster};
-use nz_msg::{Envelope, Message};
+use nz_machine::{Event, Parcel, Reply, copy_answer, heard, is_from_cluster};
+use nz_msg::{Envelope, FastReplyBody, Message, SlowReplyBody, decode};
+use nz_store::Answer;
 use std::alloc::Global;
+
+/// The same answer, where there is one.
+fn copy_if_any(alloc: Global, answer: &Option<Answer>) -> Result<Option<Answer>, NoMemory>
+    ensures { IfOk result (λ copy. copy ≡ answer.now) }
+{
+    match answer {
+        Some(answer) => Ok(Some(copy_answer(alloc, answer)?)),
+        None => Ok(None),
+    }
+}
+
+/// A fast reply as it is noted.
+fn fast_reply(alloc: Global, replica: u8, body: &FastReplyBody) -> Result<Reply, NoMemory>
+    ensures { IfOk result (λ reply. reply ≡ of_fast replica body.now) }
+{
+    let answer = copy_if_any(alloc, &body.answer)?;
+    Ok(Reply::Fast {
+        replica,
+        view: body.view,
+        digest: body.digest,
+        vector: body.vector,
+        answer,
+    })
+}
 
 #[derive(Drop)]
 pub struct ProxyNotes {
@@ -77,25 +102,69 @@ impl ProxyNotes {
         }
     }
 
+    /// Notes a fast reply of the replica.
+    fn take_fast(
+        &mut self,
+        alloc: Global,
+        cluster: Cluster,
+        replica: u8,
+        body: &FastReplyBody,
+        delivery: &Delivery,
+    ) -> Result<(), NoMemory>
+        requires reply { IsOfCluster cluster (of_fast replica body.now) }
+        requires sized { IsSized cluster (get id_eq self.old.known body.now.id) }
+        ensures down { self.new.is_down ≡ self.old.is_down }
+        ensures known { OnOk result ((x : IdModel)
+            → get id_eq self.new.known x ≡ (if id_eq body.now.id x then option_map (noted_by delivery.now.is_quiet (of_fast replica body.now)
+            (source_if_answer (option_flatten (kept_of delivery.now.sendings.now.kept.entries delivery.now.parcel.now)) (of_fast replica body.now)))
+            (get id_eq self.old.known x) else get id_eq self.old.known x)) }
+    {
+        let reply = fast_reply(alloc, replica, body)?;
+        self.note(cluster, body.id, reply, delivery)
+    }
+
+    /// Notes a slow reply of the replica.
+    fn take_slow(
+        &mut self,
+        cluster: Cluster,
+        replica: u8,
+        body: &SlowReplyBody,
+        delivery: &Delivery,
+    ) -> Result<(), NoMemory>
+        requires reply { IsOfCluster cluster (of_slow replica body.now) }
+        requires sized { IsSized cluster (get id_eq self.old.known body.now.id) }
+        ensures down { self.new.is_down ≡ self.old.is_down }
+        ensures known { OnOk result ((x : IdModel)
+            → get id_eq self.new.known x ≡ (if id_eq body.now.id x then option_map (noted_by delivery.now.is_quiet (of_slow replica body.now)
+            (source_if_answer (option_flatten (kept_of delivery.now.sendings.now.kept.entries delivery.now.parcel.now)) (of_slow replica body.now)))
+            (get id_eq self.old.known x) else get id_eq self.old.known x)) }
+    {
+        let reply = Reply::Slow {
+            replica,
+            view: body.view,
+        };
+        self.note(cluster, body.id, reply, delivery)
+    }
+
     /// Takes a message that counts, while the proxy is up.
     fn take_message(
         &mut self,
         alloc: Global,
         cluster: Cluster,
-        envelope: Envelope,
+        envelope: &Envelope,
         delivery: &Delivery,
     ) -> Result<(), NoMemory>
-        requires sender { IsTrue (is_in_cluster cluster envelope.from) }
-        requires vector { IsTrue (is_sized cluster (message_vector envelope.message)) }
+        requires sender { IsTrue (is_in_cluster cluster envelope.now.from) }
+        requires vector { IsTrue (is_sized cluster (message_vector envelope.now.message)) }
         requires sized { (x : IdModel) → IsSized cluster (get id_eq self.old.known x) }
         ensures down { self.new.is_down ≡ self.old.is_down }
         ensures known { OnOk result ((x : IdModel)
             → get id_eq self.new.known x
             ≡ after_message cluster (option_flatten (kept_of delivery.now.sendings.now.kept.entries delivery.now.parcel.now)) delivery.now.is_quiet x
-            envelope.from envelope.message (get id_eq self.old.known x)) }
+            envelope.now.from envelope.now.message (get id_eq self.old.known x)) }
     {
         match envelope.from {
-            Actor::Client(client) => match envelope.message {
+            Actor::Client(client) => match &envelope.message {
                 Message::Request(body) => {
                     let id = Id {
                         client: u32::from(client),
@@ -105,24 +174,9 @@ impl ProxyNotes {
                 }
                 _ => Ok(()),
             },
-            Actor::Replica(replica) => match envelope.message {
-                Message::FastReply(body) => {
-                    let reply = Reply::Fast {
-                        replica,
-                        view: body.view,
-                        digest: body.digest,
-                        vector: body.vector,
-                        answer: body.answer,
-                    };
-                    self.note(cluster, body.id, reply, delivery)
-                }
-                Message::SlowReply(body) => {
-                    let reply = Reply::Slow {
-                        replica,
-                        view: body.view,
-                    };
-                    self.note(cluster, body.id, reply, delivery)
-                }
+            Actor::Replica(replica) => match &envelope.message {
+                Message::FastReply(body) => self.take_fast(alloc, cluster, replica, body, delivery),
+                Message::SlowReply(body) => self.take_slow(cluster, replica, body, delivery),
                 _ => Ok(()),
             },
             Actor::Proxy(_) => Ok(()),
@@ -153,7 +207,54 @@ impl ProxyNotes {
         !self.is_open(id)
     }
 
+    /// Hears what it read: nothing where this is not from the cluster, or where it is down.
+    fn hear_envelope(
+        &mut self,
+        alloc: Global,
+        cluster: Cluster,
+        envelope: &Envelope,
+        delivery: &Delivery,
+    ) -> Result<(), NoMemory>
+        requires { (x : IdModel) → IsSized cluster (get id_eq self.old.known x) }
+        ensures down { self.new.is_down ≡ self.old.is_down }
+        ensures known { OnOk result ((x : IdModel)
+            → get id_eq self.new.known x
+            ≡ after_envelope cluster (option_flatten (kept_of delivery.now.sendings.now.kept.entries delivery.now.parcel.now)) delivery.now.is_quiet
+            self.old.is_down x (if_from_cluster cluster (Some envelope.now)) (get id_eq self.old.known x)) }
+    {
+        if !is_from_cluster(cluster, envelope) {
+            return Ok(());
+        }
+        if self.is_down {
+            return Ok(());
+        }
+        self.take_message(alloc, cluster, envelope, delivery)
+    }
+
+    /// Hears the parcel.
     fn hear(
+        &mut self,
+        alloc: Global,
+        cluster: Cluster,
+        me: u8,
+        delivery: &Delivery,
+    ) -> Result<(), NoMemory>
+        requires { (x : IdModel) → IsSized cluster (get id_eq self.old.known x) }
+        ensures down { self.new.is_down ≡ self.old.is_down }
+        ensures known { OnOk result ((x : IdModel)
+            → get id_eq self.new.known x
+            ≡ after_envelope cluster (option_flatten (kept_of delivery.now.sendings.now.kept.entries delivery.now.parcel.now)) delivery.now.is_quiet
+            self.old.is_down x (accepted_envelope cluster (actors.Proxy me) delivery.now.parcel.now) (get id_eq self.old.known x)) }
+    {
+        let decoded = decode(alloc, &delivery.parcel.frame);
+        match heard(Actor::Proxy(me), delivery.parcel, &decoded)? {
+            None => Ok(()),
+            Some(envelope) => self.hear_envelope(alloc, cluster, envelope, delivery),
+        }
+    }
+
+    /// Hears the parcel, unless it is a reply to a request that is not open.
+    fn hear_if_new(
         &mut self,
         alloc: Global,
         cluster: Cluster,
@@ -170,15 +271,7 @@ impl ProxyNotes {
         if self.is_past(delivery.parcel) {
             return Ok(());
         }
-        match envelope_of(alloc, Actor::Proxy(me), delivery.parcel)? {
-            None => Ok(()),
-            Some(envelope) => {
-                if self.is_down || !is_from_cluster(cluster, &envelope) {
-                    return Ok(());
-                }
-                self.take_message(alloc, cluster, envelope, delivery)
-            }
-        }
+        self.hear(alloc, cluster, me, delivery)
     }
 
     /// Takes an event, and whether it sends nothing then.
@@ -204,7 +297,7 @@ impl ProxyNotes {
                     sendings,
                     is_quiet,
                 };
-                self.hear(alloc, cluster, me, &delivery)
+                self.hear_if_new(alloc, cluster, me, &delivery)
             }
             Event::Crash => {
                 *self = ProxyNotes::new(alloc);

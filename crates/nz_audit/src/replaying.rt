@@ -74,14 +74,22 @@ impl Replays {
         }
     }
 
-    /// What a replay of the source of the longest prefix goes on from.
-    pub fn for_longest(self, longest: Source) -> Option<Replayed>
-        ensures { (journal : JournalModel) → AreReplayed journal self → IfSome result (IsReplayed journal) }
+    /// Whether the replica of the longest prefix was kept.
+    fn keeps(&self, longest: Source) -> bool {
+        match &self.kept {
+            Some(kept) => kept.is_at(longest),
+            None => false,
+        }
+    }
+
+    /// Takes what a replay of the source of the longest prefix goes on from.
+    pub fn take_for(&mut self, longest: Source) -> Option<Replayed>
+        ensures { (journal : JournalModel) → AreReplayed journal self.old → IfSome result (IsReplayed journal) }
     {
-        let Replays { at, kept } = self;
-        match kept {
-            Some(kept) if kept.is_at(longest) => Some(kept),
-            _ => at,
+        if self.keeps(longest) {
+            self.kept.take()
+        } else {
+            self.at.take()
         }
     }
 }

@@ -61,8 +61,39 @@ fn put_in_order(accepted: &mut Vec<AcceptedAnswer>)
     accepted.sort_unstable_by_key(|next| (next.source.replica ^ first, next.source.records));
 }
 
+/// How many entries the prefix has, where its replica is replayed up to the source.
+fn count_replayed(
+    alloc: Global,
+    journal: &Journal,
+    replays: &mut Replays,
+    next: &AcceptedAnswer,
+) -> Result<u32, NoMemory>
+    requires within { IsWithin journal.now next.now }
+    requires replays { AreReplayed journal.now replays.old }
+    ensures replays { OnOk result (AreReplayed journal.now replays.new) }
+    ensures entries { IfOk result (λ entries. entries ≡ length (prefix_for journal.now next.now)) }
+{
+    let at = replay(alloc, journal, replays.at.take(), next.source)?;
+    let entries = entries_up_to(at.core.log(), next.id);
+    replays.at = Some(at);
+    Ok(entries)
+}
+
+/// The place of the first answer before which as many requests were sent as answers were accepted in all. Mostly all
+/// of these are of the history, so the answers before this one have shorter prefixes.
+fn first_late(answers: &[AcceptedAt]) -> usize
+    ensures { result ≤ length answers.now }
+{
+    let count = answers.len();
+    answers
+        .iter()
+        .position(|next| next.sent as usize >= count)
+        .unwrap_or(count)
+}
+
 impl Search {
-    fn new() -> Search
+    /// Nothing is found yet.
+    pub fn new() -> Search
         ensures replays { (journal : JournalModel) → AreReplayed journal result.replays }
         ensures best { result.best ≡ None }
     {
@@ -106,15 +137,14 @@ impl Search {
         ensures best { OnOk result (self.new.best ≡ self.old.best) }
         ensures entries { IfOk result (λ entries. entries ≡ length (prefix_for journal.now next.now)) }
     {
-        if let Some(log) = log_since(alloc, journal, replicas, next)? {
-            return Ok(entries_up_to(log, next.id));
+        match log_since(alloc, journal, replicas, next)? {
+            Some(log) => Ok(entries_up_to(log, next.id)),
+            None => {
+                let longest = self.longest();
+                self.replays.keep_longest(longest, next.source);
+                count_replayed(alloc, journal, &mut self.replays, next)
+            }
         }
-        let longest = self.longest();
-        self.replays.keep_longest(longest, next.source);
-        let at = replay(alloc, journal, self.replays.at.take(), next.source)?;
-        let entries = entries_up_to(at.core.log(), next.id);
-        self.replays.at = Some(at);
-        Ok(entries)
     }
 
     /// Counts the prefix, if it may be the longest.
@@ -205,39 +235,26 @@ impl Search {
         answers.retain(|next| !self.is_shorter(next.sent));
         self.weigh_all(alloc, journal, replicas, answers.as_slice())
     }
-}
-
-/// The place of the first answer before which as many requests were sent as answers were accepted in all. Mostly all
-/// of these are of the history, so the answers before this one have shorter prefixes.
-fn first_late(answers: &[AcceptedAt]) -> usize
-    ensures { result ≤ length answers.now }
-{
-    let count = answers.len();
-    answers
-        .iter()
-        .position(|next| next.sent as usize >= count)
-        .unwrap_or(count)
-}
-
-/// The longest of the prefixes. Those of late answers are counted first: mostly the others have to be shorter then.
-pub fn longest_of(
-    alloc: Global,
-    journal: &Journal,
-    replicas: &[Replica],
-    answers: Vec<AcceptedAt>,
-) -> Result<Search, NoMemory>
-    requires world { World (group_in journal.now) (run_in journal.now) }
-    requires replicas { AreCores (group_in journal.now) (run_in journal.now) replicas.now }
-    requires accepted { AllByRecursion (IsAccepted journal.now) answers.items }
-    requires within { AllByRecursion (IsWithin journal.now) (all_traced journal.now answers.items) }
-    ensures { IfOk result (λ found. IsFound journal.now (all_traced journal.now answers.items) found) }
-{
-    let mut found = Search::new();
-    let mut others = answers;
-    let place = first_late(others.as_slice());
-    let (_, late) = others.as_slice().split_at(place);
-    found.weigh_all(alloc, journal, replicas, late)?;
-    others.truncate(place);
-    found.weigh_others(alloc, journal, replicas, others)?;
-    Ok(found)
+    /// Counts the prefixes of the late answers first: mostly the others have to be shorter then.
+    pub fn weigh_in_rounds(
+        &mut self,
+        alloc: Global,
+        journal: &Journal,
+        replicas: &[Replica],
+        answers: Vec<AcceptedAt>,
+    ) -> Result<(), NoMemory>
+        requires world { World (group_in journal.now) (run_in journal.now) }
+        requires replicas { AreCores (group_in journal.now) (run_in journal.now) replicas.now }
+        requires accepted { AllByRecursion (IsAccepted journal.now) answers.items }
+        requires within { AllByRecursion (IsWithin journal.now) (all_traced journal.now answers.items) }
+        requires first { IsFound journal.now [] self.old }
+        ensures { OnOk result (IsFound journal.now (all_traced journal.now answers.items) self.new) }
+    {
+        let mut others = answers;
+        let place = first_late(others.as_slice());
+        let (_, late) = others.as_slice().split_at(place);
+        self.weigh_all(alloc, journal, replicas, late)?;
+        others.truncate(place);
+        self.weigh_others(alloc, journal, replicas, others)
+    }
 }

@@ -47,7 +47,40 @@ fn add_traced(
     Ok(())
 }
 
-/// These answers, each with where it comes from. One reading of the records finds it for all of them.
+/// What each parcel stands for that was sent about the request of one of these answers. One reading of the records finds
+/// it for all of them.
+fn sendings_about(
+    alloc: Global,
+    journal: &Journal,
+    answers: &[AcceptedAt],
+) -> Result<Sendings, NoMemory>
+    requires world { World (group_in journal.now) (run_in journal.now) }
+    requires accepted { AllByRecursion (IsAccepted journal.now) answers.now }
+    ensures { IfOk result (λ sendings. AllByRecursion (IsKnown journal.now sendings.kept.entries) answers.now) }
+{
+    let wanted = requests_of(alloc, answers)?;
+    sendings_in(alloc, &wanted, journal)
+}
+
+/// These answers, each with its source, if it has one.
+fn with_sources(
+    alloc: Global,
+    sendings: &Sendings,
+    journal: &Journal,
+    answers: &[AcceptedAt],
+) -> Result<Vec<AcceptedAnswer>, NoMemory>
+    requires accepted { AllByRecursion (IsAccepted journal.now) answers.now }
+    requires sources { AllByRecursion (IsKnown journal.now sendings.now.kept.entries) answers.now }
+    ensures { IfOk result (λ found. found.items ≡ all_traced journal.now answers.now) }
+{
+    let mut found = Vec::new(alloc);
+    for answer in answers {
+        add_traced(&mut found, sendings, journal, answer)?;
+    }
+    Ok(found)
+}
+
+/// These answers, each with where it comes from.
 pub fn trace(
     alloc: Global,
     journal: &Journal,
@@ -57,14 +90,9 @@ pub fn trace(
     requires accepted { AllByRecursion (IsAccepted journal.now) answers.now }
     ensures { IfOk result (λ found. found.items ≡ all_traced journal.now answers.now) }
 {
-    let mut found = Vec::new(alloc);
     if answers.is_empty() {
-        return Ok(found);
+        return Ok(Vec::new(alloc));
     }
-    let wanted = requests_of(alloc, answers)?;
-    let sendings = sendings_in(alloc, &wanted, journal)?;
-    for answer in answers {
-        add_traced(&mut found, &sendings, journal, answer)?;
-    }
-    Ok(found)
+    let sendings = sendings_about(alloc, journal, answers)?;
+    with_sources(alloc, &sendings, journal, answers)
 }

@@ -11,11 +11,10 @@ ghost use Rattle.nz_audit.specs.Noting.{after_event, down_after};
 ghost use Rattle.nz_audit.specs.declared.noting.Noted.{Noted as NotedModel};
 ghost use Rattle.nz_audit.specs.declared.source.Source.{Source as SourceModel};
 
-use super::envelopes::envelope_of;
 use super::fields::{named_id, named_num, shows_answer};
 use nz_base::{Actor, Id, NoMemory};
-use nz_machine::{Event, Parcel};
-use nz_msg::{Envelope, Message};
+use nz_machine::{Event, Parcel, heard};
+use nz_msg::{Envelope, Message, decode};
 use std::alloc::Global;
 use std::collections::HashSet;
 
@@ -68,8 +67,9 @@ fn shown_id(parcel: &Parcel) -> Option<Id>
 fn decoded_id(alloc: Global, parcel: &Parcel) -> Result<Option<Id>, NoMemory>
     ensures { IfOk result (λ id. id ≡ sources.about parcel.now) }
 {
-    match envelope_of(alloc, parcel.to, parcel)? {
-        Some(envelope) => Ok(about_in(&envelope)),
+    let decoded = decode(alloc, &parcel.frame);
+    match heard(parcel.to, parcel, &decoded)? {
+        Some(envelope) => Ok(about_in(envelope)),
         None => Ok(None),
     }
 }

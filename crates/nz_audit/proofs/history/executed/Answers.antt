@@ -4,7 +4,7 @@ use Rattle.std.specs.Prelude.{IfSome}
 use Rattle.nz_base.specs.declared.key.Entry.{Entry}
 use Rattle.nz_machine.specs.Journals.{executed_entries}
 use Rattle.nz_audit.specs.Prefixes.{prefix_for, HasPrefix}
-use Rattle.nz_audit.proofs.Found.{log_replayed, log_taken, within_log}
+use Rattle.nz_audit.proofs.Found.{log_taken, within_log}
 use Rattle.nz_audit.proofs.history.executed.Goals as goal
 
 pub execute-requires : goal.execute-requires
@@ -25,22 +25,3 @@ returns-in-Some c =
     subst (λ o. IfSome o (λ x. HasPrefix c.args.journal.now b.accepted x.now.entries)) c.in-Some.is c.in_ok-log.ensures in
     subst (λ (es : List Entry). IfOk c.execute.result (λ x. x ≡ executed_entries es))
     (log_taken b.accepted.id log P b.entries cut c.requires.counted) c.execute.ensures
-
-pub execute-requires-2 : goal.execute-requires-2
-execute-requires-2 c =
-    let b = c.args.best in
-    let P = prefix_for c.args.journal.now b.accepted in
-    let log = c.log.result.now.entries in
-    let cut = log_replayed c.args.journal.now b.accepted c.in_ok-replayed.replayed c.log.result.now c.in_ok-replayed.ensures.source
-    c.in_ok-replayed.ensures.core c.log.ensures in
-    within_log b.entries log P c.requires.counted (log_taken b.accepted.id log P b.entries cut c.requires.counted)
-
-pub returns : goal.returns
-returns c =
-    let b = c.args.best in
-    let P = prefix_for c.args.journal.now b.accepted in
-    let log = c.log.result.now.entries in
-    let cut = log_replayed c.args.journal.now b.accepted c.in_ok-replayed.replayed c.log.result.now c.in_ok-replayed.ensures.source
-    c.in_ok-replayed.ensures.core c.log.ensures in
-    subst (λ (es : List Entry). IfOk c.execute-2.result (λ x. x ≡ executed_entries es))
-    (log_taken b.accepted.id log P b.entries cut c.requires.counted) c.execute-2.ensures

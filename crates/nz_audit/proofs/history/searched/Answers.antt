@@ -1,40 +1,7 @@
 -- What the function of this folder owes, proved.
-use Rattle.std.proofs.Common.{◌≡◌, List, length, IfOk, sym, ap, subst, ◌∙◌}
-use Rattle.nz_base.specs.declared.key.Entry.{Entry}
-use Rattle.nz_machine.specs.Journals.{run_in, executed_entries}
-use Rattle.nz_machine.proofs.Runs.{all_has}
-use Rattle.nz_audit.specs.Prefixes.{IsBest, IsBestIfAny, IsWithin, all_traced}
-use Rattle.nz_audit.proofs.Longest.{first_of_all}
-use Rattle.nz_audit.proofs.Found.{nothing_accepted}
+use Rattle.nz_audit.proofs.Found.{found_first}
 use Rattle.nz_audit.proofs.history.searched.Goals as goal
 
-pub returns-in-None : goal.returns-in-None
-returns-in-None c =
-    let j = c.args.journal.now in
-    let all = all_traced j c.args.accepted.items in
-    let none = subst (IsBestIfAny j all) c.in-None.is c.in_ok-found.ensures.best in
-    c.new.ensures ∙ sym (ap executed_entries (nothing_accepted j (run_in j) all c.requires.accepted.history none))
-
-pub executed-requires-clause-within : goal.executed-requires-clause-within
-executed-requires-clause-within c =
-    let j = c.args.journal.now in
-    let all = all_traced j c.args.accepted.items in
-    let h : IsBest j all c.in-Some.best = subst (IsBestIfAny j all) c.in-Some.is c.in_ok-found.ensures.best in
-    all_has (IsWithin j) all c.in-Some.best.accepted c.requires.accepted.history.within h.among
-
-pub executed-requires-clause-counted : goal.executed-requires-clause-counted
-executed-requires-clause-counted c =
-    let j = c.args.journal.now in
-    let all = all_traced j c.args.accepted.items in
-    let h : IsBest j all c.in-Some.best = subst (IsBestIfAny j all) c.in-Some.is c.in_ok-found.ensures.best in
-    h.counted
-
-pub returns-in-Some : goal.returns-in-Some
-returns-in-Some c =
-    let j = c.args.journal.now in
-    let b = c.in-Some.best in
-    let all = all_traced j c.args.accepted.items in
-    let told = c.requires.accepted.history in
-    let h : IsBest j all b = subst (IsBestIfAny j all) c.in-Some.is c.in_ok-found.ensures.best in
-    let whole = told.longest ∙ first_of_all j b (length (run_in j)) all told.places h in
-    subst (λ (es : List Entry). IfOk c.executed.result (λ x. x ≡ executed_entries es)) (sym whole) c.executed.ensures
+pub longest_history-requires-clause-first : goal.longest_history-requires-clause-first
+longest_history-requires-clause-first c =
+    found_first c.args.journal.now c.new-found.result (c.new-found.ensures.replays c.args.journal.now) c.new-found.ensures.best

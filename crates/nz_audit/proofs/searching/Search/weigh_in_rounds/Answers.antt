@@ -2,14 +2,11 @@
 use Rattle.std.proofs.Common.{◌∙◌, [], List, ap, subst, sym}
 use Rattle.std.specs.Prelude.{drop}
 use Rattle.std.specs.List.{AllByRecursion}
+use Rattle.std.proofs.lemmas.Result.{on_ok_weaker}
 use Rattle.nz_audit.specs.declared.source.AcceptedAt.{AcceptedAt}
 use Rattle.nz_audit.specs.Prefixes.{all_traced, IsWithin}
-use Rattle.nz_audit.proofs.Found.{found_first}
 use Rattle.nz_audit.proofs.Rounds.{parts_within, found_in_turn}
-use Rattle.nz_audit.proofs.searching.longest_of.Goals as goal
-
-pub weigh_all-requires-clause-replays : goal.weigh_all-requires-clause-replays
-weigh_all-requires-clause-replays c = c.new-found.ensures.replays c.args.journal.now
+use Rattle.nz_audit.proofs.searching.Search.weigh_in_rounds.Goals as goal
 
 pub weigh_all-requires-clause-within : goal.weigh_all-requires-clause-within
 weigh_all-requires-clause-within c =
@@ -26,10 +23,9 @@ weigh_others-requires-clause-within c =
     (parts_within c.args.journal.now c.first_late-place.result c.args.answers.items c.requires.within).1
 
 pub returns : goal.returns
-returns c =
+returns c = on_ok_weaker c.weigh_others.result (λ found.
     let j = c.args.journal.now in
     let late = c.split_at.result.1.now in
     found_in_turn j c.first_late-place.result c.args.answers.items late c.truncate.new.self.items c.weigh_others.new.self
     (c.split_at.ensures.back ∙ ap (drop c.first_late-place.result) c.as_slice-2.ensures.value) c.truncate.ensures.items
-    (c.in_ok-weigh_others.ensures (all_traced j late)
-    (c.in_ok-weigh_all.ensures.found [] (found_first j c.new-found.result (c.new-found.ensures.replays j) c.new-found.ensures.best)))
+    (found (all_traced j late) (c.in_ok-weigh_all.ensures.found [] c.requires.first))) c.weigh_others.ensures

@@ -1,10 +1,8 @@
 -- What the function of this folder owes, proved.
-use Rattle.std.specs.HashSet.{contains}
-use Rattle.nz_base.specs.Key.{id_eq}
 use Rattle.nz_audit.specs.Prefixes.{IsAccepted}
 use Rattle.nz_audit.specs.Readings.{IsKnown}
-use Rattle.nz_audit.proofs.Traces.{all_at, all_known, traced_next}
-use Rattle.nz_audit.proofs.tracing.trace.Goals as goal
+use Rattle.nz_audit.proofs.Traces.{all_at, traced_next}
+use Rattle.nz_audit.proofs.tracing.with_sources.Goals as goal
 
 pub add_traced-requires-clause-accepted : goal.add_traced-requires-clause-accepted
 add_traced-requires-clause-accepted c =
@@ -12,10 +10,8 @@ add_traced-requires-clause-accepted c =
 
 pub add_traced-requires-clause-source : goal.add_traced-requires-clause-source
 add_traced-requires-clause-source c =
-    let table = c.in_ok-sendings.sendings.kept.entries in
-    all_at (IsKnown c.args.journal.now table) c.args.answers.now c.loop-answer.answer-index _
-    (all_known c.args.journal.now (contains id_eq c.in_ok-wanted.wanted) c.args.answers.now table c.requires.world c.requires.accepted
-    c.in_ok-wanted.ensures c.in_ok-sendings.ensures) c.loop-answer-test.true
+    all_at (IsKnown c.args.journal.now c.args.sendings.now.kept.entries) c.args.answers.now c.loop-answer.answer-index _
+    c.requires.sources c.loop-answer-test.true
 
 pub loop-answer-preserved : goal.loop-answer-preserved
 loop-answer-preserved c =
