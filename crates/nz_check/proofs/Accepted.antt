@@ -1,9 +1,9 @@
 -- The text of a run with one history is checked.
-use Rattle.std.proofs.Common.{◌≡◌, ℕ, suc, ◌+◌, ◌≤◌, Bool, true, false, cond, ◌||◌, List, [], ◌∷◌, ◌++◌, length, map, take, Option, Some, None}
+use Rattle.std.proofs.Common.{◌≡◌, ℕ, suc, ◌≤◌, Bool, cond, ◌||◌, List, [], ◌∷◌, ◌++◌, length, map, Option, Some}
 use Rattle.std.proofs.Common.{refl, sym, ap, subst, ◌∙◌, arith, append_assoc, length-append}
-use Rattle.std.specs.Prelude.{slice_get, Ok}
+use Rattle.std.specs.Prelude.{slice_get}
 use Rattle.std.specs.Option.{option_map}
-use Rattle.std.proofs.lemmas.List.{map-append, append-nil}
+use Rattle.std.proofs.lemmas.List.{map-append}
 use Rattle.nz_base.specs.Key.{id_eq, id_of}
 use Rattle.nz_base.specs.Log.{keys_of, has_id, HaveOwnIds}
 use Rattle.nz_base.specs.declared.key.Id.{Id}
@@ -19,15 +19,14 @@ use Rattle.nz_machine.specs.Replicas.{commands}
 use Rattle.nz_machine.specs.World.{Has, World}
 use Rattle.nz_machine.specs.Events.{ClientEvent, Sent, Accepted, events}
 use Rattle.nz_machine.specs.History.{history}
-use Rattle.nz_machine.specs.OneHistory.{StandsBefore, IsAnswered, Lin}
+use Rattle.nz_machine.specs.OneHistory.{Lin}
 use Rattle.nz_machine.specs.Journals.{executed_if_answered, executed_from, executed_entries}
 use Rattle.nz_laws_commit.proofs.Counts.{are_once}
-use Rattle.nz_text.specs.Text.{event_of, events_in, printed_of_run, text}
-use Rattle.nz_text.specs.Reading.{printed_in}
+use Rattle.nz_text.specs.Text.{event_of, printed_of_run, text}
 use Rattle.nz_check.specs.declared.limit.TheConstants.{MAX_PRINTED}
 use Rattle.nz_check.specs.declared.verdict.Verdict.TheVariants.{Yes}
 use Rattle.nz_check.specs.Checked.{commands_of, judged, checked}
-use Rattle.nz_check.specs.Exact.{client_event, entry_of, entries_of, AreInForm, IsChecked}
+use Rattle.nz_check.specs.Exact.{client_event, entries_of, AreInForm, IsChecked}
 use Rattle.nz_check.proofs.Splits.{image_of_has, get_cut, take_cut}
 use Rattle.nz_check.proofs.Whole.{judged_of_short, yes_of_checked}
 use Rattle.nz_check.proofs.TextsOfRuns.{texts_are_read}

@@ -1,6 +1,6 @@
 -- The pass over the history.
-use Rattle.std.proofs.Common.{◌≡◌, ℕ, suc, ◌+◌, ◌<◌, ◌≤◌, Bool, true, false, List, [], ◌∷◌, ◌++◌, length, map, take, Option, Some, None}
-use Rattle.std.proofs.Common.{refl, sym, ap, subst, ◌∙◌, arith, add-one}
+use Rattle.std.proofs.Common.{◌≡◌, ℕ, ◌+◌, ◌<◌, ◌≤◌, Bool, true, false, List, [], ◌∷◌, length, take, Option, Some, None}
+use Rattle.std.proofs.Common.{refl, sym, ap, ◌∙◌, arith, add-one}
 use Rattle.std.specs.Prelude.{not, ◌&&◌, ◌==◌, nat_lt, nat_eq, slice_get}
 use Rattle.std.specs.List.{list_all}
 use Rattle.std.specs.Option.{option_eq}
@@ -17,7 +17,6 @@ use Rattle.nz_store.proofs.Turns.{store_after-push}
 use Rattle.nz_machine.specs.declared.journal.Executed.{Executed}
 use Rattle.nz_machine.specs.Quorums.{answer_eq}
 use Rattle.nz_machine.proofs.ListParts.{take_next}
-use Rattle.nz_text.specs.declared.printed.Event.{Event}
 use Rattle.nz_text.specs.declared.printed.Printed.{Printed}
 use Rattle.nz_check.specs.declared.events.Noted.{Noted}
 use Rattle.nz_check.specs.declared.events.Sent.{Sent}
@@ -25,7 +24,7 @@ use Rattle.nz_check.specs.declared.verdict.Why.{Why}
 use Rattle.nz_check.specs.declared.verdict.Why.TheVariants.{Repeat, Unsent, Open, Order}
 use Rattle.nz_check.specs.declared.verdict.Why.TheVariants as why
 use Rattle.nz_check.specs.Checked.{command_sent, accepted_before, has_executed, commands_of, at_why, lacks_open}
-use Rattle.nz_check.specs.Noting.{first_place, is_sent_at, sent_of, AreFirstPlaces, AreNoted}
+use Rattle.nz_check.specs.Noting.{is_sent_at, AreFirstPlaces, AreNoted}
 use Rattle.nz_check.specs.Applying.{IsApplied}
 use Rattle.nz_check.proofs.Meanings.{holds, lets, fails, why_skips, why_is}
 use Rattle.nz_check.proofs.Notes.{is_first_entry, reaches, command_is, no_command, sent_is, unsent_place}

@@ -1,10 +1,9 @@
 -- The events' tests are all false exactly where the events are in form and each answer is that of the history.
-use Rattle.std.proofs.Common.{◌≡◌, ℕ, Bool, true, false, List, [], ◌∷◌, ◌++◌, map, Option, Some, None, refl, sym, ap, subst, ◌∙◌, inl, inr, ◌⊎◌}
+use Rattle.std.proofs.Common.{◌≡◌, ℕ, true, false, List, [], ◌∷◌, ◌++◌, map, Option, Some, None, refl, sym, ap, subst, ◌∙◌, inl, inr}
 use Rattle.std.specs.Prelude.{not, is_none}
 use Rattle.std.specs.List.{list_any}
 use Rattle.std.specs.Option.{option_eq}
-use Rattle.std.proofs.lemmas.Bool.{cases_Bool, false≢true}
-use Rattle.nz_base.specs.Key.{id_eq}
+use Rattle.std.proofs.lemmas.Bool.{false≢true}
 use Rattle.nz_base.specs.declared.key.Id.{Id}
 use Rattle.nz_base.proofs.Names.{same_id, id_eq_self}
 use Rattle.nz_store.specs.declared.command.Answer.{Answer}
@@ -23,7 +22,7 @@ use Rattle.nz_check.specs.Checked.{sends_it, answer_at, first_why, event_why}
 use Rattle.nz_check.specs.Exact.{client_event, AreInForm}
 use Rattle.nz_check.proofs.Meanings.{answer_eq_self, same_answer, same_some, some_same, holds, lets, why_parts, why_none}
 use Rattle.nz_check.proofs.Lines.{EachFine}
-use Rattle.nz_check.proofs.Splits.{has_cut, cut_of_has, found_of_any, any_of_has, none_of_any, has_map, cut_after, precedes_cut, precedes_over}
+use Rattle.nz_check.proofs.Splits.{has_cut, cut_of_has, found_of_any, any_of_has, none_of_any, has_map, cut_after, precedes_cut}
 use Rattle.nz_check.proofs.Splits.{precedes_map, before_cut}
 
 -- ---- events of a text and of the machine

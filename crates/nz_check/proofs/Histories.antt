@@ -1,6 +1,6 @@
 -- The entries' tests are all false exactly where the answers are those of one store, and events and history are one
 -- history.
-use Rattle.std.proofs.Common.{◌≡◌, ℕ, zero, suc, ◌+◌, ◌<◌, ◌≤◌, Bool, true, false, cond, ◌||◌, List, [], ◌∷◌, ◌++◌, length, map, take}
+use Rattle.std.proofs.Common.{◌≡◌, ℕ, suc, ◌<◌, Bool, true, false, cond, ◌||◌, List, [], ◌∷◌, ◌++◌, length, map}
 use Rattle.std.proofs.Common.{Option, Some, None, refl, sym, ap, subst, ◌∙◌, inl, inr, ◌⊎◌, arith, append_assoc}
 use Rattle.std.specs.Prelude.{not, ◌&&◌, ◌==◌, slice_get}
 use Rattle.std.specs.List.{list_any, list_all}
@@ -15,7 +15,6 @@ use Rattle.nz_base.specs.declared.key.Id.{Id}
 use Rattle.nz_base.specs.declared.key.Entry.{Entry}
 use Rattle.nz_base.proofs.Names.{same_id, id_eq_self, id_turn, id_turn_away}
 use Rattle.nz_store.specs.declared.command.Answer.{Answer}
-use Rattle.nz_store.specs.Entries.{empty}
 use Rattle.nz_store.specs.Sequence.{apply_bytes, store_from, store_after, answer_after, reply, replies_from, replies}
 use Rattle.nz_store.proofs.Turns.{store_after-push, slice_get-replies}
 use Rattle.nz_log.specs.Places.{place_of}
@@ -24,21 +23,20 @@ use Rattle.nz_machine.specs.declared.journal.Executed.{Executed}
 use Rattle.nz_machine.specs.Quorums.{answer_eq}
 use Rattle.nz_machine.specs.Replicas.{commands}
 use Rattle.nz_machine.specs.World.{Has}
-use Rattle.nz_machine.specs.Events.{ClientEvent, Sent, Accepted}
+use Rattle.nz_machine.specs.Events.{Sent, Accepted}
 use Rattle.nz_machine.specs.OneHistory.{Precedes, StandsBefore, IsAnswered, Lin}
 use Rattle.nz_text.specs.declared.printed.Event.{Event}
 use Rattle.nz_text.specs.declared.printed.Event.TheVariants.{Send, Accept}
 use Rattle.nz_text.specs.declared.printed.Printed.{Printed}
-use Rattle.nz_text.specs.Text.{accepts_it}
 use Rattle.nz_check.specs.declared.verdict.Why.TheVariants.{Repeat, Unsent, Open, Order}
 use Rattle.nz_check.specs.declared.verdict.Why.TheVariants as why
 use Rattle.nz_check.specs.Checked.{sends_it, command_sent, accepted_before, has_executed, answer_at, commands_of, first_why, event_why, at_why, lacks_open}
 use Rattle.nz_check.specs.Exact.{client_event, entry_of, entries_of, AreInForm}
 use Rattle.nz_check.proofs.Meanings.{same_bytes, bytes_eq_self, same_answer, answer_eq_self, same_some, some_same, holds, lets, why_parts, why_none}
 use Rattle.nz_check.proofs.Lines.{EachFine}
-use Rattle.nz_check.proofs.Splits.{IsCut, has_cut, cut_of_has, found_of_any, any_of_has, none_of_any, all_at, all_of_each, has_map, image_of_has}
-use Rattle.nz_check.proofs.Splits.{cut_after, precedes_cut, precedes_over, precedes_map, get_cut, take_cut}
-use Rattle.nz_check.proofs.Forms.{has_here, precedes_here, send_of_test, fine_send, fine_in_form, fine_answered}
+use Rattle.nz_check.proofs.Splits.{has_cut, cut_of_has, any_of_has, none_of_any, all_at, all_of_each, has_map, image_of_has}
+use Rattle.nz_check.proofs.Splits.{cut_after, precedes_cut, precedes_map, get_cut, take_cut}
+use Rattle.nz_check.proofs.Forms.{has_here, precedes_here, send_of_test, fine_send, fine_answered}
 
 -- ---- what the tests of an entry find
 

@@ -3,7 +3,6 @@ use Rattle.std.proofs.Common.{◌≡◌, ℕ, suc, ◌+◌, List, [], ◌∷◌,
 use Rattle.std.proofs.lemmas.List.{append-nil}
 use Rattle.std.proofs.lemmas.Option.{none-some}
 use Rattle.nz_check.specs.declared.verdict.Why.{Why}
-use Rattle.nz_check.specs.declared.verdict.Verdict.{Verdict}
 use Rattle.nz_check.specs.declared.verdict.Verdict.TheVariants.{Yes, No}
 use Rattle.nz_check.specs.Checked.{whys, first_line}
 

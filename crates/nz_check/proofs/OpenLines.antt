@@ -1,9 +1,8 @@
 -- The open lines' tests are all false, and no line lacks, exactly where they are the requests without acceptance.
-use Rattle.std.proofs.Common.{◌≡◌, ℕ, zero, suc, ◌+◌, ◌<◌, ◌≤◌, Bool, true, false, List, [], ◌∷◌, ◌++◌, length, Option, Some, None}
-use Rattle.std.proofs.Common.{refl, sym, ap, subst, ◌∙◌, arith, append_assoc, length-append}
+use Rattle.std.proofs.Common.{◌≡◌, ℕ, zero, suc, ◌≤◌, false, List, [], ◌∷◌, ◌++◌, length, Some, None}
+use Rattle.std.proofs.Common.{refl, sym, ap, ◌∙◌, arith, append_assoc}
 use Rattle.std.specs.Prelude.{not, nat_lt, slice_get}
 use Rattle.std.specs.Option.{option_eq}
-use Rattle.std.proofs.lemmas.Bool.{false≢true}
 use Rattle.std.proofs.lemmas.List.{append-nil}
 use Rattle.std.proofs.lemmas.Option.{none-some, same_Some}
 use Rattle.nz_base.specs.Key.{id_eq}
@@ -14,7 +13,7 @@ use Rattle.nz_text.specs.Text.{unanswered_in}
 use Rattle.nz_check.specs.declared.verdict.Why.TheVariants.{Open}
 use Rattle.nz_check.specs.Checked.{whys, open_why, lacks_open}
 use Rattle.nz_check.proofs.Meanings.{same_some, some_same, holds, lets, why_parts, why_none}
-use Rattle.nz_check.proofs.Lines.{AreFine, EachFine, fine_of_each}
+use Rattle.nz_check.proofs.Lines.{AreFine, EachFine}
 use Rattle.nz_check.proofs.Splits.{get_cut}
 
 get_none : (a : List Id) (n : ℕ) → length a ≤ n → slice_get a n ≡ None

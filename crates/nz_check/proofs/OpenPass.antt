@@ -1,6 +1,6 @@
 -- The pass over the open lines.
-use Rattle.std.proofs.Common.{◌≡◌, ℕ, ◌+◌, ◌<◌, Bool, true, false, List, [], ◌∷◌, ◌++◌, length, take, drop, get_or, Option, Some, None}
-use Rattle.std.proofs.Common.{refl, sym, ap, subst, ◌∙◌, arith, inl, inr}
+use Rattle.std.proofs.Common.{◌≡◌, ℕ, ◌+◌, ◌<◌, Bool, true, false, List, [], ◌∷◌, length, take, drop, get_or, Some, None}
+use Rattle.std.proofs.Common.{refl, sym, ap, ◌∙◌}
 use Rattle.std.specs.Prelude.{not, slice_get, if◌then◌else◌}
 use Rattle.std.specs.List.{list_any}
 use Rattle.std.specs.Option.{option_eq}
@@ -18,7 +18,7 @@ use Rattle.nz_check.specs.declared.verdict.Why.TheVariants.{Open}
 use Rattle.nz_check.specs.declared.verdict.Verdict.{Verdict}
 use Rattle.nz_check.specs.declared.verdict.Verdict.TheVariants.{No}
 use Rattle.nz_check.specs.Checked.{whys, first_line, open_why}
-use Rattle.nz_check.specs.Noting.{sent_of, AreNoted}
+use Rattle.nz_check.specs.Noting.{AreNoted}
 use Rattle.nz_check.proofs.Meanings.{lets, fails, why_skips, why_is}
 use Rattle.nz_check.proofs.Passes.{next_line, wrong_line, get_or_any, taken}
 use Rattle.nz_check.proofs.Notes.{sent_is, unsent_is}

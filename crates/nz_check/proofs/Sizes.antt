@@ -1,18 +1,17 @@
 -- A text has at least a byte for each line.
-use Rattle.std.proofs.Common.{◌≡◌, ℕ, suc, ◌+◌, ◌≤◌, Bool, true, false, cond, List, [], ◌∷◌, ◌++◌, length, Option, Some, None}
-use Rattle.std.proofs.Common.{refl, sym, ap, subst, ◌∙◌, arith, length-append}
-use Rattle.std.specs.Prelude.{Result, Ok, Err, ◌==◌, ◌&&◌}
+use Rattle.std.proofs.Common.{◌≡◌, ℕ, suc, ◌+◌, ◌≤◌, Bool, true, false, cond, List, [], ◌∷◌, length, Option, Some, None}
+use Rattle.std.proofs.Common.{refl, sym, ap, subst, arith, length-append}
+use Rattle.std.specs.Prelude.{Result, Ok, Err, ◌==◌}
 use Rattle.std.proofs.lemmas.Option.{none-some, same_Some}
 use Rattle.nz_script.specs.Bytes.{newline, onto_first, lines_in, tail_in}
 use Rattle.nz_script.specs.Forms.{◌>>=◌}
 use Rattle.nz_text.specs.declared.draft.Draft.{Draft}
-use Rattle.nz_text.specs.declared.draft.Stage.TheVariants as stage
 use Rattle.nz_text.specs.declared.fault.TextFault.{TextFault}
 use Rattle.nz_text.specs.declared.fault.TextFault.TheVariants.{Bad}
 use Rattle.nz_text.specs.declared.line.Line.{Line}
 use Rattle.nz_text.specs.declared.line.Line.TheVariants as line
 use Rattle.nz_text.specs.declared.printed.Printed.{Printed}
-use Rattle.nz_text.specs.Reading.{pieces_in, line_in_words, with_line, draft_if_good, draft_after_bytes, empty_draft, printed_at_end, if_read, printed_from, printed_in}
+use Rattle.nz_text.specs.Reading.{pieces_in, line_in_words, with_line, draft_if_good, draft_after_bytes, empty_draft, if_read, printed_from, printed_in}
 
 abbrev pub size_of : Printed → ℕ
 size_of p = length p.events + length p.unanswered + length p.history

@@ -1,18 +1,16 @@
 -- A text is checked exactly where its events are in form, its open lines and answers are right, and it has one history.
-use Rattle.std.proofs.Common.{◌≡◌, ℕ, ◌+◌, ◌≤◌, ◌<◌, Bool, true, false, cond, List, [], ◌∷◌, ◌++◌, length, map, Option, Some, None}
-use Rattle.std.proofs.Common.{refl, sym, ap, subst, ◌∙◌, inl, inr, ◌⊎◌, arith}
+use Rattle.std.proofs.Common.{◌≡◌, ℕ, ◌+◌, ◌≤◌, ◌<◌, Bool, true, false, cond, List, [], ◌∷◌, ◌++◌, length, Option, None}
+use Rattle.std.proofs.Common.{refl, sym, ap, subst, ◌∙◌, arith}
 use Rattle.std.specs.Prelude.{◌&&◌, ◌==◌, ◌↔◌, nat_lt, Result, Ok, Err, IfOk, ◌≢◌}
-use Rattle.std.proofs.lemmas.Bool.{cases_Bool, false≢true}
 use Rattle.nz_base.specs.declared.memory.NoMemory as nomemory
 use Rattle.nz_machine.specs.declared.journal.Executed.{Executed}
 use Rattle.nz_text.specs.declared.fault.TextFault.{TextFault}
 use Rattle.nz_text.specs.declared.fault.TextFault.TheVariants.{Bad, NoMemory}
 use Rattle.nz_text.specs.declared.printed.Printed.{Printed}
-use Rattle.nz_text.specs.Text.{unanswered_in}
 use Rattle.nz_text.specs.Reading.{printed_in}
 use Rattle.nz_check.specs.declared.limit.TheConstants.{MAX_PRINTED}
 use Rattle.nz_check.specs.declared.verdict.Why.{Why}
-use Rattle.nz_check.specs.declared.verdict.Why.TheVariants.{Form, Open, Limit}
+use Rattle.nz_check.specs.declared.verdict.Why.TheVariants.{Open, Limit}
 use Rattle.nz_check.specs.declared.verdict.Verdict.{Verdict}
 use Rattle.nz_check.specs.declared.verdict.Verdict.TheVariants.{Yes, No}
 use Rattle.nz_check.specs.Checked.{whys, event_why, open_why, at_why, end_why, lacks_open, verdict_of, judged, line_of_limit, checked}

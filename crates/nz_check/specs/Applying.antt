@@ -1,5 +1,5 @@
 -- What the pass over the history leaves.
-use Rattle.std.specs.Prelude.{◌≡◌, ℕ, suc, List, Option, None, take}
+use Rattle.std.specs.Prelude.{◌≡◌, ℕ, suc, Option, None, take}
 use Rattle.nz_machine.specs.declared.journal.Executed.{Executed}
 use Rattle.nz_store.specs.Entries.{Entries}
 use Rattle.nz_store.specs.Sequence.{store_after}

@@ -1,5 +1,5 @@
 -- When a text is checked: the tests of each line in the order of the reasons, and the first line that meets one.
-use Rattle.std.specs.Prelude.{ℕ, suc, Bool, true, false, ◌&&◌, not, ◌==◌, if◌then◌else◌, nat_lt, List, [], ◌∷◌, ◌++◌, length, map, take}
+use Rattle.std.specs.Prelude.{ℕ, suc, Bool, false, ◌&&◌, not, ◌==◌, if◌then◌else◌, nat_lt, List, [], ◌∷◌, ◌++◌, length, map, take}
 use Rattle.std.specs.Prelude.{Option, Some, None, is_none, slice_get, Result, Ok, Err, count_by}
 use Rattle.std.specs.List.{list_any, list_all}
 use Rattle.std.specs.Option.{option_eq}

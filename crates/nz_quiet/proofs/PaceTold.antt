@@ -1,5 +1,6 @@
 -- What clients tell of requests and acceptances, as events with ticks.
-use Rattle.std.proofs.Common.{◌≡◌, ℕ, zero, suc, ◌<◌, ◌≤◌, ◌+◌, List, [], ◌∷◌, ◌++◌, length, map, reverse, Option, Some, None, refl, sym, ap, subst, ◌∙◌, arith, append-nil}
+use Rattle.std.proofs.Common.{◌≡◌, ℕ, zero, suc, ◌<◌, ◌≤◌, Option, Some, None, refl, sym, ap, subst, ◌∙◌, arith}
+use Rattle.std.proofs.Common.{List, [], ◌∷◌, ◌++◌, length, map, reverse, append-nil}
 use Rattle.std.specs.Prelude.{slice_get}
 use Rattle.std.specs.List.{All, flat_map}
 use Rattle.std.proofs.lemmas.List.{length-reverse, reverse-append, reverse-reverse}
@@ -18,7 +19,8 @@ use Rattle.nz_machine.specs.Tellings.{telling_in, told_of, told_at, told_by_run}
 use Rattle.nz_machine.specs.World.{World}
 use Rattle.nz_machine.proofs.TellingsOfRuns.{telling_shows}
 use Rattle.nz_quiet.specs.Quiet.{timed_events}
-use Rattle.nz_quiet.specs.Pace.{tick_accepted, pace_by, paces, sent_in, accepted_in, requests_sent, requests_accepted, tick_in, tick_at, told_accepted, told_sent, all_accepted, all_sent, AreWithin}
+use Rattle.nz_quiet.specs.Pace.{tick_accepted, pace_by, paces, sent_in, accepted_in, requests_sent, requests_accepted, AreWithin}
+use Rattle.nz_quiet.specs.Pace.{tick_in, tick_at, told_accepted, told_sent, all_accepted, all_sent}
 
 -- ---- the tick of a record
 

@@ -1,5 +1,6 @@
 -- How many ticks the requests of a run took, and the lines that say so.
-use Rattle.std.specs.Prelude.{◌<◌, ℕ, zero, suc, ◌+◌, ◌-◌, max, Bool, true, false, ◌==◌, List, [], ◌∷◌, ◌++◌, Option, Some, None, map, length, reverse, slice_get, codes, count_by}
+use Rattle.std.specs.Prelude.{◌<◌, ℕ, zero, suc, ◌+◌, ◌-◌, max, Bool, true, false, ◌==◌, count_by, codes}
+use Rattle.std.specs.Prelude.{List, [], ◌∷◌, ◌++◌, Option, Some, None, map, length, reverse, slice_get}
 use Rattle.std.specs.Fmt.{decimal}
 use Rattle.std.specs.List.{All, flat_map, range_with_len}
 use Rattle.std.specs.Map.{lookup}

@@ -10,7 +10,7 @@ use Rattle.nz_machine.specs.Events.{ClientEvent, Sent, Accepted, client_events}
 use Rattle.nz_machine.specs.State.{Group}
 use Rattle.nz_machine.specs.World.{Has}
 
--- Nothing goes wrong in the scenario, and no clock is ahead or behind.
+-- The scenario has no fault line, and each of its skews is 0.
 pub record IsQuiet (s : Scenario) : Type 0 where
   pub faults : s.faults ≡ []
   pub skews : AllByRecursion (λ k. k.units ≡ pos 0) s.skews

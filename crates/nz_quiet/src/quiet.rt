@@ -5,7 +5,7 @@ ghost use Rattle.nz_quiet.specs.Quiet.{IsQuiet};
 
 use nz_base::Scenario;
 
-/// Whether nothing goes wrong in the scenario, and no clock is ahead or behind.
+/// Whether the scenario has no fault line, and each of its skews is 0.
 pub fn is_quiet(scenario: &Scenario) -> bool
     ensures { IsTrue result ↔ IsQuiet scenario.now }
 {

@@ -1,16 +1,13 @@
 -- What the function of this folder owes, proved.
-use Rattle.std.proofs.Common.{◌≡◌, ◌<◌, ◌≤◌, ℕ, Bool, true, false, List, Option, Some, None, sym, ap, ◌∙◌, arith}
-use Rattle.std.specs.Prelude.{not, ◌&&◌, ◌==◌, nat_lt, nat_eq, length, take}
-use Rattle.std.specs.List.{list_all}
+use Rattle.std.proofs.Common.{◌≡◌, ℕ, true, false, List, Option, Some, sym, ap, ◌∙◌}
+use Rattle.std.specs.Prelude.{nat_eq}
 use Rattle.std.specs.Option.{option_eq}
-use Rattle.std.specs.Str.{bytes_eq}
 use Rattle.indexmap.specs.IndexMap.{get}
 use Rattle.nz_base.specs.Key.{id_eq}
 use Rattle.nz_store.specs.Entries.{Entries}
 use Rattle.nz_store.specs.Sequence.{apply_bytes}
 use Rattle.nz_machine.specs.Quorums.{answer_eq}
 use Rattle.nz_text.specs.declared.printed.Event.{Event}
-use Rattle.nz_check.specs.Checked.{command_sent, accepted_before, has_executed, lacks_open}
 use Rattle.nz_check.specs.Noting.{is_sent_at}
 use Rattle.nz_check.proofs.Applied.{first_test, sent_test, unsent_test, reach_test, open_test, below_is, above_is}
 use Rattle.nz_check.proofs.Applied.{repeats, is_unsent, lacks_lines, is_early, differs, fits}

@@ -1,7 +1,5 @@
 -- What the function of this folder owes, proved.
-use Rattle.std.proofs.Common.{◌≡◌, ◌+◌, ◌-◌, ◌<◌, ◌≤◌, ℕ, List, ◌∷◌, length, drop, get_or, drop-cons, Some, if◌then◌else◌, sym, ap, ◌∙◌, arith, add-one}
-use Rattle.nz_base.specs.Key.{id_eq}
-use Rattle.nz_check.specs.Noting.{first_place}
+use Rattle.std.proofs.Common.{◌-◌, ◌<◌, ◌≤◌, length, ◌∙◌, arith}
 use Rattle.nz_check.proofs.FirstPlaces.{placed_before, placed_all}
 use Rattle.nz_check.proofs.places.places_of.Goals as goal
 
