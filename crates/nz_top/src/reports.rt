@@ -4,6 +4,8 @@ ghost use Rattle.nz_machine.specs.Journals.{group_in, run_in};
 ghost use Rattle.nz_machine.specs.World.{World};
 ghost use Rattle.nz_replica.specs.Models.{AreCores};
 ghost use Rattle.nz_story.specs.Story as stories;
+ghost use Rattle.nz_text.specs.Text as texts;
+ghost use Rattle.nz_quiet.specs.Pace.{pace_text};
 ghost use Rattle.nz_top.specs.Calls.{IsRun};
 ghost use Rattle.nz_locks.specs.Clean.{IsFirstFoul};
 ghost use Rattle.nz_top.specs.declared.reports.Report.TheVariants as reports;
@@ -46,6 +48,28 @@ fn headed(alloc: Global, head: Blob, text: Blob) -> Result<Blob, NoMemory>
     Ok(Blob::from_vec(bytes))
 }
 
+/// The text of the run.
+fn run_text(alloc: Global, journal: &Journal, replicas: &[Replica]) -> Result<Blob, NoMemory>
+    requires run { World (group_in journal.now) (run_in journal.now) }
+    requires replicas { AreCores (group_in journal.now) (run_in journal.now) replicas.now }
+    ensures { IfOk result (λ bytes. bytes ≡ texts.text (group_in journal.now) (run_in journal.now)) }
+{
+    let told = told_in(alloc, journal)?;
+    let history = history_of(alloc, journal, told.as_slice(), replicas)?;
+    text(alloc, journal, told, &history)
+}
+
+/// The summary of the run.
+fn run_summary(alloc: Global, journal: &Journal, replicas: &[Replica]) -> Result<Blob, NoMemory>
+    requires run { World (group_in journal.now) (run_in journal.now) }
+    requires replicas { AreCores (group_in journal.now) (run_in journal.now) replicas.now }
+    ensures { IfOk result (λ bytes. bytes ≡ texts.summary (group_in journal.now) (run_in journal.now)) }
+{
+    let told = told_in(alloc, journal)?;
+    let history = history_of(alloc, journal, told.as_slice(), replicas)?;
+    summary(alloc, journal, told, &history)
+}
+
 /// The story of the run.
 fn story(alloc: Global, journal: &Journal) -> Result<Blob, NoMemory>
     requires { World (group_in journal.now) (run_in journal.now) }
@@ -53,6 +77,16 @@ fn story(alloc: Global, journal: &Journal) -> Result<Blob, NoMemory>
 {
     let mut bytes = Vec::new(alloc);
     put_story(alloc, &mut bytes, journal)?;
+    Ok(Blob::from_vec(bytes))
+}
+
+/// How many ticks the requests of the run took.
+fn pace(alloc: Global, journal: &Journal) -> Result<Blob, NoMemory>
+    requires { World (group_in journal.now) (run_in journal.now) }
+    ensures { IfOk result (λ bytes. bytes ≡ pace_text (group_in journal.now) (run_in journal.now)) }
+{
+    let mut bytes = Vec::new(alloc);
+    put_pace(alloc, &mut bytes, journal)?;
     Ok(Blob::from_vec(bytes))
 }
 
@@ -79,28 +113,24 @@ impl Report {
         requires replicas { AreCores (group_in journal.now) (run_in journal.now) replicas.now }
         ensures { IfOk result (λ bytes. bytes ≡ printed_by self journal.now) }
     {
-        let told = told_in(alloc, journal)?;
-        let history = history_of(alloc, journal, told.as_slice(), replicas)?;
         match self {
-            Report::Text => text(alloc, journal, told, &history),
+            Report::Text => run_text(alloc, journal, replicas),
             Report::Trace => {
                 let head = trace(alloc, journal)?;
-                headed(alloc, head, text(alloc, journal, told, &history)?)
+                headed(alloc, head, run_text(alloc, journal, replicas)?)
             }
             Report::Story => {
                 let head = story(alloc, journal)?;
-                headed(alloc, head, text(alloc, journal, told, &history)?)
+                headed(alloc, head, run_text(alloc, journal, replicas)?)
             }
-            Report::Summary => summary(alloc, journal, told, &history),
+            Report::Summary => run_summary(alloc, journal, replicas),
             Report::Locks => {
+                let told = told_in(alloc, journal)?;
+                let history = history_of(alloc, journal, told.as_slice(), replicas)?;
                 let head = tenure_lines(alloc, &history)?;
                 headed(alloc, head, text(alloc, journal, told, &history)?)
             }
-            Report::Pace => {
-                let mut out = Vec::new(alloc);
-                put_pace(alloc, &mut out, journal)?;
-                Ok(Blob::from_vec(out))
-            }
+            Report::Pace => pace(alloc, journal),
         }
     }
 }
