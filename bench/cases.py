@@ -33,10 +33,12 @@ NO_CALLS = """
 |gen|gen 7|gen 7 0|gen 7 2001|walk|--help|run run|run --workers|run --workers=|run --workers=0|gen --workers=1|run --workers 0
 run --workers 01|trace --workers 17|run --worker 1|runs|scenario|scenario 7|scenario 01 1|scenario 1 0|scenario 1 2001
 scenario 1 1 1|scenario 1 --workers=1|check --workers 1|check x|checks|help x|help help|help --workers 1|--help run|pace --workers 1|pace x|story x|story --workers 0
+peek|peek r1|peek r1 a b|peek r9 a|peek r10 a|peek r01 a|peek r a|peek R1 a|peek p0 a|peek c0 a|peek a r1|peek  a|peek r1 -a|peek r1 -
+peek r1 kkkkkkkkkkkkkkkkkkkkkkkkkkkkkkkkk|peek r1 a\tb|peek r1 ä|peek --workers 3|peek --workers=3 a|peek r1 a --workers 2|peeks r1 a
 """.replace("\n", "|").split("|")[1:-1]
 
 # The words that the program has. A reference may have more, and its `help` tells of them too.
-WORDS = "run trace story locks pace gen scenario check help".split()
+WORDS = "run trace story locks peek pace gen scenario check help".split()
 
 HEAD = "nezha 1\nf 1\nproxies 1\nclients 1\n"
 TWO = "nezha 1\nf 1\nproxies 1\nclients 2\nticks 60\n"
@@ -110,6 +112,33 @@ FATES = {
     "keys that come late": HEAD + "ticks 120\nskew p0 -20000\nclient c0\nput view view\nput a value\nget a\nend\n"
     "crash r0 10\ncrash r0 12\nrestart r0 20\nrestart r0 21\nalarm r1 50\nalarm r2 70\ndone\n",
 }
+
+WRITES = "".join(f"wait {10 * value}\nput a {value}\n" for value in range(1, 15))
+
+# What replicas know to be committed: it falls, or is not known, where they crash.
+OBSERVED = {
+    "a count falls": HEAD + "ticks 100\n" + PUT + "crash r0 16\nrestart r0 17\nblock r2 r1 38 70\ndone\n",
+    "crashes every 20 ticks": HEAD
+    + f"ticks 160\nclient c0\n{WRITES}end\n"
+    + "".join(f"crash r1 {tick}\nrestart r1 {tick + 2}\n" for tick in range(20, 160, 20))
+    + "done\n",
+    "a crash and a restart in one tick": HEAD + "ticks 60\n" + PUT + "crash r1 30\nrestart r1 30\ndone\n",
+    "a restart and a crash in one tick": HEAD + "ticks 60\n" + PUT + "crash r1 20\nrestart r1 30\ncrash r1 30\nrestart r1 40\ndone\n",
+    "nobody comes back": HEAD + "ticks 60\n" + PUT + "crash r0 30\ncrash r1 30\ncrash r2 30\ndone\n",
+    "nobody has the log": HEAD
+    + "ticks 90\n"
+    + PUT
+    + "".join(f"crash r{replica} 30\nrestart r{replica} 35\n" for replica in range(3))
+    + "done\n",
+    "a key that is removed": HEAD + "ticks 90\nclient c0\nput a 1\ndel a\nput b 1\ncas a - 2\nput a 2\nend\ndone\n",
+    "many open requests": STREAM + "put a 1\n" * 3 + "put b 1\n" * 3 + "put a 2\n" * 10 + "end\ndone\n",
+    "the last of five replicas": "nezha 1\nf 2\nproxies 1\nclients 1\nticks 90\n" + PUT + "alarm r0 30\nalarm r1 50\ndone\n",
+    "a scenario that is none": HEAD + "ticks 0\n" + PUT + "done\n",
+}
+
+# Files of inputs, replicas and keys.
+PEEKS = [("put_then_get", "r1 a"), ("put_then_get", "r8 a"), ("put_then_get", "r3 a"), ("put_then_get", "r0 ="), ("put_then_get", "r0 " + "~" * 32)]
+PEEKS += [("scenarios", "r2 a"), ("observed", "r0 a"), ("observed", "r1 a"), ("observed", "r4 a"), ("lock_uses", "r1 lock.a")]
 
 # Runs whose histories are found with the replicas as they are at the end, and without them.
 HISTORIES = {
@@ -290,6 +319,7 @@ def files(reference):
     yield "lock_uses", LOCK_USES
     yield "courses", COURSES
     yield "fates", FATES
+    yield "observed", OBSERVED
     yield "lost", dict(lost())
     yield "lost_together", {what: text for what, text in hostile.together() if what.startswith("f 1")}
     yield "lost_in_turn", dict(lost_in_turn())
@@ -313,7 +343,9 @@ def listed():
     lines += [f"call {file} check" for file in ("put_then_get", "outputs", "texts", "long_texts")]
     lines += [f"{kind} two_texts check" for kind in ("prefixes", "reads", "writes", "rooms")]
     lines += ["histories histories", "call scenarios locks", "call lock_uses locks", "call put_then_get locks --workers 0", "call put_then_get locks x"]
-    lines += ["call courses trace", "call scenarios pace", "call fates trace", "call scenarios story", "call fates story", "forms texts", "collisions put_then_get"]
+    lines += ["call courses trace", "call scenarios pace", "call fates trace", "call scenarios story", "call fates story"]
+    lines += [f"call {file} peek {words}" for file, words in PEEKS]
+    lines += ["forms texts", "collisions put_then_get"]
     for name in BUSY_RUNS:
         first = ACTORS[name] * (SHARED - 1) + 1
         lines += [f"call {name} run", f"call {name} trace", f"shared {name} {first}", f"replicas {name}"]

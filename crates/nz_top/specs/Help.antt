@@ -9,6 +9,7 @@ command_lines =
     codes "nezha trace [--workers N] < SCENARIO    the same, after a line for each step\n" ∷
     codes "nezha story [--workers N] < SCENARIO    the same, after what each step changed and sent\n" ∷
     codes "nezha locks [--workers N] < SCENARIO    the same, after who held which lock\n" ∷
+    codes "nezha peek ACTOR KEY < SCENARIO         the same, after what a replica knew of the key\n" ∷
     codes "nezha pace < SCENARIO                   plays it; prints how many ticks requests took\n" ∷
     codes "nezha gen SEED COUNT                    plays a drawn scenario; prints counts\n" ∷
     codes "nezha scenario SEED COUNT               prints the drawn scenario\n" ∷

@@ -1,9 +1,11 @@
 -- Which commands there are, and the words that call them.
-use Rattle.std.specs.Prelude.{◌≡◌, ℕ, ◌≤◌, List, [], ◌∷◌, take, drop, Option, Some, None, if◌then◌else◌, codes}
+use Rattle.std.specs.Prelude.{◌≡◌, ℕ, ◌≤◌, ◌==◌, nat_le, Bool, not, ◌&&◌, List, [], ◌∷◌, take, drop, Option, Some, None, if◌then◌else◌, codes}
 use Rattle.std.specs.Str.{bytes_eq}
 use Rattle.nz_base.specs.Actor.{is_within}
 use Rattle.nz_base.specs.declared.limits.TheConstants.{MAX_REQUESTS, MAX_WORKERS}
+use Rattle.nz_store.specs.Reading.{is_key_text}
 use Rattle.nz_script.specs.Bytes.{number_of}
+use Rattle.nz_top.specs.declared.words.TheConstants.{LAST_REPLICA}
 use Rattle.nz_top.specs.declared.reports.Report.{Report}
 use Rattle.nz_top.specs.declared.reports.Report.TheVariants as reports
 use Rattle.nz_top.specs.declared.words.Command.{Command}
@@ -21,11 +23,12 @@ verb_of_word word =
     else (if bytes_eq word (codes "trace") then Some (verbs.Show reports.Trace)
     else (if bytes_eq word (codes "story") then Some (verbs.Show reports.Story)
     else (if bytes_eq word (codes "locks") then Some (verbs.Show reports.Locks)
+    else (if bytes_eq word (codes "peek") then Some verbs.Peek
     else (if bytes_eq word (codes "pace") then Some verbs.Pace
     else (if bytes_eq word (codes "gen") then Some verbs.Gen
     else (if bytes_eq word (codes "scenario") then Some verbs.Scenario
     else (if bytes_eq word (codes "check") then Some verbs.Check
-    else (if bytes_eq word (codes "help") then Some verbs.Help else None))))))))
+    else (if bytes_eq word (codes "help") then Some verbs.Help else None)))))))))
 
 -- The number, where it is from 1 to this.
 abbrev pub up_to : ℕ → Option ℕ → Option ℕ
@@ -47,6 +50,20 @@ workers_of_words (option ∷ []) = workers_at option
 workers_of_words (option ∷ numeral ∷ []) = if bytes_eq option (codes "--workers") then workers_in numeral else None
 workers_of_words _ = None
 
+-- The number of a replica, where the letter is that of replicas, and a cluster may have one with this number.
+abbrev pub replica_numbered : ℕ → Option ℕ → Option ℕ
+replica_numbered letter None = None
+replica_numbered letter (Some n) = if (letter == 114) && nat_le n LAST_REPLICA then Some n else None
+
+-- The replica that a word names: `r` and its number, 0 to 8.
+abbrev pub replica_in : List ℕ → Option ℕ
+replica_in [] = None
+replica_in (letter ∷ digits) = replica_numbered letter (number_of digits)
+
+-- The word is a key, and does not begin as an option does.
+abbrev pub is_key_word : List ℕ → Bool
+is_key_word word = is_key_text word && not (bytes_eq (take 1 word) (codes "-"))
+
 -- How many requests a numeral asks for.
 abbrev pub count_in : List ℕ → Option ℕ
 count_in numeral = up_to MAX_REQUESTS (number_of numeral)
@@ -55,6 +72,11 @@ count_in numeral = up_to MAX_REQUESTS (number_of numeral)
 abbrev pub show_command : Report → Option ℕ → Option Command
 show_command report None = None
 show_command report (Some workers) = Some (commands.Play (record { origin = origins.Input; workers = workers; report = report }))
+
+-- The scenario of the input is played by one worker, and it is reported what is observed of the replica.
+abbrev pub peek_command : Option ℕ → List ℕ → Option Command
+peek_command None key = None
+peek_command (Some replica) key = if is_key_word key then show_command (reports.Peek replica key) (Some 1) else None
 
 -- The scenario that the seed draws, with this many requests, is played, and its summary is reported.
 abbrev pub gen_command : Option ℕ → Option ℕ → Option Command
@@ -71,6 +93,8 @@ scenario_command _ _ = None
 abbrev pub command_after : Option Verb → List (List ℕ) → Option Command
 command_after None rest = None
 command_after (Some (verbs.Show report)) rest = show_command report (workers_of_words rest)
+command_after (Some verbs.Peek) (actor ∷ key ∷ []) = peek_command (replica_in actor) key
+command_after (Some verbs.Peek) _ = None
 command_after (Some verbs.Pace) [] = show_command reports.Pace (Some 1)
 command_after (Some verbs.Pace) _ = None
 command_after (Some verbs.Gen) (seed ∷ count ∷ []) = gen_command (number_of seed) (count_in count)

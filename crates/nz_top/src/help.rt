@@ -12,6 +12,7 @@ pub fn help_lines() -> &'static str
         "nezha trace [--workers N] < SCENARIO    the same, after a line for each step\n",
         "nezha story [--workers N] < SCENARIO    the same, after what each step changed and sent\n",
         "nezha locks [--workers N] < SCENARIO    the same, after who held which lock\n",
+        "nezha peek ACTOR KEY < SCENARIO         the same, after what a replica knew of the key\n",
         "nezha pace < SCENARIO                   plays it; prints how many ticks requests took\n",
         "nezha gen SEED COUNT                    plays a drawn scenario; prints counts\n",
         "nezha scenario SEED COUNT               prints the drawn scenario\n",

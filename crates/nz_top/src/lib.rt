@@ -14,7 +14,7 @@ mod top;
 mod words;
 
 pub use help::help_lines;
-pub use reports::Report;
+pub use reports::{KeyRef, Report};
 pub use status::{Outcome, Status};
 pub use top::nezha;
 pub use words::{Command, Origin, Play, Words};

@@ -87,16 +87,16 @@ fn scenario_from<S: Source>(
 /// The scenario that is played, which the report admits.
 pub fn scenario_for<S: Source>(
     alloc: Global,
-    play: Play,
+    play: &Play<'_>,
     source: &mut S,
 ) -> Result<Scenario, NoScenario>
-    requires { IsInRange play }
-    ensures found { IfOk result (Gives play.origin (S.left source.old)) }
-    ensures admitted { IfOk result (Admits play.report) }
+    requires { IsInRange play.now }
+    ensures found { IfOk result (Gives play.now.origin (S.left source.old)) }
+    ensures admitted { IfOk result (Admits play.now.report) }
     ensures playable { IfOk result IsPlayable }
-    ensures read { OnOk result (HasRead play.origin (S.left source.old) (S.left source.new)) }
-    ensures none { IfErr result (Explains play (S.left source.old) (S.faults source.old) (S.faults source.new)) }
-    ensures complete { IfErr result (λ why. CanPlay (Some play) (S.left source.old) (S.faults source.old) (S.faults source.new) → why ≡ whys.NoMemory) }
+    ensures read { OnOk result (HasRead play.now.origin (S.left source.old) (S.left source.new)) }
+    ensures none { IfErr result (Explains play.now (S.left source.old) (S.faults source.old) (S.faults source.new)) }
+    ensures complete { IfErr result (λ why. CanPlay (Some play.now) (S.left source.old) (S.faults source.old) (S.faults source.new) → why ≡ whys.NoMemory) }
     ensures counts { S.faults source.old ≤ S.faults source.new }
 {
     let scenario = match scenario_from(alloc, play.origin, source) {
@@ -132,12 +132,12 @@ fn write_run<O: Sink>(journal: Journal, bytes: &[u8], out: &mut O) -> Outcome
 pub fn answer<O: Sink, R: Threads + Wait + Sync, G: Gate + Sync>(
     rt: &R,
     alloc: Global,
-    play: Play,
+    play: &Play<'_>,
     scenario: &Scenario,
     out: &mut O,
     gate: &G,
 ) -> Outcome
-    requires called { IsInRange play }
+    requires called { IsInRange play.now }
     requires playable { IsPlayable scenario.now }
     ensures played { IsPlayed result.status }
     ensures done { ¬ Rose (O.faults out.old) (O.faults out.new) → (result.status ≡ status.Done) ⊎ (result.status ≡ status.NoMemory) }
@@ -146,10 +146,10 @@ pub fn answer<O: Sink, R: Threads + Wait + Sync, G: Gate + Sync>(
     ensures run { HasRun result.status result.journal }
     ensures scenario { IfSome result.journal (λ journal. journal.scenario ≡ scenario.now) }
     ensures is_run { IfSome result.journal IsRun }
-    ensures in_order { play.workers ≡ 1 → IfSome result.journal (λ journal. InOrder journal.scenario (run_in journal)) }
-    ensures pace { play.workers ≡ 1 → IfSome result.journal HasPace }
-    ensures text { result.status ≡ status.Done → IfSome result.journal (λ journal. Gains (O.taken out.old) (O.taken out.new) (printed_by play.report journal)) }
-    ensures prefix { IfSome result.journal (λ journal. TakesPrefix (O.taken out.old) (O.taken out.new) (printed_by play.report journal)) }
+    ensures in_order { play.now.workers ≡ 1 → IfSome result.journal (λ journal. InOrder journal.scenario (run_in journal)) }
+    ensures pace { play.now.workers ≡ 1 → IfSome result.journal HasPace }
+    ensures text { result.status ≡ status.Done → IfSome result.journal (λ journal. Gains (O.taken out.old) (O.taken out.new) (printed_by play.now.report journal)) }
+    ensures prefix { IfSome result.journal (λ journal. TakesPrefix (O.taken out.old) (O.taken out.new) (printed_by play.now.report journal)) }
     ensures counts { O.faults out.old ≤ O.faults out.new }
 {
     let Ok(Played { journal, replicas }) = run(rt, alloc, scenario, play.workers, gate) else {

@@ -15,15 +15,45 @@ use nz_audit::history_of;
 use nz_base::{Blob, Id, NoMemory, Scenario};
 use nz_locks::{first_foul, tenure_lines};
 use nz_machine::{Journal, told_in};
+use nz_observe::observe;
 use nz_quiet::put_pace;
 use nz_replica::Replica;
 use nz_story::put_story;
 use nz_text::{summary, text, trace};
 use std::alloc::Global;
+use std::marker::Model;
+
+/// A key that is lent, a word of a call. Contracts see its bytes.
+#[derive(Drop)]
+pub struct KeyRef<'a> {
+    bytes: &'a [u8],
+}
+
+impl<'a> Model for KeyRef<'a> {
+    ghost use Rattle.std.specs.Prelude.{ℕ, List};
+
+    ghost Value = { List ℕ };
+
+    ghost view = { λ k. k.bytes.now };
+}
+
+impl<'a> KeyRef<'a> {
+    pub fn new(bytes: &'a [u8]) -> KeyRef<'a>
+        ensures { result ≡ bytes.now }
+    {
+        KeyRef { bytes }
+    }
+
+    pub fn as_slice(&self) -> &[u8]
+        ensures { result.now ≡ self.now }
+    {
+        self.bytes
+    }
+}
 
 /// What is reported of a run.
-#[derive(Clone, Copy, Debug, PartialEq, Eq)]
-pub enum Report {
+#[derive(Drop)]
+pub enum Report<'a> {
     /// The text of the run.
     Text,
     /// A line for each record, and the text after that.
@@ -34,6 +64,9 @@ pub enum Report {
     Summary,
     /// A line for each tenure of a lock, and the text after that. No command of the scenario may be foul.
     Locks,
+    /// What is observed of the replica with this number, and the text after that: a line for each tick after which it knows
+    /// more or fewer entries to be committed, or answers a read of the key otherwise from them.
+    Peek { replica: u8, key: KeyRef<'a> },
     /// How many ticks the requests took.
     Pace,
 }
@@ -90,28 +123,33 @@ fn pace(alloc: Global, journal: &Journal) -> Result<Blob, NoMemory>
     Ok(Blob::from_vec(bytes))
 }
 
-impl Report {
+impl Report<'_> {
     /// The first request of the scenario that the report does not admit.
-    pub fn refused_request(self, scenario: &Scenario) -> Option<Id>
-        ensures admitted { IfNone result (Admits self scenario.now) }
-        ensures refused { IfSome result (λ id. (self ≡ reports.Locks) × IsFirstFoul scenario.now id) }
+    pub fn refused_request(&self, scenario: &Scenario) -> Option<Id>
+        ensures admitted { IfNone result (Admits self.now scenario.now) }
+        ensures refused { IfSome result (λ id. (self.now ≡ reports.Locks) × IsFirstFoul scenario.now id) }
     {
         match self {
             Report::Locks => first_foul(scenario),
-            Report::Text | Report::Trace | Report::Story | Report::Summary | Report::Pace => None,
+            Report::Text
+            | Report::Trace
+            | Report::Story
+            | Report::Summary
+            | Report::Peek { .. }
+            | Report::Pace => None,
         }
     }
 
     /// What is printed of the run. These are its replicas after the last record, or none.
     pub fn print(
-        self,
+        &self,
         alloc: Global,
         journal: &Journal,
         replicas: &[Replica],
     ) -> Result<Blob, NoMemory>
         requires run { IsRun journal.now }
         requires replicas { AreCores (group_in journal.now) (run_in journal.now) replicas.now }
-        ensures { IfOk result (λ bytes. bytes ≡ printed_by self journal.now) }
+        ensures { IfOk result (λ bytes. bytes ≡ printed_by self.now journal.now) }
     {
         match self {
             Report::Text => run_text(alloc, journal, replicas),
@@ -129,6 +167,10 @@ impl Report {
                 let history = history_of(alloc, journal, told.as_slice(), replicas)?;
                 let head = tenure_lines(alloc, &history)?;
                 headed(alloc, head, text(alloc, journal, told, &history)?)
+            }
+            Report::Peek { replica, key } => {
+                let head = observe(alloc, journal, *replica, key.as_slice())?;
+                headed(alloc, head, run_text(alloc, journal, replicas)?)
             }
             Report::Pace => pace(alloc, journal),
         }

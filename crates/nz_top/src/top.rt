@@ -28,9 +28,9 @@ use std::alloc::Global;
 use std::sync::Wait;
 use std::thread::Threads;
 
-/// What the program does with the words after its name: `run`, `trace`, `locks` and `pace` read a scenario from the source,
-/// play it, and write a report of the run to the sink; `gen` plays one that is drawn, and writes its summary;
-/// `scenario` writes that one; `check` judges the text that it reads; `help` writes a line for each command. Each
+/// What the program does with the words after its name: `run`, `trace`, `story`, `locks`, `peek` and `pace` read a scenario
+/// from the source, play it, and write a report of the run to the sink; `gen` plays one that is drawn, and writes its
+/// summary; `scenario` writes that one; `check` judges the text that it reads; `help` writes a line for each command. Each
 /// worker calls the gate before each batch. May wait.
 pub fn nezha<R: Threads + Wait + Sync, S: Source, O: Sink, G: Gate + Sync>(
     rt: &R,
@@ -95,8 +95,8 @@ pub fn nezha<R: Threads + Wait + Sync, S: Source, O: Sink, G: Gate + Sync>(
         return Outcome::without_run(Status::Usage);
     };
     match command {
-        Command::Play(play) => match scenario_for(alloc, play, source) {
-            Ok(scenario) => answer(rt, alloc, play, &scenario, out, gate),
+        Command::Play(play) => match scenario_for(alloc, &play, source) {
+            Ok(scenario) => answer(rt, alloc, &play, &scenario, out, gate),
             Err(NoScenario::Refused { line, kind }) => {
                 tell_bad_line(out, line, kind);
                 Outcome::without_run(Status::BadScenario)

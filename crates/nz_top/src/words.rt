@@ -1,19 +1,24 @@
 //! The words of a call.
 ghost use Rattle.std.specs.Prelude.{◌≡◌, ◌≤◌, IfOk, IfSome, Some, map};
 ghost use Rattle.nz_top.specs.Words as spec;
-ghost use Rattle.nz_top.specs.Words.{verb_of_word, workers_of_words, show_command, gen_command, scenario_command, command_after, command_of_words, IsCalled};
+ghost use Rattle.nz_top.specs.Words.{verb_of_word, workers_of_words, show_command, peek_command, gen_command, scenario_command};
+ghost use Rattle.nz_top.specs.Words.{command_after, command_of_words, IsCalled};
 
-use crate::reports::Report;
-use nz_base::{Blob, List, MAX_REQUESTS, MAX_WORKERS, NoMemory};
+use crate::reports::{KeyRef, Report};
+use nz_base::{Blob, List, MAX_F, MAX_REQUESTS, MAX_WORKERS, NoMemory};
 use nz_script::number_of;
+use nz_store::is_key;
 use std::alloc::Global;
 use std::marker::Model;
 
+/// The greatest number of a replica.
+const LAST_REPLICA: u64 = 2 * MAX_F as u64;
+
 /// What the program is to do.
-#[derive(Clone, Copy, Debug, PartialEq, Eq)]
-pub enum Command {
+#[derive(Drop)]
+pub enum Command<'a> {
     /// Play a scenario, and print a report of the run.
-    Play(Play),
+    Play(Play<'a>),
     /// Print the scenario that the seed draws, with this many requests, at most `MAX_REQUESTS`.
     Scenario { seed: u64, count: u32 },
     /// Judge the text that is read from the source.
@@ -23,12 +28,12 @@ pub enum Command {
 }
 
 /// A scenario, who plays it, and what is reported of the run.
-#[derive(Clone, Copy, Debug, PartialEq, Eq)]
-pub struct Play {
+#[derive(Drop)]
+pub struct Play<'a> {
     pub origin: Origin,
     /// How many workers play it, 1 to `MAX_WORKERS`.
     pub workers: u8,
-    pub report: Report,
+    pub report: Report<'a>,
 }
 
 /// Where a scenario comes from.
@@ -41,10 +46,12 @@ pub enum Origin {
 }
 
 /// What the first word of a call asks for. It decides what the words after it may be.
-#[derive(Clone, Copy, Debug, PartialEq, Eq)]
-pub enum Verb {
+#[derive(Drop)]
+pub enum Verb<'a> {
     /// To play the scenario of the input, and report this. A number of workers may follow.
-    Show(Report),
+    Show(Report<'a>),
+    /// To play the scenario of the input with one worker, and print what is observed of a replica. Its name and a key follow.
+    Peek,
     /// To play the scenario of the input with one worker, and print its pace. No word follows.
     Pace,
     /// To play a scenario that is drawn, and print its summary. The seed and the count follow.
@@ -119,9 +126,27 @@ fn count_in(numeral: &[u8]) -> Option<u32>
     }
 }
 
-fn to_show(report: Report, workers: Option<u8>) -> Option<Command>
+fn replica_in(word: &[u8]) -> Option<u8>
+    ensures { result ≡ spec.replica_in word.now }
+{
+    let [letter, digits @ ..] = word else {
+        return None;
+    };
+    match number_of(digits) {
+        Some(number) if *letter == b'r' && number <= LAST_REPLICA => Some(number as u8),
+        _ => None,
+    }
+}
+
+fn is_key_word(word: &[u8]) -> bool
+    ensures { result ≡ spec.is_key_word word.now }
+{
+    is_key(word) && !word.starts_with(b"-".as_slice())
+}
+
+fn to_show<'a>(report: Report<'a>, workers: Option<u8>) -> Option<Command<'a>>
     requires { IfSome workers (λ n. (1 ≤ n) × (n ≤ MAX_WORKERS)) }
-    ensures value { result ≡ show_command report workers }
+    ensures value { result ≡ show_command report.entry workers }
     ensures called { IfSome result IsCalled }
 {
     match workers {
@@ -134,7 +159,20 @@ fn to_show(report: Report, workers: Option<u8>) -> Option<Command>
     }
 }
 
-fn to_draw(seed: Option<u64>, count: Option<u32>) -> Option<Command>
+fn to_peek<'a>(replica: Option<u8>, key: &'a [u8]) -> Option<Command<'a>>
+    ensures value { result ≡ peek_command replica key.now }
+    ensures called { IfSome result IsCalled }
+{
+    match replica {
+        Some(replica) if is_key_word(key) => {
+            let key = KeyRef::new(key);
+            to_show(Report::Peek { replica, key }, Some(1))
+        }
+        _ => None,
+    }
+}
+
+fn to_draw<'a>(seed: Option<u64>, count: Option<u32>) -> Option<Command<'a>>
     requires { IfSome count (λ n. (1 ≤ n) × (n ≤ MAX_REQUESTS)) }
     ensures value { result ≡ gen_command seed count }
     ensures called { IfSome result IsCalled }
@@ -149,7 +187,7 @@ fn to_draw(seed: Option<u64>, count: Option<u32>) -> Option<Command>
     }
 }
 
-fn to_print(seed: Option<u64>, count: Option<u32>) -> Option<Command>
+fn to_print<'a>(seed: Option<u64>, count: Option<u32>) -> Option<Command<'a>>
     requires { IfSome count (λ n. (1 ≤ n) × (n ≤ MAX_REQUESTS)) }
     ensures value { result ≡ scenario_command seed count }
     ensures called { IfSome result IsCalled }
@@ -160,9 +198,9 @@ fn to_print(seed: Option<u64>, count: Option<u32>) -> Option<Command>
     }
 }
 
-impl Verb {
+impl<'a> Verb<'a> {
     /// The table of words.
-    fn of_word(word: &[u8]) -> Option<Verb>
+    fn of_word(word: &[u8]) -> Option<Verb<'a>>
         ensures { result ≡ verb_of_word word.now }
     {
         if word == b"run".as_slice() {
@@ -173,6 +211,8 @@ impl Verb {
             Some(Verb::Show(Report::Story))
         } else if word == b"locks".as_slice() {
             Some(Verb::Show(Report::Locks))
+        } else if word == b"peek".as_slice() {
+            Some(Verb::Peek)
         } else if word == b"pace".as_slice() {
             Some(Verb::Pace)
         } else if word == b"gen".as_slice() {
@@ -189,12 +229,13 @@ impl Verb {
     }
 
     /// The command of the words after the first one.
-    fn command(self, rest: &[Blob]) -> Option<Command>
-        ensures value { result ≡ command_after (Some self) rest.now }
+    fn command(self, rest: &'a [Blob]) -> Option<Command<'a>>
+        ensures value { result ≡ command_after (Some self.entry) rest.now }
         ensures called { IfSome result IsCalled }
     {
         match (self, rest) {
             (Verb::Show(report), _) => to_show(report, workers(rest)),
+            (Verb::Peek, [actor, key]) => to_peek(replica_in(actor.as_slice()), key.as_slice()),
             (Verb::Pace, []) => to_show(Report::Pace, Some(1)),
             (Verb::Gen, [seed, count]) => {
                 to_draw(number_of(seed.as_slice()), count_in(count.as_slice()))
@@ -204,7 +245,8 @@ impl Verb {
             }
             (Verb::Check, []) => Some(Command::Check),
             (Verb::Help, []) => Some(Command::Help),
-            (Verb::Pace | Verb::Gen | Verb::Scenario | Verb::Check | Verb::Help, _) => None,
+            (Verb::Peek | Verb::Pace | Verb::Gen | Verb::Scenario | Verb::Check | Verb::Help, _) =>
+                { None }
         }
     }
 }
@@ -221,7 +263,7 @@ impl Words {
     }
 
     /// The command that the words call, if they call one.
-    pub fn command(&self) -> Option<Command>
+    pub fn command(&self) -> Option<Command<'_>>
         ensures value { result ≡ command_of_words self.now }
         ensures called { IfSome result IsCalled }
     {
