@@ -9,7 +9,7 @@ asks for memory: in the N-th run its N-th request for memory is refused. Each ru
 of the scenario's output, or with status 0 and all of it. By several workers the lines come in another order, so that all
 of the output is the same lines, and a prefix none. Scenarios with less to do are played by one thread all the same; 32_actors
 and 31_actors of crates/nezha_cases are shared, and want a K, since of so many requests for memory only each K-th can be
-refused. With a WORD it is that command which is run, and of `check` the input is the
+refused. Some of the refusals have to be met by playing the run anew, which ends with all of the output. With a WORD it is that command which is run, and of `check` the input is the
 scenario's output. A line for each scenario says how many growths were tried, and how many ended in each way; the runs that end
 otherwise are printed, and make the status 1. It wants cc.
 """
@@ -22,6 +22,7 @@ import tempfile
 
 HERE = os.path.dirname(os.path.abspath(__file__))
 WITH_WORKERS = "run trace story locks".split()
+WHOLE = "status 0 and all of the output"
 
 # Counts requests for memory in the file COUNTED, and refuses the one with the number REFUSED.
 SHIM = r"""
@@ -82,7 +83,7 @@ def in_order(workers, output):
 def ending(status, output, wanted):
     """How a run ended, or nothing where it may not end so."""
     if status == 0 and output == wanted:
-        return "status 0 and all of the output"
+        return WHOLE
     if status == 6 and output == b"":
         return "status 6 and nothing"
     if status == 6 and wanted.startswith(output):
@@ -122,8 +123,11 @@ def tried(growths, name, given):
         if way is None:
             wrong += 1
             print(f"  {name}, growth {number}: status {status}, {len(output)} bytes")
-    told = ", ".join(f"{count} ended with {way}" for way, count in ways.items() if way)
+    told = ", ".join(f"{number} ended with {way}" for way, number in ways.items() if way)
     print(f"{name}: {len(numbers)} of {count} growths; {told}")
+    if given.workers > 1 and WHOLE not in ways:
+        wrong += 1
+        print("  none of the runs was played anew")
     return wrong == 0
 
 
