@@ -9,9 +9,11 @@ asks for memory: in the N-th run its N-th request for memory is refused. Each ru
 of the scenario's output, or with status 0 and all of it. By several workers the lines come in another order, so that all
 of the output is the same lines, and a prefix none. Scenarios with less to do are played by one thread all the same; 32_actors
 and 31_actors of crates/nezha_cases are shared, and want a K, since of so many requests for memory only each K-th can be
-refused. Some of the refusals have to be met by playing the run anew, which ends with all of the output. With a WORD it is that command which is run, and of `check` the input is the
-scenario's output. A line for each scenario says how many growths were tried, and how many ended in each way; the runs that end
-otherwise are printed, and make the status 1. It wants cc.
+refused. Some of the refusals have to be met by playing the run anew, which ends with all of the output.
+
+With a WORD it is that command which is run, and of `check` the input is the scenario's output. A line for each
+scenario says how many growths were tried, and how many ended in each way; the runs that end otherwise are printed, and
+make the status 1. It wants cc.
 """
 import argparse
 import collections
