@@ -161,6 +161,16 @@ impl Store {
         }
     }
 
+    /// The value of the key, where it has one. It stays the store's.
+    pub fn get(&self, key: &[u8]) -> Option<&[u8]>
+        ensures { option_map (λ v. v.now) result ≡ value_of self.now key.now }
+    {
+        match value_in(&self.table, key) {
+            Some(value) => Some(value.as_slice()),
+            None => None,
+        }
+    }
+
     /// Applies the command, and answers it.
     pub fn apply(&mut self, command: &Command) -> Result<Answer, NoMemory>
         ensures store { OnOk result (self.new ≡ (sequence.apply self.old command.now).0) }
@@ -172,7 +182,7 @@ impl Store {
 
     /// The same, where the key and the values are somebody else's.
     #[tactic(auto, unfolding(crate::specs::Sequence::apply))]
-    fn apply_lent(&mut self, command: CommandRef<'_>) -> Result<Answer, NoMemory>
+    pub fn apply_lent(&mut self, command: CommandRef<'_>) -> Result<Answer, NoMemory>
         ensures store { OnOk result (self.new ≡ (sequence.apply self.old (command_owned command.entry)).0) }
         ensures answer { IfOk result (λ answer. answer ≡ (sequence.apply self.old (command_owned command.entry)).1) }
         ensures err { OnErr result (self.new ≡ self.old) }
