@@ -35,7 +35,7 @@ use Rattle.nz_machine.specs.Leading.{is_normal_in, leader_at, is_led, lead}
 use Rattle.nz_machine.proofs.Moments.{at_world}
 use Rattle.nz_machine.proofs.ReadShows.{fits_here}
 use Rattle.nz_machine.proofs.Runs.{sent_by}
-use Rattle.nz_machine.proofs.Sends.{shown}
+use Rattle.nz_machine.proofs.SentMessages.{shown}
 use Rattle.nz_base.specs.Moments.{At}
 use Rattle.nz_laws_commit.specs.Present.{AreUpWithin}
 use Rattle.nz_laws_commit.proofs.Accepted.{Gives}

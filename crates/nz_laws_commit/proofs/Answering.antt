@@ -30,7 +30,7 @@ use Rattle.nz_machine.specs.Shows.{ShowsFast, Shows}
 use Rattle.nz_base.proofs.Moments.{at_then}
 use Rattle.nz_laws_commit.proofs.Places.{EndsAnswered, cut_answered}
 use Rattle.nz_laws_commit.proofs.FactsStay.{facts_stay}
-use Rattle.nz_machine.proofs.Sends.{shown}
+use Rattle.nz_machine.proofs.SentMessages.{shown}
 use Rattle.nz_laws_commit.proofs.ReadMessages.{IsTold}
 
 -- ---- an answer of a leader

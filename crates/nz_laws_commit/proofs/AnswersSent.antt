@@ -25,7 +25,7 @@ use Rattle.nz_machine.proofs.Moments.{at_world}
 use Rattle.nz_base.proofs.Moments.{at_then}
 use Rattle.nz_machine.specs.Hearing.{heard_at}
 use Rattle.nz_machine.specs.Shows.{ShowsAnswer, Shows}
-use Rattle.nz_machine.proofs.Sends.{shown}
+use Rattle.nz_machine.proofs.SentMessages.{shown}
 use Rattle.nz_laws_commit.proofs.ReadMessages.{IsTold}
 use Rattle.nz_laws_commit.proofs.Answering.{IsGiven, given_later}
 use Rattle.nz_laws_commit.proofs.NotedWereSent.{IsBacked, backed_later}

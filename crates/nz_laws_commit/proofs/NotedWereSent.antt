@@ -29,7 +29,7 @@ use Rattle.nz_machine.specs.Hearing.{heard_at}
 use Rattle.nz_machine.specs.Shows.{ShowsFast, ShowsSlow, Shows}
 use Rattle.nz_machine.specs.Incarnations.{replica_at}
 use Rattle.nz_machine.proofs.Moments.{at_world}
-use Rattle.nz_machine.proofs.Sends.{shown}
+use Rattle.nz_machine.proofs.SentMessages.{shown}
 use Rattle.nz_laws_commit.proofs.ReadMessages.{IsTold}
 use Rattle.nz_laws_commit.proofs.Chosen.{HasQuorum}
 

@@ -30,7 +30,7 @@ use Rattle.nz_machine.proofs.Moves.{Brings}
 use Rattle.nz_machine.proofs.EachEntry.{IsOwn, EachEntry, message_each, tick_each, alarm_each, none_each, crash_each, restart_each}
 use Rattle.nz_machine.proofs.Snapshots.{IsFairTo, fair_to, MayShow, StepShows, message_step_shows, tick_step_shows}
 use Rattle.nz_machine.proofs.Snapshots.{alarm_step_shows, crash_step_shows, restart_step_shows}
-use Rattle.nz_machine.proofs.Sends.{may_show}
+use Rattle.nz_machine.proofs.SentMessages.{may_show}
 use Rattle.nz_machine.proofs.FitRuns.{Fitted, FittedState, fits_keep}
 use Rattle.nz_laws_commit.proofs.Clients.{AskedFrom, AllAsked, message_asked, tick_asked}
 use Rattle.nz_laws_commit.proofs.ClientEvents.{HasSent, has_sent, in_turn}

@@ -11,7 +11,7 @@ use Rattle.nz_machine.proofs.Runs.{FitsOut, SentBy, sent_by, sends_have, all_has
 use Rattle.nz_machine.proofs.Moments.{at_world}
 use Rattle.nz_machine.proofs.Sources.{has_source, source_is}
 use Rattle.nz_machine.proofs.FitRuns.{Fitted, FittedState, fits_keep}
-use Rattle.nz_machine.proofs.Sends.{shown}
+use Rattle.nz_machine.proofs.SentMessages.{shown}
 use Rattle.nz_lin.specs.Snapshots.{IsSnapshot}
 
 snapshot : (g : Group) (J : List Record) (p : Parcel) (r : Record) (older : List Record) → source p J ≡ Some (r ∷ older) → World g (r ∷ older)

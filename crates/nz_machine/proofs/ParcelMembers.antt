@@ -36,7 +36,7 @@ use Rattle.nz_machine.proofs.Moves.{Phase, Move, NoteOrigin, Closed}
 use Rattle.nz_machine.proofs.MoveRules.{message_moves, tick_moves, alarm_moves}
 use Rattle.nz_machine.proofs.Snapshots.{StepShows, fair_to, message_step_shows, tick_step_shows, alarm_step_shows, crash_step_shows, restart_step_shows}
 use Rattle.nz_machine.proofs.FitRuns.{Fitted, FittedState, fits_keep}
-use Rattle.nz_machine.proofs.Sends.{may_show}
+use Rattle.nz_machine.proofs.SentMessages.{may_show}
 
 -- ---- what an actor knows of the group
 

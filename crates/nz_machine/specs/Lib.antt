@@ -29,6 +29,7 @@ pub mod Begun
 pub mod Knowledge
 pub mod Committed
 pub mod Schedule
+pub mod Sends
 pub mod Records
 pub mod Journals
 pub mod ClientProgress

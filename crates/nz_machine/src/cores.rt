@@ -4,7 +4,8 @@ ghost use Rattle.std.specs.Prelude.{◌≡◌, Bool, true, false, IfOk, OnOk, On
 ghost use Rattle.nz_machine.specs.State.{Group};
 ghost use Rattle.nz_machine.specs.Step.{Node, node_run};
 
-use super::event::{Event, Sends};
+use super::event::Event;
+use super::sends::Sends;
 use nz_base::{Actor, NoMemory};
 
 /// An actor that takes events one by one.

@@ -2,7 +2,8 @@
 
 ghost use Rattle.std.specs.Prelude.{◌≡◌, IfOk};
 
-use nz_base::{Actor, List, NoMemory, TryCopy};
+use super::sends::Sends;
+use nz_base::{Actor, NoMemory, TryCopy};
 use nz_frame::Frame;
 use std::alloc::Global;
 use std::marker::Model;
@@ -71,9 +72,6 @@ pub enum Event {
     /// An actor that is down comes back, under a number that it has not had.
     Restart(u64),
 }
-
-/// The parcels of a step, in the order in which they were sent.
-pub type Sends = List<SharedParcel>;
 
 /// A step of a run.
 #[derive(Drop)]

@@ -5,7 +5,8 @@ ghost use Rattle.nz_base.specs.Actor.{HasAddress};
 ghost use Rattle.nz_msg.specs.Messages.{Fits, body_of};
 ghost use Rattle.nz_machine.specs.Step.{parcel};
 
-use super::event::{Parcel, Sends, SharedParcel};
+use super::event::{Parcel, SharedParcel};
+use super::sends::Sends;
 use bytes::{Bytes, BytesMut};
 use nz_base::{Actor, NoMemory};
 use nz_msg::{Message, encode, frame_of, write_body};
@@ -38,26 +39,17 @@ impl Outbox {
     {
         Outbox {
             alloc,
-            sends: Sends::new(alloc),
+            sends: Sends::new(),
             room: BytesMut::new(alloc),
         }
-    }
-
-    /// Where nothing is sent yet, the list gets room for so many parcels and no more: the journal keeps it as it is.
-    pub fn reserve(&mut self, count: u32) -> Result<(), NoMemory>
-        ensures { self.new ≡ self.old }
-    {
-        if self.sends.is_empty() {
-            self.sends = Sends::with_capacity(self.alloc, count)?;
-        }
-        Ok(())
     }
 
     /// Sends a frame.
     fn push(&mut self, parcel: Parcel) -> Result<(), NoMemory>
         ensures { OnOk result (self.new ≡ self.old ++ parcel ∷ []) }
     {
-        self.sends.push(SharedParcel::new(self.alloc, parcel)?)
+        self.sends
+            .push(self.alloc, SharedParcel::new(self.alloc, parcel)?)
     }
 
     /// Sends a message.
@@ -103,6 +95,6 @@ impl Outbox {
         ensures value { result ≡ self.old }
         ensures empty { self.new ≡ [] }
     {
-        mem::replace(&mut self.sends, Sends::new(self.alloc))
+        mem::replace(&mut self.sends, Sends::new())
     }
 }

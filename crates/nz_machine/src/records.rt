@@ -6,7 +6,8 @@ ghost use Rattle.nz_machine.specs.declared.event.Record.{Record as RecordModel};
 ghost use Rattle.nz_machine.specs.declared.records.Row.{Row as RowModel};
 
 use super::event::{Event, Record};
-use nz_base::{Actor, List, NoMemory};
+use super::sends::Sends;
+use nz_base::{Actor, NoMemory};
 use std::alloc::Global;
 use std::marker::Model;
 use std::mem::size_of;
@@ -189,11 +190,25 @@ impl Recording {
                 tick,
                 actor,
                 event: Event::Tick(reading),
-                sends: List::new(self.alloc),
+                sends: Sends::new(),
             }),
             Row::Whole { place } => Kept::Whole(&self.others[place]),
         };
         RecordRef { kept }
+    }
+
+    /// The record's tick and its actor.
+    pub fn moment(&self, place: usize) -> (u32, Actor)
+        requires { place < length self.now.records }
+        ensures { (step : RecordModel) → slice_get self.now.records place ≡ Some step → result ≡ (step.tick, step.actor) }
+    {
+        match self.rows[place] {
+            Row::Clock { actor, tick, .. } => (tick, actor),
+            Row::Whole { place } => {
+                let step = &self.others[place];
+                (step.tick, step.actor)
+            }
+        }
     }
 
     /// The record, unless it is a silent tick.
@@ -266,6 +281,14 @@ impl RecordList {
         ensures { slice_get self.now place ≡ Some result }
     {
         self.recording.get(place as usize)
+    }
+
+    /// The record's tick and its actor.
+    pub fn moment(&self, place: u32) -> (u32, Actor)
+        requires { place < length self.now }
+        ensures { (step : RecordModel) → slice_get self.now place ≡ Some step → result ≡ (step.tick, step.actor) }
+    {
+        self.recording.moment(place as usize)
     }
 
     /// The record, unless it is a silent tick.

@@ -178,7 +178,6 @@ impl ProxyState {
         requires answer { fields.answer.fits answer }
         ensures { OnOk result (sends.new ≡ sends.old ++ map (parcel (actors.Proxy self.now.me)) (answer_to_client id answer path ∷ [])) }
     {
-        sends.reserve(1)?;
         let message = Message::Answer(AnswerBody {
             num: id.num,
             answer,

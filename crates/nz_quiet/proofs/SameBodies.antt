@@ -29,7 +29,7 @@ use Rattle.nz_machine.specs.Quorums.{Chosen, decision, answer_in, with_note}
 use Rattle.nz_machine.specs.Shows.{Shows}
 use Rattle.nz_machine.specs.Step.{proxy_message, accepted_envelope, envelope_step, event_step}
 use Rattle.nz_machine.specs.World.{state_after, World}
-use Rattle.nz_machine.proofs.Sends.{shown}
+use Rattle.nz_machine.proofs.SentMessages.{shown}
 use Rattle.nz_quiet.specs.Folds.{flight_of, heard_by}
 use Rattle.nz_quiet.specs.Replicas.{bodies_of}
 use Rattle.nz_quiet.proofs.Elements.{all_of_each}

@@ -13,9 +13,10 @@ ghost use Rattle.nz_machine.specs.Rejoining.{awaits};
 ghost use Rattle.nz_machine.specs.Does.{Does, DoesSilently};
 ghost use Rattle.nz_machine.specs.Step.{replica_message, is_in_cluster};
 
-use nz_base::{Actor, NoMemory, TryCopy};
+use nz_base::{Actor, EntryList, NoMemory};
 use nz_machine::{Outbox, Phase, ReplicaState};
 use nz_msg::{RejoinTellBody, StateTellBody, VectorTellBody};
+use std::mem;
 
 // ---- the first phase: vectors
 
@@ -167,12 +168,12 @@ fn is_wanted(state: &ReplicaState, sender: u8, body: &StateTellBody) -> bool
 }
 
 /// The replica is in normal operation again, with the leader's log.
-fn start(state: &mut ReplicaState, body: &StateTellBody) -> Result<(), NoMemory>
-    requires fits { state_tell.fits body.now }
-    requires other { IsFalse (leader_of state.old.f body.now.view == state.old.me) }
-    ensures { let b = body.now in OnOk result (state.new ≡ record state.old { state = normal_in state.old.state b.view b.entries b.commit }) }
+fn start(state: &mut ReplicaState, body: &mut StateTellBody) -> Result<(), NoMemory>
+    requires fits { state_tell.fits body.old }
+    requires other { IsFalse (leader_of state.old.f body.old.view == state.old.me) }
+    ensures { let b = body.old in OnOk result (state.new ≡ record state.old { state = normal_in state.old.state b.view b.entries b.commit }) }
 {
-    let log = body.entries.copy(state.allocator())?;
+    let log = mem::replace(&mut body.entries, EntryList::new(state.allocator()));
     state.start(body.view, log, body.commit)
 }
 
@@ -181,13 +182,13 @@ fn start(state: &mut ReplicaState, body: &StateTellBody) -> Result<(), NoMemory>
 fn state_tell_rule(
     state: &mut ReplicaState,
     sender: u8,
-    body: &StateTellBody,
+    body: &mut StateTellBody,
 ) -> Result<(), NoMemory>
     requires sender { sender < replica_count state.old.f }
     requires other { IsFalse (sender == state.old.me) }
-    requires vector { length body.now.vector ≡ replica_count state.old.f }
-    requires fits { state_tell.fits body.now }
-    ensures { let s = state.old in OnOk result (DoesSilently s state.new (rejoining.state_tell_rule s.f s.me s.state sender body.now)) }
+    requires vector { length body.old.vector ≡ replica_count state.old.f }
+    requires fits { state_tell.fits body.old }
+    ensures { let s = state.old in OnOk result (DoesSilently s state.new (rejoining.state_tell_rule s.f s.me s.state sender body.old)) }
 {
     state.has_facts();
     if !is_wanted(state, sender, body) || body.vector.is_stray(sender, state.vector()) {
@@ -197,17 +198,18 @@ fn state_tell_rule(
     start(state, body)
 }
 
-/// What a replica does with a state-tell. It takes them from replicas alone, and sends nothing.
+/// What a replica does with a state-tell. It takes them from replicas alone, and sends nothing. A log that is adopted is
+/// taken out of the body.
 pub fn on_state_tell(
     state: &mut ReplicaState,
     from: Actor,
-    body: &StateTellBody,
+    body: &mut StateTellBody,
 ) -> Result<(), NoMemory>
     requires member { IsTrue (is_in_cluster state.old.f from) }
     requires other { from ≢ actors.Replica state.old.me }
-    requires vector { length body.now.vector ≡ replica_count state.old.f }
-    requires fits { state_tell.fits body.now }
-    ensures { let s = state.old in OnOk result (DoesSilently s state.new (replica_message s.f s.me s.state from (StateTell body.now))) }
+    requires vector { length body.old.vector ≡ replica_count state.old.f }
+    requires fits { state_tell.fits body.old }
+    ensures { let s = state.old in OnOk result (DoesSilently s state.new (replica_message s.f s.me s.state from (StateTell body.old))) }
 {
     match from {
         Actor::Replica(sender) => state_tell_rule(state, sender, body),

@@ -110,17 +110,21 @@ impl Replica {
     }
 }
 
-/// Which rule handles a message.
-fn handle(state: &mut ReplicaState, envelope: &Envelope, sends: &mut Outbox) -> Result<(), NoMemory>
-    requires from { HasAddress envelope.now.from }
-    requires other { envelope.now.from ≢ actors.Replica state.old.me }
-    requires fits { Fits envelope.now.message }
-    requires counted { IsTrue (is_in_cluster state.old.f envelope.now.from && is_sized state.old.f (message_vector envelope.now.message)) }
+/// Which rule handles a message. A log that the state takes is taken out of the message.
+fn handle(
+    state: &mut ReplicaState,
+    envelope: &mut Envelope,
+    sends: &mut Outbox,
+) -> Result<(), NoMemory>
+    requires from { HasAddress envelope.old.from }
+    requires other { envelope.old.from ≢ actors.Replica state.old.me }
+    requires fits { Fits envelope.old.message }
+    requires counted { IsTrue (is_in_cluster state.old.f envelope.old.from && is_sized state.old.f (message_vector envelope.old.message)) }
     ensures { let s = state.old in
-        OnOk result (Does s state.new sends.old sends.new (replica_message s.f s.me s.state envelope.now.from envelope.now.message)) }
+        OnOk result (Does s state.new sends.old sends.new (replica_message s.f s.me s.state envelope.old.from envelope.old.message)) }
 {
     let from = envelope.from;
-    match &envelope.message {
+    match &mut envelope.message {
         Message::Timed(body) => on_timed(state, from, body, sends),
         Message::LogMod(body) => on_log_mod(state, from, body, sends),
         Message::Fetch(body) => on_fetch(state, from, body, sends),
@@ -144,14 +148,18 @@ fn handle(state: &mut ReplicaState, envelope: &Envelope, sends: &mut Outbox) -> 
 }
 
 /// What a replica does with what it read: nothing where it is down, or where this is not from the cluster.
-fn hear(state: &mut ReplicaState, envelope: &Envelope, sends: &mut Outbox) -> Result<(), NoMemory>
-    requires from { HasAddress envelope.now.from }
-    requires other { envelope.now.from ≢ actors.Replica state.old.me }
-    requires fits { Fits envelope.now.message }
+fn hear(
+    state: &mut ReplicaState,
+    envelope: &mut Envelope,
+    sends: &mut Outbox,
+) -> Result<(), NoMemory>
+    requires from { HasAddress envelope.old.from }
+    requires other { envelope.old.from ≢ actors.Replica state.old.me }
+    requires fits { Fits envelope.old.message }
     ensures { let s = state.old in
         (g : Group) → IsOf g s
         → OnOk result (Does s state.new sends.old sends.new
-        (envelope_step g (actors.Replica s.me) s.state (if_from_cluster g.f (Some envelope.now)))) }
+        (envelope_step g (actors.Replica s.me) s.state (if_from_cluster g.f (Some envelope.old)))) }
 {
     if !is_from_cluster(state.cluster(), envelope) {
         return Ok(());
@@ -168,10 +176,14 @@ fn deliver(state: &mut ReplicaState, p: &Parcel, sends: &mut Outbox) -> Result<(
         → OnOk result (Does s state.new sends.old sends.new
         (envelope_step g (actors.Replica s.me) s.state (accepted_envelope g.f (actors.Replica s.me) p.now))) }
 {
-    let decoded = decode(state.allocator(), &p.frame);
-    match heard(state.name(), p, &decoded)? {
-        None => Ok(()),
-        Some(envelope) => hear(state, envelope, sends),
+    let mut decoded = decode(state.allocator(), &p.frame);
+    if heard(state.name(), p, &decoded)?.is_none() {
+        return Ok(());
+    }
+    match &mut decoded {
+        Ok(envelope) => hear(state, envelope, sends),
+        // Of what cannot be decoded nothing is heard.
+        Err(_) => Ok(()),
     }
 }
 

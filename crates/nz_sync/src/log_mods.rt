@@ -27,7 +27,6 @@ fn send_sync_report(state: &ReplicaState, leader: u8, sends: &mut Outbox) -> Res
     requires { leader ≤ MAX_REPLICA }
     ensures { OnOk result (sends.new ≡ sends.old ++ map (parcel (actors.Replica state.now.me)) (sync_report_to leader state.now.state ∷ [])) }
 {
-    sends.reserve(1)?;
     let message = Message::SyncReport(SyncReportBody {
         view: state.view(),
         synced: state.log().synced(),

@@ -36,16 +36,16 @@ fn begin(state: &mut ReplicaState, sends: &mut Outbox) -> Result<(), NoMemory>
 fn collect(
     state: &mut ReplicaState,
     sender: u8,
-    body: &ViewChangeBody,
+    body: &mut ViewChangeBody,
     sends: &mut Outbox,
 ) -> Result<(), NoMemory>
     requires sender { sender < replica_count state.old.f }
     requires other { IsFalse (sender == state.old.me) }
-    requires vector { length body.now.vector ≡ replica_count state.old.f }
-    requires fits { view_change.fits body.now }
+    requires vector { length body.old.vector ≡ replica_count state.old.f }
+    requires fits { view_change.fits body.old }
     requires changing { IsTrue (is_changing state.old.state.status) }
     requires leads { IsTrue (leads state.old.f state.old.me state.old.state) }
-    ensures { let s = state.old in OnOk result (Does s state.new sends.old sends.new (begins.collect s.f s.me sender body.now s.state)) }
+    ensures { let s = state.old in OnOk result (Does s state.new sends.old sends.new (begins.collect s.f s.me sender body.old s.state)) }
 {
     if state.collect(sender, body)? != usize::from(state.cluster().f()) {
         return Ok(());
@@ -57,16 +57,16 @@ fn collect(
 fn hear_report(
     state: &mut ReplicaState,
     sender: u8,
-    body: &ViewChangeBody,
+    body: &mut ViewChangeBody,
     sends: &mut Outbox,
 ) -> Result<(), NoMemory>
     requires address { sender ≤ MAX_REPLICA }
     requires sender { sender < replica_count state.old.f }
     requires other { IsFalse (sender == state.old.me) }
-    requires vector { length body.now.vector ≡ replica_count state.old.f }
-    requires fits { view_change.fits body.now }
+    requires vector { length body.old.vector ≡ replica_count state.old.f }
+    requires fits { view_change.fits body.old }
     requires leads { IsTrue (leads state.old.f state.old.me state.old.state) }
-    ensures { let s = state.old in OnOk result (Does s state.new sends.old sends.new (begins.hear_report s.f s.me sender body.now s.state)) }
+    ensures { let s = state.old in OnOk result (Does s state.new sends.old sends.new (begins.hear_report s.f s.me sender body.old s.state)) }
 {
     if state.is_changing() {
         return collect(state, sender, body, sends);
@@ -79,20 +79,20 @@ fn hear_report(
 fn enter_and_hear_report(
     state: &mut ReplicaState,
     sender: u8,
-    body: &ViewChangeBody,
+    body: &mut ViewChangeBody,
     sends: &mut Outbox,
 ) -> Result<(), NoMemory>
     requires address { sender ≤ MAX_REPLICA }
     requires sender { sender < replica_count state.old.f }
     requires other { IsFalse (sender == state.old.me) }
-    requires vector { length body.now.vector ≡ replica_count state.old.f }
-    requires fits { view_change.fits body.now }
+    requires vector { length body.old.vector ≡ replica_count state.old.f }
+    requires fits { view_change.fits body.old }
     requires up { IsTrue (is_up state.old.state.status) }
-    requires low { state.old.state.view ≤ body.now.view }
-    requires leads { leader_of state.old.f body.now.view ≡ state.old.me }
+    requires low { state.old.state.view ≤ body.old.view }
+    requires leads { leader_of state.old.f body.old.view ≡ state.old.me }
     ensures { let s = state.old in
         OnOk result (Does s state.new sends.old sends.new
-        (views.enter_later s.f s.me body.now.view s.state and_then begins.hear_report s.f s.me sender body.now)) }
+        (views.enter_later s.f s.me body.old.view s.state and_then begins.hear_report s.f s.me sender body.old)) }
 {
     enter_later(state, body.view, sends)?;
     hear_report(state, sender, body, sends)
@@ -112,15 +112,15 @@ fn may_lead(state: &ReplicaState, view: u64) -> bool
 fn view_change_rule(
     state: &mut ReplicaState,
     sender: u8,
-    body: &ViewChangeBody,
+    body: &mut ViewChangeBody,
     sends: &mut Outbox,
 ) -> Result<(), NoMemory>
     requires address { sender ≤ MAX_REPLICA }
     requires sender { sender < replica_count state.old.f }
     requires other { IsFalse (sender == state.old.me) }
-    requires vector { length body.now.vector ≡ replica_count state.old.f }
-    requires fits { view_change.fits body.now }
-    ensures { let s = state.old in OnOk result (Does s state.new sends.old sends.new (begins.view_change_rule s.f s.me s.state sender body.now)) }
+    requires vector { length body.old.vector ≡ replica_count state.old.f }
+    requires fits { view_change.fits body.old }
+    ensures { let s = state.old in OnOk result (Does s state.new sends.old sends.new (begins.view_change_rule s.f s.me s.state sender body.old)) }
 {
     state.has_facts();
     if !may_lead(state, body.view) || body.vector.is_stray(sender, state.vector()) {
@@ -131,19 +131,20 @@ fn view_change_rule(
     enter_and_hear_report(state, sender, body, sends)
 }
 
-/// What a replica does with a view-change. It takes them from other replicas alone.
+/// What a replica does with a view-change. It takes them from other replicas alone. The log of a report that is collected
+/// is taken out of the body.
 pub fn on_view_change(
     state: &mut ReplicaState,
     from: Actor,
-    body: &ViewChangeBody,
+    body: &mut ViewChangeBody,
     sends: &mut Outbox,
 ) -> Result<(), NoMemory>
     requires from { HasAddress from }
     requires member { IsTrue (is_in_cluster state.old.f from) }
     requires other { from ≢ actors.Replica state.old.me }
-    requires vector { length body.now.vector ≡ replica_count state.old.f }
-    requires fits { view_change.fits body.now }
-    ensures { let s = state.old in OnOk result (Does s state.new sends.old sends.new (replica_message s.f s.me s.state from (ViewChange body.now))) }
+    requires vector { length body.old.vector ≡ replica_count state.old.f }
+    requires fits { view_change.fits body.old }
+    ensures { let s = state.old in OnOk result (Does s state.new sends.old sends.new (replica_message s.f s.me s.state from (ViewChange body.old))) }
 {
     match from {
         Actor::Replica(sender) => view_change_rule(state, sender, body, sends),

@@ -12,9 +12,10 @@ ghost use Rattle.nz_machine.specs.Adopting.{after_start};
 ghost use Rattle.nz_machine.specs.Does.{Does, DoesSilently};
 ghost use Rattle.nz_machine.specs.Step.{replica_message, is_in_cluster};
 
-use nz_base::{Actor, NoMemory, TryCopy};
+use nz_base::{Actor, EntryList, NoMemory};
 use nz_machine::{Outbox, ReplicaState};
 use nz_msg::{StartViewBody, ViewAskBody};
+use std::mem;
 
 /// The view is entered where it is later than the replica's own.
 pub fn enter_later(state: &mut ReplicaState, view: u64, sends: &mut Outbox) -> Result<(), NoMemory>
@@ -67,13 +68,13 @@ fn may_start(state: &ReplicaState, view: u64) -> bool
 }
 
 /// The view starts with the leader's log.
-fn start(state: &mut ReplicaState, body: &StartViewBody) -> Result<(), NoMemory>
-    requires fits { start_view.fits body.now }
-    requires other { IsFalse (leader_of state.old.f body.now.view == state.old.me) }
-    ensures { OnOk result (state.new ≡ record state.old { state = after_start state.old.state body.now }) }
+fn start(state: &mut ReplicaState, body: &mut StartViewBody) -> Result<(), NoMemory>
+    requires fits { start_view.fits body.old }
+    requires other { IsFalse (leader_of state.old.f body.old.view == state.old.me) }
+    ensures { OnOk result (state.new ≡ record state.old { state = after_start state.old.state body.old }) }
 {
     let commit = state.commit().max(body.commit).min(body.entries.len());
-    let log = body.entries.copy(state.allocator())?;
+    let log = mem::replace(&mut body.entries, EntryList::new(state.allocator()));
     state.start(body.view, log, commit)
 }
 
@@ -82,13 +83,13 @@ fn start(state: &mut ReplicaState, body: &StartViewBody) -> Result<(), NoMemory>
 fn start_view_rule(
     state: &mut ReplicaState,
     sender: u8,
-    body: &StartViewBody,
+    body: &mut StartViewBody,
 ) -> Result<(), NoMemory>
     requires sender { sender < replica_count state.old.f }
     requires other { IsFalse (sender == state.old.me) }
-    requires vector { length body.now.vector ≡ replica_count state.old.f }
-    requires fits { start_view.fits body.now }
-    ensures { let s = state.old in OnOk result (DoesSilently s state.new (adopting.start_view_rule s.f s.me s.state sender body.now)) }
+    requires vector { length body.old.vector ≡ replica_count state.old.f }
+    requires fits { start_view.fits body.old }
+    ensures { let s = state.old in OnOk result (DoesSilently s state.new (adopting.start_view_rule s.f s.me s.state sender body.old)) }
 {
     state.has_facts();
     if !may_start(state, body.view)
@@ -101,17 +102,18 @@ fn start_view_rule(
     start(state, body)
 }
 
-/// What a replica does with a start-view. It takes them from other replicas alone, and sends nothing.
+/// What a replica does with a start-view. It takes them from other replicas alone, and sends nothing. A log that is
+/// adopted is taken out of the body.
 pub fn on_start_view(
     state: &mut ReplicaState,
     from: Actor,
-    body: &StartViewBody,
+    body: &mut StartViewBody,
 ) -> Result<(), NoMemory>
     requires member { IsTrue (is_in_cluster state.old.f from) }
     requires other { from ≢ actors.Replica state.old.me }
-    requires vector { length body.now.vector ≡ replica_count state.old.f }
-    requires fits { start_view.fits body.now }
-    ensures { let s = state.old in OnOk result (DoesSilently s state.new (replica_message s.f s.me s.state from (StartView body.now))) }
+    requires vector { length body.old.vector ≡ replica_count state.old.f }
+    requires fits { start_view.fits body.old }
+    ensures { let s = state.old in OnOk result (DoesSilently s state.new (replica_message s.f s.me s.state from (StartView body.old))) }
 {
     match from {
         Actor::Replica(sender) => start_view_rule(state, sender, body),

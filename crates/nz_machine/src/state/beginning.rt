@@ -14,9 +14,10 @@ use super::super::collecting::{
 };
 use super::super::data::{Reported, Status};
 use super::{ReplicaState, forget};
-use nz_base::{EntryList, MAX_ENTRIES, NoMemory, TryCopy};
+use nz_base::{EntryList, MAX_ENTRIES, NoMemory};
 use nz_merge::{Change, ViewChanges, merge};
 use nz_msg::ViewChangeBody;
+use std::mem;
 
 impl ReplicaState {
     /// Reports that the replica's vector makes stray are no longer collected.
@@ -26,13 +27,14 @@ impl ReplicaState {
         drop_stray_reports(&mut self.parts.changes, &self.parts.vector);
     }
 
-    /// Collects the report in place of an earlier one of its sender. Gives how many there are now.
-    pub fn collect(&mut self, sender: u8, body: &ViewChangeBody) -> Result<usize, NoMemory>
+    /// Collects the report in place of an earlier one of its sender. Its log is taken out of the body. Gives how many
+    /// reports there are now.
+    pub fn collect(&mut self, sender: u8, body: &mut ViewChangeBody) -> Result<usize, NoMemory>
         requires sender { sender < replica_count self.old.f }
         requires other { IsFalse (sender == self.old.me) }
-        requires vector { length body.now.vector ≡ replica_count self.old.f }
-        requires fits { view_change.fits body.now }
-        ensures state { OnOk result (self.new ≡ record self.old { state = with_report self.old.state sender body.now }) }
+        requires vector { length body.old.vector ≡ replica_count self.old.f }
+        requires fits { view_change.fits body.old }
+        ensures state { OnOk result (self.new ≡ record self.old { state = with_report self.old.state sender body.old }) }
         ensures count { IfOk result (λ count. count ≡ length self.new.state.changes) }
     {
         let change = Change {
@@ -40,7 +42,7 @@ impl ReplicaState {
             last: body.last,
             synced: body.synced,
             commit: body.commit,
-            log: body.entries.copy(self.parts.alloc)?,
+            log: mem::replace(&mut body.entries, EntryList::new(self.parts.alloc)),
         };
         let reported = Reported {
             vector: body.vector,

@@ -7,4 +7,4 @@ use Rattle.nz_rejoin.proofs.phases.start.Goals as goal
 pub start-requires-clause-log : goal.start-requires-clause-log
 start-requires-clause-log c =
     let b = c.args.body.now in
-    subst IsCarried (sym c.in_ok-log.ensures) (carried_of_fit b.commit b.entries c.requires.fits.1.1.1.1)
+    subst IsCarried (sym c.replace-log.ensures.value) (carried_of_fit b.commit b.entries c.requires.fits.1.1.1.1)

@@ -5,4 +5,4 @@ use Rattle.nz_machine.proofs.Carried.{carried_of_fit}
 use Rattle.nz_view.proofs.starts.start.Goals as goal
 
 pub start-requires-clause-log : goal.start-requires-clause-log
-start-requires-clause-log c = subst IsCarried (sym c.in_ok-log.ensures) (carried_of_fit c.args.body.now.commit c.args.body.now.entries c.requires.fits.1.1.1)
+start-requires-clause-log c = subst IsCarried (sym c.replace-log.ensures.value) (carried_of_fit c.args.body.now.commit c.args.body.now.entries c.requires.fits.1.1.1)

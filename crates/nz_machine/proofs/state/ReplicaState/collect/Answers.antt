@@ -28,4 +28,4 @@ invariant_of-self-2 c =
     ++ record {
       vector = b.vector;
       change = record { sender = sender; last = b.last; synced = b.synced; commit = b.commit; log = es };
-    } ∷ []) c.in_ok-copy.ensures)
+    } ∷ []) c.replace.ensures.value)
