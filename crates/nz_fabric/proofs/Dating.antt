@@ -79,11 +79,19 @@ up_to_is last t (a ∷ xs) le = up_to_first last t a xs (nat_le a.tick last) le 
 
 -- ---- days
 
-pub one_empty : (days : List (List Item)) (t : ℕ) → items_in (days ++ [] ∷ []) t ≡ items_in days t
+one_empty : (days : List (List Item)) (t : ℕ) → items_in (days ++ [] ∷ []) t ≡ items_in days t
 one_empty [] zero = refl
 one_empty [] (suc t) = refl
 one_empty (d ∷ days) zero = refl
 one_empty (d ∷ days) (suc t) = one_empty days t
+
+-- one day more, which is empty
+pub opened : (days : List (Vec Item Global)) (v : Vec Item Global) (t : ℕ) → v.items ≡ []
+    → items_in (days_of (days ++ v ∷ [])) t ≡ items_in (days_of days) t
+opened days v t none =
+    ap (λ (D : List (List Item)). items_in D t)
+    (map-append (λ (v : Vec Item Global). v.items) days (v ∷ []) ∙ ap (λ (x : List Item). days_of days ++ x ∷ []) none)
+    ∙ one_empty (days_of days) t
 
 -- a day with more room has the same items
 pub same_days : (days : List (Vec Item Global)) (i : ℕ) (old v : Vec Item Global) → old ≡ get_or days i old
@@ -288,9 +296,22 @@ pub day_is : (days : List (Vec Item Global)) (tick : ℕ) (v : Vec Item Global) 
     → v ≡ get_or days tick v → items_in (days_of days) tick ≡ v.items
 day_is days tick v lt at = get_or-map (λ (v : Vec Item Global). v.items) days tick v [] lt ∙ ap (λ (v : Vec Item Global). v.items) (sym at)
 
+-- a day without items is the same in other memory
+pub same_empty : (days : List (Vec Item Global)) (i : ℕ) (old v : Vec Item Global) → i < length days → old ≡ get_or days i old
+    → items_in (days_of days) i ≡ [] → v.items ≡ [] → days_of (slice_set days i v) ≡ days_of days
+same_empty days i old v lt at none own = same_days days i old v at (own ∙ sym none ∙ day_is days i old lt at)
+
 taken_days : (days : List (Vec Item Global)) (tick : ℕ) (v : Vec Item Global) → v.items ≡ []
     → days_of (slice_set days tick v) ≡ slice_set (days_of days) tick []
 taken_days days tick v none = map-set (λ (v : Vec Item Global). v.items) days tick v ∙ ap (slice_set (days_of days) tick) none
+
+-- none of its items is to come
+pub taken_now : (days : List (Vec Item Global)) (tick : ℕ) (v : Vec Item Global) → tick < length days → v.items ≡ []
+    → items_in (days_of (slice_set days tick v)) tick ≡ []
+taken_now days tick v lt none =
+    let long = length-map days (λ (v : Vec Item Global). v.items) in
+    ap (λ (D : List (List Item)). items_in D tick) (taken_days days tick v none)
+    ∙ get_or-set_same (days_of days) tick [] [] (omega (arith, lt, long))
 
 pub taken_later : (days : List (Vec Item Global)) (tick t : ℕ) (v : Vec Item Global) → tick < t → v.items ≡ []
     → items_in (days_of (slice_set days tick v)) t ≡ items_in (days_of days) t

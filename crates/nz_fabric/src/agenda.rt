@@ -16,15 +16,17 @@ use std::snapshot::Snapshot;
 /// What is due in a tick. An item is moved out when it is taken. Contracts see all items, taken or not, and how many were taken.
 #[derive(Drop)]
 pub struct Agenda {
-    /// The items, but that those which were moved out have left others in their places.
+    /// The items, but that those which were moved out have left others in their places. None, once their memory was taken.
     items: Vec<Item>,
+    /// How many items there are, taken or not.
+    count: usize,
     next: usize,
     /// The items as they all were, which the proofs alone know.
     whole: Snapshot<Vec<Item>>,
 }
 
 impl Model for Agenda {
-    ghost use Rattle.std.specs.Prelude.{◌≡◌, ◌≤◌, drop, length};
+    ghost use Rattle.std.specs.Prelude.{◌≡◌, ◌≤◌, ◌-◌, drop, length};
     ghost use Rattle.nz_fabric.specs.Agendas.{Progress};
 
     ghost Value = { Progress };
@@ -32,7 +34,8 @@ impl Model for Agenda {
     ghost view = { λ a. record { items = a.whole.value.items; next = a.next } };
 
     ghost invariant = { λ a. (drop a.next a.items.items ≡ drop a.next a.whole.value.items)
-        × (length a.items.items ≡ length a.whole.value.items) × (a.next ≤ length a.items.items) };
+        × (length a.items.items - a.next ≡ length a.whole.value.items - a.next)
+        × (a.count ≡ length a.whole.value.items) × (a.next ≤ a.count) };
 }
 
 /// An item that nobody is to do, for a place that has none.
@@ -79,6 +82,7 @@ impl Agenda {
     {
         let whole = Snapshot::of(&items);
         Agenda {
+            count: items.len(),
             items,
             next: 0,
             whole,
@@ -89,7 +93,7 @@ impl Agenda {
     pub fn is_done(&self) -> bool
         ensures { IsTrue result ↔ (self.now.next ≡ length self.now.items) }
     {
-        self.next == self.items.len()
+        self.next == self.count
     }
 
     /// The next item is moved out.
@@ -108,7 +112,7 @@ impl Agenda {
     pub fn len(&self) -> usize
         ensures { result ≡ length self.now.items }
     {
-        self.items.len()
+        self.count
     }
 
     /// How many were taken.
@@ -141,5 +145,13 @@ impl Agenda {
         let events = move_events(alloc, &mut self.items, self.next, count)?;
         self.next += count;
         Ok((actor, events))
+    }
+
+    /// The memory of the items, for those of the next tick, once all were taken.
+    pub fn take_memory(&mut self, alloc: Global) -> Vec<Item>
+        requires { self.old.next ≡ length self.old.items }
+        ensures { self.new ≡ self.old }
+    {
+        std::mem::replace(&mut self.items, Vec::new(alloc))
     }
 }

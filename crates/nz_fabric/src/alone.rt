@@ -133,7 +133,8 @@ impl Alone {
             &self.records,
             self.before,
         )?;
-        let items = self.ticks.begin()?;
+        let memory = self.agenda.take_memory(self.ticks.alloc);
+        let items = self.ticks.begin(memory)?;
         self.agenda = Agenda::new(items);
         self.before = self.records.len();
         Ok(true)

@@ -10,7 +10,7 @@
 //! every line, and copied. A tick costs what is due in it. What the lines for crashes, restarts and alarms ask
 //! is listed once, at the start, by ticks.
 
-ghost use Rattle.std.specs.Prelude.{◌≡◌, ◌-◌, ◌<◌, ◌≤◌, ◌^◌, ◌∷◌, ◌++◌, [], ℕ, List, length, map};
+ghost use Rattle.std.specs.Prelude.{◌≡◌, ◌-◌, ◌<◌, ◌≤◌, ◌^◌, ◌∷◌, ◌++◌, [], ℕ, List, length, map, vec_capacity};
 ghost use Rattle.std.specs.Prelude.{None, Some, IfOk, OnOk, OnErr};
 ghost use Rattle.nz_base.specs.declared.scenario.Scenario.{Scenario as ScenarioModel};
 ghost use Rattle.nz_machine.specs.declared.event.Parcel.{Parcel as ParcelModel};
@@ -26,8 +26,8 @@ use crate::deliveries::Delivery;
 use crate::faults::deliveries_of;
 use crate::kinds::Kinds;
 use indexmap::IndexMap;
-use nz_base::{FaultList, List, NoMemory, Scenario, TryCopy};
-use nz_machine::{Event, Item, ItemList, SharedParcel, kind_of};
+use nz_base::{FaultList, NoMemory, Scenario, TryCopy};
+use nz_machine::{Event, Item, SharedParcel, kind_of};
 use smallvec::SmallVec;
 use std::alloc::Global;
 use std::marker::Model;
@@ -404,6 +404,19 @@ fn post_parcel(
     place_whole(alloc, days, scenario.ticks, tick, parcel)
 }
 
+/// The memory of a day without items goes to the next day, if this one was not opened.
+fn pass_on(alloc: Global, days: &mut Vec<Vec<Item>>, place: usize)
+    requires within { place < length days.old.items }
+    requires empty { items_in (days_of days.old.items) place ≡ [] }
+    requires room { length days.old.items < vec_capacity days.old }
+    ensures { AreKept days.old.items days.new.items }
+{
+    let memory = std::mem::replace(&mut days[place], Vec::new(alloc));
+    if days.len() == place + 1 {
+        days.push_reserved(memory);
+    }
+}
+
 impl Calendar {
     /// No parcel was posted, and nothing is to come.
     pub fn new(alloc: Global, faults: &FaultList) -> Calendar
@@ -462,18 +475,22 @@ impl Calendar {
         }
     }
 
-    /// The items of a tick, which are to come no more.
-    pub fn take(&mut self, tick: u32) -> ItemList
-        ensures items { result ≡ items_in self.old.days tick }
-        ensures stands { (s : ScenarioModel) (L : List Posted) (now : ℕ) → StandsFor s L now self.old → now < tick → StandsFor s L tick self.new }
+    /// The items of a tick go after others, and are to come no more. The next day, if it was not opened, is kept in their memory.
+    pub fn move_to(&mut self, tick: u32, items: &mut Vec<Item>) -> Result<(), NoMemory>
+        ensures items { OnOk result (items.new.items ≡ items.old.items ++ items_in self.old.days tick) }
+        ensures stands { (s : ScenarioModel) (L : List Posted) (now : ℕ) → StandsFor s L now self.old → now < tick
+            → OnOk result (StandsFor s L tick self.new) }
         ensures due { (s : ScenarioModel) (L : List Posted) (now : ℕ) → StandsFor s L now self.old → now < tick
-            → tick ≤ s.ticks → result ≡ arrivals s tick [] L }
+            → tick ≤ s.ticks → OnOk result (items.new.items ≡ items.old.items ++ arrivals s tick [] L) }
+        ensures err { OnErr result (self.new ≡ self.old) }
     {
         let place = tick as usize;
         if place >= self.days.len() {
-            return List::new(self.alloc);
+            return Ok(());
         }
-        let day = std::mem::replace(&mut self.days[place], Vec::new(self.alloc));
-        List::from_vec(day)
+        self.days.reserve(1)?;
+        items.append(&mut self.days[place])?;
+        pass_on(self.alloc, &mut self.days, place);
+        Ok(())
     }
 }

@@ -157,9 +157,11 @@ pub fn clocks_of(scenario: &Scenario) -> usize
     actor_count(scenario) * ticks as usize
 }
 
-/// What is due in a tick before what arrives: what is asked of actors, then every clock. There is room for this many more.
+/// What is due in a tick before what arrives: what is asked of actors, then every clock. It is kept in the memory of other
+/// items, which are gone. There is room for this many more.
 pub fn due_items(
     alloc: Global,
+    memory: Vec<Item>,
     scenario: &Scenario,
     asked: &[Item],
     tick: u32,
@@ -169,7 +171,9 @@ pub fn due_items(
     ensures room { IfOk result (λ v. length v.items + more ≤ vec_capacity v) }
 {
     let clocks = actor_count(scenario);
-    let mut items = Vec::with_capacity(alloc, clocks.saturating_add(more))?;
+    let mut items = memory;
+    items.clear();
+    items.reserve(clocks.saturating_add(more))?;
     push_copies(alloc, &mut items, asked)?;
     items.reserve(clocks)?;
     push_clocks(&mut items, scenario, tick);

@@ -364,7 +364,8 @@ impl<N: Name> FabricState<N> {
             ..
         } = &mut self.ticks;
         post_all(calendar, scenario, self.records.recording(), self.before)?;
-        let mut items = self.ticks.begin()?;
+        let memory = self.agenda.take_memory(self.ticks.alloc);
+        let mut items = self.ticks.begin(memory)?;
         group(&mut items);
         self.lately = items.len().max(self.lately / 2);
         self.small = begins_small(&items, self.lately);

@@ -1,6 +1,6 @@
 //! What the networks of one thread and of several have in common: the tick and the calendar.
 
-ghost use Rattle.std.specs.Prelude.{◌≡◌, ◌<◌, ◌≤◌, ◌+◌, ◌++◌, ℕ, vec_capacity, List, length};
+ghost use Rattle.std.specs.Prelude.{◌≡◌, ◌<◌, ◌≤◌, ℕ, List};
 ghost use Rattle.std.specs.Prelude.{IfOk, OnErr};
 ghost use Rattle.nz_machine.specs.Schedule as schedule;
 ghost use Rattle.nz_fabric.specs.Numbered.{items_under};
@@ -9,7 +9,7 @@ use crate::calendar::Calendar;
 use crate::due::{calls_of, due_items};
 use crate::numbered::Numbered;
 use nz_base::{NoMemory, Scenario};
-use nz_machine::{Item, ItemList};
+use nz_machine::Item;
 use std::alloc::Global;
 
 /// The tick that is run, and what is to come after it.
@@ -23,16 +23,6 @@ pub struct Ticks {
     pub calendar: Calendar,
     pub marked: bool,
     ghost asked: { (tick : ℕ) → items_under calls tick ≡ schedule.calls tick 0 scenario.faults },
-}
-
-/// Puts items after others, where there is room.
-fn append(items: &mut Vec<Item>, more: ItemList)
-    requires { length items.old.items + length more ≤ vec_capacity items.old }
-    ensures { items.new.items ≡ items.old.items ++ more }
-{
-    for item in more.into_vec() {
-        items.push_reserved(item);
-    }
 }
 
 impl Ticks {
@@ -57,9 +47,9 @@ impl Ticks {
         })
     }
 
-    /// Begins the next tick, once what this one sent is posted, and gives what is due in it. All memory is taken before the
-    /// calendar changes.
-    pub fn begin(&mut self) -> Result<Vec<Item>, NoMemory>
+    /// Begins the next tick, once what this one sent is posted, and gives what is due in it, in the memory of items that are
+    /// gone. All memory is taken before the calendar changes.
+    pub fn begin(&mut self, memory: Vec<Item>) -> Result<Vec<Item>, NoMemory>
         requires more { self.old.tick < self.old.scenario.ticks }
         requires ticks { self.old.scenario.ticks ≤ MAX_TICKS }
         ensures ok { (L : List Posted) → StandsFor self.old.scenario L self.old.tick self.old.calendar
@@ -69,8 +59,8 @@ impl Ticks {
         let tick = self.tick + 1;
         let coming = self.calendar.due(tick);
         let asked = self.calls.under(u64::from(tick));
-        let mut items = due_items(self.alloc, &self.scenario, asked, tick, coming)?;
-        append(&mut items, self.calendar.take(tick));
+        let mut items = due_items(self.alloc, memory, &self.scenario, asked, tick, coming)?;
+        self.calendar.move_to(tick, &mut items)?;
         self.tick = tick;
         self.marked = false;
         Ok(items)

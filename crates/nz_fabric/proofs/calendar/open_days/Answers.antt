@@ -1,23 +1,21 @@
 -- What the function of this folder owes, proved.
-use Rattle.std.proofs.Common.{◌≡◌, ◌∙◌, ◌++◌, [], ◌∷◌, List, sym, ap, subst}
-use Rattle.std.proofs.lemmas.List.{map-append}
+use Rattle.std.proofs.Common.{◌∙◌, List, sym, ap, subst}
 use Rattle.std.specs.Prelude.{Vec}
 use Rattle.std.specs.Global.{Global}
 use Rattle.nz_machine.specs.declared.journal.Item.{Item}
 use Rattle.nz_fabric.specs.Calendars.{items_in}
 use Rattle.nz_fabric.specs.Posting.{days_of, HasRoomFor}
-use Rattle.nz_fabric.proofs.Dating.{one_empty, room_more}
+use Rattle.nz_fabric.proofs.Dating.{opened, room_more}
 use Rattle.nz_fabric.proofs.calendar.open_days.Goals as goal
 
 pub days-preserved : goal.days-preserved
 days-preserved c =
     let days = c.days.days.items in
     let v = c.new.result in
-    let opened : days_of c.push.new.self.items ≡ days_of days ++ [] ∷ [] =
-    ap days_of c.in_ok-push.ensures.items ∙ map-append (λ (v : Vec Item Global). v.items) days (v ∷ [])
-    ∙ ap (λ (x : List Item). days_of days ++ x ∷ []) c.new.ensures.items in
     record {
-      same = λ t. ap (λ (D : List (List Item)). items_in D t) opened ∙ one_empty (days_of days) t ∙ c.days.invariant.same t;
+      same =
+          λ t. ap (λ (days : List (Vec Item Global)). items_in (days_of days) t) c.in_ok-push.ensures.items
+          ∙ opened days v t c.new.ensures.items ∙ c.days.invariant.same t;
       rooms =
           λ n t h. subst (λ (days : List (Vec Item Global)). HasRoomFor n days t) (sym c.in_ok-push.ensures.items)
           (room_more n days v t (c.days.invariant.rooms n t h));

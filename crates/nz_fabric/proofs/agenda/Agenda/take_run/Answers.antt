@@ -26,8 +26,9 @@ invariant_of-self-2 c =
     let most = prefix_len-le-length (λ (i : Item). actor_eq i.actor a) left in
     let long = ap length same ∙ length-drop f.next items in (
       c.in_ok-events.ensures.left ∙ sym (drop-drop k f.next items) ∙ ap (drop k) c.self.invariant.0 ∙ drop-drop k f.next whole,
-      c.in_ok-events.ensures.len ∙ c.self.invariant.1,
-      omega (arith, many, most, long, c.in_ok-events.ensures.len, c.self.invariant.2),
+      omega (arith, c.in_ok-events.ensures.len, c.self.invariant.1),
+      c.self.invariant.2,
+      omega (arith, many, most, long, c.in_ok-events.ensures.len, c.self.invariant.1, c.self.invariant.2, c.self.invariant.3),
     )
 
 pub returns-clause-run : goal.returns-clause-run

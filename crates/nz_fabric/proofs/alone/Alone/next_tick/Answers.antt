@@ -26,11 +26,13 @@ invariant_of-self-in_err-items c =
     let inv = c.self.invariant in
     let unmarked : t.marked ≡ false = ap (λ (f : State). f.marked) c.self.view_is ∙ c.requires.quiet.unmarked in
     let now = c.post_all.new.calendar in
-    subst (λ (t : Ticks). IsHeld (state_in t f.before rs f.agenda.items f.agenda.next) f.before
+    subst (λ (p : Progress). IsHeld (state_in c.begin.new.self f.before rs p.items p.next) f.before f.records.room rs c.begin.new.self.calendar)
+    (sym c.take_memory-memory.ensures)
+    (subst (λ (t : Ticks). IsHeld (state_in t f.before rs f.agenda.items f.agenda.next) f.before
     f.records.room rs t.calendar) (sym c.in_err-items.ensures.err)
     (held_marked t.scenario t.tick f.before
     f.records.room rs f.agenda.items f.agenda.next t.marked t.calendar now inv
-    (over_whole t f.before rs _ f.agenda.items f.agenda.next now unmarked inv.is_posted refl c.in_ok-post_all.ensures.ok))
+    (over_whole t f.before rs _ f.agenda.items f.agenda.next now unmarked inv.is_posted refl c.in_ok-post_all.ensures.ok)))
 
 pub invariant_of-self-2 : goal.invariant_of-self-2
 invariant_of-self-2 c =

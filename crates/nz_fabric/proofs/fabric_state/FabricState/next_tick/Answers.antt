@@ -5,6 +5,7 @@ use Rattle.nz_machine.specs.Records.{Recorded}
 use Rattle.nz_machine.specs.Schedule.{posted_by_run}
 use Rattle.nz_fabric.specs.declared.batch.Batch.{Batch}
 use Rattle.nz_fabric.specs.declared.ticks.Ticks.{Ticks}
+use Rattle.nz_fabric.specs.Agendas.{Progress}
 use Rattle.nz_fabric.specs.States.{State, after_tick, records_of, state_in}
 use Rattle.nz_fabric.specs.Shared.{Shared, IsBooked, IsOver, after_shared, shared_with}
 use Rattle.nz_fabric.proofs.Held.{over_some, over_whole, over_begun, begun_grouped, next_is}
@@ -40,9 +41,12 @@ invariant_of-self-in_err-items g c =
     booked_marked _ f.book.total f.batches.taken t.scenario t.tick f.before f.records.room rs f.agenda.items f.agenda.next t.marked
     f.batches.running t.calendar now inv posted in (
       c.self.invariant.0,
-      subst (λ (t : Ticks). IsBooked g.N.Name.scenario f.book.total
+      subst (λ (p : Progress). IsBooked g.N.Name.scenario f.book.total
+          (shared_with (state_in c.begin.new.self f.before rs p.items p.next) f.batches.running f.batches.taken)
+          f.before f.records.room rs c.begin.new.self.calendar) (sym c.take_memory-memory.ensures)
+          (subst (λ (t : Ticks). IsBooked g.N.Name.scenario f.book.total
           (shared_with (state_in t f.before rs f.agenda.items f.agenda.next) f.batches.running f.batches.taken)
-          f.before f.records.room rs t.calendar) (sym c.in_err-items.ensures.err) booked,
+          f.before f.records.room rs t.calendar) (sym c.in_err-items.ensures.err) booked),
     )
 
 pub invariant_of-self-2 : goal.invariant_of-self-2

@@ -1,5 +1,5 @@
 -- What the function of this folder owes, proved.
-use Rattle.std.proofs.Common.{◌≡◌, ◌+◌, ◌++◌, ◌∙◌, [], List, map, refl, ap, arith, append_assoc}
+use Rattle.std.proofs.Common.{◌+◌, ◌++◌, ◌∙◌, [], List, map, refl, ap, arith, append_assoc}
 use Rattle.nz_machine.specs.declared.journal.Item.{Item}
 use Rattle.nz_machine.specs.Schedule.{calls, tick_item, actors_of, arrivals}
 use Rattle.nz_fabric.specs.Numbered.{items_under}
@@ -12,16 +12,14 @@ returns-clause-ok c = λ L h.
     let next = t.tick + 1 in
     let first = calls next 0 s.faults in
     let clocks = map (tick_item s next) (actors_of s) in
-    let due : c.take.result ≡ arrivals s next [] L = c.take.ensures.due s L t.tick h (omega arith) (omega (arith, c.requires.more)) in
     record {
       scenario = refl;
       tick = refl;
       are_due =
-          c.append.ensures
-          ∙ ap (λ (is : List Item). is ++ c.take.result) c.in_ok-items.ensures.items
-          ∙ ap (λ (is : List Item). (is ++ clocks) ++ c.take.result) (c.under-asked.ensures ∙ ap (items_under t.calls) c.from.ensures ∙ t.asked next)
-          ∙ ap (λ (is : List Item). (first ++ clocks) ++ is) due
+          c.in_ok-move_to.ensures.due s L t.tick h (omega arith) (omega (arith, c.requires.more))
+          ∙ ap (λ (is : List Item). is ++ arrivals s next [] L) c.in_ok-items.ensures.items
+          ∙ ap (λ (is : List Item). (is ++ clocks) ++ arrivals s next [] L) (c.under-asked.ensures ∙ ap (items_under t.calls) c.from.ensures ∙ t.asked next)
           ∙ append_assoc first clocks (arrivals s next [] L);
       unmarked = refl;
-      stands = c.take.ensures.stands s L t.tick h (omega arith);
+      stands = c.in_ok-move_to.ensures.stands s L t.tick h (omega arith);
     }
