@@ -1,11 +1,13 @@
 //! The entries of the history of a text, one after another.
 
 ghost use Rattle.std.specs.Prelude.{◌≡◌, ◌+◌, ◌<◌, ◌^◌, ◌==◌, ◌&&◌, List, [], length, take, slice_get, Some, OnOk, IfOk};
+ghost use Rattle.std.specs.Option.{option_map};
 ghost use Rattle.nz_machine.specs.Quorums.{answer_eq};
 ghost use Rattle.indexmap.specs.IndexMap.{get};
 ghost use Rattle.nz_base.specs.Key.{id_eq};
 ghost use Rattle.nz_machine.specs.declared.journal.Executed.{Executed as ExecutedModel};
-ghost use Rattle.nz_store.specs.Sequence.{apply_bytes, store_after};
+ghost use Rattle.nz_store.specs.Reading.{command_owned};
+ghost use Rattle.nz_store.specs.Sequence.{apply, apply_bytes, store_after, value_answer};
 ghost use Rattle.nz_check.specs.Checked.{first_line, whys, at_why, lacks_open, commands_of};
 ghost use Rattle.nz_check.specs.Noting.{AreFirstPlaces, AreNoted, is_sent_at};
 ghost use Rattle.nz_check.specs.Applying.{IsApplied};
@@ -15,7 +17,7 @@ use super::places::{Places, place_of};
 use super::verdict::{Verdict, Why};
 use nz_base::NoMemory;
 use nz_machine::Executed;
-use nz_store::Store;
+use nz_store::{Answer, CommandRef, Store, command_in};
 use nz_text::{Event, Printed};
 use std::alloc::Global;
 
@@ -36,14 +38,46 @@ fn lacks_above(lacks: bool, place: u32) -> bool
     place == 0 && lacks
 }
 
+/// Whether the answer is that to a read which finds this value.
+fn is_read_answer(value: Option<&[u8]>, answer: &Answer) -> bool
+    ensures { result ≡ answer_eq (value_answer (option_map (λ v. v.now) value.entry)) answer.now }
+{
+    match (value, answer) {
+        (Some(value), Answer::Value(other)) => value == other.as_slice(),
+        (None, Answer::Absent) => true,
+        _ => false,
+    }
+}
+
+/// Whether the store answers the command so. The command is applied. What a `get` reads is compared in place.
+#[tactic(auto, unfolding(nz_store::specs::Sequence::apply))]
+fn answers_command(
+    store: &mut Store,
+    command: CommandRef<'_>,
+    answer: &Answer,
+) -> Result<bool, NoMemory>
+    ensures store { OnOk result (store.new ≡ (apply store.old (command_owned command.entry)).0) }
+    ensures same { IfOk result (λ same. same ≡ answer_eq (apply store.old (command_owned command.entry)).1 answer.now) }
+{
+    if let CommandRef::Get { key } = command {
+        return Ok(is_read_answer(store.get(key), answer));
+    }
+    match store.apply_lent(command) {
+        Ok(given) => Ok(is_same_answer(&given, answer)),
+        Err(_) => Err(NoMemory),
+    }
+}
+
 /// Whether the store answers the entry's command as the entry says. The command is applied.
+#[tactic(auto, unfolding(nz_store::specs::Sequence::apply_bytes))]
 fn answers(store: &mut Store, entry: &Executed) -> Result<bool, NoMemory>
     ensures store { OnOk result (store.new ≡ (apply_bytes store.old entry.now.command).0) }
     ensures same { IfOk result (λ same. same ≡ answer_eq (apply_bytes store.old entry.now.command).1 entry.now.answer) }
 {
-    match store.apply_bytes(entry.command.as_slice()) {
-        Ok(answer) => Ok(is_same_answer(&answer, &entry.answer)),
-        Err(_) => Err(NoMemory),
+    match command_in(entry.command.as_slice()) {
+        Some(command) => answers_command(store, command, &entry.answer),
+        // Bytes that are no command change nothing.
+        None => Ok(is_same_answer(&Answer::Absent, &entry.answer)),
     }
 }
 
