@@ -20,7 +20,7 @@ use Rattle.nz_base.specs.Actor.{actor_eq}
 use Rattle.nz_base.specs.declared.actor.Actor.TheVariants.{Replica}
 use Rattle.nz_replica.specs.Models.{ReplicaCore, IsCore}
 use Rattle.nz_replay.specs.Runs.{run_up_to}
-use Rattle.nz_replay.proofs.Replays.{core_first}
+use Rattle.nz_replay.proofs.Replays.{core_first, core_stays}
 use Rattle.nz_laws_cv.proofs.WithinIncarnation.{inc_same}
 use Rattle.nz_laws_commit.specs.Stable.{committed_of, Stable}
 use Rattle.nz_observe.specs.declared.known.Known.{Known}
@@ -51,29 +51,37 @@ still_committed : (g : Group) (m : ℕ) (r : Record) (K : List Record) (P : List
 still_committed g m r K P same h = record { moment = h.moment; at = inr h.at; same = h.same ∙ sym same; committed = h.committed }
 
 still_known : (g : Group) (m : ℕ) (r : Record) (K : List Record) (k : Known)
-    → is_down (replica_at g m K).status ≡ false → IsKnown g m K k → IsKnown g m (r ∷ K) k
-still_known g m r K k up h =
-    let same : incarnation g m (r ∷ K) ≡ incarnation g m K =
-    inc_same g m r K (not_back (actor_eq r.actor (Replica m)) (is_restart r.event) (is_down (replica_at g m K).status) up) in
-    record {
-      entries = h.entries;
-      is = h.is;
-      known = elim h.known [
-        | inl none ↦ inl none
-        | inr was ↦ inr (still_committed g m r K h.entries same was)
-      ];
-    }
+    → incarnation g m (r ∷ K) ≡ incarnation g m K → IsKnown g m K k → IsKnown g m (r ∷ K) k
+still_known g m r K k same h = record {
+  entries = h.entries;
+  is = h.is;
+  known = elim h.known [
+    | inl none ↦ inl none
+    | inr was ↦ inr (still_committed g m r K h.entries same was)
+  ];
+}
 
 known_by : (g : Group) (m : ℕ) (r : Record) (K : List Record) (k : Known) (down : Bool)
     → is_down (replica_at g m K).status ≡ down → IsKnown g m K k → IsKnown g m (r ∷ K) (cond down (executed []) k)
 known_by g m r K k true down h = nothing_known g m (r ∷ K)
-known_by g m r K k false up h = still_known g m r K k up h
+known_by g m r K k false up h =
+    still_known g m r K k (inc_same g m r K (not_back (actor_eq r.actor (Replica m)) (is_restart r.event) (is_down (replica_at g m K).status) up)) h
 
 -- what is executed once the record is taken: nothing, where the replica was down before
 pub known_then : (g : Group) (m : ℕ) (r : Record) (K : List Record) (core : ReplicaCore) (k : Known)
     → IsFollowed g K m core k → IsKnown g m (r ∷ K) (cond (is_down core.model.state.status) (executed []) k)
 known_then g m r K core k h =
     known_by g m r K k (is_down core.model.state.status) (ap (λ (s : ReplicaData). is_down s.status) (sym h.core.state)) h.known
+
+-- a record of another leaves the replica and the store
+pub others_followed : (g : Group) (m : ℕ) (r : Record) (K : List Record) (core : ReplicaCore) (k : Known)
+    → actor_eq r.actor (Replica m) ≡ false → IsFollowed g K m core k → IsFollowed g (r ∷ K) m core k
+others_followed g m r K core k other h = record {
+  core = core_stays g m r K core other h.core;
+  known =
+      still_known g m r K k
+      (inc_same g m r K (ap (λ (own : Bool). own && (is_restart r.event && is_down (replica_at g m K).status)) other)) h.known;
+}
 
 -- ---- at the end of a tick
 

@@ -1,37 +1,58 @@
 //! The lines of what is observed.
 
 ghost use Rattle.std.specs.Prelude.{◌≡◌, ◌++◌, Some, OnOk};
-ghost use Rattle.nz_observe.specs.Observed.{nothing_printed, line, is_last, after_tick, sight_text};
+ghost use Rattle.std.specs.Option.{option_map};
+ghost use Rattle.nz_store.specs.Sequence.{value_answer};
+ghost use Rattle.nz_text.specs.Text.{answer_text};
+ghost use Rattle.nz_observe.specs.Observed.{nothing_printed, line, after_tick, sight_text};
 
 use nz_base::{Blob, NoMemory};
 use nz_script::{put, put_number};
-use nz_store::Answer;
-use nz_text::put_answer;
 use std::alloc::Global;
 use std::marker::Model;
+use std::mem;
 
 /// The lines that are printed, and what the last one has after its tick.
 #[derive(Drop)]
 pub struct Lines {
     bytes: Vec<u8>,
-    last: Option<Blob>,
+    /// What the last line has after its tick.
+    last: Vec<u8>,
+    /// Whether there is a line.
+    has_last: bool,
+    /// What is seen at the end of a tick. Its memory is used again at the next.
+    sight: Vec<u8>,
 }
 
 impl Model for Lines {
+    ghost use Rattle.std.specs.Prelude.{if◌then◌else◌, Some, None};
     ghost use Rattle.nz_observe.specs.Observed.{Printed};
 
     ghost Value = { Printed };
 
-    ghost view = { λ l. record { bytes = l.bytes.items; last = l.last } };
+    ghost view = { λ l. record { bytes = l.bytes.items; last = if l.has_last then Some l.last.items else None } };
 }
 
-/// Writes how many entries are committed, and the answer after them.
-pub fn put_sight(out: &mut Vec<u8>, count: u32, answer: &Answer) -> Result<(), NoMemory>
-    ensures { OnOk result (out.new.items ≡ out.old.items ++ sight_text count answer.now) }
+/// Writes the answer to a read that finds this value, after a space. The value is not copied before.
+fn put_read(out: &mut Vec<u8>, value: Option<&[u8]>) -> Result<(), NoMemory>
+    ensures { OnOk result (out.new.items ≡ out.old.items ++ answer_text (value_answer (option_map (λ v. v.now) value.entry))) }
+{
+    match value {
+        Some(value) => {
+            put(out, b" value ")?;
+            put(out, value)
+        }
+        None => put(out, b" absent"),
+    }
+}
+
+/// Writes how many entries are committed, and the answer to a read after them.
+fn put_sight(out: &mut Vec<u8>, count: u32, value: Option<&[u8]>) -> Result<(), NoMemory>
+    ensures { OnOk result (out.new.items ≡ out.old.items ++ sight_text count (value_answer (option_map (λ v. v.now) value.entry))) }
 {
     put(out, b" ")?;
     put_number(out, u64::from(count))?;
-    put_answer(out, answer)?;
+    put_read(out, value)?;
     put(out, b"\n")
 }
 
@@ -49,28 +70,25 @@ impl Lines {
     {
         Lines {
             bytes: Vec::new(alloc),
-            last: None,
+            last: Vec::new(alloc),
+            has_last: false,
+            sight: Vec::new(alloc),
         }
     }
 
-    fn is_last(&self, sight: &Blob) -> bool
-        ensures { result ≡ is_last self.now sight.now }
+    /// Writes a line of how many entries are committed at the end of the tick, and of the value that a read of the key
+    /// finds after them, unless the last line says the same.
+    pub fn note(&mut self, tick: u32, count: u32, value: Option<&[u8]>) -> Result<(), NoMemory>
+        ensures { OnOk result (self.new ≡ after_tick tick (Some (sight_text count (value_answer (option_map (λ v. v.now) value.entry)))) self.old) }
     {
-        match &self.last {
-            Some(last) => last == sight,
-            None => false,
-        }
-    }
-
-    /// Writes a line of what is seen at the end of the tick, unless the last line says the same.
-    pub fn note(&mut self, tick: u32, sight: Blob) -> Result<(), NoMemory>
-        ensures { OnOk result (self.new ≡ after_tick tick (Some sight) self.old) }
-    {
-        if self.is_last(&sight) {
+        self.sight.clear();
+        put_sight(&mut self.sight, count, value)?;
+        if self.has_last && self.last.as_slice() == self.sight.as_slice() {
             return Ok(());
         }
-        put_line(&mut self.bytes, tick, sight.as_slice())?;
-        self.last = Some(sight);
+        put_line(&mut self.bytes, tick, self.sight.as_slice())?;
+        mem::swap(&mut self.last, &mut self.sight);
+        self.has_last = true;
         Ok(())
     }
 

@@ -1,81 +1,45 @@
 //! What is observed of a replica.
 
-ghost use Rattle.std.specs.Prelude.{◌≡◌, ◌<◌, List, ℕ, IfOk, IsTrue, OnOk};
+ghost use Rattle.std.specs.Prelude.{◌≡◌, ◌<◌, IfOk, IsTrue, OnOk};
 ghost use Rattle.std.specs.Option.{option_map};
 ghost use Rattle.nz_base.specs.Cluster.{replica_count};
-ghost use Rattle.nz_store.specs.declared.command.Command.TheVariants as command;
 ghost use Rattle.nz_machine.specs.Journals.{group_in, run_in};
 ghost use Rattle.nz_machine.specs.Replicas.{is_up};
 ghost use Rattle.nz_machine.specs.Schedule.{Scheduled};
 ghost use Rattle.nz_machine.specs.World.{World};
 ghost use Rattle.nz_laws_commit.specs.Stable.{committed_of};
 ghost use Rattle.nz_observe.specs.Following.{HasExecuted, after_look};
-ghost use Rattle.nz_observe.specs.Observed as spec;
-ghost use Rattle.nz_observe.specs.Observed.{after_tick, printed_to, observed};
+ghost use Rattle.nz_observe.specs.Observed.{sight, after_tick, printed_to, observed};
 
 use crate::following::follow_to;
 use crate::known::Known;
-use crate::lines::{Lines, put_sight};
+use crate::lines::Lines;
 use nz_base::{Blob, NoMemory};
 use nz_machine::Journal;
 use nz_replica::Replica;
-use nz_store::{Blob as Key, Command};
 use std::alloc::Global;
 
-/// The command that reads the key. It need not be one that a scenario can have.
-fn read_of(alloc: Global, key: &[u8]) -> Result<Command, NoMemory>
-    ensures { IfOk result (λ read. read ≡ command.Get key.now) }
-{
-    match Key::from_slice(alloc, key) {
-        Ok(key) => Ok(Command::Get { key }),
-        Err(_) => Err(NoMemory),
-    }
-}
-
-/// What is seen of the replica, if it is up. What is newly committed is executed before.
-fn sight(
-    alloc: Global,
-    replica: &Replica,
-    known: &mut Known,
-    read: &Command,
-) -> Result<Option<Blob>, NoMemory>
-    requires { let s = replica.now.model.state in IsTrue (is_up s.status) → HasExecuted s.log.entries s.commit known.old }
-    ensures sight { (key : List ℕ) → read.now ≡ command.Get key
-        → IfOk result (λ sight. sight ≡ option_map (spec.sight key) (committed_of replica.now.model.state)) }
-    ensures known { (key : List ℕ) → read.now ≡ command.Get key → OnOk result (known.new ≡ after_look replica.now.model.state known.old) }
-{
-    let state = replica.state();
-    if !state.is_up() {
-        return Ok(None);
-    }
-    state.has_facts();
-    known.execute_to(state.log(), state.commit())?;
-    let Ok(answer) = known.store.apply(read) else {
-        return Err(NoMemory);
-    };
-    let mut out = Vec::new(alloc);
-    put_sight(&mut out, known.count, &answer)?;
-    Ok(Some(Blob::from_vec(out)))
-}
-
-/// Looks at the replica at the end of the tick.
+/// Looks at the replica at the end of the tick. If it is up, what is newly committed is executed, and what is seen then
+/// is noted.
 fn look(
-    alloc: Global,
     replica: &Replica,
     known: &mut Known,
-    read: &Command,
+    key: &[u8],
     tick: u32,
     lines: &mut Lines,
 ) -> Result<(), NoMemory>
     requires { let s = replica.now.model.state in IsTrue (is_up s.status) → HasExecuted s.log.entries s.commit known.old }
-    ensures lines { (key : List ℕ) → read.now ≡ command.Get key
-        → OnOk result (lines.new ≡ after_tick tick (option_map (spec.sight key) (committed_of replica.now.model.state)) lines.old) }
-    ensures known { (key : List ℕ) → read.now ≡ command.Get key → OnOk result (known.new ≡ after_look replica.now.model.state known.old) }
+    ensures lines { OnOk result (lines.new ≡ after_tick tick (option_map (sight key.now) (committed_of replica.now.model.state)) lines.old) }
+    ensures known { OnOk result (known.new ≡ after_look replica.now.model.state known.old) }
 {
-    match sight(alloc, replica, known, read)? {
-        Some(sight) => lines.note(tick, sight),
-        None => Ok(()),
+    let state = replica.state();
+    if !state.is_up() {
+        return Ok(());
     }
+    state.has_facts();
+    known.execute_to(state.log(), state.commit())?;
+    lines.note(tick, known.count, known.store.get(key))?;
+    Ok(())
 }
 
 /// The lines of a replica of the cluster.
@@ -85,7 +49,6 @@ fn lines_of(alloc: Global, journal: &Journal, number: u8, key: &[u8]) -> Result<
     requires member { number < replica_count (group_in journal.now).f }
     ensures { IfOk result (λ lines. lines ≡ printed_to (group_in journal.now) number key.now (run_in journal.now) journal.now.scenario.ticks) }
 {
-    let read = read_of(alloc, key)?;
     let mut replica = Replica::new(alloc, journal.scenario.cluster, number)?;
     let mut known = Known::nothing(alloc);
     let mut lines = Lines::new(alloc);
@@ -101,7 +64,7 @@ fn lines_of(alloc: Global, journal: &Journal, number: u8, key: &[u8]) -> Result<
             count,
             tick,
         )?;
-        look(alloc, &replica, &mut known, &read, tick, &mut lines)?;
+        look(&replica, &mut known, key, tick, &mut lines)?;
     }
     Ok(lines)
 }

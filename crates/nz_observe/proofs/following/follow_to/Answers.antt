@@ -1,29 +1,33 @@
 -- What the function of this folder owes, proved.
-use Rattle.std.proofs.Common.{◌≡◌, ◌∷◌, ◌+◌, List, Some, sym, ap, subst, ◌∙◌, arith}
-use Rattle.nz_machine.specs.declared.event.Record.{Record}
-use Rattle.nz_machine.specs.Journals.{group_in}
-use Rattle.nz_replay.specs.Runs.{run_up_to}
+use Rattle.std.proofs.Common.{◌≡◌, ℕ, ◌<◌, ◌≤◌, sym, ap, subst, arith}
+use Rattle.nz_base.specs.declared.actor.Actor.{Actor}
 use Rattle.nz_replay.proofs.Replays.{run_then}
-use Rattle.nz_observe.specs.Following.{AreUpTo, IsEndOf, IsFollowed}
+use Rattle.nz_observe.specs.Following.{AreUpTo, IsEndOf}
+use Rattle.nz_observe.proofs.Places.{item_at}
 use Rattle.nz_observe.proofs.Rising.{ends_before, ends_last}
 use Rattle.nz_observe.proofs.following.follow_to.Goals as goal
 
-pub returns-then-step-tick-clause-end : goal.returns-then-step-tick-clause-end
-returns-then-step-tick-clause-end c =
-    ends_before c.args.journal.now c.args.tick c.loop-place.place c.as_record-step.result.now c.requires.scheduled
-    (c.get-next.ensures ∙ ap Some (sym c.as_record-step.ensures)) c.if-step-tick.true c.loop-place.invariant.past
+pub returns-then-when-tick-clause-end : goal.returns-then-when-tick-clause-end
+returns-then-when-tick-clause-end c =
+    let j = c.args.journal.now in
+    let k = c.loop-place.place in
+    let (r, at) = item_at j.records k (omega arith) in
+    let when : c.moment-when.result.0 ≡ r.tick = ap (λ (m : ℕ × Actor). m.0) (c.moment-when.ensures r at) in
+    ends_before j c.args.tick k r c.requires.scheduled at (subst (λ (t : ℕ). c.args.tick < t) when c.if-when-tick.true) c.loop-place.invariant.past
+
+pub follow_one-requires-clause-actor : goal.follow_one-requires-clause-actor
+follow_one-requires-clause-actor c = λ r at. sym (ap (λ (m : ℕ × Actor). m.1) (c.moment-when.ensures r at))
 
 pub loop-place-preserved : goal.loop-place-preserved
 loop-place-preserved c =
     let j = c.args.journal.now in
     let k = c.loop-place.place in
-    let r = c.as_record-step.result.now in
-    let next : run_up_to j (k + 1) ≡ r ∷ run_up_to j k = run_then j k r (c.get-next.ensures ∙ ap Some (sym c.as_record-step.ensures)) in
+    let (r, at) = item_at j.records k (omega arith) in
+    let when : c.moment-when.result.0 ≡ r.tick = ap (λ (m : ℕ × Actor). m.0) (c.moment-when.ensures r at) in
     record {
-      past = subst (AreUpTo c.args.tick) (sym next) (c.if-step-tick.false, c.loop-place.invariant.past);
-      followed =
-          subst (λ (J : List Record). IsFollowed (group_in j) J c.args.number c.follow_one.new.replica c.follow_one.new.known) (sym next)
-          (c.in_ok-follow_one.ensures.followed (group_in j) (run_up_to j k) c.loop-place.invariant.followed);
+      past = subst (AreUpTo c.args.tick) (sym (run_then j k r at))
+          (subst (λ (t : ℕ). t ≤ c.args.tick) when c.if-when-tick.false, c.loop-place.invariant.past);
+      followed = c.in_ok-follow_one.ensures;
     }
 
 pub returns-clause-end : goal.returns-clause-end

@@ -14,7 +14,6 @@ use Rattle.nz_observe.proofs.observing.lines_of.Goals as goal
 
 pub loop-before-init : goal.loop-before-init
 loop-before-init c = record {
-  reads = c.in_ok-read.ensures;
   within = omega arith;
   past = tt;
   followed =
@@ -42,16 +41,14 @@ loop-before-preserved c =
     let count = c.in_ok-count.count in
     let core = c.follow_to.new.replica in
     let followed : IsFollowed g (run_up_to j count) m core c.follow_to.new.known = c.in_ok-count.ensures.followed in
-    let reads = c.loop-before.invariant.reads in
     record {
-      reads = reads;
       within = c.in_ok-count.ensures.end.within;
       past = c.in_ok-count.ensures.end.past;
       followed =
-          subst (IsFollowed g (run_up_to j count) m core) (sym (c.in_ok-look.ensures.known key reads))
+          subst (IsFollowed g (run_up_to j count) m core) (sym c.in_ok-look.ensures.known)
           (looked g (run_up_to j count) m core c.follow_to.new.known followed);
       lines =
-          c.in_ok-look.ensures.lines key reads
+          c.in_ok-look.ensures.lines
           ∙ ap (λ (es : Option (List Entry)). after_tick tick (option_map (sight key) es) c.loop-before.lines)
           (sym (committed_then j m tick count core c.requires.member c.in_ok-count.ensures.end followed.core))
           ∙ ap (λ (p : Printed). after_tick tick (seen g m key tick (run_in j)) p) c.loop-before.invariant.lines

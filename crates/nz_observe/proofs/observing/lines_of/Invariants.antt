@@ -1,6 +1,5 @@
 -- What the loops of the function of this folder keep.
 use Rattle.std.proofs.Common.{◌≡◌, ◌≤◌, length}
-use Rattle.nz_store.specs.declared.command.Command.TheVariants.{Get}
 use Rattle.nz_machine.specs.Journals.{group_in, run_in}
 use Rattle.nz_replay.specs.Runs.{run_up_to}
 use Rattle.nz_observe.specs.Following.{AreUpTo, IsFollowed}
@@ -9,7 +8,6 @@ use Rattle.nz_observe.proofs.observing.lines_of.Given as goal
 
 abbrev pub invariant-loop-before : goal.invariant-loop-before
 invariant-loop-before l = record {
-  reads : l.read ≡ Get l.key;
   within : l.count ≤ length l.journal.records;
   past : AreUpTo l.before (run_up_to l.journal l.count);
   followed : IsFollowed (group_in l.journal) (run_up_to l.journal l.count) l.number l.replica l.known;
