@@ -2,14 +2,16 @@
 """Refuses each growth of memory in turn, in a run with a view change and in one with a rejoin.
 
     (cd crates/nezha && rt run < ../../scenarios/put_then_get)     makes crates/nezha/out/nezha
-    bench/growths.py [--workers N] [--every K] [--word WORD] PROGRAM [SCENARIO ..]
+    bench/growths.py [--workers N] [--every K] [--row R] [--word WORD] PROGRAM [SCENARIO ..]
 
 PROGRAM is run on each scenario of the folder `scenarios` (leader_cut_off and replica_rejoins if left out) as often as it
 asks for memory: in the N-th run its N-th request for memory is refused. Each run has to end with status 6 and a prefix
-of the scenario's output, or with status 0 and all of it. By several workers the lines come in another order, so that all
-of the output is the same lines, and a prefix none. Scenarios with less to do are played by one thread all the same; 32_actors
-and 31_actors of crates/nezha_cases are shared, and want a K, since of so many requests for memory only each K-th can be
-refused. Some of the refusals have to be met by playing the run anew, which ends with all of the output.
+of the scenario's output, or with status 0 and all of it. With --row, R requests in a row are refused in each run. By several
+workers the lines come in another order, so that all of the output is the same lines, and a prefix none; and a worker that
+stops for want of memory leaves its actors to others, which may step in another order, so that a whole output of other lines is
+judged by `check`. Scenarios with less to do are played by one thread all the same; 32_actors and 31_actors of
+crates/nezha_cases are shared, and want a K, since of so many requests for memory only each K-th can be refused. Some of the
+refusals have to be met by playing the run anew, or by playing what the workers left, which ends with all of the output.
 
 With a WORD it is that command which is run, and of `check` the input is the scenario's output. A line for each
 scenario says how many growths were tried, and how many ended in each way; the runs that end otherwise are printed, and
@@ -25,8 +27,9 @@ import tempfile
 HERE = os.path.dirname(os.path.abspath(__file__))
 WITH_WORKERS = "run trace story locks".split()
 WHOLE = "status 0 and all of the output"
+JUDGED = "status 0 and an output that `check` accepts"
 
-# Counts requests for memory in the file COUNTED, and refuses the one with the number REFUSED.
+# Counts requests for memory in the file COUNTED, and refuses ROW of them from the number REFUSED on, where that is not 0.
 SHIM = r"""
 #include <fcntl.h>
 #include <stdlib.h>
@@ -36,17 +39,21 @@ SHIM = r"""
 extern void *__libc_malloc(size_t);
 extern void *__libc_realloc(void *, size_t);
 static volatile long *counted;
-static long refused;
+static long refused, row;
 
 __attribute__((constructor)) static void begin(void) {
     int file = open(getenv("COUNTED"), O_RDWR);
     refused = atol(getenv("REFUSED"));
+    row = atol(getenv("ROW"));
     counted = mmap(0, sizeof *counted, PROT_READ | PROT_WRITE, MAP_SHARED, file, 0);
     close(file);
 }
 
 static int is_refused(void) {
-    return counted && __sync_add_and_fetch(counted, 1) == refused;
+    if (!counted)
+        return 0;
+    long number = __sync_add_and_fetch(counted, 1);
+    return refused && refused <= number && number < refused + row;
 }
 
 void *malloc(size_t size) { return is_refused() ? 0 : __libc_malloc(size); }
@@ -58,8 +65,8 @@ void *realloc(void *old, size_t size) { return is_refused() ? 0 : __libc_realloc
 class Growths:
     """A program whose requests for memory are counted, and refused by their number."""
 
-    def __init__(self, program, workers, folder):
-        self.program, self.workers = program, str(workers)
+    def __init__(self, program, workers, row, folder):
+        self.program, self.workers, self.row = program, workers, row
         self.shim, self.counted = f"{folder}/shim.so", f"{folder}/counted"
         source = f"{folder}/shim.c"
         with open(source, "w") as it:
@@ -70,11 +77,16 @@ class Growths:
         """The status, the output, and how many requests for memory there were."""
         with open(self.counted, "wb") as it:
             it.write(bytes(8))
-        env = {"LD_PRELOAD": self.shim, "COUNTED": self.counted, "REFUSED": str(refused)}
-        words = [self.program, word] + ["--workers", self.workers] * (word in WITH_WORKERS)
+        env = {"LD_PRELOAD": self.shim, "COUNTED": self.counted, "REFUSED": str(refused), "ROW": str(self.row)}
+        words = [self.program, word] + ["--workers", str(self.workers)] * (word in WITH_WORKERS)
         ended = subprocess.run(words, input=text, stdout=subprocess.PIPE, env=env, check=False)
         with open(self.counted, "rb") as it:
             return ended.returncode, ended.stdout, int.from_bytes(it.read(), sys.byteorder)
+
+    def accepts(self, output):
+        """Whether `check` accepts a run's output."""
+        ended = subprocess.run([self.program, "check"], input=output, stdout=subprocess.PIPE, check=False)
+        return ended.returncode == 0 and ended.stdout == b"yes\n"
 
 
 def in_order(workers, output):
@@ -82,13 +94,16 @@ def in_order(workers, output):
     return output if workers == 1 else b"".join(sorted(output.splitlines(True)))
 
 
-def ending(status, output, wanted):
-    """How a run ended, or nothing where it may not end so."""
-    if status == 0 and output == wanted:
+def ending(growths, word, status, output, wanted):
+    """How a run ended, or nothing where it may not end so. What is wanted is in order."""
+    ordered = in_order(growths.workers, output)
+    if status == 0 and ordered == wanted:
         return WHOLE
+    if status == 0 and growths.workers > 1 and word == "run" and growths.accepts(output):
+        return JUDGED
     if status == 6 and output == b"":
         return "status 6 and nothing"
-    if status == 6 and wanted.startswith(output):
+    if status == 6 and wanted.startswith(ordered):
         return "status 6 and a prefix"
     return None
 
@@ -120,7 +135,7 @@ def tried(growths, name, given):
     numbers = range(1, count + 1, given.every)
     for number in numbers:
         status, output, _ = growths.run(word, text, number)
-        way = ending(status, in_order(given.workers, output), wanted)
+        way = ending(growths, word, status, output, wanted)
         ways[way] += 1
         if way is None:
             wrong += 1
@@ -137,12 +152,13 @@ def main():
     parser = argparse.ArgumentParser(usage=__doc__)
     parser.add_argument("--workers", type=int, default=1)
     parser.add_argument("--every", type=int, default=1)
+    parser.add_argument("--row", type=int, default=1)
     parser.add_argument("--word")
     parser.add_argument("program")
     parser.add_argument("names", nargs="*", default=["leader_cut_off", "replica_rejoins"])
     given = parser.parse_args()
     with tempfile.TemporaryDirectory() as folder:
-        growths = Growths(os.path.abspath(given.program), given.workers, folder)
+        growths = Growths(os.path.abspath(given.program), given.workers, given.row, folder)
         endings = [tried(growths, name, given) for name in given.names]
     sys.exit(not all(endings))
 
