@@ -2,11 +2,11 @@
 """Refuses each growth of memory in turn, in a run with a view change and in one with a rejoin.
 
     (cd crates/nezha && rt run < ../../scenarios/put_then_get)     makes crates/nezha/out/nezha
-    bench/growths.py [--workers N] [--every K] [--row R] [--word WORD] PROGRAM [SCENARIO ..]
+    bench/growths.py [--workers N] [--every K] [--refusals R] [--word WORD] PROGRAM [SCENARIO ..]
 
 PROGRAM is run on each scenario of the folder `scenarios` (leader_cut_off and replica_rejoins if left out) as often as it
 asks for memory: in the N-th run its N-th request for memory is refused. Each run has to end with status 6 and a prefix
-of the scenario's output, or with status 0 and all of it. With --row, R requests in a row are refused in each run. By several
+of the scenario's output, or with status 0 and all of it. With --refusals, R requests in a row are refused in each run. By several
 workers the lines come in another order, so that all of the output is the same lines, and a prefix none; and a worker that
 stops for want of memory leaves its actors to others, which may step in another order, so that a whole output of other lines is
 judged by `check`. Scenarios with less to do are played by one thread all the same; 32_actors and 31_actors of
@@ -29,7 +29,7 @@ WITH_WORKERS = "run trace story locks".split()
 WHOLE = "status 0 and all of the output"
 JUDGED = "status 0 and an output that `check` accepts"
 
-# Counts requests for memory in the file COUNTED, and refuses ROW of them from the number REFUSED on, where that is not 0.
+# Counts requests for memory in the file COUNTED, and refuses REFUSALS of them from the number REFUSED on, where that is not 0.
 SHIM = r"""
 #include <fcntl.h>
 #include <stdlib.h>
@@ -39,12 +39,12 @@ SHIM = r"""
 extern void *__libc_malloc(size_t);
 extern void *__libc_realloc(void *, size_t);
 static volatile long *counted;
-static long refused, row;
+static long refused, refusals;
 
 __attribute__((constructor)) static void begin(void) {
     int file = open(getenv("COUNTED"), O_RDWR);
     refused = atol(getenv("REFUSED"));
-    row = atol(getenv("ROW"));
+    refusals = atol(getenv("REFUSALS"));
     counted = mmap(0, sizeof *counted, PROT_READ | PROT_WRITE, MAP_SHARED, file, 0);
     close(file);
 }
@@ -53,7 +53,7 @@ static int is_refused(void) {
     if (!counted)
         return 0;
     long number = __sync_add_and_fetch(counted, 1);
-    return refused && refused <= number && number < refused + row;
+    return refused && refused <= number && number < refused + refusals;
 }
 
 void *malloc(size_t size) { return is_refused() ? 0 : __libc_malloc(size); }
@@ -65,8 +65,8 @@ void *realloc(void *old, size_t size) { return is_refused() ? 0 : __libc_realloc
 class Growths:
     """A program whose requests for memory are counted, and refused by their number."""
 
-    def __init__(self, program, workers, row, folder):
-        self.program, self.workers, self.row = program, workers, row
+    def __init__(self, program, workers, refusals, folder):
+        self.program, self.workers, self.refusals = program, workers, refusals
         self.shim, self.counted = f"{folder}/shim.so", f"{folder}/counted"
         source = f"{folder}/shim.c"
         with open(source, "w") as it:
@@ -77,7 +77,7 @@ class Growths:
         """The status, the output, and how many requests for memory there were."""
         with open(self.counted, "wb") as it:
             it.write(bytes(8))
-        env = {"LD_PRELOAD": self.shim, "COUNTED": self.counted, "REFUSED": str(refused), "ROW": str(self.row)}
+        env = {"LD_PRELOAD": self.shim, "COUNTED": self.counted, "REFUSED": str(refused), "REFUSALS": str(self.refusals)}
         words = [self.program, word] + ["--workers", str(self.workers)] * (word in WITH_WORKERS)
         ended = subprocess.run(words, input=text, stdout=subprocess.PIPE, env=env, check=False)
         with open(self.counted, "rb") as it:
@@ -152,13 +152,13 @@ def main():
     parser = argparse.ArgumentParser(usage=__doc__)
     parser.add_argument("--workers", type=int, default=1)
     parser.add_argument("--every", type=int, default=1)
-    parser.add_argument("--row", type=int, default=1)
+    parser.add_argument("--refusals", type=int, default=1)
     parser.add_argument("--word")
     parser.add_argument("program")
     parser.add_argument("names", nargs="*", default=["leader_cut_off", "replica_rejoins"])
     given = parser.parse_args()
     with tempfile.TemporaryDirectory() as folder:
-        growths = Growths(os.path.abspath(given.program), given.workers, given.row, folder)
+        growths = Growths(os.path.abspath(given.program), given.workers, given.refusals, folder)
         endings = [tried(growths, name, given) for name in given.names]
     sys.exit(not all(endings))
 
