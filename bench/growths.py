@@ -8,10 +8,11 @@ PROGRAM is run on each scenario of the folder `scenarios` (leader_cut_off and re
 asks for memory: in the N-th run its N-th request for memory is refused. Each run has to end with status 6 and a prefix
 of the scenario's output, or with status 0 and all of it. With --refusals, R requests in a row are refused in each run. By several
 workers the lines come in another order, so that all of the output is the same lines, and a prefix none; and a worker that
-stops for want of memory leaves its actors to others, which may step in another order, so that a whole output of other lines is
-judged by `check`. Scenarios with less to do are played by one thread all the same; 32_actors and 31_actors of
-crates/nezha_cases are shared, and want a K, since of so many requests for memory only each K-th can be refused. Some of the
-refusals have to be met by playing the run anew, or by playing what the workers left, which ends with all of the output.
+stops for want of memory leaves its actors to others, which may step in another order: an output with other answers or
+another history has to send and answer the same requests, and `check` has to accept it. Scenarios with less to do are played
+by one thread all the same; 32_actors and 31_actors of crates/nezha_cases are shared, and want a K, since of so many requests
+for memory only each K-th can be refused. Some of the refusals have to be met by playing the run anew, or by playing what the
+workers left, which ends with all of the output.
 
 With a WORD it is that command which is run, and of `check` the input is the scenario's output. A line for each
 scenario says how many growths were tried, and how many ended in each way; the runs that end otherwise are printed, and
@@ -27,7 +28,9 @@ import tempfile
 HERE = os.path.dirname(os.path.abspath(__file__))
 WITH_WORKERS = "run trace story locks".split()
 WHOLE = "status 0 and all of the output"
-JUDGED = "status 0 and an output that `check` accepts"
+JUDGED = "status 0 and other answers that `check` accepts"
+# What of a line says the same in whatever order the actors step: so many of its words, or all of them.
+SAME_WORDS = {b"accept": 3, b"at": 2}
 
 # Counts requests for memory in the file COUNTED, and refuses REFUSALS of them from the number REFUSED on, where that is not 0.
 SHIM = r"""
@@ -94,12 +97,19 @@ def in_order(workers, output):
     return output if workers == 1 else b"".join(sorted(output.splitlines(True)))
 
 
+def requests(output):
+    """Which requests a run's output sends, answers and leaves open, and how long its history is."""
+    lines = [line.split(b" ") for line in output.splitlines()]
+    return sorted(words[: SAME_WORDS.get(words[0])] for words in lines)
+
+
 def ending(growths, word, status, output, wanted):
     """How a run ended, or nothing where it may not end so. What is wanted is in order."""
     ordered = in_order(growths.workers, output)
     if status == 0 and ordered == wanted:
         return WHOLE
-    if status == 0 and growths.workers > 1 and word == "run" and growths.accepts(output):
+    others_may_step = growths.workers > 1 and word == "run"
+    if status == 0 and others_may_step and requests(output) == requests(wanted) and growths.accepts(output):
         return JUDGED
     if status == 6 and output == b"":
         return "status 6 and nothing"
