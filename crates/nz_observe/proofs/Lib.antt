@@ -4,4 +4,4 @@ pub mod Rising
 pub mod Places
 pub mod Follows
 pub mod Printing
-pub mod Sights
+pub mod Observes

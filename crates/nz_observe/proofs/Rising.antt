@@ -1,8 +1,9 @@
 -- In a scheduled run ticks rise, so the first record of a later tick is after all records up to the end of a tick.
 use Rattle.std.proofs.Common.{◌≡◌, ℕ, zero, suc, ◌+◌, ◌≤◌, ◌<◌, List, [], ◌∷◌, ◌++◌, length, take, drop, reverse, Some, refl, sym, ap, subst, ◌∙◌}
-use Rattle.std.proofs.Common.{arith, inl, inr}
+use Rattle.std.proofs.Common.{nat_le, arith, inl, inr}
 use Rattle.std.specs.Prelude.{slice_get}
 use Rattle.std.specs.List.{AllByRecursion}
+use Rattle.std.proofs.lemmas.Bool.{cases_Bool, leb-true}
 use Rattle.std.proofs.lemmas.List.{reverse-append, take-append-drop, take_all}
 use Rattle.std.proofs.lemmas.Option.{slice_get_within}
 use Rattle.nz_base.specs.Moments.{At}
@@ -17,7 +18,7 @@ use Rattle.nz_replay.specs.Runs.{run_up_to}
 use Rattle.nz_replay.proofs.Replays.{run_then}
 use Rattle.nz_observe.specs.Following.{AreUpTo, IsEndOf}
 use Rattle.nz_observe.specs.Ticks.{run_to}
-use Rattle.nz_observe.proofs.Ticks.{run_has, run_leaves}
+use Rattle.nz_observe.proofs.Ticks.{not_le, run_has, run_leaves}
 
 -- ---- rising ticks
 
@@ -29,7 +30,7 @@ Rises (r ∷ J) = AreUpTo r.tick J × Rises J
 pub up_to_later : (t u : ℕ) (J : List Record) → t ≤ u → AreUpTo t J → AreUpTo u J
 up_to_later t u J le past = all_imply (λ (r : Record). r.tick ≤ t) (λ (r : Record). r.tick ≤ u) (λ r own. omega (arith, own, le)) J past
 
-up_to_same : (t : ℕ) (J : List Record) → AllByRecursion (λ (r : Record). r.tick ≡ t) J → AreUpTo t J
+pub up_to_same : (t : ℕ) (J : List Record) → AllByRecursion (λ (r : Record). r.tick ≡ t) J → AreUpTo t J
 up_to_same t J here = all_imply (λ (r : Record). r.tick ≡ t) (λ (r : Record). r.tick ≤ t) (λ r own. omega (arith, own)) J here
 
 rises_with : (t : ℕ) (now older : List Record) → AllByRecursion (λ (r : Record). r.tick ≡ t) now → AreUpTo t older → Rises older → Rises (now ++ older)
@@ -56,7 +57,7 @@ rises_to s (suc t) J (now, (older, (own, before))) =
 
 -- ---- moments of a journal
 
-at_append : (newer K : List Record) → At (newer ++ K) K
+pub at_append : (newer K : List Record) → At (newer ++ K) K
 at_append [] K = at_self K
 at_append (r ∷ newer) K = inr (at_append newer K)
 
@@ -71,6 +72,70 @@ newest_of_all P [] r K all at = absurd (cc)
 newest_of_all P (x ∷ J) r K all (inl same) = let own : x ≡ r = cc in subst P own all.0
 newest_of_all P (x ∷ J) r K all (inr older) = newest_of_all P J r K all.1 older
 
+-- ---- the run up to a tick
+
+pub run_all : (t : ℕ) (K : List Record) → AreUpTo t K → run_to t K ≡ K
+unfolding run_to
+run_all t [] past = refl
+run_all t (r ∷ K) past = run_has t r K past.0
+
+-- records of later ticks change nothing of it
+pub run_earlier : (t : ℕ) (H J : List Record) → AllByRecursion (λ r. t < r.tick) H → run_to t (H ++ J) ≡ run_to t J
+run_earlier t [] J later = refl
+run_earlier t (r ∷ H) J later = run_leaves t r (H ++ J) later.0 ∙ run_earlier t H J later.1
+
+-- of no tick there are no records
+run_zero : (s : Scenario) (t : ℕ) (J : List Record) → ScheduledTo s t J → run_to 0 J ≡ []
+unfolding run_to
+run_zero s zero J none = ap (run_to 0) none
+run_zero s (suc t) J (now, (older, (own, before))) =
+    ap (run_to 0) own.whole
+    ∙ run_earlier 0 now older (all_imply (λ (r : Record). r.tick ≡ suc t) (λ (r : Record). 0 < r.tick) (λ r here. omega (arith, here)) now own.here)
+    ∙ run_zero s t older before
+
+-- the records of the next tick come before those up to a tick
+pub record IsNextTick (t : ℕ) (older newer : List Record) : Type 0 where
+  pub now : List Record
+  pub whole : newer ≡ now ++ older
+  pub here : AllByRecursion (λ r. r.tick ≡ t + 1) now
+
+run_next : (t : ℕ) (J : List Record) → Rises J → IsNextTick t (run_to t J) (run_to (t + 1) J)
+unfolding run_to
+run_next t [] rises = record { now = []; whole = refl; here = tt }
+run_next t (r ∷ J) rises = elim (cases_Bool (nat_le r.tick t)) [
+  | inl old ↦
+      let le = leb-true r.tick t old in
+      record {
+        now = [];
+        whole = run_has (t + 1) r J (omega (arith, le)) ∙ sym (run_has t r J le);
+        here = tt;
+      }
+  | inr new ↦
+      let lt = not_le r.tick t new in
+      elim (cases_Bool (nat_le r.tick (t + 1))) [
+        | inl now ↦
+            let le = leb-true r.tick (t + 1) now in
+            let own : r.tick ≡ t + 1 = omega (arith, lt, le) in
+            let before : IsNextTick t (run_to t J) (run_to (t + 1) J) = run_next t J rises.1 in
+            let all : run_to (t + 1) J ≡ J = run_all (t + 1) J (subst (λ (u : ℕ). AreUpTo u J) own rises.0) in
+            record {
+              now = r ∷ before.now;
+              whole =
+                  run_has (t + 1) r J le ∙ ap (λ (K : List Record). r ∷ K) (sym all ∙ before.whole)
+                  ∙ ap (λ (K : List Record). r ∷ (before.now ++ K)) (sym (run_leaves t r J lt));
+              here = (own, before.here);
+            }
+        | inr later ↦
+            let after = not_le r.tick (t + 1) later in
+            let before : IsNextTick t (run_to t J) (run_to (t + 1) J) = run_next t J rises.1 in
+            record {
+              now = before.now;
+              whole = run_leaves (t + 1) r J after ∙ before.whole ∙ ap (λ (K : List Record). before.now ++ K) (sym (run_leaves t r J lt));
+              here = before.here;
+            }
+      ]
+]
+
 -- ---- the end of a tick
 
 run_before : (t : ℕ) (r : Record) (K J : List Record) → Rises J → At J (r ∷ K) → t < r.tick → run_to t J ≡ run_to t K
@@ -82,11 +147,6 @@ run_before t r K (x ∷ J) rises (inl same) later =
 run_before t r K (x ∷ J) rises (inr older) later =
     let le : r.tick ≤ x.tick = newest_of_all (λ (q : Record). q.tick ≤ x.tick) J r K rises.0 older in
     run_leaves t x J (omega (arith, le, later)) ∙ run_before t r K J rises.1 older later
-
-run_all : (t : ℕ) (K : List Record) → AreUpTo t K → run_to t K ≡ K
-unfolding run_to
-run_all t [] past = refl
-run_all t (r ∷ K) past = run_has t r K past.0
 
 -- before a record of a later tick
 pub ends_before : (j : Journal) (t k : ℕ) (r : Record) → Scheduled j.scenario (run_in j) → slice_get j.records k ≡ Some r → t < r.tick
@@ -110,3 +170,19 @@ ends_last j t k all past =
       past = past;
       run = sym (ap (run_to t) (sym whole) ∙ run_all t (run_up_to j k) past);
     }
+
+-- before the first tick
+pub ends_first : (j : Journal) → Scheduled j.scenario (run_in j) → IsEndOf j 0 0
+ends_first j order = record { within = omega arith; past = tt; run = sym (run_zero j.scenario j.scenario.ticks (run_in j) order) }
+
+-- from the end of a tick to that of the next
+pub next_tick : (j : Journal) (t from to : ℕ) → Scheduled j.scenario (run_in j) → IsEndOf j t from → IsEndOf j (t + 1) to
+    → IsNextTick t (run_up_to j from) (run_up_to j to)
+next_tick j t from to order old new =
+    let h : IsRisingTo j.scenario.ticks (run_in j) = rises_to j.scenario j.scenario.ticks (run_in j) order in
+    subst (λ (K : List Record). IsNextTick t K (run_up_to j to)) (sym old.run)
+    (subst (IsNextTick t (run_to t (run_in j))) (sym new.run) (run_next t (run_in j) h.rises))
+
+-- after the last tick
+pub whole_run : (j : Journal) (count : ℕ) → Scheduled j.scenario (run_in j) → IsEndOf j j.scenario.ticks count → run_up_to j count ≡ run_in j
+whole_run j count order end = end.run ∙ run_all j.scenario.ticks (run_in j) (rises_to j.scenario j.scenario.ticks (run_in j) order).past

@@ -17,7 +17,7 @@ use Rattle.nz_observe.specs.Ticks.{run_to, committed, StableAtTicks, IsComparabl
 
 -- ---- the run up to a tick
 
-not_le : (x y : ℕ) → nat_le x y ≡ false → y < x
+pub not_le : (x y : ℕ) → nat_le x y ≡ false → y < x
 not_le x y h = let off = leb-false x y h in omega (arith, off)
 
 -- it has the newest record, or is that of the earlier ones

@@ -2,3 +2,4 @@
 pub mod Ticks
 pub mod Observed
 pub mod Following
+pub mod Observing

@@ -7,7 +7,6 @@ ghost use Rattle.nz_laws_commit.specs.Stable.{committed_of};
 ghost use Rattle.nz_observe.specs.Ticks as ticks;
 
 use crate::following::follow_to;
-use crate::known::Known;
 use nz_base::{EntryList, List, NoMemory, TryCopy};
 use nz_log::HashedLog;
 use nz_machine::Journal;
@@ -52,7 +51,6 @@ pub fn committed(
         return Ok(None);
     }
     let mut replica = Replica::new(alloc, journal.scenario.cluster, number)?;
-    let mut known = Known::nothing(alloc);
-    follow_to(alloc, journal, &mut replica, &mut known, number, 0, tick)?;
+    follow_to(journal, &mut replica, number, 0, tick)?;
     committed_by(alloc, &replica)
 }

@@ -5,46 +5,41 @@ ghost use Rattle.nz_machine.specs.Journals.{group_in, run_in};
 ghost use Rattle.nz_machine.specs.Schedule.{Scheduled};
 ghost use Rattle.nz_machine.specs.declared.event.Record.{Record as RecordModel};
 ghost use Rattle.nz_replay.specs.Runs.{run_up_to};
-ghost use Rattle.nz_observe.specs.Following.{AreUpTo, IsEndOf, IsFollowed};
+ghost use Rattle.nz_replica.specs.Models.{IsCore};
+ghost use Rattle.nz_observe.specs.Following.{AreUpTo, IsEndOf};
 
-use crate::known::Known;
 use nz_base::{Actor, NoMemory};
 use nz_machine::Journal;
 use nz_replay::replay_one;
 use nz_replica::Replica;
-use std::alloc::Global;
 
-/// The replica takes the record at the place, if it is its own. One that comes after a crash leaves nothing executed.
+/// The replica takes the record at the place, if it is its own.
 fn follow_one(
-    alloc: Global,
     journal: &Journal,
     replica: &mut Replica,
-    known: &mut Known,
     number: u8,
     place: u32,
     actor: Actor,
 ) -> Result<(), NoMemory>
     requires within { place < length journal.now.records }
     requires actor { (step : RecordModel) → slice_get journal.now.records place ≡ Some step → step.actor ≡ actor }
-    requires followed { IsFollowed (group_in journal.now) (run_up_to journal.now place) number replica.old known.old }
-    ensures { OnOk result (IsFollowed (group_in journal.now) (run_up_to journal.now (place + 1)) number replica.new known.new) }
+    requires core { IsCore (group_in journal.now) (run_up_to journal.now place) number replica.old }
+    ensures { OnOk result (IsCore (group_in journal.now) (run_up_to journal.now (place + 1)) number replica.new) }
 {
     if !actor.is(&Actor::Replica(number)) {
         return Ok(());
     }
-    known.forget_if_down(alloc, replica);
     let next = journal.records.get(place);
-    replay_one(replica, number, next.as_record())?;
+    let step = next.as_record();
+    replay_one(replica, number, step)?;
     Ok(())
 }
 
 /// The replica takes the records up to the end of the tick. So many of the journal's it had, and so many it has then.
 /// Of a record of another actor only the moment is read.
 pub fn follow_to(
-    alloc: Global,
     journal: &Journal,
     replica: &mut Replica,
-    known: &mut Known,
     number: u8,
     from: u32,
     tick: u32,
@@ -52,16 +47,16 @@ pub fn follow_to(
     requires scheduled { Scheduled journal.now.scenario (run_in journal.now) }
     requires earlier { AreUpTo tick (run_up_to journal.now from) }
     requires within { from ≤ length journal.now.records }
-    requires followed { IsFollowed (group_in journal.now) (run_up_to journal.now from) number replica.old known.old }
+    requires core { IsCore (group_in journal.now) (run_up_to journal.now from) number replica.old }
     ensures end { IfOk result (IsEndOf journal.now tick) }
-    ensures followed { IfOk result (λ to. IsFollowed (group_in journal.now) (run_up_to journal.now to) number replica.new known.new) }
+    ensures core { IfOk result (λ to. IsCore (group_in journal.now) (run_up_to journal.now to) number replica.new) }
 {
     for place in from..journal.records.len() {
         let (when, actor) = journal.records.moment(place);
         if when > tick {
             return Ok(place);
         }
-        follow_one(alloc, journal, replica, known, number, place, actor)?;
+        follow_one(journal, replica, number, place, actor)?;
     }
     Ok(journal.records.len())
 }

@@ -1,8 +1,11 @@
 //! What a replica knows to be committed at the ends of ticks, that it is never taken back, and what is printed of it.
 //!
-//! A replica is replayed once, from the first record to the last. Beside it a store executes what the replica knows to be
-//! committed: at the end of a tick only the entries that are new, since what one incarnation knows later begins with what
-//! it knew (`stable`). What is executed is forgotten when the replica has crashed, for the next incarnation may know less.
+//! Who plays a run lends the replica to an `Observer` at the end of each tick. Nothing else of the run is read, so there need
+//! be no journal. `observe` plays a journal so.
+//!
+//! Beside the replica a store executes what it knows to be committed: at the end of a tick only the entries that are new,
+//! since of what it knows at two moments the shorter is the beginning of the longer (`stable`), whatever crashes are between
+//! them. Where it knows less than was executed, as may be after a crash, the store begins anew.
 #![tactic(auto)]
 
 mod committing;
@@ -10,8 +13,10 @@ mod following;
 mod known;
 mod laws;
 mod lines;
+mod observer;
 mod observing;
 
 pub use committing::committed;
 pub use laws::stable;
+pub use observer::Observer;
 pub use observing::observe;

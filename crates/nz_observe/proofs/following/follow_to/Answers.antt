@@ -27,7 +27,7 @@ loop-place-preserved c =
     record {
       past = subst (AreUpTo c.args.tick) (sym (run_then j k r at))
           (subst (λ (t : ℕ). t ≤ c.args.tick) when c.if-when-tick.false, c.loop-place.invariant.past);
-      followed = c.in_ok-follow_one.ensures;
+      core = c.in_ok-follow_one.ensures;
     }
 
 pub returns-clause-end : goal.returns-clause-end

@@ -1,11 +1,12 @@
 -- What the loops of the function of this folder keep.
 use Rattle.nz_machine.specs.Journals.{group_in}
 use Rattle.nz_replay.specs.Runs.{run_up_to}
-use Rattle.nz_observe.specs.Following.{AreUpTo, IsFollowed}
+use Rattle.nz_replica.specs.Models.{IsCore}
+use Rattle.nz_observe.specs.Following.{AreUpTo}
 use Rattle.nz_observe.proofs.following.follow_to.Given as goal
 
 abbrev pub invariant-loop-place : goal.invariant-loop-place
 invariant-loop-place l = record {
   past : AreUpTo l.tick (run_up_to l.journal l.place);
-  followed : IsFollowed (group_in l.journal) (run_up_to l.journal l.place) l.number l.replica l.known;
+  core : IsCore (group_in l.journal) (run_up_to l.journal l.place) l.number l.replica;
 }
