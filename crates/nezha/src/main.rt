@@ -2,10 +2,10 @@
 #![tactic(auto)]
 
 use nz_edge::{OpenGate, StdSink, StdSource};
-use nz_top::{Outcome, Status, Words, help_lines, nezha};
+use nz_top::{Outcome, Status, Unkept, Words, help_lines, nezha};
+use std::env;
 use std::io::ErrorKind;
 use std::process::ExitCode;
-use std::{env, mem};
 
 /// The words after the program's name, or None where memory was not found. Words that are not UTF-8 are dropped,
 /// all of them: no words are no command, so the status is 1.
@@ -46,7 +46,7 @@ fn main(rt: HostRuntime) -> ExitCode {
     };
     let mut source = StdSource::new(rt.stdin());
     let mut out = StdSink::new(rt.stdout());
-    let outcome = nezha(
+    let outcome: Outcome<Unkept> = nezha(
         &rt,
         rt.alloc(),
         &words,
@@ -54,9 +54,7 @@ fn main(rt: HostRuntime) -> ExitCode {
         &mut out,
         &OpenGate::new(),
     );
-    let Outcome { status, journal } = outcome;
+    let status = outcome.status;
     advise(&rt, status);
-    // It is most of the memory, which goes back sooner as a whole, with the process.
-    mem::forget(journal);
     ExitCode::from(status.code())
 }

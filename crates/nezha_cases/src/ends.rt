@@ -3,7 +3,8 @@ ghost use Rattle.std.specs.Prelude.{◌<◌};
 
 use nz_base::{Blob, NoMemory};
 use nz_edge::{CallList, Gate, MemSink, MemSource, OpenGate};
-use nz_top::{Status, Words, nezha};
+use nz_machine::Journal;
+use nz_top::{Keeping, Outcome, Status, Unkept, Words, nezha};
 use std::alloc::Global;
 use std::sync::Wait;
 use std::thread::Threads;
@@ -55,8 +56,8 @@ pub struct Ended {
     pub output: Vec<u8>,
 }
 
-/// Makes the call with these words on the input. Its workers pass the gate.
-pub fn end_through<R: Threads + Wait + Sync, G: Gate + Sync>(
+/// Makes the call with these words on the input, which keeps this of a run. Its workers pass the gate.
+fn end_keeping<K: Keeping, R: Threads + Wait + Sync, G: Gate + Sync>(
     rt: &R,
     alloc: Global,
     words: &[&str],
@@ -72,14 +73,29 @@ pub fn end_through<R: Threads + Wait + Sync, G: Gate + Sync>(
     let failing_writes = CallList::from_slice(alloc, &[ends.failing_write])?;
     let mut source = MemSource::new(input, ends.piece, failing_reads);
     let mut out = MemSink::new(alloc, ends.room, ends.piece, failing_writes)?;
-    let status = nezha(rt, alloc, &words, &mut source, &mut out, gate).status;
+    let outcome: Outcome<K> = nezha(rt, alloc, &words, &mut source, &mut out, gate);
     Ok(Ended {
-        status,
+        status: outcome.status,
         output: out.bytes().to_vec(alloc)?,
     })
 }
 
-/// Makes the call over these ends.
+/// Makes the call as the program does, which keeps no journal. Its workers pass the gate.
+pub fn end_through<R: Threads + Wait + Sync, G: Gate + Sync>(
+    rt: &R,
+    alloc: Global,
+    words: &[&str],
+    input: &[u8],
+    ends: Ends,
+    gate: &G,
+) -> Result<Ended, NoMemory>
+    requires { 0 < ends.piece }
+{
+    end_keeping::<Unkept, R, G>(rt, alloc, words, input, ends, gate)
+}
+
+/// Makes the call over these ends, twice: as the program does, and with the journal kept. Where the second ends otherwise,
+/// the output says so.
 pub fn end_over<R: Threads + Wait + Sync>(
     rt: &R,
     alloc: Global,
@@ -89,7 +105,21 @@ pub fn end_over<R: Threads + Wait + Sync>(
 ) -> Result<Ended, NoMemory>
     requires { 0 < ends.piece }
 {
-    end_through(rt, alloc, words, input, ends, &OpenGate::new())
+    let mut ended = end_through(rt, alloc, words, input, ends, &OpenGate::new())?;
+    let kept = end_keeping::<Journal, R, OpenGate>(
+        rt,
+        alloc,
+        words,
+        input,
+        ends,
+        &OpenGate::new(),
+    )?;
+    if kept.status != ended.status || kept.output.as_slice() != ended.output.as_slice() {
+        ended
+            .output
+            .extend_from_slice(b"not so where the journal is kept\n")?;
+    }
+    Ok(ended)
 }
 
 /// Makes the call, and nothing fails.

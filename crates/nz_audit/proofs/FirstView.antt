@@ -1,10 +1,10 @@
 -- A run whose replicas are all up in view 0 in the end, and the longest prefix in its one log.
-use Rattle.std.proofs.Common.{◌≡◌, ℕ, ◌<◌, ◌≤◌, eqb, eqb-true, Bool, true, List, [], ◌∷◌, ◌++◌, length, take, get_or, max}
+use Rattle.std.proofs.Common.{◌≡◌, ℕ, ◌<◌, ◌≤◌, eqb, eqb-true, Bool, true, List, [], ◌∷◌, ◌++◌, length, take, get_or, max, reverse}
 use Rattle.std.proofs.Common.{refl, sym, ap, subst, ◌∙◌, inl, inr, arith, ltb-true, ltb-false}
 use Rattle.std.specs.Prelude.{nat_lt}
 use Rattle.std.specs.List.{list_all}
 use Rattle.std.proofs.lemmas.Bool.{and_parts, cases_Bool, cond_both}
-use Rattle.std.proofs.lemmas.List.{map-append}
+use Rattle.std.proofs.lemmas.List.{map-append, reverse-reverse}
 use Rattle.std.proofs.lemmas.List.Folds.{list_all_at}
 use Rattle.nz_base.specs.Cluster.{replica_count}
 use Rattle.nz_base.specs.declared.actor.Actor.TheVariants.{Replica}
@@ -86,3 +86,25 @@ longest_of_log log answers n count = ap (λ k. take k log) count ∙ longest_tak
 pub history_in_log : (journal : Journal) (answers : List AcceptedAt) (log : List Entry) → AreAccepted journal (run_in journal) answers
     → IsOnlyLog (group_in journal) (run_in journal) log → IsHistoryIn journal (run_in journal) answers log
 history_in_log journal answers log told only = subst (IsHistoryIn journal (run_in journal) answers) (sym only.log) (told.one_log only.up)
+
+-- ---- a run without a journal
+
+-- a journal of the group and the run
+abbrev journal_with : Group → List Record → Journal
+journal_with g J = record {
+  scenario = record {
+    cluster = g.f;
+    proxies = g.proxies;
+    clients = 0;
+    window = g.window;
+    ticks = 0;
+    skews = [];
+    scripts = g.scripts;
+    faults = [];
+  };
+  records = reverse J;
+}
+
+-- what is so of each journal is so of each group and run
+pub with_journal : (P : Group → List Record → Type 0) → ((journal : Journal) → P (group_in journal) (run_in journal)) → (g : Group) (J : List Record) → P g J
+with_journal P each g J = subst (P g) (reverse-reverse J) (each (journal_with g J))

@@ -66,13 +66,13 @@ all_read told i answers sent past h =
     ap (λ (m : Acceptances). m.answers) (sym (at_drop_all (after_told n) told i past) ∙ h)
 
 -- what a record says is taken, also where it is nothing
-one_taken : (n : Acceptances) (place : ℕ) (accepted : Option Acceptance) (sent : List Id)
-    → after_told n (told_of place accepted sent)
+one_taken : (n : Acceptances) (place tick : ℕ) (accepted : Option Acceptance) (sent : List Id)
+    → after_told n (told_of place tick accepted sent)
     ≡ record { answers = with_accepted n.answers (accepted_at accepted place n.sent); sent = n.sent + length sent }
-one_taken n place None [] =
+one_taken n place tick None [] =
     let same : n.sent ≡ n.sent + 0 = omega arith in ap (λ (k : ℕ). let m : Acceptances = record { answers = n.answers; sent = k } in m) same
-one_taken n place None (id ∷ ids) = refl
-one_taken n place (Some a) sent = refl
+one_taken n place tick None (id ∷ ids) = refl
+one_taken n place tick (Some a) sent = refl
 
 -- what was taken is what the run up to here accepted
 record AreTaken (journal : Journal) (J : List Record) (n : Acceptances) : Type 0 where
@@ -96,7 +96,8 @@ told_up_to journal (suc k) w le =
     let long : length J ≡ k = run_length journal k (omega (arith, le)) in
     let taken : after_told no_acceptances (told_by_run g (r ∷ J))
     ≡ record { answers = with_accepted n.answers (accepted_at t.accepted k n.sent); sent = n.sent + length t.sent } =
-    told_then no_acceptances (told_by_run g J) (told_at (length J) t) ∙ ap (λ (p : ℕ). after_told n (told_at p t)) long ∙ one_taken n k t.accepted t.sent in
+    told_then no_acceptances (told_by_run g J) (told_at (length J) r.tick t) ∙ ap (λ (p : ℕ). after_told n (told_at p r.tick t)) long
+    ∙ one_taken n k r.tick t.accepted t.sent in
     let more : suc k ≡ k + 1 = omega arith in
     subst (λ (l : List Record). AreTaken journal l (after_told no_acceptances (told_by_run g l)))
     (sym (ap (run_up_to journal) more ∙ run_then journal k r at))

@@ -1,19 +1,28 @@
 //! The history of a run that stayed in its first view: all accepted prefixes are beginnings of one log.
 
-ghost use Rattle.std.specs.Prelude.{◌≡◌, [], List, length, IfSome};
+ghost use Rattle.std.specs.Prelude.{◌≡◌, [], List, length, IfOk, IfSome};
 ghost use Rattle.std.specs.List.{list_all};
+ghost use Rattle.nz_machine.specs.History as histories;
+ghost use Rattle.nz_machine.specs.Journals.{group_in, run_in, executed_entries, history_in};
 ghost use Rattle.nz_machine.specs.State.{Group};
+ghost use Rattle.nz_machine.specs.Tellings.{told_by_run};
+ghost use Rattle.nz_machine.specs.World.{World};
 ghost use Rattle.nz_machine.specs.declared.event.Record.{Record};
+ghost use Rattle.nz_machine.specs.declared.journal.Journal.{Journal};
 ghost use Rattle.nz_replica.specs.Models.{AreCores};
 ghost use Rattle.nz_audit.specs.Leading.{is_up_in_first_view, IsOnlyLog};
-ghost use Rattle.nz_audit.specs.Prefixes.{longest_from, prefixes_in};
+ghost use Rattle.nz_audit.specs.Prefixes.{longest_from, prefixes_in, AreAccepted};
 
+use super::executing::execute;
 use super::leading::log_leading;
 use super::searching::entries_up_to;
 use super::source::AcceptedAt;
-use nz_base::Cluster;
+use super::telling::accepted_in;
+use nz_base::{Cluster, NoMemory};
 use nz_log::HashedLog;
+use nz_machine::{History, ToldAt};
 use nz_replica::Replica;
+use std::alloc::Global;
 
 /// Whether the replica is up in the first view.
 fn is_up_in_first_view(replica: &Replica) -> bool
@@ -31,7 +40,7 @@ fn are_up_in_first_view(replicas: &[Replica]) -> bool
 
 /// The log of the leader of view 0, if all replicas of the cluster are given and are up in that view. Then no other
 /// view was ever led.
-pub fn only_log(cluster: Cluster, replicas: &[Replica]) -> Option<&HashedLog>
+fn only_log(cluster: Cluster, replicas: &[Replica]) -> Option<&HashedLog>
     ensures { IfSome result (λ log. (g : Group) (J : List Record) → g.f ≡ cluster → AreCores g J replicas.now → IsOnlyLog g J log.now.entries) }
 {
     if replicas.len() >= usize::from(cluster.n()) && are_up_in_first_view(replicas) {
@@ -42,7 +51,7 @@ pub fn only_log(cluster: Cluster, replicas: &[Replica]) -> Option<&HashedLog>
 }
 
 /// How many entries the longest of the prefixes has, where this log has them all.
-pub fn longest_in(log: &HashedLog, answers: &[AcceptedAt]) -> u32
+fn longest_in(log: &HashedLog, answers: &[AcceptedAt]) -> u32
     ensures { result ≡ length (longest_from [] (prefixes_in log.now.entries answers.now)) }
 {
     let mut longest = 0;
@@ -50,4 +59,36 @@ pub fn longest_in(log: &HashedLog, answers: &[AcceptedAt]) -> u32
         longest = longest.max(entries_up_to(log, next.id));
     }
     longest
+}
+
+/// The history of a run with these accepted answers, None where the run may have left its first view. These are its
+/// replicas after its last record.
+pub fn history_by_accepted(
+    alloc: Global,
+    cluster: Cluster,
+    accepted: &[AcceptedAt],
+    replicas: &[Replica],
+) -> Result<Option<History>, NoMemory>
+    ensures { IfOk result (λ o. IfSome o (λ history. (journal : Journal) → journal.scenario.cluster ≡ cluster
+        → AreCores (group_in journal) (run_in journal) replicas.now → AreAccepted journal (run_in journal) accepted.now → history ≡ history_in journal)) }
+{
+    match only_log(cluster, replicas) {
+        Some(log) => Ok(Some(execute(alloc, log, longest_in(log, accepted))?)),
+        None => Ok(None),
+    }
+}
+
+/// The history of a run that stayed in its first view, None where it may not have. It takes no journal: what the
+/// clients told is given, and so are the replicas as they are after the run's last record.
+pub fn first_history(
+    alloc: Global,
+    cluster: Cluster,
+    told: &[ToldAt],
+    replicas: &[Replica],
+) -> Result<Option<History>, NoMemory>
+    ensures { IfOk result (λ o. IfSome o (λ history. (g : Group) (J : List Record) → g.f ≡ cluster → World g J → told.now ≡ told_by_run g J
+        → AreCores g J replicas.now → history ≡ executed_entries (histories.history g J))) }
+{
+    let accepted = accepted_in(alloc, told)?;
+    history_by_accepted(alloc, cluster, accepted.as_slice(), replicas)
 }

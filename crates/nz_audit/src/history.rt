@@ -9,7 +9,7 @@ ghost use Rattle.nz_audit.specs.Cores.{AreReplayed};
 ghost use Rattle.nz_audit.specs.Prefixes.{prefix_for, IsWithin, AreAccepted, IsFound};
 
 use super::executing::execute;
-use super::first_view::{longest_in, only_log};
+use super::first_view::history_by_accepted;
 use super::leading::log_since;
 use super::replaying::{Replays, replay};
 use super::searching::Search;
@@ -115,8 +115,9 @@ pub fn history_of(
     ensures { IfOk result (λ history. history ≡ history_in journal.now) }
 {
     let accepted = accepted_in(alloc, told)?;
-    match only_log(journal.scenario.cluster, replicas) {
-        Some(log) => execute(alloc, log, longest_in(log, accepted.as_slice())),
-        None => searched(alloc, journal, replicas, accepted),
+    let cluster = journal.scenario.cluster;
+    if let Some(history) = history_by_accepted(alloc, cluster, accepted.as_slice(), replicas)? {
+        return Ok(history);
     }
+    searched(alloc, journal, replicas, accepted)
 }

@@ -1,4 +1,5 @@
-//! The history of a run, read off its journal.
+//! The history of a run, read off its journal. Where the run stayed in its first view, what its clients told and its
+//! replicas are enough.
 //!
 //! The definition finds an accepted prefix at a source, the first record that sent the deciding reply. Two
 //! numbers, a replica and how many records there are up to the source, name it. The search rests on no
@@ -41,4 +42,5 @@ mod telling;
 mod tracing;
 mod wanted;
 
+pub use first_view::first_history;
 pub use history::history_of;

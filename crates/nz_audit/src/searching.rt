@@ -235,6 +235,7 @@ impl Search {
         answers.retain(|next| !self.is_shorter(next.sent));
         self.weigh_all(alloc, journal, replicas, answers.as_slice())
     }
+
     /// Counts the prefixes of the late answers first: mostly the others have to be shorter then.
     pub fn weigh_in_rounds(
         &mut self,

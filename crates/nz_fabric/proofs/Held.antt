@@ -9,7 +9,7 @@ use Rattle.nz_base.specs.declared.scenario.Scenario.{Scenario}
 use Rattle.nz_machine.specs.declared.event.Parcel.{Parcel}
 use Rattle.nz_machine.specs.declared.event.Record.{Record}
 use Rattle.nz_machine.specs.declared.journal.Item.{Item}
-use Rattle.nz_machine.specs.Schedule.{Posted, posted_by_run, item_of, due, InOrderTo, IsPlayable}
+use Rattle.nz_machine.specs.Schedule.{Posted, posted_by_run, item_of, due, InOrder, InOrderTo, IsPlayable}
 use Rattle.nz_machine.proofs.ListParts.{take_next}
 use Rattle.nz_fabric.specs.declared.turn.Turn.{Turn}
 use Rattle.nz_fabric.specs.declared.ticks.Ticks.{Ticks}
@@ -161,9 +161,16 @@ in_order_by f (suc tick) e (before, items) k all = (
 pub in_order_now : (f : State) → IsKeptRun f → IsDone f → InOrderTo f.scenario f.tick (records_of f)
 in_order_now f k d = in_order_by f f.tick refl k.begun k (sym d.quiet.closed ∙ d.all)
 
+-- so they are once the last tick is over
+pub in_order_over : (f : State) → IsKeptRun f → IsDone f → f.tick ≡ f.scenario.ticks → InOrder f.scenario (records_of f)
+in_order_over f k d last = subst (λ (n : ℕ). InOrderTo f.scenario n (records_of f)) last (in_order_now f k d)
+
 -- all records, the newest first
 pub all_records : (before : ℕ) (records : List Record) → reverse (drop before records) ++ reverse (take before records) ≡ reverse records
 all_records before records = sym (reverse-append (take before records) (drop before records)) ∙ ap reverse (take-append-drop before records)
+
+pub long_records : (before : ℕ) (records : List Record) → length (reverse (drop before records) ++ reverse (take before records)) ≡ length records
+long_records before records = ap length (all_records before records) ∙ length-reverse records
 
 pub begun_next : (s : Scenario) (tick next : ℕ) (J : List Record) → suc tick ≡ next → InOrderTo s tick J → IsBegun s next J (due s next J)
 begun_next s tick next J e order = subst (λ (n : ℕ). IsBegun s n J (due s n J)) e (order, refl)
@@ -336,24 +343,29 @@ kept_next f k d lt = record {
   most = omega arith;
 }
 
-pub held_next : (s : Scenario) (tick before n room : ℕ) (records : List Record) (items : List Item) (next : ℕ)
+-- once all that is due was recorded, there was room for it
+pub room_over : (s : Scenario) (tick before room : ℕ) (records : List Record) (items : List Item) (next : ℕ) (marked : Bool) (c : Dates)
+    → IsHeld (state_of s tick before records items next marked) before room records c
+    → IsDone (state_of s tick before records items next marked) → length records ≤ room
+room_over s tick before room records items next marked c h d =
+    let reserved = (h.has_room d.quiet.unmarked).reserved in
+    let closed = d.quiet.closed in
+    let here = long_here before records h.within in omega (arith, here, closed, reserved)
+
+pub held_next : (s : Scenario) (tick before n room after : ℕ) (records : List Record) (items : List Item) (next : ℕ)
     (marked : Bool) (c : Dates) (new : Ticks) (is : List Item) → IsHeld (state_of s tick before records items next marked) before room records c
     → IsDone (state_of s tick before records items next marked) → tick < s.ticks
-    → HasBegun s tick (posted_by_run (records_of (state_of s tick before records items next marked))) new is → n ≡ length records
-    → IsHeld (state_in new n records is 0) n room records new.calendar
-held_next s tick before n room records items next marked c new is h d lt b long =
+    → HasBegun s tick (posted_by_run (records_of (state_of s tick before records items next marked))) new is → n ≡ length records → n ≤ after
+    → IsHeld (state_in new n records is 0) n after records new.calendar
+held_next s tick before n room after records items next marked c new is h d lt b long enough =
     let f = state_of s tick before records items next marked in
-    let own = h.has_room d.quiet.unmarked in
-    let reserved = own.reserved in
-    let few = own.few in
-    let closed = d.quiet.closed in
-    let here = long_here before records h.within in
-    subst (λ (g : State). IsHeld g n room records new.calendar) (sym (next_in_order s tick before n records items next marked new is b long d.quiet.unmarked))
+    let few = h.few in
+    subst (λ (g : State). IsHeld g n after records new.calendar) (sym (next_in_order s tick before n records items next marked new is b long d.quiet.unmarked))
     (record {
       kept = kept_next f h.kept d lt;
       within = omega (arith, long);
       few = h.few;
-      has_room = λ _. record { reserved = omega (arith, long, here, closed, reserved); few = omega (arith, long, here, closed, few) };
+      has_room = λ _. record { reserved = omega (arith, enough); few = omega (arith, long, few) };
       is_posted = posted_next f (after_tick f).items new.calendar b.stands;
     })
 

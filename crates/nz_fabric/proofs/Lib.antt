@@ -9,6 +9,7 @@ pub mod Prefixes
 pub mod Adding
 pub mod Counting
 pub mod Held
+pub mod Remembering
 pub mod Sharing
 pub mod Taking
 pub mod Batching

@@ -105,7 +105,7 @@ pub record IsKeptRun (f : State) : Type 0 where
   pub least : length f.here ≤ f.next
   pub most : f.next ≤ length f.here + 1
 
--- The value of the code's fabric. All records are one list, the oldest first, with this many before this tick.
+-- The value of the code's fabric. All records, in memory or not, are one list, the oldest first, with this many before this tick.
 abbrev pub state_of : Scenario → ℕ → ℕ → List Record → List Item → ℕ → Bool → State
 state_of s tick before records items next marked = record {
   scenario = s;
@@ -137,6 +137,13 @@ pub record IsHeld (f : State) (before room : ℕ) (records : List Record) (c : D
   pub few : length records < 2 ^ 32
   pub has_room : f.marked ≡ false → HasRoom f before room
   pub is_posted : IsPosted f c
+
+-- These records of a run are in memory: all but the first ones, of which so many are gone. None of this tick is gone, and
+-- none at all where the run keeps its records.
+pub record IsInMemory (run records : List Record) (gone before : ℕ) (keeps : Bool) : Type 0 where
+  pub rest : records ≡ drop gone run
+  pub finished : gone ≤ before
+  pub all : keeps ≡ true → gone ≡ 0
 
 -- The state of a network with these records, so many of them of finished ticks, and these items, so many of them taken.
 abbrev pub state_in : Ticks → ℕ → List Record → List Item → ℕ → State

@@ -8,6 +8,9 @@
 //! - A *turn* is an item that was taken on one thread, a *batch* all that is due to one actor in a tick,
 //!   taken by a worker. Each is open until it is recorded or given up. A network is *marked* if one was
 //!   given up, or if memory ran out. It gives no journal then.
+//! - A run on one thread either *keeps* its records, so that it ends with a journal, or the records of a tick go
+//!   from memory when the next tick begins. Contracts see all records either way, by a list that takes no
+//!   memory (`Forgotten`). The choice is the argument `keeps` of `Alone::new`.
 //! - The *ledger* counts the open batches of a run, in parts. A *share* is some of these parts, held by a
 //!   worker.
 //! - A *chronicle* is a list that the proofs alone know, all records of a run or all its takes; in memory it

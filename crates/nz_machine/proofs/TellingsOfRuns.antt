@@ -1,6 +1,6 @@
 -- What the records of a run tell is its events, one record at a time.
-use Rattle.std.proofs.Common.{◌≡◌, ℕ, ◌+◌, ◌<◌, List, [], ◌∷◌, ◌++◌, length, take, reverse, Option, Some, None, refl, sym, ap, subst, ◌∙◌, arith}
-use Rattle.std.proofs.Common.{length-take, append-nil}
+use Rattle.std.proofs.Common.{◌≡◌, ℕ, zero, suc, ◌+◌, ◌<◌, List, [], ◌∷◌, ◌++◌, length, take, drop, reverse, Option, Some, None, refl, sym, ap, subst, ◌∙◌, arith}
+use Rattle.std.proofs.Common.{length-take, length-drop, append-nil}
 use Rattle.std.specs.Prelude.{slice_get, get_or}
 use Rattle.std.proofs.lemmas.List.{length-reverse}
 use Rattle.std.proofs.lemmas.List.Concat.{flat_map-append}
@@ -33,32 +33,32 @@ telling_by g (Proxy p) r J w by = refl
 pub telling_shows : (g : Group) (r : Record) (J : List Record) → World g (r ∷ J) → events_of_telling g (telling_in g r.actor r J) ≡ client_events g r.actor r J
 telling_shows g r J w = telling_by g r.actor r J w refl
 
-events_of_one : (g : Group) (place : ℕ) (accepted : Option Acceptance) (sent : List Id)
-    → events_of_told g (told_of place accepted sent) ≡ acceptance_events accepted ++ request_events g sent
-events_of_one g place None [] = refl
-events_of_one g place None (id ∷ ids) = append-nil (request_events g (id ∷ ids))
-events_of_one g place (Some a) sent = append-nil (acceptance_events (Some a) ++ request_events g sent)
+events_of_one : (g : Group) (place tick : ℕ) (accepted : Option Acceptance) (sent : List Id)
+    → events_of_told g (told_of place tick accepted sent) ≡ acceptance_events accepted ++ request_events g sent
+events_of_one g place tick None [] = refl
+events_of_one g place tick None (id ∷ ids) = append-nil (request_events g (id ∷ ids))
+events_of_one g place tick (Some a) sent = append-nil (acceptance_events (Some a) ++ request_events g sent)
 
 -- what a run tells is its events
 pub events_are_told : (g : Group) (J : List Record) → World g J → events_of_told g (told_by_run g J) ≡ events g J
 events_are_told g [] w = refl
 events_are_told g (r ∷ J) w =
     let t = telling_in g r.actor r J in
-    flat_map-append (λ (x : ToldAt). events_of_telling g x.telling) (told_by_run g J) (told_at (length J) t)
-    ∙ (λ i. events_are_told g J w.1 i ++ (events_of_one g (length J) t.accepted t.sent ∙ telling_shows g r J w) i)
+    flat_map-append (λ (x : ToldAt). events_of_telling g x.telling) (told_by_run g J) (told_at (length J) r.tick t)
+    ∙ (λ i. events_are_told g J w.1 i ++ (events_of_one g (length J) r.tick t.accepted t.sent ∙ telling_shows g r J w) i)
 
 -- ---- one record more
 
 pub told_next : (g : Group) (r : Record) (J : List Record) (clients after : List Progress) (place : ℕ) (t : Telling) (told new : List ToldAt)
-    → place ≡ length J → AreTold g J clients told → t ≡ telling_in g r.actor r J → AreAfter g (r ∷ J) after → new ≡ told ++ told_at place t
+    → place ≡ length J → AreTold g J clients told → t ≡ telling_in g r.actor r J → AreAfter g (r ∷ J) after → new ≡ told ++ told_at place r.tick t
     → AreTold g (r ∷ J) after new
-told_next g r J clients after place t told new at h tells now is = record { after = now; all = is ∙ (λ i. h.all i ++ told_at (at i) (tells i)) }
+told_next g r J clients after place t told new at h tells now is = record { after = now; all = is ∙ (λ i. h.all i ++ told_at (at i) r.tick (tells i)) }
 
 pub told_nothing : (g : Group) (r : Record) (J : List Record) (clients : List Progress) (told : List ToldAt) → AreTold g J clients told
     → telling_in g r.actor r J ≡ nothing_told → AreAfter g (r ∷ J) clients → AreTold g (r ∷ J) clients told
 told_nothing g r J clients told h nothing now = record {
   after = now;
-  all = h.all ∙ sym (append-nil (told_by_run g J)) ∙ ap (λ (t : Telling). told_by_run g J ++ told_at (length J) t) (sym nothing);
+  all = h.all ∙ sym (append-nil (told_by_run g J)) ∙ ap (λ (t : Telling). told_by_run g J ++ told_at (length J) r.tick t) (sym nothing);
 }
 
 -- ---- the record at a place
@@ -90,3 +90,18 @@ silent_told g rs i clients told w lt silent h =
     let at : slice_get rs i ≡ Some r = slice_get-get_or rs i none lt in
     next_told g rs i r clients clients told told w at h (λ J v count read.
     let quiet = silent_clock_tells g r J clients (silent r at) v read.after in told_nothing g r J clients told read quiet.0 quiet.1)
+
+-- ---- the records of a run after its first ones
+
+rest_of : (run : List Record) (gone i : ℕ) → slice_get (drop gone run) i ≡ slice_get run (gone + i)
+rest_of run zero i = let same : i ≡ 0 + i = omega arith in ap (slice_get run) same
+rest_of [] (suc gone) i = refl
+rest_of (r ∷ run) (suc gone) i = let next : suc (gone + i) ≡ suc gone + i = omega arith in rest_of run gone i ∙ ap (slice_get (r ∷ run)) next
+
+pub rest_at : (run rest : List Record) (gone i : ℕ) → rest ≡ drop gone run → slice_get rest i ≡ slice_get run (gone + i)
+rest_at run rest gone i is = ap (λ (rs : List Record). slice_get rs i) is ∙ rest_of run gone i
+
+pub rest_within : (run rest : List Record) (gone i : ℕ) → rest ≡ drop gone run → i < length rest → gone + i < length run
+rest_within run rest gone i is lt =
+    let long = ap length is ∙ length-drop gone run in
+    omega (arith, long, lt)

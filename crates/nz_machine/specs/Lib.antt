@@ -34,5 +34,7 @@ pub mod Records
 pub mod Journals
 pub mod ClientProgress
 pub mod Tellings
+pub mod Links
+pub mod LinksFall
 pub mod Hearing
 pub mod Shows

@@ -12,8 +12,6 @@ pub struct Item {
     pub event: Event,
 }
 
-pub type ItemList = List<Item>;
-
 /// A scenario, and the records of a run on it, the oldest first.
 #[derive(Drop)]
 pub struct Journal {

@@ -25,6 +25,7 @@ mod commit_quorum;
 mod cores;
 mod data;
 mod event;
+mod forgotten;
 mod frame_kind;
 mod from_cluster;
 mod journal;
@@ -44,9 +45,10 @@ pub use client_progress::{Acceptance, Clients, Progress, Telling};
 pub use cores::Core;
 pub use data::{Attempt, Origin, Phase, Rejoin, Reported, Status, ToldView};
 pub use event::{Event, Parcel, Record, SharedParcel};
+pub use forgotten::Forgotten;
 pub use frame_kind::kind_of;
 pub use from_cluster::is_from_cluster;
-pub use journal::{Executed, History, Item, ItemList, Journal};
+pub use journal::{Executed, History, Item, Journal};
 pub use laws::{
     due_entries_are_released, events_are_told, facts_are_kept, receivers_take_part,
     scheduled_steps_are_a_run,
@@ -57,4 +59,4 @@ pub use records::{RecordList, RecordRef, Recording};
 pub use reply::{Reply, ReplyList};
 pub use sends::Sends;
 pub use state::ReplicaState;
-pub use tellings::{ToldAt, ToldList, told_in};
+pub use tellings::{Notes, ToldAt, ToldList, told_in};

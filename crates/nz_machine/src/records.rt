@@ -224,6 +224,15 @@ impl Recording {
         }
     }
 
+    /// Drops the records, and keeps their memory for later ones.
+    pub fn clear(&mut self)
+        ensures { self.new.records ≡ [] }
+    {
+        self.rows.clear();
+        self.others.clear();
+        self.room = spare(&self.rows, &self.others);
+    }
+
     /// The records as a list. They are not copied.
     pub fn into_list(self) -> RecordList
         requires { length self.records < 2 ^ 32 }
@@ -261,6 +270,13 @@ impl RecordList {
         ensures { result ≡ length self.now }
     {
         self.recording.len() as u32
+    }
+
+    pub fn as_recording(&self) -> &Recording
+        ensures records { result.now.records ≡ self.now }
+        ensures few { length self.now < 2 ^ 32 }
+    {
+        &self.recording
     }
 
     /// Puts the record last. At 2^32 - 1 records the answer is `NoMemory`.

@@ -1,8 +1,8 @@
 -- How many ticks the requests of a run took, and the lines that say so.
-use Rattle.std.specs.Prelude.{◌<◌, ℕ, zero, suc, ◌+◌, ◌-◌, max, Bool, true, false, ◌==◌, count_by, codes}
-use Rattle.std.specs.Prelude.{List, [], ◌∷◌, ◌++◌, Option, Some, None, map, length, reverse, slice_get}
+use Rattle.std.specs.Prelude.{ℕ, zero, suc, ◌+◌, ◌-◌, max, Bool, true, false, ◌==◌, count_by, codes}
+use Rattle.std.specs.Prelude.{List, [], ◌∷◌, ◌++◌, Option, Some, None, map, reverse}
 use Rattle.std.specs.Fmt.{decimal}
-use Rattle.std.specs.List.{All, flat_map, range_with_len}
+use Rattle.std.specs.List.{flat_map, range_with_len}
 use Rattle.std.specs.Map.{lookup}
 use Rattle.nz_base.specs.Key.{id_eq}
 use Rattle.nz_base.specs.declared.key.Id.{Id}
@@ -95,15 +95,6 @@ pace_text g J = lines_of_paces (paces (timed_events g J))
 
 -- ---- what clients told
 
--- The tick of a record.
-abbrev pub tick_in : Option Record → ℕ
-tick_in None = 0
-tick_in (Some r) = r.tick
-
--- The tick of the record at this place.
-abbrev pub tick_at : List Record → ℕ → ℕ
-tick_at records place = tick_in (slice_get records place)
-
 -- The request whose answer was accepted in this tick, if one was.
 abbrev pub told_accepted : ℕ → Option Acceptance → List (Id × ℕ)
 told_accepted tick None = []
@@ -113,14 +104,10 @@ told_accepted tick (Some a) = (a.id, tick) ∷ []
 abbrev pub told_sent : ℕ → List Id → List (Id × ℕ)
 told_sent tick ids = map (λ id. (id, tick)) ids
 
--- All whose answers were accepted, by what clients told at places of these records.
-abbrev pub all_accepted : List Record → List ToldAt → List (Id × ℕ)
-all_accepted records told = flat_map (λ t. told_accepted (tick_at records t.place) t.telling.accepted) told
+-- All whose answers were accepted, by what clients told.
+abbrev pub all_accepted : List ToldAt → List (Id × ℕ)
+all_accepted told = flat_map (λ t. told_accepted t.tick t.telling.accepted) told
 
 -- All that were sent.
-abbrev pub all_sent : List Record → List ToldAt → List (Id × ℕ)
-all_sent records told = flat_map (λ t. told_sent (tick_at records t.place) t.telling.sent) told
-
--- What clients told is of records of these.
-abbrev pub AreWithin : List Record → List ToldAt → Type 0
-AreWithin records told = All (λ t. t.place < length records) told
+abbrev pub all_sent : List ToldAt → List (Id × ℕ)
+all_sent told = flat_map (λ t. told_sent t.tick t.telling.sent) told

@@ -1,29 +1,23 @@
 //! How many ticks the requests of a run took.
-ghost use Rattle.std.specs.Prelude.{◌≡◌, ◌++◌, ◌<◌, ℕ, List as Listed, length, map, IfOk, OnOk};
+ghost use Rattle.std.specs.Prelude.{◌≡◌, ◌++◌, ℕ, List as Listed, map, IfOk, OnOk};
 ghost use Rattle.std.specs.HashMap.{get};
 ghost use Rattle.nz_base.specs.Key.{id_eq};
 ghost use Rattle.nz_base.specs.declared.key.Id.{Id as IdModel};
-ghost use Rattle.nz_machine.specs.Journals.{group_in, run_in};
+ghost use Rattle.nz_machine.specs.State.{Group};
+ghost use Rattle.nz_machine.specs.Tellings.{told_by_run};
 ghost use Rattle.nz_machine.specs.World.{World};
+ghost use Rattle.nz_machine.specs.declared.event.Record.{Record};
 ghost use Rattle.nz_quiet.specs.Quiet.{timed_events};
 ghost use Rattle.nz_quiet.specs.Pace as pace;
-ghost use Rattle.nz_quiet.specs.Pace.{tick_accepted, pace_by, told_accepted, told_sent, all_accepted, all_sent, AreWithin};
+ghost use Rattle.nz_quiet.specs.Pace.{tick_accepted, pace_by, told_accepted, told_sent, all_accepted, all_sent};
 
 use nz_base::{Id, List, NoMemory};
-use nz_machine::{Acceptance, Journal, ToldAt, told_in};
+use nz_machine::{Acceptance, ToldAt};
 use std::alloc::Global;
 use std::collections::HashMap;
 
 /// The ticks in which answers to requests were accepted.
 type Accepted = HashMap<Id, u32>;
-
-/// The tick of the record at this place.
-fn tick_at(journal: &Journal, place: u32) -> u32
-    requires { place < length journal.now.records }
-    ensures { result ≡ pace.tick_at journal.now.records place }
-{
-    journal.records.get(place).as_record().tick
-}
 
 /// Notes the tick of the acceptance, if there is one.
 fn note(tick: u32, acceptance: &Option<Acceptance>, accepted: &mut Accepted) -> Result<(), NoMemory>
@@ -37,14 +31,12 @@ fn note(tick: u32, acceptance: &Option<Acceptance>, accepted: &mut Accepted) -> 
 }
 
 /// The ticks of the acceptances that clients told.
-fn accepted_of(alloc: Global, journal: &Journal, told: &[ToldAt]) -> Result<Accepted, NoMemory>
-    requires { AreWithin journal.now.records told.now }
-    ensures { IfOk result (λ accepted. (id : IdModel) → get id_eq accepted id ≡ tick_accepted (all_accepted journal.now.records told.now) id) }
+fn accepted_of(alloc: Global, told: &[ToldAt]) -> Result<Accepted, NoMemory>
+    ensures { IfOk result (λ accepted. (id : IdModel) → get id_eq accepted id ≡ tick_accepted (all_accepted told.now) id) }
 {
     let mut accepted = HashMap::new(alloc);
     for next in told {
-        let tick = tick_at(journal, next.place);
-        note(tick, &next.telling.accepted, &mut accepted)?;
+        note(next.tick, &next.telling.accepted, &mut accepted)?;
     }
     Ok(accepted)
 }
@@ -77,27 +69,28 @@ fn add_paces(
 /// How many ticks each of the requests took that clients told, in the order of sending.
 fn paces_of(
     alloc: Global,
-    journal: &Journal,
     told: &[ToldAt],
     accepted: &Accepted,
 ) -> Result<List<Option<u32>>, NoMemory>
-    requires { AreWithin journal.now.records told.now }
-    ensures { IfOk result (λ paces. paces ≡ map (pace_by (get id_eq accepted.now)) (all_sent journal.now.records told.now)) }
+    ensures { IfOk result (λ paces. paces ≡ map (pace_by (get id_eq accepted.now)) (all_sent told.now)) }
 {
     let mut paces = List::new(alloc);
     for next in told {
-        let tick = tick_at(journal, next.place);
-        add_paces(accepted, tick, next.telling.sent.as_slice(), &mut paces)?;
+        add_paces(
+            accepted,
+            next.tick,
+            next.telling.sent.as_slice(),
+            &mut paces,
+        )?;
     }
     Ok(paces)
 }
 
-/// How many ticks each request of the journal's run took, in the order of sending. Those that are open have no number.
-pub fn paces(alloc: Global, journal: &Journal) -> Result<List<Option<u32>>, NoMemory>
-    requires { World (group_in journal.now) (run_in journal.now) }
-    ensures { IfOk result (λ paces. paces ≡ pace.paces (timed_events (group_in journal.now) (run_in journal.now))) }
+/// How many ticks each request of a run took, in the order of sending, by what its clients told. Those that are open have
+/// no number.
+pub fn paces(alloc: Global, told: &[ToldAt]) -> Result<List<Option<u32>>, NoMemory>
+    ensures { IfOk result (λ paces. (g : Group) (J : Listed Record) → World g J → told.now ≡ told_by_run g J → paces ≡ pace.paces (timed_events g J)) }
 {
-    let told = told_in(alloc, journal)?;
-    let accepted = accepted_of(alloc, journal, told.as_slice())?;
-    paces_of(alloc, journal, told.as_slice(), &accepted)
+    let accepted = accepted_of(alloc, told)?;
+    paces_of(alloc, told, &accepted)
 }

@@ -7,3 +7,4 @@ pub mod DealtShares
 pub mod FirstCores
 pub mod LastCores
 mod Settling
+mod TickByTick

@@ -17,6 +17,7 @@
 mod alone;
 mod cast;
 mod played;
+mod playing;
 mod shares;
 mod stage;
 mod threads;
@@ -24,4 +25,5 @@ mod workers;
 
 pub use alone::run_alone;
 pub use played::Played;
+pub use playing::Playing;
 pub use threads::run;

@@ -5,18 +5,16 @@ ghost use Rattle.std.specs.HashSet.{contains};
 ghost use Rattle.nz_base.specs.Key.{id_eq};
 ghost use Rattle.nz_base.specs.declared.key.Id.{Id as IdModel};
 ghost use Rattle.nz_machine.specs.Events.{script_command};
-ghost use Rattle.nz_machine.specs.Journals.{group_in, run_in};
 ghost use Rattle.nz_machine.specs.Schedule.{group_of};
 ghost use Rattle.nz_machine.specs.Step.{script_of};
 ghost use Rattle.nz_machine.specs.ClientProgress.{acceptance_events, request_event, request_events, events_of_telling};
-ghost use Rattle.nz_machine.specs.Tellings.{told_by_run};
-ghost use Rattle.nz_machine.specs.World.{World};
+ghost use Rattle.nz_machine.specs.Tellings.{events_of_told};
 ghost use Rattle.nz_text.specs.declared.printed.Event.{Event as EventModel};
-ghost use Rattle.nz_text.specs.Text.{event_of, accepts_it, open_in, unanswered_in, events_in};
+ghost use Rattle.nz_text.specs.Text.{event_of, accepts_it, open_in, unanswered_in};
 
 use super::printed::{EventRef, Lent};
 use nz_base::{Id, IdList, List, NoMemory, Request, Scenario};
-use nz_machine::{Acceptance, Journal, Telling, ToldAt};
+use nz_machine::{Acceptance, Telling, ToldAt};
 use std::alloc::Global;
 use std::collections::HashSet;
 
@@ -95,19 +93,17 @@ pub fn add_events<'a>(
     add_requests(scenario, telling.sent.as_slice(), events)
 }
 
-/// The events of the journal's run, by what its clients told.
+/// The events of what the clients of the scenario told.
 pub fn events_of<'a>(
     alloc: Global,
-    journal: &'a Journal,
+    scenario: &'a Scenario,
     told: &'a [ToldAt],
 ) -> Result<List<EventRef<'a>>, NoMemory>
-    requires world { World (group_in journal.now) (run_in journal.now) }
-    requires told { told.now ≡ told_by_run (group_in journal.now) (run_in journal.now) }
-    ensures { IfOk result (λ events. events ≡ events_in (group_in journal.now) (run_in journal.now)) }
+    ensures { IfOk result (λ events. events ≡ map event_of (events_of_told (group_of scenario.now) told.now)) }
 {
     let mut events = List::new(alloc);
     for next in told {
-        add_events(&journal.scenario, &next.telling, &mut events)?;
+        add_events(scenario, &next.telling, &mut events)?;
     }
     Ok(events)
 }

@@ -1,16 +1,19 @@
 //! The summary of a run.
 
-ghost use Rattle.std.specs.Prelude.{◌≡◌, ◌++◌, count_by, IfOk, OnOk};
-ghost use Rattle.nz_machine.specs.Journals.{group_in, run_in, history_in};
+ghost use Rattle.std.specs.Prelude.{◌≡◌, ◌++◌, List, count_by, IfOk, OnOk};
+ghost use Rattle.nz_machine.specs.History as histories;
+ghost use Rattle.nz_machine.specs.Journals.{executed_entries};
+ghost use Rattle.nz_machine.specs.Schedule.{group_of};
 ghost use Rattle.nz_machine.specs.Tellings.{told_by_run};
 ghost use Rattle.nz_machine.specs.World.{World};
+ghost use Rattle.nz_machine.specs.declared.event.Record.{Record};
 ghost use Rattle.nz_text.specs.Text as text;
 ghost use Rattle.nz_text.specs.Text.{is_event_of, count_line, summary_of};
 
 use super::printed::{EventRef, Lent};
 use super::run_events::{events_of, unanswered_of};
-use nz_base::{Blob, IdList, NoMemory};
-use nz_machine::{History, Journal, ToldList};
+use nz_base::{Blob, IdList, NoMemory, Scenario};
+use nz_machine::{History, ToldList};
 use nz_msg::Path;
 use nz_script::{put, put_number};
 use std::alloc::Global;
@@ -88,16 +91,14 @@ pub fn count(
 /// How many lines of each sort the text of the run has. What the clients told is given, and is not read again.
 pub fn summary(
     alloc: Global,
-    journal: &Journal,
+    scenario: &Scenario,
     told: ToldList,
     history: &History,
 ) -> Result<Blob, NoMemory>
-    requires run { World (group_in journal.now) (run_in journal.now) }
-    requires told { told ≡ told_by_run (group_in journal.now) (run_in journal.now) }
-    requires history { history.now ≡ history_in journal.now }
-    ensures { IfOk result (λ bytes. bytes ≡ text.summary (group_in journal.now) (run_in journal.now)) }
+    ensures { let g = group_of scenario.now in IfOk result (λ bytes. (J : List Record) → World g J → told ≡ told_by_run g J
+        → history.now ≡ executed_entries (histories.history g J) → bytes ≡ text.summary g J) }
 {
-    let events = events_of(alloc, journal, told.as_slice())?;
+    let events = events_of(alloc, scenario, told.as_slice())?;
     let unanswered = unanswered_of(alloc, events.as_slice())?;
     count(alloc, events.as_slice(), &unanswered, history)
 }

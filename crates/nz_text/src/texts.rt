@@ -1,17 +1,20 @@
 //! The text of a run.
 
-ghost use Rattle.std.specs.Prelude.{◌≡◌, IfOk};
-ghost use Rattle.nz_machine.specs.Journals.{group_in, run_in, history_in};
+ghost use Rattle.std.specs.Prelude.{◌≡◌, List, IfOk};
+ghost use Rattle.nz_machine.specs.History as histories;
+ghost use Rattle.nz_machine.specs.Journals.{executed_entries};
+ghost use Rattle.nz_machine.specs.Schedule.{group_of};
 ghost use Rattle.nz_machine.specs.Tellings.{told_by_run};
 ghost use Rattle.nz_machine.specs.World.{World};
+ghost use Rattle.nz_machine.specs.declared.event.Record.{Record};
 ghost use Rattle.nz_text.specs.Text as text_words;
 ghost use Rattle.nz_text.specs.Text.{text_of_printed};
 
 use super::lines::{put_events, put_history, put_opens};
 use super::printed::EventRef;
 use super::run_events::{events_of, unanswered_of};
-use nz_base::{Blob, Id, NoMemory};
-use nz_machine::{Executed, History, Journal, ToldList};
+use nz_base::{Blob, Id, NoMemory, Scenario};
+use nz_machine::{Executed, History, ToldList};
 use nz_script::put;
 use std::alloc::Global;
 
@@ -51,16 +54,14 @@ pub fn spell(
 /// entry of the history, and `end`. What the clients told is given, and is not read again.
 pub fn text(
     alloc: Global,
-    journal: &Journal,
+    scenario: &Scenario,
     told: ToldList,
     history: &History,
 ) -> Result<Blob, NoMemory>
-    requires run { World (group_in journal.now) (run_in journal.now) }
-    requires told { told ≡ told_by_run (group_in journal.now) (run_in journal.now) }
-    requires history { history.now ≡ history_in journal.now }
-    ensures { IfOk result (λ bytes. bytes ≡ text_words.text (group_in journal.now) (run_in journal.now)) }
+    ensures { let g = group_of scenario.now in IfOk result (λ bytes. (J : List Record) → World g J → told ≡ told_by_run g J
+        → history.now ≡ executed_entries (histories.history g J) → bytes ≡ text_words.text g J) }
 {
-    let events = events_of(alloc, journal, told.as_slice())?;
+    let events = events_of(alloc, scenario, told.as_slice())?;
     let unanswered = unanswered_of(alloc, events.as_slice())?;
     spell(alloc, events.as_slice(), unanswered.as_slice(), history)
 }

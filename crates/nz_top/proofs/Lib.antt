@@ -4,3 +4,5 @@ mod Inputs
 mod Excluded
 pub mod Playable
 pub mod Pace
+mod Watches
+mod Answering

@@ -5,3 +5,5 @@ pub mod Words
 pub mod Reports
 pub mod Calls
 pub mod Checking
+pub mod Called
+pub mod Watching

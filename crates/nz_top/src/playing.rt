@@ -12,14 +12,16 @@ ghost use Rattle.nz_top.specs.Calls.{CanPlay, Explains, Gives, HasPace, HasRead,
 ghost use Rattle.nz_top.specs.Moves.{TakesPrefix};
 ghost use Rattle.nz_top.specs.Reports.{printed_by, Admits};
 ghost use Rattle.nz_top.specs.Words.{IsDrawable, IsInRange};
+ghost use Rattle.nz_top.specs.Watching.{IsAnswered};
 
 use crate::input::{Stop, read_input};
+use crate::keeping::Keeping;
 use crate::output::write_all;
 use crate::status::{Outcome, Status};
+use crate::watching::print_unkept;
 use crate::words::{Origin, Play};
-use nz_base::{Id, MAX_TEXT, Scenario};
+use nz_base::{Blob, Id, MAX_TEXT, NoMemory, Scenario};
 use nz_edge::{Gate, Sink, Source};
-use nz_machine::Journal;
 use nz_run::{Played, run};
 use nz_script::{Kind, ScriptFault, generate, read};
 use std::alloc::Global;
@@ -110,12 +112,12 @@ pub fn scenario_for<S: Source>(
 }
 
 /// Writes the bytes of a run that was played.
-fn write_run<O: Sink>(journal: Journal, bytes: &[u8], out: &mut O) -> Outcome
+fn write_run<K: Keeping, O: Sink>(kept: K, bytes: &[u8], out: &mut O) -> Outcome<K>
     ensures played { (result.status ≡ status.Done) ⊎ (result.status ≡ status.WriteFault) }
     ensures done { result.status ≡ status.Done → Gains (O.taken out.old) (O.taken out.new) bytes.now }
     ensures write_fault { result.status ≡ status.WriteFault → Rose (O.faults out.old) (O.faults out.new) }
     ensures prefix { TakesPrefix (O.taken out.old) (O.taken out.new) bytes.now }
-    ensures run { result.journal ≡ Some journal }
+    ensures run { result.journal ≡ Some (K.journal kept) }
     ensures counts { O.faults out.old ≤ O.faults out.new }
 {
     let status = match write_all(out, bytes) {
@@ -124,19 +126,75 @@ fn write_run<O: Sink>(journal: Journal, bytes: &[u8], out: &mut O) -> Outcome
     };
     Outcome {
         status,
-        journal: Some(journal),
+        journal: Some(kept),
+    }
+}
+
+/// Plays the scenario with its records in memory. What is printed, and what is kept of the run.
+fn print_kept<K: Keeping, R: Threads + Wait + Sync, G: Gate + Sync>(
+    rt: &R,
+    alloc: Global,
+    play: &Play<'_>,
+    scenario: &Scenario,
+    gate: &G,
+) -> Result<(Blob, K), NoMemory>
+    requires called { IsInRange play.now }
+    requires playable { IsPlayable scenario.now }
+    ensures { IfOk result (λ printed. IsAnswered play.now scenario.now (K.journal printed.1) printed.0) }
+{
+    let Played { journal, replicas } = run(rt, alloc, scenario, play.workers, gate)?;
+    let bytes = play.report.print(alloc, &journal, replicas.as_slice())?;
+    Ok((bytes, K::of(journal)))
+}
+
+/// The same, with no record in memory where that serves the caller and is likely to do. None where it was not done.
+fn print_watched<K: Keeping>(
+    alloc: Global,
+    play: &Play<'_>,
+    scenario: &Scenario,
+) -> Result<Option<(Blob, K)>, NoMemory>
+    requires playable { IsPlayable scenario.now }
+    ensures { IfOk result (λ o. IfSome o (λ printed. IsAnswered play.now scenario.now (K.journal printed.1) printed.0)) }
+{
+    if K::wants_records() || play.workers > 1 || play.report.may_need_records(scenario) {
+        return Ok(None);
+    }
+    let Some((bytes, unkept)) = print_unkept(alloc, &play.report, scenario)? else {
+        return Ok(None);
+    };
+    match K::of_unkept(unkept) {
+        Some(kept) => Ok(Some((bytes, kept))),
+        None => Ok(None),
+    }
+}
+
+/// Plays the scenario. What is printed, and what is kept of the run.
+fn print_run<K: Keeping, R: Threads + Wait + Sync, G: Gate + Sync>(
+    rt: &R,
+    alloc: Global,
+    play: &Play<'_>,
+    scenario: &Scenario,
+    gate: &G,
+) -> Result<(Blob, K), NoMemory>
+    requires called { IsInRange play.now }
+    requires playable { IsPlayable scenario.now }
+    ensures { IfOk result (λ printed. IsAnswered play.now scenario.now (K.journal printed.1) printed.0) }
+{
+    match print_watched(alloc, play, scenario)? {
+        Some(printed) => Ok(printed),
+        None => print_kept(rt, alloc, play, scenario, gate),
     }
 }
 
 /// Plays the scenario, and writes the report of the run.
-pub fn answer<O: Sink, R: Threads + Wait + Sync, G: Gate + Sync>(
+pub fn answer<K: Keeping, O: Sink, R: Threads + Wait + Sync, G: Gate + Sync>(
     rt: &R,
     alloc: Global,
     play: &Play<'_>,
     scenario: &Scenario,
     out: &mut O,
     gate: &G,
-) -> Outcome
+) -> Outcome<K>
     requires called { IsInRange play.now }
     requires playable { IsPlayable scenario.now }
     ensures played { IsPlayed result.status }
@@ -152,11 +210,8 @@ pub fn answer<O: Sink, R: Threads + Wait + Sync, G: Gate + Sync>(
     ensures prefix { IfSome result.journal (λ journal. TakesPrefix (O.taken out.old) (O.taken out.new) (printed_by play.now.report journal)) }
     ensures counts { O.faults out.old ≤ O.faults out.new }
 {
-    let Ok(Played { journal, replicas }) = run(rt, alloc, scenario, play.workers, gate) else {
-        return Outcome::without_run(Status::NoMemory);
-    };
-    let Ok(bytes) = play.report.print(alloc, &journal, replicas.as_slice()) else {
-        return Outcome::without_run(Status::NoMemory);
-    };
-    write_run(journal, bytes.as_slice(), out)
+    match print_run(rt, alloc, play, scenario, gate) {
+        Ok((bytes, kept)) => write_run(kept, bytes.as_slice(), out),
+        Err(_) => Outcome::without_run(Status::NoMemory),
+    }
 }

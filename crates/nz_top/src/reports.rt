@@ -1,6 +1,12 @@
 //! What is reported of a run.
-ghost use Rattle.std.specs.Prelude.{◌≡◌, ◌++◌, IfOk, IfSome, IfNone, codes};
-ghost use Rattle.nz_machine.specs.Journals.{group_in, run_in};
+ghost use Rattle.std.specs.Prelude.{◌≡◌, ◌++◌, List, IfOk, IfSome, IfNone, codes};
+ghost use Rattle.nz_machine.specs.declared.event.Record.{Record};
+ghost use Rattle.nz_machine.specs.declared.journal.Journal.{Journal as JournalModel};
+ghost use Rattle.nz_machine.specs.History.{history};
+ghost use Rattle.nz_machine.specs.Journals.{group_in, run_in, executed_entries};
+ghost use Rattle.nz_machine.specs.Schedule.{group_of};
+ghost use Rattle.nz_machine.specs.State.{Group};
+ghost use Rattle.nz_machine.specs.Tellings.{told_by_run};
 ghost use Rattle.nz_machine.specs.World.{World};
 ghost use Rattle.nz_replica.specs.Models.{AreCores};
 ghost use Rattle.nz_story.specs.Story as stories;
@@ -9,13 +15,15 @@ ghost use Rattle.nz_quiet.specs.Pace.{pace_text};
 ghost use Rattle.nz_top.specs.Calls.{IsRun};
 ghost use Rattle.nz_locks.specs.Clean.{IsFirstFoul};
 ghost use Rattle.nz_top.specs.declared.reports.Report.TheVariants as reports;
+ghost use Rattle.nz_locks.specs.Tenures.{hold_lines};
 ghost use Rattle.nz_top.specs.Reports.{printed_by, Admits};
+ghost use Rattle.nz_top.specs.Watching.{HasObserved};
 
-use nz_audit::history_of;
-use nz_base::{Blob, Id, NoMemory, Scenario};
+use nz_audit::{first_history, history_of};
+use nz_base::{Actor, Blob, Fault, Id, MAX_QUIET, NoMemory, Scenario};
 use nz_locks::{first_foul, tenure_lines};
-use nz_machine::{Journal, told_in};
-use nz_observe::observe;
+use nz_machine::{Journal, ToldAt, ToldList, told_in};
+use nz_observe::{Observer, observe};
 use nz_quiet::put_pace;
 use nz_replica::Replica;
 use nz_story::put_story;
@@ -89,7 +97,7 @@ fn run_text(alloc: Global, journal: &Journal, replicas: &[Replica]) -> Result<Bl
 {
     let told = told_in(alloc, journal)?;
     let history = history_of(alloc, journal, told.as_slice(), replicas)?;
-    text(alloc, journal, told, &history)
+    text(alloc, &journal.scenario, told, &history)
 }
 
 /// The summary of the run.
@@ -100,7 +108,7 @@ fn run_summary(alloc: Global, journal: &Journal, replicas: &[Replica]) -> Result
 {
     let told = told_in(alloc, journal)?;
     let history = history_of(alloc, journal, told.as_slice(), replicas)?;
-    summary(alloc, journal, told, &history)
+    summary(alloc, &journal.scenario, told, &history)
 }
 
 /// The story of the run.
@@ -113,14 +121,90 @@ fn story(alloc: Global, journal: &Journal) -> Result<Blob, NoMemory>
     Ok(Blob::from_vec(bytes))
 }
 
-/// How many ticks the requests of the run took.
-fn pace(alloc: Global, journal: &Journal) -> Result<Blob, NoMemory>
-    requires { World (group_in journal.now) (run_in journal.now) }
-    ensures { IfOk result (λ bytes. bytes ≡ pace_text (group_in journal.now) (run_in journal.now)) }
+/// How many ticks the requests of a run took, by what its clients told.
+fn pace(alloc: Global, told: &[ToldAt]) -> Result<Blob, NoMemory>
+    ensures { IfOk result (λ bytes. (g : Group) (J : List Record) → World g J → told.now ≡ told_by_run g J → bytes ≡ pace_text g J) }
 {
     let mut bytes = Vec::new(alloc);
-    put_pace(alloc, &mut bytes, journal)?;
+    put_pace(alloc, &mut bytes, told)?;
     Ok(Blob::from_vec(bytes))
+}
+
+/// The text of a run that stayed in its first view, None where it may not have. What the clients told is given, and so are
+/// the replicas after the last record.
+fn told_text(
+    alloc: Global,
+    scenario: &Scenario,
+    told: ToldList,
+    replicas: &[Replica],
+) -> Result<Option<Blob>, NoMemory>
+    ensures { let g = group_of scenario.now in IfOk result (λ o. IfSome o (λ bytes. (J : List Record) → World g J
+        → told ≡ told_by_run g J → AreCores g J replicas.now → bytes ≡ texts.text g J)) }
+{
+    match first_history(alloc, scenario.cluster, told.as_slice(), replicas)? {
+        Some(history) => Ok(Some(text(alloc, scenario, told, &history)?)),
+        None => Ok(None),
+    }
+}
+
+/// The summary of such a run.
+fn told_summary(
+    alloc: Global,
+    scenario: &Scenario,
+    told: ToldList,
+    replicas: &[Replica],
+) -> Result<Option<Blob>, NoMemory>
+    ensures { let g = group_of scenario.now in IfOk result (λ o. IfSome o (λ bytes. (J : List Record) → World g J
+        → told ≡ told_by_run g J → AreCores g J replicas.now → bytes ≡ texts.summary g J)) }
+{
+    match first_history(alloc, scenario.cluster, told.as_slice(), replicas)? {
+        Some(history) => Ok(Some(summary(alloc, scenario, told, &history)?)),
+        None => Ok(None),
+    }
+}
+
+/// The tenures of the locks of such a run, and its text.
+fn told_tenures(
+    alloc: Global,
+    scenario: &Scenario,
+    told: ToldList,
+    replicas: &[Replica],
+) -> Result<Option<Blob>, NoMemory>
+    ensures { let g = group_of scenario.now in IfOk result (λ o. IfSome o (λ bytes. (J : List Record) → World g J
+        → told ≡ told_by_run g J → AreCores g J replicas.now
+        → bytes ≡ hold_lines (executed_entries (history g J)) ++ (codes "text\n" ++ texts.text g J))) }
+{
+    let Some(history) = first_history(alloc, scenario.cluster, told.as_slice(), replicas)? else {
+        return Ok(None);
+    };
+    let head = tenure_lines(alloc, &history)?;
+    Ok(Some(headed(alloc, head, text(alloc, scenario, told, &history)?)?))
+}
+
+/// Whether replicas may leave the first view: its leader crashes or is cut off, a replica is alarmed, or one stays down.
+fn may_leave_first_view(scenario: &Scenario) -> bool {
+    let leader = Actor::Replica(scenario.cluster.leader(0));
+    let mut down: u32 = 0;
+    for fault in scenario.faults.as_slice() {
+        match fault {
+            Fault::Alarm { .. } => return true,
+            Fault::Crash { actor, .. } if actor.is(&leader) => return true,
+            Fault::Block { first, last, .. }
+                if last.saturating_sub(*first) >= u32::from(MAX_QUIET) => {
+                return true;
+            }
+            Fault::Crash {
+                actor: Actor::Replica(_),
+                ..
+            } => down = down.saturating_add(1),
+            Fault::Restart {
+                actor: Actor::Replica(_),
+                ..
+            } => down = down.saturating_sub(1),
+            _ => {}
+        }
+    }
+    down > 0
 }
 
 impl Report<'_> {
@@ -166,13 +250,52 @@ impl Report<'_> {
                 let told = told_in(alloc, journal)?;
                 let history = history_of(alloc, journal, told.as_slice(), replicas)?;
                 let head = tenure_lines(alloc, &history)?;
-                headed(alloc, head, text(alloc, journal, told, &history)?)
+                headed(alloc, head, text(alloc, &journal.scenario, told, &history)?)
             }
             Report::Peek { replica, key } => {
                 let head = observe(alloc, journal, *replica, key.as_slice())?;
                 headed(alloc, head, run_text(alloc, journal, replicas)?)
             }
-            Report::Pace => pace(alloc, journal),
+            Report::Pace => pace(alloc, told_in(alloc, journal)?.as_slice()),
+        }
+    }
+
+    /// What is printed of a run of which no record is given, but what its clients told, what was observed of a replica, and
+    /// the replicas after the last record. None where the report needs the records.
+    pub fn print_told(
+        &self,
+        alloc: Global,
+        scenario: &Scenario,
+        told: ToldList,
+        observer: Observer,
+        replicas: &[Replica],
+    ) -> Result<Option<Blob>, NoMemory>
+        ensures { IfOk result (λ o. IfSome o (λ bytes. (j : JournalModel) → j.scenario ≡ scenario.now → World (group_in j) (run_in j)
+            → told ≡ told_by_run (group_in j) (run_in j) → AreCores (group_in j) (run_in j) replicas.now
+            → HasObserved self.now (group_in j) j.scenario.ticks (run_in j) observer → bytes ≡ printed_by self.now j)) }
+    {
+        match self {
+            Report::Text => told_text(alloc, scenario, told, replicas),
+            Report::Summary => told_summary(alloc, scenario, told, replicas),
+            Report::Locks => told_tenures(alloc, scenario, told, replicas),
+            Report::Peek { .. } => match told_text(alloc, scenario, told, replicas)? {
+                Some(text) => Ok(Some(headed(alloc, observer.into_blob(), text)?)),
+                None => Ok(None),
+            },
+            Report::Pace => Ok(Some(pace(alloc, told.as_slice())?)),
+            Report::Trace | Report::Story => Ok(None),
+        }
+    }
+
+    /// Whether what is printed may need the records of the run of the scenario: where it shows them, or where replicas may
+    /// leave the first view. Either answer is right. A wrong one costs memory, or that the run is played once more.
+    pub fn may_need_records(&self, scenario: &Scenario) -> bool {
+        match self {
+            Report::Trace | Report::Story => true,
+            Report::Pace => false,
+            Report::Text | Report::Summary | Report::Locks | Report::Peek { .. } => {
+                may_leave_first_view(scenario)
+            }
         }
     }
 }

@@ -1,7 +1,9 @@
 //! How a call ends.
 ghost use Rattle.std.specs.Prelude.{◌≡◌, None};
 
+use crate::keeping::Keeping;
 use nz_machine::Journal;
+use std::marker::Model;
 
 /// How a call ended.
 #[derive(Clone, Copy, Debug, PartialEq, Eq)]
@@ -41,16 +43,25 @@ impl Status {
     }
 }
 
-/// How a call ended, and the run that was played.
+/// How a call ended, and what is kept of the run that was played. Contracts see the status and the journal.
 #[derive(Drop)]
-pub struct Outcome {
+pub struct Outcome<K: Keeping = Journal> {
     pub status: Status,
-    pub journal: Option<Journal>,
+    pub journal: Option<K>,
 }
 
-impl Outcome {
+impl<K: Keeping> Model for Outcome<K> {
+    ghost use Rattle.std.specs.Option.{option_map};
+    ghost use Rattle.nz_top.specs.Called.{Called};
+
+    ghost Value = { Called };
+
+    ghost view = { λ o. record { status = o.status; journal = option_map K.journal o.journal } };
+}
+
+impl<K: Keeping> Outcome<K> {
     /// An outcome without a run.
-    pub fn without_run(status: Status) -> Outcome
+    pub fn without_run(status: Status) -> Outcome<K>
         ensures { result ≡ record { status = status; journal = None } }
     {
         Outcome {

@@ -19,6 +19,7 @@ ghost use Rattle.nz_top.specs.Words.{command_of_words, play_of_words, IsAlone, I
 use crate::checking::check_input;
 use crate::fixed::{write_drawn, write_fixed};
 use crate::help::help_lines;
+use crate::keeping::Keeping;
 use crate::playing::{NoScenario, answer, scenario_for};
 use crate::refusal::{refuse, tell_bad_line, tell_foul};
 use crate::status::{Outcome, Status};
@@ -31,15 +32,15 @@ use std::thread::Threads;
 /// What the program does with the words after its name: `run`, `trace`, `story`, `locks`, `peek` and `pace` read a scenario
 /// from the source, play it, and write a report of the run to the sink; `gen` plays one that is drawn, and writes its
 /// summary; `scenario` writes that one; `check` judges the text that it reads; `help` writes a line for each command. Each
-/// worker calls the gate before each batch. May wait.
-pub fn nezha<R: Threads + Wait + Sync, S: Source, O: Sink, G: Gate + Sync>(
+/// worker calls the gate before each batch. The caller chooses by `K` whether the journal comes back as data. May wait.
+pub fn nezha<K: Keeping, R: Threads + Wait + Sync, S: Source, O: Sink, G: Gate + Sync>(
     rt: &R,
     alloc: Global,
     words: &Words,
     source: &mut S,
     out: &mut O,
     gate: &G,
-) -> Outcome
+) -> Outcome<K>
     // When each answer comes.
     ensures usage { (result.status ≡ status.Usage) ↔ (command_of_words words.now ≡ None) }
     ensures reading { (result.status ≡ status.BadScenario) ⊎ (result.status ≡ status.ReadFault) → ReadsSource (command_of_words words.now) }

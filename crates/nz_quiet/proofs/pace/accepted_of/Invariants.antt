@@ -7,4 +7,4 @@ use Rattle.nz_quiet.specs.Pace.{tick_accepted, all_accepted}
 use Rattle.nz_quiet.proofs.pace.accepted_of.Given as goal
 
 abbrev pub invariant-loop-next : goal.invariant-loop-next
-invariant-loop-next l = (id : Id) → get id_eq l.accepted id ≡ tick_accepted (all_accepted l.journal.records (take l.next-index l.told)) id
+invariant-loop-next l = (id : Id) → get id_eq l.accepted id ≡ tick_accepted (all_accepted (take l.next-index l.told)) id

@@ -6,4 +6,4 @@ use Rattle.nz_quiet.specs.Pace.{pace_by, all_sent}
 use Rattle.nz_quiet.proofs.pace.paces_of.Given as goal
 
 abbrev pub invariant-loop-next : goal.invariant-loop-next
-invariant-loop-next l = l.paces ≡ map (pace_by (get id_eq l.accepted)) (all_sent l.journal.records (take l.next-index l.told))
+invariant-loop-next l = l.paces ≡ map (pace_by (get id_eq l.accepted)) (all_sent (take l.next-index l.told))

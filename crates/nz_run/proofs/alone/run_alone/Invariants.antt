@@ -1,15 +1,13 @@
 -- What the loops of the function of this folder keep.
 use Rattle.std.proofs.Common.{◌≡◌, ◌-◌}
-use Rattle.nz_fabric.specs.States.{IsDone}
-use Rattle.nz_run.specs.Casts.{IsUnderWay}
+use Rattle.nz_run.specs.Playing.{IsAtEnd, scenario_of, tick_of}
 use Rattle.nz_run.proofs.alone.run_alone.Given as goal
 
 abbrev pub decreases-ticks : goal.decreases-ticks
-decreases-ticks l = l.alone.scenario.ticks - l.alone.tick
+decreases-ticks l = (scenario_of l.playing).ticks - tick_of l.playing
 
 abbrev pub invariant-ticks : goal.invariant-ticks
 invariant-ticks l = record {
-  done : IsDone l.alone;
-  under_way : IsUnderWay l.alone l.cast;
-  scenario : l.alone.scenario ≡ l.scenario;
+  at_end : IsAtEnd l.playing;
+  scenario : scenario_of l.playing ≡ l.scenario;
 }

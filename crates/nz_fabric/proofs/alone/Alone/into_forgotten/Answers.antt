@@ -1,0 +1,16 @@
+-- What the function of this folder owes, proved.
+use Rattle.std.proofs.Common.{◌∙◌, List, sym, ap, subst}
+use Rattle.nz_machine.specs.Schedule.{InOrder}
+use Rattle.nz_machine.specs.declared.event.Record.{Record}
+use Rattle.nz_fabric.specs.States.{IsKeptRun, records_of}
+use Rattle.nz_fabric.proofs.Held.{all_records, in_order_over}
+use Rattle.nz_fabric.proofs.alone.Alone.into_forgotten.Goals as goal
+
+pub returns-clause-records : goal.returns-clause-records
+returns-clause-records c = sym (all_records c.self.inside.before c.self.inside.run) ∙ ap records_of c.self.view_is
+
+pub returns-clause-in_order : goal.returns-clause-in_order
+returns-clause-in_order c =
+    let f = c.args.self in
+    subst (λ (J : List Record). InOrder f.scenario J) (sym (returns-clause-records c))
+    (in_order_over f (subst IsKeptRun c.self.view_is c.self.invariant.0.kept) c.requires.done c.requires.last)

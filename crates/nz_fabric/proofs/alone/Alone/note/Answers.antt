@@ -1,0 +1,24 @@
+-- What the function of this folder owes, proved.
+use Rattle.std.proofs.Common.{◌≡◌, ◌+◌, ◌-◌, ◌∙◌, ℕ, List, take, ap, sym, subst, arith}
+use Rattle.std.specs.Prelude.{reverse}
+use Rattle.std.proofs.lemmas.Result.{on_ok_weaker}
+use Rattle.nz_machine.specs.World.{World}
+use Rattle.nz_machine.specs.Tellings.{AreNoted}
+use Rattle.nz_machine.specs.declared.event.Record.{Record}
+use Rattle.nz_fabric.specs.States.{State, records_of}
+use Rattle.nz_fabric.proofs.Held.{all_records}
+use Rattle.nz_fabric.proofs.alone.Alone.note.Goals as goal
+
+pub returns : goal.returns
+returns c =
+    let f = c.self.inside in
+    let s = c.args.self.now in
+    let rest = c.self.invariant.1 in
+    let all : reverse f.run ≡ records_of s = sym (all_records f.before f.run) ∙ ap records_of c.self.view_is in
+    let place : f.gone + (f.before - f.gone) ≡ f.before = (let le = rest.finished in omega (arith, le)) in
+    let finished : reverse (take (f.gone + (f.before - f.gone)) f.run) ≡ s.finished =
+    ap (λ (n : ℕ). reverse (take n f.run)) place ∙ ap (λ (s : State). s.finished) c.self.view_is in
+    on_ok_weaker c.read.result (λ e g world noted.
+    subst (λ (J : List Record). AreNoted g J c.read.new.self) all
+    (e g f.run (subst (World g) (sym all) world) rest.rest (subst (λ (J : List Record). AreNoted g J c.args.notes.now) (sym finished) noted)))
+    c.read.ensures

@@ -1,0 +1,18 @@
+-- What the function of this folder owes, proved.
+use Rattle.std.proofs.Common.{◌+◌, sym, ◌∙◌}
+use Rattle.std.proofs.lemmas.Result.{on_ok_weaker}
+use Rattle.nz_machine.proofs.TellingsOfRuns.{next_told, silent_told, rest_at, rest_within}
+use Rattle.nz_machine.proofs.tellings.Notes.read_at.Goals as goal
+
+pub returns-in-Some : goal.returns-in-Some
+returns-in-Some c = on_ok_weaker c.read_next.result (λ reads g run w is h.
+    let at = sym (rest_at run c.args.records.now.records c.args.gone c.args.place is) ∙ c.in-Some.ensures in
+    next_told g run (c.args.gone + c.args.place) c.in-Some.next.now c.args.self.now.clients c.read_next.new.self.clients
+    c.args.self.now.told c.read_next.new.self.told w at h (λ J v count told. reads g J v count told)) c.read_next.ensures
+
+pub returns-in-None : goal.returns-in-None
+returns-in-None c = λ g run w is h.
+    let rest = c.args.records.now.records in
+    silent_told g run (c.args.gone + c.args.place) c.args.self.now.clients c.args.self.now.told w
+    (rest_within run rest c.args.gone c.args.place is c.requires.place)
+    (λ step at. c.in-None.ensures step (rest_at run rest c.args.gone c.args.place is ∙ at)) h
