@@ -20,13 +20,18 @@ the reference and the ratio, too.
 
     bench/run.py --table PROGRAM [REFERENCE]
 
-prints the table of docs/SPEED.md: for each run by one worker the processor's least seconds and the most memory, of 25
-runs or of as many as six seconds allow, and how many records it has. With a REFERENCE the same of that program, too.
+prints the table of docs/SPEED.md: for each call by one worker the processor's seconds, the most memory and the page faults,
+medians of nine calls, and the instructions, in millions. With a REFERENCE, which takes turns, also its seconds, and how many
+times as long and as many instructions ours takes. Instructions are counted by `perf`, or by `valgrind` where the machine
+does not count them for `perf`; without either there is a dash.
 """
 import math
 import os
+import re
+import shutil
 import signal
 import statistics
+import subprocess
 import sys
 import tempfile
 import time
@@ -99,6 +104,15 @@ def crashes(requests, ticks, count):
         tick = 20 + k * (ticks - 40) // count
         lines += [f"crash r{k % 5} {tick}", f"restart r{k % 5} {tick + 3}"]
     return scenario(2, 2, 16, ticks, puts(16, requests, "v{}"), lines)
+
+
+def restarts(requests, ticks, count):
+    """One of three replicas, which does not lead the first view, crashes again and again, and restarts three ticks later."""
+    lines = []
+    for k in range(count):
+        tick = 20 + k * (ticks - 60) // count
+        lines += [f"crash r1 {tick}", f"restart r1 {tick + 3}"]
+    return scenario(1, 1, 4, ticks, puts(4, requests, "v{}"), lines)
 
 
 def faulty(requests, ticks, count):
@@ -252,51 +266,67 @@ def side_by_side(program, reference):
 
 
 def table_rows():
+    """Each row: its name, the words of the call, and its input."""
     with open(f"{HERE}/../scenarios/put_then_get") as it:
-        yield "a put and a get", it.read()
-    yield "`gen 7 2000`", drawn(7, 2000)
-    yield "nine replicas, 64 clients, 1,000 requests, 2,000 ticks", even(4, 8, 64, 1000, 2000)
-    yield "100 requests in 20,000 ticks", even(1, 1, 4, 100, 20000)
-    yield "1,000 fault lines, 200 requests", faulty(200, 1000, 1000)
-    yield "1,990 requests of 256 bytes, 100 alarms", storm(1990, 1000, 10)
-    yield "500 requests, 100 crashes and restarts", crashes(500, 4000, 100)
-    yield "64 clients, window 16, 2,000 requests", even(2, 2, 64, 2000, 1000, 16)
+        yield "a put and a get", ["run"], it.read()
+    nine, idle = even(4, 8, 64, 1000, 2000), even(1, 1, 4, 100, 20000)
+    yield "`gen 7 2000`", ["run"], drawn(7, 2000)
+    yield "nine replicas, 64 clients, 1,000 requests, 2,000 ticks", ["run"], nine
+    yield "100 requests in 20,000 ticks", ["run"], idle
+    yield "1,000 fault lines, 200 requests", ["run"], faulty(200, 1000, 1000)
+    yield "1,990 requests of 256 bytes, 100 alarms", ["run"], storm(1990, 1000, 10)
+    yield "500 requests, 100 crashes and restarts", ["run"], crashes(500, 4000, 100)
+    yield "500 restarts of one replica, 200 requests", ["run"], restarts(200, 10000, 500)
+    yield "50 restarts of one replica, 2,000 requests", ["run"], restarts(2000, 1000, 50)
+    yield "64 clients, window 16, 2,000 requests", ["run"], even(2, 2, 64, 2000, 1000, 16)
+    for command in (["pace"], ["peek", "r1", "k1"], ["locks"], ["story"]):
+        yield f"`{command[0]}`, nine replicas", command, nine
+        yield f"`{command[0]}`, 20,000 ticks", command, idle
+    yield "`peek`, 500 restarts", ["peek", "r1", "k1"], restarts(200, 10000, 500)
+    yield "`peek`, 50 restarts", ["peek", "r1", "k1"], restarts(2000, 1000, 50)
 
 
-def least(program, text):
-    """The least seconds of a processor in 25 runs, or in as many as six seconds allow, and the most memory of any in MiB."""
-    runs = [spent(program, text)]
-    while len(runs) < 25 and sum(run[0] for run in runs) < 6:
-        runs.append(spent(program, text))
-    return min(run[0] for run in runs), max(run[1] for run in runs)
-
-
-def spent(program, text):
-    """The processor's seconds of a run, and the most memory in MiB."""
+def spent(program, words, text):
+    """The processor's seconds of a call, the most memory in MiB, and the page faults."""
     with opened(text) as given, open(os.devnull, "wb") as made:
-        _, status, used = os.wait4(begun(program, ["run"], given, made), 0)
+        _, status, used = os.wait4(begun(program, words, given, made), 0)
         if os.waitstatus_to_exitcode(status) != 0:
-            sys.exit(f"{program} ended with status {os.waitstatus_to_exitcode(status)}")
-        return used.ru_utime + used.ru_stime, used.ru_maxrss / 1024
+            sys.exit(f"{program} {' '.join(words)} ended with status {os.waitstatus_to_exitcode(status)}")
+        return used.ru_utime + used.ru_stime, used.ru_maxrss / 1024, used.ru_minflt
 
 
-def records(program, text):
-    """How many records a run has: the lines of its trace before the text."""
-    with opened(text) as given, tempfile.TemporaryFile() as made:
-        os.waitpid(begun(program, ["trace"], given, made), 0)
-        made.seek(0)
-        return made.read().split(b"text\n", 1)[0].count(b"\n")
+def counted(program, words, text):
+    """The millions of instructions of a call, None where nothing here counts them."""
+    with tempfile.TemporaryDirectory() as room:
+        counters = [["perf", "stat", "-x", ",", "-e", "instructions:u"], ["valgrind", "--tool=callgrind", f"--callgrind-out-file={room}/out"]]
+        for counter, shown in zip(counters, (r"^(\d+),", r"Collected : (\d+)")):
+            if shutil.which(counter[0]):
+                with opened(text) as given:
+                    how = {"stdin": given, "stdout": subprocess.DEVNULL, "stderr": subprocess.PIPE, "text": True}
+                    found = re.search(shown, subprocess.run([*counter, program, *words], **how).stderr, re.MULTILINE)
+                if found:
+                    return int(found[1]) / 1e6
+    return None
+
+
+def medians(runs):
+    """Of each measure of the runs its median."""
+    return [statistics.median(column) for column in zip(*runs)]
 
 
 def table(program, reference=None):
-    heads = ["run", "seconds", "MiB", "records"] + ["the other, s", "times", "MiB"] * (reference is not None)
+    heads = ["run", "seconds", "MiB", "page faults", "10^6 instructions"]
+    heads += ["the other, s", "times", "times, instructions"] * (reference is not None)
     print("| " + " | ".join(heads) + " |\n" + "|---" * len(heads) + "|")
-    for name, text in table_rows():
-        seconds, memory = least(program, text)
-        cells = [name, f"{seconds:.3f}", f"{memory:.0f}", f"{records(program, text):,}"]
+    programs = [it for it in (program, reference) if it]
+    for name, words, text in table_rows():
+        rounds = [[spent(it, words, text) for it in programs] for _ in range(9)]
+        (seconds, memory, faults), *other = [medians(runs) for runs in zip(*rounds)]
+        count, *other_count = [counted(it, words, text) for it in programs]
+        cells = [name, f"{seconds:.3f}", f"{memory:.0f}", f"{faults:,.0f}", f"{count:,.0f}" if count else "-"]
         if reference:
-            other, other_memory = least(reference, text)
-            cells += [f"{other:.3f}", f"{seconds / other:.1f}", f"{other_memory:.0f}"]
+            ratio = f"{count / other_count[0]:.2f}" if count and other_count[0] else "-"
+            cells += [f"{other[0][0]:.3f}", f"{seconds / other[0][0]:.2f}", ratio]
         print("| " + " | ".join(cells) + " |", flush=True)
 
 

@@ -42,7 +42,8 @@ impl Keeping for Journal {
     }
 }
 
-/// A journal whose records are not in memory: the proofs alone know them.
+/// A journal whose records are not in memory: the proofs alone know them. If they were, their memory is given back when the
+/// process ends, and not before.
 #[derive(Drop)]
 pub struct Unkept {
     pub scenario: Scenario,

@@ -2,9 +2,8 @@
 ghost use Rattle.std.specs.Prelude.{◌≡◌, ◌≤◌, ◌⊎◌, [], IfOk, IfErr, IfSome, OnOk, Some};
 ghost use Rattle.nz_edge.specs.Faults.{Rose};
 ghost use Rattle.nz_edge.specs.Exposed.{Gains};
-ghost use Rattle.nz_machine.specs.Journals.{group_in, run_in};
+ghost use Rattle.nz_machine.specs.Journals.{run_in};
 ghost use Rattle.nz_machine.specs.Schedule.{IsPlayable, InOrder};
-ghost use Rattle.nz_replica.specs.Models.{AreCores};
 ghost use Rattle.nz_top.specs.declared.status.Status.TheVariants as status;
 ghost use Rattle.nz_top.specs.declared.words.Play.{Play as PlayModel};
 ghost use Rattle.nz_top.specs.declared.playing.NoScenario.TheVariants as whys;
@@ -147,7 +146,20 @@ fn print_kept<K: Keeping, R: Threads + Wait + Sync, G: Gate + Sync>(
     Ok((bytes, K::of(journal)))
 }
 
-/// The same, with no record in memory where that serves the caller and is likely to do. None where it was not done.
+/// Where so many ticks have one request, hardly a tick has enough to do for several workers.
+const TICKS_OF_A_REQUEST: u32 = 8;
+
+/// Whether several workers may be sooner done than one. Either answer is right.
+fn may_be_shared(scenario: &Scenario) -> bool {
+    let mut requests: u32 = 0;
+    for script in scenario.scripts.as_slice() {
+        requests = requests.saturating_add(script.len());
+    }
+    scenario.ticks < requests.saturating_mul(TICKS_OF_A_REQUEST)
+}
+
+/// The same, by one worker and with no record in memory, where that serves the caller and is likely to do. None where it was
+/// not done.
 fn print_watched<K: Keeping>(
     alloc: Global,
     play: &Play<'_>,
@@ -156,7 +168,8 @@ fn print_watched<K: Keeping>(
     requires playable { IsPlayable scenario.now }
     ensures { IfOk result (λ o. IfSome o (λ printed. IsAnswered play.now scenario.now (K.journal printed.1) printed.0)) }
 {
-    if K::wants_records() || play.workers > 1 || play.report.may_need_records(scenario) {
+    let is_shared = play.workers > 1 && may_be_shared(scenario);
+    if K::wants_records() || is_shared || play.report.may_need_records(scenario) {
         return Ok(None);
     }
     let Some((bytes, unkept)) = print_unkept(alloc, &play.report, scenario)? else {

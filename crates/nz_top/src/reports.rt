@@ -181,18 +181,31 @@ fn told_tenures(
     Ok(Some(headed(alloc, head, text(alloc, scenario, told, &history)?)?))
 }
 
-/// Whether replicas may leave the first view: its leader crashes or is cut off, a replica is alarmed, or one stays down.
+/// Whether the block may keep the leader of the first view from a replica for as long as a replica waits for it.
+fn may_hide(leader: Actor, from: Option<Actor>, to: Option<Actor>, first: u32, last: u32) -> bool {
+    let ticks = last.saturating_sub(first).saturating_add(2);
+    from.is_none_or(|from| from.is(&leader))
+        && to.is_none_or(|to| matches!(to, Actor::Replica(_)))
+        && ticks >= u32::from(MAX_QUIET)
+}
+
+/// Whether replicas may leave the first view, or one of them may not be up at the end: the leader crashes or is hidden, a
+/// replica is alarmed, or there are more crashes of replicas than restarts.
 fn may_leave_first_view(scenario: &Scenario) -> bool {
     let leader = Actor::Replica(scenario.cluster.leader(0));
     let mut down: u32 = 0;
     for fault in scenario.faults.as_slice() {
         match fault {
-            Fault::Alarm { .. } => return true,
-            Fault::Crash { actor, .. } if actor.is(&leader) => return true,
-            Fault::Block { first, last, .. }
-                if last.saturating_sub(*first) >= u32::from(MAX_QUIET) => {
+            Fault::Alarm { tick, .. } if *tick <= scenario.ticks => return true,
+            Fault::Crash { actor, tick } if actor.is(&leader) && *tick <= scenario.ticks => {
                 return true;
             }
+            Fault::Block {
+                from,
+                to,
+                first,
+                last,
+            } if may_hide(leader, *from, *to, *first, *last) => return true,
             Fault::Crash {
                 actor: Actor::Replica(_),
                 ..

@@ -1,0 +1,43 @@
+#!/usr/bin/env python3
+"""Whether runs whose records nobody reads keep none in memory.
+
+    bench/memory.py PROGRAM
+
+plays 100 requests in 20,000 ticks by one worker, with 6 MiB of memory for data. The commands that read no record of a
+finished tick have to end with status 0. `trace` shows all records, and has to end with status 6: so the limit would tell.
+The status is 0 where each ended so.
+"""
+import os
+import resource
+import sys
+
+from run import even, opened
+
+LIMIT = 6 << 20
+ENDS = {"run": 0, "pace": 0, "peek r1 k1": 0, "locks": 0, "trace": 6}
+
+
+def status_of(program, words, text):
+    """The status of a call that has so much memory for data."""
+    with opened(text) as given:
+        child = os.fork()
+        if child == 0:
+            os.dup2(given.fileno(), 0)
+            os.dup2(os.open(os.devnull, os.O_WRONLY), 1)
+            resource.setrlimit(resource.RLIMIT_DATA, (LIMIT, LIMIT))
+            os.execv(program, [program, *words])
+        return os.waitstatus_to_exitcode(os.waitpid(child, 0)[1])
+
+
+def main():
+    program, text = os.path.abspath(sys.argv[1]), even(1, 1, 4, 100, 20000)
+    wrong = 0
+    for words, wanted in ENDS.items():
+        status = status_of(program, words.split(), text)
+        print(f"{words}: status {status}" + (f", and not {wanted}" if status != wanted else ""))
+        wrong += status != wanted
+    sys.exit(wrong > 0)
+
+
+if __name__ == "__main__":
+    main()
