@@ -9,24 +9,24 @@ The status is 0 where each ended so.
 """
 import os
 import resource
+import subprocess
 import sys
 
-from run import even, opened
+from run import even
 
 LIMIT = 6 << 20
 ENDS = {"run": 0, "pace": 0, "peek r1 k1": 0, "locks": 0, "trace": 6}
 
 
+def limit():
+    """Gives the process so much memory for data."""
+    resource.setrlimit(resource.RLIMIT_DATA, (LIMIT, LIMIT))
+
+
 def status_of(program, words, text):
     """The status of a call that has so much memory for data."""
-    with opened(text) as given:
-        child = os.fork()
-        if child == 0:
-            os.dup2(given.fileno(), 0)
-            os.dup2(os.open(os.devnull, os.O_WRONLY), 1)
-            resource.setrlimit(resource.RLIMIT_DATA, (LIMIT, LIMIT))
-            os.execv(program, [program, *words])
-        return os.waitstatus_to_exitcode(os.waitpid(child, 0)[1])
+    how = {"input": text.encode(), "stdout": subprocess.DEVNULL, "preexec_fn": limit}
+    return subprocess.run([program, *words], **how).returncode
 
 
 def main():

@@ -97,22 +97,23 @@ def storm(requests, ticks, period):
     return scenario(2, 2, 16, ticks, puts(16, requests, LONG), alarms)
 
 
-def crashes(requests, ticks, count):
-    """One of five replicas after another crashes, and restarts three ticks later."""
+def restart_lines(replicas, ticks, count):
+    """Again and again the next of these replicas crashes, and restarts three ticks later."""
     lines = []
     for k in range(count):
-        tick = 20 + k * (ticks - 40) // count
-        lines += [f"crash r{k % 5} {tick}", f"restart r{k % 5} {tick + 3}"]
-    return scenario(2, 2, 16, ticks, puts(16, requests, "v{}"), lines)
+        replica, tick = replicas[k % len(replicas)], 20 + k * (ticks - 40) // count
+        lines += [f"crash r{replica} {tick}", f"restart r{replica} {tick + 3}"]
+    return lines
+
+
+def crashes(requests, ticks, count):
+    """One of five replicas after another crashes and restarts."""
+    return scenario(2, 2, 16, ticks, puts(16, requests, "v{}"), restart_lines(range(5), ticks, count))
 
 
 def restarts(requests, ticks, count):
-    """One of three replicas, which does not lead the first view, crashes again and again, and restarts three ticks later."""
-    lines = []
-    for k in range(count):
-        tick = 20 + k * (ticks - 60) // count
-        lines += [f"crash r1 {tick}", f"restart r1 {tick + 3}"]
-    return scenario(1, 1, 4, ticks, puts(4, requests, "v{}"), lines)
+    """One of three replicas, which does not lead the first view, crashes and restarts again and again."""
+    return scenario(1, 1, 4, ticks, puts(4, requests, "v{}"), restart_lines([1], ticks, count))
 
 
 def faulty(requests, ticks, count):
@@ -270,20 +271,22 @@ def table_rows():
     with open(f"{HERE}/../scenarios/put_then_get") as it:
         yield "a put and a get", ["run"], it.read()
     nine, idle = even(4, 8, 64, 1000, 2000), even(1, 1, 4, 100, 20000)
+    often, seldom = restarts(200, 10000, 500), restarts(2000, 1000, 50)
+    peek = ["peek", "r1", "k1"]
     yield "`gen 7 2000`", ["run"], drawn(7, 2000)
     yield "nine replicas, 64 clients, 1,000 requests, 2,000 ticks", ["run"], nine
     yield "100 requests in 20,000 ticks", ["run"], idle
     yield "1,000 fault lines, 200 requests", ["run"], faulty(200, 1000, 1000)
     yield "1,990 requests of 256 bytes, 100 alarms", ["run"], storm(1990, 1000, 10)
     yield "500 requests, 100 crashes and restarts", ["run"], crashes(500, 4000, 100)
-    yield "500 restarts of one replica, 200 requests", ["run"], restarts(200, 10000, 500)
-    yield "50 restarts of one replica, 2,000 requests", ["run"], restarts(2000, 1000, 50)
+    yield "500 restarts of one replica, 200 requests", ["run"], often
+    yield "50 restarts of one replica, 2,000 requests", ["run"], seldom
     yield "64 clients, window 16, 2,000 requests", ["run"], even(2, 2, 64, 2000, 1000, 16)
-    for command in (["pace"], ["peek", "r1", "k1"], ["locks"], ["story"]):
+    for command in (["pace"], peek, ["locks"], ["story"]):
         yield f"`{command[0]}`, nine replicas", command, nine
         yield f"`{command[0]}`, 20,000 ticks", command, idle
-    yield "`peek`, 500 restarts", ["peek", "r1", "k1"], restarts(200, 10000, 500)
-    yield "`peek`, 50 restarts", ["peek", "r1", "k1"], restarts(2000, 1000, 50)
+    yield "`peek`, 500 restarts", peek, often
+    yield "`peek`, 50 restarts", peek, seldom
 
 
 def spent(program, words, text):
