@@ -1,7 +1,7 @@
 //! What runs give beside their journals.
 ghost use Rattle.std.specs.Prelude.{◌<◌, ◌≤◌, IfOk};
 ghost use Rattle.nz_base.specs.declared.limits.TheConstants.{MAX_WORKERS};
-ghost use Rattle.nz_machine.specs.Schedule.{IsPlayable};
+ghost use Rattle.nz_machine.specs.runs.Schedule.{IsPlayable};
 
 use crate::cases::Case;
 use crate::report::{Stop, print_line};

@@ -6,10 +6,10 @@ use Rattle.nz_base.specs.declared.actor.Actor.{Actor}
 use Rattle.nz_machine.specs.declared.event.Event.{Event}
 use Rattle.nz_machine.specs.declared.event.Parcel.{Parcel}
 use Rattle.nz_machine.specs.declared.event.Record.{Record}
-use Rattle.nz_machine.specs.State.{Group}
-use Rattle.nz_machine.specs.Step.{Node, first_node, node_run}
-use Rattle.nz_machine.specs.World.{state_after}
-use Rattle.nz_machine.proofs.Runs.{acts_itself}
+use Rattle.nz_machine.specs.rules.State.{Group}
+use Rattle.nz_machine.specs.rules.Step.{Node, first_node, node_run}
+use Rattle.nz_machine.specs.runs.World.{state_after}
+use Rattle.nz_machine.proofs.runs.Runs.{acts_itself}
 use Rattle.nz_fabric.specs.declared.batch.Batch.{Batch}
 use Rattle.nz_fabric.specs.Records.{ActorSteps, with_step}
 use Rattle.nz_fabric.specs.Shared.{Shared, next_item, next_record}

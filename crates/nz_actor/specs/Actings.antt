@@ -1,8 +1,8 @@
 -- What contracts see of an actor's state, and what it keeps.
 use Rattle.std.specs.Prelude.{◌≡◌, ℕ, Bool, true, false, List}
 use Rattle.nz_machine.specs.declared.event.Parcel.{Parcel}
-use Rattle.nz_machine.specs.State.{Group}
-use Rattle.nz_machine.specs.Step.{Node}
+use Rattle.nz_machine.specs.rules.State.{Group}
+use Rattle.nz_machine.specs.rules.Step.{Node}
 use Rattle.nz_fabric.specs.declared.batch.Batch.{Batch}
 use Rattle.nz_fabric.specs.Records.{ActorSteps, with_step}
 use Rattle.nz_fabric.specs.Shared.{Shared, next_item, next_record}

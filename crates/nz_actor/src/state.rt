@@ -1,8 +1,8 @@
 //! An actor's core with what the actor knows of its records.
 
 ghost use Rattle.std.specs.Prelude.{◌≡◌, ◌↔◌, ◌<◌, ℕ, [], true, false, IfSome, IsTrue, MatchBool};
-ghost use Rattle.nz_machine.specs.Schedule.{group_of};
-ghost use Rattle.nz_machine.specs.Step.{first_node};
+ghost use Rattle.nz_machine.specs.runs.Schedule.{group_of};
+ghost use Rattle.nz_machine.specs.rules.Step.{first_node};
 ghost use Rattle.nz_fabric.specs.Records.{steps_of};
 ghost use Rattle.nz_fabric.specs.Shared.{with_record, ClosesAndTakes, ClosesBatch, IsGivenUp};
 ghost use Rattle.nz_fabric.specs.Shared.{next_item, with_next, with_stop, HasNext};
@@ -30,7 +30,7 @@ pub struct ActorState<N: Name, C: Core> {
 }
 
 impl<N: Name, C: Core> Model for ActorState<N, C> {
-    ghost use Rattle.nz_machine.specs.Schedule.{group_of};
+    ghost use Rattle.nz_machine.specs.runs.Schedule.{group_of};
     ghost use Rattle.nz_actor.specs.Actings.{Acting, IsActing};
 
     ghost Value = { Acting };

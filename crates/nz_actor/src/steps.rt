@@ -1,7 +1,7 @@
 //! Several steps of a core.
 
 ghost use Rattle.std.specs.Prelude.{◌≡◌, true, IfOk, OnOk};
-ghost use Rattle.nz_machine.specs.State.{Group};
+ghost use Rattle.nz_machine.specs.rules.State.{Group};
 ghost use Rattle.nz_fabric.specs.Steps.{node_from, sends_from};
 
 use nz_base::NoMemory;

@@ -24,20 +24,20 @@ use Rattle.nz_machine.specs.declared.event.Event.TheVariants.{Deliver, Cut, Tick
 use Rattle.nz_machine.specs.declared.event.Parcel.{Parcel}
 use Rattle.nz_machine.specs.declared.event.Record.{Record}
 use Rattle.nz_machine.specs.declared.journal.Journal.{Journal}
-use Rattle.nz_machine.specs.Journals.{group_in, run_in}
+use Rattle.nz_machine.specs.journals.Journals.{group_in, run_in}
 use Rattle.nz_machine.specs.declared.client_progress.Acceptance.{Acceptance}
-use Rattle.nz_machine.specs.State.{ClientData, Group}
-use Rattle.nz_machine.specs.Step.{accepted_envelope, envelope_step, event_step, script_of}
-use Rattle.nz_machine.specs.World.{state_after, Has, World, IsMember}
-use Rattle.nz_machine.specs.Leading.{lead}
-use Rattle.nz_machine.specs.Events.{ClientEvent, Accepted, id_at, read_in, accepted_in, accepted_by, sent_after, sent_by, client_events, events}
-use Rattle.nz_machine.specs.ClientProgress.{acceptance_events, request_events}
-use Rattle.nz_machine.specs.History.{ReplySource, source, log_at, cut_after, source_of_sender, accepted_source}
-use Rattle.nz_machine.specs.History.{prefix_at_source, accepted_prefix, entries_or, prefix_in, longer, history}
-use Rattle.nz_machine.proofs.EachItem.{all_append}
-use Rattle.nz_machine.proofs.Moments.{at_world}
-use Rattle.nz_machine.proofs.Runs.{acts_itself}
-use Rattle.nz_machine.proofs.Accepting.{client_accepts}
+use Rattle.nz_machine.specs.rules.State.{ClientData, Group}
+use Rattle.nz_machine.specs.rules.Step.{accepted_envelope, envelope_step, event_step, script_of}
+use Rattle.nz_machine.specs.runs.World.{state_after, Has, World, IsMember}
+use Rattle.nz_machine.specs.runs.Leading.{lead}
+use Rattle.nz_machine.specs.runs.Events.{ClientEvent, Accepted, id_at, read_in, accepted_in, accepted_by, sent_after, sent_by, client_events, events}
+use Rattle.nz_machine.specs.journals.ClientProgress.{acceptance_events, request_events}
+use Rattle.nz_machine.specs.runs.History.{ReplySource, source, log_at, cut_after, source_of_sender, accepted_source}
+use Rattle.nz_machine.specs.runs.History.{prefix_at_source, accepted_prefix, entries_or, prefix_in, longer, history}
+use Rattle.nz_machine.proofs.lists.EachItem.{all_append}
+use Rattle.nz_machine.proofs.runs.Moments.{at_world}
+use Rattle.nz_machine.proofs.runs.Runs.{acts_itself}
+use Rattle.nz_machine.proofs.journals.Accepting.{client_accepts}
 use Rattle.nz_laws_commit.specs.Present.{AreUpWithin}
 use Rattle.nz_laws_commit.proofs.Accepted.{same_parcel, gives}
 use Rattle.nz_laws_commit.proofs.ClientEvents.{told_accepted}

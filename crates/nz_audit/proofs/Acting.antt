@@ -19,15 +19,15 @@ use Rattle.nz_machine.specs.declared.event.Event.TheVariants.{Deliver, Cut, Tick
 use Rattle.nz_machine.specs.declared.event.Parcel.{Parcel}
 use Rattle.nz_machine.specs.declared.event.Record.{Record}
 use Rattle.nz_machine.specs.declared.journal.Journal.{Journal}
-use Rattle.nz_machine.specs.Journals.{group_in}
-use Rattle.nz_machine.specs.State.{ProxyData, Standing, Open, Decided, Group}
+use Rattle.nz_machine.specs.journals.Journals.{group_in}
+use Rattle.nz_machine.specs.rules.State.{ProxyData, Standing, Open, Decided, Group}
 use Rattle.nz_machine.specs.declared.reply.Reply.{Reply}
-use Rattle.nz_machine.specs.Quorums.{reply_eq}
-use Rattle.nz_machine.specs.Proxies.{standing_of, of_fast, of_slow}
-use Rattle.nz_machine.specs.Step.{accepted_envelope}
-use Rattle.nz_machine.specs.World.{state_after, World}
-use Rattle.nz_machine.specs.History.{standing_after, source_of_sender, is_decided, source_at_decision}
-use Rattle.nz_machine.proofs.Runs.{stays}
+use Rattle.nz_machine.specs.rules.Quorums.{reply_eq}
+use Rattle.nz_machine.specs.rules.Proxies.{standing_of, of_fast, of_slow}
+use Rattle.nz_machine.specs.rules.Step.{accepted_envelope}
+use Rattle.nz_machine.specs.runs.World.{state_after, World}
+use Rattle.nz_machine.specs.runs.History.{standing_after, source_of_sender, is_decided, source_at_decision}
+use Rattle.nz_machine.proofs.runs.Runs.{stays}
 use Rattle.nz_audit.specs.declared.source.Source.{Source}
 use Rattle.nz_audit.specs.declared.noting.Notes.{Notes}
 use Rattle.nz_audit.specs.declared.noting.Noted.{Noted}

@@ -15,15 +15,15 @@ use Rattle.nz_machine.specs.declared.event.Event.TheVariants.{Deliver, Cut, Tick
 use Rattle.nz_machine.specs.declared.event.Parcel.{Parcel}
 use Rattle.nz_machine.specs.declared.event.Record.{Record}
 use Rattle.nz_machine.specs.declared.reply.Reply.{Reply}
-use Rattle.nz_machine.specs.State.{ProxyData, Group, Out}
-use Rattle.nz_machine.specs.Quorums.{answer_in}
-use Rattle.nz_machine.specs.Proxies.{standing_of, of_fast, of_slow, clock_rule, first_proxy}
-use Rattle.nz_machine.specs.Step.{proxy_message, accepted_envelope, envelope_step, event_step, parcel, node_step}
-use Rattle.nz_machine.specs.World.{state_after, sent_in, Has, MayHappen, World}
-use Rattle.nz_machine.specs.Events.{read_in}
-use Rattle.nz_machine.specs.History as history
-use Rattle.nz_machine.specs.History.{standing_after, reply_in, reply_read, parcel_in, parcel_delivered, source_of}
-use Rattle.nz_machine.proofs.Runs.{acts_itself}
+use Rattle.nz_machine.specs.rules.State.{ProxyData, Group, Out}
+use Rattle.nz_machine.specs.rules.Quorums.{answer_in}
+use Rattle.nz_machine.specs.rules.Proxies.{standing_of, of_fast, of_slow, clock_rule, first_proxy}
+use Rattle.nz_machine.specs.rules.Step.{proxy_message, accepted_envelope, envelope_step, event_step, parcel, node_step}
+use Rattle.nz_machine.specs.runs.World.{state_after, sent_in, Has, MayHappen, World}
+use Rattle.nz_machine.specs.runs.Events.{read_in}
+use Rattle.nz_machine.specs.runs.History as history
+use Rattle.nz_machine.specs.runs.History.{standing_after, reply_in, reply_read, parcel_in, parcel_delivered, source_of}
+use Rattle.nz_machine.proofs.runs.Runs.{acts_itself}
 use Rattle.nz_audit.specs.declared.source.Source.{Source}
 use Rattle.nz_audit.specs.Sources.{in_numbers, about, IsNoOther, stands_for}
 use Rattle.nz_audit.specs.Noting.{noted_after_request, noted_by, source_if_answer, after_message, after_envelope, after_event, down_after}

@@ -9,8 +9,8 @@ use Rattle.nz_store.proofs.Turns.{reply-append, replies-push, slice_get-replies,
 use Rattle.nz_store.specs.Entries.{empty}
 use Rattle.nz_store.specs.declared.command.Answer.{Answer}
 use Rattle.nz_machine.specs.declared.journal.Executed.{Executed}
-use Rattle.nz_machine.specs.Replicas.{commands}
-use Rattle.nz_machine.specs.Journals.{executed_if_answered, executed_from, executed_entries}
+use Rattle.nz_machine.specs.rules.Replicas.{commands}
+use Rattle.nz_machine.specs.journals.Journals.{executed_if_answered, executed_from, executed_entries}
 
 commands_of : (es : List Entry) (e : Entry) → commands (es ++ e ∷ []) ≡ commands es ++ e.command ∷ []
 commands_of es e = map-append (λ (x : Entry). x.command) es (e ∷ [])

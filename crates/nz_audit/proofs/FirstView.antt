@@ -12,11 +12,11 @@ use Rattle.nz_base.specs.declared.key.Entry.{Entry}
 use Rattle.nz_base.proofs.Booleans.{true_and_false}
 use Rattle.nz_machine.specs.declared.event.Record.{Record}
 use Rattle.nz_machine.specs.declared.journal.Journal.{Journal}
-use Rattle.nz_machine.specs.Journals.{group_in, run_in}
-use Rattle.nz_machine.specs.State.{Group}
-use Rattle.nz_machine.specs.Replicas.{is_up}
-use Rattle.nz_machine.specs.World.{state_after}
-use Rattle.nz_machine.specs.History.{cut_after, longer}
+use Rattle.nz_machine.specs.journals.Journals.{group_in, run_in}
+use Rattle.nz_machine.specs.rules.State.{Group}
+use Rattle.nz_machine.specs.rules.Replicas.{is_up}
+use Rattle.nz_machine.specs.runs.World.{state_after}
+use Rattle.nz_machine.specs.runs.History.{cut_after, longer}
 use Rattle.nz_laws_commit.specs.Present.{IsUpWithin, AreUpWithin}
 use Rattle.nz_replica.specs.Models.{ReplicaCore, IsCore, AreCores}
 use Rattle.nz_audit.specs.declared.source.AcceptedAt.{AcceptedAt}

@@ -14,13 +14,13 @@ use Rattle.nz_log.specs.Places.{place_of}
 use Rattle.nz_log.specs.Synced.{Log}
 use Rattle.nz_machine.specs.declared.event.Record.{Record}
 use Rattle.nz_machine.specs.declared.journal.Journal.{Journal}
-use Rattle.nz_machine.specs.Journals.{group_in, run_in}
-use Rattle.nz_machine.specs.State.{ReplicaData}
-use Rattle.nz_machine.specs.World.{World, Has}
-use Rattle.nz_machine.specs.History.{log_at, cut_at, cut_after, history}
-use Rattle.nz_machine.proofs.EachItem.{all_imply}
-use Rattle.nz_machine.proofs.Runs.{all_has, has_left, has_right, has_split}
-use Rattle.nz_machine.proofs.JournalPrefixes.{world_with}
+use Rattle.nz_machine.specs.journals.Journals.{group_in, run_in}
+use Rattle.nz_machine.specs.rules.State.{ReplicaData}
+use Rattle.nz_machine.specs.runs.World.{World, Has}
+use Rattle.nz_machine.specs.runs.History.{log_at, cut_at, cut_after, history}
+use Rattle.nz_machine.proofs.lists.EachItem.{all_imply}
+use Rattle.nz_machine.proofs.runs.Runs.{all_has, has_left, has_right, has_split}
+use Rattle.nz_machine.proofs.journals.JournalPrefixes.{world_with}
 use Rattle.nz_audit.specs.declared.source.AcceptedAt.{AcceptedAt}
 use Rattle.nz_audit.specs.declared.source.AcceptedAnswer.{AcceptedAnswer}
 use Rattle.nz_audit.specs.declared.source.Counted.{Counted}

@@ -19,13 +19,13 @@ use Rattle.nz_msg.specs.Envelope.{decode_of}
 use Rattle.nz_machine.specs.declared.event.Parcel.{Parcel}
 use Rattle.nz_machine.specs.declared.event.Record.{Record}
 use Rattle.nz_machine.specs.declared.reply.Reply.{Reply}
-use Rattle.nz_machine.specs.State.{Group}
-use Rattle.nz_machine.specs.Quorums.{answer_in}
-use Rattle.nz_machine.specs.Proxies.{of_fast, of_slow}
-use Rattle.nz_machine.specs.Step.{is_in_cluster, is_sized, message_vector, is_for, envelope_if_for, envelope_for, if_from_cluster, accepted_envelope}
-use Rattle.nz_machine.specs.World.{sent_in, Has}
-use Rattle.nz_machine.specs.History.{reply_in, source, source_of}
-use Rattle.nz_machine.proofs.Sources.{has_source, source_stays}
+use Rattle.nz_machine.specs.rules.State.{Group}
+use Rattle.nz_machine.specs.rules.Quorums.{answer_in}
+use Rattle.nz_machine.specs.rules.Proxies.{of_fast, of_slow}
+use Rattle.nz_machine.specs.rules.Step.{is_in_cluster, is_sized, message_vector, is_for, envelope_if_for, envelope_for, if_from_cluster, accepted_envelope}
+use Rattle.nz_machine.specs.runs.World.{sent_in, Has}
+use Rattle.nz_machine.specs.runs.History.{reply_in, source, source_of}
+use Rattle.nz_machine.proofs.runs.Sources.{has_source, source_stays}
 use Rattle.nz_audit.specs.declared.source.Source.{Source}
 use Rattle.nz_audit.specs.Sources.{numbers_of, in_numbers, about_message, about_envelope, about, IsNoOther, source_sent, stands_for}
 

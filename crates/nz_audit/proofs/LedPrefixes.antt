@@ -23,19 +23,19 @@ use Rattle.nz_msg.proofs.Envelopes.{decode-encode}
 use Rattle.nz_machine.specs.declared.event.Parcel.{Parcel}
 use Rattle.nz_machine.specs.declared.event.Record.{Record}
 use Rattle.nz_machine.specs.declared.reply.Reply.{Reply}
-use Rattle.nz_machine.specs.Hearing.{heard_at}
-use Rattle.nz_machine.specs.Quorums.{view_of, is_of_leader}
-use Rattle.nz_machine.specs.Replicas.{is_normal, leads_view}
-use Rattle.nz_machine.specs.Shows.{Shows, ShowsFast}
-use Rattle.nz_machine.specs.State.{ReplicaData, Group}
-use Rattle.nz_machine.specs.Step.{envelope_for}
-use Rattle.nz_machine.specs.World.{state_after, Has, World}
-use Rattle.nz_machine.specs.History.{ReplySource, cut_after, prefix_at_source}
-use Rattle.nz_machine.specs.Leading.{is_normal_in, leader_at, is_led, lead}
-use Rattle.nz_machine.proofs.Moments.{at_world}
-use Rattle.nz_machine.proofs.ReadShows.{fits_here}
-use Rattle.nz_machine.proofs.Runs.{sent_by}
-use Rattle.nz_machine.proofs.SentMessages.{shown}
+use Rattle.nz_machine.specs.runs.Hearing.{heard_at}
+use Rattle.nz_machine.specs.rules.Quorums.{view_of, is_of_leader}
+use Rattle.nz_machine.specs.rules.Replicas.{is_normal, leads_view}
+use Rattle.nz_machine.specs.runs.Shows.{Shows, ShowsFast}
+use Rattle.nz_machine.specs.rules.State.{ReplicaData, Group}
+use Rattle.nz_machine.specs.rules.Step.{envelope_for}
+use Rattle.nz_machine.specs.runs.World.{state_after, Has, World}
+use Rattle.nz_machine.specs.runs.History.{ReplySource, cut_after, prefix_at_source}
+use Rattle.nz_machine.specs.runs.Leading.{is_normal_in, leader_at, is_led, lead}
+use Rattle.nz_machine.proofs.runs.Moments.{at_world}
+use Rattle.nz_machine.proofs.shows.ReadShows.{fits_here}
+use Rattle.nz_machine.proofs.runs.Runs.{sent_by}
+use Rattle.nz_machine.proofs.shows.SentMessages.{shown}
 use Rattle.nz_base.specs.Moments.{At}
 use Rattle.nz_laws_commit.specs.Present.{AreUpWithin}
 use Rattle.nz_laws_commit.proofs.Accepted.{Gives}

@@ -7,10 +7,10 @@ use Rattle.std.proofs.lemmas.Bool.{cases_Bool, cond_both, eqb-false}
 use Rattle.std.proofs.lemmas.List.{map-append}
 use Rattle.nz_base.specs.declared.key.Entry.{Entry}
 use Rattle.nz_machine.specs.declared.journal.Journal.{Journal}
-use Rattle.nz_machine.specs.World.{Has}
-use Rattle.nz_machine.specs.History.{longer}
-use Rattle.nz_machine.proofs.EachItem.{all_append, all_imply}
-use Rattle.nz_machine.proofs.Runs.{has_left, has_right}
+use Rattle.nz_machine.specs.runs.World.{Has}
+use Rattle.nz_machine.specs.runs.History.{longer}
+use Rattle.nz_machine.proofs.lists.EachItem.{all_append, all_imply}
+use Rattle.nz_machine.proofs.runs.Runs.{has_left, has_right}
 use Rattle.nz_audit.specs.declared.source.AcceptedAnswer.{AcceptedAnswer}
 use Rattle.nz_audit.specs.declared.source.Counted.{Counted}
 use Rattle.nz_audit.specs.Prefixes.{prefix_for, longest_from, AreInOrder, IsNoLonger, IsBest, IsBestIfAny, comes_first, first_longest, is_shorter}

@@ -14,14 +14,14 @@ use Rattle.nz_machine.specs.declared.event.Parcel.{Parcel}
 use Rattle.nz_machine.specs.declared.event.Record.{Record}
 use Rattle.nz_machine.specs.declared.reply.Reply.{Reply}
 use Rattle.nz_machine.specs.declared.reply.Reply.TheVariants.{Fast, Slow}
-use Rattle.nz_machine.specs.State.{Group, Standing, Open, Decided}
-use Rattle.nz_machine.specs.Quorums.{Chosen, decision, answer_in, is_of_leader, reply_eq, with_note}
-use Rattle.nz_machine.specs.World.{state_after, Has}
-use Rattle.nz_machine.specs.Events.{read_in}
-use Rattle.nz_machine.specs.History.{older_or, standing_after, is_decided, decision_moment, replies_of, reply_read, with_reply_noted, noting_moment}
-use Rattle.nz_machine.specs.History.{parcel_delivered, source_of, source_of_reply, source_at_decision, source_of_sender}
-use Rattle.nz_machine.proofs.Sources.{reply_eq_self}
-use Rattle.nz_machine.proofs.Choices.{decision_is}
+use Rattle.nz_machine.specs.rules.State.{Group, Standing, Open, Decided}
+use Rattle.nz_machine.specs.rules.Quorums.{Chosen, decision, answer_in, is_of_leader, reply_eq, with_note}
+use Rattle.nz_machine.specs.runs.World.{state_after, Has}
+use Rattle.nz_machine.specs.runs.Events.{read_in}
+use Rattle.nz_machine.specs.runs.History.{older_or, standing_after, is_decided, decision_moment, replies_of, reply_read, with_reply_noted, noting_moment}
+use Rattle.nz_machine.specs.runs.History.{parcel_delivered, source_of, source_of_reply, source_at_decision, source_of_sender}
+use Rattle.nz_machine.proofs.runs.Sources.{reply_eq_self}
+use Rattle.nz_machine.proofs.facts.Choices.{decision_is}
 use Rattle.nz_audit.specs.declared.source.Source.{Source}
 use Rattle.nz_audit.specs.declared.noting.Notes.{Notes}
 use Rattle.nz_audit.specs.declared.noting.Noted.TheVariants as noted

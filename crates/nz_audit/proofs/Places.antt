@@ -6,9 +6,9 @@ use Rattle.std.specs.Option.{option_map, option_flatten}
 use Rattle.std.proofs.lemmas.List.Quantifiers.{position-Some}
 use Rattle.std.proofs.lemmas.Option.{slice_get-map, slice_get-get_or}
 use Rattle.nz_machine.specs.declared.reply.Reply.{Reply}
-use Rattle.nz_machine.specs.Quorums.{reply_eq}
-use Rattle.nz_machine.specs.World.{Has}
-use Rattle.nz_machine.proofs.Sources.{reply_eq_self, same_reply}
+use Rattle.nz_machine.specs.rules.Quorums.{reply_eq}
+use Rattle.nz_machine.specs.runs.World.{Has}
+use Rattle.nz_machine.proofs.runs.Sources.{reply_eq_self, same_reply}
 use Rattle.nz_audit.specs.declared.source.Source.{Source}
 use Rattle.nz_audit.specs.Noting.{source_at, source_among}
 

@@ -9,17 +9,17 @@ use Rattle.nz_base.specs.declared.key.Id.{Id}
 use Rattle.nz_machine.specs.declared.event.Parcel.{Parcel}
 use Rattle.nz_machine.specs.declared.event.Record.{Record}
 use Rattle.nz_machine.specs.declared.reply.Reply.{Reply}
-use Rattle.nz_machine.specs.State.{Group}
-use Rattle.nz_machine.specs.Quorums.{reply_eq}
-use Rattle.nz_machine.specs.World.{World, IsMember}
-use Rattle.nz_machine.specs.History.{ReplySource, older_or, source, standing_after, is_decided, decision_moment, replies_of, noting_moment}
-use Rattle.nz_machine.specs.History.{parcel_delivered, source_of, source_of_reply, source_at_decision, deciding_reply, source_of_sender}
-use Rattle.nz_machine.specs.History.{accepted_source}
-use Rattle.nz_machine.proofs.Runs.{sent_by}
+use Rattle.nz_machine.specs.rules.State.{Group}
+use Rattle.nz_machine.specs.rules.Quorums.{reply_eq}
+use Rattle.nz_machine.specs.runs.World.{World, IsMember}
+use Rattle.nz_machine.specs.runs.History.{ReplySource, older_or, source, standing_after, is_decided, decision_moment, replies_of, noting_moment}
+use Rattle.nz_machine.specs.runs.History.{parcel_delivered, source_of, source_of_reply, source_at_decision, deciding_reply, source_of_sender}
+use Rattle.nz_machine.specs.runs.History.{accepted_source}
+use Rattle.nz_machine.proofs.runs.Runs.{sent_by}
 use Rattle.nz_base.specs.Moments.{At}
 use Rattle.nz_base.proofs.Moments.{at_then}
-use Rattle.nz_machine.proofs.Moments.{at_world}
-use Rattle.nz_machine.proofs.Sources.{source_is}
+use Rattle.nz_machine.proofs.runs.Moments.{at_world}
+use Rattle.nz_machine.proofs.runs.Sources.{source_is}
 
 -- ---- moments
 

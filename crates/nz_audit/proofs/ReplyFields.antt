@@ -35,9 +35,9 @@ use Rattle.nz_msg.specs.declared.refusal.DecodeRefusal.{DecodeRefusal}
 use Rattle.nz_msg.proofs.Envelopes.{decode_takes}
 use Rattle.nz_machine.specs.declared.event.Parcel.{Parcel}
 use Rattle.nz_machine.specs.declared.reply.Reply.{Reply}
-use Rattle.nz_machine.specs.Proxies.{of_fast, of_slow}
-use Rattle.nz_machine.specs.Step.{is_for, envelope_if_for, envelope_for, accepted_envelope}
-use Rattle.nz_machine.specs.Events.{id_at}
+use Rattle.nz_machine.specs.rules.Proxies.{of_fast, of_slow}
+use Rattle.nz_machine.specs.rules.Step.{is_for, envelope_if_for, envelope_for, accepted_envelope}
+use Rattle.nz_machine.specs.runs.Events.{id_at}
 use Rattle.nz_audit.specs.Sources.{about_message, about_envelope, about, flag_after, is_one, shows_answer, named_id, named_num}
 use Rattle.nz_audit.specs.declared.source.Source.{Source}
 use Rattle.nz_audit.specs.declared.noting.Noted.{Noted}

@@ -3,7 +3,7 @@ use Rattle.std.proofs.Common.{◌≡◌, ℕ, ◌≤◌, List, [], ◌∷◌, �
 use Rattle.std.proofs.lemmas.List.{reverse-append, reverse-reverse, length-reverse, length-append}
 use Rattle.nz_machine.specs.declared.event.Record.{Record}
 use Rattle.nz_machine.specs.declared.journal.Journal.{Journal}
-use Rattle.nz_machine.specs.Journals.{run_in}
+use Rattle.nz_machine.specs.journals.Journals.{run_in}
 use Rattle.nz_replay.specs.Runs.{run_up_to}
 
 take_some : {X : Type 0} (xs ys : List X) → take (length xs) (xs ++ ys) ≡ xs

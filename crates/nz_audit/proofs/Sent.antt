@@ -13,15 +13,15 @@ use Rattle.nz_base.proofs.Logs.{own_in_prefix, own_filter, keys_append}
 use Rattle.nz_base.proofs.Names.{id_eq_self}
 use Rattle.nz_log.specs.Places.{place_of}
 use Rattle.nz_machine.specs.declared.event.Record.{Record}
-use Rattle.nz_machine.specs.State.{Group}
-use Rattle.nz_machine.specs.World.{state_after, World}
-use Rattle.nz_machine.specs.Events as events
-use Rattle.nz_machine.specs.Events.{ClientEvent, Sent, client_events}
-use Rattle.nz_machine.specs.ClientProgress.{acceptance_events, request_events, events_of_telling}
+use Rattle.nz_machine.specs.rules.State.{Group}
+use Rattle.nz_machine.specs.runs.World.{state_after, World}
+use Rattle.nz_machine.specs.runs.Events as events
+use Rattle.nz_machine.specs.runs.Events.{ClientEvent, Sent, client_events}
+use Rattle.nz_machine.specs.journals.ClientProgress.{acceptance_events, request_events, events_of_telling}
 use Rattle.nz_machine.specs.declared.client_progress.Acceptance.{Acceptance}
 use Rattle.nz_machine.specs.declared.client_progress.Telling.{Telling}
-use Rattle.nz_machine.specs.History.{log_at, cut_at, cut_after}
-use Rattle.nz_machine.proofs.IdCounts.{times, own_times}
+use Rattle.nz_machine.specs.runs.History.{log_at, cut_at, cut_after}
+use Rattle.nz_machine.proofs.facts.IdCounts.{times, own_times}
 use Rattle.nz_laws_commit.proofs.FactsStay.{facts_stay}
 use Rattle.nz_laws_commit.proofs.OwnCommands.{WasSent, entries_sent}
 use Rattle.nz_audit.specs.Prefixes.{requests_sent}

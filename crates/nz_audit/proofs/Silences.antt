@@ -12,10 +12,10 @@ use Rattle.nz_machine.specs.declared.event.Event.TheVariants.{Tick}
 use Rattle.nz_machine.specs.declared.event.Parcel.{Parcel}
 use Rattle.nz_machine.specs.declared.event.Record.{Record}
 use Rattle.nz_machine.specs.declared.journal.Journal.{Journal}
-use Rattle.nz_machine.specs.Journals.{group_in, run_in}
-use Rattle.nz_machine.specs.Records.{IsSilentClock, silent_clock}
-use Rattle.nz_machine.specs.State.{Group}
-use Rattle.nz_machine.specs.World.{World}
+use Rattle.nz_machine.specs.journals.Journals.{group_in, run_in}
+use Rattle.nz_machine.specs.journals.Records.{IsSilentClock, silent_clock}
+use Rattle.nz_machine.specs.rules.State.{Group}
+use Rattle.nz_machine.specs.runs.World.{World}
 use Rattle.nz_audit.specs.declared.source.Source.{Source}
 use Rattle.nz_audit.specs.declared.noting.Noted.{Noted}
 use Rattle.nz_audit.specs.declared.proxy.ProxyNotes.{ProxyNotes}

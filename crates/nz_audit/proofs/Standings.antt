@@ -8,10 +8,10 @@ use Rattle.nz_store.specs.declared.command.Answer.{Answer}
 use Rattle.nz_window.specs.Samples.{with_sample}
 use Rattle.nz_msg.specs.declared.message.RequestBody.{RequestBody}
 use Rattle.nz_machine.specs.declared.reply.Reply.{Reply}
-use Rattle.nz_machine.specs.State.{ProxyData, Standing, Open, Decided}
-use Rattle.nz_machine.specs.Quorums.{Chosen, decision, answer_in, with_note}
-use Rattle.nz_machine.specs.Proxies.{standing_of, after_stamp, stamp_rule, after_chosen_answer, after_choice, after_replica_reply, reply_rule}
-use Rattle.nz_machine.proofs.Lookups.{lookup_inserted, lookup_other}
+use Rattle.nz_machine.specs.rules.State.{ProxyData, Standing, Open, Decided}
+use Rattle.nz_machine.specs.rules.Quorums.{Chosen, decision, answer_in, with_note}
+use Rattle.nz_machine.specs.rules.Proxies.{standing_of, after_stamp, stamp_rule, after_chosen_answer, after_choice, after_replica_reply, reply_rule}
+use Rattle.nz_machine.proofs.lists.Lookups.{lookup_inserted, lookup_other}
 use Rattle.nz_audit.proofs.Memories.{standing_opened, settled_with, answer_chosen, settled, standing_noted}
 
 -- a change at one request, seen at any

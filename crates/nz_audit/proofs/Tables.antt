@@ -13,10 +13,10 @@ use Rattle.nz_machine.specs.declared.event.Event.{Event}
 use Rattle.nz_machine.specs.declared.event.Event.TheVariants.{Deliver, Cut, Tick, Alarm, Crash, Restart}
 use Rattle.nz_machine.specs.declared.event.Parcel.{Parcel}
 use Rattle.nz_machine.specs.declared.event.Record.{Record}
-use Rattle.nz_machine.specs.State.{Group}
-use Rattle.nz_machine.specs.World.{World, MayHappen}
-use Rattle.nz_machine.specs.History.{parcel_eq, older_or, source}
-use Rattle.nz_machine.proofs.Sources.{parcel_eq_self, same_parcel, has_source, source_stays}
+use Rattle.nz_machine.specs.rules.State.{Group}
+use Rattle.nz_machine.specs.runs.World.{World, MayHappen}
+use Rattle.nz_machine.specs.runs.History.{parcel_eq, older_or, source}
+use Rattle.nz_machine.proofs.runs.Sources.{parcel_eq_self, same_parcel, has_source, source_stays}
 use Rattle.nz_audit.specs.declared.source.Source.{Source}
 use Rattle.nz_audit.specs.declared.sending.ParcelKey.{ParcelKey}
 use Rattle.nz_audit.specs.Sources.{about, if_wanted, IsNoOther, source_sent, stands_for, delivered_source, kept_of, source_delivered}

@@ -10,12 +10,12 @@ use Rattle.nz_machine.specs.declared.event.Record.{Record}
 use Rattle.nz_machine.specs.declared.journal.Journal.{Journal}
 use Rattle.nz_machine.specs.declared.client_progress.Acceptance.{Acceptance}
 use Rattle.nz_machine.specs.declared.tellings.ToldAt.{ToldAt}
-use Rattle.nz_machine.specs.Events.{events}
-use Rattle.nz_machine.specs.Journals.{group_in, run_in}
-use Rattle.nz_machine.specs.Records.{silent_clock}
-use Rattle.nz_machine.specs.Tellings.{telling_in, told_of, told_at, told_by_run}
-use Rattle.nz_machine.specs.World.{World}
-use Rattle.nz_machine.proofs.TellingsOfRuns.{telling_shows}
+use Rattle.nz_machine.specs.runs.Events.{events}
+use Rattle.nz_machine.specs.journals.Journals.{group_in, run_in}
+use Rattle.nz_machine.specs.journals.Records.{silent_clock}
+use Rattle.nz_machine.specs.journals.Tellings.{telling_in, told_of, told_at, told_by_run}
+use Rattle.nz_machine.specs.runs.World.{World}
+use Rattle.nz_machine.proofs.journals.TellingsOfRuns.{telling_shows}
 use Rattle.nz_audit.specs.declared.source.AcceptedAt.{AcceptedAt}
 use Rattle.nz_replay.specs.Runs.{run_up_to}
 use Rattle.nz_audit.specs.Prefixes.{requests_sent, accepted_at, with_accepted, AreAccepted}

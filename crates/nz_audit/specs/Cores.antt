@@ -1,7 +1,7 @@
 -- A replica's core after some records of a run.
 use Rattle.std.specs.Prelude.{IfSome}
 use Rattle.nz_machine.specs.declared.journal.Journal.{Journal}
-use Rattle.nz_machine.specs.Journals.{group_in}
+use Rattle.nz_machine.specs.journals.Journals.{group_in}
 use Rattle.nz_replica.specs.Models.{IsCore}
 use Rattle.nz_replay.specs.Runs.{run_up_to}
 use Rattle.nz_audit.specs.declared.replaying.Replayed.{Replayed}

@@ -7,11 +7,11 @@ use Rattle.nz_msg.specs.declared.message.Message.{Message}
 use Rattle.nz_msg.specs.declared.message.Message.TheVariants.{FastReply}
 use Rattle.nz_machine.specs.declared.event.Parcel.{Parcel}
 use Rattle.nz_machine.specs.declared.event.Record.{Record}
-use Rattle.nz_machine.specs.Leading.{lead}
-use Rattle.nz_machine.specs.Replicas.{is_up}
-use Rattle.nz_machine.specs.State.{ReplicaData, Group}
-use Rattle.nz_machine.specs.Step.{envelope_for}
-use Rattle.nz_machine.specs.World.{Has}
+use Rattle.nz_machine.specs.runs.Leading.{lead}
+use Rattle.nz_machine.specs.rules.Replicas.{is_up}
+use Rattle.nz_machine.specs.rules.State.{ReplicaData, Group}
+use Rattle.nz_machine.specs.rules.Step.{envelope_for}
+use Rattle.nz_machine.specs.runs.World.{Has}
 use Rattle.nz_laws_commit.specs.Present.{AreUpWithin}
 
 -- The view of a fast reply.

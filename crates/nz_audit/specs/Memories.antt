@@ -5,9 +5,9 @@ use Rattle.nz_base.specs.declared.key.Id.{Id}
 use Rattle.nz_base.specs.declared.actor.Actor.TheVariants.{Proxy}
 use Rattle.nz_machine.specs.declared.event.Record.{Record}
 use Rattle.nz_machine.specs.declared.reply.Reply.{Reply}
-use Rattle.nz_machine.specs.State.{Group, Standing, Open, Decided}
-use Rattle.nz_machine.specs.Quorums.{answer_in}
-use Rattle.nz_machine.specs.History.{standing_after, source_of_reply, source_of_sender}
+use Rattle.nz_machine.specs.rules.State.{Group, Standing, Open, Decided}
+use Rattle.nz_machine.specs.rules.Quorums.{answer_in}
+use Rattle.nz_machine.specs.runs.History.{standing_after, source_of_reply, source_of_sender}
 use Rattle.nz_audit.specs.declared.source.Source.{Source}
 use Rattle.nz_audit.specs.declared.noting.Noted.{Noted}
 use Rattle.nz_audit.specs.declared.noting.Noted.TheVariants as noted

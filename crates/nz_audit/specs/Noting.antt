@@ -12,9 +12,9 @@ use Rattle.nz_msg.specs.declared.message.Message.TheVariants.{Request, FastReply
 use Rattle.nz_machine.specs.declared.event.Event.{Event}
 use Rattle.nz_machine.specs.declared.event.Event.TheVariants.{Deliver, Cut, Tick, Alarm, Crash, Restart}
 use Rattle.nz_machine.specs.declared.reply.Reply.{Reply}
-use Rattle.nz_machine.specs.Quorums.{Chosen, answer_in, decision, reply_eq}
-use Rattle.nz_machine.specs.Proxies.{of_fast, of_slow}
-use Rattle.nz_machine.specs.Step.{accepted_envelope}
+use Rattle.nz_machine.specs.rules.Quorums.{Chosen, answer_in, decision, reply_eq}
+use Rattle.nz_machine.specs.rules.Proxies.{of_fast, of_slow}
+use Rattle.nz_machine.specs.rules.Step.{accepted_envelope}
 use Rattle.nz_quorum.specs.Tallies.{IsOfCluster}
 use Rattle.nz_audit.specs.declared.source.Source.{Source}
 use Rattle.nz_audit.specs.declared.noting.Notes.{Notes}

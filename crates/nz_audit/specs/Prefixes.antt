@@ -12,12 +12,12 @@ use Rattle.nz_machine.specs.declared.event.Event.TheVariants.{Deliver, Cut, Tick
 use Rattle.nz_machine.specs.declared.event.Record.{Record}
 use Rattle.nz_machine.specs.declared.journal.Journal.{Journal}
 use Rattle.nz_machine.specs.declared.client_progress.Acceptance.{Acceptance}
-use Rattle.nz_machine.specs.Journals.{group_in, run_in}
-use Rattle.nz_machine.specs.Leading.{lead}
-use Rattle.nz_machine.specs.Events.{ClientEvent, Sent}
-use Rattle.nz_machine.specs.Events as events
-use Rattle.nz_machine.specs.History.{log_at, cut_after, longer, history}
-use Rattle.nz_machine.specs.World.{Has}
+use Rattle.nz_machine.specs.journals.Journals.{group_in, run_in}
+use Rattle.nz_machine.specs.runs.Leading.{lead}
+use Rattle.nz_machine.specs.runs.Events.{ClientEvent, Sent}
+use Rattle.nz_machine.specs.runs.Events as events
+use Rattle.nz_machine.specs.runs.History.{log_at, cut_after, longer, history}
+use Rattle.nz_machine.specs.runs.World.{Has}
 use Rattle.nz_laws_commit.specs.Present.{AreUpWithin}
 use Rattle.nz_audit.specs.declared.source.Source.{Source}
 use Rattle.nz_audit.specs.declared.source.AcceptedAt.{AcceptedAt}

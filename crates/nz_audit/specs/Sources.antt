@@ -16,10 +16,10 @@ use Rattle.nz_machine.specs.declared.event.Event.{Event}
 use Rattle.nz_machine.specs.declared.event.Event.TheVariants.{Deliver, Cut, Tick, Alarm, Crash, Restart}
 use Rattle.nz_machine.specs.declared.event.Parcel.{Parcel}
 use Rattle.nz_machine.specs.declared.event.Record.{Record}
-use Rattle.nz_machine.specs.State.{Group}
-use Rattle.nz_machine.specs.Step.{envelope_for}
-use Rattle.nz_machine.specs.Events.{id_at}
-use Rattle.nz_machine.specs.History.{ReplySource, source, source_of_sender}
+use Rattle.nz_machine.specs.rules.State.{Group}
+use Rattle.nz_machine.specs.rules.Step.{envelope_for}
+use Rattle.nz_machine.specs.runs.Events.{id_at}
+use Rattle.nz_machine.specs.runs.History.{ReplySource, source, source_of_sender}
 use Rattle.nz_audit.specs.declared.source.Source.{Source}
 use Rattle.nz_audit.specs.declared.sending.ParcelKey.{ParcelKey}
 

@@ -1,7 +1,7 @@
 //! What one store answers to a prefix of a log.
 
 ghost use Rattle.std.specs.Prelude.{◌≡◌, ◌≤◌, length, take, IfOk};
-ghost use Rattle.nz_machine.specs.Journals.{executed_entries};
+ghost use Rattle.nz_machine.specs.journals.Journals.{executed_entries};
 
 use nz_base::{NoMemory, TryCopy};
 use nz_log::HashedLog;

@@ -2,11 +2,11 @@
 
 ghost use Rattle.std.specs.Prelude.{◌≡◌, [], List, length, IfOk, IfSome};
 ghost use Rattle.std.specs.List.{list_all};
-ghost use Rattle.nz_machine.specs.History as histories;
-ghost use Rattle.nz_machine.specs.Journals.{group_in, run_in, executed_entries, history_in};
-ghost use Rattle.nz_machine.specs.State.{Group};
-ghost use Rattle.nz_machine.specs.Tellings.{told_by_run};
-ghost use Rattle.nz_machine.specs.World.{World};
+ghost use Rattle.nz_machine.specs.runs.History as histories;
+ghost use Rattle.nz_machine.specs.journals.Journals.{group_in, run_in, executed_entries, history_in};
+ghost use Rattle.nz_machine.specs.rules.State.{Group};
+ghost use Rattle.nz_machine.specs.journals.Tellings.{told_by_run};
+ghost use Rattle.nz_machine.specs.runs.World.{World};
 ghost use Rattle.nz_machine.specs.declared.event.Record.{Record};
 ghost use Rattle.nz_machine.specs.declared.journal.Journal.{Journal};
 ghost use Rattle.nz_replica.specs.Models.{AreCores};

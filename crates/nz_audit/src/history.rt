@@ -1,9 +1,9 @@
 //! The history of a journal.
 
 ghost use Rattle.std.specs.Prelude.{◌≡◌, [], length, IfOk};
-ghost use Rattle.nz_machine.specs.Journals.{group_in, run_in, executed_entries, history_in};
-ghost use Rattle.nz_machine.specs.Tellings.{told_by_run};
-ghost use Rattle.nz_machine.specs.World.{World};
+ghost use Rattle.nz_machine.specs.journals.Journals.{group_in, run_in, executed_entries, history_in};
+ghost use Rattle.nz_machine.specs.journals.Tellings.{told_by_run};
+ghost use Rattle.nz_machine.specs.runs.World.{World};
 ghost use Rattle.nz_replica.specs.Models.{AreCores};
 ghost use Rattle.nz_audit.specs.Cores.{AreReplayed};
 ghost use Rattle.nz_audit.specs.Prefixes.{prefix_for, IsWithin, AreAccepted, IsFound};

@@ -1,10 +1,10 @@
 //! The log of a replica that leads the view of its reply to the end of the run.
 
 ghost use Rattle.std.specs.Prelude.{◌≡◌, ◌≤◌, ◌==◌, ◌&&◌, false, length, slice_get, List, IfOk, IfNone, IfSome, IsTrue};
-ghost use Rattle.nz_machine.specs.Journals.{group_in, run_in};
-ghost use Rattle.nz_machine.specs.Leading.{lead};
-ghost use Rattle.nz_machine.specs.Replicas.{leads_view};
-ghost use Rattle.nz_machine.specs.State.{Group};
+ghost use Rattle.nz_machine.specs.journals.Journals.{group_in, run_in};
+ghost use Rattle.nz_machine.specs.runs.Leading.{lead};
+ghost use Rattle.nz_machine.specs.rules.Replicas.{leads_view};
+ghost use Rattle.nz_machine.specs.rules.State.{Group};
 ghost use Rattle.nz_machine.specs.declared.event.Record.{Record};
 ghost use Rattle.nz_replica.specs.Models.{AreCores};
 ghost use Rattle.nz_replay.specs.Runs.{run_up_to};

@@ -2,7 +2,7 @@
 
 ghost use Rattle.std.specs.Prelude.{◌≡◌, ◌≤◌, ◌<◌, length, IfOk, IfSome, IsTrue, OnOk};
 ghost use Rattle.nz_base.specs.Cluster.{replica_count};
-ghost use Rattle.nz_machine.specs.Journals.{group_in};
+ghost use Rattle.nz_machine.specs.journals.Journals.{group_in};
 ghost use Rattle.nz_machine.specs.declared.journal.Journal.{Journal as JournalModel};
 ghost use Rattle.nz_replica.specs.Models.{IsCore};
 ghost use Rattle.nz_replay.specs.Runs.{run_up_to};

@@ -2,7 +2,7 @@
 
 ghost use Rattle.std.specs.Prelude.{◌≡◌, [], IfOk, OnOk, Some, is_some, if◌then◌else◌};
 ghost use Rattle.std.specs.Option.{option_flatten};
-ghost use Rattle.nz_machine.specs.History.{parcel_eq};
+ghost use Rattle.nz_machine.specs.runs.History.{parcel_eq};
 ghost use Rattle.nz_machine.specs.declared.event.Parcel.{Parcel as ParcelModel};
 ghost use Rattle.nz_audit.specs.Sources.{parcel_key_of, kept_of, source_delivered};
 ghost use Rattle.nz_audit.specs.Noting.{source_if_answer};

@@ -1,9 +1,9 @@
 //! The answers that the clients of a run accept, by what they told.
 
 ghost use Rattle.std.specs.Prelude.{◌≡◌, ◌+◌, IfOk, OnOk};
-ghost use Rattle.nz_machine.specs.Journals.{group_in, run_in};
-ghost use Rattle.nz_machine.specs.Tellings.{told_by_run};
-ghost use Rattle.nz_machine.specs.World.{World};
+ghost use Rattle.nz_machine.specs.journals.Journals.{group_in, run_in};
+ghost use Rattle.nz_machine.specs.journals.Tellings.{told_by_run};
+ghost use Rattle.nz_machine.specs.runs.World.{World};
 ghost use Rattle.nz_machine.specs.declared.journal.Journal.{Journal as JournalModel};
 ghost use Rattle.nz_audit.specs.Prefixes.{accepted_at, with_accepted, AreAccepted};
 

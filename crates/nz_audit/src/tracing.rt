@@ -5,8 +5,8 @@ ghost use Rattle.std.specs.List.{AllByRecursion, list_any};
 ghost use Rattle.std.specs.HashSet.{contains};
 ghost use Rattle.nz_base.specs.Key.{id_eq};
 ghost use Rattle.nz_base.specs.declared.key.Id.{Id as IdModel};
-ghost use Rattle.nz_machine.specs.Journals.{group_in, run_in};
-ghost use Rattle.nz_machine.specs.World.{World};
+ghost use Rattle.nz_machine.specs.journals.Journals.{group_in, run_in};
+ghost use Rattle.nz_machine.specs.runs.World.{World};
 ghost use Rattle.nz_audit.specs.Prefixes.{is_to, IsAccepted, traced, all_traced, with_accepted};
 ghost use Rattle.nz_audit.specs.Readings.{IsKnown};
 

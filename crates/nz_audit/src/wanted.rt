@@ -4,7 +4,7 @@ ghost use Rattle.std.specs.Prelude.{◌≡◌, ℕ, Bool, true, Option, Some, If
 ghost use Rattle.std.specs.HashSet.{contains};
 ghost use Rattle.nz_base.specs.Key.{id_eq};
 ghost use Rattle.nz_base.specs.declared.key.Id.{Id as IdModel};
-ghost use Rattle.nz_machine.specs.Events.{id_at};
+ghost use Rattle.nz_machine.specs.runs.Events.{id_at};
 ghost use Rattle.nz_audit.specs.Sources as sources;
 ghost use Rattle.nz_audit.specs.Sources.{about_message, if_wanted};
 ghost use Rattle.nz_audit.specs.Noting.{after_event, down_after};

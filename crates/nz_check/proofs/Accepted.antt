@@ -14,13 +14,13 @@ use Rattle.nz_store.proofs.Turns.{store_after-push}
 use Rattle.nz_log.specs.Places.{place_of}
 use Rattle.nz_machine.specs.declared.event.Record.{Record}
 use Rattle.nz_machine.specs.declared.journal.Executed.{Executed}
-use Rattle.nz_machine.specs.State.{Group}
-use Rattle.nz_machine.specs.Replicas.{commands}
-use Rattle.nz_machine.specs.World.{Has, World}
-use Rattle.nz_machine.specs.Events.{ClientEvent, Sent, Accepted, events}
-use Rattle.nz_machine.specs.History.{history}
-use Rattle.nz_machine.specs.OneHistory.{Lin}
-use Rattle.nz_machine.specs.Journals.{executed_if_answered, executed_from, executed_entries}
+use Rattle.nz_machine.specs.rules.State.{Group}
+use Rattle.nz_machine.specs.rules.Replicas.{commands}
+use Rattle.nz_machine.specs.runs.World.{Has, World}
+use Rattle.nz_machine.specs.runs.Events.{ClientEvent, Sent, Accepted, events}
+use Rattle.nz_machine.specs.runs.History.{history}
+use Rattle.nz_machine.specs.runs.OneHistory.{Lin}
+use Rattle.nz_machine.specs.journals.Journals.{executed_if_answered, executed_from, executed_entries}
 use Rattle.nz_laws_commit.proofs.Counts.{are_once}
 use Rattle.nz_text.specs.Text.{event_of, printed_of_run, text}
 use Rattle.nz_check.specs.declared.limit.TheConstants.{MAX_PRINTED}

@@ -15,8 +15,8 @@ use Rattle.nz_store.specs.Entries.{Entries}
 use Rattle.nz_store.specs.Sequence.{apply_bytes, store_after, answer_after}
 use Rattle.nz_store.proofs.Turns.{store_after-push}
 use Rattle.nz_machine.specs.declared.journal.Executed.{Executed}
-use Rattle.nz_machine.specs.Quorums.{answer_eq}
-use Rattle.nz_machine.proofs.ListParts.{take_next}
+use Rattle.nz_machine.specs.rules.Quorums.{answer_eq}
+use Rattle.nz_machine.proofs.lists.ListParts.{take_next}
 use Rattle.nz_text.specs.declared.printed.Printed.{Printed}
 use Rattle.nz_check.specs.declared.events.Noted.{Noted}
 use Rattle.nz_check.specs.declared.events.Sent.{Sent}

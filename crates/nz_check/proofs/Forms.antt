@@ -8,10 +8,10 @@ use Rattle.nz_base.specs.declared.key.Id.{Id}
 use Rattle.nz_base.proofs.Names.{same_id, id_eq_self}
 use Rattle.nz_store.specs.declared.command.Answer.{Answer}
 use Rattle.nz_msg.specs.declared.message.Path.{Path}
-use Rattle.nz_machine.specs.Quorums.{answer_eq}
-use Rattle.nz_machine.specs.World.{Has}
-use Rattle.nz_machine.specs.Events.{ClientEvent, Sent, Accepted}
-use Rattle.nz_machine.specs.OneHistory.{Precedes}
+use Rattle.nz_machine.specs.rules.Quorums.{answer_eq}
+use Rattle.nz_machine.specs.runs.World.{Has}
+use Rattle.nz_machine.specs.runs.Events.{ClientEvent, Sent, Accepted}
+use Rattle.nz_machine.specs.runs.OneHistory.{Precedes}
 use Rattle.nz_text.specs.declared.printed.Event.{Event}
 use Rattle.nz_text.specs.declared.printed.Event.TheVariants.{Send, Accept}
 use Rattle.nz_text.specs.declared.printed.Printed.{Printed}

@@ -20,11 +20,11 @@ use Rattle.nz_store.proofs.Turns.{store_after-push, slice_get-replies}
 use Rattle.nz_log.specs.Places.{place_of}
 use Rattle.nz_msg.specs.declared.message.Path.{Path}
 use Rattle.nz_machine.specs.declared.journal.Executed.{Executed}
-use Rattle.nz_machine.specs.Quorums.{answer_eq}
-use Rattle.nz_machine.specs.Replicas.{commands}
-use Rattle.nz_machine.specs.World.{Has}
-use Rattle.nz_machine.specs.Events.{Sent, Accepted}
-use Rattle.nz_machine.specs.OneHistory.{Precedes, StandsBefore, IsAnswered, Lin}
+use Rattle.nz_machine.specs.rules.Quorums.{answer_eq}
+use Rattle.nz_machine.specs.rules.Replicas.{commands}
+use Rattle.nz_machine.specs.runs.World.{Has}
+use Rattle.nz_machine.specs.runs.Events.{Sent, Accepted}
+use Rattle.nz_machine.specs.runs.OneHistory.{Precedes, StandsBefore, IsAnswered, Lin}
 use Rattle.nz_text.specs.declared.printed.Event.{Event}
 use Rattle.nz_text.specs.declared.printed.Event.TheVariants.{Send, Accept}
 use Rattle.nz_text.specs.declared.printed.Printed.{Printed}

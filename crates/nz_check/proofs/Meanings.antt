@@ -8,7 +8,7 @@ use Rattle.std.proofs.lemmas.Option.{none-some}
 use Rattle.std.proofs.lemmas.Slice.Eq.{bytes_eq-Decides}
 use Rattle.nz_store.specs.declared.command.Answer.{Answer}
 use Rattle.nz_store.specs.declared.command.Answer.TheVariants.{Done, Value, Absent, Differs}
-use Rattle.nz_machine.specs.Quorums.{answer_eq}
+use Rattle.nz_machine.specs.rules.Quorums.{answer_eq}
 use Rattle.nz_check.specs.declared.verdict.Why.{Why}
 
 pub same_bytes : (xs ys : List ℕ) → bytes_eq xs ys ≡ true → xs ≡ ys

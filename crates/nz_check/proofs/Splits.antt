@@ -3,9 +3,9 @@ use Rattle.std.proofs.Common.{◌≡◌, Bool, true, false, List, [], ◌∷◌,
 use Rattle.std.specs.Prelude.{slice_get}
 use Rattle.std.specs.List.{list_any, list_all}
 use Rattle.std.proofs.lemmas.Bool.{cases_Bool, false≢true, or_cases, or_left, or_right, and_parts}
-use Rattle.nz_machine.specs.World.{Has}
-use Rattle.nz_machine.specs.OneHistory.{Precedes}
-use Rattle.nz_machine.proofs.Runs.{has_right}
+use Rattle.nz_machine.specs.runs.World.{Has}
+use Rattle.nz_machine.specs.runs.OneHistory.{Precedes}
+use Rattle.nz_machine.proofs.runs.Runs.{has_right}
 
 -- the list is cut at the element
 pub record IsCut {X : Type 0} (xs : List X) (x : X) : Type 0 where

@@ -4,7 +4,7 @@ use Rattle.std.proofs.Common.{refl, sym, ap, subst, ◌∙◌, inl, inr, arith}
 use Rattle.std.specs.Prelude.{not, is_none, slice_get}
 use Rattle.std.specs.List.{list_any}
 use Rattle.std.specs.Option.{option_eq, option_map}
-use Rattle.nz_machine.specs.Quorums.{answer_eq}
+use Rattle.nz_machine.specs.rules.Quorums.{answer_eq}
 use Rattle.std.proofs.lemmas.Option.{none-some}
 use Rattle.std.proofs.lemmas.Bool.{cases_Bool, false≢true, or_cases, or_left}
 use Rattle.std.proofs.lemmas.List.Folds.{list_any-append}

@@ -16,20 +16,20 @@ use Rattle.nz_msg.specs.declared.envelope.Envelope.{Envelope}
 use Rattle.nz_msg.specs.declared.message.Message.{Message}
 use Rattle.nz_msg.specs.declared.message.Message.TheVariants as messages
 use Rattle.nz_machine.specs.declared.event.Record.{Record}
-use Rattle.nz_machine.specs.State.{ClientData, Group}
-use Rattle.nz_machine.specs.Replicas.{commands}
-use Rattle.nz_machine.specs.Step.{script_of}
-use Rattle.nz_machine.specs.World.{state_after, Has, IsAsked, IsGroup, IsMember, World}
-use Rattle.nz_machine.specs.Events.{ClientEvent, Sent, Accepted, id_at, command_of_request, read_in, accepted_in}
-use Rattle.nz_machine.specs.Events.{accepted_by, sent_after, sent_by, client_events, events}
-use Rattle.nz_machine.specs.History.{history}
-use Rattle.nz_machine.specs.OneHistory.{Precedes}
-use Rattle.nz_machine.specs.Journals.{executed_if_answered, executed_from}
-use Rattle.nz_machine.proofs.Runs.{all_has, group_of}
-use Rattle.nz_machine.proofs.EachItem.{all_append}
-use Rattle.nz_machine.proofs.ListParts.{all_map, all_flat_map}
-use Rattle.nz_machine.proofs.FitRuns.{FitsState, all_fit}
-use Rattle.nz_machine.proofs.FitClients.{client_of}
+use Rattle.nz_machine.specs.rules.State.{ClientData, Group}
+use Rattle.nz_machine.specs.rules.Replicas.{commands}
+use Rattle.nz_machine.specs.rules.Step.{script_of}
+use Rattle.nz_machine.specs.runs.World.{state_after, Has, IsAsked, IsGroup, IsMember, World}
+use Rattle.nz_machine.specs.runs.Events.{ClientEvent, Sent, Accepted, id_at, command_of_request, read_in, accepted_in}
+use Rattle.nz_machine.specs.runs.Events.{accepted_by, sent_after, sent_by, client_events, events}
+use Rattle.nz_machine.specs.runs.History.{history}
+use Rattle.nz_machine.specs.runs.OneHistory.{Precedes}
+use Rattle.nz_machine.specs.journals.Journals.{executed_if_answered, executed_from}
+use Rattle.nz_machine.proofs.runs.Runs.{all_has, group_of}
+use Rattle.nz_machine.proofs.lists.EachItem.{all_append}
+use Rattle.nz_machine.proofs.lists.ListParts.{all_map, all_flat_map}
+use Rattle.nz_machine.proofs.runs.FitRuns.{FitsState, all_fit}
+use Rattle.nz_machine.proofs.facts.FitClients.{client_of}
 use Rattle.nz_laws_commit.proofs.Counts.{are_once}
 use Rattle.nz_lin.proofs.Histories.{history_is, history_sent, history_few}
 use Rattle.nz_text.specs.declared.printed.Event.{Event}

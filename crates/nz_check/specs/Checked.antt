@@ -10,7 +10,7 @@ use Rattle.nz_store.specs.declared.command.Answer.{Answer}
 use Rattle.nz_store.specs.Sequence.{answer_after}
 use Rattle.nz_script.specs.Bytes.{newline}
 use Rattle.nz_machine.specs.declared.journal.Executed.{Executed}
-use Rattle.nz_machine.specs.Quorums.{answer_eq}
+use Rattle.nz_machine.specs.rules.Quorums.{answer_eq}
 use Rattle.nz_text.specs.declared.fault.TextFault.{TextFault}
 use Rattle.nz_text.specs.declared.fault.TextFault.TheVariants.{Bad, NoMemory}
 use Rattle.nz_text.specs.declared.printed.Event.{Event}

@@ -6,9 +6,9 @@ use Rattle.nz_store.specs.declared.command.Answer.{Answer}
 use Rattle.nz_store.specs.Sequence.{replies}
 use Rattle.nz_msg.specs.declared.message.Path.{Path}
 use Rattle.nz_machine.specs.declared.journal.Executed.{Executed}
-use Rattle.nz_machine.specs.World.{Has}
-use Rattle.nz_machine.specs.Events.{ClientEvent, Sent, Accepted}
-use Rattle.nz_machine.specs.OneHistory.{Precedes, Lin}
+use Rattle.nz_machine.specs.runs.World.{Has}
+use Rattle.nz_machine.specs.runs.Events.{ClientEvent, Sent, Accepted}
+use Rattle.nz_machine.specs.runs.OneHistory.{Precedes, Lin}
 use Rattle.nz_text.specs.declared.printed.Event.{Event}
 use Rattle.nz_text.specs.declared.printed.Event.TheVariants.{Send, Accept}
 use Rattle.nz_text.specs.declared.printed.Printed.{Printed}

@@ -2,7 +2,7 @@
 
 ghost use Rattle.std.specs.Prelude.{◌≡◌, ◌+◌, ◌<◌, ◌^◌, ◌==◌, ◌&&◌, List, [], length, take, slice_get, Some, OnOk, IfOk};
 ghost use Rattle.std.specs.Option.{option_map};
-ghost use Rattle.nz_machine.specs.Quorums.{answer_eq};
+ghost use Rattle.nz_machine.specs.rules.Quorums.{answer_eq};
 ghost use Rattle.indexmap.specs.IndexMap.{get};
 ghost use Rattle.nz_base.specs.Key.{id_eq};
 ghost use Rattle.nz_machine.specs.declared.journal.Executed.{Executed as ExecutedModel};

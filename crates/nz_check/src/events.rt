@@ -5,7 +5,7 @@ ghost use Rattle.std.specs.Option.{option_eq, option_map};
 ghost use Rattle.indexmap.specs.IndexMap.{get};
 ghost use Rattle.nz_base.specs.Key.{id_eq};
 ghost use Rattle.nz_base.specs.declared.key.Id.{Id as IdModel};
-ghost use Rattle.nz_machine.specs.Quorums.{answer_eq};
+ghost use Rattle.nz_machine.specs.rules.Quorums.{answer_eq};
 ghost use Rattle.nz_text.specs.declared.printed.Event.{Event as EventModel};
 ghost use Rattle.nz_text.specs.declared.printed.Event.TheVariants.{Send as SendModel, Accept as AcceptModel};
 ghost use Rattle.nz_text.specs.declared.printed.Printed.{Printed as PrintedModel};

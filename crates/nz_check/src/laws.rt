@@ -2,11 +2,11 @@
 
 ghost use Rattle.std.specs.Prelude.{◌≡◌, ◌≤◌, ◌↔◌, ℕ, List, length, Ok};
 ghost use Rattle.nz_machine.specs.declared.event.Record.{Record};
-ghost use Rattle.nz_machine.specs.State.{Group};
-ghost use Rattle.nz_machine.specs.World.{World};
-ghost use Rattle.nz_machine.specs.Events.{events};
-ghost use Rattle.nz_machine.specs.History.{history};
-ghost use Rattle.nz_machine.specs.OneHistory.{Lin};
+ghost use Rattle.nz_machine.specs.rules.State.{Group};
+ghost use Rattle.nz_machine.specs.runs.World.{World};
+ghost use Rattle.nz_machine.specs.runs.Events.{events};
+ghost use Rattle.nz_machine.specs.runs.History.{history};
+ghost use Rattle.nz_machine.specs.runs.OneHistory.{Lin};
 ghost use Rattle.nz_text.specs.declared.printed.Printed.{Printed};
 ghost use Rattle.nz_text.specs.Reading.{printed_in};
 ghost use Rattle.nz_text.specs.Text.{printed_of_run, text};

@@ -9,9 +9,9 @@ use Rattle.nz_msg.specs.declared.message.Message.TheVariants.{SyncReport, ViewAs
 use Rattle.nz_msg.specs.declared.message.Message.TheVariants.{RejoinAsk, RejoinTell, StateAsk, StateTell}
 use Rattle.nz_base.specs.declared.scenario.Request.{Request as RequestModel}
 use Rattle.nz_machine.specs.declared.event.Parcel.{Parcel}
-use Rattle.nz_machine.specs.State.{ClientData, Group}
-use Rattle.nz_machine.specs.Step.{envelope_for, accepted_envelope}
-use Rattle.nz_machine.specs.Step.{if_from_cluster, envelope_step, client_message, script_of}
+use Rattle.nz_machine.specs.rules.State.{ClientData, Group}
+use Rattle.nz_machine.specs.rules.Step.{envelope_for, accepted_envelope}
+use Rattle.nz_machine.specs.rules.Step.{if_from_cluster, envelope_step, client_message, script_of}
 use Rattle.nz_client.specs.Models.{ClientModel, IsClientInGroup}
 
 -- what is passed over changes nothing

@@ -10,10 +10,10 @@ use Rattle.nz_base.specs.declared.scenario.Request.{Request}
 use Rattle.nz_base.specs.declared.limits.TheConstants.{PATIENCE}
 use Rattle.nz_machine.specs.declared.data.Attempt.{Attempt}
 use Rattle.nz_machine.specs.declared.event.Parcel.{Parcel}
-use Rattle.nz_machine.specs.State.{ClientData, Out}
-use Rattle.nz_machine.specs.Clients.{if_due, after_opening, open_next, fill_places, is_overdue}
-use Rattle.nz_machine.specs.Clients.{attempt_after_wait, retry, retries, is_open, without_attempt}
-use Rattle.nz_machine.specs.Step.{parcel}
+use Rattle.nz_machine.specs.rules.State.{ClientData, Out}
+use Rattle.nz_machine.specs.rules.Clients.{if_due, after_opening, open_next, fill_places, is_overdue}
+use Rattle.nz_machine.specs.rules.Clients.{attempt_after_wait, retry, retries, is_open, without_attempt}
+use Rattle.nz_machine.specs.rules.Step.{parcel}
 use Rattle.nz_client.specs.Models.{ClientModel, IsOfProxies}
 
 -- ---- without an open request there is at least one less

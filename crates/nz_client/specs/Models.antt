@@ -5,8 +5,8 @@ use Rattle.nz_base.specs.declared.scenario.Request.{Request}
 use Rattle.nz_base.specs.declared.limits.TheConstants.{MAX_CLIENT, MAX_PROXIES, MAX_WINDOW, PATIENCE}
 use Rattle.nz_msg.specs.Fields.{command}
 use Rattle.nz_machine.specs.declared.data.Attempt.{Attempt}
-use Rattle.nz_machine.specs.State.{ClientData, Group}
-use Rattle.nz_machine.specs.Step.{script_of}
+use Rattle.nz_machine.specs.rules.State.{ClientData, Group}
+use Rattle.nz_machine.specs.rules.Step.{script_of}
 
 -- The client's number, how many proxies there are, how many requests it may have open, its requests, and its state.
 pub record ClientModel : Type 0 where

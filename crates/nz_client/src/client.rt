@@ -4,10 +4,10 @@ ghost use Rattle.std.specs.Prelude.{◌≡◌, ◌≤◌, ◌++◌, ◌↔◌, t
 ghost use Rattle.nz_base.specs.declared.actor.Actor.TheVariants as actors;
 ghost use Rattle.nz_base.specs.declared.limits.TheConstants.{MAX_CLIENT, MAX_PROXIES, MAX_WINDOW};
 ghost use Rattle.nz_msg.specs.Fields.{command};
-ghost use Rattle.nz_machine.specs.State.{Group};
-ghost use Rattle.nz_machine.specs.Clients as clients;
-ghost use Rattle.nz_machine.specs.Clients.{first_client};
-ghost use Rattle.nz_machine.specs.Step.{node_step, envelope_step, client_message, accepted_envelope, parcel};
+ghost use Rattle.nz_machine.specs.rules.State.{Group};
+ghost use Rattle.nz_machine.specs.rules.Clients as clients;
+ghost use Rattle.nz_machine.specs.rules.Clients.{first_client};
+ghost use Rattle.nz_machine.specs.rules.Step.{node_step, envelope_step, client_message, accepted_envelope, parcel};
 ghost use Rattle.nz_client.specs.Models.{AreSendable, IsClientInGroup, IsSameClient, least_open};
 
 use crate::state::ClientState;

@@ -6,10 +6,10 @@ ghost use Rattle.std.specs.Option.{option_copied};
 ghost use Rattle.nz_base.specs.Actor.{HasAddress};
 ghost use Rattle.nz_base.specs.declared.actor.Actor.TheVariants as actors;
 ghost use Rattle.nz_base.specs.declared.limits.TheConstants.{MAX_CLIENT, MAX_PROXIES, MAX_PROXY, MAX_WINDOW};
-ghost use Rattle.nz_machine.specs.Clients as clients;
-ghost use Rattle.nz_machine.specs.Clients.{first_client, if_due, after_opening, retries};
-ghost use Rattle.nz_machine.specs.Clients.{after_wait, request_again, without_attempt, after_acceptance};
-ghost use Rattle.nz_machine.specs.Step.{parcel};
+ghost use Rattle.nz_machine.specs.rules.Clients as clients;
+ghost use Rattle.nz_machine.specs.rules.Clients.{first_client, if_due, after_opening, retries};
+ghost use Rattle.nz_machine.specs.rules.Clients.{after_wait, request_again, without_attempt, after_acceptance};
+ghost use Rattle.nz_machine.specs.rules.Step.{parcel};
 ghost use Rattle.nz_client.specs.Models as models;
 ghost use Rattle.nz_client.specs.Models.{IsSendable, AreSendable, IsOfProxies, IsSameClient};
 
@@ -273,7 +273,7 @@ impl ClientState {
     }
 
     /// The rule for a tick.
-    #[tactic(auto, unfolding(nz_machine::specs::Clients::wait_rule))]
+    #[tactic(auto, unfolding(nz_machine::specs::rules::Clients::wait_rule))]
     pub fn wait_rule(&mut self, sends: &mut Outbox) -> Result<(), NoMemory>
         ensures same { IsSameClient self.old self.new }
         ensures state { OnOk result (self.new ≡ record self.old {
@@ -299,7 +299,7 @@ impl ClientState {
     }
 
     /// The rule for an answer of a proxy.
-    #[tactic(auto, unfolding(nz_machine::specs::Clients::accept_rule))]
+    #[tactic(auto, unfolding(nz_machine::specs::rules::Clients::accept_rule))]
     pub fn accept_rule(&mut self, body: &AnswerBody, sends: &mut Outbox) -> Result<(), NoMemory>
         ensures same { IsSameClient self.old self.new }
         ensures state { OnOk result (self.new ≡ record self.old {

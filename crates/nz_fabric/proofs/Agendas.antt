@@ -8,11 +8,11 @@ use Rattle.std.proofs.lemmas.List.Sums.{take_while-cons, prefix_len-le-length}
 use Rattle.std.proofs.lemmas.Grind.{drop_more_same}
 use Rattle.std.proofs.lemmas.List.{drop-set-lt, get_or-drop, map-append}
 use Rattle.std.proofs.lemmas.Option.{get_or_from_slice_get, slice_get_read}
-use Rattle.nz_machine.proofs.ListParts.{take_next}
+use Rattle.nz_machine.proofs.lists.ListParts.{take_next}
 use Rattle.nz_base.specs.Actor.{actor_eq}
 use Rattle.nz_base.specs.declared.actor.Actor.{Actor}
 use Rattle.nz_base.proofs.Names.{same_actor}
-use Rattle.nz_machine.specs.Schedule.{item}
+use Rattle.nz_machine.specs.runs.Schedule.{item}
 use Rattle.nz_fabric.specs.Shared.{run_of}
 use Rattle.nz_machine.specs.declared.event.Event.{Event}
 use Rattle.nz_machine.specs.declared.journal.Item.{Item}

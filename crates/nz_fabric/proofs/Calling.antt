@@ -4,7 +4,7 @@ use Rattle.std.proofs.lemmas.List.{take_more}
 use Rattle.nz_base.specs.declared.scenario.Fault.{Fault}
 use Rattle.nz_base.specs.declared.scenario.Fault.TheVariants as faults
 use Rattle.nz_machine.specs.declared.journal.Item.{Item}
-use Rattle.nz_machine.specs.Schedule.{calls, if_in, item}
+use Rattle.nz_machine.specs.runs.Schedule.{calls, if_in, item}
 use Rattle.nz_machine.specs.declared.event.Event.TheVariants.{Crash, Restart, Alarm}
 use Rattle.nz_fabric.specs.Dues.{restarts_in}
 

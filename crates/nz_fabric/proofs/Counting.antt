@@ -11,10 +11,10 @@ use Rattle.nz_base.specs.Actor.{actor_eq}
 use Rattle.nz_base.specs.declared.actor.Actor.{Actor}
 use Rattle.nz_base.specs.declared.actor.Actor.TheVariants.{Replica, Proxy, Client}
 use Rattle.nz_machine.specs.declared.event.Record.{Record}
-use Rattle.nz_machine.specs.State.{Group}
-use Rattle.nz_machine.specs.Step.{node_step}
-use Rattle.nz_machine.specs.Steps.{AreSteps, of_actor}
-use Rattle.nz_machine.proofs.OwnStates.{own_state}
+use Rattle.nz_machine.specs.rules.State.{Group}
+use Rattle.nz_machine.specs.rules.Step.{node_step}
+use Rattle.nz_machine.specs.runs.Steps.{AreSteps, of_actor}
+use Rattle.nz_machine.proofs.runs.OwnStates.{own_state}
 use Rattle.nz_fabric.specs.Calendars.{number_in_all}
 use Rattle.nz_fabric.specs.Records.{ActorSteps, steps_of, AreCounts}
 use Rattle.nz_fabric.specs.Steps.{sends_after}

@@ -12,11 +12,11 @@ use Rattle.std.proofs.lemmas.List.Elements.{filter-append}
 use Rattle.std.proofs.lemmas.Bool.{cases_eq}
 use Rattle.std.proofs.lemmas.Bool.Decides.{nat_tests}
 use Rattle.nz_base.specs.declared.scenario.Scenario.{Scenario}
-use Rattle.nz_machine.proofs.EachItem.{all_append, all_back, all_imply}
+use Rattle.nz_machine.proofs.lists.EachItem.{all_append, all_back, all_imply}
 use Rattle.nz_machine.specs.declared.event.Parcel.{Parcel}
 use Rattle.nz_machine.specs.declared.event.Record.{Record}
 use Rattle.nz_machine.specs.declared.journal.Item.{Item}
-use Rattle.nz_machine.specs.Schedule.{Delivery, Posted, posted_in, posted_by_run, arrivals, deliveries, delivery_item, due_of, kind_in_frame}
+use Rattle.nz_machine.specs.runs.Schedule.{Delivery, Posted, posted_in, posted_by_run, arrivals, deliveries, delivery_item, due_of, kind_in_frame}
 use Rattle.nz_fabric.specs.declared.calendar.Arrival.{Arrival}
 use Rattle.nz_fabric.specs.declared.course.Course.{Course}
 use Rattle.nz_fabric.specs.declared.course.Traffic.{Traffic}

@@ -9,8 +9,8 @@ use Rattle.nz_base.specs.declared.scenario.Scenario.{Scenario}
 use Rattle.nz_machine.specs.declared.event.Parcel.{Parcel}
 use Rattle.nz_machine.specs.declared.event.Record.{Record}
 use Rattle.nz_machine.specs.declared.journal.Item.{Item}
-use Rattle.nz_machine.specs.Schedule.{Posted, posted_by_run, item_of, due, InOrder, InOrderTo, IsPlayable}
-use Rattle.nz_machine.proofs.ListParts.{take_next}
+use Rattle.nz_machine.specs.runs.Schedule.{Posted, posted_by_run, item_of, due, InOrder, InOrderTo, IsPlayable}
+use Rattle.nz_machine.proofs.lists.ListParts.{take_next}
 use Rattle.nz_fabric.specs.declared.turn.Turn.{Turn}
 use Rattle.nz_fabric.specs.declared.ticks.Ticks.{Ticks}
 use Rattle.nz_fabric.specs.Calendars.{Dates, StandsFor, HasPosted, posted_by}

@@ -15,8 +15,8 @@ use Rattle.nz_base.specs.declared.actor.Actor.TheVariants.{Replica, Proxy, Clien
 use Rattle.nz_base.specs.declared.scenario.Fault.{Fault}
 use Rattle.nz_base.specs.declared.scenario.Fault.TheVariants as faults
 use Rattle.nz_machine.specs.declared.event.Parcel.{Parcel}
-use Rattle.nz_machine.specs.Schedule.{Delivery as DeliveryModel, Posted, posted_in, delivery_later, deliveries_later, with_copy}
-use Rattle.nz_machine.specs.Schedule.{cut_short, is_parcel_of, is_nth, has_kind, kind_in_frame, after_fault, after_faults}
+use Rattle.nz_machine.specs.runs.Schedule.{Delivery as DeliveryModel, Posted, posted_in, delivery_later, deliveries_later, with_copy}
+use Rattle.nz_machine.specs.runs.Schedule.{cut_short, is_parcel_of, is_nth, has_kind, kind_in_frame, after_fault, after_faults}
 use Rattle.nz_fabric.specs.declared.deliveries.Delivery.{Delivery}
 use Rattle.nz_fabric.specs.declared.course.Course.{Course}
 use Rattle.nz_fabric.specs.declared.course.Traffic.{Traffic}

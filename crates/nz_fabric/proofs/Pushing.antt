@@ -7,9 +7,9 @@ use Rattle.nz_base.specs.declared.actor.Actor.{Actor}
 use Rattle.nz_machine.specs.declared.event.Event.{Event}
 use Rattle.nz_machine.specs.declared.event.Parcel.{Parcel}
 use Rattle.nz_machine.specs.declared.event.Record.{Record}
-use Rattle.nz_machine.specs.State.{Group, State}
-use Rattle.nz_machine.specs.Step.{Node, node_run}
-use Rattle.nz_machine.proofs.Runs.{acts_itself}
+use Rattle.nz_machine.specs.rules.State.{Group, State}
+use Rattle.nz_machine.specs.rules.Step.{Node, node_run}
+use Rattle.nz_machine.proofs.runs.Runs.{acts_itself}
 use Rattle.nz_fabric.specs.Records.{ActorSteps, AddsSome, steps_of, with_step}
 use Rattle.nz_fabric.specs.Steps.{batch_records, node_after, sends_from, step_of, with_steps}
 

@@ -7,8 +7,8 @@ use Rattle.std.proofs.lemmas.Option.{slice_get_within}
 use Rattle.nz_base.specs.declared.scenario.Scenario.{Scenario}
 use Rattle.nz_machine.specs.declared.event.Parcel.{Parcel}
 use Rattle.nz_machine.specs.declared.event.Record.{Record}
-use Rattle.nz_machine.specs.Schedule.{Posted, posted_in}
-use Rattle.nz_machine.proofs.ListParts.{take_next}
+use Rattle.nz_machine.specs.runs.Schedule.{Posted, posted_in}
+use Rattle.nz_machine.proofs.lists.ListParts.{take_next}
 use Rattle.nz_fabric.specs.Calendars.{Dates, StandsFor, HasPosted, posted_by}
 use Rattle.nz_fabric.proofs.Dating.{posted_push}
 

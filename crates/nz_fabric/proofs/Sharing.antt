@@ -13,12 +13,12 @@ use Rattle.nz_base.specs.declared.scenario.Scenario.{Scenario}
 use Rattle.nz_machine.specs.declared.event.Event.{Event}
 use Rattle.nz_machine.specs.declared.event.Record.{Record}
 use Rattle.nz_machine.specs.declared.journal.Item.{Item}
-use Rattle.nz_machine.specs.Schedule.{item, item_of, due, posted_by_run, ScheduledTo, IsPlayable}
-use Rattle.nz_machine.specs.State.{Group}
-use Rattle.nz_machine.specs.Step.{Node}
+use Rattle.nz_machine.specs.runs.Schedule.{item, item_of, due, posted_by_run, ScheduledTo, IsPlayable}
+use Rattle.nz_machine.specs.rules.State.{Group}
+use Rattle.nz_machine.specs.rules.Step.{Node}
 use Rattle.nz_machine.specs.declared.event.Parcel.{Parcel}
-use Rattle.nz_machine.proofs.EachItem.{all_append, all_of_prefix}
-use Rattle.nz_machine.proofs.ListParts.{take_next}
+use Rattle.nz_machine.proofs.lists.EachItem.{all_append, all_of_prefix}
+use Rattle.nz_machine.proofs.lists.ListParts.{take_next}
 use Rattle.nz_fabric.specs.Records.{AddsSome}
 use Rattle.nz_fabric.specs.Steps.{batch_records, sends_from, step_of}
 use Rattle.nz_fabric.specs.declared.batch.Batch.{Batch}

@@ -11,7 +11,7 @@ use Rattle.nz_base.specs.declared.actor.Actor.{Actor}
 use Rattle.nz_base.specs.declared.scenario.Fault.{Fault}
 use Rattle.nz_base.specs.declared.scenario.Fault.TheVariants as faults
 use Rattle.nz_machine.specs.declared.event.Parcel.{Parcel}
-use Rattle.nz_machine.specs.Schedule.{Delivery, is_parcel_of, is_nth, is_blocked, is_named, has_kind, kind_in_frame, after_fault, after_faults}
+use Rattle.nz_machine.specs.runs.Schedule.{Delivery, is_parcel_of, is_nth, is_blocked, is_named, has_kind, kind_in_frame, after_fault, after_faults}
 use Rattle.nz_fabric.specs.declared.course.Course.{Course}
 use Rattle.nz_fabric.specs.declared.course.Traffic.{Traffic}
 use Rattle.nz_fabric.specs.Calendars.{course, course_eq, traffic_on, is_about, is_block, is_watched, lines_at, may_strike, may_strike_kind}

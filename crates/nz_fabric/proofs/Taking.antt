@@ -6,7 +6,7 @@ use Rattle.std.specs.List.{position, position_or_len}
 use Rattle.std.proofs.lemmas.List.{get_or_append_left, get_or-append-add, get_or-map, map-append, length-map}
 use Rattle.indexmap.proofs.SetLemmas.{map-remove}
 use Rattle.std.proofs.lemmas.Option.{slice_get_within, get_or_from_slice_get, slice_get_read}
-use Rattle.nz_machine.proofs.EachItem.{all_append, all_imply}
+use Rattle.nz_machine.proofs.lists.EachItem.{all_append, all_imply}
 use Rattle.nz_fabric.specs.declared.batch.Batch.{Batch}
 use Rattle.nz_fabric.specs.Shared.{place_of_batch}
 use Rattle.nz_fabric.specs.Takes.{IsTake, AreTakes, no_batch, batch_in}

@@ -8,8 +8,8 @@ use Rattle.nz_base.specs.declared.scenario.Fault.{Fault}
 use Rattle.nz_base.specs.declared.scenario.Fault.TheVariants as faults
 use Rattle.nz_machine.specs.declared.event.Parcel.{Parcel}
 use Rattle.nz_machine.specs.declared.journal.Item.{Item}
-use Rattle.nz_machine.specs.Schedule.{Delivery as DeliveryModel, is_parcel_of, is_nth, is_blocked, deliveries_later, with_copy, cut_short}
-use Rattle.nz_machine.specs.Schedule.{item, delivery_event, after_faults, whole_in}
+use Rattle.nz_machine.specs.runs.Schedule.{Delivery as DeliveryModel, is_parcel_of, is_nth, is_blocked, deliveries_later, with_copy, cut_short}
+use Rattle.nz_machine.specs.runs.Schedule.{item, delivery_event, after_faults, whole_in}
 use Rattle.nz_fabric.specs.declared.deliveries.Delivery.{Delivery}
 use Rattle.nz_fabric.specs.declared.calendar.Arrival.{Arrival}
 use Rattle.nz_fabric.specs.Calendars.{is_watched, items_in}

@@ -2,7 +2,7 @@
 use Rattle.std.specs.Prelude.{◌≡◌, ℕ, List, ◌∷◌, ◌++◌, length, get_or}
 use Rattle.nz_base.specs.declared.actor.Actor.{Actor}
 use Rattle.nz_machine.specs.declared.event.Record.{Record}
-use Rattle.nz_machine.specs.Steps.{of_actor}
+use Rattle.nz_machine.specs.runs.Steps.{of_actor}
 use Rattle.nz_fabric.specs.Calendars.{number_in_all}
 
 -- An actor with its records, the newest first.

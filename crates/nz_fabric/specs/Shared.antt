@@ -13,7 +13,7 @@ use Rattle.nz_machine.specs.declared.event.Event.TheVariants.{Alarm, Deliver, Cu
 use Rattle.nz_machine.specs.declared.event.Parcel.{Parcel}
 use Rattle.nz_machine.specs.declared.event.Record.{Record}
 use Rattle.nz_machine.specs.declared.journal.Item.{Item}
-use Rattle.nz_machine.specs.Schedule.{item, item_of, IsPlayable}
+use Rattle.nz_machine.specs.runs.Schedule.{item, item_of, IsPlayable}
 use Rattle.nz_fabric.specs.declared.batch.Batch.{Batch}
 use Rattle.nz_fabric.specs.Takes.{no_batch}
 use Rattle.nz_fabric.specs.Calendars.{Dates}

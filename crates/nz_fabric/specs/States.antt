@@ -5,7 +5,7 @@ use Rattle.nz_base.specs.declared.scenario.Scenario.{Scenario}
 use Rattle.nz_machine.specs.declared.event.Parcel.{Parcel}
 use Rattle.nz_machine.specs.declared.event.Record.{Record}
 use Rattle.nz_machine.specs.declared.journal.Item.{Item}
-use Rattle.nz_machine.specs.Schedule.{item, item_of, Posted, posted_by_run, calls, tick_item, actors_of, arrivals, due, InOrderTo, ScheduledTo, IsPlayable}
+use Rattle.nz_machine.specs.runs.Schedule.{item, item_of, Posted, posted_by_run, calls, tick_item, actors_of, arrivals, due, InOrderTo, ScheduledTo, IsPlayable}
 use Rattle.nz_fabric.specs.declared.turn.Turn.{Turn}
 use Rattle.nz_fabric.specs.declared.ticks.Ticks.{Ticks}
 use Rattle.nz_fabric.specs.Calendars.{Dates, StandsFor, posted_by}

@@ -4,9 +4,9 @@ use Rattle.nz_base.specs.declared.actor.Actor.{Actor}
 use Rattle.nz_machine.specs.declared.event.Event.{Event}
 use Rattle.nz_machine.specs.declared.event.Parcel.{Parcel}
 use Rattle.nz_machine.specs.declared.event.Record.{Record}
-use Rattle.nz_machine.specs.State.{Group}
-use Rattle.nz_machine.specs.Step.{Node, node_run, node_step}
-use Rattle.nz_machine.specs.World.{state_after}
+use Rattle.nz_machine.specs.rules.State.{Group}
+use Rattle.nz_machine.specs.rules.Step.{Node, node_run, node_step}
+use Rattle.nz_machine.specs.runs.World.{state_after}
 use Rattle.nz_fabric.specs.Records.{ActorSteps, with_step}
 
 -- The actor with the state that its records lead it to.

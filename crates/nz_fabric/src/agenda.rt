@@ -3,7 +3,7 @@
 ghost use Rattle.std.specs.Prelude.{◌≡◌, ◌<◌, ◌≤◌, ◌+◌, ◌^◌, ◌↔◌, length, map, drop, take, not, slice_get, Some, IsTrue, IfOk, OnErr};
 ghost use Rattle.std.specs.List.{position};
 ghost use Rattle.nz_base.specs.Actor.{actor_eq};
-ghost use Rattle.nz_machine.specs.Schedule.{item};
+ghost use Rattle.nz_machine.specs.runs.Schedule.{item};
 ghost use Rattle.nz_fabric.specs.Shared.{run_of};
 ghost use Rattle.nz_fabric.specs.Agendas.{at_start};
 

@@ -1,11 +1,11 @@
 //! The network of a run on one thread.
 
 ghost use Rattle.std.specs.Prelude.{◌≡◌, ◌⊎◌, ◌<◌, [], length, reverse, true, false, IfOk, OnOk, IfSome, MatchResult, MatchOption, MatchBool};
-ghost use Rattle.nz_machine.specs.Journals.{run_in};
-ghost use Rattle.nz_machine.specs.Schedule.{InOrder, IsPlayable};
-ghost use Rattle.nz_machine.specs.State.{Group};
-ghost use Rattle.nz_machine.specs.Tellings.{AreNoted};
-ghost use Rattle.nz_machine.specs.World.{World};
+ghost use Rattle.nz_machine.specs.journals.Journals.{run_in};
+ghost use Rattle.nz_machine.specs.runs.Schedule.{InOrder, IsPlayable};
+ghost use Rattle.nz_machine.specs.rules.State.{Group};
+ghost use Rattle.nz_machine.specs.journals.Tellings.{AreNoted};
+ghost use Rattle.nz_machine.specs.runs.World.{World};
 ghost use Rattle.nz_fabric.specs.States.{IsDone, IsKeptRun, IsNextTurn, IsOpen, after_tick, records_of, start_state, with_mark, with_recorded, with_taken};
 
 use crate::agenda::Agenda;

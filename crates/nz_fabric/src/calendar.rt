@@ -14,7 +14,7 @@ ghost use Rattle.std.specs.Prelude.{◌≡◌, ◌-◌, ◌<◌, ◌≤◌, ◌^
 ghost use Rattle.std.specs.Prelude.{None, Some, IfOk, OnOk, OnErr};
 ghost use Rattle.nz_base.specs.declared.scenario.Scenario.{Scenario as ScenarioModel};
 ghost use Rattle.nz_machine.specs.declared.event.Parcel.{Parcel as ParcelModel};
-ghost use Rattle.nz_machine.specs.Schedule.{IsPlayable, Posted, posted_in, arrivals, kind_in_frame};
+ghost use Rattle.nz_machine.specs.runs.Schedule.{IsPlayable, Posted, posted_in, arrivals, kind_in_frame};
 ghost use Rattle.nz_fabric.specs.Calendars.{course, StandsFor, IsCounted, IsOneMore, KeepsLines, counted_kind, no_dates, items_in};
 ghost use Rattle.nz_fabric.specs.Calendars.{lines_at, next_number, traffic_of, traffic_on};
 ghost use Rattle.nz_fabric.specs.Posting.{arrival_of, items_arriving, arrivals_by, arrivals_up_to, days_of, HasNumber, HasRoomFor, HasRooms};

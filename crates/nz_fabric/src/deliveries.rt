@@ -1,8 +1,8 @@
 //! What one fault line makes of the deliveries of a parcel.
 
 ghost use Rattle.std.specs.Prelude.{◌≡◌, List, map, OnOk};
-ghost use Rattle.nz_machine.specs.Schedule as schedule;
-ghost use Rattle.nz_machine.specs.Schedule.{Delivery as DeliveryModel, deliveries_later, with_copy};
+ghost use Rattle.nz_machine.specs.runs.Schedule as schedule;
+ghost use Rattle.nz_machine.specs.runs.Schedule.{Delivery as DeliveryModel, deliveries_later, with_copy};
 ghost use Rattle.nz_fabric.specs.Posting.{delivery_as_stored};
 
 use nz_base::NoMemory;

@@ -2,9 +2,9 @@
 
 ghost use Rattle.std.specs.Prelude.{◌≡◌, ◌<◌, ◌≤◌, ◌+◌, ◌-◌, ◌*◌, ◌^◌, ◌∷◌, ◌++◌, [], ℕ, length, map, vec_capacity, IfOk, OnOk};
 ghost use Rattle.nz_base.specs.Cluster.{replica_count};
-ghost use Rattle.nz_machine.specs.Replicas.{numbers_below};
-ghost use Rattle.nz_machine.specs.Schedule as schedule;
-ghost use Rattle.nz_machine.specs.Schedule.{item, if_in, calls, skew_of, actors_of, tick_item};
+ghost use Rattle.nz_machine.specs.rules.Replicas.{numbers_below};
+ghost use Rattle.nz_machine.specs.runs.Schedule as schedule;
+ghost use Rattle.nz_machine.specs.runs.Schedule.{item, if_in, calls, skew_of, actors_of, tick_item};
 ghost use Rattle.nz_fabric.specs.Dues.{actor_of_sort, restarts_in};
 ghost use Rattle.nz_fabric.specs.Numbered.{items_under};
 

@@ -4,10 +4,10 @@ ghost use Rattle.std.specs.Prelude.{nat_le, ◌≡◌, ◌⊎◌, ◌+◌, ◌<�
 ghost use Rattle.std.specs.List.{list_any};
 ghost use Rattle.nz_fabric.specs.Shared as shared;
 ghost use Rattle.std.specs.Prelude.{IsTrue, IfOk, IfSome, MatchBool, MatchOption, MatchResult};
-ghost use Rattle.nz_machine.specs.Journals.{run_in};
-ghost use Rattle.nz_machine.specs.Schedule.{group_of, IsPlayable, Scheduled};
+ghost use Rattle.nz_machine.specs.journals.Journals.{run_in};
+ghost use Rattle.nz_machine.specs.runs.Schedule.{group_of, IsPlayable, Scheduled};
 ghost use Rattle.nz_fabric.specs.Records.{steps_of, with_step};
-ghost use Rattle.nz_machine.specs.Steps.{AreSteps};
+ghost use Rattle.nz_machine.specs.runs.Steps.{AreSteps};
 ghost use Rattle.nz_fabric.specs.Steps.{batch_records, node_after, sends_after, sends_from, with_steps};
 ghost use Rattle.nz_fabric.specs.States.{records_of};
 ghost use Rattle.nz_fabric.specs.Shared.{HasNext, IsAccounted, IsGivenUp, IsLost, IsNextOf, IsNextTick, IsOver, MustWait, ClosesBatch, IsWhole};

@@ -2,8 +2,8 @@
 
 ghost use Rattle.std.specs.Prelude.{◌≡◌, ◌+◌, ◌&&◌, ◌==◌, ◌∷◌, ◌++◌, [], List, map, IfOk, OnOk};
 ghost use Rattle.nz_machine.specs.declared.event.Parcel.{Parcel as ParcelModel};
-ghost use Rattle.nz_machine.specs.Schedule as schedule;
-ghost use Rattle.nz_machine.specs.Schedule.{Delivery as DeliveryModel, is_parcel_of, kind_in_frame, whole_in, after_fault, after_faults};
+ghost use Rattle.nz_machine.specs.runs.Schedule as schedule;
+ghost use Rattle.nz_machine.specs.runs.Schedule.{Delivery as DeliveryModel, is_parcel_of, kind_in_frame, whole_in, after_fault, after_faults};
 ghost use Rattle.nz_fabric.specs.Calendars as calendars;
 ghost use Rattle.nz_fabric.specs.Posting as posting;
 ghost use Rattle.nz_fabric.specs.Posting.{delivery_as_stored, after_strike, HasNumber};

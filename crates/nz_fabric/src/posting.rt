@@ -2,7 +2,7 @@
 
 ghost use Rattle.std.specs.Prelude.{◌≡◌, ◌<◌, ◌≤◌, ◌++◌, ℕ, List, Some, length, drop, map, slice_get, OnOk, OnErr};
 ghost use Rattle.nz_machine.specs.declared.event.Record.{Record};
-ghost use Rattle.nz_machine.specs.Schedule.{IsPlayable, Posted, posted_in};
+ghost use Rattle.nz_machine.specs.runs.Schedule.{IsPlayable, Posted, posted_in};
 ghost use Rattle.nz_fabric.specs.Calendars.{StandsFor, HasPosted, posted_by};
 
 use crate::calendar::Calendar;

@@ -1,10 +1,10 @@
 //! The records of a run, and how many each actor has.
 
 ghost use Rattle.std.specs.Prelude.{◌≡◌, ◌+◌, ◌<◌, ◌≤◌, ◌^◌, ◌∷◌, ◌++◌, [], ◌↔◌, length, reverse, replicate, IsTrue, MatchBool, IfOk, OnOk};
-ghost use Rattle.nz_machine.specs.Schedule.{group_of};
+ghost use Rattle.nz_machine.specs.runs.Schedule.{group_of};
 ghost use Rattle.nz_fabric.specs.Calendars.{number_in_all};
 ghost use Rattle.nz_fabric.specs.Records.{steps_of, with_step, AddsSome};
-ghost use Rattle.nz_machine.specs.Steps.{AreSteps};
+ghost use Rattle.nz_machine.specs.runs.Steps.{AreSteps};
 ghost use Rattle.nz_fabric.specs.Steps.{batch_records, node_after, sends_after, sends_from, with_steps};
 
 use crate::chronicle::{Chronicle, RecordsOf, Seen, Unnamed};
@@ -32,10 +32,10 @@ pub struct Records<N: Name> {
 
 impl<N: Name> Model for Records<N> {
     ghost use Rattle.std.specs.Prelude.{◌≡◌, reverse};
-    ghost use Rattle.nz_machine.specs.Records.{Recorded};
-    ghost use Rattle.nz_machine.specs.Schedule.{group_of};
+    ghost use Rattle.nz_machine.specs.journals.Records.{Recorded};
+    ghost use Rattle.nz_machine.specs.runs.Schedule.{group_of};
     ghost use Rattle.nz_fabric.specs.Records.{AreCounts};
-    ghost use Rattle.nz_machine.specs.Steps.{AreSteps};
+    ghost use Rattle.nz_machine.specs.runs.Steps.{AreSteps};
 
     ghost Value = { Recorded };
 

@@ -2,7 +2,7 @@
 
 ghost use Rattle.std.specs.Prelude.{◌≡◌, ◌<◌, ◌≤◌, ℕ, List};
 ghost use Rattle.std.specs.Prelude.{IfOk, OnErr};
-ghost use Rattle.nz_machine.specs.Schedule as schedule;
+ghost use Rattle.nz_machine.specs.runs.Schedule as schedule;
 ghost use Rattle.nz_fabric.specs.Numbered.{items_under};
 
 use crate::calendar::Calendar;
@@ -27,7 +27,7 @@ pub struct Ticks {
 
 impl Ticks {
     ghost use Rattle.nz_base.specs.declared.limits.TheConstants.{MAX_TICKS};
-    ghost use Rattle.nz_machine.specs.Schedule.{Posted};
+    ghost use Rattle.nz_machine.specs.runs.Schedule.{Posted};
     ghost use Rattle.nz_fabric.specs.Calendars.{StandsFor};
     ghost use Rattle.nz_fabric.specs.States.{HasBegun, IsNew};
 

@@ -16,23 +16,23 @@ use Rattle.nz_machine.specs.declared.event.Event.{Event}
 use Rattle.nz_machine.specs.declared.event.Event.TheVariants.{Deliver}
 use Rattle.nz_machine.specs.declared.event.Parcel.{Parcel}
 use Rattle.nz_machine.specs.declared.event.Record.{Record}
-use Rattle.nz_machine.specs.State.{ClientData, Group}
-use Rattle.nz_machine.specs.Step.{accepted_envelope, envelope_step, event_step}
-use Rattle.nz_machine.specs.World.{state_after, Has, MayHappen, World}
-use Rattle.nz_machine.specs.Events.{ClientEvent, Sent, Accepted, id_at, client_events, events}
+use Rattle.nz_machine.specs.rules.State.{ClientData, Group}
+use Rattle.nz_machine.specs.rules.Step.{accepted_envelope, envelope_step, event_step}
+use Rattle.nz_machine.specs.runs.World.{state_after, Has, MayHappen, World}
+use Rattle.nz_machine.specs.runs.Events.{ClientEvent, Sent, Accepted, id_at, client_events, events}
 use Rattle.nz_machine.specs.declared.reply.Reply.{Reply}
-use Rattle.nz_machine.specs.Quorums.{view_of}
-use Rattle.nz_machine.specs.Committed.{view_of_sender, accepted_view, AcceptsIn, IsAcceptedIn}
-use Rattle.nz_machine.specs.History.{ReplySource, source_of_sender, accepted_source, prefix_at_source, accepted_prefix, entries_or, prefix_in}
-use Rattle.nz_machine.specs.OneHistory.{IsAccepted}
-use Rattle.nz_machine.proofs.Runs.{acts_itself, delivered, has_left}
+use Rattle.nz_machine.specs.rules.Quorums.{view_of}
+use Rattle.nz_machine.specs.runs.Committed.{view_of_sender, accepted_view, AcceptsIn, IsAcceptedIn}
+use Rattle.nz_machine.specs.runs.History.{ReplySource, source_of_sender, accepted_source, prefix_at_source, accepted_prefix, entries_or, prefix_in}
+use Rattle.nz_machine.specs.runs.OneHistory.{IsAccepted}
+use Rattle.nz_machine.proofs.runs.Runs.{acts_itself, delivered, has_left}
 use Rattle.nz_base.specs.Moments.{At}
 use Rattle.nz_base.proofs.Moments.{at_self}
-use Rattle.nz_machine.proofs.Moments.{at_world}
-use Rattle.nz_machine.proofs.Sources.{has_source}
-use Rattle.nz_machine.proofs.FitRuns.{Fitted, FittedState, fits_keep, all_fit}
+use Rattle.nz_machine.proofs.runs.Moments.{at_world}
+use Rattle.nz_machine.proofs.runs.Sources.{has_source}
+use Rattle.nz_machine.proofs.runs.FitRuns.{Fitted, FittedState, fits_keep, all_fit}
 use Rattle.std.proofs.lemmas.Option.{none-some, same_Some}
-use Rattle.nz_machine.specs.Leading.{leader_at}
+use Rattle.nz_machine.specs.runs.Leading.{leader_at}
 use Rattle.nz_base.proofs.Prefixes.{prefix_length}
 use Rattle.nz_base.specs.declared.limits.TheConstants.{MAX_ENTRIES}
 use Rattle.nz_laws_commit.proofs.Places.{own_prefix}
@@ -42,7 +42,7 @@ use Rattle.nz_laws_commit.proofs.Answering.{IsGiven, given_later}
 use Rattle.nz_laws_commit.proofs.ReplySources.{delivers}
 use Rattle.nz_laws_commit.proofs.NotedWereSent.{IsBacked, backed_later}
 use Rattle.nz_laws_commit.proofs.AnswersSent.{LeadsBack, answer_source}
-use Rattle.nz_machine.proofs.Accepting.{IsAnswerTo, client_accepts}
+use Rattle.nz_machine.proofs.journals.Accepting.{IsAnswerTo, client_accepts}
 use Rattle.nz_laws_commit.proofs.ClientEvents.{AcceptsAnswer, told_accepted}
 use Rattle.nz_laws_commit.proofs.OwnCommands.{WasSent, own_command}
 

@@ -10,13 +10,13 @@ use Rattle.nz_base.proofs.Moments.{at_then, at_tail}
 use Rattle.nz_msg.specs.declared.message.SyncReportBody.{SyncReportBody}
 use Rattle.nz_msg.specs.declared.message.Message.TheVariants as messages
 use Rattle.nz_machine.specs.declared.event.Record.{Record}
-use Rattle.nz_machine.specs.State.{Group}
-use Rattle.nz_machine.specs.Replicas.{is_normal}
-use Rattle.nz_machine.specs.Shows.{ShowsReport}
-use Rattle.nz_machine.specs.World.{World}
-use Rattle.nz_machine.specs.Incarnations.{replica_at}
-use Rattle.nz_machine.proofs.Moments.{at_world}
-use Rattle.nz_machine.proofs.ReadShows.{shown_by}
+use Rattle.nz_machine.specs.rules.State.{Group}
+use Rattle.nz_machine.specs.rules.Replicas.{is_normal}
+use Rattle.nz_machine.specs.runs.Shows.{ShowsReport}
+use Rattle.nz_machine.specs.runs.World.{World}
+use Rattle.nz_machine.specs.runs.Incarnations.{replica_at}
+use Rattle.nz_machine.proofs.runs.Moments.{at_world}
+use Rattle.nz_machine.proofs.shows.ReadShows.{shown_by}
 use Rattle.nz_laws_cv.proofs.Turns.{TurnState, tallying, Turn, Stays, Release, Merge, Sync, Tally, Enter, Follow, Answer, Collect, Begin}
 use Rattle.nz_laws_cv.proofs.Turns.{Start, Fall, Wake, HearVector, Count, HearView, Forget, AskLog, Return, Back}
 use Rattle.nz_laws_cv.proofs.TurnRules.{heard_by}

@@ -16,21 +16,21 @@ use Rattle.nz_msg.specs.declared.message.Message.TheVariants.{FastReply}
 use Rattle.nz_msg.specs.declared.envelope.Envelope.{Envelope}
 use Rattle.nz_machine.specs.declared.event.Parcel.{Parcel}
 use Rattle.nz_machine.specs.declared.event.Record.{Record}
-use Rattle.nz_machine.specs.State.{Group}
-use Rattle.nz_machine.specs.Replicas.{is_normal, leads, commands}
-use Rattle.nz_machine.specs.Step.{event_step}
-use Rattle.nz_machine.specs.World.{state_after, Has, World}
-use Rattle.nz_machine.specs.History.{log_at, cut_after}
-use Rattle.nz_machine.specs.OneHistory.{IsAnswered}
+use Rattle.nz_machine.specs.rules.State.{Group}
+use Rattle.nz_machine.specs.rules.Replicas.{is_normal, leads, commands}
+use Rattle.nz_machine.specs.rules.Step.{event_step}
+use Rattle.nz_machine.specs.runs.World.{state_after, Has, World}
+use Rattle.nz_machine.specs.runs.History.{log_at, cut_after}
+use Rattle.nz_machine.specs.runs.OneHistory.{IsAnswered}
 use Rattle.nz_base.specs.Moments.{At}
-use Rattle.nz_machine.proofs.Moments.{at_world}
-use Rattle.nz_machine.specs.Leading.{is_normal_in, leader_at, is_led}
-use Rattle.nz_machine.specs.Hearing.{heard_at}
-use Rattle.nz_machine.specs.Shows.{ShowsFast, Shows}
+use Rattle.nz_machine.proofs.runs.Moments.{at_world}
+use Rattle.nz_machine.specs.runs.Leading.{is_normal_in, leader_at, is_led}
+use Rattle.nz_machine.specs.runs.Hearing.{heard_at}
+use Rattle.nz_machine.specs.runs.Shows.{ShowsFast, Shows}
 use Rattle.nz_base.proofs.Moments.{at_then}
 use Rattle.nz_laws_commit.proofs.Places.{EndsAnswered, cut_answered}
 use Rattle.nz_laws_commit.proofs.FactsStay.{facts_stay}
-use Rattle.nz_machine.proofs.SentMessages.{shown}
+use Rattle.nz_machine.proofs.shows.SentMessages.{shown}
 use Rattle.nz_laws_commit.proofs.ReadMessages.{IsTold}
 
 -- ---- an answer of a leader

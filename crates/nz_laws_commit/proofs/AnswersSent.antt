@@ -12,20 +12,20 @@ use Rattle.nz_msg.specs.declared.message.Message.TheVariants as messages
 use Rattle.nz_msg.specs.declared.envelope.Envelope.{Envelope}
 use Rattle.nz_machine.specs.declared.event.Parcel.{Parcel}
 use Rattle.nz_machine.specs.declared.event.Record.{Record}
-use Rattle.nz_machine.specs.State.{ProxyData, Decided, Group}
-use Rattle.nz_machine.specs.Proxies.{standing_of}
-use Rattle.nz_machine.specs.Step.{event_step}
-use Rattle.nz_machine.specs.World.{state_after, Has, World}
-use Rattle.nz_machine.specs.Events.{id_at}
-use Rattle.nz_machine.specs.History.{ReplySource, source_at_decision, source_of_sender, prefix_at_source}
-use Rattle.nz_machine.specs.Quorums.{view_of}
-use Rattle.nz_machine.specs.Committed.{view_at_decision, view_of_sender}
+use Rattle.nz_machine.specs.rules.State.{ProxyData, Decided, Group}
+use Rattle.nz_machine.specs.rules.Proxies.{standing_of}
+use Rattle.nz_machine.specs.rules.Step.{event_step}
+use Rattle.nz_machine.specs.runs.World.{state_after, Has, World}
+use Rattle.nz_machine.specs.runs.Events.{id_at}
+use Rattle.nz_machine.specs.runs.History.{ReplySource, source_at_decision, source_of_sender, prefix_at_source}
+use Rattle.nz_machine.specs.rules.Quorums.{view_of}
+use Rattle.nz_machine.specs.runs.Committed.{view_at_decision, view_of_sender}
 use Rattle.nz_machine.specs.declared.reply.Reply.{Reply}
-use Rattle.nz_machine.proofs.Moments.{at_world}
+use Rattle.nz_machine.proofs.runs.Moments.{at_world}
 use Rattle.nz_base.proofs.Moments.{at_then}
-use Rattle.nz_machine.specs.Hearing.{heard_at}
-use Rattle.nz_machine.specs.Shows.{ShowsAnswer, Shows}
-use Rattle.nz_machine.proofs.SentMessages.{shown}
+use Rattle.nz_machine.specs.runs.Hearing.{heard_at}
+use Rattle.nz_machine.specs.runs.Shows.{ShowsAnswer, Shows}
+use Rattle.nz_machine.proofs.shows.SentMessages.{shown}
 use Rattle.nz_laws_commit.proofs.ReadMessages.{IsTold}
 use Rattle.nz_laws_commit.proofs.Answering.{IsGiven, given_later}
 use Rattle.nz_laws_commit.proofs.NotedWereSent.{IsBacked, backed_later}

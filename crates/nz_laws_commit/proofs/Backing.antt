@@ -10,8 +10,8 @@ use Rattle.nz_math.specs.Count.{everyone}
 use Rattle.nz_math.specs.Quorum.{group_size}
 use Rattle.nz_math.proofs.Counting.{count_everyone}
 use Rattle.nz_machine.specs.declared.event.Record.{Record}
-use Rattle.nz_machine.specs.State.{Group}
-use Rattle.nz_machine.specs.World.{state_after}
+use Rattle.nz_machine.specs.rules.State.{Group}
+use Rattle.nz_machine.specs.runs.World.{state_after}
 use Rattle.nz_laws_commit.specs.Supports.{IsLedAt, IsNormal, Support}
 use Rattle.nz_laws_commit.specs.Instance.{logs_of}
 use Rattle.nz_laws_commit.proofs.RunLaws.{RunLaws}

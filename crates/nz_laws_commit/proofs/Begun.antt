@@ -17,13 +17,13 @@ use Rattle.nz_merge.specs.declared.change.Change.{Change}
 use Rattle.nz_merge.specs.Sender.{senders}
 use Rattle.nz_machine.specs.declared.data.Reported.{Reported}
 use Rattle.nz_machine.specs.declared.event.Record.{Record}
-use Rattle.nz_machine.specs.State.{Group}
-use Rattle.nz_machine.specs.Begins.{own_change}
-use Rattle.nz_machine.specs.World.{Has, World}
-use Rattle.nz_machine.specs.Incarnations.{replica_at}
-use Rattle.nz_machine.specs.Leading.{leader_at, is_led}
-use Rattle.nz_machine.specs.Begun.{begins, start, IsMemberOf}
-use Rattle.nz_machine.proofs.Moments.{at_world}
+use Rattle.nz_machine.specs.rules.State.{Group}
+use Rattle.nz_machine.specs.rules.Begins.{own_change}
+use Rattle.nz_machine.specs.runs.World.{Has, World}
+use Rattle.nz_machine.specs.runs.Incarnations.{replica_at}
+use Rattle.nz_machine.specs.runs.Leading.{leader_at, is_led}
+use Rattle.nz_machine.specs.runs.Begun.{begins, start, IsMemberOf}
+use Rattle.nz_machine.proofs.runs.Moments.{at_world}
 use Rattle.nz_laws_cv.proofs.TurnRules.{changing_up}
 use Rattle.nz_laws_cv.proofs.WithinIncarnation.{sound_at}
 use Rattle.nz_laws_cv.proofs.Showing.{shows}

@@ -5,9 +5,9 @@ use Rattle.std.specs.Prelude.{nat_lt}
 use Rattle.std.specs.List.{filter, list_any}
 use Rattle.std.proofs.lemmas.Option.{none-some, same_Some}
 use Rattle.nz_machine.specs.declared.reply.Reply.{Reply}
-use Rattle.nz_machine.specs.Quorums.{view_of, has_slow_quorum, has_fast_quorum, of_lesser_view, first_of_least_view}
-use Rattle.nz_machine.specs.Quorums.{fast_lead, slow_lead, Chosen, slow_or_none, fast_or, decision}
-use Rattle.nz_machine.specs.World.{Has}
+use Rattle.nz_machine.specs.rules.Quorums.{view_of, has_slow_quorum, has_fast_quorum, of_lesser_view, first_of_least_view}
+use Rattle.nz_machine.specs.rules.Quorums.{fast_lead, slow_lead, Chosen, slow_or_none, fast_or, decision}
+use Rattle.nz_machine.specs.runs.World.{Has}
 
 -- the replies and the one that decides have a slow quorum, or a fast one
 pub data HasQuorum (f : ℕ) (replies : List Reply) (r : Reply) : Type 0 where

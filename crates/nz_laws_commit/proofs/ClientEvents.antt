@@ -13,13 +13,13 @@ use Rattle.nz_msg.specs.declared.message.Message.{Message}
 use Rattle.nz_msg.specs.declared.message.Message.TheVariants as messages
 use Rattle.nz_msg.specs.declared.envelope.Envelope.{Envelope}
 use Rattle.nz_machine.specs.declared.event.Record.{Record}
-use Rattle.nz_machine.specs.State.{ClientData, Group}
-use Rattle.nz_machine.specs.Step.{script_of}
-use Rattle.nz_machine.specs.World.{state_after, Has}
-use Rattle.nz_machine.specs.Events.{ClientEvent, Sent, Accepted, id_at, script_command, read_in, accepted_in}
-use Rattle.nz_machine.specs.Events.{accepted_by, sent_after, sent_by, client_events, events}
-use Rattle.nz_machine.proofs.Runs.{may_act, has_left, has_right, has_split}
-use Rattle.nz_machine.proofs.InTurn.{InTurn, Turns, first_in_turn, event_turns, none_turns}
+use Rattle.nz_machine.specs.rules.State.{ClientData, Group}
+use Rattle.nz_machine.specs.rules.Step.{script_of}
+use Rattle.nz_machine.specs.runs.World.{state_after, Has}
+use Rattle.nz_machine.specs.runs.Events.{ClientEvent, Sent, Accepted, id_at, script_command, read_in, accepted_in}
+use Rattle.nz_machine.specs.runs.Events.{accepted_by, sent_after, sent_by, client_events, events}
+use Rattle.nz_machine.proofs.runs.Runs.{may_act, has_left, has_right, has_split}
+use Rattle.nz_machine.proofs.journals.InTurn.{InTurn, Turns, first_in_turn, event_turns, none_turns}
 
 pub same_sent : (a b : Id) (x y : List ℕ) → Sent a x ≡ Sent b y → a ≡ b
 same_sent a b x y e = cc

@@ -11,14 +11,14 @@ use Rattle.nz_msg.specs.declared.message.Message.{Message}
 use Rattle.nz_msg.specs.declared.message.Message.TheVariants as messages
 use Rattle.nz_msg.specs.declared.message.Message.TheVariants.{Answer}
 use Rattle.nz_machine.specs.declared.data.Attempt.{Attempt}
-use Rattle.nz_machine.specs.State.{ClientData, Out}
-use Rattle.nz_machine.specs.Clients.{if_due, after_opening, open_next, fill_places, fill_window, is_overdue, after_wait}
-use Rattle.nz_machine.specs.Clients.{request_again, retry, retries, wait_rule, is_open, after_acceptance, accept_rule}
-use Rattle.nz_machine.specs.Step.{client_message}
-use Rattle.nz_machine.specs.Events.{script_command}
-use Rattle.nz_machine.proofs.EachItem.{all_append, all_imply}
-use Rattle.nz_machine.proofs.InTurn.{Rises, rises_most, InTurn, if_due_is}
-use Rattle.nz_machine.proofs.ProgressIsTold.{own_command}
+use Rattle.nz_machine.specs.rules.State.{ClientData, Out}
+use Rattle.nz_machine.specs.rules.Clients.{if_due, after_opening, open_next, fill_places, fill_window, is_overdue, after_wait}
+use Rattle.nz_machine.specs.rules.Clients.{request_again, retry, retries, wait_rule, is_open, after_acceptance, accept_rule}
+use Rattle.nz_machine.specs.rules.Step.{client_message}
+use Rattle.nz_machine.specs.runs.Events.{script_command}
+use Rattle.nz_machine.proofs.lists.EachItem.{all_append, all_imply}
+use Rattle.nz_machine.proofs.journals.InTurn.{Rises, rises_most, InTurn, if_due_is}
+use Rattle.nz_machine.proofs.journals.ProgressIsTold.{own_command}
 
 -- a request that is sent has a number of the client, and the script's command
 pub record IsAsked (script : List Request) (sent num : ℕ) (command : List ℕ) : Type 0 where

@@ -11,8 +11,8 @@ use Rattle.nz_math.specs.Count.{one_if, count_below, all_but}
 use Rattle.nz_math.specs.Quorum.{slow_quorum}
 use Rattle.nz_math.proofs.Counting.{count_same, count_add, count_all_but}
 use Rattle.nz_window.specs.Samples.{with_number, numbers_in_order}
-use Rattle.nz_machine.specs.Replicas.{numbers_below, others}
-use Rattle.nz_machine.specs.LogMods.{commit_point}
+use Rattle.nz_machine.specs.rules.Replicas.{numbers_below, others}
+use Rattle.nz_machine.specs.rules.LogMods.{commit_point}
 
 -- how many of the numbers are at least c
 abbrev at_least_in : ℕ → List ℕ → ℕ

@@ -25,17 +25,17 @@ use Rattle.nz_merge.proofs.Senders.{contains_first}
 use Rattle.nz_msg.specs.declared.message.LogModBody.{LogModBody}
 use Rattle.nz_machine.specs.declared.data.Reported.{Reported}
 use Rattle.nz_machine.specs.declared.event.Record.{Record}
-use Rattle.nz_machine.specs.Facts.{HasFacts}
-use Rattle.nz_machine.specs.State.{ReplicaData, Group}
-use Rattle.nz_machine.specs.Replicas.{is_normal, is_changing, is_up}
-use Rattle.nz_machine.specs.Begins.{own_change}
-use Rattle.nz_machine.specs.LogMods.{commit_point}
-use Rattle.nz_machine.specs.World.{Has, World}
-use Rattle.nz_machine.specs.Incarnations.{replica_at}
-use Rattle.nz_machine.specs.Leading.{is_normal_in, leader_at, is_led}
-use Rattle.nz_machine.proofs.Guards.{HearsLeader}
-use Rattle.nz_machine.proofs.Moments.{at_world}
-use Rattle.nz_machine.proofs.Runs.{stays}
+use Rattle.nz_machine.specs.rules.Facts.{HasFacts}
+use Rattle.nz_machine.specs.rules.State.{ReplicaData, Group}
+use Rattle.nz_machine.specs.rules.Replicas.{is_normal, is_changing, is_up}
+use Rattle.nz_machine.specs.rules.Begins.{own_change}
+use Rattle.nz_machine.specs.rules.LogMods.{commit_point}
+use Rattle.nz_machine.specs.runs.World.{Has, World}
+use Rattle.nz_machine.specs.runs.Incarnations.{replica_at}
+use Rattle.nz_machine.specs.runs.Leading.{is_normal_in, leader_at, is_led}
+use Rattle.nz_machine.proofs.facts.Guards.{HearsLeader}
+use Rattle.nz_machine.proofs.runs.Moments.{at_world}
+use Rattle.nz_machine.proofs.runs.Runs.{stays}
 use Rattle.nz_laws_cv.proofs.Turns.{TurnState, tallying, Taken, Modifies, Grown, Same, More, MayStart, Base, Turn, Stays, Release, Merge, Sync, Tally}
 use Rattle.nz_laws_cv.proofs.Turns.{Enter, Follow, Answer, Collect, Begin, Start, Fall, Wake, HearVector, Count, HearView, Forget, AskLog, Return, Back}
 use Rattle.nz_laws_cv.proofs.TurnRules.{normal_up, changing_up, up_kinds, heard_by}

@@ -14,15 +14,15 @@ use Rattle.nz_base.proofs.Moments.{at_self}
 use Rattle.nz_store.specs.Sequence.{replies}
 use Rattle.nz_log.specs.Synced.{synced_part}
 use Rattle.nz_machine.specs.declared.event.Record.{Record}
-use Rattle.nz_machine.specs.State.{Group}
-use Rattle.nz_machine.specs.Replicas.{commands}
-use Rattle.nz_machine.specs.World.{Has, World}
-use Rattle.nz_machine.specs.Events.{Sent}
-use Rattle.nz_machine.specs.OneHistory.{NoCollision}
-use Rattle.nz_machine.specs.Leading.{is_normal_in, leader_at, is_led, lead}
-use Rattle.nz_machine.specs.Committed.{Prefixes}
-use Rattle.nz_machine.specs.Incarnations.{replica_at}
-use Rattle.nz_machine.proofs.Moments.{at_world}
+use Rattle.nz_machine.specs.rules.State.{Group}
+use Rattle.nz_machine.specs.rules.Replicas.{commands}
+use Rattle.nz_machine.specs.runs.World.{Has, World}
+use Rattle.nz_machine.specs.runs.Events.{Sent}
+use Rattle.nz_machine.specs.runs.OneHistory.{NoCollision}
+use Rattle.nz_machine.specs.runs.Leading.{is_normal_in, leader_at, is_led, lead}
+use Rattle.nz_machine.specs.runs.Committed.{Prefixes}
+use Rattle.nz_machine.specs.runs.Incarnations.{replica_at}
+use Rattle.nz_machine.proofs.runs.Moments.{at_world}
 use Rattle.nz_laws_cv.proofs.Beginnings.{normal_in_is}
 use Rattle.nz_laws_commit.specs.Does.{FollowsRules}
 use Rattle.nz_laws_commit.specs.Instance.{states_of, logs_of}

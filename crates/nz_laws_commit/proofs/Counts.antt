@@ -16,15 +16,15 @@ use Rattle.nz_msg.specs.declared.envelope.Envelope.{Envelope}
 use Rattle.nz_machine.specs.declared.event.Event.{Event}
 use Rattle.nz_machine.specs.declared.event.Event.TheVariants.{Deliver, Cut, Tick, Alarm, Crash, Restart}
 use Rattle.nz_machine.specs.declared.event.Record.{Record}
-use Rattle.nz_machine.specs.State.{ClientData, Group}
-use Rattle.nz_machine.specs.Clients.{is_open}
-use Rattle.nz_machine.specs.Step.{script_of, client_message, envelope_step, event_step}
-use Rattle.nz_machine.specs.World.{state_after, Has}
-use Rattle.nz_machine.specs.Events.{ClientEvent, Sent, Accepted, id_at, script_command, read_in, accepted_in}
-use Rattle.nz_machine.specs.Events.{accepted_by, sent_after, sent_by, client_events, events}
-use Rattle.nz_machine.specs.OneHistory.{Precedes}
-use Rattle.nz_machine.proofs.Runs.{acts_itself, has_left, has_right, has_split}
-use Rattle.nz_machine.proofs.InTurn.{InTurn, open_within, answer_takes}
+use Rattle.nz_machine.specs.rules.State.{ClientData, Group}
+use Rattle.nz_machine.specs.rules.Clients.{is_open}
+use Rattle.nz_machine.specs.rules.Step.{script_of, client_message, envelope_step, event_step}
+use Rattle.nz_machine.specs.runs.World.{state_after, Has}
+use Rattle.nz_machine.specs.runs.Events.{ClientEvent, Sent, Accepted, id_at, script_command, read_in, accepted_in}
+use Rattle.nz_machine.specs.runs.Events.{accepted_by, sent_after, sent_by, client_events, events}
+use Rattle.nz_machine.specs.runs.OneHistory.{Precedes}
+use Rattle.nz_machine.proofs.runs.Runs.{acts_itself, has_left, has_right, has_split}
+use Rattle.nz_machine.proofs.journals.InTurn.{InTurn, open_within, answer_takes}
 use Rattle.nz_laws_commit.specs.Once.{AreOnce}
 use Rattle.nz_laws_commit.proofs.ClientEvents.{AcceptsAnswer, told_sent, told_accepted, same_sent, not_sent, not_accepted}
 use Rattle.nz_laws_commit.proofs.ClientEvents.{is_after, not_sent_before, has_sent, in_turn, turns}

@@ -10,16 +10,16 @@ use Rattle.nz_store.specs.declared.command.Answer.{Answer}
 use Rattle.nz_msg.specs.declared.message.Path.{Path}
 use Rattle.nz_machine.specs.declared.event.Record.{Record}
 use Rattle.nz_machine.specs.declared.reply.Reply.{Reply}
-use Rattle.nz_machine.specs.State.{Standing, Open, Decided, Group}
-use Rattle.nz_machine.specs.Quorums.{Chosen, decision, reply_eq, answer_in, with_note, view_of}
-use Rattle.nz_machine.specs.World.{state_after, Has, World}
-use Rattle.nz_machine.specs.Events.{read_in}
-use Rattle.nz_machine.specs.History.{older_or, standing_after, is_decided, decision_moment, replies_of, reply_read, with_reply_noted, replies_at_last}
-use Rattle.nz_machine.specs.History.{deciding_reply, ReplySource, source_of_reply, source_at_decision, prefix_at_source}
+use Rattle.nz_machine.specs.rules.State.{Standing, Open, Decided, Group}
+use Rattle.nz_machine.specs.rules.Quorums.{Chosen, decision, reply_eq, answer_in, with_note, view_of}
+use Rattle.nz_machine.specs.runs.World.{state_after, Has, World}
+use Rattle.nz_machine.specs.runs.Events.{read_in}
+use Rattle.nz_machine.specs.runs.History.{older_or, standing_after, is_decided, decision_moment, replies_of, reply_read, with_reply_noted, replies_at_last}
+use Rattle.nz_machine.specs.runs.History.{deciding_reply, ReplySource, source_of_reply, source_at_decision, prefix_at_source}
 use Rattle.nz_base.specs.Moments.{At}
 use Rattle.nz_base.proofs.Moments.{at_self}
-use Rattle.nz_machine.proofs.Sources.{reply_eq_self}
-use Rattle.nz_machine.proofs.Choices.{decision_is}
+use Rattle.nz_machine.proofs.runs.Sources.{reply_eq_self}
+use Rattle.nz_machine.proofs.facts.Choices.{decision_is}
 use Rattle.nz_laws_commit.proofs.Answering.{IsGiven}
 use Rattle.nz_laws_commit.proofs.Standings.{Moves, Stays, Forgets, Opens, Notes, Decides}
 use Rattle.nz_laws_commit.proofs.NotedWereSent.{IsBacked}

@@ -14,16 +14,16 @@ use Rattle.nz_base.specs.declared.key.Key.{Key}
 use Rattle.nz_base.specs.declared.key.Entry.{Entry}
 use Rattle.nz_base.proofs.Moments.{at_self, at_then, at_tail, at_shorter}
 use Rattle.nz_machine.specs.declared.event.Record.{Record}
-use Rattle.nz_machine.specs.State.{ReplicaData, Group}
-use Rattle.nz_machine.specs.Facts.{HasFacts}
-use Rattle.nz_machine.specs.Replicas.{is_normal, is_rejoining, is_down}
-use Rattle.nz_machine.specs.World.{state_after, World}
-use Rattle.nz_machine.specs.Incarnations.{replica_at, is_restart, incarnation, completes}
-use Rattle.nz_machine.specs.Leading.{leader_at}
-use Rattle.nz_machine.specs.Begun.{begins, earlier_or, start}
-use Rattle.nz_machine.proofs.Moments.{at_world}
-use Rattle.nz_machine.proofs.Runs.{stays}
-use Rattle.nz_machine.proofs.WordsKeepFacts.{own_carried}
+use Rattle.nz_machine.specs.rules.State.{ReplicaData, Group}
+use Rattle.nz_machine.specs.rules.Facts.{HasFacts}
+use Rattle.nz_machine.specs.rules.Replicas.{is_normal, is_rejoining, is_down}
+use Rattle.nz_machine.specs.runs.World.{state_after, World}
+use Rattle.nz_machine.specs.runs.Incarnations.{replica_at, is_restart, incarnation, completes}
+use Rattle.nz_machine.specs.runs.Leading.{leader_at}
+use Rattle.nz_machine.specs.runs.Begun.{begins, earlier_or, start}
+use Rattle.nz_machine.proofs.runs.Moments.{at_world}
+use Rattle.nz_machine.proofs.runs.Runs.{stays}
+use Rattle.nz_machine.proofs.facts.WordsKeepFacts.{own_carried}
 use Rattle.nz_laws_cv.specs.Views.{HasViews, ComesFrom}
 use Rattle.nz_laws_cv.proofs.Modes.{up_not_down, normal_no_rejoin}
 use Rattle.nz_laws_cv.proofs.WithinIncarnation.{inc_same}

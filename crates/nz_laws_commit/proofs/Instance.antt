@@ -14,13 +14,13 @@ use Rattle.nz_base.proofs.Booleans.{true_and_false}
 use Rattle.nz_machine.specs.declared.data.Status.{Status}
 use Rattle.nz_machine.specs.declared.data.Status.TheVariants as statuses
 use Rattle.nz_machine.specs.declared.event.Record.{Record}
-use Rattle.nz_machine.specs.State.{ReplicaData, Group}
-use Rattle.nz_machine.specs.Replicas.{is_normal, is_up, is_rejoining, is_down, leads}
-use Rattle.nz_machine.specs.World.{state_after}
-use Rattle.nz_machine.specs.Incarnations.{replica_at, is_restart, comes_back, incarnation}
-use Rattle.nz_machine.specs.Leading.{is_normal_in, leader_at, is_led, lead}
-use Rattle.nz_machine.specs.Begun.{begins, earlier_or, start}
-use Rattle.nz_machine.proofs.Runs.{stays}
+use Rattle.nz_machine.specs.rules.State.{ReplicaData, Group}
+use Rattle.nz_machine.specs.rules.Replicas.{is_normal, is_up, is_rejoining, is_down, leads}
+use Rattle.nz_machine.specs.runs.World.{state_after}
+use Rattle.nz_machine.specs.runs.Incarnations.{replica_at, is_restart, comes_back, incarnation}
+use Rattle.nz_machine.specs.runs.Leading.{is_normal_in, leader_at, is_led, lead}
+use Rattle.nz_machine.specs.runs.Begun.{begins, earlier_or, start}
+use Rattle.nz_machine.proofs.runs.Runs.{stays}
 use Rattle.nz_laws_cv.proofs.Beginnings.{normal_in_is, is_in_view}
 use Rattle.nz_laws_commit.specs.States.{Normal, Rejoining, Down, IsUp}
 use Rattle.nz_laws_commit.specs.Machines.{leads_by, inc_of, lead_of, start_of}

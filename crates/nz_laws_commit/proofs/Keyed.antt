@@ -18,13 +18,13 @@ use Rattle.nz_base.proofs.Names.{same_id, id_eq_self}
 use Rattle.nz_base.proofs.Prefixes.{prefix_none}
 use Rattle.nz_log.specs.Places.{place_of}
 use Rattle.nz_machine.specs.declared.event.Record.{Record}
-use Rattle.nz_machine.specs.State.{Group}
-use Rattle.nz_machine.specs.World.{Has, World}
-use Rattle.nz_machine.specs.Events.{Sent, client_events, events}
-use Rattle.nz_machine.specs.OneHistory.{Precedes}
-use Rattle.nz_machine.specs.Leading.{leader_at, is_led, lead}
-use Rattle.nz_machine.specs.Begun.{begins, earlier_or, start}
-use Rattle.nz_machine.proofs.Runs.{has_left}
+use Rattle.nz_machine.specs.rules.State.{Group}
+use Rattle.nz_machine.specs.runs.World.{Has, World}
+use Rattle.nz_machine.specs.runs.Events.{Sent, client_events, events}
+use Rattle.nz_machine.specs.runs.OneHistory.{Precedes}
+use Rattle.nz_machine.specs.runs.Leading.{leader_at, is_led, lead}
+use Rattle.nz_machine.specs.runs.Begun.{begins, earlier_or, start}
+use Rattle.nz_machine.proofs.runs.Runs.{has_left}
 use Rattle.nz_laws_commit.proofs.FactsStay.{facts_stay}
 use Rattle.nz_laws_commit.proofs.Places.{place_cases}
 use Rattle.nz_laws_commit.proofs.OwnCommands.{WasSent, own_command}

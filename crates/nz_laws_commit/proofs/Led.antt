@@ -8,11 +8,11 @@ use Rattle.nz_base.proofs.Prefixes.{prefix_then}
 use Rattle.nz_store.specs.declared.command.Answer.{Answer}
 use Rattle.nz_log.specs.Places.{place_of}
 use Rattle.nz_machine.specs.declared.event.Record.{Record}
-use Rattle.nz_machine.specs.State.{Group}
-use Rattle.nz_machine.specs.World.{World}
-use Rattle.nz_machine.specs.History.{cut_at, cut_after}
-use Rattle.nz_machine.specs.Leading.{lead}
-use Rattle.nz_machine.specs.Committed.{IsAcceptedIn}
+use Rattle.nz_machine.specs.rules.State.{Group}
+use Rattle.nz_machine.specs.runs.World.{World}
+use Rattle.nz_machine.specs.runs.History.{cut_at, cut_after}
+use Rattle.nz_machine.specs.runs.Leading.{lead}
+use Rattle.nz_machine.specs.runs.Committed.{IsAcceptedIn}
 use Rattle.nz_laws_commit.proofs.Places.{place_more}
 use Rattle.nz_laws_commit.proofs.Answering.{IsGiven}
 use Rattle.nz_laws_commit.proofs.Instance.{led_log}

@@ -19,17 +19,17 @@ use Rattle.nz_msg.specs.Messages.{Fits}
 use Rattle.nz_machine.specs.declared.event.Parcel.{Parcel}
 use Rattle.nz_machine.specs.declared.event.Record.{Record}
 use Rattle.nz_machine.specs.declared.reply.Reply.{Reply}
-use Rattle.nz_machine.specs.State.{Group}
-use Rattle.nz_machine.specs.Proxies.{of_fast, of_slow}
-use Rattle.nz_machine.specs.Step.{parcel}
-use Rattle.nz_machine.specs.World.{state_after, Has, World}
-use Rattle.nz_machine.specs.History.{log_at, cut_after, reply_in, ReplySource}
-use Rattle.nz_machine.specs.OneHistory.{RepliesOver, HasReplyOver}
-use Rattle.nz_machine.specs.Hearing.{heard_at}
-use Rattle.nz_machine.specs.Shows.{ShowsFast, ShowsSlow, Shows}
-use Rattle.nz_machine.specs.Incarnations.{replica_at}
-use Rattle.nz_machine.proofs.Moments.{at_world}
-use Rattle.nz_machine.proofs.SentMessages.{shown}
+use Rattle.nz_machine.specs.rules.State.{Group}
+use Rattle.nz_machine.specs.rules.Proxies.{of_fast, of_slow}
+use Rattle.nz_machine.specs.rules.Step.{parcel}
+use Rattle.nz_machine.specs.runs.World.{state_after, Has, World}
+use Rattle.nz_machine.specs.runs.History.{log_at, cut_after, reply_in, ReplySource}
+use Rattle.nz_machine.specs.runs.OneHistory.{RepliesOver, HasReplyOver}
+use Rattle.nz_machine.specs.runs.Hearing.{heard_at}
+use Rattle.nz_machine.specs.runs.Shows.{ShowsFast, ShowsSlow, Shows}
+use Rattle.nz_machine.specs.runs.Incarnations.{replica_at}
+use Rattle.nz_machine.proofs.runs.Moments.{at_world}
+use Rattle.nz_machine.proofs.shows.SentMessages.{shown}
 use Rattle.nz_laws_commit.proofs.ReadMessages.{IsTold}
 use Rattle.nz_laws_commit.proofs.Chosen.{HasQuorum}
 

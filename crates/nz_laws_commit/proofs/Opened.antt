@@ -13,13 +13,13 @@ use Rattle.nz_msg.specs.declared.envelope.Envelope.{Envelope}
 use Rattle.nz_machine.specs.declared.event.Event.{Event}
 use Rattle.nz_machine.specs.declared.event.Event.TheVariants.{Deliver, Tick}
 use Rattle.nz_machine.specs.declared.event.Record.{Record}
-use Rattle.nz_machine.specs.State.{ClientData, Group}
-use Rattle.nz_machine.specs.Step.{script_of, accepted_envelope, envelope_step, event_step}
-use Rattle.nz_machine.specs.World.{state_after}
-use Rattle.nz_machine.specs.Events.{ClientEvent, Sent, Accepted, id_at, read_in, accepted_in, accepted_by, sent_after, sent_by, client_events, events}
-use Rattle.nz_machine.proofs.Runs.{acts_itself, stays}
-use Rattle.nz_machine.proofs.InTurn.{InTurn, tick_fills}
-use Rattle.nz_machine.proofs.Accepting.{client_accepts}
+use Rattle.nz_machine.specs.rules.State.{ClientData, Group}
+use Rattle.nz_machine.specs.rules.Step.{script_of, accepted_envelope, envelope_step, event_step}
+use Rattle.nz_machine.specs.runs.World.{state_after}
+use Rattle.nz_machine.specs.runs.Events.{ClientEvent, Sent, Accepted, id_at, read_in, accepted_in, accepted_by, sent_after, sent_by, client_events, events}
+use Rattle.nz_machine.proofs.runs.Runs.{acts_itself, stays}
+use Rattle.nz_machine.proofs.journals.InTurn.{InTurn, tick_fills}
+use Rattle.nz_machine.proofs.journals.Accepting.{client_accepts}
 use Rattle.nz_laws_commit.specs.Once.{count_sent, count_accepted}
 use Rattle.nz_laws_commit.proofs.ClientEvents.{in_turn, turns}
 

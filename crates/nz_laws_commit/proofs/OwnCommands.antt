@@ -16,25 +16,25 @@ use Rattle.nz_msg.specs.declared.message.Message.{Message}
 use Rattle.nz_msg.specs.declared.message.Message.TheVariants as messages
 use Rattle.nz_machine.specs.declared.data.Reported.{Reported}
 use Rattle.nz_machine.specs.declared.event.Record.{Record}
-use Rattle.nz_machine.specs.State.{ReplicaData, ProxyData, ClientData, State, Group, Out}
-use Rattle.nz_machine.specs.Replicas.{is_down}
-use Rattle.nz_machine.specs.LogMods.{is_asked}
-use Rattle.nz_machine.specs.Hearing.{Heard}
-use Rattle.nz_machine.specs.Shows.{ReplicaShows, ProxyShows}
-use Rattle.nz_machine.specs.Step.{first, script_of, replica_message, message_step, tick_rule, tick_step, alarm_step, crash_step, restart_step}
-use Rattle.nz_machine.specs.World.{state_after, Has, World}
-use Rattle.nz_machine.specs.Events.{ClientEvent, Sent, id_at, client_events, events}
-use Rattle.nz_machine.proofs.Runs.{group_of, KeepsMore, holds, keeps_both, all_has, has_left}
-use Rattle.nz_machine.proofs.EachItem.{all_filter, all_imply}
-use Rattle.nz_machine.proofs.Moves.{Brings}
-use Rattle.nz_machine.proofs.EachEntry.{IsOwn, EachEntry, message_each, tick_each, alarm_each, none_each, crash_each, restart_each}
-use Rattle.nz_machine.proofs.Snapshots.{IsFairTo, fair_to, MayShow, StepShows, message_step_shows, tick_step_shows}
-use Rattle.nz_machine.proofs.Snapshots.{alarm_step_shows, crash_step_shows, restart_step_shows}
-use Rattle.nz_machine.proofs.SentMessages.{may_show}
-use Rattle.nz_machine.proofs.FitRuns.{Fitted, FittedState, fits_keep}
+use Rattle.nz_machine.specs.rules.State.{ReplicaData, ProxyData, ClientData, State, Group, Out}
+use Rattle.nz_machine.specs.rules.Replicas.{is_down}
+use Rattle.nz_machine.specs.rules.LogMods.{is_asked}
+use Rattle.nz_machine.specs.runs.Hearing.{Heard}
+use Rattle.nz_machine.specs.runs.Shows.{ReplicaShows, ProxyShows}
+use Rattle.nz_machine.specs.rules.Step.{first, script_of, replica_message, message_step, tick_rule, tick_step, alarm_step, crash_step, restart_step}
+use Rattle.nz_machine.specs.runs.World.{state_after, Has, World}
+use Rattle.nz_machine.specs.runs.Events.{ClientEvent, Sent, id_at, client_events, events}
+use Rattle.nz_machine.proofs.runs.Runs.{group_of, KeepsMore, holds, keeps_both, all_has, has_left}
+use Rattle.nz_machine.proofs.lists.EachItem.{all_filter, all_imply}
+use Rattle.nz_machine.proofs.moves.Moves.{Brings}
+use Rattle.nz_machine.proofs.facts.EachEntry.{IsOwn, EachEntry, message_each, tick_each, alarm_each, none_each, crash_each, restart_each}
+use Rattle.nz_machine.proofs.shows.Snapshots.{IsFairTo, fair_to, MayShow, StepShows, message_step_shows, tick_step_shows}
+use Rattle.nz_machine.proofs.shows.Snapshots.{alarm_step_shows, crash_step_shows, restart_step_shows}
+use Rattle.nz_machine.proofs.shows.SentMessages.{may_show}
+use Rattle.nz_machine.proofs.runs.FitRuns.{Fitted, FittedState, fits_keep}
 use Rattle.nz_laws_commit.proofs.Clients.{AskedFrom, AllAsked, message_asked, tick_asked}
 use Rattle.nz_laws_commit.proofs.ClientEvents.{HasSent, has_sent, in_turn}
-use Rattle.nz_machine.proofs.InTurn.{InTurn}
+use Rattle.nz_machine.proofs.journals.InTurn.{InTurn}
 
 -- the request of the entry was sent
 abbrev pub WasSent : List ClientEvent → Entry → Type 0

@@ -16,10 +16,10 @@ use Rattle.nz_store.specs.Sequence.{reply}
 use Rattle.nz_store.proofs.Turns.{reply-append}
 use Rattle.nz_log.specs.Places.{place_of}
 use Rattle.nz_log.proofs.Placing.{place_held}
-use Rattle.nz_machine.specs.Replicas.{commands}
-use Rattle.nz_machine.specs.World.{Has}
-use Rattle.nz_machine.specs.History.{cut_at, cut_after}
-use Rattle.nz_machine.specs.OneHistory.{IsAnswered}
+use Rattle.nz_machine.specs.rules.Replicas.{commands}
+use Rattle.nz_machine.specs.runs.World.{Has}
+use Rattle.nz_machine.specs.runs.History.{cut_at, cut_after}
+use Rattle.nz_machine.specs.runs.OneHistory.{IsAnswered}
 use Rattle.nz_base.specs.Prefixes.{IsPrefix}
 use Rattle.nz_base.proofs.Prefixes.{prefix_take}
 

@@ -5,15 +5,15 @@ use Rattle.nz_base.specs.declared.actor.Actor.{Actor}
 use Rattle.nz_msg.specs.declared.envelope.Envelope.{Envelope}
 use Rattle.nz_machine.specs.declared.event.Parcel.{Parcel}
 use Rattle.nz_machine.specs.declared.event.Record.{Record}
-use Rattle.nz_machine.specs.State.{Group}
-use Rattle.nz_machine.specs.Step.{parcel, accepted_envelope, event_step}
-use Rattle.nz_machine.specs.World.{state_after, Has, World}
-use Rattle.nz_machine.specs.History.{source}
-use Rattle.nz_machine.proofs.Runs.{FitsOut, received_is, sent_by, sends_have, all_has}
+use Rattle.nz_machine.specs.rules.State.{Group}
+use Rattle.nz_machine.specs.rules.Step.{parcel, accepted_envelope, event_step}
+use Rattle.nz_machine.specs.runs.World.{state_after, Has, World}
+use Rattle.nz_machine.specs.runs.History.{source}
+use Rattle.nz_machine.proofs.runs.Runs.{FitsOut, received_is, sent_by, sends_have, all_has}
 use Rattle.nz_base.specs.Moments.{At}
-use Rattle.nz_machine.proofs.Moments.{at_world}
-use Rattle.nz_machine.proofs.Sources.{source_is}
-use Rattle.nz_machine.proofs.FitRuns.{Fitted, FittedState, fits_keep}
+use Rattle.nz_machine.proofs.runs.Moments.{at_world}
+use Rattle.nz_machine.proofs.runs.Sources.{source_is}
+use Rattle.nz_machine.proofs.runs.FitRuns.{Fitted, FittedState, fits_keep}
 
 -- the record that first sent a parcel sends the message that is read of it
 pub record IsTold (g : Group) (J K : List Record) (p : Parcel) (e : Envelope) : Type 0 where

@@ -19,19 +19,19 @@ use Rattle.nz_machine.specs.declared.event.Event.{Event}
 use Rattle.nz_machine.specs.declared.event.Event.TheVariants.{Deliver, Cut, Tick, Alarm, Crash, Restart}
 use Rattle.nz_machine.specs.declared.event.Record.{Record}
 use Rattle.nz_machine.specs.declared.reply.Reply.{Reply}
-use Rattle.nz_machine.specs.State.{ProxyData, Standing, Open, Group}
-use Rattle.nz_machine.specs.Quorums.{reply_eq, with_note, answer_in, view_of}
-use Rattle.nz_machine.specs.Proxies.{standing_of, of_fast, of_slow}
-use Rattle.nz_machine.specs.Step.{accepted_envelope}
-use Rattle.nz_machine.specs.World.{state_after, MayHappen, World}
-use Rattle.nz_machine.specs.Events.{read_in}
-use Rattle.nz_machine.specs.History.{source, standing_after, replies_of, reply_in, reply_read, noting_moment, parcel_in}
-use Rattle.nz_machine.specs.History.{parcel_delivered, ReplySource, source_of, source_of_reply, prefix_at_source}
-use Rattle.nz_machine.proofs.Runs.{may_act}
+use Rattle.nz_machine.specs.rules.State.{ProxyData, Standing, Open, Group}
+use Rattle.nz_machine.specs.rules.Quorums.{reply_eq, with_note, answer_in, view_of}
+use Rattle.nz_machine.specs.rules.Proxies.{standing_of, of_fast, of_slow}
+use Rattle.nz_machine.specs.rules.Step.{accepted_envelope}
+use Rattle.nz_machine.specs.runs.World.{state_after, MayHappen, World}
+use Rattle.nz_machine.specs.runs.Events.{read_in}
+use Rattle.nz_machine.specs.runs.History.{source, standing_after, replies_of, reply_in, reply_read, noting_moment, parcel_in}
+use Rattle.nz_machine.specs.runs.History.{parcel_delivered, ReplySource, source_of, source_of_reply, prefix_at_source}
+use Rattle.nz_machine.proofs.runs.Runs.{may_act}
 use Rattle.nz_base.specs.Moments.{At}
 use Rattle.nz_base.proofs.Moments.{at_self}
-use Rattle.nz_machine.proofs.Moments.{at_world}
-use Rattle.nz_machine.proofs.Sources.{same_reply, has_source, source_stays}
+use Rattle.nz_machine.proofs.runs.Moments.{at_world}
+use Rattle.nz_machine.proofs.runs.Sources.{same_reply, has_source, source_stays}
 use Rattle.nz_laws_commit.proofs.ReadMessages.{IsTold, told_at}
 use Rattle.nz_laws_commit.proofs.NotedWereSent.{IsSaid, said_later, said_by}
 use Rattle.nz_laws_commit.proofs.Answering.{IsGiven, given_later, IsAnswering, reply_given}

@@ -12,13 +12,13 @@ use Rattle.nz_base.specs.declared.key.Entry.{Entry}
 use Rattle.nz_base.proofs.Moments.{at_then, at_tail}
 use Rattle.nz_base.proofs.Prefixes.{prefix_self, prefix_then, comparable_back, comparable_prefix}
 use Rattle.nz_machine.specs.declared.event.Record.{Record}
-use Rattle.nz_machine.specs.Events.{Sent}
-use Rattle.nz_machine.specs.State.{ReplicaData, Group}
-use Rattle.nz_machine.specs.Replicas.{is_up}
-use Rattle.nz_machine.specs.World.{Has, World}
-use Rattle.nz_machine.specs.OneHistory.{NoCollision, IsAccepted}
-use Rattle.nz_machine.specs.Incarnations.{replica_at, incarnation}
-use Rattle.nz_machine.proofs.Moments.{at_world}
+use Rattle.nz_machine.specs.runs.Events.{Sent}
+use Rattle.nz_machine.specs.rules.State.{ReplicaData, Group}
+use Rattle.nz_machine.specs.rules.Replicas.{is_up}
+use Rattle.nz_machine.specs.runs.World.{Has, World}
+use Rattle.nz_machine.specs.runs.OneHistory.{NoCollision, IsAccepted}
+use Rattle.nz_machine.specs.runs.Incarnations.{replica_at, incarnation}
+use Rattle.nz_machine.proofs.runs.Moments.{at_world}
 use Rattle.nz_laws_cv.proofs.Modes.{up_no_rejoin, rejoin_not_down}
 use Rattle.nz_laws_cv.proofs.Steps.{turn_state_at}
 use Rattle.nz_laws_cv.proofs.WithinIncarnation.{goes_far}

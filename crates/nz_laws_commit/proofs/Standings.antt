@@ -17,14 +17,14 @@ use Rattle.nz_msg.specs.declared.envelope.Envelope.{Envelope}
 use Rattle.nz_machine.specs.declared.event.Event.{Event}
 use Rattle.nz_machine.specs.declared.event.Event.TheVariants.{Deliver, Cut, Tick, Alarm, Crash, Restart}
 use Rattle.nz_machine.specs.declared.reply.Reply.{Reply}
-use Rattle.nz_machine.specs.State.{ProxyData, Standing, Open, Decided, Group, Out}
-use Rattle.nz_machine.specs.Quorums.{Chosen, decision, answer_in, with_note}
-use Rattle.nz_machine.specs.Proxies.{with_standing, standing_of, after_stamp, stamp_rule, after_chosen_answer, after_choice}
-use Rattle.nz_machine.specs.Proxies.{after_replica_reply, reply_rule, of_fast, of_slow, clock_rule, first_proxy}
-use Rattle.nz_machine.specs.Step.{proxy_message, accepted_envelope, envelope_step, event_step}
-use Rattle.nz_machine.specs.Events.{read_in}
-use Rattle.nz_machine.specs.History.{reply_in, reply_read}
-use Rattle.nz_machine.proofs.Lookups.{lookup_inserted, lookup_other}
+use Rattle.nz_machine.specs.rules.State.{ProxyData, Standing, Open, Decided, Group, Out}
+use Rattle.nz_machine.specs.rules.Quorums.{Chosen, decision, answer_in, with_note}
+use Rattle.nz_machine.specs.rules.Proxies.{with_standing, standing_of, after_stamp, stamp_rule, after_chosen_answer, after_choice}
+use Rattle.nz_machine.specs.rules.Proxies.{after_replica_reply, reply_rule, of_fast, of_slow, clock_rule, first_proxy}
+use Rattle.nz_machine.specs.rules.Step.{proxy_message, accepted_envelope, envelope_step, event_step}
+use Rattle.nz_machine.specs.runs.Events.{read_in}
+use Rattle.nz_machine.specs.runs.History.{reply_in, reply_read}
+use Rattle.nz_machine.proofs.lists.Lookups.{lookup_inserted, lookup_other}
 
 -- ---- moves of a standing
 

@@ -6,11 +6,11 @@ use Rattle.nz_base.specs.Moments.{At}
 use Rattle.nz_base.specs.declared.key.Entry.{Entry}
 use Rattle.nz_merge.specs.Merged.{merged}
 use Rattle.nz_machine.specs.declared.event.Record.{Record}
-use Rattle.nz_machine.specs.State.{Group}
-use Rattle.nz_machine.specs.World.{World}
-use Rattle.nz_machine.specs.Leading.{leader_at, is_led}
-use Rattle.nz_machine.specs.Begun.{begins, earlier_or, start}
-use Rattle.nz_machine.proofs.Moments.{at_world}
+use Rattle.nz_machine.specs.rules.State.{Group}
+use Rattle.nz_machine.specs.runs.World.{World}
+use Rattle.nz_machine.specs.runs.Leading.{leader_at, is_led}
+use Rattle.nz_machine.specs.runs.Begun.{begins, earlier_or, start}
+use Rattle.nz_machine.proofs.runs.Moments.{at_world}
 use Rattle.nz_laws_cv.specs.Members.{begun_reports}
 use Rattle.nz_laws_cv.proofs.Beginnings.{turning_is}
 use Rattle.nz_laws_cv.proofs.BegunLogs.{begun_log_is}

@@ -26,13 +26,13 @@ use Rattle.nz_log.specs.Places.{place_of, entry_key}
 use Rattle.nz_machine.specs.declared.event.Record.{Record}
 use Rattle.nz_machine.specs.declared.reply.Reply.{Reply}
 use Rattle.nz_machine.specs.declared.reply.Reply.TheVariants.{Fast, Slow}
-use Rattle.nz_machine.specs.State.{Group}
-use Rattle.nz_machine.specs.Replicas.{is_normal, leads}
-use Rattle.nz_machine.specs.Quorums.{view_of, is_of_leader, is_slow_of, agrees_of, stands_slowly, stands_fast}
-use Rattle.nz_machine.specs.World.{World}
-use Rattle.nz_machine.specs.History.{log_at, cut_at, cut_after, ReplySource, prefix_at_source}
-use Rattle.nz_machine.specs.OneHistory.{HasReplyOver, NoCollision}
-use Rattle.nz_machine.specs.Incarnations.{replica_at}
+use Rattle.nz_machine.specs.rules.State.{Group}
+use Rattle.nz_machine.specs.rules.Replicas.{is_normal, leads}
+use Rattle.nz_machine.specs.rules.Quorums.{view_of, is_of_leader, is_slow_of, agrees_of, stands_slowly, stands_fast}
+use Rattle.nz_machine.specs.runs.World.{World}
+use Rattle.nz_machine.specs.runs.History.{log_at, cut_at, cut_after, ReplySource, prefix_at_source}
+use Rattle.nz_machine.specs.runs.OneHistory.{HasReplyOver, NoCollision}
+use Rattle.nz_machine.specs.runs.Incarnations.{replica_at}
 use Rattle.nz_laws_commit.specs.Supports.{IsNormal, IsUpIn, HadSynced, FastReplied, IsLedAt, Support, keys_at}
 use Rattle.nz_laws_commit.specs.Instance.{logs_of}
 use Rattle.nz_laws_commit.proofs.RunLaws.{RunLaws}

@@ -20,17 +20,17 @@ use Rattle.nz_msg.specs.declared.message.Message.TheVariants as messages
 use Rattle.nz_machine.specs.declared.data.Status.{Status}
 use Rattle.nz_machine.specs.declared.data.Status.TheVariants as statuses
 use Rattle.nz_machine.specs.declared.event.Record.{Record}
-use Rattle.nz_machine.specs.State.{Group}
-use Rattle.nz_machine.specs.Facts.{HasFacts}
-use Rattle.nz_machine.specs.Replicas.{is_normal, is_up, is_rejoining}
-use Rattle.nz_machine.specs.Shows.{ShowsLogMod}
-use Rattle.nz_machine.specs.World.{World}
-use Rattle.nz_machine.specs.Incarnations.{replica_at, is_restart}
-use Rattle.nz_machine.proofs.FitRuns.{all_fit}
-use Rattle.nz_machine.proofs.Moments.{at_world}
-use Rattle.nz_machine.proofs.Sources.{has_source, source_is}
-use Rattle.nz_machine.proofs.ReadShows.{was_sent, shown_by}
-use Rattle.nz_machine.proofs.WordsKeepFacts.{own_carried}
+use Rattle.nz_machine.specs.rules.State.{Group}
+use Rattle.nz_machine.specs.rules.Facts.{HasFacts}
+use Rattle.nz_machine.specs.rules.Replicas.{is_normal, is_up, is_rejoining}
+use Rattle.nz_machine.specs.runs.Shows.{ShowsLogMod}
+use Rattle.nz_machine.specs.runs.World.{World}
+use Rattle.nz_machine.specs.runs.Incarnations.{replica_at, is_restart}
+use Rattle.nz_machine.proofs.runs.FitRuns.{all_fit}
+use Rattle.nz_machine.proofs.runs.Moments.{at_world}
+use Rattle.nz_machine.proofs.runs.Sources.{has_source, source_is}
+use Rattle.nz_machine.proofs.shows.ReadShows.{was_sent, shown_by}
+use Rattle.nz_machine.proofs.facts.WordsKeepFacts.{own_carried}
 use Rattle.nz_laws_cv.proofs.Turns.{TurnState, Grown, Same, More, Anew, Going, MayStart, Turn, Stays, Release, Merge, Sync, Tally, Enter, Follow}
 use Rattle.nz_laws_cv.proofs.Turns.{Answer, Collect, Begin, Start, Fall, Wake, HearVector, Count, HearView, Forget, AskLog, Return, Back}
 use Rattle.nz_laws_cv.proofs.TurnRules.{up_kinds, changing_is, heard_by}

@@ -7,11 +7,11 @@ use Rattle.nz_base.specs.Prefixes.{IsPrefix}
 use Rattle.nz_base.proofs.Moments.{at_self}
 use Rattle.nz_log.specs.Synced.{synced_part}
 use Rattle.nz_machine.specs.declared.event.Record.{Record}
-use Rattle.nz_machine.specs.State.{Group}
-use Rattle.nz_machine.specs.World.{state_after, World}
-use Rattle.nz_machine.specs.OneHistory.{NoCollision}
-use Rattle.nz_machine.specs.Leading.{is_normal_in, lead}
-use Rattle.nz_machine.specs.Committed.{Prefixes}
+use Rattle.nz_machine.specs.rules.State.{Group}
+use Rattle.nz_machine.specs.runs.World.{state_after, World}
+use Rattle.nz_machine.specs.runs.OneHistory.{NoCollision}
+use Rattle.nz_machine.specs.runs.Leading.{is_normal_in, lead}
+use Rattle.nz_machine.specs.runs.Committed.{Prefixes}
 use Rattle.nz_laws_commit.specs.Does.{FollowsRules}
 use Rattle.nz_laws_commit.specs.Instance.{states_of}
 use Rattle.nz_laws_commit.proofs.TurnDoes.{record_does}

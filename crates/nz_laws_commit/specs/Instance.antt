@@ -4,8 +4,8 @@ use Rattle.nz_base.specs.declared.actor.Actor.TheVariants.{Replica}
 use Rattle.nz_machine.specs.declared.data.Status.{Status}
 use Rattle.nz_machine.specs.declared.data.Status.TheVariants as statuses
 use Rattle.nz_machine.specs.declared.event.Record.{Record}
-use Rattle.nz_machine.specs.State.{ReplicaData, Group}
-use Rattle.nz_machine.specs.Incarnations.{replica_at, is_restart}
+use Rattle.nz_machine.specs.rules.State.{ReplicaData, Group}
+use Rattle.nz_machine.specs.runs.Incarnations.{replica_at, is_restart}
 use Rattle.nz_laws_commit.specs.States.{LogState, Machine}
 use Rattle.nz_laws_commit.specs.States as states
 use Rattle.nz_laws_commit.specs.Machines.{GroupStates, machine_of}

@@ -4,9 +4,9 @@ use Rattle.std.specs.Prelude.{◌≡◌, ℕ, suc, ◌+◌, ◌≤◌, ◌==◌,
 use Rattle.nz_base.specs.declared.key.Id.{Id}
 use Rattle.nz_store.specs.declared.command.Answer.{Answer}
 use Rattle.nz_msg.specs.declared.message.Path.{Path}
-use Rattle.nz_machine.specs.World.{Has}
-use Rattle.nz_machine.specs.Events.{ClientEvent, Sent, Accepted}
-use Rattle.nz_machine.specs.OneHistory.{Precedes}
+use Rattle.nz_machine.specs.runs.World.{Has}
+use Rattle.nz_machine.specs.runs.Events.{ClientEvent, Sent, Accepted}
+use Rattle.nz_machine.specs.runs.OneHistory.{Precedes}
 
 -- How many requests of the client were sent.
 abbrev pub count_sent : ℕ → List ClientEvent → ℕ

@@ -4,10 +4,10 @@ use Rattle.nz_base.specs.declared.key.Entry.{Entry}
 use Rattle.nz_base.specs.Moments.{At}
 use Rattle.nz_base.specs.Prefixes.{IsPrefix, Comparable}
 use Rattle.nz_machine.specs.declared.event.Record.{Record}
-use Rattle.nz_machine.specs.State.{ReplicaData, Group}
-use Rattle.nz_machine.specs.Replicas.{is_up}
-use Rattle.nz_machine.specs.Incarnations.{replica_at, incarnation}
-use Rattle.nz_machine.specs.Begun.{start}
+use Rattle.nz_machine.specs.rules.State.{ReplicaData, Group}
+use Rattle.nz_machine.specs.rules.Replicas.{is_up}
+use Rattle.nz_machine.specs.runs.Incarnations.{replica_at, incarnation}
+use Rattle.nz_machine.specs.runs.Begun.{start}
 
 -- The entries that a replica knows to be committed. One that is down or rejoins knows of none.
 abbrev pub committed_of : ReplicaData → Option (List Entry)

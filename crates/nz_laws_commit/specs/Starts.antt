@@ -4,8 +4,8 @@ use Rattle.nz_base.specs.Moments.{At}
 use Rattle.nz_base.specs.declared.key.Entry.{Entry}
 use Rattle.nz_merge.specs.Merged.{merged}
 use Rattle.nz_machine.specs.declared.event.Record.{Record}
-use Rattle.nz_machine.specs.State.{Group}
-use Rattle.nz_machine.specs.Begun.{begins}
+use Rattle.nz_machine.specs.rules.State.{Group}
+use Rattle.nz_machine.specs.runs.Begun.{begins}
 use Rattle.nz_laws_cv.specs.Members.{begun_reports}
 
 -- A record of the run begins the view, and S is the merged log of the reports of that begin.

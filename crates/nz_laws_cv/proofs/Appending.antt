@@ -5,9 +5,9 @@ use Rattle.nz_base.specs.declared.key.Entry.{Entry}
 use Rattle.nz_base.proofs.Prefixes.{prefix_self, prefix_more, prefix_then}
 use Rattle.nz_base.proofs.Booleans.{true_and_false}
 use Rattle.nz_log.specs.Synced.{Log}
-use Rattle.nz_machine.specs.State.{ReplicaData, Out}
-use Rattle.nz_machine.specs.Replicas.{is_normal, leads}
-use Rattle.nz_machine.specs.Releases.{log_with_entry, after_release, releases, release_rule, may_release, at_clock}
+use Rattle.nz_machine.specs.rules.State.{ReplicaData, Out}
+use Rattle.nz_machine.specs.rules.Replicas.{is_normal, leads}
+use Rattle.nz_machine.specs.rules.Releases.{log_with_entry, after_release, releases, release_rule, may_release, at_clock}
 use Rattle.nz_laws_cv.proofs.Turns.{turn_state, holding, Appends}
 
 -- one entry more

@@ -9,12 +9,12 @@ use Rattle.nz_base.specs.declared.actor.Actor.TheVariants.{Replica}
 use Rattle.nz_base.proofs.Booleans.{true_and_false}
 use Rattle.nz_msg.specs.declared.message.Message.TheVariants as messages
 use Rattle.nz_machine.specs.declared.event.Record.{Record}
-use Rattle.nz_machine.specs.State.{Group, ReplicaData}
-use Rattle.nz_machine.specs.Replicas.{is_normal}
-use Rattle.nz_machine.specs.World.{World}
-use Rattle.nz_machine.specs.Incarnations.{replica_at}
-use Rattle.nz_machine.specs.Leading.{is_normal_in, is_led}
-use Rattle.nz_machine.specs.Begun.{begins, report_parcel, IsReported, IsMemberOf}
+use Rattle.nz_machine.specs.rules.State.{Group, ReplicaData}
+use Rattle.nz_machine.specs.rules.Replicas.{is_normal}
+use Rattle.nz_machine.specs.runs.World.{World}
+use Rattle.nz_machine.specs.runs.Incarnations.{replica_at}
+use Rattle.nz_machine.specs.runs.Leading.{is_normal_in, is_led}
+use Rattle.nz_machine.specs.runs.Begun.{begins, report_parcel, IsReported, IsMemberOf}
 use Rattle.nz_math.specs.Count.{is_in, IsChoice}
 use Rattle.nz_math.specs.Quorum.{group_size, slow_quorum}
 use Rattle.nz_base.specs.Moments.{At}
@@ -28,10 +28,10 @@ use Rattle.nz_laws_cv.proofs.TurnRules.{up_kinds, normal_up, changing_up, heard_
 use Rattle.nz_laws_cv.proofs.Hearing.{hears_fit}
 use Rattle.nz_laws_cv.proofs.Steps.{turn_state_at, Acts, Rests, steps}
 use Rattle.nz_base.proofs.Moments.{at_self, at_then}
-use Rattle.nz_machine.proofs.Moments.{at_world}
+use Rattle.nz_machine.proofs.runs.Moments.{at_world}
 use Rattle.nz_laws_cv.proofs.WithinIncarnation.{sound_at, in_group, inc_grows, inc_first, first_state}
 use Rattle.nz_laws_cv.proofs.SentShows.{letter, Shows, shows_at, shows_before, sent_at, was_sent}
-use Rattle.nz_machine.proofs.Sources.{source_is, has_source}
+use Rattle.nz_machine.proofs.runs.Sources.{source_is, has_source}
 use Rattle.nz_laws_cv.proofs.Lists.{in_map}
 use Rattle.nz_laws_cv.proofs.Changes.{AreReports, collected, reporter, report_message}
 use Rattle.nz_laws_cv.proofs.Collected.{Sent, collected_later, collected_at, hears_sent, IsBegun}

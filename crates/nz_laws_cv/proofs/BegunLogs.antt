@@ -8,14 +8,14 @@ use Rattle.nz_merge.specs.declared.change.Change.{Change}
 use Rattle.nz_merge.specs.Merged.{greatest, merged}
 use Rattle.nz_machine.specs.declared.event.Record.{Record}
 use Rattle.nz_machine.specs.declared.data.Reported.{Reported}
-use Rattle.nz_machine.specs.State.{Group}
-use Rattle.nz_machine.specs.Replicas.{is_changing, is_up}
-use Rattle.nz_machine.specs.Begins.{own_change}
-use Rattle.nz_machine.specs.World.{Has, World}
-use Rattle.nz_machine.specs.Incarnations.{replica_at}
-use Rattle.nz_machine.specs.Leading.{leader_at, is_led}
-use Rattle.nz_machine.specs.Begun.{report_parcel, IsMemberOf}
-use Rattle.nz_machine.proofs.Sources.{has_source, source_is}
+use Rattle.nz_machine.specs.rules.State.{Group}
+use Rattle.nz_machine.specs.rules.Replicas.{is_changing, is_up}
+use Rattle.nz_machine.specs.rules.Begins.{own_change}
+use Rattle.nz_machine.specs.runs.World.{Has, World}
+use Rattle.nz_machine.specs.runs.Incarnations.{replica_at}
+use Rattle.nz_machine.specs.runs.Leading.{leader_at, is_led}
+use Rattle.nz_machine.specs.runs.Begun.{report_parcel, IsMemberOf}
+use Rattle.nz_machine.proofs.runs.Sources.{has_source, source_is}
 use Rattle.nz_laws_cv.specs.Members.{begun_reports}
 use Rattle.nz_laws_cv.proofs.Turns.{TurnState}
 use Rattle.nz_laws_cv.proofs.TurnRules.{heard_by}

@@ -11,18 +11,18 @@ use Rattle.nz_msg.specs.declared.message.Message.{Message}
 use Rattle.nz_msg.specs.declared.message.Message.TheVariants as messages
 use Rattle.nz_machine.specs.declared.event.Event.{Event}
 use Rattle.nz_machine.specs.declared.data.Reported.{Reported}
-use Rattle.nz_machine.specs.Replicas.{is_changing}
-use Rattle.nz_machine.specs.Begins.{report_of}
-use Rattle.nz_machine.specs.World.{Has}
-use Rattle.nz_machine.specs.Hearing.{Heard}
+use Rattle.nz_machine.specs.rules.Replicas.{is_changing}
+use Rattle.nz_machine.specs.rules.Begins.{report_of}
+use Rattle.nz_machine.specs.runs.World.{Has}
+use Rattle.nz_machine.specs.runs.Hearing.{Heard}
 use Rattle.nz_math.specs.Count.{AreDistinct}
 use Rattle.nz_laws_cv.proofs.Turns.{TurnState, fresh_changes, with_change, IsNew, Base, Anew, Going, Turn, Stays, Release, Merge, Sync, Tally, Enter, Follow}
 use Rattle.nz_laws_cv.proofs.Turns.{Answer, Collect, Begin, Start, Fall, Wake, HearVector, Count, HearView, Forget, AskLog, Return, Back}
 use Rattle.nz_laws_cv.proofs.TurnRules.{changing_up}
 use Rattle.nz_laws_cv.proofs.Hearing.{HearsFit}
-use Rattle.nz_machine.proofs.Runs.{has_split}
+use Rattle.nz_machine.proofs.runs.Runs.{has_split}
 use Rattle.nz_laws_cv.proofs.Modes.{IsSound, merges, merges_in, new_size, normal_no_change, up_no_rejoin}
-use Rattle.nz_machine.proofs.Distinct.{distinct_filter, distinct_replace}
+use Rattle.nz_machine.proofs.lists.Distinct.{distinct_filter, distinct_replace}
 use Rattle.nz_laws_cv.proofs.Lists.{filter_has}
 use Rattle.nz_laws_cv.proofs.Tellers.{HearsSent}
 

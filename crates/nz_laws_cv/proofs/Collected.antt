@@ -12,13 +12,13 @@ use Rattle.nz_msg.specs.declared.message.Message.{Message}
 use Rattle.nz_msg.specs.declared.message.Message.TheVariants as messages
 use Rattle.nz_machine.specs.declared.event.Event.{Event}
 use Rattle.nz_machine.specs.declared.event.Record.{Record}
-use Rattle.nz_machine.specs.State.{Group}
+use Rattle.nz_machine.specs.rules.State.{Group}
 use Rattle.nz_machine.specs.declared.data.Phase.TheVariants as phases
 use Rattle.nz_machine.specs.declared.data.Reported.{Reported}
-use Rattle.nz_machine.specs.Replicas.{first_replica, is_normal, is_up, is_rejoining, is_down}
-use Rattle.nz_machine.specs.World.{World}
-use Rattle.nz_machine.specs.Incarnations.{replica_at, incarnation}
-use Rattle.nz_machine.specs.Hearing.{Heard}
+use Rattle.nz_machine.specs.rules.Replicas.{first_replica, is_normal, is_up, is_rejoining, is_down}
+use Rattle.nz_machine.specs.runs.World.{World}
+use Rattle.nz_machine.specs.runs.Incarnations.{replica_at, incarnation}
+use Rattle.nz_machine.specs.runs.Hearing.{Heard}
 use Rattle.nz_laws_cv.proofs.Turns.{TurnState, turn_state, merging, starting, unreported, with_changes, with_change, begun_log, begun_commit, IsNew}
 use Rattle.nz_laws_cv.proofs.Turns.{MayLead, Base, Awaits, Turn, Stays, Release, Merge, Sync, Tally, Enter, Follow, Answer, Collect}
 use Rattle.nz_laws_cv.proofs.Turns.{Begin, Start, Fall, Wake, HearVector, Count, HearView, Forget, AskLog, Return, Back}

@@ -8,15 +8,15 @@ use Rattle.nz_base.specs.declared.actor.Actor.TheVariants.{Replica}
 use Rattle.nz_msg.specs.declared.message.Message.TheVariants as messages
 use Rattle.nz_machine.specs.declared.event.Parcel.{Parcel}
 use Rattle.nz_machine.specs.declared.event.Record.{Record}
-use Rattle.nz_machine.specs.State.{Group}
+use Rattle.nz_machine.specs.rules.State.{Group}
 use Rattle.nz_machine.specs.declared.data.Phase.TheVariants as phases
 use Rattle.nz_machine.specs.declared.data.Rejoin.{Rejoin}
 use Rattle.nz_machine.specs.declared.data.ToldView.{ToldView}
-use Rattle.nz_machine.specs.Replicas.{is_normal}
-use Rattle.nz_machine.specs.Rejoining.{is_phase}
-use Rattle.nz_machine.specs.World.{Has, sent_in, World}
-use Rattle.nz_machine.specs.History.{source}
-use Rattle.nz_machine.specs.Incarnations.{replica_at, incarnation, completes}
+use Rattle.nz_machine.specs.rules.Replicas.{is_normal}
+use Rattle.nz_machine.specs.rules.Rejoining.{is_phase}
+use Rattle.nz_machine.specs.runs.World.{Has, sent_in, World}
+use Rattle.nz_machine.specs.runs.History.{source}
+use Rattle.nz_machine.specs.runs.Incarnations.{replica_at, incarnation, completes}
 use Rattle.nz_base.specs.Moments.{At}
 use Rattle.nz_math.specs.Count.{is_in}
 use Rattle.nz_laws_cv.specs.Notions.{IsHeldByMany}
@@ -25,15 +25,15 @@ use Rattle.nz_laws_cv.specs.Ground.{TellsVector}
 use Rattle.nz_laws_cv.specs.Members.{IsAnswered}
 use Rattle.nz_laws_cv.proofs.Turns.{TurnState}
 use Rattle.nz_laws_cv.proofs.TurnRules.{normal_up, heard_by}
-use Rattle.nz_machine.proofs.Runs.{FitsOut}
+use Rattle.nz_machine.proofs.runs.Runs.{FitsOut}
 use Rattle.nz_laws_cv.proofs.Hearing.{hears_fit}
 use Rattle.nz_laws_cv.proofs.Steps.{turn_state_at}
 use Rattle.nz_base.proofs.Moments.{at_self, at_then, at_shorter}
-use Rattle.nz_machine.proofs.Moments.{at_world}
+use Rattle.nz_machine.proofs.runs.Moments.{at_world}
 use Rattle.nz_laws_cv.proofs.Modes.{up_not_down, rejoin_not_down}
 use Rattle.nz_laws_cv.proofs.WithinIncarnation.{inc_grows, goes_far, same_nonce, nonce_at, down_at}
 use Rattle.nz_laws_cv.proofs.SentShows.{letter, Shows, shows_at, IsSent, sent_at}
-use Rattle.nz_machine.proofs.Sources.{source_is, has_source, source_stays}
+use Rattle.nz_machine.proofs.runs.Sources.{source_is, has_source, source_stays}
 use Rattle.nz_laws_cv.proofs.Lists.{in_map}
 use Rattle.nz_laws_cv.proofs.Tellers.{views_settled}
 use Rattle.nz_laws_cv.proofs.ToldViews.{HasTells, sender_of, tell_of}

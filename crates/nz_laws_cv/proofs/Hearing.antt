@@ -8,10 +8,10 @@ use Rattle.nz_base.specs.declared.actor.Actor.{Actor}
 use Rattle.nz_base.specs.declared.actor.Actor.TheVariants.{Replica}
 use Rattle.nz_msg.specs.declared.message.Message.{Message}
 use Rattle.nz_machine.specs.declared.event.Event.{Event}
-use Rattle.nz_machine.specs.State.{Group}
-use Rattle.nz_machine.specs.Hearing.{Heard}
-use Rattle.nz_machine.specs.Step.{is_in_cluster, is_sized, message_vector}
-use Rattle.nz_machine.proofs.ReadShows.{delivers}
+use Rattle.nz_machine.specs.rules.State.{Group}
+use Rattle.nz_machine.specs.runs.Hearing.{Heard}
+use Rattle.nz_machine.specs.rules.Step.{is_in_cluster, is_sized, message_vector}
+use Rattle.nz_machine.proofs.shows.ReadShows.{delivers}
 use Rattle.nz_laws_cv.proofs.TurnRules.{heard_by}
 
 -- the message comes from another replica of the cluster, with a vector of its size if it has one

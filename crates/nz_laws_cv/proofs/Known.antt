@@ -4,19 +4,19 @@ use Rattle.std.proofs.lemmas.Bool.{cases_lt, and_parts, not-true}
 use Rattle.nz_base.specs.Cluster.{leader_of}
 use Rattle.nz_base.proofs.Booleans.{true_and_false}
 use Rattle.nz_machine.specs.declared.event.Record.{Record}
-use Rattle.nz_machine.specs.State.{Group}
-use Rattle.nz_machine.specs.Replicas.{is_normal, is_up}
-use Rattle.nz_machine.specs.World.{World}
-use Rattle.nz_machine.specs.Incarnations.{replica_at, incarnation, completes}
-use Rattle.nz_machine.specs.Leading.{is_led}
-use Rattle.nz_machine.specs.Begun.{begins, Views}
-use Rattle.nz_machine.specs.Knowledge.{Knowledge}
+use Rattle.nz_machine.specs.rules.State.{Group}
+use Rattle.nz_machine.specs.rules.Replicas.{is_normal, is_up}
+use Rattle.nz_machine.specs.runs.World.{World}
+use Rattle.nz_machine.specs.runs.Incarnations.{replica_at, incarnation, completes}
+use Rattle.nz_machine.specs.runs.Leading.{is_led}
+use Rattle.nz_machine.specs.runs.Begun.{begins, Views}
+use Rattle.nz_machine.specs.runs.Knowledge.{Knowledge}
 use Rattle.nz_base.specs.Moments.{At}
 use Rattle.nz_laws_cv.specs.Views.{HasViews}
 use Rattle.nz_laws_cv.specs.Members.{IsAnswered, KnownSince, IsReportedTo}
 use Rattle.nz_base.proofs.Moments.{at_order, at_shorter, at_tail, at_self}
 use Rattle.nz_laws_cv.proofs.TurnRules.{normal_up}
-use Rattle.nz_machine.proofs.Moments.{at_world}
+use Rattle.nz_machine.proofs.runs.Moments.{at_world}
 use Rattle.nz_laws_cv.proofs.Modes.{up_no_rejoin, rejoin_not_down}
 use Rattle.nz_laws_cv.proofs.WithinIncarnation.{inc_grows, goes_far}
 use Rattle.nz_laws_cv.proofs.SentShows.{Shows}

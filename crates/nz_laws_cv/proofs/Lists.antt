@@ -3,7 +3,7 @@ use Rattle.std.proofs.Common.{◌≡◌, ℕ, ◌≤◌, Bool, true, false, cond
 use Rattle.std.proofs.lemmas.Bool.{or_cases}
 use Rattle.std.specs.List.{filter}
 use Rattle.nz_merge.specs.Merged.{greatest}
-use Rattle.nz_machine.specs.World.{Has}
+use Rattle.nz_machine.specs.runs.World.{Has}
 use Rattle.nz_math.specs.Count.{is_in}
 
 pub record Passes {X : Type 0} (p : X → Bool) (xs : List X) (x : X) : Type 0 where

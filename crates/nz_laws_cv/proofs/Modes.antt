@@ -18,10 +18,10 @@ use Rattle.nz_machine.specs.declared.data.Phase.TheVariants as phases
 use Rattle.nz_machine.specs.declared.data.Rejoin.{Rejoin}
 use Rattle.nz_machine.specs.declared.data.Reported.{Reported}
 use Rattle.nz_log.specs.Synced.{Log}
-use Rattle.nz_machine.specs.Replicas.{first_replica, is_normal, is_changing, is_up, is_rejoining, is_down, crashed_replica}
-use Rattle.nz_machine.specs.Rejoining.{restarted_replica, is_phase}
-use Rattle.nz_machine.specs.Step.{message_vector, is_sized}
-use Rattle.nz_machine.specs.Hearing.{Heard}
+use Rattle.nz_machine.specs.rules.Replicas.{first_replica, is_normal, is_changing, is_up, is_rejoining, is_down, crashed_replica}
+use Rattle.nz_machine.specs.rules.Rejoining.{restarted_replica, is_phase}
+use Rattle.nz_machine.specs.rules.Step.{message_vector, is_sized}
+use Rattle.nz_machine.specs.runs.Hearing.{Heard}
 use Rattle.nz_laws_cv.proofs.Turns.{TurnState, turn_state, IsNew, Base, Anew, Going, Awaits, Turn, Stays, Release, Merge, Sync, Tally, Enter, Follow}
 use Rattle.nz_laws_cv.proofs.Turns.{Answer, Collect, Begin, Start, Fall, Wake, HearVector, Count, HearView, Forget, AskLog, Return, Back}
 use Rattle.nz_laws_cv.proofs.TurnRules.{up_kinds, normal_up}

@@ -7,10 +7,10 @@ use Rattle.nz_base.specs.Cluster.{leader_of}
 use Rattle.nz_base.specs.declared.actor.Actor.TheVariants.{Replica}
 use Rattle.nz_msg.specs.declared.message.Message.TheVariants as messages
 use Rattle.nz_machine.specs.declared.event.Record.{Record}
-use Rattle.nz_machine.specs.State.{Group}
-use Rattle.nz_machine.specs.Replicas.{is_normal}
-use Rattle.nz_machine.specs.World.{World}
-use Rattle.nz_machine.specs.Incarnations.{replica_at, incarnation, completes}
+use Rattle.nz_machine.specs.rules.State.{Group}
+use Rattle.nz_machine.specs.rules.Replicas.{is_normal}
+use Rattle.nz_machine.specs.runs.World.{World}
+use Rattle.nz_machine.specs.runs.Incarnations.{replica_at, incarnation, completes}
 use Rattle.nz_base.specs.Moments.{At}
 use Rattle.nz_laws_cv.proofs.Turns.{TurnState}
 use Rattle.nz_laws_cv.proofs.TurnRules.{heard_by, normal_up}

@@ -15,19 +15,19 @@ use Rattle.nz_msg.specs.declared.message.Message.{Message}
 use Rattle.nz_msg.specs.declared.message.Message.TheVariants as messages
 use Rattle.nz_machine.specs.declared.event.Parcel.{Parcel}
 use Rattle.nz_machine.specs.declared.event.Record.{Record}
-use Rattle.nz_machine.specs.State.{Group}
+use Rattle.nz_machine.specs.rules.State.{Group}
 use Rattle.nz_machine.specs.declared.data.Phase.TheVariants as phases
-use Rattle.nz_machine.specs.Replicas.{is_normal, is_changing, is_rejoining}
-use Rattle.nz_machine.specs.Rejoining.{is_phase}
-use Rattle.nz_machine.specs.Step.{parcel}
-use Rattle.nz_machine.specs.World.{Has, sent_in, World}
-use Rattle.nz_machine.specs.Incarnations.{replica_at}
+use Rattle.nz_machine.specs.rules.Replicas.{is_normal, is_changing, is_rejoining}
+use Rattle.nz_machine.specs.rules.Rejoining.{is_phase}
+use Rattle.nz_machine.specs.rules.Step.{parcel}
+use Rattle.nz_machine.specs.runs.World.{Has, sent_in, World}
+use Rattle.nz_machine.specs.runs.Incarnations.{replica_at}
 use Rattle.nz_base.specs.Moments.{At}
 use Rattle.nz_laws_cv.proofs.TurnRules.{heard_by}
-use Rattle.nz_machine.proofs.Runs.{FitsOut, has_right}
-use Rattle.nz_machine.proofs.ReadShows as told
+use Rattle.nz_machine.proofs.runs.Runs.{FitsOut, has_right}
+use Rattle.nz_machine.proofs.shows.ReadShows as told
 use Rattle.nz_base.proofs.Moments.{at_self, at_then}
-use Rattle.nz_machine.proofs.Sources.{source_is, has_source}
+use Rattle.nz_machine.proofs.runs.Sources.{source_is, has_source}
 
 -- a parcel between two replicas
 abbrev pub letter : ℕ → ℕ → Message → Parcel

@@ -16,14 +16,14 @@ use Rattle.nz_msg.specs.declared.message.StateTellBody.{StateTellBody}
 use Rattle.nz_msg.specs.declared.message.Message.{Message}
 use Rattle.nz_msg.specs.declared.message.Message.TheVariants as messages
 use Rattle.nz_machine.specs.declared.event.Record.{Record}
-use Rattle.nz_machine.specs.State.{Group}
-use Rattle.nz_machine.specs.World.{World}
-use Rattle.nz_machine.specs.Hearing.{heard_at}
-use Rattle.nz_machine.specs.Incarnations.{replica_at}
-use Rattle.nz_machine.specs.Shows.{ShowsVectorAsk, ShowsRejoinAsk, ShowsStateAsk, ShowsVectorTell, ShowsRejoinTell}
-use Rattle.nz_machine.specs.Shows.{ShowsStateTell, ShowsViewChange, ShowsStartView}
-use Rattle.nz_machine.proofs.Moments.{at_world}
-use Rattle.nz_machine.proofs.ReadShows.{IsShown, shown_by, delivers, was_sent, rejoin_tell_takes, state_tell_takes}
+use Rattle.nz_machine.specs.rules.State.{Group}
+use Rattle.nz_machine.specs.runs.World.{World}
+use Rattle.nz_machine.specs.runs.Hearing.{heard_at}
+use Rattle.nz_machine.specs.runs.Incarnations.{replica_at}
+use Rattle.nz_machine.specs.runs.Shows.{ShowsVectorAsk, ShowsRejoinAsk, ShowsStateAsk, ShowsVectorTell, ShowsRejoinTell}
+use Rattle.nz_machine.specs.runs.Shows.{ShowsStateTell, ShowsViewChange, ShowsStartView}
+use Rattle.nz_machine.proofs.runs.Moments.{at_world}
+use Rattle.nz_machine.proofs.shows.ReadShows.{IsShown, shown_by, delivers, was_sent, rejoin_tell_takes, state_tell_takes}
 use Rattle.nz_laws_cv.proofs.SentShows.{IsSent, Sends, AsksVector, AsksView, AsksLog, TellsVector, TellsView, TellsLog, Reports, StartsView, Shows}
 
 pub same_replica : (r q : ℕ) → Replica r ≡ Replica q → r ≡ q

@@ -5,11 +5,11 @@ use Rattle.nz_base.specs.Actor.{actor_eq}
 use Rattle.nz_base.proofs.Names.{same_actor}
 use Rattle.nz_machine.specs.declared.event.Parcel.{Parcel}
 use Rattle.nz_machine.specs.declared.event.Record.{Record}
-use Rattle.nz_machine.specs.State.{Group, State}
-use Rattle.nz_machine.specs.World.{sent_in, Has}
+use Rattle.nz_machine.specs.rules.State.{Group, State}
+use Rattle.nz_machine.specs.runs.World.{sent_in, Has}
 use Rattle.nz_base.specs.Moments.{At}
-use Rattle.nz_machine.specs.Incarnations.{replica_at}
-use Rattle.nz_machine.proofs.Runs.{acts, stays, has_right}
+use Rattle.nz_machine.specs.runs.Incarnations.{replica_at}
+use Rattle.nz_machine.proofs.runs.Runs.{acts, stays, has_right}
 use Rattle.nz_laws_cv.proofs.Turns.{TurnState, turn_state, Turn}
 use Rattle.nz_laws_cv.proofs.TurnRules.{heard_by, event_turn}
 

@@ -16,8 +16,8 @@ use Rattle.nz_log.proofs.Modifying.{modified_sound}
 use Rattle.nz_log.proofs.LedKeys.{syncs, ModifiesLog, KeepsPrefixes, keeps, told_ahead}
 use Rattle.nz_log.proofs.LedKeys as loops
 use Rattle.nz_msg.specs.declared.message.LogModBody.{LogModBody}
-use Rattle.nz_machine.specs.State.{ReplicaData}
-use Rattle.nz_machine.specs.LogMods.{entry_of_id, may_sync, synced_with, if_found, sync_keys}
+use Rattle.nz_machine.specs.rules.State.{ReplicaData}
+use Rattle.nz_machine.specs.rules.LogMods.{entry_of_id, may_sync, synced_with, if_found, sync_keys}
 use Rattle.nz_laws_cv.proofs.Turns.{turn_state, holding, Taken, Modifies}
 
 -- ---- what else is kept

@@ -14,15 +14,15 @@ use Rattle.nz_msg.specs.declared.message.Message.{Message}
 use Rattle.nz_msg.specs.declared.message.Message.TheVariants as messages
 use Rattle.nz_machine.specs.declared.event.Event.{Event}
 use Rattle.nz_machine.specs.declared.data.Phase.TheVariants as phases
-use Rattle.nz_machine.specs.Replicas.{first_replica, crashed_replica}
-use Rattle.nz_machine.specs.Rejoining.{restarted_replica, is_phase}
-use Rattle.nz_machine.specs.Hearing.{Heard}
+use Rattle.nz_machine.specs.rules.Replicas.{first_replica, crashed_replica}
+use Rattle.nz_machine.specs.rules.Rejoining.{restarted_replica, is_phase}
+use Rattle.nz_machine.specs.runs.Hearing.{Heard}
 use Rattle.nz_math.specs.Count.{is_in, AreDistinct}
 use Rattle.nz_laws_cv.proofs.Turns.{TurnState, turn_state, more_tellers, IsNew, Awaits, Turn, Stays, Release, Merge, Sync, Tally, Enter, Follow, Answer}
 use Rattle.nz_laws_cv.proofs.Turns.{Collect, Begin, Start, Fall, Wake, HearVector, Count, HearView, Forget, AskLog, Return, Back}
 use Rattle.nz_laws_cv.proofs.Hearing.{HearsFit}
 use Rattle.nz_laws_cv.proofs.Modes.{IsSound, Settled, is_phase_is, merges_own, sound_kept}
-use Rattle.nz_machine.proofs.Distinct.{any_in, distinct_more, in_append}
+use Rattle.nz_machine.proofs.lists.Distinct.{any_in, distinct_more, in_append}
 
 -- what is heard was sent
 pub record HearsSent (Sent : ℕ → Message → Type 0) (me : ℕ) (heard : Heard) : Type 0 where

@@ -15,17 +15,17 @@ use Rattle.nz_machine.specs.declared.data.Rejoin.{Rejoin}
 use Rattle.nz_machine.specs.declared.data.Reported.{Reported}
 use Rattle.nz_log.specs.Synced.{Log}
 use Rattle.nz_machine.specs.declared.data.ToldView.{ToldView}
-use Rattle.nz_machine.specs.Replicas.{first_replica, is_rejoining, crashed_replica}
-use Rattle.nz_machine.specs.Rejoining.{restarted_replica, is_phase}
-use Rattle.nz_machine.specs.World.{Has}
-use Rattle.nz_machine.specs.Hearing.{Heard}
+use Rattle.nz_machine.specs.rules.Replicas.{first_replica, is_rejoining, crashed_replica}
+use Rattle.nz_machine.specs.rules.Rejoining.{restarted_replica, is_phase}
+use Rattle.nz_machine.specs.runs.World.{Has}
+use Rattle.nz_machine.specs.runs.Hearing.{Heard}
 use Rattle.nz_math.specs.Count.{AreDistinct}
 use Rattle.nz_laws_cv.proofs.Turns.{TurnState, turn_state, told_view, more_tells, fresh_tells, IsNew, Awaits, Turn, Stays, Release, Merge, Sync, Tally, Enter}
 use Rattle.nz_laws_cv.proofs.Turns.{Follow, Answer, Collect, Begin, Start, Fall, Wake, HearVector, Count, HearView, Forget, AskLog, Return, Back}
 use Rattle.nz_laws_cv.proofs.Hearing.{HearsFit}
-use Rattle.nz_machine.proofs.Runs.{has_split}
+use Rattle.nz_machine.proofs.runs.Runs.{has_split}
 use Rattle.nz_laws_cv.proofs.Modes.{IsSound, is_phase_is, merges, merges_in, normal_no_rejoin}
-use Rattle.nz_machine.proofs.Distinct.{distinct_filter, distinct_replace}
+use Rattle.nz_machine.proofs.lists.Distinct.{distinct_filter, distinct_replace}
 use Rattle.nz_laws_cv.proofs.Lists.{filter_has, above_each}
 use Rattle.nz_laws_cv.proofs.Tellers.{HearsSent}
 

@@ -36,23 +36,23 @@ use Rattle.nz_machine.specs.declared.data.Status.TheVariants.{Normal, ViewChange
 use Rattle.nz_machine.specs.declared.data.Phase.{Phase}
 use Rattle.nz_machine.specs.declared.data.Phase.TheVariants as phases
 use Rattle.nz_machine.specs.declared.data.Reported.{Reported}
-use Rattle.nz_machine.specs.State.{ReplicaData, Out, Group}
-use Rattle.nz_machine.specs.Hearing.{Heard, heard_as, heard_at}
-use Rattle.nz_machine.specs.Replicas.{is_normal, is_changing, is_up, is_rejoining, is_down, leads, leads_view, hears_leader}
-use Rattle.nz_machine.specs.Requests.{request_rule}
-use Rattle.nz_machine.specs.Releases.{release_rule}
-use Rattle.nz_machine.specs.LogMods.{after_hearing, hears_later_leader, sync_keys, after_log_mod, log_mod_rule, fetch_rule}
-use Rattle.nz_machine.specs.LogMods.{with_late_entries, with_late_entry, fetch_reply_rule, sync_report_rule}
-use Rattle.nz_machine.specs.Vectors.{with_vector, unless_stray}
-use Rattle.nz_machine.specs.Views.{enter_view, alarm_rule, view_ask_rule, quiet_timer, change_timer}
-use Rattle.nz_machine.specs.Adopting.{normal_in, after_start, start_view_rule}
-use Rattle.nz_machine.specs.Begins.{changes_of, after_begin, with_report, without_strays, collect, begin, view_change_rule}
-use Rattle.nz_machine.specs.Rejoining.{crash_rule, restart_rule, restarted_replica, with_teller, ask_views, with_new_counter, with_tells}
-use Rattle.nz_machine.specs.Rejoining.{ask_log, ask_again, with_tell, latest_view, vector_ask_rule, vector_tell_rule, rejoin_ask_rule}
-use Rattle.nz_machine.specs.Rejoining.{rejoin_tell_rule, state_ask_rule, state_tell_rule, rejoin_timer, is_phase}
-use Rattle.nz_machine.specs.Step.{replica_message, tick_rule, mode_timer, accepted_envelope, envelope_step, event_step}
-use Rattle.nz_machine.proofs.Runs.{unless_down}
-use Rattle.nz_machine.proofs.Guards.{HearsLeader, hears_leader_parts}
+use Rattle.nz_machine.specs.rules.State.{ReplicaData, Out, Group}
+use Rattle.nz_machine.specs.runs.Hearing.{Heard, heard_as, heard_at}
+use Rattle.nz_machine.specs.rules.Replicas.{is_normal, is_changing, is_up, is_rejoining, is_down, leads, leads_view, hears_leader}
+use Rattle.nz_machine.specs.rules.Requests.{request_rule}
+use Rattle.nz_machine.specs.rules.Releases.{release_rule}
+use Rattle.nz_machine.specs.rules.LogMods.{after_hearing, hears_later_leader, sync_keys, after_log_mod, log_mod_rule, fetch_rule}
+use Rattle.nz_machine.specs.rules.LogMods.{with_late_entries, with_late_entry, fetch_reply_rule, sync_report_rule}
+use Rattle.nz_machine.specs.rules.Vectors.{with_vector, unless_stray}
+use Rattle.nz_machine.specs.rules.Views.{enter_view, alarm_rule, view_ask_rule, quiet_timer, change_timer}
+use Rattle.nz_machine.specs.rules.Adopting.{normal_in, after_start, start_view_rule}
+use Rattle.nz_machine.specs.rules.Begins.{changes_of, after_begin, with_report, without_strays, collect, begin, view_change_rule}
+use Rattle.nz_machine.specs.rules.Rejoining.{crash_rule, restart_rule, restarted_replica, with_teller, ask_views, with_new_counter, with_tells}
+use Rattle.nz_machine.specs.rules.Rejoining.{ask_log, ask_again, with_tell, latest_view, vector_ask_rule, vector_tell_rule, rejoin_ask_rule}
+use Rattle.nz_machine.specs.rules.Rejoining.{rejoin_tell_rule, state_ask_rule, state_tell_rule, rejoin_timer, is_phase}
+use Rattle.nz_machine.specs.rules.Step.{replica_message, tick_rule, mode_timer, accepted_envelope, envelope_step, event_step}
+use Rattle.nz_machine.proofs.runs.Runs.{unless_down}
+use Rattle.nz_machine.proofs.facts.Guards.{HearsLeader, hears_leader_parts}
 use Rattle.nz_laws_cv.proofs.Turns.{TurnState, turn_state, merging, holding, committing, entering, starting, unreported, with_changes, fresh_changes, with_change}
 use Rattle.nz_laws_cv.proofs.Turns.{begun_log, begun_commit, more_tellers, Appends, Same, More, IsNew, MayLead, Base, Anew, Going}
 use Rattle.nz_laws_cv.proofs.Turns.{MayStart, Awaits, Turn, Stays, Release, Merge, Sync, Tally, Enter, Follow, Answer, Collect, Begin}

@@ -31,14 +31,14 @@ use Rattle.nz_machine.specs.declared.data.Phase.TheVariants as phases
 use Rattle.nz_machine.specs.declared.data.Rejoin.{Rejoin}
 use Rattle.nz_machine.specs.declared.data.Reported.{Reported}
 use Rattle.nz_machine.specs.declared.data.ToldView.{ToldView}
-use Rattle.nz_machine.specs.State.{ReplicaData}
-use Rattle.nz_machine.specs.Hearing.{Heard}
-use Rattle.nz_machine.specs.Replicas.{is_normal, is_changing, is_up, is_rejoining, is_down, crashed_replica}
-use Rattle.nz_machine.specs.LogMods.{commit_point}
-use Rattle.nz_machine.specs.Begins.{report_of}
-use Rattle.nz_machine.specs.Rejoining.{restarted_replica, is_phase}
-use Rattle.nz_machine.specs.Step.{message_vector}
-use Rattle.nz_machine.proofs.Guards.{HearsLeader}
+use Rattle.nz_machine.specs.rules.State.{ReplicaData}
+use Rattle.nz_machine.specs.runs.Hearing.{Heard}
+use Rattle.nz_machine.specs.rules.Replicas.{is_normal, is_changing, is_up, is_rejoining, is_down, crashed_replica}
+use Rattle.nz_machine.specs.rules.LogMods.{commit_point}
+use Rattle.nz_machine.specs.rules.Begins.{report_of}
+use Rattle.nz_machine.specs.rules.Rejoining.{restarted_replica, is_phase}
+use Rattle.nz_machine.specs.rules.Step.{message_vector}
+use Rattle.nz_machine.proofs.facts.Guards.{HearsLeader}
 
 -- the part of a replica's state that a turn may change
 pub record TurnState : Type 0 where

@@ -3,12 +3,12 @@ use Rattle.std.proofs.Common.{◌≡◌, ℕ, ◌<◌, true, List, Some}
 use Rattle.std.specs.Prelude.{slice_index}
 use Rattle.nz_base.specs.Cluster.{leader_of}
 use Rattle.nz_machine.specs.declared.event.Record.{Record}
-use Rattle.nz_machine.specs.State.{Group}
+use Rattle.nz_machine.specs.rules.State.{Group}
 use Rattle.nz_machine.specs.declared.data.ToldView.{ToldView}
-use Rattle.nz_machine.specs.Replicas.{is_normal, is_up}
-use Rattle.nz_machine.specs.World.{Has}
-use Rattle.nz_machine.specs.Incarnations.{replica_at, incarnation, completes, views_used, tell_source}
-use Rattle.nz_machine.specs.Begun.{begins, IsMemberOf}
+use Rattle.nz_machine.specs.rules.Replicas.{is_normal, is_up}
+use Rattle.nz_machine.specs.runs.World.{Has}
+use Rattle.nz_machine.specs.runs.Incarnations.{replica_at, incarnation, completes, views_used, tell_source}
+use Rattle.nz_machine.specs.runs.Begun.{begins, IsMemberOf}
 use Rattle.nz_base.specs.Moments.{At}
 use Rattle.nz_laws_cv.specs.Notions.{Notions}
 

@@ -10,19 +10,19 @@ use Rattle.nz_base.proofs.Names.{actor_eq_self, same_actor}
 use Rattle.nz_machine.specs.declared.event.Event.{Event}
 use Rattle.nz_machine.specs.declared.event.Event.TheVariants.{Deliver, Cut, Tick, Alarm, Crash, Restart}
 use Rattle.nz_machine.specs.declared.event.Record.{Record}
-use Rattle.nz_machine.specs.State.{Group, ReplicaData}
-use Rattle.nz_machine.specs.Replicas.{first_replica, is_up, is_down, crashed_replica}
-use Rattle.nz_machine.specs.Rejoining.{restarted_replica, restart_rule}
-use Rattle.nz_machine.specs.Step.{event_step}
-use Rattle.nz_machine.specs.World.{state_after, Has, World, IsMember, MayHappen, Restarts}
-use Rattle.nz_machine.specs.Incarnations.{replica_at, is_restart, comes_back, incarnation}
+use Rattle.nz_machine.specs.rules.State.{Group, ReplicaData}
+use Rattle.nz_machine.specs.rules.Replicas.{first_replica, is_up, is_down, crashed_replica}
+use Rattle.nz_machine.specs.rules.Rejoining.{restarted_replica, restart_rule}
+use Rattle.nz_machine.specs.rules.Step.{event_step}
+use Rattle.nz_machine.specs.runs.World.{state_after, Has, World, IsMember, MayHappen, Restarts}
+use Rattle.nz_machine.specs.runs.Incarnations.{replica_at, is_restart, comes_back, incarnation}
 use Rattle.nz_base.specs.Moments.{At}
 use Rattle.nz_laws_cv.proofs.Turns.{TurnState, turn_state}
 use Rattle.nz_laws_cv.proofs.TurnRules.{heard_by}
 use Rattle.nz_laws_cv.proofs.Hearing.{hears_fit}
-use Rattle.nz_machine.proofs.Runs.{acts, all_has}
+use Rattle.nz_machine.proofs.runs.Runs.{acts, all_has}
 use Rattle.nz_laws_cv.proofs.Steps.{turn_state_at, Acts, Rests, steps}
-use Rattle.nz_machine.proofs.Moments.{at_world}
+use Rattle.nz_machine.proofs.runs.Moments.{at_world}
 use Rattle.nz_laws_cv.proofs.Modes.{IsSound, first_sound, sound_kept, Goes, goes_same, goes_then, RejoinsNormal}
 use Rattle.nz_laws_cv.proofs.Modes.{Course, Falls, Wakes, GoesOn, course, up_no_rejoin}
 

@@ -1,8 +1,8 @@
 -- The worked run in which a replica crashes and rejoins has knowledge and views, by the laws.
-use Rattle.nz_machine.specs.Begun.{Views}
-use Rattle.nz_machine.specs.Knowledge.{Knowledge}
-use Rattle.nz_machine.proofs.WorkedRuns.{group}
-use Rattle.nz_machine.proofs.RejoinRun.{strayed, is_run}
+use Rattle.nz_machine.specs.runs.Begun.{Views}
+use Rattle.nz_machine.specs.runs.Knowledge.{Knowledge}
+use Rattle.nz_machine.proofs.worked.WorkedRuns.{group}
+use Rattle.nz_machine.proofs.worked.RejoinRun.{strayed, is_run}
 use Rattle.nz_laws_cv.proofs.Showing.{shows}
 use Rattle.nz_laws_cv.proofs.Known.{knowledge_at, views_of}
 

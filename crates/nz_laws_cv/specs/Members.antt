@@ -8,14 +8,14 @@ use Rattle.nz_merge.specs.declared.change.Change.{Change}
 use Rattle.nz_machine.specs.declared.event.Record.{Record}
 use Rattle.nz_machine.specs.declared.data.Reported.{Reported}
 use Rattle.nz_machine.specs.declared.data.ToldView.{ToldView}
-use Rattle.nz_machine.specs.State.{Group}
-use Rattle.nz_machine.specs.Replicas.{is_up}
-use Rattle.nz_machine.specs.World.{Has}
-use Rattle.nz_machine.specs.History.{source}
-use Rattle.nz_machine.specs.Leading.{leader_at}
-use Rattle.nz_machine.specs.Begins.{own_change}
-use Rattle.nz_machine.specs.Incarnations.{replica_at, counter_at, own_counter, completes, views_used, tell_source}
-use Rattle.nz_machine.specs.Begun.{reports_used, report_parcel}
+use Rattle.nz_machine.specs.rules.State.{Group}
+use Rattle.nz_machine.specs.rules.Replicas.{is_up}
+use Rattle.nz_machine.specs.runs.World.{Has}
+use Rattle.nz_machine.specs.runs.History.{source}
+use Rattle.nz_machine.specs.runs.Leading.{leader_at}
+use Rattle.nz_machine.specs.rules.Begins.{own_change}
+use Rattle.nz_machine.specs.runs.Incarnations.{replica_at, counter_at, own_counter, completes, views_used, tell_source}
+use Rattle.nz_machine.specs.runs.Begun.{reports_used, report_parcel}
 
 -- Different replicas of the group, without this one.
 pub record AreOthers (g : Group) (me : ℕ) (replicas : List ℕ) : Type 0 where

@@ -3,11 +3,11 @@
 ghost use Rattle.std.specs.Prelude.{ℕ, ◌<◌, List, ◌∷◌, IsTrue};
 ghost use Rattle.nz_base.specs.Moments.{At};
 ghost use Rattle.nz_machine.specs.declared.event.Record.{Record};
-ghost use Rattle.nz_machine.specs.State.{Group};
-ghost use Rattle.nz_machine.specs.World.{World};
-ghost use Rattle.nz_machine.specs.Knowledge.{Knowledge};
-ghost use Rattle.nz_machine.specs.Incarnations.{completes};
-ghost use Rattle.nz_machine.specs.Begun.{begins, Views};
+ghost use Rattle.nz_machine.specs.rules.State.{Group};
+ghost use Rattle.nz_machine.specs.runs.World.{World};
+ghost use Rattle.nz_machine.specs.runs.Knowledge.{Knowledge};
+ghost use Rattle.nz_machine.specs.runs.Incarnations.{completes};
+ghost use Rattle.nz_machine.specs.runs.Begun.{begins, Views};
 ghost use Rattle.nz_laws_cv.specs.Notions.{IsIn};
 ghost use Rattle.nz_laws_cv.specs.Ground.{Ground, StaysUp};
 ghost use Rattle.nz_laws_cv.specs.Views.{HasViews};

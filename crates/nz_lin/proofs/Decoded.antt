@@ -4,11 +4,11 @@ use Rattle.nz_base.specs.declared.actor.Actor.{Actor}
 use Rattle.nz_msg.proofs.Envelopes.{decode-encode}
 use Rattle.nz_machine.specs.declared.event.Parcel.{Parcel}
 use Rattle.nz_machine.specs.declared.event.Record.{Record}
-use Rattle.nz_machine.specs.State.{Group, Out}
-use Rattle.nz_machine.specs.Step.{parcel}
-use Rattle.nz_machine.specs.World.{sent_in, Has, World}
-use Rattle.nz_machine.proofs.Runs.{FitsOut, sent_from}
-use Rattle.nz_machine.proofs.FitRuns.{Fitted, all_fit}
+use Rattle.nz_machine.specs.rules.State.{Group, Out}
+use Rattle.nz_machine.specs.rules.Step.{parcel}
+use Rattle.nz_machine.specs.runs.World.{sent_in, Has, World}
+use Rattle.nz_machine.proofs.runs.Runs.{FitsOut, sent_from}
+use Rattle.nz_machine.proofs.runs.FitRuns.{Fitted, all_fit}
 use Rattle.nz_lin.specs.Laws.{IsDecoded}
 
 parcel_decodes : (by : Actor) (o : Out) → FitsOut by o → IsDecoded (parcel by o)

@@ -10,10 +10,10 @@ use Rattle.nz_machine.specs.declared.event.Event.{Event}
 use Rattle.nz_machine.specs.declared.event.Parcel.{Parcel}
 use Rattle.nz_machine.specs.declared.event.Record.{Record}
 use Rattle.nz_machine.specs.declared.journal.Item.{Item}
-use Rattle.nz_machine.specs.Schedule.{item_of, due, InOrder, InOrderTo}
-use Rattle.nz_machine.specs.State.{Group}
-use Rattle.nz_machine.specs.Step.{node_step}
-use Rattle.nz_machine.specs.World.{state_after, Follows, World}
+use Rattle.nz_machine.specs.runs.Schedule.{item_of, due, InOrder, InOrderTo}
+use Rattle.nz_machine.specs.rules.State.{Group}
+use Rattle.nz_machine.specs.rules.Step.{node_step}
+use Rattle.nz_machine.specs.runs.World.{state_after, Follows, World}
 
 -- what an actor sends on an item after these records
 abbrev sends_on : Group → List Record → Item → List Parcel

@@ -9,13 +9,13 @@ use Rattle.nz_msg.specs.declared.message.Path.{Path}
 use Rattle.nz_machine.specs.declared.event.Event.{Event}
 use Rattle.nz_machine.specs.declared.event.Event.TheVariants.{Deliver}
 use Rattle.nz_machine.specs.declared.event.Record.{Record}
-use Rattle.nz_machine.specs.State.{Group}
-use Rattle.nz_machine.specs.World.{Has, World}
-use Rattle.nz_machine.specs.Events.{ClientEvent, Sent, Accepted, client_events, events}
-use Rattle.nz_machine.specs.History.{prefix_in, longer, history}
-use Rattle.nz_machine.specs.Quorums.{view_of}
-use Rattle.nz_machine.specs.OneHistory.{Precedes, IsAccepted}
-use Rattle.nz_machine.proofs.Runs.{has_left, has_right, has_split}
+use Rattle.nz_machine.specs.rules.State.{Group}
+use Rattle.nz_machine.specs.runs.World.{Has, World}
+use Rattle.nz_machine.specs.runs.Events.{ClientEvent, Sent, Accepted, client_events, events}
+use Rattle.nz_machine.specs.runs.History.{prefix_in, longer, history}
+use Rattle.nz_machine.specs.rules.Quorums.{view_of}
+use Rattle.nz_machine.specs.runs.OneHistory.{Precedes, IsAccepted}
+use Rattle.nz_machine.proofs.runs.Runs.{has_left, has_right, has_split}
 use Rattle.nz_base.proofs.Moments.{at_self}
 use Rattle.nz_base.specs.declared.limits.TheConstants.{MAX_ENTRIES}
 use Rattle.nz_laws_commit.proofs.Places.{absent_by}

@@ -5,11 +5,11 @@ use Rattle.nz_base.specs.declared.key.Entry.{Entry}
 use Rattle.nz_base.specs.Key.{id_of}
 use Rattle.nz_store.specs.declared.command.Answer.{Answer}
 use Rattle.nz_machine.specs.declared.event.Record.{Record}
-use Rattle.nz_machine.specs.State.{Group}
-use Rattle.nz_machine.specs.World.{Has, World}
-use Rattle.nz_machine.specs.Events.{events}
-use Rattle.nz_machine.specs.History.{history}
-use Rattle.nz_machine.specs.OneHistory.{StandsBefore, IsAnswered, Lin, IsAccepted, ArePaired, NoCollision}
+use Rattle.nz_machine.specs.rules.State.{Group}
+use Rattle.nz_machine.specs.runs.World.{Has, World}
+use Rattle.nz_machine.specs.runs.Events.{events}
+use Rattle.nz_machine.specs.runs.History.{history}
+use Rattle.nz_machine.specs.runs.OneHistory.{StandsBefore, IsAnswered, Lin, IsAccepted, ArePaired, NoCollision}
 use Rattle.nz_base.specs.Prefixes.{IsPrefix}
 use Rattle.nz_base.proofs.Prefixes.{prefix_none, shorter_comparable}
 use Rattle.nz_laws_commit.proofs.Whole.{prefixes}

@@ -29,19 +29,19 @@ use Rattle.nz_machine.specs.declared.event.Event.{Event}
 use Rattle.nz_machine.specs.declared.event.Event.TheVariants.{Deliver, Tick}
 use Rattle.nz_machine.specs.declared.event.Parcel.{Parcel}
 use Rattle.nz_machine.specs.declared.event.Record.{Record}
-use Rattle.nz_machine.specs.State.{Group}
-use Rattle.nz_machine.specs.Clients.{wait_rule, accept_rule}
-use Rattle.nz_machine.specs.Requests.{request_rule}
-use Rattle.nz_machine.specs.Releases.{releases, release_rule}
-use Rattle.nz_machine.specs.Proxies.{stamp_rule, reply_rule, clock_rule}
-use Rattle.nz_machine.specs.Quorums.{decision}
-use Rattle.nz_machine.specs.Replicas.{commands}
-use Rattle.nz_machine.specs.Step.{envelope_for, node_step}
-use Rattle.nz_machine.specs.World.{state_after, sent_in, Has, IsGroup, IsMember, MayHappen, World}
+use Rattle.nz_machine.specs.rules.State.{Group}
+use Rattle.nz_machine.specs.rules.Clients.{wait_rule, accept_rule}
+use Rattle.nz_machine.specs.rules.Requests.{request_rule}
+use Rattle.nz_machine.specs.rules.Releases.{releases, release_rule}
+use Rattle.nz_machine.specs.rules.Proxies.{stamp_rule, reply_rule, clock_rule}
+use Rattle.nz_machine.specs.rules.Quorums.{decision}
+use Rattle.nz_machine.specs.rules.Replicas.{commands}
+use Rattle.nz_machine.specs.rules.Step.{envelope_for, node_step}
+use Rattle.nz_machine.specs.runs.World.{state_after, sent_in, Has, IsGroup, IsMember, MayHappen, World}
 use Rattle.std.proofs.lemmas.Option.{none-some, same_Some}
-use Rattle.nz_machine.specs.Events.{Sent, Accepted, events}
-use Rattle.nz_machine.specs.History.{source, decision_moment, accepted_prefix, history}
-use Rattle.nz_machine.specs.OneHistory.{NoCollision}
+use Rattle.nz_machine.specs.runs.Events.{Sent, Accepted, events}
+use Rattle.nz_machine.specs.runs.History.{source, decision_moment, accepted_prefix, history}
+use Rattle.nz_machine.specs.runs.OneHistory.{NoCollision}
 use Rattle.nz_lin.specs.Replied.{replied_lists}
 use Rattle.nz_lin.proofs.Replied.{no_collision_listed}
 

@@ -8,13 +8,13 @@ use Rattle.nz_msg.specs.Envelope.{decode_of}
 use Rattle.nz_msg.proofs.Envelopes.{decode-encode}
 use Rattle.nz_machine.specs.declared.event.Parcel.{Parcel}
 use Rattle.nz_machine.specs.declared.event.Record.{Record}
-use Rattle.nz_machine.specs.State.{Group}
-use Rattle.nz_machine.specs.Step.{parcel, event_step}
-use Rattle.nz_machine.specs.World.{state_after, Has, World}
-use Rattle.nz_machine.specs.History.{log_at}
-use Rattle.nz_machine.specs.OneHistory.{RepliesOver, HasReplyOver, NoCollision}
-use Rattle.nz_machine.proofs.Runs.{FitsOut, sent_by, sends_have, all_has, has_left, has_right}
-use Rattle.nz_machine.proofs.FitRuns.{Fitted, FittedState, fits_keep}
+use Rattle.nz_machine.specs.rules.State.{Group}
+use Rattle.nz_machine.specs.rules.Step.{parcel, event_step}
+use Rattle.nz_machine.specs.runs.World.{state_after, Has, World}
+use Rattle.nz_machine.specs.runs.History.{log_at}
+use Rattle.nz_machine.specs.runs.OneHistory.{RepliesOver, HasReplyOver, NoCollision}
+use Rattle.nz_machine.proofs.runs.Runs.{FitsOut, sent_by, sends_have, all_has, has_left, has_right}
+use Rattle.nz_machine.proofs.runs.FitRuns.{Fitted, FittedState, fits_keep}
 use Rattle.nz_lin.specs.Replied.{list_read, replied_lists, HaveOwnDigests}
 
 has_flat : {X Y : Type 0} (f : X → List Y) (xs : List X) (x : X) (y : Y) → Has xs x → Has (f x) y → Has (flat_map f xs) y

@@ -3,15 +3,15 @@ use Rattle.std.proofs.Common.{◌≡◌, List, ◌∷◌, Some, refl, sym, ap, s
 use Rattle.nz_msg.proofs.Envelopes.{decode-encode}
 use Rattle.nz_machine.specs.declared.event.Parcel.{Parcel}
 use Rattle.nz_machine.specs.declared.event.Record.{Record}
-use Rattle.nz_machine.specs.State.{Group}
-use Rattle.nz_machine.specs.Step.{event_step}
-use Rattle.nz_machine.specs.World.{state_after, sent_in, Has, World}
-use Rattle.nz_machine.specs.History.{source}
-use Rattle.nz_machine.proofs.Runs.{FitsOut, SentBy, sent_by, sends_have, all_has}
-use Rattle.nz_machine.proofs.Moments.{at_world}
-use Rattle.nz_machine.proofs.Sources.{has_source, source_is}
-use Rattle.nz_machine.proofs.FitRuns.{Fitted, FittedState, fits_keep}
-use Rattle.nz_machine.proofs.SentMessages.{shown}
+use Rattle.nz_machine.specs.rules.State.{Group}
+use Rattle.nz_machine.specs.rules.Step.{event_step}
+use Rattle.nz_machine.specs.runs.World.{state_after, sent_in, Has, World}
+use Rattle.nz_machine.specs.runs.History.{source}
+use Rattle.nz_machine.proofs.runs.Runs.{FitsOut, SentBy, sent_by, sends_have, all_has}
+use Rattle.nz_machine.proofs.runs.Moments.{at_world}
+use Rattle.nz_machine.proofs.runs.Sources.{has_source, source_is}
+use Rattle.nz_machine.proofs.runs.FitRuns.{Fitted, FittedState, fits_keep}
+use Rattle.nz_machine.proofs.shows.SentMessages.{shown}
 use Rattle.nz_lin.specs.Snapshots.{IsSnapshot}
 
 snapshot : (g : Group) (J : List Record) (p : Parcel) (r : Record) (older : List Record) → source p J ≡ Some (r ∷ older) → World g (r ∷ older)

@@ -10,9 +10,9 @@ use Rattle.nz_msg.specs.declared.message.Message.TheVariants.{FastReply}
 use Rattle.nz_msg.specs.declared.refusal.DecodeRefusal.{DecodeRefusal}
 use Rattle.nz_msg.specs.Envelope.{decode_of}
 use Rattle.nz_machine.specs.declared.event.Record.{Record}
-use Rattle.nz_machine.specs.State.{Group}
-use Rattle.nz_machine.specs.World.{Has}
-use Rattle.nz_machine.specs.History.{log_at, cut_after}
+use Rattle.nz_machine.specs.rules.State.{Group}
+use Rattle.nz_machine.specs.runs.World.{Has}
+use Rattle.nz_machine.specs.runs.History.{log_at, cut_after}
 
 -- The list that a message is over, where it is a fast reply of a sender with this log.
 abbrev pub list_over : List Entry → Message → List (List EntryKey)

@@ -4,11 +4,11 @@ use Rattle.nz_msg.specs.declared.message.Message.{Message}
 use Rattle.nz_msg.specs.Envelope.{decode_of}
 use Rattle.nz_machine.specs.declared.event.Parcel.{Parcel}
 use Rattle.nz_machine.specs.declared.event.Record.{Record}
-use Rattle.nz_machine.specs.State.{Group}
-use Rattle.nz_machine.specs.World.{state_after}
-use Rattle.nz_machine.specs.History.{source}
-use Rattle.nz_machine.specs.Hearing.{heard_at}
-use Rattle.nz_machine.specs.Shows.{Shows}
+use Rattle.nz_machine.specs.rules.State.{Group}
+use Rattle.nz_machine.specs.runs.World.{state_after}
+use Rattle.nz_machine.specs.runs.History.{source}
+use Rattle.nz_machine.specs.runs.Hearing.{heard_at}
+use Rattle.nz_machine.specs.runs.Shows.{Shows}
 
 -- The parcel is of one message, which shows its sender before and after the record that first sent it.
 pub record IsSnapshot (g : Group) (J : List Record) (p : Parcel) : Type 0 where

@@ -17,11 +17,11 @@ use Rattle.nz_store.specs.Sequence.{apply_bytes, store_from, store_after, answer
 use Rattle.nz_log.specs.Places.{place_of, IsPlace}
 use Rattle.nz_log.proofs.Placing.{place_only}
 use Rattle.nz_machine.specs.declared.journal.Executed.{Executed}
-use Rattle.nz_machine.specs.Events.{ClientEvent, Sent, Accepted}
-use Rattle.nz_machine.specs.Journals.{executed_entries}
-use Rattle.nz_machine.specs.OneHistory.{Lin, Precedes, IsAnswered}
-use Rattle.nz_machine.specs.Replicas.{commands}
-use Rattle.nz_machine.specs.World.{Has}
+use Rattle.nz_machine.specs.runs.Events.{ClientEvent, Sent, Accepted}
+use Rattle.nz_machine.specs.journals.Journals.{executed_entries}
+use Rattle.nz_machine.specs.runs.OneHistory.{Lin, Precedes, IsAnswered}
+use Rattle.nz_machine.specs.rules.Replicas.{commands}
+use Rattle.nz_machine.specs.runs.World.{Has}
 use Rattle.nz_locks.specs.Clean.{IsClean, IsCleanEntry}
 use Rattle.nz_locks.specs.Uses.{Acquire, Other, lock_key, holder_value, Use, use_of}
 use Rattle.nz_locks.specs.Tenures.{is_done, done_use, is_acquire_of, acquires, releases, holds}

@@ -11,8 +11,8 @@ use Rattle.nz_store.specs.Entries.{Entries, empty}
 use Rattle.nz_store.specs.Sequence.{apply_bytes, store_from, store_after, answer_after, reply}
 use Rattle.nz_store.proofs.Turns.{store_after-push}
 use Rattle.nz_machine.specs.declared.journal.Executed.{Executed}
-use Rattle.nz_machine.specs.Journals.{executed_if_answered, executed_from, executed_entries}
-use Rattle.nz_machine.specs.Replicas.{commands}
+use Rattle.nz_machine.specs.journals.Journals.{executed_if_answered, executed_from, executed_entries}
+use Rattle.nz_machine.specs.rules.Replicas.{commands}
 
 -- an entry that the store executes
 abbrev pub executed : Entries → Entry → Executed

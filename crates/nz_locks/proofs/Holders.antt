@@ -9,7 +9,7 @@ use Rattle.nz_base.specs.declared.key.Entry.{Entry}
 use Rattle.nz_store.specs.Entries.{Entries, empty, value_of}
 use Rattle.nz_store.specs.Sequence.{apply_bytes, store_from}
 use Rattle.nz_machine.specs.declared.journal.Executed.{Executed}
-use Rattle.nz_machine.specs.Replicas.{commands}
+use Rattle.nz_machine.specs.rules.Replicas.{commands}
 use Rattle.nz_locks.specs.Clean.{IsClean}
 use Rattle.nz_locks.specs.Uses.{lock_key, holder_value, Use}
 use Rattle.nz_locks.specs.Tenures.{done_use, is_acquire_of, is_release_of, acquires, releases, holds}

@@ -9,11 +9,11 @@ use Rattle.nz_store.specs.Sequence.{store_after}
 use Rattle.nz_log.specs.Places.{place_of}
 use Rattle.nz_msg.specs.declared.message.Path.{Path}
 use Rattle.nz_machine.specs.declared.journal.Executed.{Executed}
-use Rattle.nz_machine.specs.Events.{ClientEvent, Sent, Accepted}
-use Rattle.nz_machine.specs.Journals.{executed_entries}
-use Rattle.nz_machine.specs.OneHistory.{Precedes, IsAnswered}
-use Rattle.nz_machine.specs.Replicas.{commands}
-use Rattle.nz_machine.specs.World.{Has}
+use Rattle.nz_machine.specs.runs.Events.{ClientEvent, Sent, Accepted}
+use Rattle.nz_machine.specs.journals.Journals.{executed_entries}
+use Rattle.nz_machine.specs.runs.OneHistory.{Precedes, IsAnswered}
+use Rattle.nz_machine.specs.rules.Replicas.{commands}
+use Rattle.nz_machine.specs.runs.World.{Has}
 use Rattle.nz_locks.specs.Uses.{Acquire, lock_key, holder_value, use_of}
 use Rattle.nz_locks.specs.Tenures.{holds, releases}
 

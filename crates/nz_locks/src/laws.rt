@@ -2,11 +2,11 @@
 ghost use Rattle.std.specs.Prelude.{List};
 ghost use Rattle.nz_base.specs.declared.key.Entry.{Entry};
 ghost use Rattle.nz_machine.specs.declared.event.Record.{Record};
-ghost use Rattle.nz_machine.specs.State.{Group};
-ghost use Rattle.nz_machine.specs.Events.{ClientEvent};
-ghost use Rattle.nz_machine.specs.History.{history};
-ghost use Rattle.nz_machine.specs.OneHistory.{Lin};
-ghost use Rattle.nz_machine.specs.World.{World};
+ghost use Rattle.nz_machine.specs.rules.State.{Group};
+ghost use Rattle.nz_machine.specs.runs.Events.{ClientEvent};
+ghost use Rattle.nz_machine.specs.runs.History.{history};
+ghost use Rattle.nz_machine.specs.runs.OneHistory.{Lin};
+ghost use Rattle.nz_machine.specs.runs.World.{World};
 ghost use Rattle.nz_locks.specs.Clean.{AreClean, IsClean};
 ghost use Rattle.nz_locks.specs.Exclusive.{HasOneHolder, AreInTurn};
 

@@ -8,8 +8,8 @@ ghost use Rattle.nz_cv.specs.Vectors.{IsClusterSize};
 ghost use Rattle.nz_store.specs.Sequence.{store_after};
 ghost use Rattle.nz_buffers.specs.Buffers.{is_past, insert_by_key, without};
 ghost use Rattle.nz_msg.specs.Fields as fields;
-ghost use Rattle.nz_machine.specs.Replicas.{commands};
-ghost use Rattle.nz_machine.specs.Releases.{log_with_entry, results_with_entry};
+ghost use Rattle.nz_machine.specs.rules.Replicas.{commands};
+ghost use Rattle.nz_machine.specs.rules.Releases.{log_with_entry, results_with_entry};
 
 use nz_base::{Entry, Key, MAX_ENTRIES, NoMemory};
 use nz_buffers::{Early, Late, Offer};

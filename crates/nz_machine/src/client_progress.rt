@@ -3,15 +3,15 @@ ghost use Rattle.std.specs.Prelude.{◌≡◌, ◌<◌, ◌∷◌, ◌++◌, [],
 ghost use Rattle.std.specs.List.{list_any};
 ghost use Rattle.nz_base.specs.declared.actor.Actor.TheVariants as actors;
 ghost use Rattle.nz_msg.specs.declared.message.Message.TheVariants as messages;
-ghost use Rattle.nz_machine.specs.Events.{id_at};
-ghost use Rattle.nz_machine.specs.Schedule.{group_of};
-ghost use Rattle.nz_machine.specs.State.{Group};
-ghost use Rattle.nz_machine.specs.ClientProgress as client_progress;
-ghost use Rattle.nz_machine.specs.ClientProgress.{Progress as ProgressModel};
-ghost use Rattle.nz_machine.specs.ClientProgress.{first_progress, AreAfter, IsNoneOf, acceptance_in, acceptance_read, acceptance_of};
-ghost use Rattle.nz_machine.specs.ClientProgress.{with_answer, new_in, with_num, new_among, with_all, after_client_record};
-ghost use Rattle.nz_machine.specs.Tellings.{nothing_told, telling_in};
-ghost use Rattle.nz_machine.specs.World.{World};
+ghost use Rattle.nz_machine.specs.runs.Events.{id_at};
+ghost use Rattle.nz_machine.specs.runs.Schedule.{group_of};
+ghost use Rattle.nz_machine.specs.rules.State.{Group};
+ghost use Rattle.nz_machine.specs.journals.ClientProgress as client_progress;
+ghost use Rattle.nz_machine.specs.journals.ClientProgress.{Progress as ProgressModel};
+ghost use Rattle.nz_machine.specs.journals.ClientProgress.{first_progress, AreAfter, IsNoneOf, acceptance_in, acceptance_read, acceptance_of};
+ghost use Rattle.nz_machine.specs.journals.ClientProgress.{with_answer, new_in, with_num, new_among, with_all, after_client_record};
+ghost use Rattle.nz_machine.specs.journals.Tellings.{nothing_told, telling_in};
+ghost use Rattle.nz_machine.specs.runs.World.{World};
 ghost use Rattle.nz_machine.specs.declared.event.Record.{Record as RecordModel};
 
 use super::event::{Event, Record, SharedParcel};
@@ -30,7 +30,7 @@ pub struct Progress {
 }
 
 impl Model for Progress {
-    ghost use Rattle.nz_machine.specs.ClientProgress.{Progress as ProgressModel};
+    ghost use Rattle.nz_machine.specs.journals.ClientProgress.{Progress as ProgressModel};
 
     ghost Value = { ProgressModel };
 
@@ -61,7 +61,7 @@ pub struct Clients {
 
 impl Model for Clients {
     ghost use Rattle.std.specs.Prelude.{List};
-    ghost use Rattle.nz_machine.specs.ClientProgress.{Progress as ProgressModel};
+    ghost use Rattle.nz_machine.specs.journals.ClientProgress.{Progress as ProgressModel};
 
     ghost Value = { List ProgressModel };
 
@@ -175,7 +175,7 @@ fn drop_num(nums: &mut Vec<u32>, num: u32)
 }
 
 /// The number of the request that a parcel has, if it has one.
-#[tactic(auto, unfolding(crate::specs::ClientProgress::num_of))]
+#[tactic(auto, unfolding(crate::specs::journals::ClientProgress::num_of))]
 fn num_of(alloc: Global, parcel: &SharedParcel) -> Result<Option<u32>, NoMemory>
     ensures { IfOk result (λ num. num ≡ client_progress.num_of parcel.now) }
 {

@@ -8,11 +8,11 @@ ghost use Rattle.nz_merge.specs.declared.change.Change.{Change as ChangeModel};
 ghost use Rattle.nz_merge.specs.Merged.{greatest};
 ghost use Rattle.nz_merge.specs.Sender.{HaveOwnSenders};
 ghost use Rattle.nz_store.specs.Sequence.{store_after, replies};
-ghost use Rattle.nz_machine.specs.State.{ReplicaData};
-ghost use Rattle.nz_machine.specs.Facts.{AreApart, IsCarried};
-ghost use Rattle.nz_machine.specs.Replicas.{commands};
-ghost use Rattle.nz_machine.specs.Taking.{with_parts};
-ghost use Rattle.nz_machine.specs.Adopting.{with_log};
+ghost use Rattle.nz_machine.specs.rules.State.{ReplicaData};
+ghost use Rattle.nz_machine.specs.rules.Facts.{AreApart, IsCarried};
+ghost use Rattle.nz_machine.specs.rules.Replicas.{commands};
+ghost use Rattle.nz_machine.specs.rules.Taking.{with_parts};
+ghost use Rattle.nz_machine.specs.rules.Adopting.{with_log};
 ghost use Rattle.nz_machine.specs.declared.data.Reported.{Reported as ReportedModel};
 ghost use Rattle.nz_machine.specs.declared.data.ToldView.{ToldView as ToldViewModel};
 

@@ -2,8 +2,8 @@
 
 ghost use Rattle.std.specs.Prelude.{◌≡◌, ◌<◌, ◌≤◌, ◌==◌, not, length, map, take, filter, slice_index};
 ghost use Rattle.nz_base.specs.Cluster.{replica_count};
-ghost use Rattle.nz_machine.specs.Replicas.{numbers_below};
-ghost use Rattle.nz_machine.specs.LogMods.{commit_point};
+ghost use Rattle.nz_machine.specs.rules.Replicas.{numbers_below};
+ghost use Rattle.nz_machine.specs.rules.LogMods.{commit_point};
 
 use nz_base::{Cluster, MAX_REPLICAS};
 

@@ -1,8 +1,8 @@
 //! What a core is: an actor that steps as the machine says.
 
 ghost use Rattle.std.specs.Prelude.{◌≡◌, Bool, true, false, IfOk, OnOk, OnErr};
-ghost use Rattle.nz_machine.specs.State.{Group};
-ghost use Rattle.nz_machine.specs.Step.{Node, node_run};
+ghost use Rattle.nz_machine.specs.rules.State.{Group};
+ghost use Rattle.nz_machine.specs.rules.Step.{Node, node_run};
 
 use super::event::Event;
 use super::sends::Sends;

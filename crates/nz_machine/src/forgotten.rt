@@ -34,14 +34,14 @@ impl Model for Forgotten {
 
     ghost Value = { List RecordModel };
 
-    ghost use Rattle.nz_machine.specs.Links.{listed};
+    ghost use Rattle.nz_machine.specs.journals.Links.{listed};
 
     ghost view = { λ f. listed f.last.value };
 
     ghost size = { length };
 
     ghost use Rattle.std.proofs.Common.{arith};
-    ghost use Rattle.nz_machine.specs.LinksFall.{listed-falls};
+    ghost use Rattle.nz_machine.specs.journals.LinksFall.{listed-falls};
 
     ghost size_decreases = { λ f h. omega (arith, listed-falls f.last.value) };
 }

@@ -1,7 +1,7 @@
 //! The kind of the message in a frame.
 
 ghost use Rattle.std.specs.Prelude.{◌≡◌};
-ghost use Rattle.nz_machine.specs.Schedule.{kind_in_frame};
+ghost use Rattle.nz_machine.specs.runs.Schedule.{kind_in_frame};
 
 use nz_frame::Frame;
 

@@ -2,7 +2,7 @@
 
 ghost use Rattle.std.specs.Prelude.{◌≡◌, ◌&&◌};
 ghost use Rattle.std.specs.Option.{option_copied};
-ghost use Rattle.nz_machine.specs.Step.{is_in_cluster, is_sized, message_vector};
+ghost use Rattle.nz_machine.specs.rules.Step.{is_in_cluster, is_sized, message_vector};
 
 use nz_base::{Actor, Cluster};
 use nz_cv::CrashVector;

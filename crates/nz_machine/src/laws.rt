@@ -33,21 +33,21 @@ ghost use Rattle.nz_msg.specs.Messages.{
 };
 ghost use Rattle.nz_machine.specs.declared.event.Parcel.{Parcel};
 ghost use Rattle.nz_machine.specs.declared.event.Record.{Record};
-ghost use Rattle.nz_machine.specs.Events.{events};
-ghost use Rattle.nz_machine.specs.State.{ReplicaData, Group};
-ghost use Rattle.nz_machine.specs.Tellings.{told_by_run, events_of_told};
-ghost use Rattle.nz_machine.specs.World.{World, sent_in, Has, IsMember};
-ghost use Rattle.nz_machine.specs.Schedule.{group_of, Scheduled, IsPlayable};
-ghost use Rattle.nz_machine.specs.Steps.{AreSteps};
-ghost use Rattle.nz_machine.specs.Facts.{HasFacts};
-ghost use Rattle.nz_machine.specs.Replicas.{first_replica, is_normal};
-ghost use Rattle.nz_machine.specs.Requests.{request_rule};
-ghost use Rattle.nz_machine.specs.Releases.{release_rule};
-ghost use Rattle.nz_machine.specs.LogMods.{log_mod_rule, fetch_rule, fetch_reply_rule, sync_report_rule};
-ghost use Rattle.nz_machine.specs.Views.{alarm_rule, view_ask_rule};
-ghost use Rattle.nz_machine.specs.Adopting.{start_view_rule};
-ghost use Rattle.nz_machine.specs.Begins.{view_change_rule};
-ghost use Rattle.nz_machine.specs.Rejoining.{
+ghost use Rattle.nz_machine.specs.runs.Events.{events};
+ghost use Rattle.nz_machine.specs.rules.State.{ReplicaData, Group};
+ghost use Rattle.nz_machine.specs.journals.Tellings.{told_by_run, events_of_told};
+ghost use Rattle.nz_machine.specs.runs.World.{World, sent_in, Has, IsMember};
+ghost use Rattle.nz_machine.specs.runs.Schedule.{group_of, Scheduled, IsPlayable};
+ghost use Rattle.nz_machine.specs.runs.Steps.{AreSteps};
+ghost use Rattle.nz_machine.specs.rules.Facts.{HasFacts};
+ghost use Rattle.nz_machine.specs.rules.Replicas.{first_replica, is_normal};
+ghost use Rattle.nz_machine.specs.rules.Requests.{request_rule};
+ghost use Rattle.nz_machine.specs.rules.Releases.{release_rule};
+ghost use Rattle.nz_machine.specs.rules.LogMods.{log_mod_rule, fetch_rule, fetch_reply_rule, sync_report_rule};
+ghost use Rattle.nz_machine.specs.rules.Views.{alarm_rule, view_ask_rule};
+ghost use Rattle.nz_machine.specs.rules.Adopting.{start_view_rule};
+ghost use Rattle.nz_machine.specs.rules.Begins.{view_change_rule};
+ghost use Rattle.nz_machine.specs.rules.Rejoining.{
   crash_rule,
   restart_rule,
   vector_ask_rule,
@@ -57,7 +57,7 @@ ghost use Rattle.nz_machine.specs.Rejoining.{
   state_ask_rule,
   state_tell_rule,
 };
-ghost use Rattle.nz_machine.specs.Step.{tick_rule};
+ghost use Rattle.nz_machine.specs.rules.Step.{tick_rule};
 
 /// A replica's state has the facts at the start, and each rule keeps them.
 pub fn facts_are_kept()

@@ -3,7 +3,7 @@
 ghost use Rattle.std.specs.Prelude.{◌≡◌, ◌∷◌, ◌++◌, [], IfOk, OnOk};
 ghost use Rattle.nz_base.specs.Actor.{HasAddress};
 ghost use Rattle.nz_msg.specs.Messages.{Fits, body_of};
-ghost use Rattle.nz_machine.specs.Step.{parcel};
+ghost use Rattle.nz_machine.specs.rules.Step.{parcel};
 
 use super::event::{Parcel, SharedParcel};
 use super::sends::Sends;

@@ -4,8 +4,8 @@ ghost use Rattle.std.specs.Prelude.{◌≡◌, ◌≢◌, Ok, IfOk, IfSome};
 ghost use Rattle.std.specs.Option.{option_copied};
 ghost use Rattle.nz_base.specs.Actor.{HasAddress};
 ghost use Rattle.nz_msg.specs.Messages.{Fits};
-ghost use Rattle.nz_machine.specs.Decoded.{IsDecoded};
-ghost use Rattle.nz_machine.specs.Step.{is_for, envelope_for};
+ghost use Rattle.nz_machine.specs.rules.Decoded.{IsDecoded};
+ghost use Rattle.nz_machine.specs.rules.Step.{is_for, envelope_for};
 
 use super::event::Parcel;
 use nz_base::{Actor, NoMemory};
@@ -23,7 +23,7 @@ fn is_for(me: Actor, parcel: &Parcel, envelope: &Envelope) -> bool
 /// What an actor reads of a parcel of which this was decoded: nothing where the frame is none of the grammar, where it
 /// names others than the parcel does or another receiver, or where the actor itself sent it. An envelope is large, so it
 /// is read where it is.
-#[tactic(auto, unfolding(crate::specs::Step::envelope_for))]
+#[tactic(auto, unfolding(crate::specs::rules::Step::envelope_for))]
 pub fn heard<'a>(
     me: Actor,
     parcel: &Parcel,

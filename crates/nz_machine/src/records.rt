@@ -1,7 +1,7 @@
 //! The records of a run. A silent tick, on which its actor sends nothing, takes 16 bytes of them.
 
 ghost use Rattle.std.specs.Prelude.{◌≡◌, ◌≤◌, ◌<◌, ◌+◌, ◌-◌, ◌^◌, min, ◌∷◌, ◌++◌, [], length, slice_get, vec_len, vec_capacity, Some, IfOk, OnOk, OnErr, IfSome, MatchOption, List as Listed};
-ghost use Rattle.nz_machine.specs.Records.{IsKept, IsSilentClock, record_of_row};
+ghost use Rattle.nz_machine.specs.journals.Records.{IsKept, IsSilentClock, record_of_row};
 ghost use Rattle.nz_machine.specs.declared.event.Record.{Record as RecordModel};
 ghost use Rattle.nz_machine.specs.declared.records.Row.{Row as RowModel};
 
@@ -47,7 +47,7 @@ impl<'a> Model for RecordRef<'a> {
 
     ghost Value = { RecordModel };
 
-    ghost use Rattle.nz_machine.specs.Records.{record_read};
+    ghost use Rattle.nz_machine.specs.journals.Records.{record_read};
 
     ghost view = { λ r. record_read r.kept };
 }
@@ -76,7 +76,7 @@ pub struct Recording {
 
 impl Model for Recording {
     ghost use Rattle.std.specs.Prelude.{vec_capacity};
-    ghost use Rattle.nz_machine.specs.Records.{AreKept, Recorded, records_of_rows};
+    ghost use Rattle.nz_machine.specs.journals.Records.{AreKept, Recorded, records_of_rows};
 
     ghost Value = { Recorded };
 

@@ -4,8 +4,8 @@ ghost use Rattle.std.specs.Prelude.{◌≡◌, ◌<◌, ◌++◌, map, length, O
 ghost use Rattle.std.specs.Map.{lookup};
 ghost use Rattle.nz_base.specs.Key.{id_eq};
 ghost use Rattle.nz_base.specs.declared.actor.Actor.TheVariants.{Replica};
-ghost use Rattle.nz_machine.specs.Replicas.{fast_replies, slow_replies};
-ghost use Rattle.nz_machine.specs.Step.{parcel};
+ghost use Rattle.nz_machine.specs.rules.Replicas.{fast_replies, slow_replies};
+ghost use Rattle.nz_machine.specs.rules.Step.{parcel};
 
 use super::outbox::Outbox;
 use super::state::ReplicaState;

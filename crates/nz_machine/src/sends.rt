@@ -1,7 +1,7 @@
 //! The parcels of a step.
 
 ghost use Rattle.std.specs.Prelude.{◌≡◌, ◌↔◌, ◌∷◌, ◌++◌, [], length, IsTrue, IfOk, OnOk};
-ghost use Rattle.nz_machine.specs.Sends.{parcels_of};
+ghost use Rattle.nz_machine.specs.rules.Sends.{parcels_of};
 ghost use Rattle.nz_machine.specs.declared.sends.Few.TheVariants as few;
 
 use super::event::SharedParcel;
@@ -27,7 +27,7 @@ pub struct Sends {
 impl Model for Sends {
     ghost use Rattle.std.specs.Prelude.{List as Listed};
     ghost use Rattle.nz_machine.specs.declared.event.Parcel.{Parcel as ParcelModel};
-    ghost use Rattle.nz_machine.specs.Sends.{parcels_of};
+    ghost use Rattle.nz_machine.specs.rules.Sends.{parcels_of};
 
     ghost Value = { Listed ParcelModel };
 

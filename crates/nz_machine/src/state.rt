@@ -11,12 +11,12 @@ ghost use Rattle.nz_base.specs.declared.limits.TheConstants.{MAX_PROXY};
 ghost use Rattle.nz_base.specs.declared.key.Entry.{Entry as EntryModel};
 ghost use Rattle.nz_msg.specs.Fields as fields;
 ghost use Rattle.nz_machine.specs.declared.data.Phase.TheVariants.{Vectors};
-ghost use Rattle.nz_machine.specs.Facts.{FitsEntry, HasFacts};
-ghost use Rattle.nz_machine.specs.Parts.{model_of, without_waiting};
-ghost use Rattle.nz_machine.specs.Replicas as replicas;
-ghost use Rattle.nz_machine.specs.Replicas.{first_replica, crashed_replica, is_normal, is_changing, is_up, is_rejoining, answer_at};
-ghost use Rattle.nz_machine.specs.Requests.{with_origin, to_early, to_late};
-ghost use Rattle.nz_machine.specs.Releases.{at_clock, after_release, first_may};
+ghost use Rattle.nz_machine.specs.rules.Facts.{FitsEntry, HasFacts};
+ghost use Rattle.nz_machine.specs.rules.Parts.{model_of, without_waiting};
+ghost use Rattle.nz_machine.specs.rules.Replicas as replicas;
+ghost use Rattle.nz_machine.specs.rules.Replicas.{first_replica, crashed_replica, is_normal, is_changing, is_up, is_rejoining, answer_at};
+ghost use Rattle.nz_machine.specs.rules.Requests.{with_origin, to_early, to_late};
+ghost use Rattle.nz_machine.specs.rules.Releases.{at_clock, after_release, first_may};
 
 mod beginning;
 mod messages;
@@ -126,8 +126,8 @@ pub struct ReplicaState {
 }
 
 impl Model for ReplicaState {
-    ghost use Rattle.nz_machine.specs.Facts.{ReplicaModel};
-    ghost use Rattle.nz_machine.specs.Parts.{ArePartsKept, model_of};
+    ghost use Rattle.nz_machine.specs.rules.Facts.{ReplicaModel};
+    ghost use Rattle.nz_machine.specs.rules.Parts.{ArePartsKept, model_of};
 
     ghost Value = { ReplicaModel };
 

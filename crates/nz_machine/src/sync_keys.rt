@@ -10,10 +10,10 @@ ghost use Rattle.nz_base.specs.declared.key.Entry.{Entry as EntryModel};
 ghost use Rattle.nz_log.specs.Synced.{synced_part, unsynced_part, log_with_synced, displaced_entries};
 ghost use Rattle.nz_buffers.specs.Buffers.{find_id, without};
 ghost use Rattle.nz_msg.specs.Fields as fields;
-ghost use Rattle.nz_machine.specs.State.{ReplicaData};
-ghost use Rattle.nz_machine.specs.Facts.{FitsEntry, AreApart};
-ghost use Rattle.nz_machine.specs.LogMods.{sync_keys, overtaken_to_late};
-ghost use Rattle.nz_machine.specs.Taking.{may_join, found_in, with_parts, after_first};
+ghost use Rattle.nz_machine.specs.rules.State.{ReplicaData};
+ghost use Rattle.nz_machine.specs.rules.Facts.{FitsEntry, AreApart};
+ghost use Rattle.nz_machine.specs.rules.LogMods.{sync_keys, overtaken_to_late};
+ghost use Rattle.nz_machine.specs.rules.Taking.{may_join, found_in, with_parts, after_first};
 
 use super::buffers::last_key;
 use nz_base::{Blob, Entry, EntryList, Id, Key, MAX_ENTRIES, NoMemory, TryCopy};
@@ -113,7 +113,7 @@ fn move_below(last: Key, early: &mut Early, late: &mut Late) -> Result<(), NoMem
 }
 
 /// Takes one key, with the command that is found for its id.
-#[tactic(auto, unfolding(crate::specs::LogMods::sync_keys))]
+#[tactic(auto, unfolding(crate::specs::rules::LogMods::sync_keys))]
 fn take_key(
     alloc: Global,
     log: &mut HashedLog,

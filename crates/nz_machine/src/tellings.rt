@@ -1,10 +1,10 @@
 //! What the clients of a run tell, read off its records.
 ghost use Rattle.std.specs.Prelude.{◌≡◌, ◌∷◌, ◌++◌, ◌<◌, ◌≤◌, ◌+◌, ◌^◌, [], List, length, take, drop, reverse, IfOk, OnOk};
-ghost use Rattle.nz_machine.specs.Journals.{group_in, run_in};
-ghost use Rattle.nz_machine.specs.State.{Group};
-ghost use Rattle.nz_machine.specs.Tellings.{told_at, told_by_run, AreNoted};
-ghost use Rattle.nz_machine.specs.Schedule.{group_of};
-ghost use Rattle.nz_machine.specs.World.{World};
+ghost use Rattle.nz_machine.specs.journals.Journals.{group_in, run_in};
+ghost use Rattle.nz_machine.specs.rules.State.{Group};
+ghost use Rattle.nz_machine.specs.journals.Tellings.{told_at, told_by_run, AreNoted};
+ghost use Rattle.nz_machine.specs.runs.Schedule.{group_of};
+ghost use Rattle.nz_machine.specs.runs.World.{World};
 ghost use Rattle.nz_machine.specs.declared.event.Record.{Record as RecordModel};
 
 use super::client_progress::{Clients, Telling};

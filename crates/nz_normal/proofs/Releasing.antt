@@ -7,11 +7,11 @@ use Rattle.nz_base.specs.declared.key.Id.{Id}
 use Rattle.nz_base.specs.declared.key.Entry.{Entry}
 use Rattle.nz_base.specs.Key.{id_eq, id_of}
 use Rattle.nz_machine.specs.declared.event.Parcel.{Parcel}
-use Rattle.nz_machine.specs.State.{ReplicaData, Out}
-use Rattle.nz_machine.specs.Facts.{ReplicaModel}
-use Rattle.nz_machine.specs.Replicas.{is_normal, fast_replies}
-use Rattle.nz_machine.specs.Releases.{may_release, first_may, after_release, release_replies, releases}
-use Rattle.nz_machine.specs.Step.{parcel}
+use Rattle.nz_machine.specs.rules.State.{ReplicaData, Out}
+use Rattle.nz_machine.specs.rules.Facts.{ReplicaModel}
+use Rattle.nz_machine.specs.rules.Replicas.{is_normal, fast_replies}
+use Rattle.nz_machine.specs.rules.Releases.{may_release, first_may, after_release, release_replies, releases}
+use Rattle.nz_machine.specs.rules.Step.{parcel}
 
 -- what is left to release leads to the end
 pub record Releases (f me : ℕ) (end : ReplicaData × List Parcel) (model : ReplicaModel) (sends : List Parcel) : Type 0 where

@@ -3,10 +3,10 @@
 ghost use Rattle.std.specs.Prelude.{◌≡◌, ◌∷◌, ◌++◌, List, map, IsTrue, OnOk};
 ghost use Rattle.nz_base.specs.declared.actor.Actor.TheVariants.{Replica};
 ghost use Rattle.nz_base.specs.declared.key.Entry.{Entry};
-ghost use Rattle.nz_machine.specs.Replicas.{is_normal};
-ghost use Rattle.nz_machine.specs.Releases.{after_release, release_replies, first_may, releases, release_rule};
-ghost use Rattle.nz_machine.specs.Does.{Does};
-ghost use Rattle.nz_machine.specs.Step.{parcel};
+ghost use Rattle.nz_machine.specs.rules.Replicas.{is_normal};
+ghost use Rattle.nz_machine.specs.rules.Releases.{after_release, release_replies, first_may, releases, release_rule};
+ghost use Rattle.nz_machine.specs.rules.Does.{Does};
+ghost use Rattle.nz_machine.specs.rules.Step.{parcel};
 
 use nz_base::NoMemory;
 use nz_machine::{Outbox, ReplicaState};
@@ -38,7 +38,7 @@ fn release_due(state: &mut ReplicaState, sends: &mut Outbox) -> Result<(), NoMem
 }
 
 /// The release rule: what a replica does when its clock reads this many clock units.
-#[tactic(auto, unfolding(nz_machine::specs::Releases::release_rule))]
+#[tactic(auto, unfolding(nz_machine::specs::rules::Releases::release_rule))]
 pub fn tick(state: &mut ReplicaState, clock: u64, sends: &mut Outbox) -> Result<(), NoMemory>
     ensures { let s = state.old in OnOk result (Does s state.new sends.old sends.new (release_rule s.f s.me s.state clock)) }
 {

@@ -8,11 +8,11 @@ ghost use Rattle.nz_base.specs.declared.limits.TheConstants.{MAX_DEADLINE, MAX_P
 ghost use Rattle.nz_log.specs.Places.{last_entry};
 ghost use Rattle.nz_msg.specs.Messages.{timed};
 ghost use Rattle.nz_msg.specs.declared.message.Message.TheVariants.{Timed};
-ghost use Rattle.nz_machine.specs.Replicas as replicas;
-ghost use Rattle.nz_machine.specs.Requests as requests;
-ghost use Rattle.nz_machine.specs.Requests.{replies_at, after_restamp, after_placing, after_new_request};
-ghost use Rattle.nz_machine.specs.Does.{Does};
-ghost use Rattle.nz_machine.specs.Step.{parcel, replica_message};
+ghost use Rattle.nz_machine.specs.rules.Replicas as replicas;
+ghost use Rattle.nz_machine.specs.rules.Requests as requests;
+ghost use Rattle.nz_machine.specs.rules.Requests.{replies_at, after_restamp, after_placing, after_new_request};
+ghost use Rattle.nz_machine.specs.rules.Does.{Does};
+ghost use Rattle.nz_machine.specs.rules.Step.{parcel, replica_message};
 
 use nz_base::{Actor, Entry, Id, Key, MAX_DEADLINE, NoMemory, TryCopy};
 use nz_log::HashedLog;
@@ -117,7 +117,7 @@ fn reply_at(state: &ReplicaState, id: Id, place: u32, sends: &mut Outbox) -> Res
 }
 
 /// In normal operation the origin is noted, and the request is replied to or goes to a buffer.
-#[tactic(auto, unfolding(nz_machine::specs::Requests::request_rule))]
+#[tactic(auto, unfolding(nz_machine::specs::rules::Requests::request_rule))]
 fn request_rule(
     state: &mut ReplicaState,
     proxy: u8,

@@ -12,10 +12,10 @@ use Rattle.nz_base.proofs.Prefixes.{prefix_none, prefix_take, take_of_prefix, sh
 use Rattle.nz_store.specs.Sequence.{store_after}
 use Rattle.nz_machine.specs.declared.event.Record.{Record}
 use Rattle.nz_machine.specs.declared.journal.Journal.{Journal}
-use Rattle.nz_machine.specs.Incarnations.{replica_at}
-use Rattle.nz_machine.specs.Journals.{group_in, run_in}
-use Rattle.nz_machine.specs.Replicas.{commands, first_replica, is_up}
-use Rattle.nz_machine.specs.State.{ReplicaData, Group}
+use Rattle.nz_machine.specs.runs.Incarnations.{replica_at}
+use Rattle.nz_machine.specs.journals.Journals.{group_in, run_in}
+use Rattle.nz_machine.specs.rules.Replicas.{commands, first_replica, is_up}
+use Rattle.nz_machine.specs.rules.State.{ReplicaData, Group}
 use Rattle.nz_replica.specs.Models.{ReplicaCore, IsCore}
 use Rattle.nz_replay.specs.Runs.{run_up_to}
 use Rattle.nz_replay.proofs.Replays.{core_first}

@@ -6,9 +6,9 @@ use Rattle.std.specs.Option.{option_map}
 use Rattle.nz_base.specs.Cluster.{replica_count}
 use Rattle.nz_base.specs.declared.key.Entry.{Entry}
 use Rattle.nz_machine.specs.declared.event.Record.{Record}
-use Rattle.nz_machine.specs.State.{Group}
-use Rattle.nz_machine.specs.World.{World}
-use Rattle.nz_machine.proofs.EachItem.{all_append, all_imply}
+use Rattle.nz_machine.specs.rules.State.{Group}
+use Rattle.nz_machine.specs.runs.World.{World}
+use Rattle.nz_machine.proofs.lists.EachItem.{all_append, all_imply}
 use Rattle.nz_replica.specs.Models.{ReplicaCore, IsCore}
 use Rattle.nz_laws_commit.specs.Stable.{committed_of}
 use Rattle.nz_laws_commit.proofs.Stabling as law

@@ -4,10 +4,10 @@ use Rattle.std.specs.List.{AllByRecursion}
 use Rattle.std.specs.Option.{option_map}
 use Rattle.nz_base.specs.Cluster.{replica_count}
 use Rattle.nz_machine.specs.declared.event.Record.{Record}
-use Rattle.nz_machine.specs.Incarnations.{replica_at}
-use Rattle.nz_machine.specs.State.{Group}
+use Rattle.nz_machine.specs.runs.Incarnations.{replica_at}
+use Rattle.nz_machine.specs.rules.State.{Group}
 use Rattle.nz_laws_commit.specs.Stable.{committed_of}
-use Rattle.nz_machine.proofs.EachItem.{all_imply}
+use Rattle.nz_machine.proofs.lists.EachItem.{all_imply}
 use Rattle.nz_observe.specs.Observed.{Printed, nothing_printed, sight, seen, after_tick, printed_to}
 use Rattle.nz_observe.specs.Ticks.{run_to}
 use Rattle.nz_observe.proofs.Rising.{run_earlier}

@@ -11,9 +11,9 @@ use Rattle.nz_base.specs.declared.scenario.Scenario.{Scenario}
 use Rattle.nz_base.proofs.Moments.{at_self}
 use Rattle.nz_machine.specs.declared.event.Record.{Record}
 use Rattle.nz_machine.specs.declared.journal.Journal.{Journal}
-use Rattle.nz_machine.specs.Journals.{run_in}
-use Rattle.nz_machine.specs.Schedule.{Scheduled, ScheduledTo}
-use Rattle.nz_machine.proofs.EachItem.{all_append, all_imply}
+use Rattle.nz_machine.specs.journals.Journals.{run_in}
+use Rattle.nz_machine.specs.runs.Schedule.{Scheduled, ScheduledTo}
+use Rattle.nz_machine.proofs.lists.EachItem.{all_append, all_imply}
 use Rattle.nz_replay.specs.Runs.{run_up_to}
 use Rattle.nz_replay.proofs.Replays.{run_then}
 use Rattle.nz_observe.specs.Following.{AreUpTo, IsEndOf}

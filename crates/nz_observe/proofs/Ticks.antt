@@ -7,10 +7,10 @@ use Rattle.nz_base.specs.Cluster.{replica_count}
 use Rattle.nz_base.specs.Moments.{At}
 use Rattle.nz_base.specs.declared.key.Entry.{Entry}
 use Rattle.nz_machine.specs.declared.event.Record.{Record}
-use Rattle.nz_machine.specs.State.{Group}
-use Rattle.nz_machine.specs.World.{World}
-use Rattle.nz_machine.specs.Incarnations.{replica_at}
-use Rattle.nz_machine.specs.OneHistory.{NoCollision, IsAccepted}
+use Rattle.nz_machine.specs.rules.State.{Group}
+use Rattle.nz_machine.specs.runs.World.{World}
+use Rattle.nz_machine.specs.runs.Incarnations.{replica_at}
+use Rattle.nz_machine.specs.runs.OneHistory.{NoCollision, IsAccepted}
 use Rattle.nz_laws_commit.specs.Stable.{committed_of, Stable}
 use Rattle.nz_laws_commit.proofs.Stabling as law
 use Rattle.nz_observe.specs.Ticks.{run_to, committed, StableAtTicks, IsComparableAtTicks}

@@ -6,10 +6,10 @@ use Rattle.nz_base.specs.declared.key.Entry.{Entry}
 use Rattle.nz_store.specs.Sequence.{store_after}
 use Rattle.nz_machine.specs.declared.event.Record.{Record}
 use Rattle.nz_machine.specs.declared.journal.Journal.{Journal}
-use Rattle.nz_machine.specs.State.{Group}
-use Rattle.nz_machine.specs.Journals.{run_in}
-use Rattle.nz_machine.specs.Replicas.{commands}
-use Rattle.nz_machine.specs.Incarnations.{replica_at}
+use Rattle.nz_machine.specs.rules.State.{Group}
+use Rattle.nz_machine.specs.journals.Journals.{run_in}
+use Rattle.nz_machine.specs.rules.Replicas.{commands}
+use Rattle.nz_machine.specs.runs.Incarnations.{replica_at}
 use Rattle.nz_replay.specs.Runs.{run_up_to}
 use Rattle.nz_laws_commit.specs.Stable.{committed_of}
 use Rattle.nz_observe.specs.declared.known.Known.{Known}

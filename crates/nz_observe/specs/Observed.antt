@@ -9,8 +9,8 @@ use Rattle.nz_store.specs.Entries.{value_of}
 use Rattle.nz_store.specs.Sequence.{store_after, value_answer}
 use Rattle.nz_text.specs.Text.{answer_text}
 use Rattle.nz_machine.specs.declared.event.Record.{Record}
-use Rattle.nz_machine.specs.State.{Group}
-use Rattle.nz_machine.specs.Replicas.{commands}
+use Rattle.nz_machine.specs.rules.State.{Group}
+use Rattle.nz_machine.specs.rules.Replicas.{commands}
 use Rattle.nz_observe.specs.Ticks.{committed}
 
 -- What one store that has executed the entries answers to a read of the key. A key that no command has is absent.

@@ -2,8 +2,8 @@
 use Rattle.std.specs.Prelude.{◌≡◌, ℕ, List, take, if◌then◌else◌, IsTrue}
 use Rattle.std.specs.Option.{option_map}
 use Rattle.nz_machine.specs.declared.event.Record.{Record}
-use Rattle.nz_machine.specs.Replicas.{is_up}
-use Rattle.nz_machine.specs.State.{ReplicaData, Group}
+use Rattle.nz_machine.specs.rules.Replicas.{is_up}
+use Rattle.nz_machine.specs.rules.State.{ReplicaData, Group}
 use Rattle.nz_laws_commit.specs.Stable.{committed_of}
 use Rattle.nz_observe.specs.declared.known.Known.{Known}
 use Rattle.nz_observe.specs.declared.observer.Observer.{Observer}

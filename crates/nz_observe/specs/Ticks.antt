@@ -4,9 +4,9 @@ use Rattle.nz_base.specs.Cluster.{replica_count}
 use Rattle.nz_base.specs.Prefixes.{IsPrefix, Comparable}
 use Rattle.nz_base.specs.declared.key.Entry.{Entry}
 use Rattle.nz_machine.specs.declared.event.Record.{Record}
-use Rattle.nz_machine.specs.State.{Group}
-use Rattle.nz_machine.specs.Incarnations.{replica_at, incarnation}
-use Rattle.nz_machine.specs.Begun.{start}
+use Rattle.nz_machine.specs.rules.State.{Group}
+use Rattle.nz_machine.specs.runs.Incarnations.{replica_at, incarnation}
+use Rattle.nz_machine.specs.runs.Begun.{start}
 use Rattle.nz_laws_commit.specs.Stable.{committed_of}
 
 -- The run up to the end of a tick, the newest record first: records of later ticks are left out.

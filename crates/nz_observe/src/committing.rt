@@ -1,8 +1,8 @@
 //! What a replica knows to be committed at the end of a tick.
 
 ghost use Rattle.std.specs.Prelude.{◌≡◌, ◌≤◌, length, take, IfOk};
-ghost use Rattle.nz_machine.specs.Journals.{group_in, run_in};
-ghost use Rattle.nz_machine.specs.Schedule.{Scheduled};
+ghost use Rattle.nz_machine.specs.journals.Journals.{group_in, run_in};
+ghost use Rattle.nz_machine.specs.runs.Schedule.{Scheduled};
 ghost use Rattle.nz_laws_commit.specs.Stable.{committed_of};
 ghost use Rattle.nz_observe.specs.Ticks as ticks;
 

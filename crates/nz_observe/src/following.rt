@@ -1,8 +1,8 @@
 //! A replica that is replayed up to the ends of ticks.
 
 ghost use Rattle.std.specs.Prelude.{◌≡◌, ◌≤◌, ◌<◌, ◌+◌, length, slice_get, Some, IfOk, OnOk};
-ghost use Rattle.nz_machine.specs.Journals.{group_in, run_in};
-ghost use Rattle.nz_machine.specs.Schedule.{Scheduled};
+ghost use Rattle.nz_machine.specs.journals.Journals.{group_in, run_in};
+ghost use Rattle.nz_machine.specs.runs.Schedule.{Scheduled};
 ghost use Rattle.nz_machine.specs.declared.event.Record.{Record as RecordModel};
 ghost use Rattle.nz_replay.specs.Runs.{run_up_to};
 ghost use Rattle.nz_replica.specs.Models.{IsCore};

@@ -2,7 +2,7 @@
 
 ghost use Rattle.std.specs.Prelude.{◌≡◌, ◌≤◌, nat_lt, [], length, take, if◌then◌else◌, OnOk};
 ghost use Rattle.nz_store.specs.Sequence.{store_after};
-ghost use Rattle.nz_machine.specs.Replicas.{commands};
+ghost use Rattle.nz_machine.specs.rules.Replicas.{commands};
 ghost use Rattle.nz_observe.specs.Following.{executed, HasExecuted};
 
 use nz_base::NoMemory;

@@ -3,9 +3,9 @@
 ghost use Rattle.std.specs.Prelude.{List};
 ghost use Rattle.nz_base.specs.declared.key.Entry.{Entry};
 ghost use Rattle.nz_machine.specs.declared.event.Record.{Record};
-ghost use Rattle.nz_machine.specs.State.{Group};
-ghost use Rattle.nz_machine.specs.World.{World};
-ghost use Rattle.nz_machine.specs.OneHistory.{NoCollision, IsAccepted};
+ghost use Rattle.nz_machine.specs.rules.State.{Group};
+ghost use Rattle.nz_machine.specs.runs.World.{World};
+ghost use Rattle.nz_machine.specs.runs.OneHistory.{NoCollision, IsAccepted};
 ghost use Rattle.nz_observe.specs.Ticks.{StableAtTicks, IsComparableAtTicks};
 
 /// In every run of the machine, what a replica knew to be committed at the end of some tick stays: each view above the

@@ -7,7 +7,7 @@ use Rattle.nz_store.specs.declared.command.Answer.{Answer}
 use Rattle.nz_msg.specs.declared.message.Path.{Path}
 use Rattle.nz_msg.specs.Fields.{answer}
 use Rattle.nz_machine.specs.declared.reply.Reply.{Reply}
-use Rattle.nz_machine.specs.Quorums.{Chosen, decision, answer_in, reply_eq, with_note}
+use Rattle.nz_machine.specs.rules.Quorums.{Chosen, decision, answer_in, reply_eq, with_note}
 use Rattle.nz_quorum.specs.Tallies.{IsOfCluster}
 use Rattle.nz_quorum.proofs.Choosing.{chosen_is_first}
 use Rattle.nz_proxy.specs.declared.standing.Standing.{Standing}

@@ -10,10 +10,10 @@ use Rattle.nz_base.specs.Key.{id_eq}
 use Rattle.nz_store.specs.declared.command.Answer.{Answer}
 use Rattle.nz_msg.specs.declared.message.Path.{Path}
 use Rattle.nz_machine.specs.declared.reply.Reply.{Reply}
-use Rattle.nz_machine.specs.State.{ProxyData}
-use Rattle.nz_machine.specs.State.{Standing as StandingModel}
-use Rattle.nz_machine.specs.Quorums.{Chosen, decision, answer_in}
-use Rattle.nz_machine.specs.Proxies.{with_standing, after_chosen_answer, after_choice, after_replica_reply}
+use Rattle.nz_machine.specs.rules.State.{ProxyData}
+use Rattle.nz_machine.specs.rules.State.{Standing as StandingModel}
+use Rattle.nz_machine.specs.rules.Quorums.{Chosen, decision, answer_in}
+use Rattle.nz_machine.specs.rules.Proxies.{with_standing, after_chosen_answer, after_choice, after_replica_reply}
 use Rattle.nz_quorum.specs.Tallies.{TallyData}
 use Rattle.nz_proxy.specs.declared.standing.Standing.{Standing}
 use Rattle.nz_proxy.specs.declared.standing.Standing.TheVariants.{Open, Decided}

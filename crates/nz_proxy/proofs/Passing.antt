@@ -5,8 +5,8 @@ use Rattle.std.proofs.lemmas.List.{append-nil}
 use Rattle.nz_base.specs.declared.actor.Actor.TheVariants.{Proxy}
 use Rattle.nz_msg.specs.declared.envelope.Envelope.{Envelope}
 use Rattle.nz_machine.specs.declared.event.Parcel.{Parcel}
-use Rattle.nz_machine.specs.State.{ProxyData, Out}
-use Rattle.nz_machine.specs.Step.{is_in_cluster, is_sized, message_vector, if_from_cluster, envelope_step}
+use Rattle.nz_machine.specs.rules.State.{ProxyData, Out}
+use Rattle.nz_machine.specs.rules.Step.{is_in_cluster, is_sized, message_vector, if_from_cluster, envelope_step}
 use Rattle.nz_proxy.specs.Models.{group_with_cluster}
 
 -- where nothing is sent

@@ -9,7 +9,7 @@ use Rattle.indexmap.specs.IndexMap.{insert_entry}
 use Rattle.nz_base.specs.declared.key.Id.{Id}
 use Rattle.nz_base.specs.Key.{id_eq}
 use Rattle.nz_base.proofs.Names.{same_id}
-use Rattle.nz_machine.specs.State.{Standing as StandingModel}
+use Rattle.nz_machine.specs.rules.State.{Standing as StandingModel}
 use Rattle.nz_proxy.specs.declared.standing.Standing.{Standing}
 use Rattle.nz_proxy.specs.Standings.{known_standing, known_standings, IsFitStanding, IsFitEntry}
 

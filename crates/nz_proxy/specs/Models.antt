@@ -4,8 +4,8 @@ use Rattle.std.specs.List.{AllByRecursion}
 use Rattle.nz_base.specs.Cluster.{replica_count}
 use Rattle.nz_base.specs.declared.key.Id.{Id}
 use Rattle.nz_base.specs.declared.limits.TheConstants.{MAX_CLOCK, MAX_PROXY}
-use Rattle.nz_machine.specs.State.{ProxyData, Group}
-use Rattle.nz_machine.specs.Proxies.{clock_rule}
+use Rattle.nz_machine.specs.rules.State.{ProxyData, Group}
+use Rattle.nz_machine.specs.rules.Proxies.{clock_rule}
 use Rattle.nz_proxy.specs.declared.standing.Standing.{Standing}
 use Rattle.nz_proxy.specs.Standings.{IsFitEntry}
 

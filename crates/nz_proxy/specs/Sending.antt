@@ -2,7 +2,7 @@
 use Rattle.std.specs.Prelude.{ℕ, List, map}
 use Rattle.nz_base.specs.declared.actor.Actor.TheVariants.{Replica}
 use Rattle.nz_msg.specs.declared.message.Message.{Message}
-use Rattle.nz_machine.specs.State.{Out}
+use Rattle.nz_machine.specs.rules.State.{Out}
 
 -- A message for a replica.
 abbrev pub parcel_to_replica : Message → ℕ → Out

@@ -7,10 +7,10 @@ use Rattle.nz_store.specs.declared.command.Answer.{Answer}
 use Rattle.nz_msg.specs.declared.message.Path.{Path}
 use Rattle.nz_msg.specs.Fields as fields
 use Rattle.nz_machine.specs.declared.reply.Reply.{Reply}
-use Rattle.nz_machine.specs.State.{Out, Open, Decided}
-use Rattle.nz_machine.specs.State.{Standing as StandingModel}
-use Rattle.nz_machine.specs.Quorums.{Chosen, decision, answer_in, with_note}
-use Rattle.nz_machine.specs.Proxies.{answer_to_client}
+use Rattle.nz_machine.specs.rules.State.{Out, Open, Decided}
+use Rattle.nz_machine.specs.rules.State.{Standing as StandingModel}
+use Rattle.nz_machine.specs.rules.Quorums.{Chosen, decision, answer_in, with_note}
+use Rattle.nz_machine.specs.rules.Proxies.{answer_to_client}
 use Rattle.nz_quorum.specs.Tallies.{TallyData, IsOfCluster}
 use Rattle.nz_proxy.specs.declared.standing.Standing.{Standing}
 use Rattle.nz_proxy.specs.declared.standing.Standing.TheVariants as kept

@@ -6,10 +6,10 @@ ghost use Rattle.nz_base.specs.Cluster.{replica_count};
 ghost use Rattle.nz_base.specs.declared.actor.Actor.TheVariants as actors;
 ghost use Rattle.nz_base.specs.declared.limits.TheConstants.{MAX_PROXIES};
 ghost use Rattle.nz_msg.specs.Messages.{Fits, fast_reply, slow_reply};
-ghost use Rattle.nz_machine.specs.Proxies as proxies;
-ghost use Rattle.nz_machine.specs.Proxies.{first_proxy, crashed_proxy, restarted_proxy, of_fast, of_slow};
-ghost use Rattle.nz_machine.specs.Step.{node_step, envelope_step, if_from_cluster, accepted_envelope, parcel};
-ghost use Rattle.nz_machine.specs.Step.{is_in_cluster, is_sized, message_vector, proxy_message};
+ghost use Rattle.nz_machine.specs.rules.Proxies as proxies;
+ghost use Rattle.nz_machine.specs.rules.Proxies.{first_proxy, crashed_proxy, restarted_proxy, of_fast, of_slow};
+ghost use Rattle.nz_machine.specs.rules.Step.{node_step, envelope_step, if_from_cluster, accepted_envelope, parcel};
+ghost use Rattle.nz_machine.specs.rules.Step.{is_in_cluster, is_sized, message_vector, proxy_message};
 ghost use Rattle.nz_proxy.specs.Models.{IsSameProxy, group_with_cluster, proxy_after_tick};
 
 use crate::state::ProxyState;

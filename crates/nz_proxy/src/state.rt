@@ -9,12 +9,12 @@ ghost use Rattle.nz_base.specs.declared.limits.TheConstants.{MAX_CLIENT, MAX_DEA
 ghost use Rattle.nz_msg.specs.Fields as fields;
 ghost use Rattle.nz_msg.specs.Messages as messages;
 ghost use Rattle.nz_msg.specs.Messages.{Fits};
-ghost use Rattle.nz_machine.specs.State.{Standing as StandingModel, Open as OpenModel};
-ghost use Rattle.nz_machine.specs.Proxies as proxies;
-ghost use Rattle.nz_machine.specs.Proxies.{first_proxy, with_standing, standing_of, answer_to_client, timed_to};
-ghost use Rattle.nz_machine.specs.Proxies.{timed_to_all, after_replica_reply, crashed_proxy, restarted_proxy};
-ghost use Rattle.nz_machine.specs.Replicas.{numbers_below};
-ghost use Rattle.nz_machine.specs.Step.{parcel};
+ghost use Rattle.nz_machine.specs.rules.State.{Standing as StandingModel, Open as OpenModel};
+ghost use Rattle.nz_machine.specs.rules.Proxies as proxies;
+ghost use Rattle.nz_machine.specs.rules.Proxies.{first_proxy, with_standing, standing_of, answer_to_client, timed_to};
+ghost use Rattle.nz_machine.specs.rules.Proxies.{timed_to_all, after_replica_reply, crashed_proxy, restarted_proxy};
+ghost use Rattle.nz_machine.specs.rules.Replicas.{numbers_below};
+ghost use Rattle.nz_machine.specs.rules.Step.{parcel};
 ghost use Rattle.nz_quorum.specs.Tallies.{IsOfCluster, replica_of};
 ghost use Rattle.nz_window.specs.Samples.{bound_of, with_sample};
 ghost use Rattle.nz_proxy.specs.Standings.{known_standing, IsFitStanding, HasFitAnswer, answers_to_client};
@@ -230,7 +230,7 @@ impl ProxyState {
     }
 
     /// The rule for a request of a client.
-    #[tactic(auto, unfolding(nz_machine::specs::Proxies::stamp_rule))]
+    #[tactic(auto, unfolding(nz_machine::specs::rules::Proxies::stamp_rule))]
     pub fn stamp_rule(
         &mut self,
         client: u8,
@@ -264,7 +264,7 @@ impl ProxyState {
     }
 
     /// The rule for a reply of a replica to the request, whose timed message was under way for the delay.
-    #[tactic(auto, unfolding(nz_machine::specs::Proxies::reply_rule))]
+    #[tactic(auto, unfolding(nz_machine::specs::rules::Proxies::reply_rule))]
     pub fn reply_rule(
         &mut self,
         replica: u8,
@@ -289,7 +289,7 @@ impl ProxyState {
     }
 
     /// The rule for a tick.
-    #[tactic(auto, unfolding(nz_machine::specs::Proxies::clock_rule))]
+    #[tactic(auto, unfolding(nz_machine::specs::rules::Proxies::clock_rule))]
     pub fn clock_rule(&mut self, clock: u64)
         ensures { self.new ≡ record self.old { state = proxies.clock_rule self.old.state clock } }
     {

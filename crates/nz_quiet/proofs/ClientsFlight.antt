@@ -12,11 +12,11 @@ use Rattle.nz_base.specs.declared.key.Entry.{Entry}
 use Rattle.nz_base.proofs.Names.{same_actor}
 use Rattle.nz_machine.specs.declared.data.Attempt.{Attempt}
 use Rattle.nz_machine.specs.declared.event.Record.{Record}
-use Rattle.nz_machine.specs.State.{Group, Out}
-use Rattle.nz_machine.specs.Events.{id_at}
-use Rattle.nz_machine.specs.World.{state_after, Has}
-use Rattle.nz_machine.proofs.Runs.{all_has}
-use Rattle.nz_machine.proofs.EachItem.{all_imply}
+use Rattle.nz_machine.specs.rules.State.{Group, Out}
+use Rattle.nz_machine.specs.runs.Events.{id_at}
+use Rattle.nz_machine.specs.runs.World.{state_after, Has}
+use Rattle.nz_machine.proofs.runs.Runs.{all_has}
+use Rattle.nz_machine.proofs.lists.EachItem.{all_imply}
 use Rattle.nz_quiet.specs.Requests.{own_proxy}
 use Rattle.nz_quiet.specs.Folds.{heard_by}
 use Rattle.nz_quiet.specs.ClientTicks.{MayAnswer, ComesAnswer, AreYoung}

@@ -14,15 +14,15 @@ use Rattle.nz_msg.specs.declared.message.Path.{Path}
 use Rattle.nz_msg.specs.declared.message.Path.TheVariants as paths
 use Rattle.nz_msg.specs.declared.message.Message.TheVariants as messages
 use Rattle.nz_machine.specs.declared.data.Attempt.{Attempt}
-use Rattle.nz_machine.specs.State.{ClientData, Group, Out}
-use Rattle.nz_machine.specs.Clients.{last_tick, fill_window, is_overdue, attempt_after_wait, retry, request_again, retries, after_wait, wait_rule}
-use Rattle.nz_machine.specs.Clients.{is_open, without_attempt, after_acceptance, accept_rule}
-use Rattle.nz_machine.specs.Events.{ClientEvent, Sent, Accepted, id_at, accepted_in, sent_after, sent_by}
-use Rattle.nz_machine.specs.Step.{script_of, tick_step, message_step}
-use Rattle.nz_machine.specs.World.{Has}
-use Rattle.nz_machine.proofs.Runs.{has_left, has_right, has_split}
-use Rattle.nz_machine.proofs.EachItem.{all_imply}
-use Rattle.nz_machine.proofs.InTurn.{none_without}
+use Rattle.nz_machine.specs.rules.State.{ClientData, Group, Out}
+use Rattle.nz_machine.specs.rules.Clients.{last_tick, fill_window, is_overdue, attempt_after_wait, retry, request_again, retries, after_wait, wait_rule}
+use Rattle.nz_machine.specs.rules.Clients.{is_open, without_attempt, after_acceptance, accept_rule}
+use Rattle.nz_machine.specs.runs.Events.{ClientEvent, Sent, Accepted, id_at, accepted_in, sent_after, sent_by}
+use Rattle.nz_machine.specs.rules.Step.{script_of, tick_step, message_step}
+use Rattle.nz_machine.specs.runs.World.{Has}
+use Rattle.nz_machine.proofs.runs.Runs.{has_left, has_right, has_split}
+use Rattle.nz_machine.proofs.lists.EachItem.{all_imply}
+use Rattle.nz_machine.proofs.journals.InTurn.{none_without}
 use Rattle.nz_quiet.specs.Words.{Word}
 use Rattle.nz_quiet.specs.Folds.{state_heard, outs_heard}
 use Rattle.nz_quiet.specs.ClientTicks.{MayAnswer, ComesAnswer, told_heard, one_older, new_attempt, IsOpenAfter, OpenBefore, OpenNow}

@@ -4,8 +4,8 @@ use Rattle.std.specs.List.{AllByRecursion}
 use Rattle.std.proofs.lemmas.Bool.{cases_Bool, or_right}
 use Rattle.std.proofs.lemmas.Bool.Decides.{nat_tests}
 use Rattle.nz_machine.specs.declared.data.Attempt.{Attempt}
-use Rattle.nz_machine.specs.Clients.{is_open, without_attempt}
-use Rattle.nz_machine.specs.World.{Has}
+use Rattle.nz_machine.specs.rules.Clients.{is_open, without_attempt}
+use Rattle.nz_machine.specs.runs.World.{Has}
 use Rattle.nz_quiet.proofs.Elements.{has_filtered}
 
 -- one of this number is open

@@ -8,14 +8,14 @@ use Rattle.nz_base.specs.declared.actor.Actor.TheVariants.{Proxy}
 use Rattle.nz_base.specs.declared.scenario.Request.{Request}
 use Rattle.nz_msg.specs.declared.message.Message.TheVariants as messages
 use Rattle.nz_machine.specs.declared.data.Attempt.{Attempt}
-use Rattle.nz_machine.specs.State.{ClientData, Group, Out}
-use Rattle.nz_machine.specs.Clients.{ask, if_due, after_opening, open_next, fill_places, fill_window}
-use Rattle.nz_machine.specs.Events.{ClientEvent, script_command, command_of_request}
-use Rattle.nz_machine.specs.Step.{script_of}
-use Rattle.nz_machine.specs.World.{Has}
-use Rattle.nz_machine.proofs.Runs.{has_left, has_right}
-use Rattle.nz_machine.proofs.EachItem.{all_append, all_imply}
-use Rattle.nz_machine.proofs.InTurn.{if_due_is, due_within}
+use Rattle.nz_machine.specs.rules.State.{ClientData, Group, Out}
+use Rattle.nz_machine.specs.rules.Clients.{ask, if_due, after_opening, open_next, fill_places, fill_window}
+use Rattle.nz_machine.specs.runs.Events.{ClientEvent, script_command, command_of_request}
+use Rattle.nz_machine.specs.rules.Step.{script_of}
+use Rattle.nz_machine.specs.runs.World.{Has}
+use Rattle.nz_machine.proofs.runs.Runs.{has_left, has_right}
+use Rattle.nz_machine.proofs.lists.EachItem.{all_append, all_imply}
+use Rattle.nz_machine.proofs.journals.InTurn.{if_due_is, due_within}
 use Rattle.nz_quiet.specs.Words.{Word}
 use Rattle.nz_quiet.specs.ClientTicks.{one_older, new_attempt, asking, IsOpenAfter, OpenBefore, OpenNow, IsNewRequest, Asks, IsClientAfter}
 

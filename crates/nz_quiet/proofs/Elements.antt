@@ -3,9 +3,9 @@ use Rattle.std.proofs.Common.{◌≡◌, ℕ, zero, suc, ◌<◌, Bool, true, co
 use Rattle.std.specs.List.{AllByRecursion, filter}
 use Rattle.std.proofs.lemmas.Bool.{cases_Bool, eqb-true}
 use Rattle.std.proofs.lemmas.Bool.Decides.{nat_tests}
-use Rattle.nz_machine.specs.Replicas.{numbers_below}
-use Rattle.nz_machine.specs.World.{Has}
-use Rattle.nz_machine.proofs.Runs.{has_left, has_right}
+use Rattle.nz_machine.specs.rules.Replicas.{numbers_below}
+use Rattle.nz_machine.specs.runs.World.{Has}
+use Rattle.nz_machine.proofs.runs.Runs.{has_left, has_right}
 
 pub all_of_each : {X : Type 0} (P : X → Type 0) (xs : List X) → ((x : X) → Has xs x → P x) → AllByRecursion P xs
 all_of_each P [] each = tt

@@ -11,14 +11,14 @@ use Rattle.nz_machine.specs.declared.event.Event.{Event}
 use Rattle.nz_machine.specs.declared.event.Parcel.{Parcel}
 use Rattle.nz_machine.specs.declared.event.Record.{Record}
 use Rattle.nz_machine.specs.declared.journal.Item.{Item}
-use Rattle.nz_machine.specs.State.{State, Group, Out}
-use Rattle.nz_machine.specs.Step.{event_step, parcel}
-use Rattle.nz_machine.specs.World.{state_after, Has, World}
-use Rattle.nz_machine.specs.Schedule.{item_of}
-use Rattle.nz_machine.specs.Steps.{AreSteps}
-use Rattle.nz_machine.proofs.Runs.{FitsOut, sends_have}
-use Rattle.nz_machine.proofs.EachItem.{all_append}
-use Rattle.nz_machine.proofs.FitRuns.{Fitted, FittedState, fits_keep}
+use Rattle.nz_machine.specs.rules.State.{State, Group, Out}
+use Rattle.nz_machine.specs.rules.Step.{event_step, parcel}
+use Rattle.nz_machine.specs.runs.World.{state_after, Has, World}
+use Rattle.nz_machine.specs.runs.Schedule.{item_of}
+use Rattle.nz_machine.specs.runs.Steps.{AreSteps}
+use Rattle.nz_machine.proofs.runs.Runs.{FitsOut, sends_have}
+use Rattle.nz_machine.proofs.lists.EachItem.{all_append}
+use Rattle.nz_machine.proofs.runs.FitRuns.{Fitted, FittedState, fits_keep}
 use Rattle.nz_quiet.specs.Folds.{events_for, events_in, state_from, outs_from, sent_by, flight_of, posted, outs_of}
 use Rattle.nz_quiet.proofs.Folds.{after_now, events_append, items_of}
 

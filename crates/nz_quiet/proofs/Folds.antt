@@ -9,11 +9,11 @@ use Rattle.nz_base.specs.declared.scenario.Scenario.{Scenario}
 use Rattle.nz_machine.specs.declared.event.Event.{Event}
 use Rattle.nz_machine.specs.declared.event.Record.{Record}
 use Rattle.nz_machine.specs.declared.journal.Item.{Item}
-use Rattle.nz_machine.specs.State.{State, Group}
-use Rattle.nz_machine.specs.Step.{event_step}
-use Rattle.nz_machine.specs.World.{state_after}
-use Rattle.nz_machine.specs.Schedule.{item_of, due, IsTick}
-use Rattle.nz_machine.proofs.Runs.{acts, stays}
+use Rattle.nz_machine.specs.rules.State.{State, Group}
+use Rattle.nz_machine.specs.rules.Step.{event_step}
+use Rattle.nz_machine.specs.runs.World.{state_after}
+use Rattle.nz_machine.specs.runs.Schedule.{item_of, due, IsTick}
+use Rattle.nz_machine.proofs.runs.Runs.{acts, stays}
 use Rattle.nz_quiet.specs.Folds.{events_for, state_from}
 
 pub events_append : (a : Actor) (xs ys : List Item) → events_for a (xs ++ ys) ≡ events_for a xs ++ events_for a ys

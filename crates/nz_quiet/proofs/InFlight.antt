@@ -13,11 +13,11 @@ use Rattle.nz_buffers.specs.Buffers.{insert_by_key}
 use Rattle.nz_msg.specs.declared.message.TimedBody.{TimedBody}
 use Rattle.nz_msg.specs.declared.message.Message.{Message}
 use Rattle.nz_msg.specs.declared.message.Message.TheVariants as messages
-use Rattle.nz_machine.specs.State.{Out}
-use Rattle.nz_machine.specs.Requests.{entry_at}
-use Rattle.nz_machine.specs.World.{Has}
-use Rattle.nz_machine.proofs.LogPlaces.{has_place}
-use Rattle.nz_machine.proofs.Runs.{has_right, has_split}
+use Rattle.nz_machine.specs.rules.State.{Out}
+use Rattle.nz_machine.specs.rules.Requests.{entry_at}
+use Rattle.nz_machine.specs.runs.World.{Has}
+use Rattle.nz_machine.proofs.lists.LogPlaces.{has_place}
+use Rattle.nz_machine.proofs.runs.Runs.{has_right, has_split}
 use Rattle.nz_quiet.specs.Folds.{heard_by}
 use Rattle.nz_quiet.specs.Replicas.{bodies_of, with_body, with_bodies}
 use Rattle.nz_quiet.proofs.SameBodies.{body_in, bodies_more}

@@ -11,11 +11,11 @@ use Rattle.nz_buffers.specs.Buffers.{held_back}
 use Rattle.nz_msg.specs.declared.message.FastReplyBody.{FastReplyBody}
 use Rattle.nz_msg.specs.declared.message.Message.TheVariants as messages
 use Rattle.nz_machine.specs.declared.event.Record.{Record}
-use Rattle.nz_machine.specs.Events.{ClientEvent, sent_by}
-use Rattle.nz_machine.specs.State.{ReplicaData, Open, Group, Out}
-use Rattle.nz_machine.specs.Step.{tick_step, script_of}
-use Rattle.nz_machine.specs.World.{state_after, Has, IsGroup, IsMember}
-use Rattle.nz_machine.proofs.InTurn.{InTurn}
+use Rattle.nz_machine.specs.runs.Events.{ClientEvent, sent_by}
+use Rattle.nz_machine.specs.rules.State.{ReplicaData, Open, Group, Out}
+use Rattle.nz_machine.specs.rules.Step.{tick_step, script_of}
+use Rattle.nz_machine.specs.runs.World.{state_after, Has, IsGroup, IsMember}
+use Rattle.nz_machine.proofs.journals.InTurn.{InTurn}
 use Rattle.nz_quiet.specs.Requests.{own_proxy}
 use Rattle.nz_quiet.specs.Folds.{outs_of, heard_by}
 use Rattle.nz_quiet.specs.Replicas.{bodies_of, IsTicked, HasHeard}

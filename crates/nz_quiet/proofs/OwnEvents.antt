@@ -14,9 +14,9 @@ use Rattle.nz_machine.specs.declared.event.Event.{Event}
 use Rattle.nz_machine.specs.declared.event.Event.TheVariants.{Deliver, Tick}
 use Rattle.nz_machine.specs.declared.event.Parcel.{Parcel}
 use Rattle.nz_machine.specs.declared.journal.Item.{Item}
-use Rattle.nz_machine.specs.Replicas.{numbers_below}
-use Rattle.nz_machine.specs.Schedule.{group_of, actors_of, tick_item, clock_at, IsPlayable}
-use Rattle.nz_machine.specs.World.{IsMember}
+use Rattle.nz_machine.specs.rules.Replicas.{numbers_below}
+use Rattle.nz_machine.specs.runs.Schedule.{group_of, actors_of, tick_item, clock_at, IsPlayable}
+use Rattle.nz_machine.specs.runs.World.{IsMember}
 use Rattle.nz_quiet.specs.Folds.{delivery, events_for}
 use Rattle.nz_quiet.proofs.Folds.{events_append}
 

@@ -9,12 +9,12 @@ use Rattle.nz_machine.specs.declared.client_progress.Acceptance.{Acceptance}
 use Rattle.nz_machine.specs.declared.client_progress.Telling.{Telling}
 use Rattle.nz_machine.specs.declared.event.Record.{Record}
 use Rattle.nz_machine.specs.declared.tellings.ToldAt.{ToldAt}
-use Rattle.nz_machine.specs.ClientProgress.{acceptance_events, request_events, events_of_telling}
-use Rattle.nz_machine.specs.Events.{ClientEvent, client_events}
-use Rattle.nz_machine.specs.State.{Group}
-use Rattle.nz_machine.specs.Tellings.{telling_in, told_of, told_at, told_by_run}
-use Rattle.nz_machine.specs.World.{World}
-use Rattle.nz_machine.proofs.TellingsOfRuns.{telling_shows}
+use Rattle.nz_machine.specs.journals.ClientProgress.{acceptance_events, request_events, events_of_telling}
+use Rattle.nz_machine.specs.runs.Events.{ClientEvent, client_events}
+use Rattle.nz_machine.specs.rules.State.{Group}
+use Rattle.nz_machine.specs.journals.Tellings.{telling_in, told_of, told_at, told_by_run}
+use Rattle.nz_machine.specs.runs.World.{World}
+use Rattle.nz_machine.proofs.journals.TellingsOfRuns.{telling_shows}
 use Rattle.nz_quiet.specs.Quiet.{timed_events}
 use Rattle.nz_quiet.specs.Pace.{tick_accepted, pace_by, paces, sent_in, accepted_in, requests_sent, requests_accepted}
 use Rattle.nz_quiet.specs.Pace.{told_accepted, told_sent, all_accepted, all_sent}

@@ -8,8 +8,8 @@ use Rattle.std.proofs.lemmas.Bool.Decides.{nat_tests}
 use Rattle.std.proofs.lemmas.List.{length-set}
 use Rattle.nz_base.specs.declared.limits.TheConstants.{UNITS_PER_TICK}
 use Rattle.nz_window.specs.Samples.{last_32, with_sample, with_number, numbers_in_order, median, bound_of}
-use Rattle.nz_machine.proofs.EachItem.{all_append}
-use Rattle.nz_machine.proofs.ListParts.{all_drop, all_index}
+use Rattle.nz_machine.proofs.lists.EachItem.{all_append}
+use Rattle.nz_machine.proofs.lists.ListParts.{all_drop, all_index}
 use Rattle.nz_quiet.specs.ProxyTicks.{AreTicks, IsBound}
 
 -- ---- the bound

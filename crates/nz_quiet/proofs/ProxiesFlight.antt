@@ -25,13 +25,13 @@ use Rattle.nz_msg.specs.declared.message.Message.TheVariants as messages
 use Rattle.nz_machine.specs.declared.data.Attempt.{Attempt}
 use Rattle.nz_machine.specs.declared.event.Record.{Record}
 use Rattle.nz_machine.specs.declared.reply.Reply.TheVariants.{Fast}
-use Rattle.nz_machine.specs.State.{Open, Group, Out}
-use Rattle.nz_machine.specs.Events.{id_at}
-use Rattle.nz_machine.specs.Proxies.{standing_of, of_fast}
-use Rattle.nz_machine.specs.Replicas.{commands}
-use Rattle.nz_machine.specs.World.{state_after, Has}
-use Rattle.nz_machine.proofs.LogPlaces.{place_within}
-use Rattle.nz_machine.proofs.Runs.{all_has}
+use Rattle.nz_machine.specs.rules.State.{Open, Group, Out}
+use Rattle.nz_machine.specs.runs.Events.{id_at}
+use Rattle.nz_machine.specs.rules.Proxies.{standing_of, of_fast}
+use Rattle.nz_machine.specs.rules.Replicas.{commands}
+use Rattle.nz_machine.specs.runs.World.{state_after, Has}
+use Rattle.nz_machine.proofs.lists.LogPlaces.{place_within}
+use Rattle.nz_machine.proofs.runs.Runs.{all_has}
 use Rattle.nz_quiet.specs.Requests.{own_proxy}
 use Rattle.nz_quiet.specs.Folds.{heard_by}
 use Rattle.nz_quiet.specs.Replicas.{IsGoodReply}

@@ -9,10 +9,10 @@ use Rattle.nz_base.specs.declared.key.Id.{Id}
 use Rattle.nz_base.specs.declared.limits.TheConstants.{MAX_CLOCK}
 use Rattle.nz_msg.specs.declared.message.FastReplyBody.{FastReplyBody}
 use Rattle.nz_msg.specs.declared.message.Message.TheVariants as messages
-use Rattle.nz_machine.specs.State.{ProxyData, Standing, Open, Group, Out}
-use Rattle.nz_machine.specs.Proxies.{standing_of, clock_rule}
-use Rattle.nz_machine.specs.Step.{proxy_message, message_step, tick_step}
-use Rattle.nz_machine.specs.World.{Has}
+use Rattle.nz_machine.specs.rules.State.{ProxyData, Standing, Open, Group, Out}
+use Rattle.nz_machine.specs.rules.Proxies.{standing_of, clock_rule}
+use Rattle.nz_machine.specs.rules.Step.{proxy_message, message_step, tick_step}
+use Rattle.nz_machine.specs.runs.World.{Has}
 use Rattle.nz_quiet.specs.Words.{Word}
 use Rattle.nz_quiet.specs.Folds.{state_heard, outs_heard}
 use Rattle.nz_quiet.specs.ProxyTicks.{AreTicks, Said, MayCome, IsRepliedIn, Stands, Stays, Opens, Waits, Decides, IsProxyAfter, IsAnsweredFast}

@@ -19,19 +19,19 @@ use Rattle.nz_msg.specs.declared.message.SlowReplyBody.{SlowReplyBody}
 use Rattle.nz_msg.specs.declared.message.Message.{Message}
 use Rattle.nz_msg.specs.declared.message.Message.TheVariants as messages
 use Rattle.nz_machine.specs.declared.reply.Reply.{Reply}
-use Rattle.nz_machine.specs.State.{ProxyData, Standing, Open, Decided, Out}
-use Rattle.nz_machine.specs.Events.{id_at}
-use Rattle.nz_machine.specs.Replicas.{numbers_below}
-use Rattle.nz_machine.specs.Quorums.{Chosen, decision, answer_in, reply_eq, with_note}
-use Rattle.nz_machine.specs.Proxies.{with_standing, standing_of, answer_to_client, timed_to, timed_to_all, after_stamp, stamp_rule, after_chosen_answer}
-use Rattle.nz_machine.specs.Proxies.{after_choice, after_replica_reply, reply_rule, of_fast, of_slow}
-use Rattle.nz_machine.specs.Step.{proxy_message}
-use Rattle.nz_machine.specs.World.{Has}
-use Rattle.nz_machine.proofs.Runs.{has_left, has_right, has_split}
-use Rattle.nz_machine.proofs.EachItem.{all_append, all_imply}
-use Rattle.nz_machine.proofs.ListParts.{all_map}
-use Rattle.nz_machine.proofs.Lookups.{lookup_inserted, lookup_other}
-use Rattle.nz_machine.proofs.Shows.{all_below}
+use Rattle.nz_machine.specs.rules.State.{ProxyData, Standing, Open, Decided, Out}
+use Rattle.nz_machine.specs.runs.Events.{id_at}
+use Rattle.nz_machine.specs.rules.Replicas.{numbers_below}
+use Rattle.nz_machine.specs.rules.Quorums.{Chosen, decision, answer_in, reply_eq, with_note}
+use Rattle.nz_machine.specs.rules.Proxies.{with_standing, standing_of, answer_to_client, timed_to, timed_to_all, after_stamp, stamp_rule, after_chosen_answer}
+use Rattle.nz_machine.specs.rules.Proxies.{after_choice, after_replica_reply, reply_rule, of_fast, of_slow}
+use Rattle.nz_machine.specs.rules.Step.{proxy_message}
+use Rattle.nz_machine.specs.runs.World.{Has}
+use Rattle.nz_machine.proofs.runs.Runs.{has_left, has_right, has_split}
+use Rattle.nz_machine.proofs.lists.EachItem.{all_append, all_imply}
+use Rattle.nz_machine.proofs.lists.ListParts.{all_map}
+use Rattle.nz_machine.proofs.lists.Lookups.{lookup_inserted, lookup_other}
+use Rattle.nz_machine.proofs.shows.Shows.{all_below}
 use Rattle.nz_quiet.specs.Words.{Word}
 use Rattle.nz_quiet.specs.Replies.{IsReply}
 use Rattle.nz_quiet.specs.ProxyTicks.{AreTicks, IsBound, Said, reply_to, MayCome, ComesRequest, ComesFast, ComesSlow, IsAskedIn, IsRepliedIn, AreNoted}

@@ -15,10 +15,10 @@ use Rattle.nz_store.specs.declared.command.Answer.{Answer}
 use Rattle.nz_msg.specs.declared.message.Path.{Path}
 use Rattle.nz_msg.specs.declared.message.Path.TheVariants as paths
 use Rattle.nz_machine.specs.declared.reply.Reply.{Reply}
-use Rattle.nz_machine.specs.Quorums.{is_of_leader, is_slow_of, agrees_of, stands_slowly, stands_fast, has_slow_quorum, has_fast_quorum}
-use Rattle.nz_machine.specs.Quorums.{Chosen, decision, answer_in}
-use Rattle.nz_machine.specs.World.{Has}
-use Rattle.nz_machine.proofs.EachItem.{all_back}
+use Rattle.nz_machine.specs.rules.Quorums.{is_of_leader, is_slow_of, agrees_of, stands_slowly, stands_fast, has_slow_quorum, has_fast_quorum}
+use Rattle.nz_machine.specs.rules.Quorums.{Chosen, decision, answer_in}
+use Rattle.nz_machine.specs.runs.World.{Has}
+use Rattle.nz_machine.proofs.lists.EachItem.{all_back}
 use Rattle.nz_quorum.specs.Tallies.{has_quorum}
 use Rattle.nz_quorum.specs.Choices.{HasQuorum}
 use Rattle.nz_quorum.proofs.Choosing.{chosen_is_first, quorum_is_fast}

@@ -11,10 +11,10 @@ use Rattle.nz_msg.specs.declared.message.FastReplyBody.{FastReplyBody}
 use Rattle.nz_msg.specs.declared.message.SlowReplyBody.{SlowReplyBody}
 use Rattle.nz_msg.specs.declared.message.Message.TheVariants as messages
 use Rattle.nz_machine.specs.declared.reply.Reply.{Reply}
-use Rattle.nz_machine.specs.State.{Standing, Out}
-use Rattle.nz_machine.specs.Events.{id_at}
-use Rattle.nz_machine.specs.Proxies.{answer_to_client}
-use Rattle.nz_machine.proofs.Runs.{has_left, has_split}
+use Rattle.nz_machine.specs.rules.State.{Standing, Out}
+use Rattle.nz_machine.specs.runs.Events.{id_at}
+use Rattle.nz_machine.specs.rules.Proxies.{answer_to_client}
+use Rattle.nz_machine.proofs.runs.Runs.{has_left, has_split}
 use Rattle.nz_quiet.specs.Words.{Word}
 use Rattle.nz_quiet.specs.ProxyTicks.{Said, IsAskedIn, IsRepliedIn, AreNoted, Stands, Stays, Opens, Waits, Decides}
 

@@ -10,10 +10,10 @@ use Rattle.nz_base.specs.declared.scenario.Scenario.{Scenario}
 use Rattle.nz_machine.specs.declared.event.Parcel.{Parcel}
 use Rattle.nz_machine.specs.declared.event.Record.{Record}
 use Rattle.nz_machine.specs.declared.journal.Item.{Item}
-use Rattle.nz_machine.specs.Schedule.{calls, actors_of, tick_item, whole_in, delivery_item, after_faults, deliveries, due_of, Posted, posted_in}
-use Rattle.nz_machine.specs.Schedule.{posted_by_run, arrivals, due}
-use Rattle.nz_machine.specs.Schedule.{IsTick, InOrderTo}
-use Rattle.nz_machine.proofs.EachItem.{all_append, all_imply}
+use Rattle.nz_machine.specs.runs.Schedule.{calls, actors_of, tick_item, whole_in, delivery_item, after_faults, deliveries, due_of, Posted, posted_in}
+use Rattle.nz_machine.specs.runs.Schedule.{posted_by_run, arrivals, due}
+use Rattle.nz_machine.specs.runs.Schedule.{IsTick, InOrderTo}
+use Rattle.nz_machine.proofs.lists.EachItem.{all_append, all_imply}
 use Rattle.nz_quiet.specs.Quiet.{IsQuiet}
 use Rattle.nz_quiet.specs.Folds.{delivery, sent_by}
 

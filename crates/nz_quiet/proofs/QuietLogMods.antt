@@ -15,13 +15,13 @@ use Rattle.nz_base.proofs.Logs.{has_first, has_later, keys_append, rising_prefix
 use Rattle.nz_cv.specs.Vectors.{is_stray, greater_counters, merged_vector}
 use Rattle.nz_msg.specs.declared.message.LogModBody.{LogModBody}
 use Rattle.nz_log.specs.Synced.{unsynced_part}
-use Rattle.nz_machine.specs.State.{ReplicaData, Out}
-use Rattle.nz_machine.specs.Replicas.{is_normal, is_up, leads, hears_leader}
-use Rattle.nz_machine.specs.Vectors.{with_vector, unless_stray}
-use Rattle.nz_machine.specs.Views.{enter_view}
-use Rattle.nz_machine.specs.LogMods.{sync_keys, sync_report_to, is_still_early, overtaken_to_late, committed_to, replies_since, after_taking_keys}
-use Rattle.nz_machine.specs.LogMods.{after_hearing}
-use Rattle.nz_machine.specs.LogMods.{after_log_mod, hears_later_leader, log_mod_rule}
+use Rattle.nz_machine.specs.rules.State.{ReplicaData, Out}
+use Rattle.nz_machine.specs.rules.Replicas.{is_normal, is_up, leads, hears_leader}
+use Rattle.nz_machine.specs.rules.Vectors.{with_vector, unless_stray}
+use Rattle.nz_machine.specs.rules.Views.{enter_view}
+use Rattle.nz_machine.specs.rules.LogMods.{sync_keys, sync_report_to, is_still_early, overtaken_to_late, committed_to, replies_since, after_taking_keys}
+use Rattle.nz_machine.specs.rules.LogMods.{after_hearing}
+use Rattle.nz_machine.specs.rules.LogMods.{after_log_mod, hears_later_leader, log_mod_rule}
 use Rattle.nz_quiet.specs.Replicas.{synced_to, IsCalm, IsTakenCalmly, IsOwnLogMod, IsQuietFollower}
 use Rattle.nz_quiet.proofs.SameLogs.{sync_same}
 

@@ -8,9 +8,9 @@ use Rattle.nz_base.specs.Log.{keys_of, has_id, is_above_last}
 use Rattle.nz_log.specs.Places.{place_of}
 use Rattle.nz_buffers.specs.Buffers.{insert_by_key, without}
 use Rattle.nz_msg.specs.declared.message.TimedBody.{TimedBody}
-use Rattle.nz_machine.specs.State.{ReplicaData}
-use Rattle.nz_machine.specs.Replicas.{is_normal, leads, key_with_deadline}
-use Rattle.nz_machine.specs.Requests.{origin_of, with_origin, to_early, to_late, entry_at, after_restamp, after_placing, is_full, after_timed, request_rule}
+use Rattle.nz_machine.specs.rules.State.{ReplicaData}
+use Rattle.nz_machine.specs.rules.Replicas.{is_normal, leads, key_with_deadline}
+use Rattle.nz_machine.specs.rules.Requests.{origin_of, with_origin, to_early, to_late, entry_at, after_restamp, after_placing, is_full, after_timed, request_rule}
 
 -- ---- a request
 

@@ -8,13 +8,13 @@ use Rattle.nz_base.specs.declared.limits.TheConstants.{MAX_TICKS}
 use Rattle.nz_base.specs.declared.scenario.Scenario.{Scenario}
 use Rattle.nz_machine.specs.declared.event.Parcel.{Parcel}
 use Rattle.nz_machine.specs.declared.event.Record.{Record}
-use Rattle.nz_machine.specs.State.{Group, Out}
-use Rattle.nz_machine.specs.Steps.{AreSteps}
-use Rattle.nz_machine.specs.Schedule.{group_of, IsTick, InOrderTo, IsPlayable, due, tick_item, actors_of}
-use Rattle.nz_machine.specs.World.{Has, IsMember, World}
-use Rattle.nz_machine.proofs.Replaying.{world_now}
-use Rattle.nz_machine.proofs.Runs.{FitsOut}
-use Rattle.nz_machine.proofs.Scheduling.{scheduled_in_order}
+use Rattle.nz_machine.specs.rules.State.{Group, Out}
+use Rattle.nz_machine.specs.runs.Steps.{AreSteps}
+use Rattle.nz_machine.specs.runs.Schedule.{group_of, IsTick, InOrderTo, IsPlayable, due, tick_item, actors_of}
+use Rattle.nz_machine.specs.runs.World.{Has, IsMember, World}
+use Rattle.nz_machine.proofs.runs.Replaying.{world_now}
+use Rattle.nz_machine.proofs.runs.Runs.{FitsOut}
+use Rattle.nz_machine.proofs.runs.Scheduling.{scheduled_in_order}
 use Rattle.nz_quiet.specs.Quiet.{IsQuiet}
 use Rattle.nz_quiet.specs.Folds.{delivery, flight_of, posted, AreReadable, flight_in}
 use Rattle.nz_quiet.specs.Invariant.{IsQuietAt, IsQuietRun}

@@ -27,14 +27,14 @@ use Rattle.nz_msg.specs.declared.message.Message.{Message}
 use Rattle.nz_msg.specs.declared.message.Message.TheVariants as messages
 use Rattle.nz_machine.specs.declared.data.Attempt.{Attempt}
 use Rattle.nz_machine.specs.declared.event.Record.{Record}
-use Rattle.nz_machine.specs.Events.{id_at, script_command}
-use Rattle.nz_machine.specs.State.{Standing, Open, Decided, Group, Out}
-use Rattle.nz_machine.specs.Step.{script_of}
-use Rattle.nz_machine.specs.World.{state_after, Has, IsMember}
-use Rattle.nz_machine.proofs.FitClients as fits
-use Rattle.nz_machine.proofs.InTurn.{Rises, rises_most}
-use Rattle.nz_machine.proofs.Runs.{has_left, has_right, has_split, all_has}
-use Rattle.nz_machine.proofs.EachItem.{all_imply}
+use Rattle.nz_machine.specs.runs.Events.{id_at, script_command}
+use Rattle.nz_machine.specs.rules.State.{Standing, Open, Decided, Group, Out}
+use Rattle.nz_machine.specs.rules.Step.{script_of}
+use Rattle.nz_machine.specs.runs.World.{state_after, Has, IsMember}
+use Rattle.nz_machine.proofs.facts.FitClients as fits
+use Rattle.nz_machine.proofs.journals.InTurn.{Rises, rises_most}
+use Rattle.nz_machine.proofs.runs.Runs.{has_left, has_right, has_split, all_has}
+use Rattle.nz_machine.proofs.lists.EachItem.{all_imply}
 use Rattle.nz_quiet.specs.Requests.{own_proxy, HasRequest, IsDeadline}
 use Rattle.nz_quiet.specs.Folds.{outs_of, heard_by}
 use Rattle.nz_quiet.specs.Replicas.{IsQuietReplica, IsFreshBody, IsGoodReply, bodies_of, with_bodies, TickSends, SendsFast, SendsLogMod}

@@ -16,15 +16,15 @@ use Rattle.nz_base.proofs.Names.{actor_eq_self, same_actor}
 use Rattle.nz_buffers.specs.Buffers.{is_due, released, held_back}
 use Rattle.nz_msg.specs.declared.message.Message.{Message}
 use Rattle.nz_machine.specs.declared.event.Record.{Record}
-use Rattle.nz_machine.specs.Facts.{HasFacts}
-use Rattle.nz_machine.specs.State.{ReplicaData, State, Group, Out}
-use Rattle.nz_machine.specs.Step.{is_in_cluster, is_sized, message_vector, tick_rule, tick_step, event_step}
-use Rattle.nz_machine.specs.World.{state_after, Has, IsMember, World}
-use Rattle.nz_machine.proofs.Runs.{FitsOut, group_of, has_split, all_has}
-use Rattle.nz_machine.proofs.EachItem.{all_append, all_of_prefix, all_back, all_filter, all_imply}
-use Rattle.nz_machine.proofs.FitClients as clients
-use Rattle.nz_machine.proofs.FitRuns.{all_fit}
-use Rattle.nz_machine.proofs.MoveFacts.{tick_keeps}
+use Rattle.nz_machine.specs.rules.Facts.{HasFacts}
+use Rattle.nz_machine.specs.rules.State.{ReplicaData, State, Group, Out}
+use Rattle.nz_machine.specs.rules.Step.{is_in_cluster, is_sized, message_vector, tick_rule, tick_step, event_step}
+use Rattle.nz_machine.specs.runs.World.{state_after, Has, IsMember, World}
+use Rattle.nz_machine.proofs.runs.Runs.{FitsOut, group_of, has_split, all_has}
+use Rattle.nz_machine.proofs.lists.EachItem.{all_append, all_of_prefix, all_back, all_filter, all_imply}
+use Rattle.nz_machine.proofs.facts.FitClients as clients
+use Rattle.nz_machine.proofs.runs.FitRuns.{all_fit}
+use Rattle.nz_machine.proofs.moves.MoveFacts.{tick_keeps}
 use Rattle.nz_quiet.specs.Requests.{own_proxy, OfScript}
 use Rattle.nz_quiet.specs.Folds.{flight_of, outs_of, heard_by, outs_heard, IsReadable, AreReadable, IsHeardTick}
 use Rattle.nz_quiet.specs.Replicas.{bodies_of, ReplicaHears, HearsTimed, HearsLogMod, HearsReport, MayTick, IsTicked, MayHear, AreHeard, HasHeard}

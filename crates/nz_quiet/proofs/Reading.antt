@@ -18,12 +18,12 @@ use Rattle.nz_machine.specs.declared.event.Event.{Event}
 use Rattle.nz_machine.specs.declared.event.Event.TheVariants.{Deliver, Tick}
 use Rattle.nz_machine.specs.declared.event.Parcel.{Parcel}
 use Rattle.nz_machine.specs.declared.event.Record.{Record}
-use Rattle.nz_machine.specs.State.{State, Group, Out}
-use Rattle.nz_machine.specs.Step.{is_for, envelope_if_for, envelope_for, if_from_cluster, accepted_envelope, message_step, envelope_step, tick_step}
-use Rattle.nz_machine.specs.Step.{event_step}
-use Rattle.nz_machine.specs.Schedule.{group_of, clock_with_skew, skew_of, clock_at, actors_of, tick_item, due, IsTick, InOrderTo, IsPlayable}
-use Rattle.nz_machine.specs.Steps.{AreSteps}
-use Rattle.nz_machine.specs.World.{state_after, IsMember}
+use Rattle.nz_machine.specs.rules.State.{State, Group, Out}
+use Rattle.nz_machine.specs.rules.Step.{is_for, envelope_if_for, envelope_for, if_from_cluster, accepted_envelope, message_step, envelope_step, tick_step}
+use Rattle.nz_machine.specs.rules.Step.{event_step}
+use Rattle.nz_machine.specs.runs.Schedule.{group_of, clock_with_skew, skew_of, clock_at, actors_of, tick_item, due, IsTick, InOrderTo, IsPlayable}
+use Rattle.nz_machine.specs.runs.Steps.{AreSteps}
+use Rattle.nz_machine.specs.runs.World.{state_after, IsMember}
 use Rattle.nz_quiet.specs.Quiet.{IsQuiet}
 use Rattle.nz_quiet.specs.Folds.{delivery, events_for, events_in, state_from, outs_from, flight_of, posted, outs_of, heard_by}
 use Rattle.nz_quiet.specs.Folds.{state_heard, outs_heard, IsReadable, AreReadable, IsHeardTick}

@@ -31,19 +31,19 @@ use Rattle.nz_msg.specs.declared.message.SyncReportBody.{SyncReportBody}
 use Rattle.nz_msg.specs.declared.message.Message.{Message}
 use Rattle.nz_msg.specs.declared.message.Message.TheVariants as messages
 use Rattle.nz_machine.specs.declared.data.Origin.{Origin}
-use Rattle.nz_machine.specs.State.{ReplicaData, Group, Out}
-use Rattle.nz_machine.specs.Facts.{HasFacts}
-use Rattle.nz_machine.specs.Replicas.{leads, leads_view, key_with_deadline, slow_replies}
-use Rattle.nz_machine.specs.Requests.{origin_of, with_origin, entry_at, is_full, after_placing, after_timed, request_rule}
-use Rattle.nz_machine.specs.LogMods.{log_mod_rule, replies_since, sync_report_to, with_ack, with_commit, sync_report_rule}
-use Rattle.nz_machine.specs.Step.{replica_message, message_step}
-use Rattle.nz_machine.specs.World.{IsGroup}
-use Rattle.nz_machine.proofs.EachItem.{all_append, all_of_prefix, all_back, all_imply, all_insert}
-use Rattle.nz_machine.proofs.FitReplicas.{IsReplica}
-use Rattle.nz_machine.proofs.FitSteps.{message_fits}
-use Rattle.nz_machine.proofs.ListParts.{insert_each}
-use Rattle.nz_machine.proofs.LogPlaces.{has_place}
-use Rattle.nz_machine.proofs.Lookups.{lookup_inserted, lookup_other}
+use Rattle.nz_machine.specs.rules.State.{ReplicaData, Group, Out}
+use Rattle.nz_machine.specs.rules.Facts.{HasFacts}
+use Rattle.nz_machine.specs.rules.Replicas.{leads, leads_view, key_with_deadline, slow_replies}
+use Rattle.nz_machine.specs.rules.Requests.{origin_of, with_origin, entry_at, is_full, after_placing, after_timed, request_rule}
+use Rattle.nz_machine.specs.rules.LogMods.{log_mod_rule, replies_since, sync_report_to, with_ack, with_commit, sync_report_rule}
+use Rattle.nz_machine.specs.rules.Step.{replica_message, message_step}
+use Rattle.nz_machine.specs.runs.World.{IsGroup}
+use Rattle.nz_machine.proofs.lists.EachItem.{all_append, all_of_prefix, all_back, all_imply, all_insert}
+use Rattle.nz_machine.proofs.facts.FitReplicas.{IsReplica}
+use Rattle.nz_machine.proofs.facts.FitSteps.{message_fits}
+use Rattle.nz_machine.proofs.lists.ListParts.{insert_each}
+use Rattle.nz_machine.proofs.lists.LogPlaces.{has_place}
+use Rattle.nz_machine.proofs.lists.Lookups.{lookup_inserted, lookup_other}
 use Rattle.nz_quiet.specs.Requests.{OfScript}
 use Rattle.nz_quiet.specs.Folds.{IsReadable, state_heard, outs_heard}
 use Rattle.nz_quiet.specs.Replicas.{IsOwnOrigin, IsKnown, IsFreshBody, IsLogModOf, HearsTimed, HearsLogMod, HearsReport}

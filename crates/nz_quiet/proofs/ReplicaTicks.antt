@@ -28,21 +28,21 @@ use Rattle.nz_log.specs.Places.{place_of, digest_at}
 use Rattle.nz_machine.specs.declared.data.Origin.{Origin}
 use Rattle.nz_machine.specs.declared.data.Status.{Status}
 use Rattle.nz_machine.specs.declared.data.Status.TheVariants.{Normal, ViewChange, Rejoining, Down}
-use Rattle.nz_machine.specs.State.{ReplicaData, Group, Out}
-use Rattle.nz_machine.specs.Replicas.{is_normal, is_down, leads, numbers_below, others, commands}
-use Rattle.nz_machine.specs.Releases.{log_with_entry, after_release, may_release, release_replies, releases, at_clock, release_rule}
-use Rattle.nz_machine.specs.LogMods.{log_mod_to, log_mods_to_others}
-use Rattle.nz_machine.specs.Shows.{ReplicaShows, ShowsFast}
-use Rattle.nz_machine.specs.Step.{mode_timer, tick_rule, tick_step}
-use Rattle.nz_machine.specs.World.{Has}
-use Rattle.nz_machine.specs.Views.{quiet_timer, enter_next}
-use Rattle.nz_machine.proofs.Runs.{has_left, has_right, has_split, all_has}
-use Rattle.nz_machine.proofs.EachItem.{all_filter, all_imply}
-use Rattle.nz_machine.proofs.Due.{HasReleased, release_due}
-use Rattle.nz_machine.proofs.MoveFacts.{tick_keeps}
-use Rattle.nz_machine.proofs.ListParts.{lookup_each}
-use Rattle.nz_machine.proofs.Replies.{tick_shows}
-use Rattle.nz_machine.proofs.Snapshots.{has_answers}
+use Rattle.nz_machine.specs.rules.State.{ReplicaData, Group, Out}
+use Rattle.nz_machine.specs.rules.Replicas.{is_normal, is_down, leads, numbers_below, others, commands}
+use Rattle.nz_machine.specs.rules.Releases.{log_with_entry, after_release, may_release, release_replies, releases, at_clock, release_rule}
+use Rattle.nz_machine.specs.rules.LogMods.{log_mod_to, log_mods_to_others}
+use Rattle.nz_machine.specs.runs.Shows.{ReplicaShows, ShowsFast}
+use Rattle.nz_machine.specs.rules.Step.{mode_timer, tick_rule, tick_step}
+use Rattle.nz_machine.specs.runs.World.{Has}
+use Rattle.nz_machine.specs.rules.Views.{quiet_timer, enter_next}
+use Rattle.nz_machine.proofs.runs.Runs.{has_left, has_right, has_split, all_has}
+use Rattle.nz_machine.proofs.lists.EachItem.{all_filter, all_imply}
+use Rattle.nz_machine.proofs.runs.Due.{HasReleased, release_due}
+use Rattle.nz_machine.proofs.moves.MoveFacts.{tick_keeps}
+use Rattle.nz_machine.proofs.lists.ListParts.{lookup_each}
+use Rattle.nz_machine.proofs.shows.Replies.{tick_shows}
+use Rattle.nz_machine.proofs.shows.Snapshots.{has_answers}
 use Rattle.nz_quiet.specs.Requests.{own_proxy}
 use Rattle.nz_quiet.specs.Replicas.{IsOwnOrigin, IsKnown, IsQuietReplica, IsGoodReply, TickSends, SendsFast, SendsLogMod, IsRepliedTo, MayTick, IsTicked}
 use Rattle.nz_quiet.proofs.ReleaseReplies.{each_released, only_released}

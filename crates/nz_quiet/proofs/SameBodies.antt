@@ -20,16 +20,16 @@ use Rattle.nz_machine.specs.declared.event.Event.{Event}
 use Rattle.nz_machine.specs.declared.event.Event.TheVariants.{Deliver, Cut, Tick, Alarm, Crash, Restart}
 use Rattle.nz_machine.specs.declared.event.Record.{Record}
 use Rattle.nz_machine.specs.declared.reply.Reply.{Reply}
-use Rattle.nz_machine.specs.State.{ReplicaData, ProxyData, ClientData, State, Standing, Open, Decided, Group, Out}
-use Rattle.nz_machine.specs.Replicas.{numbers_below}
-use Rattle.nz_machine.specs.Hearing.{Heard}
-use Rattle.nz_machine.specs.Proxies.{standing_of, timed_to, after_stamp, stamp_rule}
-use Rattle.nz_machine.specs.Proxies.{after_chosen_answer, after_choice, after_replica_reply, reply_rule, of_fast, of_slow, clock_rule}
-use Rattle.nz_machine.specs.Quorums.{Chosen, decision, answer_in, with_note}
-use Rattle.nz_machine.specs.Shows.{Shows}
-use Rattle.nz_machine.specs.Step.{proxy_message, accepted_envelope, envelope_step, event_step}
-use Rattle.nz_machine.specs.World.{state_after, World}
-use Rattle.nz_machine.proofs.SentMessages.{shown}
+use Rattle.nz_machine.specs.rules.State.{ReplicaData, ProxyData, ClientData, State, Standing, Open, Decided, Group, Out}
+use Rattle.nz_machine.specs.rules.Replicas.{numbers_below}
+use Rattle.nz_machine.specs.runs.Hearing.{Heard}
+use Rattle.nz_machine.specs.rules.Proxies.{standing_of, timed_to, after_stamp, stamp_rule}
+use Rattle.nz_machine.specs.rules.Proxies.{after_chosen_answer, after_choice, after_replica_reply, reply_rule, of_fast, of_slow, clock_rule}
+use Rattle.nz_machine.specs.rules.Quorums.{Chosen, decision, answer_in, with_note}
+use Rattle.nz_machine.specs.runs.Shows.{Shows}
+use Rattle.nz_machine.specs.rules.Step.{proxy_message, accepted_envelope, envelope_step, event_step}
+use Rattle.nz_machine.specs.runs.World.{state_after, World}
+use Rattle.nz_machine.proofs.shows.SentMessages.{shown}
 use Rattle.nz_quiet.specs.Folds.{flight_of, heard_by}
 use Rattle.nz_quiet.specs.Replicas.{bodies_of}
 use Rattle.nz_quiet.proofs.Elements.{all_of_each}

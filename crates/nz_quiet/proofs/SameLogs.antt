@@ -16,10 +16,10 @@ use Rattle.nz_base.proofs.Names.{id_eq_self}
 use Rattle.nz_base.proofs.Logs.{has_first, has_later, has_id-append, keys_append, rising_back, own_in_prefix}
 use Rattle.nz_log.specs.Synced.{Log, synced_part, unsynced_part, stays_after, is_displaced, log_with_synced, displaced_entries}
 use Rattle.nz_buffers.specs.Buffers.{find_id, without}
-use Rattle.nz_machine.specs.State.{ReplicaData}
-use Rattle.nz_machine.specs.LogMods.{entry_of_id, may_sync, synced_with, if_found, sync_keys}
+use Rattle.nz_machine.specs.rules.State.{ReplicaData}
+use Rattle.nz_machine.specs.rules.LogMods.{entry_of_id, may_sync, synced_with, if_found, sync_keys}
 use Rattle.nz_quiet.specs.Replicas.{with_synced, synced_to, IsCalm, IsSynced}
-use Rattle.nz_machine.proofs.KeysApart.{own_rest}
+use Rattle.nz_machine.proofs.facts.KeysApart.{own_rest}
 
 -- ---- an entry that is where it belongs
 

@@ -16,12 +16,12 @@ use Rattle.nz_msg.specs.declared.message.Message.TheVariants as messages
 use Rattle.nz_msg.specs.declared.message.Path.TheVariants.{Fast}
 use Rattle.nz_machine.specs.declared.data.Attempt.{Attempt}
 use Rattle.nz_machine.specs.declared.event.Record.{Record}
-use Rattle.nz_machine.specs.Events.{ClientEvent, Sent, Accepted, id_at}
-use Rattle.nz_machine.specs.Schedule.{group_of, InOrderTo, InOrder, IsTick, IsPlayable}
-use Rattle.nz_machine.specs.State.{Group, Out}
-use Rattle.nz_machine.specs.Steps.{AreSteps}
-use Rattle.nz_machine.specs.World.{state_after, Has}
-use Rattle.nz_machine.proofs.Runs.{has_left, has_right, has_split, all_has}
+use Rattle.nz_machine.specs.runs.Events.{ClientEvent, Sent, Accepted, id_at}
+use Rattle.nz_machine.specs.runs.Schedule.{group_of, InOrderTo, InOrder, IsTick, IsPlayable}
+use Rattle.nz_machine.specs.rules.State.{Group, Out}
+use Rattle.nz_machine.specs.runs.Steps.{AreSteps}
+use Rattle.nz_machine.specs.runs.World.{state_after, Has}
+use Rattle.nz_machine.proofs.runs.Runs.{has_left, has_right, has_split, all_has}
 use Rattle.nz_quiet.specs.Quiet.{IsQuiet, timed_events, IsPrompt}
 use Rattle.nz_quiet.specs.Requests.{IsDeadline}
 use Rattle.nz_quiet.specs.Folds.{heard_by, outs_of, flight_of, flight_in}

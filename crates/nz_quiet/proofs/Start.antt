@@ -4,9 +4,9 @@ use Rattle.std.specs.List.{AllByRecursion}
 use Rattle.std.proofs.lemmas.List.{length-replicate}
 use Rattle.nz_base.specs.Cluster.{replica_count}
 use Rattle.nz_base.specs.declared.limits.TheConstants.{UNITS_PER_TICK}
-use Rattle.nz_machine.specs.State.{Group}
-use Rattle.nz_machine.specs.World.{state_after}
-use Rattle.nz_machine.proofs.EachItem.{all_replicate}
+use Rattle.nz_machine.specs.rules.State.{Group}
+use Rattle.nz_machine.specs.runs.World.{state_after}
+use Rattle.nz_machine.proofs.lists.EachItem.{all_replicate}
 use Rattle.nz_quiet.specs.Invariant.{IsQuietAt}
 
 pub start_quiet : (g : Group) → IsQuietAt g 0 [] [] [] []

@@ -13,12 +13,12 @@ use Rattle.nz_machine.specs.declared.event.Event.{Event}
 use Rattle.nz_machine.specs.declared.event.Event.TheVariants.{Tick}
 use Rattle.nz_machine.specs.declared.event.Record.{Record}
 use Rattle.nz_machine.specs.declared.journal.Item.{Item}
-use Rattle.nz_machine.specs.State.{ClientData, State, Group, Out}
-use Rattle.nz_machine.specs.Events.{ClientEvent, accepted_by, sent_by, read_in, client_events}
-use Rattle.nz_machine.specs.Schedule.{item_of}
-use Rattle.nz_machine.specs.Step.{event_step, envelope_step, script_of}
-use Rattle.nz_machine.specs.World.{state_after, Has, IsMember, World}
-use Rattle.nz_machine.proofs.Runs.{acts_itself, has_left, has_right, has_split}
+use Rattle.nz_machine.specs.rules.State.{ClientData, State, Group, Out}
+use Rattle.nz_machine.specs.runs.Events.{ClientEvent, accepted_by, sent_by, read_in, client_events}
+use Rattle.nz_machine.specs.runs.Schedule.{item_of}
+use Rattle.nz_machine.specs.rules.Step.{event_step, envelope_step, script_of}
+use Rattle.nz_machine.specs.runs.World.{state_after, Has, IsMember, World}
+use Rattle.nz_machine.proofs.runs.Runs.{acts_itself, has_left, has_right, has_split}
 use Rattle.nz_quiet.specs.Quiet.{timed_events}
 use Rattle.nz_quiet.specs.Folds.{events_for, events_in, state_from, heard_by, AreReadable}
 use Rattle.nz_quiet.specs.ClientTicks.{told_heard}

@@ -7,10 +7,10 @@ use Rattle.nz_msg.specs.declared.message.AnswerBody.{AnswerBody}
 use Rattle.nz_msg.specs.declared.message.Path.TheVariants as paths
 use Rattle.nz_msg.specs.declared.message.Message.TheVariants as messages
 use Rattle.nz_machine.specs.declared.data.Attempt.{Attempt}
-use Rattle.nz_machine.specs.State.{ClientData, Group, Out}
-use Rattle.nz_machine.specs.Events.{ClientEvent, Sent, Accepted, id_at, script_command, accepted_in, sent_by}
-use Rattle.nz_machine.specs.Step.{script_of, message_step}
-use Rattle.nz_machine.specs.World.{Has}
+use Rattle.nz_machine.specs.rules.State.{ClientData, Group, Out}
+use Rattle.nz_machine.specs.runs.Events.{ClientEvent, Sent, Accepted, id_at, script_command, accepted_in, sent_by}
+use Rattle.nz_machine.specs.rules.Step.{script_of, message_step}
+use Rattle.nz_machine.specs.runs.World.{Has}
 use Rattle.nz_quiet.specs.Words.{Word}
 
 -- ---- what is heard

@@ -11,10 +11,10 @@ use Rattle.nz_machine.specs.declared.event.Event.TheVariants.{Deliver}
 use Rattle.nz_machine.specs.declared.event.Parcel.{Parcel}
 use Rattle.nz_machine.specs.declared.event.Record.{Record}
 use Rattle.nz_machine.specs.declared.journal.Item.{Item}
-use Rattle.nz_machine.specs.State.{State, Group, Out}
-use Rattle.nz_machine.specs.Step.{is_in_cluster, is_sized, message_vector, message_step, tick_step, event_step, parcel}
-use Rattle.nz_machine.specs.World.{state_after}
-use Rattle.nz_machine.specs.Schedule.{item, item_of, group_of, InOrderTo}
+use Rattle.nz_machine.specs.rules.State.{State, Group, Out}
+use Rattle.nz_machine.specs.rules.Step.{is_in_cluster, is_sized, message_vector, message_step, tick_step, event_step, parcel}
+use Rattle.nz_machine.specs.runs.World.{state_after}
+use Rattle.nz_machine.specs.runs.Schedule.{item, item_of, group_of, InOrderTo}
 
 -- The delivery of a parcel.
 abbrev pub delivery : Parcel → Item

@@ -22,11 +22,11 @@ use Rattle.nz_msg.specs.declared.message.SyncReportBody.{SyncReportBody}
 use Rattle.nz_msg.specs.declared.message.Message.TheVariants as messages
 use Rattle.nz_machine.specs.declared.data.Attempt.{Attempt}
 use Rattle.nz_machine.specs.declared.event.Record.{Record}
-use Rattle.nz_machine.specs.State.{ProxyData, Standing, Open, Decided, Group, Out}
-use Rattle.nz_machine.specs.Proxies.{standing_of}
-use Rattle.nz_machine.specs.Schedule.{group_of, InOrderTo}
-use Rattle.nz_machine.specs.Events.{id_at}
-use Rattle.nz_machine.specs.World.{state_after, Has}
+use Rattle.nz_machine.specs.rules.State.{ProxyData, Standing, Open, Decided, Group, Out}
+use Rattle.nz_machine.specs.rules.Proxies.{standing_of}
+use Rattle.nz_machine.specs.runs.Schedule.{group_of, InOrderTo}
+use Rattle.nz_machine.specs.runs.Events.{id_at}
+use Rattle.nz_machine.specs.runs.World.{state_after, Has}
 use Rattle.nz_quiet.specs.Requests.{own_proxy, OfScript, IsDeadline}
 use Rattle.nz_quiet.specs.Folds.{heard_by, flight_in}
 use Rattle.nz_quiet.specs.Replicas.{IsQuietReplica, IsGoodReply, IsFreshBody, IsLogModOf, bodies_of}

@@ -16,12 +16,12 @@ use Rattle.nz_msg.specs.declared.message.FastReplyBody.{FastReplyBody}
 use Rattle.nz_msg.specs.declared.message.SlowReplyBody.{SlowReplyBody}
 use Rattle.nz_msg.specs.declared.message.Message.TheVariants as messages
 use Rattle.nz_machine.specs.declared.reply.Reply.{Reply}
-use Rattle.nz_machine.specs.State.{ProxyData, Standing, Open, Decided, Group, Out}
-use Rattle.nz_machine.specs.Events.{id_at}
-use Rattle.nz_machine.specs.Replicas.{commands}
-use Rattle.nz_machine.specs.Proxies.{standing_of, answer_to_client, of_fast}
-use Rattle.nz_machine.specs.Quorums.{decision}
-use Rattle.nz_machine.specs.World.{Has}
+use Rattle.nz_machine.specs.rules.State.{ProxyData, Standing, Open, Decided, Group, Out}
+use Rattle.nz_machine.specs.runs.Events.{id_at}
+use Rattle.nz_machine.specs.rules.Replicas.{commands}
+use Rattle.nz_machine.specs.rules.Proxies.{standing_of, answer_to_client, of_fast}
+use Rattle.nz_machine.specs.rules.Quorums.{decision}
+use Rattle.nz_machine.specs.runs.World.{Has}
 use Rattle.nz_quiet.specs.Words.{Word}
 use Rattle.nz_quiet.specs.Replies.{reply_of, IsReply}
 

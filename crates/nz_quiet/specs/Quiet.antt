@@ -6,9 +6,9 @@ use Rattle.nz_base.specs.declared.scenario.Scenario.{Scenario}
 use Rattle.nz_store.specs.declared.command.Answer.{Answer}
 use Rattle.nz_msg.specs.declared.message.Path.TheVariants.{Fast}
 use Rattle.nz_machine.specs.declared.event.Record.{Record}
-use Rattle.nz_machine.specs.Events.{ClientEvent, Sent, Accepted, client_events}
-use Rattle.nz_machine.specs.State.{Group}
-use Rattle.nz_machine.specs.World.{Has}
+use Rattle.nz_machine.specs.runs.Events.{ClientEvent, Sent, Accepted, client_events}
+use Rattle.nz_machine.specs.rules.State.{Group}
+use Rattle.nz_machine.specs.runs.World.{Has}
 
 -- The scenario has no fault line, and each of its skews is 0.
 pub record IsQuiet (s : Scenario) : Type 0 where

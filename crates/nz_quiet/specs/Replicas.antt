@@ -25,12 +25,12 @@ use Rattle.nz_log.specs.Places.{place_of, digest_at}
 use Rattle.nz_log.specs.Synced.{Log, unsynced_part}
 use Rattle.nz_buffers.specs.Buffers.{is_due, released, held_back, insert_by_key}
 use Rattle.nz_machine.specs.declared.data.Origin.{Origin}
-use Rattle.nz_machine.specs.State.{ReplicaData, Group, Out}
-use Rattle.nz_machine.specs.World.{Has}
-use Rattle.nz_machine.specs.Facts.{HasFacts}
-use Rattle.nz_machine.specs.Replicas.{is_normal, leads, commands}
-use Rattle.nz_machine.specs.Requests.{entry_at}
-use Rattle.nz_machine.specs.LogMods.{sync_report_to, replies_since}
+use Rattle.nz_machine.specs.rules.State.{ReplicaData, Group, Out}
+use Rattle.nz_machine.specs.runs.World.{Has}
+use Rattle.nz_machine.specs.rules.Facts.{HasFacts}
+use Rattle.nz_machine.specs.rules.Replicas.{is_normal, leads, commands}
+use Rattle.nz_machine.specs.rules.Requests.{entry_at}
+use Rattle.nz_machine.specs.rules.LogMods.{sync_report_to, replies_since}
 use Rattle.nz_quiet.specs.Folds.{IsReadable}
 use Rattle.nz_quiet.specs.Requests.{own_proxy, HasRequest, OfScript}
 

@@ -4,7 +4,7 @@ use Rattle.nz_store.specs.declared.command.Answer.{Answer}
 use Rattle.nz_msg.specs.declared.message.Path.TheVariants as paths
 use Rattle.nz_machine.specs.declared.reply.Reply.{Reply}
 use Rattle.nz_machine.specs.declared.reply.Reply.TheVariants.{Fast}
-use Rattle.nz_machine.specs.Quorums.{Chosen, answer_in}
+use Rattle.nz_machine.specs.rules.Quorums.{Chosen, answer_in}
 
 -- The fast reply of a replica: of view 0, and at the leader with the answer.
 abbrev pub reply_of : List ℕ → List ℕ → Answer → ℕ → Reply

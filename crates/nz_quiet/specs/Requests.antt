@@ -3,7 +3,7 @@ use Rattle.std.specs.Prelude.{◌≡◌, ℕ, zero, suc, ◌+◌, ◌*◌, ◌%�
 use Rattle.nz_base.specs.declared.key.Entry.{Entry}
 use Rattle.nz_base.specs.declared.scenario.Request.{Request}
 use Rattle.nz_base.specs.declared.limits.TheConstants.{UNITS_PER_TICK}
-use Rattle.nz_machine.specs.State.{Group}
+use Rattle.nz_machine.specs.rules.State.{Group}
 
 -- The proxy that a client's requests go to.
 abbrev pub own_proxy : Group → ℕ → ℕ

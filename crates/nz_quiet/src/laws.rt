@@ -4,8 +4,8 @@ ghost use Rattle.std.specs.Prelude.{◌≤◌, ℕ, List};
 ghost use Rattle.nz_base.specs.declared.limits.TheConstants.{MAX_TICKS};
 ghost use Rattle.nz_base.specs.declared.scenario.Scenario.{Scenario};
 ghost use Rattle.nz_machine.specs.declared.event.Record.{Record};
-ghost use Rattle.nz_machine.specs.Steps.{AreSteps};
-ghost use Rattle.nz_machine.specs.Schedule.{group_of, IsPlayable, InOrderTo, InOrder};
+ghost use Rattle.nz_machine.specs.runs.Steps.{AreSteps};
+ghost use Rattle.nz_machine.specs.runs.Schedule.{group_of, IsPlayable, InOrderTo, InOrder};
 ghost use Rattle.nz_quiet.specs.Invariant.{IsQuietRun};
 ghost use Rattle.nz_quiet.specs.Quiet.{IsQuiet, IsPrompt, timed_events};
 

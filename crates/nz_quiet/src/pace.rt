@@ -3,9 +3,9 @@ ghost use Rattle.std.specs.Prelude.{◌≡◌, ◌++◌, ℕ, List as Listed, ma
 ghost use Rattle.std.specs.HashMap.{get};
 ghost use Rattle.nz_base.specs.Key.{id_eq};
 ghost use Rattle.nz_base.specs.declared.key.Id.{Id as IdModel};
-ghost use Rattle.nz_machine.specs.State.{Group};
-ghost use Rattle.nz_machine.specs.Tellings.{told_by_run};
-ghost use Rattle.nz_machine.specs.World.{World};
+ghost use Rattle.nz_machine.specs.rules.State.{Group};
+ghost use Rattle.nz_machine.specs.journals.Tellings.{told_by_run};
+ghost use Rattle.nz_machine.specs.runs.World.{World};
 ghost use Rattle.nz_machine.specs.declared.event.Record.{Record};
 ghost use Rattle.nz_quiet.specs.Quiet.{timed_events};
 ghost use Rattle.nz_quiet.specs.Pace as pace;

@@ -1,9 +1,9 @@
 //! The lines that say how many ticks the requests of a run took.
 ghost use Rattle.std.specs.Prelude.{◌≡◌, ◌++◌, ◌<◌, ◌+◌, ◌^◌, ◌==◌, ℕ, List, cond, length, max, count_by, get_or, IfOk, OnOk};
 ghost use Rattle.std.specs.List.{flat_map, range_with_len};
-ghost use Rattle.nz_machine.specs.State.{Group};
-ghost use Rattle.nz_machine.specs.Tellings.{told_by_run};
-ghost use Rattle.nz_machine.specs.World.{World};
+ghost use Rattle.nz_machine.specs.rules.State.{Group};
+ghost use Rattle.nz_machine.specs.journals.Tellings.{told_by_run};
+ghost use Rattle.nz_machine.specs.runs.World.{World};
 ghost use Rattle.nz_machine.specs.declared.event.Record.{Record};
 ghost use Rattle.nz_quiet.specs.Pace.{took, above, above_all, ticks_line, ticks_lines, open_line, pace_text};
 

@@ -6,8 +6,8 @@ use Rattle.nz_base.proofs.Booleans.{true_and_false}
 use Rattle.nz_msg.specs.declared.message.Path.{Path}
 use Rattle.nz_msg.specs.declared.message.Path.TheVariants.{Fast, Slow}
 use Rattle.nz_machine.specs.declared.reply.Reply.{Reply}
-use Rattle.nz_machine.specs.Quorums.{view_of, of_lesser_view, first_of_least_view, Chosen, slow_or_none, fast_or, decision}
-use Rattle.nz_machine.specs.World.{Has}
+use Rattle.nz_machine.specs.rules.Quorums.{view_of, of_lesser_view, first_of_least_view, Chosen, slow_or_none, fast_or, decision}
+use Rattle.nz_machine.specs.runs.World.{Has}
 use Rattle.nz_quorum.specs.Tallies.{has_quorum, lead_of}
 use Rattle.nz_quorum.specs.Choices.{HasQuorum, IsFirstOfLeastView}
 

@@ -12,7 +12,7 @@ use Rattle.nz_msg.specs.declared.message.Path.{Path}
 use Rattle.nz_msg.specs.declared.message.Path.TheVariants as paths
 use Rattle.nz_machine.specs.declared.reply.Reply.{Reply}
 use Rattle.nz_machine.specs.declared.reply.Reply.TheVariants.{Fast, Slow}
-use Rattle.nz_machine.specs.Quorums.{view_of, is_of_leader, is_slow_of, agrees_of, stands_fast, stands_slowly}
+use Rattle.nz_machine.specs.rules.Quorums.{view_of, is_of_leader, is_slow_of, agrees_of, stands_fast, stands_slowly}
 use Rattle.nz_quorum.specs.Tallies.{replica_of, IsOfCluster, quorum_size, has_quorum}
 use Rattle.nz_quorum.specs.Support.{supports}
 

@@ -2,8 +2,8 @@
 use Rattle.std.specs.Prelude.{◌≡◌, ℕ, ◌<◌, ◌≤◌, List, ◌∷◌, ◌++◌, IsTrue}
 use Rattle.nz_msg.specs.declared.message.Path.{Path}
 use Rattle.nz_machine.specs.declared.reply.Reply.{Reply}
-use Rattle.nz_machine.specs.Quorums.{view_of}
-use Rattle.nz_machine.specs.World.{Has}
+use Rattle.nz_machine.specs.rules.Quorums.{view_of}
+use Rattle.nz_machine.specs.runs.World.{Has}
 use Rattle.nz_quorum.specs.Tallies.{has_quorum}
 
 -- Some noted reply has a quorum of this path.

@@ -5,7 +5,7 @@ use Rattle.nz_msg.specs.declared.message.Path.{Path}
 use Rattle.nz_msg.specs.declared.message.Path.TheVariants as paths
 use Rattle.nz_machine.specs.declared.reply.Reply.{Reply}
 use Rattle.nz_machine.specs.declared.reply.Reply.TheVariants.{Fast, Slow}
-use Rattle.nz_machine.specs.Quorums.{of_lesser_view}
+use Rattle.nz_machine.specs.rules.Quorums.{of_lesser_view}
 
 -- Whether the path is fast.
 abbrev pub is_fast : Path → Bool

@@ -5,7 +5,7 @@ use Rattle.nz_msg.specs.declared.message.Path.{Path}
 use Rattle.nz_msg.specs.declared.message.Path.TheVariants as paths
 use Rattle.nz_machine.specs.declared.reply.Reply.{Reply}
 use Rattle.nz_machine.specs.declared.reply.Reply.TheVariants.{Fast, Slow}
-use Rattle.nz_machine.specs.Quorums.{has_fast_quorum, has_slow_quorum, first_of_least_view}
+use Rattle.nz_machine.specs.rules.Quorums.{has_fast_quorum, has_slow_quorum, first_of_least_view}
 
 -- A tally: the f of the cluster, and the replies that were noted.
 pub record TallyData : Type 0 where

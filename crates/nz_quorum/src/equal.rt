@@ -2,7 +2,7 @@
 
 ghost use Rattle.std.specs.Prelude.{◌≡◌};
 ghost use Rattle.std.specs.Option.{option_eq};
-ghost use Rattle.nz_machine.specs.Quorums.{answer_eq, reply_eq};
+ghost use Rattle.nz_machine.specs.rules.Quorums.{answer_eq, reply_eq};
 
 use nz_machine::Reply;
 use nz_store::Answer;

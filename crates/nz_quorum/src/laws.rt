@@ -3,7 +3,7 @@
 ghost use Rattle.std.specs.Prelude.{◌≡◌, ◌≢◌, ℕ, List, Some, ◌↔◌};
 ghost use Rattle.nz_msg.specs.declared.message.Path.TheVariants.{Fast, Slow};
 ghost use Rattle.nz_machine.specs.declared.reply.Reply.{Reply};
-ghost use Rattle.nz_machine.specs.Quorums.{Chosen, decision};
+ghost use Rattle.nz_machine.specs.rules.Quorums.{Chosen, decision};
 ghost use Rattle.nz_quorum.specs.Choices.{HasQuorum, IsFirstOfLeastView};
 
 /// A request is decided fast exactly where some noted reply has a fast quorum.

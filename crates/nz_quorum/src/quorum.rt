@@ -5,7 +5,7 @@ ghost use Rattle.std.specs.List.{list_any, AllByRecursion};
 ghost use Rattle.std.specs.Option.{option_copied};
 ghost use Rattle.nz_base.specs.Cluster.{leader_of};
 ghost use Rattle.nz_math.specs.Count.{is_in};
-ghost use Rattle.nz_machine.specs.Quorums.{view_of, is_of_leader};
+ghost use Rattle.nz_machine.specs.rules.Quorums.{view_of, is_of_leader};
 ghost use Rattle.nz_quorum.specs.Tallies as tallies;
 ghost use Rattle.nz_quorum.specs.Tallies.{replica_of, IsOfCluster, quorum_size, lead_of};
 ghost use Rattle.nz_quorum.specs.Support as support;

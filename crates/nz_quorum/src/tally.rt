@@ -4,7 +4,7 @@ ghost use Rattle.std.specs.Prelude.{◌≡◌, ℕ, [], Some, IsSome, IfSome, On
 ghost use Rattle.std.specs.Option.{option_map};
 ghost use Rattle.nz_base.specs.Cluster.{replica_count};
 ghost use Rattle.std.specs.List.{list_any, position};
-ghost use Rattle.nz_machine.specs.Quorums.{Chosen, decision, answer_in, with_note, reply_eq};
+ghost use Rattle.nz_machine.specs.rules.Quorums.{Chosen, decision, answer_in, with_note, reply_eq};
 ghost use Rattle.nz_quorum.specs.Tallies.{TallyData, IsOfCluster};
 
 use super::equal::same_reply;
@@ -85,7 +85,7 @@ impl Tally {
     }
 
     /// What the replies decide: by a fast quorum where there is one, else by a slow one.
-    #[tactic(auto, unfolding(nz_machine::specs::Quorums::decision))]
+    #[tactic(auto, unfolding(nz_machine::specs::rules::Quorums::decision))]
     pub fn decide(&self) -> Option<Decision<'_>>
         ensures chosen { option_map {U = Chosen} (λ d. record { path = d.path; reply = d.reply.now }) result ≡ decision self.now.f self.now.replies }
         ensures answer { IfSome result (λ d. answer_in d.reply.now ≡ Some d.answer.now) }

@@ -6,16 +6,16 @@ ghost use Rattle.nz_base.specs.Cluster.{replica_count};
 ghost use Rattle.nz_base.specs.declared.limits.TheConstants.{MAX_REPLICA};
 ghost use Rattle.nz_msg.specs.Messages.{vector_ask, rejoin_ask, state_ask};
 ghost use Rattle.nz_msg.specs.declared.message.Message.TheVariants.{VectorAsk, RejoinAsk, StateAsk};
-ghost use Rattle.nz_machine.specs.Rejoining as rejoining;
-ghost use Rattle.nz_machine.specs.Does.{Does};
-ghost use Rattle.nz_machine.specs.Step.{replica_message, is_in_cluster};
+ghost use Rattle.nz_machine.specs.rules.Rejoining as rejoining;
+ghost use Rattle.nz_machine.specs.rules.Does.{Does};
+ghost use Rattle.nz_machine.specs.rules.Step.{replica_message, is_in_cluster};
 
 use nz_base::{Actor, NoMemory};
 use nz_machine::{Outbox, ReplicaState};
 use nz_msg::{RejoinAskBody, StateAskBody, VectorAskBody};
 
 /// A replica in normal operation tells its vector.
-#[tactic(auto, unfolding(nz_machine::specs::Rejoining::vector_ask_rule))]
+#[tactic(auto, unfolding(nz_machine::specs::rules::Rejoining::vector_ask_rule))]
 fn vector_ask_rule(
     state: &ReplicaState,
     sender: u8,
@@ -50,7 +50,7 @@ pub fn on_vector_ask(
 }
 
 /// A replica in normal operation merges the vector of who rejoins, and tells its view with its own.
-#[tactic(auto, unfolding(nz_machine::specs::Rejoining::rejoin_ask_rule))]
+#[tactic(auto, unfolding(nz_machine::specs::rules::Rejoining::rejoin_ask_rule))]
 fn rejoin_ask_rule(
     state: &mut ReplicaState,
     sender: u8,
@@ -91,7 +91,7 @@ pub fn on_rejoin_ask(
 }
 
 /// The leader tells its log, in the view that is asked for or a later one.
-#[tactic(auto, unfolding(nz_machine::specs::Rejoining::state_ask_rule))]
+#[tactic(auto, unfolding(nz_machine::specs::rules::Rejoining::state_ask_rule))]
 fn state_ask_rule(
     state: &mut ReplicaState,
     sender: u8,

@@ -7,11 +7,11 @@ ghost use Rattle.nz_base.specs.declared.limits.TheConstants.{MAX_VIEW};
 ghost use Rattle.nz_msg.specs.Messages.{vector_tell, rejoin_tell, state_tell};
 ghost use Rattle.nz_msg.specs.declared.message.Message.TheVariants.{VectorTell, RejoinTell, StateTell};
 ghost use Rattle.nz_machine.specs.declared.data.Phase.TheVariants as phases;
-ghost use Rattle.nz_machine.specs.Adopting.{normal_in};
-ghost use Rattle.nz_machine.specs.Rejoining as rejoining;
-ghost use Rattle.nz_machine.specs.Rejoining.{awaits};
-ghost use Rattle.nz_machine.specs.Does.{Does, DoesSilently};
-ghost use Rattle.nz_machine.specs.Step.{replica_message, is_in_cluster};
+ghost use Rattle.nz_machine.specs.rules.Adopting.{normal_in};
+ghost use Rattle.nz_machine.specs.rules.Rejoining as rejoining;
+ghost use Rattle.nz_machine.specs.rules.Rejoining.{awaits};
+ghost use Rattle.nz_machine.specs.rules.Does.{Does, DoesSilently};
+ghost use Rattle.nz_machine.specs.rules.Step.{replica_message, is_in_cluster};
 
 use nz_base::{Actor, EntryList, NoMemory};
 use nz_machine::{Outbox, Phase, ReplicaState};
@@ -44,7 +44,7 @@ fn after_vectors(
 }
 
 /// A vector is taken in the first phase, for this restart.
-#[tactic(auto, unfolding(nz_machine::specs::Rejoining::vector_tell_rule))]
+#[tactic(auto, unfolding(nz_machine::specs::rules::Rejoining::vector_tell_rule))]
 fn vector_tell_rule(
     state: &mut ReplicaState,
     sender: u8,
@@ -114,7 +114,7 @@ fn after_views(state: &mut ReplicaState, tells: usize, sends: &mut Outbox) -> Re
 }
 
 /// A view is taken in the second phase, for this restart.
-#[tactic(auto, unfolding(nz_machine::specs::Rejoining::rejoin_tell_rule))]
+#[tactic(auto, unfolding(nz_machine::specs::rules::Rejoining::rejoin_tell_rule))]
 fn rejoin_tell_rule(
     state: &mut ReplicaState,
     sender: u8,
@@ -178,7 +178,7 @@ fn start(state: &mut ReplicaState, body: &mut StateTellBody) -> Result<(), NoMem
 }
 
 /// The log that the replica waits for is taken.
-#[tactic(auto, unfolding(nz_machine::specs::Rejoining::state_tell_rule))]
+#[tactic(auto, unfolding(nz_machine::specs::rules::Rejoining::state_tell_rule))]
 fn state_tell_rule(
     state: &mut ReplicaState,
     sender: u8,

@@ -1,17 +1,17 @@
 //! The restart of a replica, and the timer by which it asks again.
 
 ghost use Rattle.std.specs.Prelude.{IsTrue, OnOk};
-ghost use Rattle.nz_machine.specs.Replicas.{is_rejoining};
-ghost use Rattle.nz_machine.specs.Rejoining as rejoining;
-ghost use Rattle.nz_machine.specs.Rejoining.{restart_rule};
-ghost use Rattle.nz_machine.specs.Does.{Does};
+ghost use Rattle.nz_machine.specs.rules.Replicas.{is_rejoining};
+ghost use Rattle.nz_machine.specs.rules.Rejoining as rejoining;
+ghost use Rattle.nz_machine.specs.rules.Rejoining.{restart_rule};
+ghost use Rattle.nz_machine.specs.rules.Does.{Does};
 
 use super::phases::ask_views;
 use nz_base::NoMemory;
 use nz_machine::{Outbox, Phase, ReplicaState};
 
 /// A restart begins the next incarnation. Only a replica that is down restarts.
-#[tactic(auto, unfolding(nz_machine::specs::Rejoining::restart_rule))]
+#[tactic(auto, unfolding(nz_machine::specs::rules::Rejoining::restart_rule))]
 pub fn restart(state: &mut ReplicaState, nonce: u64, sends: &mut Outbox) -> Result<(), NoMemory>
     ensures { let s = state.old in OnOk result (Does s state.new sends.old sends.new (restart_rule s.f s.me s.state nonce)) }
 {

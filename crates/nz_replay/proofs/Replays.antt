@@ -7,14 +7,14 @@ use Rattle.nz_base.specs.declared.actor.Actor.{Actor}
 use Rattle.nz_base.specs.declared.actor.Actor.TheVariants.{Replica, Proxy, Client}
 use Rattle.nz_machine.specs.declared.event.Parcel.{Parcel}
 use Rattle.nz_machine.specs.declared.event.Record.{Record}
-use Rattle.nz_machine.specs.State.{ReplicaData, State, Group}
-use Rattle.nz_machine.specs.Replicas.{first_replica}
-use Rattle.nz_machine.specs.Step.{Node, node_step, node_run}
-use Rattle.nz_machine.specs.World.{state_after}
-use Rattle.nz_machine.proofs.Runs.{acts, stays}
+use Rattle.nz_machine.specs.rules.State.{ReplicaData, State, Group}
+use Rattle.nz_machine.specs.rules.Replicas.{first_replica}
+use Rattle.nz_machine.specs.rules.Step.{Node, node_step, node_run}
+use Rattle.nz_machine.specs.runs.World.{state_after}
+use Rattle.nz_machine.proofs.runs.Runs.{acts, stays}
 use Rattle.nz_replica.specs.Models.{ReplicaCore, IsCore}
 use Rattle.nz_machine.specs.declared.journal.Journal.{Journal}
-use Rattle.nz_machine.proofs.ListParts.{take_next}
+use Rattle.nz_machine.proofs.lists.ListParts.{take_next}
 use Rattle.nz_replay.specs.Runs.{run_up_to}
 
 abbrev replica_number : Actor → ℕ

@@ -1,7 +1,7 @@
 //! A step of a replay.
 
 ghost use Rattle.std.specs.Prelude.{◌≡◌, ◌∷◌, true, List, OnOk};
-ghost use Rattle.nz_machine.specs.State.{Group};
+ghost use Rattle.nz_machine.specs.rules.State.{Group};
 ghost use Rattle.nz_machine.specs.declared.event.Record.{Record as RecordModel};
 ghost use Rattle.nz_replica.specs.Models.{IsCore};
 

@@ -2,9 +2,9 @@
 use Rattle.std.specs.Prelude.{◌≡◌, ◌<◌, ℕ, Bool, true, List, length, get_or}
 use Rattle.nz_base.specs.declared.actor.Actor.TheVariants.{Replica}
 use Rattle.nz_machine.specs.declared.event.Record.{Record}
-use Rattle.nz_machine.specs.Facts.{ReplicaModel}
-use Rattle.nz_machine.specs.State.{Group}
-use Rattle.nz_machine.specs.World.{state_after}
+use Rattle.nz_machine.specs.rules.Facts.{ReplicaModel}
+use Rattle.nz_machine.specs.rules.State.{Group}
+use Rattle.nz_machine.specs.runs.World.{state_after}
 
 -- What a contract sees of a replica as a core: its cluster, its model, and whether no step has run out of memory.
 pub record ReplicaCore : Type 0 where

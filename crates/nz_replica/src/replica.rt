@@ -5,13 +5,13 @@ ghost use Rattle.nz_base.specs.Actor.{HasAddress};
 ghost use Rattle.nz_base.specs.Cluster.{replica_count};
 ghost use Rattle.nz_base.specs.declared.actor.Actor.TheVariants as actors;
 ghost use Rattle.nz_msg.specs.Messages.{Fits};
-ghost use Rattle.nz_machine.specs.State.{Group};
-ghost use Rattle.nz_machine.specs.Replicas as replicas;
-ghost use Rattle.nz_machine.specs.Replicas.{first_replica};
-ghost use Rattle.nz_machine.specs.Does.{Does};
-ghost use Rattle.nz_machine.specs.Step as step_words;
-ghost use Rattle.nz_machine.specs.Step.{envelope_step, replica_message, accepted_envelope, if_from_cluster};
-ghost use Rattle.nz_machine.specs.Step.{parcel, is_in_cluster, is_sized, message_vector};
+ghost use Rattle.nz_machine.specs.rules.State.{Group};
+ghost use Rattle.nz_machine.specs.rules.Replicas as replicas;
+ghost use Rattle.nz_machine.specs.rules.Replicas.{first_replica};
+ghost use Rattle.nz_machine.specs.rules.Does.{Does};
+ghost use Rattle.nz_machine.specs.rules.Step as step_words;
+ghost use Rattle.nz_machine.specs.rules.Step.{envelope_step, replica_message, accepted_envelope, if_from_cluster};
+ghost use Rattle.nz_machine.specs.rules.Step.{parcel, is_in_cluster, is_sized, message_vector};
 ghost use Rattle.nz_replica.specs.Models.{IsOf};
 
 use nz_base::{Actor, Cluster, NoMemory};
@@ -214,7 +214,7 @@ fn tick_rule(state: &mut ReplicaState, clock: u64, sends: &mut Outbox) -> Result
     mode_timer(state, sends)
 }
 
-#[tactic(auto, unfolding(nz_machine::specs::Rejoining::crash_rule))]
+#[tactic(auto, unfolding(nz_machine::specs::rules::Rejoining::crash_rule))]
 fn event_step(state: &mut ReplicaState, event: &Event, sends: &mut Outbox) -> Result<(), NoMemory>
     ensures { let s = state.old in
         (g : Group) → IsOf g s → OnOk result (Does s state.new sends.old sends.new (step_words.event_step g (actors.Replica s.me) s.state event.now)) }

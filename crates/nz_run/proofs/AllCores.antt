@@ -6,10 +6,10 @@ use Rattle.nz_base.specs.declared.scenario.Scenario.{Scenario}
 use Rattle.nz_machine.specs.declared.event.Event.{Event}
 use Rattle.nz_machine.specs.declared.event.Parcel.{Parcel}
 use Rattle.nz_machine.specs.declared.event.Record.{Record}
-use Rattle.nz_machine.specs.Replicas.{numbers_below}
-use Rattle.nz_machine.specs.State.{Group}
-use Rattle.nz_machine.specs.Step.{Node}
-use Rattle.nz_machine.specs.Schedule.{group_of, IsPlayable}
+use Rattle.nz_machine.specs.rules.Replicas.{numbers_below}
+use Rattle.nz_machine.specs.rules.State.{Group}
+use Rattle.nz_machine.specs.rules.Step.{Node}
+use Rattle.nz_machine.specs.runs.Schedule.{group_of, IsPlayable}
 use Rattle.nz_replica.specs.Models.{ReplicaCore}
 use Rattle.nz_proxy.specs.Models.{ProxyCore}
 use Rattle.nz_client.specs.Models.{ClientCore}

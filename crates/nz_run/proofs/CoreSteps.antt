@@ -14,16 +14,16 @@ use Rattle.nz_base.specs.declared.scenario.Scenario.{Scenario}
 use Rattle.nz_machine.specs.declared.event.Event.{Event}
 use Rattle.nz_machine.specs.declared.event.Parcel.{Parcel}
 use Rattle.nz_machine.specs.declared.event.Record.{Record}
-use Rattle.nz_machine.specs.Replicas.{numbers_below}
-use Rattle.nz_machine.specs.State.{Group}
-use Rattle.nz_machine.specs.Step.{Node, first, node_run}
-use Rattle.nz_machine.specs.World.{state_after, IsAsked}
-use Rattle.nz_machine.specs.Schedule.{IsPlayable}
-use Rattle.nz_machine.proofs.EachItem.{all_imply}
-use Rattle.nz_machine.proofs.ListParts.{all_get}
-use Rattle.nz_machine.proofs.SentFields.{command_fits}
+use Rattle.nz_machine.specs.rules.Replicas.{numbers_below}
+use Rattle.nz_machine.specs.rules.State.{Group}
+use Rattle.nz_machine.specs.rules.Step.{Node, first, node_run}
+use Rattle.nz_machine.specs.runs.World.{state_after, IsAsked}
+use Rattle.nz_machine.specs.runs.Schedule.{IsPlayable}
+use Rattle.nz_machine.proofs.lists.EachItem.{all_imply}
+use Rattle.nz_machine.proofs.lists.ListParts.{all_get}
+use Rattle.nz_machine.proofs.facts.SentFields.{command_fits}
 use Rattle.nz_client.specs.Models.{IsSendable, AreSendable}
-use Rattle.nz_machine.proofs.Runs.{acts_itself, stays}
+use Rattle.nz_machine.proofs.runs.Runs.{acts_itself, stays}
 use Rattle.nz_run.specs.Casts.{IsAt, AreAt, record_of, sends_of}
 
 -- ---- the first states

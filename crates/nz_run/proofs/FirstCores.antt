@@ -4,9 +4,9 @@ use Rattle.std.specs.List.{All}
 use Rattle.nz_base.specs.declared.actor.Actor.{Actor}
 use Rattle.nz_base.specs.declared.actor.Actor.TheVariants as actors
 use Rattle.nz_base.specs.declared.scenario.Scenario.{Scenario}
-use Rattle.nz_machine.specs.State.{Group}
-use Rattle.nz_machine.specs.Step.{Node, first_node}
-use Rattle.nz_machine.specs.Schedule.{group_of}
+use Rattle.nz_machine.specs.rules.State.{Group}
+use Rattle.nz_machine.specs.rules.Step.{Node, first_node}
+use Rattle.nz_machine.specs.runs.Schedule.{group_of}
 use Rattle.nz_replica.specs.Models.{ReplicaCore}
 use Rattle.nz_proxy.specs.Models.{ProxyCore}
 use Rattle.nz_client.specs.Models.{ClientCore}

@@ -6,11 +6,11 @@ use Rattle.nz_base.specs.Actor.{number_of}
 use Rattle.nz_base.specs.declared.actor.Actor.{Actor}
 use Rattle.nz_base.specs.declared.actor.Actor.TheVariants.{Replica, Proxy, Client}
 use Rattle.nz_machine.specs.declared.event.Record.{Record}
-use Rattle.nz_machine.specs.Replicas.{first_replica}
-use Rattle.nz_machine.specs.State.{Group, ReplicaData, State}
-use Rattle.nz_machine.specs.Step.{Node}
+use Rattle.nz_machine.specs.rules.Replicas.{first_replica}
+use Rattle.nz_machine.specs.rules.State.{Group, ReplicaData, State}
+use Rattle.nz_machine.specs.rules.Step.{Node}
 use Rattle.nz_fabric.specs.Records.{steps_of}
-use Rattle.nz_machine.proofs.OwnStates.{own_state}
+use Rattle.nz_machine.proofs.runs.OwnStates.{own_state}
 use Rattle.nz_actor.specs.Actings.{IsThere}
 use Rattle.nz_replica.specs.Models.{ReplicaCore, IsCore, AreCores}
 use Rattle.nz_run.specs.Casts.{IsAt, AreAt, replica_node, ReplicaFits}

@@ -4,8 +4,8 @@ use Rattle.std.specs.List.{AllByRecursion}
 use Rattle.nz_base.specs.declared.scenario.Scenario.{Scenario}
 use Rattle.nz_machine.specs.declared.event.Record.{Record}
 use Rattle.nz_machine.specs.declared.journal.Item.{Item}
-use Rattle.nz_machine.specs.Schedule.{InOrderTo}
-use Rattle.nz_machine.proofs.EachItem.{all_append, all_imply}
+use Rattle.nz_machine.specs.runs.Schedule.{InOrderTo}
+use Rattle.nz_machine.proofs.lists.EachItem.{all_append, all_imply}
 use Rattle.nz_fabric.specs.States.{State, IsBegun, IsKeptRun, records_of}
 
 up_to_later : (t : ℕ) (J : List Record) → AllByRecursion (λ (r : Record). r.tick ≤ t) J → AllByRecursion (λ (r : Record). r.tick ≤ suc t) J

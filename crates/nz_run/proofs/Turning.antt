@@ -10,18 +10,18 @@ use Rattle.nz_machine.specs.declared.event.Event.TheVariants.{Restart}
 use Rattle.nz_machine.specs.declared.event.Parcel.{Parcel}
 use Rattle.nz_machine.specs.declared.event.Record.{Record}
 use Rattle.nz_machine.specs.declared.journal.Item.{Item}
-use Rattle.nz_machine.specs.State.{Group}
-use Rattle.nz_machine.specs.World.{IsMember, World}
-use Rattle.nz_machine.specs.Schedule.{group_of, item_of, due, IsPlayable}
-use Rattle.nz_machine.proofs.EachItem.{all_append}
+use Rattle.nz_machine.specs.rules.State.{Group}
+use Rattle.nz_machine.specs.runs.World.{IsMember, World}
+use Rattle.nz_machine.specs.runs.Schedule.{group_of, item_of, due, IsPlayable}
+use Rattle.nz_machine.proofs.lists.EachItem.{all_append}
 use Rattle.nz_fabric.specs.declared.turn.Turn.{Turn}
 use Rattle.nz_fabric.specs.States.{State, records_of, IsBegun, IsKeptRun, IsNextTurn, IsQuiet, item_in, with_taken, with_recorded}
 use Rattle.nz_run.specs.declared.cast.Cast.{Cast}
 use Rattle.nz_run.specs.Casts.{record_of, sends_of, IsCast, IsUnderWay}
-use Rattle.nz_machine.proofs.Scheduling.{scheduled_in_order}
-use Rattle.nz_machine.proofs.DueMayHappen.{IsFine, ItemIsFine, due_is_fine}
-use Rattle.nz_machine.proofs.FreshNonces.{got, here_not, finished_not}
-use Rattle.nz_machine.proofs.MayTurn.{IsNot, MayTurn, may_turn}
+use Rattle.nz_machine.proofs.runs.Scheduling.{scheduled_in_order}
+use Rattle.nz_machine.proofs.runs.DueMayHappen.{IsFine, ItemIsFine, due_is_fine}
+use Rattle.nz_machine.proofs.runs.FreshNonces.{got, here_not, finished_not}
+use Rattle.nz_machine.proofs.runs.MayTurn.{IsNot, MayTurn, may_turn}
 
 -- the item may happen in its tick, and no record has its nonce
 record IsTurn (s : Scenario) (tick : ℕ) (finished here : List Record) (i : Item) : Type 0 where

@@ -7,13 +7,13 @@ use Rattle.nz_base.specs.declared.scenario.Scenario.{Scenario}
 use Rattle.nz_machine.specs.declared.event.Event.{Event}
 use Rattle.nz_machine.specs.declared.event.Parcel.{Parcel}
 use Rattle.nz_machine.specs.declared.event.Record.{Record}
-use Rattle.nz_machine.specs.State.{Group}
-use Rattle.nz_machine.specs.Replicas.{first_replica}
-use Rattle.nz_machine.specs.Proxies.{first_proxy}
-use Rattle.nz_machine.specs.Clients.{first_client}
-use Rattle.nz_machine.specs.Step.{Node, node_step, script_of}
-use Rattle.nz_machine.specs.World.{state_after, World}
-use Rattle.nz_machine.specs.Schedule.{group_of}
+use Rattle.nz_machine.specs.rules.State.{Group}
+use Rattle.nz_machine.specs.rules.Replicas.{first_replica}
+use Rattle.nz_machine.specs.rules.Proxies.{first_proxy}
+use Rattle.nz_machine.specs.rules.Clients.{first_client}
+use Rattle.nz_machine.specs.rules.Step.{Node, node_step, script_of}
+use Rattle.nz_machine.specs.runs.World.{state_after, World}
+use Rattle.nz_machine.specs.runs.Schedule.{group_of}
 use Rattle.nz_fabric.specs.States.{State, records_of}
 use Rattle.nz_replica.specs.Models.{ReplicaCore}
 use Rattle.nz_proxy.specs.Models.{ProxyCore}

@@ -5,10 +5,10 @@ ghost use Rattle.nz_base.specs.Actor.{actor_eq};
 ghost use Rattle.nz_base.specs.Cluster.{replica_count};
 ghost use Rattle.nz_base.specs.declared.actor.Actor.{Actor as ActorModel};
 ghost use Rattle.nz_machine.specs.declared.event.Record.{Record};
-ghost use Rattle.nz_machine.specs.Replicas.{numbers_below};
-ghost use Rattle.nz_machine.specs.Schedule.{group_of, IsPlayable};
-ghost use Rattle.nz_machine.specs.State.{Group};
-ghost use Rattle.nz_machine.specs.World.{IsMember};
+ghost use Rattle.nz_machine.specs.rules.Replicas.{numbers_below};
+ghost use Rattle.nz_machine.specs.runs.Schedule.{group_of, IsPlayable};
+ghost use Rattle.nz_machine.specs.rules.State.{Group};
+ghost use Rattle.nz_machine.specs.runs.World.{IsMember};
 ghost use Rattle.nz_replica.specs.Models.{AreCores};
 ghost use Rattle.nz_run.specs.Casts.{AreAt, IsCast, record_of, sends_of, new_replica, new_proxy, new_client};
 

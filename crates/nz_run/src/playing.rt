@@ -3,10 +3,10 @@
 ghost use Rattle.std.specs.Prelude.{◌≡◌, ◌+◌, ◌<◌, ◌≤◌, [], length, reverse, MatchBool, MatchOption, IfOk, IfSome, OnOk};
 ghost use Rattle.nz_base.specs.Cluster.{replica_count};
 ghost use Rattle.nz_fabric.specs.States.{IsDone, IsQuiet};
-ghost use Rattle.nz_machine.specs.Journals.{group_in, run_in};
-ghost use Rattle.nz_machine.specs.Schedule.{group_of, InOrder, IsPlayable};
-ghost use Rattle.nz_machine.specs.Tellings.{AreNoted};
-ghost use Rattle.nz_machine.specs.World.{World};
+ghost use Rattle.nz_machine.specs.journals.Journals.{group_in, run_in};
+ghost use Rattle.nz_machine.specs.runs.Schedule.{group_of, InOrder, IsPlayable};
+ghost use Rattle.nz_machine.specs.journals.Tellings.{AreNoted};
+ghost use Rattle.nz_machine.specs.runs.World.{World};
 ghost use Rattle.nz_replica.specs.Models.{AreCores, IsCore};
 ghost use Rattle.nz_run.specs.Casts.{IsUnderWay};
 ghost use Rattle.nz_run.specs.Playing.{IsAtEnd, IsNextTick, scenario_of, tick_of, run_of, earlier_of};

@@ -1,7 +1,7 @@
 //! All actors, each under its own lock.
 
 ghost use Rattle.std.specs.Prelude.{◌≡◌, ◌+◌, ◌<◌, [], length, All, IfOk, IfSome};
-ghost use Rattle.nz_machine.specs.Schedule.{group_of, IsPlayable};
+ghost use Rattle.nz_machine.specs.runs.Schedule.{group_of, IsPlayable};
 ghost use Rattle.nz_fabric.specs.States.{records_of};
 ghost use Rattle.nz_replica.specs.Models.{AreCores, IsCore};
 ghost use Rattle.nz_run.specs.Stages.{HasNotStepped};

@@ -1,9 +1,9 @@
 //! A run by several workers.
 
 ghost use Rattle.std.specs.Prelude.{◌≡◌, ◌⊎◌, ◌<◌, ◌≤◌, length, true, IfOk, IfSome, OnOk};
-ghost use Rattle.nz_machine.specs.Journals.{group_in, run_in};
-ghost use Rattle.nz_machine.specs.Schedule.{InOrder, IsPlayable, Scheduled};
-ghost use Rattle.nz_machine.specs.World.{World};
+ghost use Rattle.nz_machine.specs.journals.Journals.{group_in, run_in};
+ghost use Rattle.nz_machine.specs.runs.Schedule.{InOrder, IsPlayable, Scheduled};
+ghost use Rattle.nz_machine.specs.runs.World.{World};
 ghost use Rattle.nz_fabric.specs.Shared.{IsOver, IsWhole};
 ghost use Rattle.nz_base.specs.Cluster.{replica_count};
 ghost use Rattle.nz_replica.specs.Models.{AreCores};

@@ -9,18 +9,18 @@ use Rattle.nz_base.specs.Actor.{actor_eq}
 use Rattle.nz_base.specs.Cluster.{replica_count}
 use Rattle.nz_base.specs.declared.actor.Actor.{Actor}
 use Rattle.nz_base.specs.declared.actor.Actor.TheVariants.{Replica, Proxy, Client}
-use Rattle.nz_machine.specs.ClientProgress.{AreAfter, events_of_telling}
-use Rattle.nz_machine.specs.Events.{ClientEvent, client_events}
-use Rattle.nz_machine.specs.Journals.{group_in, run_in}
-use Rattle.nz_machine.specs.State.{Group, ReplicaData}
-use Rattle.nz_machine.specs.Replicas.{first_replica}
-use Rattle.nz_machine.specs.Tellings.{nothing_told, telling_in}
-use Rattle.nz_machine.specs.World.{World, IsMember, state_after}
+use Rattle.nz_machine.specs.journals.ClientProgress.{AreAfter, events_of_telling}
+use Rattle.nz_machine.specs.runs.Events.{ClientEvent, client_events}
+use Rattle.nz_machine.specs.journals.Journals.{group_in, run_in}
+use Rattle.nz_machine.specs.rules.State.{Group, ReplicaData}
+use Rattle.nz_machine.specs.rules.Replicas.{first_replica}
+use Rattle.nz_machine.specs.journals.Tellings.{nothing_told, telling_in}
+use Rattle.nz_machine.specs.runs.World.{World, IsMember, state_after}
 use Rattle.nz_machine.specs.declared.client_progress.Telling.{Telling}
 use Rattle.nz_machine.specs.declared.event.Record.{Record}
 use Rattle.nz_machine.specs.declared.journal.Journal.{Journal}
-use Rattle.nz_machine.proofs.JournalPrefixes.{world_with}
-use Rattle.nz_machine.proofs.TellingsOfRuns.{telling_shows}
+use Rattle.nz_machine.proofs.journals.JournalPrefixes.{world_with}
+use Rattle.nz_machine.proofs.journals.TellingsOfRuns.{telling_shows}
 use Rattle.nz_replica.specs.Models.{ReplicaCore, IsCore}
 use Rattle.nz_replay.specs.Runs.{run_up_to}
 use Rattle.nz_replay.proofs.Replays.{core_first, core_stays, run_then}

@@ -8,8 +8,8 @@ use Rattle.std.proofs.lemmas.List.Elements.{filter-append}
 use Rattle.nz_base.specs.declared.scenario.Fault.{Fault}
 use Rattle.nz_base.specs.declared.scenario.Fault.TheVariants as faults
 use Rattle.nz_machine.specs.declared.event.Parcel.{Parcel}
-use Rattle.nz_machine.specs.Schedule.{Delivery as DeliveryModel, is_nth, deliveries_later}
-use Rattle.nz_machine.specs.Schedule.{with_copy, cut_short, after_fault, after_faults}
+use Rattle.nz_machine.specs.runs.Schedule.{Delivery as DeliveryModel, is_nth, deliveries_later}
+use Rattle.nz_machine.specs.runs.Schedule.{with_copy, cut_short, after_fault, after_faults}
 use Rattle.nz_story.specs.declared.deliveries.Delivery.{Delivery}
 use Rattle.nz_story.specs.Passes.{delivery_of, deliveries_in, put_off, names, count_of, counts_of, strikes, after_strike}
 

@@ -2,9 +2,9 @@
 use Rattle.std.specs.Prelude.{◌≡◌, ◌<◌, ℕ, List, length, get_or}
 use Rattle.nz_base.specs.Cluster.{replica_count}
 use Rattle.nz_base.specs.declared.scenario.Scenario.{Scenario}
-use Rattle.nz_machine.specs.ClientProgress.{AreAfter}
-use Rattle.nz_machine.specs.Schedule.{group_of}
-use Rattle.nz_machine.specs.State.{Group}
+use Rattle.nz_machine.specs.journals.ClientProgress.{AreAfter}
+use Rattle.nz_machine.specs.runs.Schedule.{group_of}
+use Rattle.nz_machine.specs.rules.State.{Group}
 use Rattle.nz_machine.specs.declared.event.Record.{Record}
 use Rattle.nz_replica.specs.Models.{IsCore}
 use Rattle.nz_story.specs.Fates.{sent_by_run}

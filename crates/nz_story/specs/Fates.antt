@@ -7,7 +7,7 @@ use Rattle.nz_script.specs.Texts.{actor_text, kind_text}
 use Rattle.nz_msg.specs.Envelope.{decode_of}
 use Rattle.nz_machine.specs.declared.event.Parcel.{Parcel}
 use Rattle.nz_machine.specs.declared.event.Record.{Record}
-use Rattle.nz_machine.specs.Schedule.{Delivery, deliveries, kind_in_frame}
+use Rattle.nz_machine.specs.runs.Schedule.{Delivery, deliveries, kind_in_frame}
 use Rattle.nz_story.specs.Fields.{contents_text}
 
 -- How many bytes come, where not all of them do.

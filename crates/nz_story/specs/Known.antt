@@ -2,7 +2,7 @@
 use Rattle.std.specs.Prelude.{ℕ, List, [], ◌++◌, if◌then◌else◌, codes}
 use Rattle.nz_base.specs.Log.{keys_of}
 use Rattle.nz_base.specs.declared.key.Key.{Key}
-use Rattle.nz_machine.specs.State.{ReplicaData}
+use Rattle.nz_machine.specs.rules.State.{ReplicaData}
 use Rattle.nz_story.specs.States.{state_text, came, came_text, is_same}
 
 -- What is told of a state but for its lists, and the keys of these.

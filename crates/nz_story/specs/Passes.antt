@@ -3,7 +3,7 @@ use Rattle.std.specs.Prelude.{ℕ, ◌+◌, Bool, false, ◌&&◌, ◌||◌, ◌
 use Rattle.nz_base.specs.declared.scenario.Fault.{Fault}
 use Rattle.nz_base.specs.declared.scenario.Fault.TheVariants as faults
 use Rattle.nz_machine.specs.declared.event.Parcel.{Parcel}
-use Rattle.nz_machine.specs.Schedule.{Delivery as DeliveryModel, is_parcel_of, is_blocked, deliveries_later, with_copy, cut_short}
+use Rattle.nz_machine.specs.runs.Schedule.{Delivery as DeliveryModel, is_parcel_of, is_blocked, deliveries_later, with_copy, cut_short}
 use Rattle.nz_story.specs.declared.deliveries.Delivery.{Delivery}
 
 -- A delivery as the definitions have it.

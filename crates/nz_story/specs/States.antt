@@ -13,8 +13,8 @@ use Rattle.nz_machine.specs.declared.data.Phase.{Phase}
 use Rattle.nz_machine.specs.declared.data.Phase.TheVariants as phases
 use Rattle.nz_machine.specs.declared.data.Rejoin.{Rejoin}
 use Rattle.nz_machine.specs.declared.event.Record.{Record}
-use Rattle.nz_machine.specs.State.{Group, ReplicaData}
-use Rattle.nz_machine.specs.World.{state_after}
+use Rattle.nz_machine.specs.rules.State.{Group, ReplicaData}
+use Rattle.nz_machine.specs.runs.World.{state_after}
 use Rattle.nz_story.specs.Fields.{number_field, view_field, vector_field, key_word}
 
 -- ---- what is told of a state beside its lists

@@ -8,8 +8,8 @@ use Rattle.nz_script.specs.Texts.{actor_text}
 use Rattle.nz_machine.specs.declared.event.Event.{Event as EventOf}
 use Rattle.nz_machine.specs.declared.event.Event.TheVariants.{Deliver, Cut, Tick, Alarm, Crash, Restart}
 use Rattle.nz_machine.specs.declared.event.Record.{Record}
-use Rattle.nz_machine.specs.Events.{ClientEvent, client_events}
-use Rattle.nz_machine.specs.Schedule.{group_of}
+use Rattle.nz_machine.specs.runs.Events.{ClientEvent, client_events}
+use Rattle.nz_machine.specs.runs.Schedule.{group_of}
 use Rattle.nz_text.specs.declared.printed.Event.{Event}
 use Rattle.nz_text.specs.Text.{event_line, event_of}
 use Rattle.nz_text.specs.Trace.{what_text}

@@ -1,8 +1,8 @@
 //! What one fault line makes of the deliveries of a parcel that it strikes.
 
 ghost use Rattle.std.specs.Prelude.{◌≡◌, OnOk};
-ghost use Rattle.nz_machine.specs.Schedule as schedule;
-ghost use Rattle.nz_machine.specs.Schedule.{deliveries_later, with_copy};
+ghost use Rattle.nz_machine.specs.runs.Schedule as schedule;
+ghost use Rattle.nz_machine.specs.runs.Schedule.{deliveries_later, with_copy};
 ghost use Rattle.nz_story.specs.Passes.{deliveries_in, after_strike};
 
 use nz_base::{Fault, NoMemory};

@@ -2,8 +2,8 @@
 
 ghost use Rattle.std.specs.Prelude.{◌≡◌, ◌++◌, ◌∷◌, [], List, map, OnOk};
 ghost use Rattle.std.specs.List.{flat_map};
-ghost use Rattle.nz_machine.specs.ClientProgress.{events_of_telling};
-ghost use Rattle.nz_machine.specs.Schedule.{group_of};
+ghost use Rattle.nz_machine.specs.journals.ClientProgress.{events_of_telling};
+ghost use Rattle.nz_machine.specs.runs.Schedule.{group_of};
 ghost use Rattle.nz_text.specs.Text.{event_line, event_of};
 ghost use Rattle.nz_story.specs.Story.{head_line, event_under};
 

@@ -2,8 +2,8 @@
 
 ghost use Rattle.std.specs.Prelude.{◌≡◌, ◌∷◌, ◌++◌, [], ◌+◌, ◌&&◌, ◌==◌, List, length, OnOk, if◌then◌else◌};
 ghost use Rattle.nz_machine.specs.declared.event.Parcel.{Parcel as ParcelModel};
-ghost use Rattle.nz_machine.specs.Schedule as schedule;
-ghost use Rattle.nz_machine.specs.Schedule.{kind_in_frame, after_fault, after_faults};
+ghost use Rattle.nz_machine.specs.runs.Schedule as schedule;
+ghost use Rattle.nz_machine.specs.runs.Schedule.{kind_in_frame, after_fault, after_faults};
 ghost use Rattle.nz_story.specs.Passes as specs;
 ghost use Rattle.nz_story.specs.Passes.{deliveries_in, number_in, count_of, counts_of};
 

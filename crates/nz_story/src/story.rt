@@ -3,12 +3,12 @@
 ghost use Rattle.std.specs.Prelude.{◌≡◌, ◌∷◌, ◌++◌, [], ◌+◌, ◌<◌, ℕ, List, Some, true, length, slice_get, IfOk, OnOk};
 ghost use Rattle.nz_base.specs.Cluster.{replica_count};
 ghost use Rattle.nz_base.specs.declared.actor.Actor.TheVariants as actors;
-ghost use Rattle.nz_machine.specs.ClientProgress.{AreAfter};
-ghost use Rattle.nz_machine.specs.Events.{client_events};
-ghost use Rattle.nz_machine.specs.Journals.{group_in, run_in};
-ghost use Rattle.nz_machine.specs.Schedule.{group_of};
-ghost use Rattle.nz_machine.specs.State.{Group};
-ghost use Rattle.nz_machine.specs.World.{World};
+ghost use Rattle.nz_machine.specs.journals.ClientProgress.{AreAfter};
+ghost use Rattle.nz_machine.specs.runs.Events.{client_events};
+ghost use Rattle.nz_machine.specs.journals.Journals.{group_in, run_in};
+ghost use Rattle.nz_machine.specs.runs.Schedule.{group_of};
+ghost use Rattle.nz_machine.specs.rules.State.{Group};
+ghost use Rattle.nz_machine.specs.runs.World.{World};
 ghost use Rattle.nz_machine.specs.declared.event.Record.{Record as RecordModel};
 ghost use Rattle.nz_replay.specs.Runs.{run_up_to};
 ghost use Rattle.nz_story.specs.Courses.{IsWatched, AreWatched, IsFollowed};

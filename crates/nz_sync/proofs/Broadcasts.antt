@@ -13,10 +13,10 @@ use Rattle.nz_base.specs.declared.key.Key.{Key}
 use Rattle.nz_base.specs.declared.key.Entry.{Entry}
 use Rattle.nz_base.specs.Log.{keys_of}
 use Rattle.nz_machine.specs.declared.event.Parcel.{Parcel}
-use Rattle.nz_machine.specs.State.{Out}
-use Rattle.nz_machine.specs.Replicas.{numbers_below}
-use Rattle.nz_machine.specs.Step.{parcel}
-use Rattle.nz_machine.proofs.ListParts.{take_next}
+use Rattle.nz_machine.specs.rules.State.{Out}
+use Rattle.nz_machine.specs.rules.Replicas.{numbers_below}
+use Rattle.nz_machine.specs.rules.Step.{parcel}
+use Rattle.nz_machine.proofs.lists.ListParts.{take_next}
 
 -- ---- items from a place on
 

@@ -20,15 +20,15 @@ use Rattle.nz_msg.specs.Fields as fields
 use Rattle.nz_msg.specs.Fields.{key}
 use Rattle.nz_msg.specs.declared.message.LogModBody.{LogModBody}
 use Rattle.nz_machine.specs.declared.event.Parcel.{Parcel}
-use Rattle.nz_machine.specs.State.{ReplicaData, Out}
-use Rattle.nz_machine.specs.Replicas.{slow_replies}
-use Rattle.nz_machine.specs.Facts.{ReplicaModel}
-use Rattle.nz_machine.specs.LogMods.{with_late_entry, with_late_entries, sync_keys, replies_since, missing_ids}
-use Rattle.nz_machine.specs.LogMods.{fetch_from, sync_report_to, after_taking_keys, after_log_mod}
-use Rattle.nz_machine.specs.Step.{parcel}
-use Rattle.nz_machine.proofs.ListParts.{all_drop}
-use Rattle.nz_machine.proofs.SentFields.{keys_of_fit, few_keys}
-use Rattle.nz_machine.proofs.FitReplicas.{AreLeft}
+use Rattle.nz_machine.specs.rules.State.{ReplicaData, Out}
+use Rattle.nz_machine.specs.rules.Replicas.{slow_replies}
+use Rattle.nz_machine.specs.rules.Facts.{ReplicaModel}
+use Rattle.nz_machine.specs.rules.LogMods.{with_late_entry, with_late_entries, sync_keys, replies_since, missing_ids}
+use Rattle.nz_machine.specs.rules.LogMods.{fetch_from, sync_report_to, after_taking_keys, after_log_mod}
+use Rattle.nz_machine.specs.rules.Step.{parcel}
+use Rattle.nz_machine.proofs.lists.ListParts.{all_drop}
+use Rattle.nz_machine.proofs.facts.SentFields.{keys_of_fit, few_keys}
+use Rattle.nz_machine.proofs.facts.FitReplicas.{AreLeft}
 
 -- ---- the slow replies, one after the other
 

@@ -5,7 +5,7 @@ use Rattle.nz_base.specs.declared.limits.TheConstants.{MAX_KEYS}
 use Rattle.nz_msg.specs.Messages.{Fits, body_of}
 use Rattle.nz_msg.specs.declared.message.Message.{Message}
 use Rattle.nz_msg.specs.declared.message.Message.TheVariants.{LogMod}
-use Rattle.nz_machine.specs.State.{ReplicaData}
+use Rattle.nz_machine.specs.rules.State.{ReplicaData}
 use Rattle.nz_sync.specs.declared.broadcast.Written.{Written}
 
 -- The log-mod to each replica whose log agrees with the leader's up to the place.

@@ -6,8 +6,8 @@ ghost use Rattle.nz_base.specs.Log.{keys_of};
 ghost use Rattle.nz_base.specs.declared.actor.Actor.TheVariants as actors;
 ghost use Rattle.nz_msg.specs.Fields as fields;
 ghost use Rattle.nz_msg.specs.Messages.{Fits};
-ghost use Rattle.nz_machine.specs.LogMods.{log_mod_to, log_mods_to_others};
-ghost use Rattle.nz_machine.specs.Step.{parcel};
+ghost use Rattle.nz_machine.specs.rules.LogMods.{log_mod_to, log_mods_to_others};
+ghost use Rattle.nz_machine.specs.rules.Step.{parcel};
 ghost use Rattle.nz_sync.specs.Broadcasts.{IsWritten, log_mod_from};
 
 use bytes::Bytes;

@@ -8,11 +8,11 @@ ghost use Rattle.nz_base.specs.declared.limits.TheConstants.{MAX_KEYS, MAX_REPLI
 ghost use Rattle.nz_msg.specs.Fields as fields;
 ghost use Rattle.nz_msg.specs.Messages.{fetch, fetch_reply};
 ghost use Rattle.nz_msg.specs.declared.message.Message.TheVariants.{Fetch, FetchReply};
-ghost use Rattle.nz_machine.specs.Facts.{FitsEntry};
-ghost use Rattle.nz_machine.specs.LogMods as log_mods;
-ghost use Rattle.nz_machine.specs.LogMods.{with_late_entry, with_late_entries};
-ghost use Rattle.nz_machine.specs.Does.{Does, DoesSilently};
-ghost use Rattle.nz_machine.specs.Step.{parcel, replica_message};
+ghost use Rattle.nz_machine.specs.rules.Facts.{FitsEntry};
+ghost use Rattle.nz_machine.specs.rules.LogMods as log_mods;
+ghost use Rattle.nz_machine.specs.rules.LogMods.{with_late_entry, with_late_entries};
+ghost use Rattle.nz_machine.specs.rules.Does.{Does, DoesSilently};
+ghost use Rattle.nz_machine.specs.rules.Step.{parcel, replica_message};
 
 use nz_base::{Actor, Entry, EntryList, Id, NoMemory, TryCopy};
 use nz_machine::{Outbox, ReplicaState};
@@ -48,7 +48,7 @@ fn asked_entries(state: &ReplicaState, ids: &[Id]) -> Result<EntryList, NoMemory
 }
 
 /// The leader replies with the asked entries that its log has.
-#[tactic(auto, unfolding(nz_machine::specs::LogMods::fetch_rule))]
+#[tactic(auto, unfolding(nz_machine::specs::rules::LogMods::fetch_rule))]
 fn fetch_rule(
     state: &ReplicaState,
     sender: u8,
@@ -111,7 +111,7 @@ fn keep_late_entries(state: &mut ReplicaState, entries: &[Entry]) -> Result<(), 
 }
 
 /// A follower keeps in late what its leader sends.
-#[tactic(auto, unfolding(nz_machine::specs::LogMods::fetch_reply_rule))]
+#[tactic(auto, unfolding(nz_machine::specs::rules::LogMods::fetch_reply_rule))]
 fn fetch_reply_rule(
     state: &mut ReplicaState,
     sender: u8,

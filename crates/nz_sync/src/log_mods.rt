@@ -10,13 +10,13 @@ ghost use Rattle.nz_cv.specs.Vectors as vectors;
 ghost use Rattle.nz_msg.specs.Fields as fields;
 ghost use Rattle.nz_msg.specs.Messages.{log_mod};
 ghost use Rattle.nz_msg.specs.declared.message.Message.TheVariants.{LogMod};
-ghost use Rattle.nz_machine.specs.Replicas.{is_normal, leads, hears_leader};
-ghost use Rattle.nz_machine.specs.Views.{enter_view};
-ghost use Rattle.nz_machine.specs.Vectors.{unless_stray};
-ghost use Rattle.nz_machine.specs.LogMods as log_mods;
-ghost use Rattle.nz_machine.specs.LogMods.{replies_since, fetch_from, sync_report_to, after_log_mod, after_hearing};
-ghost use Rattle.nz_machine.specs.Does.{Does};
-ghost use Rattle.nz_machine.specs.Step.{parcel, replica_message, is_in_cluster};
+ghost use Rattle.nz_machine.specs.rules.Replicas.{is_normal, leads, hears_leader};
+ghost use Rattle.nz_machine.specs.rules.Views.{enter_view};
+ghost use Rattle.nz_machine.specs.rules.Vectors.{unless_stray};
+ghost use Rattle.nz_machine.specs.rules.LogMods as log_mods;
+ghost use Rattle.nz_machine.specs.rules.LogMods.{replies_since, fetch_from, sync_report_to, after_log_mod, after_hearing};
+ghost use Rattle.nz_machine.specs.rules.Does.{Does};
+ghost use Rattle.nz_machine.specs.rules.Step.{parcel, replica_message, is_in_cluster};
 
 use nz_base::{Actor, IdList, NoMemory};
 use nz_machine::{Outbox, ReplicaState};
@@ -174,7 +174,7 @@ fn follow_unless_stray(
 }
 
 /// One of a later view is a reason to enter it. One of the own view is taken.
-#[tactic(auto, unfolding(nz_machine::specs::LogMods::log_mod_rule))]
+#[tactic(auto, unfolding(nz_machine::specs::rules::LogMods::log_mod_rule))]
 fn log_mod_rule(
     state: &mut ReplicaState,
     sender: u8,

@@ -4,16 +4,16 @@ ghost use Rattle.std.specs.Prelude.{◌≡◌, ◌<◌, [], IsTrue};
 ghost use Rattle.nz_base.specs.Cluster.{replica_count};
 ghost use Rattle.nz_base.specs.declared.actor.Actor.TheVariants as actors;
 ghost use Rattle.nz_msg.specs.declared.message.Message.TheVariants.{SyncReport};
-ghost use Rattle.nz_machine.specs.LogMods as log_mods;
-ghost use Rattle.nz_machine.specs.Does.{DoesSilently};
-ghost use Rattle.nz_machine.specs.Step.{replica_message, is_in_cluster};
+ghost use Rattle.nz_machine.specs.rules.LogMods as log_mods;
+ghost use Rattle.nz_machine.specs.rules.Does.{DoesSilently};
+ghost use Rattle.nz_machine.specs.rules.Step.{replica_message, is_in_cluster};
 
 use nz_base::Actor;
 use nz_machine::ReplicaState;
 use nz_msg::SyncReportBody;
 
 /// The leader notes how far a replica's log agrees, and commits what f others report.
-#[tactic(auto, unfolding(nz_machine::specs::LogMods::sync_report_rule))]
+#[tactic(auto, unfolding(nz_machine::specs::rules::LogMods::sync_report_rule))]
 fn sync_report_rule(state: &mut ReplicaState, sender: u8, body: &SyncReportBody)
     requires { sender < replica_count state.old.f }
     ensures { let s = state.old in DoesSilently s state.new (log_mods.sync_report_rule s.f s.me s.state sender body.now) }

@@ -6,14 +6,14 @@ use Rattle.nz_base.specs.declared.key.Id.{Id}
 use Rattle.nz_machine.specs.declared.event.Record.{Record}
 use Rattle.nz_machine.specs.declared.journal.Executed.{Executed}
 use Rattle.nz_machine.specs.declared.tellings.ToldAt.{ToldAt}
-use Rattle.nz_machine.specs.State.{Group}
-use Rattle.nz_machine.specs.Events.{ClientEvent}
-use Rattle.nz_machine.specs.History.{history}
-use Rattle.nz_machine.specs.Journals.{executed_entries}
-use Rattle.nz_machine.specs.ClientProgress.{events_of_telling}
-use Rattle.nz_machine.specs.Tellings.{told_by_run, events_of_told}
-use Rattle.nz_machine.specs.World.{World}
-use Rattle.nz_machine.proofs.TellingsOfRuns.{events_are_told}
+use Rattle.nz_machine.specs.rules.State.{Group}
+use Rattle.nz_machine.specs.runs.Events.{ClientEvent}
+use Rattle.nz_machine.specs.runs.History.{history}
+use Rattle.nz_machine.specs.journals.Journals.{executed_entries}
+use Rattle.nz_machine.specs.journals.ClientProgress.{events_of_telling}
+use Rattle.nz_machine.specs.journals.Tellings.{told_by_run, events_of_told}
+use Rattle.nz_machine.specs.runs.World.{World}
+use Rattle.nz_machine.proofs.journals.TellingsOfRuns.{events_are_told}
 use Rattle.nz_text.specs.declared.printed.Event.{Event}
 use Rattle.nz_text.specs.Text.{event_of, events_in, unanswered_in, printed_of_run}
 

@@ -13,10 +13,10 @@ use Rattle.nz_msg.specs.declared.message.Path.{Path}
 use Rattle.nz_msg.specs.declared.message.Path.TheVariants.{Fast, Slow}
 use Rattle.nz_machine.specs.declared.event.Record.{Record}
 use Rattle.nz_machine.specs.declared.journal.Executed.{Executed}
-use Rattle.nz_machine.specs.State.{Group}
-use Rattle.nz_machine.specs.Events.{ClientEvent, Sent, Accepted, events}
-use Rattle.nz_machine.specs.History.{history}
-use Rattle.nz_machine.specs.Journals.{executed_entries}
+use Rattle.nz_machine.specs.rules.State.{Group}
+use Rattle.nz_machine.specs.runs.Events.{ClientEvent, Sent, Accepted, events}
+use Rattle.nz_machine.specs.runs.History.{history}
+use Rattle.nz_machine.specs.journals.Journals.{executed_entries}
 use Rattle.nz_text.specs.declared.summaries.Sort.{Sort}
 use Rattle.nz_text.specs.declared.summaries.Sort.TheVariants as sort
 use Rattle.nz_text.specs.declared.printed.Event.{Event}

@@ -7,7 +7,7 @@ use Rattle.nz_machine.specs.declared.event.Event.{Event}
 use Rattle.nz_machine.specs.declared.event.Event.TheVariants.{Deliver, Cut, Tick, Alarm, Crash, Restart}
 use Rattle.nz_machine.specs.declared.event.Parcel.{Parcel}
 use Rattle.nz_machine.specs.declared.event.Record.{Record}
-use Rattle.nz_machine.specs.Schedule.{kind_in_frame}
+use Rattle.nz_machine.specs.runs.Schedule.{kind_in_frame}
 
 -- The kind of a parcel's message, and its sender. What is no frame has no name.
 abbrev pub parcel_text : Parcel → List ℕ

@@ -4,11 +4,11 @@ ghost use Rattle.std.specs.List.{list_any};
 ghost use Rattle.std.specs.HashSet.{contains};
 ghost use Rattle.nz_base.specs.Key.{id_eq};
 ghost use Rattle.nz_base.specs.declared.key.Id.{Id as IdModel};
-ghost use Rattle.nz_machine.specs.Events.{script_command};
-ghost use Rattle.nz_machine.specs.Schedule.{group_of};
-ghost use Rattle.nz_machine.specs.Step.{script_of};
-ghost use Rattle.nz_machine.specs.ClientProgress.{acceptance_events, request_event, request_events, events_of_telling};
-ghost use Rattle.nz_machine.specs.Tellings.{events_of_told};
+ghost use Rattle.nz_machine.specs.runs.Events.{script_command};
+ghost use Rattle.nz_machine.specs.runs.Schedule.{group_of};
+ghost use Rattle.nz_machine.specs.rules.Step.{script_of};
+ghost use Rattle.nz_machine.specs.journals.ClientProgress.{acceptance_events, request_event, request_events, events_of_telling};
+ghost use Rattle.nz_machine.specs.journals.Tellings.{events_of_told};
 ghost use Rattle.nz_text.specs.declared.printed.Event.{Event as EventModel};
 ghost use Rattle.nz_text.specs.Text.{event_of, accepts_it, open_in, unanswered_in};
 

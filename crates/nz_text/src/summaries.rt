@@ -1,11 +1,11 @@
 //! The summary of a run.
 
 ghost use Rattle.std.specs.Prelude.{◌≡◌, ◌++◌, List, count_by, IfOk, OnOk};
-ghost use Rattle.nz_machine.specs.History as histories;
-ghost use Rattle.nz_machine.specs.Journals.{executed_entries};
-ghost use Rattle.nz_machine.specs.Schedule.{group_of};
-ghost use Rattle.nz_machine.specs.Tellings.{told_by_run};
-ghost use Rattle.nz_machine.specs.World.{World};
+ghost use Rattle.nz_machine.specs.runs.History as histories;
+ghost use Rattle.nz_machine.specs.journals.Journals.{executed_entries};
+ghost use Rattle.nz_machine.specs.runs.Schedule.{group_of};
+ghost use Rattle.nz_machine.specs.journals.Tellings.{told_by_run};
+ghost use Rattle.nz_machine.specs.runs.World.{World};
 ghost use Rattle.nz_machine.specs.declared.event.Record.{Record};
 ghost use Rattle.nz_text.specs.Text as text;
 ghost use Rattle.nz_text.specs.Text.{is_event_of, count_line, summary_of};

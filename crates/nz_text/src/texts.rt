@@ -1,11 +1,11 @@
 //! The text of a run.
 
 ghost use Rattle.std.specs.Prelude.{◌≡◌, List, IfOk};
-ghost use Rattle.nz_machine.specs.History as histories;
-ghost use Rattle.nz_machine.specs.Journals.{executed_entries};
-ghost use Rattle.nz_machine.specs.Schedule.{group_of};
-ghost use Rattle.nz_machine.specs.Tellings.{told_by_run};
-ghost use Rattle.nz_machine.specs.World.{World};
+ghost use Rattle.nz_machine.specs.runs.History as histories;
+ghost use Rattle.nz_machine.specs.journals.Journals.{executed_entries};
+ghost use Rattle.nz_machine.specs.runs.Schedule.{group_of};
+ghost use Rattle.nz_machine.specs.journals.Tellings.{told_by_run};
+ghost use Rattle.nz_machine.specs.runs.World.{World};
 ghost use Rattle.nz_machine.specs.declared.event.Record.{Record};
 ghost use Rattle.nz_text.specs.Text as text_words;
 ghost use Rattle.nz_text.specs.Text.{text_of_printed};

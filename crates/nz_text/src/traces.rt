@@ -2,7 +2,7 @@
 
 ghost use Rattle.std.specs.Prelude.{◌≡◌, ◌++◌, IfOk, OnOk};
 ghost use Rattle.std.specs.List.{flat_map};
-ghost use Rattle.nz_machine.specs.Journals.{run_in};
+ghost use Rattle.nz_machine.specs.journals.Journals.{run_in};
 ghost use Rattle.nz_text.specs.Trace as trace_words;
 ghost use Rattle.nz_text.specs.Trace.{parcel_text, what_text, sends_text, record_line};
 

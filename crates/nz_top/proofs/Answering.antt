@@ -2,9 +2,9 @@
 use Rattle.std.proofs.Common.{◌≡◌, ℕ, List, sym, subst}
 use Rattle.nz_base.specs.declared.scenario.Scenario.{Scenario}
 use Rattle.nz_machine.specs.declared.journal.Journal.{Journal}
-use Rattle.nz_machine.specs.Journals.{group_in, run_in}
-use Rattle.nz_machine.specs.Schedule.{InOrder, IsPlayable, Scheduled}
-use Rattle.nz_machine.specs.World.{World}
+use Rattle.nz_machine.specs.journals.Journals.{group_in, run_in}
+use Rattle.nz_machine.specs.runs.Schedule.{InOrder, IsPlayable, Scheduled}
+use Rattle.nz_machine.specs.runs.World.{World}
 use Rattle.nz_top.specs.declared.words.Play.{Play}
 use Rattle.nz_top.specs.Reports.{printed_by}
 use Rattle.nz_top.specs.Watching.{IsAnswered, IsPrinted}

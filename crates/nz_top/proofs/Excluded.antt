@@ -1,9 +1,9 @@
 -- Locks exclude in the history of a run.
 use Rattle.nz_machine.specs.declared.journal.Journal.{Journal}
-use Rattle.nz_machine.specs.Events.{events}
-use Rattle.nz_machine.specs.History.{history}
-use Rattle.nz_machine.specs.Journals.{group_in, run_in}
-use Rattle.nz_machine.specs.World.{World}
+use Rattle.nz_machine.specs.runs.Events.{events}
+use Rattle.nz_machine.specs.runs.History.{history}
+use Rattle.nz_machine.specs.journals.Journals.{group_in, run_in}
+use Rattle.nz_machine.specs.runs.World.{World}
 use Rattle.nz_lin.proofs.OneHistory.{one_history}
 use Rattle.nz_locks.specs.Clean.{IsCleanScenario}
 use Rattle.nz_locks.proofs.CleanRuns.{history_clean}

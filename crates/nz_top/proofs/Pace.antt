@@ -3,11 +3,11 @@ use Rattle.std.proofs.Common.{◌≡◌, List, [], ◌∷◌, sym, subst}
 use Rattle.nz_base.specs.declared.scenario.Scenario.{Scenario}
 use Rattle.nz_machine.specs.declared.event.Record.{Record}
 use Rattle.nz_machine.specs.declared.journal.Journal.{Journal}
-use Rattle.nz_machine.specs.Journals.{group_in, run_in}
-use Rattle.nz_machine.specs.Schedule.{InOrder, IsPlayable}
-use Rattle.nz_machine.specs.State.{Group}
-use Rattle.nz_machine.specs.Steps.{AreSteps}
-use Rattle.nz_machine.specs.World.{World}
+use Rattle.nz_machine.specs.journals.Journals.{group_in, run_in}
+use Rattle.nz_machine.specs.runs.Schedule.{InOrder, IsPlayable}
+use Rattle.nz_machine.specs.rules.State.{Group}
+use Rattle.nz_machine.specs.runs.Steps.{AreSteps}
+use Rattle.nz_machine.specs.runs.World.{World}
 use Rattle.nz_quiet.proofs.Served.{is_prompt}
 use Rattle.nz_top.specs.Calls.{HasPace}
 

@@ -24,8 +24,8 @@ use Rattle.nz_script.specs.Draws.{scenario_of_seed}
 use Rattle.nz_top.specs.declared.words.Origin.{Origin}
 use Rattle.nz_top.specs.declared.words.Origin.TheVariants.{Seed}
 use Rattle.nz_top.specs.Words.{IsDrawable}
-use Rattle.nz_machine.specs.World.{IsAsked, IsMember, request_count}
-use Rattle.nz_machine.specs.Schedule.{group_of, NamesMember, IsPlayable}
+use Rattle.nz_machine.specs.runs.World.{IsAsked, IsMember, request_count}
+use Rattle.nz_machine.specs.runs.Schedule.{group_of, NamesMember, IsPlayable}
 
 least : (low high n : ℕ) → is_within low high n ≡ true → low ≤ n
 least low high n e = leb-true low n (and_parts (nat_le low n) (nat_le n high) e).0

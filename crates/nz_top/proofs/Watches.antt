@@ -7,15 +7,15 @@ use Rattle.nz_base.specs.declared.scenario.Scenario.{Scenario}
 use Rattle.nz_machine.specs.declared.event.Record.{Record}
 use Rattle.nz_machine.specs.declared.journal.Journal.{Journal}
 use Rattle.nz_machine.specs.declared.tellings.ToldAt.{ToldAt}
-use Rattle.nz_machine.specs.Journals.{group_in, run_in}
-use Rattle.nz_machine.specs.Schedule.{group_of, InOrder}
-use Rattle.nz_machine.specs.State.{Group}
-use Rattle.nz_machine.specs.Tellings.{AreNoted, told_by_run}
-use Rattle.nz_machine.specs.World.{World}
+use Rattle.nz_machine.specs.journals.Journals.{group_in, run_in}
+use Rattle.nz_machine.specs.runs.Schedule.{group_of, InOrder}
+use Rattle.nz_machine.specs.rules.State.{Group}
+use Rattle.nz_machine.specs.journals.Tellings.{AreNoted, told_by_run}
+use Rattle.nz_machine.specs.runs.World.{World}
 use Rattle.nz_observe.specs.Following.{AreUpTo}
 use Rattle.nz_observe.specs.Observing.{IsObserving}
 use Rattle.nz_observe.specs.declared.observer.Observer.{Observer}
-use Rattle.nz_machine.proofs.Scheduling.{scheduled_in_order}
+use Rattle.nz_machine.proofs.runs.Scheduling.{scheduled_in_order}
 use Rattle.nz_replica.specs.Models.{ReplicaCore, IsCore, AreCores}
 use Rattle.nz_run.specs.Playing.{IsAtEnd, IsNextTick, scenario_of, tick_of, run_of, last_of, earlier_of}
 use Rattle.nz_run.specs.declared.playing.Playing.{Playing}

@@ -14,12 +14,12 @@ use Rattle.nz_script.specs.Texts.{text_of}
 use Rattle.nz_machine.specs.declared.journal.Journal.{Journal}
 use Rattle.nz_locks.specs.Clean.{IsClean, IsFirstFoul}
 use Rattle.nz_locks.specs.Exclusive.{HasOneHolder, AreInTurn}
-use Rattle.nz_machine.specs.Events.{events}
-use Rattle.nz_machine.specs.History.{history}
-use Rattle.nz_machine.specs.OneHistory.{NoCollision}
-use Rattle.nz_machine.specs.Journals.{group_in, run_in}
-use Rattle.nz_machine.specs.Schedule.{Scheduled}
-use Rattle.nz_machine.specs.World.{World}
+use Rattle.nz_machine.specs.runs.Events.{events}
+use Rattle.nz_machine.specs.runs.History.{history}
+use Rattle.nz_machine.specs.runs.OneHistory.{NoCollision}
+use Rattle.nz_machine.specs.journals.Journals.{group_in, run_in}
+use Rattle.nz_machine.specs.runs.Schedule.{Scheduled}
+use Rattle.nz_machine.specs.runs.World.{World}
 use Rattle.nz_quiet.specs.Quiet.{IsQuiet, IsPrompt, timed_events}
 use Rattle.nz_top.specs.declared.status.Status.{Status}
 use Rattle.nz_top.specs.declared.status.Status.TheVariants.{Done, Usage, BadScenario, ReadFault, WriteFault, NoMemory, Rejected}

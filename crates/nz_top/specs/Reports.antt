@@ -2,7 +2,7 @@
 use Rattle.std.specs.Prelude.{ℕ, List, ◌++◌, codes}
 use Rattle.nz_base.specs.declared.scenario.Scenario.{Scenario}
 use Rattle.nz_machine.specs.declared.journal.Journal.{Journal}
-use Rattle.nz_machine.specs.Journals.{group_in, run_in, history_in}
+use Rattle.nz_machine.specs.journals.Journals.{group_in, run_in, history_in}
 use Rattle.nz_text.specs.Text.{text, summary}
 use Rattle.nz_text.specs.Trace.{trace}
 use Rattle.nz_story.specs.Story.{story}

@@ -2,8 +2,8 @@
 ghost use Rattle.std.specs.Prelude.{◌≡◌, ◌≤◌, ◌⊎◌, [], IfOk, IfErr, IfSome, OnOk, Some};
 ghost use Rattle.nz_edge.specs.Faults.{Rose};
 ghost use Rattle.nz_edge.specs.Exposed.{Gains};
-ghost use Rattle.nz_machine.specs.Journals.{run_in};
-ghost use Rattle.nz_machine.specs.Schedule.{IsPlayable, InOrder};
+ghost use Rattle.nz_machine.specs.journals.Journals.{run_in};
+ghost use Rattle.nz_machine.specs.runs.Schedule.{IsPlayable, InOrder};
 ghost use Rattle.nz_top.specs.declared.status.Status.TheVariants as status;
 ghost use Rattle.nz_top.specs.declared.words.Play.{Play as PlayModel};
 ghost use Rattle.nz_top.specs.declared.playing.NoScenario.TheVariants as whys;

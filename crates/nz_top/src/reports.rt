@@ -2,12 +2,12 @@
 ghost use Rattle.std.specs.Prelude.{◌≡◌, ◌++◌, List, IfOk, IfSome, IfNone, codes};
 ghost use Rattle.nz_machine.specs.declared.event.Record.{Record};
 ghost use Rattle.nz_machine.specs.declared.journal.Journal.{Journal as JournalModel};
-ghost use Rattle.nz_machine.specs.History.{history};
-ghost use Rattle.nz_machine.specs.Journals.{group_in, run_in, executed_entries};
-ghost use Rattle.nz_machine.specs.Schedule.{group_of};
-ghost use Rattle.nz_machine.specs.State.{Group};
-ghost use Rattle.nz_machine.specs.Tellings.{told_by_run};
-ghost use Rattle.nz_machine.specs.World.{World};
+ghost use Rattle.nz_machine.specs.runs.History.{history};
+ghost use Rattle.nz_machine.specs.journals.Journals.{group_in, run_in, executed_entries};
+ghost use Rattle.nz_machine.specs.runs.Schedule.{group_of};
+ghost use Rattle.nz_machine.specs.rules.State.{Group};
+ghost use Rattle.nz_machine.specs.journals.Tellings.{told_by_run};
+ghost use Rattle.nz_machine.specs.runs.World.{World};
 ghost use Rattle.nz_replica.specs.Models.{AreCores};
 ghost use Rattle.nz_story.specs.Story as stories;
 ghost use Rattle.nz_text.specs.Text as texts;

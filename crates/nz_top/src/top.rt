@@ -2,12 +2,12 @@
 ghost use Rattle.std.specs.Prelude.{◌≡◌, ◌≤◌, ◌⊎◌, ◌↔◌, None, IfSome, OnSome, IsSome, codes};
 ghost use Rattle.nz_edge.specs.Faults.{Rose};
 ghost use Rattle.nz_edge.specs.Exposed.{Gains};
-ghost use Rattle.nz_machine.specs.Events.{events};
-ghost use Rattle.nz_machine.specs.History.{history};
-ghost use Rattle.nz_machine.specs.Journals.{group_in, run_in};
-ghost use Rattle.nz_machine.specs.OneHistory.{Lin, NoCollision};
-ghost use Rattle.nz_machine.specs.Schedule.{InOrder, Scheduled};
-ghost use Rattle.nz_machine.specs.World.{World};
+ghost use Rattle.nz_machine.specs.runs.Events.{events};
+ghost use Rattle.nz_machine.specs.runs.History.{history};
+ghost use Rattle.nz_machine.specs.journals.Journals.{group_in, run_in};
+ghost use Rattle.nz_machine.specs.runs.OneHistory.{Lin, NoCollision};
+ghost use Rattle.nz_machine.specs.runs.Schedule.{InOrder, Scheduled};
+ghost use Rattle.nz_machine.specs.runs.World.{World};
 ghost use Rattle.nz_top.specs.declared.status.Status.TheVariants as status;
 ghost use Rattle.nz_locks.specs.Clean.{IsCleanScenario};
 ghost use Rattle.nz_top.specs.Calls.{CanPlay, Excludes, Gives, HasPace, HasRead, HasRunOf, IsAdmitted, IsRefused, IsWritten};

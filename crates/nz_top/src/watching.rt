@@ -1,7 +1,7 @@
 //! A run of one worker that is watched tick by tick, so that no record has to stay in memory.
 
 ghost use Rattle.std.specs.Prelude.{◌≡◌, ◌+◌, ◌<◌, MatchBool, IfOk, IfSome, OnOk};
-ghost use Rattle.nz_machine.specs.Schedule.{group_of, IsPlayable};
+ghost use Rattle.nz_machine.specs.runs.Schedule.{group_of, IsPlayable};
 ghost use Rattle.nz_run.specs.Playing.{IsAtEnd, IsNextTick, scenario_of, tick_of, run_of};
 ghost use Rattle.nz_run.specs.declared.playing.Playing.{Playing as PlayingModel};
 ghost use Rattle.nz_top.specs.Called.{journal_of};

@@ -7,13 +7,13 @@ use Rattle.nz_base.specs.Cluster.{leader_of}
 use Rattle.nz_cv.specs.Vectors.{is_stray}
 use Rattle.nz_msg.specs.declared.message.StartViewBody.{StartViewBody}
 use Rattle.nz_machine.specs.declared.event.Parcel.{Parcel}
-use Rattle.nz_machine.specs.State.{ReplicaData, Out}
-use Rattle.nz_machine.specs.Facts.{ReplicaModel}
-use Rattle.nz_machine.specs.Replicas.{leads}
-use Rattle.nz_machine.specs.Vectors.{with_vector, unless_stray}
-use Rattle.nz_machine.specs.Views.{enter_view, enter_later}
-use Rattle.nz_machine.specs.Adopting.{may_start, after_start, start_view_rule}
-use Rattle.nz_machine.specs.Does.{Does, DoesSilently}
+use Rattle.nz_machine.specs.rules.State.{ReplicaData, Out}
+use Rattle.nz_machine.specs.rules.Facts.{ReplicaModel}
+use Rattle.nz_machine.specs.rules.Replicas.{leads}
+use Rattle.nz_machine.specs.rules.Vectors.{with_vector, unless_stray}
+use Rattle.nz_machine.specs.rules.Views.{enter_view, enter_later}
+use Rattle.nz_machine.specs.rules.Adopting.{may_start, after_start, start_view_rule}
+use Rattle.nz_machine.specs.rules.Does.{Does, DoesSilently}
 
 -- ---- a view that is entered where it is later
 

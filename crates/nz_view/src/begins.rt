@@ -7,11 +7,11 @@ ghost use Rattle.nz_base.specs.declared.actor.Actor.TheVariants as actors;
 ghost use Rattle.nz_base.specs.declared.limits.TheConstants.{MAX_REPLICA};
 ghost use Rattle.nz_msg.specs.Messages.{view_change};
 ghost use Rattle.nz_msg.specs.declared.message.Message.TheVariants.{ViewChange};
-ghost use Rattle.nz_machine.specs.Replicas.{is_changing, is_up, leads, ◌and_then◌};
-ghost use Rattle.nz_machine.specs.Views as views;
-ghost use Rattle.nz_machine.specs.Begins as begins;
-ghost use Rattle.nz_machine.specs.Does.{Does};
-ghost use Rattle.nz_machine.specs.Step.{replica_message, is_in_cluster};
+ghost use Rattle.nz_machine.specs.rules.Replicas.{is_changing, is_up, leads, ◌and_then◌};
+ghost use Rattle.nz_machine.specs.rules.Views as views;
+ghost use Rattle.nz_machine.specs.rules.Begins as begins;
+ghost use Rattle.nz_machine.specs.rules.Does.{Does};
+ghost use Rattle.nz_machine.specs.rules.Step.{replica_message, is_in_cluster};
 
 use super::starts::enter_later;
 use nz_base::{Actor, NoMemory};
@@ -19,7 +19,7 @@ use nz_machine::{Outbox, ReplicaState};
 use nz_msg::ViewChangeBody;
 
 /// The view begins with the merged log, where a log has room for it, and the others get a start-view.
-#[tactic(auto, unfolding(nz_machine::specs::Begins::begin))]
+#[tactic(auto, unfolding(nz_machine::specs::rules::Begins::begin))]
 fn begin(state: &mut ReplicaState, sends: &mut Outbox) -> Result<(), NoMemory>
     requires changing { IsTrue (is_changing state.old.state.status) }
     requires leads { IsTrue (leads state.old.f state.old.me state.old.state) }
@@ -108,7 +108,7 @@ fn may_lead(state: &ReplicaState, view: u64) -> bool
 }
 
 /// The leader of the report's view takes the report, unless the leader has entered a later view.
-#[tactic(auto, unfolding(nz_machine::specs::Begins::view_change_rule))]
+#[tactic(auto, unfolding(nz_machine::specs::rules::Begins::view_change_rule))]
 fn view_change_rule(
     state: &mut ReplicaState,
     sender: u8,

@@ -6,11 +6,11 @@ ghost use Rattle.nz_base.specs.declared.actor.Actor.TheVariants as actors;
 ghost use Rattle.nz_msg.specs.Fields as fields;
 ghost use Rattle.nz_msg.specs.Messages.{view_ask, start_view};
 ghost use Rattle.nz_msg.specs.declared.message.Message.TheVariants.{ViewAsk, StartView};
-ghost use Rattle.nz_machine.specs.Views as views;
-ghost use Rattle.nz_machine.specs.Adopting as adopting;
-ghost use Rattle.nz_machine.specs.Adopting.{after_start};
-ghost use Rattle.nz_machine.specs.Does.{Does, DoesSilently};
-ghost use Rattle.nz_machine.specs.Step.{replica_message, is_in_cluster};
+ghost use Rattle.nz_machine.specs.rules.Views as views;
+ghost use Rattle.nz_machine.specs.rules.Adopting as adopting;
+ghost use Rattle.nz_machine.specs.rules.Adopting.{after_start};
+ghost use Rattle.nz_machine.specs.rules.Does.{Does, DoesSilently};
+ghost use Rattle.nz_machine.specs.rules.Step.{replica_message, is_in_cluster};
 
 use nz_base::{Actor, EntryList, NoMemory};
 use nz_machine::{Outbox, ReplicaState};
@@ -29,7 +29,7 @@ pub fn enter_later(state: &mut ReplicaState, view: u64, sends: &mut Outbox) -> R
 }
 
 /// A replica that is up enters the view that is asked for, where it is later.
-#[tactic(auto, unfolding(nz_machine::specs::Views::view_ask_rule))]
+#[tactic(auto, unfolding(nz_machine::specs::rules::Views::view_ask_rule))]
 fn view_ask_rule(
     state: &mut ReplicaState,
     body: &ViewAskBody,
@@ -79,7 +79,7 @@ fn start(state: &mut ReplicaState, body: &mut StartViewBody) -> Result<(), NoMem
 }
 
 /// The log of the view's leader is adopted.
-#[tactic(auto, unfolding(nz_machine::specs::Adopting::start_view_rule))]
+#[tactic(auto, unfolding(nz_machine::specs::rules::Adopting::start_view_rule))]
 fn start_view_rule(
     state: &mut ReplicaState,
     sender: u8,

@@ -1,10 +1,10 @@
 //! The timers by which a replica leaves its view for the next one, and the alarm.
 
 ghost use Rattle.std.specs.Prelude.{◌≡◌, IsTrue, OnOk};
-ghost use Rattle.nz_machine.specs.Replicas.{is_changing, is_normal};
-ghost use Rattle.nz_machine.specs.Views as views;
-ghost use Rattle.nz_machine.specs.Views.{alarm_rule};
-ghost use Rattle.nz_machine.specs.Does.{Does};
+ghost use Rattle.nz_machine.specs.rules.Replicas.{is_changing, is_normal};
+ghost use Rattle.nz_machine.specs.rules.Views as views;
+ghost use Rattle.nz_machine.specs.rules.Views.{alarm_rule};
+ghost use Rattle.nz_machine.specs.rules.Does.{Does};
 
 use nz_base::{ASK_PERIOD, MAX_QUIET, NoMemory};
 use nz_machine::{Outbox, ReplicaState};
@@ -48,7 +48,7 @@ pub fn change_timer(state: &mut ReplicaState, sends: &mut Outbox) -> Result<(), 
 }
 
 /// What a replica does when it is told that the leader is lost.
-#[tactic(auto, unfolding(nz_machine::specs::Views::alarm_rule))]
+#[tactic(auto, unfolding(nz_machine::specs::rules::Views::alarm_rule))]
 pub fn on_alarm(state: &mut ReplicaState, sends: &mut Outbox) -> Result<(), NoMemory>
     ensures { let s = state.old in OnOk result (Does s state.new sends.old sends.new (alarm_rule s.f s.me s.state)) }
 {

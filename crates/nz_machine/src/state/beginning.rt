@@ -4,9 +4,9 @@ ghost use Rattle.std.specs.Prelude.{◌≡◌, ◌<◌, ◌==◌, not, nat_lt, l
 ghost use Rattle.nz_base.specs.Cluster.{replica_count};
 ghost use Rattle.nz_merge.specs.Merged.{AreFit, merged};
 ghost use Rattle.nz_msg.specs.Messages.{view_change};
-ghost use Rattle.nz_machine.specs.Facts.{IsCarried};
-ghost use Rattle.nz_machine.specs.Begins as begins;
-ghost use Rattle.nz_machine.specs.Begins.{with_report, without_strays, changes_of, after_begin};
+ghost use Rattle.nz_machine.specs.rules.Facts.{IsCarried};
+ghost use Rattle.nz_machine.specs.rules.Begins as begins;
+ghost use Rattle.nz_machine.specs.rules.Begins.{with_report, without_strays, changes_of, after_begin};
 
 use super::super::collecting::{
     adopt, all_changes, clear_reports, drop_stray_reports, execute_all, greatest_commit,

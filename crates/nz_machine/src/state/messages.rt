@@ -5,11 +5,11 @@ ghost use Rattle.nz_base.specs.declared.actor.Actor.TheVariants as actors;
 ghost use Rattle.nz_base.specs.declared.limits.TheConstants.{MAX_REPLICA};
 ghost use Rattle.nz_msg.specs.Messages.{Fits, body_of};
 ghost use Rattle.nz_msg.specs.declared.message.Message.TheVariants.{VectorTell};
-ghost use Rattle.nz_machine.specs.Step.{parcel};
-ghost use Rattle.nz_machine.specs.Replicas.{to_others, to_replica};
-ghost use Rattle.nz_machine.specs.Views.{view_ask_message, view_change_message, view_calls};
-ghost use Rattle.nz_machine.specs.Adopting.{start_view_message};
-ghost use Rattle.nz_machine.specs.Rejoining.{vector_ask_message, rejoin_ask_message, rejoin_tell_message, state_ask_message, state_tell_message};
+ghost use Rattle.nz_machine.specs.rules.Step.{parcel};
+ghost use Rattle.nz_machine.specs.rules.Replicas.{to_others, to_replica};
+ghost use Rattle.nz_machine.specs.rules.Views.{view_ask_message, view_change_message, view_calls};
+ghost use Rattle.nz_machine.specs.rules.Adopting.{start_view_message};
+ghost use Rattle.nz_machine.specs.rules.Rejoining.{vector_ask_message, rejoin_ask_message, rejoin_tell_message, state_ask_message, state_tell_message};
 
 use super::super::outbox::Outbox;
 use super::ReplicaState;

@@ -4,11 +4,11 @@ ghost use Rattle.std.specs.Prelude.{◌≡◌, ◌<◌, ◌≤◌, ◌+◌, ◌=
 ghost use Rattle.std.specs.Bool.{OnTrue, OnFalse};
 ghost use Rattle.nz_base.specs.Cluster.{replica_count};
 ghost use Rattle.nz_msg.specs.Messages.{rejoin_tell};
-ghost use Rattle.nz_machine.specs.Parts.{since_counted};
-ghost use Rattle.nz_machine.specs.Replicas.{crashed_replica, is_rejoining};
-ghost use Rattle.nz_machine.specs.Rejoining as rejoining;
-ghost use Rattle.nz_machine.specs.Rejoining.{last_counter, restarted_replica, with_teller};
-ghost use Rattle.nz_machine.specs.Rejoining.{with_new_counter, with_tell, with_tells, ask_views, ask_log};
+ghost use Rattle.nz_machine.specs.rules.Parts.{since_counted};
+ghost use Rattle.nz_machine.specs.rules.Replicas.{crashed_replica, is_rejoining};
+ghost use Rattle.nz_machine.specs.rules.Rejoining as rejoining;
+ghost use Rattle.nz_machine.specs.rules.Rejoining.{last_counter, restarted_replica, with_teller};
+ghost use Rattle.nz_machine.specs.rules.Rejoining.{with_new_counter, with_tell, with_tells, ask_views, ask_log};
 
 use super::super::buffers::vector_fits;
 use super::super::collecting::{latest, note_teller, with_told};

@@ -4,11 +4,11 @@ ghost use Rattle.std.specs.Prelude.{◌≡◌, ◌<◌, ◌≤◌, length, drop,
 ghost use Rattle.std.specs.List.{AllByRecursion};
 ghost use Rattle.nz_base.specs.Cluster.{replica_count};
 ghost use Rattle.nz_msg.specs.Fields as fields;
-ghost use Rattle.nz_machine.specs.Replicas as replicas;
-ghost use Rattle.nz_machine.specs.Replicas.{is_normal};
-ghost use Rattle.nz_machine.specs.Requests.{is_full};
-ghost use Rattle.nz_machine.specs.Vectors.{with_vector};
-ghost use Rattle.nz_machine.specs.LogMods.{is_held, with_ack, with_commit, sync_keys, overtaken_to_late, committed_to, missing_ids};
+ghost use Rattle.nz_machine.specs.rules.Replicas as replicas;
+ghost use Rattle.nz_machine.specs.rules.Replicas.{is_normal};
+ghost use Rattle.nz_machine.specs.rules.Requests.{is_full};
+ghost use Rattle.nz_machine.specs.rules.Vectors.{with_vector};
+ghost use Rattle.nz_machine.specs.rules.LogMods.{is_held, with_ack, with_commit, sync_keys, overtaken_to_late, committed_to, missing_ids};
 
 use super::super::buffers::vector_fits;
 use super::super::commit_quorum::reported;

@@ -2,14 +2,14 @@
 
 ghost use Rattle.std.specs.Prelude.{◌≡◌, ◌≤◌, ◌+◌, ◌==◌, nat_lt, min, length, IsTrue, IsFalse, OnOk};
 ghost use Rattle.nz_base.specs.Cluster.{leader_of};
-ghost use Rattle.nz_machine.specs.Facts.{IsCarried};
-ghost use Rattle.nz_machine.specs.Does.{Does};
-ghost use Rattle.nz_machine.specs.Parts.{since_counted};
-ghost use Rattle.nz_machine.specs.Replicas.{is_changing};
-ghost use Rattle.nz_machine.specs.LogMods.{after_hearing};
-ghost use Rattle.nz_machine.specs.Views as views;
-ghost use Rattle.nz_machine.specs.Views.{in_view_change};
-ghost use Rattle.nz_machine.specs.Adopting.{normal_in};
+ghost use Rattle.nz_machine.specs.rules.Facts.{IsCarried};
+ghost use Rattle.nz_machine.specs.rules.Does.{Does};
+ghost use Rattle.nz_machine.specs.rules.Parts.{since_counted};
+ghost use Rattle.nz_machine.specs.rules.Replicas.{is_changing};
+ghost use Rattle.nz_machine.specs.rules.LogMods.{after_hearing};
+ghost use Rattle.nz_machine.specs.rules.Views as views;
+ghost use Rattle.nz_machine.specs.rules.Views.{in_view_change};
+ghost use Rattle.nz_machine.specs.rules.Adopting.{normal_in};
 
 use super::super::collecting::adopt;
 use super::super::data::Status;
@@ -73,7 +73,7 @@ impl ReplicaState {
     }
 
     /// A later view is entered, and everybody hears of it.
-    #[tactic(auto, unfolding(crate::specs::Views::enter_view))]
+    #[tactic(auto, unfolding(crate::specs::rules::Views::enter_view))]
     pub fn enter_view(&mut self, view: u64, sends: &mut Outbox) -> Result<(), NoMemory>
         requires later { self.old.state.view ≤ view }
         requires last { view ≤ MAX_VIEW }

@@ -3,10 +3,10 @@ use Rattle.std.proofs.Common.{List, ℕ, take, sym, ap, ◌∙◌}
 use Rattle.nz_base.specs.declared.key.Entry.{Entry}
 use Rattle.nz_store.specs.Entries.{Entries}
 use Rattle.nz_store.specs.Sequence.{store_after, apply_bytes}
-use Rattle.nz_machine.specs.Replicas.{commands}
-use Rattle.nz_machine.specs.Journals.{executed_entries}
-use Rattle.nz_machine.proofs.ListParts.{take_next}
-use Rattle.nz_machine.proofs.Stores.{no_store, store_pushed}
+use Rattle.nz_machine.specs.rules.Replicas.{commands}
+use Rattle.nz_machine.specs.journals.Journals.{executed_entries}
+use Rattle.nz_machine.proofs.lists.ListParts.{take_next}
+use Rattle.nz_machine.proofs.facts.Stores.{no_store, store_pushed}
 use Rattle.nz_audit.proofs.Executions.{executed_more}
 use Rattle.nz_audit.proofs.executing.execute.Goals as goal
 

@@ -3,11 +3,11 @@ use Rattle.std.proofs.Common.{◌≡◌, List, sym, subst}
 use Rattle.std.proofs.lemmas.Option.{IfSome_then}
 use Rattle.std.proofs.lemmas.Result.{IfOk-weaker}
 use Rattle.nz_machine.specs.declared.event.Record.{Record}
-use Rattle.nz_machine.specs.State.{Group}
-use Rattle.nz_machine.specs.History.{history}
-use Rattle.nz_machine.specs.Journals.{run_in, executed_entries}
-use Rattle.nz_machine.specs.Tellings.{told_by_run}
-use Rattle.nz_machine.specs.World.{World}
+use Rattle.nz_machine.specs.rules.State.{Group}
+use Rattle.nz_machine.specs.runs.History.{history}
+use Rattle.nz_machine.specs.journals.Journals.{run_in, executed_entries}
+use Rattle.nz_machine.specs.journals.Tellings.{told_by_run}
+use Rattle.nz_machine.specs.runs.World.{World}
 use Rattle.nz_replica.specs.Models.{AreCores}
 use Rattle.nz_audit.specs.Prefixes.{AreAccepted}
 use Rattle.nz_audit.proofs.FirstView.{with_journal}

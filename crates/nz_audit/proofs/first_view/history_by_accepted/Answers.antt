@@ -1,6 +1,6 @@
 -- What the function of this folder owes, proved.
 use Rattle.std.proofs.Common.{[], ◌∙◌, sym, ap}
-use Rattle.nz_machine.specs.Journals.{group_in, run_in, executed_entries}
+use Rattle.nz_machine.specs.journals.Journals.{group_in, run_in, executed_entries}
 use Rattle.nz_audit.specs.Prefixes.{longest_from, prefixes_in}
 use Rattle.nz_audit.proofs.Found.{within_log}
 use Rattle.nz_audit.proofs.FirstView.{longest_of_log, history_in_log}

@@ -1,8 +1,8 @@
 -- What the function of this folder owes, proved.
 use Rattle.std.proofs.Common.{◌≡◌, List, length, IfOk, sym, ap, subst, ◌∙◌}
 use Rattle.nz_base.specs.declared.key.Entry.{Entry}
-use Rattle.nz_machine.specs.Journals.{run_in, executed_entries}
-use Rattle.nz_machine.proofs.Runs.{all_has}
+use Rattle.nz_machine.specs.journals.Journals.{run_in, executed_entries}
+use Rattle.nz_machine.proofs.runs.Runs.{all_has}
 use Rattle.nz_audit.specs.Prefixes.{IsBest, IsBestIfAny, IsWithin, all_traced}
 use Rattle.nz_audit.proofs.Longest.{first_of_all}
 use Rattle.nz_audit.proofs.Found.{nothing_accepted}

@@ -2,7 +2,7 @@
 use Rattle.std.proofs.Common.{eqb, eqb-true, sym, ap, subst, ◌∙◌}
 use Rattle.std.proofs.lemmas.Bool.{and_parts}
 use Rattle.nz_log.specs.Synced.{Log}
-use Rattle.nz_machine.specs.Replicas.{leads_view}
+use Rattle.nz_machine.specs.rules.Replicas.{leads_view}
 use Rattle.nz_replica.specs.Models.{IsCore}
 use Rattle.nz_audit.proofs.LedPrefixes.{core_at, log_leads}
 use Rattle.nz_audit.proofs.leading.log_leading.Goals as goal

@@ -3,8 +3,8 @@ use Rattle.std.proofs.Common.{Option, ap, subst, ◌∙◌}
 use Rattle.std.specs.Prelude.{ℕ, List, IfSome}
 use Rattle.std.proofs.lemmas.Option.{IfSome_then}
 use Rattle.nz_base.specs.declared.key.Entry.{Entry}
-use Rattle.nz_machine.specs.Journals.{group_in, run_in}
-use Rattle.nz_machine.specs.History.{cut_after}
+use Rattle.nz_machine.specs.journals.Journals.{group_in, run_in}
+use Rattle.nz_machine.specs.runs.History.{cut_after}
 use Rattle.nz_replay.specs.Runs.{run_up_to}
 use Rattle.nz_audit.specs.Leading.{RepliesIn}
 use Rattle.nz_audit.proofs.leading.log_since.Goals as goal

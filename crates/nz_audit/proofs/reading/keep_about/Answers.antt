@@ -1,7 +1,7 @@
 -- What the function of this folder owes, proved.
 use Rattle.std.proofs.Common.{◌∙◌, sym, ap, subst}
 use Rattle.std.proofs.lemmas.Result.{on_ok_weaker}
-use Rattle.nz_machine.specs.Journals.{group_in}
+use Rattle.nz_machine.specs.journals.Journals.{group_in}
 use Rattle.nz_audit.specs.Sources.{IsNoOther, source_sent}
 use Rattle.nz_audit.proofs.Tables.{table_has, table_keeps}
 use Rattle.nz_audit.proofs.reading.keep_about.Goals as goal

@@ -3,7 +3,7 @@ use Rattle.std.proofs.Common.{◌∙◌, sym}
 use Rattle.std.specs.HashSet.{contains}
 use Rattle.std.proofs.lemmas.Result.{on_ok_weaker}
 use Rattle.nz_base.specs.Key.{id_eq}
-use Rattle.nz_machine.specs.Journals.{group_in}
+use Rattle.nz_machine.specs.journals.Journals.{group_in}
 use Rattle.nz_audit.specs.Sources as sources
 use Rattle.nz_audit.proofs.Tables.{table_passes, wanted_is}
 use Rattle.nz_audit.proofs.reading.keep_sending.Goals as goal

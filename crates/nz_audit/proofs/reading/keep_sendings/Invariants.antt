@@ -3,7 +3,7 @@ use Rattle.std.proofs.Common.{◌≡◌, List, ◌∷◌, take}
 use Rattle.std.specs.HashSet.{contains}
 use Rattle.nz_base.specs.Key.{id_eq}
 use Rattle.nz_machine.specs.declared.event.Record.{Record}
-use Rattle.nz_machine.specs.Journals.{group_in}
+use Rattle.nz_machine.specs.journals.Journals.{group_in}
 use Rattle.nz_replay.specs.Runs.{run_up_to}
 use Rattle.nz_audit.specs.Readings.{IsTable, IsTableWith}
 use Rattle.nz_audit.proofs.reading.keep_sendings.Given as goal

@@ -1,7 +1,7 @@
 -- What the function of this folder owes, proved.
 use Rattle.std.proofs.Common.{◌∙◌, Some, sym, ap}
 use Rattle.nz_base.specs.declared.actor.Actor.{Actor}
-use Rattle.nz_machine.specs.Journals.{group_in}
+use Rattle.nz_machine.specs.journals.Journals.{group_in}
 use Rattle.nz_replay.specs.Runs.{run_up_to}
 use Rattle.nz_audit.specs.Sources.{source_sent}
 use Rattle.nz_audit.proofs.Acting.{decided_by}

@@ -1,6 +1,6 @@
 -- What the function of this folder owes, proved.
 use Rattle.std.proofs.Common.{[], sym, subst}
-use Rattle.nz_machine.specs.Journals.{group_in}
+use Rattle.nz_machine.specs.journals.Journals.{group_in}
 use Rattle.nz_replica.specs.Models.{ReplicaCore, IsCore}
 use Rattle.nz_replay.proofs.Replays.{core_first}
 use Rattle.nz_audit.proofs.replaying.first.Goals as goal

@@ -2,7 +2,7 @@
 use Rattle.std.proofs.Common.{List, ◌∙◌, sym, ap, subst}
 use Rattle.std.specs.Prelude.{Some}
 use Rattle.nz_machine.specs.declared.event.Record.{Record}
-use Rattle.nz_machine.specs.Journals.{group_in}
+use Rattle.nz_machine.specs.journals.Journals.{group_in}
 use Rattle.nz_replica.specs.Models.{IsCore}
 use Rattle.nz_replay.specs.Runs.{run_up_to}
 use Rattle.nz_replay.proofs.Replays.{run_then}

@@ -1,6 +1,6 @@
 -- What the function of this folder owes, proved.
 use Rattle.std.proofs.Common.{◌+◌, List, sym, ap, subst, ◌∙◌}
-use Rattle.nz_machine.specs.Journals.{run_in}
+use Rattle.nz_machine.specs.journals.Journals.{run_in}
 use Rattle.nz_audit.specs.declared.source.AcceptedAt.{AcceptedAt}
 use Rattle.nz_audit.specs.Prefixes.{with_accepted, AreAccepted}
 use Rattle.nz_audit.proofs.Told.{one_read, all_read, told_of_run}

@@ -1,7 +1,7 @@
 -- What the function of this folder owes, proved.
 use Rattle.std.proofs.Common.{Some, ◌∙◌, sym, ap}
 use Rattle.std.specs.Option.{option_map}
-use Rattle.nz_machine.specs.Events.{id_at}
+use Rattle.nz_machine.specs.runs.Events.{id_at}
 use Rattle.nz_audit.proofs.Hearing.{replica_about, proxy_about, client_about}
 use Rattle.nz_audit.proofs.ReplyFields.{without_answer, reply_about, answer_about}
 use Rattle.nz_audit.proofs.wanted.shown_id.Goals as goal

@@ -6,7 +6,7 @@ use Rattle.indexmap.specs.IndexMap.{get}
 use Rattle.nz_base.specs.Key.{id_eq}
 use Rattle.nz_store.specs.Entries.{Entries}
 use Rattle.nz_store.specs.Sequence.{apply_bytes}
-use Rattle.nz_machine.specs.Quorums.{answer_eq}
+use Rattle.nz_machine.specs.rules.Quorums.{answer_eq}
 use Rattle.nz_text.specs.declared.printed.Event.{Event}
 use Rattle.nz_check.specs.Noting.{is_sent_at}
 use Rattle.nz_check.proofs.Applied.{first_test, sent_test, unsent_test, reach_test, open_test, below_is, above_is}

@@ -2,7 +2,7 @@
 use Rattle.std.proofs.Common.{List, set, get_or, sym, ap, subst, ◌∙◌}
 use Rattle.std.specs.List.{AllByRecursion}
 use Rattle.nz_machine.specs.declared.data.Attempt.{Attempt}
-use Rattle.nz_machine.specs.Clients.{attempt_after_wait}
+use Rattle.nz_machine.specs.rules.Clients.{attempt_after_wait}
 use Rattle.nz_client.specs.Models.{IsOfProxies}
 use Rattle.nz_client.proofs.Windows.{all_at, done_to, done_next, done_more, done_all, all_waited_fit}
 use Rattle.nz_client.proofs.state.wait_each.Goals as goal

@@ -3,7 +3,7 @@ use Rattle.std.proofs.Common.{◌≡◌, ◌∙◌, ◌+◌, ◌++◌, ◌∷◌
 use Rattle.nz_base.specs.declared.scenario.Fault.{Fault}
 use Rattle.nz_machine.specs.declared.event.Parcel.{Parcel}
 use Rattle.nz_machine.specs.declared.journal.Item.{Item}
-use Rattle.nz_machine.specs.Schedule.{Delivery, whole_in, after_faults}
+use Rattle.nz_machine.specs.runs.Schedule.{Delivery, whole_in, after_faults}
 use Rattle.nz_fabric.specs.declared.calendar.Arrival.{Arrival}
 use Rattle.nz_fabric.specs.declared.course.Course.{Course}
 use Rattle.nz_fabric.specs.declared.deliveries.Delivery.{Delivery as Stored}

@@ -3,7 +3,7 @@ use Rattle.std.proofs.Common.{◌≡◌, ◌∙◌, ◌+◌, ◌++◌, ◌∷◌
 use Rattle.std.proofs.lemmas.Grind.{common_steps}
 use Rattle.std.proofs.lemmas.Map.Steps.{set_value_same}
 use Rattle.std.specs.Prelude.{filter, IfSome, OnOk}
-use Rattle.nz_machine.specs.Schedule.{Delivery, whole_in}
+use Rattle.nz_machine.specs.runs.Schedule.{Delivery, whole_in}
 use Rattle.nz_machine.specs.declared.event.Parcel.{Parcel}
 use Rattle.nz_fabric.specs.declared.course.Traffic.{Traffic}
 use Rattle.nz_fabric.specs.Calendars.{course, items_in, may_strike, next_number, traffic_on, HasLines}

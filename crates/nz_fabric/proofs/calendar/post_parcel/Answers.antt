@@ -3,7 +3,7 @@ use Rattle.std.proofs.Common.{◌≡◌, ◌∙◌, ◌+◌, ◌∷◌, [], ℕ,
 use Rattle.std.proofs.lemmas.Result.{on_ok_weaker}
 use Rattle.std.specs.Prelude.{OnOk}
 use Rattle.nz_base.specs.declared.scenario.Fault.{Fault}
-use Rattle.nz_machine.specs.Schedule.{Delivery, kind_in_frame, whole_in}
+use Rattle.nz_machine.specs.runs.Schedule.{Delivery, kind_in_frame, whole_in}
 use Rattle.nz_machine.specs.declared.event.Parcel.{Parcel}
 use Rattle.nz_fabric.specs.Calendars.{counted_kind, is_watched, next_number, traffic_of, IsCounted}
 use Rattle.nz_fabric.specs.Posting.{arrival_of, arrivals_up_to, delivery_as_stored, ArePlaced, HasNumberIfWatched}

@@ -1,6 +1,6 @@
 -- What the loops of the function of this folder keep.
 use Rattle.std.proofs.Common.{◌≡◌, ◌≤◌, ℕ, take}
-use Rattle.nz_machine.specs.Schedule.{calls}
+use Rattle.nz_machine.specs.runs.Schedule.{calls}
 use Rattle.nz_fabric.specs.Dues.{restarts_in}
 use Rattle.nz_fabric.specs.Numbered.{items_under}
 use Rattle.nz_fabric.proofs.due.calls_of.Given as goal

@@ -1,8 +1,8 @@
 -- What the loops of the function of this folder keep.
 use Rattle.std.proofs.Common.{◌≡◌, ◌+◌, ◌++◌, length, map}
 use Rattle.std.specs.Prelude.{vec_capacity}
-use Rattle.nz_machine.specs.Replicas.{numbers_below}
-use Rattle.nz_machine.specs.Schedule.{tick_item}
+use Rattle.nz_machine.specs.rules.Replicas.{numbers_below}
+use Rattle.nz_machine.specs.runs.Schedule.{tick_item}
 use Rattle.nz_fabric.specs.Dues.{actor_of_sort}
 use Rattle.nz_fabric.proofs.due.push_sort.Given as goal
 

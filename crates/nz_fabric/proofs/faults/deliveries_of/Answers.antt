@@ -1,6 +1,6 @@
 -- What the function of this folder owes, proved.
 use Rattle.std.proofs.Common.{rules, ◌≡◌, ◌∙◌, ◌+◌, ◌∷◌, [], List, map, sym, ap}
-use Rattle.nz_machine.specs.Schedule.{Delivery, whole_in, after_faults}
+use Rattle.nz_machine.specs.runs.Schedule.{Delivery, whole_in, after_faults}
 use Rattle.nz_fabric.specs.Posting.{delivery_as_stored}
 use Rattle.nz_fabric.proofs.Numbering.{faulted_by_both}
 use Rattle.nz_fabric.proofs.faults.deliveries_of.Goals as goal

@@ -1,7 +1,7 @@
 -- What the loops of the function of this folder keep.
 use Rattle.std.proofs.Common.{◌≡◌, List, map, take}
 use Rattle.nz_machine.specs.declared.event.Parcel.{Parcel}
-use Rattle.nz_machine.specs.Schedule.{Delivery, after_faults}
+use Rattle.nz_machine.specs.runs.Schedule.{Delivery, after_faults}
 use Rattle.nz_fabric.specs.Posting.{delivery_as_stored, HasNumber}
 use Rattle.nz_fabric.proofs.faults.faulted_by_all.Given as goal
 

@@ -1,6 +1,6 @@
 -- What the loops of the function of this folder keep.
 use Rattle.std.proofs.Common.{◌++◌, ◌≤◌, ℕ, List, take, drop}
-use Rattle.nz_machine.specs.Schedule.{Posted}
+use Rattle.nz_machine.specs.runs.Schedule.{Posted}
 use Rattle.nz_fabric.specs.Calendars.{StandsFor, posted_by}
 use Rattle.nz_fabric.proofs.posting.post_all.Given as goal
 

@@ -1,7 +1,7 @@
 -- What the function of this folder owes, proved.
 use Rattle.std.proofs.Common.{List, ◌++◌, map, sym, ap, subst, ◌∙◌, append-nil}
 use Rattle.nz_machine.specs.declared.event.Parcel.{Parcel}
-use Rattle.nz_machine.specs.Schedule.{Posted, posted_in}
+use Rattle.nz_machine.specs.runs.Schedule.{Posted, posted_in}
 use Rattle.nz_fabric.specs.Calendars.{StandsFor}
 use Rattle.nz_fabric.proofs.posting.post_record.Goals as goal
 

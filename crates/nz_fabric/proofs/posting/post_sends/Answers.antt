@@ -1,7 +1,7 @@
 -- What the function of this folder owes, proved.
 use Rattle.std.proofs.Common.{◌++◌, List, map, take, subst, take_all}
 use Rattle.nz_machine.specs.declared.event.Parcel.{Parcel}
-use Rattle.nz_machine.specs.Schedule.{posted_in}
+use Rattle.nz_machine.specs.runs.Schedule.{posted_in}
 use Rattle.nz_fabric.specs.Calendars.{StandsFor}
 use Rattle.nz_fabric.proofs.Sending.{one_sent, some_sent, on_err}
 use Rattle.nz_fabric.proofs.posting.post_sends.Goals as goal

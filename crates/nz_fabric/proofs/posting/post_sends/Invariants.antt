@@ -1,6 +1,6 @@
 -- What the loops of the function of this folder keep.
 use Rattle.std.proofs.Common.{◌++◌, ℕ, List, map, take}
-use Rattle.nz_machine.specs.Schedule.{Posted, posted_in}
+use Rattle.nz_machine.specs.runs.Schedule.{Posted, posted_in}
 use Rattle.nz_fabric.specs.Calendars.{StandsFor}
 use Rattle.nz_fabric.proofs.posting.post_sends.Given as goal
 

@@ -1,5 +1,5 @@
 -- What the function of this folder owes, proved.
-use Rattle.nz_machine.specs.Schedule.{group_of}
+use Rattle.nz_machine.specs.runs.Schedule.{group_of}
 use Rattle.nz_lin.proofs.Determined.{one_run}
 use Rattle.nz_lin.proofs.laws.one_run_in_order.Goals as goal
 

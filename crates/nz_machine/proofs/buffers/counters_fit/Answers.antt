@@ -1,7 +1,7 @@
 -- What the function of this folder owes, proved.
 use Rattle.std.proofs.Common.{[], length, refl, arith}
 use Rattle.nz_msg.proofs.Valid.{counters_fit, size_small}
-use Rattle.nz_machine.proofs.Sizes.{size_passes}
+use Rattle.nz_machine.proofs.lists.Sizes.{size_passes}
 use Rattle.nz_machine.proofs.buffers.counters_fit.Goals as goal
 
 pub returns : goal.returns

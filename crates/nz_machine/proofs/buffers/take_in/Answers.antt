@@ -4,8 +4,8 @@ use Rattle.nz_base.specs.declared.key.Entry.{Entry}
 use Rattle.nz_store.specs.Entries.{Entries}
 use Rattle.nz_store.specs.Sequence.{apply_bytes, store_after}
 use Rattle.nz_log.specs.Synced.{Log}
-use Rattle.nz_machine.specs.Replicas.{commands}
-use Rattle.nz_machine.proofs.Stores.{store_pushed}
+use Rattle.nz_machine.specs.rules.Replicas.{commands}
+use Rattle.nz_machine.proofs.facts.Stores.{store_pushed}
 use Rattle.nz_machine.proofs.buffers.take_in.Goals as goal
 
 pub returns-clause-store : goal.returns-clause-store

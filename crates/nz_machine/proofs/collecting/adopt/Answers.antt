@@ -3,10 +3,10 @@ use Rattle.std.proofs.Common.{◌++◌, List, sym, ap, subst, ◌∙◌}
 use Rattle.nz_base.specs.declared.key.Entry.{Entry}
 use Rattle.nz_base.specs.Log.{keys_of, HaveOwnIds}
 use Rattle.nz_log.specs.Synced.{left_out}
-use Rattle.nz_machine.proofs.Adopting.{apart_adopted}
-use Rattle.nz_machine.proofs.Adopts.{own_left, left_both, adopted}
-use Rattle.nz_machine.proofs.Collects.{both_ok}
-use Rattle.nz_machine.proofs.Takes.{same_apart}
+use Rattle.nz_machine.proofs.facts.Adopting.{apart_adopted}
+use Rattle.nz_machine.proofs.facts.Adopts.{own_left, left_both, adopted}
+use Rattle.nz_machine.proofs.facts.Collects.{both_ok}
+use Rattle.nz_machine.proofs.facts.Takes.{same_apart}
 use Rattle.nz_machine.proofs.collecting.adopt.Goals as goal
 
 pub keep_each-requires : goal.keep_each-requires

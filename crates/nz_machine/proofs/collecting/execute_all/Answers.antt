@@ -1,7 +1,7 @@
 -- What the function of this folder owes, proved.
 use Rattle.std.proofs.Common.{◌∙◌, sym}
-use Rattle.nz_machine.proofs.Stores.{no_store}
-use Rattle.nz_machine.proofs.Collects.{no_replies}
+use Rattle.nz_machine.proofs.facts.Stores.{no_store}
+use Rattle.nz_machine.proofs.facts.Collects.{no_replies}
 use Rattle.nz_machine.proofs.collecting.execute_all.Goals as goal
 
 pub loop-entry-init : goal.loop-entry-init

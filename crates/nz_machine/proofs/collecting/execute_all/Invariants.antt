@@ -1,7 +1,7 @@
 -- What the loops of the function of this folder keep.
 use Rattle.std.proofs.Common.{◌≡◌, take}
 use Rattle.nz_store.specs.Sequence.{store_after, replies}
-use Rattle.nz_machine.specs.Replicas.{commands}
+use Rattle.nz_machine.specs.rules.Replicas.{commands}
 use Rattle.nz_machine.proofs.collecting.execute_all.Given as goal
 
 abbrev pub invariant-loop-entry : goal.invariant-loop-entry

@@ -1,6 +1,6 @@
 -- What the loops of the function of this folder keep.
 use Rattle.std.proofs.Common.{◌≡◌, ◌≤◌, take}
-use Rattle.nz_machine.proofs.Reports.{gathered}
+use Rattle.nz_machine.proofs.lists.Reports.{gathered}
 use Rattle.nz_machine.proofs.commit_quorum.gather.Given as goal
 
 abbrev pub invariant-loop-replica : goal.invariant-loop-replica

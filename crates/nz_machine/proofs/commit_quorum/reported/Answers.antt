@@ -4,8 +4,8 @@ use Rattle.std.specs.Prelude.{slice_index, slice_index_or}
 use Rattle.std.specs.List.{filter}
 use Rattle.std.proofs.lemmas.List.{length-map}
 use Rattle.nz_base.specs.Cluster.{replica_count}
-use Rattle.nz_machine.specs.Replicas.{numbers_below}
-use Rattle.nz_machine.proofs.Reports.{gathered, others_count, reported-from_sort}
+use Rattle.nz_machine.specs.rules.Replicas.{numbers_below}
+use Rattle.nz_machine.proofs.lists.Reports.{gathered, others_count, reported-from_sort}
 use Rattle.nz_machine.proofs.commit_quorum.reported.Goals as goal
 
 pub bounds-ordered-f : goal.bounds-ordered-f

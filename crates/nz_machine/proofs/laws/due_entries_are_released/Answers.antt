@@ -1,5 +1,5 @@
 -- What the function of this folder owes, proved.
-use Rattle.nz_machine.proofs.Due.{release_due}
+use Rattle.nz_machine.proofs.runs.Due.{release_due}
 use Rattle.nz_machine.proofs.laws.due_entries_are_released.Goals as goal
 
 pub returns-clause-log : goal.returns-clause-log

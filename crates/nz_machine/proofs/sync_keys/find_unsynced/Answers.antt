@@ -1,6 +1,6 @@
 -- What the function of this folder owes, proved.
 use Rattle.std.proofs.Common.{sym, ◌∙◌}
-use Rattle.nz_machine.proofs.Takes.{find_after_synced, find_nowhere, find_at}
+use Rattle.nz_machine.proofs.facts.Takes.{find_after_synced, find_nowhere, find_at}
 use Rattle.nz_machine.proofs.sync_keys.find_unsynced.Goals as goal
 
 pub returns-in-None : goal.returns-in-None

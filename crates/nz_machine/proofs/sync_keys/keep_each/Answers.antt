@@ -3,7 +3,7 @@ use Rattle.std.proofs.Common.{List, ◌++◌, sym, ap, subst, ◌∙◌}
 use Rattle.std.specs.Vec.Iter.{into_iter_items}
 use Rattle.nz_base.specs.declared.key.Entry.{Entry}
 use Rattle.nz_base.specs.Log.{keys_of, HaveOwnIds}
-use Rattle.nz_machine.proofs.Takes.{next_fresh}
+use Rattle.nz_machine.proofs.facts.Takes.{next_fresh}
 use Rattle.nz_machine.proofs.sync_keys.keep_each.Goals as goal
 
 pub keep-requires : goal.keep-requires

@@ -3,7 +3,7 @@ use Rattle.std.proofs.Common.{◌≡◌, not, None, sym, ◌∙◌}
 use Rattle.nz_base.specs.declared.key.Entry.{Entry}
 use Rattle.nz_base.specs.Key.{key_below}
 use Rattle.nz_buffers.specs.Buffers.{first_if}
-use Rattle.nz_machine.proofs.Takes.{one_moves, none_moves}
+use Rattle.nz_machine.proofs.facts.Takes.{one_moves, none_moves}
 use Rattle.nz_machine.proofs.sync_keys.move_below.Goals as goal
 
 pub below-preserved : goal.below-preserved

@@ -1,6 +1,6 @@
 -- What the loops of the function of this folder keep.
 use Rattle.std.proofs.Common.{length}
-use Rattle.nz_machine.proofs.Takes.{AreMoving}
+use Rattle.nz_machine.proofs.facts.Takes.{AreMoving}
 use Rattle.nz_machine.proofs.sync_keys.move_below.Given as goal
 
 abbrev pub invariant-below : goal.invariant-below

@@ -4,7 +4,7 @@ use Rattle.std.specs.List.{filter}
 use Rattle.std.proofs.lemmas.List.{append-nil}
 use Rattle.nz_base.specs.declared.key.Entry.{Entry}
 use Rattle.nz_base.specs.Log.{keys_of, is_above_last}
-use Rattle.nz_machine.proofs.Takes.{all_stay, own_waiting}
+use Rattle.nz_machine.proofs.facts.Takes.{all_stay, own_waiting}
 use Rattle.nz_machine.proofs.sync_keys.pass_over.Goals as goal
 
 pub move_below-requires-clause-own : goal.move_below-requires-clause-own

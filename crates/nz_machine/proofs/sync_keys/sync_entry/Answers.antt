@@ -6,7 +6,7 @@ use Rattle.nz_base.specs.Key.{id_of}
 use Rattle.nz_base.specs.Log.{keys_of, HaveOwnIds}
 use Rattle.nz_log.specs.Synced.{displaced_entries}
 use Rattle.nz_buffers.specs.Buffers.{without}
-use Rattle.nz_machine.proofs.Takes.{without_displaced, own_late}
+use Rattle.nz_machine.proofs.facts.Takes.{without_displaced, own_late}
 use Rattle.nz_machine.proofs.sync_keys.sync_entry.Goals as goal
 
 pub keep_each-requires : goal.keep_each-requires

@@ -1,9 +1,9 @@
 -- What the function of this folder owes, proved.
 use Rattle.std.proofs.Common.{List, ap, ◌∙◌, sym}
 use Rattle.nz_base.specs.declared.key.Key.{Key}
-use Rattle.nz_machine.specs.State.{ReplicaData}
-use Rattle.nz_machine.specs.LogMods.{overtaken_to_late}
-use Rattle.nz_machine.specs.Taking.{with_parts}
+use Rattle.nz_machine.specs.rules.State.{ReplicaData}
+use Rattle.nz_machine.specs.rules.LogMods.{overtaken_to_late}
+use Rattle.nz_machine.specs.rules.Taking.{with_parts}
 use Rattle.nz_machine.proofs.sync_keys.sync_parts.Goals as goal
 
 pub returns-clause-parts : goal.returns-clause-parts

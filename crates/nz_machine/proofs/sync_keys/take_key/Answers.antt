@@ -5,10 +5,10 @@ use Rattle.nz_base.specs.declared.key.Id.{Id}
 use Rattle.nz_base.specs.declared.key.Entry.{Entry}
 use Rattle.nz_base.specs.Log.{keys_of, has_id}
 use Rattle.nz_log.specs.Synced.{synced_part}
-use Rattle.nz_machine.specs.LogMods.{sync_keys}
-use Rattle.nz_machine.specs.Taking.{found_in, with_parts}
-use Rattle.nz_machine.proofs.KeysKeepFacts.{may_sync_true, apart_synced}
-use Rattle.nz_machine.proofs.Takes.{key_refused, key_missing, key_synced, command_fits, same_apart}
+use Rattle.nz_machine.specs.rules.LogMods.{sync_keys}
+use Rattle.nz_machine.specs.rules.Taking.{found_in, with_parts}
+use Rattle.nz_machine.proofs.facts.KeysKeepFacts.{may_sync_true, apart_synced}
+use Rattle.nz_machine.proofs.facts.Takes.{key_refused, key_missing, key_synced, command_fits, same_apart}
 use Rattle.nz_machine.proofs.sync_keys.take_key.Goals as goal
 
 pub returns-then-not-may_sync-clause-taken : goal.returns-then-not-may_sync-clause-taken

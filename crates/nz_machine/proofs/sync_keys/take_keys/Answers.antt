@@ -1,7 +1,7 @@
 -- What the function of this folder owes, proved.
 use Rattle.std.proofs.Common.{◌+◌, drop, ◌∙◌}
-use Rattle.nz_machine.specs.Taking.{with_parts}
-use Rattle.nz_machine.proofs.Takes.{took_missing, took_synced, took_refused, took_all}
+use Rattle.nz_machine.specs.rules.Taking.{with_parts}
+use Rattle.nz_machine.proofs.facts.Takes.{took_missing, took_synced, took_refused, took_all}
 use Rattle.nz_machine.proofs.sync_keys.take_keys.Goals as goal
 
 pub returns-in-Missing-clause-taken : goal.returns-in-Missing-clause-taken

@@ -1,9 +1,9 @@
 -- What the loops of the function of this folder keep.
 use Rattle.std.proofs.Common.{◌≡◌, drop}
-use Rattle.nz_machine.specs.State.{ReplicaData}
-use Rattle.nz_machine.specs.Facts.{AreApart}
-use Rattle.nz_machine.specs.LogMods.{sync_keys}
-use Rattle.nz_machine.specs.Taking.{with_parts}
+use Rattle.nz_machine.specs.rules.State.{ReplicaData}
+use Rattle.nz_machine.specs.rules.Facts.{AreApart}
+use Rattle.nz_machine.specs.rules.LogMods.{sync_keys}
+use Rattle.nz_machine.specs.rules.Taking.{with_parts}
 use Rattle.nz_machine.proofs.sync_keys.take_keys.Given as goal
 
 abbrev pub invariant-loop-place : goal.invariant-loop-place

@@ -1,8 +1,8 @@
 -- What the loops of the function of this folder keep.
 use Rattle.std.proofs.Common.{◌++◌, map, length}
 use Rattle.nz_base.specs.declared.actor.Actor.TheVariants.{Replica}
-use Rattle.nz_machine.specs.Releases.{releases}
-use Rattle.nz_machine.specs.Step.{parcel}
+use Rattle.nz_machine.specs.rules.Releases.{releases}
+use Rattle.nz_machine.specs.rules.Step.{parcel}
 use Rattle.nz_normal.proofs.Releasing.{Releases}
 use Rattle.nz_normal.proofs.releases.release_due.Given as goal
 

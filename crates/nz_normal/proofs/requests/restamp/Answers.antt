@@ -8,8 +8,8 @@ use Rattle.nz_base.specs.declared.limits.TheConstants.{MAX_DEADLINE}
 use Rattle.nz_msg.specs.declared.message.TimedBody.{TimedBody}
 use Rattle.nz_log.specs.Places.{last_entry}
 use Rattle.nz_log.specs.Synced.{Log}
-use Rattle.nz_machine.specs.Requests.{entry_at, next_deadline}
-use Rattle.nz_machine.proofs.RulesKeepFacts.{above_next}
+use Rattle.nz_machine.specs.rules.Requests.{entry_at, next_deadline}
+use Rattle.nz_machine.proofs.facts.RulesKeepFacts.{above_next}
 use Rattle.nz_normal.proofs.requests.restamp.Goals as goal
 
 -- a key with the deadline that was found is above the log's last

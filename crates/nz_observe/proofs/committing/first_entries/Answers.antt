@@ -1,7 +1,7 @@
 -- What the function of this folder owes, proved.
 use Rattle.std.proofs.Common.{List, [], ◌∷◌, ◌++◌, take, sym, ap, ◌∙◌}
 use Rattle.nz_base.specs.declared.key.Entry.{Entry}
-use Rattle.nz_machine.proofs.ListParts.{take_next}
+use Rattle.nz_machine.proofs.lists.ListParts.{take_next}
 use Rattle.nz_observe.proofs.committing.first_entries.Goals as goal
 
 pub loop-place-preserved : goal.loop-place-preserved

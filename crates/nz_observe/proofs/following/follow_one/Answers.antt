@@ -5,7 +5,7 @@ use Rattle.nz_base.specs.Actor.{actor_eq}
 use Rattle.nz_base.specs.declared.actor.Actor.{Actor}
 use Rattle.nz_base.specs.declared.actor.Actor.TheVariants.{Replica}
 use Rattle.nz_machine.specs.declared.event.Record.{Record}
-use Rattle.nz_machine.specs.Journals.{group_in}
+use Rattle.nz_machine.specs.journals.Journals.{group_in}
 use Rattle.nz_replay.specs.Runs.{run_up_to}
 use Rattle.nz_replay.proofs.Replays.{core_stays, run_then}
 use Rattle.nz_replica.specs.Models.{IsCore}

@@ -1,5 +1,5 @@
 -- What the loops of the function of this folder keep.
-use Rattle.nz_machine.specs.Journals.{group_in}
+use Rattle.nz_machine.specs.journals.Journals.{group_in}
 use Rattle.nz_replay.specs.Runs.{run_up_to}
 use Rattle.nz_replica.specs.Models.{IsCore}
 use Rattle.nz_observe.specs.Following.{AreUpTo}

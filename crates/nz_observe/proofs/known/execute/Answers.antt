@@ -3,9 +3,9 @@ use Rattle.std.proofs.Common.{List, ℕ, take, sym, ap, ◌∙◌}
 use Rattle.nz_base.specs.declared.key.Entry.{Entry}
 use Rattle.nz_store.specs.Entries.{Entries}
 use Rattle.nz_store.specs.Sequence.{store_after, apply_bytes}
-use Rattle.nz_machine.specs.Replicas.{commands}
-use Rattle.nz_machine.proofs.ListParts.{take_next}
-use Rattle.nz_machine.proofs.Stores.{store_pushed}
+use Rattle.nz_machine.specs.rules.Replicas.{commands}
+use Rattle.nz_machine.proofs.lists.ListParts.{take_next}
+use Rattle.nz_machine.proofs.facts.Stores.{store_pushed}
 use Rattle.nz_observe.proofs.known.execute.Goals as goal
 
 pub loop-place-preserved : goal.loop-place-preserved

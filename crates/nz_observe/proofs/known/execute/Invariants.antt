@@ -1,7 +1,7 @@
 -- What the loops of the function of this folder keep.
 use Rattle.std.proofs.Common.{◌≡◌, ◌≤◌, take}
 use Rattle.nz_store.specs.Sequence.{store_after}
-use Rattle.nz_machine.specs.Replicas.{commands}
+use Rattle.nz_machine.specs.rules.Replicas.{commands}
 use Rattle.nz_observe.proofs.known.execute.Given as goal
 
 abbrev pub invariant-loop-place : goal.invariant-loop-place

@@ -2,7 +2,7 @@
 use Rattle.std.proofs.Common.{[], sym, ap, ◌∙◌, arith}
 use Rattle.std.proofs.lemmas.Bool.{le-ltb}
 use Rattle.nz_base.specs.Cluster.{replica_count}
-use Rattle.nz_machine.specs.Journals.{group_in, run_in}
+use Rattle.nz_machine.specs.journals.Journals.{group_in, run_in}
 use Rattle.nz_observe.specs.Observed.{Printed}
 use Rattle.nz_observe.proofs.Printing.{nothing_of_others}
 use Rattle.nz_observe.proofs.observing.observe.Goals as goal

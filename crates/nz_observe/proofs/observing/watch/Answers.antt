@@ -1,9 +1,9 @@
 -- What the function of this folder owes, proved.
 use Rattle.std.proofs.Common.{◌≡◌, ℕ, ◌+◌, List, refl, sym, subst, arith}
 use Rattle.nz_machine.specs.declared.event.Record.{Record}
-use Rattle.nz_machine.specs.Journals.{group_in, run_in}
-use Rattle.nz_machine.specs.World.{World}
-use Rattle.nz_machine.proofs.Moments.{at_world}
+use Rattle.nz_machine.specs.journals.Journals.{group_in, run_in}
+use Rattle.nz_machine.specs.runs.World.{World}
+use Rattle.nz_machine.proofs.runs.Moments.{at_world}
 use Rattle.nz_replay.specs.Runs.{run_up_to}
 use Rattle.nz_replica.specs.Models.{IsCore}
 use Rattle.nz_observe.specs.Following.{IsEndOf}

@@ -1,6 +1,6 @@
 -- What the function of this folder owes, proved.
-use Rattle.nz_machine.proofs.Scheduling.{scheduled_in_order}
-use Rattle.nz_machine.proofs.Replaying.{world_now}
+use Rattle.nz_machine.proofs.runs.Scheduling.{scheduled_in_order}
+use Rattle.nz_machine.proofs.runs.Replaying.{world_now}
 use Rattle.nz_quiet.proofs.schedule.records_in_order_are_a_run.Goals as goal
 
 pub returns : goal.returns

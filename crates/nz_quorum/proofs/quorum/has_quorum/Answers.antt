@@ -1,7 +1,7 @@
 -- What the function of this folder owes, proved.
 use Rattle.std.proofs.Common.{sym, ◌∙◌}
 use Rattle.nz_quorum.proofs.Support.{count_supporters, quorum_counts, leader_below}
-use Rattle.nz_machine.specs.Quorums.{view_of}
+use Rattle.nz_machine.specs.rules.Quorums.{view_of}
 use Rattle.nz_quorum.proofs.quorum.has_quorum.Goals as goal
 
 pub returns-then-is_lead : goal.returns-then-is_lead

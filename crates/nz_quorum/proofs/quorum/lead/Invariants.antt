@@ -3,7 +3,7 @@ use Rattle.std.proofs.Common.{◌≡◌, drop, true}
 use Rattle.std.specs.Prelude.{IfSome}
 use Rattle.std.specs.List.{filter}
 use Rattle.std.specs.Option.{option_copied}
-use Rattle.nz_machine.specs.Quorums.{is_of_leader, first_of_least_view}
+use Rattle.nz_machine.specs.rules.Quorums.{is_of_leader, first_of_least_view}
 use Rattle.nz_quorum.specs.Tallies.{has_quorum, lead_of}
 use Rattle.nz_quorum.proofs.Leads.{joined}
 use Rattle.nz_quorum.proofs.quorum.lead.Given as goal

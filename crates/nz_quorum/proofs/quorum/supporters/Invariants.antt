@@ -3,7 +3,7 @@ use Rattle.std.proofs.Common.{◌≡◌, ℕ, ◌||◌, eqb, drop}
 use Rattle.std.specs.List.{list_any, AllByRecursion}
 use Rattle.nz_base.specs.Cluster.{leader_of}
 use Rattle.nz_math.specs.Count.{is_in}
-use Rattle.nz_machine.specs.Quorums.{view_of}
+use Rattle.nz_machine.specs.rules.Quorums.{view_of}
 use Rattle.nz_quorum.specs.Tallies.{IsOfCluster}
 use Rattle.nz_quorum.proofs.Support.{backs}
 use Rattle.nz_quorum.proofs.quorum.supporters.Given as goal

@@ -5,11 +5,11 @@ use Rattle.nz_base.specs.Cluster.{leader_of}
 use Rattle.nz_cv.specs.Vectors.{is_stray}
 use Rattle.nz_msg.specs.declared.message.StateTellBody.{StateTellBody}
 use Rattle.nz_machine.specs.declared.data.Phase.TheVariants as phases
-use Rattle.nz_machine.specs.State.{ReplicaData, Out}
-use Rattle.nz_machine.specs.Facts.{ReplicaModel}
-use Rattle.nz_machine.specs.Vectors.{with_vector}
-use Rattle.nz_machine.specs.Adopting.{normal_in}
-use Rattle.nz_machine.specs.Rejoining.{awaits, state_tell_rule}
+use Rattle.nz_machine.specs.rules.State.{ReplicaData, Out}
+use Rattle.nz_machine.specs.rules.Facts.{ReplicaModel}
+use Rattle.nz_machine.specs.rules.Vectors.{with_vector}
+use Rattle.nz_machine.specs.rules.Adopting.{normal_in}
+use Rattle.nz_machine.specs.rules.Rejoining.{awaits, state_tell_rule}
 use Rattle.nz_rejoin.proofs.phases.state_tell_rule.Goals as goal
 
 -- the log that is waited for is taken

@@ -2,7 +2,7 @@
 use Rattle.std.proofs.Common.{◌∙◌, sym, ap, Some, List, []}
 use Rattle.nz_base.specs.declared.scenario.Request.{Request}
 use Rattle.nz_client.specs.Models.{ClientCore}
-use Rattle.nz_machine.specs.Clients.{first_client}
+use Rattle.nz_machine.specs.rules.Clients.{first_client}
 use Rattle.nz_run.proofs.CoreSteps.{got_or, sendable}
 use Rattle.nz_run.proofs.cast.make_client.Goals as goal
 

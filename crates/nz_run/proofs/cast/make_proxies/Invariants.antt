@@ -1,6 +1,6 @@
 -- What the loops of the function of this folder keep.
 use Rattle.std.proofs.Common.{◌≡◌, map}
-use Rattle.nz_machine.specs.Replicas.{numbers_below}
+use Rattle.nz_machine.specs.rules.Replicas.{numbers_below}
 use Rattle.nz_run.specs.Casts.{new_proxy}
 use Rattle.nz_run.proofs.cast.make_proxies.Given as goal
 

@@ -1,5 +1,5 @@
 -- What the function of this folder owes, proved.
-use Rattle.nz_machine.specs.Schedule.{group_of}
+use Rattle.nz_machine.specs.runs.Schedule.{group_of}
 use Rattle.nz_actor.specs.Actings.{sends_in}
 use Rattle.nz_run.proofs.Settling.{same_items}
 use Rattle.nz_run.proofs.stage.settle_at.Goals as goal

@@ -1,7 +1,7 @@
 -- What the function of this folder owes, proved.
-use Rattle.nz_machine.specs.Journals.{run_in}
+use Rattle.nz_machine.specs.journals.Journals.{run_in}
 use Rattle.nz_run.proofs.CoreSteps.{if_ok}
-use Rattle.nz_machine.proofs.Scheduling.{scheduled_in_order}
+use Rattle.nz_machine.proofs.runs.Scheduling.{scheduled_in_order}
 use Rattle.nz_run.proofs.threads.run.Goals as goal
 
 pub returns-then-workers-eq1-clause-scheduled : goal.returns-then-workers-eq1-clause-scheduled

@@ -2,12 +2,12 @@
 use Rattle.std.proofs.Common.{◌≡◌, ◌∙◌, List, sym, subst}
 use Rattle.nz_base.specs.declared.scenario.Scenario.{Scenario}
 use Rattle.nz_machine.specs.declared.event.Record.{Record}
-use Rattle.nz_machine.specs.Journals.{run_in}
-use Rattle.nz_machine.specs.Schedule.{group_of, Scheduled}
-use Rattle.nz_machine.specs.World.{World}
-use Rattle.nz_machine.specs.Steps.{AreSteps}
+use Rattle.nz_machine.specs.journals.Journals.{run_in}
+use Rattle.nz_machine.specs.runs.Schedule.{group_of, Scheduled}
+use Rattle.nz_machine.specs.runs.World.{World}
+use Rattle.nz_machine.specs.runs.Steps.{AreSteps}
 use Rattle.nz_replica.specs.Models.{AreCores}
-use Rattle.nz_machine.proofs.Replaying.{world_now}
+use Rattle.nz_machine.proofs.runs.Replaying.{world_now}
 use Rattle.nz_run.proofs.threads.run_named.Goals as goal
 
 pub returns-clause-run : goal.returns-clause-run

@@ -2,7 +2,7 @@
 use Rattle.std.proofs.Common.{◌∙◌, List, ◌∷◌, [], ◌++◌, refl, ap, take_all}
 use Rattle.std.proofs.lemmas.List.{get_or_default}
 use Rattle.nz_base.specs.declared.scenario.Fault.{Fault}
-use Rattle.nz_machine.specs.Schedule.{after_faults}
+use Rattle.nz_machine.specs.runs.Schedule.{after_faults}
 use Rattle.nz_story.specs.Passes.{deliveries_in}
 use Rattle.nz_story.proofs.Passing.{one_line_more, all_counted}
 use Rattle.nz_story.proofs.passes.pass_all.Goals as goal

@@ -1,7 +1,7 @@
 -- What the loops of the function of this folder keep.
 use Rattle.std.proofs.Common.{◌≡◌, List, ◌∷◌, [], ◌++◌, take, drop}
 use Rattle.nz_machine.specs.declared.event.Parcel.{Parcel}
-use Rattle.nz_machine.specs.Schedule.{after_faults}
+use Rattle.nz_machine.specs.runs.Schedule.{after_faults}
 use Rattle.nz_story.specs.Passes.{deliveries_in, counts_of}
 use Rattle.nz_story.proofs.passes.pass_all.Given as goal
 

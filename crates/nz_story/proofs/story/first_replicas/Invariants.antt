@@ -1,6 +1,6 @@
 -- What the loops of the function of this folder keep.
 use Rattle.std.proofs.Common.{◌≡◌, [], length}
-use Rattle.nz_machine.specs.State.{Group}
+use Rattle.nz_machine.specs.rules.State.{Group}
 use Rattle.nz_story.specs.Courses.{AreWatched}
 use Rattle.nz_story.proofs.story.first_replicas.Given as goal
 

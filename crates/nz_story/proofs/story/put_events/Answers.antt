@@ -1,5 +1,5 @@
 -- What the function of this folder owes, proved.
-use Rattle.nz_machine.specs.Schedule.{group_of}
+use Rattle.nz_machine.specs.runs.Schedule.{group_of}
 use Rattle.nz_story.proofs.Following.{told_is, nothing_is}
 use Rattle.nz_story.proofs.story.put_events.Goals as goal
 

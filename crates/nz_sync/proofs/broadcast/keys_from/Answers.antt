@@ -7,9 +7,9 @@ use Rattle.nz_base.specs.declared.key.Entry.{Entry}
 use Rattle.nz_base.specs.Log.{keys_of}
 use Rattle.nz_log.specs.Synced.{Log}
 use Rattle.nz_msg.specs.Fields.{keys}
-use Rattle.nz_machine.specs.Facts.{FitsEntry}
-use Rattle.nz_machine.proofs.EachItem.{all_of_prefix}
-use Rattle.nz_machine.proofs.FitReplicas.{led_log, told_keys_fit}
+use Rattle.nz_machine.specs.rules.Facts.{FitsEntry}
+use Rattle.nz_machine.proofs.lists.EachItem.{all_of_prefix}
+use Rattle.nz_machine.proofs.facts.FitReplicas.{led_log, told_keys_fit}
 use Rattle.nz_sync.proofs.Broadcasts.{next_key, all_told}
 use Rattle.nz_sync.proofs.broadcast.keys_from.Goals as goal
 

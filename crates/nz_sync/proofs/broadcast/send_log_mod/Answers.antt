@@ -5,7 +5,7 @@ use Rattle.nz_base.specs.declared.actor.Actor.{Actor}
 use Rattle.nz_base.specs.declared.actor.Actor.TheVariants.{Replica}
 use Rattle.nz_msg.specs.declared.message.Message.{Message}
 use Rattle.nz_machine.specs.declared.event.Parcel.{Parcel}
-use Rattle.nz_machine.specs.Step.{parcel}
+use Rattle.nz_machine.specs.rules.Step.{parcel}
 use Rattle.nz_sync.specs.Broadcasts.{log_mod_from}
 use Rattle.nz_sync.proofs.broadcast.send_log_mod.Goals as goal
 

@@ -2,7 +2,7 @@
 use Rattle.std.proofs.Common.{◌≡◌, ◌==◌, true, false, ap, sym, subst, ◌∙◌}
 use Rattle.nz_base.specs.Actor.{actor_eq}
 use Rattle.nz_base.specs.declared.actor.Actor.TheVariants.{Replica}
-use Rattle.nz_machine.specs.LogMods.{log_mod_to}
+use Rattle.nz_machine.specs.rules.LogMods.{log_mod_to}
 use Rattle.nz_sync.specs.Broadcasts.{IsWritten}
 use Rattle.nz_sync.proofs.Broadcasts.{other_told, self_told}
 use Rattle.nz_sync.proofs.broadcast.send_to_others.Goals as goal

@@ -2,9 +2,9 @@
 use Rattle.std.proofs.Common.{◌≡◌, ◌++◌, not, ◌==◌, map}
 use Rattle.std.specs.List.{filter}
 use Rattle.nz_base.specs.declared.actor.Actor.TheVariants.{Replica}
-use Rattle.nz_machine.specs.Replicas.{numbers_below}
-use Rattle.nz_machine.specs.LogMods.{log_mod_to}
-use Rattle.nz_machine.specs.Step.{parcel}
+use Rattle.nz_machine.specs.rules.Replicas.{numbers_below}
+use Rattle.nz_machine.specs.rules.LogMods.{log_mod_to}
+use Rattle.nz_machine.specs.rules.Step.{parcel}
 use Rattle.nz_sync.specs.Broadcasts.{IsWritten}
 use Rattle.nz_sync.proofs.broadcast.send_to_others.Given as goal
 

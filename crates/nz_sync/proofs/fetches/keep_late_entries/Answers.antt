@@ -1,7 +1,7 @@
 -- What the function of this folder owes, proved.
 use Rattle.std.proofs.Common.{◌+◌, drop, sym, ap, ◌∙◌}
-use Rattle.nz_machine.specs.Facts.{ReplicaModel}
-use Rattle.nz_machine.specs.LogMods.{with_late_entries}
+use Rattle.nz_machine.specs.rules.Facts.{ReplicaModel}
+use Rattle.nz_machine.specs.rules.LogMods.{with_late_entries}
 use Rattle.nz_sync.proofs.Following.{next_kept, all_kept}
 use Rattle.nz_sync.proofs.fetches.keep_late_entries.Goals as goal
 

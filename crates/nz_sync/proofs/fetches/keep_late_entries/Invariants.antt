@@ -1,6 +1,6 @@
 -- What the loops of the function of this folder keep.
 use Rattle.std.proofs.Common.{◌≡◌, drop}
-use Rattle.nz_machine.specs.LogMods.{with_late_entries}
+use Rattle.nz_machine.specs.rules.LogMods.{with_late_entries}
 use Rattle.nz_sync.proofs.fetches.keep_late_entries.Given as goal
 
 -- the entries that are left lead to the end

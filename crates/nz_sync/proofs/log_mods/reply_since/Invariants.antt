@@ -1,8 +1,8 @@
 -- What the loops of the function of this folder keep.
 use Rattle.std.proofs.Common.{◌≡◌, ◌++◌, map}
 use Rattle.nz_base.specs.declared.actor.Actor.TheVariants.{Replica}
-use Rattle.nz_machine.specs.LogMods.{replies_since}
-use Rattle.nz_machine.specs.Step.{parcel}
+use Rattle.nz_machine.specs.rules.LogMods.{replies_since}
+use Rattle.nz_machine.specs.rules.Step.{parcel}
 use Rattle.nz_sync.proofs.log_mods.reply_since.Given as goal
 
 -- what was sent, and the replies that are left, are all

@@ -1,5 +1,5 @@
 -- What the function of this folder owes, proved.
-use Rattle.nz_machine.proofs.SentFields.{ids_fit}
+use Rattle.nz_machine.proofs.facts.SentFields.{ids_fit}
 use Rattle.nz_sync.proofs.Following.{some_left}
 use Rattle.nz_sync.proofs.log_mods.send_fetch.Goals as goal
 

@@ -1,7 +1,7 @@
 -- What the loops of the function of this folder keep.
 use Rattle.std.proofs.Common.{◌≡◌, ◌++◌, drop, map}
-use Rattle.nz_machine.specs.Schedule.{group_of}
-use Rattle.nz_machine.specs.ClientProgress.{request_events}
+use Rattle.nz_machine.specs.runs.Schedule.{group_of}
+use Rattle.nz_machine.specs.journals.ClientProgress.{request_events}
 use Rattle.nz_text.specs.Text.{event_of}
 use Rattle.nz_text.proofs.run_events.add_requests.Given as goal
 

@@ -1,7 +1,7 @@
 -- What the function of this folder owes, proved.
 use Rattle.std.proofs.Common.{◌++◌, ◌∷◌, [], take, sym, ap, ◌∙◌}
 use Rattle.std.proofs.lemmas.List.{take_more}
-use Rattle.nz_machine.specs.Schedule.{group_of}
+use Rattle.nz_machine.specs.runs.Schedule.{group_of}
 use Rattle.nz_machine.specs.declared.tellings.ToldAt.{ToldAt}
 use Rattle.nz_text.proofs.Events.{told_events, one_more}
 use Rattle.nz_text.proofs.run_events.events_of.Goals as goal

@@ -1,6 +1,6 @@
 -- What the loops of the function of this folder keep.
 use Rattle.std.proofs.Common.{◌≡◌, take}
-use Rattle.nz_machine.specs.Schedule.{group_of}
+use Rattle.nz_machine.specs.runs.Schedule.{group_of}
 use Rattle.nz_text.proofs.Events.{told_events}
 use Rattle.nz_text.proofs.run_events.events_of.Given as goal
 

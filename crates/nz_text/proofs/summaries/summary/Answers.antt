@@ -1,7 +1,7 @@
 -- What the function of this folder owes, proved.
 use Rattle.std.proofs.Common.{ap, sym, ◌∙◌}
 use Rattle.std.proofs.lemmas.Result.{IfOk-weaker}
-use Rattle.nz_machine.specs.Schedule.{group_of}
+use Rattle.nz_machine.specs.runs.Schedule.{group_of}
 use Rattle.nz_text.specs.Text.{summary_of, unanswered_in}
 use Rattle.nz_text.proofs.Events.{told_events, printed_is}
 use Rattle.nz_text.proofs.summaries.summary.Goals as goal

@@ -4,7 +4,7 @@ use Rattle.std.specs.Prelude.{Some}
 use Rattle.std.specs.List.{flat_map}
 use Rattle.std.proofs.lemmas.List.{flat_map_more}
 use Rattle.nz_machine.specs.declared.event.Record.{Record}
-use Rattle.nz_machine.proofs.ListParts.{take_next}
+use Rattle.nz_machine.proofs.lists.ListParts.{take_next}
 use Rattle.nz_text.specs.Trace.{record_line}
 use Rattle.nz_text.proofs.traces.put_records.Goals as goal
 

@@ -1,7 +1,7 @@
 -- What the function of this folder owes, proved.
 use Rattle.std.proofs.Common.{Some, sym, ap, ◌∙◌}
 use Rattle.std.proofs.lemmas.Option.{IfSome_then}
-use Rattle.nz_machine.specs.Journals.{group_in, run_in}
+use Rattle.nz_machine.specs.journals.Journals.{group_in, run_in}
 use Rattle.nz_lin.proofs.OneHistory.{one_history}
 use Rattle.nz_top.proofs.Inputs.{line_told, bad_line_why}
 use Rattle.nz_top.proofs.Excluded.{excludes}

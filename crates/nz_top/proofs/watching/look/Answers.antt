@@ -1,7 +1,7 @@
 -- What the function of this folder owes, proved.
 use Rattle.std.proofs.Common.{List, ℕ, sym, subst}
 use Rattle.std.proofs.lemmas.Result.{on_ok_weaker}
-use Rattle.nz_machine.specs.Schedule.{group_of}
+use Rattle.nz_machine.specs.runs.Schedule.{group_of}
 use Rattle.nz_observe.specs.Observing.{IsObserving}
 use Rattle.nz_run.specs.Playing.{scenario_of, tick_of, run_of}
 use Rattle.nz_top.specs.declared.reports.Report.{Report}

@@ -1,7 +1,7 @@
 -- What the function of this folder owes, proved.
 use Rattle.std.proofs.Common.{sym, subst}
-use Rattle.nz_machine.specs.Facts.{IsCarried}
-use Rattle.nz_machine.proofs.Carried.{carried_of_fit}
+use Rattle.nz_machine.specs.rules.Facts.{IsCarried}
+use Rattle.nz_machine.proofs.facts.Carried.{carried_of_fit}
 use Rattle.nz_view.proofs.starts.start.Goals as goal
 
 pub start-requires-clause-log : goal.start-requires-clause-log

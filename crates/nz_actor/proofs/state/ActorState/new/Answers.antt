@@ -1,5 +1,5 @@
 -- What the function of this folder owes, proved.
-use Rattle.nz_machine.specs.Schedule.{group_of}
+use Rattle.nz_machine.specs.runs.Schedule.{group_of}
 use Rattle.nz_actor.proofs.Batches.{acting_first}
 use Rattle.nz_actor.proofs.state.ActorState.new.Goals as goal
 

@@ -3,7 +3,7 @@ use Rattle.std.proofs.Common.{◌≡◌, ◌∙◌, List, sym, ap, subst}
 use Rattle.std.specs.Prelude.{MatchBool}
 use Rattle.nz_machine.specs.declared.event.Parcel.{Parcel}
 use Rattle.nz_machine.specs.declared.journal.Item.{Item}
-use Rattle.nz_machine.specs.Schedule.{group_of}
+use Rattle.nz_machine.specs.runs.Schedule.{group_of}
 use Rattle.nz_fabric.specs.Records.{steps_of}
 use Rattle.nz_fabric.specs.Shared.{next_item, with_next, with_stop}
 use Rattle.nz_fabric.specs.States.{records_of}

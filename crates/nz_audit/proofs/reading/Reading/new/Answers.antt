@@ -2,7 +2,7 @@
 use Rattle.std.proofs.Common.{[], sym, ap, subst}
 use Rattle.std.specs.Prelude.{nat_eq}
 use Rattle.std.specs.Map.{lookup}
-use Rattle.nz_machine.specs.Journals.{group_in}
+use Rattle.nz_machine.specs.journals.Journals.{group_in}
 use Rattle.nz_audit.specs.Readings.{IsProxy, IsTable}
 use Rattle.nz_audit.proofs.Acting.{proxy_first, table_first}
 use Rattle.nz_audit.proofs.reading.Reading.new.Goals as goal

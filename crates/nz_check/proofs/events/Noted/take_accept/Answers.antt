@@ -3,7 +3,7 @@ use Rattle.std.proofs.Common.{ℕ, ◌+◌, max, List, Some, sym, ap, ◌∙◌,
 use Rattle.std.specs.Prelude.{slice_get}
 use Rattle.std.specs.Option.{option_eq, option_map}
 use Rattle.nz_machine.specs.declared.journal.Executed.{Executed}
-use Rattle.nz_machine.specs.Quorums.{answer_eq}
+use Rattle.nz_machine.specs.rules.Quorums.{answer_eq}
 use Rattle.nz_check.proofs.Taking.{accept_unsent, accept_repeats, accept_missing, accept_differs, accept_fits, place_is_within}
 use Rattle.nz_check.proofs.events.Noted.take_accept.Goals as goal
 

@@ -2,7 +2,7 @@
 use Rattle.std.proofs.Common.{◌≡◌, true, List, length, sym, ap, subst, arith}
 use Rattle.std.specs.List.{AllByRecursion}
 use Rattle.nz_machine.specs.declared.data.Attempt.{Attempt}
-use Rattle.nz_machine.specs.Clients.{is_open}
+use Rattle.nz_machine.specs.rules.Clients.{is_open}
 use Rattle.nz_client.specs.Models.{ClientModel, IsOfProxies}
 use Rattle.nz_client.proofs.Windows.{less_open, all_without}
 use Rattle.nz_client.proofs.state.ClientState.accept.Goals as goal

@@ -3,8 +3,8 @@ use Rattle.std.proofs.Common.{◌≡◌, ◌++◌, List, OnOk, map, subst, sym, 
 use Rattle.std.specs.Option.{option_copied}
 use Rattle.nz_base.specs.declared.actor.Actor.{Actor}
 use Rattle.nz_base.specs.declared.actor.Actor.TheVariants.{Client}
-use Rattle.nz_machine.specs.State.{ClientData, Out}
-use Rattle.nz_machine.specs.Step.{envelope_for, parcel}
+use Rattle.nz_machine.specs.rules.State.{ClientData, Out}
+use Rattle.nz_machine.specs.rules.Step.{envelope_for, parcel}
 use Rattle.nz_client.proofs.Passing.{delivered}
 use Rattle.nz_client.proofs.state.ClientState.deliver.Goals as goal
 

@@ -1,8 +1,8 @@
 -- What the loops of the function of this folder keep.
 use Rattle.std.proofs.Common.{◌≡◌, ◌++◌, map, take}
 use Rattle.nz_base.specs.declared.actor.Actor.TheVariants.{Client}
-use Rattle.nz_machine.specs.Clients.{retries}
-use Rattle.nz_machine.specs.Step.{parcel}
+use Rattle.nz_machine.specs.rules.Clients.{retries}
+use Rattle.nz_machine.specs.rules.Step.{parcel}
 use Rattle.nz_client.proofs.state.ClientState.retry_all.Given as goal
 
 abbrev pub invariant-loop-attempt : goal.invariant-loop-attempt

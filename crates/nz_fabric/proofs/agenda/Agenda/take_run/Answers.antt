@@ -6,7 +6,7 @@ use Rattle.std.proofs.lemmas.List.{drop-drop, take_rest}
 use Rattle.std.proofs.lemmas.List.Sums.{prefix_len-le-length}
 use Rattle.nz_base.specs.Actor.{actor_eq}
 use Rattle.nz_machine.specs.declared.journal.Item.{Item}
-use Rattle.nz_machine.specs.Schedule.{item}
+use Rattle.nz_machine.specs.runs.Schedule.{item}
 use Rattle.nz_fabric.specs.Agendas.{Progress}
 use Rattle.nz_fabric.specs.Shared.{run_of}
 use Rattle.nz_fabric.proofs.Agendas.{run_len, own_events}

@@ -1,6 +1,6 @@
 -- What the function of this folder owes, proved.
 use Rattle.std.proofs.Common.{◌∙◌, List, sym, ap, subst}
-use Rattle.nz_machine.specs.Schedule.{InOrder}
+use Rattle.nz_machine.specs.runs.Schedule.{InOrder}
 use Rattle.nz_machine.specs.declared.event.Record.{Record}
 use Rattle.nz_fabric.specs.States.{IsKeptRun, records_of}
 use Rattle.nz_fabric.proofs.Held.{all_records, in_order_over}

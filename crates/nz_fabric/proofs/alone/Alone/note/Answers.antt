@@ -2,8 +2,8 @@
 use Rattle.std.proofs.Common.{◌≡◌, ◌+◌, ◌-◌, ◌∙◌, ℕ, List, take, ap, sym, subst, arith}
 use Rattle.std.specs.Prelude.{reverse}
 use Rattle.std.proofs.lemmas.Result.{on_ok_weaker}
-use Rattle.nz_machine.specs.World.{World}
-use Rattle.nz_machine.specs.Tellings.{AreNoted}
+use Rattle.nz_machine.specs.runs.World.{World}
+use Rattle.nz_machine.specs.journals.Tellings.{AreNoted}
 use Rattle.nz_machine.specs.declared.event.Record.{Record}
 use Rattle.nz_fabric.specs.States.{State, records_of}
 use Rattle.nz_fabric.proofs.Held.{all_records}

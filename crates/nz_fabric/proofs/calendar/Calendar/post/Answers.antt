@@ -1,7 +1,7 @@
 -- What the function of this folder owes, proved.
 use Rattle.std.proofs.Common.{◌∙◌, refl, sym, ap, subst, arith}
 use Rattle.std.proofs.lemmas.List.{length-map}
-use Rattle.nz_machine.specs.Schedule.{Posted}
+use Rattle.nz_machine.specs.runs.Schedule.{Posted}
 use Rattle.nz_fabric.specs.Calendars.{Dates, StandsFor, parcels_of, items_in}
 use Rattle.nz_fabric.specs.Posting.{arrivals_by, days_of}
 use Rattle.nz_fabric.proofs.Numbering.{numbered}

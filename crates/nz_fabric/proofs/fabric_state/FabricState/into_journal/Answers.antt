@@ -3,9 +3,9 @@ use Rattle.std.proofs.Common.{◌≡◌, ◌∙◌, ap, subst, sym, arith, ℕ, 
 use Rattle.std.specs.Prelude.{reverse}
 use Rattle.nz_base.specs.declared.scenario.Scenario.{Scenario}
 use Rattle.nz_machine.specs.declared.event.Record.{Record}
-use Rattle.nz_machine.specs.Records.{Recorded}
-use Rattle.nz_machine.specs.Schedule.{group_of, Scheduled, ScheduledTo}
-use Rattle.nz_machine.specs.Steps.{AreSteps}
+use Rattle.nz_machine.specs.journals.Records.{Recorded}
+use Rattle.nz_machine.specs.runs.Schedule.{group_of, Scheduled, ScheduledTo}
+use Rattle.nz_machine.specs.runs.Steps.{AreSteps}
 use Rattle.nz_fabric.specs.States.{records_of, state_in}
 use Rattle.nz_fabric.specs.Shared.{IsOver, Shared, shared_with}
 use Rattle.nz_fabric.proofs.Held.{all_records}

@@ -1,8 +1,8 @@
 -- What the function of this folder owes, proved.
 use Rattle.std.proofs.Common.{◌≡◌, ◌<◌, ◌∙◌, false, List, length, sym, ap, subst, arith}
 use Rattle.std.specs.Prelude.{IsPermutation, drop}
-use Rattle.nz_machine.specs.Records.{Recorded}
-use Rattle.nz_machine.specs.Schedule.{posted_by_run}
+use Rattle.nz_machine.specs.journals.Records.{Recorded}
+use Rattle.nz_machine.specs.runs.Schedule.{posted_by_run}
 use Rattle.nz_fabric.specs.declared.batch.Batch.{Batch}
 use Rattle.nz_fabric.specs.declared.ticks.Ticks.{Ticks}
 use Rattle.nz_fabric.specs.Agendas.{Progress}

@@ -4,7 +4,7 @@ use Rattle.std.specs.Prelude.{get_or, reverse}
 use Rattle.std.proofs.lemmas.List.{get_or_default}
 use Rattle.nz_base.specs.declared.actor.Actor.{Actor}
 use Rattle.nz_machine.specs.declared.event.Record.{Record}
-use Rattle.nz_machine.specs.Schedule.{group_of}
+use Rattle.nz_machine.specs.runs.Schedule.{group_of}
 use Rattle.nz_fabric.specs.declared.batch.Batch.{Batch}
 use Rattle.nz_fabric.specs.Records.{AddsSome, steps_of}
 use Rattle.nz_fabric.specs.Shared.{Shared, place_of_batch}

@@ -6,8 +6,8 @@ use Rattle.nz_base.proofs.Booleans.{length-filter_le}
 use mathlib.Core.List.{IsPrefix}
 use Rattle.nz_base.specs.Actor.{actor_eq}
 use Rattle.nz_machine.specs.declared.event.Record.{Record}
-use Rattle.nz_machine.specs.Schedule.{group_of}
-use Rattle.nz_machine.specs.Steps.{AreSteps, of_actor}
+use Rattle.nz_machine.specs.runs.Schedule.{group_of}
+use Rattle.nz_machine.specs.runs.Steps.{AreSteps, of_actor}
 use Rattle.nz_fabric.specs.Records.{steps_of, with_step, ActorSteps, AreCounts}
 use Rattle.nz_fabric.specs.Steps.{sends_after}
 use Rattle.nz_fabric.proofs.Counting.{count_is, all_seen, own_pushed, counts_pushed, steps_pushed}

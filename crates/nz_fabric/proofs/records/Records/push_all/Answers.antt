@@ -4,7 +4,7 @@ use Rattle.std.specs.Prelude.{reverse}
 use Rattle.nz_base.specs.declared.actor.Actor.{Actor}
 use Rattle.nz_machine.specs.declared.event.Event.{Event}
 use Rattle.nz_machine.specs.declared.event.Record.{Record}
-use Rattle.nz_machine.specs.Schedule.{group_of}
+use Rattle.nz_machine.specs.runs.Schedule.{group_of}
 use Rattle.nz_fabric.specs.Records.{AddsSome, steps_of}
 use Rattle.nz_fabric.specs.Steps.{batch_records, with_steps}
 use Rattle.nz_fabric.proofs.Pushing.{Batched, ArePushed, pushed_start, pushed_at, pushed_sent, pushed_next, pushed_end, pushed_count, pushed_whole, pushed_some}

@@ -1,6 +1,6 @@
 -- What the loops of the function of this folder keep.
 use Rattle.std.proofs.Common.{◌≡◌}
-use Rattle.nz_machine.specs.Schedule.{group_of}
+use Rattle.nz_machine.specs.runs.Schedule.{group_of}
 use Rattle.nz_fabric.proofs.Pushing.{ArePushed}
 use Rattle.nz_fabric.proofs.records.Records.push_all.Given as goal
 

@@ -1,7 +1,7 @@
 -- What the function of this folder owes, proved.
 use Rattle.std.proofs.Common.{◌+◌, ◌++◌, ◌∙◌, [], List, map, refl, ap, arith, append_assoc}
 use Rattle.nz_machine.specs.declared.journal.Item.{Item}
-use Rattle.nz_machine.specs.Schedule.{calls, tick_item, actors_of, arrivals}
+use Rattle.nz_machine.specs.runs.Schedule.{calls, tick_item, actors_of, arrivals}
 use Rattle.nz_fabric.specs.Numbered.{items_under}
 use Rattle.nz_fabric.proofs.ticks.Ticks.begin.Goals as goal
 

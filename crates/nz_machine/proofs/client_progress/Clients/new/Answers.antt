@@ -1,9 +1,9 @@
 -- What the function of this folder owes, proved.
 use Rattle.std.proofs.Common.{◌++◌, ◌∷◌, [], List, replicate, ap, subst, sym, ◌∙◌, ◌≡◌, arith, length}
 use Rattle.std.proofs.lemmas.List.{replicate_more}
-use Rattle.nz_machine.specs.Schedule.{group_of}
-use Rattle.nz_machine.specs.ClientProgress.{Progress, first_progress, AreAfter}
-use Rattle.nz_machine.proofs.ProgressIsTold.{first_after}
+use Rattle.nz_machine.specs.runs.Schedule.{group_of}
+use Rattle.nz_machine.specs.journals.ClientProgress.{Progress, first_progress, AreAfter}
+use Rattle.nz_machine.proofs.journals.ProgressIsTold.{first_after}
 use Rattle.nz_machine.proofs.client_progress.Clients.new.Goals as goal
 
 pub loop-preserved : goal.loop-preserved

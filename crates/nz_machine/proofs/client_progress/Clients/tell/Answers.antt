@@ -2,7 +2,7 @@
 use Rattle.std.proofs.Common.{List, None, ap, ◌∙◌}
 use Rattle.nz_base.specs.declared.key.Id.{Id}
 use Rattle.nz_machine.specs.declared.client_progress.Telling.{Telling}
-use Rattle.nz_machine.proofs.ProgressIsTold.{other_told, other_after}
+use Rattle.nz_machine.proofs.journals.ProgressIsTold.{other_told, other_after}
 use Rattle.nz_machine.proofs.client_progress.Clients.tell.Goals as goal
 
 pub returns-in-None-clause-told : goal.returns-in-None-clause-told

@@ -3,8 +3,8 @@ use Rattle.std.proofs.Common.{◌≡◌, ◌<◌, length, ap, ◌∙◌, sym, su
 use Rattle.std.specs.Prelude.{slice_get}
 use Rattle.std.proofs.lemmas.Option.{slice_get-get_or}
 use Rattle.std.proofs.lemmas.Result.{IfOk-weaker, on_ok_weaker}
-use Rattle.nz_machine.specs.ClientProgress.{Progress, AreAfter}
-use Rattle.nz_machine.proofs.ProgressIsTold.{own_told, own_after}
+use Rattle.nz_machine.specs.journals.ClientProgress.{Progress, AreAfter}
+use Rattle.nz_machine.proofs.journals.ProgressIsTold.{own_told, own_after}
 use Rattle.nz_machine.proofs.client_progress.Clients.tell_own.Goals as goal
 
 pub returns-clause-told : goal.returns-clause-told

@@ -1,6 +1,6 @@
 -- What the function of this folder owes, proved.
 use Rattle.std.proofs.Common.{sym}
-use Rattle.nz_machine.proofs.ProgressIsTold.{silent_tells, other_told, other_after}
+use Rattle.nz_machine.proofs.journals.ProgressIsTold.{silent_tells, other_told, other_after}
 use Rattle.nz_machine.proofs.client_progress.Clients.tells_nothing.Goals as goal
 
 pub returns-in-Some-clause-told : goal.returns-in-Some-clause-told

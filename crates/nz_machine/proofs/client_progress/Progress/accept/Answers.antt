@@ -3,7 +3,7 @@ use Rattle.std.proofs.Common.{◌∙◌, sym, ap}
 use Rattle.nz_base.specs.declared.actor.Actor.TheVariants.{Proxy}
 use Rattle.nz_msg.specs.declared.message.AnswerBody.{AnswerBody}
 use Rattle.nz_msg.specs.declared.message.Message.TheVariants.{Answer}
-use Rattle.nz_machine.specs.ClientProgress.{acceptance_in, acceptance_read}
+use Rattle.nz_machine.specs.journals.ClientProgress.{acceptance_in, acceptance_read}
 use Rattle.nz_machine.proofs.client_progress.Progress.accept.Goals as goal
 
 pub returns-in-Answer : goal.returns-in-Answer

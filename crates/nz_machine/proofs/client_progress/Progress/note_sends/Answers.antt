@@ -1,7 +1,7 @@
 -- What the function of this folder owes, proved.
 use Rattle.std.proofs.Common.{◌++◌, ap, ◌∙◌}
-use Rattle.nz_machine.specs.ClientProgress.{new_in, with_num}
-use Rattle.nz_machine.proofs.NewRequests.{none_noted, one_noted, all_noted}
+use Rattle.nz_machine.specs.journals.ClientProgress.{new_in, with_num}
+use Rattle.nz_machine.proofs.journals.NewRequests.{none_noted, one_noted, all_noted}
 use Rattle.nz_machine.proofs.client_progress.Progress.note_sends.Goals as goal
 
 pub loop-parcel-init : goal.loop-parcel-init

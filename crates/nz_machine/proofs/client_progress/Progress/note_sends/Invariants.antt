@@ -1,6 +1,6 @@
 -- What the loops of the function of this folder keep.
 use Rattle.std.proofs.Common.{take}
-use Rattle.nz_machine.proofs.NewRequests.{AreNoted}
+use Rattle.nz_machine.proofs.journals.NewRequests.{AreNoted}
 use Rattle.nz_machine.proofs.client_progress.Progress.note_sends.Given as goal
 
 abbrev pub invariant-loop-parcel : goal.invariant-loop-parcel

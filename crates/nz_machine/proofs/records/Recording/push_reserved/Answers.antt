@@ -2,8 +2,8 @@
 use Rattle.std.proofs.Common.{◌∙◌, ap}
 use Rattle.std.specs.Prelude.{List, ◌++◌, ◌∷◌, []}
 use Rattle.nz_machine.specs.declared.records.Row.{Row}
-use Rattle.nz_machine.specs.Records.{Recorded, records_of_rows}
-use Rattle.nz_machine.proofs.Rows.{row_pushed}
+use Rattle.nz_machine.specs.journals.Records.{Recorded, records_of_rows}
+use Rattle.nz_machine.proofs.journals.Rows.{row_pushed}
 use Rattle.nz_machine.proofs.records.Recording.push_reserved.Goals as goal
 
 pub returns-clause-records : goal.returns-clause-records

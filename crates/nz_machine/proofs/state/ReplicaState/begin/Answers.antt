@@ -5,11 +5,11 @@ use Rattle.std.proofs.lemmas.Bool.Decides.{nat_tests}
 use Rattle.nz_base.specs.declared.limits.TheConstants.{MAX_ENTRIES}
 use Rattle.nz_merge.specs.declared.change.Change.{Change}
 use Rattle.nz_merge.specs.Merged.{greatest, merged}
-use Rattle.nz_machine.specs.State.{ReplicaData}
-use Rattle.nz_machine.specs.Facts.{ReplicaModel, HasFacts, IsCarried}
-use Rattle.nz_machine.specs.Begins.{changes_of, after_begin}
-use Rattle.nz_machine.proofs.WordsKeepFacts.{merged_carried}
-use Rattle.nz_machine.proofs.ViewInvariant.{begin_none, begun_state}
+use Rattle.nz_machine.specs.rules.State.{ReplicaData}
+use Rattle.nz_machine.specs.rules.Facts.{ReplicaModel, HasFacts, IsCarried}
+use Rattle.nz_machine.specs.rules.Begins.{changes_of, after_begin}
+use Rattle.nz_machine.proofs.facts.WordsKeepFacts.{merged_carried}
+use Rattle.nz_machine.proofs.facts.ViewInvariant.{begin_none, begun_state}
 use Rattle.nz_machine.proofs.state.ReplicaState.begin.Goals as goal
 
 pub returns-then-len-gt-MAX_ENTRIES-clause-state : goal.returns-then-len-gt-MAX_ENTRIES-clause-state

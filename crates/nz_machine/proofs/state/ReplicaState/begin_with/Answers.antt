@@ -2,14 +2,14 @@
 use Rattle.std.proofs.Common.{◌≡◌, ℕ, List, length, min, replicate, sym, ap, ◌∙◌, arith}
 use Rattle.nz_base.specs.declared.key.Entry.{Entry}
 use Rattle.nz_store.specs.Sequence.{store_after, replies}
-use Rattle.nz_machine.specs.State.{ReplicaData}
-use Rattle.nz_machine.specs.Facts.{ReplicaModel}
-use Rattle.nz_machine.specs.Replicas.{commands}
-use Rattle.nz_machine.specs.Parts.{data_of}
-use Rattle.nz_machine.specs.Begins.{after_begin}
-use Rattle.nz_machine.proofs.StateInvariant.{kept_crashed}
-use Rattle.nz_machine.proofs.SyncInvariant.{kept_apart}
-use Rattle.nz_machine.proofs.ViewInvariant.{begun, kept_begin}
+use Rattle.nz_machine.specs.rules.State.{ReplicaData}
+use Rattle.nz_machine.specs.rules.Facts.{ReplicaModel}
+use Rattle.nz_machine.specs.rules.Replicas.{commands}
+use Rattle.nz_machine.specs.rules.Parts.{data_of}
+use Rattle.nz_machine.specs.rules.Begins.{after_begin}
+use Rattle.nz_machine.proofs.facts.StateInvariant.{kept_crashed}
+use Rattle.nz_machine.proofs.facts.SyncInvariant.{kept_apart}
+use Rattle.nz_machine.proofs.facts.ViewInvariant.{begun, kept_begin}
 use Rattle.nz_machine.proofs.state.ReplicaState.begin_with.Goals as goal
 
 pub adopt-requires-clause-apart : goal.adopt-requires-clause-apart

@@ -3,10 +3,10 @@ use Rattle.std.proofs.Common.{List, ◌∷◌, map, sym, subst, ◌∙◌}
 use Rattle.nz_merge.specs.Merged.{AreFit}
 use Rattle.nz_merge.specs.Sender.{HaveOwnSenders}
 use Rattle.nz_machine.specs.declared.data.Reported.{Reported}
-use Rattle.nz_machine.specs.State.{ReplicaData}
-use Rattle.nz_machine.specs.Parts.{data_of}
-use Rattle.nz_machine.specs.Begins.{own_change}
-use Rattle.nz_machine.proofs.WordsKeepFacts.{changes_fit, changes_own}
+use Rattle.nz_machine.specs.rules.State.{ReplicaData}
+use Rattle.nz_machine.specs.rules.Parts.{data_of}
+use Rattle.nz_machine.specs.rules.Begins.{own_change}
+use Rattle.nz_machine.proofs.facts.WordsKeepFacts.{changes_fit, changes_own}
 use Rattle.nz_machine.proofs.state.ReplicaState.changes.Goals as goal
 
 pub all_changes-requires : goal.all_changes-requires

@@ -4,12 +4,12 @@ use Rattle.std.specs.List.{filter}
 use Rattle.nz_base.specs.Cluster.{replica_count}
 use Rattle.nz_base.specs.declared.key.Entry.{Entry}
 use Rattle.nz_machine.specs.declared.data.Reported.{Reported}
-use Rattle.nz_machine.specs.State.{ReplicaData}
-use Rattle.nz_machine.specs.Facts.{ReplicaModel}
-use Rattle.nz_machine.specs.Parts.{data_of}
-use Rattle.nz_machine.proofs.SentFields.{vector_counts}
-use Rattle.nz_machine.proofs.MoveFacts.{report_fits}
-use Rattle.nz_machine.proofs.ViewInvariant.{kept_collect}
+use Rattle.nz_machine.specs.rules.State.{ReplicaData}
+use Rattle.nz_machine.specs.rules.Facts.{ReplicaModel}
+use Rattle.nz_machine.specs.rules.Parts.{data_of}
+use Rattle.nz_machine.proofs.facts.SentFields.{vector_counts}
+use Rattle.nz_machine.proofs.moves.MoveFacts.{report_fits}
+use Rattle.nz_machine.proofs.facts.ViewInvariant.{kept_collect}
 use Rattle.nz_machine.proofs.state.ReplicaState.collect.Goals as goal
 
 pub invariant_of-self-2 : goal.invariant_of-self-2

@@ -1,5 +1,5 @@
 -- What the function of this folder owes, proved.
-use Rattle.nz_machine.proofs.ViewInvariant.{kept_strays}
+use Rattle.nz_machine.proofs.facts.ViewInvariant.{kept_strays}
 use Rattle.nz_machine.proofs.state.ReplicaState.drop_strays.Goals as goal
 
 pub invariant_of-self : goal.invariant_of-self

@@ -2,8 +2,8 @@
 use Rattle.std.proofs.Common.{IsTrue, IsFalse, sym, subst}
 use Rattle.nz_base.specs.Key.{id_of}
 use Rattle.nz_base.specs.Log.{keys_of, has_id, is_above_last}
-use Rattle.nz_machine.specs.Facts.{ReplicaModel}
-use Rattle.nz_machine.proofs.StateInvariant.{kept_early}
+use Rattle.nz_machine.specs.rules.Facts.{ReplicaModel}
+use Rattle.nz_machine.proofs.facts.StateInvariant.{kept_early}
 use Rattle.nz_machine.proofs.state.ReplicaState.keep_early.Goals as goal
 
 pub invariant_of-self-2 : goal.invariant_of-self-2

@@ -3,7 +3,7 @@ use Rattle.std.proofs.Common.{◌≤◌, map, ap, ◌∙◌, sym, subst, List}
 use Rattle.nz_base.specs.declared.limits.TheConstants.{MAX_VIEW}
 use Rattle.nz_merge.specs.Merged.{greatest}
 use Rattle.nz_machine.specs.declared.data.ToldView.{ToldView}
-use Rattle.nz_machine.proofs.WordsKeepFacts.{latest_low}
+use Rattle.nz_machine.proofs.facts.WordsKeepFacts.{latest_low}
 use Rattle.nz_machine.proofs.state.ReplicaState.latest_view.Goals as goal
 
 pub returns-clause-last : goal.returns-clause-last

@@ -1,9 +1,9 @@
 -- What the function of this folder owes, proved.
 use Rattle.std.proofs.Common.{◌≡◌, length, eq-eqb, sym, subst}
 use Rattle.nz_base.specs.Cluster.{replica_count}
-use Rattle.nz_machine.specs.Facts.{ReplicaModel}
-use Rattle.nz_machine.proofs.SentFields.{vector_counts}
-use Rattle.nz_machine.proofs.SyncInvariant.{kept_vector}
+use Rattle.nz_machine.specs.rules.Facts.{ReplicaModel}
+use Rattle.nz_machine.proofs.facts.SentFields.{vector_counts}
+use Rattle.nz_machine.proofs.facts.SyncInvariant.{kept_vector}
 use Rattle.nz_machine.proofs.state.ReplicaState.merge_vector.Goals as goal
 
 pub invariant_of-self : goal.invariant_of-self

@@ -1,7 +1,7 @@
 -- What the function of this folder owes, proved.
 use Rattle.std.proofs.Common.{replicate, ap, ◌∙◌}
 use Rattle.nz_machine.specs.declared.data.Status.TheVariants.{Normal}
-use Rattle.nz_machine.proofs.StateInvariant.{kept_first}
+use Rattle.nz_machine.proofs.facts.StateInvariant.{kept_first}
 use Rattle.nz_machine.proofs.state.ReplicaState.new.Goals as goal
 
 pub invariant_of-result : goal.invariant_of-result

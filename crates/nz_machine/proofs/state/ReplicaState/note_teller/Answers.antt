@@ -1,9 +1,9 @@
 -- What the function of this folder owes, proved.
 use Rattle.std.proofs.Common.{◌≡◌, ◌<◌, length, max, ap, ◌∙◌, eq-eqb, sym, subst}
 use Rattle.nz_base.specs.Cluster.{replica_count}
-use Rattle.nz_machine.specs.Facts.{ReplicaModel}
-use Rattle.nz_machine.proofs.SentFields.{vector_counts}
-use Rattle.nz_machine.proofs.RejoinInvariant.{kept_teller}
+use Rattle.nz_machine.specs.rules.Facts.{ReplicaModel}
+use Rattle.nz_machine.proofs.facts.SentFields.{vector_counts}
+use Rattle.nz_machine.proofs.facts.RejoinInvariant.{kept_teller}
 use Rattle.nz_machine.proofs.state.ReplicaState.note_teller.Goals as goal
 
 pub invariant_of-self-2 : goal.invariant_of-self-2

@@ -5,8 +5,8 @@ use Rattle.std.specs.List.{filter}
 use Rattle.nz_base.specs.Cluster.{replica_count}
 use Rattle.nz_cv.specs.Vectors.{is_stray}
 use Rattle.nz_machine.specs.declared.data.ToldView.{ToldView}
-use Rattle.nz_machine.specs.Facts.{ReplicaModel}
-use Rattle.nz_machine.proofs.RejoinInvariant.{kept_tell}
+use Rattle.nz_machine.specs.rules.Facts.{ReplicaModel}
+use Rattle.nz_machine.proofs.facts.RejoinInvariant.{kept_tell}
 use Rattle.nz_machine.proofs.state.ReplicaState.note_view.Goals as goal
 
 pub invariant_of-self : goal.invariant_of-self

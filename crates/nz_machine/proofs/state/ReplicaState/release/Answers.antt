@@ -1,9 +1,9 @@
 -- What the function of this folder owes, proved.
 use Rattle.std.proofs.Common.{◌≡◌, Bool, true, sym, ap, subst, ◌∙◌}
-use Rattle.nz_machine.specs.Facts.{ReplicaModel}
-use Rattle.nz_machine.specs.Replicas.{is_normal, leads}
-use Rattle.nz_machine.specs.Releases.{log_with_entry, results_with_entry, first_may}
-use Rattle.nz_machine.proofs.StateInvariant.{first_may_stand, room_left, kept_release, kept_crashed}
+use Rattle.nz_machine.specs.rules.Facts.{ReplicaModel}
+use Rattle.nz_machine.specs.rules.Replicas.{is_normal, leads}
+use Rattle.nz_machine.specs.rules.Releases.{log_with_entry, results_with_entry, first_may}
+use Rattle.nz_machine.proofs.facts.StateInvariant.{first_may_stand, room_left, kept_release, kept_crashed}
 use Rattle.nz_machine.proofs.state.ReplicaState.release.Goals as goal
 
 pub take_in-requires-clause-above : goal.take_in-requires-clause-above

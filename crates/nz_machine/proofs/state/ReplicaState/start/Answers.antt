@@ -1,13 +1,13 @@
 -- What the function of this folder owes, proved.
 use Rattle.std.proofs.Common.{IsFalse, ◌==◌, sym, ap, subst, ◌∙◌}
 use Rattle.nz_base.specs.Cluster.{leader_of}
-use Rattle.nz_machine.specs.State.{ReplicaData}
-use Rattle.nz_machine.specs.Facts.{ReplicaModel}
-use Rattle.nz_machine.specs.Parts.{data_of}
-use Rattle.nz_machine.specs.Adopting.{normal_in}
-use Rattle.nz_machine.proofs.StateInvariant.{kept_crashed}
-use Rattle.nz_machine.proofs.SyncInvariant.{kept_apart}
-use Rattle.nz_machine.proofs.ViewInvariant.{started, kept_start}
+use Rattle.nz_machine.specs.rules.State.{ReplicaData}
+use Rattle.nz_machine.specs.rules.Facts.{ReplicaModel}
+use Rattle.nz_machine.specs.rules.Parts.{data_of}
+use Rattle.nz_machine.specs.rules.Adopting.{normal_in}
+use Rattle.nz_machine.proofs.facts.StateInvariant.{kept_crashed}
+use Rattle.nz_machine.proofs.facts.SyncInvariant.{kept_apart}
+use Rattle.nz_machine.proofs.facts.ViewInvariant.{started, kept_start}
 use Rattle.nz_machine.proofs.state.ReplicaState.start.Goals as goal
 
 pub adopt-requires-clause-apart : goal.adopt-requires-clause-apart

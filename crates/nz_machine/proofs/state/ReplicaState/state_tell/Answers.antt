@@ -2,7 +2,7 @@
 use Rattle.std.proofs.Common.{List, sym, subst, arith}
 use Rattle.nz_base.specs.declared.key.Entry.{Entry}
 use Rattle.nz_msg.specs.Fields.{entries}
-use Rattle.nz_machine.proofs.FitReplicas.{own_log}
+use Rattle.nz_machine.proofs.facts.FitReplicas.{own_log}
 use Rattle.nz_machine.proofs.state.ReplicaState.state_tell.Goals as goal
 
 pub returns-clause-fits : goal.returns-clause-fits

@@ -1,11 +1,11 @@
 -- What the function of this folder owes, proved.
 use Rattle.std.proofs.Common.{◌≡◌, true, drop, max, min, IsFalse, sym, ap, subst, ◌∙◌, arith}
-use Rattle.nz_machine.specs.State.{ReplicaData}
-use Rattle.nz_machine.specs.Facts.{ReplicaModel}
-use Rattle.nz_machine.specs.Parts.{data_of}
-use Rattle.nz_machine.specs.Replicas.{is_normal, leads}
-use Rattle.nz_machine.specs.LogMods.{sync_keys, overtaken_to_late, committed_to}
-use Rattle.nz_machine.proofs.SyncInvariant.{kept_apart, kept_sync, sync_state}
+use Rattle.nz_machine.specs.rules.State.{ReplicaData}
+use Rattle.nz_machine.specs.rules.Facts.{ReplicaModel}
+use Rattle.nz_machine.specs.rules.Parts.{data_of}
+use Rattle.nz_machine.specs.rules.Replicas.{is_normal, leads}
+use Rattle.nz_machine.specs.rules.LogMods.{sync_keys, overtaken_to_late, committed_to}
+use Rattle.nz_machine.proofs.facts.SyncInvariant.{kept_apart, kept_sync, sync_state}
 use Rattle.nz_machine.proofs.state.ReplicaState.take.Goals as goal
 
 pub sync_parts-requires-clause-apart : goal.sync_parts-requires-clause-apart

@@ -2,8 +2,8 @@
 use Rattle.std.proofs.Common.{List, max, sym, subst, arith}
 use Rattle.nz_base.specs.declared.key.Entry.{Entry}
 use Rattle.nz_msg.specs.Fields.{entries}
-use Rattle.nz_machine.proofs.SentFields.{view_fits}
-use Rattle.nz_machine.proofs.FitReplicas.{own_log}
+use Rattle.nz_machine.proofs.facts.SentFields.{view_fits}
+use Rattle.nz_machine.proofs.facts.FitReplicas.{own_log}
 use Rattle.nz_machine.proofs.state.ReplicaState.view_change.Goals as goal
 
 pub returns-clause-fits : goal.returns-clause-fits

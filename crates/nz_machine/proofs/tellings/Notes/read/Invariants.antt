@@ -1,8 +1,8 @@
 -- What the loops of the function of this folder keep.
 use Rattle.std.proofs.Common.{◌≡◌, ◌+◌, List, take, drop, reverse}
-use Rattle.nz_machine.specs.State.{Group}
-use Rattle.nz_machine.specs.Tellings.{AreNoted}
-use Rattle.nz_machine.specs.World.{World}
+use Rattle.nz_machine.specs.rules.State.{Group}
+use Rattle.nz_machine.specs.journals.Tellings.{AreNoted}
+use Rattle.nz_machine.specs.runs.World.{World}
 use Rattle.nz_machine.specs.declared.event.Record.{Record}
 use Rattle.nz_machine.proofs.tellings.Notes.read.Given as goal
 

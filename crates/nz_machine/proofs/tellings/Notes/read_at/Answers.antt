@@ -1,7 +1,7 @@
 -- What the function of this folder owes, proved.
 use Rattle.std.proofs.Common.{◌+◌, sym, ◌∙◌}
 use Rattle.std.proofs.lemmas.Result.{on_ok_weaker}
-use Rattle.nz_machine.proofs.TellingsOfRuns.{next_told, silent_told, rest_at, rest_within}
+use Rattle.nz_machine.proofs.journals.TellingsOfRuns.{next_told, silent_told, rest_at, rest_within}
 use Rattle.nz_machine.proofs.tellings.Notes.read_at.Goals as goal
 
 pub returns-in-Some : goal.returns-in-Some

@@ -1,6 +1,6 @@
 -- What the function of this folder owes, proved.
 use Rattle.std.proofs.lemmas.Result.{on_ok_weaker}
-use Rattle.nz_machine.proofs.TellingsOfRuns.{told_next, told_nothing}
+use Rattle.nz_machine.proofs.journals.TellingsOfRuns.{told_next, told_nothing}
 use Rattle.nz_machine.proofs.tellings.Notes.read_next.Goals as goal
 
 pub returns-then-tells_nothing : goal.returns-then-tells_nothing

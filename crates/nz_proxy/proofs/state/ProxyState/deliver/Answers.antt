@@ -3,8 +3,8 @@ use Rattle.std.proofs.Common.{◌≡◌, List, [], ℕ, ap, sym, ◌∙◌, inl,
 use Rattle.std.specs.Option.{option_copied}
 use Rattle.nz_base.specs.declared.actor.Actor.{Actor}
 use Rattle.nz_base.specs.declared.actor.Actor.TheVariants.{Proxy}
-use Rattle.nz_machine.specs.State.{ProxyData, Out}
-use Rattle.nz_machine.specs.Step.{parcel, envelope_for, accepted_envelope, envelope_step}
+use Rattle.nz_machine.specs.rules.State.{ProxyData, Out}
+use Rattle.nz_machine.specs.rules.Step.{parcel, envelope_for, accepted_envelope, envelope_step}
 use Rattle.nz_proxy.specs.Models.{ProxyModel, group_with_cluster}
 use Rattle.nz_proxy.proofs.Passing.{counts, nothing_sent, passed_over}
 use Rattle.nz_proxy.proofs.state.ProxyState.deliver.Goals as goal

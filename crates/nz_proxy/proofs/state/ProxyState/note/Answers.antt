@@ -9,8 +9,8 @@ use Rattle.nz_base.specs.Key.{id_eq}
 use Rattle.nz_store.specs.declared.command.Answer.{Answer}
 use Rattle.nz_msg.specs.declared.message.Path.{Path}
 use Rattle.nz_msg.specs.Fields.{answer}
-use Rattle.nz_machine.specs.State.{ProxyData}
-use Rattle.nz_machine.specs.Proxies.{after_replica_reply, standing_of}
+use Rattle.nz_machine.specs.rules.State.{ProxyData}
+use Rattle.nz_machine.specs.rules.Proxies.{after_replica_reply, standing_of}
 use Rattle.nz_quorum.specs.Tallies.{IsOfCluster}
 use Rattle.nz_proxy.specs.Models.{ProxyModel, IsKeptProxy}
 use Rattle.nz_proxy.specs.declared.standing.Standing.{Standing}

@@ -2,7 +2,7 @@
 use Rattle.std.proofs.Common.{ℕ, Bool, List, ap, ◌∙◌, sym, subst}
 use Rattle.std.specs.List.{AllByRecursion}
 use Rattle.nz_base.specs.declared.key.Id.{Id}
-use Rattle.nz_machine.specs.State.{Standing as StandingModel}
+use Rattle.nz_machine.specs.rules.State.{Standing as StandingModel}
 use Rattle.nz_proxy.specs.Models.{ProxyModel}
 use Rattle.nz_proxy.specs.declared.standing.Standing.{Standing}
 use Rattle.nz_proxy.specs.Standings.{known_standings, IsFitStanding, IsFitEntry}

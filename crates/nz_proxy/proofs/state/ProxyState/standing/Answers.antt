@@ -2,7 +2,7 @@
 use Rattle.std.proofs.Common.{ap, ◌∙◌, subst, ℕ}
 use Rattle.std.specs.Prelude.{IfSome}
 use Rattle.std.specs.Option.{option_map}
-use Rattle.nz_machine.specs.Proxies.{standing_of}
+use Rattle.nz_machine.specs.rules.Proxies.{standing_of}
 use Rattle.nz_proxy.specs.Models.{ProxyModel}
 use Rattle.nz_proxy.specs.Standings.{known_standing, IsFitStanding}
 use Rattle.nz_proxy.proofs.Tables.{known_lookup, known_borrowed, fit_lookup, fit_borrowed}

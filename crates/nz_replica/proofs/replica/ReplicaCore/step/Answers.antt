@@ -1,6 +1,6 @@
 -- What the function of this folder owes, proved.
 use Rattle.std.proofs.Common.{[], refl, ap, ◌∙◌}
-use Rattle.nz_machine.specs.Facts.{ReplicaModel}
+use Rattle.nz_machine.specs.rules.Facts.{ReplicaModel}
 use Rattle.nz_replica.proofs.replica.ReplicaCore.step.Goals as goal
 
 -- a step leaves the cluster, as it says of any group with it, and what it sends is taken out

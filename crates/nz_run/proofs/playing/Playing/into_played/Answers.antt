@@ -2,8 +2,8 @@
 use Rattle.std.proofs.Common.{List, sym, subst}
 use Rattle.nz_base.specs.declared.scenario.Scenario.{Scenario}
 use Rattle.nz_machine.specs.declared.event.Record.{Record}
-use Rattle.nz_machine.specs.Journals.{run_in}
-use Rattle.nz_machine.specs.Schedule.{group_of}
+use Rattle.nz_machine.specs.journals.Journals.{run_in}
+use Rattle.nz_machine.specs.runs.Schedule.{group_of}
 use Rattle.nz_replica.specs.Models.{AreCores}
 use Rattle.nz_run.specs.Playing.{run_of, scenario_of}
 use Rattle.nz_run.proofs.playing.Playing.into_played.Goals as goal

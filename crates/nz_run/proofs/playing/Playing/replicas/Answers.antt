@@ -1,6 +1,6 @@
 -- What the function of this folder owes, proved.
 use Rattle.std.proofs.Common.{List, sym, subst}
-use Rattle.nz_machine.specs.Schedule.{group_of}
+use Rattle.nz_machine.specs.runs.Schedule.{group_of}
 use Rattle.nz_replica.specs.Models.{AreCores, ReplicaCore}
 use Rattle.nz_run.specs.Playing.{run_of, scenario_of}
 use Rattle.nz_run.proofs.LastCores.{are_cores}

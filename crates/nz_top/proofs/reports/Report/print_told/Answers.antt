@@ -5,10 +5,10 @@ use Rattle.std.proofs.lemmas.Option.{IfSome_then}
 use Rattle.std.proofs.lemmas.Result.{IfOk-weaker}
 use Rattle.nz_base.specs.declared.scenario.Scenario.{Scenario}
 use Rattle.nz_machine.specs.declared.event.Record.{Record}
-use Rattle.nz_machine.specs.Journals.{group_in, run_in}
-use Rattle.nz_machine.specs.Schedule.{group_of}
-use Rattle.nz_machine.specs.Tellings.{told_by_run}
-use Rattle.nz_machine.specs.World.{World}
+use Rattle.nz_machine.specs.journals.Journals.{group_in, run_in}
+use Rattle.nz_machine.specs.runs.Schedule.{group_of}
+use Rattle.nz_machine.specs.journals.Tellings.{told_by_run}
+use Rattle.nz_machine.specs.runs.World.{World}
 use Rattle.nz_observe.specs.Observed.{observed}
 use Rattle.nz_replica.specs.Models.{AreCores}
 use Rattle.nz_text.specs.Text as texts

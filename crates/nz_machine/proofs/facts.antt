@@ -1,0 +1,26 @@
+-- The facts of a replica's state, kept by each word of the rules.
+pub mod KeysApart
+pub mod IdCounts
+pub mod Stores
+pub mod ArrangedEntries
+pub mod RulesKeepFacts
+pub mod Adopting
+pub mod StateInvariant
+pub mod Guards
+pub mod EachEntry
+pub mod SentFields
+pub mod FitReplicas
+pub mod Choices
+pub mod FitProxies
+pub mod FitClients
+pub mod FitSteps
+pub mod KeysKeepFacts
+pub mod SyncKeepsFacts
+pub mod Takes
+pub mod SyncInvariant
+pub mod Adopts
+pub mod Collects
+pub mod ViewInvariant
+pub mod RejoinInvariant
+pub mod Carried
+pub mod WordsKeepFacts

@@ -1,0 +1,5 @@
+-- Runs worked by computation.
+pub mod WorkedRuns
+pub mod WorkedSteps
+pub mod ViewChangeRun
+pub mod RejoinRun

@@ -1,0 +1,7 @@
+-- Journals: the records of a run, and what they say of clients and links.
+pub mod Records
+pub mod Journals
+pub mod ClientProgress
+pub mod Tellings
+pub mod Links
+pub mod LinksFall

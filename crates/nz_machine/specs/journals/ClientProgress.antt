@@ -1,0 +1,136 @@
+-- What the records of a run show of its clients: how far each is, and the events of a record.
+use Rattle.std.specs.Prelude.{◌≡◌, ℕ, ◌<◌, ◌≤◌, not, ◌==◌, nat_lt, if◌then◌else◌, List, [], ◌∷◌, ◌++◌}
+use Rattle.std.specs.Prelude.{length, map, filter, Option, Some, None, Result, Ok, Err, slice_get}
+use Rattle.std.specs.List.{list_any}
+use Rattle.nz_base.specs.declared.actor.Actor.{Actor}
+use Rattle.nz_base.specs.declared.actor.Actor.TheVariants.{Proxy, Client}
+use Rattle.nz_base.specs.declared.key.Id.{Id}
+use Rattle.nz_msg.specs.declared.envelope.Envelope.{Envelope}
+use Rattle.nz_msg.specs.declared.refusal.DecodeRefusal.{DecodeRefusal}
+use Rattle.nz_msg.specs.declared.message.Message.{Message}
+use Rattle.nz_msg.specs.declared.message.Message.TheVariants.{Answer, Request}
+use Rattle.nz_msg.specs.Envelope.{decode_of}
+use Rattle.nz_machine.specs.declared.data.Attempt.{Attempt}
+use Rattle.nz_machine.specs.declared.event.Event.{Event}
+use Rattle.nz_machine.specs.declared.event.Event.TheVariants.{Deliver, Cut, Tick, Alarm, Crash, Restart}
+use Rattle.nz_machine.specs.declared.event.Parcel.{Parcel}
+use Rattle.nz_machine.specs.declared.event.Record.{Record}
+use Rattle.nz_machine.specs.declared.client_progress.Acceptance.{Acceptance}
+use Rattle.nz_machine.specs.declared.client_progress.Telling.{Telling}
+use Rattle.nz_machine.specs.rules.State.{ClientData, Group}
+use Rattle.nz_machine.specs.rules.Step.{envelope_for, script_of}
+use Rattle.nz_machine.specs.runs.World.{state_after}
+use Rattle.nz_machine.specs.runs.Events.{ClientEvent, Sent, Accepted, id_at, script_command}
+
+-- ---- what a telling means
+
+-- The event of an acceptance, if there is one.
+abbrev pub acceptance_events : Option Acceptance → List ClientEvent
+acceptance_events None = []
+acceptance_events (Some a) = Accepted a.id a.answer a.path ∷ []
+
+-- The command of a request is that of its client's script.
+abbrev pub request_event : Group → Id → ClientEvent
+request_event g id = Sent id (script_command (script_of g id.client) id.num)
+
+-- The events of some requests.
+abbrev pub request_events : Group → List Id → List ClientEvent
+request_events g ids = map (request_event g) ids
+
+-- The events of a telling: the acceptance first.
+abbrev pub events_of_telling : Group → Telling → List ClientEvent
+events_of_telling g t = acceptance_events t.accepted ++ request_events g t.sent
+
+-- ---- how far the clients are
+
+-- How far a client is: the number of the request that it sent last, or 0, and the numbers of the open ones.
+pub record Progress : Type 0 where
+  pub sent : ℕ
+  pub waiting : List ℕ
+
+-- What is known of a client at the start.
+abbrev pub first_progress : Progress
+first_progress = record { sent = 0; waiting = [] }
+
+-- What of a client's state is kept: how many requests it sent, and the numbers of the open ones.
+abbrev pub progress_of : ClientData → Progress
+progress_of s = record { sent = s.sent; waiting = map (λ (a : Attempt). a.num) s.attempts }
+
+-- Each client of the group is as far as it is after the records.
+pub record AreAfter (g : Group) (J : List Record) (clients : List Progress) : Type 0 where
+  pub count : length clients ≡ length g.scripts
+  pub each : (c : ℕ) → c < length g.scripts → slice_get clients c ≡ Some (progress_of (state_after g (Client c) J))
+
+-- The actor is none of this many clients.
+abbrev pub IsNoneOf : ℕ → Actor → Type 0
+IsNoneOf count (Client c) = count ≤ c
+IsNoneOf count _ = Unit {0}
+
+-- ---- what one record shows of its client
+
+-- A proxy's answer with the number of an open request.
+abbrev pub acceptance_in : ℕ → Progress → Actor → Message → Option Acceptance
+acceptance_in c p (Proxy q) (Answer b) =
+    if list_any (λ num. num == b.num) p.waiting then Some (record { id = id_at c b.num; answer = b.answer; path = b.path }) else None
+acceptance_in c p _ _ = None
+
+-- The acceptance in what a client reads, if it is one.
+abbrev pub acceptance_read : ℕ → Progress → Option Envelope → Option Acceptance
+acceptance_read c p None = None
+acceptance_read c p (Some e) = acceptance_in c p e.from e.message
+
+-- The acceptance, where the event delivers one.
+abbrev pub acceptance_of : ℕ → Progress → Event → Option Acceptance
+acceptance_of c p (Deliver parcel) = acceptance_read c p (envelope_for (Client c) parcel)
+acceptance_of c p (Cut kept parcel) = None
+acceptance_of c p (Tick clock) = None
+acceptance_of c p Alarm = None
+acceptance_of c p Crash = None
+acceptance_of c p (Restart nonce) = None
+
+-- What is accepted is no longer open.
+abbrev pub with_answer : Progress → Option Acceptance → Progress
+with_answer p None = p
+with_answer p (Some a) = record p { waiting = filter (λ num. not (num == a.id.num)) p.waiting }
+
+-- The number of the request in a message.
+abbrev pub num_in : Message → Option ℕ
+num_in (Request b) = Some b.num
+num_in _ = None
+
+-- The same, of a decoded frame.
+abbrev pub num_read : Result Envelope DecodeRefusal → Option ℕ
+num_read (Err refusal) = None
+num_read (Ok e) = num_in e.message
+
+-- The number of the request that a parcel has, if it has one.
+unfoldable pub num_of : Parcel → Option ℕ
+num_of parcel = num_read (decode_of parcel.frame)
+
+-- A request is new exactly where its number is above those of all that were sent.
+abbrev pub new_in : ℕ → Progress → Option ℕ → List Id
+new_in c p None = []
+new_in c p (Some num) = if nat_lt p.sent num then id_at c num ∷ [] else []
+
+-- A request of a greater number than all before is new, and open.
+abbrev pub with_num : Progress → Option ℕ → Progress
+with_num p None = p
+with_num p (Some num) = if nat_lt p.sent num then record { sent = num; waiting = p.waiting ++ num ∷ [] } else p
+
+-- The new requests among those with these numbers, in their order.
+abbrev pub new_among : ℕ → Progress → List (Option ℕ) → List Id
+new_among c p [] = []
+new_among c p (num ∷ nums) = new_in c p num ++ new_among c (with_num p num) nums
+
+-- The same of several requests in turn.
+abbrev pub with_all : Progress → List (Option ℕ) → Progress
+with_all p [] = p
+with_all p (num ∷ nums) = with_all (with_num p num) nums
+
+-- What the record of a client says, and how far the client is then.
+abbrev pub after_client_record : ℕ → Progress → Event → List Parcel → Telling × Progress
+after_client_record c p e sends =
+    let accepted = acceptance_of c p e in
+    let free = with_answer p accepted in
+    let nums = map num_of sends in
+    (record { accepted = accepted; sent = new_among c free nums }, with_all free nums)

@@ -1,0 +1,21 @@
+-- The rules of replica, proxy and client, and the words that they are made of.
+pub mod State
+pub mod Replicas
+pub mod Requests
+pub mod Releases
+pub mod Facts
+pub mod Parts
+pub mod Vectors
+pub mod Views
+pub mod LogMods
+pub mod Adopting
+pub mod Begins
+pub mod Rejoining
+pub mod Quorums
+pub mod Proxies
+pub mod Clients
+pub mod Step
+pub mod Decoded
+pub mod Does
+pub mod Taking
+pub mod Sends

@@ -1,0 +1,17 @@
+-- What a rule does to a replica, and to the messages that wait to be sent.
+use Rattle.std.specs.Prelude.{◌≡◌, List, [], ◌++◌, map}
+use Rattle.nz_base.specs.declared.actor.Actor.TheVariants.{Replica}
+use Rattle.nz_machine.specs.declared.event.Parcel.{Parcel}
+use Rattle.nz_machine.specs.rules.State.{ReplicaData, Out}
+use Rattle.nz_machine.specs.rules.Facts.{ReplicaModel}
+use Rattle.nz_machine.specs.rules.Step.{parcel}
+
+-- The state is the rule's, and its messages are appended to the earlier ones.
+pub record Does (old new : ReplicaModel) (before after : List Parcel) (t : ReplicaData × List Out) : Type 0 where
+  pub state : new ≡ record old { state = t.0 }
+  pub sends : after ≡ before ++ map (parcel (Replica old.me)) t.1
+
+-- The same of a rule that sends nothing.
+pub record DoesSilently (old new : ReplicaModel) (t : ReplicaData × List Out) : Type 0 where
+  pub state : new ≡ record old { state = t.0 }
+  pub silent : t.1 ≡ []
