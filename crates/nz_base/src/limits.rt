@@ -37,16 +37,16 @@ pub const MAX_REPLICA: u8 = MAX_REPLICAS as u8 - 1;
 pub const MARGIN: u64 = 500;
 
 /// After this many ticks without its leader, or in one view change, a replica enters the next view.
-pub const MAX_QUIET: u8 = 20;
+pub const VIEW_TIMEOUT_TICKS: u8 = 20;
 
 /// A replica in a view change asks the others for their views again after this many ticks.
-pub const ASK_PERIOD: u8 = 5;
+pub const VIEW_ASK_TICKS: u8 = 5;
 
 /// A replica that rejoins asks again after this many ticks.
-pub const REJOIN_PERIOD: u8 = 5;
+pub const REJOIN_ASK_TICKS: u8 = 5;
 
 /// A client sends a request again after this many ticks without an answer.
-pub const PATIENCE: u32 = 30;
+pub const RETRY_TICKS: u32 = 30;
 
 /// The greatest f of a cluster of 2f + 1 replicas.
 pub const MAX_F: u32 = 4;
@@ -73,7 +73,7 @@ pub const MAX_TICKS: u32 = 20_000;
 pub const MAX_REQUESTS: u64 = 2_000;
 
 /// The most requests times ticks of a scenario.
-pub const MAX_TURNS: u64 = 2_000_000;
+pub const MAX_REQUEST_TICKS: u64 = 2_000_000;
 
 /// The most fault lines of a scenario.
 pub const MAX_FAULTS: u64 = 1_000;

@@ -67,7 +67,7 @@ plain_lin E H lin = record {
       let t = lin.answered id answer path h in
       record {
         place = t.place;
-        stands = plain_place H id ∙ t.stands;
+        place_is = plain_place H id ∙ t.place_is;
         answered = ap (λ (l : List (List ℕ)). reply l t.place) (plain_commands H) ∙ t.answered;
       };
   in_order = λ a b answer path command h e there is.

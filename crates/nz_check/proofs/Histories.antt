@@ -24,7 +24,7 @@ use Rattle.nz_machine.specs.rules.Quorums.{answer_eq}
 use Rattle.nz_machine.specs.rules.Replicas.{commands}
 use Rattle.nz_machine.specs.runs.World.{Has}
 use Rattle.nz_machine.specs.runs.Events.{Sent, Accepted}
-use Rattle.nz_machine.specs.runs.OneHistory.{Precedes, StandsBefore, IsAnswered, Lin}
+use Rattle.nz_machine.specs.runs.OneHistory.{Precedes, ComesBefore, IsAnswered, Lin}
 use Rattle.nz_text.specs.declared.printed.Event.{Event}
 use Rattle.nz_text.specs.declared.printed.Event.TheVariants.{Send, Accept}
 use Rattle.nz_text.specs.declared.printed.Printed.{Printed}
@@ -373,13 +373,13 @@ module _ (p : Printed) (events_fine : EachFine (event_why p) [] p.events) (fine 
       ∙ ap Some (entry_at t.before t.after t.entry t.whole).answer in
       record {
         place = length t.before;
-        stands = there;
+        place_is = there;
         answered = ap (λ (l : List (List ℕ)). reply l (length t.before)) (commands_are p.history) ∙ said ∙ ap Some f.same;
       }
 
-  stands : (a b : Id) (answer : Answer) (path : Path) (command : List ℕ) → Precedes (map client_event p.events) (Accepted a answer path) (Sent b command)
-      → (x : Executed) → Has p.history x → x.id ≡ b → StandsBefore (entries_of p.history) a b
-  stands a b answer path command h x there is =
+  comes_before : (a b : Id) (answer : Answer) (path : Path) (command : List ℕ) → Precedes (map client_event p.events) (Accepted a answer path) (Sent b command)
+      → (x : Executed) → Has p.history x → x.id ≡ b → ComesBefore (entries_of p.history) a b
+  comes_before a b answer path command h x there is =
       let t = cut_after p.events (Accept a answer path) (Send b command) (precedes_here p.events (Accepted a answer path) (Sent b command) h) in
       let none = fine_send p t.before b command (events_fine t.before t.after (Send b command) t.whole) in
       let before = subst (λ (l : List Event). Has (accepted_before b l) a) (sym t.whole)
@@ -399,10 +399,10 @@ module _ (p : Printed) (events_fine : EachFine (event_why p) [] p.events) (fine 
       }
 
   in_order : (a b : Id) (answer : Answer) (path : Path) (command : List ℕ) → Precedes (map client_event p.events) (Accepted a answer path) (Sent b command)
-      → (e : Entry) → Has (entries_of p.history) e → id_of e.key ≡ b → StandsBefore (entries_of p.history) a b
+      → (e : Entry) → Has (entries_of p.history) e → id_of e.key ≡ b → ComesBefore (entries_of p.history) a b
   in_order a b answer path command h e there is =
       let i = image_of_has entry_of p.history e there in
-      stands a b answer path command h i.item i.there (ap (λ (e : Entry). id_of e.key) i.is ∙ is)
+      comes_before a b answer path command h i.item i.there (ap (λ (e : Entry). id_of e.key) i.is ∙ is)
 
   pub fine_history : Lin (map client_event p.events) (entries_of p.history)
   fine_history = record {
@@ -432,7 +432,7 @@ module _ (p : Printed) (lin : Lin (map client_event p.events) (entries_of p.hist
   pub answer_told : (id : Id) (answer : Answer) (path : Path) → Has p.events (Accept id answer path) → answer_at id p.history ≡ Some answer
   answer_told id answer path h =
       let by = lin.answered id answer path (has_map client_event p.events (Accept id answer path) h) in
-      let t = first_of_place id p.history by.place by.stands in
+      let t = first_of_place id p.history by.place by.place_is in
       let said : Some (answer_after (commands_of t.before) t.entry.command) ≡ Some answer =
       sym (reply_at t.before t.after t.entry) ∙ ap (λ (l : List Executed). reply (commands_of l) (length t.before)) (sym t.whole)
       ∙ ap (reply (commands_of p.history)) t.counted ∙ ap (λ (l : List (List ℕ)). reply l by.place) (sym (commands_are p.history)) ∙ by.answered in

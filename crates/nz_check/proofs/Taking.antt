@@ -27,7 +27,8 @@ use Rattle.nz_check.specs.declared.events.Noted.{Noted}
 use Rattle.nz_check.specs.Checked.{sends_it, answer_at, event_why}
 use Rattle.nz_check.specs.Noting.{first_place, reach_of_place, reach_of, accepted_ids, sent_of, AreNoted, IsTaken}
 use Rattle.nz_check.proofs.Meanings.{why_skips, why_is, fails, lets}
-use Rattle.nz_check.proofs.Notes.{sent_test, unsent_test, unsent_is, placed, not_placed, ids_with_send, ids_with_accept, reach_push, sent_kept, sent_now, sent_accepted, sent_is}
+use Rattle.nz_check.proofs.Notes.{sent_test, unsent_test, unsent_is, placed, not_placed, ids_with_send, ids_with_accept, reach_push, sent_kept}
+use Rattle.nz_check.proofs.Notes.{sent_now, sent_accepted, sent_is}
 
 -- none accepts what none sends
 pub not_accepted : (H : List Executed) (E : List Event) (old : Noted) (id : Id) → AreNoted H E old → list_any (sends_it id) E ≡ false → list_any (accepts_it id) E ≡ false

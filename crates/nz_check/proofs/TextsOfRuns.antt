@@ -19,7 +19,7 @@ use Rattle.nz_machine.specs.declared.event.Record.{Record}
 use Rattle.nz_machine.specs.rules.State.{ClientData, Group}
 use Rattle.nz_machine.specs.rules.Replicas.{commands}
 use Rattle.nz_machine.specs.rules.Step.{script_of}
-use Rattle.nz_machine.specs.runs.World.{state_after, Has, IsAsked, IsGroup, IsMember, World}
+use Rattle.nz_machine.specs.runs.World.{state_after, Has, HasCommand, IsGroup, IsMember, World}
 use Rattle.nz_machine.specs.runs.Events.{ClientEvent, Sent, Accepted, id_at, command_of_request, read_in, accepted_in}
 use Rattle.nz_machine.specs.runs.Events.{accepted_by, sent_after, sent_by, client_events, events}
 use Rattle.nz_machine.specs.runs.History.{history}
@@ -47,7 +47,7 @@ abbrev FitsSent : ClientEvent → Type 0
 FitsSent (Sent id command) = FitsId id × IsSome (command_of command)
 FitsSent (Accepted id answer path) = Unit {0}
 
-command_fits : (script : List Request) (i : ℕ) → i < length script → AllByRecursion IsAsked script
+command_fits : (script : List Request) (i : ℕ) → i < length script → AllByRecursion HasCommand script
     → IsSome (command_of (command_of_request (slice_get script i)))
 command_fits [] i lt all = absurd (omega (arith, lt))
 command_fits (r ∷ script) zero lt all = all.0.command
@@ -63,7 +63,7 @@ read_fit : (c : ℕ) (before after : ClientData) (o : Option Envelope) → AllBy
 read_fit c before after None = tt
 read_fit c before after (Some e) = accepted_fit c before after e.message
 
-sent_fits : (c : ℕ) (script : List Request) (num more : ℕ) → c ≤ 63 → length script ≤ 2000 → AllByRecursion IsAsked script → more ≤ length script - num
+sent_fits : (c : ℕ) (script : List Request) (num more : ℕ) → c ≤ 63 → length script ≤ 2000 → AllByRecursion HasCommand script → more ≤ length script - num
     → AllByRecursion FitsSent (sent_after c script num more)
 sent_fits c script num zero address short all few = tt
 sent_fits c script num (suc more) address short all few = (

@@ -7,7 +7,7 @@ use Rattle.std.proofs.lemmas.List.{length-append, map-append, append_assoc, appe
 use Rattle.std.proofs.lemmas.Bool.{cases_lt, eq-eqb, false≢true, cases_Bool, cond_both}
 use Rattle.nz_base.specs.declared.actor.Actor.TheVariants.{Client}
 use Rattle.nz_base.specs.declared.scenario.Request.{Request}
-use Rattle.nz_base.specs.declared.limits.TheConstants.{PATIENCE}
+use Rattle.nz_base.specs.declared.limits.TheConstants.{RETRY_TICKS}
 use Rattle.nz_machine.specs.declared.data.Attempt.{Attempt}
 use Rattle.nz_machine.specs.declared.event.Parcel.{Parcel}
 use Rattle.nz_machine.specs.rules.State.{ClientData, Out}
@@ -83,7 +83,7 @@ done_all f zero (x ∷ xs) le = absurd (omega (arith, le))
 done_all f (suc i) [] le = refl
 done_all f (suc i) (x ∷ xs) le = ap (λ (l : List Attempt). f x ∷ l) (done_all f i xs (omega (arith, le)))
 
-waited_by : (proxies : ℕ) (a : Attempt) (b : Bool) → eqb (a.since + 1) PATIENCE ≡ b → IsOfProxies proxies a
+waited_by : (proxies : ℕ) (a : Attempt) (b : Bool) → eqb (a.since + 1) RETRY_TICKS ≡ b → IsOfProxies proxies a
     → IsOfProxies proxies (cond b (record { num = a.num; proxy = (a.proxy + 1) % proxies; since = 0 })
     (record { num = a.num; proxy = a.proxy; since = a.since + 1 }))
 waited_by proxies a true e h = let below = h.proxy in record { proxy = omega (arith, below); since = omega arith }
@@ -91,9 +91,9 @@ waited_by proxies a false e h =
     let since = h.since in
     record {
       proxy = h.proxy;
-      since = elim (cases_lt (a.since + 1) PATIENCE) [
+      since = elim (cases_lt (a.since + 1) RETRY_TICKS) [
         | inl lt ↦ lt
-        | inr le ↦ absurd (false≢true (sym e ∙ eq-eqb (a.since + 1) PATIENCE (omega (arith, since, le))))
+        | inr le ↦ absurd (false≢true (sym e ∙ eq-eqb (a.since + 1) RETRY_TICKS (omega (arith, since, le))))
       ];
     }
 

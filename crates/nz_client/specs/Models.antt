@@ -2,7 +2,7 @@
 use Rattle.std.specs.Prelude.{ℕ, Bool, ◌≡◌, ◌<◌, ◌≤◌, ◌+◌, ◌^◌, List, [], ◌∷◌, length, Option, Some, None}
 use Rattle.std.specs.List.{AllByRecursion}
 use Rattle.nz_base.specs.declared.scenario.Request.{Request}
-use Rattle.nz_base.specs.declared.limits.TheConstants.{MAX_CLIENT, MAX_PROXIES, MAX_WINDOW, PATIENCE}
+use Rattle.nz_base.specs.declared.limits.TheConstants.{MAX_CLIENT, MAX_PROXIES, MAX_WINDOW, RETRY_TICKS}
 use Rattle.nz_msg.specs.Fields.{command}
 use Rattle.nz_machine.specs.declared.data.Attempt.{Attempt}
 use Rattle.nz_machine.specs.rules.State.{ClientData, Group}
@@ -19,7 +19,7 @@ pub record ClientModel : Type 0 where
 -- An open request was sent to one of the proxies, and waits not too long.
 pub record IsOfProxies (proxies : ℕ) (a : Attempt) : Type 0 where
   pub proxy : a.proxy < proxies
-  pub since : a.since < PATIENCE
+  pub since : a.since < RETRY_TICKS
 
 -- A request that a frame can carry.
 pub record IsSendable (request : Request) : Type 0 where

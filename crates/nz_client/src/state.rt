@@ -13,7 +13,7 @@ ghost use Rattle.nz_machine.specs.rules.Step.{parcel};
 ghost use Rattle.nz_client.specs.Models as models;
 ghost use Rattle.nz_client.specs.Models.{IsSendable, AreSendable, IsOfProxies, IsSameClient};
 
-use nz_base::{Actor, NoMemory, PATIENCE, Request, RequestList, TryCopy};
+use nz_base::{Actor, NoMemory, RETRY_TICKS, Request, RequestList, TryCopy};
 use nz_machine::{Attempt, Outbox};
 use nz_msg::{AnswerBody, Message, RequestBody};
 use std::alloc::Global;
@@ -330,10 +330,10 @@ fn next_proxy(proxies: u8, proxy: u8) -> u8
 
 /// Whether the open request has waited long enough at the next tick.
 fn is_overdue(attempt: Attempt) -> bool
-    requires { attempt.since < PATIENCE }
+    requires { attempt.since < RETRY_TICKS }
     ensures { result ≡ clients.is_overdue attempt }
 {
-    attempt.since + 1 == PATIENCE
+    attempt.since + 1 == RETRY_TICKS
 }
 
 /// An open request, when it has waited one tick more.

@@ -20,7 +20,7 @@ use Rattle.nz_machine.specs.runs.Schedule.{Delivery, Posted, posted_in, posted_b
 use Rattle.nz_fabric.specs.declared.calendar.Arrival.{Arrival}
 use Rattle.nz_fabric.specs.declared.course.Course.{Course}
 use Rattle.nz_fabric.specs.declared.course.Traffic.{Traffic}
-use Rattle.nz_fabric.specs.Calendars.{StandsFor, Dates, items_in, parcels_of, posted_by, course, traffic_of, count_of, next_number}
+use Rattle.nz_fabric.specs.Calendars.{Represents, Dates, items_in, parcels_of, posted_by, course, traffic_of, count_of, next_number}
 use Rattle.nz_fabric.specs.Calendars.{counted_kind, IsCounted, KeepsLines}
 use Rattle.nz_fabric.specs.Posting.{last_delivery_tick, delivery_as_stored, arrival_of, items_arriving}
 use Rattle.nz_fabric.specs.Posting.{arrivals_up_to, days_of, HasRoomFor, HasRooms, AreKept, AreShort, HasNumberIfWatched}
@@ -257,11 +257,11 @@ arrivals_push s t earlier (y ∷ L) x =
     ++ due_of t x.parcel (deliveries s x.tick e x.parcel)) (append_assoc earlier (y.parcel ∷ []) (parcels_of L))
 
 pub posted_one : (s : Scenario) (L : List Posted) (now : ℕ) (c c' : Dates) (tick : ℕ) (p : Parcel) (arrived : List Arrival)
-    → StandsFor s L now c → s.ticks < last_delivery_tick
+    → Represents s L now c → s.ticks < last_delivery_tick
     → HasNumberIfWatched s.faults (parcels_of L) p (next_number (traffic_of c.courses p (counted_kind s.faults (kind_in_frame p.frame))))
     → c'.parcels ≡ c.parcels + 1 → c'.watched ≡ c.watched → IsCounted s.faults c.courses c'.courses p (counted_kind s.faults (kind_in_frame p.frame))
     → arrived ≡ arrivals_up_to s.ticks (map (arrival_of p) (map delivery_as_stored (deliveries s tick (parcels_of L) p)))
-    → ((t : ℕ) → items_in c'.days t ≡ items_in c.days t ++ items_arriving t arrived) → StandsFor s (L ++ posted_in tick p ∷ []) now c'
+    → ((t : ℕ) → items_in c'.days t ≡ items_in c.days t ++ items_arriving t arrived) → Represents s (L ++ posted_in tick p ∷ []) now c'
 posted_one s L now c c' tick p arrived h below is parcels watched count arrive items =
     let ds = deliveries s tick (parcels_of L) p in
     record {
@@ -280,7 +280,7 @@ posted_one s L now c c' tick p arrived h below is parcels watched count arrive i
 
 -- only the days' items count
 pub stands_by : (s : Scenario) (L : List Posted) (now : ℕ) (c c' : Dates) → c'.parcels ≡ c.parcels → c'.watched ≡ c.watched
-    → c'.courses ≡ c.courses → ((t : ℕ) → now < t → items_in c'.days t ≡ items_in c.days t) → StandsFor s L now c → StandsFor s L now c'
+    → c'.courses ≡ c.courses → ((t : ℕ) → now < t → items_in c'.days t ≡ items_in c.days t) → Represents s L now c → Represents s L now c'
 stands_by s L now c c' parcels watched courses items h = record {
   parcels = parcels ∙ h.parcels;
   watched = watched ∙ h.watched;
@@ -318,8 +318,8 @@ pub taken_later : (days : List (Vec Item Global)) (tick t : ℕ) (v : Vec Item G
 taken_later days tick t v lt none =
     ap (λ (D : List (List Item)). items_in D t) (taken_days days tick v none) ∙ get_or-set_other (days_of days) tick t [] [] (λ e. omega (arith, e, lt))
 
-pub stands_later : (s : Scenario) (L : List Posted) (now tick : ℕ) (c : Dates) → now < tick → StandsFor s L now c → StandsFor s L tick c
-stands_later s L now tick c lt h = record {
+pub represents_later : (s : Scenario) (L : List Posted) (now tick : ℕ) (c : Dates) → now < tick → Represents s L now c → Represents s L tick c
+represents_later s L now tick c lt h = record {
   parcels = h.parcels;
   watched = h.watched;
   counts = h.counts;

@@ -13,7 +13,7 @@ use Rattle.nz_machine.specs.runs.Schedule.{Posted, posted_by_run, item_of, due, 
 use Rattle.nz_machine.proofs.lists.ListParts.{take_next}
 use Rattle.nz_fabric.specs.declared.turn.Turn.{Turn}
 use Rattle.nz_fabric.specs.declared.ticks.Ticks.{Ticks}
-use Rattle.nz_fabric.specs.Calendars.{Dates, StandsFor, HasPosted, posted_by}
+use Rattle.nz_fabric.specs.Calendars.{Dates, Represents, HasPosted, posted_by}
 use Rattle.nz_fabric.specs.States.{State, records_of, start_state, IsNew, IsOpen, IsDone, item_in, record_of_turn, with_recorded}
 use Rattle.nz_fabric.specs.States.{after_tick, IsBegun, IsKeptRun, IsPosted, state_of, state_in, IsHeld, AreInOrder, HasBegun, HasBegunAs}
 use Rattle.nz_fabric.proofs.Dating.{posted_reverse}
@@ -21,7 +21,7 @@ use Rattle.nz_fabric.proofs.Sending.{posted_append}
 
 -- ---- the start
 
-pub posted_start : (s : Scenario) (c : Dates) → StandsFor s [] 0 c → IsPosted (start_state s) c
+pub posted_start : (s : Scenario) (c : Dates) → Represents s [] 0 c → IsPosted (start_state s) c
 posted_start s c h = record { sent = []; rest = []; prefix = refl; stands = h; none = λ _. refl }
 
 pub held_start : (s : Scenario) (t : Ticks) (records : List Record) (room : ℕ) → IsPlayable s → IsNew s t
@@ -249,17 +249,17 @@ whole_here : (before : ℕ) (records : List Record) → reverse (reverse (drop b
 whole_here before records = reverse-reverse (drop before records)
 
 -- before it begins the next tick, the calendar has what the finished ticks sent
-posted_started : (f : State) (c : Dates) → f.marked ≡ false → IsPosted f c → StandsFor f.scenario (posted_by_run f.finished) f.tick c
+posted_started : (f : State) (c : Dates) → f.marked ≡ false → IsPosted f c → Represents f.scenario (posted_by_run f.finished) f.tick c
 posted_started f c e h =
-    subst (λ (L : List Posted). StandsFor f.scenario L f.tick c)
+    subst (λ (L : List Posted). Represents f.scenario L f.tick c)
     (ap (λ (L : List Posted). posted_by_run f.finished ++ L) (h.none e) ∙ append-nil (posted_by_run f.finished)) h.stands
 
 -- then it has what this tick sent
 posted_now : (s : Scenario) (tick before : ℕ) (records : List Record) (c : Dates)
-    → StandsFor s (posted_by_run (reverse (take before records)) ++ posted_by (drop before records)) tick c
-    → StandsFor s (posted_by_run (reverse (drop before records) ++ reverse (take before records))) tick c
+    → Represents s (posted_by_run (reverse (take before records)) ++ posted_by (drop before records)) tick c
+    → Represents s (posted_by_run (reverse (drop before records) ++ reverse (take before records))) tick c
 posted_now s tick before records c h =
-    subst (λ (L : List Posted). StandsFor s L tick c) (sym (posted_reverse (drop before records) (reverse (take before records)))) h
+    subst (λ (L : List Posted). Represents s L tick c) (sym (posted_reverse (drop before records) (reverse (take before records)))) h
 
 posted_some : (s : Scenario) (tick before : ℕ) (records : List Record) (items : List Item) (next : ℕ) (c : Dates)
     → HasPosted s (posted_by_run (reverse (take before records))) (posted_by (drop before records)) tick c
@@ -268,7 +268,7 @@ posted_some s tick before records items next c h =
     record { sent = h.sent; rest = h.rest; prefix = ap posted_by (whole_here before records) ∙ h.prefix; stands = h.stands; none = λ e. cc }
 
 posted_whole : (s : Scenario) (tick before : ℕ) (records : List Record) (items : List Item) (next : ℕ) (c : Dates)
-    → StandsFor s (posted_by_run (reverse (take before records)) ++ posted_by (drop before records)) tick c
+    → Represents s (posted_by_run (reverse (take before records)) ++ posted_by (drop before records)) tick c
     → IsPosted (state_of s tick before records items next true) c
 posted_whole s tick before records items next c h =
     posted_some s tick before records items next c
@@ -276,10 +276,10 @@ posted_whole s tick before records items next c h =
 
 -- what posting does: after it the calendar has these too, or a prefix of them
 abbrev pub PostsAll : Scenario → Dates → Dates → List Posted → Type 0
-PostsAll s old new sent = (L : List Posted) (now : ℕ) → StandsFor s L now old → StandsFor s (L ++ sent) now new
+PostsAll s old new sent = (L : List Posted) (now : ℕ) → Represents s L now old → Represents s (L ++ sent) now new
 
 abbrev pub PostsSome : Scenario → Dates → Dates → List Posted → Type 0
-PostsSome s old new sent = (L : List Posted) (now : ℕ) → StandsFor s L now old → HasPosted s L sent now new
+PostsSome s old new sent = (L : List Posted) (now : ℕ) → Represents s L now old → HasPosted s L sent now new
 
 -- the tick is over, and what it sent was posted in part
 pub over_some : (t : Ticks) (before : ℕ) (records sent : List Record) (items : List Item) (next : ℕ) (c : Dates) → t.marked ≡ false
@@ -295,10 +295,10 @@ over_some t before records sent items next c unmarked posts e some =
 over_now : (t : Ticks) (before : ℕ) (records sent : List Record) (items : List Item) (next : ℕ) (c : Dates) → t.marked ≡ false
     → IsPosted (state_in t before records items next) t.calendar → sent ≡ drop before records
     → PostsAll t.scenario t.calendar c (posted_by sent)
-    → StandsFor t.scenario (posted_by_run (reverse (take before records)) ++ posted_by (drop before records)) t.tick c
+    → Represents t.scenario (posted_by_run (reverse (take before records)) ++ posted_by (drop before records)) t.tick c
 over_now t before records sent items next c unmarked posts e all =
     let L = posted_by_run (reverse (take before records)) in
-    subst (λ (rs : List Record). StandsFor t.scenario (L ++ posted_by rs) t.tick c) e
+    subst (λ (rs : List Record). Represents t.scenario (L ++ posted_by rs) t.tick c) e
     (all L t.tick (posted_started (state_in t before records items next) t.calendar unmarked posts))
 
 pub over_whole : (t : Ticks) (before : ℕ) (records sent : List Record) (items : List Item) (next : ℕ) (c : Dates) → t.marked ≡ false
@@ -312,20 +312,20 @@ pub over_begun : (t : Ticks) (before : ℕ) (records sent : List Record) (items 
     (new : Ticks) (is : List Item) → t.marked ≡ false
     → IsPosted (state_in t before records items next) t.calendar → sent ≡ drop before records
     → PostsAll t.scenario t.calendar c (posted_by sent)
-    → ((L : List Posted) → StandsFor t.scenario L t.tick c → HasBegun t.scenario t.tick L new is)
+    → ((L : List Posted) → Represents t.scenario L t.tick c → HasBegun t.scenario t.tick L new is)
     → HasBegun t.scenario t.tick (posted_by_run (records_of (state_in t before records items next))) new is
 over_begun t before records sent items next c new is unmarked posts e all begins =
     begins (posted_by_run (records_of (state_in t before records items next)))
     (posted_now t.scenario t.tick before records c (over_now t before records sent items next c unmarked posts e all))
 
-pub posted_next : (f : State) (items : List Item) (c : Dates) → StandsFor f.scenario (posted_by_run (records_of f)) (f.tick + 1) c
+pub posted_next : (f : State) (items : List Item) (c : Dates) → Represents f.scenario (posted_by_run (records_of f)) (f.tick + 1) c
     → IsPosted (record (after_tick f) { items = items }) c
 posted_next f items c h =
     record {
       sent = [];
       rest = [];
       prefix = refl;
-      stands = subst (λ (L : List Posted). StandsFor f.scenario L (f.tick + 1) c) (sym (append-nil (posted_by_run (records_of f)))) h;
+      stands = subst (λ (L : List Posted). Represents f.scenario L (f.tick + 1) c) (sym (append-nil (posted_by_run (records_of f)))) h;
       none = λ _. refl;
     }
 

@@ -9,24 +9,24 @@ use Rattle.nz_machine.specs.declared.event.Parcel.{Parcel}
 use Rattle.nz_machine.specs.declared.event.Record.{Record}
 use Rattle.nz_machine.specs.runs.Schedule.{Posted, posted_in}
 use Rattle.nz_machine.proofs.lists.ListParts.{take_next}
-use Rattle.nz_fabric.specs.Calendars.{Dates, StandsFor, HasPosted, posted_by}
+use Rattle.nz_fabric.specs.Calendars.{Dates, Represents, HasPosted, posted_by}
 use Rattle.nz_fabric.proofs.Dating.{posted_push}
 
 -- ---- the parcels of a record
 
 pub one_sent : (s : Scenario) (L : List Posted) (now : ℕ) (c : Dates) (tick : ℕ) (sends : List Parcel) (i : ℕ) (p : Parcel) → i < length sends
     → p ≡ get_or sends i p
-    → StandsFor s ((L ++ map (posted_in tick) (take i sends)) ++ posted_in tick p ∷ []) now c
-    → StandsFor s (L ++ map (posted_in tick) (take (i + 1) sends)) now c
+    → Represents s ((L ++ map (posted_in tick) (take i sends)) ++ posted_in tick p ∷ []) now c
+    → Represents s (L ++ map (posted_in tick) (take (i + 1) sends)) now c
 one_sent s L now c tick sends i p lt at h =
-    subst (λ (M : List Posted). StandsFor s M now c)
+    subst (λ (M : List Posted). Represents s M now c)
     (append_assoc L (map (posted_in tick) (take i sends)) (posted_in tick p ∷ [])
     ∙ ap (λ (M : List Posted). L ++ M)
     (ap (λ (x : Parcel). map (posted_in tick) (take i sends) ++ posted_in tick x ∷ []) at ∙ sym (map_more (posted_in tick) sends i p lt)))
     h
 
 pub some_sent : (s : Scenario) (L : List Posted) (now : ℕ) (c : Dates) (tick : ℕ) (sends : List Parcel) (i : ℕ)
-    → StandsFor s (L ++ map (posted_in tick) (take i sends)) now c → HasPosted s L (map (posted_in tick) sends) now c
+    → Represents s (L ++ map (posted_in tick) (take i sends)) now c → HasPosted s L (map (posted_in tick) sends) now c
 some_sent s L now c tick sends i h = record {
   sent = map (posted_in tick) (take i sends);
   rest = map (posted_in tick) (drop i sends);
@@ -61,11 +61,11 @@ rest_from rs from place r le at =
 
 pub one_record : (s : Scenario) (L : List Posted) (now : ℕ) (c : Dates) (rs : List Record) (from place : ℕ) (r : Record)
     → from ≤ place → slice_get rs place ≡ Some r
-    → StandsFor s ((L ++ posted_by (drop from (take place rs))) ++ map (posted_in r.tick) r.sends) now c
-    → StandsFor s (L ++ posted_by (drop from (take (place + 1) rs))) now c
+    → Represents s ((L ++ posted_by (drop from (take place rs))) ++ map (posted_in r.tick) r.sends) now c
+    → Represents s (L ++ posted_by (drop from (take (place + 1) rs))) now c
 one_record s L now c rs from place r le at h =
     let before = drop from (take place rs) in
-    subst (λ (M : List Posted). StandsFor s M now c)
+    subst (λ (M : List Posted). Represents s M now c)
     (append_assoc L (posted_by before) (map (posted_in r.tick) r.sends)
     ∙ ap (λ (M : List Posted). L ++ M) (sym (posted_push before r) ∙ ap posted_by (sym (next_from rs from place r le at))))
     h
@@ -93,7 +93,7 @@ some_records s L now c rs from place r le at h =
           ∙ ap (λ (M : List Posted). M ++ after)
           (posted_push first r ∙ ap (λ (M : List Posted). before ++ M) h.prefix ∙ sym (append_assoc before h.sent h.rest))
           ∙ append_assoc (before ++ h.sent) h.rest after;
-      stands = subst (λ (M : List Posted). StandsFor s M now c) (append_assoc L before h.sent) h.stands;
+      stands = subst (λ (M : List Posted). Represents s M now c) (append_assoc L before h.sent) h.stands;
     }
 
 -- ---- what holds after a refusal

@@ -150,7 +150,7 @@ KeepsLines lines courses =
 
 -- The calendar counts these parcels where a fault line may strike their kind, keeps of each course the fault lines that
 -- may strike it, and has of each later tick what the schedule says of the parcels.
-pub record StandsFor (s : Scenario) (L : List Posted) (now : ℕ) (c : Dates) : Type 0 where
+pub record Represents (s : Scenario) (L : List Posted) (now : ℕ) (c : Dates) : Type 0 where
   pub parcels : c.parcels ≡ length L
   pub watched : c.watched ≡ s.faults
   pub counts : (from to : Actor) (kind : ℕ) → is_watched s.faults kind ≡ true
@@ -167,4 +167,4 @@ pub record HasPosted (s : Scenario) (L all : List Posted) (now : ℕ) (c : Dates
   pub sent : List Posted
   pub rest : List Posted
   pub prefix : all ≡ sent ++ rest
-  pub stands : StandsFor s (L ++ sent) now c
+  pub stands : Represents s (L ++ sent) now c

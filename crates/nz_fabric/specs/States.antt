@@ -1,5 +1,6 @@
 -- What contracts see of a fabric of one thread, and what it keeps.
-use Rattle.std.specs.Prelude.{◌≡◌, ℕ, zero, suc, ◌+◌, ◌≤◌, ◌<◌, Bool, true, false, List, [], ◌∷◌, ◌++◌, length, map, take, drop, reverse, ◌^◌, Some, slice_get, IsPermutation}
+use Rattle.std.specs.Prelude.{◌≡◌, ℕ, zero, suc, ◌+◌, ◌≤◌, ◌<◌, Bool, true, false, List, [], ◌∷◌, ◌++◌, length, map, take, drop, reverse, ◌^◌, Some}
+use Rattle.std.specs.Prelude.{slice_get, IsPermutation}
 use Rattle.std.specs.List.{AllByRecursion}
 use Rattle.nz_base.specs.declared.scenario.Scenario.{Scenario}
 use Rattle.nz_machine.specs.declared.event.Parcel.{Parcel}
@@ -8,7 +9,7 @@ use Rattle.nz_machine.specs.declared.journal.Item.{Item}
 use Rattle.nz_machine.specs.runs.Schedule.{item, item_of, Posted, posted_by_run, calls, tick_item, actors_of, arrivals, due, InOrderTo, ScheduledTo, IsPlayable}
 use Rattle.nz_fabric.specs.declared.turn.Turn.{Turn}
 use Rattle.nz_fabric.specs.declared.ticks.Ticks.{Ticks}
-use Rattle.nz_fabric.specs.Calendars.{Dates, StandsFor, posted_by}
+use Rattle.nz_fabric.specs.Calendars.{Dates, Represents, posted_by}
 
 -- The tick, the records of the ticks before it and those of the tick, both the newest first, what is due in the
 -- tick, how many of it were taken, and whether a turn was given up or a tick could not begin.
@@ -127,7 +128,7 @@ pub record IsPosted (f : State) (c : Dates) : Type 0 where
   pub sent : List Posted
   pub rest : List Posted
   pub prefix : posted_by (reverse f.here) ≡ sent ++ rest
-  pub stands : StandsFor f.scenario (posted_by_run f.finished ++ sent) f.tick c
+  pub stands : Represents f.scenario (posted_by_run f.finished ++ sent) f.tick c
   pub none : f.marked ≡ false → sent ≡ []
 
 -- What the code keeps: while a turn is open its record has a place, and the calendar has what was sent.
@@ -152,7 +153,7 @@ state_in t before records items next = state_of t.scenario t.tick before records
 -- A run that has not begun.
 pub record IsNew (s : Scenario) (t : Ticks) : Type 0 where
   pub state : state_in t 0 [] [] 0 ≡ start_state s
-  pub stands : StandsFor s [] 0 t.calendar
+  pub stands : Represents s [] 0 t.calendar
 
 -- The next tick began, after what was posted, and what is due in it has become these items in this way.
 pub record HasBegunAs (AreDue : List Item → List Item → Type 0) (s : Scenario) (last : ℕ) (L : List Posted) (new : Ticks) (items : List Item) : Type 0 where
@@ -160,7 +161,7 @@ pub record HasBegunAs (AreDue : List Item → List Item → Type 0) (s : Scenari
   pub tick : new.tick ≡ last + 1
   pub are_due : AreDue (calls (last + 1) 0 s.faults ++ (map (tick_item s (last + 1)) (actors_of s) ++ arrivals s (last + 1) [] L)) items
   pub unmarked : new.marked ≡ false
-  pub stands : StandsFor s L (last + 1) new.calendar
+  pub stands : Represents s L (last + 1) new.calendar
 
 -- Its items are in the order of the schedule.
 abbrev pub HasBegun : Scenario → ℕ → List Posted → Ticks → List Item → Type 0

@@ -15,7 +15,7 @@ ghost use Rattle.std.specs.Prelude.{None, Some, IfOk, OnOk, OnErr};
 ghost use Rattle.nz_base.specs.declared.scenario.Scenario.{Scenario as ScenarioModel};
 ghost use Rattle.nz_machine.specs.declared.event.Parcel.{Parcel as ParcelModel};
 ghost use Rattle.nz_machine.specs.runs.Schedule.{IsPlayable, Posted, posted_in, arrivals, kind_in_frame};
-ghost use Rattle.nz_fabric.specs.Calendars.{course, StandsFor, IsCounted, IsOneMore, KeepsLines, counted_kind, no_dates, items_in};
+ghost use Rattle.nz_fabric.specs.Calendars.{course, Represents, IsCounted, IsOneMore, KeepsLines, counted_kind, no_dates, items_in};
 ghost use Rattle.nz_fabric.specs.Calendars.{lines_at, next_number, traffic_of, traffic_on};
 ghost use Rattle.nz_fabric.specs.Posting.{arrival_of, items_arriving, arrivals_by, arrivals_up_to, days_of, HasNumber, HasRoomFor, HasRooms};
 ghost use Rattle.nz_fabric.specs.Posting.{AreKept, ArePlaced, AreShort, HasNumberIfWatched};
@@ -421,7 +421,7 @@ impl Calendar {
     /// No parcel was posted, and nothing is to come.
     pub fn new(alloc: Global, faults: &FaultList) -> Calendar
         ensures empty { result ≡ no_dates faults.now }
-        ensures stands { (s : ScenarioModel) → s.faults ≡ faults.now → StandsFor s [] 0 result }
+        ensures stands { (s : ScenarioModel) → s.faults ≡ faults.now → Represents s [] 0 result }
     {
         Calendar {
             alloc,
@@ -448,9 +448,9 @@ impl Calendar {
     ) -> Result<(), NoMemory>
         requires playable { IsPlayable scenario.now }
         requires few { self.old.parcels < 2 ^ 64 - 1 }
-        ensures ok { (L : List Posted) (now : ℕ) → StandsFor scenario.now L now self.old
-            → OnOk result (StandsFor scenario.now (L ++ posted_in tick parcel.now ∷ []) now self.new) }
-        ensures err { (s : ScenarioModel) (L : List Posted) (now : ℕ) → StandsFor s L now self.old → OnErr result (StandsFor s L now self.new) }
+        ensures ok { (L : List Posted) (now : ℕ) → Represents scenario.now L now self.old
+            → OnOk result (Represents scenario.now (L ++ posted_in tick parcel.now ∷ []) now self.new) }
+        ensures err { (s : ScenarioModel) (L : List Posted) (now : ℕ) → Represents s L now self.old → OnErr result (Represents s L now self.new) }
     {
         post_parcel(
             self.alloc,
@@ -478,9 +478,9 @@ impl Calendar {
     /// The items of a tick go after others, and are to come no more. The next day, if it was not opened, is kept in their memory.
     pub fn move_to(&mut self, tick: u32, items: &mut Vec<Item>) -> Result<(), NoMemory>
         ensures items { OnOk result (items.new.items ≡ items.old.items ++ items_in self.old.days tick) }
-        ensures stands { (s : ScenarioModel) (L : List Posted) (now : ℕ) → StandsFor s L now self.old → now < tick
-            → OnOk result (StandsFor s L tick self.new) }
-        ensures due { (s : ScenarioModel) (L : List Posted) (now : ℕ) → StandsFor s L now self.old → now < tick
+        ensures stands { (s : ScenarioModel) (L : List Posted) (now : ℕ) → Represents s L now self.old → now < tick
+            → OnOk result (Represents s L tick self.new) }
+        ensures due { (s : ScenarioModel) (L : List Posted) (now : ℕ) → Represents s L now self.old → now < tick
             → tick ≤ s.ticks → OnOk result (items.new.items ≡ items.old.items ++ arrivals s tick [] L) }
         ensures err { OnErr result (self.new ≡ self.old) }
     {

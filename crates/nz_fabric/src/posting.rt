@@ -3,7 +3,7 @@
 ghost use Rattle.std.specs.Prelude.{◌≡◌, ◌<◌, ◌≤◌, ◌++◌, ℕ, List, Some, length, drop, map, slice_get, OnOk, OnErr};
 ghost use Rattle.nz_machine.specs.declared.event.Record.{Record};
 ghost use Rattle.nz_machine.specs.runs.Schedule.{IsPlayable, Posted, posted_in};
-ghost use Rattle.nz_fabric.specs.Calendars.{StandsFor, HasPosted, posted_by};
+ghost use Rattle.nz_fabric.specs.Calendars.{Represents, HasPosted, posted_by};
 
 use crate::calendar::Calendar;
 use nz_base::{NoMemory, Scenario};
@@ -17,9 +17,9 @@ fn post_sends(
     sends: &[SharedParcel],
 ) -> Result<(), NoMemory>
     requires { IsPlayable scenario.now }
-    ensures ok { (L : List Posted) (now : ℕ) → StandsFor scenario.now L now calendar.old
-        → OnOk result (StandsFor scenario.now (L ++ map (posted_in tick) sends.now) now calendar.new) }
-    ensures err { (L : List Posted) (now : ℕ) → StandsFor scenario.now L now calendar.old
+    ensures ok { (L : List Posted) (now : ℕ) → Represents scenario.now L now calendar.old
+        → OnOk result (Represents scenario.now (L ++ map (posted_in tick) sends.now) now calendar.new) }
+    ensures err { (L : List Posted) (now : ℕ) → Represents scenario.now L now calendar.old
         → OnErr result (HasPosted scenario.now L (map (posted_in tick) sends.now) now calendar.new) }
 {
     for parcel in sends {
@@ -40,9 +40,9 @@ fn post_record(
 ) -> Result<(), NoMemory>
     requires playable { IsPlayable scenario.now }
     requires place { place < length records.now.records }
-    ensures ok { (L : List Posted) (now : ℕ) (step : Record) → slice_get records.now.records place ≡ Some step → StandsFor scenario.now L now calendar.old
-        → OnOk result (StandsFor scenario.now (L ++ map (posted_in step.tick) step.sends) now calendar.new) }
-    ensures err { (L : List Posted) (now : ℕ) (step : Record) → slice_get records.now.records place ≡ Some step → StandsFor scenario.now L now calendar.old
+    ensures ok { (L : List Posted) (now : ℕ) (step : Record) → slice_get records.now.records place ≡ Some step → Represents scenario.now L now calendar.old
+        → OnOk result (Represents scenario.now (L ++ map (posted_in step.tick) step.sends) now calendar.new) }
+    ensures err { (L : List Posted) (now : ℕ) (step : Record) → slice_get records.now.records place ≡ Some step → Represents scenario.now L now calendar.old
         → OnErr result (HasPosted scenario.now L (map (posted_in step.tick) step.sends) now calendar.new) }
 {
     match records.get_whole(place) {
@@ -60,9 +60,9 @@ pub fn post_all(
 ) -> Result<(), NoMemory>
     requires playable { IsPlayable scenario.now }
     requires from { from ≤ length records.now.records }
-    ensures ok { (L : List Posted) (now : ℕ) → StandsFor scenario.now L now calendar.old
-        → OnOk result (StandsFor scenario.now (L ++ posted_by (drop from records.now.records)) now calendar.new) }
-    ensures err { (L : List Posted) (now : ℕ) → StandsFor scenario.now L now calendar.old
+    ensures ok { (L : List Posted) (now : ℕ) → Represents scenario.now L now calendar.old
+        → OnOk result (Represents scenario.now (L ++ posted_by (drop from records.now.records)) now calendar.new) }
+    ensures err { (L : List Posted) (now : ℕ) → Represents scenario.now L now calendar.old
         → OnErr result (HasPosted scenario.now L (posted_by (drop from records.now.records)) now calendar.new) }
 {
     for place in from..records.len() {

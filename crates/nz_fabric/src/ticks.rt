@@ -28,7 +28,7 @@ pub struct Ticks {
 impl Ticks {
     ghost use Rattle.nz_base.specs.declared.limits.TheConstants.{MAX_TICKS};
     ghost use Rattle.nz_machine.specs.runs.Schedule.{Posted};
-    ghost use Rattle.nz_fabric.specs.Calendars.{StandsFor};
+    ghost use Rattle.nz_fabric.specs.Calendars.{Represents};
     ghost use Rattle.nz_fabric.specs.States.{HasBegun, IsNew};
 
     /// A run that has not begun.
@@ -52,7 +52,7 @@ impl Ticks {
     pub fn begin(&mut self, memory: Vec<Item>) -> Result<Vec<Item>, NoMemory>
         requires more { self.old.tick < self.old.scenario.ticks }
         requires ticks { self.old.scenario.ticks ≤ MAX_TICKS }
-        ensures ok { (L : List Posted) → StandsFor self.old.scenario L self.old.tick self.old.calendar
+        ensures ok { (L : List Posted) → Represents self.old.scenario L self.old.tick self.old.calendar
             → IfOk result (λ items. HasBegun self.old.scenario self.old.tick L self.new items.items) }
         ensures err { OnErr result (self.new ≡ self.old) }
     {

@@ -59,7 +59,7 @@ answers_shown g r J me to b a w h given =
     let results = ((facts_stay g (r ∷ J) me w).executed.led now.0 lead).results in
     let answered : IsAnswered t.log.entries b.id a = record {
       place = h.place;
-      stands = h.stands;
+      place_is = h.place_is;
       answered = sym (slice_get-replies (commands t.log.entries) h.place) ∙ ap (λ (l : List Answer). slice_get l h.place) (sym results) ∙ c.1;
     } in
     record {

@@ -22,8 +22,8 @@ use Rattle.nz_laws_commit.proofs.Whole.{follows}
 
 -- a prefix that ends with the entry of a request is cut after it
 cut_is : (id : Id) (P log : List Entry) (place : ℕ) → place_of P id ≡ Some place → length P ≡ suc place → IsPrefix P log → P ≡ cut_after id log
-cut_is id P log place stands ends p =
-    sym (ap (λ (o : Option ℕ). cut_at o log) (place_more id P log place p stands)
+cut_is id P log place place_is ends p =
+    sym (ap (λ (o : Option ℕ). cut_at o log) (place_more id P log place p place_is)
     ∙ ap (λ n. take n log) (sym ends) ∙ ap (take (length P)) p.whole ∙ take-append_seam P p.rest)
 
 given_led : (g : Group) (J : List Record) (v : ℕ) (id : Id) (a : Answer) (P : List Entry) → World g J → IsGiven g J v id a P → IsPrefix P (lead g v J)
@@ -35,7 +35,7 @@ given_led g J v id a P w h =
 pub given_cut : (g : Group) (J : List Record) (v : ℕ) (id : Id) (a : Answer) (P : List Entry) → World g J → IsGiven g J v id a P
     → P ≡ cut_after id (lead g v J)
 given_cut g J v id a P w h =
-    cut_is id P (lead g v J) h.from.answered.place h.from.answered.stands h.from.ends (given_led g J v id a P w h)
+    cut_is id P (lead g v J) h.from.answered.place h.from.answered.place_is h.from.ends (given_led g J v id a P w h)
 
 pub accepted_led : (g : Group) (J : List Record) (v : ℕ) (P : List Entry) → World g J → IsAcceptedIn g v P J → IsPrefix P (lead g v J)
 accepted_led g J v P w h = let d = decided_in g J w v P h in given_led g J v d.id d.answer P w d.given

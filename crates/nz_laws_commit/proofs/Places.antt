@@ -131,8 +131,8 @@ reply_more xs ys i lt p =
 pub answered_more : (log more : List Entry) (id : Id) (a : Answer) → IsPrefix log more → IsAnswered log id a → IsAnswered more id a
 answered_more log more id a p h = record {
   place = h.place;
-  stands = place_more id log more h.place p h.stands;
-  answered = reply_more log more h.place (place_in id log h.place h.stands).within p ∙ h.answered;
+  place_is = place_more id log more h.place p h.place_is;
+  answered = reply_more log more h.place (place_in id log h.place h.place_is).within p ∙ h.answered;
 }
 
 -- P is the log up to and with the entry of the request, and answers it as the log does
@@ -143,15 +143,15 @@ pub record EndsAnswered (log : List Entry) (id : Id) (a : Answer) (P : List Entr
 
 pub cut_answered : (log : List Entry) (id : Id) (a : Answer) → IsAnswered log id a → EndsAnswered log id a (cut_after id log)
 cut_answered log id a h =
-    let here = place_in id log h.place h.stands in
+    let here = place_in id log h.place h.place_is in
     let long = length_taken h.place log here.within in
     let cut : EndsAnswered log id a (take (suc h.place) log) = record {
       answered = record {
         place = h.place;
-        stands = here.taken;
+        place_is = here.taken;
         answered = sym (reply_more (take (suc h.place) log) log h.place (omega (arith, long)) (prefix_take (suc h.place) log)) ∙ h.answered;
       };
       ends = long;
       prefix = prefix_take (suc h.place) log;
     } in
-    subst (λ (o : Option ℕ). EndsAnswered log id a (cut_at o log)) (sym h.stands) cut
+    subst (λ (o : Option ℕ). EndsAnswered log id a (cut_at o log)) (sym h.place_is) cut

@@ -28,7 +28,7 @@ use Rattle.nz_machine.specs.declared.reply.Reply.{Reply}
 use Rattle.nz_machine.specs.declared.reply.Reply.TheVariants.{Fast, Slow}
 use Rattle.nz_machine.specs.rules.State.{Group}
 use Rattle.nz_machine.specs.rules.Replicas.{is_normal, leads}
-use Rattle.nz_machine.specs.rules.Quorums.{view_of, is_of_leader, is_slow_of, agrees_of, stands_slowly, stands_fast}
+use Rattle.nz_machine.specs.rules.Quorums.{view_of, is_of_leader, is_slow_of, agrees_of, supports_slowly, supports_fast}
 use Rattle.nz_machine.specs.runs.World.{World}
 use Rattle.nz_machine.specs.runs.History.{log_at, cut_at, cut_after, ReplySource, prefix_at_source}
 use Rattle.nz_machine.specs.runs.OneHistory.{HasReplyOver, NoCollision}
@@ -94,8 +94,8 @@ said_digest : (g : Group) (J : List Record) (id : Id) (m : ℕ) (reply : Reply) 
     → s.body.digest ≡ digest (map entry_key (cut_after id (replica_at g m (s.newest ∷ s.older)).log.entries))
 said_digest g J id m reply K s =
     let log = (replica_at g m (s.newest ∷ s.older)).log.entries in
-    let stands : place_of log id ≡ Some s.shows.place = ap (place_of log) (sym s.same) ∙ s.shows.stands in
-    s.shows.digest ∙ ap (λ (o : Option ℕ). digest (map entry_key (cut_at o log))) (sym stands)
+    let place_is : place_of log id ≡ Some s.shows.place = ap (place_of log) (sym s.same) ∙ s.shows.place_is in
+    s.shows.digest ∙ ap (λ (o : Option ℕ). digest (map entry_key (cut_at o log))) (sym place_is)
 
 -- ---- replies that count
 
@@ -125,7 +125,7 @@ module _ (g : Group) (J : List Record) (w : World g J) (h : RunLaws (logs_of g) 
   -- who replied slowly had as many entries synced
   had_slow : (v : ℕ) (P : List Entry) (id : Id) (place : ℕ) → place_of P id ≡ Some place → length P ≡ suc place → IsPrefix (keys_of P) ((logs_of g).lead v J)
       → (y m : ℕ) (reply : Reply) (K : List Record) → SaysSlow g J id m reply K → reply ≡ Slow y v → HadSynced (logs_of g) v y (length (keys_of P)) J
-  had_slow v P id place stands ends part y m reply K s is =
+  had_slow v P id place place_is ends part y m reply K s is =
       let moment = s.newest ∷ s.older in
       let t = replica_at g m moment in
       let same = same_slow y v m s.body.view (sym is ∙ s.reply_is) in
@@ -136,10 +136,10 @@ module _ (g : Group) (J : List Record) (w : World g J) (h : RunLaws (logs_of g) 
       let whole = prefix_then (take t.log.synced (keys_of t.log.entries)) ((logs_of g).lead v moment) ((logs_of g).lead v J) synced
       (h.lead_grows v moment J (at_self J) s.at) in
       let there : IsAt (keys_of t.log.entries) id s.shows.place = place_key t.log.entries id s.shows.place
-      (ap (place_of t.log.entries) (sym s.same) ∙ s.shows.stands) in
+      (ap (place_of t.log.entries) (sym s.same) ∙ s.shows.place_is) in
       let in_lead = at_longer (take t.log.synced (keys_of t.log.entries)) ((logs_of g).lead v J) id s.shows.place whole
       (at_taken t.log.synced (keys_of t.log.entries) id s.shows.place s.shows.synced there) in
-      let mine = at_longer (keys_of P) ((logs_of g).lead v J) id place part (place_key P id place stands) in
+      let mine = at_longer (keys_of P) ((logs_of g).lead v J) id place part (place_key P id place place_is) in
       let one = one_place ((logs_of g).lead v J) id place s.shows.place (subst HaveOwnIds (sym (lead_is g v J)) (lead_own g J w v)) mine in_lead in
       let long : length (keys_of P) ≡ length P = length-map P (λ (e : Entry). e.key) in
       let within = s.shows.synced in
@@ -174,11 +174,11 @@ module _ (g : Group) (J : List Record) (w : World g J) (h : RunLaws (logs_of g) 
 
   said_slow : (v : ℕ) (P : List Entry) (id : Id) (place : ℕ) → place_of P id ≡ Some place → length P ≡ suc place → IsPrefix (keys_of P) ((logs_of g).lead v J)
       → (y : ℕ) (x : Reply) → WasSaid g J id x → x ≡ Slow y v → HadSynced (logs_of g) v y (length (keys_of P)) J
-  said_slow v P id place stands ends part y x said is = by_said said.said
+  said_slow v P id place place_is ends part y x said is = by_said said.said
     where
       by_said : IsSaid g J id x said.from said.moment → HadSynced (logs_of g) v y (length (keys_of P)) J
       by_said (Fastly m by s) = not_fast m s.body.view s.body.digest s.body.vector s.body.answer y v (sym is ∙ s.reply_is)
-      by_said (Slowly m by s) = had_slow v P id place stands ends part y m x said.moment s is
+      by_said (Slowly m by s) = had_slow v P id place place_is ends part y m x said.moment s is
 
   said_fast : (v : ℕ) (P : List Entry) (id : Id) (u : List ℕ) (d : List ℕ) → HasReplyOver g J (map entry_key P) → d ≡ digest (map entry_key P)
       → (y : ℕ) (a : Option Answer) (x : Reply) → WasSaid g J id x → x ≡ Fast y v d u a → FastReplied (logs_of g) v y (keys_of P) u J
@@ -189,7 +189,7 @@ module _ (g : Group) (J : List Record) (w : World g J) (h : RunLaws (logs_of g) 
       by_said (Slowly m by s) = not_slow y v d u a m s.body.view (sym is ∙ s.reply_is)
 
   -- the chosen reply, of the leader m of its view v, at the moment at which it was said
-  module _ (v : ℕ) (P : List Entry) (id : Id) (place : ℕ) (stands : place_of P id ≡ Some place) (ends : length P ≡ suc place)
+  module _ (v : ℕ) (P : List Entry) (id : Id) (place : ℕ) (place_is : place_of P id ≡ Some place) (ends : length P ≡ suc place)
       (d u : List ℕ) (a : Option Answer) (source : ReplySource) (at_source : P ≡ prefix_at_source g id source)
       (backed : IsBacked g J id (Fast (leader_of g.f v) v d u a) source) (m : ℕ) (by : source.sender ≡ Replica m)
       (s : SaysFast g J id m (Fast (leader_of g.f v) v d u a) source.run) where
@@ -235,23 +235,23 @@ module _ (g : Group) (J : List Record) (w : World g J) (h : RunLaws (logs_of g) 
     vector_is : u ≡ (replica_at g (leader_of g.f v) moment).vector
     vector_is = subst (λ (z : ℕ). u ≡ (replica_at g z moment).vector) (sym same.replica) (same.vector ∙ s.shows.vector)
 
-    each_slow : (y : ℕ) → stands_slowly g.f backed.replies (Fast (leader_of g.f v) v d u a) y ≡ true
+    each_slow : (y : ℕ) → supports_slowly g.f backed.replies (Fast (leader_of g.f v) v d u a) y ≡ true
         → (y ≡ leader_of g.f v) ⊎ HadSynced (logs_of g) v y (length (keys_of P)) J
     each_slow y test = elim (or_cases (eqb y (leader_of g.f v)) (list_any (is_slow_of v y) backed.replies) test) [
       | inl leads ↦ inl (eqb-true y (leader_of g.f v) leads)
       | inr replied ↦
           let x = any_reply (is_slow_of v y) backed.replies replied in
-          inr (said_slow v P id place stands ends part y x.0 (backed.said x.0 x.1.0) (slow_of v y x.0 x.1.1))
+          inr (said_slow v P id place place_is ends part y x.0 (backed.said x.0 x.1.0) (slow_of v y x.0 x.1.1))
     ]
 
-    each_fast : (y : ℕ) → stands_fast g.f backed.replies (Fast (leader_of g.f v) v d u a) y ≡ true
+    each_fast : (y : ℕ) → supports_fast g.f backed.replies (Fast (leader_of g.f v) v d u a) y ≡ true
         → (y ≡ leader_of g.f v) ⊎ (HadSynced (logs_of g) v y (length (keys_of P)) J ⊎ FastReplied (logs_of g) v y (keys_of P) u J)
     each_fast y test = elim (or_cases (eqb y (leader_of g.f v)) (list_any (agrees_of v d u y) backed.replies) test) [
       | inl leads ↦ inl (eqb-true y (leader_of g.f v) leads)
       | inr replied ↦
           let x = any_reply (agrees_of v d u y) backed.replies replied in
           elim (agrees v d u y x.0 x.1.1) [
-            | inl slow ↦ inr (inl (said_slow v P id place stands ends part y x.0 (backed.said x.0 x.1.0) slow))
+            | inl slow ↦ inr (inl (said_slow v P id place place_is ends part y x.0 (backed.said x.0 x.1.0) slow))
             | inr fast ↦ inr (inr (said_fast v P id u d over digest_is y fast.0 x.0 (backed.said x.0 x.1.0) fast.1))
           ]
     ]
@@ -259,13 +259,13 @@ module _ (g : Group) (J : List Record) (w : World g J) (h : RunLaws (logs_of g) 
     by_quorum : HasQuorum g.f backed.replies (Fast (leader_of g.f v) v d u a) → Support (logs_of g) v (keys_of P) J
     by_quorum (BySlow q) =
         let leads = is_of_leader g.f (Fast (leader_of g.f v) v d u a) in
-        let many = count_below (replica_count g.f) (stands_slowly g.f backed.replies (Fast (leader_of g.f v) v d u a)) in
-        slowly (logs_of g) J h v (keys_of P) moment led (stands_slowly g.f backed.replies (Fast (leader_of g.f v) v d u a))
+        let many = count_below (replica_count g.f) (supports_slowly g.f backed.replies (Fast (leader_of g.f v) v d u a)) in
+        slowly (logs_of g) J h v (keys_of P) moment led (supports_slowly g.f backed.replies (Fast (leader_of g.f v) v d u a))
         (leb-true (slow_size g.f) many (and_parts leads _ q).1) each_slow
     by_quorum (ByFast q) =
         let leads = is_of_leader g.f (Fast (leader_of g.f v) v d u a) in
-        let many = count_below (replica_count g.f) (stands_fast g.f backed.replies (Fast (leader_of g.f v) v d u a)) in
-        quickly (logs_of g) J h v (keys_of P) moment led (stands_fast g.f backed.replies (Fast (leader_of g.f v) v d u a))
+        let many = count_below (replica_count g.f) (supports_fast g.f backed.replies (Fast (leader_of g.f v) v d u a)) in
+        quickly (logs_of g) J h v (keys_of P) moment led (supports_fast g.f backed.replies (Fast (leader_of g.f v) v d u a))
         (leb-true (fast_size g.f) many (and_parts leads _ q).1)
         (λ y test. subst (λ (x : List ℕ). (y ≡ leader_of g.f v) ⊎
         (HadSynced (logs_of g) v y (length (keys_of P)) J ⊎ FastReplied (logs_of g) v y (keys_of P) x J)) vector_is (each_fast y test))
@@ -276,10 +276,10 @@ module _ (g : Group) (J : List Record) (w : World g J) (h : RunLaws (logs_of g) 
   by_source : (v : ℕ) (P : List Entry) (id : Id) (place : ℕ) → place_of P id ≡ Some place → length P ≡ suc place
       → (d u : List ℕ) (a : Option Answer) (source : ReplySource)
       → P ≡ prefix_at_source g id source → (backed : IsBacked g J id (Fast (leader_of g.f v) v d u a) source) → Support (logs_of g) v (keys_of P) J
-  by_source v P id place stands ends d u a source at_source backed = by_said backed.own
+  by_source v P id place place_is ends d u a source at_source backed = by_said backed.own
     where
       by_said : IsSaid g J id (Fast (leader_of g.f v) v d u a) source.sender source.run → Support (logs_of g) v (keys_of P) J
-      by_said (Fastly m by s) = supported v P id place stands ends d u a source at_source backed m by s
+      by_said (Fastly m by s) = supported v P id place place_is ends d u a source at_source backed m by s
       by_said (Slowly m by s) = not_slow (leader_of g.f v) v d u a m s.body.view s.reply_is
 
   leads_quorum : (replies : List Reply) (reply : Reply) → HasQuorum g.f replies reply → is_of_leader g.f reply ≡ true
@@ -289,15 +289,15 @@ module _ (g : Group) (J : List Record) (w : World g J) (h : RunLaws (logs_of g) 
   by_reply : (v : ℕ) (P : List Entry) (id : Id) (place : ℕ) → place_of P id ≡ Some place → length P ≡ suc place → (reply : Reply) (source : ReplySource)
       → view_of reply ≡ v → P ≡ prefix_at_source g id source → IsBacked g J id reply source → is_of_leader g.f reply ≡ true
       → Support (logs_of g) v (keys_of P) J
-  by_reply v P id place stands ends (Slow r n) source view at_source backed leads = absurd cc
-  by_reply v P id place stands ends (Fast r n d u a) source view at_source backed leads =
+  by_reply v P id place place_is ends (Slow r n) source view at_source backed leads = absurd cc
+  by_reply v P id place place_is ends (Fast r n d u a) source view at_source backed leads =
       let leader : r ≡ leader_of g.f v = eqb-true r (leader_of g.f n) (and_parts (eqb r (leader_of g.f n)) (is_some a) leads).0 ∙ ap (leader_of g.f) view in
       let same : Fast r n d u a ≡ Fast (leader_of g.f v) v d u a = λ i. Fast (leader i) (view i) d u a in
-      by_source v P id place stands ends d u a source at_source (subst (λ (x : Reply). IsBacked g J id x source) same backed)
+      by_source v P id place place_is ends d u a source at_source (subst (λ (x : Reply). IsBacked g J id x source) same backed)
 
   -- what was accepted in a view is supported in it
   pub accepted_supported : (v : ℕ) (P : List Entry) → IsDecidedIn g J v P → Support (logs_of g) v (keys_of P) J
   accepted_supported v P d =
       let answered = d.given.from.answered in
-      by_reply v P d.id answered.place answered.stands d.given.from.ends d.reply d.source d.view d.at_source d.backed
+      by_reply v P d.id answered.place answered.place_is d.given.from.ends d.reply d.source d.view d.at_source d.backed
       (leads_quorum d.backed.replies d.reply d.backed.quorum)

@@ -10,7 +10,7 @@ use Rattle.nz_base.specs.Key.{id_of}
 use Rattle.nz_base.specs.Log.{keys_of, has_id, is_above_last}
 use Rattle.nz_base.specs.Prefixes.{IsPrefix}
 use Rattle.nz_base.proofs.Prefixes.{prefix_self, prefix_then, prefix_take, prefix_length, take_of_prefix}
-use Rattle.nz_base.specs.declared.limits.TheConstants.{MAX_KEYS}
+use Rattle.nz_base.specs.declared.limits.TheConstants.{MAX_KEYS, MAX_ENTRIES}
 use Rattle.nz_log.specs.Synced.{Log, IsSound, synced_part}
 use Rattle.nz_log.proofs.Modifying.{modified_sound}
 use Rattle.nz_log.proofs.LedKeys.{syncs, ModifiesLog, KeepsPrefixes, keeps, told_ahead}
@@ -65,7 +65,7 @@ fits = record {
       let fresh =
       not-true (has_id (keys_of (synced_part s.log)) (id_of e.key))
       (and_parts (not (has_id (keys_of (synced_part s.log)) (id_of e.key))) _ rest).0 in
-      let room = ltb-true (length s.log.entries) 4096 (and_parts (not (has_id (keys_of (synced_part s.log)) (id_of e.key))) _ rest).1 in
+      let room = ltb-true (length s.log.entries) MAX_ENTRIES (and_parts (not (has_id (keys_of (synced_part s.log)) (id_of e.key))) _ rest).1 in
       modified_sound s.log e sound above fresh room;
 }
 

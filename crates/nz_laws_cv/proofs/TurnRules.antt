@@ -8,7 +8,7 @@ use Rattle.nz_base.specs.Cluster.{leader_of, slow_size}
 use Rattle.nz_base.specs.declared.actor.Actor.{Actor}
 use Rattle.nz_base.specs.declared.actor.Actor.TheVariants.{Replica, Proxy}
 use Rattle.nz_base.specs.declared.key.Entry.{Entry}
-use Rattle.nz_base.specs.declared.limits.TheConstants.{MAX_ENTRIES, MAX_QUIET}
+use Rattle.nz_base.specs.declared.limits.TheConstants.{MAX_ENTRIES, VIEW_TIMEOUT_TICKS}
 use Rattle.nz_cv.specs.Vectors.{is_stray, merged_vector}
 use Rattle.nz_merge.specs.Merged.{merged, greatest}
 use Rattle.nz_merge.specs.declared.change.Change.{Change}
@@ -53,7 +53,8 @@ use Rattle.nz_machine.specs.rules.Rejoining.{rejoin_tell_rule, state_ask_rule, s
 use Rattle.nz_machine.specs.rules.Step.{replica_message, tick_rule, mode_timer, accepted_envelope, envelope_step, event_step}
 use Rattle.nz_machine.proofs.runs.Runs.{unless_down}
 use Rattle.nz_machine.proofs.facts.Guards.{HearsLeader, hears_leader_parts}
-use Rattle.nz_laws_cv.proofs.Turns.{TurnState, turn_state, merging, holding, committing, entering, starting, unreported, with_changes, fresh_changes, with_change}
+use Rattle.nz_laws_cv.proofs.Turns.{TurnState, turn_state, merging, holding, committing, entering, starting, unreported, with_changes, fresh_changes}
+use Rattle.nz_laws_cv.proofs.Turns.{with_change}
 use Rattle.nz_laws_cv.proofs.Turns.{begun_log, begun_commit, more_tellers, Appends, Same, More, IsNew, MayLead, Base, Anew, Going}
 use Rattle.nz_laws_cv.proofs.Turns.{MayStart, Awaits, Turn, Stays, Release, Merge, Sync, Tally, Enter, Follow, Answer, Collect, Begin}
 use Rattle.nz_laws_cv.proofs.Turns.{Start, Fall, Wake, HearVector, Count, HearView, Forget, AskLog, Return, Back}
@@ -360,7 +361,7 @@ module _ (f me : ℕ) (e : Event) where
       → Turn f me e heard s (turn_state (quiet_timer f me t).0)
   unfolding enter_view
   quiet_turn heard s t is normal follows log =
-      let quiet = min (t.quiet + 1) MAX_QUIET in
+      let quiet = min (t.quiet + 1) VIEW_TIMEOUT_TICKS in
       let released : Turn f me e heard s (holding s t.log) = Release t.log normal (subst (λ (led : Bool). Appends led s.log t.log) (sym follows) log) in
       let stay : Turn f me e heard s (turn_state (record t { quiet = quiet })) = subst (λ (u : TurnState). Turn f me e heard s u) (sym is) released in
       let enter : Turn f me e heard s (turn_state (enter_view f me (t.view + 1) (record t { quiet = quiet })).0) =

@@ -9,7 +9,7 @@ use Rattle.nz_machine.specs.rules.State.{Group}
 use Rattle.nz_machine.specs.runs.World.{Has, World}
 use Rattle.nz_machine.specs.runs.Events.{events}
 use Rattle.nz_machine.specs.runs.History.{history}
-use Rattle.nz_machine.specs.runs.OneHistory.{StandsBefore, IsAnswered, Lin, IsAccepted, ArePaired, NoCollision}
+use Rattle.nz_machine.specs.runs.OneHistory.{ComesBefore, IsAnswered, Lin, IsAccepted, ArePaired, NoCollision}
 use Rattle.nz_base.specs.Prefixes.{IsPrefix}
 use Rattle.nz_base.proofs.Prefixes.{prefix_none, shorter_comparable}
 use Rattle.nz_laws_commit.proofs.Whole.{prefixes}
@@ -28,18 +28,18 @@ answered : (g : Group) (J : List Record) → ArePaired g J → IsHistory g J →
 answered g J pairs h id a k = answered_more k.prefix (history g J) id a (in_history g J pairs h k.prefix k.accepted k.short) k.given.from.answered
 
 ordered : (g : Group) (J : List Record) → ArePaired g J → IsHistory g J → (a b : Id) (answer : Answer) → IsBefore g J a answer b → (e : Entry)
-    → Has (history g J) e → id_of e.key ≡ b → StandsBefore (history g J) a b
+    → Has (history g J) e → id_of e.key ≡ b → ComesBefore (history g J) a b
 ordered g J pairs h a b answer k e has same =
     let P = k.covered.prefix in
     let part : IsPrefix P (history g J) = in_history g J pairs h P k.covered.accepted k.covered.short in
     let first = k.covered.given.from.answered in
-    let within = (place_in a P first.place first.stands).within in
+    let within = (place_in a P first.place first.place_is).within in
     let second = has_place b (history g J) e has same in
     let after = absent_place b P (history g J) second.0 part k.absent second.1 in
     record {
       first = first.place;
       second = second.0;
-      place_of_first = place_more a P (history g J) first.place part first.stands;
+      place_of_first = place_more a P (history g J) first.place part first.place_is;
       place_of_second = second.1;
       in_order = omega (arith, within, after);
     }

@@ -1,5 +1,6 @@
 -- Locks exclude.
-use Rattle.std.proofs.Common.{◌≡◌, ◌<◌, ◌^◌, ℕ, zero, suc, Bool, true, false, cond, List, [], ◌∷◌, take, drop, length, Option, Some, None, refl, sym, ap, subst, ◌∙◌, inl, inr, arith, eq-eqb}
+use Rattle.std.proofs.Common.{◌≡◌, ◌<◌, ◌^◌, ℕ, zero, suc, Bool, true, false, cond, List, [], ◌∷◌, take, drop, length, Option, Some, None, refl, sym}
+use Rattle.std.proofs.Common.{ap, subst, ◌∙◌, inl, inr, arith, eq-eqb}
 use Rattle.std.specs.Prelude.{◌&&◌, ◌↔◌, slice_get}
 use Rattle.std.specs.List.{list_any}
 use Rattle.std.specs.Option.{option_map}
@@ -143,7 +144,7 @@ takes_at : (H : List Entry) (name : List ℕ) (e : Entry) (place : ℕ) → Have
     → place_of H (id_of e.key) ≡ Some place → IsAnswered H (id_of e.key) Done → TakesAt H name e place
 takes_at H name e place own h takes is answered =
     let there = own_place H e place own h is in
-    let same = same_Some answered.place place (sym answered.stands ∙ is) in
+    let same = same_Some answered.place place (sym answered.place_is ∙ is) in
     record {
       there = there;
       done = answered_at H place e Done there (ap (reply (commands H)) (sym same) ∙ answered.answered);

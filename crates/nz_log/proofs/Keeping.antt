@@ -1,4 +1,5 @@
 -- What is kept of a log: looked up, and after one more entry.
+use Rattle.nz_base.specs.declared.limits.TheConstants.{MAX_ENTRIES}
 use Rattle.std.proofs.Common.{◌≡◌, ℕ, zero, suc, ◌+◌, ◌-◌, ◌<◌, ◌≤◌, true, false, List, [], ◌∷◌, ◌++◌, length, take, drop, get_or, nat_lt}
 use Rattle.std.proofs.Common.{Option, Some, None, IfSome, is_some, refl, sym, ap, subst, ◌∙◌, inl, inr, if◌then◌else◌, arith}
 use Rattle.std.specs.Prelude.{slice_get}
@@ -90,7 +91,7 @@ above_first es n last key x few next is =
 
 pub kept_push : (log : Log) (sums : List (List ℕ)) (places now : List (Id × ℕ)) (e : Entry) (sum : List ℕ) → IsKeptLog log sums places
     → is_above_last (keys_of log.entries) e.key ≡ true → has_id (keys_of log.entries) (id_of e.key) ≡ false
-    → length log.entries < 4096 → sum ≡ digest_with log.entries e.key
+    → length log.entries < MAX_ENTRIES → sum ≡ digest_with log.entries e.key
     → ((i : Id) → lookup (id_eq i) now ≡ (if id_eq (id_of e.key) i then Some (length log.entries) else lookup (id_eq i) places))
     → IsKeptLog (record log { entries = log.entries ++ e ∷ [] }) (sums ++ sum ∷ []) now
 kept_push log sums places now e sum kept above fresh room is index = record {

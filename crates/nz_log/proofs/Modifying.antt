@@ -1,4 +1,5 @@
 -- A modification leaves a log, one entry more of which is synced.
+use Rattle.nz_base.specs.declared.limits.TheConstants.{MAX_ENTRIES}
 use Rattle.std.proofs.Common.{◌≡◌, ℕ, ◌+◌, ◌<◌, ◌≤◌, Bool, true, false, List, [], ◌∷◌, ◌++◌, length, take, drop}
 use Rattle.std.proofs.Common.{cond, sym, ap, subst, ◌∙◌, inl, inr, ◌⊎◌, arith, length-append, append_assoc}
 use Rattle.std.proofs.lemmas.Bool.{cases_Bool, or_cases, or_left, or_right}
@@ -38,7 +39,7 @@ length-synced_part : (log : Log) → IsSound log → length (synced_part log) �
 length-synced_part log sound = length-take-le log.synced log.entries sound.within
 
 pub pushed_sound : (log : Log) (e : Entry) → IsSound log → is_above_last (keys_of log.entries) e.key ≡ true → has_id (keys_of log.entries) (id_of e.key) ≡ false
-    → length log.entries < 4096 → IsSound (record log { entries = log.entries ++ e ∷ [] })
+    → length log.entries < MAX_ENTRIES → IsSound (record log { entries = log.entries ++ e ∷ [] })
 pushed_sound log e sound above fresh room =
     let long : length (log.entries ++ e ∷ []) ≡ length log.entries + 1 = length-append log.entries (e ∷ []) in
     let within : log.synced ≤ length log.entries = sound.within in
@@ -46,7 +47,7 @@ pushed_sound log e sound above fresh room =
 
 pub modified_sound : (log : Log) (e : Entry) → IsSound log → is_above_last (keys_of (synced_part log)) e.key ≡ true
     → has_id (keys_of (synced_part log)) (id_of e.key) ≡ false
-    → length log.entries < 4096 → IsSound (log_with_synced log e)
+    → length log.entries < MAX_ENTRIES → IsSound (log_with_synced log e)
 modified_sound log e sound above fresh room =
     let prefix = synced_part log in
     let back = unsynced_part log in

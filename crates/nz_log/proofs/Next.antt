@@ -1,4 +1,5 @@
 -- The entry that is put in has the key of the first one that is not synced: it takes that one's place.
+use Rattle.nz_base.specs.declared.limits.TheConstants.{MAX_ENTRIES}
 use Rattle.std.proofs.Common.{◌≡◌, ℕ, zero, suc, ◌+◌, ◌<◌, ◌≤◌, true, false, List, [], ◌∷◌, ◌++◌, length, take, drop, get_or, set}
 use Rattle.std.proofs.Common.{map, Option, Some, refl, sym, ap, subst, ◌∙◌, arith, append_assoc, length-set, if◌then◌else◌}
 use Rattle.std.specs.List.{filter}
@@ -125,7 +126,7 @@ module _ (log : Log) (e : Entry) (sound : IsSound log) (next : IsNext log e.key)
       let keys : keys_of log.entries ≡ keys_of now = sym (keys_set log.entries log.synced e next.within next.same) in
       let long : length now ≡ length log.entries = length-set log.entries log.synced e in
       let within : log.synced < length log.entries = next.within in
-      let few : length log.entries ≤ 4096 = sound.few in
+      let few : length log.entries ≤ MAX_ENTRIES = sound.few in
       record {
         sound = record { ordered = log_by_keys log.entries now keys sound.ordered; within = omega (arith, long, within); few = omega (arith, long, few) };
         summed = summed_by_keys log.entries now sums keys kept.summed;

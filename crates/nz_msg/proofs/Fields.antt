@@ -1,4 +1,5 @@
 -- Each sort of field is read as it is spelled.
+use Rattle.nz_base.specs.declared.limits.TheConstants.{MAX_ENTRIES, MAX_VIEW}
 use Rattle.std.proofs.Common.{◌≡◌, ℕ, suc, zero, ◌+◌, ◌^◌, ◌-◌, ◌<◌, ◌≤◌, Bool, true, false, eqb, List, refl, sym, ap, arith}
 use Rattle.std.specs.Prelude.{◌==◌, if◌then◌else◌}
 use Rattle.std.specs.Int.{is_in_range}
@@ -28,7 +29,7 @@ pub u64_exact : IsExact u64 8
 u64_exact = number_exact 8 wide8
 
 pub view_exact : IsExact view 8
-view_exact = within_exact 8 0 (2 ^ 62 - 1) wide8
+view_exact = within_exact 8 0 MAX_VIEW wide8
 
 pub deadline_exact : IsExact deadline 8
 deadline_exact = within_exact 8 0 (2 ^ 63 - 1) wide8
@@ -146,12 +147,12 @@ keys_exact =
     (λ k h. items_exact next_key 16 k 64 (within_most 1 0 64 k h) next_key_exact) (λ k xs h. h.0)
     (λ k bytes. (items_exact next_key 16 k k (omega arith) next_key_exact).within bytes)
 
-few_items : (least most k : ℕ) → most ≤ 4096 → (number_within 4 least most).fits k → k ≤ 4096
+few_items : (least most k : ℕ) → most ≤ MAX_ENTRIES → (number_within 4 least most).fits k → k ≤ MAX_ENTRIES
 few_items least most k few h = let small = within_most 4 least most k h in omega arith
 
 -- at most 4,096 entries
-pub entries_exact : (least most : ℕ) → most ≤ 4096 → IsExact (entries least most) 2334724
+pub entries_exact : (least most : ℕ) → most ≤ MAX_ENTRIES → IsExact (entries least most) 2334724
 entries_exact least most few =
     counted_exact (number_within 4 least most) (items next_entry) 4 2334720 (within_exact 4 least most wide4)
-    (λ k h. items_exact next_entry 570 k 4096 (few_items least most k few h) next_entry_exact) (λ k xs h. h.0)
+    (λ k h. items_exact next_entry 570 k MAX_ENTRIES (few_items least most k few h) next_entry_exact) (λ k xs h. h.0)
     (λ k bytes. (items_exact next_entry 570 k k (omega arith) next_entry_exact).within bytes)

@@ -1,4 +1,5 @@
 -- Each message is read as it is spelled.
+use Rattle.nz_base.specs.declared.limits.TheConstants.{MAX_ENTRIES}
 use Rattle.std.proofs.Common.{◌≡◌, ℕ, ◌≤◌, Bool, true, false, cond, eqb, List, [], length, Result, Ok, Err, refl, sym, ap, subst, ◌∙◌, arith}
 use Rattle.std.specs.Prelude.{max}
 use Rattle.std.proofs.lemmas.Bool.{eqb-true}
@@ -20,10 +21,10 @@ use Rattle.nz_msg.proofs.Fields.{vector_exact, answer_exact, path_exact, ids_exa
 -- ---- the bodies
 
 -- the entries of a log, of which some are committed
-log_exact : IsExact (u32 leading λ commit. entries commit 4096) 2334728
+log_exact : IsExact (u32 leading λ commit. entries commit MAX_ENTRIES) 2334728
 log_exact =
-    leading_exact u32 (λ commit. entries commit 4096) 4 2334724 u32_exact
-    (λ commit h. entries_exact commit 4096 (omega arith)) (λ commit bytes. (entries_exact commit 4096 (omega arith)).within bytes)
+    leading_exact u32 (λ commit. entries commit MAX_ENTRIES) 4 2334724 u32_exact
+    (λ commit h. entries_exact commit MAX_ENTRIES (omega arith)) (λ commit bytes. (entries_exact commit MAX_ENTRIES (omega arith)).within bytes)
 
 request_exact : IsExact request 558
 request_exact = made_exact _ _ _ 558 (λ b. refl) (λ p h. refl) (then_exact _ _ 4 554 u32_exact command_exact)
@@ -71,8 +72,8 @@ view_change_exact =
     (then_exact _ _ 8 2334777 view_exact
     (then_exact _ _ 8 2334769 view_exact
     (then_exact _ _ 37 2334732 vector_exact
-    (leading_exact (u32 then u32) (λ p. entries (max p.0 p.1) 4096) 8 2334724 (then_exact u32 u32 4 4 u32_exact u32_exact)
-    (λ p h. entries_exact (max p.0 p.1) 4096 (omega arith)) (λ p bytes. (entries_exact (max p.0 p.1) 4096 (omega arith)).within bytes)))))
+    (leading_exact (u32 then u32) (λ p. entries (max p.0 p.1) MAX_ENTRIES) 8 2334724 (then_exact u32 u32 4 4 u32_exact u32_exact)
+    (λ p h. entries_exact (max p.0 p.1) MAX_ENTRIES (omega arith)) (λ p bytes. (entries_exact (max p.0 p.1) MAX_ENTRIES (omega arith)).within bytes)))))
 
 start_view_exact : IsExact start_view 2334773
 start_view_exact = made_exact _ _ _ 2334773 (λ b. refl) (λ p h. refl) (then_exact _ _ 8 2334765 view_exact (then_exact _ _ 37 2334728 vector_exact log_exact))

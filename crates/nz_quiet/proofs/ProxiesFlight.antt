@@ -44,8 +44,8 @@ good_said : (g : Group) (t : ℕ) (L : List Entry) (r : ℕ) (to : Actor) (b : F
     → of_fast r b ≡ reply_to (said_of g L) b.id r
 good_said g t L r to b good =
     let all = replies (commands L) in
-    let at : unwrap_or (place_of L b.id) 0 ≡ good.place = ap (λ (o : Option ℕ). unwrap_or o 0) good.stands in
-    let within = place_within L b.id good.place good.stands in
+    let at : unwrap_or (place_of L b.id) 0 ≡ good.place = ap (λ (o : Option ℕ). unwrap_or o 0) good.place_is in
+    let within = place_within L b.id good.place good.place_is in
     let long : length all ≡ length L = length-replies_from empty (commands L) ∙ length-map L (λ (e : Entry). e.command) in
     let read : slice_get all good.place ≡ Some (slice_index_or all good.place Done) = slice_get-get_or all good.place Done (omega (arith, within, long)) in
     let own : slice_get all good.place ≡ Some ((said_of g L).answer b.id) = read ∙ ap (λ (k : ℕ). Some (slice_index_or all k Done)) (sym at) in

@@ -15,7 +15,7 @@ use Rattle.nz_store.specs.declared.command.Answer.{Answer}
 use Rattle.nz_msg.specs.declared.message.Path.{Path}
 use Rattle.nz_msg.specs.declared.message.Path.TheVariants as paths
 use Rattle.nz_machine.specs.declared.reply.Reply.{Reply}
-use Rattle.nz_machine.specs.rules.Quorums.{is_of_leader, is_slow_of, agrees_of, stands_slowly, stands_fast, has_slow_quorum, has_fast_quorum}
+use Rattle.nz_machine.specs.rules.Quorums.{is_of_leader, is_slow_of, agrees_of, supports_slowly, supports_fast, has_slow_quorum, has_fast_quorum}
 use Rattle.nz_machine.specs.rules.Quorums.{Chosen, decision, answer_in}
 use Rattle.nz_machine.specs.runs.World.{Has}
 use Rattle.nz_machine.proofs.lists.EachItem.{all_back}
@@ -53,10 +53,10 @@ module _ (f : ℕ) (digest vector : List ℕ) (answer : Answer) where
   leads_quorum : (rs : List Reply) → ((r : ℕ) → r < replica_count f → Has rs (reply r)) → has_fast_quorum f rs (reply 0) ≡ true
   leads_quorum rs all =
       let n = replica_count f in
-      let each : (r : ℕ) → r < n → stands_fast f rs (reply 0) r ≡ everyone r = λ r lt.
+      let each : (r : ℕ) → r < n → supports_fast f rs (reply 0) r ≡ everyone r = λ r lt.
       let any = any_has (agrees_of 0 digest vector r) rs (reply r) (all r lt) (agrees_self digest vector answer r) in
       or_right (eqb r (leader_of f 0)) (list_any (agrees_of 0 digest vector r) rs) any in
-      let many : count_below n (stands_fast f rs (reply 0)) ≡ n = count_same n (stands_fast f rs (reply 0)) everyone each ∙ count_everyone n in
+      let many : count_below n (supports_fast f rs (reply 0)) ≡ n = count_same n (supports_fast f rs (reply 0)) everyone each ∙ count_everyone n in
       let first = leads_first f in
       grind (arith, nat_tests, many, first)
 
@@ -90,16 +90,16 @@ module _ (f : ℕ) (digest vector : List ℕ) (answer : Answer) where
   none_slow rs y least good is =
       let n = replica_count f in
       let r = is.replica in
-      let each : (x : ℕ) → x < n → stands_slowly f rs (reply r) x ≡ (eqb 0 x || false) = λ x lt.
+      let each : (x : ℕ) → x < n → supports_slowly f rs (reply r) x ≡ (eqb 0 x || false) = λ x lt.
       ap (λ (b : Bool). eqb x (leader_of f 0) || b) (no_slow rs x good) ∙ ap (λ (k : ℕ). eqb x k || false) (leads_first f)
       ∙ ap (λ (b : Bool). b || false) (turn x 0) in
       let one : count_below n (λ x. eqb 0 x || false) ≡ count_below n (λ x. false) + 1 = count_add n 0 (λ x. false) (omega arith) refl in
       let zero_count : count_below n (λ x. false) ≡ 0 = count_none n (λ x. false) (λ x lt. refl) in
-      let many : count_below n (stands_slowly f rs (reply r)) ≡ count_below n (λ x. eqb 0 x || false) =
-      count_same n (stands_slowly f rs (reply r)) (λ x. eqb 0 x || false) each in
-      let few : nat_le (slow_size f) (count_below n (stands_slowly f rs (reply r))) ≡ false = grind (arith, nat_tests, many, one, zero_count, least) in
+      let many : count_below n (supports_slowly f rs (reply r)) ≡ count_below n (λ x. eqb 0 x || false) =
+      count_same n (supports_slowly f rs (reply r)) (λ x. eqb 0 x || false) each in
+      let few : nat_le (slow_size f) (count_below n (supports_slowly f rs (reply r))) ≡ false = grind (arith, nat_tests, many, one, zero_count, least) in
       let none : has_slow_quorum f rs (reply r) ≡ false =
-      no_and (is_of_leader f (reply r)) (nat_le (slow_size f) (count_below n (stands_slowly f rs (reply r)))) few in
+      no_and (is_of_leader f (reply r)) (nat_le (slow_size f) (count_below n (supports_slowly f rs (reply r)))) few in
       ap (has_slow_quorum f rs) is.is ∙ none
 
   -- ---- the decision

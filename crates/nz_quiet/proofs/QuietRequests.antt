@@ -10,7 +10,8 @@ use Rattle.nz_buffers.specs.Buffers.{insert_by_key, without}
 use Rattle.nz_msg.specs.declared.message.TimedBody.{TimedBody}
 use Rattle.nz_machine.specs.rules.State.{ReplicaData}
 use Rattle.nz_machine.specs.rules.Replicas.{is_normal, leads, key_with_deadline}
-use Rattle.nz_machine.specs.rules.Requests.{origin_of, with_origin, to_early, to_late, entry_at, after_restamp, after_placing, is_full, after_timed, request_rule}
+use Rattle.nz_machine.specs.rules.Requests.{origin_of, with_origin, to_early, to_late, entry_at, after_restamp, after_placing, is_full, after_timed}
+use Rattle.nz_machine.specs.rules.Requests.{request_rule}
 
 -- ---- a request
 

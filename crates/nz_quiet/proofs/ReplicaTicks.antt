@@ -12,7 +12,7 @@ use Rattle.nz_base.specs.declared.actor.Actor.{Actor}
 use Rattle.nz_base.specs.declared.actor.Actor.TheVariants.{Replica, Proxy}
 use Rattle.nz_base.specs.declared.key.Entry.{Entry}
 use Rattle.nz_base.specs.declared.key.Id.{Id}
-use Rattle.nz_base.specs.declared.limits.TheConstants.{UNITS_PER_TICK, MAX_CLOCK, MAX_ENTRIES, MAX_QUIET, MAX_KEYS}
+use Rattle.nz_base.specs.declared.limits.TheConstants.{UNITS_PER_TICK, MAX_CLOCK, MAX_ENTRIES, VIEW_TIMEOUT_TICKS, MAX_KEYS}
 use Rattle.nz_base.specs.Key.{id_eq, id_of}
 use Rattle.nz_base.specs.Log.{keys_of, AreRising}
 use Rattle.nz_base.proofs.Booleans.{length-filter_le}
@@ -116,12 +116,12 @@ timer_counts f me t few = elim (cases_Bool (leads f me t)) [
         (ap (λ (b : Bool). cond b (log_mods_to_others f me t) []) led);
   })
   | inr follows ↦
-      let later = record t { quiet = min (t.quiet + 1) MAX_QUIET } in
-      let short : eqb (min (t.quiet + 1) MAX_QUIET) MAX_QUIET ≡ false = grind (arith, nat_tests, few) in
+      let later = record t { quiet = min (t.quiet + 1) VIEW_TIMEOUT_TICKS } in
+      let short : eqb (min (t.quiet + 1) VIEW_TIMEOUT_TICKS) VIEW_TIMEOUT_TICKS ≡ false = grind (arith, nat_tests, few) in
       let timed : quiet_timer f me t ≡ (later, []) = ap (λ (b : Bool). cond b (enter_next f me later) (later, [])) short in
       rw follows (subst (λ (v : ReplicaData × List Out). IsCounted f me t v) (sym timed)
       (record {
-        count = min (t.quiet + 1) MAX_QUIET;
+        count = min (t.quiet + 1) VIEW_TIMEOUT_TICKS;
         few = omega arith;
         calm = λ led. absurd (let no = follows in cc);
         state = refl;
@@ -295,7 +295,7 @@ module _ (g : Group) (t r : ℕ) (L E : List Entry) (s : ReplicaData) where
         vector = shows.vector ∙ now.vector;
         delay = shows.delay ∙ own.delay;
         place = shows.place;
-        stands = sym (ap (λ (es : List Entry). place_of es b.id) now.log) ∙ shows.stands;
+        place_is = sym (ap (λ (es : List Entry). place_of es b.id) now.log) ∙ shows.place_is;
         digest = shows.digest ∙ ap (λ (es : List Entry). digest_at es shows.place) now.log;
         answer = shows.answer ∙ answer_is h shows.place;
       }

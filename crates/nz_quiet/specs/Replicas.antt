@@ -109,7 +109,7 @@ pub record IsGoodReply (g : Group) (t : ℕ) (L : List Entry) (r : ℕ) (to : Ac
   pub vector : b.vector ≡ replicate (replica_count g.f) 0
   pub delay : b.delay ≡ UNITS_PER_TICK
   pub place : ℕ
-  pub stands : place_of L b.id ≡ Some place
+  pub place_is : place_of L b.id ≡ Some place
   pub digest : b.digest ≡ digest_at L place
   pub answer : b.answer ≡ (if r == 0 then slice_get (replies (commands L)) place else None)
 

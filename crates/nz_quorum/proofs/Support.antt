@@ -12,7 +12,7 @@ use Rattle.nz_msg.specs.declared.message.Path.{Path}
 use Rattle.nz_msg.specs.declared.message.Path.TheVariants as paths
 use Rattle.nz_machine.specs.declared.reply.Reply.{Reply}
 use Rattle.nz_machine.specs.declared.reply.Reply.TheVariants.{Fast, Slow}
-use Rattle.nz_machine.specs.rules.Quorums.{view_of, is_of_leader, is_slow_of, agrees_of, stands_fast, stands_slowly}
+use Rattle.nz_machine.specs.rules.Quorums.{view_of, is_of_leader, is_slow_of, agrees_of, supports_fast, supports_slowly}
 use Rattle.nz_quorum.specs.Tallies.{replica_of, IsOfCluster, quorum_size, has_quorum}
 use Rattle.nz_quorum.specs.Support.{supports}
 
@@ -56,8 +56,8 @@ is_slow r view digest vector answer x (Slow s w) = refl
 
 -- whether a replica supports the lead in a quorum of this path
 abbrev pub stands : Path → ℕ → List Reply → Reply → ℕ → Bool
-stands paths.Fast f replies lead = stands_fast f replies lead
-stands paths.Slow f replies lead = stands_slowly f replies lead
+stands paths.Fast f replies lead = supports_fast f replies lead
+stands paths.Slow f replies lead = supports_slowly f replies lead
 
 same_stand : (path : Path) (f : ℕ) (replies : List Reply) (lead : Reply) (x : ℕ) → is_of_leader f lead ≡ true
     → (eqb (leader_of f (view_of lead)) x || list_any (backs path lead x) replies) ≡ stands path f replies lead x

@@ -17,7 +17,7 @@ use Rattle.nz_machine.specs.declared.event.Record.{Record}
 use Rattle.nz_machine.specs.rules.Replicas.{numbers_below}
 use Rattle.nz_machine.specs.rules.State.{Group}
 use Rattle.nz_machine.specs.rules.Step.{Node, first, node_run}
-use Rattle.nz_machine.specs.runs.World.{state_after, IsAsked}
+use Rattle.nz_machine.specs.runs.World.{state_after, HasCommand}
 use Rattle.nz_machine.specs.runs.Schedule.{IsPlayable}
 use Rattle.nz_machine.proofs.lists.EachItem.{all_imply}
 use Rattle.nz_machine.proofs.lists.ListParts.{all_get}
@@ -168,6 +168,6 @@ got_or (y ∷ xs) (suc i) x d e = got_or xs i x d e
 
 pub sendable : (s : Scenario) (i : ℕ) (script : List Request) → IsPlayable s → slice_get s.scripts i ≡ Some script → AreSendable script
 sendable s i script play e =
-    let asked : AllByRecursion IsAsked script =
-    subst (λ (o : Option (List Request)). IfSome o (AllByRecursion IsAsked)) e (all_get (AllByRecursion IsAsked) s.scripts i play.group.commands) in
-    all_imply IsAsked IsSendable (λ r h. record { command = command_fits r.command h.command }) script asked
+    let asked : AllByRecursion HasCommand script =
+    subst (λ (o : Option (List Request)). IfSome o (AllByRecursion HasCommand)) e (all_get (AllByRecursion HasCommand) s.scripts i play.group.commands) in
+    all_imply HasCommand IsSendable (λ r h. record { command = command_fits r.command h.command }) script asked

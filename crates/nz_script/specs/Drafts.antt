@@ -9,7 +9,7 @@ use Rattle.nz_base.specs.declared.scenario.Fault.TheVariants as fault
 use Rattle.nz_base.specs.declared.scenario.Scenario.{Scenario}
 use Rattle.nz_base.specs.Actor.{actor_eq, is_within}
 use Rattle.nz_base.specs.Cluster.{replica_count}
-use Rattle.nz_base.specs.declared.limits.TheConstants.{MAX_REQUESTS, MAX_TURNS, MAX_FAULTS, MAX_CHANCES}
+use Rattle.nz_base.specs.declared.limits.TheConstants.{MAX_REQUESTS, MAX_REQUEST_TICKS, MAX_FAULTS, MAX_CHANCES}
 use Rattle.nz_store.specs.declared.command.Command.{Command}
 use Rattle.nz_store.specs.declared.command.Command.TheVariants as command
 use Rattle.nz_store.specs.Grammar.{spelling}
@@ -158,7 +158,7 @@ all_within (f ∷ forms) (w ∷ words) = word_within f w && all_within forms wor
 
 -- No more requests, and no more requests times ticks, than a scenario has at most.
 abbrev pub has_room_for_requests : ℕ → ℕ → Bool
-has_room_for_requests requests ticks = nat_le requests MAX_REQUESTS && nat_le (requests * ticks) MAX_TURNS
+has_room_for_requests requests ticks = nat_le requests MAX_REQUESTS && nat_le (requests * ticks) MAX_REQUEST_TICKS
 
 -- No more faults, and no more requests times faults, than a scenario has at most.
 abbrev pub has_room_for_faults : ℕ → ℕ → Bool

@@ -13,7 +13,7 @@ use super::group::{Group, knows};
 use super::line::Line;
 use super::line_forms::{Form, Head, Mishap, Verb};
 use super::word::{Word, actor_at, number_at};
-use nz_base::{Actor, MAX_CHANCES, MAX_FAULTS, MAX_REQUESTS, MAX_TURNS, Skew};
+use nz_base::{Actor, MAX_CHANCES, MAX_FAULTS, MAX_REQUESTS, MAX_REQUEST_TICKS, Skew};
 use nz_store::{is_key, is_value};
 
 /// Whether a text of this version has lines of this sort. In version 1 the word `window` is unknown.
@@ -190,7 +190,7 @@ pub fn fits_requests(requests: u64, ticks: u32) -> bool
     requires { requests < 2 ^ 40 }
     ensures { result ≡ has_room_for_requests requests ticks }
 {
-    requests <= MAX_REQUESTS && requests * u64::from(ticks) <= MAX_TURNS
+    requests <= MAX_REQUESTS && requests * u64::from(ticks) <= MAX_REQUEST_TICKS
 }
 
 /// Whether this many faults are within the limits.

@@ -1,5 +1,6 @@
 -- Which keys came: by a walk in both lists where they rise, and key by key.
-use Rattle.std.proofs.Common.{◌≡◌, ℕ, zero, suc, ◌+◌, ◌<◌, ◌≤◌, Bool, true, false, cond, List, [], ◌∷◌, ◌++◌, length, refl, sym, ap, subst, ◌∙◌, inl, inr, arith}
+use Rattle.std.proofs.Common.{◌≡◌, ℕ, zero, suc, ◌+◌, ◌<◌, ◌≤◌, Bool, true, false, cond, List, [], ◌∷◌, ◌++◌, length, refl, sym, ap, subst, ◌∙◌, inl}
+use Rattle.std.proofs.Common.{inr, arith}
 use Rattle.std.proofs.Common.{append_assoc, append-nil, add-one, length-drop, take_all}
 use Rattle.std.specs.Prelude.{◌-◌, not, Some, take, drop, get_or, slice_get}
 use Rattle.std.proofs.Math.Seq.{drop-cons}

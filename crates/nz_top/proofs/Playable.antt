@@ -24,7 +24,7 @@ use Rattle.nz_script.specs.Draws.{scenario_of_seed}
 use Rattle.nz_top.specs.declared.words.Origin.{Origin}
 use Rattle.nz_top.specs.declared.words.Origin.TheVariants.{Seed}
 use Rattle.nz_top.specs.Words.{IsDrawable}
-use Rattle.nz_machine.specs.runs.World.{IsAsked, IsMember, request_count}
+use Rattle.nz_machine.specs.runs.World.{HasCommand, IsMember, request_count}
 use Rattle.nz_machine.specs.runs.Schedule.{group_of, NamesMember, IsPlayable}
 
 least : (low high n : ℕ) → is_within low high n ≡ true → low ≤ n
@@ -33,14 +33,14 @@ least low high n e = leb-true low n (and_parts (nat_le low n) (nat_le n high) e)
 some_command : (o : Option Command) → is_some o ≡ true → IsSome o
 some_command o e = e
 
-asked : (r : Request) → is_request r ≡ true → IsAsked r
+asked : (r : Request) → is_request r ≡ true → HasCommand r
 asked r e = record { command = some_command (command_of r.command) (and_parts (nat_le r.wait 20000) (is_some (command_of r.command)) e).1 }
 
-all_asked : (script : List Request) → are_requests script ≡ true → AllByRecursion IsAsked script
+all_asked : (script : List Request) → are_requests script ≡ true → AllByRecursion HasCommand script
 all_asked [] e = tt
 all_asked (r ∷ script) e = let p = and_parts (is_request r) (are_requests script) e in (asked r p.0, all_asked script p.1)
 
-scripts_asked : (scripts : List (List Request)) → list_all are_requests scripts ≡ true → AllByRecursion (λ script. AllByRecursion IsAsked script) scripts
+scripts_asked : (scripts : List (List Request)) → list_all are_requests scripts ≡ true → AllByRecursion (λ script. AllByRecursion HasCommand script) scripts
 scripts_asked [] e = tt
 scripts_asked (script ∷ scripts) e = let p = and_parts (are_requests script) (list_all are_requests scripts) e in
     (all_asked script p.0, scripts_asked scripts p.1)

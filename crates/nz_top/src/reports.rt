@@ -20,7 +20,7 @@ ghost use Rattle.nz_top.specs.Reports.{printed_by, Admits};
 ghost use Rattle.nz_top.specs.Watching.{HasObserved};
 
 use nz_audit::{first_history, history_of};
-use nz_base::{Actor, Blob, Fault, Id, MAX_QUIET, NoMemory, Scenario};
+use nz_base::{Actor, Blob, Fault, Id, VIEW_TIMEOUT_TICKS, NoMemory, Scenario};
 use nz_locks::{first_foul, tenure_lines};
 use nz_machine::{Journal, ToldAt, ToldList, told_in};
 use nz_observe::{Observer, observe};
@@ -186,7 +186,7 @@ fn may_hide(leader: Actor, from: Option<Actor>, to: Option<Actor>, first: u32, l
     let ticks = last.saturating_sub(first).saturating_add(2);
     from.is_none_or(|from| from.is(&leader))
         && to.is_none_or(|to| matches!(to, Actor::Replica(_)))
-        && ticks >= u32::from(MAX_QUIET)
+        && ticks >= u32::from(VIEW_TIMEOUT_TICKS)
 }
 
 /// Whether replicas may leave the first view, or one of them may not be up at the end: the leader crashes or is hidden, a

@@ -6,7 +6,7 @@ ghost use Rattle.nz_machine.specs.rules.Views as views;
 ghost use Rattle.nz_machine.specs.rules.Views.{alarm_rule};
 ghost use Rattle.nz_machine.specs.rules.Does.{Does};
 
-use nz_base::{ASK_PERIOD, MAX_QUIET, NoMemory};
+use nz_base::{VIEW_ASK_TICKS, VIEW_TIMEOUT_TICKS, NoMemory};
 use nz_machine::{Outbox, ReplicaState};
 
 /// The next view is entered, where there is one.
@@ -38,10 +38,10 @@ pub fn change_timer(state: &mut ReplicaState, sends: &mut Outbox) -> Result<(), 
     ensures { let s = state.old in OnOk result (Does s state.new sends.old sends.new (views.change_timer s.f s.me s.state)) }
 {
     let since = state.count_changing();
-    if since == MAX_QUIET {
+    if since == VIEW_TIMEOUT_TICKS {
         return enter_next(state, sends);
     }
-    if since % ASK_PERIOD == 0 {
+    if since % VIEW_ASK_TICKS == 0 {
         return state.call_for_view(sends);
     }
     Ok(())

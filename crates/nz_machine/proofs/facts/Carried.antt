@@ -1,4 +1,5 @@
 -- The entries that a frame carries are a log.
+use Rattle.nz_base.specs.declared.limits.TheConstants.{MAX_ENTRIES}
 use Rattle.std.proofs.Common.{◌≡◌, ℕ, ◌≤◌, ◌&&◌, not, true, false, List, [], ◌∷◌, ◌++◌, length, refl, sym, subst, append_assoc, arith}
 use Rattle.std.proofs.lemmas.Bool.{and_parts, not-true}
 use Rattle.std.proofs.lemmas.Bool.Decides.{nat_tests}
@@ -44,9 +45,9 @@ within_least size least most n h = let range = h.1 in grind (arith, nat_tests, r
 pub at_least_of_fit : (least most : ℕ) (xs : List Entry) → (entries least most).fits xs → least ≤ length xs
 at_least_of_fit least most xs h = within_least 4 least most (length xs) h.0
 
-pub carried_of_fit : (least : ℕ) (xs : List Entry) → (entries least 4096).fits xs → IsCarried xs
+pub carried_of_fit : (least : ℕ) (xs : List Entry) → (entries least MAX_ENTRIES).fits xs → IsCarried xs
 carried_of_fit least xs h = record {
   log = log_each [] xs (record { rising = tt; own_ids = tt }) h.1.1;
-  fit = entries_of_fit least 4096 xs h;
-  few = within_most 4 least 4096 (length xs) h.0;
+  fit = entries_of_fit least MAX_ENTRIES xs h;
+  few = within_most 4 least MAX_ENTRIES (length xs) h.0;
 }

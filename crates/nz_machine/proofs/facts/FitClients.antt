@@ -14,7 +14,7 @@ use Rattle.nz_machine.specs.rules.State.{ClientData, Group, Out}
 use Rattle.nz_machine.specs.rules.Clients.{ask, if_due, after_opening, open_next, fill_places, fill_window, is_overdue, after_wait}
 use Rattle.nz_machine.specs.rules.Clients.{request_again, retry, retries, wait_rule, is_open, after_acceptance, accept_rule}
 use Rattle.nz_machine.specs.rules.Step.{script_of, client_message}
-use Rattle.nz_machine.specs.runs.World.{IsAsked, IsGroup}
+use Rattle.nz_machine.specs.runs.World.{HasCommand, IsGroup}
 use Rattle.nz_machine.proofs.runs.Runs.{FitsOut, AllFit}
 use Rattle.nz_machine.proofs.lists.EachItem.{all_append}
 use Rattle.nz_machine.proofs.lists.ListParts.{all_get, all_index}
@@ -27,20 +27,20 @@ pub record IsClient (proxies me : ℕ) (script : List Request) : Type 0 where
   pub few : proxies ≤ 8
   pub address : me ≤ 63
   pub short : length script ≤ 2000
-  pub commands : AllByRecursion IsAsked script
+  pub commands : AllByRecursion HasCommand script
 
 pub record ClientStep (window : ℕ) (script : List Request) (me : ℕ) (t : ClientData × List Out) : Type 0 where
   pub state : InTurn window script t.0
   pub sends : AllFit (Client me) t.1
 
 ask_fits : (proxies me : ℕ) (script : List Request) (proxy num : ℕ) (r : Request) → IsClient proxies me script
-    → proxy < proxies → num ≤ 2000 → IsAsked r → FitsOut (Client me) (ask proxy num r)
+    → proxy < proxies → num ≤ 2000 → HasCommand r → FitsOut (Client me) (ask proxy num r)
 ask_fits proxies me script proxy num r c below few asked =
     let most = c.few in
     record { sender = c.address; receiver = omega (arith, below, most); message = (omega (arith, few), command_fits r.command asked.command) }
 
-get_asked : (script : List Request) (i : ℕ) (r : Request) → AllByRecursion IsAsked script → slice_get script i ≡ Some r → IsAsked r
-get_asked script i r all e = subst (λ (o : Option Request). IfSome o IsAsked) e (all_get IsAsked script i all)
+get_asked : (script : List Request) (i : ℕ) (r : Request) → AllByRecursion HasCommand script → slice_get script i ≡ Some r → HasCommand r
+get_asked script i r all e = subst (λ (o : Option Request). IfSome o HasCommand) e (all_get HasCommand script i all)
 
 pub own_proxy : (proxies n : ℕ) → 1 ≤ proxies → n % proxies < proxies
 own_proxy proxies n some = omega (arith, some)
@@ -149,5 +149,5 @@ client_of g c h member =
       few = h.most_proxies;
       address = omega (arith, member, most);
       short = omega (arith, own, few);
-      commands = all_index (λ script. AllByRecursion IsAsked script) g.scripts c [] h.commands tt;
+      commands = all_index (λ script. AllByRecursion HasCommand script) g.scripts c [] h.commands tt;
     }

@@ -189,7 +189,7 @@ asked_fit s xs log all few =
 
 -- ---- whole states
 
-pub own_log : (f me : ℕ) (least : ℕ) (s : ReplicaData) → HasFacts f me s → least ≤ length s.log.entries → (entries least 4096).fits s.log.entries
+pub own_log : (f me : ℕ) (least : ℕ) (s : ReplicaData) → HasFacts f me s → least ≤ length s.log.entries → (entries least MAX_ENTRIES).fits s.log.entries
 own_log f me least s h low = log_fits least s.log.entries low h.entries.few (led_log f me s h).order (log_each f me s h)
 
 -- what a replica sends of its whole state is in the ranges of frames
@@ -275,7 +275,7 @@ fast_fits f me before s to b c low h w =
       message = (
         subst view.fits (sym w.view) (view_fits before.view low),
         (
-          place_fits f me s b.id w.place h w.stands,
+          place_fits f me s b.id w.place h w.place_is,
           (
             ap length w.digest ∙ length-digest (map entry_key (take (suc w.place) s.log.entries)),
             (
@@ -296,7 +296,7 @@ slow_fits f me s to b c h w =
     let from = origin_fits f me s b.id w.origin h w.known in
     let slow = from.delay in
     let fit : Fits (messages.SlowReply (record { view = s.view; id = b.id; delay = w.origin.delay })) =
-    (view_fits s.view h.bounds.view, (place_fits f me s b.id w.place h w.stands, omega (arith, slow))) in
+    (view_fits s.view h.bounds.view, (place_fits f me s b.id w.place h w.place_is, omega (arith, slow))) in
     record {
       sender = own_address f me c;
       receiver = subst HasAddress (sym w.receiver) from.proxy;

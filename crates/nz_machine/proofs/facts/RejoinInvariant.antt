@@ -1,4 +1,5 @@
 -- What the code keeps of a replica, at the calls by which it collects what others told.
+use Rattle.nz_base.specs.declared.limits.TheConstants.{MAX_VIEW}
 use Rattle.std.proofs.Common.{◌≡◌, ℕ, ◌-◌, ◌<◌, ◌^◌, max, subst, List, [], ◌∷◌, ◌++◌, length, refl, sym, eq-eqb}
 use Rattle.std.specs.Prelude.{◌==◌, if◌then◌else◌, slice_index}
 use Rattle.std.specs.List.{list_any}
@@ -36,7 +37,7 @@ pub kept_tell : (f me : ℕ) (s : ReplicaData) (store : Entries) (sender : ℕ) 
 kept_tell f me s store sender b tells k member fits long is =
     let t : ReplicaData = record s { rejoin = record s.rejoin { tells = tells } } in
     let counters = vector_counts f b.vector fits.1.1 (eq-eqb (length b.vector) (replica_count f) long) in
-    let low = within_most 8 0 (2 ^ 62 - 1) b.view fits.1.0 in
+    let low = within_most 8 0 MAX_VIEW b.view fits.1.0 in
     let facts : HasFacts f me t =
     subst (HasFacts f me) (λ i. record s { rejoin = record s.rejoin { tells = sym is i } })
     (tell_keeps f me s sender b k.facts member low counters) in

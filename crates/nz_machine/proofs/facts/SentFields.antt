@@ -12,7 +12,7 @@ use Rattle.nz_base.specs.declared.key.Entry.{Entry}
 use Rattle.nz_base.specs.Key.{id_eq, id_of, key_below}
 use Rattle.nz_base.specs.Log.{keys_of, has_id, AreRising, HaveOwnIds}
 use Rattle.nz_base.proofs.Logs.{has_first, has_back, has_id-append, keys_append}
-use Rattle.nz_base.specs.declared.limits.TheConstants.{MAX_VIEW}
+use Rattle.nz_base.specs.declared.limits.TheConstants.{MAX_VIEW, MAX_ENTRIES}
 use Rattle.nz_store.specs.declared.command.Command.{Command}
 use Rattle.nz_store.specs.declared.command.Command.TheVariants.{Put, Get, Del, Cas}
 use Rattle.nz_store.specs.Grammar.{IsKey, IsValue, IsOptionalValue, IsValidCommand, key_spelling, value_spelling, choice_spelling, spelling}
@@ -26,7 +26,7 @@ use Rattle.nz_machine.specs.rules.Facts.{FitsEntry, AreCounters}
 -- ---- numbers
 
 pub view_fits : (n : ℕ) → n ≤ MAX_VIEW → view.fits n
-view_fits n le = (omega (arith, le), and_from (nat_le 0 n) (nat_le n (2 ^ 62 - 1)) (le-leb 0 n (omega arith)) (le-leb n (2 ^ 62 - 1) (omega (arith, le))))
+view_fits n le = (omega (arith, le), and_from (nat_le 0 n) (nat_le n MAX_VIEW) (le-leb 0 n (omega arith)) (le-leb n MAX_VIEW (omega (arith, le))))
 
 -- ---- lists of single items
 
@@ -106,10 +106,10 @@ entries_fit xs few order all =
     ((omega (arith, few), within_count 0 64 (length xs) (omega arith) few), (refl, entries_each [] xs order.rising order.own_ids all))
 
 -- a whole log, with at least this many entries
-pub log_fits : (least : ℕ) (xs : List Entry) → least ≤ length xs → length xs ≤ 4096 → AreInOrder (keys_of xs) → AllByRecursion FitsEntry xs
-    → (entries least 4096).fits xs
+pub log_fits : (least : ℕ) (xs : List Entry) → least ≤ length xs → length xs ≤ MAX_ENTRIES → AreInOrder (keys_of xs) → AllByRecursion FitsEntry xs
+    → (entries least MAX_ENTRIES).fits xs
 log_fits least xs low few order all =
-    ((omega (arith, few), within_count least 4096 (length xs) low few), (refl, entries_each [] xs order.rising order.own_ids all))
+    ((omega (arith, few), within_count least MAX_ENTRIES (length xs) low few), (refl, entries_each [] xs order.rising order.own_ids all))
 
 -- ---- what a list in a message holds
 

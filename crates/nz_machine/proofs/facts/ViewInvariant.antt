@@ -4,7 +4,7 @@ use Rattle.std.specs.Prelude.{◌==◌, nat_lt, if◌then◌else◌}
 use Rattle.nz_base.specs.Cluster.{replica_count, leader_of}
 use Rattle.nz_base.specs.declared.key.Entry.{Entry}
 use Rattle.nz_base.proofs.Booleans.{true_and_false}
-use Rattle.nz_base.specs.declared.limits.TheConstants.{MAX_ENTRIES, MAX_VIEW, MAX_QUIET, REJOIN_PERIOD}
+use Rattle.nz_base.specs.declared.limits.TheConstants.{MAX_ENTRIES, MAX_VIEW, VIEW_TIMEOUT_TICKS, REJOIN_ASK_TICKS}
 use Rattle.nz_store.specs.Entries.{Entries}
 use Rattle.nz_store.specs.Sequence.{store_after, replies}
 use Rattle.nz_store.specs.declared.command.Answer.{Answer}
@@ -36,38 +36,38 @@ kept_facts f me s t store k facts status view log = record {
 
 -- ---- counts
 
-pub kept_quiet : (f me : ℕ) (s : ReplicaData) (store : Entries) (n : ℕ) → IsKeptReplica f me s store → n ≤ MAX_QUIET
+pub kept_quiet : (f me : ℕ) (s : ReplicaData) (store : Entries) (n : ℕ) → IsKeptReplica f me s store → n ≤ VIEW_TIMEOUT_TICKS
     → IsKeptReplica f me (record s { quiet = n }) store
 kept_quiet f me s store n k low = kept_facts f me s (record s { quiet = n }) store k (quiet_keeps f me s n k.facts low) refl refl refl
 
 -- one in a view change does not rejoin
-not_rejoining : (m : Status) (n : ℕ) → is_changing m ≡ true → is_rejoining m ≡ true → n < REJOIN_PERIOD
+not_rejoining : (m : Status) (n : ℕ) → is_changing m ≡ true → is_rejoining m ≡ true → n < REJOIN_ASK_TICKS
 not_rejoining Normal n a b = absurd cc
 not_rejoining ViewChange n a b = absurd cc
 not_rejoining Rejoining n a b = absurd cc
 not_rejoining Down n a b = absurd cc
 
-pub kept_since : (f me : ℕ) (s : ReplicaData) (store : Entries) (n : ℕ) → IsKeptReplica f me s store → n < MAX_QUIET
-    → (IsTrue (is_rejoining s.status) → n < REJOIN_PERIOD)
+pub kept_since : (f me : ℕ) (s : ReplicaData) (store : Entries) (n : ℕ) → IsKeptReplica f me s store → n < VIEW_TIMEOUT_TICKS
+    → (IsTrue (is_rejoining s.status) → n < REJOIN_ASK_TICKS)
     → IsKeptReplica f me (record s { since = n }) store
 kept_since f me s store n k low rejoins = kept_facts f me s (record s { since = n }) store k (since_keeps f me s n k.facts low rejoins) refl refl refl
 
 pub kept_changing : (f me : ℕ) (s : ReplicaData) (store : Entries) (n : ℕ) → IsKeptReplica f me s store
-    → is_changing s.status ≡ true → n ≡ (if s.since + 1 == MAX_QUIET then 0 else s.since + 1)
+    → is_changing s.status ≡ true → n ≡ (if s.since + 1 == VIEW_TIMEOUT_TICKS then 0 else s.since + 1)
     → IsKeptReplica f me (record s { since = n }) store
 kept_changing f me s store n k changing is =
-    kept_since f me s store n k (subst (λ (m : ℕ). m < MAX_QUIET) (sym is)
-    (counted_low MAX_QUIET s.since k.facts.mode.since)) (not_rejoining s.status n changing)
+    kept_since f me s store n k (subst (λ (m : ℕ). m < VIEW_TIMEOUT_TICKS) (sym is)
+    (counted_low VIEW_TIMEOUT_TICKS s.since k.facts.mode.since)) (not_rejoining s.status n changing)
 
 -- a rejoin's period is shorter
-period_low : (n : ℕ) → n < REJOIN_PERIOD → n < MAX_QUIET
+period_low : (n : ℕ) → n < REJOIN_ASK_TICKS → n < VIEW_TIMEOUT_TICKS
 period_low n low = omega (arith, low)
 
 pub kept_rejoining : (f me : ℕ) (s : ReplicaData) (store : Entries) (n : ℕ) → IsKeptReplica f me s store
-    → is_rejoining s.status ≡ true → n ≡ (if s.since + 1 == REJOIN_PERIOD then 0 else s.since + 1)
+    → is_rejoining s.status ≡ true → n ≡ (if s.since + 1 == REJOIN_ASK_TICKS then 0 else s.since + 1)
     → IsKeptReplica f me (record s { since = n }) store
 kept_rejoining f me s store n k rejoins is =
-    let low : n < REJOIN_PERIOD = subst (λ (m : ℕ). m < REJOIN_PERIOD) (sym is) (counted_low REJOIN_PERIOD s.since (k.facts.mode.rejoining rejoins)) in
+    let low : n < REJOIN_ASK_TICKS = subst (λ (m : ℕ). m < REJOIN_ASK_TICKS) (sym is) (counted_low REJOIN_ASK_TICKS s.since (k.facts.mode.rejoining rejoins)) in
     kept_since f me s store n k (period_low n low) (λ _. low)
 
 -- ---- views

@@ -9,7 +9,7 @@ use Rattle.std.proofs.lemmas.Bool.{cond_both}
 use Rattle.nz_base.specs.Cluster.{replica_count, leader_of}
 use Rattle.nz_base.specs.declared.key.Entry.{Entry}
 use Rattle.nz_base.proofs.Booleans.{true_and_false}
-use Rattle.nz_base.specs.declared.limits.TheConstants.{MAX_ENTRIES, MAX_VIEW, MAX_QUIET, REJOIN_PERIOD}
+use Rattle.nz_base.specs.declared.limits.TheConstants.{MAX_ENTRIES, MAX_VIEW, VIEW_TIMEOUT_TICKS, REJOIN_ASK_TICKS}
 use Rattle.nz_cv.specs.Vectors.{is_stray}
 use Rattle.nz_math.specs.Count.{AreDistinct}
 use Rattle.nz_merge.specs.Merged.{AreFit, greatest, merged}
@@ -42,7 +42,7 @@ use Rattle.nz_machine.proofs.lists.Distinct.{distinct_more, distinct_filter, dis
 
 -- ---- the counts of ticks
 
-pub quiet_keeps : (f me : ℕ) (s : ReplicaData) (n : ℕ) → HasFacts f me s → n ≤ MAX_QUIET → HasFacts f me (record s { quiet = n })
+pub quiet_keeps : (f me : ℕ) (s : ReplicaData) (n : ℕ) → HasFacts f me s → n ≤ VIEW_TIMEOUT_TICKS → HasFacts f me (record s { quiet = n })
 quiet_keeps f me s n h low = record {
   bounds = h.bounds;
   mode = record { last = h.mode.last; normal = h.mode.normal; quiet = low; since = h.mode.since; rejoining = h.mode.rejoining };
@@ -57,7 +57,7 @@ quiet_keeps f me s n h low = record {
 pub hearing_keeps : (f me : ℕ) (s : ReplicaData) → HasFacts f me s → HasFacts f me (after_hearing s)
 hearing_keeps f me s h = quiet_keeps f me s 0 h (omega arith)
 
-pub since_keeps : (f me : ℕ) (s : ReplicaData) (n : ℕ) → HasFacts f me s → n < MAX_QUIET → (IsTrue (is_rejoining s.status) → n < REJOIN_PERIOD)
+pub since_keeps : (f me : ℕ) (s : ReplicaData) (n : ℕ) → HasFacts f me s → n < VIEW_TIMEOUT_TICKS → (IsTrue (is_rejoining s.status) → n < REJOIN_ASK_TICKS)
     → HasFacts f me (record s { since = n })
 since_keeps f me s n h low rejoins = record {
   bounds = h.bounds;

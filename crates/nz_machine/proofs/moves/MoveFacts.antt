@@ -12,7 +12,7 @@ use Rattle.nz_base.specs.declared.actor.Actor.TheVariants.{Replica, Proxy}
 use Rattle.nz_base.specs.declared.key.Entry.{Entry}
 use Rattle.nz_base.specs.Key.{id_of}
 use Rattle.nz_base.proofs.Booleans.{true_and_false}
-use Rattle.nz_base.specs.declared.limits.TheConstants.{MAX_ENTRIES, MAX_VIEW, MAX_QUIET, REJOIN_PERIOD}
+use Rattle.nz_base.specs.declared.limits.TheConstants.{MAX_ENTRIES, MAX_VIEW, VIEW_TIMEOUT_TICKS, REJOIN_ASK_TICKS}
 use Rattle.nz_merge.specs.Merged.{greatest, merged}
 use Rattle.nz_msg.specs.Fields as fields
 use Rattle.nz_msg.specs.Fields.{vector}
@@ -223,7 +223,7 @@ start_kept f me heard fit s view list commit m h =
     let k = fit.log m.sender view list commit m.brought in
     start_keeps f me s view list commit h k.view (ap (λ n. eqb n me) (sym m.leader) ∙ k.other) k.entries k.commit
 
-count_change_kept : (f me : ℕ) (s : ReplicaData) → is_changing s.status ≡ true → eqb (s.since + 1) MAX_QUIET ≡ false → HasFacts f me s
+count_change_kept : (f me : ℕ) (s : ReplicaData) → is_changing s.status ≡ true → eqb (s.since + 1) VIEW_TIMEOUT_TICKS ≡ false → HasFacts f me s
     → HasFacts f me (record s { since = s.since + 1 })
 count_change_kept f me s changing more h =
     let low = h.mode.since in
@@ -235,11 +235,11 @@ count_change_kept f me s changing more h =
     not_both Rejoining a b = absurd cc
     not_both Down a b = absurd cc
 
-count_rejoin_kept : (f me : ℕ) (s : ReplicaData) → is_rejoining s.status ≡ true → eqb (s.since + 1) REJOIN_PERIOD ≡ false → HasFacts f me s
+count_rejoin_kept : (f me : ℕ) (s : ReplicaData) → is_rejoining s.status ≡ true → eqb (s.since + 1) REJOIN_ASK_TICKS ≡ false → HasFacts f me s
     → HasFacts f me (record s { since = s.since + 1 })
 count_rejoin_kept f me s rejoins more h =
     let low = h.mode.rejoining rejoins in
-    let next : s.since + 1 < REJOIN_PERIOD = grind (arith, nat_tests, low, more) in
+    let next : s.since + 1 < REJOIN_ASK_TICKS = grind (arith, nat_tests, low, more) in
     since_keeps f me s (s.since + 1) h (omega (arith, next)) (λ _. next)
 
 entered_low : (f me : ℕ) (heard : Heard) → HearsFit f me heard → (s : ReplicaData) (view : ℕ) → MayEnter heard s view → view ≤ MAX_VIEW
@@ -347,7 +347,7 @@ brought_fit f me (Replica r) (messages.StateTell b) fits e has = all_has FitsEnt
 brought_fit f me _ _ fits e none = absurd none
 
 view_low : (n : ℕ) → fields.view.fits n → n ≤ MAX_VIEW
-view_low n fits = within_most 8 0 (2 ^ 62 - 1) n fits
+view_low n fits = within_most 8 0 MAX_VIEW n fits
 
 named_low : (from : Actor) (m : Message) → Fits m → (view : ℕ) → Names (Some (from, m)) view → view ≤ MAX_VIEW
 named_low (Replica r) (messages.LogMod b) fits view is = let low = view_low b.view fits.0 in omega (arith, low, is)
@@ -361,7 +361,7 @@ named_low _ _ fits view none = absurd none
 pub report_fits : (f me sender : ℕ) (b : ViewChangeBody) → sender < replica_count f → IsFalse (sender == me) → view_change.fits b
     → AreCounters f b.vector → FitsReport f me (report_of sender b)
 report_fits f me sender b member other fits counters =
-    let most = at_least_of_fit (max b.synced b.commit) 4096 b.entries fits.1.1.1.1 in
+    let most = at_least_of_fit (max b.synced b.commit) MAX_ENTRIES b.entries fits.1.1.1.1 in
     record {
       member = member;
       other = other;
@@ -386,7 +386,7 @@ log_fits f me (Replica r) (messages.StartView b) fit sender view list commit b4 
 log_fits f me (Replica r) (messages.StateTell b) fit sender view list commit b4 =
     let low = view_low b.view fit.1.1.0 in
     let is = b4.1 in
-    let most = at_least_of_fit b.commit 4096 b.entries fit.1.1.1.1.1 in
+    let most = at_least_of_fit b.commit MAX_ENTRIES b.entries fit.1.1.1.1.1 in
     let own = b4.3 in
     record {
       other = subst (λ n. IsFalse (n == me)) (sym b4.0) fit.0;

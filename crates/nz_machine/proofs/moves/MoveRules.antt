@@ -11,7 +11,7 @@ use Rattle.nz_base.specs.declared.key.Key.{Key}
 use Rattle.nz_base.specs.declared.key.Entry.{Entry}
 use Rattle.nz_base.specs.Key.{id_of}
 use Rattle.nz_base.specs.Log.{keys_of, has_id, is_above_last}
-use Rattle.nz_base.specs.declared.limits.TheConstants.{MAX_DEADLINE, MAX_ENTRIES, MAX_VIEW, MAX_QUIET, ASK_PERIOD, REJOIN_PERIOD}
+use Rattle.nz_base.specs.declared.limits.TheConstants.{MAX_DEADLINE, MAX_ENTRIES, MAX_VIEW, VIEW_TIMEOUT_TICKS, VIEW_ASK_TICKS, REJOIN_ASK_TICKS}
 use Rattle.nz_cv.specs.Vectors.{is_stray}
 use Rattle.nz_merge.specs.Merged.{merged}
 use Rattle.nz_log.specs.Places.{place_of}
@@ -134,7 +134,7 @@ module _ (P : Phase → ReplicaData → Type 0) (f me : ℕ) (heard : Heard) (c 
       let now : P Whole (at_clock s clock) = c.kept _ _ _ _ (ToClock clock) h in
       grind (arith, now, releases_moves)
 
-no_ticks : 0 ≤ MAX_QUIET
+no_ticks : 0 ≤ VIEW_TIMEOUT_TICKS
 no_ticks = omega arith
 
 no_more : (most n : ℕ) → min most n ≤ most
@@ -298,19 +298,19 @@ module _ (P : Phase → ReplicaData → Type 0) (f me : ℕ) (heard : Heard) (c 
 
   quiet_moves : (s : ReplicaData) → is_up s.status ≡ true → P Whole s → P Whole (quiet_timer f me s).0
   quiet_moves s up h =
-      let later : ReplicaData = record s { quiet = min (s.quiet + 1) MAX_QUIET } in
-      let k : P Whole later = c.kept _ _ _ _ (Quiet (min (s.quiet + 1) MAX_QUIET) (omega arith)) h in
-      cond_both (eqb later.quiet MAX_QUIET) (enter_next f me later) (later, []) (Ends P) (λ _. next_moves later up k) (λ _. k)
+      let later : ReplicaData = record s { quiet = min (s.quiet + 1) VIEW_TIMEOUT_TICKS } in
+      let k : P Whole later = c.kept _ _ _ _ (Quiet (min (s.quiet + 1) VIEW_TIMEOUT_TICKS) (omega arith)) h in
+      cond_both (eqb later.quiet VIEW_TIMEOUT_TICKS) (enter_next f me later) (later, []) (Ends P) (λ _. next_moves later up k) (λ _. k)
 
   change_moves : (s : ReplicaData) → is_changing s.status ≡ true → is_up s.status ≡ true → P Whole s → P Whole (change_timer f me s).0
   change_moves s changing up h =
       let later : ReplicaData = record s { since = s.since + 1 } in
       let anew : ReplicaData = record s { since = 0 } in
       let k : P Whole anew = c.kept _ _ _ _ CountAnew h in
-      cond_both (eqb later.since MAX_QUIET) (enter_next f me anew) _ (Ends P) (λ _. next_moves anew up k)
+      cond_both (eqb later.since VIEW_TIMEOUT_TICKS) (enter_next f me anew) _ (Ends P) (λ _. next_moves anew up k)
       (λ more.
       let counts : P Whole later = c.kept _ _ _ _ (CountChange changing more) h in
-      cond_both (eqb (later.since % ASK_PERIOD) 0) (later, view_calls f me later) (later, []) (Ends P) (λ _. counts) (λ _. counts))
+      cond_both (eqb (later.since % VIEW_ASK_TICKS) 0) (later, view_calls f me later) (later, []) (Ends P) (λ _. counts) (λ _. counts))
 
   again_moves : (phase : data_phase.Phase) (s : ReplicaData) → is_rejoining s.status ≡ true → P Whole s → P Whole (ask_again phase f me s).0
   again_moves phases.Vectors s rejoins h = h
@@ -321,7 +321,7 @@ module _ (P : Phase → ReplicaData → Type 0) (f me : ℕ) (heard : Heard) (c 
   rejoin_moves s rejoins h =
       let later : ReplicaData = record s { since = s.since + 1 } in
       let anew : ReplicaData = record s { since = 0 } in
-      cond_both (eqb later.since REJOIN_PERIOD) (ask_again s.rejoin.phase f me anew) (later, []) (Ends P)
+      cond_both (eqb later.since REJOIN_ASK_TICKS) (ask_again s.rejoin.phase f me anew) (later, []) (Ends P)
       (λ _. again_moves s.rejoin.phase anew rejoins (c.kept _ _ _ _ CountAnew h)) (λ more. c.kept _ _ _ _ (CountRejoin rejoins more) h)
 
   mode_moves : (s : ReplicaData) (mode : Status) → s.status ≡ mode → P Whole s → P Whole (mode_timer mode f me s).0

@@ -6,7 +6,7 @@ use Rattle.nz_base.specs.declared.actor.Actor.TheVariants.{Replica, Proxy}
 use Rattle.nz_base.specs.declared.key.Entry.{Entry}
 use Rattle.nz_base.specs.Key.{id_of}
 use Rattle.nz_base.specs.Log.{keys_of, has_id, is_above_last}
-use Rattle.nz_base.specs.declared.limits.TheConstants.{MAX_DEADLINE, MAX_ENTRIES, MAX_VIEW, MAX_QUIET, REJOIN_PERIOD}
+use Rattle.nz_base.specs.declared.limits.TheConstants.{MAX_DEADLINE, MAX_ENTRIES, MAX_VIEW, VIEW_TIMEOUT_TICKS, REJOIN_ASK_TICKS}
 use Rattle.nz_cv.specs.Vectors.{is_stray}
 use Rattle.nz_merge.specs.Merged.{greatest, merged}
 use Rattle.nz_msg.specs.declared.message.TimedBody.{TimedBody}
@@ -158,9 +158,9 @@ pub data Move (f me : ℕ) (heard : Heard) (s : ReplicaData) : Phase → Phase �
   Commit : (told : HearsLogMod f me heard s) → Move f me heard s Whole Whole (committed_to s told.body.commit)
   NoteAck : (sender synced : ℕ) → MayNote f me heard s sender synced → Move f me heard s Whole Whole (with_ack s sender synced)
   Tally : (named : ℕ) → IsLeader f me s.status s.view named → Move f me heard s Whole Whole (with_commit f me s)
-  Quiet : (ticks : ℕ) → ticks ≤ MAX_QUIET → Move f me heard s Whole Whole (record s { quiet = ticks })
-  CountChange : is_changing s.status ≡ true → eqb (s.since + 1) MAX_QUIET ≡ false → Move f me heard s Whole Whole (record s { since = s.since + 1 })
-  CountRejoin : is_rejoining s.status ≡ true → eqb (s.since + 1) REJOIN_PERIOD ≡ false → Move f me heard s Whole Whole (record s { since = s.since + 1 })
+  Quiet : (ticks : ℕ) → ticks ≤ VIEW_TIMEOUT_TICKS → Move f me heard s Whole Whole (record s { quiet = ticks })
+  CountChange : is_changing s.status ≡ true → eqb (s.since + 1) VIEW_TIMEOUT_TICKS ≡ false → Move f me heard s Whole Whole (record s { since = s.since + 1 })
+  CountRejoin : is_rejoining s.status ≡ true → eqb (s.since + 1) REJOIN_ASK_TICKS ≡ false → Move f me heard s Whole Whole (record s { since = s.since + 1 })
   CountAnew : Move f me heard s Whole Whole (record s { since = 0 })
   Enter : (view : ℕ) → MayEnter heard s view → Move f me heard s Whole Whole (in_view_change s view)
   Drop : Move f me heard s Whole Whole (without_strays s)

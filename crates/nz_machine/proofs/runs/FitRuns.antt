@@ -8,7 +8,8 @@ use Rattle.nz_msg.specs.declared.message.Message.{Message}
 use Rattle.nz_machine.specs.declared.event.Record.{Record}
 use Rattle.nz_machine.specs.rules.State.{ProxyData, State, Group, Out}
 use Rattle.nz_machine.specs.rules.Proxies.{first_proxy, clock_rule}
-use Rattle.nz_machine.specs.rules.Step.{first, script_of, proxy_message, replica_message, tick_rule, message_step, tick_step, alarm_step, crash_step, restart_step}
+use Rattle.nz_machine.specs.rules.Step.{first, script_of, proxy_message, replica_message, tick_rule, message_step, tick_step, alarm_step, crash_step}
+use Rattle.nz_machine.specs.rules.Step.{restart_step}
 use Rattle.nz_machine.specs.rules.Facts.{HasFacts}
 use Rattle.nz_machine.specs.runs.World.{state_after, IsGroup, IsMember, World}
 use Rattle.nz_machine.proofs.runs.Runs.{FitsOut, AllFit, Hears, Holds, Keeps, holds, unless_down, group_of}

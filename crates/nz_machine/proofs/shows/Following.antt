@@ -107,7 +107,7 @@ length_taken (suc n) (x ∷ xs) = let ih = length_taken n xs in omega (arith, ih
 -- an entry of the synced part is at a synced place
 record IsSynced (s : ReplicaData) (id : Id) : Type 0 where
   place : ℕ
-  stands : place_of s.log.entries id ≡ Some place
+  place_is : place_of s.log.entries id ≡ Some place
   synced : place < s.log.synced
 
 synced_stands : (s : ReplicaData) (e : Entry) → Has (synced_part s.log) e → IsSynced s (id_of e.key)
@@ -117,7 +117,7 @@ synced_stands s e h =
     let few = length_taken s.log.synced s.log.entries in
     record {
       place = at.0;
-      stands = place_kept (synced_part s.log) s.log.entries (id_of e.key) at.0 (prefix_take s.log.synced s.log.entries) at.1;
+      place_is = place_kept (synced_part s.log) s.log.entries (id_of e.key) at.0 (prefix_take s.log.synced s.log.entries) at.1;
       synced = omega (arith, within, few);
     }
 
@@ -130,7 +130,7 @@ since_shows f me leader heard before s w (e ∷ es) all =
     let origin = lookup (id_eq (id_of e.key)) s.origin in
     all_append (λ (o : Out). ReplicaShows f me heard before s o.0 o.1) (slow_replies s (id_of e.key) origin)
     (flat_map (λ (x : Entry). slow_replies s (id_of x.key) (lookup (id_eq (id_of x.key)) s.origin)) es)
-    (slow_shows f me heard before s (id_of e.key) at.place origin w.normal w.follows at.stands at.synced refl)
+    (slow_shows f me heard before s (id_of e.key) at.place origin w.normal w.follows at.place_is at.synced refl)
     (since_shows f me leader heard before s w es (λ x h. all x (inr h)))
 
 -- ---- fetches and reports

@@ -12,7 +12,7 @@ use Rattle.nz_base.specs.Key.{id_eq, id_of}
 use Rattle.nz_base.specs.Log.{keys_of, HaveOwnIds}
 use Rattle.nz_base.proofs.Logs.{own_in_prefix, keys_append}
 use Rattle.nz_base.proofs.Prefixes.{prefix_self, prefix_more, prefix_then}
-use Rattle.nz_base.specs.declared.limits.TheConstants.{MAX_QUIET}
+use Rattle.nz_base.specs.declared.limits.TheConstants.{VIEW_TIMEOUT_TICKS}
 use Rattle.nz_store.specs.declared.command.Answer.{Answer}
 use Rattle.nz_log.specs.Places.{place_of}
 use Rattle.nz_log.specs.Synced.{Log}
@@ -73,7 +73,7 @@ fast_shows f me heard before s t id place (Some origin) normal l at answered kno
     last = l.last;
     vector = l.vector;
     place = place;
-    stands = place_kept s.log.entries t.log.entries id place l.log at;
+    place_is = place_kept s.log.entries t.log.entries id place l.log at;
     digest = sym (digest_kept s.log.entries t.log.entries place (place_within s.log.entries id place at) l.log);
     led = l.led;
     answer =
@@ -96,7 +96,7 @@ slow_shows f me heard before s id place (Some origin) normal follows at synced k
     normal = normal;
     follows = follows;
     place = place;
-    stands = at;
+    place_is = at;
     synced = synced;
     origin = origin;
     known = known;
@@ -253,7 +253,7 @@ unfolding enter_view
 timer_later f me before t Normal is normal view last =
     let stay : Later f me before t t = kept t refl refl refl refl last (normal_up t.status normal) (λ _. (normal, view)) in
     let away : leads f me t ≡ false → leads f me before ≡ true → ⊥ = λ no yes. false_true (sym no ∙ ap (λ v. eqb (leader_of f v) me) view ∙ yes) in
-    let quiet = record t { quiet = min (t.quiet + 1) MAX_QUIET } in
+    let quiet = record t { quiet = min (t.quiet + 1) VIEW_TIMEOUT_TICKS } in
     let wait : leads f me t ≡ false → Later f me before t quiet = λ no. kept quiet refl refl refl refl last (normal_up t.status normal)
     (λ yes. absurd (away no yes)) in
     let entered = (enter_view f me (t.view + 1) quiet).0 in

@@ -6,7 +6,7 @@ use Rattle.std.proofs.lemmas.Bool.{cond_both}
 use Rattle.nz_base.specs.Cluster.{leader_of}
 use Rattle.nz_base.specs.declared.actor.Actor.TheVariants.{Replica}
 use Rattle.nz_base.specs.declared.key.Entry.{Entry}
-use Rattle.nz_base.specs.declared.limits.TheConstants.{MAX_ENTRIES, MAX_QUIET}
+use Rattle.nz_base.specs.declared.limits.TheConstants.{MAX_ENTRIES, VIEW_TIMEOUT_TICKS}
 use Rattle.nz_merge.specs.Merged.{merged, greatest}
 use Rattle.nz_merge.specs.declared.change.Change.{Change}
 use Rattle.nz_msg.specs.declared.message.ViewAskBody.{ViewAskBody}
@@ -173,7 +173,7 @@ view_change_shows f me heard s sender b other =
 
 pub quiet_shows : (f me : ℕ) (heard : Heard) (before s : ReplicaData) → Shown f me heard before (quiet_timer f me s)
 quiet_shows f me heard before s =
-    let quiet = record s { quiet = min (s.quiet + 1) MAX_QUIET } in
+    let quiet = record s { quiet = min (s.quiet + 1) VIEW_TIMEOUT_TICKS } in
     let stay = silent f me heard before quiet in
     let enter = enter_shows f me heard before (s.view + 1) quiet in
     grind (arith, stay, enter)

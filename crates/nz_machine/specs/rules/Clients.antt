@@ -4,7 +4,7 @@ use Rattle.std.specs.Prelude.{flat_map, Option, Some, None, nat_le, min, ◌==�
 use Rattle.std.specs.List.{list_any}
 use Rattle.nz_base.specs.declared.actor.Actor.TheVariants.{Proxy}
 use Rattle.nz_base.specs.declared.scenario.Request.{Request}
-use Rattle.nz_base.specs.declared.limits.TheConstants.{PATIENCE}
+use Rattle.nz_base.specs.declared.limits.TheConstants.{RETRY_TICKS}
 use Rattle.nz_msg.specs.declared.message.AnswerBody.{AnswerBody}
 use Rattle.nz_msg.specs.declared.message.Message.TheVariants as messages
 use Rattle.nz_machine.specs.declared.data.Attempt.{Attempt}
@@ -56,7 +56,7 @@ fill_window window proxies me script s = fill_places (window - length s.attempts
 
 -- The open request has waited long enough at the next tick.
 abbrev pub is_overdue : Attempt → Bool
-is_overdue a = a.since + 1 == PATIENCE
+is_overdue a = a.since + 1 == RETRY_TICKS
 
 -- It waits one tick more, or is sent again: the first attempt went to the client's own proxy, each further one goes
 -- to the next.

@@ -5,7 +5,7 @@ use Rattle.nz_base.specs.Cluster.{replica_count, leader_of}
 use Rattle.nz_base.specs.Log.{keys_of, AreRising, HaveOwnIds, IsLog}
 use Rattle.nz_base.specs.declared.key.Id.{Id}
 use Rattle.nz_base.specs.declared.key.Entry.{Entry}
-use Rattle.nz_base.specs.declared.limits.TheConstants.{MAX_ENTRIES, MAX_VIEW, MAX_CLOCK, MAX_DELAY, MAX_PROXY, MAX_QUIET, REJOIN_PERIOD}
+use Rattle.nz_base.specs.declared.limits.TheConstants.{MAX_ENTRIES, MAX_VIEW, MAX_CLOCK, MAX_DELAY, MAX_PROXY, VIEW_TIMEOUT_TICKS, REJOIN_ASK_TICKS}
 use Rattle.nz_math.specs.Count.{AreDistinct}
 use Rattle.nz_merge.specs.Sender.{HaveOwnSenders}
 use Rattle.nz_store.specs.Entries.{Entries}
@@ -78,9 +78,9 @@ pub record InBounds (c v : ℕ) : Type 0 where
 pub record HasMode (mode : Status) (v n q w : ℕ) : Type 0 where
   pub last : n ≤ v
   pub normal : IsTrue (is_normal mode) → n ≡ v
-  pub quiet : q ≤ MAX_QUIET
-  pub since : w < MAX_QUIET
-  pub rejoining : IsTrue (is_rejoining mode) → w < REJOIN_PERIOD
+  pub quiet : q ≤ VIEW_TIMEOUT_TICKS
+  pub since : w < VIEW_TIMEOUT_TICKS
+  pub rejoining : IsTrue (is_rejoining mode) → w < REJOIN_ASK_TICKS
 
 -- Each entry is in one place, in order, and the synced part is within the log, which has room for it.
 pub record AreHeld (log : Log) (early late : List Entry) : Type 0 where

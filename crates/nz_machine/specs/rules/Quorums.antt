@@ -33,22 +33,22 @@ agrees_of view digest vector replica (Fast r v d u answer) = (r == replica) && (
 agrees_of view digest vector replica (Slow r v) = (r == replica) && (v == view)
 
 -- Whether a replica supports this reply of a leader in a slow quorum: it is the leader, or replied slowly.
-abbrev pub stands_slowly : ℕ → List Reply → Reply → ℕ → Bool
-stands_slowly f replies (Fast r view digest vector answer) replica = (replica == leader_of f view) || list_any (is_slow_of view replica) replies
-stands_slowly f replies (Slow r view) replica = false
+abbrev pub supports_slowly : ℕ → List Reply → Reply → ℕ → Bool
+supports_slowly f replies (Fast r view digest vector answer) replica = (replica == leader_of f view) || list_any (is_slow_of view replica) replies
+supports_slowly f replies (Slow r view) replica = false
 
 -- Whether a replica supports it in a fast quorum: it is the leader, or agrees.
-abbrev pub stands_fast : ℕ → List Reply → Reply → ℕ → Bool
-stands_fast f replies (Fast r view digest vector answer) replica = (replica == leader_of f view) || list_any (agrees_of view digest vector replica) replies
-stands_fast f replies (Slow r view) replica = false
+abbrev pub supports_fast : ℕ → List Reply → Reply → ℕ → Bool
+supports_fast f replies (Fast r view digest vector answer) replica = (replica == leader_of f view) || list_any (agrees_of view digest vector replica) replies
+supports_fast f replies (Slow r view) replica = false
 
 -- The leader's reply has a slow quorum: the leader, and f other replicas that replied slowly.
 abbrev pub has_slow_quorum : ℕ → List Reply → Reply → Bool
-has_slow_quorum f replies lead = is_of_leader f lead && nat_le (slow_size f) (count_below (replica_count f) (stands_slowly f replies lead))
+has_slow_quorum f replies lead = is_of_leader f lead && nat_le (slow_size f) (count_below (replica_count f) (supports_slowly f replies lead))
 
 -- The leader's reply has a fast quorum, the leader in it.
 abbrev pub has_fast_quorum : ℕ → List Reply → Reply → Bool
-has_fast_quorum f replies lead = is_of_leader f lead && nat_le (fast_size f) (count_below (replica_count f) (stands_fast f replies lead))
+has_fast_quorum f replies lead = is_of_leader f lead && nat_le (fast_size f) (count_below (replica_count f) (supports_fast f replies lead))
 
 -- ---- the decision
 

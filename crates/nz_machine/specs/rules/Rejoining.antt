@@ -4,7 +4,7 @@ use Rattle.std.specs.Prelude.{ℕ, ◌+◌, ◌-◌, ◌^◌, Bool, true, false,
 use Rattle.std.specs.Prelude.{◌∷◌, ◌++◌, length, map, filter, if◌then◌else◌, slice_index, slice_set}
 use Rattle.std.specs.List.{list_any}
 use Rattle.nz_base.specs.Cluster.{leader_of, slow_size}
-use Rattle.nz_base.specs.declared.limits.TheConstants.{REJOIN_PERIOD}
+use Rattle.nz_base.specs.declared.limits.TheConstants.{REJOIN_ASK_TICKS}
 use Rattle.nz_cv.specs.Vectors.{is_stray}
 use Rattle.nz_merge.specs.Merged.{greatest}
 use Rattle.nz_msg.specs.declared.message.Message.{Message}
@@ -190,4 +190,4 @@ ask_again Log f me s = ask_views f me s
 abbrev pub rejoin_timer : ℕ → ℕ → ReplicaData → ReplicaData × List Out
 rejoin_timer f me s =
     let later = record s { since = s.since + 1 } in
-    if later.since == REJOIN_PERIOD then ask_again s.rejoin.phase f me (record later { since = 0 }) else (later, [])
+    if later.since == REJOIN_ASK_TICKS then ask_again s.rejoin.phase f me (record later { since = 0 }) else (later, [])

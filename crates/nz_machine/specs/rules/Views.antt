@@ -1,6 +1,6 @@
 -- The rules by which a replica leaves its view for a later one, and its timers for that.
 use Rattle.std.specs.Prelude.{ℕ, ◌+◌, ◌%◌, ◌==◌, nat_lt, min, List, [], ◌++◌, if◌then◌else◌}
-use Rattle.nz_base.specs.declared.limits.TheConstants.{MAX_VIEW, MAX_QUIET, ASK_PERIOD}
+use Rattle.nz_base.specs.declared.limits.TheConstants.{MAX_VIEW, VIEW_TIMEOUT_TICKS, VIEW_ASK_TICKS}
 use Rattle.nz_msg.specs.declared.message.Message.{Message}
 use Rattle.nz_msg.specs.declared.message.Message.TheVariants as messages
 use Rattle.nz_msg.specs.declared.message.ViewAskBody.{ViewAskBody}
@@ -49,16 +49,16 @@ enter_later f me view s = if nat_lt s.view view then enter_view f me view s else
 -- A follower in normal operation counts the ticks since it heard from its leader.
 abbrev pub quiet_timer : ℕ → ℕ → ReplicaData → ReplicaData × List Out
 quiet_timer f me s =
-    let later = record s { quiet = min (s.quiet + 1) MAX_QUIET } in
-    if later.quiet == MAX_QUIET then enter_next f me later else (later, [])
+    let later = record s { quiet = min (s.quiet + 1) VIEW_TIMEOUT_TICKS } in
+    if later.quiet == VIEW_TIMEOUT_TICKS then enter_next f me later else (later, [])
 
 -- In a view change: at the end of the count it begins anew, and the next view is entered, where there is one. On
 -- the way the replica asks again now and then.
 abbrev pub change_timer : ℕ → ℕ → ReplicaData → ReplicaData × List Out
 change_timer f me s =
     let later = record s { since = s.since + 1 } in
-    if later.since == MAX_QUIET then enter_next f me (record later { since = 0 })
-    else (if later.since % ASK_PERIOD == 0 then (later, view_calls f me later) else (later, []))
+    if later.since == VIEW_TIMEOUT_TICKS then enter_next f me (record later { since = 0 })
+    else (if later.since % VIEW_ASK_TICKS == 0 then (later, view_calls f me later) else (later, []))
 
 -- ---- the rules
 

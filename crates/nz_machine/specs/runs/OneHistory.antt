@@ -31,7 +31,7 @@ Precedes [] x y = ⊥
 Precedes (z ∷ zs) x y = ((z ≡ x) × Has zs y) ⊎ Precedes zs x y
 
 -- The entry of a comes before that of b.
-pub record StandsBefore (H : List Entry) (a b : Id) : Type 0 where
+pub record ComesBefore (H : List Entry) (a b : Id) : Type 0 where
   pub first : ℕ
   pub second : ℕ
   pub place_of_first : place_of H a ≡ Some first
@@ -41,7 +41,7 @@ pub record StandsBefore (H : List Entry) (a b : Id) : Type 0 where
 -- The answer is that of one store which executes the history.
 pub record IsAnswered (H : List Entry) (id : Id) (answer : Answer) : Type 0 where
   pub place : ℕ
-  pub stands : place_of H id ≡ Some place
+  pub place_is : place_of H id ≡ Some place
   pub answered : reply (commands H) place ≡ Some answer
 
 -- The clients' events come from one store that executes the history, each request once; and what was sent
@@ -51,7 +51,7 @@ pub record Lin (E : List ClientEvent) (H : List Entry) : Type 0 where
   pub asked : (e : Entry) → Has H e → Has E (Sent (id_of e.key) e.command)
   pub answered : (id : Id) (answer : Answer) (path : Path) → Has E (Accepted id answer path) → IsAnswered H id answer
   pub in_order : (a b : Id) (answer : Answer) (path : Path) (command : List ℕ) → Precedes E (Accepted a answer path) (Sent b command)
-      → (e : Entry) → Has H e → id_of e.key ≡ b → StandsBefore H a b
+      → (e : Entry) → Has H e → id_of e.key ≡ b → ComesBefore H a b
 
 -- ---- accepted prefixes
 

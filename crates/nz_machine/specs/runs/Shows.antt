@@ -70,7 +70,7 @@ pub record ShowsFast (f me : ℕ) (before s : ReplicaData) (to : Actor) (b : Fas
   pub last : s.last ≡ before.view
   pub vector : b.vector ≡ s.vector
   pub place : ℕ
-  pub stands : place_of s.log.entries b.id ≡ Some place
+  pub place_is : place_of s.log.entries b.id ≡ Some place
   pub digest : b.digest ≡ digest_at s.log.entries place
   pub led : leads f me before ≡ true → (is_normal s.status ≡ true) × (s.view ≡ before.view)
   pub answer : b.answer ≡ (if leads f me before then slice_get s.results place else None)
@@ -84,7 +84,7 @@ pub record ShowsSlow (f me : ℕ) (s : ReplicaData) (to : Actor) (b : SlowReplyB
   pub normal : is_normal s.status ≡ true
   pub follows : leads f me s ≡ false
   pub place : ℕ
-  pub stands : place_of s.log.entries b.id ≡ Some place
+  pub place_is : place_of s.log.entries b.id ≡ Some place
   pub synced : place < s.log.synced
   pub origin : Origin
   pub known : lookup (id_eq b.id) s.origin ≡ Some origin

@@ -16,7 +16,7 @@ use Rattle.nz_machine.specs.rules.State.{State, Group}
 use Rattle.nz_machine.specs.rules.Step.{first, node_step}
 
 -- A request whose bytes are a command.
-pub record IsAsked (request : Request) : Type 0 where
+pub record HasCommand (request : Request) : Type 0 where
   pub command : IsSome (command_of request.command)
 
 -- How many requests the scripts have together.
@@ -34,7 +34,7 @@ pub record IsGroup (g : Group) : Type 0 where
   pub least_clients : 1 ≤ length g.scripts
   pub most_clients : length g.scripts ≤ MAX_CLIENTS
   pub few_requests : request_count g.scripts ≤ MAX_REQUESTS
-  pub commands : AllByRecursion (λ script. AllByRecursion IsAsked script) g.scripts
+  pub commands : AllByRecursion (λ script. AllByRecursion HasCommand script) g.scripts
 
 -- An actor's state after the records.
 unfoldable pub state_after : Group → (a : Actor) → List Record → State a

@@ -14,7 +14,7 @@ use super::super::buffers::vector_fits;
 use super::super::collecting::{latest, note_teller, with_told};
 use super::super::data::{Phase, Status, ToldView};
 use super::{ReplicaState, forget};
-use nz_base::{List, MAX_VIEW, NoMemory, REJOIN_PERIOD};
+use nz_base::{List, MAX_VIEW, NoMemory, REJOIN_ASK_TICKS};
 use nz_cv::CrashVector;
 use nz_msg::RejoinTellBody;
 
@@ -72,11 +72,11 @@ impl ReplicaState {
     /// Counts a tick of the rejoin. Whether a period is over, after which the count begins anew.
     pub fn count_rejoining(&mut self) -> bool
         requires { IsTrue (is_rejoining self.old.state.status) }
-        ensures state { self.new ≡ record self.old { state = since_counted REJOIN_PERIOD self.old.state } }
-        ensures value { result ≡ (self.old.state.since + 1 == REJOIN_PERIOD) }
+        ensures state { self.new ≡ record self.old { state = since_counted REJOIN_ASK_TICKS self.old.state } }
+        ensures value { result ≡ (self.old.state.since + 1 == REJOIN_ASK_TICKS) }
     {
         let since = self.parts.since + 1;
-        let is_over = since == REJOIN_PERIOD;
+        let is_over = since == REJOIN_ASK_TICKS;
         self.parts.since = if is_over { 0 } else { since };
         is_over
     }

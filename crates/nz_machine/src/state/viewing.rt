@@ -15,7 +15,7 @@ use super::super::collecting::adopt;
 use super::super::data::Status;
 use super::super::outbox::Outbox;
 use super::{ReplicaState, forget};
-use nz_base::{EntryList, MAX_QUIET, MAX_VIEW, NoMemory};
+use nz_base::{EntryList, VIEW_TIMEOUT_TICKS, MAX_VIEW, NoMemory};
 
 impl ReplicaState {
     /// How many reports the leader of its view holds to begin it.
@@ -41,21 +41,21 @@ impl ReplicaState {
 
     /// The follower counts a tick without its leader. Whether it has waited long enough.
     pub fn count_quiet(&mut self) -> bool
-        ensures state { let s = self.old.state in self.new ≡ record self.old { state = record s { quiet = min (s.quiet + 1) MAX_QUIET } } }
-        ensures value { result ≡ (self.new.state.quiet == MAX_QUIET) }
+        ensures state { let s = self.old.state in self.new ≡ record self.old { state = record s { quiet = min (s.quiet + 1) VIEW_TIMEOUT_TICKS } } }
+        ensures value { result ≡ (self.new.state.quiet == VIEW_TIMEOUT_TICKS) }
     {
-        self.parts.quiet = (self.parts.quiet + 1).min(MAX_QUIET);
-        self.parts.quiet == MAX_QUIET
+        self.parts.quiet = (self.parts.quiet + 1).min(VIEW_TIMEOUT_TICKS);
+        self.parts.quiet == VIEW_TIMEOUT_TICKS
     }
 
     /// Counts a tick of the view change, and gives how many there are. After the last the count begins anew.
     pub fn count_changing(&mut self) -> u8
         requires { IsTrue (is_changing self.old.state.status) }
-        ensures state { self.new ≡ record self.old { state = since_counted MAX_QUIET self.old.state } }
+        ensures state { self.new ≡ record self.old { state = since_counted VIEW_TIMEOUT_TICKS self.old.state } }
         ensures value { result ≡ self.old.state.since + 1 }
     {
         let since = self.parts.since + 1;
-        self.parts.since = if since == MAX_QUIET { 0 } else { since };
+        self.parts.since = if since == VIEW_TIMEOUT_TICKS { 0 } else { since };
         since
     }
 

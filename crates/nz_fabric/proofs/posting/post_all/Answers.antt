@@ -1,7 +1,7 @@
 -- What the function of this folder owes, proved.
 use Rattle.std.proofs.Common.{◌++◌, List, take, drop, subst, take_all, arith}
 use Rattle.nz_machine.specs.declared.event.Record.{Record}
-use Rattle.nz_fabric.specs.Calendars.{StandsFor, posted_by}
+use Rattle.nz_fabric.specs.Calendars.{Represents, posted_by}
 use Rattle.nz_fabric.proofs.Sending.{record_at, one_record, some_records, on_err}
 use Rattle.nz_fabric.proofs.posting.post_all.Goals as goal
 
@@ -25,7 +25,7 @@ pub returns-clause-ok : goal.returns-clause-ok
 returns-clause-ok c = λ L now h.
     let ge = c.loop-place-test.false in
     let len = c.len-place-end.ensures in
-    subst (λ (rs : List Record). StandsFor c.args.scenario.now (L ++ posted_by (drop c.args.from rs)) now c.loop-place.calendar)
+    subst (λ (rs : List Record). Represents c.args.scenario.now (L ++ posted_by (drop c.args.from rs)) now c.loop-place.calendar)
     (take_all c.loop-place.place c.args.records.now.records (omega (arith, ge, len))) (c.loop-place.invariant.posted L now h)
 
 pub returns-in_err-post_record-clause-err : goal.returns-in_err-post_record-clause-err

@@ -2,7 +2,7 @@
 use Rattle.std.proofs.Common.{◌++◌, List, map, take, subst, take_all}
 use Rattle.nz_machine.specs.declared.event.Parcel.{Parcel}
 use Rattle.nz_machine.specs.runs.Schedule.{posted_in}
-use Rattle.nz_fabric.specs.Calendars.{StandsFor}
+use Rattle.nz_fabric.specs.Calendars.{Represents}
 use Rattle.nz_fabric.proofs.Sending.{one_sent, some_sent, on_err}
 use Rattle.nz_fabric.proofs.posting.post_sends.Goals as goal
 
@@ -14,7 +14,7 @@ loop-parcel-preserved c = λ L now h.
 
 pub returns-clause-ok : goal.returns-clause-ok
 returns-clause-ok c = λ L now h.
-    subst (λ (ps : List Parcel). StandsFor c.args.scenario.now
+    subst (λ (ps : List Parcel). Represents c.args.scenario.now
     (L ++ map (posted_in c.args.tick) ps) now c.loop-parcel.calendar)
     (take_all c.loop-parcel.parcel-index c.args.sends.now c.loop-parcel-test.false) (c.loop-parcel.invariant L now h)
 

@@ -1,4 +1,5 @@
 -- What the function of this folder owes, proved.
+use Rattle.nz_base.specs.declared.limits.TheConstants.{MAX_ENTRIES}
 use Rattle.std.proofs.Common.{length, nat_le, sym, subst, ◌∙◌}
 use Rattle.std.proofs.lemmas.Bool.{and_parts}
 use Rattle.nz_base.specs.Log.{IsLog}
@@ -10,4 +11,4 @@ pub replace_all-requires-clause-log : goal.replace_all-requires-clause-log
 replace_all-requires-clause-log g c =
     let list = c.as_slice.result.now in
     subst IsLog (c.as_slice.ensures ∙ sym c.in_ok-copy-in-ReplaceAll.ensures)
-    (passes_log list (and_parts (may_be_log list) (nat_le (length list) 4096) (sym c.may_replace.ensures ∙ c.if-not-may_replace.false)).0)
+    (passes_log list (and_parts (may_be_log list) (nat_le (length list) MAX_ENTRIES) (sym c.may_replace.ensures ∙ c.if-not-may_replace.false)).0)

@@ -6,7 +6,7 @@ use Rattle.std.specs.Global.{Global}
 use Rattle.nz_machine.specs.declared.journal.Item.{Item}
 use Rattle.nz_fabric.specs.Calendars.{Dates, items_in}
 use Rattle.nz_fabric.specs.Posting.{days_of, AreShort}
-use Rattle.nz_fabric.proofs.Dating.{day_is, kept_short, same_days, set_short, taken_now, taken_later, stands_by, stands_later}
+use Rattle.nz_fabric.proofs.Dating.{day_is, kept_short, same_days, set_short, taken_now, taken_later, stands_by, represents_later}
 use Rattle.nz_fabric.proofs.Sending.{on_err}
 use Rattle.nz_fabric.proofs.calendar.Calendar.move_to.Goals as goal
 
@@ -61,7 +61,7 @@ returns-clause-stands c = λ s L now h lt.
     (ap (λ (d : Dates). d.courses) c.self.view_is)
     (λ t after. c.pass_on.ensures t ∙ taken_later days c.args.tick t c.append.new.other after c.in_ok-append.ensures.other_items
     ∙ ap (λ (days : List (Vec Item Global)). items_in (days_of days) t) c.reserve.ensures.items
-    ∙ ap (λ (d : Dates). items_in d.days t) c.self.view_is) (stands_later s L now c.args.tick c.args.self.now lt h)
+    ∙ ap (λ (d : Dates). items_in d.days t) c.self.view_is) (represents_later s L now c.args.tick c.args.self.now lt h)
 
 pub returns-clause-due : goal.returns-clause-due
 returns-clause-due c = λ s L now h lt le.

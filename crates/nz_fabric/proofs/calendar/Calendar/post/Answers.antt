@@ -2,7 +2,7 @@
 use Rattle.std.proofs.Common.{◌∙◌, refl, sym, ap, subst, arith}
 use Rattle.std.proofs.lemmas.List.{length-map}
 use Rattle.nz_machine.specs.runs.Schedule.{Posted}
-use Rattle.nz_fabric.specs.Calendars.{Dates, StandsFor, parcels_of, items_in}
+use Rattle.nz_fabric.specs.Calendars.{Dates, Represents, parcels_of, items_in}
 use Rattle.nz_fabric.specs.Posting.{arrivals_by, days_of}
 use Rattle.nz_fabric.proofs.Numbering.{numbered}
 use Rattle.nz_fabric.proofs.Dating.{posted_one, stands_by}
@@ -15,7 +15,7 @@ returns-clause-ok c = λ L now h.
     let p = c.args.parcel.now in
     let f = c.self.inside in
     let old : Dates = record { parcels = f.parcels; watched = f.watched; courses = f.courses.entries; days = days_of f.days.items } in
-    let h' : StandsFor s L now old = subst (StandsFor s L now) (sym c.self.view_is) h in
+    let h' : Represents s L now old = subst (Represents s L now) (sym c.self.view_is) h in
     let parcels = h'.parcels in
     let same = ap (λ (d : Dates). d.parcels) c.self.view_is in
     let long = length-map L (λ (x : Posted). x.parcel) in

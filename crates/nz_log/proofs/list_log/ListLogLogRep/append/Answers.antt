@@ -1,4 +1,5 @@
 -- What the function of this folder owes, proved.
+use Rattle.nz_base.specs.declared.limits.TheConstants.{MAX_ENTRIES}
 use Rattle.std.proofs.Common.{◌≡◌, ◌<◌, true, false, List, length, sym, subst}
 use Rattle.nz_base.specs.declared.key.Entry.{Entry}
 use Rattle.nz_base.specs.Key.{id_of}
@@ -13,6 +14,6 @@ invariant_of-self-2 c =
     let log : Log = record { entries = c.self.inside.entries.items; synced = c.self.inside.synced } in
     let above = subst (λ (l : Log). is_above_last (keys_of l.entries) key ≡ true) (sym c.self.view_is) c.requires.above in
     let fresh = subst (λ (l : Log). has_id (keys_of l.entries) (id_of key) ≡ false) (sym c.self.view_is) c.requires.fresh in
-    let room = subst (λ (l : Log). length l.entries < 4096) (sym c.self.view_is) c.requires.room in
+    let room = subst (λ (l : Log). length l.entries < MAX_ENTRIES) (sym c.self.view_is) c.requires.room in
     subst (λ (xs : List Entry). IsSound (record { entries = xs; synced = c.self.inside.synced }))
     (sym c.in_ok-push.ensures.items) (pushed_sound log c.args.entry c.self.invariant above fresh room)

@@ -1,4 +1,5 @@
 -- What the function of this folder owes, proved.
+use Rattle.nz_base.specs.declared.limits.TheConstants.{MAX_ENTRIES}
 use Rattle.std.proofs.Common.{◌≡◌, ◌<◌, ◌++◌, ◌∷◌, [], true, false, List, ℕ, length, sym, ap, subst, ◌∙◌, Some, if◌then◌else◌}
 use Rattle.std.specs.Map.{lookup}
 use Rattle.nz_base.specs.declared.key.Id.{Id}
@@ -18,7 +19,7 @@ invariant_of-self-2 c =
     let sum = c.digest_after-digest.result in
     let above = subst (λ (l : Log). is_above_last (keys_of l.entries) key ≡ true) (sym c.self.view_is) c.requires.above in
     let fresh = subst (λ (l : Log). has_id (keys_of l.entries) (id_of key) ≡ false) (sym c.self.view_is) c.requires.fresh in
-    let room = subst (λ (l : Log). length l.entries < 4096) (sym c.self.view_is) c.requires.room in
+    let room = subst (λ (l : Log). length l.entries < MAX_ENTRIES) (sym c.self.view_is) c.requires.room in
     let is = c.digest_after-digest.ensures es (subst (IsSummed es) (sym c.deref.ensures.value) c.self.invariant.summed) in
     let place : c.len-place.result ≡ length es = c.len-place.ensures ∙ ap (λ (l : Log). length l.entries) (sym c.self.view_is) in
     let kept =

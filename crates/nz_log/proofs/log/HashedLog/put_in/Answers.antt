@@ -1,4 +1,5 @@
 -- What the function of this folder owes, proved.
+use Rattle.nz_base.specs.declared.limits.TheConstants.{MAX_ENTRIES}
 use Rattle.std.proofs.Common.{◌≡◌, ◌+◌, ◌<◌, ◌≤◌, true, false, List, ℕ, length, sym, ap, subst, ◌∙◌, arith, Some, if◌then◌else◌}
 use Rattle.std.specs.Map.{lookup}
 use Rattle.std.specs.Vec.{vec_capacity, vec_len}
@@ -53,7 +54,7 @@ invariant_of-self-2 c =
     let log : Log = record { entries = es; synced = place } in
     let above = subst (λ (l : Log). is_above_last (keys_of (synced_part l)) e.key ≡ true) (sym c.self.view_is) c.requires.above in
     let fresh = subst (λ (l : Log). has_id (keys_of (synced_part l)) (id_of e.key) ≡ false) (sym c.self.view_is) c.requires.fresh in
-    let room = subst (λ (l : Log). length l.entries < 4096) (sym c.self.view_is) c.requires.room in
+    let room = subst (λ (l : Log). length l.entries < MAX_ENTRIES) (sym c.self.view_is) c.requires.room in
     let is =
     kept_after es place e c.insert.new.self c.keep_above.new.entries c.self.invariant.sound.within
     c.in_ok-insert.ensures.ok c.keep_above.ensures.entries in

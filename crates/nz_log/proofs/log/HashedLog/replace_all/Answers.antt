@@ -1,4 +1,5 @@
 -- What the function of this folder owes, proved.
+use Rattle.nz_base.specs.declared.limits.TheConstants.{MAX_ENTRIES}
 use Rattle.std.proofs.Common.{◌≡◌, ◌≤◌, List, not, length, sym, ap, subst, ◌∙◌, arith}
 use Rattle.nz_base.specs.declared.key.Entry.{Entry}
 use Rattle.nz_base.specs.Key.{id_of}
@@ -28,7 +29,7 @@ are_left_out c =
 pub from_vec-requires : goal.from_vec-requires
 from_vec-requires c =
     let es = c.self.inside.entries in
-    let few : length es ≤ 4096 = c.self.invariant.sound.few in
+    let few : length es ≤ MAX_ENTRIES = c.self.invariant.sound.few in
     let less : length (left_out es c.args.list) ≤ length es = length-filter_le (λ (e : Entry). not (has_id (keys_of c.args.list) (id_of e.key))) es in
     let is : length c.keep_others.new.entries.items ≡ length (left_out es c.args.list) = ap length (are_left_out c) in
     omega (arith, few, less, is)

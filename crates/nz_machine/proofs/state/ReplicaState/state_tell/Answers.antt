@@ -1,4 +1,5 @@
 -- What the function of this folder owes, proved.
+use Rattle.nz_base.specs.declared.limits.TheConstants.{MAX_ENTRIES}
 use Rattle.std.proofs.Common.{List, sym, subst, arith}
 use Rattle.nz_base.specs.declared.key.Entry.{Entry}
 use Rattle.nz_msg.specs.Fields.{entries}
@@ -13,5 +14,5 @@ returns-clause-fits c =
     let within = h.entries.within in
     let few = h.entries.few in
     let log = own_log _ _ commit _ h (omega (arith, known, within)) in
-    let told = subst (λ (es : List Entry). (entries commit 4096).fits es) (sym c.in_ok-entries.ensures) log in
+    let told = subst (λ (es : List Entry). (entries commit MAX_ENTRIES).fits es) (sym c.in_ok-entries.ensures) log in
     (c.ranges.nonce.fits, (c.view.ensures.fits, (c.vector.ensures.fits, (omega (arith, known, within, few), told))))

@@ -1,4 +1,5 @@
 -- What the function of this folder owes, proved.
+use Rattle.nz_base.specs.declared.limits.TheConstants.{MAX_ENTRIES}
 use Rattle.std.proofs.Common.{List, max, sym, subst, arith}
 use Rattle.nz_base.specs.declared.key.Entry.{Entry}
 use Rattle.nz_msg.specs.Fields.{entries}
@@ -18,7 +19,7 @@ returns-clause-fits c =
     let last = h.mode.last in
     let low = h.bounds.view in
     let log = own_log _ _ (max synced commit) _ h (omega (arith, known, within, is)) in
-    let told = subst (λ (es : List Entry). (entries (max synced commit) 4096).fits es) (sym c.in_ok-entries.ensures) log in (
+    let told = subst (λ (es : List Entry). (entries (max synced commit) MAX_ENTRIES).fits es) (sym c.in_ok-entries.ensures) log in (
       c.view.ensures.fits,
       (
         view_fits c.self.inside.parts.last (omega (arith, last, low)),
