@@ -1,6 +1,7 @@
 //! The numbers of the protocol and its limits. Code, contracts and definitions cite them from here.
 
-/// A log has at most this many entries; so do log, early and late together.
+/// A log has at most this many entries; so do log, early and late together. A frame of at most 16,777,216 bytes bounds it:
+/// entries of 570 bytes, so at most 29,433 of them.
 pub const MAX_ENTRIES: u32 = 4096;
 
 /// A tick in clock units.
@@ -90,5 +91,5 @@ pub const MAX_KEEP: u32 = 16_777_216;
 /// The longest text of a scenario, in bytes.
 pub const MAX_TEXT: usize = 1_048_576;
 
-/// The most workers of a run. The ledger of open turns has a part for each.
+/// The most workers of a run. The ledger of open batches has a part for each.
 pub const MAX_WORKERS: usize = 16;

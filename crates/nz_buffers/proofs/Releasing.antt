@@ -31,6 +31,7 @@ in_turn (e ∷ es) clock r =
       | inr not_due ↦ rw not_due (sym (none_due clock e es not_due r.0).0)
     ]
 
+-- The entries that are released come first, and those that are held back follow.
 pub left : (es : List Entry) (clock : ℕ) → AreRising (keys_of es) → es ≡ released es clock ++ held_back es clock
 left [] clock r = refl
 left (e ∷ es) clock r =

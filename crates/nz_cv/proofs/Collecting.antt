@@ -49,6 +49,7 @@ merged-bounded u v own k most same h mine theirs =
     (λ (e : get_or (merged_vector u v own) k 0 ≡ get_or v k 0). omega arith)
     (adds_nothing u v own k same h)
 
+-- A vector that was merged already adds nothing.
 pub idempotent : (u v : List ℕ) (own : ℕ) → length u ≡ length v → own < length u → merged_vector (merged_vector u v own) v own ≡ merged_vector u v own
 idempotent u v own same h =
     let kept : length (merged_vector u v own) ≡ length u = length-merged u v own same in

@@ -89,6 +89,7 @@ pub record Merges (u v mine theirs : List ℕ) (size own : ℕ) : Type 0 where
   pub laid_out : IsLaidOut (merged_vector u v own) size
   pub view : take size (merged_vector u v own) ≡ merged_vector mine theirs own
 
+-- A merge of two vectors in their fixed room is the merge of the vectors.
 pub merges : (u v mine theirs : List ℕ) (m n own : ℕ) → take m u ≡ mine → take n v ≡ theirs → IsLaidOut u m → IsLaidOut v n
     → length mine ≡ length theirs → own < length mine → Merges u v mine theirs m own
 merges u v mine theirs m n own shows_u shows_v left right same h =

@@ -31,6 +31,7 @@ one_reading bytes kind from to body kind' from' to' body' h h' =
       same_body = sym r.body_is ∙ r'.body_is;
     }
 
+-- A frame of the grammar is refused by no test.
 pub accepted : (bytes : List ℕ) (kind from to : ℕ) (body : List ℕ) → IsFrame bytes kind from to body → refusal bytes ≡ None
 unfolding refusal
 accepted bytes kind from to body h =

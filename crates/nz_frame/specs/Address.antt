@@ -1,10 +1,11 @@
 -- Which kinds there are, and which addresses belong to somebody.
 use Rattle.std.specs.Prelude.{ℕ, Bool, ◌||◌, IsTrue}
 use Rattle.std.specs.Int.{is_in_range}
+use Rattle.nz_frame.specs.declared.address.TheConstants.{KIND_COUNT}
 
--- The eighteen kinds of message.
+-- The kinds of messages, 1 to the last.
 abbrev pub is_kind : ℕ → Bool
-is_kind kind = is_in_range 1 18 kind
+is_kind kind = is_in_range 1 KIND_COUNT kind
 
 -- The number is a kind of message.
 abbrev pub IsKind : ℕ → Type 0

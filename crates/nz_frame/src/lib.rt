@@ -9,7 +9,7 @@ mod laws;
 mod reading;
 mod refusal;
 
-pub use address::{is_address, is_kind};
+pub use address::{KIND_COUNT, is_address, is_kind};
 pub use frame::Frame;
 pub use laws::{
     cut_is_short, frames_pass, more_is_trailing, no_prefix, one_reading, only_frames_pass,

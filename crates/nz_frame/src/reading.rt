@@ -26,7 +26,7 @@ const MAX_LEN: u32 = 16_777_216;
 /// A frame that was read, over the bytes that were given.
 #[derive(Clone, Copy, Debug)]
 pub struct FrameView<'a> {
-    /// 1 to 18.
+    /// 1 to `KIND_COUNT`.
     pub kind: u8,
     /// The sender's address.
     pub from: u16,

@@ -12,7 +12,7 @@ pub enum FrameRefusal {
     Trailing { place: u32 },
     /// The version is not 1.
     BadVersion { place: u32 },
-    /// The kind is not 1 to 18.
+    /// The kind is not 1 to `KIND_COUNT`.
     BadKind { place: u32 },
     /// The address of the sender, at place 6, or of the receiver, at place 8, belongs to nobody.
     BadActor { place: u32 },

@@ -22,7 +22,8 @@ use Rattle.nz_laws_cv.proofs.Turns.{TurnState, turn_state, more_tellers, IsNew, 
 use Rattle.nz_laws_cv.proofs.Turns.{Collect, Begin, Start, Fall, Wake, HearVector, Count, HearView, Forget, AskLog, Return, Back}
 use Rattle.nz_laws_cv.proofs.Hearing.{HearsFit}
 use Rattle.nz_laws_cv.proofs.Modes.{IsSound, Settled, is_phase_is, merges_own, sound_kept}
-use Rattle.nz_machine.proofs.lists.Distinct.{any_in, distinct_more, in_append}
+use Rattle.nz_machine.proofs.lists.Distinct.{any_in}
+use Rattle.nz_math.proofs.Counting.{is_in-append, distinct-append}
 
 -- what is heard was sent
 pub record HearsSent (Sent : ℕ → Message → Type 0) (me : ℕ) (heard : Heard) : Type 0 where
@@ -84,14 +85,14 @@ module _ (f me : ℕ) (Sent : ℕ → Message → Type 0) where
   -- one more teller
   more_by : (xs : List ℕ) (y : ℕ) (b : Bool) → is_in xs y ≡ b → AreDistinct xs → AreDistinct (cond b xs (xs ++ y ∷ []))
   more_by xs y true e d = d
-  more_by xs y false e d = distinct_more xs y d e
+  more_by xs y false e d = distinct-append xs y d e
 
   more_distinct : (xs : List ℕ) (y : ℕ) → AreDistinct xs → AreDistinct (more_tellers xs y)
   more_distinct xs y d = subst (λ (b : Bool). AreDistinct (cond b xs (xs ++ y ∷ []))) (sym (any_in xs y)) (more_by xs y (is_in xs y) refl d)
 
   more_in_by : (xs : List ℕ) (y x : ℕ) (b : Bool) → is_in (cond b xs (xs ++ y ∷ [])) x ≡ true → (is_in xs x ≡ true) ⊎ (y ≡ x)
   more_in_by xs y x true h = inl h
-  more_in_by xs y x false h = elim (or_cases (is_in xs x) (is_in (y ∷ []) x) (sym (in_append xs (y ∷ []) x) ∙ h)) [
+  more_in_by xs y x false h = elim (or_cases (is_in xs x) (is_in (y ∷ []) x) (sym (is_in-append xs (y ∷ []) x) ∙ h)) [
     | inl a ↦ inl a
     | inr b ↦ elim (or_cases (eqb y x) false b) [ inl c ↦ inr (eqb-true y x c) | inr d ↦ absurd cc ]
   ]

@@ -34,6 +34,7 @@ one_place false false c h k = omega arith
 narrow : (n : ℕ) (p q : ℕ → Bool) → IsWithin (suc n) p q → IsWithin n p q
 narrow n p q h x lt = h x (omega arith)
 
+-- Two sets within a third have at most its members and those that they share.
 pub counting : (n : ℕ) (p q among : ℕ → Bool) → IsWithin n p among → IsWithin n q among
     → count_below n p + count_below n q ≤ count_below n among + count_below n (both p q)
 unfolding count_below
@@ -137,7 +138,8 @@ member_outside n p (m ∷ left) h =
 
 -- ---- the list of a set's members
 
-is_in-append : (xs ys : List ℕ) (x : ℕ) → is_in (xs ++ ys) x ≡ (is_in xs x || is_in ys x)
+-- Whether a number is in a list made of two.
+pub is_in-append : (xs ys : List ℕ) (x : ℕ) → is_in (xs ++ ys) x ≡ (is_in xs x || is_in ys x)
 is_in-append [] ys x = refl
 is_in-append (y ∷ xs) ys x = ap (λ (b : Bool). eqb y x || b) (is_in-append xs ys x) ∙ sym (or_assoc (eqb y x) (is_in xs x) (is_in ys x))
 
@@ -166,7 +168,8 @@ is_in-members (suc n) p x =
           rw (split, prefix, last, apart, limit) (or-false (ltb x n && p x))
     ]
 
-distinct-append : (xs : List ℕ) (n : ℕ) → AreDistinct xs → is_in xs n ≡ false → AreDistinct (xs ++ n ∷ [])
+-- A list of distinct numbers with one more that is not in it.
+pub distinct-append : (xs : List ℕ) (n : ℕ) → AreDistinct xs → is_in xs n ≡ false → AreDistinct (xs ++ n ∷ [])
 distinct-append [] n d h = (refl, tt)
 distinct-append (y ∷ xs) n d h =
     let parts = or_parts (eqb y n) (is_in xs n) h in

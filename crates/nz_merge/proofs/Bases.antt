@@ -16,18 +16,10 @@ use Rattle.nz_merge.specs.declared.change.Change.{Change}
 use Rattle.nz_merge.specs.Merged.{AreFit, greatest, changes_kept, lower, lowest, with_synced, synced_entries}
 use Rattle.nz_merge.specs.Merged.{merged_synced_part, threshold, merged, begins_with, count_beginning}
 use Rattle.nz_merge.specs.Sender.{senders}
-use Rattle.nz_merge.proofs.Beginnings.{begins_append, rest_of}
+use Rattle.nz_merge.proofs.Beginnings.{test_of_prefix, prefix_of_test}
 use Rattle.nz_merge.proofs.Logs.{lowest_has}
 use Rattle.nz_merge.proofs.Merging.{prefix_stays, synced_prefix}
 use Rattle.nz_merge.proofs.Senders.{contains_first, contains_later, pass_twice, fast_members}
-
--- ---- the test of a beginning, and prefixes
-
-pub begins : (P keys : List Key) → IsPrefix P keys → begins_with keys P ≡ true
-begins P keys p = subst (λ (zs : List Key). begins_with zs P ≡ true) (sym p.whole) (begins_append P p.rest)
-
-pub begun : (P keys : List Key) → begins_with keys P ≡ true → IsPrefix P keys
-begun P keys h = let r = rest_of keys P h in record { rest = r.0; whole = r.1 }
 
 -- ---- filters, and the greatest
 
@@ -129,7 +121,7 @@ base_of (x ∷ xs) some =
 
 pub synced_stays : (f : ℕ) (changes : List Change) (P : List Key)
     → IsPrefix P (keys_of (merged_synced_part (changes_kept changes))) → IsPrefix P (keys_of (merged f changes))
-synced_stays f changes P p = begun P (keys_of (merged f changes)) (synced_prefix f changes P (begins P (keys_of (merged_synced_part (changes_kept changes))) p))
+synced_stays f changes P p = prefix_of_test P (keys_of (merged f changes)) (synced_prefix f changes P (test_of_prefix P (keys_of (merged_synced_part (changes_kept changes))) p))
 
 -- a list that each report from a fast quorum begins with, and is of the greatest last view
 pub fast_count : (f : ℕ) (quorum : List ℕ) (changes : List Change) (P : List Key) → IsChoice (group_size f) quorum → fast_quorum f ≤ length quorum
@@ -140,7 +132,7 @@ fast_count f quorum changes P choice enough members size holds =
     let some = fast_members f quorum changes choice enough members size in
     let from_quorum : Change → Bool = λ c. is_in quorum c.sender in
     let among = pass_twice from_quorum (λ (c : Change). begins_with (keys_of c.log) P) (λ (c : Change). eqb c.last (last_of changes)) changes
-    (λ c there h. let both = holds c there h in (eq-eqb c.last (last_of changes) both.0, begins P (keys_of c.log) both.1)) in
+    (λ c there h. let both = holds c there h in (eq-eqb c.last (last_of changes) both.0, test_of_prefix P (keys_of c.log) both.1)) in
     omega (arith, some, among)
 
 pub fast_stays : (f : ℕ) (changes : List Change) (P : List Key) → AreFit changes → length changes ≡ slow_quorum f
@@ -149,7 +141,7 @@ pub fast_stays : (f : ℕ) (changes : List Change) (P : List Key) → AreFit cha
 fast_stays f changes P fit size enough either =
     let base = keys_of (merged_synced_part (changes_kept changes)) in
     let in_tests : (begins_with base P ≡ true) ⊎ (begins_with P base ≡ true) = elim either [
-      | inl shorter ↦ inl (begins P base shorter)
-      | inr longer ↦ inr (begins base P longer)
+      | inl shorter ↦ inl (test_of_prefix P base shorter)
+      | inr longer ↦ inr (test_of_prefix base P longer)
     ] in
-    begun P (keys_of (merged f changes)) (prefix_stays f changes P fit (omega (arith, size)) enough in_tests)
+    prefix_of_test P (keys_of (merged f changes)) (prefix_stays f changes P fit (omega (arith, size)) enough in_tests)

@@ -28,5 +28,6 @@ rest_of (k ∷ keys) (f ∷ prefix) h =
 pub prefix_of_test : (prefix keys : List Key) → begins_with keys prefix ≡ true → IsPrefix prefix keys
 prefix_of_test prefix keys h = let more = rest_of keys prefix h in record { rest = more.0; whole = more.1 }
 
+-- and the other way
 pub test_of_prefix : (prefix keys : List Key) → IsPrefix prefix keys → begins_with keys prefix ≡ true
 test_of_prefix prefix keys p = subst (λ (xs : List Key). begins_with xs prefix ≡ true) (sym p.whole) (begins_append prefix p.rest)

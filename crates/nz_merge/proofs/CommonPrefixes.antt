@@ -73,6 +73,7 @@ has_of_prefix keys prefix k begins h =
 
 -- ---- a prefix that enough logs have
 
+-- A list that enough logs begin with is settled.
 pub settled : (limit : ℕ) (changes : List Change) (P : List Key) → AllByRecursion IsFit changes → 0 < limit
     → length changes < limit + limit → limit ≤ count_beginning P changes → IsSettled limit changes P
 settled limit changes P fit positive few enough =

@@ -21,6 +21,7 @@ pub is_log : (f : ℕ) (changes : List Change) → AreFit changes → IsLog (mer
 unfolding merged
 is_log f changes fit = merged_log (threshold f) (changes_kept changes) (kept_fit IsFit changes fit)
 
+-- The merged log begins with the merged synced part.
 pub starts : (f : ℕ) (changes : List Change) → (rest : List Entry) × (merged f changes ≡ merged_synced_part (changes_kept changes) ++ rest)
 unfolding merged
 starts f changes = (
@@ -53,6 +54,7 @@ pub held_key : (f : ℕ) (changes : List Change) (key : Key) → AreFit changes
 unfolding merged
 held_key f changes key fit enough above only = merged_has (threshold f) (changes_kept changes) key (kept_fit IsFit changes fit) (omega arith) enough above only
 
+-- What is true of each entry of the reports is true of each entry of the merged log.
 pub entries : (Q : Entry → Type 0) (f : ℕ) (changes : List Change) → AllByRecursion (λ c. AllByRecursion Q c.log) changes → AllByRecursion Q (merged f changes)
 unfolding merged
 entries Q f changes each = merged_entries Q (threshold f) (changes_kept changes) (kept_fit (λ c. AllByRecursion Q c.log) changes each) (omega arith)

@@ -54,6 +54,7 @@ no_turn limit changes log total h = sym (append-nil log) ∙ h
 
 -- ---- the same, as the loop has them
 
+-- Where the loop begins, it has still to give all that the merge gives.
 pub start : (limit : ℕ) (changes : List Change) (log : List Entry) (set keys : List Key)
     → log ≡ merged_synced_part changes → keys ≡ set → set ≡ keys_above (keys_of log) changes
     → in_all limit changes log keys ≡ merged_from limit changes
@@ -62,6 +63,7 @@ start limit changes log set keys synced same above =
     ∙ ap (λ (l : List Entry). in_all limit changes l (keys_above (keys_of l) changes)) synced
     ∙ ap (λ (ks : List Key). merged_synced_part changes ++ map (entry_in changes) ks) (same_later limit changes (keys_of (merged_synced_part changes)))
 
+-- A key that enough logs have, and that follows, is put last in the log.
 pub taken : (limit : ℕ) (changes : List Change) (log after total : List Entry) (before keys : List Key) (key : Key)
     (entry : Entry) (count : ℕ) (follows : Bool) → before ≡ key ∷ keys
     → count ≡ length (holders changes key) → limit ≤ count
@@ -88,6 +90,7 @@ left_other limit changes log total before keys key count follows first counted e
     skip_other limit changes log key keys total (subst (λ (n : ℕ). limit ≤ n) counted enough) (sym tells ∙ away)
     (ap (λ (ks : List Key). in_all limit changes log ks) (sym first) ∙ h)
 
+-- With no key left, the log is the merged one.
 pub ended : (limit : ℕ) (changes : List Change) (log total : List Entry) (keys : List Key) → keys ≡ [] → in_all limit changes log keys ≡ total → log ≡ total
 ended limit changes log total keys none h = no_turn limit changes log total (ap (λ (ks : List Key). in_all limit changes log ks) (sym none) ∙ h)
 

@@ -74,6 +74,7 @@ begins_none : (keys : List Key) → begins_with keys [] ≡ true
 begins_none [] = refl
 begins_none (k ∷ keys) = refl
 
+-- Whatever is taken first, the keys of a settled prefix come next, in their order.
 pub walk : (limit : ℕ) (changes : List Change) (P taken rest candidates : List Key) → IsSettled limit changes P
     → P ≡ taken ++ rest → AreRising candidates → AreAmong rest candidates
     → begins_with (later_keys limit changes taken candidates) rest ≡ true

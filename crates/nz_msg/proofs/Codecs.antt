@@ -41,6 +41,7 @@ pub guard_ok : {A : Type 0} (b : Bool) (d : ℕ) (x y : A) → cond b (Err d) (O
 guard_ok true d x y e = absurd cc
 guard_ok false d x y e = (refl, cc)
 
+-- What passes a test passed it, and is what was tested.
 pub passed : {A : Type 0} (b : Bool) (d : ℕ) (x y : A) → cond b (Ok x) (Err d) ≡ Ok y → (b ≡ true) × (x ≡ y)
 passed true d x y e = (refl, cc)
 passed false d x y e = absurd cc

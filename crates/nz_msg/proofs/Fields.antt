@@ -1,6 +1,6 @@
 -- Each sort of field is read as it is spelled.
 use Rattle.nz_base.specs.declared.limits.TheConstants.{MAX_ENTRIES, MAX_VIEW}
-use Rattle.std.proofs.Common.{◌≡◌, ℕ, suc, zero, ◌+◌, ◌^◌, ◌-◌, ◌<◌, ◌≤◌, Bool, true, false, eqb, List, refl, sym, ap, arith}
+use Rattle.std.proofs.Common.{◌*◌, ◌≡◌, ℕ, suc, zero, ◌+◌, ◌^◌, ◌-◌, ◌<◌, ◌≤◌, Bool, true, false, eqb, List, refl, sym, ap, arith}
 use Rattle.std.specs.Prelude.{◌==◌, if◌then◌else◌}
 use Rattle.std.specs.Int.{is_in_range}
 use Rattle.std.proofs.lemmas.Bool.Decides.{nat_tests}
@@ -150,9 +150,12 @@ keys_exact =
 few_items : (least most k : ℕ) → most ≤ MAX_ENTRIES → (number_within 4 least most).fits k → k ≤ MAX_ENTRIES
 few_items least most k few h = let small = within_most 4 least most k h in omega arith
 
--- at most 4,096 entries
-pub entries_exact : (least most : ℕ) → most ≤ MAX_ENTRIES → IsExact (entries least most) 2334724
+-- The bytes of the longest list of entries: its count, and 570 bytes for each entry.
+abbrev pub longest_entries : ℕ
+longest_entries = 4 + MAX_ENTRIES * 570
+
+pub entries_exact : (least most : ℕ) → most ≤ MAX_ENTRIES → IsExact (entries least most) longest_entries
 entries_exact least most few =
-    counted_exact (number_within 4 least most) (items next_entry) 4 2334720 (within_exact 4 least most wide4)
+    counted_exact (number_within 4 least most) (items next_entry) 4 (MAX_ENTRIES * 570) (within_exact 4 least most wide4)
     (λ k h. items_exact next_entry 570 k MAX_ENTRIES (few_items least most k few h) next_entry_exact) (λ k xs h. h.0)
     (λ k bytes. (items_exact next_entry 570 k k (omega arith) next_entry_exact).within bytes)

@@ -10,6 +10,7 @@ use Rattle.nz_msg.specs.Reading.{Fails}
 abbrev pub with_earlier : {A : Type 0} → List A → Result (List A × List ℕ) ℕ → Result (List A × List ℕ) ℕ
 with_earlier prefix read = read >>= λ x. Ok (prefix ++ x.0, x.1)
 
+-- With nothing read before, a reading is as it was.
 pub begins : {A : Type 0} (read : Result (List A × List ℕ) ℕ) → with_earlier [] read ≡ read
 begins (Ok x) = refl
 begins (Err left) = refl
@@ -31,6 +32,7 @@ goes_on item prefix count i bytes x after total lt h so_far =
     rw (k, h) (regroup prefix x (items_at item (prefix ++ x ∷ []) (count - (i + 1)) after)) in
     sym one ∙ so_far
 
+-- An item that cannot be read ends the reading of the list with its fault.
 pub ends : {A : Type 0} (item : List A → Codec A) (fault : Fault) (prefix : List A) (count i : ℕ) (bytes : List ℕ)
     (total : Result (List A × List ℕ) ℕ) → i < count → Fails fault ((item prefix).get bytes)
     → with_earlier prefix (items_at item prefix (count - i) bytes) ≡ total → Fails fault total

@@ -1,6 +1,6 @@
 -- Each message is read as it is spelled.
 use Rattle.nz_base.specs.declared.limits.TheConstants.{MAX_ENTRIES}
-use Rattle.std.proofs.Common.{◌≡◌, ℕ, ◌≤◌, Bool, true, false, cond, eqb, List, [], length, Result, Ok, Err, refl, sym, ap, subst, ◌∙◌, arith}
+use Rattle.std.proofs.Common.{◌≡◌, ℕ, ◌+◌, ◌≤◌, Bool, true, false, cond, eqb, List, [], length, Result, Ok, Err, refl, sym, ap, subst, ◌∙◌, arith}
 use Rattle.std.specs.Prelude.{max}
 use Rattle.std.proofs.lemmas.Bool.{eqb-true}
 use Rattle.std.proofs.lemmas.List.{nil_from_length}
@@ -16,14 +16,31 @@ use Rattle.nz_msg.specs.Messages.{view_ask, view_change, start_view, vector_ask,
 use Rattle.nz_msg.specs.Messages.{state_ask, state_tell, kind_of, Fits, body_of, IsBody, whole, body_at}
 use Rattle.nz_msg.proofs.Codecs.{IsExact, IsWithin, bind_ok, passed, then_exact, leading_exact, made_exact, optional_exact}
 use Rattle.nz_msg.proofs.Fields.{u32_exact, u64_exact, view_exact, deadline_exact, id_exact, command_exact, digest_exact}
-use Rattle.nz_msg.proofs.Fields.{vector_exact, answer_exact, path_exact, ids_exact, keys_exact, entries_exact}
+use Rattle.nz_msg.proofs.Fields.{vector_exact, answer_exact, path_exact, ids_exact, keys_exact, longest_entries, entries_exact}
 
 -- ---- the bodies
 
+-- The bytes of the longest log: how many entries are committed, and the entries.
+abbrev longest_log : ℕ
+longest_log = 4 + longest_entries
+
+abbrev longest_fetch_reply : ℕ
+longest_fetch_reply = 8 + longest_entries
+
+-- No message has a longer body.
+abbrev pub longest_view_change : ℕ
+longest_view_change = 61 + longest_entries
+
+abbrev longest_start_view : ℕ
+longest_start_view = 45 + longest_log
+
+abbrev longest_state_tell : ℕ
+longest_state_tell = 53 + longest_log
+
 -- the entries of a log, of which some are committed
-log_exact : IsExact (u32 leading λ commit. entries commit MAX_ENTRIES) 2334728
+log_exact : IsExact (u32 leading λ commit. entries commit MAX_ENTRIES) longest_log
 log_exact =
-    leading_exact u32 (λ commit. entries commit MAX_ENTRIES) 4 2334724 u32_exact
+    leading_exact u32 (λ commit. entries commit MAX_ENTRIES) 4 longest_entries u32_exact
     (λ commit h. entries_exact commit MAX_ENTRIES (omega arith)) (λ commit bytes. (entries_exact commit MAX_ENTRIES (omega arith)).within bytes)
 
 request_exact : IsExact request 558
@@ -57,8 +74,8 @@ log_mod_exact =
 fetch_exact : IsExact fetch 521
 fetch_exact = made_exact _ _ _ 521 (λ b. refl) (λ p h. refl) (then_exact _ _ 8 513 view_exact ids_exact)
 
-fetch_reply_exact : IsExact fetch_reply 2334732
-fetch_reply_exact = made_exact _ _ _ 2334732 (λ b. refl) (λ p h. refl) (then_exact _ _ 8 2334724 view_exact (entries_exact 0 64 (omega arith)))
+fetch_reply_exact : IsExact fetch_reply longest_fetch_reply
+fetch_reply_exact = made_exact _ _ _ longest_fetch_reply (λ b. refl) (λ p h. refl) (then_exact _ _ 8 longest_entries view_exact (entries_exact 0 64 (omega arith)))
 
 sync_report_exact : IsExact sync_report 12
 sync_report_exact = made_exact _ _ _ 12 (λ b. refl) (λ p h. refl) (then_exact _ _ 8 4 view_exact u32_exact)
@@ -66,17 +83,17 @@ sync_report_exact = made_exact _ _ _ 12 (λ b. refl) (λ p h. refl) (then_exact 
 view_ask_exact : IsExact view_ask 8
 view_ask_exact = made_exact _ _ _ 8 (λ b. refl) (λ p h. refl) view_exact
 
-view_change_exact : IsExact view_change 2334785
+view_change_exact : IsExact view_change longest_view_change
 view_change_exact =
-    made_exact _ _ _ 2334785 (λ b. refl) (λ p h. refl)
-    (then_exact _ _ 8 2334777 view_exact
-    (then_exact _ _ 8 2334769 view_exact
-    (then_exact _ _ 37 2334732 vector_exact
-    (leading_exact (u32 then u32) (λ p. entries (max p.0 p.1) MAX_ENTRIES) 8 2334724 (then_exact u32 u32 4 4 u32_exact u32_exact)
+    made_exact _ _ _ longest_view_change (λ b. refl) (λ p h. refl)
+    (then_exact _ _ 8 (53 + longest_entries) view_exact
+    (then_exact _ _ 8 (45 + longest_entries) view_exact
+    (then_exact _ _ 37 (8 + longest_entries) vector_exact
+    (leading_exact (u32 then u32) (λ p. entries (max p.0 p.1) MAX_ENTRIES) 8 longest_entries (then_exact u32 u32 4 4 u32_exact u32_exact)
     (λ p h. entries_exact (max p.0 p.1) MAX_ENTRIES (omega arith)) (λ p bytes. (entries_exact (max p.0 p.1) MAX_ENTRIES (omega arith)).within bytes)))))
 
-start_view_exact : IsExact start_view 2334773
-start_view_exact = made_exact _ _ _ 2334773 (λ b. refl) (λ p h. refl) (then_exact _ _ 8 2334765 view_exact (then_exact _ _ 37 2334728 vector_exact log_exact))
+start_view_exact : IsExact start_view longest_start_view
+start_view_exact = made_exact _ _ _ longest_start_view (λ b. refl) (λ p h. refl) (then_exact _ _ 8 (37 + longest_log) view_exact (then_exact _ _ 37 longest_log vector_exact log_exact))
 
 vector_ask_exact : IsExact vector_ask 8
 vector_ask_exact = made_exact _ _ _ 8 (λ b. refl) (λ p h. refl) u64_exact
@@ -93,10 +110,10 @@ rejoin_tell_exact = made_exact _ _ _ 53 (λ b. refl) (λ p h. refl) (then_exact 
 state_ask_exact : IsExact state_ask 53
 state_ask_exact = made_exact _ _ _ 53 (λ b. refl) (λ p h. refl) (then_exact _ _ 8 45 u64_exact (then_exact _ _ 8 37 view_exact vector_exact))
 
-state_tell_exact : IsExact state_tell 2334781
+state_tell_exact : IsExact state_tell longest_state_tell
 state_tell_exact =
-    made_exact _ _ _ 2334781 (λ b. refl) (λ p h. refl)
-    (then_exact _ _ 8 2334773 u64_exact (then_exact _ _ 8 2334765 view_exact (then_exact _ _ 37 2334728 vector_exact log_exact)))
+    made_exact _ _ _ longest_state_tell (λ b. refl) (λ p h. refl)
+    (then_exact _ _ 8 (45 + longest_log) u64_exact (then_exact _ _ 8 (37 + longest_log) view_exact (then_exact _ _ 37 longest_log vector_exact log_exact)))
 
 -- ---- whole bodies
 
@@ -156,7 +173,7 @@ fetch_body bytes message fits e =
 
 fetch_reply_body : (bytes : List ℕ) (message : Message) → AreBytes bytes → whole fetch_reply FetchReply bytes ≡ Ok message → IsBody 8 bytes message
 fetch_reply_body bytes message fits e =
-    let w = whole_takes fetch_reply 2334732 FetchReply fetch_reply_exact bytes message fits e in
+    let w = whole_takes fetch_reply longest_fetch_reply FetchReply fetch_reply_exact bytes message fits e in
     subst (λ (m : Message). IsBody 8 bytes m) w.made (record { same_kind = refl; fit = w.fit; spelled = w.spelled })
 
 sync_report_body : (bytes : List ℕ) (message : Message) → AreBytes bytes → whole sync_report SyncReport bytes ≡ Ok message → IsBody 9 bytes message
@@ -171,12 +188,12 @@ view_ask_body bytes message fits e =
 
 view_change_body : (bytes : List ℕ) (message : Message) → AreBytes bytes → whole view_change ViewChange bytes ≡ Ok message → IsBody 11 bytes message
 view_change_body bytes message fits e =
-    let w = whole_takes view_change 2334785 ViewChange view_change_exact bytes message fits e in
+    let w = whole_takes view_change longest_view_change ViewChange view_change_exact bytes message fits e in
     subst (λ (m : Message). IsBody 11 bytes m) w.made (record { same_kind = refl; fit = w.fit; spelled = w.spelled })
 
 start_view_body : (bytes : List ℕ) (message : Message) → AreBytes bytes → whole start_view StartView bytes ≡ Ok message → IsBody 12 bytes message
 start_view_body bytes message fits e =
-    let w = whole_takes start_view 2334773 StartView start_view_exact bytes message fits e in
+    let w = whole_takes start_view longest_start_view StartView start_view_exact bytes message fits e in
     subst (λ (m : Message). IsBody 12 bytes m) w.made (record { same_kind = refl; fit = w.fit; spelled = w.spelled })
 
 vector_ask_body : (bytes : List ℕ) (message : Message) → AreBytes bytes → whole vector_ask VectorAsk bytes ≡ Ok message → IsBody 13 bytes message
@@ -206,7 +223,7 @@ state_ask_body bytes message fits e =
 
 state_tell_body : (bytes : List ℕ) (message : Message) → AreBytes bytes → whole state_tell StateTell bytes ≡ Ok message → IsBody 18 bytes message
 state_tell_body bytes message fits e =
-    let w = whole_takes state_tell 2334781 StateTell state_tell_exact bytes message fits e in
+    let w = whole_takes state_tell longest_state_tell StateTell state_tell_exact bytes message fits e in
     subst (λ (m : Message). IsBody 18 bytes m) w.made (record { same_kind = refl; fit = w.fit; spelled = w.spelled })
 
 -- ---- any kind
@@ -220,17 +237,17 @@ body_again (SlowReply b) h = whole_again slow_reply 20 SlowReply slow_reply_exac
 body_again (Answer b) h = whole_again client_answer 264 Answer client_answer_exact b h
 body_again (LogMod b) h = whole_again log_mod 1078 LogMod log_mod_exact b h
 body_again (Fetch b) h = whole_again fetch 521 Fetch fetch_exact b h
-body_again (FetchReply b) h = whole_again fetch_reply 2334732 FetchReply fetch_reply_exact b h
+body_again (FetchReply b) h = whole_again fetch_reply longest_fetch_reply FetchReply fetch_reply_exact b h
 body_again (SyncReport b) h = whole_again sync_report 12 SyncReport sync_report_exact b h
 body_again (ViewAsk b) h = whole_again view_ask 8 ViewAsk view_ask_exact b h
-body_again (ViewChange b) h = whole_again view_change 2334785 ViewChange view_change_exact b h
-body_again (StartView b) h = whole_again start_view 2334773 StartView start_view_exact b h
+body_again (ViewChange b) h = whole_again view_change longest_view_change ViewChange view_change_exact b h
+body_again (StartView b) h = whole_again start_view longest_start_view StartView start_view_exact b h
 body_again (VectorAsk b) h = whole_again vector_ask 8 VectorAsk vector_ask_exact b h
 body_again (VectorTell b) h = whole_again vector_tell 45 VectorTell vector_tell_exact b h
 body_again (RejoinAsk b) h = whole_again rejoin_ask 45 RejoinAsk rejoin_ask_exact b h
 body_again (RejoinTell b) h = whole_again rejoin_tell 53 RejoinTell rejoin_tell_exact b h
 body_again (StateAsk b) h = whole_again state_ask 53 StateAsk state_ask_exact b h
-body_again (StateTell b) h = whole_again state_tell 2334781 StateTell state_tell_exact b h
+body_again (StateTell b) h = whole_again state_tell longest_state_tell StateTell state_tell_exact b h
 
 by_test : (b : Bool) (kind k : ℕ) (bytes : List ℕ) (m : Message) (r s : Result Message ℕ) → (b ≡ true → kind ≡ k)
     → (r ≡ Ok m → IsBody k bytes m) → (s ≡ Ok m → IsBody kind bytes m) → cond b r s ≡ Ok m → IsBody kind bytes m
@@ -269,7 +286,7 @@ body_takes kind bytes m fits =
     no_kind kind bytes m))))))))))))))))))
 
 -- a body is short enough for a frame
-pub body_long : (m : Message) → Fits m → length (body_of m) ≤ 2334785
+pub body_long : (m : Message) → Fits m → length (body_of m) ≤ longest_view_change
 body_long (Request b) h = let long = request_exact.long b [] h in omega arith
 body_long (Timed b) h = let long = timed_exact.long b [] h in omega arith
 body_long (FastReply b) h = let long = fast_reply_exact.long b [] h in omega arith
@@ -322,17 +339,17 @@ body_within kind bytes left =
     left_by_test (eqb kind 5) _ _ (length bytes) left (whole_within client_answer 264 Answer client_answer_exact bytes left) (
     left_by_test (eqb kind 6) _ _ (length bytes) left (whole_within log_mod 1078 LogMod log_mod_exact bytes left) (
     left_by_test (eqb kind 7) _ _ (length bytes) left (whole_within fetch 521 Fetch fetch_exact bytes left) (
-    left_by_test (eqb kind 8) _ _ (length bytes) left (whole_within fetch_reply 2334732 FetchReply fetch_reply_exact bytes left) (
+    left_by_test (eqb kind 8) _ _ (length bytes) left (whole_within fetch_reply longest_fetch_reply FetchReply fetch_reply_exact bytes left) (
     left_by_test (eqb kind 9) _ _ (length bytes) left (whole_within sync_report 12 SyncReport sync_report_exact bytes left) (
     left_by_test (eqb kind 10) _ _ (length bytes) left (whole_within view_ask 8 ViewAsk view_ask_exact bytes left) (
-    left_by_test (eqb kind 11) _ _ (length bytes) left (whole_within view_change 2334785 ViewChange view_change_exact bytes left) (
-    left_by_test (eqb kind 12) _ _ (length bytes) left (whole_within start_view 2334773 StartView start_view_exact bytes left) (
+    left_by_test (eqb kind 11) _ _ (length bytes) left (whole_within view_change longest_view_change ViewChange view_change_exact bytes left) (
+    left_by_test (eqb kind 12) _ _ (length bytes) left (whole_within start_view longest_start_view StartView start_view_exact bytes left) (
     left_by_test (eqb kind 13) _ _ (length bytes) left (whole_within vector_ask 8 VectorAsk vector_ask_exact bytes left) (
     left_by_test (eqb kind 14) _ _ (length bytes) left (whole_within vector_tell 45 VectorTell vector_tell_exact bytes left) (
     left_by_test (eqb kind 15) _ _ (length bytes) left (whole_within rejoin_ask 45 RejoinAsk rejoin_ask_exact bytes left) (
     left_by_test (eqb kind 16) _ _ (length bytes) left (whole_within rejoin_tell 53 RejoinTell rejoin_tell_exact bytes left) (
     left_by_test (eqb kind 17) _ _ (length bytes) left (whole_within state_ask 53 StateAsk state_ask_exact bytes left) (
-    left_by_test (eqb kind 18) _ _ (length bytes) left (whole_within state_tell 2334781 StateTell state_tell_exact bytes left) (
+    left_by_test (eqb kind 18) _ _ (length bytes) left (whole_within state_tell longest_state_tell StateTell state_tell_exact bytes left) (
     all_left (length bytes) left _ refl))))))))))))))))))
 
 pub body_spelled : (kind : ℕ) (bytes : List ℕ) (m : Message) → IsBody kind bytes m → body_at kind bytes ≡ Ok m

@@ -68,14 +68,8 @@ fn fast_reply_of(alloc: Global, bytes: Rest<'_>) -> Result<Message, Fault>
 {
     let (view, rest) = view_at(bytes)?;
     let (id, rest) = id_at(rest)?;
-    let (digest, rest) = match digest_at(rest) {
-        Ok(read) => read,
-        Err(fault) => return Err(fault),
-    };
-    let (vector, rest) = match vector_at(rest) {
-        Ok(read) => read,
-        Err(fault) => return Err(fault),
-    };
+    let (digest, rest) = digest_at(rest)?;
+    let (vector, rest) = vector_at(rest)?;
     let (delay, rest) = u32_at(rest)?;
     let (answer, rest) = answer_if_any(alloc, rest)?;
     end(rest)?;
@@ -113,10 +107,7 @@ fn log_mod_of(alloc: Global, bytes: Rest<'_>) -> Result<Message, Fault>
     ensures { Gives (λ m. m) result (whole log_mod messages.LogMod bytes.entry) }
 {
     let (view, rest) = view_at(bytes)?;
-    let (vector, rest) = match vector_at(rest) {
-        Ok(read) => read,
-        Err(fault) => return Err(fault),
-    };
+    let (vector, rest) = vector_at(rest)?;
     let (commit, rest) = u32_at(rest)?;
     let (start, rest) = u32_at(rest)?;
     let (keys, rest) = keys_at(alloc, rest)?;
@@ -170,10 +161,7 @@ fn view_change_of(alloc: Global, bytes: Rest<'_>) -> Result<Message, Fault>
 {
     let (view, rest) = view_at(bytes)?;
     let (last, rest) = view_at(rest)?;
-    let (vector, rest) = match vector_at(rest) {
-        Ok(read) => read,
-        Err(fault) => return Err(fault),
-    };
+    let (vector, rest) = vector_at(rest)?;
     let (synced, rest) = u32_at(rest)?;
     let (commit, rest) = u32_at(rest)?;
     let (entries, rest) = entries_at(alloc, rest, synced.max(commit), MAX_ENTRIES)?;
@@ -192,10 +180,7 @@ fn start_view_of(alloc: Global, bytes: Rest<'_>) -> Result<Message, Fault>
     ensures { Gives (λ m. m) result (whole start_view messages.StartView bytes.entry) }
 {
     let (view, rest) = view_at(bytes)?;
-    let (vector, rest) = match vector_at(rest) {
-        Ok(read) => read,
-        Err(fault) => return Err(fault),
-    };
+    let (vector, rest) = vector_at(rest)?;
     let (commit, rest) = u32_at(rest)?;
     let (entries, rest) = entries_at(alloc, rest, commit, MAX_ENTRIES)?;
     end(rest)?;
@@ -219,10 +204,7 @@ fn vector_tell_of(bytes: Rest<'_>) -> Result<Message, Fault>
     ensures { Gives (λ m. m) result (whole vector_tell messages.VectorTell bytes.entry) }
 {
     let (nonce, rest) = u64_at(bytes)?;
-    let (vector, rest) = match vector_at(rest) {
-        Ok(read) => read,
-        Err(fault) => return Err(fault),
-    };
+    let (vector, rest) = vector_at(rest)?;
     end(rest)?;
     Ok(Message::VectorTell(VectorTellBody { nonce, vector }))
 }
@@ -231,10 +213,7 @@ fn rejoin_ask_of(bytes: Rest<'_>) -> Result<Message, Fault>
     ensures { Gives (λ m. m) result (whole rejoin_ask messages.RejoinAsk bytes.entry) }
 {
     let (nonce, rest) = u64_at(bytes)?;
-    let (vector, rest) = match vector_at(rest) {
-        Ok(read) => read,
-        Err(fault) => return Err(fault),
-    };
+    let (vector, rest) = vector_at(rest)?;
     end(rest)?;
     Ok(Message::RejoinAsk(RejoinAskBody { nonce, vector }))
 }
@@ -244,10 +223,7 @@ fn rejoin_tell_of(bytes: Rest<'_>) -> Result<Message, Fault>
 {
     let (nonce, rest) = u64_at(bytes)?;
     let (view, rest) = view_at(rest)?;
-    let (vector, rest) = match vector_at(rest) {
-        Ok(read) => read,
-        Err(fault) => return Err(fault),
-    };
+    let (vector, rest) = vector_at(rest)?;
     end(rest)?;
     Ok(Message::RejoinTell(RejoinTellBody {
         nonce,
@@ -261,10 +237,7 @@ fn state_ask_of(bytes: Rest<'_>) -> Result<Message, Fault>
 {
     let (nonce, rest) = u64_at(bytes)?;
     let (view, rest) = view_at(rest)?;
-    let (vector, rest) = match vector_at(rest) {
-        Ok(read) => read,
-        Err(fault) => return Err(fault),
-    };
+    let (vector, rest) = vector_at(rest)?;
     end(rest)?;
     Ok(Message::StateAsk(StateAskBody {
         nonce,
@@ -278,10 +251,7 @@ fn state_tell_of(alloc: Global, bytes: Rest<'_>) -> Result<Message, Fault>
 {
     let (nonce, rest) = u64_at(bytes)?;
     let (view, rest) = view_at(rest)?;
-    let (vector, rest) = match vector_at(rest) {
-        Ok(read) => read,
-        Err(fault) => return Err(fault),
-    };
+    let (vector, rest) = vector_at(rest)?;
     let (commit, rest) = u32_at(rest)?;
     let (entries, rest) = entries_at(alloc, rest, commit, MAX_ENTRIES)?;
     end(rest)?;

@@ -16,9 +16,6 @@ use Rattle.nz_machine.specs.rules.Quorums.{view_of, is_of_leader, is_slow_of, ag
 use Rattle.nz_quorum.specs.Tallies.{replica_of, IsOfCluster, quorum_size, has_quorum}
 use Rattle.nz_quorum.specs.Support.{supports}
 
-pub next_item : {X : Type 0} (xs : List X) (i : ℕ) (x : X) → i < length xs → x ≡ get_or xs i x → drop i xs ≡ x ∷ drop (i + 1) xs
-next_item xs i x lt is = rw add-one (drop-cons xs i x lt ∙ ap (λ y. y ∷ drop (suc i) xs) (sym is))
-
 -- ---- one step of the loop
 
 pub taken_in : (a b s rest total : Bool) → s ≡ true → (a || ((b && s) || rest)) ≡ total → ((b || a) || rest) ≡ total

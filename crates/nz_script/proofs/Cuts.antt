@@ -32,6 +32,7 @@ cut-nowhere b (x ∷ xs) passed =
 pub rest_is : (l : List ℕ) (k : ℕ) → take (length l - (k + 1)) (drop (k + 1) l) ≡ drop (suc k) l
 rest_is l k = take_all (length l - (k + 1)) (drop (k + 1) l) (omega (arith, length-drop (k + 1) l)) ∙ ap (λ (n : ℕ). drop n l) (add-one k)
 
+-- What follows a word is shorter than what the word was cut from.
 pub shorter : (at : ℕ) (rest word later : List ℕ) → cut at rest ≡ Some (word, later) → length later < length rest
 shorter at rest word later parts = omega (arith, ap length (cut-takes at rest (word, later) parts), length-append word (at ∷ later))
 
@@ -57,6 +58,7 @@ pub none-lacks : (b : ℕ) (l : List ℕ) → cut b l ≡ None → Lacks b l
 none-lacks b [] e = tt
 none-lacks b (x ∷ xs) e = none_step b x xs (x == b) (cut b xs) refl (none-lacks b xs) e
 
+-- Numbers that are not equal fail the test of equality.
 pub other : (x b : ℕ) → x ≢ b → (x == b) ≡ false
 other x b h = grind (arith, h)
 

@@ -12,6 +12,7 @@ use Rattle.nz_base.specs.declared.scenario.Request.{Request}
 use Rattle.nz_base.specs.declared.scenario.Fault.{Fault}
 use Rattle.nz_base.specs.declared.scenario.Fault.TheVariants as fault
 use Rattle.nz_base.specs.Actor.{number_of, is_within}
+use Rattle.nz_script.specs.declared.message.TheConstants.{KIND_COUNT}
 use Rattle.nz_script.specs.declared.line_forms.Place.TheVariants as place
 use Rattle.nz_script.specs.declared.line_forms.Mishap.{Mishap}
 use Rattle.nz_script.specs.declared.line_forms.Mishap.TheVariants as mishap
@@ -65,14 +66,14 @@ record IsParcel (a b : Actor) (k : ℕ) : Type 0 where
   from : number_of a ≤ 99
   to : number_of b ≤ 99
   low : 1 ≤ k
-  high : k ≤ 18
+  high : k ≤ KIND_COUNT
 
-parcel : (g : Group) (a b : Actor) (k : ℕ) (more : Bool) → IsSmall g → (knows g a && (knows g b && (is_within 1 18 k && more))) ≡ true → IsParcel a b k
+parcel : (g : Group) (a b : Actor) (k : ℕ) (more : Bool) → IsSmall g → (knows g a && (knows g b && (is_within 1 KIND_COUNT k && more))) ≡ true → IsParcel a b k
 parcel g a b k more small e =
-    let p = and_parts (knows g a) (knows g b && (is_within 1 18 k && more)) e in
-    let q = and_parts (knows g b) (is_within 1 18 k && more) p.1 in
-    let r = and_parts (nat_le 1 k) (nat_le k 18) (half (is_within 1 18 k) more q.1) in
-    record { from = known_small g a small p.0; to = known_small g b small q.0; low = leb-true 1 k r.0; high = leb-true k 18 r.1 }
+    let p = and_parts (knows g a) (knows g b && (is_within 1 KIND_COUNT k && more)) e in
+    let q = and_parts (knows g b) (is_within 1 KIND_COUNT k && more) p.1 in
+    let r = and_parts (nat_le 1 k) (nat_le k KIND_COUNT) (half (is_within 1 KIND_COUNT k) more q.1) in
+    record { from = known_small g a small p.0; to = known_small g b small q.0; low = leb-true 1 k r.0; high = leb-true k KIND_COUNT r.1 }
 
 actors_part : (g : Group) (o : Option Actor) → IsSmall g → is_known g form.Actors (actors_word o) ≡ true → IsReadAs form.Actors (actors_word o)
 actors_part g None small e = everyone_read

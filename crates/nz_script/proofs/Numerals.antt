@@ -10,6 +10,7 @@ use Rattle.std.proofs.lemmas.List.Elements.{All-from_recursion}
 use Rattle.std.proofs.lemmas.Str.Parse.{IsNumeralModel, numerals_by_fold, parse_gives, digits_value_short}
 use Rattle.nz_script.specs.Bytes.{read_on, is_numeral}
 
+-- The reading digit by digit is std's model of a numeral.
 pub own : IsNumeralModel (λ ds. all_ascii_digits ds ≡ true) (read_on 0)
 own = numerals_by_fold _ (search rules) read_on (search rules)
 
@@ -34,6 +35,7 @@ pub numeral_is_utf8 : (word : List ℕ) → is_numeral word ≡ true → IsUtf8 
 numeral_is_utf8 word e =
     IsUtf8-from_ascii word (IsAscii-from_all word (All-from_recursion (λ b. b < 128) word (digits_are_ascii word (numeral_parts word e).digits)))
 
+-- std's parser gives the number that a numeral is.
 pub parsed : {E : Type 0} (word : List ℕ) (r : Result ℕ E) → is_numeral word ≡ true → ParsesUnsigned 64 10 word r → r ≡ Ok (read_on 0 word)
 parsed word r e h =
     let n = numeral_parts word e in

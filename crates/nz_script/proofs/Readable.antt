@@ -13,6 +13,7 @@ use Rattle.nz_base.specs.declared.actor.Actor.TheVariants as actor
 use Rattle.nz_base.specs.Actor as actor_words
 use Rattle.nz_store.specs.Grammar.{is_graphic}
 use Rattle.nz_store.specs.Reading.{is_text, is_key_text, is_value_text}
+use Rattle.nz_script.specs.declared.message.TheConstants.{KIND_COUNT}
 use Rattle.nz_script.specs.declared.line_forms.Form.{Form}
 use Rattle.nz_script.specs.declared.line_forms.Form.TheVariants as form
 use Rattle.nz_script.specs.declared.word.Word.{Word}
@@ -134,8 +135,8 @@ client_read a h = record { read = actor_read a h; word = actor_is_word a h }
 one_kind : (k : ℕ) → list_all is_graphic (name_of k) ≡ true → 0 < length (name_of k) → kind_named (name_of k) ≡ Some k → IsReadAs form.Kind (Kind (Some k))
 one_kind k g some named = record { read = ap (λ (o : Option ℕ). Some (Kind o)) named; word = record { some = some; graphic = g } }
 
--- kinds are 1 to 18
-pub kind_read : (k : ℕ) → 1 ≤ k → k ≤ 18 → IsReadAs form.Kind (Kind (Some k))
+-- kinds are 1 to the last
+pub kind_read : (k : ℕ) → 1 ≤ k → k ≤ KIND_COUNT → IsReadAs form.Kind (Kind (Some k))
 unfolding name_of kind_named
 kind_read zero low high = absurd (omega (arith, low))
 kind_read (suc zero) low high = one_kind 1 refl (omega arith) refl

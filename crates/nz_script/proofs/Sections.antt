@@ -76,6 +76,7 @@ between_most l m n e = leb-true n m (and_parts (nat_le l n) (nat_le n m) e).1
 limits : (a : Bool) → a ≡ true → (((a && true) && true) && true) ≡ true
 limits a e = and_from _ _ (and_from _ _ (and_from _ _ e refl) refl) refl
 
+-- A number that is not above the most is kept by the bound.
 pub kept : (n most : ℕ) → n ≤ most → cond (nat_le n most) n most ≡ n
 kept n most h = ap (λ (b : Bool). cond b n most) (le-leb n most h)
 

@@ -9,6 +9,7 @@ use Rattle.nz_base.specs.declared.scenario.Fault.TheVariants as fault
 use Rattle.nz_base.specs.declared.scenario.Scenario.{Scenario}
 use Rattle.nz_base.specs.Actor.{actor_eq, is_within}
 use Rattle.nz_base.specs.Cluster.{replica_count}
+use Rattle.nz_script.specs.declared.message.TheConstants.{KIND_COUNT}
 use Rattle.nz_base.specs.declared.limits.TheConstants.{MAX_REQUESTS, MAX_REQUEST_TICKS, MAX_FAULTS, MAX_CHANCES}
 use Rattle.nz_store.specs.declared.command.Command.{Command}
 use Rattle.nz_store.specs.declared.command.Command.TheVariants as command
@@ -92,7 +93,7 @@ suits _ a = true
 abbrev pub is_known : Group → Form → Word → Bool
 is_known g f (word.Named a) = suits f a && knows g a
 is_known g f (word.Kind None) = false
-is_known g f (word.Kind (Some kind)) = is_within 1 18 kind
+is_known g f (word.Kind (Some kind)) = is_within 1 KIND_COUNT kind
 is_known g f _ = true
 
 -- Whether the actors and kinds in the words, each of its form, are there.

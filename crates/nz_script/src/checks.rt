@@ -12,6 +12,7 @@ use super::faults::Kind;
 use super::group::{Group, knows};
 use super::line::Line;
 use super::line_forms::{Form, Head, Mishap, Verb};
+use super::message::KIND_COUNT;
 use super::word::{Word, actor_at, number_at};
 use nz_base::{Actor, MAX_CHANCES, MAX_FAULTS, MAX_REQUESTS, MAX_REQUEST_TICKS, Skew};
 use nz_store::{is_key, is_value};
@@ -70,7 +71,7 @@ fn is_known(group: &Group, form: Form, word: &Word) -> bool
     match word {
         Word::Named(actor) => suits(form, *actor) && knows(group, *actor),
         Word::Kind(None) => false,
-        Word::Kind(Some(kind)) => 1 <= *kind && *kind <= 18,
+        Word::Kind(Some(kind)) => 1 <= *kind && *kind <= KIND_COUNT,
         _ => true,
     }
 }

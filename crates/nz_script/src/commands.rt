@@ -13,7 +13,7 @@ ghost use Rattle.nz_script.specs.declared.line_forms.Ask.TheVariants as ask;
 use super::line_forms::{Ask, Verb, verb_of};
 use nz_store::{CommandRef, is_key, is_value};
 
-fn asked(verb: Verb) -> Option<Ask>
+fn ask_of(verb: Verb) -> Option<Ask>
     ensures { result ≡ ask_of_verb verb }
 {
     match verb {
@@ -120,7 +120,7 @@ fn lent_first<'a, 'b>(words: &'a [&'b [u8]]) -> Option<(CommandRef<'b>, &'a [&'b
         return None;
     };
     let verb = verb_of(first)?;
-    let ask = asked(verb)?;
+    let ask = ask_of(verb)?;
     command_of_ask(ask, more)
 }
 

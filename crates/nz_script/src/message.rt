@@ -27,7 +27,10 @@ pub enum Message {
     StateTell,
 }
 
-const MESSAGES: [Message; 18] = [
+/// The kinds of messages have the numbers 1 to this.
+pub const KIND_COUNT: u8 = 18;
+
+const MESSAGES: [Message; KIND_COUNT as usize] = [
     Message::Request,
     Message::Timed,
     Message::FastReply,

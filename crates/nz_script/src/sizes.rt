@@ -16,7 +16,7 @@ use super::word::Word;
 use nz_base::{Actor, Fault, Request, RequestList, Scenario, Skew};
 
 /// What is left of a room when this many bytes are taken.
-fn taken(room: u32, len: u32) -> Option<u32>
+fn room_left(room: u32, len: u32) -> Option<u32>
     ensures { result ≡ room_after room len }
 {
     if len <= room { Some(room - len) } else { None }
@@ -51,7 +51,7 @@ fn actor_room(room: u32, actor: Actor) -> Option<u32>
     ensures { result ≡ room_after room (length (actor_text actor)) }
 {
     match actor {
-        Actor::Replica(number) | Actor::Proxy(number) | Actor::Client(number) => taken(
+        Actor::Replica(number) | Actor::Proxy(number) | Actor::Client(number) => room_left(
             room,
             1 + decimal_len(u64::from(number)),
         ),
@@ -62,18 +62,18 @@ fn word_room(room: u32, word: &Word) -> Option<u32>
     ensures { result ≡ room_after room (length (word_text word.now)) }
 {
     match word {
-        Word::Number(number) => taken(room, decimal_len(*number)),
-        Word::Units { back: true, number } => taken(room, 1 + decimal_len(*number)),
+        Word::Number(number) => room_left(room, decimal_len(*number)),
+        Word::Units { back: true, number } => room_left(room, 1 + decimal_len(*number)),
         Word::Units {
             back: false,
             number,
-        } => taken(room, decimal_len(*number)),
+        } => room_left(room, decimal_len(*number)),
         Word::Named(actor) => actor_room(room, *actor),
-        Word::Everyone => taken(room, 1),
+        Word::Everyone => room_left(room, 1),
         Word::Kind(Some(kind)) => bytes_room(room, name_of(*kind)),
         Word::Kind(None) => Some(room),
         Word::Text(text) => bytes_room(room, text.as_slice()),
-        Word::Nothing => taken(room, 1),
+        Word::Nothing => room_left(room, 1),
     }
 }
 
@@ -83,7 +83,7 @@ fn words_room(room: u32, words: &[Word]) -> Option<u32>
     let [word, others @ ..] = words else {
         return Some(room);
     };
-    let room = taken(room, 1)?;
+    let room = room_left(room, 1)?;
     let room = word_room(room, word)?;
     words_room(room, others)
 }
@@ -93,7 +93,7 @@ fn line_room(room: u32, verb: Verb, words: &[Word]) -> Option<u32>
 {
     let room = bytes_room(room, verb.shape().word)?;
     let room = words_room(room, words)?;
-    taken(room, 1)
+    room_left(room, 1)
 }
 
 fn number_room(room: u32, verb: Verb, number: u32) -> Option<u32>
@@ -155,7 +155,7 @@ fn command_room(room: u32, bytes: &[u8]) -> Option<u32>
 {
     match spelled_len(bytes) {
         None => Some(room),
-        Some(len) => taken(taken(room, len)?, 1),
+        Some(len) => room_left(room_left(room, len)?, 1),
     }
 }
 

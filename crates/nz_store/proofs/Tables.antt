@@ -24,6 +24,7 @@ pub looked_up : (es : List (Vec ℕ × List ℕ)) (key : List ℕ) → lookup (i
 looked_up [] key = refl
 looked_up (e ∷ es) key = rw (is_eq-slice_cmp key e.0.items) (ap (λ (o : Option (List ℕ)). cond (bytes_eq key e.0.items) (Some e.1) o) (looked_up es key))
 
+-- An insertion into the sorted table gives the key its new value.
 pub inserted : (es : List (Vec ℕ × List ℕ)) (key : Vec ℕ) (value : List ℕ)
     → entries_of (insert_entry table_key_cmp es key value) ≡ with_value (entries_of es) key.items value
 inserted [] key value = refl
@@ -71,6 +72,7 @@ others_stay (e ∷ es) key h =
     let other : bytes_eq key e.0.items ≡ false = sym (is_eq-slice_cmp key e.0.items) ∙ ap is_eq h.0 in
     rw other (ap (λ (l : Entries). (e.0.items, e.1) ∷ l) (others_stay es key h.1))
 
+-- A removal from the sorted table takes the key out.
 pub removed : (es : List (Vec ℕ × List ℕ)) (key : List ℕ) → IsStrictlySortedBy table_key_cmp (keys_of es)
     → entries_of (remove_entry (is_at (compare key)) es) ≡ without_key (entries_of es) key
 unfolding IsStrictlySortedBy

@@ -188,7 +188,7 @@ impl CommandRef<'_> {
     }
 }
 
-fn found(alloc: Global, bytes: &[u8]) -> Result<Option<Command>, NoMemory>
+fn command_if_any(alloc: Global, bytes: &[u8]) -> Result<Option<Command>, NoMemory>
     ensures { IfOk result (λ found. found ≡ command_of bytes.now) }
 {
     match lent(bytes) {
@@ -203,5 +203,5 @@ pub fn read_command(alloc: Global, bytes: &[u8]) -> Result<Option<Command>, NoMe
     ensures some { IfOk result (λ found. (c : CommandModel) → (found ≡ Some c) ↔ Spells c bytes.now) }
     ensures none { IfOk result (λ found. IsNone found ↔ ((c : CommandModel) → ¬ Spells c bytes.now)) }
 {
-    found(alloc, bytes)
+    command_if_any(alloc, bytes)
 }

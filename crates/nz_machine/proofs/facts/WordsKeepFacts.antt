@@ -38,7 +38,8 @@ use Rattle.nz_machine.proofs.lists.Tables.{set_all}
 use Rattle.nz_machine.proofs.facts.Stores.{answer_fits, replies_pushed}
 use Rattle.nz_machine.proofs.facts.KeysKeepFacts.{apart_held, arranged_overtaken}
 use Rattle.nz_machine.proofs.facts.Adopting.{apart_adopted}
-use Rattle.nz_machine.proofs.lists.Distinct.{distinct_more, distinct_filter, distinct_replace, any_in, sender_of, changes_in, distinct_senders, own_senders}
+use Rattle.nz_math.proofs.Counting.{distinct-append}
+use Rattle.nz_machine.proofs.lists.Distinct.{distinct_filter, distinct_replace, any_in, sender_of, changes_in, distinct_senders, own_senders}
 
 -- ---- the counts of ticks
 
@@ -265,7 +266,7 @@ teller_keeps f me s sender vector h member counters =
           (λ _. all_append (λ n. n < replica_count f) r.tellers (sender ∷ []) k.tellers (member, tt));
       own_tellers =
           cond_both known r.tellers (r.tellers ++ sender ∷ []) AreDistinct (λ _. k.own_tellers)
-          (λ new. distinct_more r.tellers sender k.own_tellers (sym (any_in r.tellers sender) ∙ new));
+          (λ new. distinct-append r.tellers sender k.own_tellers (sym (any_in r.tellers sender) ∙ new));
       tells = k.tells;
       own_tells = k.own_tells;
     })

@@ -4,22 +4,12 @@ use Rattle.std.proofs.lemmas.Bool.{cases_Bool, or_cases, or_left, or_right, or_p
 use Rattle.std.specs.List.{filter, list_any}
 use Rattle.nz_base.proofs.Booleans.{true_and_false}
 use Rattle.nz_math.specs.Count.{is_in, AreDistinct}
+use Rattle.nz_math.proofs.Counting.{distinct-append}
 use Rattle.nz_merge.specs.Sender.{has_sender, HaveOwnSenders}
 use Rattle.nz_merge.specs.declared.change.Change.{Change}
 use Rattle.nz_machine.specs.declared.data.Reported.{Reported}
 
-pub in_append : (xs ys : List ℕ) (x : ℕ) → is_in (xs ++ ys) x ≡ (is_in xs x || is_in ys x)
-in_append [] ys x = refl
-in_append (y ∷ xs) ys x = let rest = in_append xs ys x in grind (arith, rest)
-
-pub distinct_more : (xs : List ℕ) (y : ℕ) → AreDistinct xs → is_in xs y ≡ false → AreDistinct (xs ++ y ∷ [])
-distinct_more [] y d out = (refl, tt)
-distinct_more (x ∷ xs) y d out =
-    let apart : eqb x y ≡ false = (or_parts (eqb x y) (is_in xs y) out).0 in
-    let turned : eqb y x ≡ false = grind (arith, apart) in
-    let none : is_in (xs ++ y ∷ []) x ≡ false = in_append xs (y ∷ []) x ∙ (let a = d.0 in grind (arith, a, turned)) in
-    (none, distinct_more xs y d.1 (or_parts (eqb x y) (is_in xs y) out).1)
-
+-- The test by an equation and the test of membership are the same.
 pub any_in : (xs : List ℕ) (y : ℕ) → list_any (λ t. eqb t y) xs ≡ is_in xs y
 any_in [] y = refl
 any_in (x ∷ xs) y = ap (λ b. eqb x y || b) (any_in xs y)
@@ -65,7 +55,7 @@ module _ {X : Type 0} (key : X → ℕ) where
   map_more (z ∷ xs) x = ap (λ ys. key z ∷ ys) (map_more xs x)
 
   pub distinct_add : (xs : List X) (x : X) → AreDistinct (map key xs) → is_in (map key xs) (key x) ≡ false → AreDistinct (map key (xs ++ x ∷ []))
-  distinct_add xs x d out = subst AreDistinct (sym (map_more xs x)) (distinct_more (map key xs) (key x) d out)
+  distinct_add xs x d out = subst AreDistinct (sym (map_more xs x)) (distinct-append (map key xs) (key x) d out)
 
   -- one more, in place of an earlier one of its sender
   pub distinct_replace : (xs : List X) (x : X) → AreDistinct (map key xs) → AreDistinct (map key (filter (λ t. not (eqb (key t) (key x))) xs ++ x ∷ []))

@@ -3,6 +3,7 @@ use Rattle.std.proofs.Common.{◌≡◌, ℕ, zero, suc, ◌<◌, ◌≤◌, ◌
 use Rattle.std.proofs.lemmas.Bool.{cases_Bool}
 use Rattle.std.specs.Prelude.{slice_index, slice_set}
 use Rattle.std.specs.List.{AllByRecursion}
+use Rattle.nz_cv.proofs.Merging.{length-greater_counters}
 use Rattle.nz_cv.specs.Vectors.{greater_counters, merged_vector}
 use Rattle.nz_window.specs.Samples.{with_number, numbers_in_order}
 use Rattle.nz_machine.specs.rules.Facts.{AreCounters}
@@ -30,14 +31,9 @@ greater_small [] v p q = tt
 greater_small (x ∷ u) [] p q = tt
 greater_small (x ∷ u) (y ∷ v) p q = (omega (arith, p.0, q.0), greater_small u v p.1 q.1)
 
-greater_long : (u v : List ℕ) → length u ≡ length v → length (greater_counters u v) ≡ length u
-greater_long [] v e = refl
-greater_long (x ∷ u) [] e = absurd (omega (arith, e))
-greater_long (x ∷ u) (y ∷ v) e = ap suc (greater_long u v (omega (arith, e)))
-
 pub merged_counters : (f : ℕ) (u v : List ℕ) (own : ℕ) → AreCounters f u → AreCounters f v → AreCounters f (merged_vector u v own)
 merged_counters f u v own p q = record {
-  size = set_long (greater_counters u v) own _ ∙ greater_long u v (p.size ∙ sym q.size) ∙ p.size;
+  size = set_long (greater_counters u v) own _ ∙ length-greater_counters u v (p.size ∙ sym q.size) ∙ p.size;
   small =
       set_all (λ n. n < 2 ^ 32) (greater_counters u v) own _ (greater_small u v p.small q.small)
       (all_index (λ n. n < 2 ^ 32) u own 0 p.small (omega arith));
