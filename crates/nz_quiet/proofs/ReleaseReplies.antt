@@ -11,6 +11,7 @@ use Rattle.nz_base.specs.declared.limits.TheConstants.{MAX_ENTRIES}
 use Rattle.nz_log.specs.Synced.{Log}
 use Rattle.nz_buffers.specs.Buffers.{is_due, released}
 use Rattle.nz_buffers.proofs.Releasing.{none_due}
+use Rattle.nz_machine.proofs.runs.Due.{entries_appended}
 use Rattle.nz_machine.specs.declared.data.Origin.{Origin}
 use Rattle.nz_machine.specs.rules.State.{ReplicaData, Out}
 use Rattle.nz_machine.specs.rules.Replicas.{leads, fast_replies}
@@ -18,10 +19,6 @@ use Rattle.nz_machine.specs.rules.Releases.{log_with_entry, after_release, log_h
 use Rattle.nz_machine.specs.runs.World.{Has}
 use Rattle.nz_machine.proofs.runs.Runs.{has_left, has_right, has_split}
 use Rattle.nz_quiet.specs.Replicas.{IsRepliedTo, IsReplyOf}
-
-entries_appended : (b : Bool) (log : Log) (e : Entry) → (log_with_entry b log e).entries ≡ log.entries ++ e ∷ []
-entries_appended true log e = refl
-entries_appended false log e = refl
 
 -- ---- no other
 

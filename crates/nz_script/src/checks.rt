@@ -14,7 +14,7 @@ use super::line::Line;
 use super::line_forms::{Form, Head, Mishap, Verb};
 use super::message::KIND_COUNT;
 use super::word::{Word, actor_at, number_at};
-use nz_base::{Actor, MAX_CHANCES, MAX_FAULTS, MAX_REQUESTS, MAX_REQUEST_TICKS, Skew};
+use nz_base::{Actor, MAX_CHANCES, MAX_FAULTS, MAX_REQUEST_TICKS, MAX_REQUESTS, Skew};
 use nz_store::{is_key, is_value};
 
 /// Whether a text of this version has lines of this sort. In version 1 the word `window` is unknown.

@@ -6,9 +6,10 @@ ghost use Rattle.nz_base.specs.Log.{keys_of};
 ghost use Rattle.nz_base.specs.declared.actor.Actor.TheVariants as actors;
 ghost use Rattle.nz_msg.specs.Fields as fields;
 ghost use Rattle.nz_msg.specs.Messages.{Fits};
-ghost use Rattle.nz_machine.specs.rules.LogMods.{log_mod_to, log_mods_to_others};
+ghost use Rattle.nz_msg.specs.declared.message.Message.TheVariants as messages;
+ghost use Rattle.nz_machine.specs.rules.LogMods.{log_mod_from, log_mod_to, log_mods_to_others};
 ghost use Rattle.nz_machine.specs.rules.Step.{parcel};
-ghost use Rattle.nz_sync.specs.Broadcasts.{IsWritten, log_mod_from};
+ghost use Rattle.nz_sync.specs.Broadcasts.{IsWritten};
 
 use bytes::Bytes;
 use nz_base::{Actor, KeyList, MAX_KEYS, NoMemory};
@@ -34,7 +35,7 @@ fn keys_from(state: &ReplicaState, start: u32) -> Result<KeyList, NoMemory>
 
 /// The keys of the log, for those whose logs agree with it up to a place.
 fn log_mod(state: &ReplicaState, start: u32) -> Result<Message, NoMemory>
-    ensures value { IfOk result (λ message. message ≡ log_mod_from state.now.state start) }
+    ensures value { IfOk result (λ message. message ≡ messages.LogMod (log_mod_from state.now.state start)) }
     ensures fits { IfOk result Fits }
 {
     Ok(Message::LogMod(LogModBody {

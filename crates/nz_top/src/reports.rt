@@ -20,7 +20,7 @@ ghost use Rattle.nz_top.specs.Reports.{printed_by, Admits};
 ghost use Rattle.nz_top.specs.Watching.{HasObserved};
 
 use nz_audit::{first_history, history_of};
-use nz_base::{Actor, Blob, Fault, Id, VIEW_TIMEOUT_TICKS, NoMemory, Scenario};
+use nz_base::{Actor, Blob, Fault, Id, NoMemory, Scenario, VIEW_TIMEOUT_TICKS};
 use nz_locks::{first_foul, tenure_lines};
 use nz_machine::{Journal, ToldAt, ToldList, told_in};
 use nz_observe::{Observer, observe};

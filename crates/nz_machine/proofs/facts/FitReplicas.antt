@@ -44,12 +44,12 @@ use Rattle.nz_machine.specs.declared.data.Origin.{Origin}
 use Rattle.nz_machine.specs.rules.State.{ReplicaData}
 use Rattle.nz_machine.specs.rules.Facts.{FitsEntry, IsKnown, HasFacts}
 use Rattle.nz_machine.specs.rules.Replicas.{numbers_below, leads}
-use Rattle.nz_machine.specs.rules.LogMods.{sync_keys, missing_ids, is_asked, is_held}
+use Rattle.nz_machine.specs.rules.LogMods.{log_mod_from, sync_keys, missing_ids, is_asked, is_held}
 use Rattle.nz_machine.specs.rules.Views.{view_change_message}
 use Rattle.nz_machine.specs.rules.Adopting.{start_view_message}
 use Rattle.nz_machine.specs.rules.Rejoining.{vector_ask_message, rejoin_ask_message, state_ask_message, rejoin_tell_message, state_tell_message}
 use Rattle.nz_machine.specs.runs.Hearing.{Heard}
-use Rattle.nz_machine.specs.runs.Shows.{IsOther, IsRest, log_mod_from, ShowsFast, ShowsSlow, ShowsLogMod, ShowsFetch, ShowsFetchReply}
+use Rattle.nz_machine.specs.runs.Shows.{IsOther, IsRest, ShowsFast, ShowsSlow, ShowsLogMod, ShowsFetch, ShowsFetchReply}
 use Rattle.nz_machine.specs.runs.Shows.{ShowsReport, ShowsViewAsk, ShowsViewChange, ShowsStartView, ShowsVectorAsk, ShowsVectorTell}
 use Rattle.nz_machine.specs.runs.Shows.{ShowsRejoinAsk, ShowsRejoinTell, ShowsStateAsk, ShowsStateTell, ReplicaShows}
 use Rattle.nz_machine.proofs.runs.Runs.{FitsOut}

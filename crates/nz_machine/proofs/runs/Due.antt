@@ -15,7 +15,8 @@ use Rattle.nz_machine.specs.rules.Facts.{HasFacts}
 use Rattle.nz_machine.specs.rules.Replicas.{is_normal, leads}
 use Rattle.nz_machine.specs.rules.Releases.{log_with_entry, after_release, may_release, releases, at_clock, release_rule}
 
-entries_appended : (b : Bool) (log : Log) (e : Entry) → (log_with_entry b log e).entries ≡ log.entries ++ e ∷ []
+-- An entry that is logged is the last one, whoever leads.
+pub entries_appended : (b : Bool) (log : Log) (e : Entry) → (log_with_entry b log e).entries ≡ log.entries ++ e ∷ []
 entries_appended true log e = refl
 entries_appended false log e = refl
 

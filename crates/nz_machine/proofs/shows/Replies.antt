@@ -17,6 +17,7 @@ use Rattle.nz_store.specs.declared.command.Answer.{Answer}
 use Rattle.nz_log.specs.Places.{place_of}
 use Rattle.nz_log.specs.Synced.{Log}
 use Rattle.nz_msg.specs.declared.message.TimedBody.{TimedBody}
+use Rattle.nz_machine.proofs.runs.Due.{entries_appended}
 use Rattle.nz_machine.specs.declared.data.Origin.{Origin}
 use Rattle.nz_machine.specs.declared.data.Status.{Status}
 use Rattle.nz_machine.specs.declared.data.Status.TheVariants.{Normal, ViewChange, Rejoining, Down}
@@ -146,10 +147,6 @@ request_shows f me heard s proxy b a =
 
 -- ---- releases
 
-appended_is : (b : Bool) (log : Log) (e : Entry) → (log_with_entry b log e).entries ≡ log.entries ++ e ∷ []
-appended_is true log e = refl
-appended_is false log e = refl
-
 executed_more : (b : Bool) (results : List Answer) (es : List Entry) (e : Entry) → IsPrefix results (results_with_entry b results es e)
 executed_more true results es e = prefix_more results _
 executed_more false results es e = prefix_self results
@@ -162,7 +159,7 @@ released_later : (f me : ℕ) (before s t : ReplicaData) (e : Entry) (es : List 
 released_later f me before s t e es l =
     let next = after_release f me s e es in
     record {
-      log = prefix_then s.log.entries next.log.entries t.log.entries (record { rest = e ∷ []; whole = appended_is (leads f me s) s.log e }) l.log;
+      log = prefix_then s.log.entries next.log.entries t.log.entries (record { rest = e ∷ []; whole = entries_appended (leads f me s) s.log e }) l.log;
       results = prefix_then s.results next.results t.results (executed_more (leads f me s) s.results s.log.entries e) l.results;
       vector = l.vector;
       origin = l.origin;
@@ -184,13 +181,13 @@ releases_later f me before s t (e ∷ es) l =
 released_own : (f me : ℕ) (s : ReplicaData) (e : Entry) (es : List Entry) → HaveOwnIds (keys_of (s.log.entries ++ e ∷ es))
     → HaveOwnIds (keys_of ((after_release f me s e es).log.entries ++ es))
 released_own f me s e es own =
-    let grown = ap (λ (l : List Entry). l ++ es) (sym (appended_is (leads f me s) s.log e)) in
+    let grown = ap (λ (l : List Entry). l ++ es) (sym (entries_appended (leads f me s) s.log e)) in
     subst (λ (l : List Entry). HaveOwnIds (keys_of l)) (sym (append_assoc s.log.entries (e ∷ []) es) ∙ grown) own
 
 released_stands : (f me : ℕ) (s : ReplicaData) (e : Entry) (es : List Entry) → HaveOwnIds (keys_of ((after_release f me s e es).log.entries ++ es))
     → place_of (after_release f me s e es).log.entries (id_of e.key) ≡ Some (length (after_release f me s e es).log.entries - 1)
 released_stands f me s e es own =
-    let is = appended_is (leads f me s) s.log e in
+    let is = entries_appended (leads f me s) s.log e in
     let entries = (after_release f me s e es).log.entries in
     let own_log = own_in_prefix (keys_of entries) (keys_of es) (subst HaveOwnIds (keys_append entries es) own) in
     let last = place_at_end s.log.entries e (subst (λ (l : List Entry). HaveOwnIds (keys_of l)) is own_log) in
@@ -212,7 +209,7 @@ releases_show f me heard before s t (e ∷ es) normal l own answered =
     let at = released_stands f me s e es apart in
     let one : leads f me before ≡ true → length next.results ≡ length next.log.entries = λ lead.
     let more = executed_one (leads f me s) s.results s.log.entries e (ap (λ v. eqb (leader_of f v) me) now.view ∙ lead) in
-    let long = ap length (appended_is (leads f me s) s.log e) ∙ length-append s.log.entries (e ∷ []) in
+    let long = ap length (entries_appended (leads f me s) s.log e) ∙ length-append s.log.entries (e ∷ []) in
     let n = answered lead in
     omega (arith, more, long, n) in
     all_append (λ (o : Out). ReplicaShows f me heard before t o.0 o.1) (release_replies f me next e) (releases f me next es).1

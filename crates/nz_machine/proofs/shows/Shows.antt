@@ -7,9 +7,9 @@ use Rattle.nz_base.specs.Cluster.{replica_count, leader_of}
 use Rattle.nz_base.specs.declared.actor.Actor.TheVariants.{Replica}
 use Rattle.nz_machine.specs.rules.State.{ReplicaData, Out}
 use Rattle.nz_machine.specs.rules.Replicas.{is_normal, leads, numbers_below, others}
-use Rattle.nz_machine.specs.rules.LogMods.{log_mod_to, log_mods_to_others}
+use Rattle.nz_machine.specs.rules.LogMods.{log_mod_from, log_mod_to, log_mods_to_others}
 use Rattle.nz_machine.specs.runs.Hearing.{Heard}
-use Rattle.nz_machine.specs.runs.Shows.{IsOther, log_mod_from, ReplicaShows}
+use Rattle.nz_machine.specs.runs.Shows.{IsOther, ReplicaShows}
 use Rattle.nz_machine.proofs.lists.EachItem.{all_append}
 use Rattle.nz_machine.proofs.lists.ListParts.{all_map}
 

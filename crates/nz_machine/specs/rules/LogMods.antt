@@ -29,12 +29,13 @@ use Rattle.nz_machine.specs.rules.Views.{enter_view}
 
 -- ---- what the leader sends
 
--- The keys of the leader's log, from where the replica's log agrees with it.
+-- The keys of the leader's log from a place on.
+abbrev pub log_mod_from : ReplicaData → ℕ → LogModBody
+log_mod_from s start = record { view = s.view; vector = s.vector; commit = s.commit; start = start; keys = take MAX_KEYS (drop start (keys_of s.log.entries)) }
+
+-- Those from where the replica's log agrees with the leader's.
 abbrev pub log_mod_to : ReplicaData → ℕ → Out
-log_mod_to s r =
-    let start = slice_index s.ack r in
-    let keys = take MAX_KEYS (drop start (keys_of s.log.entries)) in
-    (Replica r, LogMod (record { view = s.view; vector = s.vector; commit = s.commit; start = start; keys = keys }))
+log_mod_to s r = (Replica r, LogMod (log_mod_from s (slice_index s.ack r)))
 
 -- At a tick the leader in normal operation sends one to each of the others.
 abbrev pub log_mods_to_others : ℕ → ℕ → ReplicaData → List Out

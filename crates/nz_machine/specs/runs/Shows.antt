@@ -36,6 +36,7 @@ use Rattle.nz_msg.specs.declared.message.Message.TheVariants as messages
 use Rattle.nz_machine.specs.declared.data.Origin.{Origin}
 use Rattle.nz_machine.specs.declared.data.Phase.TheVariants as phases
 use Rattle.nz_machine.specs.declared.reply.Reply.{Reply}
+use Rattle.nz_machine.specs.rules.LogMods.{log_mod_from}
 use Rattle.nz_machine.specs.rules.State.{ReplicaData, ProxyData, ClientData, State, Open, Decided, Group}
 use Rattle.nz_machine.specs.rules.Replicas.{is_normal, is_changing, is_up, is_rejoining, leads}
 use Rattle.nz_machine.specs.rules.LogMods.{is_held, is_asked}
@@ -90,10 +91,6 @@ pub record ShowsSlow (f me : ℕ) (s : ReplicaData) (to : Actor) (b : SlowReplyB
   pub known : lookup (id_eq b.id) s.origin ≡ Some origin
   pub receiver : to ≡ Proxy origin.proxy
   pub read : b ≡ record { view = s.view; id = b.id; delay = origin.delay }
-
--- What a leader sends of its log, from a place on.
-abbrev pub log_mod_from : ReplicaData → ℕ → LogModBody
-log_mod_from s start = record { view = s.view; vector = s.vector; commit = s.commit; start = start; keys = take MAX_KEYS (drop start (keys_of s.log.entries)) }
 
 -- A log modification has the keys of the leader's log, from where the receiver's agrees with it.
 pub record ShowsLogMod (f me : ℕ) (s : ReplicaData) (to : Actor) (b : LogModBody) : Type 0 where
