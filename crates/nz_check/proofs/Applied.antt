@@ -71,6 +71,7 @@ module _ (p : Printed) (place : ℕ) (x : Executed) (there : slice_get p.history
 
   -- ---- the reasons
 
+  -- An id that was executed before is the fault *repeat*.
   pub repeats : (store : Entries) → not (has_executed x.id (take place p.history)) ≡ false → IsApplied p place x (Some Repeat) store
   repeats store twice = record {
     found = sym (why_is (has_executed x.id (take place p.history)) Repeat _ (holds (has_executed x.id (take place p.history)) twice));
@@ -111,6 +112,7 @@ module _ (p : Printed) (place : ℕ) (x : Executed) (there : slice_get p.history
     applied = λ e. absurd (none-some Order (sym e));
   }
 
+  -- An answer that the one store does not give is the fault *answer*.
   pub differs : (store : Entries) → not (has_executed x.id (take place p.history)) ≡ true
       → option_eq bytes_eq (command_sent x.id p.events) (Some x.command) ≡ true
       → ((length (take place p.history) == 0) && lacks_open p) ≡ false
@@ -128,6 +130,7 @@ module _ (p : Printed) (place : ℕ) (x : Executed) (there : slice_get p.history
     applied = λ e. absurd (none-some why.Answer (sym e));
   }
 
+  -- An execution with no fault is applied to the store.
   pub fits : (store : Entries) → not (has_executed x.id (take place p.history)) ≡ true
       → option_eq bytes_eq (command_sent x.id p.events) (Some x.command) ≡ true
       → ((length (take place p.history) == 0) && lacks_open p) ≡ false

@@ -38,10 +38,12 @@ same_some eq same (Some y) x h = ap Some (same y x h)
 pub some_same : {X : Type 0} (eq : X → X → Bool) → ((a : X) → eq a a ≡ true) → (o : Option X) (x : X) → o ≡ Some x → option_eq eq o (Some x) ≡ true
 some_same {X = X} eq itself o x e = ap (λ (o : Option X). option_eq eq o (Some x)) e ∙ itself x
 
+-- What is not false is true.
 pub holds : (b : Bool) → not b ≡ false → b ≡ true
 holds true h = refl
 holds false h = sym h
 
+-- What is true is not refused.
 pub lets : (b : Bool) → b ≡ true → not b ≡ false
 lets b h = ap not h
 
@@ -60,5 +62,6 @@ why_skips b w o r h e = ap (λ (b : Bool). cond b (Some w) o) h ∙ e
 pub why_is : (b : Bool) (w : Why) (o : Option Why) → b ≡ true → cond b (Some w) o ≡ Some w
 why_is b w o h = ap (λ (b : Bool). cond b (Some w) o) h
 
+-- What is false passes the test that it is not so.
 pub fails : (b : Bool) → b ≡ false → not b ≡ true
 fails b h = ap not h

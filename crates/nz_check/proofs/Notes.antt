@@ -104,6 +104,7 @@ pub record IsPlaced (id : Id) (H : List Executed) (n m : ℕ) : Type 0 where
   pub within : offset < length H
   pub answer : option_map (λ (x : Executed). x.answer) (slice_get H offset) ≡ answer_at id H
 
+-- Where a search for an id ends, its first execution is there.
 pub placed : (id : Id) (H : List Executed) (n m : ℕ) → first_place n id H ≡ Some m → IsPlaced id H n m
 placed id [] n m e = absurd (none-some m e)
 placed id (x ∷ H) n m e = elim (cases_Bool (id_eq id x.id)) [
@@ -148,6 +149,7 @@ nothing n (Some m) h = let low = h m refl in grind (arith, low)
 low_place : (n m : ℕ) (id : Id) (H : List Executed) → first_place n id H ≡ Some m → n ≤ m
 low_place n m id H e = let t = placed id H n m e in let is = t.is in omega (arith, is)
 
+-- An id is among the first k executions if and only if its first place is below k.
 pub among : (n k : ℕ) (id : Id) (H : List Executed) → has_executed id (take k H) ≡ below (n + k) (first_place n id H)
 among n zero id [] = refl
 among n zero id (x ∷ H) = nothing n (first_place n id (x ∷ H)) (λ m e. low_place n m id (x ∷ H) e)
@@ -173,6 +175,7 @@ one_reach k n (Some m) lt = grind arith
 among_first : (k : ℕ) (id : Id) (H : List Executed) → has_executed id (take k H) ≡ below k (first_place 0 id H)
 among_first k id H = among 0 k id H ∙ ap (λ (m : ℕ). below m (first_place 0 id H)) (grind arith)
 
+-- A place is below the reach of some ids if and only if not all of them are executed before it.
 pub reaches : (H : List Executed) (k : ℕ) (ids : List Id) → k < length H
     → nat_lt k (reach_of H ids) ≡ not (list_all (λ id. has_executed id (take k H)) ids)
 reaches H k [] lt = grind arith

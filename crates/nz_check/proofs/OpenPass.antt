@@ -53,6 +53,7 @@ open_wrong p ids U i n place d r answer lt is same test bad inv =
 
 -- ---- the requests without acceptance
 
+-- A request whose answer was accepted is not among those that are open.
 pub closed : (H : List Executed) (E : List Event) (noted : Noted) (e : Event) (id : Id) (command : List ℕ) (s : Sent) → AreNoted H E noted
     → e ≡ Send id command → Some s ≡ get id_eq noted.sent id → s.accepted ≡ true → open_in E e ≡ []
 closed H E noted e id command s h is held accepted =

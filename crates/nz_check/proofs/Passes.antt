@@ -47,6 +47,7 @@ get_or_any [] i d e lt = absurd (omega (arith, lt))
 get_or_any (x ∷ xs) zero d e lt = refl
 get_or_any (x ∷ xs) (suc i) d e lt = get_or_any xs i d e (omega (arith, lt))
 
+-- As many items are taken as there are to take.
 pub taken : {X : Type 0} (xs : List X) (i : ℕ) → i < length xs → length (take i xs) ≡ i
 taken [] i lt = absurd (omega (arith, lt))
 taken (x ∷ xs) zero lt = refl

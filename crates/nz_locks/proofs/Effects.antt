@@ -208,6 +208,7 @@ found_effect : (client : ℕ) (s : Entries) (name : List ℕ) (o : Option Comman
 found_effect client s name None clean = kept refl refl refl
 found_effect client s name (Some c) clean = command_effect client s name c clean
 
+-- What a clean command does to the value of a lock is what its use says.
 pub effect : (client : ℕ) (s : Entries) (name bytes : List ℕ) → is_foul client bytes ≡ false
     → Effect client name (cond (is_done (apply_bytes s bytes).1) (use_of client bytes) Other) (value_of s (lock_key name))
     (value_of (apply_bytes s bytes).0 (lock_key name))

@@ -184,6 +184,7 @@ from_first p (x ∷ X) h = elim (or_parts (p x) (list_any p X) h) [
       record { place = suc k.place; after = omega arith; x = k.x; there = k.there; passes = k.passes }
 ]
 
+-- Where an item after a place passes, there is a first one that does.
 pub passing : (p : Executed → Bool) (X : List Executed) (n : ℕ) → list_any p (drop n X) ≡ true → IsPassing p X n
 passing p X zero h = from_first p X h
 passing p [] (suc n) h = absurd cc

@@ -89,6 +89,7 @@ is_done f me end model sends over r =
     let sends-is : sends ≡ end.1 = sym (ap (λ (t : ReplicaData × List Out). sends ++ map (parcel (Replica me)) t.1) one ∙ append-nil sends) ∙ r.all in
     (λ i. record { f = r.size i; me = r.number i; state = state-is i }, sends-is)
 
+-- Before the loop nothing is released yet, and all that is due is left.
 pub begins : (model : ReplicaModel) (sends : List Parcel) → is_normal model.state.status ≡ true
     → Releases model.f model.me (
       (releases model.f model.me model.state model.state.early).0,

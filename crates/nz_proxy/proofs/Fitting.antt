@@ -60,6 +60,7 @@ told_fits f (Open tally) reply fit all =
     let t = tally_with_reply tally reply in
     told_of_fits t.f t.replies (decision t.f t.replies) (fit_note tally.replies reply all.1 fit) refl
 
+-- A reply of the cluster may be noted in each fit standing.
 pub notable : (f : ℕ) (s : Standing) (reply : Reply) → IsFitStanding f s → IsOfCluster f reply → IsNotable s reply
 notable f (Decided a path) reply fit of_cluster = tt
 notable f (Open tally) reply fit of_cluster = subst (λ (n : ℕ). IsOfCluster n reply) (sym fit.0) of_cluster

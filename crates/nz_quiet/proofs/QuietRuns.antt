@@ -73,6 +73,7 @@ module _ (s : Scenario) (quiet : IsQuiet s) (play : IsPlayable s) (t : ℕ) (few
       subst (World group) tick.whole
       (world_now s (suc t) K play (scheduled_in_order s (suc t) K (now, (older, (tick, order)))) (subst (AreSteps group) (sym tick.whole) steps))
 
+  -- Each parcel in flight can be read by whom it is for.
   pub readable : (a : Actor) → AreReadable group.f a flight
   readable =
       all_read group t L E flight older is world_before few (λ a o among. flight_members s t older order world_before a o among)

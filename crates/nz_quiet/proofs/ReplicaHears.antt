@@ -397,6 +397,7 @@ heard_more g t r L E now s from m hs w bs all first one rest =
     with_join es [] ys = refl
     with_join es (x ∷ xs) ys = with_join (with_body es x) xs ys
 
+-- A replica that hears all messages of a quiet tick is as the tick says.
 pub hears : (g : Group) (t r : ℕ) (L E now : List Entry) (s : ReplicaData) (hs : List (Actor × Message)) → IsGroup g → r < replica_count g.f
     → MayHear g t r L E now s → AreHeard g t r L E hs
     → HasHeard g t r L E now s hs (state_heard g (Replica r) s hs) (outs_heard g (Replica r) s hs)

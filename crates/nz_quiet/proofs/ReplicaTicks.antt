@@ -389,6 +389,7 @@ module _ (g : Group) (t r : ℕ) (L E : List Entry) (s : ReplicaData) where
         log_mods = λ first q least below. let x = each_log_mod h first q least below in (x.0, has_right after_due.1 timer _ x.1);
       }
 
+  -- A replica whose clock is read in a quiet run is as the tick says.
   pub ticks : MayTick g t r L E s → IsTicked g t r L E s (tick_step g (Replica r) s clock).0 (tick_step g (Replica r) s clock).1
   ticks h =
       subst (λ (u : ReplicaData × List Out). IsTicked g t r L E s u.0 u.1)

@@ -83,9 +83,11 @@ not_below keys key k r there =
 
 -- ---- the keys from a place on
 
+-- The key at a place is among the keys from there on.
 pub here : (keys : List Key) (i : ℕ) (key : Key) → i < length keys → key ≡ get_or keys i key → has_key (drop i keys) key ≡ true
 here keys i key lt at = subst (λ (ks : List Key). has_key ks key ≡ true) (sym (left keys i key lt at)) (has_first key (drop (i + 1) keys))
 
+-- A key of a later place is among the keys from here on.
 pub later : (keys : List Key) (i : ℕ) (key k : Key) → i < length keys → key ≡ get_or keys i key → has_key (drop (i + 1) keys) k ≡ true
     → has_key (drop i keys) k ≡ true
 later keys i key k lt at there =

@@ -10,6 +10,7 @@ use Rattle.nz_locks.proofs.CleanRuns.{history_clean}
 use Rattle.nz_locks.proofs.Excluding.{one_holder, in_turn}
 use Rattle.nz_top.specs.Calls.{Excludes}
 
+-- In a run of a clean scenario no two clients hold a lock at once.
 pub excludes : (j : Journal) → World (group_in j) (run_in j) → IsCleanScenario j.scenario → Excludes j
 excludes j w clean =
     let g = group_in j in

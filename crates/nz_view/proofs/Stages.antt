@@ -36,6 +36,7 @@ leads_later old new before after view done low own =
 
 -- ---- a view that starts
 
+-- A vector merged and a log adopted, one after the other, are the start-view rule.
 pub starts : (old mid new : ReplicaModel) (sender : ℕ) (b : StartViewBody) → may_start old.state b.view ≡ true
     → sender ≡ leader_of old.f b.view → is_stray b.vector sender old.state.vector ≡ false
     → mid ≡ record old { state = with_vector old.me old.state b.vector }
