@@ -4,7 +4,7 @@ pub mod Fields
 pub mod Messages
 pub mod Envelopes
 pub mod Follows
-pub mod Turns
+pub mod RisingIds
 pub mod Loops
 pub mod Writes
 pub mod Valid

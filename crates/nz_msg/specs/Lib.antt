@@ -4,6 +4,6 @@ pub mod Fields
 pub mod Messages
 pub mod Envelope
 pub mod Reading
-pub mod Turns
+pub mod RisingIds
 pub mod Rest
 pub mod Writing

@@ -10,9 +10,9 @@ ghost use Rattle.nz_msg.specs.Fields.{u32, id, vector, next_key_by, next_key, ne
 ghost use Rattle.nz_msg.specs.Reading.{Gives, Fails, AreNoted};
 
 use super::fault::Fault;
-use super::in_turn::{Turns, is_above};
 use super::reading::{command_at, id_at, key_at, u8_at, u8_within, u32_at, u32_within};
 use super::rest::Rest;
+use super::rising_ids::{RisingIds, is_above};
 use indexmap::IndexSet;
 use nz_base::{Entry, EntryList, Id, IdList, Key, KeyList, MAX_KEYS, MAX_REPLICAS};
 use nz_cv::CrashVector;
@@ -198,14 +198,14 @@ fn keys_in_turn(
     ensures fault { IfErr result (λ fault. Fails fault (items_at next_key [] count bytes.entry)) }
 {
     let mut keys = KeyList::with_capacity(alloc, room_for(count, KEY_SIZE, bytes.len()))?;
-    let mut turns = Turns::new();
+    let mut ids = RisingIds::new();
     let mut rest = bytes;
     for _ in 0..count {
         let (key, after) = key_at(rest)?;
-        if !turns.comes_in_turn(&key) {
+        if !ids.comes_in_turn(&key) {
             return Ok(None);
         }
-        turns.note(key);
+        ids.note(key);
         keys.push(key)?;
         rest = after;
     }
@@ -257,14 +257,14 @@ fn entries_in_turn(
 {
     let room = room_for(count, ENTRY_SIZE, bytes.len());
     let mut entries = EntryList::with_capacity(alloc, room)?;
-    let mut turns = Turns::new();
+    let mut ids = RisingIds::new();
     let mut rest = bytes;
     for _ in 0..count {
         let (key, after) = key_at(rest)?;
-        if !turns.comes_in_turn(&key) {
+        if !ids.comes_in_turn(&key) {
             return Ok(None);
         }
-        turns.note(key);
+        ids.note(key);
         let (command, after) = command_at(after)?;
         entries.push(Entry { key, command })?;
         rest = after;

@@ -8,7 +8,7 @@ use Rattle.nz_edge.specs.Faults.{Rose}
 use Rattle.nz_top.specs.declared.status.Status.{Status}
 use Rattle.nz_top.specs.declared.status.Status.TheVariants.{Done, ReadFault, WriteFault, NoMemory, Rejected}
 use Rattle.nz_top.specs.Checking.{IsVerdictOn, EndsWith}
-use Rattle.nz_top.specs.Moves.{text_input}
+use Rattle.nz_top.specs.Bytes.{text_input}
 
 -- what was read is what is looked at of the input, and so the verdict is on that
 pub judged_is_input : (before : Option (List ℕ)) (bytes : List ℕ) (verdict : Verdict) → IfSome before (λ all. bytes ≡ text_input all)

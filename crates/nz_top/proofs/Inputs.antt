@@ -15,7 +15,7 @@ use Rattle.nz_script.specs.declared.faults.Kind.{Kind}
 use Rattle.nz_script.specs.declared.faults.ScriptFault.{ScriptFault}
 use Rattle.nz_script.specs.declared.faults.ScriptFault.TheVariants.{Refusal, NoMemory}
 use Rattle.nz_script.specs.Reading.{scenario}
-use Rattle.nz_top.specs.Moves.{input}
+use Rattle.nz_top.specs.Bytes.{input}
 use Rattle.nz_top.specs.declared.reports.Report.{Report}
 use Rattle.nz_top.specs.declared.reports.Report.TheVariants.{Summary, Locks}
 use Rattle.nz_top.specs.declared.words.Command.{Command}

@@ -31,7 +31,7 @@ use Rattle.nz_top.specs.declared.words.Command.{Command}
 use Rattle.nz_top.specs.declared.words.Command.TheVariants as commands
 use Rattle.nz_top.specs.declared.words.Play.{Play}
 use Rattle.nz_top.specs.Help.{help_lines}
-use Rattle.nz_top.specs.Moves.{input, TakesPrefix}
+use Rattle.nz_top.specs.Bytes.{input, TakesPrefix}
 use Rattle.nz_top.specs.declared.reports.Report.{Report}
 use Rattle.nz_top.specs.declared.reports.Report.TheVariants.{Locks}
 use Rattle.nz_top.specs.Reports.{printed_by, Admits}

@@ -10,7 +10,7 @@ use Rattle.nz_edge.specs.Exposed.{Gains}
 use Rattle.nz_top.specs.declared.status.Status.{Status}
 use Rattle.nz_top.specs.declared.status.Status.TheVariants.{Done, WriteFault, Rejected}
 use Rattle.nz_top.specs.Calls.{WritesLine}
-use Rattle.nz_top.specs.Moves.{text_input}
+use Rattle.nz_top.specs.Bytes.{text_input}
 
 -- The name of a reason.
 abbrev pub why_name : Why → List ℕ

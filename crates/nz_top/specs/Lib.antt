@@ -1,5 +1,5 @@
 -- The modules of this crate's definitions.
-pub mod Moves
+pub mod Bytes
 pub mod Help
 pub mod Words
 pub mod Reports

@@ -2,7 +2,7 @@
 ghost use Rattle.std.specs.Prelude.{◌≡◌, ◌<◌, ◌≤◌, ◌+◌, [], length, vec_len, IfOk, IfSome, Err};
 ghost use Rattle.nz_edge.specs.Faults.{Rose};
 ghost use Rattle.nz_edge.specs.Exposed.{Loses};
-ghost use Rattle.nz_top.specs.Moves.{Moved};
+ghost use Rattle.nz_top.specs.Bytes.{Moved};
 ghost use Rattle.nz_top.specs.declared.input.Stop.TheVariants as stops;
 
 use nz_edge::Source;

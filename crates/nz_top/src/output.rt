@@ -2,7 +2,7 @@
 ghost use Rattle.std.specs.Prelude.{◌≤◌, OnOk, OnErr};
 ghost use Rattle.nz_edge.specs.Faults.{Rose};
 ghost use Rattle.nz_edge.specs.Exposed.{Gains};
-ghost use Rattle.nz_top.specs.Moves.{TakesPrefix};
+ghost use Rattle.nz_top.specs.Bytes.{TakesPrefix};
 
 use nz_edge::{Failed, Sink};
 

@@ -8,7 +8,7 @@ ghost use Rattle.nz_top.specs.declared.status.Status.TheVariants as status;
 ghost use Rattle.nz_top.specs.declared.words.Play.{Play as PlayModel};
 ghost use Rattle.nz_top.specs.declared.playing.NoScenario.TheVariants as whys;
 ghost use Rattle.nz_top.specs.Calls.{CanPlay, Explains, Gives, HasPace, HasRead, HasRun, IsInput, IsPlayed, IsRun, ReadsAs};
-ghost use Rattle.nz_top.specs.Moves.{TakesPrefix};
+ghost use Rattle.nz_top.specs.Bytes.{TakesPrefix};
 ghost use Rattle.nz_top.specs.Reports.{printed_by, Admits};
 ghost use Rattle.nz_top.specs.Words.{IsDrawable, IsInRange};
 ghost use Rattle.nz_top.specs.Watching.{IsAnswered};

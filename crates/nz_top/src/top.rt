@@ -12,7 +12,7 @@ ghost use Rattle.nz_top.specs.declared.status.Status.TheVariants as status;
 ghost use Rattle.nz_locks.specs.Clean.{IsCleanScenario};
 ghost use Rattle.nz_top.specs.Calls.{CanPlay, Excludes, Gives, HasPace, HasRead, HasRunOf, IsAdmitted, IsRefused, IsWritten};
 ghost use Rattle.nz_top.specs.Calls.{Reads, ReadsInadmissible, ReadsSource, TakesMemory, TellsWhy, WritesLine, fixed_output, output_of};
-ghost use Rattle.nz_top.specs.Moves.{TakesPrefix};
+ghost use Rattle.nz_top.specs.Bytes.{TakesPrefix};
 ghost use Rattle.nz_top.specs.Checking.{IsJudged};
 ghost use Rattle.nz_top.specs.Words.{command_of_words, play_of_words, IsAlone, IsCheck};
 

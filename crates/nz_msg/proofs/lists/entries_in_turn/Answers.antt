@@ -4,8 +4,8 @@ use Rattle.std.proofs.lemmas.Result.{err_from_is_err_and}
 use Rattle.nz_base.specs.declared.key.Entry.{Entry}
 use Rattle.nz_msg.specs.Codec.{items_at}
 use Rattle.nz_msg.specs.Fields.{next_entry}
-use Rattle.nz_msg.specs.Turns.{comes_in_turn}
-use Rattle.nz_msg.proofs.Turns.{entry_follows, entries_more, next_read, next_without_key, next_without_command}
+use Rattle.nz_msg.specs.RisingIds.{comes_in_turn}
+use Rattle.nz_msg.proofs.RisingIds.{entry_follows, entries_more, next_read, next_without_key, next_without_command}
 use Rattle.nz_msg.proofs.Loops.{goes_on, ends, is_done}
 use Rattle.nz_msg.proofs.lists.entries_in_turn.Goals as goal
 
@@ -18,25 +18,25 @@ returns-in_err-key-clause-fault c =
 
 pub returns-in_err-command-clause-fault : goal.returns-in_err-command-clause-fault
 returns-in_err-command-clause-fault c =
-    let turn : comes_in_turn c.loop.turns c.in_ok-key.key ≡ true = sym c.if-not-comes_in_turn.ensures in
+    let turn : comes_in_turn c.loop.ids c.in_ok-key.key ≡ true = sym c.if-not-comes_in_turn.ensures in
     let p = err_from_is_err_and c.from_residual-in_err-command.result c.from_residual-in_err-command.ensures.1 in
     rw (p.1, p.2) (ends next_entry c.in_err-command.field-0.0 c.loop.entries c.args.count c.loop.counter c.loop.rest
     (items_at next_entry [] c.args.count c.args.bytes) c.loop-test.true
     (next_without_command c.loop.entries c.loop.rest c.in_ok-key.key c.in_ok-key.after c.in_err-command.field-0.0 c.in_ok-key.ensures
-    (entry_follows c.loop.entries c.loop.turns c.in_ok-key.key c.loop.invariant.in_turn turn) c.in_err-command.ensures) c.loop.invariant.told)
+    (entry_follows c.loop.entries c.loop.ids c.in_ok-key.key c.loop.invariant.in_turn turn) c.in_err-command.ensures) c.loop.invariant.told)
 
 pub loop-preserved : goal.loop-preserved
 loop-preserved c =
     let key = c.in_ok-key.key in
     let entry : Entry = record { key = key; command = c.in_ok-command.command } in
-    let turn : comes_in_turn c.loop.turns key ≡ true = sym c.if-not-comes_in_turn.ensures in
+    let turn : comes_in_turn c.loop.ids key ≡ true = sym c.if-not-comes_in_turn.ensures in
     record {
       told =
           rw c.in_ok-push.ensures.ok (goes_on next_entry c.loop.entries c.args.count c.loop.counter c.loop.rest entry c.in_ok-command.after
           (items_at next_entry [] c.args.count c.args.bytes) c.loop-test.true
           (next_read c.loop.entries c.loop.rest key c.in_ok-key.after c.in_ok-command.command c.in_ok-command.after c.in_ok-key.ensures
-          (entry_follows c.loop.entries c.loop.turns key c.loop.invariant.in_turn turn) c.in_ok-command.ensures) c.loop.invariant.told);
-      in_turn = rw (c.in_ok-push.ensures.ok, c.note.ensures) (entries_more c.loop.entries c.loop.turns entry c.loop.invariant.in_turn turn);
+          (entry_follows c.loop.entries c.loop.ids key c.loop.invariant.in_turn turn) c.in_ok-command.ensures) c.loop.invariant.told);
+      in_turn = rw (c.in_ok-push.ensures.ok, c.note.ensures) (entries_more c.loop.entries c.loop.ids entry c.loop.invariant.in_turn turn);
     }
 
 pub returns-clause-read : goal.returns-clause-read

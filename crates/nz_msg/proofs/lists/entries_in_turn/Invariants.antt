@@ -3,7 +3,7 @@ use Rattle.std.proofs.Common.{◌≡◌, ◌-◌, []}
 use Rattle.nz_base.specs.Log.{keys_of}
 use Rattle.nz_msg.specs.Codec.{items_at}
 use Rattle.nz_msg.specs.Fields.{next_entry}
-use Rattle.nz_msg.specs.Turns.{AreInTurn}
+use Rattle.nz_msg.specs.RisingIds.{AreInTurn}
 use Rattle.nz_msg.proofs.Loops.{with_earlier}
 use Rattle.nz_msg.proofs.lists.entries_in_turn.Given as goal
 
@@ -11,5 +11,5 @@ use Rattle.nz_msg.proofs.lists.entries_in_turn.Given as goal
 abbrev pub invariant-loop : goal.invariant-loop
 invariant-loop l = record {
   told : with_earlier l.entries (items_at next_entry l.entries (l.count - l.counter) l.rest) ≡ items_at next_entry [] l.count l.fn.bytes;
-  in_turn : AreInTurn (keys_of l.entries) l.turns;
+  in_turn : AreInTurn (keys_of l.entries) l.ids;
 }

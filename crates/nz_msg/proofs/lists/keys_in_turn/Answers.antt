@@ -4,8 +4,8 @@ use Rattle.std.proofs.lemmas.Result.{err_from_is_err_and}
 use Rattle.nz_base.specs.declared.key.Key.{Key}
 use Rattle.nz_msg.specs.Codec.{items_at}
 use Rattle.nz_msg.specs.Fields.{next_key}
-use Rattle.nz_msg.specs.Turns.{comes_in_turn}
-use Rattle.nz_msg.proofs.Turns.{turn_follows, in_turn_more, next_key_read, next_key_fails}
+use Rattle.nz_msg.specs.RisingIds.{comes_in_turn}
+use Rattle.nz_msg.proofs.RisingIds.{turn_follows, in_turn_more, next_key_read, next_key_fails}
 use Rattle.nz_msg.proofs.Loops.{goes_on, ends, is_done}
 use Rattle.nz_msg.proofs.lists.keys_in_turn.Goals as goal
 
@@ -19,14 +19,14 @@ returns-in_err-key-clause-fault c =
 pub loop-preserved : goal.loop-preserved
 loop-preserved c =
     let key = c.in_ok-key.key in
-    let turn : comes_in_turn c.loop.turns key ≡ true = sym c.if-not-comes_in_turn.ensures in
+    let turn : comes_in_turn c.loop.ids key ≡ true = sym c.if-not-comes_in_turn.ensures in
     record {
       told =
           rw c.in_ok-push.ensures.ok (goes_on next_key c.loop.keys c.args.count c.loop.counter c.loop.rest key c.in_ok-key.after
           (items_at next_key [] c.args.count c.args.bytes) c.loop-test.true
           (next_key_read (λ (k : Key). k) c.loop.keys c.loop.rest key c.in_ok-key.after c.in_ok-key.ensures
-          (turn_follows c.loop.keys c.loop.turns key c.loop.invariant.in_turn turn)) c.loop.invariant.told);
-      in_turn = rw (c.in_ok-push.ensures.ok, c.note.ensures) (in_turn_more c.loop.keys c.loop.turns key c.loop.invariant.in_turn turn);
+          (turn_follows c.loop.keys c.loop.ids key c.loop.invariant.in_turn turn)) c.loop.invariant.told);
+      in_turn = rw (c.in_ok-push.ensures.ok, c.note.ensures) (in_turn_more c.loop.keys c.loop.ids key c.loop.invariant.in_turn turn);
     }
 
 pub returns-clause-read : goal.returns-clause-read

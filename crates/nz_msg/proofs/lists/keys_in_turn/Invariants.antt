@@ -2,7 +2,7 @@
 use Rattle.std.proofs.Common.{◌≡◌, ◌-◌, []}
 use Rattle.nz_msg.specs.Codec.{items_at}
 use Rattle.nz_msg.specs.Fields.{next_key}
-use Rattle.nz_msg.specs.Turns.{AreInTurn}
+use Rattle.nz_msg.specs.RisingIds.{AreInTurn}
 use Rattle.nz_msg.proofs.Loops.{with_earlier}
 use Rattle.nz_msg.proofs.lists.keys_in_turn.Given as goal
 
@@ -10,5 +10,5 @@ use Rattle.nz_msg.proofs.lists.keys_in_turn.Given as goal
 abbrev pub invariant-loop : goal.invariant-loop
 invariant-loop l = record {
   told : with_earlier l.keys (items_at next_key l.keys (l.count - l.counter) l.rest) ≡ items_at next_key [] l.count l.fn.bytes;
-  in_turn : AreInTurn l.keys l.turns;
+  in_turn : AreInTurn l.keys l.ids;
 }

@@ -3,7 +3,7 @@ use Rattle.std.proofs.Common.{◌≡◌, true, false, refl, sym, ap, ◌∙◌, 
 use Rattle.nz_base.specs.Key.{id_of}
 use Rattle.nz_base.specs.Log.{keys_of, has_id, is_above_last}
 use Rattle.nz_msg.proofs.Follows.{follows_last_entry, is_noted}
-use Rattle.nz_msg.proofs.Turns.{above_entries}
+use Rattle.nz_msg.proofs.RisingIds.{above_entries}
 use Rattle.nz_msg.proofs.lists.may_be_next.Goals as goal
 
 pub returns-then-is_above : goal.returns-then-is_above

@@ -1,13 +1,13 @@
 //! Keys in turn: each is above the one before it, and the numbers of each client rise.
 
 ghost use Rattle.std.specs.Prelude.{◌≡◌, IsTrue};
-ghost use Rattle.nz_msg.specs.Turns as turns;
+ghost use Rattle.nz_msg.specs.RisingIds as ids;
 
 use nz_base::{Key, MAX_CLIENTS};
 
 /// What the keys so far leave for the next one.
 #[derive(Debug, Drop)]
-pub struct Turns {
+pub struct RisingIds {
     last: Option<Key>,
     // The last number of each client, 0 before its first.
     numbers: [u32; MAX_CLIENTS as usize],
@@ -15,7 +15,7 @@ pub struct Turns {
 
 /// Whether a key is above the last one of others, or there are none.
 pub fn is_above(last: Option<Key>, key: &Key) -> bool
-    ensures { result ≡ turns.is_above last key.now }
+    ensures { result ≡ ids.is_above last key.now }
 {
     match last {
         Some(last) => last.is_below(key),
@@ -23,12 +23,12 @@ pub fn is_above(last: Option<Key>, key: &Key) -> bool
     }
 }
 
-impl Turns {
+impl RisingIds {
     /// Before the first key.
-    pub fn new() -> Turns
-        ensures { result ≡ turns.none_yet }
+    pub fn new() -> RisingIds
+        ensures { result ≡ ids.none_yet }
     {
-        Turns {
+        RisingIds {
             last: None,
             numbers: [0; MAX_CLIENTS as usize],
         }
@@ -36,7 +36,7 @@ impl Turns {
 
     /// Whether the key comes in turn. One that does has an id that no key before it has.
     pub fn comes_in_turn(&self, key: &Key) -> bool
-        ensures { result ≡ turns.comes_in_turn self.now key.now }
+        ensures { result ≡ ids.comes_in_turn self.now key.now }
     {
         match self.numbers.get(key.client as usize) {
             Some(number) => *number < key.num && is_above(self.last, key),
@@ -46,8 +46,8 @@ impl Turns {
 
     /// Notes a key that comes in turn as the last one.
     pub fn note(&mut self, key: Key)
-        requires { IsTrue (turns.comes_in_turn self.old key) }
-        ensures { self.new ≡ turns.after_turn self.old key }
+        requires { IsTrue (ids.comes_in_turn self.old key) }
+        ensures { self.new ≡ ids.after_key self.old key }
     {
         self.last = Some(key);
         self.numbers[key.client as usize] = key.num;

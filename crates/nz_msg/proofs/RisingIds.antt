@@ -14,43 +14,43 @@ use Rattle.nz_base.proofs.Names.{same_id}
 use Rattle.nz_base.proofs.Logs.{has_id-append, keys_append, rising_more}
 use Rattle.nz_msg.specs.declared.fault.Fault.{Fault}
 use Rattle.nz_msg.specs.declared.fault.Fault.TheVariants as faults
-use Rattle.nz_msg.specs.declared.in_turn.Turns.{Turns}
+use Rattle.nz_msg.specs.declared.rising_ids.RisingIds.{RisingIds}
 use Rattle.nz_msg.specs.Codec.{limited_at}
 use Rattle.nz_msg.specs.Fields.{may_follow, key, command, next_key_by, next_entry}
 use Rattle.nz_msg.specs.Reading.{Fails}
-use Rattle.nz_msg.specs.Turns.{is_above, comes_in_turn, after_turn, AreInTurn}
+use Rattle.nz_msg.specs.RisingIds.{is_above, comes_in_turn, after_key, AreInTurn}
 use Rattle.nz_msg.proofs.Follows.{follows_last, by_keys}
 
 -- the parts of the test
-record Turn (before : List Key) (turns : Turns) (k : Key) : Type 0 where
-  pub placed : k.client < length turns.numbers
-  pub greater : slice_index turns.numbers k.client < k.num
+record ComesNext (before : List Key) (ids : RisingIds) (k : Key) : Type 0 where
+  pub placed : k.client < length ids.numbers
+  pub greater : slice_index ids.numbers k.client < k.num
   pub above : is_above_last before k ≡ true
 
-turn_of : (before : List Key) (turns : Turns) (k : Key) → AreInTurn before turns → comes_in_turn turns k ≡ true → Turn before turns k
-turn_of before turns k held h =
-    let all = and_parts (nat_lt k.client (length turns.numbers)) (nat_lt (slice_index turns.numbers k.client) k.num && is_above turns.last k) h in
-    let rest = and_parts (nat_lt (slice_index turns.numbers k.client) k.num) (is_above turns.last k) all.1 in
+turn_of : (before : List Key) (ids : RisingIds) (k : Key) → AreInTurn before ids → comes_in_turn ids k ≡ true → ComesNext before ids k
+turn_of before ids k held h =
+    let all = and_parts (nat_lt k.client (length ids.numbers)) (nat_lt (slice_index ids.numbers k.client) k.num && is_above ids.last k) h in
+    let rest = and_parts (nat_lt (slice_index ids.numbers k.client) k.num) (is_above ids.last k) all.1 in
     record {
-      placed = ltb-true k.client (length turns.numbers) all.0;
-      greater = ltb-true (slice_index turns.numbers k.client) k.num rest.0;
+      placed = ltb-true k.client (length ids.numbers) all.0;
+      greater = ltb-true (slice_index ids.numbers k.client) k.num rest.0;
       above = sym (held.up_to_last k) ∙ rest.1;
     }
 
-fresh_id : (before : List Key) (turns : Turns) (k : Key) → AreInTurn before turns → slice_index turns.numbers k.client < k.num
+fresh_id : (before : List Key) (ids : RisingIds) (k : Key) → AreInTurn before ids → slice_index ids.numbers k.client < k.num
     → has_id before (id_of k) ≡ false
-fresh_id before turns k held greater =
+fresh_id before ids k held greater =
     elim (cases_Bool (has_id before (id_of k))) [
-      | inl there ↦ let most : k.num ≤ slice_index turns.numbers k.client = held.numbered (id_of k) there in absurd (omega arith)
+      | inl there ↦ let most : k.num ≤ slice_index ids.numbers k.client = held.numbered (id_of k) there in absurd (omega arith)
       | inr fresh ↦ fresh
     ]
 
 -- what comes in turn may follow
-pub turn_follows : (before : List Key) (turns : Turns) (k : Key) → AreInTurn before turns
-    → comes_in_turn turns k ≡ true → may_follow (λ (x : Key). x) before k ≡ true
-turn_follows before turns k held h =
-    let turn = turn_of before turns k held h in
-    follows_last before k held.rising ∙ (rw (turn.above, fresh_id before turns k held turn.greater) refl)
+pub turn_follows : (before : List Key) (ids : RisingIds) (k : Key) → AreInTurn before ids
+    → comes_in_turn ids k ≡ true → may_follow (λ (x : Key). x) before k ≡ true
+turn_follows before ids k held h =
+    let turn = turn_of before ids k held h in
+    follows_last before k held.rising ∙ (rw (turn.above, fresh_id before ids k held turn.greater) refl)
 
 -- ---- one more key
 
@@ -71,15 +71,15 @@ earlier_id before k i other h =
       | inr away ↦ true_and_false (has_id (before ++ k ∷ []) i) h (has_id-append before (k ∷ []) i ∙ (rw (away, other) refl))
     ]
 
-numbered_more : (before : List Key) (turns : Turns) (k : Key) → AreInTurn before turns → Turn before turns k → (i : Id)
-    → has_id (before ++ k ∷ []) i ≡ true → i.num ≤ slice_index (slice_set turns.numbers k.client k.num) i.client
-numbered_more before turns k held turn i h =
+numbered_more : (before : List Key) (ids : RisingIds) (k : Key) → AreInTurn before ids → ComesNext before ids k → (i : Id)
+    → has_id (before ++ k ∷ []) i ≡ true → i.num ≤ slice_index (slice_set ids.numbers k.client k.num) i.client
+numbered_more before ids k held turn i h =
     elim (cases_Bool (id_eq i (id_of k))) [
       | inl same ↦
-          subst (λ (j : Id). j.num ≤ slice_index (slice_set turns.numbers k.client k.num) j.client) (sym (same_id i (id_of k) same))
-          (let placed : k.client < length turns.numbers = turn.placed in rw get_or-set_same (omega arith))
+          subst (λ (j : Id). j.num ≤ slice_index (slice_set ids.numbers k.client k.num) j.client) (sym (same_id i (id_of k) same))
+          (let placed : k.client < length ids.numbers = turn.placed in rw get_or-set_same (omega arith))
       | inr other ↦
-          raised turns.numbers k.client k.num i.client i.num turn.placed turn.greater
+          raised ids.numbers k.client k.num i.client i.num turn.placed turn.greater
           (held.numbered i (earlier_id before k i other h))
     ]
 
@@ -88,14 +88,14 @@ above_appended [] last k = refl
 above_appended (a ∷ []) last k = refl
 above_appended (a ∷ b ∷ before) last k = above_appended (b ∷ before) last k
 
-pub in_turn_more : (before : List Key) (turns : Turns) (k : Key) → AreInTurn before turns
-    → comes_in_turn turns k ≡ true → AreInTurn (before ++ k ∷ []) (after_turn turns k)
-in_turn_more before turns k held h =
-    let turn = turn_of before turns k held h in
+pub in_turn_more : (before : List Key) (ids : RisingIds) (k : Key) → AreInTurn before ids
+    → comes_in_turn ids k ≡ true → AreInTurn (before ++ k ∷ []) (after_key ids k)
+in_turn_more before ids k held h =
+    let turn = turn_of before ids k held h in
     record {
       rising = rising_more before k held.rising turn.above;
       up_to_last = above_appended before k;
-      numbered = numbered_more before turns k held turn;
+      numbered = numbered_more before ids k held turn;
     }
 
 -- ---- one key
@@ -122,15 +122,15 @@ above_entries (e ∷ f ∷ before) last k h =
     let place : length (e ∷ f ∷ before) - 1 ≡ suc (length (f ∷ before) - 1) = omega arith in
     above_entries (f ∷ before) last k (rw place at h)
 
-pub entry_follows : (before : List Entry) (turns : Turns) (k : Key) → AreInTurn (keys_of before) turns
-    → comes_in_turn turns k ≡ true → may_follow (λ (e : Entry). e.key) before k ≡ true
-entry_follows before turns k held h = by_keys before k ∙ turn_follows (keys_of before) turns k held h
+pub entry_follows : (before : List Entry) (ids : RisingIds) (k : Key) → AreInTurn (keys_of before) ids
+    → comes_in_turn ids k ≡ true → may_follow (λ (e : Entry). e.key) before k ≡ true
+entry_follows before ids k held h = by_keys before k ∙ turn_follows (keys_of before) ids k held h
 
-pub entries_more : (before : List Entry) (turns : Turns) (e : Entry) → AreInTurn (keys_of before) turns
-    → comes_in_turn turns e.key ≡ true → AreInTurn (keys_of (before ++ e ∷ [])) (after_turn turns e.key)
-entries_more before turns e held h =
-    subst (λ (keys : List Key). AreInTurn keys (after_turn turns e.key)) (sym (keys_append before (e ∷ [])))
-    (in_turn_more (keys_of before) turns e.key held h)
+pub entries_more : (before : List Entry) (ids : RisingIds) (e : Entry) → AreInTurn (keys_of before) ids
+    → comes_in_turn ids e.key ≡ true → AreInTurn (keys_of (before ++ e ∷ [])) (after_key ids e.key)
+entries_more before ids e held h =
+    subst (λ (keys : List Key). AreInTurn keys (after_key ids e.key)) (sym (keys_append before (e ∷ [])))
+    (in_turn_more (keys_of before) ids e.key held h)
 
 pub next_read : (before : List Entry) (bytes : List ℕ) (k : Key) (middle c rest : List ℕ) → key.get bytes ≡ Ok (k, middle)
     → may_follow (λ (e : Entry). e.key) before k ≡ true → command.get middle ≡ Ok (c, rest)
