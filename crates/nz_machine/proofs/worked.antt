@@ -1,4 +1,5 @@
 -- Runs worked by computation.
+pub mod Play
 pub mod WorkedRuns
 pub mod WorkedSteps
 pub mod ViewChangeRun

@@ -38,46 +38,47 @@ use Rattle.nz_machine.specs.runs.World.{state_after, World}
 use Rattle.nz_machine.specs.runs.History.{history}
 use Rattle.nz_machine.specs.runs.Incarnations.{replica_at, incarnation, own_counter, counter_at, completes, views_used, tell_source}
 use Rattle.nz_machine.specs.runs.Begun.{start}
-use Rattle.nz_machine.proofs.worked.WorkedRuns.{first_entry, holding, group, play, arrive, kinds_sent, come, all_tick, opened, stamped}
-use Rattle.nz_machine.proofs.worked.WorkedRuns.{spread, released, replied, accepted, played, came, is_accepted, never_restarted}
+use Rattle.nz_machine.proofs.worked.Play.{play, arrive, come, all_tick, played, came}
+use Rattle.nz_machine.proofs.worked.WorkedRuns.{first_entry, holding, group, kinds_sent, opened, stamped}
+use Rattle.nz_machine.proofs.worked.WorkedRuns.{spread, released, replied, accepted, is_accepted, never_restarted}
 
 unfoldable pub alarmed : List Record
-alarmed = play accepted (Replica 2) Alarm
+alarmed = play group accepted (Replica 2) Alarm
 
 -- While r2 is down a tick changes nothing.
 unfoldable pub down : List Record
-down = play alarmed (Replica 2) Crash
+down = play group alarmed (Replica 2) Crash
 
 unfoldable pub deaf : List Record
-deaf = play down (Replica 2) (Tick 14000)
+deaf = play group down (Replica 2) (Tick 14000)
 
 unfoldable pub back : List Record
-back = play deaf (Replica 2) (Restart 7)
+back = play group deaf (Replica 2) (Restart 7)
 
 -- The others tell their vectors: r2 has enough with the second.
 unfoldable pub told_once : List Record
-told_once = come 14 (Replica 0) (Replica 2) (come 13 (Replica 2) (Replica 1) (come 13 (Replica 2) (Replica 0) back))
+told_once = come group 14 (Replica 0) (Replica 2) (come group 13 (Replica 2) (Replica 1) (come group 13 (Replica 2) (Replica 0) back))
 
 unfoldable pub counted : List Record
-counted = come 14 (Replica 1) (Replica 2) told_once
+counted = come group 14 (Replica 1) (Replica 2) told_once
 
 -- They tell their views, each when it is asked.
 unfoldable pub first_asked : List Record
-first_asked = come 15 (Replica 2) (Replica 0) counted
+first_asked = come group 15 (Replica 2) (Replica 0) counted
 
 unfoldable pub second_asked : List Record
-second_asked = come 15 (Replica 2) (Replica 1) first_asked
+second_asked = come group 15 (Replica 2) (Replica 1) first_asked
 
 unfoldable pub viewed : List Record
-viewed = come 16 (Replica 1) (Replica 2) (come 16 (Replica 0) (Replica 2) second_asked)
+viewed = come group 16 (Replica 1) (Replica 2) (come group 16 (Replica 0) (Replica 2) second_asked)
 
 -- r0 leads the latest view, and tells its log.
 unfoldable pub rejoined : List Record
-rejoined = come 18 (Replica 0) (Replica 2) (come 17 (Replica 2) (Replica 0) viewed)
+rejoined = come group 18 (Replica 0) (Replica 2) (come group 17 (Replica 2) (Replica 0) viewed)
 
 -- The old view change comes to r1.
 unfoldable pub strayed : List Record
-strayed = come 11 (Replica 2) (Replica 1) rejoined
+strayed = come group 11 (Replica 2) (Replica 1) rejoined
 
 -- r2 after its rejoin.
 abbrev rejoined_replica : ReplicaData
@@ -173,19 +174,19 @@ unfolding alarmed down deaf back told_once counted first_asked second_asked view
     sync_report_rule enter_view alarm_rule view_ask_rule start_view_rule begin view_change_rule crash_rule restart_rule
     vector_ask_rule vector_tell_rule rejoin_ask_rule rejoin_tell_rule state_ask_rule state_tell_rule merged later_keys
 is_run =
-    let at_alarmed = played accepted (Replica 2) Alarm is_accepted (omega arith) tt in
-    let at_deaf = played down (Replica 2) (Tick 14000) (played alarmed (Replica 2) Crash at_alarmed (omega arith) tt) (omega arith) (omega arith) in
-    let at_back = played deaf (Replica 2) (Restart 7) at_deaf (omega arith) (omega arith, never_restarted deaf (Replica 2) 7 refl) in
-    let zero = come 13 (Replica 2) (Replica 0) back in
-    let one = come 13 (Replica 2) (Replica 1) zero in
+    let at_alarmed = played group accepted (Replica 2) Alarm is_accepted (omega arith) tt in
+    let at_deaf = played group down (Replica 2) (Tick 14000) (played group alarmed (Replica 2) Crash at_alarmed (omega arith) tt) (omega arith) (omega arith) in
+    let at_back = played group deaf (Replica 2) (Restart 7) at_deaf (omega arith) (omega arith, never_restarted deaf (Replica 2) 7 refl) in
+    let zero = come group 13 (Replica 2) (Replica 0) back in
+    let one = come group 13 (Replica 2) (Replica 1) zero in
     let at_told =
-    came 14 (Replica 0) (Replica 2) one
-    (came 13 (Replica 2) (Replica 1) zero (came 13 (Replica 2) (Replica 0) back at_back (omega arith)) (omega arith)) (omega arith) in
-    let at_counted = came 14 (Replica 1) (Replica 2) told_once at_told (omega arith) in
-    let at_first = came 15 (Replica 2) (Replica 0) counted at_counted (omega arith) in
-    let at_second = came 15 (Replica 2) (Replica 1) first_asked at_first (omega arith) in
-    let told = come 16 (Replica 0) (Replica 2) second_asked in
-    let at_viewed = came 16 (Replica 1) (Replica 2) told (came 16 (Replica 0) (Replica 2) second_asked at_second (omega arith)) (omega arith) in
-    let state_asked = come 17 (Replica 2) (Replica 0) viewed in
-    let at_rejoined = came 18 (Replica 0) (Replica 2) state_asked (came 17 (Replica 2) (Replica 0) viewed at_viewed (omega arith)) (omega arith) in
-    came 11 (Replica 2) (Replica 1) rejoined at_rejoined (omega arith)
+    came group 14 (Replica 0) (Replica 2) one
+    (came group 13 (Replica 2) (Replica 1) zero (came group 13 (Replica 2) (Replica 0) back at_back (omega arith)) (omega arith)) (omega arith) in
+    let at_counted = came group 14 (Replica 1) (Replica 2) told_once at_told (omega arith) in
+    let at_first = came group 15 (Replica 2) (Replica 0) counted at_counted (omega arith) in
+    let at_second = came group 15 (Replica 2) (Replica 1) first_asked at_first (omega arith) in
+    let told = come group 16 (Replica 0) (Replica 2) second_asked in
+    let at_viewed = came group 16 (Replica 1) (Replica 2) told (came group 16 (Replica 0) (Replica 2) second_asked at_second (omega arith)) (omega arith) in
+    let state_asked = come group 17 (Replica 2) (Replica 0) viewed in
+    let at_rejoined = came group 18 (Replica 0) (Replica 2) state_asked (came group 17 (Replica 2) (Replica 0) viewed at_viewed (omega arith)) (omega arith) in
+    came group 11 (Replica 2) (Replica 1) rejoined at_rejoined (omega arith)

@@ -41,27 +41,28 @@ use Rattle.nz_machine.specs.runs.History.{source, history}
 use Rattle.nz_machine.specs.runs.Incarnations.{replica_at, incarnation, completes}
 use Rattle.nz_machine.specs.runs.Begun.{begins, start, reports_used, report_parcel, IsMemberOf}
 use Rattle.nz_machine.specs.runs.Committed.{accepted_view, IsAcceptedIn}
-use Rattle.nz_machine.proofs.worked.WorkedRuns.{first, first_entry, holding, group, play, arrive, kinds_sent, newest, come, all_tick, opened}
-use Rattle.nz_machine.proofs.worked.WorkedRuns.{stamped, spread, released, replied, accepted, played, came, is_accepted, never_restarted}
+use Rattle.nz_machine.proofs.worked.Play.{play, arrive, newest, come, all_tick, played, came}
+use Rattle.nz_machine.proofs.worked.WorkedRuns.{first, first_entry, holding, group, kinds_sent, opened}
+use Rattle.nz_machine.proofs.worked.WorkedRuns.{stamped, spread, released, replied, accepted, is_accepted, never_restarted}
 
 -- r1 enters view 1. r0 hears its view-ask, and enters too.
 unfoldable alarmed : List Record
-alarmed = play accepted (Replica 1) Alarm
+alarmed = play group accepted (Replica 1) Alarm
 
 unfoldable asked : List Record
-asked = come 10 (Replica 1) (Replica 0) alarmed
+asked = come group 10 (Replica 1) (Replica 0) alarmed
 
 -- r0's view change comes to r1: with its own log that is two.
 unfoldable begun : List Record
-begun = come 11 (Replica 0) (Replica 1) asked
+begun = come group 11 (Replica 0) (Replica 1) asked
 
 -- r2 is late: r1 leads view 1 already, and tells it so.
 unfoldable late : List Record
-late = come 11 (Replica 2) (Replica 1) (come 10 (Replica 1) (Replica 2) begun)
+late = come group 11 (Replica 2) (Replica 1) (come group 10 (Replica 1) (Replica 2) begun)
 
 -- The view starts at r0 and r2.
 unfoldable ended : List Record
-ended = come 12 (Replica 1) (Replica 2) (come 12 (Replica 1) (Replica 0) late)
+ended = come group 12 (Replica 1) (Replica 2) (come group 12 (Replica 1) (Replica 0) late)
 
 -- What the definitions say of it.
 record IsAsWorked : Type 0 where
@@ -130,16 +131,20 @@ as_worked =
 -- ---- afterwards r0 forgets all, and rejoins
 
 unfoldable back : List Record
-back = play (play ended (Replica 0) Crash) (Replica 0) (Restart 3)
+back = play group (play group ended (Replica 0) Crash) (Replica 0) (Restart 3)
 
 unfoldable counted : List Record
-counted = come 14 (Replica 2) (Replica 0) (come 14 (Replica 1) (Replica 0) (come 13 (Replica 0) (Replica 2) (come 13 (Replica 0) (Replica 1) back)))
+counted =
+    come group 14 (Replica 2) (Replica 0) (come group 14 (Replica 1) (Replica 0)
+    (come group 13 (Replica 0) (Replica 2) (come group 13 (Replica 0) (Replica 1) back)))
 
 unfoldable viewed : List Record
-viewed = come 16 (Replica 2) (Replica 0) (come 16 (Replica 1) (Replica 0) (come 15 (Replica 0) (Replica 2) (come 15 (Replica 0) (Replica 1) counted)))
+viewed =
+    come group 16 (Replica 2) (Replica 0) (come group 16 (Replica 1) (Replica 0)
+    (come group 15 (Replica 0) (Replica 2) (come group 15 (Replica 0) (Replica 1) counted)))
 
 unfoldable rejoined : List Record
-rejoined = come 18 (Replica 1) (Replica 0) (come 17 (Replica 0) (Replica 1) viewed)
+rejoined = come group 18 (Replica 1) (Replica 0) (come group 17 (Replica 0) (Replica 1) viewed)
 
 -- r0's report.
 abbrev report : Reported
@@ -203,28 +208,28 @@ unfolding alarmed asked begun late ended back counted viewed rejoined play arriv
     alarm_rule view_ask_rule start_view_rule begin view_change_rule crash_rule restart_rule vector_ask_rule
     vector_tell_rule rejoin_ask_rule rejoin_tell_rule state_ask_rule state_tell_rule merged later_keys
 is_run =
-    let at_alarmed = played accepted (Replica 1) Alarm is_accepted (omega arith) tt in
-    let at_asked = came 10 (Replica 1) (Replica 0) alarmed at_alarmed (omega arith) in
-    let at_begun = came 11 (Replica 0) (Replica 1) asked at_asked (omega arith) in
-    let entered = come 10 (Replica 1) (Replica 2) begun in
-    let at_late = came 11 (Replica 2) (Replica 1) entered (came 10 (Replica 1) (Replica 2) begun at_begun (omega arith)) (omega arith) in
-    let first = come 12 (Replica 1) (Replica 0) late in
-    let at_ended = came 12 (Replica 1) (Replica 2) first (came 12 (Replica 1) (Replica 0) late at_late (omega arith)) (omega arith) in
-    let down = play ended (Replica 0) Crash in
+    let at_alarmed = played group accepted (Replica 1) Alarm is_accepted (omega arith) tt in
+    let at_asked = came group 10 (Replica 1) (Replica 0) alarmed at_alarmed (omega arith) in
+    let at_begun = came group 11 (Replica 0) (Replica 1) asked at_asked (omega arith) in
+    let entered = come group 10 (Replica 1) (Replica 2) begun in
+    let at_late = came group 11 (Replica 2) (Replica 1) entered (came group 10 (Replica 1) (Replica 2) begun at_begun (omega arith)) (omega arith) in
+    let first = come group 12 (Replica 1) (Replica 0) late in
+    let at_ended = came group 12 (Replica 1) (Replica 2) first (came group 12 (Replica 1) (Replica 0) late at_late (omega arith)) (omega arith) in
+    let down = play group ended (Replica 0) Crash in
     let at_back =
-    played down (Replica 0) (Restart 3) (played ended (Replica 0) Crash at_ended (omega arith) tt) (omega arith)
+    played group down (Replica 0) (Restart 3) (played group ended (Replica 0) Crash at_ended (omega arith) tt) (omega arith)
     (omega arith, never_restarted down (Replica 0) 3 refl) in
-    let zero = come 13 (Replica 0) (Replica 1) back in
-    let one = come 13 (Replica 0) (Replica 2) zero in
-    let two = come 14 (Replica 1) (Replica 0) one in
+    let zero = come group 13 (Replica 0) (Replica 1) back in
+    let one = come group 13 (Replica 0) (Replica 2) zero in
+    let two = come group 14 (Replica 1) (Replica 0) one in
     let at_two =
-    came 14 (Replica 1) (Replica 0) one
-    (came 13 (Replica 0) (Replica 2) zero (came 13 (Replica 0) (Replica 1) back at_back (omega arith)) (omega arith)) (omega arith) in
-    let at_counted = came 14 (Replica 2) (Replica 0) two at_two (omega arith) in
-    let three = come 15 (Replica 0) (Replica 1) counted in
-    let four = come 15 (Replica 0) (Replica 2) three in
-    let five = come 16 (Replica 1) (Replica 0) four in
-    let at_four = came 15 (Replica 0) (Replica 2) three (came 15 (Replica 0) (Replica 1) counted at_counted (omega arith)) (omega arith) in
-    let at_viewed = came 16 (Replica 2) (Replica 0) five (came 16 (Replica 1) (Replica 0) four at_four (omega arith)) (omega arith) in
-    let six = come 17 (Replica 0) (Replica 1) viewed in
-    came 18 (Replica 1) (Replica 0) six (came 17 (Replica 0) (Replica 1) viewed at_viewed (omega arith)) (omega arith)
+    came group 14 (Replica 1) (Replica 0) one
+    (came group 13 (Replica 0) (Replica 2) zero (came group 13 (Replica 0) (Replica 1) back at_back (omega arith)) (omega arith)) (omega arith) in
+    let at_counted = came group 14 (Replica 2) (Replica 0) two at_two (omega arith) in
+    let three = come group 15 (Replica 0) (Replica 1) counted in
+    let four = come group 15 (Replica 0) (Replica 2) three in
+    let five = come group 16 (Replica 1) (Replica 0) four in
+    let at_four = came group 15 (Replica 0) (Replica 2) three (came group 15 (Replica 0) (Replica 1) counted at_counted (omega arith)) (omega arith) in
+    let at_viewed = came group 16 (Replica 2) (Replica 0) five (came group 16 (Replica 1) (Replica 0) four at_four (omega arith)) (omega arith) in
+    let six = come group 17 (Replica 0) (Replica 1) viewed in
+    came group 18 (Replica 1) (Replica 0) six (came group 17 (Replica 0) (Replica 1) viewed at_viewed (omega arith)) (omega arith)

@@ -1,18 +1,14 @@
 -- Runs of three replicas, one proxy and one client, played by the definitions with real frames.
-use Rattle.std.proofs.Common.{◌≡◌, ℕ, ◌≤◌, inl, inr, arith, subst, List, [], ◌∷◌, Option, Some, None, refl}
+use Rattle.std.proofs.Common.{◌≡◌, ℕ, arith, subst, List, [], ◌∷◌, None, refl}
 use Rattle.std.specs.List.{AllByRecursion}
-use Rattle.std.proofs.lemmas.Bool.{cond_both, and_parts}
-use Rattle.std.proofs.lemmas.Option.{none-some, same_Some}
-use Rattle.std.specs.Prelude.{◌&&◌, ◌==◌, Bool, true, false, not, map, find, slice_index}
-use Rattle.nz_base.specs.Actor.{actor_eq}
+use Rattle.std.proofs.lemmas.Bool.{and_parts}
+use Rattle.std.specs.Prelude.{◌&&◌, Bool, true, false, not, map, slice_index}
 use Rattle.nz_base.specs.declared.actor.Actor.{Actor}
 use Rattle.nz_base.specs.declared.actor.Actor.TheVariants.{Replica, Proxy, Client}
 use Rattle.nz_base.specs.declared.key.Id.{Id}
 use Rattle.nz_base.specs.declared.key.Entry.{Entry}
-use Rattle.nz_base.specs.declared.limits.TheConstants.{MAX_CLOCK}
 use Rattle.nz_machine.specs.declared.event.Event.{Event}
-use Rattle.nz_machine.specs.declared.event.Event.TheVariants.{Deliver, Tick, Restart}
-use Rattle.nz_machine.specs.declared.event.Parcel.{Parcel}
+use Rattle.nz_machine.specs.declared.event.Event.TheVariants.{Tick, Restart}
 use Rattle.nz_machine.specs.declared.event.Record.{Record}
 use Rattle.nz_machine.specs.rules.State.{Group}
 use Rattle.sha1.specs.Sha1.{first_words, schedule, rounds, compress, hash_after, digest_bytes, sha1}
@@ -42,8 +38,9 @@ use Rattle.nz_msg.specs.Messages.{body_at}
 use Rattle.nz_machine.specs.runs.Incarnations.{is_restart}
 use Rattle.nz_machine.specs.rules.State.{ReplicaData}
 use Rattle.nz_machine.specs.rules.Replicas.{first_replica}
-use Rattle.nz_machine.specs.rules.Step.{node_step, envelope_for}
-use Rattle.nz_machine.specs.runs.World.{state_after, sent_in, Has, IsGroup, IsMember, Restarts, MayHappen, World}
+use Rattle.nz_machine.specs.rules.Step.{envelope_for}
+use Rattle.nz_machine.specs.runs.World.{state_after, IsGroup, Restarts, World}
+use Rattle.nz_machine.proofs.worked.Play.{play, arrive, come, all_tick, played, came, all_ticked}
 
 -- put a 1
 abbrev pub put : List ℕ
@@ -67,93 +64,38 @@ holding = record (first_replica 1) {
   quiet = 2;
 }
 
--- The run with one more record, whose sends are those of the step.
-unfoldable pub play : List Record → Actor → Event → List Record
-play J a e = record { tick = 0; actor = a; event = e; sends = (node_step group a (state_after group a J) e).1 } ∷ J
-
-unfoldable pub arrive : List Record → Option Parcel → List Record
-arrive J None = J
-arrive J (Some p) = play J p.to (Deliver p)
-
--- Whether the parcel is between these two, and its frame of this kind.
-abbrev pub is_of : ℕ → Actor → Actor → Parcel → Bool
-is_of kind from to p = actor_eq p.from from && (actor_eq p.to to && (slice_index p.frame 5 == kind))
-
--- The newest parcel of this kind between these two.
-abbrev pub newest : ℕ → Actor → Actor → List Record → Option Parcel
-newest kind from to J = find (is_of kind from to) (sent_in J)
-
--- It comes.
-unfoldable pub come : ℕ → Actor → Actor → List Record → List Record
-come kind from to J = arrive J (newest kind from to J)
-
 -- What the newest record sends: to whom, and of which kind.
 abbrev pub kinds_sent : List Record → List (Actor × ℕ)
 kinds_sent [] = []
 kinds_sent (r ∷ J) = map (λ p. (p.to, slice_index p.frame 5)) r.sends
 
--- The clocks of all replicas read so much.
-unfoldable pub all_tick : ℕ → List Record → List Record
-all_tick clock J = play (play (play J (Replica 0) (Tick clock)) (Replica 1) (Tick clock)) (Replica 2) (Tick clock)
-
 -- ---- a first request
 
 unfoldable pub opened : List Record
-opened = play [] (Client 0) (Tick 1000)
+opened = play group [] (Client 0) (Tick 1000)
 
 unfoldable pub stamped : List Record
-stamped = come 1 (Client 0) (Proxy 0) (play opened (Proxy 0) (Tick 2000))
+stamped = come group 1 (Client 0) (Proxy 0) (play group opened (Proxy 0) (Tick 2000))
 
 unfoldable pub spread : List Record
-spread = come 2 (Proxy 0) (Replica 2) (come 2 (Proxy 0) (Replica 1) (come 2 (Proxy 0) (Replica 0) (all_tick 3000 stamped)))
+spread = come group 2 (Proxy 0) (Replica 2) (come group 2 (Proxy 0) (Replica 1) (come group 2 (Proxy 0) (Replica 0) (all_tick group 3000 stamped)))
 
 -- It is in all three logs, synced at the leader alone.
 unfoldable pub released : List Record
-released = all_tick 13000 spread
+released = all_tick group 13000 spread
 
 unfoldable pub replied : List Record
-replied = come 3 (Replica 2) (Proxy 0) (come 3 (Replica 1) (Proxy 0) (come 3 (Replica 0) (Proxy 0) released))
+replied = come group 3 (Replica 2) (Proxy 0) (come group 3 (Replica 1) (Proxy 0) (come group 3 (Replica 0) (Proxy 0) released))
 
 -- It is accepted, by the fast replies of all three.
 unfoldable pub accepted : List Record
-accepted = come 5 (Proxy 0) (Client 0) replied
+accepted = come group 5 (Proxy 0) (Client 0) replied
 
 -- ---- these are runs of the world
 
 false_of : (b : Bool) → not b ≡ true → b ≡ false
 false_of true e = absurd cc
 false_of false e = refl
-
--- A parcel that is found among some is one of them.
-has_found : (test : Parcel → Bool) (ps : List Parcel) (p : Parcel) → find test ps ≡ Some p → Has ps p
-has_found test [] p e = absurd (none-some p e)
-has_found test (x ∷ ps) p e = cond_both (test x) (Some x) (find test ps) (λ (o : Option Parcel). o ≡ Some p → Has (x ∷ ps) p)
-    (λ yes h. inl (same_Some x p h)) (λ no h. inr (has_found test ps p h)) e
-
-pub played : (J : List Record) (a : Actor) (e : Event) → World group J → IsMember group a → MayHappen J a e → World group (play J a e)
-unfolding play
-played J a e w member may = (record { member = member; event = may; sends = refl }, w)
-
--- A parcel that comes is to an actor of the group.
-abbrev pub ToMember : Option Parcel → Type 0
-ToMember None = Unit {0}
-ToMember (Some p) = IsMember group p.to
-
-arrived : (J : List Record) (test : Parcel → Bool) (o : Option Parcel) → find test (sent_in J) ≡ o → World group J → ToMember o → World group (arrive J o)
-unfolding arrive
-arrived J test None e w to = w
-arrived J test (Some p) e w to = played J p.to (Deliver p) w to (refl, has_found test (sent_in J) p e)
-
-pub came : (kind : ℕ) (from to : Actor) (J : List Record) → World group J → ToMember (newest kind from to J) → World group (come kind from to J)
-unfolding come
-came kind from to J w member = arrived J (is_of kind from to) (newest kind from to J) refl w member
-
-all_ticked : (clock : ℕ) (J : List Record) → World group J → clock ≤ MAX_CLOCK → World group (all_tick clock J)
-unfolding all_tick
-all_ticked clock J w le =
-    let zeroth = played J (Replica 0) (Tick clock) w (omega arith) le in
-    let first = played (play J (Replica 0) (Tick clock)) (Replica 1) (Tick clock) zeroth (omega arith) le in
-    played (play (play J (Replica 0) (Tick clock)) (Replica 1) (Tick clock)) (Replica 2) (Tick clock) first (omega arith) le
 
 -- None of the records is a restart.
 abbrev pub no_restart : List Record → Bool
@@ -194,19 +136,20 @@ unfolding accepted replied released spread stamped opened play arrive come all_t
     fetch_reply_rule sync_report_rule enter_view alarm_rule view_ask_rule start_view_rule begin view_change_rule
     crash_rule restart_rule vector_ask_rule vector_tell_rule rejoin_ask_rule rejoin_tell_rule state_ask_rule state_tell_rule merged later_keys
 is_accepted =
-    let at_asked = played [] (Client 0) (Tick 1000) start_group (omega arith) (omega arith) in
+    let at_asked = played group [] (Client 0) (Tick 1000) start_group (omega arith) (omega arith) in
     let at_stamped =
-    came 1 (Client 0) (Proxy 0) (play opened (Proxy 0) (Tick 2000))
-    (played opened (Proxy 0) (Tick 2000) at_asked (omega arith) (omega arith)) (omega arith) in
-    let here = all_tick 3000 stamped in
-    let first = come 2 (Proxy 0) (Replica 0) here in
+    came group 1 (Client 0) (Proxy 0) (play group opened (Proxy 0) (Tick 2000))
+    (played group opened (Proxy 0) (Tick 2000) at_asked (omega arith) (omega arith)) (omega arith) in
+    let here = all_tick group 3000 stamped in
+    let first = come group 2 (Proxy 0) (Replica 0) here in
     let at_spread =
-    came 2 (Proxy 0) (Replica 2) (come 2 (Proxy 0) (Replica 1) first)
-    (came 2 (Proxy 0) (Replica 1) first
-    (came 2 (Proxy 0) (Replica 0) here (all_ticked 3000 stamped at_stamped (omega arith)) (omega arith)) (omega arith)) (omega arith) in
-    let at_released = all_ticked 13000 spread at_spread (omega arith) in
-    let one = come 3 (Replica 0) (Proxy 0) released in
+    came group 2 (Proxy 0) (Replica 2) (come group 2 (Proxy 0) (Replica 1) first)
+    (came group 2 (Proxy 0) (Replica 1) first
+    (came group 2 (Proxy 0) (Replica 0) here
+    (all_ticked group 3000 stamped at_stamped (omega arith) (omega arith)) (omega arith)) (omega arith)) (omega arith) in
+    let at_released = all_ticked group 13000 spread at_spread (omega arith) (omega arith) in
+    let one = come group 3 (Replica 0) (Proxy 0) released in
     let at_replied =
-    came 3 (Replica 2) (Proxy 0) (come 3 (Replica 1) (Proxy 0) one)
-    (came 3 (Replica 1) (Proxy 0) one (came 3 (Replica 0) (Proxy 0) released at_released (omega arith)) (omega arith)) (omega arith) in
-    came 5 (Proxy 0) (Client 0) replied at_replied (omega arith)
+    came group 3 (Replica 2) (Proxy 0) (come group 3 (Replica 1) (Proxy 0) one)
+    (came group 3 (Replica 1) (Proxy 0) one (came group 3 (Replica 0) (Proxy 0) released at_released (omega arith)) (omega arith)) (omega arith) in
+    came group 5 (Proxy 0) (Client 0) replied at_replied (omega arith)
