@@ -10,6 +10,7 @@ ghost use Rattle.nz_machine.specs.declared.event.Record.{Record};
 ghost use Rattle.nz_machine.specs.rules.State.{Group};
 ghost use Rattle.nz_machine.specs.rules.Facts.{HasFacts};
 ghost use Rattle.nz_machine.specs.runs.Schedule.{group_of, InOrder};
+ghost use Rattle.nz_machine.specs.runs.Deployments.{IsDeployment};
 ghost use Rattle.nz_machine.specs.runs.World.{state_after, sent_in, Has, World};
 ghost use Rattle.nz_machine.specs.runs.Events.{Sent, events};
 ghost use Rattle.nz_machine.specs.runs.History.{log_at, history};
@@ -68,4 +69,10 @@ pub fn one_history()
 /// its order, are the same.
 pub fn one_run_in_order()
     ensures { (s : Scenario) (J K : List Record) → World (group_of s) J → World (group_of s) K → InOrder s J → InOrder s K → J ≡ K }
+{}
+
+/// What clients are told by nodes that each keep to the machine by itself, over links that deliver only what was sent
+/// and with nonces that do not come twice, is what one store answers that executes the history, on the premise on digests.
+pub fn deployment_has_one_history()
+    ensures { (g : Group) (J : List Record) → IsDeployment g J → NoCollision g J → Lin (events g J) (history g J) }
 {}

@@ -4,6 +4,7 @@
 mod laws;
 
 pub use laws::{
-    each_parcel_decodes, facts_stay, history_of_paired_prefixes, messages_are_snapshots, once_each,
-    one_history, one_run_in_order, own_commands, premise_on_digests,
+    deployment_has_one_history, each_parcel_decodes, facts_stay, history_of_paired_prefixes,
+    messages_are_snapshots, once_each, one_history, one_run_in_order, own_commands,
+    premise_on_digests,
 };

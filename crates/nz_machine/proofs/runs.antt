@@ -11,3 +11,4 @@ pub mod FreshNonces
 pub mod MayTurn
 pub mod Replaying
 pub mod OwnStates
+pub mod Deploying

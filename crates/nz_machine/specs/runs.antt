@@ -1,6 +1,7 @@
 -- Runs of the world: its steps, what happens in them, and what is known of them.
 pub mod World
 pub mod Steps
+pub mod Deployments
 pub mod Events
 pub mod History
 pub mod OneHistory

@@ -1,5 +1,5 @@
 //! Laws of the rules, each the contract of a function with nothing to do.
-ghost use Rattle.std.specs.Prelude.{◌≡◌, ℕ, List, ◌+◌, ◌≤◌, ◌<◌, ◌^◌, ◌==◌, ◌++◌, length, min, IsTrue, IsFalse};
+ghost use Rattle.std.specs.Prelude.{◌≡◌, ◌↔◌, ℕ, List, ◌+◌, ◌≤◌, ◌<◌, ◌^◌, ◌==◌, ◌++◌, length, min, IsTrue, IsFalse};
 ghost use Rattle.nz_buffers.specs.Buffers.{released, held_back};
 ghost use Rattle.nz_base.specs.Cluster.{replica_count};
 ghost use Rattle.nz_base.specs.declared.scenario.Scenario.{Scenario};
@@ -39,6 +39,7 @@ ghost use Rattle.nz_machine.specs.journals.Tellings.{told_by_run, events_of_told
 ghost use Rattle.nz_machine.specs.runs.World.{World, sent_in, Has, IsMember};
 ghost use Rattle.nz_machine.specs.runs.Schedule.{group_of, Scheduled, IsPlayable};
 ghost use Rattle.nz_machine.specs.runs.Steps.{AreSteps};
+ghost use Rattle.nz_machine.specs.runs.Deployments.{IsDeployment};
 ghost use Rattle.nz_machine.specs.rules.Facts.{HasFacts};
 ghost use Rattle.nz_machine.specs.rules.Replicas.{first_replica, is_normal};
 ghost use Rattle.nz_machine.specs.rules.Requests.{request_rule};
@@ -127,4 +128,10 @@ pub fn events_are_told()
 /// The records of a schedule of the scenario, each with what its actor sends, are a run of the world.
 pub fn scheduled_steps_are_a_run()
     ensures { (s : Scenario) (J : List Record) → IsPlayable s → Scheduled s J → AreSteps (group_of s) J → World (group_of s) J }
+{}
+
+/// What the nodes of a deployment do is a run of the machine, if each of them keeps to the machine by itself, links
+/// deliver only what was sent, and no nonce comes twice. And it asks no more than that: each run is such a deployment.
+pub fn lanes_are_a_run()
+    ensures { (g : Group) (J : List Record) → IsDeployment g J ↔ World g J }
 {}

@@ -50,8 +50,8 @@ pub use frame_kind::kind_of;
 pub use from_cluster::is_from_cluster;
 pub use journal::{Executed, History, Item, Journal};
 pub use laws::{
-    due_entries_are_released, events_are_told, facts_are_kept, receivers_take_part,
-    scheduled_steps_are_a_run,
+    due_entries_are_released, events_are_told, facts_are_kept, lanes_are_a_run,
+    receivers_take_part, scheduled_steps_are_a_run,
 };
 pub use outbox::Outbox;
 pub use receiving::heard;
