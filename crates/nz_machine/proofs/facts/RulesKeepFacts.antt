@@ -80,61 +80,19 @@ restarted_has_facts f me nonce low = fresh_has_facts f me Rejoining nonce low
 -- ---- one word
 
 pub clock_keeps : (f me : ℕ) (s : ReplicaData) (clock : ℕ) → HasFacts f me s → HasFacts f me (at_clock s clock)
-clock_keeps f me s clock h =
-    record {
-      bounds = record { clock = omega arith; view = h.bounds.view };
-      mode = h.mode;
-      entries = h.entries;
-      commit = h.commit;
-      tables = h.tables;
-      executed = h.executed;
-      reports = h.reports;
-      rejoin = h.rejoin;
-    }
+clock_keeps f me s clock h = grind (arith, h)
 
 pub origin_keeps : (f me : ℕ) (s : ReplicaData) (id : Id) (origin : Origin) → HasFacts f me s → IsKnown (id, origin)
     → HasFacts f me (record s { origin = insert_entry id_eq s.origin id origin })
-origin_keeps f me s id origin h known =
-    let all = insert_each IsKnown s.origin id origin h.tables.origins known in
-    record {
-      bounds = h.bounds;
-      mode = h.mode;
-      entries = h.entries;
-      commit = h.commit;
-      tables = record { vector = h.tables.vector; acks = h.tables.acks; few = h.tables.few; origins = all };
-      executed = h.executed;
-      reports = h.reports;
-      rejoin = h.rejoin;
-    }
+origin_keeps f me s id origin h known = let all = insert_each IsKnown s.origin id origin h.tables.origins known in grind (arith, h, all)
 
 pub vector_keeps : (f me : ℕ) (s : ReplicaData) (vector : List ℕ) → HasFacts f me s → AreCounters f vector → HasFacts f me (with_vector me s vector)
-vector_keeps f me s vector h counters =
-    let all = merged_counters f s.vector vector me h.tables.vector counters in
-    record {
-      bounds = h.bounds;
-      mode = h.mode;
-      entries = h.entries;
-      commit = h.commit;
-      tables = record { vector = all; acks = h.tables.acks; few = h.tables.few; origins = h.tables.origins };
-      executed = h.executed;
-      reports = h.reports;
-      rejoin = h.rejoin;
-    }
+vector_keeps f me s vector h counters = let all = merged_counters f s.vector vector me h.tables.vector counters in grind (arith, h, all)
 
 -- other entries wait
 pub waiting_keeps : (f me : ℕ) (s : ReplicaData) (early late : List Entry) → HasFacts f me s → AreArranged s.log.entries early late
     → HasFacts f me (record s { early = early; late = late })
-waiting_keeps f me s early late h a =
-    record {
-      bounds = h.bounds;
-      mode = h.mode;
-      entries = record { arranged = a; few = h.entries.few; within = h.entries.within };
-      commit = h.commit;
-      tables = h.tables;
-      executed = h.executed;
-      reports = h.reports;
-      rejoin = h.rejoin;
-    }
+waiting_keeps f me s early late h a = grind (arith, h, a)
 
 pub early_keeps : (f me : ℕ) (s : ReplicaData) (e : Entry) → HasFacts f me s → FitsEntry e
     → is_above_last (keys_of s.log.entries) e.key ≡ true → has_id (keys_of s.log.entries) (id_of e.key) ≡ false → has_id (keys_of s.early) (id_of e.key) ≡ false
@@ -183,16 +141,9 @@ pub released_keeps : (f me : ℕ) (s : ReplicaData) (e : Entry) (es : List Entry
     → length s.log.entries < MAX_ENTRIES → HasFacts f me (after_release f me s e es)
 released_keeps f me s e es h normal is room =
     let more : s.commit ≤ (log_with_entry (leads f me s) s.log e).synced = grind (arith, h, length-append) in
-    record {
-      bounds = h.bounds;
-      mode = h.mode;
-      entries = released_held (leads f me s) s.log e es s.late room (subst (λ (xs : List Entry). AreHeld s.log xs s.late) is h.entries);
-      commit = more;
-      tables = h.tables;
-      executed = released_executed f me s e (leads f me s) normal refl h.executed;
-      reports = h.reports;
-      rejoin = h.rejoin;
-    }
+    let held = released_held (leads f me s) s.log e es s.late room (subst (λ (xs : List Entry). AreHeld s.log xs s.late) is h.entries) in
+    let executed = released_executed f me s e (leads f me s) normal refl h.executed in
+    grind (arith, h, more, held, executed)
 
 -- ---- a request's entry
 

@@ -1,7 +1,7 @@
 -- Each move keeps what a replica's state always has.
 use Rattle.std.proofs.Common.{◌≡◌, ℕ, ◌+◌, ◌-◌, ◌<◌, ◌≤◌, ◌^◌, eqb, true, false, List, [], ◌∷◌, ◌++◌, length}
 use Rattle.std.proofs.Common.{map, Some, refl, sym, ap, subst, ◌∙◌, arith, eq-eqb, None, inl, inr, IsFalse}
-use Rattle.std.specs.Prelude.{IfSome, ◌==◌, max, min}
+use Rattle.std.specs.Prelude.{IfSome, ◌==◌, max, min, slice_index}
 use Rattle.std.specs.List.{AllByRecursion}
 use Rattle.std.proofs.lemmas.Bool.{ltb-true, not-true, and_parts, cond_both}
 use Rattle.std.proofs.lemmas.Bool.Decides.{nat_tests}
@@ -11,7 +11,6 @@ use Rattle.nz_base.specs.declared.actor.Actor.{Actor}
 use Rattle.nz_base.specs.declared.actor.Actor.TheVariants.{Replica, Proxy}
 use Rattle.nz_base.specs.declared.key.Entry.{Entry}
 use Rattle.nz_base.specs.Key.{id_of}
-use Rattle.nz_base.proofs.Booleans.{true_and_false}
 use Rattle.nz_base.specs.declared.limits.TheConstants.{MAX_ENTRIES, MAX_VIEW, VIEW_TIMEOUT_TICKS, REJOIN_ASK_TICKS}
 use Rattle.nz_merge.specs.Merged.{greatest, merged}
 use Rattle.nz_msg.specs.Fields as fields
@@ -40,7 +39,7 @@ use Rattle.nz_machine.specs.declared.data.Status.TheVariants.{Normal, ViewChange
 use Rattle.nz_machine.specs.rules.State.{ReplicaData, Out}
 use Rattle.nz_machine.specs.rules.Facts.{FitsEntry, AreCounters, IsCarried, FitsReport, InBounds, HasMode}
 use Rattle.nz_machine.specs.rules.Facts.{AreApart, AreTables, AreExecuted, AreReports, IsRejoin, HasFacts}
-use Rattle.nz_machine.specs.rules.Replicas.{is_changing, is_up, is_rejoining, is_down, leads}
+use Rattle.nz_machine.specs.rules.Replicas.{is_changing, is_rejoining, is_down}
 use Rattle.nz_machine.specs.rules.Requests.{with_origin, origin_of, request_rule}
 use Rattle.nz_machine.specs.rules.Releases.{release_rule}
 use Rattle.nz_machine.specs.rules.LogMods.{synced_with, overtaken_to_late, with_ack, with_commit, log_mod_rule, fetch_rule, fetch_reply_rule, sync_report_rule}
@@ -113,16 +112,7 @@ FactsIn f me Taking s = IsTaking f me s
 -- ---- while keys are taken
 
 take_kept : (f me : ℕ) (s : ReplicaData) → HasFacts f me s → IsTaking f me s
-take_kept f me s h = record {
-  bounds = h.bounds;
-  mode = h.mode;
-  entries = apart_held s.log s.early s.late h.entries;
-  commit = h.commit;
-  tables = h.tables;
-  executed = h.executed;
-  reports = h.reports;
-  rejoin = h.rejoin;
-}
+take_kept f me s h = let apart = apart_held s.log s.early s.late h.entries in grind (arith, h, apart)
 
 synced_apart : (f me : ℕ) (heard : Heard) → HearsFit f me heard → (s : ReplicaData) (e : Entry) → MaySync f me heard s e
     → AreApart s.log s.early s.late → AreApart (synced_with s e).log (synced_with s e).early (synced_with s e).late
@@ -136,47 +126,18 @@ synced_apart f me heard fit s e m h =
 sync_kept : (f me : ℕ) (heard : Heard) → HearsFit f me heard → (s : ReplicaData) (e : Entry) → MaySync f me heard s e → IsTaking f me s
     → IsTaking f me (synced_with s e)
 sync_kept f me heard fit s e m h =
-    let so_far = h.commit in
-    record {
-      bounds = h.bounds;
-      mode = h.mode;
-      entries = synced_apart f me heard fit s e m h.entries;
-      commit = omega (arith, so_far);
-      tables = h.tables;
-      executed = record {
-        answers = h.executed.answers;
-        led = λ _ lead. true_and_false (leads f me s) lead m.told.leader.follows;
-        forgotten = λ away. true_and_false (is_up s.status) (normal_up s.status m.told.leader.normal) away;
-      };
-      reports = h.reports;
-      rejoin = h.rejoin;
-    }
+    let apart = synced_apart f me heard fit s e m h.entries in
+    let leader = m.told.leader in
+    let up = normal_up s.status leader.normal in
+    grind (arith, h, apart, leader, up)
 
 overtake_kept : (f me : ℕ) (s : ReplicaData) → IsTaking f me s → HasFacts f me (overtaken_to_late s)
-overtake_kept f me s h = record {
-  bounds = h.bounds;
-  mode = h.mode;
-  entries = record { arranged = arranged_overtaken s.log s.early s.late h.entries; few = h.entries.sound.few; within = h.entries.sound.within };
-  commit = h.commit;
-  tables = h.tables;
-  executed = h.executed;
-  reports = h.reports;
-  rejoin = h.rejoin;
-}
+overtake_kept f me s h = let held = arranged_overtaken s.log s.early s.late h.entries in grind (arith, h, held)
 
 -- ---- the commit point and the reports of sync points
 
 committed_kept : (f me : ℕ) (s : ReplicaData) (commit : ℕ) → HasFacts f me s → commit ≤ s.log.synced → HasFacts f me (record s { commit = commit })
-committed_kept f me s commit h low = record {
-  bounds = h.bounds;
-  mode = h.mode;
-  entries = h.entries;
-  commit = low;
-  tables = h.tables;
-  executed = h.executed;
-  reports = h.reports;
-  rejoin = h.rejoin;
-}
+committed_kept f me s commit h low = grind (arith, h, low)
 
 tallied_low : (f me named : ℕ) (s : ReplicaData) → IsLeader f me s.status s.view named → HasFacts f me s → (with_commit f me s).commit ≤ s.log.synced
 tallied_low f me named s leader h =
@@ -189,27 +150,10 @@ tallied_low f me named s leader h =
 note_kept : (f me : ℕ) (s : ReplicaData) (sender count : ℕ) → HasFacts f me s → count ≤ length s.log.entries → HasFacts f me (with_ack s sender count)
 note_kept f me s sender count h low =
     let most = h.entries.few in
-    record {
-      bounds = h.bounds;
-      mode = h.mode;
-      entries = h.entries;
-      commit = h.commit;
-      tables = record {
-        vector = h.tables.vector;
-        acks = set_long s.ack sender _ ∙ h.tables.acks;
-        few = noted_low MAX_ENTRIES s.ack sender count (omega (arith, low, most)) h.tables.few;
-        origins = h.tables.origins;
-      };
-      executed = record {
-        answers = h.executed.answers;
-        led = λ normal lead.
-            let d = h.executed.led normal lead in
-            record { synced = d.synced; results = d.results; acks = noted_low (length s.log.entries) s.ack sender count low d.acks };
-        forgotten = h.executed.forgotten;
-      };
-      reports = h.reports;
-      rejoin = h.rejoin;
-    }
+    let long = set_long s.ack sender (max (slice_index s.ack sender) count) in
+    let few = noted_low MAX_ENTRIES s.ack sender count (omega (arith, low, most)) h.tables.few in
+    let acks = noted_low (length s.log.entries) s.ack sender count low in
+    grind (arith, h, long, few, acks)
 
 -- ---- each move
 
