@@ -26,7 +26,7 @@ pub mod Accepted
 pub mod Keyed
 pub mod Supporting
 pub mod Committing
-pub mod TurnDoes
+pub mod OutcomeDoes
 pub mod Following
 pub mod Starts
 pub mod Begun

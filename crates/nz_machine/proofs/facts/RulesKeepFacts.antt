@@ -39,6 +39,7 @@ use Rattle.nz_machine.proofs.facts.Stores.{answer_fits, replies_pushed}
 use Rattle.nz_machine.proofs.facts.ArrangedEntries.{arranged_early, arranged_release}
 use Rattle.nz_machine.proofs.facts.Guards.{normal_up}
 
+-- the entries of a state with the facts are in order, each in one place
 pub arranged : (f me : ℕ) (s : ReplicaData) → HasFacts f me s → AreArranged s.log.entries s.early s.late
 arranged f me s h = h.entries.arranged
 
@@ -48,8 +49,8 @@ fresh f mode nonce = let s = first_replica f in record s { status = mode; rejoin
 fresh_has_facts : (f me : ℕ) (mode : Status) (nonce : ℕ) → nonce < 2 ^ 64 → HasFacts f me (fresh f mode nonce)
 unfolding replies_from
 fresh_has_facts f me mode nonce low = record {
-  bounds = record { clock = omega arith; view = omega arith };
-  mode = record { last = omega arith; normal = λ h. refl; quiet = omega arith; since = omega arith; rejoining = λ h. omega arith };
+  clocks = record { clock = omega arith; quiet = omega arith; since = omega arith; rejoining = λ h. omega arith };
+  mode = record { view = omega arith; last = omega arith; normal = λ h. refl };
   entries = record { arranged = record { rising = tt; own_ids = tt; fit = tt }; few = omega arith; within = omega arith };
   commit = omega arith;
   tables = record {
@@ -78,9 +79,6 @@ pub restarted_has_facts : (f me nonce : ℕ) → nonce < 2 ^ 64 → HasFacts f m
 restarted_has_facts f me nonce low = fresh_has_facts f me Rejoining nonce low
 
 -- ---- one word
-
-pub clock_keeps : (f me : ℕ) (s : ReplicaData) (clock : ℕ) → HasFacts f me s → HasFacts f me (at_clock s clock)
-clock_keeps f me s clock h = grind (arith, h)
 
 pub origin_keeps : (f me : ℕ) (s : ReplicaData) (id : Id) (origin : Origin) → HasFacts f me s → IsKnown (id, origin)
     → HasFacts f me (record s { origin = insert_entry id_eq s.origin id origin })

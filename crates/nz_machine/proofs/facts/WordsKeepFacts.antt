@@ -24,7 +24,7 @@ use Rattle.nz_machine.specs.declared.data.Reported.{Reported}
 use Rattle.nz_machine.specs.declared.data.Rejoin.{Rejoin}
 use Rattle.nz_machine.specs.declared.data.ToldView.{ToldView}
 use Rattle.nz_machine.specs.rules.State.{ReplicaData}
-use Rattle.nz_machine.specs.rules.Facts.{FitsEntry, AreCounters, IsCarried, FitsReport, FitsTold, AreHeld, AreReports, IsRejoin, HasFacts}
+use Rattle.nz_machine.specs.rules.Facts.{FitsEntry, AreCounters, IsCarried, FitsReport, FitsTold, AreClocks, AreHeld, AreReports, IsRejoin, HasFacts}
 use Rattle.nz_machine.specs.rules.Replicas.{is_rejoining, commands}
 use Rattle.nz_machine.specs.rules.Views.{in_view_change}
 use Rattle.nz_machine.specs.rules.LogMods.{after_hearing}
@@ -41,15 +41,9 @@ use Rattle.nz_machine.proofs.lists.Distinct.{distinct_more, distinct_filter, dis
 
 -- ---- the counts of ticks
 
-pub quiet_keeps : (f me : ℕ) (s : ReplicaData) (n : ℕ) → HasFacts f me s → n ≤ VIEW_TIMEOUT_TICKS → HasFacts f me (record s { quiet = n })
-quiet_keeps f me s n h low = grind (arith, h, low)
-
-pub hearing_keeps : (f me : ℕ) (s : ReplicaData) → HasFacts f me s → HasFacts f me (after_hearing s)
-hearing_keeps f me s h = quiet_keeps f me s 0 h (omega arith)
-
-pub since_keeps : (f me : ℕ) (s : ReplicaData) (n : ℕ) → HasFacts f me s → n < VIEW_TIMEOUT_TICKS → (IsTrue (is_rejoining s.status) → n < REJOIN_ASK_TICKS)
-    → HasFacts f me (record s { since = n })
-since_keeps f me s n h low rejoins = grind (arith, h, low, rejoins)
+pub clocks_keep : (f me : ℕ) (s : ReplicaData) (clock quiet since : ℕ) → HasFacts f me s → AreClocks s.status clock quiet since
+    → HasFacts f me (record s { clock = clock; quiet = quiet; since = since })
+clocks_keep f me s clock quiet since h clocks = grind (arith, h, clocks)
 
 -- a count that begins anew at the end of its period
 pub counted_low : (period n : ℕ) → n < period → (if n + 1 == period then 0 else n + 1) < period
