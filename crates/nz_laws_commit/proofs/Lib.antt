@@ -10,7 +10,6 @@ pub mod Instance
 pub mod Places
 pub mod FactsStay
 pub mod ReadMessages
-pub mod Chosen
 pub mod NotedWereSent
 pub mod Answering
 pub mod Standings
