@@ -40,7 +40,7 @@ use Rattle.nz_base.specs.Moments.{At}
 use Rattle.nz_laws_commit.specs.Present.{AreUpWithin}
 use Rattle.nz_laws_commit.proofs.Accepted.{Gives}
 use Rattle.nz_laws_commit.proofs.Answering.{given_later}
-use Rattle.nz_laws_commit.proofs.Chosen.{HasQuorum, BySlow, ByFast}
+use Rattle.nz_machine.proofs.facts.Choices.{quorum_leads}
 use Rattle.nz_laws_commit.proofs.Instance.{led_log}
 use Rattle.nz_laws_commit.proofs.Led.{given_cut}
 use Rattle.nz_laws_commit.proofs.NotedWereSent.{IsSaid, Fastly, Slowly, IsBacked}
@@ -98,10 +98,6 @@ view_before g r J m v w by brings =
 
 -- ---- the view of an accepted answer
 
-leads : (f : ℕ) (replies : List Reply) (reply : Reply) → HasQuorum f replies reply → is_of_leader f reply ≡ true
-leads f replies reply (BySlow enough) = (and_parts (is_of_leader f reply) _ enough).0
-leads f replies reply (ByFast enough) = (and_parts (is_of_leader f reply) _ enough).0
-
 -- the source's record sends replies of no other view
 source_view : (g : Group) (J : List Record) (id : Id) (reply : Reply) (source : ReplySource) (v : ℕ) → World g J → IsBacked g J id reply source
     → RepliesIn v source.run → v ≡ view_of reply
@@ -112,7 +108,7 @@ source_view g J id reply source v w backed replies = by_said backed.own
         view_before g s.newest s.older m v (at_world g J (s.newest ∷ s.older) w s.at) s.actor (subst (RepliesIn v) s.is replies)
         ∙ sym s.shows.view ∙ sym (ap view_of s.reply_is)
     by_said (Slowly m from s) =
-        absurd (true_and_false (is_of_leader g.f reply) (leads g.f backed.replies reply backed.quorum) (ap (is_of_leader g.f) s.reply_is))
+        absurd (true_and_false (is_of_leader g.f reply) (quorum_leads g.f backed.replies reply backed.quorum) (ap (is_of_leader g.f) s.reply_is))
 
 -- the prefix of an acceptance is cut from the log that the leader of its view leads with later in the run
 pub prefix_led : (g : Group) (later : List Record) (r : Record) (J : List Record) (id : Id) (a : Answer) (v : ℕ) → World g later → At later J

@@ -138,6 +138,7 @@ gives_by g r J id a path w t to =
       given = subst (λ (x : Answer). IsGiven g J (view_of mine.reply) id x prefix) (sym t.answer_is) mine.given;
     }
 
+-- an accepted answer was given by a reply over a prefix of the log of the leader of its view
 pub gives : (g : Group) (r : Record) (J : List Record) (id : Id) (a : Answer) (path : Path) → World g (r ∷ J) → AcceptsAnswer g r J id a path
     → Gives g r J id a
 gives g r J id a path w t =

@@ -10,19 +10,20 @@ use Rattle.nz_base.proofs.Moments.{at_then, at_tail}
 use Rattle.nz_msg.specs.declared.message.SyncReportBody.{SyncReportBody}
 use Rattle.nz_msg.specs.declared.message.Message.TheVariants as messages
 use Rattle.nz_machine.specs.declared.event.Record.{Record}
-use Rattle.nz_machine.specs.rules.State.{Group}
+use Rattle.nz_machine.specs.rules.State.{ReplicaData, Group}
 use Rattle.nz_machine.specs.rules.Replicas.{is_normal}
+use Rattle.nz_machine.specs.rules.LogMods.{with_ack}
 use Rattle.nz_machine.specs.runs.Shows.{ShowsReport}
 use Rattle.nz_machine.specs.runs.World.{World}
 use Rattle.nz_machine.specs.runs.Incarnations.{replica_at}
 use Rattle.nz_machine.proofs.runs.Moments.{at_world}
 use Rattle.nz_machine.proofs.shows.ReadShows.{shown_by}
-use Rattle.nz_laws_cv.proofs.Turns.{TurnState, tallying, Turn, Stays, Release, Merge, Sync, Tally, Enter, Follow, Answer, Collect, Begin}
-use Rattle.nz_laws_cv.proofs.Turns.{Start, Fall, Wake, HearVector, Count, HearView, Forget, AskLog, Return, Back}
-use Rattle.nz_laws_cv.proofs.TurnRules.{heard_by}
+use Rattle.nz_laws_cv.proofs.Outcomes.{Outcome, Stays, Release, Merge, Sync, Tally, Enter, Follow, Answer, Collect, Begin}
+use Rattle.nz_laws_cv.proofs.Outcomes.{Start, Fall, Wake, HearVector, Count, HearView, Forget, AskLog, Return, Back}
+use Rattle.nz_laws_cv.proofs.OutcomeRules.{heard_by}
 use Rattle.nz_laws_cv.proofs.Hearing.{hears_fit}
 use Rattle.nz_laws_cv.proofs.Modes.{normal_no_rejoin}
-use Rattle.nz_laws_cv.proofs.Steps.{turn_state_at, Acts, Rests, steps}
+use Rattle.nz_laws_cv.proofs.Steps.{law_state_at, Acts, Rests, steps}
 use Rattle.nz_laws_cv.proofs.WithinIncarnation.{first_state}
 use Rattle.nz_laws_cv.proofs.Collected.{zeros}
 use Rattle.nz_laws_cv.proofs.SentShows as letters
@@ -69,12 +70,12 @@ max_cases a b = elim (cases_lt a b) [ inl lt ↦ inr (omega (arith, lt)) | inr l
 
 module _ (g : Group) (J : List Record) where
   -- the counts of who leads its view
-  abbrev pub AreCounts : ℕ → TurnState → Type 0
+  abbrev pub AreCounts : ℕ → ReplicaData → Type 0
   AreCounts y s = is_normal s.status ≡ true → eqb (leader_of g.f s.view) y ≡ true → (z : ℕ) → 0 < slice_index s.ack z
       → HadSynced (logs_of g) s.view z (slice_index s.ack z) J
 
-  tallied : (y sender : ℕ) (b : SyncReportBody) (s : TurnState) → HadSynced (logs_of g) s.view sender b.synced J → AreCounts y s
-      → AreCounts y (tallying g.f y s sender b.synced)
+  tallied : (y sender : ℕ) (b : SyncReportBody) (s : ReplicaData) → HadSynced (logs_of g) s.view sender b.synced J → AreCounts y s
+      → AreCounts y (with_ack s sender b.synced)
   tallied y sender b s had h normal led z some =
       elim (set_cases s.ack sender z (max (slice_index s.ack sender) b.synced)) [
         | inl here ↦ subst (λ (x : ℕ). HadSynced (logs_of g) s.view x count J) (sym here.0) (by_max here.1 (max_cases (slice_index s.ack sender) b.synced))
@@ -82,7 +83,7 @@ module _ (g : Group) (J : List Record) where
       ]
     where
       count : ℕ
-      count = slice_index (tallying g.f y s sender b.synced).ack z
+      count = slice_index (with_ack s sender b.synced).ack z
 
       by_max : count ≡ max (slice_index s.ack sender) b.synced
           → (max (slice_index s.ack sender) b.synced ≡ slice_index s.ack sender) ⊎ (max (slice_index s.ack sender) b.synced ≡ b.synced)
@@ -95,7 +96,7 @@ module _ (g : Group) (J : List Record) where
       (told : (sender : ℕ) (b : SyncReportBody) → heard_by g y r.event ≡ Some (Replica sender, messages.SyncReport b)
       → HadSynced (logs_of g) b.view sender b.synced J)
     where
-      counts_kept : (s t : TurnState) → Turn g.f y r.event (heard_by g y r.event) s t → AreCounts y s → AreCounts y t
+      counts_kept : (s t : ReplicaData) → Outcome g.f y r.event (heard_by g y r.event) s t → AreCounts y s → AreCounts y t
       counts_kept s _ Stays h = h
       counts_kept s _ (Release log normal more) h = h
       counts_kept s _ (Merge sender m u new normal) h = h
@@ -106,7 +107,8 @@ module _ (g : Group) (J : List Record) where
       counts_kept s _ (Follow sender m u new w up later) h = λ normal. absurd cc
       counts_kept s _ (Answer sender b new normal same) h = h
       counts_kept s _ (Collect sender b new may base on) h = λ normal. absurd cc
-      counts_kept s _ (Begin sender b new may base on full) h = λ normal led z some. absurd (let none = zeros (replica_count g.f) z in omega (arith, none, some))
+      counts_kept s _ (Begin sender b new may base on full) h =
+          λ normal led z some. absurd (let none = zeros (replica_count g.f) z in omega (arith, none, some))
       counts_kept s _ (Start sender b new may) h =
           λ normal led. absurd (((hears_fit g y r.event).hears sender _ new.is).other (may.leader ∙ eqb-true (leader_of g.f b.view) y led))
       counts_kept s _ (Fall e) h = λ normal. absurd cc
@@ -115,7 +117,7 @@ module _ (g : Group) (J : List Record) where
       counts_kept s _ (Count sender b new ours many) h = λ normal. normal_no_rejoin s.status normal ours.rejoining
       counts_kept s _ (HearView sender b new ours) h = λ normal. normal_no_rejoin s.status normal ours.rejoining
       counts_kept s _ (Forget sender b new ours) h = λ normal. normal_no_rejoin s.status normal ours.rejoining
-      counts_kept s _ (AskLog sender b new ours tells is many) h = λ normal. normal_no_rejoin s.status normal ours.rejoining
+      counts_kept s _ (AskLog sender b new ours many) h = λ normal. normal_no_rejoin s.status normal ours.rejoining
       counts_kept s _ (Return sender b new ours late leader) h =
           λ normal led. absurd (((hears_fit g y r.event).hears sender _ new.is).other (leader ∙ eqb-true (leader_of g.f b.view) y led))
       counts_kept s _ (Back rejoining phase) h = λ normal. normal_no_rejoin s.status normal rejoining
@@ -128,11 +130,12 @@ module _ (g : Group) (J : List Record) where
         record { K = had.K; moment = at_then J K had.K (at_tail J r K at) had.moment; normal = had.normal; enough = had.enough }
 
     -- at each moment
-    pub counts_at : (y : ℕ) (K : List Record) → At J K → AreCounts y (turn_state_at g y K)
-    counts_at y [] at = subst (AreCounts y) (sym (first_state g y)) (λ normal led z some. absurd (let none = zeros (replica_count g.f) z in omega (arith, none, some)))
+    pub counts_at : (y : ℕ) (K : List Record) → At J K → AreCounts y (law_state_at g y K)
+    counts_at y [] at = subst (AreCounts y) (sym (first_state g y))
+        (λ normal led z some. absurd (let none = zeros (replica_count g.f) z in omega (arith, none, some)))
     counts_at y (r ∷ K) at =
         let old = counts_at y K (at_tail J r K at) in
         elim (steps g y r K) [
-          | Acts a turn ↦ counts_kept y r K (report_at y r K at a) (turn_state_at g y K) (turn_state_at g y (r ∷ K)) turn old
+          | Acts a outcome ↦ counts_kept y r K (report_at y r K at a) (law_state_at g y K) (law_state_at g y (r ∷ K)) outcome old
           | Rests e same ↦ subst (AreCounts y) (sym same) old
         ]

@@ -24,7 +24,7 @@ use Rattle.nz_machine.specs.runs.Incarnations.{replica_at}
 use Rattle.nz_machine.specs.runs.Leading.{leader_at, is_led}
 use Rattle.nz_machine.specs.runs.Begun.{begins, start, IsMemberOf}
 use Rattle.nz_machine.proofs.runs.Moments.{at_world}
-use Rattle.nz_laws_cv.proofs.TurnRules.{changing_up}
+use Rattle.nz_laws_cv.proofs.OutcomeRules.{changing_up}
 use Rattle.nz_laws_cv.proofs.WithinIncarnation.{sound_at}
 use Rattle.nz_laws_cv.proofs.Showing.{shows}
 use Rattle.nz_laws_cv.proofs.Changes.{reporter}

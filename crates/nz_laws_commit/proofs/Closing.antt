@@ -152,6 +152,7 @@ module _ {R : Type 0} (g : GroupStates R) where
     lead_grows v K (r ∷ L) at (inr older) =
         prefix_then (lead_of g v K) (lead_of g v L) (lead_of g v (r ∷ L)) (lead_grows v K L (at_tail J r L at) older) (lead_step v r L at)
 
+    -- the log of a view's leader begins with the view's start
     pub starts : (v : ℕ) (S : List Key) (K : List R) → At J K → start_of g v K ≡ Some S → IsPrefix S (lead_of g v K)
     unfolding start_of lead_of
     starts v S [] at e = by_test (eqb v 0) e
@@ -264,6 +265,7 @@ module _ {R : Type 0} (g : GroupStates R) where
           | inr other ↦ grew_same y K (r ∷ K) (s.stays y r K at other)
         ]
 
+    -- within an incarnation a replica that is up only grows
     pub monotone : (y : ℕ) (K L : List R) → At J L → At L K → inc_of g y K ≡ inc_of g y L → IsUp (g.state y K).status → IsUp (g.state y L).status
         → HasGrown M y K L
     monotone y K [] at here same up now = subst (λ (x : List R). HasGrown M y K x) here (grew_self y K)

@@ -29,19 +29,20 @@ use Rattle.nz_machine.specs.rules.Facts.{HasFacts}
 use Rattle.nz_machine.specs.rules.State.{ReplicaData, Group}
 use Rattle.nz_machine.specs.rules.Replicas.{is_normal, is_changing, is_up}
 use Rattle.nz_machine.specs.rules.Begins.{own_change}
-use Rattle.nz_machine.specs.rules.LogMods.{commit_point}
+use Rattle.nz_machine.specs.rules.LogMods.{commit_point, with_ack, with_commit}
+use Rattle.nz_machine.specs.rules.Vectors.{with_vector}
 use Rattle.nz_machine.specs.runs.World.{Has, World}
 use Rattle.nz_machine.specs.runs.Incarnations.{replica_at}
 use Rattle.nz_machine.specs.runs.Leading.{is_normal_in, leader_at, is_led}
-use Rattle.nz_machine.proofs.facts.Guards.{HearsLeader}
+use Rattle.nz_machine.proofs.facts.Guards.{normal_up, HearsLeader}
 use Rattle.nz_machine.proofs.runs.Moments.{at_world}
 use Rattle.nz_machine.proofs.runs.Runs.{stays}
-use Rattle.nz_laws_cv.proofs.Turns.{TurnState, tallying, Taken, Modifies, Grown, Same, More, MayStart, Base, Turn, Stays, Release, Merge, Sync, Tally}
-use Rattle.nz_laws_cv.proofs.Turns.{Enter, Follow, Answer, Collect, Begin, Start, Fall, Wake, HearVector, Count, HearView, Forget, AskLog, Return, Back}
-use Rattle.nz_laws_cv.proofs.TurnRules.{normal_up, changing_up, up_kinds, heard_by}
+use Rattle.nz_laws_cv.proofs.Outcomes.{law_state, Taken, Modifies, Grown, Same, More, Base, Outcome, Stays, Release, Merge, Sync, Tally}
+use Rattle.nz_laws_cv.proofs.Outcomes.{Enter, Follow, Answer, Collect, Begin, Start, Fall, Wake, HearVector, Count, HearView, Forget, AskLog, Return, Back}
+use Rattle.nz_laws_cv.proofs.OutcomeRules.{changing_up, heard_by}
 use Rattle.nz_laws_cv.proofs.Hearing.{hears_fit}
-use Rattle.nz_laws_cv.proofs.Modes.{IsSound, up_no_rejoin, normal_no_change, collects_low}
-use Rattle.nz_laws_cv.proofs.Steps.{turn_state_at, Acts, Rests, steps}
+use Rattle.nz_laws_cv.proofs.Modes.{IsSound, up_no_rejoin, normal_no_change, collects_low, starts_low}
+use Rattle.nz_laws_cv.proofs.Steps.{law_state_at, Acts, Rests, steps}
 use Rattle.nz_laws_cv.proofs.WithinIncarnation.{sound_at, first_state, in_group}
 use Rattle.nz_laws_cv.proofs.Showing.{shows, same_replica}
 use Rattle.nz_laws_cv.proofs.Beginnings.{normal_in_is, is_in_view}
@@ -56,7 +57,7 @@ use Rattle.nz_laws_commit.proofs.OneView.{run_laws}
 use Rattle.nz_laws_commit.proofs.Deciding.{slowly}
 use Rattle.nz_laws_commit.proofs.FactsStay.{facts_stay}
 use Rattle.nz_laws_commit.proofs.Instance.{up_status, is_normal_at, normal_at_is, led_by, start_now}
-use Rattle.nz_laws_commit.proofs.TurnDoes.{IsToldMod, IsToldLog, told_mod, told_start, told_state, knows_log}
+use Rattle.nz_laws_commit.proofs.OutcomeDoes.{IsToldMod, IsToldLog, told_mod, told_start, told_state, knows_log}
 use Rattle.nz_laws_commit.proofs.Begun.{all_reports}
 use Rattle.nz_laws_commit.proofs.Whole.{follows}
 use Rattle.nz_laws_commit.proofs.CommitPoints.{commit_counts}
@@ -73,11 +74,11 @@ take_long n xs le = length-take-le n xs le
 
 -- ---- the committed keys of a replica
 
-abbrev pub committed_keys : TurnState → List Key
+abbrev pub committed_keys : ReplicaData → List Key
 committed_keys s = take s.commit (keys_of s.log.entries)
 
 -- what is committed after a record has support, and begins with what was committed before it
-pub record KeepsCommitted (g : Group) (J : List Record) (s t : TurnState) : Type 0 where
+pub record KeepsCommitted (g : Group) (J : List Record) (s t : ReplicaData) : Type 0 where
   pub supported : is_up t.status ≡ true → HasSupport g t.last (committed_keys t) J
   pub extends : is_up s.status ≡ true → is_up t.status ≡ true → IsPrefix (committed_keys s) (committed_keys t)
 
@@ -88,7 +89,7 @@ module _ (g : Group) (J : List Record) (w : World g J) where
   -- what each replica had committed at each moment so far has support
   abbrev AreSupportedIn : List Record → Type 0
   AreSupportedIn K = (z : ℕ) (L : List Record) → At K L → is_up (replica_at g z L).status ≡ true
-      → HasSupport g (replica_at g z L).last (committed_keys (turn_state_at g z L)) J
+      → HasSupport g (replica_at g z L).last (committed_keys (law_state_at g z L)) J
 
   facts_at : (y : ℕ) (K : List Record) → At J K → HasFacts g.f y (replica_at g y K)
   facts_at y K at = facts_stay g K y (at_world g J K w at)
@@ -102,7 +103,7 @@ module _ (g : Group) (J : List Record) (w : World g J) where
       let keys = length-map (replica_at g y K).log.entries (λ (e : Entry). e.key) in
       omega (arith, low, few, keys)
 
-  committed_long : (y : ℕ) (K : List Record) → At J K → length (committed_keys (turn_state_at g y K)) ≡ (replica_at g y K).commit
+  committed_long : (y : ℕ) (K : List Record) → At J K → length (committed_keys (law_state_at g y K)) ≡ (replica_at g y K).commit
   committed_long y K at = take_long (replica_at g y K).commit (keys_of (replica_at g y K).log.entries) (commit_within y K at)
 
   -- ---- a leader's log, as it was told
@@ -218,7 +219,7 @@ module _ (g : Group) (J : List Record) (w : World g J) where
       abbrev reported : Change → List Key
       reported c = take c.commit (keys_of c.log)
 
-      reported_is : (c : Change) (i : IsReportRead c) → committed_keys (turn_state_at g c.sender i.moment) ≡ reported c
+      reported_is : (c : Change) (i : IsReportRead c) → committed_keys (law_state_at g c.sender i.moment) ≡ reported c
       reported_is c i = λ k. take (i.commit k) (keys_of (i.entries k))
 
       reported_support : (c : Change) (i : IsReportRead c) → HasSupport g (replica_at g c.sender i.moment).last (reported c) J
@@ -234,7 +235,7 @@ module _ (g : Group) (J : List Record) (w : World g J) where
       reported_starts c i = support_starts g J laws (replica_at g c.sender i.moment).last v (reported c) start_keys (reported_support c i) i.last started
 
       -- the commit is the greatest that is reported, as far as the log goes
-      begins : KeepsCommitted g J (turn_state_at g l K) (turn_state_at g l B)
+      begins : KeepsCommitted g J (law_state_at g l K) (law_state_at g l B)
       begins =
           let own = own_change l (leader_at g v K) in
           let top = is_greatest (λ (c : Change). c.commit) own (map (λ (x : Reported). x.change) (leader_at g v B).changes) in
@@ -254,7 +255,8 @@ module _ (g : Group) (J : List Record) (w : World g J) where
           let earlier_last = i.last in
           let own_starts = reported_starts own own_read in
           let own_long = reported_long own own_read in
-          let own_most = within_greatest (λ (c : Change). c.commit) reports own (contains_first own (map (λ (x : Reported). x.change) (leader_at g v B).changes)) in
+          let own_most = within_greatest (λ (c : Change). c.commit) reports own
+          (contains_first own (map (λ (x : Reported). x.change) (leader_at g v B).changes)) in
           let own_few = prefix_length (reported own) start_keys own_starts in
           record {
             supported = λ up. subst (λ (u : ℕ). HasSupport g u (take count start_keys) J) (sym last)
@@ -268,8 +270,8 @@ module _ (g : Group) (J : List Record) (w : World g J) where
   -- ---- a record of a replica
 
   module _ (y : ℕ) (r : Record) (K : List Record) (at : At J (r ∷ K)) (earlier : AreSupportedIn K) (a : r.actor ≡ Replica y) where
-    abbrev s : TurnState
-    s = turn_state_at g y K
+    abbrev s : ReplicaData
+    s = law_state_at g y K
 
     before : At J K
     before = at_tail J r K at
@@ -286,18 +288,18 @@ module _ (g : Group) (J : List Record) (w : World g J) where
     few : s.commit ≤ length (keys_of s.log.entries)
     few = commit_within y K before
 
-    abbrev Keeps : TurnState → Type 0
+    abbrev Keeps : ReplicaData → Type 0
     Keeps t = KeepsCommitted g J s t
 
     -- it is not up after the record
-    away : (t : TurnState) → (is_up t.status ≡ true → ⊥) → Keeps t
+    away : (t : ReplicaData) → (is_up t.status ≡ true → ⊥) → Keeps t
     away t gone = record { supported = λ up. absurd (gone up); extends = λ was up. absurd (gone up) }
 
     same_log : IsPrefix s.log.entries s.log.entries
     same_log = prefix_same s.log.entries s.log.entries refl
 
     -- the commit and the last view are as they were, and the log only grows
-    grown : (t : TurnState) → t.commit ≡ s.commit → t.last ≡ s.last → (is_up t.status ≡ true → is_up s.status ≡ true)
+    grown : (t : ReplicaData) → t.commit ≡ s.commit → t.last ≡ s.last → (is_up t.status ≡ true → is_up s.status ≡ true)
         → IsPrefix s.log.entries t.log.entries → Keeps t
     grown t commit last up more =
         let keys = prefix_map (λ (e : Entry). e.key) s.log.entries t.log.entries more in
@@ -315,10 +317,10 @@ module _ (g : Group) (J : List Record) (w : World g J) where
 
     -- what a leader had committed when it told its log
     told_supported : (L v : ℕ) (told : List Record) → At K told → is_normal (replica_at g L told).status ≡ true → (replica_at g L told).view ≡ v
-        → HasSupport g v (committed_keys (turn_state_at g L told)) J
+        → HasSupport g v (committed_keys (law_state_at g L told)) J
     told_supported L v told there normal view =
         let last = (sound_at g told (at_world g J told w (at_then J K told before there)) L).normal normal ∙ view in
-        subst (λ (u : ℕ). HasSupport g u (committed_keys (turn_state_at g L told)) J) last
+        subst (λ (u : ℕ). HasSupport g u (committed_keys (law_state_at g L told)) J) last
         (earlier L told there (normal_up (replica_at g L told).status normal))
 
     -- ---- a log modification is taken
@@ -362,12 +364,12 @@ module _ (g : Group) (J : List Record) (w : World g J) where
             let long = committed_long sender told.told there in
             let short = length-take n (keys_of log.entries) in
             let commit = told.commit in
-            let first = shorter_prefix Q (committed_keys (turn_state_at g sender told.told)) lead
+            let first = shorter_prefix Q (committed_keys (law_state_at g sender told.told)) lead
             (prefix_then Q (take log.synced (keys_of log.entries)) lead in_part part)
-            (prefix_then (committed_keys (turn_state_at g sender told.told)) told_keys lead (prefix_take _ told_keys) in_lead)
+            (prefix_then (committed_keys (law_state_at g sender told.told)) told_keys lead (prefix_take _ told_keys) in_lead)
             (omega (arith, long, short, commit, told_low)) in
             subst (λ (v : ℕ). HasSupport g v Q J) (sym (sound.normal normal))
-            (support_shorter g J laws s.view Q (committed_keys (turn_state_at g sender told.told)) first theirs)
+            (support_shorter g J laws s.view Q (committed_keys (law_state_at g sender told.told)) first theirs)
 
         abbrev count : ℕ
         count = max s.commit (min b.commit log.synced)
@@ -380,7 +382,7 @@ module _ (g : Group) (J : List Record) (w : World g J) where
               (taken (min b.commit log.synced) (omega arith) (omega arith))
         ]
 
-        modified : (t : TurnState) → t.last ≡ s.last → committed_keys t ≡ take count (keys_of log.entries) → Keeps t
+        modified : (t : ReplicaData) → t.last ≡ s.last → committed_keys t ≡ take count (keys_of log.entries) → Keeps t
         modified t last is = record {
           supported = λ up. subst (λ (v : ℕ). HasSupport g v (committed_keys t) J) (sym last)
               (subst (λ (ks : List Key). HasSupport g s.last ks J) (sym is) counted_support);
@@ -391,10 +393,10 @@ module _ (g : Group) (J : List Record) (w : World g J) where
     -- ---- a sync report is counted
 
     module _ (sender reports : ℕ) (normal : is_normal s.status ≡ true) (led : eqb (leader_of g.f s.view) y ≡ true)
-        (counts : AreCounts g J y (tallying g.f y s sender reports))
+        (counts : AreCounts g J y (law_state (with_commit g.f y (with_ack s sender reports))))
       where
-        abbrev after : TurnState
-        after = tallying g.f y s sender reports
+        abbrev after : ReplicaData
+        after = law_state (with_commit g.f y (with_ack s sender reports))
 
         abbrev point : ℕ
         point = commit_point g.f y after.ack
@@ -458,7 +460,7 @@ module _ (g : Group) (J : List Record) (w : World g J) where
       -- what the leader had committed
       theirs : HasSupport g v (take count (keys_of list)) J
       theirs =
-          let is : committed_keys (turn_state_at g L told.told) ≡ take count (keys_of list) = λ i. take (told.commit i) (keys_of (told.entries i)) in
+          let is : committed_keys (law_state_at g L told.told) ≡ take count (keys_of list) = λ i. take (told.commit i) (keys_of (told.entries i)) in
           subst (λ (ks : List Key). HasSupport g v ks J) is (told_supported L v told.told told.moment told.normal told.view)
 
       module _ (up : is_up s.status ≡ true) (later : s.last < v) where
@@ -492,7 +494,7 @@ module _ (g : Group) (J : List Record) (w : World g J) where
                   theirs
             ]
 
-        adopts : (t : TurnState) → t.last ≡ v → committed_keys t ≡ take most (keys_of list) → Keeps t
+        adopts : (t : ReplicaData) → t.last ≡ v → committed_keys t ≡ take most (keys_of list) → Keeps t
         adopts t last is =
             let long = own_long in
             let low = prefix_length (committed_keys s) (keys_of list) own_in in
@@ -506,24 +508,18 @@ module _ (g : Group) (J : List Record) (w : World g J) where
                   (omega (arith, long, low, keys, short)));
             }
 
-    -- ---- each turn
+    -- ---- each outcome
 
     mod_taken : (sender : ℕ) (b : LogModBody) (log : Log) → HearsLeader g.f y s.status s.view sender b.view → Modifies b s.log log
-        → IsToldMod g K sender b → (t : TurnState) → t.last ≡ s.last
+        → IsToldMod g K sender b → (t : ReplicaData) → t.last ≡ s.last
         → committed_keys t ≡ take (max s.commit (min b.commit log.synced)) (keys_of log.entries) → Keeps t
     mod_taken sender b log hears changed told t last is =
         let taken = changed.taken (knows_log g y K world.1).sound (keys_of (replica_at g sender told.told).log.entries) told.keys in
         modified sender b (hears.leader ∙ ap (leader_of g.f) hears.same) hears.same hears.normal told log taken t last is
 
-    start_low : (sender view : ℕ) → MayStart g.f s sender view → s.last < view
-    start_low sender view may = elim (up_kinds s.status may.up) [
-      | inl normal ↦ let low = may.turns normal in let same = sound.normal normal in omega (arith, low, same)
-      | inr changing ↦ let low = sound.changing changing in let later = may.later in omega (arith, low, later)
-    ]
-
     -- the view begins with this record
-    begins_here : (v : ℕ) (base : List Reported) (u : List ℕ) → leader_of g.f v ≡ y → is_up s.status ≡ true → Base s v u base
-        → is_normal (replica_at g y (r ∷ K)).status ≡ true → (replica_at g y (r ∷ K)).view ≡ v → Keeps (turn_state_at g y (r ∷ K))
+    begins_here : (v : ℕ) (base : List Reported) (u : List ℕ) → leader_of g.f v ≡ y → is_up s.status ≡ true → Base (with_vector y s u) v base
+        → is_normal (replica_at g y (r ∷ K)).status ≡ true → (replica_at g y (r ∷ K)).view ≡ v → Keeps (law_state_at g y (r ∷ K))
     begins_here v base u leads up on normal view =
         let low = collects_low g.f y r.event (heard_by g y r.event) (hears_fit g y r.event) s v u base sound up on in
         let led : is_led g v (r ∷ K) ≡ true = subst (λ (z : ℕ). is_normal_in v (replica_at g z (r ∷ K)) ≡ true) (sym leads)
@@ -536,68 +532,70 @@ module _ (g : Group) (J : List Record) (w : World g J) where
               let its = now.1 in
               absurd (omega (arith, low, same, its))
         ] in
-        subst (λ (z : ℕ). KeepsCommitted g J (turn_state_at g z K) (turn_state_at g z (r ∷ K))) leads (begins v r K at earlier led not_led)
+        subst (λ (z : ℕ). KeepsCommitted g J (law_state_at g z K) (law_state_at g z (r ∷ K))) leads (begins v r K at earlier led not_led)
 
-    turn_keeps : (t : TurnState) → Turn g.f y r.event (heard_by g y r.event) s t → turn_state_at g y (r ∷ K) ≡ t → Keeps t
-    turn_keeps _ Stays is = grown _ refl refl (λ up. up) same_log
-    turn_keeps _ (Release log normal more) is = grown _ refl refl (λ up. up) more.entries
-    turn_keeps _ (Merge sender m u new normal) is = grown _ refl refl (λ up. up) same_log
-    turn_keeps _ (Sync sender b new hears le log changed) is = mod_taken sender b log hears changed (told_mod g y r K world a sender b new.is) _ refl refl
-    turn_keeps _ (Tally sender b heard normal led same low) is =
+    outcome_keeps : (t : ReplicaData) → Outcome g.f y r.event (heard_by g y r.event) s t → law_state_at g y (r ∷ K) ≡ t → Keeps t
+    outcome_keeps _ Stays is = grown _ refl refl (λ up. up) same_log
+    outcome_keeps _ (Release log normal more) is = grown _ refl refl (λ up. up) more.entries
+    outcome_keeps _ (Merge sender m u new normal) is = grown _ refl refl (λ up. up) same_log
+    outcome_keeps _ (Sync sender b new hears le log changed) is = mod_taken sender b log hears changed (told_mod g y r K world a sender b new.is) _ refl refl
+    outcome_keeps _ (Tally sender b heard normal led same low) is =
         tallies sender b.synced normal led (subst (AreCounts g J y) is (counts_at g J w y (r ∷ K) at))
-    turn_keeps _ (Enter v up later log more) is = grown _ refl refl (λ _. up) (grown_entries log more)
-    turn_keeps _ (Follow sender m u new v up later) is = grown _ refl refl (λ _. up) same_log
-    turn_keeps _ (Answer sender b new normal same) is = grown _ refl refl (λ up. up) same_log
-    turn_keeps _ (Collect sender b new may base on) is = grown _ refl refl (λ _. may.up) same_log
-    turn_keeps _ (Begin sender b new may base on full) is =
-        subst Keeps is (begins_here b.view base _ may.leads may.up on (ap (λ (x : TurnState). is_normal x.status) is) (ap (λ (x : TurnState). x.view) is))
-    turn_keeps _ (Start sender b new may) is =
-        adopts sender b.view b.entries b.commit may.leader (told_start g y r K world a sender b new.is) may.up (start_low sender b.view may) _ refl refl
-    turn_keeps _ (Fall e) is = away _ (λ up. cc)
-    turn_keeps _ (Wake nonce e down) is = away _ (λ up. cc)
-    turn_keeps _ (HearVector sender b new ours) is = away _ (λ up. up_no_rejoin s.status up ours.rejoining)
-    turn_keeps _ (Count sender b new ours many) is = away _ (λ up. up_no_rejoin s.status up ours.rejoining)
-    turn_keeps _ (HearView sender b new ours) is = away _ (λ up. up_no_rejoin s.status up ours.rejoining)
-    turn_keeps _ (Forget sender b new ours) is = away _ (λ up. up_no_rejoin s.status up ours.rejoining)
-    turn_keeps _ (AskLog sender b new ours tells same many) is = away _ (λ up. up_no_rejoin s.status up ours.rejoining)
-    turn_keeps _ (Return sender b new ours late leader) is = record {
+    outcome_keeps _ (Enter v up later log more) is = grown _ refl refl (λ _. up) (grown_entries log more)
+    outcome_keeps _ (Follow sender m u new v up later) is = grown _ refl refl (λ _. up) same_log
+    outcome_keeps _ (Answer sender b new normal same) is = grown _ refl refl (λ up. up) same_log
+    outcome_keeps _ (Collect sender b new may base on) is = grown _ refl refl (λ _. may.up) same_log
+    outcome_keeps _ (Begin sender b new may base on full) is =
+        subst Keeps is (begins_here b.view base b.vector may.leads may.up on (ap (λ (x : ReplicaData). is_normal x.status) is)
+        (ap (λ (x : ReplicaData). x.view) is))
+    outcome_keeps _ (Start sender b new may) is =
+        adopts sender b.view b.entries b.commit may.leader (told_start g y r K world a sender b new.is) may.up
+        (starts_low g.f s sender b.view sound may) _ refl refl
+    outcome_keeps _ (Fall e) is = away _ (λ up. cc)
+    outcome_keeps _ (Wake nonce e down) is = away _ (λ up. cc)
+    outcome_keeps _ (HearVector sender b new ours) is = away _ (λ up. up_no_rejoin s.status up ours.rejoining)
+    outcome_keeps _ (Count sender b new ours many) is = away _ (λ up. up_no_rejoin s.status up ours.rejoining)
+    outcome_keeps _ (HearView sender b new ours) is = away _ (λ up. up_no_rejoin s.status up ours.rejoining)
+    outcome_keeps _ (Forget sender b new ours) is = away _ (λ up. up_no_rejoin s.status up ours.rejoining)
+    outcome_keeps _ (AskLog sender b new ours many) is = away _ (λ up. up_no_rejoin s.status up ours.rejoining)
+    outcome_keeps _ (Return sender b new ours late leader) is = record {
       supported = λ up. theirs sender b.view b.entries b.commit leader (told_state g y r K world a sender b new.is);
       extends = λ was up. up_no_rejoin s.status was ours.rejoining;
     }
-    turn_keeps _ (Back rejoining phase) is = away _ (λ up. up_no_rejoin s.status up rejoining)
+    outcome_keeps _ (Back rejoining phase) is = away _ (λ up. up_no_rejoin s.status up rejoining)
 
   -- ---- every record, and every moment
 
   record_keeps : (y : ℕ) (r : Record) (K : List Record) → At J (r ∷ K) → AreSupportedIn K
-      → KeepsCommitted g J (turn_state_at g y K) (turn_state_at g y (r ∷ K))
+      → KeepsCommitted g J (law_state_at g y K) (law_state_at g y (r ∷ K))
   record_keeps y r K at earlier = elim (steps g y r K) [
-    | Acts a turn ↦ turn_keeps y r K at earlier a (turn_state_at g y (r ∷ K)) turn refl
-    | Rests other same ↦ subst (KeepsCommitted g J (turn_state_at g y K)) (sym same) (record {
+    | Acts a outcome ↦ outcome_keeps y r K at earlier a (law_state_at g y (r ∷ K)) outcome refl
+    | Rests other same ↦ subst (KeepsCommitted g J (law_state_at g y K)) (sym same) (record {
       supported = λ up. earlier y K (at_self K) up;
-      extends = λ was up. prefix_same (committed_keys (turn_state_at g y K)) (committed_keys (turn_state_at g y K)) refl;
+      extends = λ was up. prefix_same (committed_keys (law_state_at g y K)) (committed_keys (law_state_at g y K)) refl;
     })
   ]
 
-  first_supported : (z : ℕ) → HasSupport g (replica_at g z []).last (committed_keys (turn_state_at g z [])) J
+  first_supported : (z : ℕ) → HasSupport g (replica_at g z []).last (committed_keys (law_state_at g z [])) J
   first_supported z =
-      subst (λ (s : TurnState). HasSupport g s.last (committed_keys s) J) (sym (first_state g z)) (none_has_support g J laws 0)
+      subst (λ (s : ReplicaData). HasSupport g s.last (committed_keys s) J) (sym (first_state g z)) (none_has_support g J laws 0)
 
   all_supported : (K : List Record) → At J K → AreSupportedIn K
   all_supported [] at z L here up =
-      subst (λ (x : List Record). HasSupport g (replica_at g z x).last (committed_keys (turn_state_at g z x)) J) (sym here) (first_supported z)
+      subst (λ (x : List Record). HasSupport g (replica_at g z x).last (committed_keys (law_state_at g z x)) J) (sym here) (first_supported z)
   all_supported (r ∷ K) at z L (inl newest) up =
       let rest = all_supported K (at_tail J r K at) in
-      subst (λ (x : List Record). is_up (replica_at g z x).status ≡ true → HasSupport g (replica_at g z x).last (committed_keys (turn_state_at g z x)) J)
+      subst (λ (x : List Record). is_up (replica_at g z x).status ≡ true → HasSupport g (replica_at g z x).last (committed_keys (law_state_at g z x)) J)
       (sym newest) (record_keeps z r K at rest).supported up
   all_supported (r ∷ K) at z L (inr older) up = all_supported K (at_tail J r K at) z L older up
 
   -- what is committed has support in the last view
   pub committed_support : (y : ℕ) (K : List Record) → At J K → is_up (replica_at g y K).status ≡ true
-      → HasSupport g (replica_at g y K).last (committed_keys (turn_state_at g y K)) J
+      → HasSupport g (replica_at g y K).last (committed_keys (law_state_at g y K)) J
   committed_support y K at up = all_supported K at y K (at_self K) up
 
   -- by one record nothing of it is taken back
   pub committed_extends : (y : ℕ) (r : Record) (K : List Record) → At J (r ∷ K) → is_up (replica_at g y K).status ≡ true
       → is_up (replica_at g y (r ∷ K)).status ≡ true
-      → IsPrefix (committed_keys (turn_state_at g y K)) (committed_keys (turn_state_at g y (r ∷ K)))
+      → IsPrefix (committed_keys (law_state_at g y K)) (committed_keys (law_state_at g y (r ∷ K)))
   committed_extends y r K at was up = (record_keeps y r K at (all_supported K (at_tail J r K at))).extends was up

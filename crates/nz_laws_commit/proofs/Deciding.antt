@@ -21,6 +21,7 @@ pub record IsCounted (n k : ℕ) (test : ℕ → Bool) (members : List ℕ) : Ty
   pub enough : k ≤ length members
   pub each : (y : ℕ) → is_in members y ≡ true → test y ≡ true
 
+-- a test that k numbers pass has k members, in a list without repetition
 pub counted : (n k : ℕ) (test : ℕ → Bool) → k ≤ count_below n test → IsCounted n k test (members_below n test)
 counted n k test enough =
     let choice = members_choice n test in
@@ -49,6 +50,7 @@ module _ {R : Type 0} (M : Machine R) (J : List R) (h : RunLaws M J) where
         subst (λ (x : ℕ). HadSynced M v x (length P) J) (sym e)
         (record { K = K; moment = led.moment; normal = led.normal; enough = omega (arith, long, keys, all) })
 
+    -- what a slow quorum has synced has support
     pub slowly : (test : ℕ → Bool) → slow_quorum M.f ≤ count_below (group_size M.f) test
         → ((y : ℕ) → test y ≡ true → (y ≡ view_leader M v) ⊎ HadSynced M v y (length P) J) → Support M v P J
     slowly test enough each =
@@ -63,6 +65,7 @@ module _ {R : Type 0} (M : Machine R) (J : List R) (h : RunLaws M J) where
           });
         }
 
+    -- what a fast quorum has synced or replied has support
     pub quickly : (test : ℕ → Bool) → fast_quorum M.f ≤ count_below (group_size M.f) test
         → ((y : ℕ) → test y ≡ true → (y ≡ view_leader M v) ⊎ (HadSynced M v y (length P) J ⊎ FastReplied M v y P (M.state (view_leader M v) K).vector J))
         → Support M v P J

@@ -21,10 +21,9 @@ use Rattle.nz_base.proofs.Moments.{at_self}
 use Rattle.nz_machine.proofs.runs.Sources.{reply_eq_self}
 use Rattle.nz_machine.proofs.facts.Choices.{decision_is}
 use Rattle.nz_laws_commit.proofs.Answering.{IsGiven}
-use Rattle.nz_laws_commit.proofs.Standings.{Moves, Stays, Forgets, Opens, Notes, Decides}
+use Rattle.nz_laws_commit.proofs.Standings.{StandingStep, Stays, Forgets, Opens, Notes, Decides}
 use Rattle.nz_laws_commit.proofs.NotedWereSent.{IsBacked}
-use Rattle.nz_laws_commit.proofs.Chosen.{chosen_quorum}
-use Rattle.nz_laws_commit.proofs.ReplySources.{IsNoted, moment_of, standing_moves, has_moment, noted_brought, noted_source}
+use Rattle.nz_laws_commit.proofs.ReplySources.{IsNoted, moment_of, standing_steps, has_moment, noted_brought, noted_source}
 
 has_noted : (replies : List Reply) (r : Reply) → Has replies r → IsNoted r replies
 has_noted [] r h = absurd h
@@ -87,7 +86,7 @@ decides g r J q id a p replies n chosen w by before heard d answer now =
       leads = ap (option_and_then (source_of_reply g q id (r ∷ J))) deciding ∙ b.is;
       backed = record {
         replies = with_note replies n;
-        quorum = chosen_quorum g.f (with_note replies n) chosen d;
+        quorum = (decision_is g.f (with_note replies n) chosen d).quorum;
         said = λ x among.
             let moment = moment_of g q id r J replies n x by before heard (has_moment g J q id x) (has_noted (with_note replies n) x among) in
             let brought = noted_brought g (r ∷ J) q id x w moment in
@@ -104,7 +103,7 @@ open_decided : (replies : List Reply) (a : Answer) (p : Path) (o : Option Standi
 open_decided replies a p o h k = let e : Some (Open replies) ≡ Some (Decided a p) = sym h ∙ k in absurd cc
 
 after_moves : (g : Group) (r : Record) (J : List Record) (q : ℕ) (id : Id) (a : Answer) (p : Path) → World g (r ∷ J) → r.actor ≡ Proxy q
-    → Moves g.f (reply_read id (read_in g (Proxy q) r.event)) (standing_after g q id J) (standing_after g q id (r ∷ J))
+    → StandingStep g.f (reply_read id (read_in g (Proxy q) r.event)) (standing_after g q id J) (standing_after g q id (r ∷ J))
     → (standing_after g q id J ≡ Some (Decided a p) → HasDecided g J q id a) → standing_after g q id (r ∷ J) ≡ Some (Decided a p) → HasDecided g (r ∷ J) q id a
 after_moves g r J q id a p w by (Stays e) old now = decided_later g r J q id a p now (old (sym e ∙ now))
 after_moves g r J q id a p w by (Forgets after) old now = absurd (none-some (Decided a p) (sym after ∙ now))
@@ -118,7 +117,7 @@ pub has_decided : (g : Group) (J : List Record) → World g J → (q : ℕ) (id 
     → HasDecided g J q id a
 unfolding state_after
 has_decided g [] w q id a p e = absurd (none-some (Decided a p) e)
-has_decided g (r ∷ J) w q id a p e = elim (standing_moves g r J q id) [
+has_decided g (r ∷ J) w q id a p e = elim (standing_steps g r J q id) [
   | inl m ↦ after_moves g r J q id a p w m.0 m.1 (has_decided g J w.1 q id a p) e
   | inr s ↦ decided_later g r J q id a p e (has_decided g J w.1 q id a p (sym s ∙ e))
 ]

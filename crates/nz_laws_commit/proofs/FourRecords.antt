@@ -146,6 +146,7 @@ start_early : start_of group 1 early ≡ None
 unfolding start_of
 start_early = refl
 
+-- view 1 starts with the one entry
 pub started : start_of group 1 run ≡ Some (key ∷ [])
 unfolding start_of
 started = refl
@@ -264,6 +265,7 @@ base = record {
   leader_is_one = λ v K L at there n m. inc_zero (leader_of 1 v) K ∙ sym (inc_zero (leader_of 1 v) L);
 }
 
+-- the example follows the rules
 pub rules : FollowsRules group run
 rules = record {
   first = λ y. refl;
@@ -290,6 +292,7 @@ had_first = record { K = First ∷ []; moment = inr (inr (inr (inl refl))); norm
 had_second : HadSynced (machine_of group) 0 1 1 run
 had_second = record { K = Second ∷ First ∷ []; moment = inr (inr (inl refl)); normal = record { status = refl; view = refl }; enough = omega arith }
 
+-- its entry has support in view 0
 pub support : Support (machine_of group) 0 (key ∷ []) run
 support = record {
   lead = subst (IsPrefix (key ∷ [])) lead_is (prefix_self (key ∷ []));

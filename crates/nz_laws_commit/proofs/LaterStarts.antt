@@ -192,6 +192,7 @@ module _ {R : Type 0} (M : Machine R) (J : List R) (h : RunLaws M J) where
       let S = began.0 in
       both_prefixes P Q (M.lead w J) (prefix_then P S (M.lead w J) (in_later_starts M J h v P s w S lt began.1) (h.starts w S J (at_self J) began.1)) t.lead
 
+  -- of two lists with support one begins with the other, in whatever views
   pub pairs : (v w : ℕ) (P Q : List Key) → Support M v P J → Support M w Q J → Comparable P Q
   pairs v w P Q s t = elim (cases_lt v w) [
     | inl lt ↦ in_later v w P Q lt s t

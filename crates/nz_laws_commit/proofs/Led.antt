@@ -13,7 +13,7 @@ use Rattle.nz_machine.specs.runs.World.{World}
 use Rattle.nz_machine.specs.runs.History.{cut_at, cut_after}
 use Rattle.nz_machine.specs.runs.Leading.{lead}
 use Rattle.nz_machine.specs.runs.Committed.{IsAcceptedIn}
-use Rattle.nz_laws_commit.proofs.Places.{place_more}
+use Rattle.nz_machine.proofs.lists.LogPlaces.{place_kept}
 use Rattle.nz_laws_commit.proofs.Answering.{IsGiven}
 use Rattle.nz_laws_commit.proofs.Instance.{led_log}
 use Rattle.nz_laws_commit.proofs.Accepted.{decided_in}
@@ -23,7 +23,7 @@ use Rattle.nz_laws_commit.proofs.Whole.{follows}
 -- a prefix that ends with the entry of a request is cut after it
 cut_is : (id : Id) (P log : List Entry) (place : ℕ) → place_of P id ≡ Some place → length P ≡ suc place → IsPrefix P log → P ≡ cut_after id log
 cut_is id P log place place_is ends p =
-    sym (ap (λ (o : Option ℕ). cut_at o log) (place_more id P log place p place_is)
+    sym (ap (λ (o : Option ℕ). cut_at o log) (place_kept P log id place p place_is)
     ∙ ap (λ n. take n log) (sym ends) ∙ ap (take (length P)) p.whole ∙ take-append_seam P p.rest)
 
 given_led : (g : Group) (J : List Record) (v : ℕ) (id : Id) (a : Answer) (P : List Entry) → World g J → IsGiven g J v id a P → IsPrefix P (lead g v J)

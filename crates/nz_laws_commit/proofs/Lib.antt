@@ -10,7 +10,6 @@ pub mod Instance
 pub mod Places
 pub mod FactsStay
 pub mod ReadMessages
-pub mod Chosen
 pub mod NotedWereSent
 pub mod Answering
 pub mod Standings
@@ -26,7 +25,7 @@ pub mod Accepted
 pub mod Keyed
 pub mod Supporting
 pub mod Committing
-pub mod TurnDoes
+pub mod OutcomeDoes
 pub mod Following
 pub mod Starts
 pub mod Begun

@@ -31,7 +31,7 @@ use Rattle.nz_machine.specs.runs.Incarnations.{replica_at}
 use Rattle.nz_machine.proofs.runs.Moments.{at_world}
 use Rattle.nz_machine.proofs.shows.SentMessages.{shown}
 use Rattle.nz_laws_commit.proofs.ReadMessages.{IsTold}
-use Rattle.nz_laws_commit.proofs.Chosen.{HasQuorum}
+use Rattle.nz_machine.proofs.facts.Choices.{HasQuorum}
 
 -- a fast reply to the request, by the newest record of K
 pub record SaysFast (g : Group) (J : List Record) (id : Id) (m : ℕ) (reply : Reply) (K : List Record) : Type 0 where

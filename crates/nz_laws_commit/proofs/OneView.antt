@@ -345,6 +345,7 @@ module _ {R : Type 0} (g : GroupStates R) (J : List R) (m : FollowsRules g J) wh
   keeps_step y v P r K at (Fell down) up now prefix either = never_up (g.state y (r ∷ K)).status now.up down
   keeps_step y v P r K at (Rose d) up now prefix either = never_up (g.state y K).status up.up d.before
 
+  -- what a single record does within a view
   pub steps : StepLaws g J
   steps = record {
     records = records;

@@ -1,22 +1,22 @@
 -- Prefixes of a log: places and answers in them are those of the log.
 use Rattle.std.proofs.Common.{◌≡◌, ℕ, zero, suc, ◌<◌, ◌≤◌, Bool, true, false, cond, List, [], ◌∷◌, ◌++◌, length, take}
-use Rattle.std.proofs.Common.{Option, Some, None, is_some, refl, sym, ap, subst, ◌∙◌, arith, inl, inr, ◌⊎◌}
-use Rattle.std.proofs.lemmas.Bool.{cases_Bool, or_parts, or_left, or_right}
+use Rattle.std.proofs.Common.{Option, Some, None, refl, sym, ap, subst, ◌∙◌, arith, inl, inr, ◌⊎◌}
+use Rattle.std.proofs.lemmas.Bool.{cases_Bool, or_parts}
 use Rattle.std.specs.Option.{option_map}
-use Rattle.std.proofs.lemmas.List.{map-append}
+use Rattle.std.proofs.lemmas.List.{length-take-le, map-append}
 use Rattle.std.proofs.lemmas.Option.{none-some, same_Some}
 use Rattle.nz_base.specs.declared.key.Id.{Id}
 use Rattle.nz_base.specs.declared.key.Entry.{Entry}
 use Rattle.nz_base.specs.Key.{id_eq, id_of}
 use Rattle.nz_base.specs.Log.{keys_of, has_id, HaveOwnIds}
 use Rattle.nz_base.proofs.Logs.{own_in_prefix, keys_append}
-use Rattle.nz_base.proofs.Names.{same_id, id_eq_self}
+use Rattle.nz_base.proofs.Names.{same_id}
 use Rattle.nz_store.specs.declared.command.Answer.{Answer}
 use Rattle.nz_store.specs.Sequence.{reply}
 use Rattle.nz_store.proofs.Turns.{reply-append}
 use Rattle.nz_log.specs.Places.{place_of}
-use Rattle.nz_log.proofs.Placing.{place_held}
 use Rattle.nz_machine.specs.rules.Replicas.{commands}
+use Rattle.nz_machine.proofs.lists.LogPlaces.{place_kept}
 use Rattle.nz_machine.specs.runs.World.{Has}
 use Rattle.nz_machine.specs.runs.History.{cut_at, cut_after}
 use Rattle.nz_machine.specs.runs.OneHistory.{IsAnswered}
@@ -43,16 +43,6 @@ place_there : (b : Bool) (o : Option ℕ) (i j : ℕ) → b ≡ false → o ≡ 
 place_there true o i j e found same = absurd cc
 place_there false o i j e found same = ap (option_map suc) found ∙ ap Some same
 
-place_append : (id : Id) (xs ys : List Entry) (i : ℕ) → place_of xs id ≡ Some i → place_of (xs ++ ys) id ≡ Some i
-place_append id [] ys i e = absurd (none-some i e)
-place_append id (x ∷ xs) ys i e = elim (place_cases (id_eq id (id_of x.key)) (place_of xs id) i e) [
-  | inl h ↦ place_here (id_eq id (id_of x.key)) (place_of (xs ++ ys) id) i h.0 h.1
-  | inr h ↦ place_there (id_eq id (id_of x.key)) (place_of (xs ++ ys) id) i h.1.0 h.0 (place_append id xs ys h.1.0 h.1.1.0) h.1.1.1
-]
-
-pub place_more : (id : Id) (xs ys : List Entry) (i : ℕ) → IsPrefix xs ys → place_of xs id ≡ Some i → place_of ys id ≡ Some i
-place_more id xs ys i p e = ap (λ (l : List Entry). place_of l id) p.whole ∙ place_append id xs p.rest i e
-
 -- a place is within, and so in the prefix up to it
 pub record IsIn (id : Id) (xs : List Entry) (i : ℕ) : Type 0 where
   pub within : i < length xs
@@ -73,11 +63,6 @@ place_in id (x ∷ xs) i e = elim (place_cases (id_eq id (id_of x.key)) (place_o
   | inl h ↦ subst (IsIn id (x ∷ xs)) h.1 (record { within = omega arith; taken = place_here (id_eq id (id_of x.key)) None 0 h.0 refl })
   | inr h ↦ place_by id x xs i h.1.0 h.0 h.1.1.1 (place_in id xs h.1.0 h.1.1.0)
 ]
-
-pub length_taken : (n : ℕ) (xs : List Entry) → n < length xs → length (take (suc n) xs) ≡ suc n
-length_taken n [] lt = absurd (omega (arith, lt))
-length_taken zero (x ∷ xs) lt = omega arith
-length_taken (suc n) (x ∷ xs) lt = let ih = length_taken n xs (omega (arith, lt)) in omega (arith, ih)
 
 -- ---- ids that a prefix has not
 
@@ -100,18 +85,6 @@ absent_append id (x ∷ xs) rest i h e = elim (place_cases (id_eq id (id_of x.ke
 pub absent_place : (id : Id) (xs es : List Entry) (i : ℕ) → IsPrefix xs es → has_id (keys_of xs) id ≡ false → place_of es id ≡ Some i → length xs ≤ i
 absent_place id xs es i p h e = absent_append id xs p.rest i h (ap (λ (l : List Entry). place_of l id) (sym p.whole) ∙ e)
 
-pub held : (id : Id) (es : List Entry) (e : Entry) → Has es e → id_of e.key ≡ id → has_id (keys_of es) id ≡ true
-held id [] e h s = absurd h
-held id (x ∷ es) e (inl q) s = or_left (id_eq id (id_of x.key)) (has_id (keys_of es) id) (ap (id_eq id) (ap (λ (y : Entry). id_of y.key) q ∙ s) ∙ id_eq_self id)
-held id (x ∷ es) e (inr h) s = or_right (id_eq id (id_of x.key)) (has_id (keys_of es) id) (held id es e h s)
-
-some_of : (o : Option ℕ) → is_some o ≡ true → (i : ℕ) × (o ≡ Some i)
-some_of (Some i) h = (i, refl)
-some_of None h = absurd cc
-
-pub has_place : (id : Id) (es : List Entry) (e : Entry) → Has es e → id_of e.key ≡ id → (i : ℕ) × (place_of es id ≡ Some i)
-has_place id es e h s = some_of (place_of es id) (place_held es id ∙ held id es e h s)
-
 pub own_prefix : (xs ys : List Entry) → IsPrefix xs ys → HaveOwnIds (keys_of ys) → HaveOwnIds (keys_of xs)
 own_prefix xs ys p own = own_in_prefix (keys_of xs) (keys_of p.rest) (subst HaveOwnIds (ap keys_of p.whole ∙ keys_append xs p.rest) own)
 
@@ -131,7 +104,7 @@ reply_more xs ys i lt p =
 pub answered_more : (log more : List Entry) (id : Id) (a : Answer) → IsPrefix log more → IsAnswered log id a → IsAnswered more id a
 answered_more log more id a p h = record {
   place = h.place;
-  place_is = place_more id log more h.place p h.place_is;
+  place_is = place_kept log more id h.place p h.place_is;
   answered = reply_more log more h.place (place_in id log h.place h.place_is).within p ∙ h.answered;
 }
 
@@ -144,7 +117,7 @@ pub record EndsAnswered (log : List Entry) (id : Id) (a : Answer) (P : List Entr
 pub cut_answered : (log : List Entry) (id : Id) (a : Answer) → IsAnswered log id a → EndsAnswered log id a (cut_after id log)
 cut_answered log id a h =
     let here = place_in id log h.place h.place_is in
-    let long = length_taken h.place log here.within in
+    let long = length-take-le (suc h.place) log here.within in
     let cut : EndsAnswered log id a (take (suc h.place) log) = record {
       answered = record {
         place = h.place;

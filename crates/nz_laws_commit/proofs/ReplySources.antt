@@ -35,7 +35,7 @@ use Rattle.nz_machine.proofs.runs.Sources.{same_reply, has_source, source_stays}
 use Rattle.nz_laws_commit.proofs.ReadMessages.{IsTold, told_at}
 use Rattle.nz_laws_commit.proofs.NotedWereSent.{IsSaid, said_later, said_by}
 use Rattle.nz_laws_commit.proofs.Answering.{IsGiven, given_later, IsAnswering, reply_given}
-use Rattle.nz_laws_commit.proofs.Standings.{Moves, Stays, Forgets, Opens, Notes, Decides, event_moves}
+use Rattle.nz_laws_commit.proofs.Standings.{StandingStep, Stays, Forgets, Opens, Notes, Decides, event_steps}
 
 -- the reply is among some
 abbrev pub IsNoted : Reply → List Reply → Type 0
@@ -58,6 +58,7 @@ pub record Delivers (g : Group) (a : Actor) (event : Event) (e : Envelope) : Typ
   pub is : event ≡ Deliver parcel
   pub heard : accepted_envelope g.f a parcel ≡ Some e
 
+-- an event in which an envelope is read delivers its parcel
 pub delivers : (g : Group) (a : Actor) (event : Event) (e : Envelope) → read_in g a event ≡ Some e → Delivers g a event e
 delivers g a (Deliver p) e h = record { parcel = p; is = refl; heard = h }
 delivers g a (Cut kept p) e h = absurd (none-some e h)
@@ -130,30 +131,30 @@ moment_of g q id r J replies n reply by before heard old noted =
     ]
 
 -- what is known before and after a record
-pub standing_moves : (g : Group) (r : Record) (J : List Record) (q : ℕ) (id : Id)
-    → ((r.actor ≡ Proxy q) × Moves g.f (reply_read id (read_in g (Proxy q) r.event)) (standing_after g q id J) (standing_after g q id (r ∷ J))) ⊎
+pub standing_steps : (g : Group) (r : Record) (J : List Record) (q : ℕ) (id : Id)
+    → ((r.actor ≡ Proxy q) × StandingStep g.f (reply_read id (read_in g (Proxy q) r.event)) (standing_after g q id J) (standing_after g q id (r ∷ J))) ⊎
     (standing_after g q id (r ∷ J) ≡ standing_after g q id J)
-standing_moves g r J q id = elim (may_act g (Proxy q) r J).cases [
+standing_steps g r J q id = elim (may_act g (Proxy q) r J).cases [
   | inl a ↦ inl (
     a.0,
-    subst (λ (s : ProxyData). Moves g.f (reply_read id (read_in g (Proxy q) r.event)) (standing_after g q id J) (standing_of s id))
-        (sym a.1) (event_moves g q (state_after g (Proxy q) J) id r.event),
+    subst (λ (s : ProxyData). StandingStep g.f (reply_read id (read_in g (Proxy q) r.event)) (standing_after g q id J) (standing_of s id))
+        (sym a.1) (event_steps g q (state_after g (Proxy q) J) id r.event),
   )
   | inr s ↦ inr (ap (λ (t : ProxyData). standing_of t id) s)
 ]
 
-after_moves : (g : Group) (r : Record) (J : List Record) (q : ℕ) (id : Id) (reply : Reply) → r.actor ≡ Proxy q
-    → Moves g.f (reply_read id (read_in g (Proxy q) r.event)) (standing_after g q id J) (standing_after g q id (r ∷ J))
+after_steps : (g : Group) (r : Record) (J : List Record) (q : ℕ) (id : Id) (reply : Reply) → r.actor ≡ Proxy q
+    → StandingStep g.f (reply_read id (read_in g (Proxy q) r.event)) (standing_after g q id J) (standing_after g q id (r ∷ J))
     → (IsNoted reply (replies_of (standing_after g q id J)) → HasMoment g q id reply J) → IsNoted reply (replies_of (standing_after g q id (r ∷ J)))
     → HasMoment g q id reply (r ∷ J)
-after_moves g r J q id reply by (Stays e) old noted =
+after_steps g r J q id reply by (Stays e) old noted =
     let there = subst (λ (o : Option Standing). IsNoted reply (replies_of o)) e noted in later g q id reply r J there (old there)
-after_moves g r J q id reply by (Forgets after) old noted = absurd (let t = subst (λ (o : Option Standing). IsNoted reply (replies_of o)) after noted in cc)
-after_moves g r J q id reply by (Opens before after) old noted = absurd
+after_steps g r J q id reply by (Forgets after) old noted = absurd (let t = subst (λ (o : Option Standing). IsNoted reply (replies_of o)) after noted in cc)
+after_steps g r J q id reply by (Opens before after) old noted = absurd
     (let t = subst (λ (o : Option Standing). IsNoted reply (replies_of o)) after noted in cc)
-after_moves g r J q id reply by (Notes replies n before heard after) old noted =
+after_steps g r J q id reply by (Notes replies n before heard after) old noted =
     moment_of g q id r J replies n reply by before heard old (subst (λ (o : Option Standing). IsNoted reply (replies_of o)) after noted)
-after_moves g r J q id reply by (Decides replies n chosen a before heard d is after) old noted = absurd
+after_steps g r J q id reply by (Decides replies n chosen a before heard d is after) old noted = absurd
     (let t = subst (λ (o : Option Standing). IsNoted reply (replies_of o)) after noted in cc)
 
 -- each noted reply has its moment
@@ -161,8 +162,8 @@ pub has_moment : (g : Group) (J : List Record) (q : ℕ) (id : Id) (reply : Repl
     → HasMoment g q id reply J
 unfolding state_after
 has_moment g [] q id reply noted = absurd cc
-has_moment g (r ∷ J) q id reply noted = elim (standing_moves g r J q id) [
-  | inl m ↦ after_moves g r J q id reply m.0 m.1 (has_moment g J q id reply) noted
+has_moment g (r ∷ J) q id reply noted = elim (standing_steps g r J q id) [
+  | inl m ↦ after_steps g r J q id reply m.0 m.1 (has_moment g J q id reply) noted
   | inr s ↦ let there = subst (λ (o : Option Standing). IsNoted reply (replies_of o)) s noted in later g q id reply r J there (has_moment g J q id reply there)
 ]
 

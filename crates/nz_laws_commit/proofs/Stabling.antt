@@ -20,7 +20,7 @@ use Rattle.nz_machine.specs.runs.OneHistory.{NoCollision, IsAccepted}
 use Rattle.nz_machine.specs.runs.Incarnations.{replica_at, incarnation}
 use Rattle.nz_machine.proofs.runs.Moments.{at_world}
 use Rattle.nz_laws_cv.proofs.Modes.{up_no_rejoin, rejoin_not_down}
-use Rattle.nz_laws_cv.proofs.Steps.{turn_state_at}
+use Rattle.nz_laws_cv.proofs.Steps.{law_state_at}
 use Rattle.nz_laws_cv.proofs.WithinIncarnation.{goes_far}
 use Rattle.nz_laws_cv.proofs.Collected.{StayedUp, Rejoined, was_up}
 use Rattle.nz_laws_commit.specs.Instance.{states_of, logs_of}
@@ -54,7 +54,7 @@ module _ (g : Group) (J : List Record) (w : World g J) where
   abbrev laws : RunLaws (logs_of g) J
   laws = run_laws (states_of g) J (follows g J w)
 
-  keys_are : (m : ℕ) (K : List Record) (P : List Entry) → IsCommitted (replica_at g m K) P → committed_keys (turn_state_at g m K) ≡ keys_of P
+  keys_are : (m : ℕ) (K : List Record) (P : List Entry) → IsCommitted (replica_at g m K) P → committed_keys (law_state_at g m K) ≡ keys_of P
   keys_are m K P c =
       let s = replica_at g m K in
       take-map (λ (e : Entry). e.key) s.commit s.log.entries ∙ ap keys_of c.is
@@ -72,42 +72,28 @@ module _ (g : Group) (J : List Record) (w : World g J) where
   -- ---- within an incarnation
 
   extends_far : (m : ℕ) (K L : List Record) → At J L → At L K → incarnation g m K ≡ incarnation g m L → is_up (replica_at g m K).status ≡ true
-      → is_up (replica_at g m L).status ≡ true → IsPrefix (committed_keys (turn_state_at g m K)) (committed_keys (turn_state_at g m L))
+      → is_up (replica_at g m L).status ≡ true → IsPrefix (committed_keys (law_state_at g m K)) (committed_keys (law_state_at g m L))
   extends_far m K [] at there same was up =
-      subst (λ (x : List Record). IsPrefix (committed_keys (turn_state_at g m K)) (committed_keys (turn_state_at g m x))) there
-      (prefix_self (committed_keys (turn_state_at g m K)))
+      subst (λ (x : List Record). IsPrefix (committed_keys (law_state_at g m K)) (committed_keys (law_state_at g m x))) there
+      (prefix_self (committed_keys (law_state_at g m K)))
   extends_far m K (r ∷ L) at (inl here) same was up =
-      subst (λ (x : List Record). IsPrefix (committed_keys (turn_state_at g m K)) (committed_keys (turn_state_at g m x))) here
-      (prefix_self (committed_keys (turn_state_at g m K)))
+      subst (λ (x : List Record). IsPrefix (committed_keys (law_state_at g m K)) (committed_keys (law_state_at g m x))) here
+      (prefix_self (committed_keys (law_state_at g m K)))
   extends_far m K (r ∷ L) at (inr older) same was up =
       let now = at_world g J (r ∷ L) w at in
       let before = at_tail J r L at in
       elim (was_up g m r L now up) [
         | StayedUp still inc goes ↦
-            prefix_then (committed_keys (turn_state_at g m K)) (committed_keys (turn_state_at g m L)) (committed_keys (turn_state_at g m (r ∷ L)))
+            prefix_then (committed_keys (law_state_at g m K)) (committed_keys (law_state_at g m L)) (committed_keys (law_state_at g m (r ∷ L)))
             (extends_far m K L before older (same ∙ inc) was still) (committed_extends g J w m r L at still up)
         | Rejoined rejoining normal inc goes ↦
             let gone = goes_far g m L K now.1 older (same ∙ inc) (rejoin_not_down (replica_at g m L).status rejoining) in
             up_no_rejoin (replica_at g m L).status (gone.stays_up was) rejoining
       ]
 
-  -- by one record, while the replica stays up
-  pub extended_once : (m : ℕ) (r : Record) (K : List Record) → At J (r ∷ K) → is_up (replica_at g m K).status ≡ true
-      → is_up (replica_at g m (r ∷ K)).status ≡ true
-      → IsPrefix (take (replica_at g m K).commit (replica_at g m K).log.entries)
-      (take (replica_at g m (r ∷ K)).commit (replica_at g m (r ∷ K)).log.entries)
-  extended_once m r K at was up =
-      let before = at_tail J r K at in
-      let P = take (replica_at g m K).commit (replica_at g m K).log.entries in
-      let Q = take (replica_at g m (r ∷ K)).commit (replica_at g m (r ∷ K)).log.entries in
-      let p : IsCommitted (replica_at g m K) P = record { up = was; is = refl } in
-      let q : IsCommitted (replica_at g m (r ∷ K)) Q = record { up = up; is = refl } in
-      let keys = committed_extends g J w m r K at was up in
-      let one = subst (λ ks. IsPrefix ks (committed_keys (turn_state_at g m (r ∷ K)))) (keys_are m K P p) keys in
-      keyed_prefix g J P Q (committed_sent m K P before p) (committed_sent m (r ∷ K) Q at q) (subst (IsPrefix (keys_of P)) (keys_are m (r ∷ K) Q q) one)
-
   -- ---- the law
 
+  -- committed prefixes are stable in every run
   pub stable : Stable g J
   stable = record {
     started = λ m v K P S at holds later begun.
@@ -120,7 +106,7 @@ module _ (g : Group) (J : List Record) (w : World g J) where
         let q = is_committed (replica_at g m L) Q holds_q in
         let at_k = at_then J L K at there in
         let keys = extends_far m K L at there same p.up q.up in
-        let one = subst (λ ks. IsPrefix ks (committed_keys (turn_state_at g m L))) (keys_are m K P p) keys in
+        let one = subst (λ ks. IsPrefix ks (committed_keys (law_state_at g m L))) (keys_are m K P p) keys in
         keyed_prefix g J P Q (committed_sent m K P at_k p) (committed_sent m L Q at q) (subst (IsPrefix (keys_of P)) (keys_are m L Q q) one);
     paired = λ m n K L P Q at_k at_l holds_p holds_q.
         let p = is_committed (replica_at g m K) P holds_p in

@@ -26,98 +26,99 @@ use Rattle.nz_machine.specs.runs.Events.{read_in}
 use Rattle.nz_machine.specs.runs.History.{reply_in, reply_read}
 use Rattle.nz_machine.proofs.lists.Lookups.{lookup_inserted, lookup_other}
 
--- ---- moves of a standing
+-- ---- steps of a standing
 
 -- with the reply that an event gives, what is known goes from one value to the next
-pub data Moves (f : ℕ) (heard : Option Reply) (before after : Option Standing) : Type 0 where
-  Stays : after ≡ before → Moves f heard before after
-  Forgets : after ≡ None → Moves f heard before after
-  Opens : before ≡ None → after ≡ Some (Open []) → Moves f heard before after
+pub data StandingStep (f : ℕ) (heard : Option Reply) (before after : Option Standing) : Type 0 where
+  Stays : after ≡ before → StandingStep f heard before after
+  Forgets : after ≡ None → StandingStep f heard before after
+  Opens : before ≡ None → after ≡ Some (Open []) → StandingStep f heard before after
   Notes : (replies : List Reply) (r : Reply) → before ≡ Some (Open replies) → heard ≡ Some r → after ≡ Some (Open (with_note replies r))
-      → Moves f heard before after
+      → StandingStep f heard before after
   Decides : (replies : List Reply) (r : Reply) (chosen : Chosen) (a : Answer) → before ≡ Some (Open replies) → heard ≡ Some r
       → decision f (with_note replies r) ≡ Some chosen → answer_in chosen.reply ≡ Some a → after ≡ Some (Decided a chosen.path)
-      → Moves f heard before after
+      → StandingStep f heard before after
 
-moves_by : (f : ℕ) (s : ProxyData) (x id : Id) (v : Standing) (heard : Option Reply) (b : Bool) → id_eq x id ≡ b
-    → (x ≡ id → Moves f heard (standing_of s x) (Some v)) → Moves f heard (standing_of s x) (standing_of (with_standing s id v) x)
-moves_by f s x id v heard true e h =
+steps_by : (f : ℕ) (s : ProxyData) (x id : Id) (v : Standing) (heard : Option Reply) (b : Bool) → id_eq x id ≡ b
+    → (x ≡ id → StandingStep f heard (standing_of s x) (Some v)) → StandingStep f heard (standing_of s x) (standing_of (with_standing s id v) x)
+steps_by f s x id v heard true e h =
     let same = same_id x id e in
     let found : standing_of (with_standing s id v) x ≡ Some v = ap (λ (y : Id). lookup (id_eq y) (insert_entry id_eq s.standings id v)) same
     ∙ lookup_inserted s.standings id v in
-    subst (Moves f heard (standing_of s x)) (sym found) (h same)
-moves_by f s x id v heard false e h = Stays (lookup_other s.standings x id v e)
+    subst (StandingStep f heard (standing_of s x)) (sym found) (h same)
+steps_by f s x id v heard false e h = Stays (lookup_other s.standings x id v e)
 
-standing_moves : (f : ℕ) (s : ProxyData) (x id : Id) (v : Standing) (heard : Option Reply) → (x ≡ id → Moves f heard (standing_of s x) (Some v))
-    → Moves f heard (standing_of s x) (standing_of (with_standing s id v) x)
-standing_moves f s x id v heard h = moves_by f s x id v heard (id_eq x id) refl h
+standing_steps : (f : ℕ) (s : ProxyData) (x id : Id) (v : Standing) (heard : Option Reply) → (x ≡ id → StandingStep f heard (standing_of s x) (Some v))
+    → StandingStep f heard (standing_of s x) (standing_of (with_standing s id v) x)
+standing_steps f s x id v heard h = steps_by f s x id v heard (id_eq x id) refl h
 
-stamped_moves : (f : ℕ) (s : ProxyData) (x id : Id) (command : List ℕ) (heard : Option Reply) (o : Option Standing) → standing_of s id ≡ o
-    → Moves f heard (standing_of s x) (standing_of (after_stamp f s id command o).0 x)
-stamped_moves f s x id command heard None e = standing_moves f s x id (Open []) heard (λ same. Opens (ap (standing_of s) same ∙ e) refl)
-stamped_moves f s x id command heard (Some (Open replies)) e = Stays refl
-stamped_moves f s x id command heard (Some (Decided a p)) e = Stays refl
+stamped_steps : (f : ℕ) (s : ProxyData) (x id : Id) (command : List ℕ) (heard : Option Reply) (o : Option Standing) → standing_of s id ≡ o
+    → StandingStep f heard (standing_of s x) (standing_of (after_stamp f s id command o).0 x)
+stamped_steps f s x id command heard None e = standing_steps f s x id (Open []) heard (λ same. Opens (ap (standing_of s) same ∙ e) refl)
+stamped_steps f s x id command heard (Some (Open replies)) e = Stays refl
+stamped_steps f s x id command heard (Some (Decided a p)) e = Stays refl
 
-answered_moves : (f : ℕ) (s : ProxyData) (x id : Id) (replies : List Reply) (r : Reply) (chosen : Chosen) (heard : Option Reply) (o : Option Answer)
+answered_steps : (f : ℕ) (s : ProxyData) (x id : Id) (replies : List Reply) (r : Reply) (chosen : Chosen) (heard : Option Reply) (o : Option Answer)
     → standing_of s id ≡ Some (Open replies) → (x ≡ id → heard ≡ Some r) → decision f (with_note replies r) ≡ Some chosen → answer_in chosen.reply ≡ o
-    → Moves f heard (standing_of s x) (standing_of (after_chosen_answer s id (with_note replies r) chosen.path o).0 x)
-answered_moves f s x id replies r chosen heard None e h d is = standing_moves f s x id (Open (with_note replies r)) heard
+    → StandingStep f heard (standing_of s x) (standing_of (after_chosen_answer s id (with_note replies r) chosen.path o).0 x)
+answered_steps f s x id replies r chosen heard None e h d is = standing_steps f s x id (Open (with_note replies r)) heard
     (λ same. Notes replies r (ap (standing_of s) same ∙ e) (h same) refl)
-answered_moves f s x id replies r chosen heard (Some a) e h d is = standing_moves f s x id (Decided a chosen.path) heard
+answered_steps f s x id replies r chosen heard (Some a) e h d is = standing_steps f s x id (Decided a chosen.path) heard
     (λ same. Decides replies r chosen a (ap (standing_of s) same ∙ e) (h same) d is refl)
 
-decided_moves : (f : ℕ) (s : ProxyData) (x id : Id) (replies : List Reply) (r : Reply) (heard : Option Reply) (o : Option Chosen)
+decided_steps : (f : ℕ) (s : ProxyData) (x id : Id) (replies : List Reply) (r : Reply) (heard : Option Reply) (o : Option Chosen)
     → standing_of s id ≡ Some (Open replies) → (x ≡ id → heard ≡ Some r) → decision f (with_note replies r) ≡ o
-    → Moves f heard (standing_of s x) (standing_of (after_choice s id (with_note replies r) o).0 x)
-decided_moves f s x id replies r heard None e h d = standing_moves f s x id (Open (with_note replies r)) heard
+    → StandingStep f heard (standing_of s x) (standing_of (after_choice s id (with_note replies r) o).0 x)
+decided_steps f s x id replies r heard None e h d = standing_steps f s x id (Open (with_note replies r)) heard
     (λ same. Notes replies r (ap (standing_of s) same ∙ e) (h same) refl)
-decided_moves f s x id replies r heard (Some chosen) e h d = answered_moves f s x id replies r chosen heard (answer_in chosen.reply) e h d refl
+decided_steps f s x id replies r heard (Some chosen) e h d = answered_steps f s x id replies r chosen heard (answer_in chosen.reply) e h d refl
 
-noted_moves : (f : ℕ) (s : ProxyData) (x id : Id) (r : Reply) (heard : Option Reply) (o : Option Standing) → standing_of s id ≡ o
-    → (x ≡ id → heard ≡ Some r) → Moves f heard (standing_of s x) (standing_of (after_replica_reply f s id r o).0 x)
-noted_moves f s x id r heard None e h = Stays refl
-noted_moves f s x id r heard (Some (Open replies)) e h = decided_moves f s x id replies r heard (decision f (with_note replies r)) e h refl
-noted_moves f s x id r heard (Some (Decided a p)) e h = Stays refl
+noted_steps : (f : ℕ) (s : ProxyData) (x id : Id) (r : Reply) (heard : Option Reply) (o : Option Standing) → standing_of s id ≡ o
+    → (x ≡ id → heard ≡ Some r) → StandingStep f heard (standing_of s x) (standing_of (after_replica_reply f s id r o).0 x)
+noted_steps f s x id r heard None e h = Stays refl
+noted_steps f s x id r heard (Some (Open replies)) e h = decided_steps f s x id replies r heard (decision f (with_note replies r)) e h refl
+noted_steps f s x id r heard (Some (Decided a p)) e h = Stays refl
 
-reply_moves : (f : ℕ) (s : ProxyData) (x : Id) (replica : ℕ) (id : Id) (delay : ℕ) (r : Reply) (heard : Option Reply) → (x ≡ id → heard ≡ Some r)
-    → Moves f heard (standing_of s x) (standing_of (reply_rule f s replica id delay r).0 x)
+reply_steps : (f : ℕ) (s : ProxyData) (x : Id) (replica : ℕ) (id : Id) (delay : ℕ) (r : Reply) (heard : Option Reply) → (x ≡ id → heard ≡ Some r)
+    → StandingStep f heard (standing_of s x) (standing_of (reply_rule f s replica id delay r).0 x)
 unfolding reply_rule
-reply_moves f s x replica id delay r heard h = noted_moves f (record s { samples = with_sample s.samples replica delay }) x id r heard (standing_of s id) refl h
+reply_steps f s x replica id delay r heard h = noted_steps f (record s { samples = with_sample s.samples replica delay }) x id r heard (standing_of s id) refl h
 
-stamp_moves : (f : ℕ) (s : ProxyData) (x : Id) (c : ℕ) (b : RequestBody) (heard : Option Reply)
-    → Moves f heard (standing_of s x) (standing_of (stamp_rule f s c b).0 x)
+stamp_steps : (f : ℕ) (s : ProxyData) (x : Id) (c : ℕ) (b : RequestBody) (heard : Option Reply)
+    → StandingStep f heard (standing_of s x) (standing_of (stamp_rule f s c b).0 x)
 unfolding stamp_rule
-stamp_moves f s x c b heard = let id : Id = record { client = c; num = b.num } in stamped_moves f s x id b.command heard (standing_of s id) refl
+stamp_steps f s x c b heard = let id : Id = record { client = c; num = b.num } in stamped_steps f s x id b.command heard (standing_of s id) refl
 
-message_moves : (f : ℕ) (s : ProxyData) (x : Id) (from : Actor) (m : Message)
-    → Moves f (reply_in x from m) (standing_of s x) (standing_of (proxy_message f s from m).0 x)
-message_moves f s x (Client c) (messages.Request b) = stamp_moves f s x c b None
-message_moves f s x (Replica r) (messages.FastReply b) =
-    reply_moves f s x r b.id b.delay (of_fast r b) (reply_in x (Replica r) (messages.FastReply b))
+message_steps : (f : ℕ) (s : ProxyData) (x : Id) (from : Actor) (m : Message)
+    → StandingStep f (reply_in x from m) (standing_of s x) (standing_of (proxy_message f s from m).0 x)
+message_steps f s x (Client c) (messages.Request b) = stamp_steps f s x c b None
+message_steps f s x (Replica r) (messages.FastReply b) =
+    reply_steps f s x r b.id b.delay (of_fast r b) (reply_in x (Replica r) (messages.FastReply b))
     (λ same. ap (λ t. cond t (Some (of_fast r b)) None) (ap (id_eq b.id) same ∙ id_eq_self b.id))
-message_moves f s x (Replica r) (messages.SlowReply b) =
-    reply_moves f s x r b.id b.delay (of_slow r b) (reply_in x (Replica r) (messages.SlowReply b))
+message_steps f s x (Replica r) (messages.SlowReply b) =
+    reply_steps f s x r b.id b.delay (of_slow r b) (reply_in x (Replica r) (messages.SlowReply b))
     (λ same. ap (λ t. cond t (Some (of_slow r b)) None) (ap (id_eq b.id) same ∙ id_eq_self b.id))
-message_moves f s x _ _ = Stays refl
+message_steps f s x _ _ = Stays refl
 
 -- a proxy that is down hears nothing
-up_moves : (f : ℕ) (heard : Option Reply) (s : ProxyData) (x : Id) (t : ProxyData × List Out) → Moves f heard (standing_of s x) (standing_of t.0 x)
-    → Moves f heard (standing_of s x) (standing_of (cond s.is_down (s, []) t).0 x)
-up_moves f heard s x t h = cond_both s.is_down (s, []) t (λ (u : ProxyData × List Out). Moves f heard (standing_of s x) (standing_of u.0 x)) (λ _. Stays refl)
+up_steps : (f : ℕ) (heard : Option Reply) (s : ProxyData) (x : Id) (t : ProxyData × List Out) → StandingStep f heard (standing_of s x) (standing_of t.0 x)
+    → StandingStep f heard (standing_of s x) (standing_of (cond s.is_down (s, []) t).0 x)
+up_steps f heard s x t h = cond_both s.is_down (s, []) t (λ (u : ProxyData × List Out). StandingStep f heard (standing_of s x) (standing_of u.0 x))
+    (λ _. Stays refl)
     (λ _. h)
 
-envelope_moves : (g : Group) (q : ℕ) (s : ProxyData) (x : Id) (o : Option Envelope)
-    → Moves g.f (reply_read x o) (standing_of s x) (standing_of (envelope_step g (Proxy q) s o).0 x)
-envelope_moves g q s x None = Stays refl
-envelope_moves g q s x (Some e) = up_moves g.f (reply_in x e.from e.message) s x (proxy_message g.f s e.from e.message) (message_moves g.f s x e.from e.message)
+envelope_steps : (g : Group) (q : ℕ) (s : ProxyData) (x : Id) (o : Option Envelope)
+    → StandingStep g.f (reply_read x o) (standing_of s x) (standing_of (envelope_step g (Proxy q) s o).0 x)
+envelope_steps g q s x None = Stays refl
+envelope_steps g q s x (Some e) = up_steps g.f (reply_in x e.from e.message) s x (proxy_message g.f s e.from e.message) (message_steps g.f s x e.from e.message)
 
-pub event_moves : (g : Group) (q : ℕ) (s : ProxyData) (x : Id) (e : Event)
-    → Moves g.f (reply_read x (read_in g (Proxy q) e)) (standing_of s x) (standing_of (event_step g (Proxy q) s e).0 x)
+pub event_steps : (g : Group) (q : ℕ) (s : ProxyData) (x : Id) (e : Event)
+    → StandingStep g.f (reply_read x (read_in g (Proxy q) e)) (standing_of s x) (standing_of (event_step g (Proxy q) s e).0 x)
 unfolding clock_rule
-event_moves g q s x (Deliver p) = envelope_moves g q s x (accepted_envelope g.f (Proxy q) p)
-event_moves g q s x (Cut kept p) = Stays refl
-event_moves g q s x (Tick clock) = up_moves g.f None s x (clock_rule s clock, []) (Stays refl)
-event_moves g q s x Alarm = Stays refl
-event_moves g q s x Crash = Forgets refl
-event_moves g q s x (Restart nonce) = cond_both s.is_down (first_proxy g.f) s (λ (t : ProxyData). Moves g.f None (standing_of s x) (standing_of t x))
+event_steps g q s x (Deliver p) = envelope_steps g q s x (accepted_envelope g.f (Proxy q) p)
+event_steps g q s x (Cut kept p) = Stays refl
+event_steps g q s x (Tick clock) = up_steps g.f None s x (clock_rule s clock, []) (Stays refl)
+event_steps g q s x Alarm = Stays refl
+event_steps g q s x Crash = Forgets refl
+event_steps g q s x (Restart nonce) = cond_both s.is_down (first_proxy g.f) s (λ (t : ProxyData). StandingStep g.f None (standing_of s x) (standing_of t x))
     (λ _. Forgets refl) (λ _. Stays refl)

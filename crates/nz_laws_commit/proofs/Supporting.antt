@@ -1,6 +1,6 @@
 -- What a decision rests on supports the prefix that was accepted. The premise on digests is used here, and nowhere
 -- else.
-use Rattle.std.proofs.Common.{◌≡◌, ℕ, suc, eqb, eqb-true, eq-eqb, true, ◌&&◌, is_some, List, [], ◌∷◌, length}
+use Rattle.std.proofs.Common.{◌≡◌, ℕ, suc, Bool, eqb, eqb-true, eq-eqb, true, ◌&&◌, is_some, List, [], ◌∷◌, length}
 use Rattle.std.proofs.Common.{take, map, Option, Some, None, refl, sym, ap, subst, ◌∙◌, arith, inl, inr, ◌⊎◌}
 use Rattle.std.specs.List.{list_any}
 use Rattle.std.specs.Str.{bytes_eq}
@@ -29,7 +29,8 @@ use Rattle.nz_machine.specs.declared.reply.Reply.TheVariants.{Fast, Slow}
 use Rattle.nz_machine.specs.rules.State.{Group}
 use Rattle.nz_machine.specs.rules.Replicas.{is_normal, leads}
 use Rattle.nz_machine.specs.rules.Quorums.{view_of, is_of_leader, is_slow_of, agrees_of, supports_slowly, supports_fast}
-use Rattle.nz_machine.specs.runs.World.{World}
+use Rattle.nz_machine.specs.runs.World.{World, Has}
+use Rattle.nz_machine.proofs.facts.Choices.{HasQuorum, BySlow, ByFast, quorum_leads}
 use Rattle.nz_machine.specs.runs.History.{log_at, cut_at, cut_after, ReplySource, prefix_at_source}
 use Rattle.nz_machine.specs.runs.OneHistory.{HasReplyOver, NoCollision}
 use Rattle.nz_machine.specs.runs.Incarnations.{replica_at}
@@ -39,11 +40,18 @@ use Rattle.nz_laws_commit.proofs.RunLaws.{RunLaws}
 use Rattle.nz_laws_commit.proofs.Deciding.{slowly, quickly}
 use Rattle.nz_laws_commit.proofs.Instance.{is_normal_at, up_status, normal_up_status, lead_is}
 use Rattle.nz_laws_commit.proofs.Keyed.{IsAt, place_key, at_longer, at_taken, one_place, lead_own}
-use Rattle.nz_laws_commit.proofs.Chosen.{HasQuorum, BySlow, ByFast, any_reply}
 use Rattle.nz_laws_commit.proofs.NotedWereSent.{SaysFast, SaysSlow, IsSaid, Fastly, Slowly, WasSaid, IsBacked}
 use Rattle.nz_laws_commit.proofs.Accepted.{IsDecidedIn}
 
 -- ---- replies
+
+-- a reply that passes a test is among some where the test finds one
+any_reply : (p : Reply → Bool) (replies : List Reply) → list_any p replies ≡ true → (x : Reply) × (Has replies x × (p x ≡ true))
+any_reply p [] h = absurd cc
+any_reply p (x ∷ replies) h = elim (or_cases (p x) (list_any p replies) h) [
+  | inl here ↦ (x, (inl refl, here))
+  | inr there ↦ let t = any_reply p replies there in (t.0, (inr t.1.0, t.1.1))
+]
 
 record SameFast (r v : ℕ) (d u : List ℕ) (m w : ℕ) (e x : List ℕ) : Type 0 where
   replica : r ≡ m
@@ -282,10 +290,6 @@ module _ (g : Group) (J : List Record) (w : World g J) (h : RunLaws (logs_of g) 
       by_said (Fastly m by s) = supported v P id place place_is ends d u a source at_source backed m by s
       by_said (Slowly m by s) = not_slow (leader_of g.f v) v d u a m s.body.view s.reply_is
 
-  leads_quorum : (replies : List Reply) (reply : Reply) → HasQuorum g.f replies reply → is_of_leader g.f reply ≡ true
-  leads_quorum replies reply (BySlow q) = (and_parts (is_of_leader g.f reply) _ q).0
-  leads_quorum replies reply (ByFast q) = (and_parts (is_of_leader g.f reply) _ q).0
-
   by_reply : (v : ℕ) (P : List Entry) (id : Id) (place : ℕ) → place_of P id ≡ Some place → length P ≡ suc place → (reply : Reply) (source : ReplySource)
       → view_of reply ≡ v → P ≡ prefix_at_source g id source → IsBacked g J id reply source → is_of_leader g.f reply ≡ true
       → Support (logs_of g) v (keys_of P) J
@@ -300,4 +304,4 @@ module _ (g : Group) (J : List Record) (w : World g J) (h : RunLaws (logs_of g) 
   accepted_supported v P d =
       let answered = d.given.from.answered in
       by_reply v P d.id answered.place answered.place_is d.given.from.ends d.reply d.source d.view d.at_source d.backed
-      (leads_quorum d.backed.replies d.reply d.backed.quorum)
+      (quorum_leads g.f d.backed.replies d.reply d.backed.quorum)

@@ -14,14 +14,16 @@ use Rattle.nz_machine.specs.runs.Leading.{is_normal_in, lead}
 use Rattle.nz_machine.specs.runs.Committed.{Prefixes}
 use Rattle.nz_laws_commit.specs.Does.{FollowsRules}
 use Rattle.nz_laws_commit.specs.Instance.{states_of}
-use Rattle.nz_laws_commit.proofs.TurnDoes.{record_does}
+use Rattle.nz_laws_commit.proofs.OutcomeDoes.{record_does}
 use Rattle.nz_laws_commit.proofs.Begun.{begins_of}
 use Rattle.nz_laws_commit.proofs.Following.{follows_by}
 use Rattle.nz_laws_commit.proofs.Committing as committing
 
+-- every run follows the rules of the laws on logs
 pub follows : (g : Group) (J : List Record) → World g J → FollowsRules (states_of g) J
 follows g J w = follows_by g J w (begins_of g J w) (record_does g J w)
 
+-- accepted prefixes are paired where no digests collide
 pub prefixes : (g : Group) (J : List Record) → World g J → NoCollision g J → Prefixes g J
 prefixes g J w apart = committing.prefixes_of g J w (follows g J w) apart
 

@@ -1,4 +1,4 @@
--- What a tick releases: entries are appended to the log, and nothing else changes that turns speak of.
+-- What a tick releases: entries are appended to the log, and nothing else changes that the laws read.
 use Rattle.std.proofs.Common.{◌≡◌, ℕ, Bool, true, false, List, [], ◌∷◌, length, refl, ◌∙◌}
 use Rattle.std.proofs.lemmas.Bool.{cond_both}
 use Rattle.nz_base.specs.declared.key.Entry.{Entry}
@@ -8,7 +8,7 @@ use Rattle.nz_log.specs.Synced.{Log}
 use Rattle.nz_machine.specs.rules.State.{ReplicaData, Out}
 use Rattle.nz_machine.specs.rules.Replicas.{is_normal, leads}
 use Rattle.nz_machine.specs.rules.Releases.{log_with_entry, after_release, releases, release_rule, may_release, at_clock}
-use Rattle.nz_laws_cv.proofs.Turns.{turn_state, holding, Appends}
+use Rattle.nz_laws_cv.proofs.Outcomes.{law_state, Appends}
 
 -- one entry more
 
@@ -32,7 +32,7 @@ appends_then led log e c rest = record {
 
 -- what is released
 pub record IsRelease (f me : ℕ) (s t : ReplicaData) : Type 0 where
-  pub state : turn_state t ≡ holding (turn_state s) t.log
+  pub state : law_state t ≡ law_state (record s { log = t.log })
   pub log : Appends (leads f me s) s.log t.log
 
 pub releases_are : (f me : ℕ) (s : ReplicaData) (es : List Entry) → IsRelease f me s (releases f me s es).0
@@ -54,10 +54,10 @@ release_is f me s clock =
     (λ _. record { state = refl; log = appends_none (leads f me s) s.log })
 
 -- out of normal operation nothing is released
-pub no_release : (f me : ℕ) (s : ReplicaData) (clock : ℕ) → is_normal s.status ≡ false → turn_state (release_rule f me s clock).0 ≡ turn_state s
+pub no_release : (f me : ℕ) (s : ReplicaData) (clock : ℕ) → is_normal s.status ≡ false → law_state (release_rule f me s clock).0 ≡ law_state s
 unfolding release_rule
 no_release f me s clock h =
     cond_both (is_normal s.status) (releases f me (at_clock s clock) s.early) (at_clock s clock, [])
-    (λ (t : ReplicaData × List Out). turn_state t.0 ≡ turn_state s)
+    (λ (t : ReplicaData × List Out). law_state t.0 ≡ law_state s)
     (λ normal. true_and_false (is_normal s.status) normal h)
     (λ _. refl)

@@ -23,10 +23,10 @@ use Rattle.nz_laws_cv.specs.Ground.{IsReport, IsBegin, HasModes, Ground}
 use Rattle.nz_laws_cv.specs.Views.{HasViews}
 use Rattle.nz_laws_cv.specs.Members.{IsReportedTo}
 use Rattle.nz_laws_cv.proofs.Whole.{views}
-use Rattle.nz_laws_cv.proofs.Turns.{TurnState}
-use Rattle.nz_laws_cv.proofs.TurnRules.{up_kinds, normal_up, changing_up, heard_by}
+use Rattle.nz_machine.proofs.facts.Guards.{normal_up}
+use Rattle.nz_laws_cv.proofs.OutcomeRules.{up_kinds, changing_up, heard_by}
 use Rattle.nz_laws_cv.proofs.Hearing.{hears_fit}
-use Rattle.nz_laws_cv.proofs.Steps.{turn_state_at, Acts, Rests, steps}
+use Rattle.nz_laws_cv.proofs.Steps.{law_state_at, Acts, Rests, steps}
 use Rattle.nz_base.proofs.Moments.{at_self, at_then}
 use Rattle.nz_machine.proofs.runs.Moments.{at_world}
 use Rattle.nz_laws_cv.proofs.WithinIncarnation.{sound_at, in_group, inc_grows, inc_first, first_state}
@@ -69,9 +69,9 @@ turning_is g w (r ∷ K) some h = record {
 -- the record is a begin: who follows another one does not lead
 begun_by : (g : Group) (w : ℕ) (r : Record) (K : List Record) → is_led g w (r ∷ K) ≡ true → is_led g w K ≡ false
     → Arrives g.f (leader_of g.f w) r.event (heard_by g (leader_of g.f w) r.event)
-    (turn_state_at g (leader_of g.f w) K) (turn_state_at g (leader_of g.f w) (r ∷ K))
+    (law_state_at g (leader_of g.f w) K) (law_state_at g (leader_of g.f w) (r ∷ K))
     → IsBegun g.f (leader_of g.f w) r.event (heard_by g (leader_of g.f w) r.event)
-    (turn_state_at g (leader_of g.f w) K) (turn_state_at g (leader_of g.f w) (r ∷ K))
+    (law_state_at g (leader_of g.f w) K) (law_state_at g (leader_of g.f w) (r ∷ K))
 begun_by g w r K led not_led (Was normal same) =
     let now = normal_in_is w (replica_at g (leader_of g.f w) (r ∷ K)) led in
     true_and_false (is_led g w K) (is_in_view w (replica_at g (leader_of g.f w) K) normal (same ∙ now.1)) not_led
@@ -92,41 +92,41 @@ pub record IsBeginOf (g : Group) (w : ℕ) (r : Record) (K : List Record) : Type
 begin_acts : (g : Group) (w : ℕ) (r : Record) (K : List Record) → World g (r ∷ K) → Shows g (r ∷ K) → is_led g w (r ∷ K) ≡ true → is_led g w K ≡ false
     → r.actor ≡ Replica (leader_of g.f w)
     → IsBegun g.f (leader_of g.f w) r.event (heard_by g (leader_of g.f w) r.event)
-    (turn_state_at g (leader_of g.f w) K) (turn_state_at g (leader_of g.f w) (r ∷ K))
+    (law_state_at g (leader_of g.f w) K) (law_state_at g (leader_of g.f w) (r ∷ K))
     → IsBeginOf g w r K
 begin_acts g w r K world h led not_led a b =
     let l = leader_of g.f w in
     let before = shows_before g r K h in
-    let old = (collected_later g l r K (turn_state_at g l K) (collected_at g l K world.1 before)).reports in
+    let old = (collected_later g l r K (law_state_at g l K) (collected_at g l K world.1 before)).reports in
     let now = normal_in_is w (replica_at g l (r ∷ K)) led in
-    let view : b.body.view ≡ w = sym (ap (λ (s : TurnState). s.view) b.is) ∙ now.1 in
+    let view : b.body.view ≡ w = sym (ap (λ (s : ReplicaData). s.view) b.is) ∙ now.1 in
     let all = collected g.f l (Sent (r ∷ K) l) r.event (heard_by g l r.event) (hears_fit g l r.event) (hears_sent g l r K world a)
     (in_group g l r.actor a world.0.member)
-    (turn_state_at g l K) b.sender b.body b.base (sound_at g K world.1 l) old b.new b.on in
+    (law_state_at g l K) b.sender b.body b.base (sound_at g K world.1 l) old b.new b.on in
     record {
       reports = subst (λ (v : ℕ). AreReports g.f l (Sent (r ∷ K) l) v (replica_at g l (r ∷ K)).vector (replica_at g l (r ∷ K)).changes) view
-          (subst (λ (s : TurnState). AreReports g.f l (Sent (r ∷ K) l) b.body.view s.vector s.changes) (sym b.is) all);
-      full = ap (λ (s : TurnState). length s.changes) b.is ∙ b.full;
+          (subst (λ (s : ReplicaData). AreReports g.f l (Sent (r ∷ K) l) b.body.view s.vector s.changes) (sym b.is) all);
+      full = ap (λ (s : ReplicaData). length s.changes) b.is ∙ b.full;
     }
 
--- who leads now and did not before begins the view by its turn
-pub begun_turn : (g : Group) (w : ℕ) (r : Record) (K : List Record) → is_led g w (r ∷ K) ≡ true → is_led g w K ≡ false
+-- who leads now and did not before begins the view
+pub begun_outcome : (g : Group) (w : ℕ) (r : Record) (K : List Record) → is_led g w (r ∷ K) ≡ true → is_led g w K ≡ false
     → IsBegun g.f (leader_of g.f w) r.event (heard_by g (leader_of g.f w) r.event)
-    (turn_state_at g (leader_of g.f w) K) (turn_state_at g (leader_of g.f w) (r ∷ K))
-begun_turn g w r K led not_led =
+    (law_state_at g (leader_of g.f w) K) (law_state_at g (leader_of g.f w) (r ∷ K))
+begun_outcome g w r K led not_led =
     let l = leader_of g.f w in
     elim (steps g l r K) [
-      | Acts a turn ↦
+      | Acts a outcome ↦
           let now = normal_in_is w (replica_at g l (r ∷ K)) led in
-          begun_by g w r K led not_led (arrives g.f l r.event (heard_by g l r.event) (turn_state_at g l K) (turn_state_at g l (r ∷ K)) turn now.0)
-      | Rests e same ↦ true_and_false (is_led g w K) (sym (ap (λ (s : TurnState). is_normal s.status && eqb s.view w) same) ∙ led) not_led
+          begun_by g w r K led not_led (arrives g.f l r.event (heard_by g l r.event) (law_state_at g l K) (law_state_at g l (r ∷ K)) outcome now.0)
+      | Rests e same ↦ true_and_false (is_led g w K) (sym (ap (λ (s : ReplicaData). is_normal s.status && eqb s.view w) same) ∙ led) not_led
     ]
 
 pub begin_of : (g : Group) (w : ℕ) (r : Record) (K : List Record) → World g (r ∷ K) → Shows g (r ∷ K) → is_led g w (r ∷ K) ≡ true → is_led g w K ≡ false
     → IsBeginOf g w r K
 begin_of g w r K world h led not_led = elim (steps g (leader_of g.f w) r K) [
-  | Acts a turn ↦ begin_acts g w r K world h led not_led a (begun_turn g w r K led not_led)
-  | Rests e same ↦ true_and_false (is_led g w K) (sym (ap (λ (s : TurnState). is_normal s.status && eqb s.view w) same) ∙ led) not_led
+  | Acts a outcome ↦ begin_acts g w r K world h led not_led a (begun_outcome g w r K led not_led)
+  | Rests e same ↦ true_and_false (is_led g w K) (sym (ap (λ (s : ReplicaData). is_normal s.status && eqb s.view w) same) ∙ led) not_led
 ]
 
 module _ (g : Group) (J : List Record) (w : ℕ) (r : Record) (K : List Record) (world : World g (r ∷ K)) (shows : Shows g (r ∷ K))
@@ -280,10 +280,10 @@ module _ (g : Group) (r : Record) (J : List Record) (world : World g (r ∷ J)) 
       record { moment = r ∷ J; at = at_self (r ∷ J); is = and_from (not (is_led g v J)) (is_led g v (r ∷ J)) (ap not was) led }
 
   arrived : (x v : ℕ) → r.actor ≡ Replica x → is_normal (replica_at g x (r ∷ J)).status ≡ true → (replica_at g x (r ∷ J)).view ≡ v → 0 < v
-      → Arrives g.f x r.event (heard_by g x r.event) (turn_state_at g x J) (turn_state_at g x (r ∷ J)) → IsBegunBefore g v (r ∷ J)
+      → Arrives g.f x r.event (heard_by g x r.event) (law_state_at g x J) (law_state_at g x (r ∷ J)) → IsBegunBefore g v (r ∷ J)
   arrived x v a normal view some (Was before same) = older_one x v before (same ∙ view) some
   arrived x v a normal view some (arrivals.Begins b) =
-      let is : b.body.view ≡ v = sym (ap (λ (s : TurnState). s.view) b.is) ∙ view in
+      let is : b.body.view ≡ v = sym (ap (λ (s : ReplicaData). s.view) b.is) ∙ view in
       begins_now x v (sym (ap (leader_of g.f) is) ∙ b.may.leads) normal view some (is_led g v J) refl
   arrived x v a normal view some (Starts sender b is leader same) =
       let sent = was_sent g x r J world a sender (messages.StartView b) is in
@@ -298,8 +298,9 @@ module _ (g : Group) (r : Record) (J : List Record) (world : World g (r ∷ J)) 
 
   newest_begun : (x v : ℕ) → is_normal (replica_at g x (r ∷ J)).status ≡ true → (replica_at g x (r ∷ J)).view ≡ v → 0 < v → IsBegunBefore g v (r ∷ J)
   newest_begun x v normal view some = elim (steps g x r J) [
-    | Acts a turn ↦ arrived x v a normal view some (arrives g.f x r.event (heard_by g x r.event) (turn_state_at g x J) (turn_state_at g x (r ∷ J)) turn normal)
-    | Rests e same ↦ older_one x v (sym (ap (λ (s : TurnState). is_normal s.status) same) ∙ normal) (sym (ap (λ (s : TurnState). s.view) same) ∙ view) some
+    | Acts a outcome ↦ arrived x v a normal view some
+        (arrives g.f x r.event (heard_by g x r.event) (law_state_at g x J) (law_state_at g x (r ∷ J)) outcome normal)
+    | Rests e same ↦ older_one x v (sym (ap (λ (s : ReplicaData). is_normal s.status) same) ∙ normal) (sym (ap (λ (s : ReplicaData). s.view) same) ∙ view) some
   ]
 
   all_begun : AreBegun g (r ∷ J)
@@ -312,7 +313,7 @@ module _ (g : Group) (r : Record) (J : List Record) (world : World g (r ∷ J)) 
 pub are_begun : (g : Group) (J : List Record) → World g J → Shows g J → AreBegun g J
 are_begun g [] w h = λ K at x v normal view some.
     absurd (let zero_view : (replica_at g x K).view ≡ 0 =
-    ap (λ (L : List Record). (replica_at g x L).view) at ∙ ap (λ (s : TurnState). s.view) (first_state g x) in omega (arith, zero_view, view, some))
+    ap (λ (L : List Record). (replica_at g x L).view) at ∙ ap (λ (s : ReplicaData). s.view) (first_state g x) in omega (arith, zero_view, view, some))
 are_begun g (r ∷ J) w h = all_begun g r J w h (are_begun g J w.1 (shows_before g r J h))
 
 -- ---- the ground
@@ -331,6 +332,7 @@ modes_at g J w h = record {
       are_begun g J w h K at x v i.normal i.view some in (b.moment, record { at = at_then J K b.moment at b.at; later = some; is = b.is }, b.at);
 }
 
+-- every run has the ground of the laws on views
 pub ground : (g : Group) (J : List Record) → World g J → Shows g J → Ground (notions g J) J
 ground g J w h = record {
   modes = modes_at g J w h;

@@ -8,7 +8,7 @@ use Rattle.nz_merge.specs.declared.change.Change.{Change}
 use Rattle.nz_merge.specs.Merged.{greatest, merged}
 use Rattle.nz_machine.specs.declared.event.Record.{Record}
 use Rattle.nz_machine.specs.declared.data.Reported.{Reported}
-use Rattle.nz_machine.specs.rules.State.{Group}
+use Rattle.nz_machine.specs.rules.State.{ReplicaData, Group}
 use Rattle.nz_machine.specs.rules.Replicas.{is_changing, is_up}
 use Rattle.nz_machine.specs.rules.Begins.{own_change}
 use Rattle.nz_machine.specs.runs.World.{Has, World}
@@ -17,14 +17,13 @@ use Rattle.nz_machine.specs.runs.Leading.{leader_at, is_led}
 use Rattle.nz_machine.specs.runs.Begun.{report_parcel, IsMemberOf}
 use Rattle.nz_machine.proofs.runs.Sources.{has_source, source_is}
 use Rattle.nz_laws_cv.specs.Members.{begun_reports}
-use Rattle.nz_laws_cv.proofs.Turns.{TurnState}
-use Rattle.nz_laws_cv.proofs.TurnRules.{heard_by}
+use Rattle.nz_laws_cv.proofs.OutcomeRules.{heard_by}
 use Rattle.nz_laws_cv.proofs.Hearing.{hears_fit}
-use Rattle.nz_laws_cv.proofs.Steps.{turn_state_at}
+use Rattle.nz_laws_cv.proofs.Steps.{law_state_at}
 use Rattle.nz_laws_cv.proofs.Modes.{collects_low}
 use Rattle.nz_laws_cv.proofs.WithinIncarnation.{sound_at}
 use Rattle.nz_laws_cv.proofs.SentShows.{Shows}
-use Rattle.nz_laws_cv.proofs.Beginnings.{normal_in_is, begun_turn, begin_of}
+use Rattle.nz_laws_cv.proofs.Beginnings.{normal_in_is, begun_outcome, begin_of}
 
 -- the leader's log and commit after the record, and its state before
 pub record IsBegunLog (g : Group) (w : ℕ) (r : Record) (K : List Record) : Type 0 where
@@ -39,20 +38,21 @@ pub record IsBegunLog (g : Group) (w : ℕ) (r : Record) (K : List Record) : Typ
 pub begun_log_is : (g : Group) (w : ℕ) (r : Record) (K : List Record) → World g K → is_led g w (r ∷ K) ≡ true → is_led g w K ≡ false → IsBegunLog g w r K
 begun_log_is g w r K world led not_led =
     let l = leader_of g.f w in
-    let b = begun_turn g w r K led not_led in
-    let view : b.body.view ≡ w = sym (ap (λ (s : TurnState). s.view) b.is) ∙ (normal_in_is w (replica_at g l (r ∷ K)) led).1 in
+    let b = begun_outcome g w r K led not_led in
+    let view : b.body.view ≡ w = sym (ap (λ (s : ReplicaData). s.view) b.is) ∙ (normal_in_is w (replica_at g l (r ∷ K)) led).1 in
     let later = b.may.later in
-    let low = collects_low g.f l r.event (heard_by g l r.event) (hears_fit g l r.event) (turn_state_at g l K) b.body.view _ b.base (sound_at g K world l)
+    let low = collects_low g.f l r.event (heard_by g l r.event) (hears_fit g l r.event) (law_state_at g l K) b.body.view b.body.vector b.base
+    (sound_at g K world l)
     b.may.up b.on in
     record {
-      entries = ap (λ (s : TurnState). s.log.entries) b.is
+      entries = ap (λ (s : ReplicaData). s.log.entries) b.is
           ∙ ap (λ (changes : List Reported). merged g.f (own_change l (replica_at g l K) ∷ map (λ (x : Reported). x.change) changes))
-          (sym (ap (λ (s : TurnState). s.changes) b.is));
-      commit = ap (λ (s : TurnState). s.commit) b.is
-          ∙ ap (λ (s : TurnState). min (length s.log.entries)
+          (sym (ap (λ (s : ReplicaData). s.changes) b.is));
+      commit = ap (λ (s : ReplicaData). s.commit) b.is
+          ∙ ap (λ (s : ReplicaData). min (length s.log.entries)
           (greatest (map (λ (c : Change). c.commit) (own_change l (replica_at g l K) ∷ map (λ (x : Reported). x.change) s.changes))))
           (sym b.is);
-      synced = ap (λ (s : TurnState). s.log.synced) b.is ∙ sym (ap (λ (s : TurnState). length s.log.entries) b.is);
+      synced = ap (λ (s : ReplicaData). s.log.synced) b.is ∙ sym (ap (λ (s : ReplicaData). length s.log.entries) b.is);
       up = b.may.up;
       view = omega (arith, view, later);
       last = omega (arith, view, low);

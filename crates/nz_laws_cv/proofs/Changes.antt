@@ -9,19 +9,22 @@ use Rattle.nz_cv.proofs.Merging.{merged-elsewhere}
 use Rattle.nz_msg.specs.declared.message.ViewChangeBody.{ViewChangeBody}
 use Rattle.nz_msg.specs.declared.message.Message.{Message}
 use Rattle.nz_msg.specs.declared.message.Message.TheVariants as messages
+use Rattle.nz_machine.specs.rules.State.{ReplicaData}
 use Rattle.nz_machine.specs.declared.event.Event.{Event}
 use Rattle.nz_machine.specs.declared.data.Reported.{Reported}
 use Rattle.nz_machine.specs.rules.Replicas.{is_changing}
-use Rattle.nz_machine.specs.rules.Begins.{report_of}
+use Rattle.nz_machine.specs.rules.Begins.{report_of, without_strays}
+use Rattle.nz_machine.specs.rules.Vectors.{with_vector}
+use Rattle.nz_machine.proofs.facts.Guards.{IsFresh}
 use Rattle.nz_machine.specs.runs.World.{Has}
 use Rattle.nz_machine.specs.runs.Hearing.{Heard}
 use Rattle.nz_math.specs.Count.{AreDistinct}
-use Rattle.nz_laws_cv.proofs.Turns.{TurnState, fresh_changes, with_change, IsNew, Base, Anew, Going, Turn, Stays, Release, Merge, Sync, Tally, Enter, Follow}
-use Rattle.nz_laws_cv.proofs.Turns.{Answer, Collect, Begin, Start, Fall, Wake, HearVector, Count, HearView, Forget, AskLog, Return, Back}
-use Rattle.nz_laws_cv.proofs.TurnRules.{changing_up}
+use Rattle.nz_laws_cv.proofs.Outcomes.{collecting, Base, Anew, Going, Outcome, Stays, Release, Merge, Sync, Tally, Enter, Follow}
+use Rattle.nz_laws_cv.proofs.Outcomes.{Answer, Collect, Begin, Start, Fall, Wake, HearVector, Count, HearView, Forget, AskLog, Return, Back}
+use Rattle.nz_laws_cv.proofs.OutcomeRules.{changing_up}
 use Rattle.nz_laws_cv.proofs.Hearing.{HearsFit}
 use Rattle.nz_machine.proofs.runs.Runs.{has_split}
-use Rattle.nz_laws_cv.proofs.Modes.{IsSound, merges, merges_in, new_size, normal_no_change, up_no_rejoin}
+use Rattle.nz_laws_cv.proofs.Modes.{IsSound, not_stray, merges, merges_in, new_size, normal_no_change, up_no_rejoin}
 use Rattle.nz_machine.proofs.lists.Distinct.{distinct_filter, distinct_replace}
 use Rattle.nz_laws_cv.proofs.Lists.{filter_has}
 use Rattle.nz_laws_cv.proofs.Tellers.{HearsSent}
@@ -55,22 +58,19 @@ module _ (f me : ℕ) (Sent : ℕ → Message → Type 0) where
     pub each : (r : Reported) → Has changes r → IsReported view v r
 
   -- of a state in a view change
-  pub record HasReports (s : TurnState) : Type 0 where
+  pub record HasReports (s : ReplicaData) : Type 0 where
     pub reports : is_changing s.status ≡ true → AreReports s.view s.vector s.changes
 
   pub no_reports : (view : ℕ) (v : List ℕ) → AreReports view v []
   no_reports view v = record { distinct = tt; each = λ r has. absurd has }
-
-  not_stray : (u v : List ℕ) (y : ℕ) → not (is_stray u y v) ≡ true → slice_index v y ≤ slice_index u y
-  not_stray u v y h = grind (arith, nat_tests, h)
 
   new_fresh : (u v : List ℕ) (y : ℕ) → is_stray u y v ≡ false → slice_index v y ≤ slice_index u y
   new_fresh u v y h = grind (arith, nat_tests, h)
 
   module _ (e : Event) (heard : Heard) (fit : HearsFit f me heard) (sent : HearsSent Sent me heard) (in_group : me < replica_count f) where
     -- those that are not stray for the merged vector
-    fresh_reports : (s : TurnState) (sender : ℕ) (m : Message) (u : List ℕ) → IsSound f s → IsNew heard s sender m u → AreReports s.view s.vector s.changes
-        → AreReports s.view (merged_vector s.vector u me) (fresh_changes s.changes (merged_vector s.vector u me))
+    fresh_reports : (s : ReplicaData) (sender : ℕ) (m : Message) (u : List ℕ) → IsSound f s → IsFresh heard s sender m u → AreReports s.view s.vector s.changes
+        → AreReports s.view (merged_vector s.vector u me) (without_strays (with_vector me s u)).changes
     fresh_reports s sender m u sound new h =
         let v = merged_vector s.vector u me in
         let test : Reported → Bool = λ r. not (is_stray r.vector r.change.sender v) in
@@ -89,16 +89,16 @@ module _ (f me : ℕ) (Sent : ℕ → Message → Type 0) where
               };
         }
 
-    base_reports : (s : TurnState) (sender : ℕ) (b : ViewChangeBody) (base : List Reported) → IsSound f s → HasReports s
-        → IsNew heard s sender (messages.ViewChange b) b.vector → Base s b.view (merged_vector s.vector b.vector me) base
+    base_reports : (s : ReplicaData) (sender : ℕ) (b : ViewChangeBody) (base : List Reported) → IsSound f s → HasReports s
+        → IsFresh heard s sender (messages.ViewChange b) b.vector → Base (with_vector me s b.vector) b.view base
         → AreReports b.view (merged_vector s.vector b.vector me) base
     base_reports s sender b _ sound h new (Anew later) = no_reports b.view (merged_vector s.vector b.vector me)
     base_reports s sender b _ sound h new (Going same changing) =
-        subst (λ (w : ℕ). AreReports w (merged_vector s.vector b.vector me) (fresh_changes s.changes (merged_vector s.vector b.vector me))) same
+        subst (λ (w : ℕ). AreReports w (merged_vector s.vector b.vector me) (without_strays (with_vector me s b.vector)).changes) same
         (fresh_reports s sender (messages.ViewChange b) b.vector sound new (h.reports changing))
 
     -- the one that is heard: it was not stray, so what is merged has its sender's counter
-    new_report : (s : TurnState) (sender : ℕ) (b : ViewChangeBody) → IsSound f s → IsNew heard s sender (messages.ViewChange b) b.vector
+    new_report : (s : ReplicaData) (sender : ℕ) (b : ViewChangeBody) → IsSound f s → IsFresh heard s sender (messages.ViewChange b) b.vector
         → IsReported b.view (merged_vector s.vector b.vector me) (report_of sender b)
     new_report s sender b sound new = record {
       below = (fit.hears sender _ new.is).below;
@@ -114,26 +114,26 @@ module _ (f me : ℕ) (Sent : ℕ → Message → Type 0) where
           omega (arith, is, low);
     }
 
-    one_of : (view : ℕ) (v : List ℕ) (sender : ℕ) (b : ViewChangeBody) (base : List Reported) → AreReports view v base
-        → IsReported view v (report_of sender b) → (r : Reported) → Has (with_change base sender b) r → IsReported view v r
-    one_of view v sender b base h new r has = elim (has_split (filter (λ x. not (eqb x.change.sender sender)) base) (report_of sender b ∷ []) r has) [
+    one_of : (s : ReplicaData) (view : ℕ) (v : List ℕ) (sender : ℕ) (b : ViewChangeBody) (base : List Reported) → AreReports view v base
+        → IsReported view v (report_of sender b) → (r : Reported) → Has (collecting me s base sender b).changes r → IsReported view v r
+    one_of s view v sender b base h new r has = elim (has_split (filter (λ x. not (eqb x.change.sender sender)) base) (report_of sender b ∷ []) r has) [
       | inl old ↦ h.each r (filter_has (λ (x : Reported). not (eqb x.change.sender sender)) base r old).among
       | inr (inl is) ↦ subst (IsReported view v) is new
       | inr (inr none) ↦ absurd none
     ]
 
     -- the reports with the one that is heard
-    pub collected : (s : TurnState) (sender : ℕ) (b : ViewChangeBody) (base : List Reported) → IsSound f s → HasReports s
-        → IsNew heard s sender (messages.ViewChange b) b.vector → Base s b.view (merged_vector s.vector b.vector me) base
-        → AreReports b.view (merged_vector s.vector b.vector me) (with_change base sender b)
+    pub collected : (s : ReplicaData) (sender : ℕ) (b : ViewChangeBody) (base : List Reported) → IsSound f s → HasReports s
+        → IsFresh heard s sender (messages.ViewChange b) b.vector → Base (with_vector me s b.vector) b.view base
+        → AreReports b.view (merged_vector s.vector b.vector me) (collecting me s base sender b).changes
     collected s sender b base sound h new on =
         let old = base_reports s sender b base sound h new on in
         record {
           distinct = distinct_replace reporter base (report_of sender b) old.distinct;
-          each = one_of b.view (merged_vector s.vector b.vector me) sender b base old (new_report s sender b sound new);
+          each = one_of s b.view (merged_vector s.vector b.vector me) sender b base old (new_report s sender b sound new);
         }
 
-    pub reports_kept : (s t : TurnState) → IsSound f s → Turn f me e heard s t → HasReports s → HasReports t
+    pub reports_kept : (s t : ReplicaData) → IsSound f s → Outcome f me e heard s t → HasReports s → HasReports t
     reports_kept s _ sound Stays h = h
     reports_kept s _ sound (Release log normal more) h = record { reports = λ c. normal_no_change s.status normal c }
     reports_kept s _ sound (Sync sender b new hears le log changed) h = record { reports = λ c. normal_no_change s.status hears.normal c }
@@ -151,7 +151,7 @@ module _ (f me : ℕ) (Sent : ℕ → Message → Type 0) where
     reports_kept s _ sound (Count sender b new ours many) h = record { reports = λ c. up_no_rejoin s.status (changing_up s.status c) ours.rejoining }
     reports_kept s _ sound (HearView sender b new ours) h = record { reports = λ c. up_no_rejoin s.status (changing_up s.status c) ours.rejoining }
     reports_kept s _ sound (Forget sender b new ours) h = record { reports = λ c. up_no_rejoin s.status (changing_up s.status c) ours.rejoining }
-    reports_kept s _ sound (AskLog sender b new ours tells is many) h = record { reports = λ c. up_no_rejoin s.status (changing_up s.status c) ours.rejoining }
+    reports_kept s _ sound (AskLog sender b new ours many) h = record { reports = λ c. up_no_rejoin s.status (changing_up s.status c) ours.rejoining }
     reports_kept s _ sound (Return sender b new ours late leader) h = record { reports = λ c. absurd cc }
     reports_kept s _ sound (Back rejoining is) h = record { reports = λ c. up_no_rejoin s.status (changing_up s.status c) rejoining }
 
@@ -163,6 +163,6 @@ are_reports_stay f me P Q more view v changes h = record {
   each = λ r has. let k = h.each r has in record { below = k.below; other = k.other; sent = more _ _ k.sent; merged_in = k.merged_in; fresh = k.fresh };
 }
 
-pub reports_stay : (f me : ℕ) (P Q : ℕ → Message → Type 0) → ((y : ℕ) (m : Message) → P y m → Q y m) → (s : TurnState)
+pub reports_stay : (f me : ℕ) (P Q : ℕ → Message → Type 0) → ((y : ℕ) (m : Message) → P y m → Q y m) → (s : ReplicaData)
     → HasReports f me P s → HasReports f me Q s
 reports_stay f me P Q more s h = record { reports = λ c. are_reports_stay f me P Q more s.view s.vector s.changes (h.reports c) }

@@ -334,6 +334,7 @@ begin w B h =
     let view = (begins_is w B h).view in
     subst (λ v. IsBegin N run v B) (sym view) (begun_one B (subst (λ v. begins_at v B ≡ true) view h))
 
+-- the example has the ground
 pub ground : Ground N run
 ground = record {
   modes = modes;

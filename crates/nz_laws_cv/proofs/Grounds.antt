@@ -8,7 +8,7 @@ use Rattle.nz_base.specs.declared.actor.Actor.TheVariants.{Replica}
 use Rattle.nz_msg.specs.declared.message.Message.TheVariants as messages
 use Rattle.nz_machine.specs.declared.event.Parcel.{Parcel}
 use Rattle.nz_machine.specs.declared.event.Record.{Record}
-use Rattle.nz_machine.specs.rules.State.{Group}
+use Rattle.nz_machine.specs.rules.State.{ReplicaData, Group}
 use Rattle.nz_machine.specs.declared.data.Phase.TheVariants as phases
 use Rattle.nz_machine.specs.declared.data.Rejoin.{Rejoin}
 use Rattle.nz_machine.specs.declared.data.ToldView.{ToldView}
@@ -23,11 +23,11 @@ use Rattle.nz_laws_cv.specs.Notions.{IsHeldByMany}
 use Rattle.nz_laws_cv.specs.Ground.{IsLater, StaysUp, IsUsed, IsCompletion}
 use Rattle.nz_laws_cv.specs.Ground.{TellsVector}
 use Rattle.nz_laws_cv.specs.Members.{IsAnswered}
-use Rattle.nz_laws_cv.proofs.Turns.{TurnState}
-use Rattle.nz_laws_cv.proofs.TurnRules.{normal_up, heard_by}
+use Rattle.nz_machine.proofs.facts.Guards.{normal_up}
+use Rattle.nz_laws_cv.proofs.OutcomeRules.{heard_by}
 use Rattle.nz_machine.proofs.runs.Runs.{FitsOut}
 use Rattle.nz_laws_cv.proofs.Hearing.{hears_fit}
-use Rattle.nz_laws_cv.proofs.Steps.{turn_state_at}
+use Rattle.nz_laws_cv.proofs.Steps.{law_state_at}
 use Rattle.nz_base.proofs.Moments.{at_self, at_then, at_shorter}
 use Rattle.nz_machine.proofs.runs.Moments.{at_world}
 use Rattle.nz_laws_cv.proofs.Modes.{up_not_down, rejoin_not_down}
@@ -75,6 +75,7 @@ pub record IsInside (g : Group) (m : ℕ) (Q T K : List Record) : Type 0 where
   pub asked : incarnation g m Q ≡ incarnation g m K
   pub told : incarnation g m T ≡ incarnation g m K
 
+-- asked and told with the same nonce, they are in the same incarnation
 pub inside : (g : Group) (m : ℕ) (K T Q : List Record) → World g K → At K T → At T Q → down_at g m K ≡ false → 0 < incarnation g m K
     → rejoining_at g m Q ≡ true → nonce_at g m Q ≡ nonce_at g m K → IsInside g m Q T K
 inside g m K T Q w at_t at_q up some rejoins nonce =
@@ -125,7 +126,7 @@ told_view_of g m t K T w h up some fits from =
     (at_then K (s.newest ∷ s.older) Q s.at (inr q.at)) q.sends in
     let in_here = inside g m K (s.newest ∷ s.older) Q w s.at (inr q.at) up some asks.rejoining asks.nonce in
     let goes = goes_far g m K Q w (at_then K (s.newest ∷ s.older) Q s.at (inr q.at)) in_here.asked up in
-    let own = goes.own (views_settled (turn_state_at g m Q) asks.in_phase) in
+    let own = goes.own (views_settled (law_state_at g m Q) asks.in_phase) in
     let asked = ap (λ (v : List ℕ). slice_index v m) asks.vector in
     let merged_own = tells.merged.places m tells.other in
     subst (λ (x : List Record). ToldViewOf g m t K x) (sym s.is) (record {
@@ -210,16 +211,16 @@ module _ (g : Group) (J : List Record) (m : ℕ) (r : Record) (K : List Record) 
       let more = inc_grows g m C K world (inr (at_self K)) in
       omega (arith, first, more)
 
-  done : IsReturn g.f m r.event (heard_by g m r.event) (turn_state_at g m K) (turn_state_at g m C)
+  done : IsReturn g.f m r.event (heard_by g m r.event) (law_state_at g m K) (law_state_at g m C)
   done = completing g m r K before after
 
   same_rejoin : (replica_at g m C).rejoin ≡ (replica_at g m K).rejoin
-  same_rejoin = ap (λ (s : TurnState). s.rejoin) done.is
+  same_rejoin = ap (λ (s : ReplicaData). s.rejoin) done.is
 
   in_log : is_phase (replica_at g m C).rejoin.phase phases.Log ≡ true
   in_log = ap (λ (x : Rejoin). is_phase x.phase phases.Log) same_rejoin ∙ done.ours.in_phase
 
-  tells : HasTells g.f m (Sent C m) (turn_state_at g m C)
+  tells : HasTells g.f m (Sent C m) (law_state_at g m C)
   tells = (collected_at g m C world shows).tells
 
   -- it was sent before the completing record
@@ -243,7 +244,7 @@ module _ (g : Group) (J : List Record) (m : ℕ) (r : Record) (K : List Record) 
       let wanted = tells.wanted in_log u.told u.used in
       let late = done.late in
       let same_wanted = ap (λ (x : Rejoin). x.wanted) same_rejoin in
-      let new_view : (replica_at g m C).view ≡ done.body.view = ap (λ (x : TurnState). x.view) done.is in
+      let new_view : (replica_at g m C).view ≡ done.body.view = ap (λ (x : ReplicaData). x.view) done.is in
       let view = told.view in
       let counter = told.counter in
       subst (λ (z : ℕ). IsUsed (notions g J) J m C z T) u.sender (record {
@@ -303,7 +304,7 @@ module _ (g : Group) (J : List Record) (m : ℕ) (r : Record) (K : List Record) 
 
   pub follows_is : ¬ (leader_of g.f (replica_at g m C).view ≡ m)
   follows_is = λ leads.
-      let new_view : (replica_at g m C).view ≡ done.body.view = ap (λ (x : TurnState). x.view) done.is in
+      let new_view : (replica_at g m C).view ≡ done.body.view = ap (λ (x : ReplicaData). x.view) done.is in
       ((hears_fit g m r.event).hears done.sender (messages.StateTell done.body) done.new.is).other (done.leader ∙ sym (ap (leader_of g.f) new_view) ∙ leads)
 
 pub completion_at : (g : Group) (J : List Record) → World g J → Shows g J → (m : ℕ) (C : List Record) → Completes g J m C → IsCompletion (notions g J) J m C

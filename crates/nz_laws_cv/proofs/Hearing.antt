@@ -12,7 +12,7 @@ use Rattle.nz_machine.specs.rules.State.{Group}
 use Rattle.nz_machine.specs.runs.Hearing.{Heard}
 use Rattle.nz_machine.specs.rules.Step.{is_in_cluster, is_sized, message_vector}
 use Rattle.nz_machine.proofs.shows.ReadShows.{delivers}
-use Rattle.nz_laws_cv.proofs.TurnRules.{heard_by}
+use Rattle.nz_laws_cv.proofs.OutcomeRules.{heard_by}
 
 -- the message comes from another replica of the cluster, with a vector of its size if it has one
 pub record Hears (f me sender : ℕ) (m : Message) : Type 0 where

@@ -15,7 +15,7 @@ use Rattle.nz_base.specs.Moments.{At}
 use Rattle.nz_laws_cv.specs.Views.{HasViews}
 use Rattle.nz_laws_cv.specs.Members.{IsAnswered, KnownSince, IsReportedTo}
 use Rattle.nz_base.proofs.Moments.{at_order, at_shorter, at_tail, at_self}
-use Rattle.nz_laws_cv.proofs.TurnRules.{normal_up}
+use Rattle.nz_machine.proofs.facts.Guards.{normal_up}
 use Rattle.nz_machine.proofs.runs.Moments.{at_world}
 use Rattle.nz_laws_cv.proofs.Modes.{up_no_rejoin, rejoin_not_down}
 use Rattle.nz_laws_cv.proofs.WithinIncarnation.{inc_grows, goes_far}

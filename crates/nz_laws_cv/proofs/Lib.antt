@@ -6,10 +6,10 @@ pub mod Members
 pub mod Leading
 pub mod Whole
 pub mod Example
-pub mod Turns
+pub mod Outcomes
 pub mod Appending
 pub mod TakenKeys
-pub mod TurnRules
+pub mod OutcomeRules
 pub mod Steps
 pub mod Modes
 pub mod Hearing

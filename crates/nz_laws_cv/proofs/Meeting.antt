@@ -12,6 +12,7 @@ pub record Meets {R : Type 0} (First Second : ℕ → List R → Type 0) : Type 
   pub late : List R
   pub other : Second who late
 
+-- two quorums share a replica
 pub meet : {R : Type 0} (f : ℕ) (First Second : ℕ → List R → Type 0) → IsHeldByMany f First → IsHeldByMany f Second → Meets First Second
 meet f First Second a b =
     let many = a.enough in

@@ -1,14 +1,16 @@
--- Modes, and what a turn does to view, last, vector and nonce within an incarnation.
-use Rattle.std.proofs.Common.{◌≡◌, ℕ, ◌+◌, ◌≤◌, ◌<◌, true, false, List, [], length, max, Option}
+-- Modes, and what an outcome does to view, last, vector and nonce within an incarnation.
+use Rattle.std.proofs.Common.{◌≡◌, ℕ, ◌+◌, ◌≤◌, ◌<◌, true, false, not, List, [], length, max, Option}
 use Rattle.std.proofs.Common.{Some, None, refl, sym, ap, subst, ◌∙◌, inl, inr, arith, eqb-true}
 use Rattle.std.specs.Prelude.{slice_index}
+use Rattle.std.proofs.lemmas.Bool.Decides.{nat_tests}
 use Rattle.std.proofs.lemmas.Option.{same_Some}
 use Rattle.std.proofs.lemmas.List.{length-set, length-replicate, get_or-set_other}
 use Rattle.nz_base.specs.Cluster.{replica_count}
-use Rattle.nz_cv.specs.Vectors.{merged_vector}
+use Rattle.nz_cv.specs.Vectors.{is_stray, merged_vector}
 use Rattle.nz_cv.proofs.Merging.{length-merged, merged-own}
 use Rattle.nz_cv.proofs.Collecting.{never_falls, takes_in}
 use Rattle.nz_msg.specs.declared.message.Message.{Message}
+use Rattle.nz_machine.specs.rules.State.{ReplicaData}
 use Rattle.nz_machine.specs.declared.event.Event.{Event}
 use Rattle.nz_machine.specs.declared.event.Event.TheVariants.{Restart}
 use Rattle.nz_machine.specs.declared.data.Status.{Status}
@@ -22,9 +24,11 @@ use Rattle.nz_machine.specs.rules.Replicas.{first_replica, is_normal, is_changin
 use Rattle.nz_machine.specs.rules.Rejoining.{restarted_replica, is_phase}
 use Rattle.nz_machine.specs.rules.Step.{message_vector, is_sized}
 use Rattle.nz_machine.specs.runs.Hearing.{Heard}
-use Rattle.nz_laws_cv.proofs.Turns.{TurnState, turn_state, IsNew, Base, Anew, Going, Awaits, Turn, Stays, Release, Merge, Sync, Tally, Enter, Follow}
-use Rattle.nz_laws_cv.proofs.Turns.{Answer, Collect, Begin, Start, Fall, Wake, HearVector, Count, HearView, Forget, AskLog, Return, Back}
-use Rattle.nz_laws_cv.proofs.TurnRules.{up_kinds, normal_up}
+use Rattle.nz_laws_cv.proofs.Outcomes.{law_state, Base, Anew, Going, Outcome, Stays, Release, Merge, Sync, Tally, Enter, Follow}
+use Rattle.nz_laws_cv.proofs.Outcomes.{Answer, Collect, Begin, Start, Fall, Wake, HearVector, Count, HearView, Forget, AskLog, Return, Back}
+use Rattle.nz_machine.proofs.facts.Guards.{normal_up, IsFresh, HearsStart, Awaits}
+use Rattle.nz_machine.specs.rules.Vectors.{with_vector}
+use Rattle.nz_laws_cv.proofs.OutcomeRules.{up_kinds}
 use Rattle.nz_laws_cv.proofs.Hearing.{HearsFit}
 
 -- ---- modes apart
@@ -68,6 +72,7 @@ pub data Standing (a : Status) : Type 0 where
   IsRejoining : is_rejoining a ≡ true → Standing a
   IsDown : is_down a ≡ true → Standing a
 
+-- each status is one of the three
 pub standing : (a : Status) → Standing a
 standing Normal = IsUp refl
 standing ViewChange = IsUp refl
@@ -80,47 +85,60 @@ is_phase_is phases.Views phases.Views h = refl
 is_phase_is phases.Log phases.Log h = refl
 is_phase_is _ _ h = absurd cc
 
+-- ---- strays
+
+-- a vector that is not stray has its sender's counter
+pub not_stray : (u v : List ℕ) (y : ℕ) → not (is_stray u y v) ≡ true → slice_index v y ≤ slice_index u y
+not_stray u v y h = grind (arith, nat_tests, h)
+
 -- ---- last view by mode, and the vector's size
 
-pub record IsSound (f : ℕ) (s : TurnState) : Type 0 where
+pub record IsSound (f : ℕ) (s : ReplicaData) : Type 0 where
   pub sized : length s.vector ≡ replica_count f
   pub normal : is_normal s.status ≡ true → s.last ≡ s.view
   pub changing : is_changing s.status ≡ true → s.last < s.view
   pub rejoining : is_rejoining s.status ≡ true → s.view ≡ 0
   pub rejoining_last : is_rejoining s.status ≡ true → s.last ≡ 0
 
-pub first_sound : (f : ℕ) → IsSound f (turn_state (first_replica f))
+pub first_sound : (f : ℕ) → IsSound f (law_state (first_replica f))
 first_sound f = record { sized = length-replicate _ _; normal = λ _. refl; changing = λ h. absurd cc; rejoining = λ _. refl; rejoining_last = λ _. refl }
 
-pub crashed_sound : (f : ℕ) → IsSound f (turn_state (crashed_replica f))
+pub crashed_sound : (f : ℕ) → IsSound f (law_state (crashed_replica f))
 crashed_sound f = record { sized = length-replicate _ _; normal = λ _. refl; changing = λ h. absurd cc; rejoining = λ _. refl; rejoining_last = λ _. refl }
 
-pub restarted_sound : (f nonce : ℕ) → IsSound f (turn_state (restarted_replica f nonce))
+pub restarted_sound : (f nonce : ℕ) → IsSound f (law_state (restarted_replica f nonce))
 restarted_sound f nonce =
     record { sized = length-replicate _ _; normal = λ _. refl; changing = λ h. absurd cc; rejoining = λ _. refl; rejoining_last = λ _. refl }
 
-pub last_low : (f : ℕ) (s : TurnState) → IsSound f s → is_up s.status ≡ true → s.last ≤ s.view
+pub last_low : (f : ℕ) (s : ReplicaData) → IsSound f s → is_up s.status ≡ true → s.last ≤ s.view
 last_low f s h up = elim (up_kinds s.status up) [
   | inl normal ↦ let e = h.normal normal in omega (arith, e)
   | inr changing ↦ let lt = h.changing changing in omega (arith, lt)
+]
+
+-- a view that may start is after the last one
+pub starts_low : (f : ℕ) (s : ReplicaData) (sender view : ℕ) → IsSound f s → HearsStart f s sender view → s.last < view
+starts_low f s sender view h may = elim (up_kinds s.status may.up) [
+  | inl normal ↦ let low = may.turns normal in let same = h.normal normal in omega (arith, low, same)
+  | inr changing ↦ let low = h.changing changing in let later = may.later in omega (arith, low, later)
 ]
 
 size_is : (f : ℕ) (u : List ℕ) (o : Option (List ℕ)) → o ≡ Some u → is_sized f o ≡ true → length u ≡ replica_count f
 size_is f u None e h = absurd cc
 size_is f u (Some v) e h = ap length (sym (same_Some v u e)) ∙ eqb-true _ _ h
 
-pub new_size : (f me : ℕ) (heard : Heard) (s : TurnState) (sender : ℕ) (m : Message) (u : List ℕ) → HearsFit f me heard → IsNew heard s sender m u
+pub new_size : (f me : ℕ) (heard : Heard) (s : ReplicaData) (sender : ℕ) (m : Message) (u : List ℕ) → HearsFit f me heard → IsFresh heard s sender m u
     → length u ≡ replica_count f
 new_size f me heard s sender m u fit new = size_is f u (message_vector m) new.carries (fit.hears sender m new.is).sized
 
 -- ---- within an incarnation
 
 -- the own counter is settled: from the second phase on
-abbrev pub Settled : TurnState → Type 0
+abbrev pub Settled : ReplicaData → Type 0
 Settled s = is_phase s.rejoin.phase phases.Vectors ≡ false
 
 -- neither lost nor woken: from one state of a replica to a later one of the same incarnation
-pub record Goes (me : ℕ) (s t : TurnState) : Type 0 where
+pub record Goes (me : ℕ) (s t : ReplicaData) : Type 0 where
   pub down : is_down t.status ≡ is_down s.status
   pub view : s.view ≤ t.view
   pub last : s.last ≤ t.last
@@ -131,9 +149,9 @@ pub record Goes (me : ℕ) (s t : TurnState) : Type 0 where
   pub own_up : is_up s.status ≡ true → slice_index s.vector me ≡ slice_index t.vector me
   pub stays_up : is_up s.status ≡ true → is_up t.status ≡ true
 
-pub goes_same : (me : ℕ) (s t : TurnState) → t ≡ s → Goes me s t
+pub goes_same : (me : ℕ) (s t : ReplicaData) → t ≡ s → Goes me s t
 goes_same me s t is =
-    subst (λ (u : TurnState). Goes me s u) (sym is)
+    subst (λ (u : ReplicaData). Goes me s u) (sym is)
     (record {
       down = refl;
       view =
@@ -147,7 +165,7 @@ goes_same me s t is =
       stays_up = λ h. h;
     })
 
-pub goes_then : (me : ℕ) (s t u : TurnState) → Goes me s t → Goes me t u → Goes me s u
+pub goes_then : (me : ℕ) (s t u : ReplicaData) → Goes me s t → Goes me t u → Goes me s u
 goes_then me s t u a b = record {
   down = b.down ∙ a.down;
   view = let p = a.view in let q = b.view in omega (arith, p, q);
@@ -161,42 +179,42 @@ goes_then me s t u a b = record {
 }
 
 -- who rejoins becomes Normal, where it is up at all
-abbrev pub RejoinsNormal : TurnState → TurnState → Type 0
+abbrev pub RejoinsNormal : ReplicaData → ReplicaData → Type 0
 RejoinsNormal s t = is_rejoining s.status ≡ true → is_up t.status ≡ true → is_normal t.status ≡ true
 
-pub data Course (f me : ℕ) (e : Event) (s t : TurnState) : Type 0 where
-  Falls : t ≡ turn_state (crashed_replica f) → Course f me e s t
+pub data Course (f me : ℕ) (e : Event) (s t : ReplicaData) : Type 0 where
+  Falls : t ≡ law_state (crashed_replica f) → Course f me e s t
   Wakes : (nonce : ℕ) → e ≡ Restart nonce → is_down s.status ≡ true → Course f me e s t
   GoesOn : Goes me s t → RejoinsNormal s t → Course f me e s t
 
 module _ (f me : ℕ) (e : Event) (heard : Heard) (fit : HearsFit f me heard) where
-  merged_size : (s : TurnState) (sender : ℕ) (m : Message) (u : List ℕ) → IsSound f s → IsNew heard s sender m u
+  merged_size : (s : ReplicaData) (sender : ℕ) (m : Message) (u : List ℕ) → IsSound f s → IsFresh heard s sender m u
       → length (merged_vector s.vector u me) ≡ replica_count f
   merged_size s sender m u h new =
       let size = new_size f me heard s sender m u fit new in
       let own = h.sized in
       length-merged s.vector u me (omega (arith, size, own)) ∙ own
 
-  rejoins_on : (s : TurnState) (p : Phase) (n : ℕ) (v : List ℕ) (r : _) → IsSound f s → Awaits p s n → length v ≡ replica_count f
-      → IsSound f (record s { vector = v; rejoin = r })
+  rejoins_on : (s : ReplicaData) (p : Phase) (n : ℕ) (v : List ℕ) (r : _) → IsSound f s → Awaits p s n → length v ≡ replica_count f
+      → IsSound f (law_state (record s { vector = v; rejoin = r }))
   rejoins_on s p n v r h ours size =
       record { sized = size; normal = h.normal; changing = h.changing; rejoining = h.rejoining; rejoining_last = h.rejoining_last }
 
-  starts : (s : TurnState) (v : List ℕ) (w : ℕ) (log : Log) (commit : ℕ) (ack : List ℕ) (changes : List Reported) → length v ≡ replica_count f
-      → IsSound f (record s { status = Normal; view = w; last = w; log = log; commit = commit; ack = ack; vector = v; changes = changes })
+  starts : (s : ReplicaData) (v : List ℕ) (w : ℕ) (log : Log) (commit : ℕ) (ack : List ℕ) (changes : List Reported) → length v ≡ replica_count f
+      → IsSound f (law_state (record s { status = Normal; view = w; last = w; log = log; commit = commit; ack = ack; vector = v; changes = changes }))
   starts s v w log commit ack changes size =
       record { sized = size; normal = λ _. refl; changing = λ h. absurd cc; rejoining = λ h. absurd cc; rejoining_last = λ h. absurd cc }
 
-  enters : (s : TurnState) (v : List ℕ) (w : ℕ) (log : Log) (changes : List Reported) → s.last < w → length v ≡ replica_count f
-      → IsSound f (record s { status = ViewChange; view = w; log = log; vector = v; changes = changes })
+  enters : (s : ReplicaData) (v : List ℕ) (w : ℕ) (log : Log) (changes : List Reported) → s.last < w → length v ≡ replica_count f
+      → IsSound f (law_state (record s { status = ViewChange; view = w; log = log; vector = v; changes = changes }))
   enters s v w log changes low size =
       record { sized = size; normal = λ h. absurd cc; changing = λ _. low; rejoining = λ h. absurd cc; rejoining_last = λ h. absurd cc }
 
-  pub collects_low : (s : TurnState) (w : ℕ) (v : List ℕ) (base : _) → IsSound f s → is_up s.status ≡ true → Base s w v base → s.last < w
-  collects_low s w v _ h up (Anew later) = let low = last_low f s h up in omega (arith, low, later)
-  collects_low s w v _ h up (Going same changing) = let low = h.changing changing in omega (arith, low, same)
+  pub collects_low : (s : ReplicaData) (w : ℕ) (u : List ℕ) (base : _) → IsSound f s → is_up s.status ≡ true → Base (with_vector me s u) w base → s.last < w
+  collects_low s w u _ h up (Anew later) = let low = last_low f s h up in omega (arith, low, later)
+  collects_low s w u _ h up (Going same changing) = let low = h.changing changing in omega (arith, low, same)
 
-  pub sound_kept : (s t : TurnState) → Turn f me e heard s t → IsSound f s → IsSound f t
+  pub sound_kept : (s t : ReplicaData) → Outcome f me e heard s t → IsSound f s → IsSound f t
   sound_kept s _ Stays h = h
   sound_kept s _ (Release log normal more) h =
       record { sized = h.sized; normal = h.normal; changing = h.changing; rejoining = h.rejoining; rejoining_last = h.rejoining_last }
@@ -226,7 +244,7 @@ module _ (f me : ℕ) (e : Event) (heard : Heard) (fit : HearsFit f me heard) wh
         rejoining_last = h.rejoining_last;
       }
   sound_kept s _ (Collect sender b new may base on) h =
-      enters s _ b.view s.log _ (collects_low s b.view _ base h may.up on) (merged_size s sender _ b.vector h new)
+      enters s _ b.view s.log _ (collects_low s b.view b.vector base h may.up on) (merged_size s sender _ b.vector h new)
   sound_kept s _ (Begin sender b new may base on full) h = starts s _ b.view _ _ _ _ (merged_size s sender _ b.vector h new)
   sound_kept s _ (Start sender b new may) h = starts s _ b.view _ _ s.ack s.changes (merged_size s sender _ b.vector h new)
   sound_kept s _ (Fall is) h = crashed_sound f
@@ -236,28 +254,30 @@ module _ (f me : ℕ) (e : Event) (heard : Heard) (fit : HearsFit f me heard) wh
       rejoins_on s _ _ _ _ h ours (length-set (merged_vector s.vector b.vector me) me _ ∙ merged_size s sender _ b.vector h new)
   sound_kept s _ (HearView sender b new ours) h = rejoins_on s _ _ _ _ h ours (merged_size s sender _ b.vector h new)
   sound_kept s _ (Forget sender b new ours) h = rejoins_on s _ _ _ _ h ours (merged_size s sender _ b.vector h new)
-  sound_kept s _ (AskLog sender b new ours tells is enough) h = rejoins_on s _ _ _ _ h ours (merged_size s sender _ b.vector h new)
+  sound_kept s _ (AskLog sender b new ours enough) h = rejoins_on s _ _ _ _ h ours (merged_size s sender _ b.vector h new)
   sound_kept s _ (Return sender b new ours late leader) h = starts s _ b.view _ _ s.ack s.changes (merged_size s sender _ b.vector h new)
   sound_kept s _ (Back rejoining is) h =
       record { sized = h.sized; normal = h.normal; changing = h.changing; rejoining = h.rejoining; rejoining_last = h.rejoining_last }
 
   -- ---- within an incarnation
 
-  pub merges : (s : TurnState) (sender : ℕ) (m : Message) (u : List ℕ) → me < replica_count f → IsSound f s → IsNew heard s sender m u → (k : ℕ)
+  -- no counter falls when a vector is merged
+  pub merges : (s : ReplicaData) (sender : ℕ) (m : Message) (u : List ℕ) → me < replica_count f → IsSound f s → IsFresh heard s sender m u → (k : ℕ)
       → slice_index s.vector k ≤ slice_index (merged_vector s.vector u me) k
   merges s sender m u in_group h new k =
       let size = new_size f me heard s sender m u fit new in
       let own = h.sized in
       never_falls s.vector u me k (omega (arith, size, own)) (omega (arith, in_group, own))
 
-  pub merges_own : (s : TurnState) (sender : ℕ) (m : Message) (u : List ℕ) → me < replica_count f → IsSound f s → IsNew heard s sender m u
+  pub merges_own : (s : ReplicaData) (sender : ℕ) (m : Message) (u : List ℕ) → me < replica_count f → IsSound f s → IsFresh heard s sender m u
       → slice_index s.vector me ≡ slice_index (merged_vector s.vector u me) me
   merges_own s sender m u in_group h new =
       let size = new_size f me heard s sender m u fit new in
       let own = h.sized in
       sym (merged-own s.vector u me (omega (arith, size, own)) (omega (arith, in_group, own)))
 
-  pub merges_in : (s : TurnState) (sender : ℕ) (m : Message) (u : List ℕ) → me < replica_count f → IsSound f s → IsNew heard s sender m u → (k : ℕ) → ¬ (k ≡ me)
+  pub merges_in : (s : ReplicaData) (sender : ℕ) (m : Message) (u : List ℕ) → me < replica_count f → IsSound f s → IsFresh heard s sender m u
+      → (k : ℕ) → ¬ (k ≡ me)
       → slice_index u k ≤ slice_index (merged_vector s.vector u me) k
   merges_in s sender m u in_group h new k other =
       let size = new_size f me heard s sender m u fit new in
@@ -265,10 +285,11 @@ module _ (f me : ℕ) (e : Event) (heard : Heard) (fit : HearsFit f me heard) wh
       takes_in s.vector u me k (omega (arith, size, own)) (omega (arith, in_group, own)) other
 
   -- up before and after, with this vector
-  goes_up : (s : TurnState) (a : Status) (w l : ℕ) (log : Log) (commit : ℕ) (ack v : List ℕ) (changes : List Reported) → is_up s.status ≡ true → is_up a ≡ true
+  goes_up : (s : ReplicaData) (a : Status) (w l : ℕ) (log : Log) (commit : ℕ) (ack v : List ℕ) (changes : List Reported) → is_up s.status ≡ true
+      → is_up a ≡ true
       → s.view ≤ w → s.last ≤ l
       → ((k : ℕ) → slice_index s.vector k ≤ slice_index v k) → slice_index s.vector me ≡ slice_index v me
-      → Goes me s (record s { status = a; view = w; last = l; log = log; commit = commit; ack = ack; vector = v; changes = changes })
+      → Goes me s (law_state (record s { status = a; view = w; last = l; log = log; commit = commit; ack = ack; vector = v; changes = changes }))
   goes_up s a w l log commit ack v changes up after view last places own = record {
     down = up_not_down a after ∙ sym (up_not_down s.status up);
     view = view;
@@ -282,11 +303,11 @@ module _ (f me : ℕ) (e : Event) (heard : Heard) (fit : HearsFit f me heard) wh
   }
 
   -- rejoining before and after
-  goes_back : (s : TurnState) (v : List ℕ) (r : Rejoin) → is_rejoining s.status ≡ true → ((k : ℕ) → ¬ (k ≡ me) → slice_index s.vector k ≤ slice_index v k)
+  goes_back : (s : ReplicaData) (v : List ℕ) (r : Rejoin) → is_rejoining s.status ≡ true → ((k : ℕ) → ¬ (k ≡ me) → slice_index s.vector k ≤ slice_index v k)
       → r.nonce ≡ s.rejoin.nonce
       → (is_phase s.rejoin.phase phases.Vectors ≡ false → is_phase r.phase phases.Vectors ≡ false)
       → (is_phase s.rejoin.phase phases.Vectors ≡ false → slice_index s.vector me ≡ slice_index v me)
-      → Goes me s (record s { vector = v; rejoin = r })
+      → Goes me s (law_state (record s { vector = v; rejoin = r }))
   goes_back s v r rejoining places nonce settled own = record {
     down = refl;
     view = omega arith;
@@ -299,10 +320,11 @@ module _ (f me : ℕ) (e : Event) (heard : Heard) (fit : HearsFit f me heard) wh
     stays_up = λ up. up;
   }
 
-  unsettled : {X : Type 0} (s : TurnState) (n : ℕ) → Awaits phases.Vectors s n → Settled s → X
+  unsettled : {X : Type 0} (s : ReplicaData) (n : ℕ) → Awaits phases.Vectors s n → Settled s → X
   unsettled s n ours settled = absurd (let a = ours.in_phase in cc)
 
-  pub course : (s t : TurnState) → me < replica_count f → IsSound f s → Turn f me e heard s t → Course f me e s t
+  -- each outcome is a crash, a restart, or goes on within the incarnation
+  pub course : (s t : ReplicaData) → me < replica_count f → IsSound f s → Outcome f me e heard s t → Course f me e s t
   course s _ in_group h Stays = GoesOn (goes_same me s s refl) (λ x y. up_no_rejoin s.status y x)
   course s _ in_group h (Release log normal more) =
       GoesOn (goes_up s s.status s.view s.last log s.commit s.ack s.vector s.changes (normal_up s.status normal) (normal_up s.status normal) (omega arith)
@@ -353,7 +375,7 @@ module _ (f me : ℕ) (e : Event) (heard : Heard) (fit : HearsFit f me heard) wh
   course s _ in_group h (Forget sender b new ours) =
       GoesOn (goes_back s _ _ ours.rejoining (λ k _. merges s sender _ b.vector in_group h new k) refl (λ x. x)
       (λ _. merges_own s sender _ b.vector in_group h new)) (λ x y. up_no_rejoin s.status y x)
-  course s _ in_group h (AskLog sender b new ours tells is enough) =
+  course s _ in_group h (AskLog sender b new ours enough) =
       GoesOn (goes_back s _ _ ours.rejoining (λ k _. merges s sender _ b.vector in_group h new k) refl (λ _. refl)
       (λ _. merges_own s sender _ b.vector in_group h new)) (λ x y. up_no_rejoin s.status y x)
   course s _ in_group h (Return sender b new ours late leader) = GoesOn (record {

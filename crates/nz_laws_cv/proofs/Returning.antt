@@ -7,14 +7,14 @@ use Rattle.nz_base.specs.Cluster.{leader_of}
 use Rattle.nz_base.specs.declared.actor.Actor.TheVariants.{Replica}
 use Rattle.nz_msg.specs.declared.message.Message.TheVariants as messages
 use Rattle.nz_machine.specs.declared.event.Record.{Record}
-use Rattle.nz_machine.specs.rules.State.{Group}
+use Rattle.nz_machine.specs.rules.State.{ReplicaData, Group}
 use Rattle.nz_machine.specs.rules.Replicas.{is_normal}
 use Rattle.nz_machine.specs.runs.World.{World}
 use Rattle.nz_machine.specs.runs.Incarnations.{replica_at, incarnation, completes}
 use Rattle.nz_base.specs.Moments.{At}
-use Rattle.nz_laws_cv.proofs.Turns.{TurnState}
-use Rattle.nz_laws_cv.proofs.TurnRules.{heard_by, normal_up}
-use Rattle.nz_laws_cv.proofs.Steps.{turn_state_at, Acts, Rests, steps}
+use Rattle.nz_machine.proofs.facts.Guards.{normal_up}
+use Rattle.nz_laws_cv.proofs.OutcomeRules.{heard_by}
+use Rattle.nz_laws_cv.proofs.Steps.{law_state_at, Acts, Rests, steps}
 use Rattle.nz_base.proofs.Moments.{at_self, at_then, at_shorter}
 use Rattle.nz_laws_cv.proofs.Modes.{normal_no_rejoin, up_not_down}
 use Rattle.nz_laws_cv.proofs.WithinIncarnation.{inc_grows, goes_far, nonce_at}
@@ -37,7 +37,7 @@ pub record IsTakenFrom (g : Group) (m : ℕ) (C T : List Record) : Type 0 where
 
 returned : (g : Group) (m : ℕ) (r : Record) (K : List Record) → World g (r ∷ K) → Shows g (r ∷ K) → rejoining_at g m K ≡ true
     → is_normal (replica_at g m (r ∷ K)).status ≡ true → r.actor ≡ Replica m
-    → IsReturn g.f m r.event (heard_by g m r.event) (turn_state_at g m K) (turn_state_at g m (r ∷ K)) → (T : List Record) × IsTakenFrom g m (r ∷ K) T
+    → IsReturn g.f m r.event (heard_by g m r.event) (law_state_at g m K) (law_state_at g m (r ∷ K)) → (T : List Record) × IsTakenFrom g m (r ∷ K) T
 returned g m r K w h rejoins normal a d =
     let C = r ∷ K in
     let before = shows_before g r K h in
@@ -51,15 +51,15 @@ returned g m r K w h rejoins normal a d =
     let not_down = up_not_down (replica_at g m C).status (normal_up (replica_at g m C).status normal) in
     let first = rejoins_later g m K w.1 rejoins in
     let more = inc_grows g m C K w (inr (at_self K)) in
-    let nonce : nonce_at g m Q ≡ nonce_at g m C = asks.nonce ∙ tells.nonce ∙ d.ours.same ∙ sym (ap (λ (x : TurnState). x.rejoin.nonce) d.is) in
+    let nonce : nonce_at g m Q ≡ nonce_at g m C = asks.nonce ∙ tells.nonce ∙ d.ours.same ∙ sym (ap (λ (x : ReplicaData). x.rejoin.nonce) d.is) in
     let in_here = inside g m C T Q w (inr s.at) (inr q.at) not_down (omega (arith, first, more)) asks.rejoining nonce in
-    let own = (goes_far g m C Q w (at_then C T Q (inr s.at) (inr q.at)) in_here.asked not_down).own (log_settled (turn_state_at g m Q) asks.in_phase) in
+    let own = (goes_far g m C Q w (at_then C T Q (inr s.at) (inr q.at)) in_here.asked not_down).own (log_settled (law_state_at g m Q) asks.in_phase) in
     let asked = ap (λ (v : List ℕ). slice_index v m) asks.vector in
     let merged_own = tells.merged.places m tells.other in
-    let entries : (replica_at g m C).log.entries ≡ d.body.entries = ap (λ (x : TurnState). x.log.entries) d.is in
-    let synced : (replica_at g m C).log.synced ≡ length d.body.entries = ap (λ (x : TurnState). x.log.synced) d.is in
-    let commit : (replica_at g m C).commit ≡ d.body.commit = ap (λ (x : TurnState). x.commit) d.is in
-    let view : (replica_at g m C).view ≡ d.body.view = ap (λ (x : TurnState). x.view) d.is in
+    let entries : (replica_at g m C).log.entries ≡ d.body.entries = ap (λ (x : ReplicaData). x.log.entries) d.is in
+    let synced : (replica_at g m C).log.synced ≡ length d.body.entries = ap (λ (x : ReplicaData). x.log.synced) d.is in
+    let commit : (replica_at g m C).commit ≡ d.body.commit = ap (λ (x : ReplicaData). x.commit) d.is in
+    let view : (replica_at g m C).view ≡ d.body.view = ap (λ (x : ReplicaData). x.view) d.is in
     let leads : d.sender ≡ leader_of g.f (replica_at g m C).view = d.leader ∙ ap (leader_of g.f) (sym view) in
     let short = at_shorter K T s.at in (
       T,
@@ -83,7 +83,7 @@ taken_from g m r K w h c =
     let rejoins = (and_parts (rejoining_at g m K) (is_normal (replica_at g m (r ∷ K)).status) c).0 in
     let normal = (and_parts (rejoining_at g m K) (is_normal (replica_at g m (r ∷ K)).status) c).1 in
     elim (steps g m r K) [
-      | Acts a turn ↦ returned g m r K w h rejoins normal a
-          (returns g.f m r.event (heard_by g m r.event) (turn_state_at g m K) (turn_state_at g m (r ∷ K)) turn rejoins normal)
-      | Rests e same ↦ normal_no_rejoin (replica_at g m K).status (sym (ap (λ (s : TurnState). is_normal s.status) same) ∙ normal) rejoins
+      | Acts a outcome ↦ returned g m r K w h rejoins normal a
+          (returns g.f m r.event (heard_by g m r.event) (law_state_at g m K) (law_state_at g m (r ∷ K)) outcome rejoins normal)
+      | Rests e same ↦ normal_no_rejoin (replica_at g m K).status (sym (ap (λ (s : ReplicaData). is_normal s.status) same) ∙ normal) rejoins
     ]

@@ -23,7 +23,7 @@ use Rattle.nz_machine.specs.rules.Step.{parcel}
 use Rattle.nz_machine.specs.runs.World.{Has, sent_in, World}
 use Rattle.nz_machine.specs.runs.Incarnations.{replica_at}
 use Rattle.nz_base.specs.Moments.{At}
-use Rattle.nz_laws_cv.proofs.TurnRules.{heard_by}
+use Rattle.nz_laws_cv.proofs.OutcomeRules.{heard_by}
 use Rattle.nz_machine.proofs.runs.Runs.{FitsOut, has_right}
 use Rattle.nz_machine.proofs.shows.ReadShows as told
 use Rattle.nz_base.proofs.Moments.{at_self, at_then}

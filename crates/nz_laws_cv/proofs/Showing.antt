@@ -166,6 +166,7 @@ module _ (g : Group) (J : List Record) (w : World g J) where
         entries = ap (λ (x : StartViewBody). x.entries) same;
       }
 
+-- every message of a run shows its sender
 pub shows : (g : Group) (J : List Record) → World g J → Shows g J
 shows g J w = record {
   vector_ask = asks_vector g J w;

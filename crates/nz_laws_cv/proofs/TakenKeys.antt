@@ -18,23 +18,23 @@ use Rattle.nz_log.proofs.LedKeys as loops
 use Rattle.nz_msg.specs.declared.message.LogModBody.{LogModBody}
 use Rattle.nz_machine.specs.rules.State.{ReplicaData}
 use Rattle.nz_machine.specs.rules.LogMods.{entry_of_id, may_sync, synced_with, if_found, sync_keys}
-use Rattle.nz_laws_cv.proofs.Turns.{turn_state, holding, Taken, Modifies}
+use Rattle.nz_laws_cv.proofs.Outcomes.{law_state, Taken, Modifies}
 
 -- ---- what else is kept
 
 found_state : (s : ReplicaData) (k : Key) (keys : List Key)
-    → ((t : ReplicaData) → turn_state (sync_keys t keys).0 ≡ holding (turn_state t) (sync_keys t keys).0.log) → (o : Option Entry)
-    → turn_state (if_found o (s, k ∷ keys) (λ e. sync_keys (synced_with s (record { key = k; command = e.command })) keys)).0
-    ≡ holding (turn_state s) (if_found o (s, k ∷ keys) (λ e. sync_keys (synced_with s (record { key = k; command = e.command })) keys)).0.log
+    → ((t : ReplicaData) → law_state (sync_keys t keys).0 ≡ law_state (record t { log = (sync_keys t keys).0.log })) → (o : Option Entry)
+    → law_state (if_found o (s, k ∷ keys) (λ e. sync_keys (synced_with s (record { key = k; command = e.command })) keys)).0
+    ≡ law_state (record s { log = (if_found o (s, k ∷ keys) (λ e. sync_keys (synced_with s (record { key = k; command = e.command })) keys)).0.log })
 found_state s k keys rest None = refl
 found_state s k keys rest (Some e) = rest (synced_with s (record { key = k; command = e.command }))
 
-tested_state : (b : Bool) (s : ReplicaData) (t : ReplicaData × List Key) → turn_state t.0 ≡ holding (turn_state s) t.0.log
-    → turn_state (cond b t (s, [])).0 ≡ holding (turn_state s) (cond b t (s, [])).0.log
+tested_state : (b : Bool) (s : ReplicaData) (t : ReplicaData × List Key) → law_state t.0 ≡ law_state (record s { log = t.0.log })
+    → law_state (cond b t (s, [])).0 ≡ law_state (record s { log = (cond b t (s, [])).0.log })
 tested_state true s t h = h
 tested_state false s t h = refl
 
-pub sync_state : (s : ReplicaData) (keys : List Key) → turn_state (sync_keys s keys).0 ≡ holding (turn_state s) (sync_keys s keys).0.log
+pub sync_state : (s : ReplicaData) (keys : List Key) → law_state (sync_keys s keys).0 ≡ law_state (record s { log = (sync_keys s keys).0.log })
 unfolding sync_keys
 sync_state s [] = refl
 sync_state s (k ∷ keys) = tested_state (may_sync s k) s _ (found_state s k keys (λ t. sync_state t keys) (entry_of_id s (id_of k)))

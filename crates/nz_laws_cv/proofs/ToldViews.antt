@@ -1,5 +1,5 @@
 -- The views that were told to a replica that rejoins.
-use Rattle.std.proofs.Common.{◌≡◌, ℕ, ◌≤◌, ◌<◌, Bool, true, not, eqb, List, [], ◌∷◌, map, length, refl, sym, subst, ◌∙◌, inl, inr, arith}
+use Rattle.std.proofs.Common.{◌≡◌, ℕ, ◌++◌, ◌≤◌, ◌<◌, Bool, true, not, eqb, List, [], ◌∷◌, map, length, refl, sym, subst, ◌∙◌, inl, inr, arith}
 use Rattle.std.specs.Prelude.{slice_index}
 use Rattle.std.specs.List.{filter}
 use Rattle.std.proofs.lemmas.Bool.Decides.{nat_tests}
@@ -8,6 +8,7 @@ use Rattle.nz_cv.specs.Vectors.{is_stray, merged_vector}
 use Rattle.nz_msg.specs.declared.message.RejoinTellBody.{RejoinTellBody}
 use Rattle.nz_msg.specs.declared.message.Message.{Message}
 use Rattle.nz_msg.specs.declared.message.Message.TheVariants as messages
+use Rattle.nz_machine.specs.rules.State.{ReplicaData}
 use Rattle.nz_machine.specs.declared.event.Event.{Event}
 use Rattle.nz_machine.specs.declared.data.Status.{Status}
 use Rattle.nz_machine.specs.declared.data.Phase.TheVariants as phases
@@ -16,15 +17,17 @@ use Rattle.nz_machine.specs.declared.data.Reported.{Reported}
 use Rattle.nz_log.specs.Synced.{Log}
 use Rattle.nz_machine.specs.declared.data.ToldView.{ToldView}
 use Rattle.nz_machine.specs.rules.Replicas.{first_replica, is_rejoining, crashed_replica}
-use Rattle.nz_machine.specs.rules.Rejoining.{restarted_replica, is_phase}
+use Rattle.nz_machine.specs.rules.Rejoining.{restarted_replica, is_phase, with_tell}
+use Rattle.nz_machine.specs.rules.Vectors.{with_vector}
+use Rattle.nz_machine.proofs.facts.Guards.{IsFresh, Awaits}
 use Rattle.nz_machine.specs.runs.World.{Has}
 use Rattle.nz_machine.specs.runs.Hearing.{Heard}
 use Rattle.nz_math.specs.Count.{AreDistinct}
-use Rattle.nz_laws_cv.proofs.Turns.{TurnState, turn_state, told_view, more_tells, fresh_tells, IsNew, Awaits, Turn, Stays, Release, Merge, Sync, Tally, Enter}
-use Rattle.nz_laws_cv.proofs.Turns.{Follow, Answer, Collect, Begin, Start, Fall, Wake, HearVector, Count, HearView, Forget, AskLog, Return, Back}
+use Rattle.nz_laws_cv.proofs.Outcomes.{law_state, Outcome, Stays, Release, Merge, Sync, Tally, Enter}
+use Rattle.nz_laws_cv.proofs.Outcomes.{Follow, Answer, Collect, Begin, Start, Fall, Wake, HearVector, Count, HearView, Forget, AskLog, Return, Back}
 use Rattle.nz_laws_cv.proofs.Hearing.{HearsFit}
 use Rattle.nz_machine.proofs.runs.Runs.{has_split}
-use Rattle.nz_laws_cv.proofs.Modes.{IsSound, is_phase_is, merges, merges_in, normal_no_rejoin}
+use Rattle.nz_laws_cv.proofs.Modes.{IsSound, not_stray, is_phase_is, merges, merges_in, normal_no_rejoin}
 use Rattle.nz_machine.proofs.lists.Distinct.{distinct_filter, distinct_replace}
 use Rattle.nz_laws_cv.proofs.Lists.{filter_has, above_each}
 use Rattle.nz_laws_cv.proofs.Tellers.{HearsSent}
@@ -32,6 +35,9 @@ use Rattle.nz_laws_cv.proofs.Tellers.{HearsSent}
 -- what a replica told, with its number
 abbrev pub sender_of : ToldView → ℕ
 sender_of t = t.sender
+
+abbrev told_view : ℕ → RejoinTellBody → ToldView
+told_view sender b = record { sender = sender; view = b.view; vector = b.vector }
 
 abbrev pub tell_of : ℕ → ToldView → Message
 tell_of nonce t = messages.RejoinTell (record { nonce = nonce; view = t.view; vector = t.vector })
@@ -53,7 +59,7 @@ module _ (f me : ℕ) (Sent : ℕ → Message → Type 0) where
     pub sent : Sent t.sender (tell_of nonce t)
     pub merged_in : (k : ℕ) → ¬ (k ≡ me) → slice_index t.vector k ≤ slice_index v k
 
-  pub record HasTells (s : TurnState) : Type 0 where
+  pub record HasTells (s : ReplicaData) : Type 0 where
     pub distinct : AreDistinct (map sender_of s.rejoin.tells)
     pub each : (t : ToldView) → Has s.rejoin.tells t → IsToldView s.rejoin.nonce s.vector t
     pub fresh : is_rejoining s.status ≡ true → (t : ToldView) → Has s.rejoin.tells t → slice_index s.vector t.sender ≤ slice_index t.vector t.sender
@@ -63,7 +69,7 @@ module _ (f me : ℕ) (Sent : ℕ → Message → Type 0) where
     pub none_yet : is_phase s.rejoin.phase phases.Vectors ≡ true → s.rejoin.tells ≡ []
 
   -- nothing is collected
-  nothing : (s : TurnState) → s.rejoin.tells ≡ [] → (is_phase s.rejoin.phase phases.Log ≡ true → ⊥) → HasTells s
+  nothing : (s : ReplicaData) → s.rejoin.tells ≡ [] → (is_phase s.rejoin.phase phases.Log ≡ true → ⊥) → HasTells s
   nothing s none not_log =
       let empty : (t : ToldView) → Has s.rejoin.tells t → ⊥ = λ t has. subst (λ (ts : List ToldView). Has ts t) none has in
       record {
@@ -76,13 +82,13 @@ module _ (f me : ℕ) (Sent : ℕ → Message → Type 0) where
         none_yet = λ _. none;
       }
 
-  pub first_tells : HasTells (turn_state (first_replica f))
-  first_tells = nothing (turn_state (first_replica f)) refl (λ h. cc)
+  pub first_tells : HasTells (law_state (first_replica f))
+  first_tells = nothing (law_state (first_replica f)) refl (λ h. cc)
 
   -- a rule of a replica that is up, or comes up
-  up_tells : (s : TurnState) (a : Status) (w l : ℕ) (log : Log) (commit : ℕ) (ack v : List ℕ) (changes : List Reported) → (is_rejoining a ≡ true → ⊥)
+  up_tells : (s : ReplicaData) (a : Status) (w l : ℕ) (log : Log) (commit : ℕ) (ack v : List ℕ) (changes : List Reported) → (is_rejoining a ≡ true → ⊥)
       → ((k : ℕ) → slice_index s.vector k ≤ slice_index v k) → HasTells s
-      → HasTells (record s { status = a; view = w; last = l; log = log; commit = commit; ack = ack; vector = v; changes = changes })
+      → HasTells (law_state (record s { status = a; view = w; last = l; log = log; commit = commit; ack = ack; vector = v; changes = changes }))
   up_tells s a w l log commit ack v changes up grows h = record {
     distinct = h.distinct;
     each = λ t has. let k =
@@ -100,11 +106,8 @@ module _ (f me : ℕ) (Sent : ℕ → Message → Type 0) where
     none_yet = h.none_yet;
   }
 
-  not_stray : (u v : List ℕ) (y : ℕ) → not (is_stray u y v) ≡ true → slice_index v y ≤ slice_index u y
-  not_stray u v y h = grind (arith, nat_tests, h)
-
   module _ (e : Event) (heard : Heard) (fit : HearsFit f me heard) (sent : HearsSent Sent me heard) (in_group : me < replica_count f) where
-    grows : (s : TurnState) (sender : ℕ) (m : Message) (u : List ℕ) → IsSound f s → IsNew heard s sender m u → (k : ℕ)
+    grows : (s : ReplicaData) (sender : ℕ) (m : Message) (u : List ℕ) → IsSound f s → IsFresh heard s sender m u → (k : ℕ)
         → slice_index s.vector k ≤ slice_index (merged_vector s.vector u me) k
     grows s sender m u sound new k = merges f me e heard fit s sender m u in_group sound new k
 
@@ -114,9 +117,10 @@ module _ (f me : ℕ) (Sent : ℕ → Message → Type 0) where
       pub each : (t : ToldView) → Has tells t → IsToldView nonce v t
       pub fresh : (t : ToldView) → Has tells t → slice_index v t.sender ≤ slice_index t.vector t.sender
 
-    one_of : (s : TurnState) (sender : ℕ) (b : RejoinTellBody) → IsSound f s → HasTells s → IsNew heard s sender (messages.RejoinTell b) b.vector
+    one_of : (s : ReplicaData) (sender : ℕ) (b : RejoinTellBody) → IsSound f s → HasTells s → IsFresh heard s sender (messages.RejoinTell b) b.vector
         → Awaits phases.Views s b.nonce
-        → (t : ToldView) → Has (more_tells s.rejoin.tells sender b) t → IsToldView s.rejoin.nonce (merged_vector s.vector b.vector me) t
+        → (t : ToldView) → Has (filter (λ x. not (eqb x.sender sender)) s.rejoin.tells ++ told_view sender b ∷ []) t
+        → IsToldView s.rejoin.nonce (merged_vector s.vector b.vector me) t
     one_of s sender b sound h new ours t has = elim (has_split (filter (λ x. not (eqb x.sender sender)) s.rejoin.tells) (told_view sender b ∷ []) t has) [
       | inl old ↦
           let k = h.each t (filter_has (λ (x : ToldView). not (eqb x.sender sender)) s.rejoin.tells t old).among in
@@ -138,18 +142,16 @@ module _ (f me : ℕ) (Sent : ℕ → Message → Type 0) where
       | inr (inr none) ↦ absurd none
     ]
 
-    heard_views : (s : TurnState) (sender : ℕ) (b : RejoinTellBody) → IsSound f s → HasTells s → IsNew heard s sender (messages.RejoinTell b) b.vector
+    heard_views : (s : ReplicaData) (sender : ℕ) (b : RejoinTellBody) → IsSound f s → HasTells s → IsFresh heard s sender (messages.RejoinTell b) b.vector
         → Awaits phases.Views s b.nonce
-        → Heard_views s.rejoin.nonce (merged_vector s.vector b.vector me)
-        (fresh_tells (more_tells s.rejoin.tells sender b) (merged_vector s.vector b.vector me))
+        → Heard_views s.rejoin.nonce (merged_vector s.vector b.vector me) (with_tell (with_vector me s b.vector) sender b).rejoin.tells
     heard_views s sender b sound h new ours =
         let v = merged_vector s.vector b.vector me in
         let test : ToldView → Bool = λ t. not (is_stray t.vector t.sender v) in
         record {
-          distinct = distinct_filter sender_of test (more_tells s.rejoin.tells sender b)
-              (distinct_replace sender_of s.rejoin.tells (told_view sender b) h.distinct);
-          each = λ t has. one_of s sender b sound h new ours t (filter_has test (more_tells s.rejoin.tells sender b) t has).among;
-          fresh = λ t has. not_stray t.vector v t.sender (filter_has test (more_tells s.rejoin.tells sender b) t has).passes;
+          distinct = distinct_filter sender_of test _ (distinct_replace sender_of s.rejoin.tells (told_view sender b) h.distinct);
+          each = λ t has. one_of s sender b sound h new ours t (filter_has test _ t has).among;
+          fresh = λ t has. not_stray t.vector v t.sender (filter_has test _ t has).passes;
         }
 
     -- they are crash-consistent
@@ -160,7 +162,7 @@ module _ (f me : ℕ) (Sent : ℕ → Message → Type 0) where
         let high = h.fresh u has_u in
         omega (arith, low, high)
 
-    pub tells_kept : (s t : TurnState) → IsSound f s → Turn f me e heard s t → HasTells s → HasTells t
+    pub tells_kept : (s t : ReplicaData) → IsSound f s → Outcome f me e heard s t → HasTells s → HasTells t
     tells_kept s _ sound Stays h = h
     tells_kept s _ sound (Release log normal more) h =
         up_tells s s.status s.view s.last log s.commit s.ack s.vector s.changes (λ r. normal_no_rejoin s.status normal r) (λ k. omega arith) h
@@ -174,11 +176,12 @@ module _ (f me : ℕ) (Sent : ℕ → Message → Type 0) where
     tells_kept s _ sound (Follow sender m u new w up later) h = up_tells s _ w s.last s.log s.commit s.ack _ _ (λ r. cc) (grows s sender m u sound new) h
     tells_kept s _ sound (Answer sender b new normal same) h =
         up_tells s s.status s.view s.last s.log s.commit s.ack _ _ (λ r. normal_no_rejoin s.status normal r) (grows s sender _ b.vector sound new) h
-    tells_kept s _ sound (Collect sender b new may base on) h = up_tells s _ b.view s.last s.log s.commit s.ack _ _ (λ r. cc) (grows s sender _ b.vector sound new) h
+    tells_kept s _ sound (Collect sender b new may base on) h = up_tells s _ b.view s.last s.log s.commit s.ack _ _ (λ r. cc)
+        (grows s sender _ b.vector sound new) h
     tells_kept s _ sound (Begin sender b new may base on full) h = up_tells s _ b.view b.view _ _ _ _ _ (λ r. cc) (grows s sender _ b.vector sound new) h
     tells_kept s _ sound (Start sender b new may) h = up_tells s _ b.view b.view _ _ _ _ _ (λ r. cc) (grows s sender _ b.vector sound new) h
-    tells_kept s _ sound (Fall is) h = nothing (turn_state (crashed_replica f)) refl (λ x. cc)
-    tells_kept s _ sound (Wake nonce is down) h = nothing (turn_state (restarted_replica f nonce)) refl (λ x. cc)
+    tells_kept s _ sound (Fall is) h = nothing (law_state (crashed_replica f)) refl (λ x. cc)
+    tells_kept s _ sound (Wake nonce is down) h = nothing (law_state (restarted_replica f nonce)) refl (λ x. cc)
     tells_kept s _ sound (HearVector sender b new ours) h = nothing _ (h.none_yet ours.in_phase) (λ log. log_not_vectors s.rejoin log ours.in_phase)
     tells_kept s _ sound (Count sender b new ours many) h = nothing _ refl (λ x. cc)
     tells_kept s _ sound (HearView sender b new ours) h =
@@ -193,22 +196,22 @@ module _ (f me : ℕ) (Sent : ℕ → Message → Type 0) where
           none_yet = λ first. views_not_vectors s.rejoin ours.in_phase first;
         }
     tells_kept s _ sound (Forget sender b new ours) h = nothing _ refl (λ log. views_not_log s.rejoin ours.in_phase log)
-    tells_kept s _ sound (AskLog sender b new ours tells is many) h =
-        let views = subst (Heard_views s.rejoin.nonce (merged_vector s.vector b.vector me)) (sym is) (heard_views s sender b sound h new ours) in
+    tells_kept s _ sound (AskLog sender b new ours many) h =
+        let views = heard_views s sender b sound h new ours in
         record {
           distinct = views.distinct;
           each = views.each;
           fresh = λ _. views.fresh;
-          consistent = consistent_views s.rejoin.nonce _ tells views;
+          consistent = consistent_views s.rejoin.nonce _ _ views;
           enough = λ _. many;
-          wanted = λ _ t has. above_each (λ (x : ToldView). x.view) tells t has;
+          wanted = λ _ t has. above_each (λ (x : ToldView). x.view) _ t has;
           none_yet = λ first. absurd cc;
         }
     tells_kept s _ sound (Return sender b new ours late leader) h = up_tells s _ b.view b.view _ _ _ _ _ (λ r. cc) (grows s sender _ b.vector sound new) h
     tells_kept s _ sound (Back rejoining is) h = nothing _ refl (λ x. cc)
 
 -- what was sent stays sent
-pub tells_stay : (f me : ℕ) (P Q : ℕ → Message → Type 0) → ((y : ℕ) (m : Message) → P y m → Q y m) → (s : TurnState)
+pub tells_stay : (f me : ℕ) (P Q : ℕ → Message → Type 0) → ((y : ℕ) (m : Message) → P y m → Q y m) → (s : ReplicaData)
     → HasTells f me P s → HasTells f me Q s
 tells_stay f me P Q more s h = record {
   distinct = h.distinct;

@@ -22,6 +22,7 @@ module _ {R : Type 0} (N : Notions R) (J : List R) where
     one = leader_is_one h;
   }
 
+  -- the laws on knowledge and views hold on the ground
   pub views : Ground N J → HasViews N J
   views h = record {
     rise = λ x S K s k up_s up_k lower. (knows_to N J h (length S + length K)).rise x S K s k up_s up_k lower (omega arith);

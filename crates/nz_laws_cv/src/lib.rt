@@ -1,8 +1,8 @@
 //! What replicas that rejoin know, and the views that they take part in: laws over every run of the machine,
 //! by laws over an abstract machine, from premises on single states and messages.
 //!
-//! The *ground* is the premises of the laws. The *notions* are what the laws look at in a run. A *turn* is
-//! the whole outcome of one rule of a replica, as far as views and crash vectors go.
+//! The *ground* is the premises of the laws. The *notions* are what the laws look at in a run. An *outcome* is all
+//! that one rule does to a replica's state, as far as views and crash vectors go.
 #![tactic(auto)]
 
 mod laws;

@@ -1,9 +1,10 @@
 -- Accepted prefixes are paired, so the accepted answers are those of one store that executes the history.
-use Rattle.std.proofs.Common.{◌≡◌, ◌≤◌, List, length, sym, subst, inl, inr, arith}
+use Rattle.std.proofs.Common.{◌≡◌, ℕ, ◌≤◌, List, length, Some, sym, subst, inl, inr, arith}
 use Rattle.nz_base.specs.declared.key.Id.{Id}
 use Rattle.nz_base.specs.declared.key.Entry.{Entry}
 use Rattle.nz_base.specs.Key.{id_of}
 use Rattle.nz_store.specs.declared.command.Answer.{Answer}
+use Rattle.nz_log.specs.Places.{place_of}
 use Rattle.nz_machine.specs.declared.event.Record.{Record}
 use Rattle.nz_machine.specs.rules.State.{Group}
 use Rattle.nz_machine.specs.runs.World.{Has, World}
@@ -13,7 +14,8 @@ use Rattle.nz_machine.specs.runs.OneHistory.{ComesBefore, IsAnswered, Lin, IsAcc
 use Rattle.nz_base.specs.Prefixes.{IsPrefix}
 use Rattle.nz_base.proofs.Prefixes.{prefix_none, shorter_comparable}
 use Rattle.nz_laws_commit.proofs.Whole.{prefixes}
-use Rattle.nz_laws_commit.proofs.Places.{place_more, place_in, answered_more, absent_place, has_place}
+use Rattle.nz_machine.proofs.lists.LogPlaces.{place_kept, place_within, has_place}
+use Rattle.nz_laws_commit.proofs.Places.{answered_more, absent_place}
 use Rattle.nz_lin.proofs.Histories.{IsCovered, IsBefore, IsHistory, history_is, history_sent, history_own}
 
 -- an accepted prefix is one of the history
@@ -33,13 +35,13 @@ ordered g J pairs h a b answer k e has same =
     let P = k.covered.prefix in
     let part : IsPrefix P (history g J) = in_history g J pairs h P k.covered.accepted k.covered.short in
     let first = k.covered.given.from.answered in
-    let within = (place_in a P first.place first.place_is).within in
-    let second = has_place b (history g J) e has same in
+    let within = place_within P a first.place first.place_is in
+    let second = subst (λ (i : Id). (n : ℕ) × (place_of (history g J) i ≡ Some n)) same (has_place (history g J) e has) in
     let after = absent_place b P (history g J) second.0 part k.absent second.1 in
     record {
       first = first.place;
       second = second.0;
-      place_of_first = place_more a P (history g J) first.place part first.place_is;
+      place_of_first = place_kept P (history g J) a first.place part first.place_is;
       place_of_second = second.1;
       in_order = omega (arith, within, after);
     }

@@ -126,13 +126,3 @@ first_above log e es late a =
 
 pub first_fresh : (log : List Entry) (e : Entry) (es late : List Entry) → AreArranged log (e ∷ es) late → has_id (keys_of log) (id_of e.key) ≡ false
 first_fresh log e es late a = own_id (keys_of log) e.key (keys_of es ++ keys_of late) (own_parts log (e ∷ es) late a)
-
--- ---- log and early are lost
-
-pub arranged_alone : (log early late : List Entry) → AreArranged log early late → AreArranged [] [] late
-arranged_alone log early late a =
-    record {
-      rising = tt;
-      own_ids = own_rest (keys_of early) (keys_of late) (own_rest (keys_of log) (keys_of early ++ keys_of late) (own_parts log early late a));
-      fit = all_back FitsEntry early late (all_back FitsEntry log (early ++ late) a.fit);
-    }

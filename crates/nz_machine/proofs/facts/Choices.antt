@@ -1,4 +1,4 @@
--- The reply that decides is one of the replies, of the leader of its view, and has an answer.
+-- The reply that decides is one of the replies, of the leader of its view, and has a quorum among them.
 use Rattle.std.proofs.Common.{◌≡◌, ℕ, Bool, true, false, cond, List, [], ◌∷◌, Option, Some, None, refl, sym, ap, subst, ◌∙◌, inl, inr, ◌⊎◌}
 use Rattle.std.proofs.lemmas.Bool.{and_parts}
 use Rattle.std.specs.Prelude.{nat_lt}
@@ -9,10 +9,21 @@ use Rattle.nz_machine.specs.rules.Quorums.{view_of, is_of_leader, has_slow_quoru
 use Rattle.nz_machine.specs.rules.Quorums.{fast_lead, slow_lead, Chosen, slow_or_none, fast_or, decision}
 use Rattle.nz_machine.specs.runs.World.{Has}
 
--- the reply is one of them, and of a leader
+-- the replies and the one that decides have a slow quorum, or a fast one
+pub data HasQuorum (f : ℕ) (replies : List Reply) (r : Reply) : Type 0 where
+  BySlow : has_slow_quorum f replies r ≡ true → HasQuorum f replies r
+  ByFast : has_fast_quorum f replies r ≡ true → HasQuorum f replies r
+
+-- it is of a leader
+pub quorum_leads : (f : ℕ) (replies : List Reply) (r : Reply) → HasQuorum f replies r → is_of_leader f r ≡ true
+quorum_leads f replies r (BySlow enough) = (and_parts (is_of_leader f r) _ enough).0
+quorum_leads f replies r (ByFast enough) = (and_parts (is_of_leader f r) _ enough).0
+
+-- the reply is one of them, of a leader, and has a quorum
 pub record IsChosen (f : ℕ) (replies : List Reply) (r : Reply) : Type 0 where
   pub among : Has replies r
   pub leads : is_of_leader f r ≡ true
+  pub quorum : HasQuorum f replies r
 
 -- one of a list, that passes a test
 record Passes (p : Reply → Bool) (replies : List Reply) (r : Reply) : Type 0 where
@@ -53,11 +64,11 @@ least_of p replies r e = filter_has p replies r (least_among (filter p replies) 
 
 fast_chosen : (f : ℕ) (replies : List Reply) (r : Reply) → fast_lead f replies ≡ Some r → IsChosen f replies r
 fast_chosen f replies r e = let t = least_of (has_fast_quorum f replies) replies r e in
-    record { among = t.among; leads = (and_parts (is_of_leader f r) _ t.passes).0 }
+    record { among = t.among; leads = (and_parts (is_of_leader f r) _ t.passes).0; quorum = ByFast t.passes }
 
 slow_chosen : (f : ℕ) (replies : List Reply) (r : Reply) → slow_lead f replies ≡ Some r → IsChosen f replies r
 slow_chosen f replies r e = let t = least_of (has_slow_quorum f replies) replies r e in
-    record { among = t.among; leads = (and_parts (is_of_leader f r) _ t.passes).0 }
+    record { among = t.among; leads = (and_parts (is_of_leader f r) _ t.passes).0; quorum = BySlow t.passes }
 
 same_chosen : (a b : Chosen) → Some a ≡ Some b → a.reply ≡ b.reply
 same_chosen a b e = ap (λ (c : Chosen). c.reply) (same_Some a b e)

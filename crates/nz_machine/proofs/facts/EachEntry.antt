@@ -32,7 +32,7 @@ use Rattle.nz_machine.specs.rules.Step.{replica_message, tick_rule}
 use Rattle.nz_machine.proofs.lists.EachItem.{all_append, all_of_prefix, all_back, all_filter, all_insert}
 use Rattle.nz_machine.proofs.lists.ListParts.{all_take, all_drop, find_each}
 use Rattle.nz_machine.specs.runs.Hearing.{Heard}
-use Rattle.nz_machine.proofs.moves.Moves.{Brings, BringsLog, MaySync, HearsReport, Phase, Move, ToEarly, ToLate}
+use Rattle.nz_machine.proofs.moves.Moves.{Brings, BringsLog, MaySync, HearsReport, Interval, Move, ToEarly, ToLate}
 use Rattle.nz_machine.proofs.moves.Moves.{Release, Sync, Overtake, Enter, Drop, Collect, Begin, Start, Closed}
 use Rattle.nz_machine.proofs.moves.MoveRules.{message_moves, tick_moves, alarm_moves}
 
@@ -137,7 +137,7 @@ collected_each P f me heard own s sender b m h =
 
 -- ---- the table
 
-each_kept : (P : Entry → Type 0) (f me : ℕ) (heard : Heard) → IsOwn f me heard P → (s t : ReplicaData) (p q : Phase) → Move f me heard s p q t
+each_kept : (P : Entry → Type 0) (f me : ℕ) (heard : Heard) → IsOwn f me heard P → (s t : ReplicaData) (p q : Interval) → Move f me heard s p q t
     → EachEntry P s → EachEntry P t
 each_kept P f me heard own s _ _ _ (ToEarly e m above) h =
     record { log = h.log; early = all_insert P s.early e h.early (own.brought e m.brought); late = all_filter P _ s.late h.late; reports = h.reports }
@@ -189,19 +189,3 @@ unfolding restart_rule
 restart_each P f me s nonce h =
     cond_both (is_down s.status) _ (s, []) (λ (t : ReplicaData × List Out). EachEntry P t.0)
     (λ _. record { log = tt; early = tt; late = tt; reports = tt }) (λ _. h)
-
--- ---- entries that fit
-
-each_report : (f me : ℕ) (rs : List Reported) → AllByRecursion (FitsReport f me) rs → EachReported FitsEntry rs
-each_report f me [] all = tt
-each_report f me (r ∷ rs) all = (all.0.entries.fit, each_report f me rs all.1)
-
-pub each_fits : (f me : ℕ) (s : ReplicaData) → HasFacts f me s → EachEntry FitsEntry s
-each_fits f me s h =
-    let rest = all_back FitsEntry s.log.entries (s.early ++ s.late) h.entries.arranged.fit in
-    record {
-      log = all_of_prefix FitsEntry s.log.entries (s.early ++ s.late) h.entries.arranged.fit;
-      early = all_of_prefix FitsEntry s.early s.late rest;
-      late = all_back FitsEntry s.early s.late rest;
-      reports = each_report f me s.changes h.reports.each;
-    }

@@ -199,7 +199,7 @@ view_change_fits f me s c h =
     let commit = h.commit in
     let few = h.entries.few in
     let last = h.mode.last in
-    let low = h.bounds.view in
+    let low = h.mode.view in
     let counts = vector_fits f s.vector c.least c.most h.tables.vector in
     let log = own_log f me (max s.log.synced s.commit) s h (omega (arith, synced, commit)) in
     (view_fits s.view low, (view_fits s.last (omega (arith, last, low)), (counts, ((omega (arith, synced, few), omega (arith, commit, synced, few)), log))))
@@ -210,7 +210,7 @@ start_view_fits f me s c h =
     let commit = h.commit in
     let few = h.entries.few in
     let counts = vector_fits f s.vector c.least c.most h.tables.vector in
-    (view_fits s.view h.bounds.view, (counts, (omega (arith, commit, synced, few), own_log f me s.commit s h (omega (arith, synced, commit)))))
+    (view_fits s.view h.mode.view, (counts, (omega (arith, commit, synced, few), own_log f me s.commit s h (omega (arith, synced, commit)))))
 
 pub state_tell_fits : (f me : ℕ) (s : ReplicaData) (nonce : ℕ) → IsReplica f me → HasFacts f me s → nonce < 2 ^ 64 → Fits (state_tell_message s nonce)
 state_tell_fits f me s nonce c h small =
@@ -218,10 +218,10 @@ state_tell_fits f me s nonce c h small =
     let commit = h.commit in
     let few = h.entries.few in
     let counts = vector_fits f s.vector c.least c.most h.tables.vector in
-    (small, (view_fits s.view h.bounds.view, (counts, (omega (arith, commit, synced, few), own_log f me s.commit s h (omega (arith, synced, commit))))))
+    (small, (view_fits s.view h.mode.view, (counts, (omega (arith, commit, synced, few), own_log f me s.commit s h (omega (arith, synced, commit))))))
 
 pub rejoin_tell_fits : (f me : ℕ) (s : ReplicaData) (nonce : ℕ) → IsReplica f me → HasFacts f me s → nonce < 2 ^ 64 → Fits (rejoin_tell_message s nonce)
-rejoin_tell_fits f me s nonce c h small = (small, (view_fits s.view h.bounds.view, vector_fits f s.vector c.least c.most h.tables.vector))
+rejoin_tell_fits f me s nonce c h small = (small, (view_fits s.view h.mode.view, vector_fits f s.vector c.least c.most h.tables.vector))
 
 pub vector_ask_fits : (f me : ℕ) (s : ReplicaData) → HasFacts f me s → Fits (vector_ask_message s)
 vector_ask_fits f me s h = h.rejoin.nonce
@@ -296,7 +296,7 @@ slow_fits f me s to b c h w =
     let from = origin_fits f me s b.id w.origin h w.known in
     let slow = from.delay in
     let fit : Fits (messages.SlowReply (record { view = s.view; id = b.id; delay = w.origin.delay })) =
-    (view_fits s.view h.bounds.view, (place_fits f me s b.id w.place h w.place_is, omega (arith, slow))) in
+    (view_fits s.view h.mode.view, (place_fits f me s b.id w.place h w.place_is, omega (arith, slow))) in
     record {
       sender = own_address f me c;
       receiver = subst HasAddress (sym w.receiver) from.proxy;
@@ -314,7 +314,7 @@ log_mod_fits f me s to b c h w =
     let keys_told = told_keys_fit s start (led_log f me s h) (log_each f me s h) in
     let vector_told = vector_fits f s.vector c.least c.most h.tables.vector in
     let fit : Fits (messages.LogMod (log_mod_from s start)) =
-    (view_fits s.view h.bounds.view, (vector_told, (omega (arith, commit, within, few), (omega (arith, acked), keys_told)))) in
+    (view_fits s.view h.mode.view, (vector_told, (omega (arith, commit, within, few), (omega (arith, acked), keys_told)))) in
     record {
       sender = own_address f me c;
       receiver = other_address f me to c w.receiver;
@@ -330,7 +330,7 @@ fetch_fits f me heard s to b c k h w =
     record {
       sender = own_address f me c;
       receiver = other_address f me to c w.receiver;
-      message = (subst view.fits (sym w.view) (view_fits s.view h.bounds.view), ids_fit b.ids w.some asked.few asked.all);
+      message = (subst view.fits (sym w.view) (view_fits s.view h.mode.view), ids_fit b.ids w.some asked.few asked.all);
     }
 
 fetch_reply_fits : (f me : ℕ) (heard : Heard) (s : ReplicaData) (to : Actor) (b : FetchReplyBody) → IsReplica f me → HeardFits heard → HasFacts f me s
@@ -342,7 +342,7 @@ fetch_reply_fits f me heard s to b c k h w =
       sender = own_address f me c;
       receiver = subst HasAddress (sym w.receiver) ask.0;
       message =
-          (subst view.fits (sym w.view) (view_fits s.view h.bounds.view), subst (entries 0 64).fits (sym w.read) asked);
+          (subst view.fits (sym w.view) (view_fits s.view h.mode.view), subst (entries 0 64).fits (sym w.read) asked);
     }
 
 report_fits : (f me : ℕ) (s : ReplicaData) (to : Actor) (b : SyncReportBody) → IsReplica f me → HasFacts f me s → ShowsReport f me s to b
@@ -350,7 +350,7 @@ report_fits : (f me : ℕ) (s : ReplicaData) (to : Actor) (b : SyncReportBody) �
 report_fits f me s to b c h w =
     let within = h.entries.within in
     let few = h.entries.few in
-    let fit : Fits (messages.SyncReport (record { view = s.view; synced = s.log.synced })) = (view_fits s.view h.bounds.view, omega (arith, within, few)) in
+    let fit : Fits (messages.SyncReport (record { view = s.view; synced = s.log.synced })) = (view_fits s.view h.mode.view, omega (arith, within, few)) in
     record {
       sender = own_address f me c;
       receiver = other_address f me to c w.receiver;
@@ -370,7 +370,7 @@ to_asker f me asker heard to ask m c k hears receiver fit =
 
 view_ask_shown : (f me : ℕ) (s : ReplicaData) (to : Actor) (b : ViewAskBody) → IsReplica f me → HasFacts f me s → ShowsViewAsk f me s to b
     → FitsOut (Replica me) (to, messages.ViewAsk b)
-view_ask_shown f me s to b c h w = to_other f me to (messages.ViewAsk b) c w.receiver (subst view.fits (sym w.view) (view_fits s.view h.bounds.view))
+view_ask_shown f me s to b c h w = to_other f me to (messages.ViewAsk b) c w.receiver (subst view.fits (sym w.view) (view_fits s.view h.mode.view))
 
 view_change_shown : (f me : ℕ) (s : ReplicaData) (to : Actor) (b : ViewChangeBody) → IsReplica f me → HasFacts f me s → ShowsViewChange f me s to b
     → FitsOut (Replica me) (to, messages.ViewChange b)
@@ -421,7 +421,7 @@ state_tell_shown f me heard before s to b c k h w =
 -- what a replica shows fits
 pub shows_fit : (f me : ℕ) (heard : Heard) (before s : ReplicaData) (to : Actor) (m : Message) → IsReplica f me → HeardFits heard → HasFacts f me before
     → HasFacts f me s → ReplicaShows f me heard before s to m → FitsOut (Replica me) (to, m)
-shows_fit f me heard before s to (messages.FastReply b) c k was h w = fast_fits f me before s to b c was.bounds.view h w
+shows_fit f me heard before s to (messages.FastReply b) c k was h w = fast_fits f me before s to b c was.mode.view h w
 shows_fit f me heard before s to (messages.SlowReply b) c k was h w = slow_fits f me s to b c h w
 shows_fit f me heard before s to (messages.LogMod b) c k was h w = log_mod_fits f me s to b c h w
 shows_fit f me heard before s to (messages.Fetch b) c k was h w = fetch_fits f me heard s to b c k h w

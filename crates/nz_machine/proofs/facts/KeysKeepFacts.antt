@@ -10,7 +10,6 @@ use Rattle.nz_base.specs.declared.key.Key.{Key}
 use Rattle.nz_base.specs.declared.key.Entry.{Entry}
 use Rattle.nz_base.specs.Key.{key_below, key_eq, id_eq, id_of}
 use Rattle.nz_base.specs.Log.{keys_of, has_key, has_id, is_above_last, AreRising, HaveOwnIds}
-use Rattle.nz_base.proofs.Booleans.{true_and_false}
 use Rattle.nz_base.proofs.Names.{same_id, same_key}
 use Rattle.nz_base.proofs.Logs.{keys_append, rising_prefix, rising_back, above_each, rising_filter, own_in_prefix}
 use Rattle.nz_base.specs.declared.limits.TheConstants.{MAX_ENTRIES}
@@ -20,7 +19,7 @@ use Rattle.nz_buffers.specs.Buffers.{find_id, without}
 use Rattle.nz_msg.specs.Fields as fields
 use Rattle.nz_machine.specs.rules.State.{ReplicaData}
 use Rattle.nz_machine.specs.rules.Facts.{AreArranged, FitsEntry, AreHeld, HasFacts, AreApart}
-use Rattle.nz_machine.specs.rules.Replicas.{is_normal, is_up, leads}
+use Rattle.nz_machine.specs.rules.Replicas.{is_normal, leads}
 use Rattle.nz_machine.specs.rules.LogMods.{entry_of_id, may_sync, synced_with, if_found, sync_keys, overtaken_to_late, committed_to}
 use Rattle.nz_machine.proofs.lists.EachItem.{all_append, all_of_prefix, all_back, all_filter}
 use Rattle.nz_machine.proofs.facts.KeysApart.{rising_both}
@@ -253,20 +252,9 @@ pub follower_keeps : (f me : ℕ) (s : ReplicaData) (log : Log) (early late : Li
     → is_normal s.status ≡ true → leads f me s ≡ false
     → IsSound log → AreArranged log.entries early late → commit ≤ log.synced
     → HasFacts f me (record s { log = log; early = early; late = late; commit = commit })
-follower_keeps f me s log early late commit h normal follows sound a low = record {
-  bounds = h.bounds;
-  mode = h.mode;
-  entries = record { arranged = a; few = sound.few; within = sound.within };
-  commit = low;
-  tables = h.tables;
-  executed = record {
-    answers = h.executed.answers;
-    led = λ _ lead. true_and_false (leads f me s) lead follows;
-    forgotten = λ away. true_and_false (is_up s.status) (normal_up s.status normal) away;
-  };
-  reports = h.reports;
-  rejoin = h.rejoin;
-}
+follower_keeps f me s log early late commit h normal follows sound a low =
+    let up = normal_up s.status normal in
+    grind (arith, h, normal, follows, sound, a, low, up)
 
 -- the keys are taken, what is no longer early goes to late, and more is committed
 pub taken_keeps : (f me : ℕ) (s t : ReplicaData) (commit : ℕ) → HasFacts f me s → is_normal s.status ≡ true → leads f me s ≡ false → HasTaken s t

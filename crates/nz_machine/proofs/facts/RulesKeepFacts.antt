@@ -39,6 +39,7 @@ use Rattle.nz_machine.proofs.facts.Stores.{answer_fits, replies_pushed}
 use Rattle.nz_machine.proofs.facts.ArrangedEntries.{arranged_early, arranged_release}
 use Rattle.nz_machine.proofs.facts.Guards.{normal_up}
 
+-- the entries of a state with the facts are in order, each in one place
 pub arranged : (f me : ℕ) (s : ReplicaData) → HasFacts f me s → AreArranged s.log.entries s.early s.late
 arranged f me s h = h.entries.arranged
 
@@ -48,8 +49,8 @@ fresh f mode nonce = let s = first_replica f in record s { status = mode; rejoin
 fresh_has_facts : (f me : ℕ) (mode : Status) (nonce : ℕ) → nonce < 2 ^ 64 → HasFacts f me (fresh f mode nonce)
 unfolding replies_from
 fresh_has_facts f me mode nonce low = record {
-  bounds = record { clock = omega arith; view = omega arith };
-  mode = record { last = omega arith; normal = λ h. refl; quiet = omega arith; since = omega arith; rejoining = λ h. omega arith };
+  clocks = record { clock = omega arith; quiet = omega arith; since = omega arith; rejoining = λ h. omega arith };
+  mode = record { view = omega arith; last = omega arith; normal = λ h. refl };
   entries = record { arranged = record { rising = tt; own_ids = tt; fit = tt }; few = omega arith; within = omega arith };
   commit = omega arith;
   tables = record {
@@ -79,62 +80,17 @@ restarted_has_facts f me nonce low = fresh_has_facts f me Rejoining nonce low
 
 -- ---- one word
 
-pub clock_keeps : (f me : ℕ) (s : ReplicaData) (clock : ℕ) → HasFacts f me s → HasFacts f me (at_clock s clock)
-clock_keeps f me s clock h =
-    record {
-      bounds = record { clock = omega arith; view = h.bounds.view };
-      mode = h.mode;
-      entries = h.entries;
-      commit = h.commit;
-      tables = h.tables;
-      executed = h.executed;
-      reports = h.reports;
-      rejoin = h.rejoin;
-    }
-
 pub origin_keeps : (f me : ℕ) (s : ReplicaData) (id : Id) (origin : Origin) → HasFacts f me s → IsKnown (id, origin)
     → HasFacts f me (record s { origin = insert_entry id_eq s.origin id origin })
-origin_keeps f me s id origin h known =
-    let all = insert_each IsKnown s.origin id origin h.tables.origins known in
-    record {
-      bounds = h.bounds;
-      mode = h.mode;
-      entries = h.entries;
-      commit = h.commit;
-      tables = record { vector = h.tables.vector; acks = h.tables.acks; few = h.tables.few; origins = all };
-      executed = h.executed;
-      reports = h.reports;
-      rejoin = h.rejoin;
-    }
+origin_keeps f me s id origin h known = let all = insert_each IsKnown s.origin id origin h.tables.origins known in grind (arith, h, all)
 
 pub vector_keeps : (f me : ℕ) (s : ReplicaData) (vector : List ℕ) → HasFacts f me s → AreCounters f vector → HasFacts f me (with_vector me s vector)
-vector_keeps f me s vector h counters =
-    let all = merged_counters f s.vector vector me h.tables.vector counters in
-    record {
-      bounds = h.bounds;
-      mode = h.mode;
-      entries = h.entries;
-      commit = h.commit;
-      tables = record { vector = all; acks = h.tables.acks; few = h.tables.few; origins = h.tables.origins };
-      executed = h.executed;
-      reports = h.reports;
-      rejoin = h.rejoin;
-    }
+vector_keeps f me s vector h counters = let all = merged_counters f s.vector vector me h.tables.vector counters in grind (arith, h, all)
 
 -- other entries wait
 pub waiting_keeps : (f me : ℕ) (s : ReplicaData) (early late : List Entry) → HasFacts f me s → AreArranged s.log.entries early late
     → HasFacts f me (record s { early = early; late = late })
-waiting_keeps f me s early late h a =
-    record {
-      bounds = h.bounds;
-      mode = h.mode;
-      entries = record { arranged = a; few = h.entries.few; within = h.entries.within };
-      commit = h.commit;
-      tables = h.tables;
-      executed = h.executed;
-      reports = h.reports;
-      rejoin = h.rejoin;
-    }
+waiting_keeps f me s early late h a = grind (arith, h, a)
 
 pub early_keeps : (f me : ℕ) (s : ReplicaData) (e : Entry) → HasFacts f me s → FitsEntry e
     → is_above_last (keys_of s.log.entries) e.key ≡ true → has_id (keys_of s.log.entries) (id_of e.key) ≡ false → has_id (keys_of s.early) (id_of e.key) ≡ false
@@ -183,16 +139,9 @@ pub released_keeps : (f me : ℕ) (s : ReplicaData) (e : Entry) (es : List Entry
     → length s.log.entries < MAX_ENTRIES → HasFacts f me (after_release f me s e es)
 released_keeps f me s e es h normal is room =
     let more : s.commit ≤ (log_with_entry (leads f me s) s.log e).synced = grind (arith, h, length-append) in
-    record {
-      bounds = h.bounds;
-      mode = h.mode;
-      entries = released_held (leads f me s) s.log e es s.late room (subst (λ (xs : List Entry). AreHeld s.log xs s.late) is h.entries);
-      commit = more;
-      tables = h.tables;
-      executed = released_executed f me s e (leads f me s) normal refl h.executed;
-      reports = h.reports;
-      rejoin = h.rejoin;
-    }
+    let held = released_held (leads f me s) s.log e es s.late room (subst (λ (xs : List Entry). AreHeld s.log xs s.late) is h.entries) in
+    let executed = released_executed f me s e (leads f me s) normal refl h.executed in
+    grind (arith, h, more, held, executed)
 
 -- ---- a request's entry
 

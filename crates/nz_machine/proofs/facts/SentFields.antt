@@ -1,5 +1,5 @@
 -- What a replica, a proxy and a client put into messages is in the ranges of frames.
-use Rattle.std.proofs.Common.{◌≡◌, ℕ, ◌-◌, ◌<◌, ◌≤◌, ◌^◌, ◌&&◌, not, eqb, true, false, List, [], ◌∷◌, ◌++◌, length, Option}
+use Rattle.std.proofs.Common.{◌≡◌, ℕ, ◌<◌, ◌≤◌, ◌^◌, ◌&&◌, not, eqb, true, false, List, [], ◌∷◌, ◌++◌, length, Option}
 use Rattle.std.proofs.Common.{Some, None, refl, sym, ap, subst, ◌∙◌, arith, IsTrue, length-append, append_assoc}
 use Rattle.std.specs.Prelude.{nat_le, IsSome}
 use Rattle.std.specs.List.{AllByRecursion}

@@ -22,7 +22,8 @@ use Rattle.nz_machine.specs.rules.Adopting.{with_log, normal_in}
 use Rattle.nz_machine.specs.rules.Begins.{report_of, with_report, without_strays, changes_of, after_begin, begin}
 use Rattle.nz_machine.specs.rules.Rejoining.{restarted_replica}
 use Rattle.nz_machine.proofs.facts.RulesKeepFacts.{restarted_has_facts}
-use Rattle.nz_machine.proofs.facts.WordsKeepFacts.{quiet_keeps, since_keeps, counted_low, enter_keeps, start_keeps, begin_keeps, collect_keeps, strays_keep}
+use Rattle.nz_machine.proofs.facts.Guards.{changing_no_rejoin}
+use Rattle.nz_machine.proofs.facts.WordsKeepFacts.{clocks_keep, counted_low, enter_keeps, start_keeps, begin_keeps, collect_keeps, strays_keep}
 
 -- a state with the same mode, view and log
 pub kept_facts : (f me : ℕ) (s t : ReplicaData) (store : Entries) → IsKeptReplica f me s store → HasFacts f me t
@@ -38,26 +39,24 @@ kept_facts f me s t store k facts status view log = record {
 
 pub kept_quiet : (f me : ℕ) (s : ReplicaData) (store : Entries) (n : ℕ) → IsKeptReplica f me s store → n ≤ VIEW_TIMEOUT_TICKS
     → IsKeptReplica f me (record s { quiet = n }) store
-kept_quiet f me s store n k low = kept_facts f me s (record s { quiet = n }) store k (quiet_keeps f me s n k.facts low) refl refl refl
-
--- one in a view change does not rejoin
-not_rejoining : (m : Status) (n : ℕ) → is_changing m ≡ true → is_rejoining m ≡ true → n < REJOIN_ASK_TICKS
-not_rejoining Normal n a b = absurd cc
-not_rejoining ViewChange n a b = absurd cc
-not_rejoining Rejoining n a b = absurd cc
-not_rejoining Down n a b = absurd cc
+kept_quiet f me s store n k low =
+    let c = k.facts.clocks in
+    kept_facts f me s (record s { quiet = n }) store k (clocks_keep f me s s.clock n s.since k.facts (grind (arith, c, low))) refl refl refl
 
 pub kept_since : (f me : ℕ) (s : ReplicaData) (store : Entries) (n : ℕ) → IsKeptReplica f me s store → n < VIEW_TIMEOUT_TICKS
     → (IsTrue (is_rejoining s.status) → n < REJOIN_ASK_TICKS)
     → IsKeptReplica f me (record s { since = n }) store
-kept_since f me s store n k low rejoins = kept_facts f me s (record s { since = n }) store k (since_keeps f me s n k.facts low rejoins) refl refl refl
+kept_since f me s store n k low rejoins =
+    let c = k.facts.clocks in
+    kept_facts f me s (record s { since = n }) store k (clocks_keep f me s s.clock s.quiet n k.facts (grind (arith, c, low, rejoins))) refl refl refl
 
 pub kept_changing : (f me : ℕ) (s : ReplicaData) (store : Entries) (n : ℕ) → IsKeptReplica f me s store
     → is_changing s.status ≡ true → n ≡ (if s.since + 1 == VIEW_TIMEOUT_TICKS then 0 else s.since + 1)
     → IsKeptReplica f me (record s { since = n }) store
 kept_changing f me s store n k changing is =
     kept_since f me s store n k (subst (λ (m : ℕ). m < VIEW_TIMEOUT_TICKS) (sym is)
-    (counted_low VIEW_TIMEOUT_TICKS s.since k.facts.mode.since)) (not_rejoining s.status n changing)
+    (counted_low VIEW_TIMEOUT_TICKS s.since k.facts.clocks.since))
+    (λ rejoins. true_and_false (is_rejoining s.status) rejoins (changing_no_rejoin s.status changing))
 
 -- a rejoin's period is shorter
 period_low : (n : ℕ) → n < REJOIN_ASK_TICKS → n < VIEW_TIMEOUT_TICKS
@@ -67,7 +66,8 @@ pub kept_rejoining : (f me : ℕ) (s : ReplicaData) (store : Entries) (n : ℕ) 
     → is_rejoining s.status ≡ true → n ≡ (if s.since + 1 == REJOIN_ASK_TICKS then 0 else s.since + 1)
     → IsKeptReplica f me (record s { since = n }) store
 kept_rejoining f me s store n k rejoins is =
-    let low : n < REJOIN_ASK_TICKS = subst (λ (m : ℕ). m < REJOIN_ASK_TICKS) (sym is) (counted_low REJOIN_ASK_TICKS s.since (k.facts.mode.rejoining rejoins)) in
+    let counted = counted_low REJOIN_ASK_TICKS s.since (k.facts.clocks.rejoining rejoins) in
+    let low : n < REJOIN_ASK_TICKS = subst (λ (m : ℕ). m < REJOIN_ASK_TICKS) (sym is) counted in
     kept_since f me s store n k (period_low n low) (λ _. low)
 
 -- ---- views

@@ -1,14 +1,13 @@
 -- The words of views, of adopting a log, and of a rejoin keep what a replica's state always has.
 use Rattle.std.proofs.Common.{ℕ, ◌+◌, ◌<◌, ◌≤◌, ◌^◌, not, eqb, Bool, List, [], ◌∷◌, ◌++◌, length, map}
 use Rattle.std.proofs.Common.{IsTrue, IsFalse, refl, sym, subst, ◌∙◌, arith, append_assoc, append-nil}
-use Rattle.std.specs.Prelude.{◌==◌, if◌then◌else◌, slice_index}
+use Rattle.std.specs.Prelude.{◌==◌, if◌then◌else◌, slice_index, slice_set}
 use Rattle.std.specs.List.{AllByRecursion, filter, list_any}
 use Rattle.std.proofs.lemmas.Bool.Decides.{nat_tests}
 use Rattle.std.proofs.lemmas.List.{length-set, length-replicate}
 use Rattle.std.proofs.lemmas.Bool.{cond_both}
 use Rattle.nz_base.specs.Cluster.{replica_count, leader_of}
 use Rattle.nz_base.specs.declared.key.Entry.{Entry}
-use Rattle.nz_base.proofs.Booleans.{true_and_false}
 use Rattle.nz_base.specs.declared.limits.TheConstants.{MAX_ENTRIES, MAX_VIEW, VIEW_TIMEOUT_TICKS, REJOIN_ASK_TICKS}
 use Rattle.nz_cv.specs.Vectors.{is_stray}
 use Rattle.nz_math.specs.Count.{AreDistinct}
@@ -25,7 +24,7 @@ use Rattle.nz_machine.specs.declared.data.Reported.{Reported}
 use Rattle.nz_machine.specs.declared.data.Rejoin.{Rejoin}
 use Rattle.nz_machine.specs.declared.data.ToldView.{ToldView}
 use Rattle.nz_machine.specs.rules.State.{ReplicaData}
-use Rattle.nz_machine.specs.rules.Facts.{FitsEntry, AreCounters, IsCarried, FitsReport, FitsTold, AreHeld, IsRejoin, HasFacts}
+use Rattle.nz_machine.specs.rules.Facts.{FitsEntry, AreCounters, IsCarried, FitsReport, FitsTold, AreClocks, AreHeld, AreReports, IsRejoin, HasFacts}
 use Rattle.nz_machine.specs.rules.Replicas.{is_rejoining, commands}
 use Rattle.nz_machine.specs.rules.Views.{in_view_change}
 use Rattle.nz_machine.specs.rules.LogMods.{after_hearing}
@@ -43,33 +42,9 @@ use Rattle.nz_machine.proofs.lists.Distinct.{distinct_filter, distinct_replace, 
 
 -- ---- the counts of ticks
 
-pub quiet_keeps : (f me : ℕ) (s : ReplicaData) (n : ℕ) → HasFacts f me s → n ≤ VIEW_TIMEOUT_TICKS → HasFacts f me (record s { quiet = n })
-quiet_keeps f me s n h low = record {
-  bounds = h.bounds;
-  mode = record { last = h.mode.last; normal = h.mode.normal; quiet = low; since = h.mode.since; rejoining = h.mode.rejoining };
-  entries = h.entries;
-  commit = h.commit;
-  tables = h.tables;
-  executed = h.executed;
-  reports = h.reports;
-  rejoin = h.rejoin;
-}
-
-pub hearing_keeps : (f me : ℕ) (s : ReplicaData) → HasFacts f me s → HasFacts f me (after_hearing s)
-hearing_keeps f me s h = quiet_keeps f me s 0 h (omega arith)
-
-pub since_keeps : (f me : ℕ) (s : ReplicaData) (n : ℕ) → HasFacts f me s → n < VIEW_TIMEOUT_TICKS → (IsTrue (is_rejoining s.status) → n < REJOIN_ASK_TICKS)
-    → HasFacts f me (record s { since = n })
-since_keeps f me s n h low rejoins = record {
-  bounds = h.bounds;
-  mode = record { last = h.mode.last; normal = h.mode.normal; quiet = h.mode.quiet; since = low; rejoining = rejoins };
-  entries = h.entries;
-  commit = h.commit;
-  tables = h.tables;
-  executed = h.executed;
-  reports = h.reports;
-  rejoin = h.rejoin;
-}
+pub clocks_keep : (f me : ℕ) (s : ReplicaData) (clock quiet since : ℕ) → HasFacts f me s → AreClocks s.status clock quiet since
+    → HasFacts f me (record s { clock = clock; quiet = quiet; since = since })
+clocks_keep f me s clock quiet since h clocks = grind (arith, h, clocks)
 
 -- a count that begins anew at the end of its period
 pub counted_low : (period n : ℕ) → n < period → (if n + 1 == period then 0 else n + 1) < period
@@ -79,17 +54,8 @@ counted_low period n low = cond_both (eqb (n + 1) period) 0 (n + 1) (λ m. m < p
 
 pub enter_keeps : (f me : ℕ) (s : ReplicaData) (view : ℕ) → HasFacts f me s → s.view ≤ view → view ≤ MAX_VIEW → HasFacts f me (in_view_change s view)
 enter_keeps f me s view h later low =
-    let before = h.mode.last in
-    record {
-      bounds = record { clock = h.bounds.clock; view = low };
-      mode = record { last = omega (arith, before, later); normal = λ n. absurd cc; quiet = omega arith; since = omega arith; rejoining = λ n. absurd cc };
-      entries = h.entries;
-      commit = h.commit;
-      tables = h.tables;
-      executed = record { answers = h.executed.answers; led = λ n _. absurd cc; forgotten = λ away. absurd cc };
-      reports = record { each = tt; own_senders = tt };
-      rejoin = h.rejoin;
-    }
+    let none : AreReports f me [] = record { each = tt; own_senders = tt } in
+    grind (arith, h, later, low, none)
 
 -- ---- a list is adopted
 
@@ -104,16 +70,7 @@ adopted_held s list h c =
 pub start_keeps : (f me : ℕ) (s : ReplicaData) (view : ℕ) (list : List Entry) (commit : ℕ) → HasFacts f me s → view ≤ MAX_VIEW
     → IsFalse (leader_of f view == me)
     → IsCarried list → commit ≤ length list → HasFacts f me (normal_in s view list commit)
-start_keeps f me s view list commit h low away c committed = record {
-  bounds = record { clock = h.bounds.clock; view = low };
-  mode = record { last = omega arith; normal = λ n. refl; quiet = omega arith; since = h.mode.since; rejoining = λ n. absurd cc };
-  entries = adopted_held s list h.entries c;
-  commit = committed;
-  tables = h.tables;
-  executed = record { answers = h.executed.answers; led = λ n lead. true_and_false (leader_of f view == me) lead away; forgotten = λ down. absurd cc };
-  reports = h.reports;
-  rejoin = h.rejoin;
-}
+start_keeps f me s view list commit h low away c committed = let held = adopted_held s list h.entries c in grind (arith, h, low, away, held, committed)
 
 replies_grow : (prefix rest : List Entry) → AllByRecursion answer.fits (replies (commands prefix))
     → AllByRecursion answer.fits (replies (commands (prefix ++ rest)))
@@ -130,25 +87,13 @@ unfolding replies_from
 replies_fit log = replies_grow [] log tt
 
 pub begin_keeps : (f me : ℕ) (s : ReplicaData) (list : List Entry) (commit : ℕ) → HasFacts f me s → IsCarried list → HasFacts f me (after_begin f s list commit)
-begin_keeps f me s list commit h c = record {
-  bounds = h.bounds;
-  mode = record { last = omega arith; normal = λ n. refl; quiet = omega arith; since = h.mode.since; rejoining = λ n. absurd cc };
-  entries = adopted_held s list h.entries c;
-  commit = omega arith;
-  tables = record {
-    vector = h.tables.vector;
-    acks = length-replicate (replica_count f) 0;
-    few = all_replicate (λ n. n ≤ MAX_ENTRIES) (replica_count f) 0 (omega arith);
-    origins = h.tables.origins;
-  };
-  executed = record {
-    answers = replies_fit list;
-    led = λ _ _. record { synced = refl; results = refl; acks = all_replicate (λ n. n ≤ length list) (replica_count f) 0 (omega arith) };
-    forgotten = λ down. absurd cc;
-  };
-  reports = h.reports;
-  rejoin = h.rejoin;
-}
+begin_keeps f me s list commit h c =
+    let held = adopted_held s list h.entries c in
+    let acks = length-replicate {A = ℕ} (replica_count f) 0 in
+    let few = all_replicate (λ n. n ≤ MAX_ENTRIES) (replica_count f) 0 (omega arith) in
+    let synced = all_replicate (λ n. n ≤ length list) (replica_count f) 0 (omega arith) in
+    let answers = replies_fit list in
+    grind (arith, h, held, acks, few, synced, answers)
 
 -- ---- reports
 
@@ -157,36 +102,20 @@ pub collect_keeps : (f me : ℕ) (s : ReplicaData) (sender : ℕ) (b : ViewChang
 collect_keeps f me s sender b h fit =
     let report = report_of sender b in
     let others = filter (λ (r : Reported). not (eqb r.change.sender sender)) s.changes in
-    record {
-      bounds = h.bounds;
-      mode = h.mode;
-      entries = h.entries;
-      commit = h.commit;
-      tables = h.tables;
-      executed = h.executed;
-      reports = record {
-        each = all_append (FitsReport f me) others (report ∷ []) (all_filter (FitsReport f me) _ s.changes h.reports.each) (fit, tt);
-        own_senders = own_senders (others ++ report ∷ []) (distinct_replace sender_of s.changes report (distinct_senders s.changes h.reports.own_senders));
-      };
-      rejoin = h.rejoin;
-    }
+    let reports : AreReports f me (others ++ report ∷ []) = record {
+      each = all_append (FitsReport f me) others (report ∷ []) (all_filter (FitsReport f me) _ s.changes h.reports.each) (fit, tt);
+      own_senders = own_senders (others ++ report ∷ []) (distinct_replace sender_of s.changes report (distinct_senders s.changes h.reports.own_senders));
+    } in
+    grind (arith, h, reports)
 
 pub strays_keep : (f me : ℕ) (s : ReplicaData) → HasFacts f me s → HasFacts f me (without_strays s)
 strays_keep f me s h =
     let new : Reported → Bool = λ r. not (is_stray r.vector r.change.sender s.vector) in
-    record {
-      bounds = h.bounds;
-      mode = h.mode;
-      entries = h.entries;
-      commit = h.commit;
-      tables = h.tables;
-      executed = h.executed;
-      reports = record {
-        each = all_filter (FitsReport f me) new s.changes h.reports.each;
-        own_senders = own_senders (filter new s.changes) (distinct_filter sender_of new s.changes (distinct_senders s.changes h.reports.own_senders));
-      };
-      rejoin = h.rejoin;
-    }
+    let reports : AreReports f me (filter new s.changes) = record {
+      each = all_filter (FitsReport f me) new s.changes h.reports.each;
+      own_senders = own_senders (filter new s.changes) (distinct_filter sender_of new s.changes (distinct_senders s.changes h.reports.own_senders));
+    } in
+    grind (arith, h, reports)
 
 -- ---- the merged log
 
@@ -230,24 +159,7 @@ merged_carried f me s h few = record {
 -- the rejoin is another, and the wait goes on or begins anew
 rejoin_keeps : (f me : ℕ) (s : ReplicaData) (r : Rejoin) (ticks : ℕ) → HasFacts f me s → ticks ≤ s.since → IsRejoin f r
     → HasFacts f me (record s { since = ticks; rejoin = r })
-rejoin_keeps f me s r ticks h low own =
-    let before = h.mode.since in
-    record {
-      bounds = h.bounds;
-      mode = record {
-        last = h.mode.last;
-        normal = h.mode.normal;
-        quiet = h.mode.quiet;
-        since = omega (arith, before, low);
-        rejoining = λ rejoins. let most = h.mode.rejoining rejoins in omega (arith, most, low);
-      };
-      entries = h.entries;
-      commit = h.commit;
-      tables = h.tables;
-      executed = h.executed;
-      reports = h.reports;
-      rejoin = own;
-    }
+rejoin_keeps f me s r ticks h low own = grind (arith, h, low, own)
 
 pub teller_keeps : (f me : ℕ) (s : ReplicaData) (sender : ℕ) (vector : List ℕ) → HasFacts f me s → sender < replica_count f → AreCounters f vector
     → HasFacts f me (with_teller me s sender vector)
@@ -276,21 +188,9 @@ counter_keeps f me s h below =
     let claim = h.rejoin.claim in
     let v = h.tables.vector in
     let next : s.rejoin.claim + 1 < 2 ^ 32 = grind (arith, nat_tests, claim, below) in
-    record {
-      bounds = h.bounds;
-      mode = h.mode;
-      entries = h.entries;
-      commit = h.commit;
-      tables = record {
-        vector = record { size = length-set s.vector me _ ∙ v.size; small = set_all (λ n. n < 2 ^ 32) s.vector me (s.rejoin.claim + 1) v.small next };
-        acks = h.tables.acks;
-        few = h.tables.few;
-        origins = h.tables.origins;
-      };
-      executed = h.executed;
-      reports = h.reports;
-      rejoin = h.rejoin;
-    }
+    let vector : AreCounters f (slice_set s.vector me (s.rejoin.claim + 1)) =
+    record { size = length-set s.vector me _ ∙ v.size; small = set_all (λ n. n < 2 ^ 32) s.vector me (s.rejoin.claim + 1) v.small next } in
+    grind (arith, h, vector)
 
 -- other views were told
 pub tells_keep : (f me : ℕ) (s : ReplicaData) (tells : List ToldView) → HasFacts f me s → AllByRecursion (FitsTold f) tells

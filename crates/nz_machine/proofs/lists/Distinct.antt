@@ -46,6 +46,7 @@ module _ {X : Type 0} (key : X → ℕ) where
   gone_cond x rest y true e out = out
   gone_cond x rest y false e out = ap (λ b. b || is_in (map key rest) y) e ∙ out
 
+  -- what is filtered out is not in the rest
   pub gone : (xs : List X) (y : ℕ) → is_in (map key (filter (λ t. not (eqb (key t) y)) xs)) y ≡ false
   gone [] y = refl
   gone (x ∷ xs) y = gone_cond x (filter (λ t. not (eqb (key t) y)) xs) y (eqb (key x) y) refl (gone xs y)

@@ -1,7 +1,7 @@
 -- Each move keeps what a replica's state always has.
 use Rattle.std.proofs.Common.{◌≡◌, ℕ, ◌+◌, ◌-◌, ◌<◌, ◌≤◌, ◌^◌, eqb, true, false, List, [], ◌∷◌, ◌++◌, length}
 use Rattle.std.proofs.Common.{map, Some, refl, sym, ap, subst, ◌∙◌, arith, eq-eqb, None, inl, inr, IsFalse}
-use Rattle.std.specs.Prelude.{IfSome, ◌==◌, max, min}
+use Rattle.std.specs.Prelude.{IfSome, ◌==◌, max, min, slice_index}
 use Rattle.std.specs.List.{AllByRecursion}
 use Rattle.std.proofs.lemmas.Bool.{ltb-true, not-true, and_parts, cond_both}
 use Rattle.std.proofs.lemmas.Bool.Decides.{nat_tests}
@@ -11,7 +11,6 @@ use Rattle.nz_base.specs.declared.actor.Actor.{Actor}
 use Rattle.nz_base.specs.declared.actor.Actor.TheVariants.{Replica, Proxy}
 use Rattle.nz_base.specs.declared.key.Entry.{Entry}
 use Rattle.nz_base.specs.Key.{id_of}
-use Rattle.nz_base.proofs.Booleans.{true_and_false}
 use Rattle.nz_base.specs.declared.limits.TheConstants.{MAX_ENTRIES, MAX_VIEW, VIEW_TIMEOUT_TICKS, REJOIN_ASK_TICKS}
 use Rattle.nz_merge.specs.Merged.{greatest, merged}
 use Rattle.nz_msg.specs.Fields as fields
@@ -38,9 +37,9 @@ use Rattle.nz_msg.specs.Messages.{vector_tell, rejoin_ask, rejoin_tell, state_as
 use Rattle.nz_machine.specs.declared.data.Status.{Status}
 use Rattle.nz_machine.specs.declared.data.Status.TheVariants.{Normal, ViewChange, Rejoining, Down}
 use Rattle.nz_machine.specs.rules.State.{ReplicaData, Out}
-use Rattle.nz_machine.specs.rules.Facts.{FitsEntry, AreCounters, IsCarried, FitsReport, InBounds, HasMode}
+use Rattle.nz_machine.specs.rules.Facts.{FitsEntry, AreCounters, IsCarried, FitsReport, AreClocks, HasMode}
 use Rattle.nz_machine.specs.rules.Facts.{AreApart, AreTables, AreExecuted, AreReports, IsRejoin, HasFacts}
-use Rattle.nz_machine.specs.rules.Replicas.{is_changing, is_up, is_rejoining, is_down, leads}
+use Rattle.nz_machine.specs.rules.Replicas.{is_changing, is_rejoining, is_down}
 use Rattle.nz_machine.specs.rules.Requests.{with_origin, origin_of, request_rule}
 use Rattle.nz_machine.specs.rules.Releases.{release_rule}
 use Rattle.nz_machine.specs.rules.LogMods.{synced_with, overtaken_to_late, with_ack, with_commit, log_mod_rule, fetch_rule, fetch_reply_rule, sync_report_rule}
@@ -60,14 +59,15 @@ use Rattle.nz_machine.proofs.facts.Carried.{carried_of_fit, at_least_of_fit}
 use Rattle.nz_machine.proofs.facts.SentFields.{vector_counts}
 use Rattle.nz_machine.proofs.lists.Tables.{set_long, reported_low, noted_low}
 use Rattle.nz_machine.proofs.facts.Guards.{IsLeader, normal_up}
-use Rattle.nz_machine.proofs.facts.RulesKeepFacts.{entry_fits, has_place_left, crashed_has_facts, restarted_has_facts, clock_keeps}
+use Rattle.nz_machine.proofs.facts.SyncKeepsFacts.{commit_keeps, tallied_low, ack_keeps}
+use Rattle.nz_machine.proofs.facts.RulesKeepFacts.{entry_fits, has_place_left, crashed_has_facts, restarted_has_facts}
 use Rattle.nz_machine.proofs.facts.RulesKeepFacts.{origin_keeps, vector_keeps, waiting_keeps, early_keeps, released_keeps}
-use Rattle.nz_machine.proofs.facts.WordsKeepFacts.{quiet_keeps, since_keeps, enter_keeps, start_keeps, begin_keeps, collect_keeps, strays_keep}
+use Rattle.nz_machine.proofs.facts.WordsKeepFacts.{clocks_keep, enter_keeps, start_keeps, begin_keeps, collect_keeps, strays_keep}
 use Rattle.nz_machine.proofs.facts.WordsKeepFacts.{merged_carried, teller_keeps, counter_keeps, tell_keeps, forget_keeps, ask_views_keeps, ask_log_keeps}
 use Rattle.nz_machine.proofs.facts.WordsKeepFacts.{latest_low}
-use Rattle.nz_machine.proofs.moves.Moves.{Brings, Names, BringsLog, MaySync, MayEnter, MayStart, Phase, Whole, Taking, Move, ToClock, NoteOrigin, ToEarly}
-use Rattle.nz_machine.proofs.moves.Moves.{ToLate, Release, Merge, Take, Sync, Overtake, Commit, NoteAck, Tally, Quiet, CountChange, CountRejoin, CountAnew}
-use Rattle.nz_machine.proofs.moves.Moves.{Enter, Drop, Collect, Begin, Start, NoteTeller, Count, AskViews, NoteTell, Forget, AskLog, Closed}
+use Rattle.nz_machine.proofs.moves.Moves.{Brings, Names, BringsLog, MaySync, MayEnter, MayStart, Interval, Whole, Taking, Move, Count, NoteOrigin, ToEarly}
+use Rattle.nz_machine.proofs.moves.Moves.{ToLate, Release, Merge, Take, Sync, Overtake, Commit, NoteAck, Tally}
+use Rattle.nz_machine.proofs.moves.Moves.{Enter, Drop, Collect, Begin, Start, NoteTeller, TakeCounter, AskViews, NoteTell, Forget, AskLog, Closed}
 use Rattle.nz_machine.proofs.moves.MoveRules.{message_moves, release_moves, tick_moves, alarm_moves, sync_report_moves, fetch_same, vector_ask_same}
 
 -- another replica of the cluster
@@ -96,8 +96,8 @@ pub record HearsFit (f me : ℕ) (heard : Heard) : Type 0 where
 
 -- the facts while keys are taken
 pub record IsTaking (f me : ℕ) (s : ReplicaData) : Type 0 where
-  pub bounds : InBounds s.clock s.view
-  pub mode : HasMode s.status s.view s.last s.quiet s.since
+  pub clocks : AreClocks s.status s.clock s.quiet s.since
+  pub mode : HasMode s.status s.view s.last
   pub entries : AreApart s.log s.early s.late
   pub commit : s.commit ≤ s.log.synced
   pub tables : AreTables f s.vector s.ack s.origin
@@ -106,23 +106,14 @@ pub record IsTaking (f me : ℕ) (s : ReplicaData) : Type 0 where
   pub rejoin : IsRejoin f s.rejoin
 
 -- the facts in a phase
-abbrev pub FactsIn : ℕ → ℕ → Phase → ReplicaData → Type 0
+abbrev pub FactsIn : ℕ → ℕ → Interval → ReplicaData → Type 0
 FactsIn f me Whole s = HasFacts f me s
 FactsIn f me Taking s = IsTaking f me s
 
 -- ---- while keys are taken
 
 take_kept : (f me : ℕ) (s : ReplicaData) → HasFacts f me s → IsTaking f me s
-take_kept f me s h = record {
-  bounds = h.bounds;
-  mode = h.mode;
-  entries = apart_held s.log s.early s.late h.entries;
-  commit = h.commit;
-  tables = h.tables;
-  executed = h.executed;
-  reports = h.reports;
-  rejoin = h.rejoin;
-}
+take_kept f me s h = let apart = apart_held s.log s.early s.late h.entries in grind (arith, h, apart)
 
 synced_apart : (f me : ℕ) (heard : Heard) → HearsFit f me heard → (s : ReplicaData) (e : Entry) → MaySync f me heard s e
     → AreApart s.log s.early s.late → AreApart (synced_with s e).log (synced_with s e).early (synced_with s e).late
@@ -136,80 +127,13 @@ synced_apart f me heard fit s e m h =
 sync_kept : (f me : ℕ) (heard : Heard) → HearsFit f me heard → (s : ReplicaData) (e : Entry) → MaySync f me heard s e → IsTaking f me s
     → IsTaking f me (synced_with s e)
 sync_kept f me heard fit s e m h =
-    let so_far = h.commit in
-    record {
-      bounds = h.bounds;
-      mode = h.mode;
-      entries = synced_apart f me heard fit s e m h.entries;
-      commit = omega (arith, so_far);
-      tables = h.tables;
-      executed = record {
-        answers = h.executed.answers;
-        led = λ _ lead. true_and_false (leads f me s) lead m.told.leader.follows;
-        forgotten = λ away. true_and_false (is_up s.status) (normal_up s.status m.told.leader.normal) away;
-      };
-      reports = h.reports;
-      rejoin = h.rejoin;
-    }
+    let apart = synced_apart f me heard fit s e m h.entries in
+    let leader = m.told.leader in
+    let up = normal_up s.status leader.normal in
+    grind (arith, h, apart, leader, up)
 
 overtake_kept : (f me : ℕ) (s : ReplicaData) → IsTaking f me s → HasFacts f me (overtaken_to_late s)
-overtake_kept f me s h = record {
-  bounds = h.bounds;
-  mode = h.mode;
-  entries = record { arranged = arranged_overtaken s.log s.early s.late h.entries; few = h.entries.sound.few; within = h.entries.sound.within };
-  commit = h.commit;
-  tables = h.tables;
-  executed = h.executed;
-  reports = h.reports;
-  rejoin = h.rejoin;
-}
-
--- ---- the commit point and the reports of sync points
-
-committed_kept : (f me : ℕ) (s : ReplicaData) (commit : ℕ) → HasFacts f me s → commit ≤ s.log.synced → HasFacts f me (record s { commit = commit })
-committed_kept f me s commit h low = record {
-  bounds = h.bounds;
-  mode = h.mode;
-  entries = h.entries;
-  commit = low;
-  tables = h.tables;
-  executed = h.executed;
-  reports = h.reports;
-  rejoin = h.rejoin;
-}
-
-tallied_low : (f me named : ℕ) (s : ReplicaData) → IsLeader f me s.status s.view named → HasFacts f me s → (with_commit f me s).commit ≤ s.log.synced
-tallied_low f me named s leader h =
-    let d = h.executed.led leader.normal leader.leads in
-    let most = reported_low f me (length s.log.entries) s.ack d.acks in
-    let agreed = d.synced in
-    let so_far = h.commit in
-    omega (arith, most, agreed, so_far)
-
-note_kept : (f me : ℕ) (s : ReplicaData) (sender count : ℕ) → HasFacts f me s → count ≤ length s.log.entries → HasFacts f me (with_ack s sender count)
-note_kept f me s sender count h low =
-    let most = h.entries.few in
-    record {
-      bounds = h.bounds;
-      mode = h.mode;
-      entries = h.entries;
-      commit = h.commit;
-      tables = record {
-        vector = h.tables.vector;
-        acks = set_long s.ack sender _ ∙ h.tables.acks;
-        few = noted_low MAX_ENTRIES s.ack sender count (omega (arith, low, most)) h.tables.few;
-        origins = h.tables.origins;
-      };
-      executed = record {
-        answers = h.executed.answers;
-        led = λ normal lead.
-            let d = h.executed.led normal lead in
-            record { synced = d.synced; results = d.results; acks = noted_low (length s.log.entries) s.ack sender count low d.acks };
-        forgotten = h.executed.forgotten;
-      };
-      reports = h.reports;
-      rejoin = h.rejoin;
-    }
+overtake_kept f me s h = let held = arranged_overtaken s.log s.early s.late h.entries in grind (arith, h, held)
 
 -- ---- each move
 
@@ -223,53 +147,30 @@ start_kept f me heard fit s view list commit m h =
     let k = fit.log m.sender view list commit m.brought in
     start_keeps f me s view list commit h k.view (ap (λ n. eqb n me) (sym m.leader) ∙ k.other) k.entries k.commit
 
-count_change_kept : (f me : ℕ) (s : ReplicaData) → is_changing s.status ≡ true → eqb (s.since + 1) VIEW_TIMEOUT_TICKS ≡ false → HasFacts f me s
-    → HasFacts f me (record s { since = s.since + 1 })
-count_change_kept f me s changing more h =
-    let low = h.mode.since in
-    since_keeps f me s (s.since + 1) h (grind (arith, nat_tests, low, more)) (λ rejoins. absurd (not_both s.status changing rejoins))
-  where
-    not_both : (mode : Status) → is_changing mode ≡ true → is_rejoining mode ≡ true → ⊥
-    not_both Normal a b = absurd cc
-    not_both ViewChange a b = absurd cc
-    not_both Rejoining a b = absurd cc
-    not_both Down a b = absurd cc
-
-count_rejoin_kept : (f me : ℕ) (s : ReplicaData) → is_rejoining s.status ≡ true → eqb (s.since + 1) REJOIN_ASK_TICKS ≡ false → HasFacts f me s
-    → HasFacts f me (record s { since = s.since + 1 })
-count_rejoin_kept f me s rejoins more h =
-    let low = h.mode.rejoining rejoins in
-    let next : s.since + 1 < REJOIN_ASK_TICKS = grind (arith, nat_tests, low, more) in
-    since_keeps f me s (s.since + 1) h (omega (arith, next)) (λ _. next)
-
 entered_low : (f me : ℕ) (heard : Heard) → HearsFit f me heard → (s : ReplicaData) (view : ℕ) → MayEnter heard s view → view ≤ MAX_VIEW
 entered_low f me heard fit s view m = elim m.named [
   | inl next ↦ let is = next.0 in let low = next.1 in omega (arith, is, low)
   | inr named ↦ fit.named view named
 ]
 
-pub facts_kept : (f me : ℕ) (heard : Heard) → HearsFit f me heard → (s t : ReplicaData) (p q : Phase) → Move f me heard s p q t → FactsIn f me p s
+pub facts_kept : (f me : ℕ) (heard : Heard) → HearsFit f me heard → (s t : ReplicaData) (p q : Interval) → Move f me heard s p q t → FactsIn f me p s
     → FactsIn f me q t
-facts_kept f me heard fit s _ _ _ (ToClock clock) h = clock_keeps f me s clock h
+facts_kept f me heard fit s _ _ _ (Count clock quiet since keeps) h = clocks_keep f me s clock quiet since h (keeps h.clocks)
 facts_kept f me heard fit s _ _ _ (NoteOrigin proxy b is) h = origin_kept f me heard fit s proxy b is h
 facts_kept f me heard fit s _ _ _ (ToEarly e m above) h = early_keeps f me s e h (fit.brought e m.brought) above m.logged m.held
 facts_kept f me heard fit s _ _ _ (ToLate e m none) h =
     waiting_keeps f me s s.early (s.late ++ e ∷ []) h
     (arranged_late s.log.entries s.early s.late e h.entries.arranged (fit.brought e m.brought) m.logged m.held none)
 facts_kept f me heard fit s _ _ _ (Release e es m) h = released_keeps f me s e es h m.normal m.first (has_place_left s e m.may)
-facts_kept f me heard fit s _ _ _ (Merge r v m) h = vector_keeps f me s v h (fit.vector r m.message v m.is m.carries)
+facts_kept f me heard fit s _ _ _ (Merge r m v new) h = vector_keeps f me s v h (fit.vector r m v new.is new.carries)
 facts_kept f me heard fit s _ _ _ (Take told) h = take_kept f me s h
 facts_kept f me heard fit s _ _ _ (Sync e m) h = sync_kept f me heard fit s e m h
 facts_kept f me heard fit s _ _ _ (Overtake told) h = overtake_kept f me s h
 facts_kept f me heard fit s _ _ _ (Commit told) h = let so_far = h.commit in
-    committed_kept f me s (max s.commit (min told.body.commit s.log.synced)) h (omega (arith, so_far))
+    commit_keeps f me s (max s.commit (min told.body.commit s.log.synced)) h (omega (arith, so_far))
 facts_kept f me heard fit s _ _ _ (NoteAck sender count m) h = let low = m.low in let same = m.same in
-    note_kept f me s sender count h (omega (arith, low, same))
-facts_kept f me heard fit s _ _ _ (Tally named m) h = committed_kept f me s (with_commit f me s).commit h (tallied_low f me named s m h)
-facts_kept f me heard fit s _ _ _ (Quiet ticks low) h = quiet_keeps f me s ticks h low
-facts_kept f me heard fit s _ _ _ (CountChange changing more) h = count_change_kept f me s changing more h
-facts_kept f me heard fit s _ _ _ (CountRejoin rejoins more) h = count_rejoin_kept f me s rejoins more h
-facts_kept f me heard fit s _ _ _ CountAnew h = since_keeps f me s 0 h (omega arith) (λ _. omega arith)
+    ack_keeps f me s sender count h (omega (arith, low, same))
+facts_kept f me heard fit s _ _ _ (Tally named m) h = commit_keeps f me s (with_commit f me s).commit h (tallied_low f me named s m h)
 facts_kept f me heard fit s _ _ _ (Enter view m) h =
     enter_keeps f me s view h (let later = m.later in omega (arith, later)) (entered_low f me heard fit s view m)
 facts_kept f me heard fit s _ _ _ Drop h = strays_keep f me s h
@@ -280,7 +181,7 @@ facts_kept f me heard fit s _ _ _ (Start view list commit m) h = start_kept f me
 facts_kept f me heard fit s _ _ _ (NoteTeller sender vector m) h =
     let counters = fit.vector sender (messages.VectorTell m.body) m.body.vector m.is refl in
     teller_keeps f me s sender vector h (fit.teller sender m.body m.is) (subst (AreCounters f) (sym m.same) counters)
-facts_kept f me heard fit s _ _ _ (Count below rejoins) h = counter_keeps f me s h below
+facts_kept f me heard fit s _ _ _ (TakeCounter below rejoins) h = counter_keeps f me s h below
 facts_kept f me heard fit s _ _ _ (AskViews rejoins) h = ask_views_keeps f me s h
 facts_kept f me heard fit s _ _ _ (NoteTell sender b m) h =
     tell_keeps f me s sender b h (fit.told sender b m.is).0 (fit.told sender b m.is).1 (fit.vector sender (messages.RejoinTell b) b.vector m.is refl)
@@ -429,6 +330,7 @@ nothing_fits f me = record {
 
 -- ---- the rules
 
+-- the facts are kept by each move
 pub closed : (f me : ℕ) (heard : Heard) → HearsFit f me heard → Closed f me heard (FactsIn f me)
 closed f me heard fit = record { kept = facts_kept f me heard fit }
 

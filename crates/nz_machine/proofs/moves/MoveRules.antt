@@ -11,7 +11,7 @@ use Rattle.nz_base.specs.declared.key.Key.{Key}
 use Rattle.nz_base.specs.declared.key.Entry.{Entry}
 use Rattle.nz_base.specs.Key.{id_of}
 use Rattle.nz_base.specs.Log.{keys_of, has_id, is_above_last}
-use Rattle.nz_base.specs.declared.limits.TheConstants.{MAX_DEADLINE, MAX_ENTRIES, MAX_VIEW, VIEW_TIMEOUT_TICKS, VIEW_ASK_TICKS, REJOIN_ASK_TICKS}
+use Rattle.nz_base.specs.declared.limits.TheConstants.{MAX_CLOCK, MAX_DEADLINE, MAX_ENTRIES, MAX_VIEW, VIEW_TIMEOUT_TICKS, VIEW_ASK_TICKS, REJOIN_ASK_TICKS}
 use Rattle.nz_cv.specs.Vectors.{is_stray}
 use Rattle.nz_merge.specs.Merged.{merged}
 use Rattle.nz_log.specs.Places.{place_of}
@@ -34,7 +34,7 @@ use Rattle.nz_msg.specs.declared.message.Message.{Message}
 use Rattle.nz_msg.specs.declared.message.Message.TheVariants as messages
 use Rattle.nz_machine.specs.declared.data.Status.{Status}
 use Rattle.nz_machine.specs.declared.data.Status.TheVariants.{Normal, ViewChange, Rejoining, Down}
-use Rattle.nz_machine.specs.declared.data.Phase as data_phase
+use Rattle.nz_machine.specs.declared.data.Phase.{Phase}
 use Rattle.nz_machine.specs.declared.data.Phase.TheVariants as phases
 use Rattle.nz_machine.specs.rules.State.{ReplicaData, Out}
 use Rattle.nz_machine.specs.rules.Replicas.{is_normal, is_changing, is_up, is_rejoining, leads, leads_view, hears_leader}
@@ -58,25 +58,25 @@ use Rattle.nz_machine.specs.runs.World.{Has}
 use Rattle.nz_machine.proofs.facts.RulesKeepFacts.{above_next}
 use Rattle.nz_machine.specs.runs.Hearing.{Heard}
 use Rattle.nz_machine.proofs.facts.Guards.{HearsLeader, IsLeader, hears_leader_parts, is_leader, hears_later_parts}
-use Rattle.nz_machine.proofs.facts.Guards.{may_lead_parts, hears_start_parts, awaits_rejoins, hears_log_parts}
-use Rattle.nz_machine.proofs.moves.Moves.{HearsLogMod, MaySync, Phase, Whole, Taking, ToClock, NoteOrigin, ToEarly, ToLate, Release, Merge}
-use Rattle.nz_machine.proofs.moves.Moves.{Take, Sync, Overtake, Commit, NoteAck, Tally, Quiet, CountChange, CountRejoin, CountAnew, Enter, Drop}
-use Rattle.nz_machine.proofs.moves.Moves.{Collect, Begin, Start, NoteTeller, Count, AskViews, NoteTell, Forget, AskLog, Names, Closed}
+use Rattle.nz_machine.proofs.facts.Guards.{changing_no_rejoin, may_lead_parts, hears_start_parts, awaits_parts, hears_log_parts}
+use Rattle.nz_machine.proofs.moves.Moves.{HearsLogMod, MaySync, Interval, Whole, Taking, NoteOrigin, ToEarly, ToLate, Release, Merge}
+use Rattle.nz_machine.proofs.moves.Moves.{Take, Sync, Overtake, Commit, NoteAck, Tally, Enter, Drop}
+use Rattle.nz_machine.proofs.moves.Moves.{Collect, Begin, Start, NoteTeller, Count, TakeCounter, AskViews, NoteTell, Forget, AskLog, Names, Closed}
 
 -- what a rule ends in has P
-abbrev Ends : (Phase → ReplicaData → Type 0) → ReplicaData × List Out → Type 0
+abbrev Ends : (Interval → ReplicaData → Type 0) → ReplicaData × List Out → Type 0
 Ends P t = P Whole t.0
 
 -- ---- the request rule
 
-module _ (P : Phase → ReplicaData → Type 0) (f me proxy : ℕ) (b : TimedBody) (c : Closed f me (Some (Proxy proxy, messages.Timed b)) P) where
+module _ (P : Interval → ReplicaData → Type 0) (f me proxy : ℕ) (b : TimedBody) (c : Closed f me (Some (Proxy proxy, messages.Timed b)) P) where
   -- the request's id is in neither log nor early
-  record IsNew (s : ReplicaData) : Type 0 where
+  record IsUnknown (s : ReplicaData) : Type 0 where
     pub normal : is_normal s.status ≡ true
     pub logged : has_id (keys_of s.log.entries) b.id ≡ false
     pub held : has_id (keys_of s.early) b.id ≡ false
 
-  early_moves : (s : ReplicaData) → IsNew s → (deadline : ℕ) → (deadline ≡ b.deadline) ⊎ (deadline ≤ MAX_DEADLINE)
+  early_moves : (s : ReplicaData) → IsUnknown s → (deadline : ℕ) → (deadline ≡ b.deadline) ⊎ (deadline ≤ MAX_DEADLINE)
       → is_above_last (keys_of s.log.entries) (key_with_deadline deadline b.id) ≡ true → P Whole s → P Whole (to_early s (entry_at deadline b))
   early_moves s new deadline low above h =
       c.kept _ _ _ _ (ToEarly (entry_at deadline b)
@@ -87,7 +87,7 @@ module _ (P : Phase → ReplicaData → Type 0) (f me proxy : ℕ) (b : TimedBod
         held = new.held;
       }) above) h
 
-  late_moves : (s : ReplicaData) → IsNew s → has_id (keys_of s.late) b.id ≡ false → P Whole s
+  late_moves : (s : ReplicaData) → IsUnknown s → has_id (keys_of s.late) b.id ≡ false → P Whole s
       → P Whole (record s { late = s.late ++ entry_at b.deadline b ∷ [] })
   late_moves s new none h =
       c.kept _ _ _ _ (ToLate (entry_at b.deadline b)
@@ -98,10 +98,10 @@ module _ (P : Phase → ReplicaData → Type 0) (f me proxy : ℕ) (b : TimedBod
         held = new.held;
       }) none) h
 
-  restamped_moves : (s : ReplicaData) → IsNew s → P Whole s → P Whole (after_restamp s b)
+  restamped_moves : (s : ReplicaData) → IsUnknown s → P Whole s → P Whole (after_restamp s b)
   restamped_moves s new h = grind (arith, nat_tests, early_moves, above_next)
 
-  placed_moves : (s : ReplicaData) → IsNew s → P Whole s → P Whole (after_placing f me s b)
+  placed_moves : (s : ReplicaData) → IsUnknown s → P Whole s → P Whole (after_placing f me s b)
   placed_moves s new h = grind (arith, early_moves, late_moves, restamped_moves)
 
   requested_moves : (s : ReplicaData) → is_normal s.status ≡ true → (o : Option ℕ) → place_of s.log.entries b.id ≡ o → P Whole s
@@ -119,7 +119,7 @@ module _ (P : Phase → ReplicaData → Type 0) (f me proxy : ℕ) (b : TimedBod
 
 -- ---- the release rule
 
-module _ (P : Phase → ReplicaData → Type 0) (f me : ℕ) (heard : Heard) (c : Closed f me heard P) where
+module _ (P : Interval → ReplicaData → Type 0) (f me : ℕ) (heard : Heard) (c : Closed f me heard P) where
   pub releases_moves : (s : ReplicaData) (es : List Entry) → is_normal s.status ≡ true → s.early ≡ es → P Whole s → P Whole (releases f me s es).0
   unfolding releases
   releases_moves s [] normal is h = h
@@ -131,24 +131,21 @@ module _ (P : Phase → ReplicaData → Type 0) (f me : ℕ) (heard : Heard) (c 
   pub release_moves : (s : ReplicaData) (clock : ℕ) → P Whole s → P Whole (release_rule f me s clock).0
   unfolding release_rule
   release_moves s clock h =
-      let now : P Whole (at_clock s clock) = c.kept _ _ _ _ (ToClock clock) h in
+      let now : P Whole (at_clock s clock) = c.kept _ _ _ _ (Count (min clock MAX_CLOCK) s.quiet s.since (λ k. grind (arith, k))) h in
       grind (arith, now, releases_moves)
-
-no_ticks : 0 ≤ VIEW_TIMEOUT_TICKS
-no_ticks = omega arith
 
 no_more : (most n : ℕ) → min most n ≤ most
 no_more most n = omega arith
 
 -- ---- the vector rule
 
-module _ (P : Phase → ReplicaData → Type 0) (f me : ℕ) (heard : Heard) (c : Closed f me heard P) where
+module _ (P : Interval → ReplicaData → Type 0) (f me : ℕ) (heard : Heard) (c : Closed f me heard P) where
   stray_moves : (sender : ℕ) (m : Message) (vector : List ℕ) → heard ≡ Some (Replica sender, m) → message_vector m ≡ Some vector → (s : ReplicaData) → P Whole s
       → (rule : ReplicaData → ReplicaData × List Out) → (P Whole (with_vector me s vector) → P Whole (rule (with_vector me s vector)).0)
       → P Whole (unless_stray me s sender vector rule).0
   stray_moves sender m vector is carries s h rule next =
       cond_both (is_stray vector sender s.vector) (s, []) (rule (with_vector me s vector)) (Ends P) (λ _. h)
-      (λ new. next (c.kept _ _ _ _ (Merge sender vector (record { message = m; is = is; carries = carries; new = new })) h))
+      (λ new. next (c.kept _ _ _ _ (Merge sender m vector (record { is = is; carries = carries; new = new })) h))
 
 -- ---- the log modification rule
 
@@ -165,7 +162,7 @@ rest_left [] (suc n) y ys is = absurd cc
 rest_left (x ∷ xs) zero y ys is = cc
 rest_left (x ∷ xs) (suc n) y ys is = rest_left xs n y ys is
 
-module _ (P : Phase → ReplicaData → Type 0) (f me sender : ℕ) (b : LogModBody) (c : Closed f me (Some (Replica sender, messages.LogMod b)) P) where
+module _ (P : Interval → ReplicaData → Type 0) (f me sender : ℕ) (b : LogModBody) (c : Closed f me (Some (Replica sender, messages.LogMod b)) P) where
   abbrev told_by : (s : ReplicaData) → HearsLeader f me s.status s.view sender b.view → HearsLogMod f me (Some (Replica sender, messages.LogMod b)) s
   told_by s leader = record { sender = sender; body = b; is = refl; leader = leader }
 
@@ -232,12 +229,13 @@ module _ (P : Phase → ReplicaData → Type 0) (f me sender : ℕ) (b : LogModB
       merges (enter_view f me b.view) (λ k. c.kept _ _ _ _ (Enter b.view (record { up = g.up; later = g.later; named = inr refl })) k))
       (λ _. cond_both (hears_leader f me s b.view sender) (unless_stray me s sender b.vector (λ t. after_log_mod sender b (after_hearing t))) (s, []) (Ends P)
       (λ hears. merges (λ t. after_log_mod sender b (after_hearing t))
-      (λ k. taken_moves (after_hearing own) (hears_leader_parts f me s b.view sender hears) (c.kept _ _ _ _ (Quiet 0 no_ticks) k)))
+      (λ k. taken_moves (after_hearing own) (hears_leader_parts f me s b.view sender hears)
+      (c.kept _ _ _ _ (Count s.clock 0 s.since (λ a. record { clock = a.clock; quiet = omega arith; since = a.since; rejoining = a.rejoining })) k)))
       (λ _. h))
 
 -- ---- fetches
 
-module _ (P : Phase → ReplicaData → Type 0) (f me sender : ℕ) (b : FetchReplyBody) (c : Closed f me (Some (Replica sender, messages.FetchReply b)) P) where
+module _ (P : Interval → ReplicaData → Type 0) (f me sender : ℕ) (b : FetchReplyBody) (c : Closed f me (Some (Replica sender, messages.FetchReply b)) P) where
   late_one : (s : ReplicaData) (e : Entry) → is_normal s.status ≡ true → Has b.entries e → (is_held s (id_of e.key) || is_full s) ≡ false → P Whole s
       → P Whole (record s { late = s.late ++ e ∷ [] })
   late_one s e normal has goes h =
@@ -268,7 +266,7 @@ fetch_same f me s sender b = grind arith
 
 -- ---- sync reports
 
-module _ (P : Phase → ReplicaData → Type 0) (f me sender : ℕ) (b : SyncReportBody) (c : Closed f me (Some (Replica sender, messages.SyncReport b)) P) where
+module _ (P : Interval → ReplicaData → Type 0) (f me sender : ℕ) (b : SyncReportBody) (c : Closed f me (Some (Replica sender, messages.SyncReport b)) P) where
   pub sync_report_moves : (s : ReplicaData) → P Whole s → P Whole (sync_report_rule f me s sender b).0
   unfolding sync_report_rule
   sync_report_moves s h =
@@ -279,7 +277,7 @@ module _ (P : Phase → ReplicaData → Type 0) (f me sender : ℕ) (b : SyncRep
 
 -- ---- views
 
-module _ (P : Phase → ReplicaData → Type 0) (f me : ℕ) (heard : Heard) (c : Closed f me heard P) where
+module _ (P : Interval → ReplicaData → Type 0) (f me : ℕ) (heard : Heard) (c : Closed f me heard P) where
   next_moves : (s : ReplicaData) → is_up s.status ≡ true → P Whole s → P Whole (enter_next f me s).0
   unfolding enter_view
   next_moves s up h =
@@ -299,20 +297,21 @@ module _ (P : Phase → ReplicaData → Type 0) (f me : ℕ) (heard : Heard) (c 
   quiet_moves : (s : ReplicaData) → is_up s.status ≡ true → P Whole s → P Whole (quiet_timer f me s).0
   quiet_moves s up h =
       let later : ReplicaData = record s { quiet = min (s.quiet + 1) VIEW_TIMEOUT_TICKS } in
-      let k : P Whole later = c.kept _ _ _ _ (Quiet (min (s.quiet + 1) VIEW_TIMEOUT_TICKS) (omega arith)) h in
+      let k : P Whole later = c.kept _ _ _ _ (Count s.clock (min (s.quiet + 1) VIEW_TIMEOUT_TICKS) s.since (λ a. grind (arith, a))) h in
       cond_both (eqb later.quiet VIEW_TIMEOUT_TICKS) (enter_next f me later) (later, []) (Ends P) (λ _. next_moves later up k) (λ _. k)
 
   change_moves : (s : ReplicaData) → is_changing s.status ≡ true → is_up s.status ≡ true → P Whole s → P Whole (change_timer f me s).0
   change_moves s changing up h =
       let later : ReplicaData = record s { since = s.since + 1 } in
       let anew : ReplicaData = record s { since = 0 } in
-      let k : P Whole anew = c.kept _ _ _ _ CountAnew h in
+      let k : P Whole anew = c.kept _ _ _ _ (Count s.clock s.quiet 0 (λ a. grind (arith, a))) h in
       cond_both (eqb later.since VIEW_TIMEOUT_TICKS) (enter_next f me anew) _ (Ends P) (λ _. next_moves anew up k)
       (λ more.
-      let counts : P Whole later = c.kept _ _ _ _ (CountChange changing more) h in
+      let calm = changing_no_rejoin s.status changing in
+      let counts : P Whole later = c.kept _ _ _ _ (Count s.clock s.quiet (s.since + 1) (λ a. grind (arith, nat_tests, a, more, calm))) h in
       cond_both (eqb (later.since % VIEW_ASK_TICKS) 0) (later, view_calls f me later) (later, []) (Ends P) (λ _. counts) (λ _. counts))
 
-  again_moves : (phase : data_phase.Phase) (s : ReplicaData) → is_rejoining s.status ≡ true → P Whole s → P Whole (ask_again phase f me s).0
+  again_moves : (phase : Phase) (s : ReplicaData) → is_rejoining s.status ≡ true → P Whole s → P Whole (ask_again phase f me s).0
   again_moves phases.Vectors s rejoins h = h
   again_moves phases.Views s rejoins h = h
   again_moves phases.Log s rejoins h = c.kept _ _ _ _ (AskViews rejoins) h
@@ -322,7 +321,8 @@ module _ (P : Phase → ReplicaData → Type 0) (f me : ℕ) (heard : Heard) (c 
       let later : ReplicaData = record s { since = s.since + 1 } in
       let anew : ReplicaData = record s { since = 0 } in
       cond_both (eqb later.since REJOIN_ASK_TICKS) (ask_again s.rejoin.phase f me anew) (later, []) (Ends P)
-      (λ _. again_moves s.rejoin.phase anew rejoins (c.kept _ _ _ _ CountAnew h)) (λ more. c.kept _ _ _ _ (CountRejoin rejoins more) h)
+      (λ _. again_moves s.rejoin.phase anew rejoins (c.kept _ _ _ _ (Count s.clock s.quiet 0 (λ a. grind (arith, a))) h))
+      (λ more. c.kept _ _ _ _ (Count s.clock s.quiet (s.since + 1) (λ a. let low = a.rejoining rejoins in grind (arith, nat_tests, a, more, low))) h)
 
   mode_moves : (s : ReplicaData) (mode : Status) → s.status ≡ mode → P Whole s → P Whole (mode_timer mode f me s).0
   mode_moves s Normal is h = cond_both (leads f me s) (s, log_mods_to_others f me s) (quiet_timer f me s) (Ends P) (λ _. h) (λ _. quiet_moves s (ap is_up is) h)
@@ -335,14 +335,14 @@ module _ (P : Phase → ReplicaData → Type 0) (f me : ℕ) (heard : Heard) (c 
       let t = (release_rule f me s clock).0 in
       mode_moves t t.status refl (release_moves P f me heard c s clock h)
 
-module _ (P : Phase → ReplicaData → Type 0) (f me sender : ℕ) (b : ViewAskBody) (c : Closed f me (Some (Replica sender, messages.ViewAsk b)) P) where
+module _ (P : Interval → ReplicaData → Type 0) (f me sender : ℕ) (b : ViewAskBody) (c : Closed f me (Some (Replica sender, messages.ViewAsk b)) P) where
   view_ask_moves : (s : ReplicaData) → P Whole s → P Whole (view_ask_rule f me s b).0
   unfolding view_ask_rule
   view_ask_moves s h =
       cond_both (is_up s.status) (enter_later f me b.view s) (s, []) (Ends P)
       (λ up. later_moves P f me (Some (Replica sender, messages.ViewAsk b)) c s b.view up refl h) (λ _. h)
 
-module _ (P : Phase → ReplicaData → Type 0) (f me sender : ℕ) (b : StartViewBody) (c : Closed f me (Some (Replica sender, messages.StartView b)) P) where
+module _ (P : Interval → ReplicaData → Type 0) (f me sender : ℕ) (b : StartViewBody) (c : Closed f me (Some (Replica sender, messages.StartView b)) P) where
   start_view_moves : (s : ReplicaData) → P Whole s → P Whole (start_view_rule f me s sender b).0
   unfolding start_view_rule
   start_view_moves s h =
@@ -356,7 +356,7 @@ module _ (P : Phase → ReplicaData → Type 0) (f me sender : ℕ) (b : StartVi
       (record { sender = sender; brought = (refl, refl, refl, no_more (length b.entries) (max s.commit b.commit)); leader = g.leader })) k))
       (λ _. h)
 
-module _ (P : Phase → ReplicaData → Type 0) (f me sender : ℕ) (b : ViewChangeBody) (c : Closed f me (Some (Replica sender, messages.ViewChange b)) P) where
+module _ (P : Interval → ReplicaData → Type 0) (f me sender : ℕ) (b : ViewChangeBody) (c : Closed f me (Some (Replica sender, messages.ViewChange b)) P) where
   begin_moves : (s : ReplicaData) → is_changing s.status ≡ true → P Whole s → P Whole (begin f me s).0
   unfolding begin
   begin_moves s changing h =
@@ -390,7 +390,7 @@ module _ (P : Phase → ReplicaData → Type 0) (f me sender : ℕ) (b : ViewCha
 
 -- ---- rejoining
 
-module _ (P : Phase → ReplicaData → Type 0) (f me sender : ℕ) (b : VectorTellBody) (c : Closed f me (Some (Replica sender, messages.VectorTell b)) P) where
+module _ (P : Interval → ReplicaData → Type 0) (f me sender : ℕ) (b : VectorTellBody) (c : Closed f me (Some (Replica sender, messages.VectorTell b)) P) where
   vectors_moves : (s : ReplicaData) → is_rejoining s.status ≡ true → P Whole s → P Whole (after_vectors f me s).0
   vectors_moves s rejoins h =
       cond_both (is_enough f (length s.rejoin.tellers) && not (eqb s.rejoin.claim last_counter)) (ask_views f me (with_new_counter me s)) (s, []) (Ends P)
@@ -398,7 +398,7 @@ module _ (P : Phase → ReplicaData → Type 0) (f me sender : ℕ) (b : VectorT
       let below =
       not-true (eqb s.rejoin.claim last_counter)
       (and_parts (is_enough f (length s.rejoin.tellers)) (not (eqb s.rejoin.claim last_counter)) goes).1 in
-      c.kept _ _ _ _ (AskViews rejoins) (c.kept _ _ _ _ (Count below rejoins) h))
+      c.kept _ _ _ _ (AskViews rejoins) (c.kept _ _ _ _ (TakeCounter below rejoins) h))
       (λ _. h)
 
   vector_tell_moves : (s : ReplicaData) → P Whole s → P Whole (vector_tell_rule f me s sender b).0
@@ -408,14 +408,14 @@ module _ (P : Phase → ReplicaData → Type 0) (f me sender : ℕ) (b : VectorT
       let rule : ReplicaData → ReplicaData × List Out = λ t. after_vectors f me (with_teller me t sender b.vector) in
       cond_both (awaits phases.Vectors s b.nonce) (unless_stray me s sender b.vector rule) (s, []) (Ends P)
       (λ waits.
-      let rejoins = awaits_rejoins phases.Vectors s b.nonce waits in
+      let rejoins = (awaits_parts phases.Vectors s b.nonce waits).rejoining in
       let own = with_vector me s b.vector in
       stray_moves P f me heard c sender (messages.VectorTell b) b.vector refl refl s h rule
       (λ k. vectors_moves (with_teller me own sender b.vector) rejoins
       (c.kept _ _ _ _ (NoteTeller sender b.vector (record { body = b; is = refl; same = refl; rejoining = rejoins })) k)))
       (λ _. h)
 
-module _ (P : Phase → ReplicaData → Type 0) (f me sender : ℕ) (b : RejoinTellBody) (c : Closed f me (Some (Replica sender, messages.RejoinTell b)) P) where
+module _ (P : Interval → ReplicaData → Type 0) (f me sender : ℕ) (b : RejoinTellBody) (c : Closed f me (Some (Replica sender, messages.RejoinTell b)) P) where
   views_moves : (s : ReplicaData) → is_rejoining s.status ≡ true → P Whole s → P Whole (after_views f me s).0
   views_moves s rejoins h =
       cond_both (is_enough f (length s.rejoin.tells)) _ (s, []) (Ends P)
@@ -430,13 +430,13 @@ module _ (P : Phase → ReplicaData → Type 0) (f me sender : ℕ) (b : RejoinT
       let rule : ReplicaData → ReplicaData × List Out = λ t. after_views f me (with_tell t sender b) in
       cond_both (awaits phases.Views s b.nonce) (unless_stray me s sender b.vector rule) (s, []) (Ends P)
       (λ waits.
-      let rejoins = awaits_rejoins phases.Views s b.nonce waits in
+      let rejoins = (awaits_parts phases.Views s b.nonce waits).rejoining in
       let own = with_vector me s b.vector in
       stray_moves P f me heard c sender (messages.RejoinTell b) b.vector refl refl s h rule
       (λ k. views_moves (with_tell own sender b) rejoins (c.kept _ _ _ _ (NoteTell sender b (record { is = refl; rejoining = rejoins })) k)))
       (λ _. h)
 
-module _ (P : Phase → ReplicaData → Type 0) (f me sender : ℕ) (b : StateTellBody) (c : Closed f me (Some (Replica sender, messages.StateTell b)) P) where
+module _ (P : Interval → ReplicaData → Type 0) (f me sender : ℕ) (b : StateTellBody) (c : Closed f me (Some (Replica sender, messages.StateTell b)) P) where
   state_tell_moves : (s : ReplicaData) → P Whole s → P Whole (state_tell_rule f me s sender b).0
   unfolding state_tell_rule
   state_tell_moves s h =
@@ -456,7 +456,7 @@ pub vector_ask_same : (s : ReplicaData) (sender : ℕ) (b : VectorAskBody) → (
 unfolding vector_ask_rule
 vector_ask_same s sender b = grind arith
 
-module _ (P : Phase → ReplicaData → Type 0) (f me sender : ℕ) (b : RejoinAskBody) (c : Closed f me (Some (Replica sender, messages.RejoinAsk b)) P) where
+module _ (P : Interval → ReplicaData → Type 0) (f me sender : ℕ) (b : RejoinAskBody) (c : Closed f me (Some (Replica sender, messages.RejoinAsk b)) P) where
   rejoin_ask_moves : (s : ReplicaData) → P Whole s → P Whole (rejoin_ask_rule me s sender b).0
   unfolding rejoin_ask_rule
   rejoin_ask_moves s h =
@@ -464,7 +464,7 @@ module _ (P : Phase → ReplicaData → Type 0) (f me sender : ℕ) (b : RejoinA
       cond_both (is_normal s.status) (unless_stray me s sender b.vector rule) (s, []) (Ends P)
       (λ _. stray_moves P f me (Some (Replica sender, messages.RejoinAsk b)) c sender (messages.RejoinAsk b) b.vector refl refl s h rule (λ k. k)) (λ _. h)
 
-module _ (P : Phase → ReplicaData → Type 0) (f me sender : ℕ) (b : StateAskBody) (c : Closed f me (Some (Replica sender, messages.StateAsk b)) P) where
+module _ (P : Interval → ReplicaData → Type 0) (f me sender : ℕ) (b : StateAskBody) (c : Closed f me (Some (Replica sender, messages.StateAsk b)) P) where
   state_ask_moves : (s : ReplicaData) → P Whole s → P Whole (state_ask_rule f me s sender b).0
   unfolding state_ask_rule
   state_ask_moves s h =
@@ -474,7 +474,7 @@ module _ (P : Phase → ReplicaData → Type 0) (f me sender : ℕ) (b : StateAs
 
 -- ---- any message
 
-pub message_moves : (P : Phase → ReplicaData → Type 0) (f me : ℕ) (s : ReplicaData) (from : Actor) (m : Message) → Closed f me (Some (from, m)) P
+pub message_moves : (P : Interval → ReplicaData → Type 0) (f me : ℕ) (s : ReplicaData) (from : Actor) (m : Message) → Closed f me (Some (from, m)) P
     → P Whole s → P Whole (replica_message f me s from m).0
 message_moves P f me s (Proxy p) (messages.Timed b) c h = request_moves P f me p b c s h
 message_moves P f me s (Replica r) (messages.LogMod b) c h = log_mod_moves P f me r b c s h

@@ -13,12 +13,12 @@ use Rattle.nz_machine.specs.rules.Step.{accepted_envelope, replica_message, tick
 use Rattle.nz_machine.specs.runs.World.{state_after, World}
 use Rattle.nz_machine.proofs.runs.Runs.{may_act, unless_down}
 use Rattle.nz_machine.specs.runs.Hearing.{heard_as, heard_at}
-use Rattle.nz_machine.proofs.moves.Moves.{Phase, Whole, Closed}
+use Rattle.nz_machine.proofs.moves.Moves.{Interval, Whole, Closed}
 use Rattle.nz_machine.proofs.moves.MoveRules.{message_moves, tick_moves, alarm_moves}
 
 -- ---- one event
 
-envelope_moves : (P : Phase → ReplicaData → Type 0) (g : Group) (me : ℕ) (s : ReplicaData) (x : Option Envelope) → Closed g.f me (heard_as x) P
+envelope_moves : (P : Interval → ReplicaData → Type 0) (g : Group) (me : ℕ) (s : ReplicaData) (x : Option Envelope) → Closed g.f me (heard_as x) P
     → P Whole s → P Whole (envelope_step g (Replica me) s x).0
 envelope_moves P g me s None c h = h
 envelope_moves P g me s (Some e) c h =
@@ -26,11 +26,11 @@ envelope_moves P g me s (Some e) c h =
     (message_moves P g.f me s e.from e.message c h)
 
 -- what a law shows besides of a replica that forgets all
-pub record Forgets (f : ℕ) (P : Phase → ReplicaData → Type 0) (e : Event) : Type 0 where
+pub record Forgets (f : ℕ) (P : Interval → ReplicaData → Type 0) (e : Event) : Type 0 where
   pub crashed : e ≡ Crash → P Whole (crashed_replica f)
   pub restarted : (nonce : ℕ) → e ≡ Restart nonce → P Whole (restarted_replica f nonce)
 
-pub event_moves : (P : Phase → ReplicaData → Type 0) (g : Group) (me : ℕ) (s : ReplicaData) (e : Event) → Closed g.f me (heard_at g (Replica me) e) P
+pub event_moves : (P : Interval → ReplicaData → Type 0) (g : Group) (me : ℕ) (s : ReplicaData) (e : Event) → Closed g.f me (heard_at g (Replica me) e) P
     → Forgets g.f P e → P Whole s → P Whole (event_step g (Replica me) s e).0
 unfolding crash_rule restart_rule
 event_moves P g me s (Deliver p) c k h = envelope_moves P g me s (accepted_envelope g.f (Replica me) p) c h
@@ -44,7 +44,7 @@ event_moves P g me s (Restart nonce) c k h =
 
 -- ---- all runs
 
-module _ (g : Group) (Q : List Record → ℕ → Phase → ReplicaData → Type 0) where
+module _ (g : Group) (Q : List Record → ℕ → Interval → ReplicaData → Type 0) where
   -- what is to be shown
   pub record Carries : Type 0 where
     pub start : (me : ℕ) → Q [] me Whole (first_replica g.f)
@@ -53,6 +53,7 @@ module _ (g : Group) (Q : List Record → ℕ → Phase → ReplicaData → Type
         → Closed g.f me (heard_at g (Replica me) r.event) (Q (r ∷ J) me)
     pub forgets : (J : List Record) (r : Record) → World g (r ∷ J) → (me : ℕ) → r.actor ≡ Replica me → Forgets g.f (Q (r ∷ J) me) r.event
 
+  -- it holds at each moment of a run
   pub carried : Carries → (J : List Record) → World g J → (me : ℕ) → Q J me Whole (state_after g (Replica me) J)
   unfolding state_after
   carried c [] w me = c.start me

@@ -6,8 +6,7 @@ use Rattle.nz_base.specs.declared.actor.Actor.TheVariants.{Replica, Proxy}
 use Rattle.nz_base.specs.declared.key.Entry.{Entry}
 use Rattle.nz_base.specs.Key.{id_of}
 use Rattle.nz_base.specs.Log.{keys_of, has_id, is_above_last}
-use Rattle.nz_base.specs.declared.limits.TheConstants.{MAX_DEADLINE, MAX_ENTRIES, MAX_VIEW, VIEW_TIMEOUT_TICKS, REJOIN_ASK_TICKS}
-use Rattle.nz_cv.specs.Vectors.{is_stray}
+use Rattle.nz_base.specs.declared.limits.TheConstants.{MAX_DEADLINE, MAX_ENTRIES, MAX_VIEW}
 use Rattle.nz_merge.specs.Merged.{greatest, merged}
 use Rattle.nz_msg.specs.declared.message.TimedBody.{TimedBody}
 use Rattle.nz_msg.specs.declared.message.LogModBody.{LogModBody}
@@ -18,19 +17,19 @@ use Rattle.nz_msg.specs.declared.message.RejoinTellBody.{RejoinTellBody}
 use Rattle.nz_msg.specs.declared.message.Message.{Message}
 use Rattle.nz_msg.specs.declared.message.Message.TheVariants as messages
 use Rattle.nz_machine.specs.rules.State.{ReplicaData}
+use Rattle.nz_machine.specs.rules.Facts.{AreClocks}
 use Rattle.nz_machine.specs.rules.Replicas.{is_normal, is_changing, is_up, is_rejoining}
 use Rattle.nz_machine.specs.rules.Requests.{with_origin, to_early, entry_at}
-use Rattle.nz_machine.specs.rules.Releases.{after_release, may_release, at_clock}
+use Rattle.nz_machine.specs.rules.Releases.{after_release, may_release}
 use Rattle.nz_machine.specs.rules.LogMods.{entry_of_id, may_sync, synced_with, overtaken_to_late, committed_to, with_ack, with_commit}
 use Rattle.nz_machine.specs.rules.Vectors.{with_vector}
 use Rattle.nz_machine.specs.rules.Views.{in_view_change}
 use Rattle.nz_machine.specs.rules.Adopting.{normal_in}
 use Rattle.nz_machine.specs.rules.Begins.{changes_of, with_report, without_strays, after_begin}
 use Rattle.nz_machine.specs.rules.Rejoining.{last_counter, with_teller, with_new_counter, ask_views, with_tells, with_tell, latest_view, ask_log}
-use Rattle.nz_machine.specs.rules.Step.{message_vector}
 use Rattle.nz_machine.specs.runs.World.{Has}
 use Rattle.nz_machine.specs.runs.Hearing.{Heard}
-use Rattle.nz_machine.proofs.facts.Guards.{HearsLeader, IsLeader}
+use Rattle.nz_machine.proofs.facts.Guards.{IsFresh, HearsLeader, IsLeader}
 
 -- ---- what moves ask for
 
@@ -59,12 +58,6 @@ pub record MayRelease (s : ReplicaData) (e : Entry) (es : List Entry) : Type 0 w
   pub normal : is_normal s.status ≡ true
   pub first : s.early ≡ e ∷ es
   pub may : may_release s e ≡ true
-
-pub record BringsVector (heard : Heard) (s : ReplicaData) (sender : ℕ) (vector : List ℕ) : Type 0 where
-  pub message : Message
-  pub is : heard ≡ Some (Replica sender, message)
-  pub carries : message_vector message ≡ Some vector
-  pub new : is_stray vector sender s.vector ≡ false
 
 -- a log modification of the own leader
 pub record HearsLogMod (f me : ℕ) (heard : Heard) (s : ReplicaData) : Type 0 where
@@ -140,40 +133,37 @@ pub record HearsTell (heard : Heard) (s : ReplicaData) (sender : ℕ) (b : Rejoi
 -- ---- the moves
 
 -- between rules a state is whole; while keys are taken, early keys need not be above the log's
-pub data Phase : Type 0 where
-  Whole : Phase
-  Taking : Phase
+pub data Interval : Type 0 where
+  Whole : Interval
+  Taking : Interval
 
-pub data Move (f me : ℕ) (heard : Heard) (s : ReplicaData) : Phase → Phase → ReplicaData → Type 0 where
-  ToClock : (clock : ℕ) → Move f me heard s Whole Whole (at_clock s clock)
+pub data Move (f me : ℕ) (heard : Heard) (s : ReplicaData) : Interval → Interval → ReplicaData → Type 0 where
+  Count : (clock quiet since : ℕ) → (AreClocks s.status s.clock s.quiet s.since → AreClocks s.status clock quiet since)
+      → Move f me heard s Whole Whole (record s { clock = clock; quiet = quiet; since = since })
   NoteOrigin : (proxy : ℕ) (b : TimedBody) → heard ≡ Some (Proxy proxy, messages.Timed b) → Move f me heard s Whole Whole (with_origin s proxy b)
   ToEarly : (e : Entry) → MayWait heard s e → is_above_last (keys_of s.log.entries) e.key ≡ true → Move f me heard s Whole Whole (to_early s e)
   ToLate : (e : Entry) → MayWait heard s e → has_id (keys_of s.late) (id_of e.key) ≡ false
       → Move f me heard s Whole Whole (record s { late = s.late ++ e ∷ [] })
   Release : (e : Entry) (es : List Entry) → MayRelease s e es → Move f me heard s Whole Whole (after_release f me s e es)
-  Merge : (sender : ℕ) (vector : List ℕ) → BringsVector heard s sender vector → Move f me heard s Whole Whole (with_vector me s vector)
+  Merge : (sender : ℕ) (m : Message) (vector : List ℕ) → IsFresh heard s sender m vector → Move f me heard s Whole Whole (with_vector me s vector)
   Take : HearsLogMod f me heard s → Move f me heard s Whole Taking s
   Sync : (e : Entry) → MaySync f me heard s e → Move f me heard s Taking Taking (synced_with s e)
   Overtake : HearsLogMod f me heard s → Move f me heard s Taking Whole (overtaken_to_late s)
   Commit : (told : HearsLogMod f me heard s) → Move f me heard s Whole Whole (committed_to s told.body.commit)
   NoteAck : (sender synced : ℕ) → MayNote f me heard s sender synced → Move f me heard s Whole Whole (with_ack s sender synced)
   Tally : (named : ℕ) → IsLeader f me s.status s.view named → Move f me heard s Whole Whole (with_commit f me s)
-  Quiet : (ticks : ℕ) → ticks ≤ VIEW_TIMEOUT_TICKS → Move f me heard s Whole Whole (record s { quiet = ticks })
-  CountChange : is_changing s.status ≡ true → eqb (s.since + 1) VIEW_TIMEOUT_TICKS ≡ false → Move f me heard s Whole Whole (record s { since = s.since + 1 })
-  CountRejoin : is_rejoining s.status ≡ true → eqb (s.since + 1) REJOIN_ASK_TICKS ≡ false → Move f me heard s Whole Whole (record s { since = s.since + 1 })
-  CountAnew : Move f me heard s Whole Whole (record s { since = 0 })
   Enter : (view : ℕ) → MayEnter heard s view → Move f me heard s Whole Whole (in_view_change s view)
   Drop : Move f me heard s Whole Whole (without_strays s)
   Collect : (sender : ℕ) (b : ViewChangeBody) → HearsReport heard s sender b → Move f me heard s Whole Whole (with_report s sender b)
   Begin : MayBegin f me s → Move f me heard s Whole Whole (after_begin f s (merged f (changes_of me s)) (greatest (map (λ c. c.commit) (changes_of me s))))
   Start : (view : ℕ) (log : List Entry) (commit : ℕ) → MayStart f heard s view log commit → Move f me heard s Whole Whole (normal_in s view log commit)
   NoteTeller : (sender : ℕ) (vector : List ℕ) → HearsTeller heard s sender vector → Move f me heard s Whole Whole (with_teller me s sender vector)
-  Count : eqb s.rejoin.claim last_counter ≡ false → is_rejoining s.status ≡ true → Move f me heard s Whole Whole (with_new_counter me s)
+  TakeCounter : eqb s.rejoin.claim last_counter ≡ false → is_rejoining s.status ≡ true → Move f me heard s Whole Whole (with_new_counter me s)
   AskViews : is_rejoining s.status ≡ true → Move f me heard s Whole Whole (ask_views f me s).0
   NoteTell : (sender : ℕ) (b : RejoinTellBody) → HearsTell heard s sender b → Move f me heard s Whole Whole (with_tell s sender b)
   Forget : is_rejoining s.status ≡ true → Move f me heard s Whole Whole (with_tells s [])
   AskLog : is_rejoining s.status ≡ true → Move f me heard s Whole Whole (ask_log f s (latest_view s)).0
 
 -- P is kept by each move
-pub record Closed (f me : ℕ) (heard : Heard) (P : Phase → ReplicaData → Type 0) : Type 0 where
-  pub kept : (s t : ReplicaData) (p q : Phase) → Move f me heard s p q t → P p s → P q t
+pub record Closed (f me : ℕ) (heard : Heard) (P : Interval → ReplicaData → Type 0) : Type 0 where
+  pub kept : (s t : ReplicaData) (p q : Interval) → Move f me heard s p q t → P p s → P q t

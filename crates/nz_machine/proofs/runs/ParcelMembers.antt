@@ -32,7 +32,7 @@ use Rattle.nz_machine.specs.runs.Shows.{ReplicaShows, ProxyShows, ClientShows, S
 use Rattle.nz_machine.proofs.runs.Runs.{sent_from, KeepsMore, keeps_both, holds, group_of}
 use Rattle.nz_machine.proofs.lists.EachItem.{all_imply}
 use Rattle.nz_machine.proofs.lists.ListParts.{lookup_each, insert_each}
-use Rattle.nz_machine.proofs.moves.Moves.{Phase, Move, NoteOrigin, Closed}
+use Rattle.nz_machine.proofs.moves.Moves.{Interval, Move, NoteOrigin, Closed}
 use Rattle.nz_machine.proofs.moves.MoveRules.{message_moves, tick_moves, alarm_moves}
 use Rattle.nz_machine.proofs.shows.Snapshots.{StepShows, fair_to, message_step_shows, tick_step_shows, alarm_step_shows, crash_step_shows, restart_step_shows}
 use Rattle.nz_machine.proofs.runs.FitRuns.{Fitted, FittedState, fits_keep}
@@ -107,7 +107,7 @@ shown_for g (Client c) heard before s to m k h w = client_for g _ s to m w
 
 -- ---- replicas: only a request notes where it came from
 
-origins_kept : (g : Group) (me : ℕ) (heard : Heard) → HearsMember g heard → (s t : ReplicaData) (p q : Phase) → Move g.f me heard s p q t → KnowsProxies g s
+origins_kept : (g : Group) (me : ℕ) (heard : Heard) → HearsMember g heard → (s t : ReplicaData) (p q : Interval) → Move g.f me heard s p q t → KnowsProxies g s
     → KnowsProxies g t
 origins_kept g me heard k s _ _ _ (NoteOrigin proxy b is) h =
     record { origins = insert_each (IsProxyOf g) s.origin b.id _ h.origins (subst (HearsMember g) is k) }

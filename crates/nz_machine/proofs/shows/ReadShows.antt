@@ -128,6 +128,7 @@ pub record IsTold (g : Group) (J : List Record) (p : Parcel) (a : Actor) (e : En
   pub at : At J (newest ∷ older)
   pub told : IsShown g e.from newest older a e.message
 
+-- each parcel that is read shows its sender
 pub told : (g : Group) (J : List Record) → World g J → (a : Actor) (p : Parcel) (e : Envelope) → Has (sent_in J) p → accepted_envelope g.f a p ≡ Some e
     → IsTold g J p a e
 told g J w a p e has heard =
@@ -170,6 +171,7 @@ delivers_by g a p (Some e) from message is h =
       counts = is_read g.f a p e is;
     }
 
+-- a message that is heard was in a parcel
 pub delivers : (g : Group) (a : Actor) (e : Event) (from : Actor) (message : Message) → heard_at g a e ≡ Some (from, message) → Delivers g a e from message
 delivers g a (Deliver p) from message h = delivers_by g a p (accepted_envelope g.f a p) from message refl h
 delivers g a (Cut kept p) from message h = absurd (none-some (from, message) h)

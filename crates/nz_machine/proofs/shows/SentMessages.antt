@@ -17,6 +17,7 @@ may_show g (Replica r) s group h = has_answers g.f r s h
 may_show g (Proxy p) s group h = tt
 may_show g (Client c) s group h = group.least_proxies
 
+-- each message that a record sends shows the states before and after
 pub shown : (g : Group) (r : Record) (J : List Record) (o : Out) → World g (r ∷ J) → Has (event_step g r.actor (state_after g r.actor J) r.event).1 o
     → Shows g r.actor (heard_at g r.actor r.event) (state_after g r.actor J) (state_after g r.actor (r ∷ J)) o.0 o.1
 shown g r J o w among =

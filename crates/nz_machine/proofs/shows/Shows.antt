@@ -21,6 +21,7 @@ module _ (f me : ℕ) where
 pub record Shown (f me : ℕ) (heard : Heard) (before : ReplicaData) (t : ReplicaData × List Out) : Type 0 where
   pub shows : AllShow f me heard before t.0 t.1
 
+-- where nothing is sent there is nothing to show
 pub silent : (f me : ℕ) (heard : Heard) (before s : ReplicaData) → Shown f me heard before (s, [])
 silent f me heard before s = record { shows = tt }
 

@@ -68,19 +68,19 @@ pub record FitsTold (f : ℕ) (t : ToldView) : Type 0 where
 
 -- ---- the facts, in groups over the fields that each reads
 
--- The clock and the view stop where clocks and views end.
-pub record InBounds (c v : ℕ) : Type 0 where
+-- The clock stops where clocks end, and the counts of ticks where a timer ends.
+pub record AreClocks (mode : Status) (c q w : ℕ) : Type 0 where
   pub clock : c ≤ MAX_CLOCK
-  pub view : v ≤ MAX_VIEW
-
--- The last view of normal operation is not after the replica's view, and in normal operation it is that view. The
--- counts of ticks stop where a timer ends.
-pub record HasMode (mode : Status) (v n q w : ℕ) : Type 0 where
-  pub last : n ≤ v
-  pub normal : IsTrue (is_normal mode) → n ≡ v
   pub quiet : q ≤ VIEW_TIMEOUT_TICKS
   pub since : w < VIEW_TIMEOUT_TICKS
   pub rejoining : IsTrue (is_rejoining mode) → w < REJOIN_ASK_TICKS
+
+-- The view stops where views end. The last view of normal operation is not after it, and in normal operation it is
+-- that view.
+pub record HasMode (mode : Status) (v n : ℕ) : Type 0 where
+  pub view : v ≤ MAX_VIEW
+  pub last : n ≤ v
+  pub normal : IsTrue (is_normal mode) → n ≡ v
 
 -- Each entry is in one place, in order, and the synced part is within the log, which has room for it.
 pub record AreHeld (log : Log) (early late : List Entry) : Type 0 where
@@ -125,8 +125,8 @@ pub record IsRejoin (f : ℕ) (r : Rejoin) : Type 0 where
 
 -- All that the state of every replica has, in every mode.
 pub record HasFacts (f me : ℕ) (s : ReplicaData) : Type 0 where
-  pub bounds : InBounds s.clock s.view
-  pub mode : HasMode s.status s.view s.last s.quiet s.since
+  pub clocks : AreClocks s.status s.clock s.quiet s.since
+  pub mode : HasMode s.status s.view s.last
   pub entries : AreHeld s.log s.early s.late
   pub commit : s.commit ≤ s.log.synced
   pub tables : AreTables f s.vector s.ack s.origin

@@ -17,7 +17,7 @@ returns-clause-fits c =
     let within = h.entries.within in
     let few = h.entries.few in
     let last = h.mode.last in
-    let low = h.bounds.view in
+    let low = h.mode.view in
     let log = own_log _ _ (max synced commit) _ h (omega (arith, known, within, is)) in
     let told = subst (λ (es : List Entry). (entries (max synced commit) MAX_ENTRIES).fits es) (sym c.in_ok-entries.ensures) log in (
       c.view.ensures.fits,

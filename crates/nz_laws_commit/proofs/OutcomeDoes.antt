@@ -1,5 +1,5 @@
--- Each turn of a replica is one of the ways in which a record changes what the laws on logs read of its state.
-use Rattle.std.proofs.Common.{◌≡◌, ℕ, ◌<◌, eqb, true, false, List, ◌∷◌, length, take, drop, Some, refl, sym, ap, subst, ◌∙◌, inl, inr, arith, eqb-true, eq-eqb}
+-- Each outcome of a rule is one of the ways in which a record changes what the laws on logs read of its state.
+use Rattle.std.proofs.Common.{◌≡◌, ℕ, eqb, true, false, List, ◌∷◌, length, take, drop, Some, refl, sym, ap, subst, ◌∙◌, inl, inr, eqb-true, eq-eqb}
 use Rattle.std.proofs.lemmas.Bool.{cases_Bool}
 use Rattle.nz_base.specs.Actor.{actor_eq}
 use Rattle.nz_base.specs.Cluster.{leader_of}
@@ -20,7 +20,7 @@ use Rattle.nz_msg.specs.declared.message.Message.TheVariants as messages
 use Rattle.nz_machine.specs.declared.data.Status.{Status}
 use Rattle.nz_machine.specs.declared.data.Status.TheVariants as statuses
 use Rattle.nz_machine.specs.declared.event.Record.{Record}
-use Rattle.nz_machine.specs.rules.State.{Group}
+use Rattle.nz_machine.specs.rules.State.{ReplicaData, Group}
 use Rattle.nz_machine.specs.rules.Facts.{HasFacts}
 use Rattle.nz_machine.specs.rules.Replicas.{is_normal, is_up, is_rejoining}
 use Rattle.nz_machine.specs.runs.Shows.{ShowsLogMod}
@@ -31,25 +31,22 @@ use Rattle.nz_machine.proofs.runs.Moments.{at_world}
 use Rattle.nz_machine.proofs.runs.Sources.{has_source, source_is}
 use Rattle.nz_machine.proofs.shows.ReadShows.{was_sent, shown_by}
 use Rattle.nz_machine.proofs.facts.WordsKeepFacts.{own_carried}
-use Rattle.nz_laws_cv.proofs.Turns.{TurnState, Grown, Same, More, Anew, Going, MayStart, Turn, Stays, Release, Merge, Sync, Tally, Enter, Follow}
-use Rattle.nz_laws_cv.proofs.Turns.{Answer, Collect, Begin, Start, Fall, Wake, HearVector, Count, HearView, Forget, AskLog, Return, Back}
-use Rattle.nz_laws_cv.proofs.TurnRules.{up_kinds, changing_is, heard_by}
+use Rattle.nz_laws_cv.proofs.Outcomes.{Grown, Same, More, Anew, Going, Outcome, Stays, Release, Merge, Sync, Tally, Enter, Follow}
+use Rattle.nz_laws_cv.proofs.Outcomes.{Answer, Collect, Begin, Start, Fall, Wake, HearVector, Count, HearView, Forget, AskLog, Return, Back}
+use Rattle.nz_laws_cv.proofs.OutcomeRules.{changing_is, heard_by}
 use Rattle.nz_laws_cv.proofs.Hearing.{hears_fit}
-use Rattle.nz_laws_cv.proofs.Steps.{turn_state_at, Acts, Rests, steps}
-use Rattle.nz_laws_cv.proofs.Modes.{IsSound, collects_low, up_no_rejoin}
+use Rattle.nz_laws_cv.proofs.Steps.{law_state_at, Acts, Rests, steps}
+use Rattle.nz_laws_cv.proofs.Modes.{IsSound, collects_low, starts_low, up_no_rejoin}
 use Rattle.nz_laws_cv.proofs.WithinIncarnation.{sound_at}
 use Rattle.nz_laws_cv.proofs.SentShows as letters
 use Rattle.nz_laws_cv.proofs.Showing.{shows}
-use Rattle.nz_laws_commit.specs.States.{Down, LogState}
+use Rattle.nz_laws_commit.specs.States.{Down}
 use Rattle.nz_laws_commit.specs.Does.{IsUnchanged, Releases, Enters, Syncs, BeginsView, AdoptsLog, Restarts, Does}
 use Rattle.nz_laws_commit.specs.Does as ways
-use Rattle.nz_laws_commit.specs.Instance.{status_of, states_of}
+use Rattle.nz_laws_commit.specs.Instance.{status_of, log_state, states_of}
 use Rattle.nz_laws_commit.proofs.Instance.{normal_status, up_status, status_up, down_status, is_normal_at}
 
--- ---- what the laws read of a turn state
-
-abbrev pub log_state_in : TurnState → LogState
-log_state_in s = record { status = status_of s.status; view = s.view; last = s.last; synced = s.log.synced; log = s.log.entries; vector = s.vector }
+-- ---- what the laws read of a status
 
 up_not_down : (a : Status) → is_up a ≡ true → status_of a ≡ Down → ⊥
 up_not_down statuses.Normal up is = cc
@@ -69,7 +66,7 @@ differ a b apart = elim (cases_Bool (eqb a b)) [ inl e ↦ absurd (apart (eqb-tr
 -- ---- what is known before the record
 
 -- the log is sound, and a leader has all of it synced
-pub record KnowsLog (f y : ℕ) (s : TurnState) : Type 0 where
+pub record KnowsLog (f y : ℕ) (s : ReplicaData) : Type 0 where
   pub sound : logs.IsSound s.log
   pub led : is_normal s.status ≡ true → eqb (leader_of f s.view) y ≡ true → s.log.synced ≡ length s.log.entries
 
@@ -93,52 +90,48 @@ pub record IsToldLog (g : Group) (K : List Record) (sender named : ℕ) (list : 
 
 -- ---- released entries
 
-grown_keys : (f y : ℕ) (s : TurnState) (log : Log) → Grown f y s log → IsPrefix (keys_of s.log.entries) (keys_of log.entries)
+grown_keys : (f y : ℕ) (s : ReplicaData) (log : Log) → Grown f y s log → IsPrefix (keys_of s.log.entries) (keys_of log.entries)
 grown_keys f y s _ Same = prefix_self (keys_of s.log.entries)
 grown_keys f y s _ (More log normal follows more) = prefix_map (λ (e : Entry). e.key) s.log.entries log.entries more.entries
 
-grown_synced : (f y : ℕ) (s : TurnState) (log : Log) → Grown f y s log → log.synced ≡ s.log.synced
+grown_synced : (f y : ℕ) (s : ReplicaData) (log : Log) → Grown f y s log → log.synced ≡ s.log.synced
 grown_synced f y s _ Same = refl
 grown_synced f y s _ (More log normal follows more) = more.follows refl
 
--- ---- each turn
+-- ---- each outcome
 
-module _ (g : Group) (y : ℕ) (r : Record) (K : List Record) (knows : KnowsLog g.f y (turn_state_at g y K)) (sound : IsSound g.f (turn_state_at g y K))
+module _ (g : Group) (y : ℕ) (r : Record) (K : List Record) (knows : KnowsLog g.f y (law_state_at g y K)) (sound : IsSound g.f (law_state_at g y K))
     (mods : (sender : ℕ) (b : LogModBody) → heard_by g y r.event ≡ Some (Replica sender, messages.LogMod b) → IsToldMod g K sender b)
-    (starts : (sender : ℕ) (b : StartViewBody) → heard_by g y r.event ≡ Some (Replica sender, messages.StartView b) → IsToldLog g K sender b.view b.entries b.commit)
-    (tells : (sender : ℕ) (b : StateTellBody) → heard_by g y r.event ≡ Some (Replica sender, messages.StateTell b) → IsToldLog g K sender b.view b.entries b.commit)
+    (starts : (sender : ℕ) (b : StartViewBody) → heard_by g y r.event ≡ Some (Replica sender, messages.StartView b)
+    → IsToldLog g K sender b.view b.entries b.commit)
+    (tells : (sender : ℕ) (b : StateTellBody) → heard_by g y r.event ≡ Some (Replica sender, messages.StateTell b)
+    → IsToldLog g K sender b.view b.entries b.commit)
   where
-    abbrev s : TurnState
-    s = turn_state_at g y K
+    abbrev s : ReplicaData
+    s = law_state_at g y K
 
     abbrev DoesHere : Type 0
     DoesHere = Does (states_of g) y r K
 
-    unchanged : (t : TurnState) → turn_state_at g y (r ∷ K) ≡ t → IsUnchanged (log_state_in s) (log_state_in t) → DoesHere
-    unchanged t is h = ways.Stays (subst (λ (u : TurnState). IsUnchanged (log_state_in s) (log_state_in u)) (sym is) h)
+    unchanged : (t : ReplicaData) → law_state_at g y (r ∷ K) ≡ t → IsUnchanged (log_state s) (log_state t) → DoesHere
+    unchanged t is h = ways.Stays (subst (λ (u : ReplicaData). IsUnchanged (log_state s) (log_state u)) (sym is) h)
 
-    entered : (t : TurnState) → turn_state_at g y (r ∷ K) ≡ t → Enters (log_state_in s) (log_state_in t) → DoesHere
-    entered t is h = ways.Entered (subst (λ (u : TurnState). Enters (log_state_in s) (log_state_in u)) (sym is) h)
+    entered : (t : ReplicaData) → law_state_at g y (r ∷ K) ≡ t → Enters (log_state s) (log_state t) → DoesHere
+    entered t is h = ways.Entered (subst (λ (u : ReplicaData). Enters (log_state s) (log_state u)) (sym is) h)
 
-    synced : (t : TurnState) → turn_state_at g y (r ∷ K) ≡ t → Syncs (states_of g) y K (log_state_in s) (log_state_in t) → DoesHere
-    synced t is h = ways.Synced (subst (λ (u : TurnState). Syncs (states_of g) y K (log_state_in s) (log_state_in u)) (sym is) h)
+    synced : (t : ReplicaData) → law_state_at g y (r ∷ K) ≡ t → Syncs (states_of g) y K (log_state s) (log_state t) → DoesHere
+    synced t is h = ways.Synced (subst (λ (u : ReplicaData). Syncs (states_of g) y K (log_state s) (log_state u)) (sym is) h)
 
-    adopted : (t : TurnState) → turn_state_at g y (r ∷ K) ≡ t → AdoptsLog (states_of g) y K (log_state_in s) (log_state_in t) → DoesHere
-    adopted t is h = ways.Adopted (subst (λ (u : TurnState). AdoptsLog (states_of g) y K (log_state_in s) (log_state_in u)) (sym is) h)
+    adopted : (t : ReplicaData) → law_state_at g y (r ∷ K) ≡ t → AdoptsLog (states_of g) y K (log_state s) (log_state t) → DoesHere
+    adopted t is h = ways.Adopted (subst (λ (u : ReplicaData). AdoptsLog (states_of g) y K (log_state s) (log_state u)) (sym is) h)
 
     told_by : (sender leader : ℕ) (b : LogModBody) → sender ≡ leader → IsToldMod g K sender b → IsToldMod g K leader b
     told_by sender leader b is h = subst (λ (z : ℕ). IsToldMod g K z b) is h
 
-    start_low : (sender view : ℕ) → MayStart g.f s sender view → s.last < view
-    start_low sender view may = elim (up_kinds s.status may.up) [
-      | inl normal ↦ let low = may.turns normal in let same = sound.normal normal in omega (arith, low, same)
-      | inr changing ↦ let low = sound.changing changing in let later = may.later in omega (arith, low, later)
-    ]
-
-    pub turn_is : (t : TurnState) → Turn g.f y r.event (heard_by g y r.event) s t → turn_state_at g y (r ∷ K) ≡ t → DoesHere
-    turn_is _ Stays is = unchanged _ is (record { status = refl; view = refl; last = refl; synced = refl; log = refl })
-    turn_is _ (Release log normal more) is =
-        ways.Released (subst (λ (u : TurnState). Releases g.f y (log_state_in s) (log_state_in u)) (sym is) (record {
+    pub outcome_is : (t : ReplicaData) → Outcome g.f y r.event (heard_by g y r.event) s t → law_state_at g y (r ∷ K) ≡ t → DoesHere
+    outcome_is _ Stays is = unchanged _ is (record { status = refl; view = refl; last = refl; synced = refl; log = refl })
+    outcome_is _ (Release log normal more) is =
+        ways.Released (subst (λ (u : ReplicaData). Releases g.f y (log_state s) (log_state u)) (sym is) (record {
           before = normal_status s.status normal;
           after = normal_status s.status normal;
           view = refl;
@@ -147,8 +140,8 @@ module _ (g : Group) (y : ℕ) (r : Record) (K : List Record) (knows : KnowsLog 
           leads = λ leads. let led = eq-eqb (leader_of g.f s.view) y leads in more.leads led (knows.led normal led);
           follows = λ apart. more.follows (differ (leader_of g.f s.view) y apart);
         }))
-    turn_is _ (Merge sender m u new normal) is = unchanged _ is (record { status = refl; view = refl; last = refl; synced = refl; log = refl })
-    turn_is _ (Sync sender b new hears le log changed) is =
+    outcome_is _ (Merge sender m u new normal) is = unchanged _ is (record { status = refl; view = refl; last = refl; synced = refl; log = refl })
+    outcome_is _ (Sync sender b new hears le log changed) is =
         let L = leader_of g.f s.view in
         let leads : sender ≡ L = hears.leader ∙ ap (leader_of g.f) hears.same in
         let told = told_by sender L b leads (mods sender b new.is) in
@@ -167,8 +160,8 @@ module _ (g : Group) (y : ℕ) (r : Record) (K : List Record) (knows : KnowsLog 
           entries = taken.entries;
           modified = λ lead part prefix. record { part = taken.part lead part prefix; prefixes = λ P p either. taken.prefixes lead part prefix P p either };
         })
-    turn_is _ (Tally sender b heard normal led same few) is = unchanged _ is (record { status = refl; view = refl; last = refl; synced = refl; log = refl })
-    turn_is _ (Enter w up later log grown) is =
+    outcome_is _ (Tally sender b heard normal led same few) is = unchanged _ is (record { status = refl; view = refl; last = refl; synced = refl; log = refl })
+    outcome_is _ (Enter w up later log grown) is =
         entered _ is (record {
           before = up_status s.status up;
           after = refl;
@@ -178,7 +171,7 @@ module _ (g : Group) (y : ℕ) (r : Record) (K : List Record) (knows : KnowsLog 
           synced =
               grown_synced g.f y s log grown;
         })
-    turn_is _ (Follow sender m u new w up later) is =
+    outcome_is _ (Follow sender m u new w up later) is =
         entered _ is (record {
           before = up_status s.status up;
           after = refl;
@@ -188,8 +181,8 @@ module _ (g : Group) (y : ℕ) (r : Record) (K : List Record) (knows : KnowsLog 
           synced =
               refl;
         })
-    turn_is _ (Answer sender b new normal same) is = unchanged _ is (record { status = refl; view = refl; last = refl; synced = refl; log = refl })
-    turn_is _ (Collect sender b new may _ (Anew later)) is =
+    outcome_is _ (Answer sender b new normal same) is = unchanged _ is (record { status = refl; view = refl; last = refl; synced = refl; log = refl })
+    outcome_is _ (Collect sender b new may _ (Anew later)) is =
         entered _ is (record {
           before = up_status s.status may.up;
           after = refl;
@@ -199,43 +192,43 @@ module _ (g : Group) (y : ℕ) (r : Record) (K : List Record) (knows : KnowsLog 
               prefix_self (keys_of s.log.entries);
           synced = refl;
         })
-    turn_is _ (Collect sender b new may _ (Going same changing)) is =
+    outcome_is _ (Collect sender b new may _ (Going same changing)) is =
         unchanged _ is (record { status = sym (ap status_of (changing_is s.status changing)); view = sym same; last = refl; synced = refl; log = refl })
-    turn_is _ (Begin sender b new may base on full) is =
-        ways.Began (subst (λ (u : TurnState). BeginsView (states_of g) y (log_state_in s) (log_state_in u)) (sym is) (record {
+    outcome_is _ (Begin sender b new may base on full) is =
+        ways.Began (subst (λ (u : ReplicaData). BeginsView (states_of g) y (log_state s) (log_state u)) (sym is) (record {
           before = up_status s.status may.up;
           after = refl;
           leads = may.leads;
           view = may.later;
           last = refl;
-          higher = collects_low g.f y r.event (heard_by g y r.event) (hears_fit g y r.event) s b.view _ base sound may.up on;
+          higher = collects_low g.f y r.event (heard_by g y r.event) (hears_fit g y r.event) s b.view b.vector base sound may.up on;
           synced = refl;
         }))
-    turn_is _ (Start sender b new may) is =
+    outcome_is _ (Start sender b new may) is =
         let told = subst (λ (z : ℕ). IsToldLog g K z b.view b.entries b.commit) may.leader (starts sender b new.is) in
         adopted _ is (record {
           before = λ down. up_not_down s.status may.up down;
           after = refl;
           last = refl;
           view = λ _. may.later;
-          higher = λ _. start_low sender b.view may;
+          higher = λ _. starts_low g.f s sender b.view sound may;
           synced = refl;
           told = told.told;
           moment = told.moment;
           leader = is_normal_at g (leader_of g.f b.view) b.view told.told told.normal told.view;
           log = ap keys_of (sym told.entries);
         })
-    turn_is _ (Fall e) is = ways.Fell (ap (λ (u : TurnState). status_of u.status) is)
-    turn_is _ (Wake nonce e down) is =
-        ways.Rose (subst (λ (u : TurnState). Restarts (states_of g) r (log_state_in s) (log_state_in u)) (sym is)
+    outcome_is _ (Fall e) is = ways.Fell (ap (λ (u : ReplicaData). status_of u.status) is)
+    outcome_is _ (Wake nonce e down) is =
+        ways.Rose (subst (λ (u : ReplicaData). Restarts (states_of g) r (log_state s) (log_state u)) (sym is)
         (record { before = down_status s.status down; after = refl; event = ap is_restart e }))
-    turn_is _ (HearVector sender b new ours) is = unchanged _ is (record { status = refl; view = refl; last = refl; synced = refl; log = refl })
-    turn_is _ (Count sender b new ours enough) is = unchanged _ is (record { status = refl; view = refl; last = refl; synced = refl; log = refl })
-    turn_is _ (HearView sender b new ours) is = unchanged _ is (record { status = refl; view = refl; last = refl; synced = refl; log = refl })
-    turn_is _ (Forget sender b new ours) is = unchanged _ is (record { status = refl; view = refl; last = refl; synced = refl; log = refl })
-    turn_is _ (AskLog sender b new ours heard_tells same enough) is =
+    outcome_is _ (HearVector sender b new ours) is = unchanged _ is (record { status = refl; view = refl; last = refl; synced = refl; log = refl })
+    outcome_is _ (Count sender b new ours enough) is = unchanged _ is (record { status = refl; view = refl; last = refl; synced = refl; log = refl })
+    outcome_is _ (HearView sender b new ours) is = unchanged _ is (record { status = refl; view = refl; last = refl; synced = refl; log = refl })
+    outcome_is _ (Forget sender b new ours) is = unchanged _ is (record { status = refl; view = refl; last = refl; synced = refl; log = refl })
+    outcome_is _ (AskLog sender b new ours enough) is =
         unchanged _ is (record { status = refl; view = refl; last = refl; synced = refl; log = refl })
-    turn_is _ (Return sender b new ours late leader) is =
+    outcome_is _ (Return sender b new ours late leader) is =
         let told = subst (λ (z : ℕ). IsToldLog g K z b.view b.entries b.commit) leader (tells sender b new.is) in
         adopted _ is (record {
           before = λ down. rejoining_not_down s.status ours.rejoining down;
@@ -249,11 +242,11 @@ module _ (g : Group) (y : ℕ) (r : Record) (K : List Record) (knows : KnowsLog 
           leader = is_normal_at g (leader_of g.f b.view) b.view told.told told.normal told.view;
           log = ap keys_of (sym told.entries);
         })
-    turn_is _ (Back rejoining phase) is = unchanged _ is (record { status = refl; view = refl; last = refl; synced = refl; log = refl })
+    outcome_is _ (Back rejoining phase) is = unchanged _ is (record { status = refl; view = refl; last = refl; synced = refl; log = refl })
 
 -- ---- what is known in every run
 
-pub knows_log : (g : Group) (y : ℕ) (K : List Record) → World g K → KnowsLog g.f y (turn_state_at g y K)
+pub knows_log : (g : Group) (y : ℕ) (K : List Record) → World g K → KnowsLog g.f y (law_state_at g y K)
 knows_log g y K w =
     let facts : HasFacts g.f y (replica_at g y K) = (all_fit g K w).states (Replica y) in
     let carried = own_carried g.f y (replica_at g y K) facts in
@@ -300,11 +293,11 @@ told_state g y r K w a sender b heard =
 
 -- ---- the premises on the rules
 
-turn_does : (g : Group) (y : ℕ) (r : Record) (K : List Record) → World g (r ∷ K) → r.actor ≡ Replica y
-    → Turn g.f y r.event (heard_by g y r.event) (turn_state_at g y K) (turn_state_at g y (r ∷ K)) → Does (states_of g) y r K
-turn_does g y r K w a turn =
-    turn_is g y r K (knows_log g y K w.1) (sound_at g K w.1 y) (told_mod g y r K w a) (told_start g y r K w a) (told_state g y r K w a)
-    (turn_state_at g y (r ∷ K)) turn refl
+outcome_does : (g : Group) (y : ℕ) (r : Record) (K : List Record) → World g (r ∷ K) → r.actor ≡ Replica y
+    → Outcome g.f y r.event (heard_by g y r.event) (law_state_at g y K) (law_state_at g y (r ∷ K)) → Does (states_of g) y r K
+outcome_does g y r K w a outcome =
+    outcome_is g y r K (knows_log g y K w.1) (sound_at g K w.1 y) (told_mod g y r K w a) (told_start g y r K w a) (told_state g y r K w a)
+    (law_state_at g y (r ∷ K)) outcome refl
 
 -- each record of a replica
 pub record_does : (g : Group) (J : List Record) → World g J → (y : ℕ) (r : Record) (K : List Record) → At J (r ∷ K) → actor_eq r.actor (Replica y) ≡ true
@@ -312,6 +305,6 @@ pub record_does : (g : Group) (J : List Record) → World g J → (y : ℕ) (r :
 record_does g J w y r K at by =
     let now = at_world g J (r ∷ K) w at in
     elim (steps g y r K) [
-      | Acts a turn ↦ turn_does g y r K now a turn
+      | Acts a outcome ↦ outcome_does g y r K now a outcome
       | Rests other same ↦ true_and_false (actor_eq r.actor (Replica y)) by other
     ]
