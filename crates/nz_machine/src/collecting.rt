@@ -1,6 +1,6 @@
 //! What a replica collects of the others, and what it does with a whole log.
 
-ghost use Rattle.std.specs.Prelude.{◌≡◌, ◌∷◌, ◌++◌, [], ◌==◌, not, length, map, filter, replicate, slice_index, if◌then◌else◌, IfOk, OnOk, OnErr};
+ghost use Rattle.std.specs.Prelude.{◌≡◌, ◌∷◌, ◌++◌, [], ◌==◌, not, length, map, filter, replicate, if◌then◌else◌, IfOk, OnOk, OnErr};
 ghost use Rattle.std.specs.List.{list_any};
 ghost use Rattle.nz_cv.specs.Vectors as vectors;
 ghost use Rattle.nz_log.specs.Synced.{left_out};
@@ -25,23 +25,6 @@ use nz_log::HashedLog;
 use nz_merge::{Change, ViewChanges};
 use nz_store::{Answer, Store};
 use std::alloc::Global;
-
-/// A counter of a vector; 0 where it has none.
-fn counter(vector: &CrashVector, place: u8) -> u32
-    ensures { result ≡ slice_index vector.now place }
-{
-    match vector.as_slice().get(place as usize) {
-        Some(counter) => *counter,
-        None => 0,
-    }
-}
-
-/// Whether a message of the sender with this vector is stray.
-fn is_stray(vector: &CrashVector, sender: u8, known: &CrashVector) -> bool
-    ensures { result ≡ vectors.is_stray vector.now sender known.now }
-{
-    counter(vector, sender) < counter(known, sender)
-}
 
 /// Collects the report in place of an earlier one of its sender.
 pub fn replace_report(changes: &mut Vec<Reported>, reported: Reported) -> Result<(), NoMemory>
@@ -68,7 +51,7 @@ pub fn clear_reports(ack: &mut Vec<u32>)
 pub fn drop_stray_reports(changes: &mut Vec<Reported>, known: &CrashVector)
     ensures { changes.new.items ≡ filter (λ (r : ReportedModel). not (vectors.is_stray r.vector r.change.sender known.now)) changes.old.items }
 {
-    changes.retain(|r| !is_stray(&r.vector, r.change.sender, known));
+    changes.retain(|r| !r.vector.is_stray(r.change.sender, known));
 }
 
 /// The views that were told without an earlier one of the sender, with this one, and without those that are stray.
@@ -85,11 +68,11 @@ pub fn with_told(
 {
     let mut list = List::new(alloc);
     for other in tells {
-        if other.sender != told.sender && !is_stray(&other.vector, other.sender, known) {
+        if other.sender != told.sender && !other.vector.is_stray(other.sender, known) {
             list.push(*other)?;
         }
     }
-    if is_stray(&told.vector, told.sender, known) {
+    if told.vector.is_stray(told.sender, known) {
         return Ok(list);
     }
     list.push(told)?;

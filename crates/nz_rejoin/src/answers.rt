@@ -63,11 +63,9 @@ fn rejoin_ask_rule(
     requires fits { rejoin_ask.fits body.now }
     ensures { let s = state.old in OnOk result (Does s state.new sends.old sends.new (rejoining.rejoin_ask_rule s.me s.state sender body.now)) }
 {
-    state.has_facts();
-    if !state.is_normal() || body.vector.is_stray(sender, state.vector()) {
+    if !state.is_normal() || !state.merge_unless_stray(sender, &body.vector) {
         return Ok(());
     }
-    state.merge_vector(&body.vector);
     state.send_to(sender, &state.rejoin_tell(body.nonce), sends)
 }
 
@@ -104,14 +102,12 @@ fn state_ask_rule(
     requires fits { state_ask.fits body.now }
     ensures { let s = state.old in OnOk result (Does s state.new sends.old sends.new (rejoining.state_ask_rule s.f s.me s.state sender body.now)) }
 {
-    state.has_facts();
     if !state.leads_view()
         || body.view > state.view()
-        || body.vector.is_stray(sender, state.vector())
+        || !state.merge_unless_stray(sender, &body.vector)
     {
         return Ok(());
     }
-    state.merge_vector(&body.vector);
     let tell = state.state_tell(body.nonce)?;
     state.send_to(sender, &tell, sends)
 }

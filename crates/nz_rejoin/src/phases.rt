@@ -56,11 +56,9 @@ fn vector_tell_rule(
     requires fits { vector_tell.fits body.now }
     ensures { let s = state.old in OnOk result (Does s state.new sends.old sends.new (rejoining.vector_tell_rule s.f s.me s.state sender body.now)) }
 {
-    state.has_facts();
-    if !state.awaits(Phase::Vectors, body.nonce) || body.vector.is_stray(sender, state.vector()) {
+    if !state.awaits(Phase::Vectors, body.nonce) || !state.merge_unless_stray(sender, &body.vector) {
         return Ok(());
     }
-    state.merge_vector(&body.vector);
     let tellers = state.note_teller(sender, &body.vector)?;
     after_vectors(state, tellers, sends)
 }
@@ -126,11 +124,9 @@ fn rejoin_tell_rule(
     requires fits { rejoin_tell.fits body.now }
     ensures { let s = state.old in OnOk result (Does s state.new sends.old sends.new (rejoining.rejoin_tell_rule s.f s.me s.state sender body.now)) }
 {
-    state.has_facts();
-    if !state.awaits(Phase::Views, body.nonce) || body.vector.is_stray(sender, state.vector()) {
+    if !state.awaits(Phase::Views, body.nonce) || !state.merge_unless_stray(sender, &body.vector) {
         return Ok(());
     }
-    state.merge_vector(&body.vector);
     let tells = state.note_view(sender, body)?;
     after_views(state, tells, sends)
 }
@@ -190,11 +186,9 @@ fn state_tell_rule(
     requires fits { state_tell.fits body.old }
     ensures { let s = state.old in OnOk result (DoesSilently s state.new (rejoining.state_tell_rule s.f s.me s.state sender body.old)) }
 {
-    state.has_facts();
-    if !is_wanted(state, sender, body) || body.vector.is_stray(sender, state.vector()) {
+    if !is_wanted(state, sender, body) || !state.merge_unless_stray(sender, &body.vector) {
         return Ok(());
     }
-    state.merge_vector(&body.vector);
     start(state, body)
 }
 

@@ -6,7 +6,6 @@ ghost use Rattle.nz_base.specs.Actor.{HasAddress};
 ghost use Rattle.nz_base.specs.Cluster.{replica_count, leader_of};
 ghost use Rattle.nz_base.specs.declared.actor.Actor.TheVariants as actors;
 ghost use Rattle.nz_base.specs.declared.limits.TheConstants.{MAX_KEYS, MAX_REPLICA};
-ghost use Rattle.nz_cv.specs.Vectors as vectors;
 ghost use Rattle.nz_msg.specs.Fields as fields;
 ghost use Rattle.nz_msg.specs.Messages.{log_mod};
 ghost use Rattle.nz_msg.specs.declared.message.Message.TheVariants.{LogMod};
@@ -117,16 +116,6 @@ fn hears_later_leader(state: &ReplicaState, view: u64, sender: u8) -> bool
     state.is_up() && state.view() < view && sender == state.cluster().leader(view)
 }
 
-/// Whether its vector makes a log modification stray.
-fn is_stray(state: &ReplicaState, sender: u8, body: &LogModBody) -> bool
-    requires sender { sender < replica_count state.now.f }
-    requires vector { length body.now.vector ≡ replica_count state.now.f }
-    ensures { result ≡ vectors.is_stray body.now.vector sender state.now.state.vector }
-{
-    state.has_facts();
-    body.vector.is_stray(sender, state.vector())
-}
-
 /// A log modification of a later view is a reason to enter it.
 fn enter_unless_stray(
     state: &mut ReplicaState,
@@ -142,10 +131,9 @@ fn enter_unless_stray(
         OnOk result (Does s state.new sends.old sends.new
         (unless_stray s.me s.state sender body.now.vector (enter_view s.f s.me body.now.view))) }
 {
-    if is_stray(state, sender, body) {
+    if !state.merge_unless_stray(sender, &body.vector) {
         return Ok(());
     }
-    state.merge_vector(&body.vector);
     state.enter_view(body.view, sends)
 }
 
@@ -165,10 +153,9 @@ fn follow_unless_stray(
         OnOk result (Does s state.new sends.old sends.new
         (unless_stray s.me s.state sender body.now.vector (λ t. after_log_mod sender body.now (after_hearing t)))) }
 {
-    if is_stray(state, sender, body) {
+    if !state.merge_unless_stray(sender, &body.vector) {
         return Ok(());
     }
-    state.merge_vector(&body.vector);
     state.hear_leader();
     take_log_mod(state, sender, body, sends)
 }

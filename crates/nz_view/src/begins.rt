@@ -122,11 +122,9 @@ fn view_change_rule(
     requires fits { view_change.fits body.old }
     ensures { let s = state.old in OnOk result (Does s state.new sends.old sends.new (begins.view_change_rule s.f s.me s.state sender body.old)) }
 {
-    state.has_facts();
-    if !may_lead(state, body.view) || body.vector.is_stray(sender, state.vector()) {
+    if !may_lead(state, body.view) || !state.merge_unless_stray(sender, &body.vector) {
         return Ok(());
     }
-    state.merge_vector(&body.vector);
     state.drop_strays();
     enter_and_hear_report(state, sender, body, sends)
 }

@@ -91,14 +91,12 @@ fn start_view_rule(
     requires fits { start_view.fits body.old }
     ensures { let s = state.old in OnOk result (DoesSilently s state.new (adopting.start_view_rule s.f s.me s.state sender body.old)) }
 {
-    state.has_facts();
     if !may_start(state, body.view)
         || sender != state.cluster().leader(body.view)
-        || body.vector.is_stray(sender, state.vector())
+        || !state.merge_unless_stray(sender, &body.vector)
     {
         return Ok(());
     }
-    state.merge_vector(&body.vector);
     start(state, body)
 }
 

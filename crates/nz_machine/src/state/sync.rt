@@ -1,13 +1,14 @@
 //! What a replica does to its state so that its log agrees with the leader's.
 
-ghost use Rattle.std.specs.Prelude.{◌≡◌, ◌<◌, ◌≤◌, length, drop, IsTrue, IsFalse, IfOk, OnOk, slice_index};
+ghost use Rattle.std.specs.Prelude.{◌≡◌, ◌<◌, ◌≤◌, [], not, length, drop, IsTrue, IsFalse, IfOk, OnOk, slice_index};
 ghost use Rattle.std.specs.List.{AllByRecursion};
 ghost use Rattle.nz_base.specs.Cluster.{replica_count};
+ghost use Rattle.nz_cv.specs.Vectors.{is_stray};
 ghost use Rattle.nz_msg.specs.Fields as fields;
 ghost use Rattle.nz_machine.specs.rules.Replicas as replicas;
 ghost use Rattle.nz_machine.specs.rules.Replicas.{is_normal};
 ghost use Rattle.nz_machine.specs.rules.Requests.{is_full};
-ghost use Rattle.nz_machine.specs.rules.Vectors.{with_vector};
+ghost use Rattle.nz_machine.specs.rules.Vectors.{unless_stray};
 ghost use Rattle.nz_machine.specs.rules.LogMods.{is_held, with_ack, with_commit, sync_keys, overtaken_to_late, committed_to, missing_ids};
 
 use super::super::buffers::vector_fits;
@@ -18,14 +19,19 @@ use nz_base::{Id, IdList, Key, MAX_ENTRIES, NoMemory};
 use nz_cv::CrashVector;
 
 impl ReplicaState {
-    /// Takes in what a message's crash vector knows.
-    pub fn merge_vector(&mut self, vector: &CrashVector)
+    /// The vector rule: a stray message changes nothing. Of another one the vector is merged, and the message counts.
+    pub fn merge_unless_stray(&mut self, sender: u8, vector: &CrashVector) -> bool
         requires { length vector.now ≡ replica_count self.old.f }
-        ensures { self.new ≡ record self.old { state = with_vector self.old.me self.old.state vector.now } }
+        ensures counts { result ≡ not (is_stray vector.now sender self.old.state.vector) }
+        ensures state { self.new ≡ record self.old { state = (unless_stray self.old.me self.old.state sender vector.now (λ s. (s, []))).0 } }
     {
+        if vector.is_stray(sender, &self.parts.vector) {
+            return false;
+        }
         // Each of its counters has four bytes.
         vector_fits(vector);
         self.parts.vector.merge(vector, self.parts.me);
+        true
     }
 
     /// Whether an entry with the id is in log, early or late.

@@ -4,7 +4,7 @@ use Rattle.nz_base.specs.Cluster.{replica_count}
 use Rattle.nz_machine.specs.rules.Facts.{ReplicaModel}
 use Rattle.nz_machine.proofs.facts.SentFields.{vector_counts}
 use Rattle.nz_machine.proofs.facts.SyncInvariant.{kept_vector}
-use Rattle.nz_machine.proofs.state.ReplicaState.merge_vector.Goals as goal
+use Rattle.nz_machine.proofs.state.ReplicaState.merge_unless_stray.Goals as goal
 
 pub invariant_of-self : goal.invariant_of-self
 invariant_of-self c =
