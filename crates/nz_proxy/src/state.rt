@@ -19,7 +19,7 @@ ghost use Rattle.nz_quorum.specs.Tallies.{IsOfCluster, replica_of};
 ghost use Rattle.nz_window.specs.Samples.{bound_of, with_sample};
 ghost use Rattle.nz_proxy.specs.Standings.{known_standing, IsFitStanding, HasFitAnswer, answers_to_client};
 ghost use Rattle.nz_proxy.specs.Sending.{to_each};
-ghost use Rattle.nz_proxy.specs.Models.{IsSameProxy};
+ghost use Rattle.nz_proxy.specs.Models.{ProxyDoes, IsSameProxy};
 
 use crate::standing::Standing;
 use indexmap::IndexMap;
@@ -240,9 +240,7 @@ impl ProxyState {
         requires client { client ≤ MAX_CLIENT }
         requires body { messages.request.fits body }
         ensures same { IsSameProxy self.old self.new }
-        ensures state { OnOk result (self.new ≡ record self.old { state = (proxies.stamp_rule self.old.f self.old.state client body).0 }) }
-        ensures sends { OnOk result (sends.new ≡ sends.old
-            ++ map (parcel (actors.Proxy self.old.me)) (proxies.stamp_rule self.old.f self.old.state client body).1) }
+        ensures rule { let s = self.old in OnOk result (ProxyDoes s self.new sends.old sends.new (proxies.stamp_rule s.f s.state client body)) }
     {
         let id = Id {
             client: u32::from(client),
@@ -277,9 +275,7 @@ impl ProxyState {
         requires reply { IsOfCluster self.old.f reply }
         requires answer { HasFitAnswer reply }
         ensures same { IsSameProxy self.old self.new }
-        ensures state { OnOk result (self.new ≡ record self.old { state = (proxies.reply_rule self.old.f self.old.state replica id delay reply).0 }) }
-        ensures sends { OnOk result (sends.new ≡ sends.old
-            ++ map (parcel (actors.Proxy self.old.me)) (proxies.reply_rule self.old.f self.old.state replica id delay reply).1) }
+        ensures rule { let s = self.old in OnOk result (ProxyDoes s self.new sends.old sends.new (proxies.reply_rule s.f s.state replica id delay reply)) }
     {
         self.sample(replica, delay);
         match self.note(id, reply)? {
