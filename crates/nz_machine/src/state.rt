@@ -1,9 +1,9 @@
 //! The state of a replica.
 
-ghost use Rattle.std.specs.Prelude.{◌≡◌, ◌<◌, ◌≤◌, ◌+◌, ◌∷◌, ◌++◌, [], List, length, IsTrue, IsFalse, IfOk, IfSome, IfNone, OnOk, OnErr};
+ghost use Rattle.std.specs.Prelude.{◌≡◌, ◌<◌, ◌≤◌, ◌==◌, ◌+◌, ◌∷◌, ◌++◌, [], List, length, IsTrue, IsFalse, IfOk, IfSome, IfNone, OnOk, OnErr};
 ghost use Rattle.std.specs.Map.{lookup};
 ghost use Rattle.nz_base.specs.Actor.{HasAddress};
-ghost use Rattle.nz_base.specs.Cluster.{replica_count};
+ghost use Rattle.nz_base.specs.Cluster.{replica_count, leader_of};
 ghost use Rattle.nz_base.specs.Key.{id_eq, id_of};
 ghost use Rattle.nz_base.specs.Log.{keys_of, has_id, is_above_last};
 ghost use Rattle.nz_base.specs.declared.actor.Actor.TheVariants as actors;
@@ -218,11 +218,25 @@ impl ReplicaState {
         matches!(self.parts.status, Status::Normal)
     }
 
+    /// Whether the sender leads this view.
+    pub fn is_leader_of(&self, view: u64, sender: u8) -> bool
+        ensures { result ≡ (sender == leader_of self.now.f view) }
+    {
+        sender == self.parts.cluster.leader(view)
+    }
+
+    /// Whether the replica leads this view.
+    pub fn would_lead(&self, view: u64) -> bool
+        ensures { result ≡ (leader_of self.now.f view == self.now.me) }
+    {
+        self.parts.cluster.leader(view) == self.parts.me
+    }
+
     /// Whether the replica leads its view, in whatever mode.
     pub fn leads(&self) -> bool
         ensures { result ≡ replicas.leads self.now.f self.now.me self.now.state }
     {
-        self.parts.cluster.leader(self.parts.view) == self.parts.me
+        self.would_lead(self.parts.view)
     }
 
     /// Whether it leads its view in normal operation.
@@ -238,7 +252,7 @@ impl ReplicaState {
     {
         self.is_normal()
             && view == self.parts.view
-            && sender == self.parts.cluster.leader(view)
+            && self.is_leader_of(view, sender)
             && !self.leads()
     }
 

@@ -1,9 +1,7 @@
 //! How a follower takes a log modification.
 
-ghost use Rattle.std.specs.Prelude.{◌≡◌, ◌<◌, ◌≤◌, ◌∷◌, ◌++◌, [], ◌==◌, ◌&&◌, not, map, length, IsTrue, IsFalse, OnOk, nat_lt};
+ghost use Rattle.std.specs.Prelude.{◌≡◌, ◌<◌, ◌≤◌, ◌∷◌, ◌++◌, [], ◌&&◌, not, map, length, IsTrue, IsFalse, OnOk, nat_lt};
 ghost use Rattle.std.specs.List.{AllByRecursion};
-ghost use Rattle.nz_base.specs.Actor.{HasAddress};
-ghost use Rattle.nz_base.specs.Cluster.{replica_count, leader_of};
 ghost use Rattle.nz_base.specs.declared.actor.Actor.TheVariants as actors;
 ghost use Rattle.nz_base.specs.declared.limits.TheConstants.{MAX_KEYS, MAX_REPLICA};
 ghost use Rattle.nz_msg.specs.Fields as fields;
@@ -14,8 +12,8 @@ ghost use Rattle.nz_machine.specs.rules.Views.{enter_view};
 ghost use Rattle.nz_machine.specs.rules.Vectors.{unless_stray};
 ghost use Rattle.nz_machine.specs.rules.LogMods as log_mods;
 ghost use Rattle.nz_machine.specs.rules.LogMods.{replies_since, fetch_from, sync_report_to, after_log_mod, after_hearing};
-ghost use Rattle.nz_machine.specs.rules.Does.{Does};
-ghost use Rattle.nz_machine.specs.rules.Step.{parcel, replica_message, is_in_cluster};
+ghost use Rattle.nz_machine.specs.rules.Does.{Does, IsFromMember};
+ghost use Rattle.nz_machine.specs.rules.Step.{parcel, replica_message};
 
 use nz_base::{Actor, IdList, NoMemory};
 use nz_machine::{Outbox, ReplicaState};
@@ -113,7 +111,7 @@ fn take_log_mod(
 fn hears_later_leader(state: &ReplicaState, view: u64, sender: u8) -> bool
     ensures { result ≡ log_mods.hears_later_leader state.now.f state.now.state view sender }
 {
-    state.is_up() && state.view() < view && sender == state.cluster().leader(view)
+    state.is_up() && state.view() < view && state.is_leader_of(view, sender)
 }
 
 /// A log modification of a later view is a reason to enter it.
@@ -123,8 +121,7 @@ fn enter_unless_stray(
     body: &LogModBody,
     sends: &mut Outbox,
 ) -> Result<(), NoMemory>
-    requires sender { sender < replica_count state.old.f }
-    requires vector { length body.now.vector ≡ replica_count state.old.f }
+    requires from { IsFromMember state.old (actors.Replica sender) body.now.vector }
     requires fits { log_mod.fits body.now }
     requires later { IsTrue (log_mods.hears_later_leader state.old.f state.old.state body.now.view sender) }
     ensures { let s = state.old in
@@ -144,9 +141,7 @@ fn follow_unless_stray(
     body: &LogModBody,
     sends: &mut Outbox,
 ) -> Result<(), NoMemory>
-    requires address { sender ≤ MAX_REPLICA }
-    requires sender { sender < replica_count state.old.f }
-    requires vector { length body.now.vector ≡ replica_count state.old.f }
+    requires from { IsFromMember state.old (actors.Replica sender) body.now.vector }
     requires fits { log_mod.fits body.now }
     requires follows { IsTrue (hears_leader state.old.f state.old.me state.old.state body.now.view sender) }
     ensures { let s = state.old in
@@ -168,9 +163,7 @@ fn log_mod_rule(
     body: &LogModBody,
     sends: &mut Outbox,
 ) -> Result<(), NoMemory>
-    requires address { sender ≤ MAX_REPLICA }
-    requires sender { sender < replica_count state.old.f }
-    requires vector { length body.now.vector ≡ replica_count state.old.f }
+    requires from { IsFromMember state.old (actors.Replica sender) body.now.vector }
     requires fits { log_mod.fits body.now }
     ensures { let s = state.old in OnOk result (Does s state.new sends.old sends.new (log_mods.log_mod_rule s.f s.me s.state sender body.now)) }
 {
@@ -190,9 +183,7 @@ pub fn on_log_mod(
     body: &LogModBody,
     sends: &mut Outbox,
 ) -> Result<(), NoMemory>
-    requires from { HasAddress from }
-    requires member { IsTrue (is_in_cluster state.old.f from) }
-    requires vector { length body.now.vector ≡ replica_count state.old.f }
+    requires from { IsFromMember state.old from body.now.vector }
     requires fits { log_mod.fits body.now }
     ensures { let s = state.old in OnOk result (Does s state.new sends.old sends.new (replica_message s.f s.me s.state from (LogMod body.now))) }
 {

@@ -1,8 +1,7 @@
 //! How the leader of a view collects view-changes, and begins the view.
 
-ghost use Rattle.std.specs.Prelude.{◌≡◌, ◌≢◌, ◌≤◌, ◌<◌, ◌==◌, length, IsTrue, IsFalse, OnOk};
-ghost use Rattle.nz_base.specs.Actor.{HasAddress};
-ghost use Rattle.nz_base.specs.Cluster.{replica_count, leader_of};
+ghost use Rattle.std.specs.Prelude.{◌≡◌, ◌≢◌, ◌≤◌, ◌<◌, ◌==◌, IsTrue, IsFalse, OnOk};
+ghost use Rattle.nz_base.specs.Cluster.{leader_of};
 ghost use Rattle.nz_base.specs.declared.actor.Actor.TheVariants as actors;
 ghost use Rattle.nz_base.specs.declared.limits.TheConstants.{MAX_REPLICA};
 ghost use Rattle.nz_msg.specs.Messages.{view_change};
@@ -10,8 +9,8 @@ ghost use Rattle.nz_msg.specs.declared.message.Message.TheVariants.{ViewChange};
 ghost use Rattle.nz_machine.specs.rules.Replicas.{is_changing, is_up, leads, ◌and_then◌};
 ghost use Rattle.nz_machine.specs.rules.Views as views;
 ghost use Rattle.nz_machine.specs.rules.Begins as begins;
-ghost use Rattle.nz_machine.specs.rules.Does.{Does};
-ghost use Rattle.nz_machine.specs.rules.Step.{replica_message, is_in_cluster};
+ghost use Rattle.nz_machine.specs.rules.Does.{Does, IsFromMember};
+ghost use Rattle.nz_machine.specs.rules.Step.{replica_message};
 
 use super::starts::enter_later;
 use nz_base::{Actor, NoMemory};
@@ -39,9 +38,8 @@ fn collect(
     body: &mut ViewChangeBody,
     sends: &mut Outbox,
 ) -> Result<(), NoMemory>
-    requires sender { sender < replica_count state.old.f }
+    requires from { IsFromMember state.old (actors.Replica sender) body.old.vector }
     requires other { IsFalse (sender == state.old.me) }
-    requires vector { length body.old.vector ≡ replica_count state.old.f }
     requires fits { view_change.fits body.old }
     requires changing { IsTrue (is_changing state.old.state.status) }
     requires leads { IsTrue (leads state.old.f state.old.me state.old.state) }
@@ -60,10 +58,9 @@ fn hear_report(
     body: &mut ViewChangeBody,
     sends: &mut Outbox,
 ) -> Result<(), NoMemory>
-    requires address { sender ≤ MAX_REPLICA }
-    requires sender { sender < replica_count state.old.f }
+    requires from { IsFromMember state.old (actors.Replica sender) body.old.vector }
     requires other { IsFalse (sender == state.old.me) }
-    requires vector { length body.old.vector ≡ replica_count state.old.f }
+    requires address { sender ≤ MAX_REPLICA }
     requires fits { view_change.fits body.old }
     requires leads { IsTrue (leads state.old.f state.old.me state.old.state) }
     ensures { let s = state.old in OnOk result (Does s state.new sends.old sends.new (begins.hear_report s.f s.me sender body.old s.state)) }
@@ -82,10 +79,9 @@ fn enter_and_hear_report(
     body: &mut ViewChangeBody,
     sends: &mut Outbox,
 ) -> Result<(), NoMemory>
-    requires address { sender ≤ MAX_REPLICA }
-    requires sender { sender < replica_count state.old.f }
+    requires from { IsFromMember state.old (actors.Replica sender) body.old.vector }
     requires other { IsFalse (sender == state.old.me) }
-    requires vector { length body.old.vector ≡ replica_count state.old.f }
+    requires address { sender ≤ MAX_REPLICA }
     requires fits { view_change.fits body.old }
     requires up { IsTrue (is_up state.old.state.status) }
     requires low { state.old.state.view ≤ body.old.view }
@@ -102,9 +98,7 @@ fn enter_and_hear_report(
 fn may_lead(state: &ReplicaState, view: u64) -> bool
     ensures { result ≡ begins.may_lead state.now.f state.now.me state.now.state view }
 {
-    state.is_up()
-        && Actor::Replica(state.cluster().leader(view)).is(&state.name())
-        && state.view() <= view
+    state.is_up() && state.would_lead(view) && state.view() <= view
 }
 
 /// The leader of the report's view takes the report, unless the leader has entered a later view.
@@ -115,10 +109,8 @@ fn view_change_rule(
     body: &mut ViewChangeBody,
     sends: &mut Outbox,
 ) -> Result<(), NoMemory>
-    requires address { sender ≤ MAX_REPLICA }
-    requires sender { sender < replica_count state.old.f }
+    requires from { IsFromMember state.old (actors.Replica sender) body.old.vector }
     requires other { IsFalse (sender == state.old.me) }
-    requires vector { length body.old.vector ≡ replica_count state.old.f }
     requires fits { view_change.fits body.old }
     ensures { let s = state.old in OnOk result (Does s state.new sends.old sends.new (begins.view_change_rule s.f s.me s.state sender body.old)) }
 {
@@ -137,10 +129,8 @@ pub fn on_view_change(
     body: &mut ViewChangeBody,
     sends: &mut Outbox,
 ) -> Result<(), NoMemory>
-    requires from { HasAddress from }
-    requires member { IsTrue (is_in_cluster state.old.f from) }
+    requires from { IsFromMember state.old from body.old.vector }
     requires other { from ≢ actors.Replica state.old.me }
-    requires vector { length body.old.vector ≡ replica_count state.old.f }
     requires fits { view_change.fits body.old }
     ensures { let s = state.old in OnOk result (Does s state.new sends.old sends.new (replica_message s.f s.me s.state from (ViewChange body.old))) }
 {

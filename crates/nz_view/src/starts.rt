@@ -1,7 +1,7 @@
 //! How a replica enters a view that another one is in, and starts one that another one leads.
 
-ghost use Rattle.std.specs.Prelude.{◌≡◌, ◌≢◌, ◌<◌, ◌==◌, length, IsTrue, IsFalse, OnOk};
-ghost use Rattle.nz_base.specs.Cluster.{replica_count, leader_of};
+ghost use Rattle.std.specs.Prelude.{◌≡◌, ◌≢◌, ◌<◌, ◌==◌, IsFalse, OnOk};
+ghost use Rattle.nz_base.specs.Cluster.{leader_of};
 ghost use Rattle.nz_base.specs.declared.actor.Actor.TheVariants as actors;
 ghost use Rattle.nz_msg.specs.Fields as fields;
 ghost use Rattle.nz_msg.specs.Messages.{view_ask, start_view};
@@ -9,8 +9,8 @@ ghost use Rattle.nz_msg.specs.declared.message.Message.TheVariants.{ViewAsk, Sta
 ghost use Rattle.nz_machine.specs.rules.Views as views;
 ghost use Rattle.nz_machine.specs.rules.Adopting as adopting;
 ghost use Rattle.nz_machine.specs.rules.Adopting.{after_start};
-ghost use Rattle.nz_machine.specs.rules.Does.{Does, DoesSilently};
-ghost use Rattle.nz_machine.specs.rules.Step.{replica_message, is_in_cluster};
+ghost use Rattle.nz_machine.specs.rules.Does.{Does, DoesSilently, IsFromMember};
+ghost use Rattle.nz_machine.specs.rules.Step.{replica_message};
 
 use nz_base::{Actor, EntryList, NoMemory};
 use nz_machine::{Outbox, ReplicaState};
@@ -85,14 +85,13 @@ fn start_view_rule(
     sender: u8,
     body: &mut StartViewBody,
 ) -> Result<(), NoMemory>
-    requires sender { sender < replica_count state.old.f }
+    requires from { IsFromMember state.old (actors.Replica sender) body.old.vector }
     requires other { IsFalse (sender == state.old.me) }
-    requires vector { length body.old.vector ≡ replica_count state.old.f }
     requires fits { start_view.fits body.old }
     ensures { let s = state.old in OnOk result (DoesSilently s state.new (adopting.start_view_rule s.f s.me s.state sender body.old)) }
 {
     if !may_start(state, body.view)
-        || sender != state.cluster().leader(body.view)
+        || !state.is_leader_of(body.view, sender)
         || !state.merge_unless_stray(sender, &body.vector)
     {
         return Ok(());
@@ -107,9 +106,8 @@ pub fn on_start_view(
     from: Actor,
     body: &mut StartViewBody,
 ) -> Result<(), NoMemory>
-    requires member { IsTrue (is_in_cluster state.old.f from) }
+    requires from { IsFromMember state.old from body.old.vector }
     requires other { from ≢ actors.Replica state.old.me }
-    requires vector { length body.old.vector ≡ replica_count state.old.f }
     requires fits { start_view.fits body.old }
     ensures { let s = state.old in OnOk result (DoesSilently s state.new (replica_message s.f s.me s.state from (StartView body.old))) }
 {

@@ -6,7 +6,7 @@ ghost use Rattle.nz_machine.specs.rules.Views as views;
 ghost use Rattle.nz_machine.specs.rules.Views.{alarm_rule};
 ghost use Rattle.nz_machine.specs.rules.Does.{Does};
 
-use nz_base::{VIEW_ASK_TICKS, VIEW_TIMEOUT_TICKS, NoMemory};
+use nz_base::{NoMemory, VIEW_ASK_TICKS, VIEW_TIMEOUT_TICKS};
 use nz_machine::{Outbox, ReplicaState};
 
 /// The next view is entered, where there is one.

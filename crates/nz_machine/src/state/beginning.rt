@@ -1,9 +1,10 @@
 //! What the leader of a view does to its state when it collects reports, and begins the view.
 
 ghost use Rattle.std.specs.Prelude.{◌≡◌, ◌<◌, ◌==◌, not, nat_lt, length, IsFalse, IfOk, OnOk};
-ghost use Rattle.nz_base.specs.Cluster.{replica_count};
+ghost use Rattle.nz_base.specs.declared.actor.Actor.TheVariants.{Replica};
 ghost use Rattle.nz_merge.specs.Merged.{AreFit, merged};
 ghost use Rattle.nz_msg.specs.Messages.{view_change};
+ghost use Rattle.nz_machine.specs.rules.Does.{IsFromMember};
 ghost use Rattle.nz_machine.specs.rules.Facts.{IsCarried};
 ghost use Rattle.nz_machine.specs.rules.Begins as begins;
 ghost use Rattle.nz_machine.specs.rules.Begins.{with_report, without_strays, changes_of, after_begin};
@@ -30,9 +31,8 @@ impl ReplicaState {
     /// Collects the report in place of an earlier one of its sender. Its log is taken out of the body. Gives how many
     /// reports there are now.
     pub fn collect(&mut self, sender: u8, body: &mut ViewChangeBody) -> Result<usize, NoMemory>
-        requires sender { sender < replica_count self.old.f }
+        requires from { IsFromMember self.old (Replica sender) body.old.vector }
         requires other { IsFalse (sender == self.old.me) }
-        requires vector { length body.old.vector ≡ replica_count self.old.f }
         requires fits { view_change.fits body.old }
         ensures state { OnOk result (self.new ≡ record self.old { state = with_report self.old.state sender body.old }) }
         ensures count { IfOk result (λ count. count ≡ length self.new.state.changes) }

@@ -4,7 +4,10 @@ ghost use Rattle.std.specs.Prelude.{◌≡◌, ◌<◌, ◌≤◌, [], not, leng
 ghost use Rattle.std.specs.List.{AllByRecursion};
 ghost use Rattle.nz_base.specs.Cluster.{replica_count};
 ghost use Rattle.nz_cv.specs.Vectors.{is_stray};
+ghost use Rattle.nz_base.specs.declared.actor.Actor.TheVariants.{Replica};
+ghost use Rattle.nz_base.specs.declared.limits.TheConstants.{MAX_REPLICA};
 ghost use Rattle.nz_msg.specs.Fields as fields;
+ghost use Rattle.nz_machine.specs.rules.Does.{IsFromMember};
 ghost use Rattle.nz_machine.specs.rules.Replicas as replicas;
 ghost use Rattle.nz_machine.specs.rules.Replicas.{is_normal};
 ghost use Rattle.nz_machine.specs.rules.Requests.{is_full};
@@ -21,10 +24,13 @@ use nz_cv::CrashVector;
 impl ReplicaState {
     /// The vector rule: a stray message changes nothing. Of another one the vector is merged, and the message counts.
     pub fn merge_unless_stray(&mut self, sender: u8, vector: &CrashVector) -> bool
-        requires { length vector.now ≡ replica_count self.old.f }
+        requires { IsFromMember self.old (Replica sender) vector.now }
+        ensures address { sender ≤ MAX_REPLICA }
         ensures counts { result ≡ not (is_stray vector.now sender self.old.state.vector) }
         ensures state { self.new ≡ record self.old { state = (unless_stray self.old.me self.old.state sender vector.now (λ s. (s, []))).0 } }
     {
+        // f is at most MAX_F, so the number is at most MAX_REPLICA.
+        let _most = self.parts.cluster.f();
         if vector.is_stray(sender, &self.parts.vector) {
             return false;
         }

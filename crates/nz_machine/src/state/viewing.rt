@@ -15,7 +15,7 @@ use super::super::collecting::adopt;
 use super::super::data::Status;
 use super::super::outbox::Outbox;
 use super::{ReplicaState, forget};
-use nz_base::{EntryList, VIEW_TIMEOUT_TICKS, MAX_VIEW, NoMemory};
+use nz_base::{EntryList, MAX_VIEW, NoMemory, VIEW_TIMEOUT_TICKS};
 
 impl ReplicaState {
     /// How many reports the leader of its view holds to begin it.
@@ -55,7 +55,11 @@ impl ReplicaState {
         ensures value { result ≡ self.old.state.since + 1 }
     {
         let since = self.parts.since + 1;
-        self.parts.since = if since == VIEW_TIMEOUT_TICKS { 0 } else { since };
+        self.parts.since = if since == VIEW_TIMEOUT_TICKS {
+            0
+        } else {
+            since
+        };
         since
     }
 

@@ -8,6 +8,6 @@ use Rattle.nz_machine.proofs.state.ReplicaState.merge_unless_stray.Goals as goal
 
 pub invariant_of-self : goal.invariant_of-self
 invariant_of-self c =
-    let long = subst (λ (v : ReplicaModel). length c.args.vector.now ≡ replica_count v.f) (sym c.self.view_is) c.requires in
+    let long = subst (λ (v : ReplicaModel). length c.args.vector.now ≡ replica_count v.f) (sym c.self.view_is) c.requires.size in
     let counters = vector_counts _ c.args.vector.now c.vector_fits.ensures (eq-eqb (length c.args.vector.now) _ long) in
     kept_vector _ _ _ _ c.args.vector.now _ c.self.invariant counters c.merge.ensures
