@@ -95,6 +95,7 @@ fn counters_fit(counters: &[u32])
     requires { IsClusterSize (length counters.now) }
     ensures { fields.vector.fits counters.now }
 {
+    // Each counter has four bytes.
     let _count = counters.len();
 }
 
@@ -102,6 +103,7 @@ fn counters_fit(counters: &[u32])
 pub fn vector_fits(vector: &CrashVector)
     ensures { fields.vector.fits vector.now }
 {
+    // A vector has a counter for each replica of a cluster.
     let _size = vector.size();
     counters_fit(vector.as_slice());
 }

@@ -17,10 +17,10 @@
 //!   from, the leader included.
 #![tactic(auto)]
 
+mod adopting;
 mod answers;
 mod buffers;
 mod client_progress;
-mod collecting;
 mod commit_quorum;
 mod cores;
 mod data;
@@ -35,6 +35,7 @@ mod receiving;
 mod records;
 mod reply;
 mod replying;
+mod reports;
 mod sends;
 mod state;
 mod sync_keys;

@@ -169,8 +169,8 @@ impl ReplicaState {
         })
     }
 
-    /// That the data has the facts of every replica.
-    pub fn has_facts(&self)
+    /// Shows that the data has the facts of every replica.
+    pub fn show_invariant(&self)
         ensures member { self.now.me < replica_count self.now.f }
         ensures facts { HasFacts self.now.f self.now.me self.now.state }
     {

@@ -1,6 +1,6 @@
 //! The three phases of a rejoin: vectors, views, and the log.
 
-ghost use Rattle.std.specs.Prelude.{◌≡◌, ◌≢◌, ◌<◌, ◌≤◌, ◌==◌, ◌&&◌, nat_le, length, IsFalse, OnOk};
+ghost use Rattle.std.specs.Prelude.{◌≡◌, ◌≢◌, ◌<◌, ◌≤◌, ◌==◌, ◌&&◌, [], nat_le, length, IsFalse, OnOk};
 ghost use Rattle.nz_base.specs.Cluster.{leader_of};
 ghost use Rattle.nz_base.specs.declared.actor.Actor.TheVariants as actors;
 ghost use Rattle.nz_base.specs.declared.limits.TheConstants.{MAX_VIEW};
@@ -157,7 +157,7 @@ fn is_wanted(state: &ReplicaState, sender: u8, body: &StateTellBody) -> bool
         && (nat_le s.state.rejoin.wanted body.now.view && (sender == leader_of s.f body.now.view))) }
 {
     state.awaits(Phase::Log, body.nonce)
-        && state.wanted() <= body.view
+        && state.wanted_view() <= body.view
         && state.is_leader_of(body.view, sender)
 }
 
@@ -165,10 +165,10 @@ fn is_wanted(state: &ReplicaState, sender: u8, body: &StateTellBody) -> bool
 fn start(state: &mut ReplicaState, body: &mut StateTellBody) -> Result<(), NoMemory>
     requires fits { state_tell.fits body.old }
     requires other { IsFalse (leader_of state.old.f body.old.view == state.old.me) }
-    ensures { let b = body.old in OnOk result (state.new ≡ record state.old { state = normal_in state.old.state b.view b.entries b.commit }) }
+    ensures { let s = state.old in let b = body.old in OnOk result (DoesSilently s state.new (normal_in s.state b.view b.entries b.commit, [])) }
 {
     let log = mem::replace(&mut body.entries, EntryList::new(state.allocator()));
-    state.start(body.view, log, body.commit)
+    state.adopt_log(body.view, log, body.commit)
 }
 
 /// The log that the replica waits for is taken.

@@ -20,7 +20,7 @@ fn keys_from(state: &ReplicaState, start: u32) -> Result<KeyList, NoMemory>
     ensures value { IfOk result (λ keys. keys ≡ take MAX_KEYS (drop start (keys_of state.now.state.log.entries))) }
     ensures fits { IfOk result fields.keys.fits }
 {
-    state.has_facts();
+    state.show_invariant();
     let end = state
         .log()
         .len()

@@ -59,7 +59,7 @@ fn send_fetch(
 fn reply_since(state: &ReplicaState, count: u32, sends: &mut Outbox) -> Result<(), NoMemory>
     ensures { OnOk result (sends.new ≡ sends.old ++ map (parcel (actors.Replica state.now.me)) (replies_since state.now.state count)) }
 {
-    state.has_facts();
+    state.show_invariant();
     for place in count..state.log().synced() {
         state.reply_slowly(state.log().get(place).key.id(), sends)?;
     }

@@ -9,11 +9,11 @@ ghost use Rattle.nz_machine.specs.rules.Facts.{IsCarried};
 ghost use Rattle.nz_machine.specs.rules.Begins as begins;
 ghost use Rattle.nz_machine.specs.rules.Begins.{with_report, without_strays, changes_of, after_begin};
 
-use super::super::collecting::{
-    adopt, all_changes, clear_reports, drop_stray_reports, execute_all, greatest_commit,
-    replace_report,
-};
+use super::super::adopting::{adopt, execute_all};
 use super::super::data::{Reported, Status};
+use super::super::reports::{
+    all_changes, clear_reports, drop_stray_reports, greatest_commit, replace_report,
+};
 use super::{ReplicaState, forget};
 use nz_base::{EntryList, MAX_ENTRIES, NoMemory};
 use nz_merge::{Change, ViewChanges, merge};
@@ -30,7 +30,7 @@ impl ReplicaState {
 
     /// Collects the report in place of an earlier one of its sender. Its log is taken out of the body. Gives how many
     /// reports there are now.
-    pub fn collect(&mut self, sender: u8, body: &mut ViewChangeBody) -> Result<usize, NoMemory>
+    pub fn keep_report(&mut self, sender: u8, body: &mut ViewChangeBody) -> Result<usize, NoMemory>
         requires from { IsFromMember self.old (Replica sender) body.old.vector }
         requires other { IsFalse (sender == self.old.me) }
         requires fits { view_change.fits body.old }
@@ -99,7 +99,7 @@ impl ReplicaState {
     }
 
     /// The leader begins its view with the merged log. Whether a log has room for it.
-    pub fn begin(&mut self) -> Result<bool, NoMemory>
+    pub fn begin_view(&mut self) -> Result<bool, NoMemory>
         ensures state { OnOk result (self.new ≡ record self.old { state = (begins.begin self.old.f self.old.me self.old.state).0 }) }
         ensures begun { IfOk result (λ begun. begun ≡ not (nat_lt MAX_ENTRIES (length (merged self.old.f (changes_of self.old.me self.old.state))))) }
     {

@@ -12,8 +12,8 @@ ghost use Rattle.nz_machine.specs.rules.Rejoining.{last_counter, restarted_repli
 ghost use Rattle.nz_machine.specs.rules.Rejoining.{with_new_counter, with_tell, with_tells, ask_views, ask_log};
 
 use super::super::buffers::vector_fits;
-use super::super::collecting::{latest, note_teller, with_told};
 use super::super::data::{Phase, Status, ToldView};
+use super::super::reports::{latest, note_teller, with_told};
 use super::{ReplicaState, forget};
 use nz_base::{List, MAX_VIEW, NoMemory, REJOIN_ASK_TICKS};
 use nz_cv::CrashVector;
@@ -57,7 +57,7 @@ impl ReplicaState {
     }
 
     /// The view whose log was asked for.
-    pub fn wanted(&self) -> u64
+    pub fn wanted_view(&self) -> u64
         ensures { result ≡ self.now.state.rejoin.wanted }
     {
         self.parts.rejoin.wanted

@@ -66,7 +66,7 @@ impl ReplicaState {
     }
 
     /// The ids of some keys that are found nowhere.
-    #[tactic(auto, using(crate::proofs::SyncInvariant::missing_held, crate::proofs::SyncInvariant::missing_more))]
+    #[tactic(auto, using(crate::proofs::facts::SyncInvariant::missing_held, crate::proofs::facts::SyncInvariant::missing_more))]
     pub fn missing(&self, keys: &[Key]) -> Result<IdList, NoMemory>
         ensures { IfOk result (λ ids. ids ≡ missing_ids self.now.state keys.now) }
     {

@@ -11,7 +11,7 @@ ghost use Rattle.nz_machine.specs.rules.Views as views;
 ghost use Rattle.nz_machine.specs.rules.Views.{in_view_change};
 ghost use Rattle.nz_machine.specs.rules.Adopting.{normal_in};
 
-use super::super::collecting::adopt;
+use super::super::adopting::adopt;
 use super::super::data::Status;
 use super::super::outbox::Outbox;
 use super::{ReplicaState, forget};
@@ -88,7 +88,7 @@ impl ReplicaState {
     }
 
     /// In normal operation in a view that another leads, with this log, of which this many entries are committed.
-    pub fn start(&mut self, view: u64, log: EntryList, commit: u32) -> Result<(), NoMemory>
+    pub fn adopt_log(&mut self, view: u64, log: EntryList, commit: u32) -> Result<(), NoMemory>
         requires view { view ≤ MAX_VIEW }
         requires follows { IsFalse (leader_of self.old.f view == self.old.me) }
         requires log { IsCarried log }
