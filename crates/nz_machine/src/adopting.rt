@@ -6,13 +6,13 @@ ghost use Rattle.nz_store.specs.Sequence.{store_after, replies};
 ghost use Rattle.nz_machine.specs.rules.State.{ReplicaData};
 ghost use Rattle.nz_machine.specs.rules.Facts.{AreApart, IsCarried};
 ghost use Rattle.nz_machine.specs.rules.Replicas.{commands};
-ghost use Rattle.nz_machine.specs.rules.Taking.{with_parts};
+ghost use Rattle.nz_machine.specs.rules.Taking.{with_held};
 ghost use Rattle.nz_machine.specs.rules.Adopting.{with_log};
 
-use super::sync_keys::{keep_each, pass_over};
+use super::held::Held;
+use super::sync_keys::keep_each;
 use nz_base::{Entry, EntryList, NoMemory};
 use nz_buffers::{Early, Late};
-use nz_log::HashedLog;
 use nz_store::{Answer, Store};
 use std::alloc::Global;
 
@@ -49,20 +49,17 @@ fn drop_ids(early: &mut Early, late: &mut Late, list: &[Entry])
     }
 }
 
-/// Puts the list in the place of the log, all of it synced. What it leaves out of the log goes to late, its
-/// ids leave early and late, and early entries that are not above its last go to late.
-pub fn adopt(
-    log: &mut HashedLog,
-    early: &mut Early,
-    late: &mut Late,
-    list: EntryList,
-) -> Result<(), NoMemory>
-    requires apart { AreApart log.old early.old late.old }
-    requires list { IsCarried list }
-    ensures { (s : ReplicaData) → OnOk result (with_log (with_parts s log.old early.old late.old) list ≡ with_parts s log.new early.new late.new) }
-{
-    drop_ids(early, late, list.as_slice());
-    let left_out = log.replace_all(list)?;
-    keep_each(late, left_out)?;
-    pass_over(log, early, late)
+impl Held {
+    /// Puts the list in the place of the log, all of it synced. What it leaves out of the log goes to late, its
+    /// ids leave early and late, and early entries that are not above its last go to late.
+    pub fn adopt(&mut self, list: EntryList) -> Result<(), NoMemory>
+        requires apart { AreApart self.old.log self.old.early self.old.late }
+        requires list { IsCarried list }
+        ensures { (s : ReplicaData) → OnOk result (with_log (with_held s self.old) list ≡ with_held s self.new) }
+    {
+        drop_ids(&mut self.early, &mut self.late, list.as_slice());
+        let left_out = self.log.replace_all(list)?;
+        keep_each(&mut self.late, left_out)?;
+        self.pass_over()
+    }
 }

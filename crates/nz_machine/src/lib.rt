@@ -28,6 +28,7 @@ mod event;
 mod forgotten;
 mod frame_kind;
 mod from_cluster;
+mod held;
 mod journal;
 mod laws;
 mod outbox;

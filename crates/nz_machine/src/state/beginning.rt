@@ -9,7 +9,7 @@ ghost use Rattle.nz_machine.specs.rules.Facts.{IsCarried};
 ghost use Rattle.nz_machine.specs.rules.Begins as begins;
 ghost use Rattle.nz_machine.specs.rules.Begins.{with_report, without_strays, changes_of, after_begin};
 
-use super::super::adopting::{adopt, execute_all};
+use super::super::adopting::execute_all;
 use super::super::data::{Reported, Status};
 use super::super::reports::{
     all_changes, clear_reports, drop_stray_reports, greatest_commit, replace_report,
@@ -60,9 +60,9 @@ impl ReplicaState {
         let own = Change {
             sender: self.parts.me,
             last: self.parts.last,
-            synced: self.parts.log.synced(),
+            synced: self.parts.held.log.synced(),
             commit: self.parts.commit,
-            log: self.parts.log.entries()?,
+            log: self.parts.held.log.entries()?,
         };
         let changes = all_changes(self.parts.alloc, own, &self.parts.changes)?;
         Ok(changes)
@@ -75,12 +75,7 @@ impl ReplicaState {
     {
         let commit = commit.min(log.len());
         let (store, results) = execute_all(self.parts.alloc, log.as_slice())?;
-        match adopt(
-            &mut self.parts.log,
-            &mut self.parts.early,
-            &mut self.parts.late,
-            log,
-        ) {
+        match self.parts.held.adopt(log) {
             Ok(()) => {
                 self.parts.status = Status::Normal;
                 self.parts.last = self.parts.view;

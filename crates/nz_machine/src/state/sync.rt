@@ -16,7 +16,6 @@ ghost use Rattle.nz_machine.specs.rules.LogMods.{is_held, with_ack, with_commit,
 
 use super::super::buffers::vector_fits;
 use super::super::commit_quorum::reported;
-use super::super::sync_keys::sync_parts;
 use super::{ReplicaState, forget};
 use nz_base::{Id, IdList, Key, MAX_ENTRIES, NoMemory};
 use nz_cv::CrashVector;
@@ -44,17 +43,22 @@ impl ReplicaState {
     pub fn holds(&self, id: Id) -> bool
         ensures { result ≡ is_held self.now.state id }
     {
-        self.parts.log.place_of(id).is_some()
-            || self.parts.early.find(id).is_some()
-            || self.parts.late.find(id).is_some()
+        self.parts.held.log.place_of(id).is_some()
+            || self.parts.held.early.find(id).is_some()
+            || self.parts.held.late.find(id).is_some()
     }
 
     /// Whether log, early and late together hold as many entries as a log may.
     pub fn is_full(&self) -> bool
         ensures { result ≡ is_full self.now.state }
     {
-        let waiting = self.parts.early.len().saturating_add(self.parts.late.len());
-        waiting.saturating_add(self.parts.log.len() as usize) >= MAX_ENTRIES as usize
+        let waiting = self
+            .parts
+            .held
+            .early
+            .len()
+            .saturating_add(self.parts.held.late.len());
+        waiting.saturating_add(self.parts.held.log.len() as usize) >= MAX_ENTRIES as usize
     }
 
     /// How many entries of a replica's log agree with the leader's, as its reports say.
@@ -107,15 +111,12 @@ impl ReplicaState {
         ensures state { OnOk result (self.new ≡ record self.old { state = committed_to (overtaken_to_late (sync_keys self.old.state keys.now).0) commit }) }
         ensures missing { IfOk result (λ place. (sync_keys self.old.state keys.now).1 ≡ drop place keys.now) }
     {
-        match sync_parts(
-            self.parts.alloc,
-            &mut self.parts.log,
-            &mut self.parts.early,
-            &mut self.parts.late,
-            keys,
-        ) {
+        match self.parts.held.sync(self.parts.alloc, keys) {
             Ok(place) => {
-                self.parts.commit = self.parts.commit.max(commit.min(self.parts.log.synced()));
+                self.parts.commit = self
+                    .parts
+                    .commit
+                    .max(commit.min(self.parts.held.log.synced()));
                 Ok(place)
             }
             Err(error) => {

@@ -11,7 +11,6 @@ ghost use Rattle.nz_machine.specs.rules.Views as views;
 ghost use Rattle.nz_machine.specs.rules.Views.{in_view_change};
 ghost use Rattle.nz_machine.specs.rules.Adopting.{normal_in};
 
-use super::super::adopting::adopt;
 use super::super::data::Status;
 use super::super::outbox::Outbox;
 use super::{ReplicaState, forget};
@@ -95,12 +94,7 @@ impl ReplicaState {
         requires commit { commit ≤ length log }
         ensures { OnOk result (self.new ≡ record self.old { state = normal_in self.old.state view log commit }) }
     {
-        match adopt(
-            &mut self.parts.log,
-            &mut self.parts.early,
-            &mut self.parts.late,
-            log,
-        ) {
+        match self.parts.held.adopt(log) {
             Ok(()) => {
                 self.parts.status = Status::Normal;
                 self.parts.view = view;
