@@ -113,7 +113,7 @@ impl ClientState {
             (envelope_step g (actors.Client s.me) s.state (accepted_envelope g.f (actors.Client s.me) p.now))) }
     {
         let decoded = decode(self.allocator(), &p.frame);
-        match heard(self.name(), p, &decoded)? {
+        match heard(self.actor(), p, &decoded)? {
             None => Ok(()),
             Some(envelope) => self.handle(envelope, sends),
         }
@@ -158,6 +158,6 @@ impl Core for Client {
     }
 
     fn actor(&self) -> Actor {
-        self.state.name()
+        self.state.actor()
     }
 }

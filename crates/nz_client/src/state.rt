@@ -76,9 +76,8 @@ impl ClientState {
         }
     }
 
-    /// The actor's name.
-    pub fn name(&self) -> Actor
-        ensures name { result ≡ actors.Client self.now.me }
+    pub fn actor(&self) -> Actor
+        ensures actor { result ≡ actors.Client self.now.me }
         ensures address { HasAddress result }
     {
         Actor::Client(self.me)
@@ -135,7 +134,7 @@ impl ClientState {
         let command = request.command.copy(self.alloc)?;
         let message = Message::Request(RequestBody { num, command });
         let to = Actor::Proxy(proxy);
-        sends.send(self.name(), to, &message)
+        sends.send(self.actor(), to, &message)
     }
 
     /// The next request, if it may be sent now.

@@ -142,7 +142,7 @@ impl ProxyState {
             (envelope_step (group_with_cluster s.f) (actors.Proxy s.me) s.state (accepted_envelope s.f (actors.Proxy s.me) p.now))) }
     {
         let decoded = decode(self.allocator(), &p.frame);
-        let Some(envelope) = heard(self.name(), p, &decoded)? else {
+        let Some(envelope) = heard(self.actor(), p, &decoded)? else {
             return Ok(());
         };
         if self.is_down() || !is_from_cluster(self.cluster(), envelope) {
@@ -211,6 +211,6 @@ impl Core for Proxy {
     }
 
     fn actor(&self) -> Actor {
-        self.state.name()
+        self.state.actor()
     }
 }

@@ -76,9 +76,8 @@ impl ProxyState {
         }
     }
 
-    /// The actor's name.
-    pub fn name(&self) -> Actor
-        ensures name { result ≡ actors.Proxy self.now.me }
+    pub fn actor(&self) -> Actor
+        ensures actor { result ≡ actors.Proxy self.now.me }
         ensures address { HasAddress result }
     {
         Actor::Proxy(self.me)
@@ -184,7 +183,7 @@ impl ProxyState {
             path,
         });
         let to = Actor::Client(id.client as u8);
-        sends.send(self.name(), to, &message)
+        sends.send(self.actor(), to, &message)
     }
 
     fn timed(&self, id: Id, command: Blob) -> TimedBody
@@ -215,7 +214,7 @@ impl ProxyState {
         let body = sends.write_body(message)?;
         for replica in 0..cluster.n() {
             let to = Actor::Replica(replica);
-            sends.send_written(self.name(), to, message, &body)?;
+            sends.send_written(self.actor(), to, message, &body)?;
         }
         Ok(())
     }

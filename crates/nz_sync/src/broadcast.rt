@@ -104,7 +104,7 @@ fn send_log_mod(
     let _most = state.cluster().f();
     move_to(state, state.ack_of(replica), written, sends)?;
     let to = Actor::Replica(replica);
-    sends.send_written(state.name(), to, &written.message, &written.body)
+    sends.send_written(state.actor(), to, &written.message, &written.body)
 }
 
 /// The least number of another replica.
@@ -125,7 +125,7 @@ fn send_to_others(
     ensures { OnOk result (sends.new ≡ sends.old ++ map (parcel (actors.Replica state.now.me)) (log_mods_to_others state.now.f state.now.me state.now.state)) }
 {
     for replica in 0..state.cluster().n() {
-        if !Actor::Replica(replica).is(&state.name()) {
+        if !Actor::Replica(replica).is(&state.actor()) {
             send_log_mod(state, replica, written, sends)?;
         }
     }

@@ -67,7 +67,7 @@ fn fetch_rule(
         entries: asked_entries(state, body.ids.as_slice())?,
     });
     let to = Actor::Replica(sender);
-    sends.send(state.name(), to, &message)
+    sends.send(state.actor(), to, &message)
 }
 
 /// What a replica does with a fetch. It changes nothing, and takes them from replicas alone.

@@ -29,7 +29,7 @@ fn send_sync_report(state: &ReplicaState, leader: u8, sends: &mut Outbox) -> Res
         synced: state.log().synced(),
     });
     let to = Actor::Replica(leader);
-    sends.send(state.name(), to, &message)
+    sends.send(state.actor(), to, &message)
 }
 
 /// Asks the leader for the entries with these ids, if there are any.
@@ -52,7 +52,7 @@ fn send_fetch(
         ids,
     });
     let to = Actor::Replica(leader);
-    sends.send(state.name(), to, &message)
+    sends.send(state.actor(), to, &message)
 }
 
 /// Sends the slow replies for the entries that are synced since a count.

@@ -11,6 +11,6 @@ use Rattle.nz_client.proofs.state.ClientState.deliver.Goals as goal
 pub returns-clause-rule : goal.returns-clause-rule
 returns-clause-rule c = λ g is.
     let s = c.args.self.now in
-    let e = ap (λ (a : Actor). envelope_for a c.args.p.now) (sym c.name.ensures.name) ∙ sym c.in_ok-heard.ensures.value ∙ ap option_copied c.in-Some.is in
+    let e = ap (λ (a : Actor). envelope_for a c.args.p.now) (sym c.actor.ensures.actor) ∙ sym c.in_ok-heard.ensures.value ∙ ap option_copied c.in-Some.is in
     subst (λ (t : ClientData × List Out). OnOk c.handle.result (ClientDoes s c.handle.new.self c.args.sends.now c.handle.new.sends t))
     (sym (delivered g s c.args.p.now c.in-Some.envelope.now is e)) c.handle.ensures.rule

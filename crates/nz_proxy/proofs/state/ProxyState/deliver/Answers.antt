@@ -16,7 +16,7 @@ nothing_done : (c : goal.Joined-decoded-7)
     (accepted_envelope c.args.self.now.f (Proxy c.args.self.now.me) c.args.p.now) ≡ (c.args.self.now.state, [])
 nothing_done c =
     let model = c.args.self.now in
-    let is = ap (λ (a : Actor). envelope_for a c.args.p.now) (sym c.name.ensures.name) ∙ sym c.in_ok-envelope.ensures.value ∙ ap option_copied c.in-Some.is in
+    let is = ap (λ (a : Actor). envelope_for a c.args.p.now) (sym c.actor.ensures.actor) ∙ sym c.in_ok-envelope.ensures.value ∙ ap option_copied c.in-Some.is in
     elim c.then-is_down.branch [
       | then-is_down-via-then-is_down w ↦ passed_over model.f model.me model.state _ c.in-Some.envelope.now is (inl (sym c.is_down.ensures ∙ w.if-is_down.true))
       | then-is_down-via-else-is_down+then-not-is_from_cluster w ↦
