@@ -97,7 +97,9 @@ impl Client {
 impl ClientState {
     fn handle(&mut self, envelope: &Envelope, sends: &mut Outbox) -> Result<(), NoMemory>
         ensures same { IsSameClient self.old self.new }
-        ensures rule { let s = self.old in OnOk result (ClientDoes s self.new sends.old sends.new (client_message s.window s.proxies s.me s.script s.state envelope.now.from envelope.now.message)) }
+        ensures rule { let s = self.old in
+            OnOk result (ClientDoes s self.new sends.old sends.new
+            (client_message s.window s.proxies s.me s.script s.state envelope.now.from envelope.now.message)) }
     {
         match (envelope.from, &envelope.message) {
             (Actor::Proxy(_), Message::Answer(body)) => self.accept_rule(body, sends),

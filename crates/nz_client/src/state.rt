@@ -207,7 +207,9 @@ impl ClientState {
     /// Each free place of the window takes the next request, if it is due.
     fn fill_window(&mut self, sends: &mut Outbox) -> Result<(), NoMemory>
         ensures same { IsSameClient self.old self.new }
-        ensures rule { let s = self.old in OnOk result (ClientDoes s self.new sends.old sends.new (clients.fill_window s.window s.proxies s.me s.script s.state)) }
+        ensures rule { let s = self.old in
+            OnOk result (ClientDoes s self.new sends.old sends.new
+            (clients.fill_window s.window s.proxies s.me s.script s.state)) }
     {
         for _ in 0..self.free_places() {
             self.open_next(sends)?;
@@ -264,7 +266,9 @@ impl ClientState {
     #[tactic(auto, unfolding(nz_machine::specs::rules::Clients::wait_rule))]
     pub fn wait_rule(&mut self, sends: &mut Outbox) -> Result<(), NoMemory>
         ensures same { IsSameClient self.old self.new }
-        ensures rule { let s = self.old in OnOk result (ClientDoes s self.new sends.old sends.new (clients.wait_rule s.window s.proxies s.me s.script s.state)) }
+        ensures rule { let s = self.old in
+            OnOk result (ClientDoes s self.new sends.old sends.new
+            (clients.wait_rule s.window s.proxies s.me s.script s.state)) }
     {
         self.retry_all(sends)?;
         self.wait_all();
@@ -284,7 +288,9 @@ impl ClientState {
     #[tactic(auto, unfolding(nz_machine::specs::rules::Clients::accept_rule))]
     pub fn accept_rule(&mut self, body: &AnswerBody, sends: &mut Outbox) -> Result<(), NoMemory>
         ensures same { IsSameClient self.old self.new }
-        ensures rule { let s = self.old in OnOk result (ClientDoes s self.new sends.old sends.new (clients.accept_rule s.window s.proxies s.me s.script s.state body.now)) }
+        ensures rule { let s = self.old in
+            OnOk result (ClientDoes s self.new sends.old sends.new
+            (clients.accept_rule s.window s.proxies s.me s.script s.state body.now)) }
     {
         if !self.is_open(body.num) {
             return Ok(());
