@@ -14,7 +14,7 @@ use Rattle.nz_machine.specs.rules.State.{ClientData, Out}
 use Rattle.nz_machine.specs.rules.Clients.{if_due, after_opening, open_next, fill_places, is_overdue}
 use Rattle.nz_machine.specs.rules.Clients.{attempt_after_wait, retry, retries, is_open, without_attempt}
 use Rattle.nz_machine.specs.rules.Step.{parcel}
-use Rattle.nz_client.specs.Models.{ClientModel, IsOfProxies}
+use Rattle.nz_client.specs.Models.{ClientModel, ClientDoes, IsOfProxies}
 
 -- ---- without an open request there is at least one less
 
@@ -221,18 +221,15 @@ filling_none s free before is few =
     sent_by_all n e = ap (λ (k : ℕ). before ++ map (parcel (Client s.me)) (fill_places k s.proxies s.me s.script s.state).1) e
 
 -- after the last one all is done
-pub record IsFilled (s t : ClientModel) (free : ℕ) (before now : List Parcel) : Type 0 where
-  pub state : t ≡ record s { state = (fill_places free s.proxies s.me s.script s.state).0 }
-  pub sends : now ≡ before ++ map (parcel (Client s.me)) (fill_places free s.proxies s.me s.script s.state).1
-
 pub filling_all : (s t : ClientModel) (free done : ℕ) (before now : List Parcel) → free ≤ done
-    → IsFilling s t free done before now → IsFilled s t free before now
+    → IsFilling s t free done before now
+    → ClientDoes s t before now (fill_places free s.proxies s.me s.script s.state)
 filling_all s t free done before now past h = filled_at (free - done) (omega (arith, past)) h.state h.sends
   where
     filled_at : (n : ℕ) → n ≡ 0 → (fill_places n s.proxies s.me s.script t.state).0 ≡ (fill_places free s.proxies s.me s.script s.state).0
         → now ++ map (parcel (Client s.me)) (fill_places n s.proxies s.me s.script t.state).1
         ≡ before ++ map (parcel (Client s.me)) (fill_places free s.proxies s.me s.script s.state).1
-        → IsFilled s t free before now
+        → ClientDoes s t before now (fill_places free s.proxies s.me s.script s.state)
     filled_at zero e state sends = record {
       state = λ i. record { me = h.me i; proxies = h.proxies i; window = h.window i; script = h.script i; state = state i };
       sends = sym (append-nil now) ∙ sends;

@@ -1,12 +1,14 @@
 -- What a contract sees of a client, and what the code keeps.
-use Rattle.std.specs.Prelude.{ℕ, Bool, ◌≡◌, ◌<◌, ◌≤◌, ◌+◌, ◌^◌, List, [], ◌∷◌, length, Option, Some, None}
+use Rattle.std.specs.Prelude.{ℕ, Bool, ◌≡◌, ◌<◌, ◌≤◌, ◌+◌, ◌^◌, List, [], ◌∷◌, ◌++◌, length, map, Option, Some, None}
 use Rattle.std.specs.List.{AllByRecursion}
+use Rattle.nz_base.specs.declared.actor.Actor.TheVariants.{Client}
 use Rattle.nz_base.specs.declared.scenario.Request.{Request}
 use Rattle.nz_base.specs.declared.limits.TheConstants.{MAX_CLIENT, MAX_PROXIES, MAX_WINDOW, RETRY_TICKS}
 use Rattle.nz_msg.specs.Fields.{command}
 use Rattle.nz_machine.specs.declared.data.Attempt.{Attempt}
-use Rattle.nz_machine.specs.rules.State.{ClientData, Group}
-use Rattle.nz_machine.specs.rules.Step.{script_of}
+use Rattle.nz_machine.specs.declared.event.Parcel.{Parcel}
+use Rattle.nz_machine.specs.rules.State.{ClientData, Group, Out}
+use Rattle.nz_machine.specs.rules.Step.{script_of, parcel}
 
 -- The client's number, how many proxies there are, how many requests it may have open, its requests, and its state.
 pub record ClientModel : Type 0 where
@@ -59,6 +61,12 @@ pub record IsSameClient (a b : ClientModel) : Type 0 where
   pub proxies : b.proxies ≡ a.proxies
   pub window : b.window ≡ a.window
   pub script : b.script ≡ a.script
+
+-- What a rule does to a client, and to the messages that wait to be sent: the state is the rule's, and its messages are
+-- appended to the earlier ones.
+pub record ClientDoes (old new : ClientModel) (before after : List Parcel) (t : ClientData × List Out) : Type 0 where
+  pub state : new ≡ record old { state = t.0 }
+  pub sends : after ≡ before ++ map (parcel (Client old.me)) t.1
 
 -- What a contract sees of a client as a core: whether no step has run out of memory, too.
 pub record ClientCore : Type 0 where

@@ -1,14 +1,14 @@
 //! A client as a core.
 
-ghost use Rattle.std.specs.Prelude.{◌≡◌, ◌≤◌, ◌++◌, ◌↔◌, true, map, OnOk, IsTrue};
+ghost use Rattle.std.specs.Prelude.{◌≡◌, ◌≤◌, ◌↔◌, true, OnOk, IsTrue};
 ghost use Rattle.nz_base.specs.declared.actor.Actor.TheVariants as actors;
 ghost use Rattle.nz_base.specs.declared.limits.TheConstants.{MAX_CLIENT, MAX_PROXIES, MAX_WINDOW};
 ghost use Rattle.nz_msg.specs.Fields.{command};
 ghost use Rattle.nz_machine.specs.rules.State.{Group};
 ghost use Rattle.nz_machine.specs.rules.Clients as clients;
 ghost use Rattle.nz_machine.specs.rules.Clients.{first_client};
-ghost use Rattle.nz_machine.specs.rules.Step.{node_step, envelope_step, client_message, accepted_envelope, parcel};
-ghost use Rattle.nz_client.specs.Models.{AreSendable, IsClientInGroup, IsSameClient, least_open};
+ghost use Rattle.nz_machine.specs.rules.Step.{event_step, envelope_step, client_message, accepted_envelope};
+ghost use Rattle.nz_client.specs.Models.{ClientDoes, AreSendable, IsClientInGroup, IsSameClient, least_open};
 
 use crate::state::ClientState;
 use nz_base::{Actor, MAX_COMMAND, NoMemory, RequestList};
@@ -97,14 +97,9 @@ impl Client {
 impl ClientState {
     fn handle(&mut self, envelope: &Envelope, sends: &mut Outbox) -> Result<(), NoMemory>
         ensures same { IsSameClient self.old self.new }
-        ensures state { OnOk result (self.new ≡ record self.old {
-          state = (client_message self.old.window self.old.proxies
-              self.old.me self.old.script self.old.state envelope.now.from envelope.now.message).0;
-        }) }
-        ensures sends { OnOk result (sends.new ≡ sends.old
-            ++ map (parcel (actors.Client self.old.me))
-            (client_message self.old.window self.old.proxies self.old.me self.old.script self.old.state
-            envelope.now.from envelope.now.message).1) }
+        ensures rule { let s = self.old in
+            OnOk result (ClientDoes s self.new sends.old sends.new
+            (client_message s.window s.proxies s.me s.script s.state envelope.now.from envelope.now.message)) }
     {
         match (envelope.from, &envelope.message) {
             (Actor::Proxy(_), Message::Answer(body)) => self.accept_rule(body, sends),
@@ -114,18 +109,13 @@ impl ClientState {
 
     fn deliver(&mut self, p: &Parcel, sends: &mut Outbox) -> Result<(), NoMemory>
         ensures same { IsSameClient self.old self.new }
-        ensures state { (g : Group) → IsClientInGroup g self.old
-            → OnOk result (self.new ≡ record self.old {
-              state = (envelope_step g
-                  (actors.Client self.old.me) self.old.state (accepted_envelope g.f (actors.Client self.old.me) p.now)).0;
-            }) }
-        ensures sends { (g : Group) → IsClientInGroup g self.old
-            → OnOk result (sends.new ≡ sends.old
-            ++ map (parcel (actors.Client self.old.me))
-            (envelope_step g (actors.Client self.old.me) self.old.state (accepted_envelope g.f (actors.Client self.old.me) p.now)).1) }
+        ensures rule { let s = self.old in
+            (g : Group) → IsClientInGroup g s
+            → OnOk result (ClientDoes s self.new sends.old sends.new
+            (envelope_step g (actors.Client s.me) s.state (accepted_envelope g.f (actors.Client s.me) p.now))) }
     {
         let decoded = decode(self.allocator(), &p.frame);
-        match heard(self.name(), p, &decoded)? {
+        match heard(self.actor(), p, &decoded)? {
             None => Ok(()),
             Some(envelope) => self.handle(envelope, sends),
         }
@@ -133,10 +123,9 @@ impl ClientState {
 
     fn take(&mut self, event: &Event, sends: &mut Outbox) -> Result<(), NoMemory>
         ensures same { IsSameClient self.old self.new }
-        ensures state { (g : Group) → IsClientInGroup g self.old
-            → OnOk result (self.new ≡ record self.old { state = (node_step g (actors.Client self.old.me) self.old.state event.now).0 }) }
-        ensures sends { (g : Group) → IsClientInGroup g self.old
-            → OnOk result (sends.new ≡ sends.old ++ (node_step g (actors.Client self.old.me) self.old.state event.now).1) }
+        ensures rule { let s = self.old in
+            (g : Group) → IsClientInGroup g s
+            → OnOk result (ClientDoes s self.new sends.old sends.new (event_step g (actors.Client s.me) s.state event.now)) }
     {
         match event {
             Event::Deliver(p) => self.deliver(p.get(), sends),
@@ -171,6 +160,6 @@ impl Core for Client {
     }
 
     fn actor(&self) -> Actor {
-        self.state.name()
+        self.state.actor()
     }
 }

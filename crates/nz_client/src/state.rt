@@ -11,7 +11,7 @@ ghost use Rattle.nz_machine.specs.rules.Clients.{first_client, if_due, after_ope
 ghost use Rattle.nz_machine.specs.rules.Clients.{after_wait, request_again, without_attempt, after_acceptance};
 ghost use Rattle.nz_machine.specs.rules.Step.{parcel};
 ghost use Rattle.nz_client.specs.Models as models;
-ghost use Rattle.nz_client.specs.Models.{IsSendable, AreSendable, IsOfProxies, IsSameClient};
+ghost use Rattle.nz_client.specs.Models.{ClientDoes, IsSendable, AreSendable, IsOfProxies, IsSameClient};
 
 use nz_base::{Actor, NoMemory, RETRY_TICKS, Request, RequestList, TryCopy};
 use nz_machine::{Attempt, Outbox};
@@ -76,9 +76,8 @@ impl ClientState {
         }
     }
 
-    /// The actor's name.
-    pub fn name(&self) -> Actor
-        ensures name { result ≡ actors.Client self.now.me }
+    pub fn actor(&self) -> Actor
+        ensures actor { result ≡ actors.Client self.now.me }
         ensures address { HasAddress result }
     {
         Actor::Client(self.me)
@@ -135,7 +134,7 @@ impl ClientState {
         let command = request.command.copy(self.alloc)?;
         let message = Message::Request(RequestBody { num, command });
         let to = Actor::Proxy(proxy);
-        sends.send(self.name(), to, &message)
+        sends.send(self.actor(), to, &message)
     }
 
     /// The next request, if it may be sent now.
@@ -185,12 +184,7 @@ impl ClientState {
     fn open_next(&mut self, sends: &mut Outbox) -> Result<(), NoMemory>
         requires { length self.old.state.attempts < self.old.window }
         ensures same { IsSameClient self.old self.new }
-        ensures state { OnOk result (self.new ≡ record self.old {
-          state = (clients.open_next self.old.proxies self.old.me
-              self.old.script self.old.state).0;
-        }) }
-        ensures sends { OnOk result (sends.new ≡ sends.old
-            ++ map (parcel (actors.Client self.old.me)) (clients.open_next self.old.proxies self.old.me self.old.script self.old.state).1) }
+        ensures rule { let s = self.old in OnOk result (ClientDoes s self.new sends.old sends.new (clients.open_next s.proxies s.me s.script s.state)) }
     {
         match self.due_request() {
             None => Ok(()),
@@ -213,13 +207,9 @@ impl ClientState {
     /// Each free place of the window takes the next request, if it is due.
     fn fill_window(&mut self, sends: &mut Outbox) -> Result<(), NoMemory>
         ensures same { IsSameClient self.old self.new }
-        ensures state { OnOk result (self.new ≡ record self.old {
-          state = (clients.fill_window self.old.window
-              self.old.proxies self.old.me self.old.script self.old.state).0;
-        }) }
-        ensures sends { OnOk result (sends.new ≡ sends.old
-            ++ map (parcel (actors.Client self.old.me))
-            (clients.fill_window self.old.window self.old.proxies self.old.me self.old.script self.old.state).1) }
+        ensures rule { let s = self.old in
+            OnOk result (ClientDoes s self.new sends.old sends.new
+            (clients.fill_window s.window s.proxies s.me s.script s.state)) }
     {
         for _ in 0..self.free_places() {
             self.open_next(sends)?;
@@ -276,13 +266,9 @@ impl ClientState {
     #[tactic(auto, unfolding(nz_machine::specs::rules::Clients::wait_rule))]
     pub fn wait_rule(&mut self, sends: &mut Outbox) -> Result<(), NoMemory>
         ensures same { IsSameClient self.old self.new }
-        ensures state { OnOk result (self.new ≡ record self.old {
-          state = (clients.wait_rule self.old.window
-              self.old.proxies self.old.me self.old.script self.old.state).0;
-        }) }
-        ensures sends { OnOk result (sends.new ≡ sends.old
-            ++ map (parcel (actors.Client self.old.me))
-            (clients.wait_rule self.old.window self.old.proxies self.old.me self.old.script self.old.state).1) }
+        ensures rule { let s = self.old in
+            OnOk result (ClientDoes s self.new sends.old sends.new
+            (clients.wait_rule s.window s.proxies s.me s.script s.state)) }
     {
         self.retry_all(sends)?;
         self.wait_all();
@@ -302,13 +288,9 @@ impl ClientState {
     #[tactic(auto, unfolding(nz_machine::specs::rules::Clients::accept_rule))]
     pub fn accept_rule(&mut self, body: &AnswerBody, sends: &mut Outbox) -> Result<(), NoMemory>
         ensures same { IsSameClient self.old self.new }
-        ensures state { OnOk result (self.new ≡ record self.old {
-          state = (clients.accept_rule self.old.window
-              self.old.proxies self.old.me self.old.script self.old.state body.now).0;
-        }) }
-        ensures sends { OnOk result (sends.new ≡ sends.old
-            ++ map (parcel (actors.Client self.old.me))
-            (clients.accept_rule self.old.window self.old.proxies self.old.me self.old.script self.old.state body.now).1) }
+        ensures rule { let s = self.old in
+            OnOk result (ClientDoes s self.new sends.old sends.new
+            (clients.accept_rule s.window s.proxies s.me s.script s.state body.now)) }
     {
         if !self.is_open(body.num) {
             return Ok(());

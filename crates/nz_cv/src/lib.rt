@@ -93,15 +93,23 @@ impl CrashVector {
         &self.counters[..self.size as usize]
     }
 
+    /// The counter at a place; 0 where there is none.
+    fn counter(&self, place: u8) -> u32
+        ensures { result ≡ slice_index self.now place }
+    {
+        match self.as_slice().get(place as usize) {
+            Some(counter) => *counter,
+            None => 0,
+        }
+    }
+
     /// Whether a message of `sender` with this vector was sent before an incarnation of the sender that
-    /// the receiver knows of.
+    /// the receiver knows of. A counter that a vector has not is 0.
     pub fn is_stray(&self, sender: u8, known: &CrashVector) -> bool
-        requires one_size { length self.now ≡ length known.now }
-        requires sender { sender < length self.now }
         ensures value { result ≡ is_stray self.now sender known.now }
         ensures stray { IsTrue result ↔ Stray self.now sender known.now }
     {
-        self.get(sender) < known.get(sender)
+        self.counter(sender) < known.counter(sender)
     }
 
     /// Takes in what another replica's vector knows; `own` is the number of the replica that merges,

@@ -17,10 +17,10 @@
 //!   from, the leader included.
 #![tactic(auto)]
 
+mod adopting;
 mod answers;
 mod buffers;
 mod client_progress;
-mod collecting;
 mod commit_quorum;
 mod cores;
 mod data;
@@ -28,6 +28,7 @@ mod event;
 mod forgotten;
 mod frame_kind;
 mod from_cluster;
+mod held;
 mod journal;
 mod laws;
 mod outbox;
@@ -35,6 +36,7 @@ mod receiving;
 mod records;
 mod reply;
 mod replying;
+mod reports;
 mod sends;
 mod state;
 mod sync_keys;

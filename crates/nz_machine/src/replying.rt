@@ -32,7 +32,7 @@ impl ReplicaState {
                     answer: self.answer_at(place)?,
                 });
                 let to = Actor::Proxy(origin.proxy);
-                sends.send(self.name(), to, &message)
+                sends.send(self.actor(), to, &message)
             }
         }
     }
@@ -51,7 +51,7 @@ impl ReplicaState {
                     delay: origin.delay,
                 });
                 let to = Actor::Proxy(origin.proxy);
-                sends.send(self.name(), to, &message)
+                sends.send(self.actor(), to, &message)
             }
         }
     }

@@ -1,9 +1,9 @@
 //! The state of a replica.
 
-ghost use Rattle.std.specs.Prelude.{◌≡◌, ◌<◌, ◌≤◌, ◌+◌, ◌∷◌, ◌++◌, [], List, length, IsTrue, IsFalse, IfOk, IfSome, IfNone, OnOk, OnErr};
+ghost use Rattle.std.specs.Prelude.{◌≡◌, ◌<◌, ◌≤◌, ◌==◌, ◌+◌, ◌∷◌, ◌++◌, [], List, length, IsTrue, IsFalse, IfOk, IfSome, IfNone, OnOk, OnErr};
 ghost use Rattle.std.specs.Map.{lookup};
 ghost use Rattle.nz_base.specs.Actor.{HasAddress};
-ghost use Rattle.nz_base.specs.Cluster.{replica_count};
+ghost use Rattle.nz_base.specs.Cluster.{replica_count, leader_of};
 ghost use Rattle.nz_base.specs.Key.{id_eq, id_of};
 ghost use Rattle.nz_base.specs.Log.{keys_of, has_id, is_above_last};
 ghost use Rattle.nz_base.specs.declared.actor.Actor.TheVariants as actors;
@@ -25,8 +25,9 @@ mod sync;
 mod viewing;
 
 use super::answers::copy_answer;
-use super::buffers::{last_key, put_early, put_late, take_in, vector_fits};
+use super::buffers::{take_in, vector_fits};
 use super::data::{Origin, Phase, Rejoin, Reported, Status};
+use super::held::Held;
 use indexmap::IndexMap;
 use nz_base::{Actor, Cluster, Entry, Id, List, MAX_CLOCK, MAX_DELAY, MAX_ENTRIES, NoMemory};
 use nz_buffers::{Early, Late};
@@ -47,14 +48,12 @@ pub struct Parts {
     pub view: u64,
     /// The last view in which the replica was in normal operation.
     pub last: u64,
-    pub log: HashedLog,
+    pub held: Held,
     pub commit: u32,
     pub results: Vec<Answer>,
     /// The store after the log, at a leader.
     pub store: Store,
     pub vector: CrashVector,
-    pub early: Early,
-    pub late: Late,
     pub origin: IndexMap<Id, Origin>,
     pub ack: Vec<u32>,
     /// Ticks since the replica heard from its leader.
@@ -87,8 +86,8 @@ fn forget_waiting(parts: &mut Parts)
     ensures model { model_of parts.new ≡ without_waiting (model_of parts.old) }
     ensures cluster { parts.new.cluster ≡ parts.old.cluster }
 {
-    parts.early = Early::new(parts.alloc);
-    parts.late = Late::new(parts.alloc);
+    parts.held.early = Early::new(parts.alloc);
+    parts.held.late = Late::new(parts.alloc);
     parts.origin = IndexMap::new(parts.alloc);
     parts.changes = Vec::new(parts.alloc);
     parts.ack.as_mut_slice().fill(0);
@@ -108,7 +107,7 @@ fn forget(parts: &mut Parts)
     parts.clock = 0;
     parts.view = 0;
     parts.last = 0;
-    parts.log = HashedLog::new(alloc);
+    parts.held.log = HashedLog::new(alloc);
     parts.commit = 0;
     parts.results = Vec::new(alloc);
     parts.store = Store::new(alloc);
@@ -151,13 +150,11 @@ impl ReplicaState {
                 clock: 0,
                 view: 0,
                 last: 0,
-                log: HashedLog::new(alloc),
+                held: Held::new(alloc),
                 commit: 0,
                 results: Vec::new(alloc),
                 store: Store::new(alloc),
                 vector: CrashVector::zero(cluster.n()),
-                early: Early::new(alloc),
-                late: Late::new(alloc),
                 origin: IndexMap::new(alloc),
                 ack,
                 quiet: 0,
@@ -169,8 +166,8 @@ impl ReplicaState {
         })
     }
 
-    /// That the data has the facts of every replica.
-    pub fn has_facts(&self)
+    /// Shows that the data has the facts of every replica.
+    pub fn show_invariant(&self)
         ensures member { self.now.me < replica_count self.now.f }
         ensures facts { HasFacts self.now.f self.now.me self.now.state }
     {
@@ -197,9 +194,8 @@ impl ReplicaState {
         self.parts.cluster
     }
 
-    /// The actor's name.
-    pub fn name(&self) -> Actor
-        ensures name { result ≡ actors.Replica self.now.me }
+    pub fn actor(&self) -> Actor
+        ensures actor { result ≡ actors.Replica self.now.me }
         ensures address { HasAddress result }
     {
         // f is at most MAX_F, so the number is at most MAX_REPLICA.
@@ -218,11 +214,25 @@ impl ReplicaState {
         matches!(self.parts.status, Status::Normal)
     }
 
+    /// Whether the sender leads this view.
+    pub fn is_leader_of(&self, view: u64, sender: u8) -> bool
+        ensures { result ≡ (sender == leader_of self.now.f view) }
+    {
+        sender == self.parts.cluster.leader(view)
+    }
+
+    /// Whether the replica leads this view.
+    pub fn would_lead(&self, view: u64) -> bool
+        ensures { result ≡ (leader_of self.now.f view == self.now.me) }
+    {
+        self.parts.cluster.leader(view) == self.parts.me
+    }
+
     /// Whether the replica leads its view, in whatever mode.
     pub fn leads(&self) -> bool
         ensures { result ≡ replicas.leads self.now.f self.now.me self.now.state }
     {
-        self.parts.cluster.leader(self.parts.view) == self.parts.me
+        self.would_lead(self.parts.view)
     }
 
     /// Whether it leads its view in normal operation.
@@ -238,7 +248,7 @@ impl ReplicaState {
     {
         self.is_normal()
             && view == self.parts.view
-            && sender == self.parts.cluster.leader(view)
+            && self.is_leader_of(view, sender)
             && !self.leads()
     }
 
@@ -280,7 +290,7 @@ impl ReplicaState {
     pub fn log(&self) -> &HashedLog
         ensures { result.now ≡ self.now.state.log }
     {
-        &self.parts.log
+        &self.parts.held.log
     }
 
     pub fn commit(&self) -> u32
@@ -300,13 +310,13 @@ impl ReplicaState {
     pub fn early(&self) -> &Early
         ensures { result.now ≡ self.now.state.early }
     {
-        &self.parts.early
+        &self.parts.held.early
     }
 
     pub fn late(&self) -> &Late
         ensures { result.now ≡ self.now.state.late }
     {
-        &self.parts.late
+        &self.parts.held.late
     }
 
     /// Where a request came from, if that is known.
@@ -356,8 +366,7 @@ impl ReplicaState {
         requires held { IsFalse (has_id (keys_of self.old.state.early) (id_of entry.key)) }
         ensures { OnOk result (self.new ≡ record self.old { state = to_early self.old.state entry }) }
     {
-        let last = last_key(&self.parts.log);
-        put_early(&mut self.parts.early, &mut self.parts.late, last, entry)?;
+        self.parts.held.keep_early(entry)?;
         Ok(())
     }
 
@@ -368,7 +377,7 @@ impl ReplicaState {
         requires held { IsFalse (has_id (keys_of self.old.state.early) (id_of entry.key)) }
         ensures { OnOk result (self.new ≡ record self.old { state = to_late self.old.state entry }) }
     {
-        put_late(&mut self.parts.late, entry)?;
+        self.parts.held.keep_late(entry)?;
         Ok(())
     }
 
@@ -376,9 +385,10 @@ impl ReplicaState {
     pub fn may_release(&self) -> bool
         ensures { result ≡ first_may self.now.state self.now.state.early }
     {
-        match self.parts.early.first() {
+        match self.parts.held.early.first() {
             None => false,
-            Some(first) => first.deadline <= self.parts.clock && self.parts.log.len() < MAX_ENTRIES,
+            Some(first) => first.deadline <= self.parts.clock
+                && self.parts.held.log.len() < MAX_ENTRIES,
         }
     }
 
@@ -391,7 +401,7 @@ impl ReplicaState {
         ensures grown { OnOk result (length self.new.state.log.entries ≡ length self.old.state.log.entries + 1) }
     {
         let leads = self.leads();
-        match self.parts.early.take_due(self.parts.clock) {
+        match self.parts.held.early.take_due(self.parts.clock) {
             None => unreachable!(),
             Some(entry) => {
                 let id = entry.key.id();
@@ -399,7 +409,7 @@ impl ReplicaState {
                     leads,
                     &mut self.parts.store,
                     &mut self.parts.results,
-                    &mut self.parts.log,
+                    &mut self.parts.held.log,
                     entry,
                 ) {
                     Ok(()) => Ok(id),

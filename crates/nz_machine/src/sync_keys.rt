@@ -1,4 +1,4 @@
-//! How a follower takes the keys of a log modification, on the parts of its state.
+//! How a follower takes the keys of a log modification.
 
 ghost use Rattle.std.specs.Prelude.{◌≡◌, ◌<◌, ◌≤◌, ◌∷◌, ◌++◌, List, not, length, drop, filter, IsTrue, IsFalse, IfOk, OnOk};
 ghost use Rattle.std.specs.Option.{option_copied, option_map};
@@ -13,9 +13,9 @@ ghost use Rattle.nz_msg.specs.Fields as fields;
 ghost use Rattle.nz_machine.specs.rules.State.{ReplicaData};
 ghost use Rattle.nz_machine.specs.rules.Facts.{FitsEntry, AreApart};
 ghost use Rattle.nz_machine.specs.rules.LogMods.{sync_keys, overtaken_to_late};
-ghost use Rattle.nz_machine.specs.rules.Taking.{may_join, found_in, with_parts, after_first};
+ghost use Rattle.nz_machine.specs.rules.Taking.{may_join, found_in, with_held, after_first};
 
-use super::buffers::last_key;
+use super::held::Held;
 use nz_base::{Blob, Entry, EntryList, Id, Key, MAX_ENTRIES, NoMemory, TryCopy};
 use nz_buffers::{Early, Late};
 use nz_log::HashedLog;
@@ -48,24 +48,6 @@ fn find_unsynced(log: &HashedLog, id: Id) -> Option<&Entry>
     }
 }
 
-/// The command of the entry with the id: beyond the synced ones of the log, in early or in late.
-fn command_of(
-    alloc: Global,
-    log: &HashedLog,
-    early: &Early,
-    late: &Late,
-    id: Id,
-) -> Result<Option<Blob>, NoMemory>
-    requires { IsFalse (has_id (keys_of (synced_part log.now)) id) }
-    ensures { IfOk result (λ command. command ≡ option_map (λ (e : EntryModel). e.command) (found_in log.now early.now late.now id)) }
-{
-    let found = find_unsynced(log, id).or(early.find(id)).or(late.find(id));
-    match found {
-        None => Ok(None),
-        Some(entry) => Ok(Some(entry.command.copy(alloc)?)),
-    }
-}
-
 /// Puts the entries after the others.
 pub fn keep_each(late: &mut Late, entries: EntryList) -> Result<(), NoMemory>
     requires { HaveOwnIds (keys_of (late.old ++ entries)) }
@@ -75,28 +57,6 @@ pub fn keep_each(late: &mut Late, entries: EntryList) -> Result<(), NoMemory>
         late.keep(entry)?;
     }
     Ok(())
-}
-
-/// Puts the entry at the end of the synced part. What loses its place to it goes to late.
-fn sync_entry(
-    log: &mut HashedLog,
-    early: &mut Early,
-    late: &mut Late,
-    entry: Entry,
-) -> Result<(), NoMemory>
-    requires apart { AreApart log.old early.old late.old }
-    requires above { IsTrue (is_above_last (keys_of (synced_part log.old)) entry.key) }
-    requires fresh { IsFalse (has_id (keys_of (synced_part log.old)) (id_of entry.key)) }
-    requires room { length log.old.entries < MAX_ENTRIES }
-    ensures log { OnOk result (log.new ≡ log_with_synced log.old entry) }
-    ensures early { OnOk result (early.new ≡ without early.old (id_of entry.key)) }
-    ensures late { OnOk result (late.new ≡ without (late.old ++ displaced_entries log.old entry) (id_of entry.key)) }
-{
-    let id = entry.key.id();
-    let displaced = log.modify(entry)?;
-    let _ = early.remove(id);
-    let _ = late.remove(id);
-    keep_each(late, displaced)
 }
 
 /// Moves the early entries whose key is not above `last` to late.
@@ -112,90 +72,104 @@ fn move_below(last: Key, early: &mut Early, late: &mut Late) -> Result<(), NoMem
     Ok(())
 }
 
-/// Takes one key, with the command that is found for its id.
-#[tactic(auto, unfolding(crate::specs::rules::LogMods::sync_keys))]
-fn take_key(
-    alloc: Global,
-    log: &mut HashedLog,
-    early: &mut Early,
-    late: &mut Late,
-    key: Key,
-) -> Result<Taken, NoMemory>
-    requires apart { AreApart log.old early.old late.old }
-    requires fit { fields.key.fits key }
-    ensures apart { OnOk result (AreApart log.new early.new late.new) }
-    ensures taken { (s : ReplicaData) (keys : List KeyModel)
-        → IfOk result (λ taken. sync_keys (with_parts s log.old early.old late.old) (key ∷ keys)
-        ≡ after_first taken (with_parts s log.new early.new late.new) key keys) }
-{
-    if !may_sync(log, &key) {
-        return Ok(Taken::Refused);
-    }
-    match command_of(alloc, log, early, late, key.id())? {
-        None => Ok(Taken::Missing),
-        Some(command) => {
-            sync_entry(log, early, late, Entry { key, command })?;
-            Ok(Taken::Synced)
+impl Held {
+    /// The command of the entry with the id: beyond the synced ones of the log, in early or in late.
+    fn command_of(&self, alloc: Global, id: Id) -> Result<Option<Blob>, NoMemory>
+        requires { IsFalse (has_id (keys_of (synced_part self.now.log)) id) }
+        ensures { IfOk result (λ command. command
+            ≡ option_map (λ (e : EntryModel). e.command) (found_in self.now.log self.now.early self.now.late id)) }
+    {
+        let found = find_unsynced(&self.log, id)
+            .or(self.early.find(id))
+            .or(self.late.find(id));
+        match found {
+            None => Ok(None),
+            Some(entry) => Ok(Some(entry.command.copy(alloc)?)),
         }
     }
-}
 
-/// Takes the keys in turn. Gives the place of the first of them that is missing, or their count.
-fn take_keys(
-    alloc: Global,
-    log: &mut HashedLog,
-    early: &mut Early,
-    late: &mut Late,
-    keys: &[Key],
-) -> Result<usize, NoMemory>
-    requires apart { AreApart log.old early.old late.old }
-    requires fit { AllByRecursion fields.key.fits keys.now }
-    ensures apart { OnOk result (AreApart log.new early.new late.new) }
-    ensures within { IfOk result (λ place. place ≤ length keys.now) }
-    ensures taken { (s : ReplicaData)
-        → IfOk result (λ place. sync_keys (with_parts s log.old early.old late.old) keys.now
-        ≡ (with_parts s log.new early.new late.new, drop place keys.now)) }
-{
-    for (place, key) in keys.iter().enumerate() {
-        match take_key(alloc, log, early, late, *key)? {
-            Taken::Synced => (),
-            Taken::Missing => return Ok(place),
-            Taken::Refused => return Ok(keys.len()),
+    /// Puts the entry at the end of the synced part. What loses its place to it goes to late.
+    fn sync_entry(&mut self, entry: Entry) -> Result<(), NoMemory>
+        requires apart { AreApart self.old.log self.old.early self.old.late }
+        requires above { IsTrue (is_above_last (keys_of (synced_part self.old.log)) entry.key) }
+        requires fresh { IsFalse (has_id (keys_of (synced_part self.old.log)) (id_of entry.key)) }
+        requires room { length self.old.log.entries < MAX_ENTRIES }
+        ensures log { OnOk result (self.new.log ≡ log_with_synced self.old.log entry) }
+        ensures early { OnOk result (self.new.early ≡ without self.old.early (id_of entry.key)) }
+        ensures late { OnOk result (self.new.late ≡ without (self.old.late ++ displaced_entries self.old.log entry) (id_of entry.key)) }
+    {
+        let id = entry.key.id();
+        let displaced = self.log.modify(entry)?;
+        let _ = self.early.remove(id);
+        let _ = self.late.remove(id);
+        keep_each(&mut self.late, displaced)
+    }
+
+    /// Takes one key, with the command that is found for its id.
+    #[tactic(auto, unfolding(crate::specs::rules::LogMods::sync_keys))]
+    fn take_key(&mut self, alloc: Global, key: Key) -> Result<Taken, NoMemory>
+        requires apart { AreApart self.old.log self.old.early self.old.late }
+        requires fit { fields.key.fits key }
+        ensures apart { OnOk result (AreApart self.new.log self.new.early self.new.late) }
+        ensures taken { (s : ReplicaData) (keys : List KeyModel)
+            → IfOk result (λ taken. sync_keys (with_held s self.old) (key ∷ keys) ≡ after_first taken (with_held s self.new) key keys) }
+    {
+        if !may_sync(&self.log, &key) {
+            return Ok(Taken::Refused);
+        }
+        match self.command_of(alloc, key.id())? {
+            None => Ok(Taken::Missing),
+            Some(command) => {
+                self.sync_entry(Entry { key, command })?;
+                Ok(Taken::Synced)
+            }
         }
     }
-    Ok(keys.len())
-}
 
-/// Moves the early entries whose key is not above the log's last to late.
-pub fn pass_over(log: &HashedLog, early: &mut Early, late: &mut Late) -> Result<(), NoMemory>
-    requires { AreApart log.now early.old late.old }
-    ensures early { OnOk result (early.new ≡ filter (λ (e : EntryModel). is_above_last (keys_of log.now.entries) e.key) early.old) }
-    ensures late { OnOk result (late.new ≡ late.old ++ filter (λ (e : EntryModel). not (is_above_last (keys_of log.now.entries) e.key)) early.old) }
-{
-    match last_key(log) {
-        None => Ok(()),
-        Some(last) => move_below(last, early, late),
+    /// Takes the keys in turn. Gives the place of the first of them that is missing, or their count.
+    fn take_keys(&mut self, alloc: Global, keys: &[Key]) -> Result<usize, NoMemory>
+        requires apart { AreApart self.old.log self.old.early self.old.late }
+        requires fit { AllByRecursion fields.key.fits keys.now }
+        ensures apart { OnOk result (AreApart self.new.log self.new.early self.new.late) }
+        ensures within { IfOk result (λ place. place ≤ length keys.now) }
+        ensures taken { (s : ReplicaData)
+            → IfOk result (λ place. sync_keys (with_held s self.old) keys.now ≡ (with_held s self.new, drop place keys.now)) }
+    {
+        for (place, key) in keys.iter().enumerate() {
+            match self.take_key(alloc, *key)? {
+                Taken::Synced => (),
+                Taken::Missing => return Ok(place),
+                Taken::Refused => return Ok(keys.len()),
+            }
+        }
+        Ok(keys.len())
     }
-}
 
-/// Takes the keys, and moves what is no longer early to late. Gives the place of the first key that is missing, or
-/// their count.
-pub fn sync_parts(
-    alloc: Global,
-    log: &mut HashedLog,
-    early: &mut Early,
-    late: &mut Late,
-    keys: &[Key],
-) -> Result<usize, NoMemory>
-    requires apart { AreApart log.old early.old late.old }
-    requires fit { AllByRecursion fields.key.fits keys.now }
-    ensures within { IfOk result (λ place. place ≤ length keys.now) }
-    ensures parts { (s : ReplicaData)
-        → OnOk result (overtaken_to_late (sync_keys (with_parts s log.old early.old late.old) keys.now).0
-        ≡ with_parts s log.new early.new late.new) }
-    ensures missing { (s : ReplicaData) → IfOk result (λ place. (sync_keys (with_parts s log.old early.old late.old) keys.now).1 ≡ drop place keys.now) }
-{
-    let place = take_keys(alloc, log, early, late, keys)?;
-    pass_over(log, early, late)?;
-    Ok(place)
+    /// Moves the early entries whose key is not above the log's last to late.
+    pub fn pass_over(&mut self) -> Result<(), NoMemory>
+        requires { AreApart self.old.log self.old.early self.old.late }
+        ensures { OnOk result (self.new ≡ record self.old {
+          early = filter (λ (e : EntryModel). is_above_last (keys_of self.old.log.entries) e.key) self.old.early;
+          late = self.old.late ++ filter (λ (e : EntryModel). not (is_above_last (keys_of self.old.log.entries) e.key)) self.old.early;
+        }) }
+    {
+        match self.last_key() {
+            None => Ok(()),
+            Some(last) => move_below(last, &mut self.early, &mut self.late),
+        }
+    }
+
+    /// Takes the keys, and moves what is no longer early to late. Gives the place of the first key that is missing, or
+    /// their count.
+    pub fn sync(&mut self, alloc: Global, keys: &[Key]) -> Result<usize, NoMemory>
+        requires apart { AreApart self.old.log self.old.early self.old.late }
+        requires fit { AllByRecursion fields.key.fits keys.now }
+        ensures within { IfOk result (λ place. place ≤ length keys.now) }
+        ensures held { (s : ReplicaData) → OnOk result (overtaken_to_late (sync_keys (with_held s self.old) keys.now).0 ≡ with_held s self.new) }
+        ensures missing { (s : ReplicaData) → IfOk result (λ place. (sync_keys (with_held s self.old) keys.now).1 ≡ drop place keys.now) }
+    {
+        let place = self.take_keys(alloc, keys)?;
+        self.pass_over()?;
+        Ok(place)
+    }
 }

@@ -32,7 +32,7 @@ fn committed_by(alloc: Global, replica: &Replica) -> Result<Option<EntryList>, N
     if !state.is_up() {
         return Ok(None);
     }
-    state.has_facts();
+    state.show_invariant();
     Ok(Some(first_entries(alloc, state.log(), state.commit())?))
 }
 

@@ -69,7 +69,7 @@ impl Observer {
         if !state.is_up() {
             return Ok(());
         }
-        state.has_facts();
+        state.show_invariant();
         self.known.execute_to(alloc, state.log(), state.commit())?;
         let value = self.known.store.get(key);
         self.lines.note(tick, self.known.count, value)

@@ -1,5 +1,5 @@
 -- What a proxy passes over changes nothing.
-use Rattle.std.proofs.Common.{◌≡◌, ◌⊎◌, ℕ, Bool, true, false, ◌&&◌, List, [], ◌++◌, Option, Some, map, refl, sym, ap, ◌∙◌, inl, inr}
+use Rattle.std.proofs.Common.{◌≡◌, ◌⊎◌, ℕ, Bool, true, false, ◌&&◌, List, [], Option, Some, refl, sym, ap, subst, ◌∙◌, inl, inr}
 use Rattle.std.proofs.lemmas.Bool.{cases_Bool}
 use Rattle.std.proofs.lemmas.List.{append-nil}
 use Rattle.nz_base.specs.declared.actor.Actor.TheVariants.{Proxy}
@@ -7,11 +7,12 @@ use Rattle.nz_msg.specs.declared.envelope.Envelope.{Envelope}
 use Rattle.nz_machine.specs.declared.event.Parcel.{Parcel}
 use Rattle.nz_machine.specs.rules.State.{ProxyData, Out}
 use Rattle.nz_machine.specs.rules.Step.{is_in_cluster, is_sized, message_vector, if_from_cluster, envelope_step}
-use Rattle.nz_proxy.specs.Models.{group_with_cluster}
+use Rattle.nz_proxy.specs.Models.{ProxyModel, ProxyDoes, group_with_cluster}
 
--- where nothing is sent
-pub nothing_sent : (f : Out → Parcel) (sends : List Parcel) (outs : List Out) → outs ≡ [] → sends ≡ sends ++ map f outs
-nothing_sent f sends outs none = sym (append-nil sends) ∙ ap (λ (os : List Out). sends ++ map f os) (sym none)
+-- a rule by which nothing changes and nothing is sent
+pub does_nothing : (s : ProxyModel) (sends : List Parcel) (t : ProxyData × List Out) → t ≡ (s.state, []) → ProxyDoes s s sends sends t
+does_nothing s sends t nothing =
+    subst (λ (u : ProxyData × List Out). ProxyDoes s s sends sends u) (sym nothing) (record { state = refl; sends = sym (append-nil sends) })
 
 abbrev pub counts : ℕ → Envelope → Bool
 counts f e = is_in_cluster f e.from && is_sized f (message_vector e.message)

@@ -1,10 +1,13 @@
 -- What a contract sees of a proxy, and what the code keeps.
-use Rattle.std.specs.Prelude.{ℕ, Bool, ◌≡◌, ◌≤◌, List, [], length, if◌then◌else◌}
+use Rattle.std.specs.Prelude.{ℕ, Bool, ◌≡◌, ◌≤◌, List, [], ◌++◌, length, map, if◌then◌else◌}
 use Rattle.std.specs.List.{AllByRecursion}
 use Rattle.nz_base.specs.Cluster.{replica_count}
+use Rattle.nz_base.specs.declared.actor.Actor.TheVariants.{Proxy}
 use Rattle.nz_base.specs.declared.key.Id.{Id}
 use Rattle.nz_base.specs.declared.limits.TheConstants.{MAX_CLOCK, MAX_PROXY}
-use Rattle.nz_machine.specs.rules.State.{ProxyData, Group}
+use Rattle.nz_machine.specs.declared.event.Parcel.{Parcel}
+use Rattle.nz_machine.specs.rules.State.{ProxyData, Group, Out}
+use Rattle.nz_machine.specs.rules.Step.{parcel}
 use Rattle.nz_machine.specs.rules.Proxies.{clock_rule}
 use Rattle.nz_proxy.specs.declared.standing.Standing.{Standing}
 use Rattle.nz_proxy.specs.Standings.{IsFitEntry}
@@ -30,6 +33,12 @@ group_with_cluster f = record { f = f; proxies = 0; window = 0; scripts = [] }
 pub record IsSameProxy (a b : ProxyModel) : Type 0 where
   pub f : b.f ≡ a.f
   pub me : b.me ≡ a.me
+
+-- What a rule does to a proxy, and to the messages that wait to be sent: the state is the rule's, and its messages are
+-- appended to the earlier ones.
+pub record ProxyDoes (old new : ProxyModel) (before after : List Parcel) (t : ProxyData × List Out) : Type 0 where
+  pub state : new ≡ record old { state = t.0 }
+  pub sends : after ≡ before ++ map (parcel (Proxy old.me)) t.1
 
 -- What a contract sees of a proxy as a core: whether no step has run out of memory, too.
 pub record ProxyCore : Type 0 where

@@ -1,6 +1,6 @@
 //! A proxy as a core.
 
-ghost use Rattle.std.specs.Prelude.{◌≡◌, ◌<◌, ◌≤◌, ◌++◌, Some, true, map, length, OnOk, IsTrue};
+ghost use Rattle.std.specs.Prelude.{◌≡◌, ◌<◌, ◌≤◌, Some, true, length, OnOk, IsTrue};
 ghost use Rattle.nz_base.specs.Actor.{HasAddress};
 ghost use Rattle.nz_base.specs.Cluster.{replica_count};
 ghost use Rattle.nz_base.specs.declared.actor.Actor.TheVariants as actors;
@@ -8,9 +8,9 @@ ghost use Rattle.nz_base.specs.declared.limits.TheConstants.{MAX_PROXIES};
 ghost use Rattle.nz_msg.specs.Messages.{Fits, fast_reply, slow_reply};
 ghost use Rattle.nz_machine.specs.rules.Proxies as proxies;
 ghost use Rattle.nz_machine.specs.rules.Proxies.{first_proxy, crashed_proxy, restarted_proxy, of_fast, of_slow};
-ghost use Rattle.nz_machine.specs.rules.Step.{node_step, envelope_step, if_from_cluster, accepted_envelope, parcel};
+ghost use Rattle.nz_machine.specs.rules.Step.{event_step, envelope_step, if_from_cluster, accepted_envelope};
 ghost use Rattle.nz_machine.specs.rules.Step.{is_in_cluster, is_sized, message_vector, proxy_message};
-ghost use Rattle.nz_proxy.specs.Models.{IsSameProxy, group_with_cluster, proxy_after_tick};
+ghost use Rattle.nz_proxy.specs.Models.{ProxyDoes, IsSameProxy, group_with_cluster, proxy_after_tick};
 
 use crate::state::ProxyState;
 use nz_base::{Actor, Cluster, NoMemory};
@@ -79,13 +79,9 @@ impl ProxyState {
         requires vector { length body.vector ≡ replica_count self.old.f }
         requires body { fast_reply.fits body }
         ensures same { IsSameProxy self.old self.new }
-        ensures state { OnOk result (self.new ≡ record self.old {
-          state = (proxies.reply_rule self.old.f self.old.state
-              replica body.id body.delay (of_fast replica body)).0;
-        }) }
-        ensures sends { OnOk result (sends.new ≡ sends.old
-            ++ map (parcel (actors.Proxy self.old.me))
-            (proxies.reply_rule self.old.f self.old.state replica body.id body.delay (of_fast replica body)).1) }
+        ensures rule { let s = self.old in
+            OnOk result (ProxyDoes s self.new sends.old sends.new
+            (proxies.reply_rule s.f s.state replica body.id body.delay (of_fast replica body))) }
     {
         let reply = Reply::Fast {
             replica,
@@ -105,13 +101,9 @@ impl ProxyState {
     ) -> Result<(), NoMemory>
         requires { replica < replica_count self.old.f }
         ensures same { IsSameProxy self.old self.new }
-        ensures state { OnOk result (self.new ≡ record self.old {
-          state = (proxies.reply_rule self.old.f self.old.state
-              replica body.id body.delay (of_slow replica body)).0;
-        }) }
-        ensures sends { OnOk result (sends.new ≡ sends.old
-            ++ map (parcel (actors.Proxy self.old.me))
-            (proxies.reply_rule self.old.f self.old.state replica body.id body.delay (of_slow replica body)).1) }
+        ensures rule { let s = self.old in
+            OnOk result (ProxyDoes s self.new sends.old sends.new
+            (proxies.reply_rule s.f s.state replica body.id body.delay (of_slow replica body))) }
     {
         let reply = Reply::Slow {
             replica,
@@ -127,9 +119,7 @@ impl ProxyState {
         requires sender { IsTrue (is_in_cluster self.old.f envelope.from) }
         requires vector { IsTrue (is_sized self.old.f (message_vector envelope.message)) }
         ensures same { IsSameProxy self.old self.new }
-        ensures state { OnOk result (self.new ≡ record self.old { state = (proxy_message self.old.f self.old.state envelope.from envelope.message).0 }) }
-        ensures sends { OnOk result (sends.new ≡ sends.old
-            ++ map (parcel (actors.Proxy self.old.me)) (proxy_message self.old.f self.old.state envelope.from envelope.message).1) }
+        ensures rule { let s = self.old in OnOk result (ProxyDoes s self.new sends.old sends.new (proxy_message s.f s.state envelope.from envelope.message)) }
     {
         match envelope.from {
             Actor::Client(client) => match envelope.message {
@@ -147,17 +137,12 @@ impl ProxyState {
 
     fn deliver(&mut self, p: &Parcel, sends: &mut Outbox) -> Result<(), NoMemory>
         ensures same { IsSameProxy self.old self.new }
-        ensures state { OnOk result (self.new ≡ record self.old {
-          state = (envelope_step (group_with_cluster self.old.f)
-              (actors.Proxy self.old.me) self.old.state (accepted_envelope self.old.f (actors.Proxy self.old.me) p.now)).0;
-        }) }
-        ensures sends { OnOk result (sends.new ≡ sends.old
-            ++ map (parcel (actors.Proxy self.old.me))
-            (envelope_step (group_with_cluster self.old.f) (actors.Proxy self.old.me) self.old.state
-            (accepted_envelope self.old.f (actors.Proxy self.old.me) p.now)).1) }
+        ensures rule { let s = self.old in
+            OnOk result (ProxyDoes s self.new sends.old sends.new
+            (envelope_step (group_with_cluster s.f) (actors.Proxy s.me) s.state (accepted_envelope s.f (actors.Proxy s.me) p.now))) }
     {
         let decoded = decode(self.allocator(), &p.frame);
-        let Some(envelope) = heard(self.name(), p, &decoded)? else {
+        let Some(envelope) = heard(self.actor(), p, &decoded)? else {
             return Ok(());
         };
         if self.is_down() || !is_from_cluster(self.cluster(), envelope) {
@@ -179,12 +164,8 @@ impl ProxyState {
 
     fn take(&mut self, event: &Event, sends: &mut Outbox) -> Result<(), NoMemory>
         ensures same { IsSameProxy self.old self.new }
-        ensures state { OnOk result (self.new ≡ record self.old {
-          state = (node_step (group_with_cluster self.old.f)
-              (actors.Proxy self.old.me) self.old.state event.now).0;
-        }) }
-        ensures sends { OnOk result (sends.new ≡ sends.old
-            ++ (node_step (group_with_cluster self.old.f) (actors.Proxy self.old.me) self.old.state event.now).1) }
+        ensures rule { let s = self.old in
+            OnOk result (ProxyDoes s self.new sends.old sends.new (event_step (group_with_cluster s.f) (actors.Proxy s.me) s.state event.now)) }
     {
         match event {
             Event::Deliver(p) => self.deliver(p.get(), sends),
@@ -230,6 +211,6 @@ impl Core for Proxy {
     }
 
     fn actor(&self) -> Actor {
-        self.state.name()
+        self.state.actor()
     }
 }

@@ -19,7 +19,7 @@ ghost use Rattle.nz_quorum.specs.Tallies.{IsOfCluster, replica_of};
 ghost use Rattle.nz_window.specs.Samples.{bound_of, with_sample};
 ghost use Rattle.nz_proxy.specs.Standings.{known_standing, IsFitStanding, HasFitAnswer, answers_to_client};
 ghost use Rattle.nz_proxy.specs.Sending.{to_each};
-ghost use Rattle.nz_proxy.specs.Models.{IsSameProxy};
+ghost use Rattle.nz_proxy.specs.Models.{ProxyDoes, IsSameProxy};
 
 use crate::standing::Standing;
 use indexmap::IndexMap;
@@ -76,9 +76,8 @@ impl ProxyState {
         }
     }
 
-    /// The actor's name.
-    pub fn name(&self) -> Actor
-        ensures name { result ≡ actors.Proxy self.now.me }
+    pub fn actor(&self) -> Actor
+        ensures actor { result ≡ actors.Proxy self.now.me }
         ensures address { HasAddress result }
     {
         Actor::Proxy(self.me)
@@ -184,7 +183,7 @@ impl ProxyState {
             path,
         });
         let to = Actor::Client(id.client as u8);
-        sends.send(self.name(), to, &message)
+        sends.send(self.actor(), to, &message)
     }
 
     fn timed(&self, id: Id, command: Blob) -> TimedBody
@@ -215,7 +214,7 @@ impl ProxyState {
         let body = sends.write_body(message)?;
         for replica in 0..cluster.n() {
             let to = Actor::Replica(replica);
-            sends.send_written(self.name(), to, message, &body)?;
+            sends.send_written(self.actor(), to, message, &body)?;
         }
         Ok(())
     }
@@ -240,9 +239,7 @@ impl ProxyState {
         requires client { client ≤ MAX_CLIENT }
         requires body { messages.request.fits body }
         ensures same { IsSameProxy self.old self.new }
-        ensures state { OnOk result (self.new ≡ record self.old { state = (proxies.stamp_rule self.old.f self.old.state client body).0 }) }
-        ensures sends { OnOk result (sends.new ≡ sends.old
-            ++ map (parcel (actors.Proxy self.old.me)) (proxies.stamp_rule self.old.f self.old.state client body).1) }
+        ensures rule { let s = self.old in OnOk result (ProxyDoes s self.new sends.old sends.new (proxies.stamp_rule s.f s.state client body)) }
     {
         let id = Id {
             client: u32::from(client),
@@ -277,9 +274,7 @@ impl ProxyState {
         requires reply { IsOfCluster self.old.f reply }
         requires answer { HasFitAnswer reply }
         ensures same { IsSameProxy self.old self.new }
-        ensures state { OnOk result (self.new ≡ record self.old { state = (proxies.reply_rule self.old.f self.old.state replica id delay reply).0 }) }
-        ensures sends { OnOk result (sends.new ≡ sends.old
-            ++ map (parcel (actors.Proxy self.old.me)) (proxies.reply_rule self.old.f self.old.state replica id delay reply).1) }
+        ensures rule { let s = self.old in OnOk result (ProxyDoes s self.new sends.old sends.new (proxies.reply_rule s.f s.state replica id delay reply)) }
     {
         self.sample(replica, delay);
         match self.note(id, reply)? {

@@ -1,14 +1,14 @@
 //! The answers of a replica in normal operation to one that rejoins.
 
-ghost use Rattle.std.specs.Prelude.{◌≡◌, ◌<◌, ◌≤◌, length, IsTrue, OnOk};
+ghost use Rattle.std.specs.Prelude.{◌<◌, ◌≤◌, OnOk};
 ghost use Rattle.nz_base.specs.Actor.{HasAddress};
-ghost use Rattle.nz_base.specs.Cluster.{replica_count};
+ghost use Rattle.nz_base.specs.declared.actor.Actor.TheVariants as actors;
 ghost use Rattle.nz_base.specs.declared.limits.TheConstants.{MAX_REPLICA};
 ghost use Rattle.nz_msg.specs.Messages.{vector_ask, rejoin_ask, state_ask};
 ghost use Rattle.nz_msg.specs.declared.message.Message.TheVariants.{VectorAsk, RejoinAsk, StateAsk};
 ghost use Rattle.nz_machine.specs.rules.Rejoining as rejoining;
-ghost use Rattle.nz_machine.specs.rules.Does.{Does};
-ghost use Rattle.nz_machine.specs.rules.Step.{replica_message, is_in_cluster};
+ghost use Rattle.nz_machine.specs.rules.Does.{Does, IsFromMember};
+ghost use Rattle.nz_machine.specs.rules.Step.{replica_message};
 
 use nz_base::{Actor, NoMemory};
 use nz_machine::{Outbox, ReplicaState};
@@ -57,17 +57,13 @@ fn rejoin_ask_rule(
     body: &RejoinAskBody,
     sends: &mut Outbox,
 ) -> Result<(), NoMemory>
-    requires address { sender ≤ MAX_REPLICA }
-    requires sender { sender < replica_count state.old.f }
-    requires vector { length body.now.vector ≡ replica_count state.old.f }
+    requires from { IsFromMember state.old (actors.Replica sender) body.now.vector }
     requires fits { rejoin_ask.fits body.now }
     ensures { let s = state.old in OnOk result (Does s state.new sends.old sends.new (rejoining.rejoin_ask_rule s.me s.state sender body.now)) }
 {
-    state.has_facts();
-    if !state.is_normal() || body.vector.is_stray(sender, state.vector()) {
+    if !state.is_normal() || !state.merge_unless_stray(sender, &body.vector) {
         return Ok(());
     }
-    state.merge_vector(&body.vector);
     state.send_to(sender, &state.rejoin_tell(body.nonce), sends)
 }
 
@@ -78,9 +74,7 @@ pub fn on_rejoin_ask(
     body: &RejoinAskBody,
     sends: &mut Outbox,
 ) -> Result<(), NoMemory>
-    requires from { HasAddress from }
-    requires member { IsTrue (is_in_cluster state.old.f from) }
-    requires vector { length body.now.vector ≡ replica_count state.old.f }
+    requires from { IsFromMember state.old from body.now.vector }
     requires fits { rejoin_ask.fits body.now }
     ensures { let s = state.old in OnOk result (Does s state.new sends.old sends.new (replica_message s.f s.me s.state from (RejoinAsk body.now))) }
 {
@@ -98,20 +92,16 @@ fn state_ask_rule(
     body: &StateAskBody,
     sends: &mut Outbox,
 ) -> Result<(), NoMemory>
-    requires address { sender ≤ MAX_REPLICA }
-    requires sender { sender < replica_count state.old.f }
-    requires vector { length body.now.vector ≡ replica_count state.old.f }
+    requires from { IsFromMember state.old (actors.Replica sender) body.now.vector }
     requires fits { state_ask.fits body.now }
     ensures { let s = state.old in OnOk result (Does s state.new sends.old sends.new (rejoining.state_ask_rule s.f s.me s.state sender body.now)) }
 {
-    state.has_facts();
     if !state.leads_view()
         || body.view > state.view()
-        || body.vector.is_stray(sender, state.vector())
+        || !state.merge_unless_stray(sender, &body.vector)
     {
         return Ok(());
     }
-    state.merge_vector(&body.vector);
     let tell = state.state_tell(body.nonce)?;
     state.send_to(sender, &tell, sends)
 }
@@ -123,9 +113,7 @@ pub fn on_state_ask(
     body: &StateAskBody,
     sends: &mut Outbox,
 ) -> Result<(), NoMemory>
-    requires from { HasAddress from }
-    requires member { IsTrue (is_in_cluster state.old.f from) }
-    requires vector { length body.now.vector ≡ replica_count state.old.f }
+    requires from { IsFromMember state.old from body.now.vector }
     requires fits { state_ask.fits body.now }
     ensures { let s = state.old in OnOk result (Does s state.new sends.old sends.new (replica_message s.f s.me s.state from (StateAsk body.now))) }
 {

@@ -3,8 +3,8 @@
 
 mod answers;
 mod phases;
-mod timer;
+mod restarting;
 
 pub use answers::{on_rejoin_ask, on_state_ask, on_vector_ask};
 pub use phases::{on_rejoin_tell, on_state_tell, on_vector_tell};
-pub use timer::{rejoin_timer, restart};
+pub use restarting::{rejoin_timer, restart};

@@ -1,7 +1,7 @@
 //! The three phases of a rejoin: vectors, views, and the log.
 
-ghost use Rattle.std.specs.Prelude.{◌≡◌, ◌≢◌, ◌<◌, ◌≤◌, ◌==◌, ◌&&◌, nat_le, length, IsTrue, IsFalse, OnOk};
-ghost use Rattle.nz_base.specs.Cluster.{replica_count, leader_of};
+ghost use Rattle.std.specs.Prelude.{◌≡◌, ◌≢◌, ◌<◌, ◌≤◌, ◌==◌, ◌&&◌, [], nat_le, length, IsFalse, OnOk};
+ghost use Rattle.nz_base.specs.Cluster.{leader_of};
 ghost use Rattle.nz_base.specs.declared.actor.Actor.TheVariants as actors;
 ghost use Rattle.nz_base.specs.declared.limits.TheConstants.{MAX_VIEW};
 ghost use Rattle.nz_msg.specs.Messages.{vector_tell, rejoin_tell, state_tell};
@@ -10,8 +10,8 @@ ghost use Rattle.nz_machine.specs.declared.data.Phase.TheVariants as phases;
 ghost use Rattle.nz_machine.specs.rules.Adopting.{normal_in};
 ghost use Rattle.nz_machine.specs.rules.Rejoining as rejoining;
 ghost use Rattle.nz_machine.specs.rules.Rejoining.{awaits};
-ghost use Rattle.nz_machine.specs.rules.Does.{Does, DoesSilently};
-ghost use Rattle.nz_machine.specs.rules.Step.{replica_message, is_in_cluster};
+ghost use Rattle.nz_machine.specs.rules.Does.{Does, DoesSilently, IsFromMember};
+ghost use Rattle.nz_machine.specs.rules.Step.{replica_message};
 
 use nz_base::{Actor, EntryList, NoMemory};
 use nz_machine::{Outbox, Phase, ReplicaState};
@@ -51,16 +51,15 @@ fn vector_tell_rule(
     body: &VectorTellBody,
     sends: &mut Outbox,
 ) -> Result<(), NoMemory>
-    requires sender { sender < replica_count state.old.f }
-    requires vector { length body.now.vector ≡ replica_count state.old.f }
+    requires from { IsFromMember state.old (actors.Replica sender) body.now.vector }
     requires fits { vector_tell.fits body.now }
     ensures { let s = state.old in OnOk result (Does s state.new sends.old sends.new (rejoining.vector_tell_rule s.f s.me s.state sender body.now)) }
 {
-    state.has_facts();
-    if !state.awaits(Phase::Vectors, body.nonce) || body.vector.is_stray(sender, state.vector()) {
+    if !state.awaits(Phase::Vectors, body.nonce)
+        || !state.merge_unless_stray(sender, &body.vector)
+    {
         return Ok(());
     }
-    state.merge_vector(&body.vector);
     let tellers = state.note_teller(sender, &body.vector)?;
     after_vectors(state, tellers, sends)
 }
@@ -72,8 +71,7 @@ pub fn on_vector_tell(
     body: &VectorTellBody,
     sends: &mut Outbox,
 ) -> Result<(), NoMemory>
-    requires member { IsTrue (is_in_cluster state.old.f from) }
-    requires vector { length body.now.vector ≡ replica_count state.old.f }
+    requires from { IsFromMember state.old from body.now.vector }
     requires fits { vector_tell.fits body.now }
     ensures { let s = state.old in OnOk result (Does s state.new sends.old sends.new (replica_message s.f s.me s.state from (VectorTell body.now))) }
 {
@@ -106,7 +104,7 @@ fn after_views(state: &mut ReplicaState, tells: usize, sends: &mut Outbox) -> Re
         return Ok(());
     }
     let view = state.latest_view();
-    if state.cluster().leader(view) == state.me() {
+    if state.would_lead(view) {
         state.drop_views();
         return Ok(());
     }
@@ -121,16 +119,13 @@ fn rejoin_tell_rule(
     body: &RejoinTellBody,
     sends: &mut Outbox,
 ) -> Result<(), NoMemory>
-    requires sender { sender < replica_count state.old.f }
-    requires vector { length body.now.vector ≡ replica_count state.old.f }
+    requires from { IsFromMember state.old (actors.Replica sender) body.now.vector }
     requires fits { rejoin_tell.fits body.now }
     ensures { let s = state.old in OnOk result (Does s state.new sends.old sends.new (rejoining.rejoin_tell_rule s.f s.me s.state sender body.now)) }
 {
-    state.has_facts();
-    if !state.awaits(Phase::Views, body.nonce) || body.vector.is_stray(sender, state.vector()) {
+    if !state.awaits(Phase::Views, body.nonce) || !state.merge_unless_stray(sender, &body.vector) {
         return Ok(());
     }
-    state.merge_vector(&body.vector);
     let tells = state.note_view(sender, body)?;
     after_views(state, tells, sends)
 }
@@ -142,8 +137,7 @@ pub fn on_rejoin_tell(
     body: &RejoinTellBody,
     sends: &mut Outbox,
 ) -> Result<(), NoMemory>
-    requires member { IsTrue (is_in_cluster state.old.f from) }
-    requires vector { length body.now.vector ≡ replica_count state.old.f }
+    requires from { IsFromMember state.old from body.now.vector }
     requires fits { rejoin_tell.fits body.now }
     ensures { let s = state.old in OnOk result (Does s state.new sends.old sends.new (replica_message s.f s.me s.state from (RejoinTell body.now))) }
 {
@@ -163,18 +157,18 @@ fn is_wanted(state: &ReplicaState, sender: u8, body: &StateTellBody) -> bool
         && (nat_le s.state.rejoin.wanted body.now.view && (sender == leader_of s.f body.now.view))) }
 {
     state.awaits(Phase::Log, body.nonce)
-        && state.wanted() <= body.view
-        && sender == state.cluster().leader(body.view)
+        && state.wanted_view() <= body.view
+        && state.is_leader_of(body.view, sender)
 }
 
 /// The replica is in normal operation again, with the leader's log.
 fn start(state: &mut ReplicaState, body: &mut StateTellBody) -> Result<(), NoMemory>
     requires fits { state_tell.fits body.old }
     requires other { IsFalse (leader_of state.old.f body.old.view == state.old.me) }
-    ensures { let b = body.old in OnOk result (state.new ≡ record state.old { state = normal_in state.old.state b.view b.entries b.commit }) }
+    ensures { let s = state.old in let b = body.old in OnOk result (DoesSilently s state.new (normal_in s.state b.view b.entries b.commit, [])) }
 {
     let log = mem::replace(&mut body.entries, EntryList::new(state.allocator()));
-    state.start(body.view, log, body.commit)
+    state.adopt_log(body.view, log, body.commit)
 }
 
 /// The log that the replica waits for is taken.
@@ -184,17 +178,14 @@ fn state_tell_rule(
     sender: u8,
     body: &mut StateTellBody,
 ) -> Result<(), NoMemory>
-    requires sender { sender < replica_count state.old.f }
+    requires from { IsFromMember state.old (actors.Replica sender) body.old.vector }
     requires other { IsFalse (sender == state.old.me) }
-    requires vector { length body.old.vector ≡ replica_count state.old.f }
     requires fits { state_tell.fits body.old }
     ensures { let s = state.old in OnOk result (DoesSilently s state.new (rejoining.state_tell_rule s.f s.me s.state sender body.old)) }
 {
-    state.has_facts();
-    if !is_wanted(state, sender, body) || body.vector.is_stray(sender, state.vector()) {
+    if !is_wanted(state, sender, body) || !state.merge_unless_stray(sender, &body.vector) {
         return Ok(());
     }
-    state.merge_vector(&body.vector);
     start(state, body)
 }
 
@@ -205,9 +196,8 @@ pub fn on_state_tell(
     from: Actor,
     body: &mut StateTellBody,
 ) -> Result<(), NoMemory>
-    requires member { IsTrue (is_in_cluster state.old.f from) }
+    requires from { IsFromMember state.old from body.old.vector }
     requires other { from ≢ actors.Replica state.old.me }
-    requires vector { length body.old.vector ≡ replica_count state.old.f }
     requires fits { state_tell.fits body.old }
     ensures { let s = state.old in OnOk result (DoesSilently s state.new (replica_message s.f s.me s.state from (StateTell body.old))) }
 {

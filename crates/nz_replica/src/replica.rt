@@ -177,7 +177,7 @@ fn deliver(state: &mut ReplicaState, p: &Parcel, sends: &mut Outbox) -> Result<(
         (envelope_step g (actors.Replica s.me) s.state (accepted_envelope g.f (actors.Replica s.me) p.now))) }
 {
     let mut decoded = decode(state.allocator(), &p.frame);
-    if heard(state.name(), p, &decoded)?.is_none() {
+    if heard(state.actor(), p, &decoded)?.is_none() {
         return Ok(());
     }
     match &mut decoded {
@@ -257,6 +257,6 @@ impl Core for Replica {
     }
 
     fn actor(&self) -> Actor {
-        self.state.name()
+        self.state.actor()
     }
 }

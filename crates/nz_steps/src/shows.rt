@@ -34,7 +34,7 @@ fn keys_of(alloc: Global, log: &HashedLog) -> Result<String, Stop> {
 /// Its mode, its view and the one it asked for, its counts, and the keys of its log.
 pub fn show_replica(alloc: Global, replica: &Replica) -> Result<String, Stop> {
     let state = replica.state();
-    let (mode, view, wanted) = (mode_of(state), state.view(), state.wanted());
+    let (mode, view, wanted) = (mode_of(state), state.view(), state.wanted_view());
     let (synced, commit) = (state.log().synced(), state.commit());
     let (early, late) = (state.early().len(), state.late().len());
     let keys = keys_of(alloc, state.log())?;

@@ -94,7 +94,7 @@ impl Known {
     pub fn new(alloc: Global, state: &ReplicaState) -> Result<Known, NoMemory>
         ensures { IfOk result (λ known. known ≡ known_of state.now.state) }
     {
-        state.has_facts();
+        state.show_invariant();
         Ok(Known {
             state: state_of(alloc, state)?,
             log: log_keys(alloc, state.log())?,
@@ -187,7 +187,7 @@ impl Known {
         ensures known { OnOk result (self.new ≡ record (known_of state.now.state) { state = self.old.state }) }
         ensures written { OnOk result (out.new.items ≡ out.old.items ++ lists_between self.old (known_of state.now.state)) }
     {
-        state.has_facts();
+        state.show_invariant();
         put_log(alloc, out, &mut self.log, state.log())?;
         put_early(alloc, out, &mut self.early, state.early())?;
         put_late(alloc, out, &mut self.late, state.late())

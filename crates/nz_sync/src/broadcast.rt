@@ -21,7 +21,7 @@ fn keys_from(state: &ReplicaState, start: u32) -> Result<KeyList, NoMemory>
     ensures value { IfOk result (λ keys. keys ≡ take MAX_KEYS (drop start (keys_of state.now.state.log.entries))) }
     ensures fits { IfOk result fields.keys.fits }
 {
-    state.has_facts();
+    state.show_invariant();
     let end = state
         .log()
         .len()
@@ -105,7 +105,7 @@ fn send_log_mod(
     let _most = state.cluster().f();
     move_to(state, state.ack_of(replica), written, sends)?;
     let to = Actor::Replica(replica);
-    sends.send_written(state.name(), to, &written.message, &written.body)
+    sends.send_written(state.actor(), to, &written.message, &written.body)
 }
 
 /// The least number of another replica.
@@ -126,7 +126,7 @@ fn send_to_others(
     ensures { OnOk result (sends.new ≡ sends.old ++ map (parcel (actors.Replica state.now.me)) (log_mods_to_others state.now.f state.now.me state.now.state)) }
 {
     for replica in 0..state.cluster().n() {
-        if !Actor::Replica(replica).is(&state.name()) {
+        if !Actor::Replica(replica).is(&state.actor()) {
             send_log_mod(state, replica, written, sends)?;
         }
     }

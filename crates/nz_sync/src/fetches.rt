@@ -35,7 +35,7 @@ fn asked_entries(state: &ReplicaState, ids: &[Id]) -> Result<EntryList, NoMemory
     ensures value { IfOk result (λ list. list ≡ filter (log_mods.is_asked ids.now) state.now.state.log.entries) }
     ensures fits { IfOk result (fields.entries 0 MAX_KEYS).fits }
 {
-    state.has_facts();
+    state.show_invariant();
     let alloc = state.allocator();
     let mut entries = EntryList::new(alloc);
     for place in 0..state.log().len() {
@@ -67,7 +67,7 @@ fn fetch_rule(
         entries: asked_entries(state, body.ids.as_slice())?,
     });
     let to = Actor::Replica(sender);
-    sends.send(state.name(), to, &message)
+    sends.send(state.actor(), to, &message)
 }
 
 /// What a replica does with a fetch. It changes nothing, and takes them from replicas alone.

@@ -1,12 +1,9 @@
 //! How a follower takes a log modification.
 
-ghost use Rattle.std.specs.Prelude.{◌≡◌, ◌<◌, ◌≤◌, ◌∷◌, ◌++◌, [], ◌==◌, ◌&&◌, not, map, length, IsTrue, IsFalse, OnOk, nat_lt};
+ghost use Rattle.std.specs.Prelude.{◌≡◌, ◌<◌, ◌≤◌, ◌∷◌, ◌++◌, [], ◌&&◌, not, map, length, IsTrue, IsFalse, OnOk, nat_lt};
 ghost use Rattle.std.specs.List.{AllByRecursion};
-ghost use Rattle.nz_base.specs.Actor.{HasAddress};
-ghost use Rattle.nz_base.specs.Cluster.{replica_count, leader_of};
 ghost use Rattle.nz_base.specs.declared.actor.Actor.TheVariants as actors;
 ghost use Rattle.nz_base.specs.declared.limits.TheConstants.{MAX_KEYS, MAX_REPLICA};
-ghost use Rattle.nz_cv.specs.Vectors as vectors;
 ghost use Rattle.nz_msg.specs.Fields as fields;
 ghost use Rattle.nz_msg.specs.Messages.{log_mod};
 ghost use Rattle.nz_msg.specs.declared.message.Message.TheVariants.{LogMod};
@@ -15,8 +12,8 @@ ghost use Rattle.nz_machine.specs.rules.Views.{enter_view};
 ghost use Rattle.nz_machine.specs.rules.Vectors.{unless_stray};
 ghost use Rattle.nz_machine.specs.rules.LogMods as log_mods;
 ghost use Rattle.nz_machine.specs.rules.LogMods.{replies_since, fetch_from, sync_report_to, after_log_mod, after_hearing};
-ghost use Rattle.nz_machine.specs.rules.Does.{Does};
-ghost use Rattle.nz_machine.specs.rules.Step.{parcel, replica_message, is_in_cluster};
+ghost use Rattle.nz_machine.specs.rules.Does.{Does, IsFromMember};
+ghost use Rattle.nz_machine.specs.rules.Step.{parcel, replica_message};
 
 use nz_base::{Actor, IdList, NoMemory};
 use nz_machine::{Outbox, ReplicaState};
@@ -32,7 +29,7 @@ fn send_sync_report(state: &ReplicaState, leader: u8, sends: &mut Outbox) -> Res
         synced: state.log().synced(),
     });
     let to = Actor::Replica(leader);
-    sends.send(state.name(), to, &message)
+    sends.send(state.actor(), to, &message)
 }
 
 /// Asks the leader for the entries with these ids, if there are any.
@@ -55,14 +52,14 @@ fn send_fetch(
         ids,
     });
     let to = Actor::Replica(leader);
-    sends.send(state.name(), to, &message)
+    sends.send(state.actor(), to, &message)
 }
 
 /// Sends the slow replies for the entries that are synced since a count.
 fn reply_since(state: &ReplicaState, count: u32, sends: &mut Outbox) -> Result<(), NoMemory>
     ensures { OnOk result (sends.new ≡ sends.old ++ map (parcel (actors.Replica state.now.me)) (replies_since state.now.state count)) }
 {
-    state.has_facts();
+    state.show_invariant();
     for place in count..state.log().synced() {
         state.reply_slowly(state.log().get(place).key.id(), sends)?;
     }
@@ -114,17 +111,7 @@ fn take_log_mod(
 fn hears_later_leader(state: &ReplicaState, view: u64, sender: u8) -> bool
     ensures { result ≡ log_mods.hears_later_leader state.now.f state.now.state view sender }
 {
-    state.is_up() && state.view() < view && sender == state.cluster().leader(view)
-}
-
-/// Whether its vector makes a log modification stray.
-fn is_stray(state: &ReplicaState, sender: u8, body: &LogModBody) -> bool
-    requires sender { sender < replica_count state.now.f }
-    requires vector { length body.now.vector ≡ replica_count state.now.f }
-    ensures { result ≡ vectors.is_stray body.now.vector sender state.now.state.vector }
-{
-    state.has_facts();
-    body.vector.is_stray(sender, state.vector())
+    state.is_up() && state.view() < view && state.is_leader_of(view, sender)
 }
 
 /// A log modification of a later view is a reason to enter it.
@@ -134,18 +121,16 @@ fn enter_unless_stray(
     body: &LogModBody,
     sends: &mut Outbox,
 ) -> Result<(), NoMemory>
-    requires sender { sender < replica_count state.old.f }
-    requires vector { length body.now.vector ≡ replica_count state.old.f }
+    requires from { IsFromMember state.old (actors.Replica sender) body.now.vector }
     requires fits { log_mod.fits body.now }
     requires later { IsTrue (log_mods.hears_later_leader state.old.f state.old.state body.now.view sender) }
     ensures { let s = state.old in
         OnOk result (Does s state.new sends.old sends.new
         (unless_stray s.me s.state sender body.now.vector (enter_view s.f s.me body.now.view))) }
 {
-    if is_stray(state, sender, body) {
+    if !state.merge_unless_stray(sender, &body.vector) {
         return Ok(());
     }
-    state.merge_vector(&body.vector);
     state.enter_view(body.view, sends)
 }
 
@@ -156,19 +141,16 @@ fn follow_unless_stray(
     body: &LogModBody,
     sends: &mut Outbox,
 ) -> Result<(), NoMemory>
-    requires address { sender ≤ MAX_REPLICA }
-    requires sender { sender < replica_count state.old.f }
-    requires vector { length body.now.vector ≡ replica_count state.old.f }
+    requires from { IsFromMember state.old (actors.Replica sender) body.now.vector }
     requires fits { log_mod.fits body.now }
     requires follows { IsTrue (hears_leader state.old.f state.old.me state.old.state body.now.view sender) }
     ensures { let s = state.old in
         OnOk result (Does s state.new sends.old sends.new
         (unless_stray s.me s.state sender body.now.vector (λ t. after_log_mod sender body.now (after_hearing t)))) }
 {
-    if is_stray(state, sender, body) {
+    if !state.merge_unless_stray(sender, &body.vector) {
         return Ok(());
     }
-    state.merge_vector(&body.vector);
     state.hear_leader();
     take_log_mod(state, sender, body, sends)
 }
@@ -181,9 +163,7 @@ fn log_mod_rule(
     body: &LogModBody,
     sends: &mut Outbox,
 ) -> Result<(), NoMemory>
-    requires address { sender ≤ MAX_REPLICA }
-    requires sender { sender < replica_count state.old.f }
-    requires vector { length body.now.vector ≡ replica_count state.old.f }
+    requires from { IsFromMember state.old (actors.Replica sender) body.now.vector }
     requires fits { log_mod.fits body.now }
     ensures { let s = state.old in OnOk result (Does s state.new sends.old sends.new (log_mods.log_mod_rule s.f s.me s.state sender body.now)) }
 {
@@ -203,9 +183,7 @@ pub fn on_log_mod(
     body: &LogModBody,
     sends: &mut Outbox,
 ) -> Result<(), NoMemory>
-    requires from { HasAddress from }
-    requires member { IsTrue (is_in_cluster state.old.f from) }
-    requires vector { length body.now.vector ≡ replica_count state.old.f }
+    requires from { IsFromMember state.old from body.now.vector }
     requires fits { log_mod.fits body.now }
     ensures { let s = state.old in OnOk result (Does s state.new sends.old sends.new (replica_message s.f s.me s.state from (LogMod body.now))) }
 {

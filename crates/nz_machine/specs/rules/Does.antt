@@ -1,10 +1,18 @@
--- What a rule does to a replica, and to the messages that wait to be sent.
-use Rattle.std.specs.Prelude.{◌≡◌, List, [], ◌++◌, map}
+-- What a rule may count on where a message comes, and what it does to a replica, and to the messages that wait to be sent.
+use Rattle.std.specs.Prelude.{◌≡◌, ℕ, List, [], ◌++◌, length, map, IsTrue}
+use Rattle.nz_base.specs.Cluster.{replica_count}
+use Rattle.nz_base.specs.declared.actor.Actor.{Actor}
 use Rattle.nz_base.specs.declared.actor.Actor.TheVariants.{Replica}
 use Rattle.nz_machine.specs.declared.event.Parcel.{Parcel}
 use Rattle.nz_machine.specs.rules.State.{ReplicaData, Out}
 use Rattle.nz_machine.specs.rules.Facts.{ReplicaModel}
-use Rattle.nz_machine.specs.rules.Step.{parcel}
+use Rattle.nz_machine.specs.rules.Step.{parcel, is_in_cluster}
+
+-- A message with this crash vector, of this actor, fits the cluster: a replica that sends is a member, and the vector has
+-- a counter for each member.
+pub record IsFromMember (s : ReplicaModel) (from : Actor) (vector : List ℕ) : Type 0 where
+  pub sender : IsTrue (is_in_cluster s.f from)
+  pub size : length vector ≡ replica_count s.f
 
 -- The state is the rule's, and its messages are appended to the earlier ones.
 pub record Does (old new : ReplicaModel) (before after : List Parcel) (t : ReplicaData × List Out) : Type 0 where

@@ -1,4 +1,4 @@
--- `sync_keys` on log, early and late alone, as taking.rt computes it.
+-- `sync_keys` on log, early and late alone, as sync_keys.rt computes it.
 use Rattle.std.specs.Prelude.{Bool, not, ◌&&◌, nat_lt, List, [], ◌∷◌, Option, length}
 use Rattle.std.specs.Option.{option_or}
 use Rattle.nz_base.specs.declared.key.Id.{Id}
@@ -9,6 +9,7 @@ use Rattle.nz_base.specs.Log.{keys_of, has_id, is_above_last}
 use Rattle.nz_base.specs.declared.limits.TheConstants.{MAX_ENTRIES}
 use Rattle.nz_log.specs.Synced.{Log, synced_part, unsynced_part}
 use Rattle.nz_buffers.specs.Buffers.{find_id}
+use Rattle.nz_machine.specs.declared.held.Held.{Held}
 use Rattle.nz_machine.specs.declared.sync_keys.Taken.{Taken}
 use Rattle.nz_machine.specs.declared.sync_keys.Taken.TheVariants.{Synced, Missing, Refused}
 use Rattle.nz_machine.specs.rules.State.{ReplicaData}
@@ -17,6 +18,10 @@ use Rattle.nz_machine.specs.rules.LogMods.{sync_keys}
 -- The state with these in place of its log, early and late.
 abbrev pub with_parts : ReplicaData → Log → List Entry → List Entry → ReplicaData
 with_parts s log early late = record s { log = log; early = early; late = late }
+
+-- The same with what is held.
+abbrev pub with_held : ReplicaData → Held → ReplicaData
+with_held s held = with_parts s held.log held.early held.late
 
 -- Whether the key may be the next that is synced in a log.
 abbrev pub may_join : Log → Key → Bool

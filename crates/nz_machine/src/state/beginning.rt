@@ -1,18 +1,19 @@
 //! What the leader of a view does to its state when it collects reports, and begins the view.
 
 ghost use Rattle.std.specs.Prelude.{◌≡◌, ◌<◌, ◌==◌, not, nat_lt, length, IsFalse, IfOk, OnOk};
-ghost use Rattle.nz_base.specs.Cluster.{replica_count};
+ghost use Rattle.nz_base.specs.declared.actor.Actor.TheVariants.{Replica};
 ghost use Rattle.nz_merge.specs.Merged.{AreFit, merged};
 ghost use Rattle.nz_msg.specs.Messages.{view_change};
+ghost use Rattle.nz_machine.specs.rules.Does.{IsFromMember};
 ghost use Rattle.nz_machine.specs.rules.Facts.{IsCarried};
 ghost use Rattle.nz_machine.specs.rules.Begins as begins;
 ghost use Rattle.nz_machine.specs.rules.Begins.{with_report, without_strays, changes_of, after_begin};
 
-use super::super::collecting::{
-    adopt, all_changes, clear_reports, drop_stray_reports, execute_all, greatest_commit,
-    replace_report,
-};
+use super::super::adopting::execute_all;
 use super::super::data::{Reported, Status};
+use super::super::reports::{
+    all_changes, clear_reports, drop_stray_reports, greatest_commit, replace_report,
+};
 use super::{ReplicaState, forget};
 use nz_base::{EntryList, MAX_ENTRIES, NoMemory};
 use nz_merge::{Change, ViewChanges, merge};
@@ -29,10 +30,9 @@ impl ReplicaState {
 
     /// Collects the report in place of an earlier one of its sender. Its log is taken out of the body. Gives how many
     /// reports there are now.
-    pub fn collect(&mut self, sender: u8, body: &mut ViewChangeBody) -> Result<usize, NoMemory>
-        requires sender { sender < replica_count self.old.f }
+    pub fn keep_report(&mut self, sender: u8, body: &mut ViewChangeBody) -> Result<usize, NoMemory>
+        requires from { IsFromMember self.old (Replica sender) body.old.vector }
         requires other { IsFalse (sender == self.old.me) }
-        requires vector { length body.old.vector ≡ replica_count self.old.f }
         requires fits { view_change.fits body.old }
         ensures state { OnOk result (self.new ≡ record self.old { state = with_report self.old.state sender body.old }) }
         ensures count { IfOk result (λ count. count ≡ length self.new.state.changes) }
@@ -60,9 +60,9 @@ impl ReplicaState {
         let own = Change {
             sender: self.parts.me,
             last: self.parts.last,
-            synced: self.parts.log.synced(),
+            synced: self.parts.held.log.synced(),
             commit: self.parts.commit,
-            log: self.parts.log.entries()?,
+            log: self.parts.held.log.entries()?,
         };
         let changes = all_changes(self.parts.alloc, own, &self.parts.changes)?;
         Ok(changes)
@@ -75,12 +75,7 @@ impl ReplicaState {
     {
         let commit = commit.min(log.len());
         let (store, results) = execute_all(self.parts.alloc, log.as_slice())?;
-        match adopt(
-            &mut self.parts.log,
-            &mut self.parts.early,
-            &mut self.parts.late,
-            log,
-        ) {
+        match self.parts.held.adopt(log) {
             Ok(()) => {
                 self.parts.status = Status::Normal;
                 self.parts.last = self.parts.view;
@@ -99,7 +94,7 @@ impl ReplicaState {
     }
 
     /// The leader begins its view with the merged log. Whether a log has room for it.
-    pub fn begin(&mut self) -> Result<bool, NoMemory>
+    pub fn begin_view(&mut self) -> Result<bool, NoMemory>
         ensures state { OnOk result (self.new ≡ record self.old { state = (begins.begin self.old.f self.old.me self.old.state).0 }) }
         ensures begun { IfOk result (λ begun. begun ≡ not (nat_lt MAX_ENTRIES (length (merged self.old.f (changes_of self.old.me self.old.state))))) }
     {

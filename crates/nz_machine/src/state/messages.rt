@@ -35,7 +35,7 @@ impl ReplicaState {
         ensures { OnOk result (sends.new ≡ sends.old ++ map (parcel (actors.Replica self.now.me)) (to_replica replica message.now)) }
     {
         let to = Actor::Replica(replica);
-        sends.send_written(self.name(), to, message, body)
+        sends.send_written(self.actor(), to, message, body)
     }
 
     /// Sends the message to one replica.
@@ -50,7 +50,7 @@ impl ReplicaState {
         ensures { OnOk result (sends.new ≡ sends.old ++ map (parcel (actors.Replica self.now.me)) (to_replica replica message.now)) }
     {
         let to = Actor::Replica(replica);
-        sends.send(self.name(), to, message)
+        sends.send(self.actor(), to, message)
     }
 
     /// Sends the message, whose body was written, to each of the others.
@@ -100,9 +100,9 @@ impl ReplicaState {
             view: self.view(),
             last: self.parts.last,
             vector: *self.vector(),
-            synced: self.parts.log.synced(),
+            synced: self.parts.held.log.synced(),
             commit: self.parts.commit,
-            entries: self.parts.log.entries()?,
+            entries: self.parts.held.log.entries()?,
         }))
     }
 
@@ -129,7 +129,7 @@ impl ReplicaState {
             view: self.view(),
             vector: *self.vector(),
             commit: self.parts.commit,
-            entries: self.parts.log.entries()?,
+            entries: self.parts.held.log.entries()?,
         }))
     }
 
@@ -199,7 +199,7 @@ impl ReplicaState {
             view: self.view(),
             vector: *self.vector(),
             commit: self.parts.commit,
-            entries: self.parts.log.entries()?,
+            entries: self.parts.held.log.entries()?,
         }))
     }
 }

@@ -2,8 +2,9 @@
 
 ghost use Rattle.std.specs.Prelude.{◌≡◌, ◌<◌, ◌≤◌, ◌+◌, ◌==◌, [], not, length, IsTrue, IfOk, OnOk};
 ghost use Rattle.std.specs.Bool.{OnTrue, OnFalse};
-ghost use Rattle.nz_base.specs.Cluster.{replica_count};
+ghost use Rattle.nz_base.specs.declared.actor.Actor.TheVariants.{Replica};
 ghost use Rattle.nz_msg.specs.Messages.{rejoin_tell};
+ghost use Rattle.nz_machine.specs.rules.Does.{IsFromMember};
 ghost use Rattle.nz_machine.specs.rules.Parts.{since_counted};
 ghost use Rattle.nz_machine.specs.rules.Replicas.{crashed_replica, is_rejoining};
 ghost use Rattle.nz_machine.specs.rules.Rejoining as rejoining;
@@ -11,8 +12,8 @@ ghost use Rattle.nz_machine.specs.rules.Rejoining.{last_counter, restarted_repli
 ghost use Rattle.nz_machine.specs.rules.Rejoining.{with_new_counter, with_tell, with_tells, ask_views, ask_log};
 
 use super::super::buffers::vector_fits;
-use super::super::collecting::{latest, note_teller, with_told};
 use super::super::data::{Phase, Status, ToldView};
+use super::super::reports::{latest, note_teller, with_told};
 use super::{ReplicaState, forget};
 use nz_base::{List, MAX_VIEW, NoMemory, REJOIN_ASK_TICKS};
 use nz_cv::CrashVector;
@@ -56,7 +57,7 @@ impl ReplicaState {
     }
 
     /// The view whose log was asked for.
-    pub fn wanted(&self) -> u64
+    pub fn wanted_view(&self) -> u64
         ensures { result ≡ self.now.state.rejoin.wanted }
     {
         self.parts.rejoin.wanted
@@ -83,8 +84,7 @@ impl ReplicaState {
 
     /// The sender has told its vector. Gives how many have.
     pub fn note_teller(&mut self, sender: u8, vector: &CrashVector) -> Result<usize, NoMemory>
-        requires sender { sender < replica_count self.old.f }
-        requires vector { length vector.now ≡ replica_count self.old.f }
+        requires { IsFromMember self.old (Replica sender) vector.now }
         ensures state { OnOk result (self.new ≡ record self.old { state = with_teller self.old.me self.old.state sender vector.now }) }
         ensures count { IfOk result (λ count. count ≡ length self.new.state.rejoin.tellers) }
     {
@@ -119,8 +119,7 @@ impl ReplicaState {
     /// The view is collected in place of an earlier one of its sender, and those that are now stray go. Gives
     /// how many there are then.
     pub fn note_view(&mut self, sender: u8, body: &RejoinTellBody) -> Result<usize, NoMemory>
-        requires sender { sender < replica_count self.old.f }
-        requires vector { length body.now.vector ≡ replica_count self.old.f }
+        requires from { IsFromMember self.old (Replica sender) body.now.vector }
         requires fits { rejoin_tell.fits body.now }
         ensures state { OnOk result (self.new ≡ record self.old { state = with_tell self.old.state sender body.now }) }
         ensures count { IfOk result (λ count. count ≡ length self.new.state.rejoin.tells) }

@@ -1,48 +1,64 @@
 //! What a replica does to its state so that its log agrees with the leader's.
 
-ghost use Rattle.std.specs.Prelude.{◌≡◌, ◌<◌, ◌≤◌, length, drop, IsTrue, IsFalse, IfOk, OnOk, slice_index};
+ghost use Rattle.std.specs.Prelude.{◌≡◌, ◌<◌, ◌≤◌, [], not, length, drop, IsTrue, IsFalse, IfOk, OnOk, slice_index};
 ghost use Rattle.std.specs.List.{AllByRecursion};
 ghost use Rattle.nz_base.specs.Cluster.{replica_count};
+ghost use Rattle.nz_cv.specs.Vectors.{is_stray};
+ghost use Rattle.nz_base.specs.declared.actor.Actor.TheVariants.{Replica};
+ghost use Rattle.nz_base.specs.declared.limits.TheConstants.{MAX_REPLICA};
 ghost use Rattle.nz_msg.specs.Fields as fields;
+ghost use Rattle.nz_machine.specs.rules.Does.{IsFromMember};
 ghost use Rattle.nz_machine.specs.rules.Replicas as replicas;
 ghost use Rattle.nz_machine.specs.rules.Replicas.{is_normal};
 ghost use Rattle.nz_machine.specs.rules.Requests.{is_full};
-ghost use Rattle.nz_machine.specs.rules.Vectors.{with_vector};
+ghost use Rattle.nz_machine.specs.rules.Vectors.{unless_stray};
 ghost use Rattle.nz_machine.specs.rules.LogMods.{is_held, with_ack, with_commit, sync_keys, overtaken_to_late, committed_to, missing_ids};
 
 use super::super::buffers::vector_fits;
 use super::super::commit_quorum::reported;
-use super::super::sync_keys::sync_parts;
 use super::{ReplicaState, forget};
 use nz_base::{Id, IdList, Key, MAX_ENTRIES, NoMemory};
 use nz_cv::CrashVector;
 
 impl ReplicaState {
-    /// Takes in what a message's crash vector knows.
-    pub fn merge_vector(&mut self, vector: &CrashVector)
-        requires { length vector.now ≡ replica_count self.old.f }
-        ensures { self.new ≡ record self.old { state = with_vector self.old.me self.old.state vector.now } }
+    /// The vector rule: a stray message changes nothing. Of another one the vector is merged, and the message counts.
+    pub fn merge_unless_stray(&mut self, sender: u8, vector: &CrashVector) -> bool
+        requires { IsFromMember self.old (Replica sender) vector.now }
+        ensures address { sender ≤ MAX_REPLICA }
+        ensures counts { result ≡ not (is_stray vector.now sender self.old.state.vector) }
+        ensures state { self.new ≡ record self.old { state = (unless_stray self.old.me self.old.state sender vector.now (λ s. (s, []))).0 } }
     {
+        // f is at most MAX_F, so the number is at most MAX_REPLICA.
+        let _most = self.parts.cluster.f();
+        if vector.is_stray(sender, &self.parts.vector) {
+            return false;
+        }
         // Each of its counters has four bytes.
         vector_fits(vector);
         self.parts.vector.merge(vector, self.parts.me);
+        true
     }
 
     /// Whether an entry with the id is in log, early or late.
     pub fn holds(&self, id: Id) -> bool
         ensures { result ≡ is_held self.now.state id }
     {
-        self.parts.log.place_of(id).is_some()
-            || self.parts.early.find(id).is_some()
-            || self.parts.late.find(id).is_some()
+        self.parts.held.log.place_of(id).is_some()
+            || self.parts.held.early.find(id).is_some()
+            || self.parts.held.late.find(id).is_some()
     }
 
     /// Whether log, early and late together hold as many entries as a log may.
     pub fn is_full(&self) -> bool
         ensures { result ≡ is_full self.now.state }
     {
-        let waiting = self.parts.early.len().saturating_add(self.parts.late.len());
-        waiting.saturating_add(self.parts.log.len() as usize) >= MAX_ENTRIES as usize
+        let waiting = self
+            .parts
+            .held
+            .early
+            .len()
+            .saturating_add(self.parts.held.late.len());
+        waiting.saturating_add(self.parts.held.log.len() as usize) >= MAX_ENTRIES as usize
     }
 
     /// How many entries of a replica's log agree with the leader's, as its reports say.
@@ -54,7 +70,7 @@ impl ReplicaState {
     }
 
     /// The ids of some keys that are found nowhere.
-    #[tactic(auto, using(crate::proofs::SyncInvariant::missing_held, crate::proofs::SyncInvariant::missing_more))]
+    #[tactic(auto, using(crate::proofs::facts::SyncInvariant::missing_held, crate::proofs::facts::SyncInvariant::missing_more))]
     pub fn missing(&self, keys: &[Key]) -> Result<IdList, NoMemory>
         ensures { IfOk result (λ ids. ids ≡ missing_ids self.now.state keys.now) }
     {
@@ -95,15 +111,12 @@ impl ReplicaState {
         ensures state { OnOk result (self.new ≡ record self.old { state = committed_to (overtaken_to_late (sync_keys self.old.state keys.now).0) commit }) }
         ensures missing { IfOk result (λ place. (sync_keys self.old.state keys.now).1 ≡ drop place keys.now) }
     {
-        match sync_parts(
-            self.parts.alloc,
-            &mut self.parts.log,
-            &mut self.parts.early,
-            &mut self.parts.late,
-            keys,
-        ) {
+        match self.parts.held.sync(self.parts.alloc, keys) {
             Ok(place) => {
-                self.parts.commit = self.parts.commit.max(commit.min(self.parts.log.synced()));
+                self.parts.commit = self
+                    .parts
+                    .commit
+                    .max(commit.min(self.parts.held.log.synced()));
                 Ok(place)
             }
             Err(error) => {

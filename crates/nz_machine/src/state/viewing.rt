@@ -11,7 +11,6 @@ ghost use Rattle.nz_machine.specs.rules.Views as views;
 ghost use Rattle.nz_machine.specs.rules.Views.{in_view_change};
 ghost use Rattle.nz_machine.specs.rules.Adopting.{normal_in};
 
-use super::super::collecting::adopt;
 use super::super::data::Status;
 use super::super::outbox::Outbox;
 use super::{ReplicaState, forget};
@@ -88,19 +87,14 @@ impl ReplicaState {
     }
 
     /// In normal operation in a view that another leads, with this log, of which this many entries are committed.
-    pub fn start(&mut self, view: u64, log: EntryList, commit: u32) -> Result<(), NoMemory>
+    pub fn adopt_log(&mut self, view: u64, log: EntryList, commit: u32) -> Result<(), NoMemory>
         requires view { view ≤ MAX_VIEW }
         requires follows { IsFalse (leader_of self.old.f view == self.old.me) }
         requires log { IsCarried log }
         requires commit { commit ≤ length log }
         ensures { OnOk result (self.new ≡ record self.old { state = normal_in self.old.state view log commit }) }
     {
-        match adopt(
-            &mut self.parts.log,
-            &mut self.parts.early,
-            &mut self.parts.late,
-            log,
-        ) {
+        match self.parts.held.adopt(log) {
             Ok(()) => {
                 self.parts.status = Status::Normal;
                 self.parts.view = view;

@@ -25,7 +25,7 @@ returns-clause-value c =
     let es = c.args.state.now.state.log.entries in
     let long = c.len.ensures ∙ ap (λ (l : Log). length l.entries) c.log.ensures in
     let same = length-map es (λ (e : Entry). e.key) in
-    let few = c.has_facts.ensures.facts.entries.few in
+    let few = c.show_invariant.ensures.facts.entries.few in
     let stop : c.min-end.result ≡ min (length (keys_of es)) (c.args.start + 64) = omega (arith, long, same, few, c.min-end.ensures, c.saturating_add.ensures) in
     c.loop-place.invariant ∙ all_told
     (keys_of es) c.args.start c.loop-place.place c.min-end.result stop c.loop-place.auto.place c.loop-place-test.false c.loop-place.auto.place-end
@@ -34,7 +34,7 @@ pub returns-clause-fits : goal.returns-clause-fits
 returns-clause-fits c =
     let s = c.args.state.now.state in
     let es = s.log.entries in
-    let facts = c.has_facts.ensures.facts in
+    let facts = c.show_invariant.ensures.facts in
     let long = c.len.ensures ∙ ap (λ (l : Log). length l.entries) c.log.ensures in
     let same = length-map es (λ (e : Entry). e.key) in
     let few = facts.entries.few in

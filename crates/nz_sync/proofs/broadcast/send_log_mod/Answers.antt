@@ -17,7 +17,7 @@ returns-clause-sent c =
     let place = c.in_ok-move_to.ensures.start ∙ c.ack_of.ensures in
     let message = c.in_ok-move_to.ensures.written.message ∙ ap (λ (n : ℕ). LogMod (log_mod_from s.state n)) place in
     on_ok_weaker c.send_written.result
-    (λ done. done ∙ ap (λ (xs : List Parcel). xs ++ parcel c.name.result (Replica r, c.move_to.new.written.message) ∷ []) c.move_to.ensures.same
-    ∙ ap (λ (a : Actor). c.args.sends.now ++ parcel a (Replica r, c.move_to.new.written.message) ∷ []) c.name.ensures.name
+    (λ done. done ∙ ap (λ (xs : List Parcel). xs ++ parcel c.actor.result (Replica r, c.move_to.new.written.message) ∷ []) c.move_to.ensures.same
+    ∙ ap (λ (a : Actor). c.args.sends.now ++ parcel a (Replica r, c.move_to.new.written.message) ∷ []) c.actor.ensures.actor
     ∙ ap (λ (m : Message). c.args.sends.now ++ parcel (Replica s.me) (Replica r, m) ∷ []) message)
     c.send_written.ensures

@@ -14,13 +14,13 @@ loop-replica-preserved c =
     let r = c.loop-replica.replica in
     elim c.if-not-is.branch [
       | then-not-is+in_ok-send_log_mod w ↦
-          let other : (r == s.me) ≡ false = ap (actor_eq (Replica r)) (sym c.name.ensures.name) ∙ sym c.is.ensures.value ∙ w.if-not-is.true in
+          let other : (r == s.me) ≡ false = ap (actor_eq (Replica r)) (sym c.actor.ensures.actor) ∙ sym c.is.ensures.value ∙ w.if-not-is.true in
           record {
             sent = w.sends-is ∙ other_told s.me r (log_mod_to s.state) _ _ _ other c.loop-replica.invariant.sent w.in_ok-send_log_mod.ensures.sent;
             written = subst (IsWritten s.state) (sym w.written-is) w.in_ok-send_log_mod.ensures.written;
           }
       | else-not-is w ↦
-          let self : (r == s.me) ≡ true = ap (actor_eq (Replica r)) (sym c.name.ensures.name) ∙ sym c.is.ensures.value ∙ w.if-not-is.false in
+          let self : (r == s.me) ≡ true = ap (actor_eq (Replica r)) (sym c.actor.ensures.actor) ∙ sym c.is.ensures.value ∙ w.if-not-is.false in
           record {
             sent = self_told s.me r (log_mod_to s.state) _ _ _ self c.loop-replica.invariant.sent w.sends-is;
             written = subst (IsWritten s.state) (sym w.written-is) c.loop-replica.invariant.written;

@@ -8,4 +8,4 @@ loop-init c = filling_none c.args.self.now c.free_places-end.result c.args.sends
 pub loop-preserved : goal.loop-preserved
 loop-preserved c =
     filling_more c.args.self.now c.loop.self c.open_next.new.self c.free_places-end.result c.loop.counter c.args.sends.now c.loop.sends c.open_next.new.sends
-    c.loop-test.true c.loop.invariant c.in_ok-open_next.ensures.state c.in_ok-open_next.ensures.sends
+    c.loop-test.true c.loop.invariant c.in_ok-open_next.ensures.rule.state c.in_ok-open_next.ensures.rule.sends

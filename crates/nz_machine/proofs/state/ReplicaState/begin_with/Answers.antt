@@ -20,7 +20,7 @@ invariant_of-self c =
     let s : ReplicaData = data_of c.self.inside.parts in
     let committed : c.min-commit.result ≡ min (length c.args.log) c.args.commit = omega arith in
     kept_begin c.self.inside.parts.cluster c.self.inside.parts.me s c.self.inside.parts.store c.in_ok-store.store
-    c.adopt.new.log c.adopt.new.early c.adopt.new.late c.args.log c.args.commit c.min-commit.result
+    c.adopt.new.self.log c.adopt.new.self.early c.adopt.new.self.late c.args.log c.args.commit c.min-commit.result
     c.in_ok-store.results.items c.clear_reports.new.ack.items c.self.invariant c.requires (c.in-Ok.ensures s) committed
     (c.in_ok-store.ensures.answers ∙ ap (λ (es : List Entry). replies (commands es)) c.as_slice.ensures)
     (c.clear_reports.ensures ∙ ap (λ (n : ℕ). replicate n 0) c.self.invariant.facts.tables.acks)
@@ -34,7 +34,7 @@ returns-in-Ok c =
     let s : ReplicaData = data_of c.self.inside.parts in
     let committed : c.min-commit.result ≡ min (length c.args.log) c.args.commit = omega arith in
     ap (λ (t : ReplicaData). record { f = c.self.inside.parts.cluster; me = c.self.inside.parts.me; state = t })
-    (sym (begun c.self.inside.parts.cluster s c.adopt.new.log c.adopt.new.early c.adopt.new.late c.args.log
+    (sym (begun c.self.inside.parts.cluster s c.adopt.new.self.log c.adopt.new.self.early c.adopt.new.self.late c.args.log
     c.args.commit c.min-commit.result c.in_ok-store.results.items c.clear_reports.new.ack.items (c.in-Ok.ensures s) committed
     (c.in_ok-store.ensures.answers ∙ ap (λ (es : List Entry). replies (commands es)) c.as_slice.ensures)
     (c.clear_reports.ensures ∙ ap (λ (n : ℕ). replicate n 0) c.self.invariant.facts.tables.acks)))

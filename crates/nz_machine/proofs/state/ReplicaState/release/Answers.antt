@@ -20,8 +20,8 @@ invariant_of-self c =
     let leading = subst (λ (v : ReplicaModel). c.leads-leads.result ≡ leads v.f v.me v.state) (sym c.self.view_is) c.leads-leads.ensures in
     kept_release _ _ _ _ entry c.take_due.new.self _ _ _ c.self.invariant normal c.in-Some.ensures.rest
     (room_left _ _ _ _ entry c.take_due.new.self c.self.invariant c.in-Some.ensures.rest first)
-    (c.in-Ok.ensures.log ∙ ap (λ (b : Bool). log_with_entry b c.self.inside.parts.log entry) leading)
-    (c.in-Ok.ensures.results ∙ ap (λ (b : Bool). results_with_entry b c.self.inside.parts.results.items c.self.inside.parts.log.entries entry) leading)
+    (c.in-Ok.ensures.log ∙ ap (λ (b : Bool). log_with_entry b c.self.inside.parts.held.log entry) leading)
+    (c.in-Ok.ensures.results ∙ ap (λ (b : Bool). results_with_entry b c.self.inside.parts.results.items c.self.inside.parts.held.log.entries entry) leading)
     (λ normal lead. c.in-Ok.ensures.store (leading ∙ lead))
 
 pub invariant_of-self-in-Err : goal.invariant_of-self-in-Err

@@ -8,25 +8,25 @@ use Rattle.nz_machine.specs.rules.LogMods.{sync_keys, overtaken_to_late, committ
 use Rattle.nz_machine.proofs.facts.SyncInvariant.{kept_apart, kept_sync, sync_state}
 use Rattle.nz_machine.proofs.state.ReplicaState.take.Goals as goal
 
-pub sync_parts-requires-clause-apart : goal.sync_parts-requires-clause-apart
-sync_parts-requires-clause-apart c = kept_apart _ _ _ _ c.self.invariant
+pub sync-requires-clause-apart : goal.sync-requires-clause-apart
+sync-requires-clause-apart c = kept_apart _ _ _ _ c.self.invariant
 
 pub invariant_of-self : goal.invariant_of-self
 invariant_of-self c =
     let s : ReplicaData = data_of c.self.inside.parts in
-    let committed : c.max-self-inside.result ≡ max c.self.inside.parts.commit (min c.args.commit c.sync_parts.new.log.synced) = omega arith in
+    let committed : c.max-self-inside.result ≡ max c.self.inside.parts.commit (min c.args.commit c.sync.new.self.log.synced) = omega arith in
     kept_sync c.self.inside.parts.cluster c.self.inside.parts.me s c.self.inside.parts.store c.args.keys.now
-    c.args.commit c.sync_parts.new.log c.sync_parts.new.early c.sync_parts.new.late c.max-self-inside.result c.self.invariant
+    c.args.commit c.sync.new.self.log c.sync.new.self.early c.sync.new.self.late c.max-self-inside.result c.self.invariant
     (subst (λ (v : ReplicaModel). is_normal v.state.status ≡ true) (sym c.self.view_is) c.requires.normal)
-    (subst (λ (v : ReplicaModel). IsFalse (leads v.f v.me v.state)) (sym c.self.view_is) c.requires.follows) c.requires.fit (c.in-Ok.ensures.parts s) committed
+    (subst (λ (v : ReplicaModel). IsFalse (leads v.f v.me v.state)) (sym c.self.view_is) c.requires.follows) c.requires.fit (c.in-Ok.ensures.held s) committed
 
 pub returns-in-Ok-clause-state : goal.returns-in-Ok-clause-state
 returns-in-Ok-clause-state c =
     let s : ReplicaData = data_of c.self.inside.parts in
-    let committed : c.max-self-inside.result ≡ max c.self.inside.parts.commit (min c.args.commit c.sync_parts.new.log.synced) = omega arith in
+    let committed : c.max-self-inside.result ≡ max c.self.inside.parts.commit (min c.args.commit c.sync.new.self.log.synced) = omega arith in
     let now =
-    sync_state s c.args.keys.now c.args.commit c.sync_parts.new.log c.sync_parts.new.early c.sync_parts.new.late
-    c.max-self-inside.result (c.in-Ok.ensures.parts s) committed in
+    sync_state s c.args.keys.now c.args.commit c.sync.new.self.log c.sync.new.self.early c.sync.new.self.late
+    c.max-self-inside.result (c.in-Ok.ensures.held s) committed in
     ap (λ (t : ReplicaData). record { f = c.self.inside.parts.cluster; me = c.self.inside.parts.me; state = t }) now
     ∙ ap (λ (v : ReplicaModel). record {
       f = v.f;

@@ -6,12 +6,9 @@ use Rattle.nz_base.specs.declared.actor.Actor.TheVariants.{Proxy}
 use Rattle.nz_machine.specs.rules.State.{ProxyData, Out}
 use Rattle.nz_machine.specs.rules.Step.{parcel, envelope_for, accepted_envelope, envelope_step}
 use Rattle.nz_proxy.specs.Models.{ProxyModel, group_with_cluster}
-use Rattle.nz_proxy.proofs.Passing.{counts, nothing_sent, passed_over}
+use Rattle.nz_proxy.proofs.Passing.{counts, does_nothing, passed_over}
 use Rattle.nz_proxy.proofs.state.ProxyState.deliver.Goals as goal
 use Rattle.nz_proxy.proofs.state.ProxyState.deliver.Goals.{then-is_down-via-then-is_down, then-is_down-via-else-is_down+then-not-is_from_cluster}
-
-abbrev with_state : ProxyModel → ProxyData → ProxyModel
-with_state model s = record model { state = s }
 
 -- a proxy that is down, and a message that does not count
 nothing_done : (c : goal.Joined-decoded-7)
@@ -19,7 +16,7 @@ nothing_done : (c : goal.Joined-decoded-7)
     (accepted_envelope c.args.self.now.f (Proxy c.args.self.now.me) c.args.p.now) ≡ (c.args.self.now.state, [])
 nothing_done c =
     let model = c.args.self.now in
-    let is = ap (λ (a : Actor). envelope_for a c.args.p.now) (sym c.name.ensures.name) ∙ sym c.in_ok-envelope.ensures.value ∙ ap option_copied c.in-Some.is in
+    let is = ap (λ (a : Actor). envelope_for a c.args.p.now) (sym c.actor.ensures.actor) ∙ sym c.in_ok-envelope.ensures.value ∙ ap option_copied c.in-Some.is in
     elim c.then-is_down.branch [
       | then-is_down-via-then-is_down w ↦ passed_over model.f model.me model.state _ c.in-Some.envelope.now is (inl (sym c.is_down.ensures ∙ w.if-is_down.true))
       | then-is_down-via-else-is_down+then-not-is_from_cluster w ↦
@@ -27,13 +24,5 @@ nothing_done c =
           (inr (ap (λ (f : ℕ). counts f c.in-Some.envelope.now) (sym w.cluster.ensures) ∙ sym w.is_from_cluster.ensures ∙ w.if-not-is_from_cluster.true))
     ]
 
-pub returns-then-is_down-clause-state : goal.returns-then-is_down-clause-state
-returns-then-is_down-clause-state c =
-    let model = c.args.self.now in
-    let same = nothing_done c in
-    ap (λ (x : ProxyData × List Out). with_state model x.0) (sym same)
-
-pub returns-then-is_down-clause-sends : goal.returns-then-is_down-clause-sends
-returns-then-is_down-clause-sends c =
-    let same = nothing_done c in
-    nothing_sent (parcel (Proxy c.args.self.now.me)) c.args.sends.now _ (ap (λ (x : ProxyData × List Out). x.1) same)
+pub returns-then-is_down-clause-rule : goal.returns-then-is_down-clause-rule
+returns-then-is_down-clause-rule c = does_nothing c.args.self.now c.args.sends.now _ (nothing_done c)

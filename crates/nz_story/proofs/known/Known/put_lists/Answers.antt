@@ -10,10 +10,10 @@ pub put_log-requires-clause-after : goal.put_log-requires-clause-after
 put_log-requires-clause-after c =
     let s = c.args.state.now.state in
     subst (λ (log : Log). AreRising (keys_of log.entries)) (sym c.log.ensures)
-    (rising_parts s.log.entries s.early c.has_facts.ensures.facts.entries.arranged.rising).0
+    (rising_parts s.log.entries s.early c.show_invariant.ensures.facts.entries.arranged.rising).0
 
 pub put_early-requires-clause-after : goal.put_early-requires-clause-after
 put_early-requires-clause-after c =
     let s = c.args.state.now.state in
     subst (λ (es : List Entry). AreRising (keys_of es)) (sym c.early.ensures)
-    (rising_parts s.log.entries s.early c.has_facts.ensures.facts.entries.arranged.rising).1
+    (rising_parts s.log.entries s.early c.show_invariant.ensures.facts.entries.arranged.rising).1
