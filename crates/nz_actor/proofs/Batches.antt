@@ -10,10 +10,10 @@ use Rattle.nz_machine.specs.rules.State.{Group}
 use Rattle.nz_machine.specs.rules.Step.{Node, first_node, node_run}
 use Rattle.nz_machine.specs.runs.World.{state_after}
 use Rattle.nz_machine.proofs.runs.Runs.{acts_itself}
-use Rattle.nz_fabric.specs.declared.batch.Batch.{Batch}
-use Rattle.nz_fabric.specs.Records.{ActorSteps, with_step}
-use Rattle.nz_fabric.specs.Shared.{Shared, next_item, next_record}
-use Rattle.nz_fabric.specs.Steps.{batch_records, node_after, node_from, sends_after, sends_from, with_steps}
+use Rattle.nz_fabric.specs.declared.threads.batch.Batch.{Batch}
+use Rattle.nz_fabric.specs.threads.Records.{ActorSteps, with_step}
+use Rattle.nz_fabric.specs.threads.Shared.{Shared, next_item, next_record}
+use Rattle.nz_fabric.specs.threads.Steps.{batch_records, node_after, node_from, sends_after, sends_from, with_steps}
 use Rattle.nz_actor.specs.Actings.{Acting, IsActing, IsStopped, sends_in, with_batch, with_item}
 
 -- ---- the start

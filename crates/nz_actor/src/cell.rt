@@ -1,7 +1,7 @@
 //! The lock around an actor, and how a batch is played under it.
 
 ghost use Rattle.std.specs.Prelude.{◌<◌};
-ghost use Rattle.nz_fabric.specs.Shared.{ClosesAndTakes, PlaysNext};
+ghost use Rattle.nz_fabric.specs.threads.Shared.{ClosesAndTakes, PlaysNext};
 
 use crate::state::ActorState;
 use nz_base::NoMemory;

@@ -3,11 +3,11 @@
 ghost use Rattle.std.specs.Prelude.{◌≡◌, ◌↔◌, ◌<◌, ℕ, [], true, false, IfSome, IsTrue, MatchBool};
 ghost use Rattle.nz_machine.specs.runs.Schedule.{group_of};
 ghost use Rattle.nz_machine.specs.rules.Step.{first_node};
-ghost use Rattle.nz_fabric.specs.Records.{steps_of};
-ghost use Rattle.nz_fabric.specs.Shared.{with_record, ClosesAndTakes, ClosesBatch, IsGivenUp};
-ghost use Rattle.nz_fabric.specs.Shared.{next_item, with_next, with_stop, HasNext};
-ghost use Rattle.nz_fabric.specs.States.{records_of};
-ghost use Rattle.nz_fabric.specs.Steps.{sends_after};
+ghost use Rattle.nz_fabric.specs.threads.Records.{steps_of};
+ghost use Rattle.nz_fabric.specs.threads.Shared.{with_record, ClosesAndTakes, ClosesBatch, IsGivenUp};
+ghost use Rattle.nz_fabric.specs.threads.Shared.{next_item, with_next, with_stop, HasNext};
+ghost use Rattle.nz_fabric.specs.alone.States.{records_of};
+ghost use Rattle.nz_fabric.specs.threads.Steps.{sends_after};
 ghost use Rattle.nz_actor.specs.Actings.{sends_in, with_batch, with_item, IsStopped, IsThere};
 
 use crate::steps::step_all;

@@ -6,17 +6,19 @@ ghost use Rattle.nz_machine.specs.runs.Schedule.{InOrder, IsPlayable};
 ghost use Rattle.nz_machine.specs.rules.State.{Group};
 ghost use Rattle.nz_machine.specs.journals.Tellings.{AreNoted};
 ghost use Rattle.nz_machine.specs.runs.World.{World};
-ghost use Rattle.nz_fabric.specs.States.{IsDone, IsKeptRun, IsNextTurn, IsOpen, after_tick, records_of, start_state, with_mark, with_recorded, with_taken};
+ghost use Rattle.nz_fabric.specs.alone.States.{IsDone, IsKeptRun, IsNextTurn, IsOpen, after_tick, records_of, start_state, with_mark, with_recorded, with_taken};
 
-use crate::agenda::Agenda;
-use crate::due::clocks_of;
-use crate::posting::post_all;
-use crate::ticks::Ticks;
-use crate::turn::Turn;
+pub mod turn;
+
+use crate::schedule::agenda::Agenda;
+use crate::schedule::due::clocks_of;
+use crate::schedule::posting::post_all;
+use crate::schedule::ticks::Ticks;
 use nz_base::{NoMemory, Scenario};
 use nz_machine::{Forgotten, Item, Journal, Notes, Record, Recording, Sends};
 use std::alloc::Global;
 use std::marker::Model;
+use turn::Turn;
 
 /// The network of a run on one thread: what is due, and the records, which are in the order of the schedule. Contracts see
 /// all of them, whether they are in memory or not.
@@ -38,7 +40,7 @@ pub struct Alone {
 
 impl Model for Alone {
     ghost use Rattle.std.specs.Prelude.{◌+◌};
-    ghost use Rattle.nz_fabric.specs.States.{State, IsHeld, IsInMemory, state_in};
+    ghost use Rattle.nz_fabric.specs.alone.States.{State, IsHeld, IsInMemory, state_in};
 
     ghost Value = { State };
 

@@ -21,37 +21,18 @@
 //!   items.
 #![tactic(auto)]
 
-mod agenda;
 mod alone;
-mod batch;
-mod calendar;
-mod chronicle;
-mod course;
-mod deliveries;
-mod due;
-mod fabric;
-mod fabric_state;
-mod faults;
-mod grouping;
-mod kinds;
-mod lane;
-mod name;
-mod numbered;
-mod open_batches;
-mod posting;
-mod records;
-mod share;
-mod ticks;
-mod turn;
+mod schedule;
+mod threads;
 
 pub use alone::Alone;
-pub use batch::Batch;
-pub use calendar::Calendar;
-pub use chronicle::Opened;
-pub use fabric::Fabric;
-pub use fabric_state::FabricState;
-pub use lane::Lane;
-pub use name::Name;
-pub use open_batches::Taken;
-pub use share::Share;
-pub use turn::Turn;
+pub use alone::turn::Turn;
+pub use schedule::calendar::Calendar;
+pub use threads::batch::Batch;
+pub use threads::chronicle::Opened;
+pub use threads::fabric::Fabric;
+pub use threads::fabric_state::FabricState;
+pub use threads::lane::Lane;
+pub use threads::name::Name;
+pub use threads::open_batches::Taken;
+pub use threads::share::Share;

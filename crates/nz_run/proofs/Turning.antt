@@ -14,8 +14,8 @@ use Rattle.nz_machine.specs.rules.State.{Group}
 use Rattle.nz_machine.specs.runs.World.{IsMember, World}
 use Rattle.nz_machine.specs.runs.Schedule.{group_of, item_of, due, IsPlayable}
 use Rattle.nz_machine.proofs.lists.EachItem.{all_append}
-use Rattle.nz_fabric.specs.declared.turn.Turn.{Turn}
-use Rattle.nz_fabric.specs.States.{State, records_of, IsBegun, IsKeptRun, IsNextTurn, IsQuiet, item_in, with_taken, with_recorded}
+use Rattle.nz_fabric.specs.declared.alone.turn.Turn.{Turn}
+use Rattle.nz_fabric.specs.alone.States.{State, records_of, IsBegun, IsKeptRun, IsNextTurn, IsQuiet, item_in, with_taken, with_recorded}
 use Rattle.nz_run.specs.declared.cast.Cast.{Cast}
 use Rattle.nz_run.specs.Casts.{record_of, sends_of, IsCast, IsUnderWay}
 use Rattle.nz_machine.proofs.runs.Scheduling.{scheduled_in_order}

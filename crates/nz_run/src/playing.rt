@@ -2,7 +2,7 @@
 
 ghost use Rattle.std.specs.Prelude.{◌≡◌, ◌+◌, ◌<◌, ◌≤◌, [], length, reverse, MatchBool, MatchOption, IfOk, IfSome, OnOk};
 ghost use Rattle.nz_base.specs.Cluster.{replica_count};
-ghost use Rattle.nz_fabric.specs.States.{IsDone, IsQuiet};
+ghost use Rattle.nz_fabric.specs.alone.States.{IsDone, IsQuiet};
 ghost use Rattle.nz_machine.specs.journals.Journals.{group_in, run_in};
 ghost use Rattle.nz_machine.specs.runs.Schedule.{group_of, InOrder, IsPlayable};
 ghost use Rattle.nz_machine.specs.journals.Tellings.{AreNoted};

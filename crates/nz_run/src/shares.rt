@@ -2,7 +2,7 @@
 
 ghost use Rattle.std.specs.Prelude.{◌≡◌, ◌+◌, ◌<◌, ◌≤◌, ℕ, [], length, vec_len, vec_capacity, All, sum_by};
 ghost use Rattle.nz_base.specs.declared.limits.TheConstants.{MAX_WORKERS};
-ghost use Rattle.nz_fabric.specs.Shared.{IsWhole};
+ghost use Rattle.nz_fabric.specs.threads.Shared.{IsWhole};
 
 use nz_fabric::{Name, Share};
 

@@ -2,10 +2,10 @@
 
 ghost use Rattle.std.specs.Prelude.{◌≡◌, ◌+◌, ◌<◌, [], length, All, IfOk, IfSome};
 ghost use Rattle.nz_machine.specs.runs.Schedule.{group_of, IsPlayable};
-ghost use Rattle.nz_fabric.specs.States.{records_of};
+ghost use Rattle.nz_fabric.specs.alone.States.{records_of};
 ghost use Rattle.nz_replica.specs.Models.{AreCores, IsCore};
 ghost use Rattle.nz_run.specs.Stages.{HasNotStepped};
-ghost use Rattle.nz_fabric.specs.Shared.{ClosesAndTakes, ClosesBatch, PlaysNext};
+ghost use Rattle.nz_fabric.specs.threads.Shared.{ClosesAndTakes, ClosesBatch, PlaysNext};
 
 use crate::cast::Cast;
 use nz_actor::{ActorCell, ActorState};

@@ -4,7 +4,7 @@ ghost use Rattle.std.specs.Prelude.{◌≡◌, ◌⊎◌, ◌<◌, ◌≤◌, le
 ghost use Rattle.nz_machine.specs.journals.Journals.{group_in, run_in};
 ghost use Rattle.nz_machine.specs.runs.Schedule.{InOrder, IsPlayable, Scheduled};
 ghost use Rattle.nz_machine.specs.runs.World.{World};
-ghost use Rattle.nz_fabric.specs.Shared.{IsOver, IsWhole};
+ghost use Rattle.nz_fabric.specs.threads.Shared.{IsOver, IsWhole};
 ghost use Rattle.nz_base.specs.Cluster.{replica_count};
 ghost use Rattle.nz_replica.specs.Models.{AreCores};
 ghost use Rattle.nz_base.specs.declared.limits.TheConstants.{MAX_WORKERS};

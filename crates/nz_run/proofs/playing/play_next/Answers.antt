@@ -2,7 +2,7 @@
 use Rattle.std.proofs.Common.{◌≡◌, ◌+◌, ◌<◌, ◌∙◌, length, refl, sym, ap, subst, arith}
 use Rattle.std.proofs.lemmas.Option.{slice_get_within}
 use Rattle.nz_machine.specs.runs.Schedule.{group_of}
-use Rattle.nz_fabric.specs.States.{State, IsQuiet, IsNextTurn, records_of, with_taken, with_recorded}
+use Rattle.nz_fabric.specs.alone.States.{State, IsQuiet, IsNextTurn, records_of, with_taken, with_recorded}
 use Rattle.nz_run.specs.Casts.{IsUnderWay}
 use Rattle.nz_run.proofs.Turning.{next_may_turn, under_way_now, quiet_now}
 use Rattle.nz_run.proofs.playing.play_next.Goals as goal

@@ -1,6 +1,6 @@
 -- What the loops of the function of this folder keep.
 use Rattle.std.proofs.Common.{◌≡◌, ◌-◌, length}
-use Rattle.nz_fabric.specs.States.{IsQuiet}
+use Rattle.nz_fabric.specs.alone.States.{IsQuiet}
 use Rattle.nz_run.specs.Casts.{IsUnderWay}
 use Rattle.nz_run.proofs.playing.play_rest.Given as goal
 

@@ -2,7 +2,7 @@
 use Rattle.std.proofs.Common.{◌≡◌, ap, arith}
 use Rattle.nz_base.specs.Actor.{number_of}
 use Rattle.nz_machine.specs.runs.Schedule.{group_of}
-use Rattle.nz_fabric.specs.States.{records_of}
+use Rattle.nz_fabric.specs.alone.States.{records_of}
 use Rattle.nz_run.proofs.LastCores.{core_there}
 use Rattle.nz_run.proofs.stage.replica_at.Goals as goal
 

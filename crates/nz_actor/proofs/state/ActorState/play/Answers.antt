@@ -1,9 +1,9 @@
 -- What the function of this folder owes, proved.
 use Rattle.std.proofs.Common.{◌≡◌, ◌∙◌, sym, ap}
 use Rattle.nz_machine.specs.runs.Schedule.{group_of}
-use Rattle.nz_fabric.specs.declared.batch.Batch.{Batch}
-use Rattle.nz_fabric.specs.Records.{steps_of}
-use Rattle.nz_fabric.specs.States.{records_of}
+use Rattle.nz_fabric.specs.declared.threads.batch.Batch.{Batch}
+use Rattle.nz_fabric.specs.threads.Records.{steps_of}
+use Rattle.nz_fabric.specs.alone.States.{records_of}
 use Rattle.nz_actor.specs.Actings.{Acting}
 use Rattle.nz_actor.proofs.Batches.{acting_after, played_some, sent}
 use Rattle.nz_actor.proofs.state.ActorState.play.Goals as goal

@@ -3,10 +3,10 @@ use Rattle.std.proofs.Common.{◌≡◌, ◌∙◌, List, sym, ap, subst}
 use Rattle.std.specs.Prelude.{MatchBool}
 use Rattle.nz_machine.specs.declared.event.Parcel.{Parcel}
 use Rattle.nz_machine.specs.runs.Schedule.{group_of}
-use Rattle.nz_fabric.specs.declared.batch.Batch.{Batch}
-use Rattle.nz_fabric.specs.Records.{steps_of}
-use Rattle.nz_fabric.specs.Shared.{IsGivenUp, with_record}
-use Rattle.nz_fabric.specs.States.{records_of}
+use Rattle.nz_fabric.specs.declared.threads.batch.Batch.{Batch}
+use Rattle.nz_fabric.specs.threads.Records.{steps_of}
+use Rattle.nz_fabric.specs.threads.Shared.{IsGivenUp, with_record}
+use Rattle.nz_fabric.specs.alone.States.{records_of}
 use Rattle.nz_actor.specs.Actings.{Acting, sends_in}
 use Rattle.nz_actor.proofs.Batches.{acting_after, played, sent}
 use Rattle.nz_actor.proofs.state.ActorState.settle.Goals as goal

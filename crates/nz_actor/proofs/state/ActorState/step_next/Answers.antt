@@ -4,10 +4,10 @@ use Rattle.std.specs.Prelude.{MatchBool}
 use Rattle.nz_machine.specs.declared.event.Parcel.{Parcel}
 use Rattle.nz_machine.specs.declared.journal.Item.{Item}
 use Rattle.nz_machine.specs.runs.Schedule.{group_of}
-use Rattle.nz_fabric.specs.Records.{steps_of}
-use Rattle.nz_fabric.specs.Shared.{next_item, with_next, with_stop}
-use Rattle.nz_fabric.specs.States.{records_of}
-use Rattle.nz_fabric.specs.Steps.{sends_after}
+use Rattle.nz_fabric.specs.threads.Records.{steps_of}
+use Rattle.nz_fabric.specs.threads.Shared.{next_item, with_next, with_stop}
+use Rattle.nz_fabric.specs.alone.States.{records_of}
+use Rattle.nz_fabric.specs.threads.Steps.{sends_after}
 use Rattle.nz_actor.specs.Actings.{Acting}
 use Rattle.nz_actor.proofs.Batches.{acting_next, sent_once, stepped}
 use Rattle.nz_actor.proofs.state.ActorState.step_next.Goals as goal

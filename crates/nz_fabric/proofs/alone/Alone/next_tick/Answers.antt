@@ -1,10 +1,10 @@
 -- What the function of this folder owes, proved.
 use Rattle.std.proofs.Common.{◌≡◌, ◌<◌, ◌≤◌, ◌+◌, ◌∙◌, false, length, sym, ap, subst, arith}
-use Rattle.nz_fabric.specs.declared.ticks.Ticks.{Ticks}
-use Rattle.nz_fabric.specs.Agendas.{Progress}
-use Rattle.nz_fabric.specs.States.{State, IsDone, IsHeld, after_tick, records_of, state_in}
-use Rattle.nz_fabric.proofs.Held.{long_records, over_some, over_whole, over_begun, next_in_order, held_marked, held_next, room_over}
-use Rattle.nz_fabric.proofs.Remembering.{here_is, in_memory_next, room_next}
+use Rattle.nz_fabric.specs.declared.schedule.ticks.Ticks.{Ticks}
+use Rattle.nz_fabric.specs.schedule.Agendas.{Progress}
+use Rattle.nz_fabric.specs.alone.States.{State, IsDone, IsHeld, after_tick, records_of, state_in}
+use Rattle.nz_fabric.proofs.one_thread.Held.{long_records, over_some, over_whole, over_begun, next_in_order, held_marked, held_next, room_over}
+use Rattle.nz_fabric.proofs.one_thread.Remembering.{here_is, in_memory_next, room_next}
 use Rattle.nz_fabric.proofs.alone.Alone.next_tick.Goals as goal
 
 pub invariant_of-self : goal.invariant_of-self

@@ -1,8 +1,8 @@
 -- What the function of this folder owes, proved.
 use Rattle.std.proofs.Common.{◌+◌, [], ◌∷◌, subst, sym}
-use Rattle.nz_fabric.specs.States.{State, IsOpen, record_of_turn}
-use Rattle.nz_fabric.proofs.Held.{held_record}
-use Rattle.nz_fabric.proofs.Remembering.{in_memory_more}
+use Rattle.nz_fabric.specs.alone.States.{State, IsOpen, record_of_turn}
+use Rattle.nz_fabric.proofs.one_thread.Held.{held_record}
+use Rattle.nz_fabric.proofs.one_thread.Remembering.{in_memory_more}
 use Rattle.nz_fabric.proofs.alone.Alone.record.Goals as goal
 
 pub invariant_of-self : goal.invariant_of-self

@@ -1,6 +1,6 @@
 -- What the function of this folder owes, proved.
 use Rattle.std.proofs.Common.{◌∙◌, ap}
-use Rattle.nz_fabric.specs.States.{State}
+use Rattle.nz_fabric.specs.alone.States.{State}
 use Rattle.nz_run.proofs.TickByTick.{records_up_to}
 use Rattle.nz_run.proofs.playing.Playing.play_tick.Goals as goal
 

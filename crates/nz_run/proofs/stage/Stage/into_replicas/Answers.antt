@@ -1,7 +1,7 @@
 -- What the function of this folder owes, proved.
 use Rattle.std.proofs.Common.{◌≡◌, ◌∙◌, ℕ, length, subst}
 use Rattle.nz_machine.specs.runs.Schedule.{group_of}
-use Rattle.nz_fabric.specs.States.{records_of}
+use Rattle.nz_fabric.specs.alone.States.{records_of}
 use Rattle.nz_replica.specs.Models.{IsCore}
 use Rattle.nz_run.proofs.LastCores.{cores_more}
 use Rattle.nz_run.proofs.stage.Stage.into_replicas.Goals as goal
