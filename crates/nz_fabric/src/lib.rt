@@ -17,8 +17,7 @@
 //!   is one number, its length. A *take* is a batch that was taken. Batches are numbered from 1 as they are
 //!   taken.
 //! - A *name* is a type that identifies a run, so that values under locks are known to belong to it.
-//! - A tick is *small* if it has few items, brings no whole log, and no tick shortly before it had many
-//!   items.
+//! - A tick is *light* if the workers that are awake do the rest of it sooner than others are woken.
 #![tactic(auto)]
 
 mod alone;

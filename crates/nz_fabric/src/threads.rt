@@ -8,5 +8,6 @@ pub mod grouping;
 pub mod lane;
 pub mod name;
 pub mod open_batches;
+pub mod pacing;
 pub mod records;
 pub mod share;

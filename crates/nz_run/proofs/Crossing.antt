@@ -14,6 +14,7 @@ use Rattle.nz_fabric.proofs.schedule.course.Course.TheSendSync.{the_field_send a
 use Rattle.nz_fabric.proofs.schedule.course.Traffic.TheSendSync.{the_field_send as traffic_send}
 use Rattle.nz_fabric.proofs.schedule.numbered.Numbered.TheSendSync.{the_send as numbered_send}
 use Rattle.nz_fabric.proofs.threads.open_batches.OpenBatches.TheSendSync.{the_send as batches_send}
+use Rattle.nz_fabric.proofs.threads.pacing.Pacing.TheSendSync.{the_field_send as pacing_send}
 use Rattle.nz_fabric.proofs.threads.records.Records.TheSendSync.{the_send as records_send}
 use Rattle.nz_fabric.specs.contracts.schedule.agenda.Agenda as Agenda
 use Rattle.nz_fabric.specs.contracts.schedule.calendar.Calendar as Calendar
@@ -47,10 +48,7 @@ inside_send N name ledger send =
             search sendable,
             (
               search (sendable, crosses, batches_send) depth 40 fits 20000,
-              (
-                search (sendable, crosses, book_send) depth 40 fits 20000,
-                (search sendable, (search sendable, (search sendable, tt))),
-              ),
+              (search (sendable, crosses, book_send) depth 40 fits 20000, (search (sendable, crosses, pacing_send) depth 40 fits 20000, tt)),
             ),
           ),
         ),

@@ -13,7 +13,7 @@ use crate::alone::run_alone;
 use crate::played::Played;
 use crate::shares::{deal, gather};
 use crate::stage::Stage;
-use crate::workers::{play_small_ticks, work_all};
+use crate::workers::{play_light_ticks, work_all};
 use nz_base::{MAX_WORKERS, NoMemory, Scenario, TryCopy};
 use nz_edge::Gate;
 use nz_fabric::{Fabric, FabricState, Name, Opened, Share};
@@ -41,7 +41,7 @@ fn finish<N: Name>(
     Ok(())
 }
 
-/// All ticks, but what is left of them where memory runs out. One worker plays alone until a tick is not small, and only then
+/// All ticks, but what is left of them where memory runs out. One worker plays alone until a tick is not light, and only then
 /// are the others started. The whole share comes back, with no batch on it.
 fn play_ticks<N: Name + Send + Sync, R: Threads + Wait + Sync, G: Gate + Sync>(
     rt: &R,
@@ -57,7 +57,7 @@ fn play_ticks<N: Name + Send + Sync, R: Threads + Wait + Sync, G: Gate + Sync>(
     ensures { IfOk result (λ r. IsWhole r.1) }
 {
     let mut state = state;
-    if !play_small_ticks(rt, stage, &mut state) {
+    if !play_light_ticks(rt, stage, &mut state) {
         return Ok((state, share));
     }
     let mut workers = Vec::new(alloc);

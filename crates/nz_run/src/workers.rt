@@ -11,10 +11,10 @@ use std::sync::Wait;
 use std::thread;
 use std::thread::Threads;
 
-/// Begins the next tick and plays it item by item as long as it is small, and so on. For a worker that has the network while
+/// Begins the next tick and plays it item by item as long as it is light, and so on. For a worker that has the network while
 /// all others wait, or before they are started, so nobody holds an actor's lock while waiting for the network. True once a
-/// tick is not small, false where no further item is given.
-pub fn play_small_ticks<N: Name, R: Wait>(
+/// tick is not light, false where no further item is given.
+pub fn play_light_ticks<N: Name, R: Wait>(
     rt: &R,
     stage: &Stage<N>,
     state: &mut FabricState<N>,
@@ -27,7 +27,7 @@ pub fn play_small_ticks<N: Name, R: Wait>(
         } else if !stage.step_next(rt, state) {
             return false;
         }
-        if !state.is_small() {
+        if !state.is_light() {
             return true;
         }
     }
@@ -43,11 +43,11 @@ fn go_on<N: Name, R: Wait>(rt: &R, stage: &Stage<N>, fabric: &Fabric<N>) -> bool
     }
     let state = &mut *guard;
     let begun = if state.is_alone() {
-        play_small_ticks(rt, stage, state)
+        play_light_ticks(rt, stage, state)
     } else {
         state.next_tick().unwrap_or(false)
     };
-    let wakes = !begun || !state.is_small();
+    let wakes = !begun || !state.is_light();
     // Those that wake want the network.
     drop(guard);
     if wakes {

@@ -1,8 +1,6 @@
 //! The network of a run on several threads, under its lock.
 
-ghost use Rattle.std.specs.Prelude.{nat_le, ◌≡◌, ◌⊎◌, ◌+◌, ◌<◌, ◌==◌, ◌↔◌, length, reverse, get_or, true, false};
-ghost use Rattle.std.specs.List.{list_any};
-ghost use Rattle.nz_fabric.specs.threads.Shared as shared;
+ghost use Rattle.std.specs.Prelude.{◌≡◌, ◌⊎◌, ◌+◌, ◌<◌, ◌↔◌, length, reverse, true, false};
 ghost use Rattle.std.specs.Prelude.{IsTrue, IfOk, IfSome, MatchBool, MatchOption, MatchResult};
 ghost use Rattle.nz_machine.specs.journals.Journals.{run_in};
 ghost use Rattle.nz_machine.specs.runs.Schedule.{group_of, IsPlayable, Scheduled};
@@ -24,20 +22,14 @@ use crate::threads::grouping::group;
 use crate::threads::lane::Lane;
 use crate::threads::name::Name;
 use crate::threads::open_batches::{OpenBatches, Taken};
+use crate::threads::pacing::Pacing;
 use crate::threads::records::Records;
 use crate::threads::share::Share;
 use nz_base::{Actor, NoMemory, Scenario, TryCopy};
-use nz_machine::{Event, Item, Journal, Record, Sends};
-use nz_msg::LONG_BODY;
+use nz_machine::{Item, Journal, Record, Sends};
 use std::alloc::Global;
 use std::marker::Model;
 use std::sync::ledger::{Blank, Book};
-
-/// A tick with fewer items is small, if the ticks before it had not many more: those that are awake do it sooner than others
-/// are woken. A cluster has at most 81 clocks, which are done sooner than a thread is woken.
-const MANY: usize = 128;
-/// A tick in which a step sends as many parcels is not small: mostly other actors have as much to send.
-const MUCH: u32 = 32;
 
 /// The network of a run on several threads: what is due, the batches that are open, and the journal, in which the
 /// records of a tick are in any order.
@@ -51,13 +43,7 @@ pub struct FabricState<N: Name> {
     before: usize,
     batches: OpenBatches<N>,
     book: Book<N>,
-    /// How many workers do not wait.
-    awake: u8,
-    /// How many items are due in the tick, or half of this number in the tick before, if that is more: clocks release later
-    /// what a busy tick brought.
-    lately: usize,
-    /// Whether the rest of the tick is done sooner by those that are awake than others are woken.
-    small: bool,
+    pacing: Pacing,
 }
 
 impl<N: Name> Model for FabricState<N> {
@@ -73,39 +59,6 @@ impl<N: Name> Model for FabricState<N> {
     ghost invariant = { λ f. (N.parts ≡ MAX_WORKERS) × IsBooked N.scenario f.book.total
         (shared_with (state_in f.ticks f.before f.records.records f.agenda.items f.agenda.next) f.batches.running f.batches.taken)
         f.before f.records.room f.records.records f.ticks.calendar };
-}
-
-/// How many bytes an event brings.
-fn bytes_of(event: &Event) -> usize
-    ensures { result ≡ shared.bytes_of event.now }
-{
-    match event {
-        Event::Deliver(parcel) => parcel.get().frame.len(),
-        Event::Cut(kept, _) => *kept as usize,
-        Event::Tick(_) | Event::Alarm | Event::Crash | Event::Restart(_) => 0,
-    }
-}
-
-/// Whether some item brings this many bytes or more.
-fn bring(items: &[Item], bytes: usize) -> bool
-    ensures { result ≡ list_any (λ i. nat_le bytes (shared.bytes_of i.event)) items.now }
-{
-    items.iter().any(|item| bytes <= bytes_of(&item.event))
-}
-
-/// Whether a tick that begins with these items is done sooner by those that are awake than others are woken. It is not where
-/// a long frame arrives: whole logs take long.
-fn begins_small(items: &[Item], lately: usize) -> bool {
-    lately < MANY && !bring(items, LONG_BODY)
-}
-
-/// Whether others most likely have as much to do in a tick in which a step sends this.
-fn are_much(sends: &Sends) -> bool {
-    MUCH <= sends.len()
-        || sends
-            .as_slice()
-            .iter()
-            .any(|sent| LONG_BODY <= sent.get().frame.len())
 }
 
 impl<N: Name> FabricState<N> {
@@ -134,9 +87,7 @@ impl<N: Name> FabricState<N> {
             before: 0,
             batches: OpenBatches::new(alloc, takes),
             book,
-            awake: workers,
-            lately: 0,
-            small: true,
+            pacing: Pacing::new(workers),
         };
         Ok((state, Share { held }))
     }
@@ -247,7 +198,7 @@ impl<N: Name> FabricState<N> {
             × ((lane.old ≡ steps_of lane.old.actor (records_of self.old.run)) × (lane.new ≡ with_step (next_record sends self.old) lane.old)))
             (λ _. (self.new ≡ self.old) × (lane.new ≡ lane.old)) }
     {
-        let small = self.small && !are_much(&sends);
+        self.pacing.add_step(&sends);
         let event = self.agenda.peek().event.copy(self.ticks.alloc)?;
         self.records
             .reserve_to(self.before + self.agenda.taken() + 1)?;
@@ -261,7 +212,6 @@ impl<N: Name> FabricState<N> {
             return Err(NoMemory);
         }
         self.agenda.take();
-        self.small = small;
         Ok(())
     }
 
@@ -305,27 +255,27 @@ impl<N: Name> FabricState<N> {
     }
 
     /// Whether the rest of the tick is done sooner by those that are awake than others are woken.
-    pub fn is_small(&self) -> bool {
-        self.small
+    pub fn is_light(&self) -> bool {
+        self.pacing.is_light()
     }
 
     /// A worker begins to wait.
     pub(crate) fn fall_asleep(&mut self)
         ensures { self.new ≡ self.old }
     {
-        self.awake = self.awake.saturating_sub(1);
+        self.pacing.fall_asleep();
     }
 
     /// A worker waits no more.
     pub(crate) fn wake_up(&mut self)
         ensures { self.new ≡ self.old }
     {
-        self.awake = self.awake.saturating_add(1);
+        self.pacing.wake_up();
     }
 
     /// Whether all other workers wait.
     pub fn is_alone(&self) -> bool {
-        self.awake == 1
+        self.pacing.is_alone()
     }
 
     /// Whether there is nothing to take before an open batch is done.
@@ -367,8 +317,7 @@ impl<N: Name> FabricState<N> {
         let memory = self.agenda.take_memory(self.ticks.alloc);
         let mut items = self.ticks.begin(memory)?;
         group(&mut items);
-        self.lately = items.len().max(self.lately / 2);
-        self.small = begins_small(&items, self.lately);
+        self.pacing.begin_tick(&items);
         self.agenda = Agenda::new(items);
         self.before = self.records.len();
         Ok(true)
