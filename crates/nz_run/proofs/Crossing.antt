@@ -1,4 +1,4 @@
--- The fabric may be shared by threads. The kinds in its calendar and its agenda have snapshots, of which rattle does not say
+-- The network may be shared by threads. The kinds in its calendar and its agenda have snapshots, of which rattle does not say
 -- so by itself.
 use denote.Param.SendFields.{declared_send}
 use denote.Param.Send.{IsSend, IsSync, sendable}
@@ -35,7 +35,7 @@ ticks_send = search (sendable, crosses, scenario_send, numbered_send, item_send,
 agenda_send : IsSend Agenda.the_row
 agenda_send = search (sendable, crosses, item_send) depth 40 fits 20000
 
--- the state of the fabric, field by field
+-- the state of the network, field by field
 inside_send : (N : RattleType) (name : _) (ledger : _) → IsSend N → IsSend (row (Inside.the_type N name ledger))
 inside_send N name ledger send =
     declared_send (Inside.the_type N name ledger) (

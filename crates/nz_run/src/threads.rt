@@ -16,7 +16,7 @@ use crate::stage::Stage;
 use crate::workers::{play_light_ticks, work_all};
 use nz_base::{MAX_WORKERS, NoMemory, Scenario, TryCopy};
 use nz_edge::Gate;
-use nz_fabric::{Fabric, FabricState, Name, Opened, Share};
+use nz_fabric::{Fabric, FabricState, Opened, RunName, Share};
 use std::alloc::Global;
 use std::marker::Brand;
 use std::sync::Wait;
@@ -24,7 +24,7 @@ use std::sync::ledger::Blank;
 use std::thread::Threads;
 
 /// Does what is left of the tick.
-fn finish<N: Name>(
+fn finish<N: RunName>(
     state: &mut FabricState<N>,
     share: &mut Share<N>,
     stage: &mut Stage<N>,
@@ -43,7 +43,7 @@ fn finish<N: Name>(
 
 /// All ticks, but what is left of them where memory runs out. One worker plays alone until a tick is not light, and only then
 /// are the others started. The whole share comes back, with no batch on it.
-fn play_ticks<N: Name + Send + Sync, R: Threads + Wait + Sync, G: Gate + Sync>(
+fn play_ticks<N: RunName + Send + Sync, R: Threads + Wait + Sync, G: Gate + Sync>(
     rt: &R,
     alloc: Global,
     state: FabricState<N>,
@@ -70,7 +70,7 @@ fn play_ticks<N: Name + Send + Sync, R: Threads + Wait + Sync, G: Gate + Sync>(
 }
 
 /// Does what the workers left. `None` where a batch was given up.
-fn finish_all<N: Name, R: Wait>(
+fn finish_all<N: RunName, R: Wait>(
     rt: &R,
     state: FabricState<N>,
     share: Share<N>,
@@ -94,7 +94,7 @@ fn finish_all<N: Name, R: Wait>(
 }
 
 /// A run under its name. `None` where it is to be done anew.
-fn run_named<N: Name + Send + Sync, R: Threads + Wait + Sync, G: Gate + Sync>(
+fn run_named<N: RunName + Send + Sync, R: Threads + Wait + Sync, G: Gate + Sync>(
     rt: &R,
     alloc: Global,
     blank: Blank,

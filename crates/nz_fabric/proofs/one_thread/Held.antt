@@ -1,4 +1,4 @@
--- What a fabric of one thread keeps.
+-- What the network of one thread keeps.
 use Rattle.std.proofs.Common.{◌≡◌, ℕ, zero, suc, ◌+◌, ◌<◌, ◌≤◌, Bool, true, false, List, [], ◌∷◌, ◌++◌, length, map, refl, sym, ap}
 use Rattle.std.proofs.Common.{◌∙◌, subst, arith, add-one, length-append, length-drop, take_all, take-append-drop, append-nil, append_assoc}
 use Rattle.std.specs.Prelude.{take, drop, reverse, IsPermutation}
@@ -11,10 +11,10 @@ use Rattle.nz_machine.specs.declared.event.Record.{Record}
 use Rattle.nz_machine.specs.declared.journal.Item.{Item}
 use Rattle.nz_machine.specs.runs.Schedule.{Posted, posted_by_run, item_of, due, InOrder, InOrderTo, IsPlayable}
 use Rattle.nz_machine.proofs.lists.ListParts.{take_next}
-use Rattle.nz_fabric.specs.declared.alone.turn.Turn.{Turn}
+use Rattle.nz_fabric.specs.declared.alone.open_item.OpenItem.{OpenItem}
 use Rattle.nz_fabric.specs.declared.schedule.ticks.Ticks.{Ticks}
 use Rattle.nz_fabric.specs.schedule.Calendars.{Dates, Represents, HasPosted, posted_by}
-use Rattle.nz_fabric.specs.alone.States.{State, records_of, start_state, IsNew, IsOpen, IsDone, item_in, record_of_turn, with_recorded}
+use Rattle.nz_fabric.specs.alone.States.{State, records_of, start_state, HasNotBegun, IsOpen, IsDone, item_in, record_of_open, with_recorded}
 use Rattle.nz_fabric.specs.alone.States.{after_tick, IsBegun, IsKeptRun, IsPosted, state_of, state_in, IsHeld, AreInOrder, HasBegun, HasBegunAs}
 use Rattle.nz_fabric.proofs.calendars.Dating.{posted_reverse}
 use Rattle.nz_fabric.proofs.calendars.Sending.{posted_append}
@@ -24,7 +24,7 @@ use Rattle.nz_fabric.proofs.calendars.Sending.{posted_append}
 pub posted_start : (s : Scenario) (c : Dates) → Represents s [] 0 c → IsPosted (start_state s) c
 posted_start s c h = record { sent = []; rest = []; prefix = refl; stands = h; none = λ _. refl }
 
-pub held_start : (s : Scenario) (t : Ticks) (records : List Record) (room : ℕ) → IsPlayable s → IsNew s t
+pub held_start : (s : Scenario) (t : Ticks) (records : List Record) (room : ℕ) → IsPlayable s → HasNotBegun s t
     → records ≡ [] → IsHeld (state_in t 0 records [] 0) 0 room records t.calendar
 held_start s t records room play new none =
     subst (λ (rs : List Record). IsHeld (state_in t 0 rs [] 0) 0 room rs t.calendar) (sym none)
@@ -49,8 +49,8 @@ held_start s t records room play new none =
 
 -- ---- one record more
 
-pub kept_record : (f : State) (turn : Turn) (sends : List Parcel) → IsKeptRun f → IsOpen f turn → IsKeptRun (with_recorded turn sends f)
-kept_record f turn sends k o =
+pub kept_record : (f : State) (opened : OpenItem) (sends : List Parcel) → IsKeptRun f → IsOpen f opened → IsKeptRun (with_recorded opened sends f)
+kept_record f opened sends k o =
     let taken = o.taken in
     record {
       playable = k.playable;
@@ -58,10 +58,10 @@ kept_record f turn sends k o =
       begun = k.begun;
       here = (o.is_next.tick, k.here);
       in_order =
-          ap (map item_of) (reverse_onto f.here (record_of_turn turn sends) [])
-          ∙ map-append item_of (reverse f.here) (record_of_turn turn sends ∷ [])
-          ∙ ap (λ (is : List Item). is ++ item_in turn ∷ []) k.in_order
-          ∙ sym (take_next f.items (length f.here) (item_in turn) o.is_next.item)
+          ap (map item_of) (reverse_onto f.here (record_of_open opened sends) [])
+          ∙ map-append item_of (reverse f.here) (record_of_open opened sends ∷ [])
+          ∙ ap (λ (is : List Item). is ++ item_in opened ∷ []) k.in_order
+          ∙ sym (take_next f.items (length f.here) (item_in opened) o.is_next.item)
           ∙ ap (λ (n : ℕ). take n f.items) (add-one (length f.here));
       next = k.next;
       least = omega (arith, taken);
@@ -112,11 +112,11 @@ posted_more f more marked c kept h = record {
 }
 
 pub held_record : (s : Scenario) (tick before room : ℕ) (records : List Record) (items : List Item) (next : ℕ)
-    (marked : Bool) (c : Dates) (turn : Turn) (sends : List Parcel)
-    → IsHeld (state_of s tick before records items next marked) before room records c → IsOpen (state_of s tick before records items next marked) turn
-    → IsHeld (state_of s tick before (records ++ record_of_turn turn sends ∷ []) items next marked) before room (records ++ record_of_turn turn sends ∷ []) c
-held_record s tick before room records items next marked c turn sends h o =
-    let r = record_of_turn turn sends in
+    (marked : Bool) (c : Dates) (opened : OpenItem) (sends : List Parcel)
+    → IsHeld (state_of s tick before records items next marked) before room records c → IsOpen (state_of s tick before records items next marked) opened
+    → IsHeld (state_of s tick before (records ++ record_of_open opened sends ∷ []) items next marked) before room (records ++ record_of_open opened sends ∷ []) c
+held_record s tick before room records items next marked c opened sends h o =
+    let r = record_of_open opened sends in
     let long = length-append records (r ∷ []) in
     let taken = o.taken in
     let here = long_here before records h.within in
@@ -124,7 +124,7 @@ held_record s tick before room records items next marked c turn sends h o =
     let few = own.few in
     subst (λ (f : State). IsHeld f before room (records ++ r ∷ []) c) (sym (state_records s tick before records (r ∷ []) items next marked h.within))
     (record {
-      kept = kept_record (state_of s tick before records items next marked) turn sends h.kept o;
+      kept = kept_record (state_of s tick before records items next marked) opened sends h.kept o;
       within = let le = h.within in omega (arith, long, le);
       few = omega (arith, long, here, taken, few);
       has_room = λ e. record { reserved = own.reserved; few = own.few };
@@ -159,7 +159,7 @@ in_order_by f (suc tick) e (before, items) k all = (
 
 -- all that was due was recorded, so the records are in order
 pub in_order_now : (f : State) → IsKeptRun f → IsDone f → InOrderTo f.scenario f.tick (records_of f)
-in_order_now f k d = in_order_by f f.tick refl k.begun k (sym d.quiet.closed ∙ d.all)
+in_order_now f k d = in_order_by f f.tick refl k.begun k (sym d.none_open.closed ∙ d.all)
 
 -- so they are once the last tick is over
 pub in_order_over : (f : State) → IsKeptRun f → IsDone f → f.tick ≡ f.scenario.ticks → InOrder f.scenario (records_of f)
@@ -329,7 +329,7 @@ posted_next f items c h =
       none = λ _. refl;
     }
 
--- ---- the next tick of a fabric of one thread
+-- ---- the next tick of one thread
 
 kept_next : (f : State) → IsKeptRun f → IsDone f → f.tick < f.scenario.ticks → IsKeptRun (after_tick f)
 kept_next f k d lt = record {
@@ -348,8 +348,8 @@ pub room_over : (s : Scenario) (tick before room : ℕ) (records : List Record) 
     → IsHeld (state_of s tick before records items next marked) before room records c
     → IsDone (state_of s tick before records items next marked) → length records ≤ room
 room_over s tick before room records items next marked c h d =
-    let reserved = (h.has_room d.quiet.unmarked).reserved in
-    let closed = d.quiet.closed in
+    let reserved = (h.has_room d.none_open.unmarked).reserved in
+    let closed = d.none_open.closed in
     let here = long_here before records h.within in omega (arith, here, closed, reserved)
 
 pub held_next : (s : Scenario) (tick before n room after : ℕ) (records : List Record) (items : List Item) (next : ℕ)
@@ -360,7 +360,7 @@ pub held_next : (s : Scenario) (tick before n room after : ℕ) (records : List 
 held_next s tick before n room after records items next marked c new is h d lt b long enough =
     let f = state_of s tick before records items next marked in
     let few = h.few in
-    subst (λ (g : State). IsHeld g n after records new.calendar) (sym (next_in_order s tick before n records items next marked new is b long d.quiet.unmarked))
+    subst (λ (g : State). IsHeld g n after records new.calendar) (sym (next_in_order s tick before n records items next marked new is b long d.none_open.unmarked))
     (record {
       kept = kept_next f h.kept d lt;
       within = omega (arith, long);
@@ -369,7 +369,7 @@ held_next s tick before n room after records items next marked c new is h d lt b
       is_posted = posted_next f (after_tick f).items new.calendar b.stands;
     })
 
--- no further turn is given
+-- no further item is given
 pub held_marked : (s : Scenario) (tick before room : ℕ) (records : List Record) (items : List Item) (next : ℕ) (marked : Bool) (c c' : Dates)
     → IsHeld (state_of s tick before records items next marked) before room records c
     → IsPosted (state_of s tick before records items next true) c' → IsHeld (state_of s tick before records items next true) before room records c'

@@ -1,4 +1,4 @@
--- What a fabric of threads keeps.
+-- What the network of several threads keeps.
 use Rattle.std.proofs.Common.{◌≡◌, ℕ, zero, suc, ◌+◌, ◌^◌, ◌<◌, ◌≤◌, Bool, true, false, List, [], ◌∷◌, ◌++◌, length, map}
 use Rattle.std.proofs.Common.{refl, sym, ap, ◌∙◌, subst, arith, length-append, append-nil, take_all}
 use Rattle.std.specs.Prelude.{take, drop, reverse, get_or, IsPermutation}
@@ -23,7 +23,7 @@ use Rattle.nz_fabric.specs.threads.Records.{AddsSome}
 use Rattle.nz_fabric.specs.threads.Steps.{batch_records, sends_from, step_of}
 use Rattle.nz_fabric.specs.declared.threads.batch.Batch.{Batch}
 use Rattle.nz_fabric.specs.declared.schedule.ticks.Ticks.{Ticks}
-use Rattle.nz_fabric.specs.alone.States.{State, records_of, IsNew, IsPosted, with_mark, after_tick, IsBegunInSomeOrder, state_of, state_in, HasBegunAs}
+use Rattle.nz_fabric.specs.alone.States.{State, records_of, HasNotBegun, IsPosted, with_mark, after_tick, IsBegunInSomeOrder, state_of, state_in, HasBegunAs}
 use Rattle.nz_fabric.specs.schedule.Calendars.{Dates}
 use Rattle.nz_fabric.specs.threads.Shared.{Shared, shared_with, items_of, IsNextOf, with_opened, after_shared, IsOver, IsAccounted, IsBooked}
 use Rattle.nz_fabric.specs.threads.Shared.{HasNext, next_item, next_record, no_item, with_next}
@@ -33,7 +33,7 @@ use Rattle.nz_fabric.proofs.one_thread.Held.{no_records, long_here, state_record
 -- ---- the start
 
 pub booked_start : (s : Scenario) (total taken : ℕ) (t : Ticks) (records : List Record) (running : List Batch) (room : ℕ)
-    → IsPlayable s → IsNew s t → records ≡ [] → running ≡ [] → total ≡ 0
+    → IsPlayable s → HasNotBegun s t → records ≡ [] → running ≡ [] → total ≡ 0
     → IsBooked s total (shared_with (state_in t 0 records [] 0) running taken) 0 room records t.calendar
 booked_start s total taken t records running room play new no_record none nothing =
     subst (λ (rest : List Batch). IsBooked s total (shared_with (state_in t 0 records [] 0) rest taken) 0 room records t.calendar) (sym none)

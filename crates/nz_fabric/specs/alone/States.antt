@@ -1,4 +1,4 @@
--- What contracts see of a fabric of one thread, and what it keeps.
+-- What contracts see of the network of one thread, and what it keeps.
 use Rattle.std.specs.Prelude.{◌≡◌, ℕ, zero, suc, ◌+◌, ◌≤◌, ◌<◌, Bool, true, false, List, [], ◌∷◌, ◌++◌, length, map, take, drop, reverse, ◌^◌, Some}
 use Rattle.std.specs.Prelude.{slice_get, IsPermutation}
 use Rattle.std.specs.List.{AllByRecursion}
@@ -7,12 +7,12 @@ use Rattle.nz_machine.specs.declared.event.Parcel.{Parcel}
 use Rattle.nz_machine.specs.declared.event.Record.{Record}
 use Rattle.nz_machine.specs.declared.journal.Item.{Item}
 use Rattle.nz_machine.specs.runs.Schedule.{item, item_of, Posted, posted_by_run, calls, tick_item, actors_of, arrivals, due, InOrderTo, ScheduledTo, IsPlayable}
-use Rattle.nz_fabric.specs.declared.alone.turn.Turn.{Turn}
+use Rattle.nz_fabric.specs.declared.alone.open_item.OpenItem.{OpenItem}
 use Rattle.nz_fabric.specs.declared.schedule.ticks.Ticks.{Ticks}
 use Rattle.nz_fabric.specs.schedule.Calendars.{Dates, Represents, posted_by}
 
 -- The tick, the records of the ticks before it and those of the tick, both the newest first, what is due in the
--- tick, how many of it were taken, and whether a turn was given up or a tick could not begin.
+-- tick, how many of it were taken, and whether an item was given up or a tick could not begin.
 pub record State : Type 0 where
   pub scenario : Scenario
   pub tick : ℕ
@@ -30,43 +30,43 @@ records_of f = f.here ++ f.finished
 abbrev pub start_state : Scenario → State
 start_state s = record { scenario = s; tick = 0; finished = []; here = []; items = []; next = 0; marked = false }
 
--- The item of a turn.
-abbrev pub item_in : Turn → Item
-item_in turn = item turn.actor turn.event
+-- The item that was taken.
+abbrev pub item_in : OpenItem → Item
+item_in opened = item opened.actor opened.event
 
--- The record of a turn with what its step sent.
-abbrev pub record_of_turn : Turn → List Parcel → Record
-record_of_turn turn sends = record { tick = turn.tick; actor = turn.actor; event = turn.event; sends = sends }
+-- Its record, with what its step sent.
+abbrev pub record_of_open : OpenItem → List Parcel → Record
+record_of_open opened sends = record { tick = opened.tick; actor = opened.actor; event = opened.event; sends = sends }
 
--- No turn was given up, and none is open.
-pub record IsQuiet (f : State) : Type 0 where
+-- No item was given up, and none is open.
+pub record HasNoOpenItem (f : State) : Type 0 where
   pub unmarked : f.marked ≡ false
   pub closed : f.next ≡ length f.here
 
--- The turn of the next item.
-pub record IsNextTurn (f : State) (turn : Turn) : Type 0 where
-  pub number : turn.number ≡ length (records_of f) + 1
-  pub tick : turn.tick ≡ f.tick
-  pub item : slice_get f.items (length f.here) ≡ Some (item_in turn)
+-- It is the next item of the tick.
+pub record IsNextItem (f : State) (opened : OpenItem) : Type 0 where
+  pub number : opened.number ≡ length (records_of f) + 1
+  pub tick : opened.tick ≡ f.tick
+  pub item : slice_get f.items (length f.here) ≡ Some (item_in opened)
 
--- The turn is open: it was taken, and neither recorded nor given up.
-pub record IsOpen (f : State) (turn : Turn) : Type 0 where
+-- The item is open: it was taken, and neither recorded nor given up.
+pub record IsOpen (f : State) (opened : OpenItem) : Type 0 where
   pub unmarked : f.marked ≡ false
   pub taken : f.next ≡ length f.here + 1
-  pub is_next : IsNextTurn f turn
+  pub is_next : IsNextItem f opened
 
 -- All that is due in the tick was recorded.
 pub record IsDone (f : State) : Type 0 where
-  pub quiet : IsQuiet f
+  pub none_open : HasNoOpenItem f
   pub all : f.next ≡ length f.items
 
 -- The next item was taken.
 abbrev pub with_taken : State → State
 with_taken f = record f { next = f.next + 1 }
 
--- The turn was recorded, with what was sent.
-abbrev pub with_recorded : Turn → List Parcel → State → State
-with_recorded turn sends f = record f { here = record_of_turn turn sends ∷ f.here }
+-- The open item was recorded, with what was sent.
+abbrev pub with_recorded : OpenItem → List Parcel → State → State
+with_recorded opened sends f = record f { here = record_of_open opened sends ∷ f.here }
 
 -- No journal will come of the run.
 abbrev pub with_mark : State → State
@@ -106,7 +106,7 @@ pub record IsKeptRun (f : State) : Type 0 where
   pub least : length f.here ≤ f.next
   pub most : f.next ≤ length f.here + 1
 
--- The value of the code's fabric. All records, in memory or not, are one list, the oldest first, with this many before this tick.
+-- The value of the code's network. All records, in memory or not, are one list, the oldest first, with this many before this tick.
 abbrev pub state_of : Scenario → ℕ → ℕ → List Record → List Item → ℕ → Bool → State
 state_of s tick before records items next marked = record {
   scenario = s;
@@ -118,7 +118,7 @@ state_of s tick before records items next marked = record {
   marked = marked;
 }
 
--- The list has room for each turn that was taken.
+-- The list has room for each item that was taken.
 pub record HasRoom (f : State) (before room : ℕ) : Type 0 where
   pub reserved : before + f.next ≤ room
   pub few : before + f.next < 2 ^ 32
@@ -131,7 +131,7 @@ pub record IsPosted (f : State) (c : Dates) : Type 0 where
   pub stands : Represents f.scenario (posted_by_run f.finished ++ sent) f.tick c
   pub none : f.marked ≡ false → sent ≡ []
 
--- What the code keeps: while a turn is open its record has a place, and the calendar has what was sent.
+-- What the code keeps: while an item is open its record has a place, and the calendar has what was sent.
 pub record IsHeld (f : State) (before room : ℕ) (records : List Record) (c : Dates) : Type 0 where
   pub kept : IsKeptRun f
   pub within : before ≤ length records
@@ -151,7 +151,7 @@ abbrev pub state_in : Ticks → ℕ → List Record → List Item → ℕ → St
 state_in t before records items next = state_of t.scenario t.tick before records items next t.marked
 
 -- A run that has not begun.
-pub record IsNew (s : Scenario) (t : Ticks) : Type 0 where
+pub record HasNotBegun (s : Scenario) (t : Ticks) : Type 0 where
   pub state : state_in t 0 [] [] 0 ≡ start_state s
   pub stands : Represents s [] 0 t.calendar
 

@@ -1,4 +1,4 @@
--- What contracts see of a fabric of threads, and what it keeps.
+-- What contracts see of the network of several threads, and what it keeps.
 use Rattle.std.specs.Prelude.{◌≡◌, ◌⊎◌, ℕ, ◌+◌, ◌≤◌, ◌<◌, ◌^◌, ◌==◌, Bool, false, List, [], ◌∷◌, ◌++◌, length}
 use Rattle.std.specs.Prelude.{map, take, drop, reverse, get_or, unwrap_or, IsPermutation, MatchBool}
 use Rattle.std.specs.Prelude.{Option, Result, MatchOption, MatchResult}

@@ -116,7 +116,7 @@ impl Agenda {
     }
 
     /// How many were taken.
-    pub fn taken(&self) -> usize
+    pub fn taken_count(&self) -> usize
         ensures { result ≡ self.now.next }
     {
         self.next

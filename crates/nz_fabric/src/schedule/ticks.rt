@@ -29,11 +29,11 @@ impl Ticks {
     ghost use Rattle.nz_base.specs.declared.limits.TheConstants.{MAX_TICKS};
     ghost use Rattle.nz_machine.specs.runs.Schedule.{Posted};
     ghost use Rattle.nz_fabric.specs.schedule.Calendars.{Represents};
-    ghost use Rattle.nz_fabric.specs.alone.States.{HasBegun, IsNew};
+    ghost use Rattle.nz_fabric.specs.alone.States.{HasBegun, HasNotBegun};
 
     /// A run that has not begun.
     pub fn new(alloc: Global, scenario: Scenario) -> Result<Ticks, NoMemory>
-        ensures { IfOk result (IsNew scenario) }
+        ensures { IfOk result (HasNotBegun scenario) }
     {
         let calls = calls_of(alloc, scenario.faults.as_slice())?;
         let calendar = Calendar::new(alloc, &scenario.faults);

@@ -5,7 +5,7 @@ ghost use mathlib.Core.List.{IsPrefix};
 ghost use Rattle.nz_fabric.specs.threads.Chronicles.{head_of};
 
 use crate::threads::batch::Batch;
-use crate::threads::name::Name;
+use crate::threads::run_name::RunName;
 use logbook::{Gain, Offer, Plain, Play, Rule, Start, Word};
 use nz_machine::Record;
 use std::marker::{Model, PhantomData};
@@ -65,20 +65,20 @@ pub trait Booked {
 }
 
 /// The records of the run of this name.
-pub struct RecordsOf<N: Name> {
+pub struct RecordsOf<N: RunName> {
     of: PhantomData<N>,
 }
 
-impl<N: Name> Booked for RecordsOf<N> {
+impl<N: RunName> Booked for RecordsOf<N> {
     ghost book = { N.chronicles.records };
 }
 
 /// The takes of the run of this name.
-pub struct TakesOf<N: Name> {
+pub struct TakesOf<N: RunName> {
     of: PhantomData<N>,
 }
 
-impl<N: Name> Booked for TakesOf<N> {
+impl<N: RunName> Booked for TakesOf<N> {
     ghost book = { N.chronicles.takes };
 }
 

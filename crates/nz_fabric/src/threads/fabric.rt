@@ -1,17 +1,17 @@
 //! The lock around the network of several threads.
 
 use crate::threads::fabric_state::FabricState;
-use crate::threads::name::Name;
+use crate::threads::run_name::RunName;
 use std::sync::{Condvar, Mutex, MutexGuard, Wait};
 
 /// The state of a run on several threads, under its lock.
 #[derive(Drop)]
-pub struct Fabric<N: Name> {
+pub struct Fabric<N: RunName> {
     state: Mutex<FabricState<N>>,
     moved: Condvar,
 }
 
-impl<N: Name> Fabric<N> {
+impl<N: RunName> Fabric<N> {
     pub fn new(state: FabricState<N>) -> Fabric<N> {
         Fabric {
             state: Mutex::new(state),

@@ -20,10 +20,10 @@ use crate::threads::batch::Batch;
 use crate::threads::chronicle::Opened;
 use crate::threads::grouping::group;
 use crate::threads::lane::Lane;
-use crate::threads::name::Name;
 use crate::threads::open_batches::{OpenBatches, Taken};
 use crate::threads::pacing::Pacing;
 use crate::threads::records::Records;
+use crate::threads::run_name::RunName;
 use crate::threads::share::Share;
 use nz_base::{Actor, NoMemory, Scenario, TryCopy};
 use nz_machine::{Item, Journal, Record, Sends};
@@ -34,7 +34,7 @@ use std::sync::ledger::{Blank, Book};
 /// The network of a run on several threads: what is due, the batches that are open, and the journal, in which the
 /// records of a tick are in any order.
 #[derive(Drop)]
-pub struct FabricState<N: Name> {
+pub struct FabricState<N: RunName> {
     ticks: Ticks,
     /// What is due in the tick.
     agenda: Agenda,
@@ -46,7 +46,7 @@ pub struct FabricState<N: Name> {
     pacing: Pacing,
 }
 
-impl<N: Name> Model for FabricState<N> {
+impl<N: RunName> Model for FabricState<N> {
     ghost use Rattle.std.specs.Prelude.{◌≡◌};
     ghost use Rattle.nz_fabric.specs.alone.States.{state_in};
     ghost use Rattle.nz_fabric.specs.threads.Shared.{Shared, IsBooked, shared_with};
@@ -61,7 +61,7 @@ impl<N: Name> Model for FabricState<N> {
         f.before f.records.room f.records.records f.ticks.calendar };
 }
 
-impl<N: Name> FabricState<N> {
+impl<N: RunName> FabricState<N> {
     /// A run that has not begun, and the whole share. So many workers begin it, and none of them waits.
     pub fn new(
         alloc: Global,
@@ -201,7 +201,7 @@ impl<N: Name> FabricState<N> {
         self.pacing.add_step(&sends);
         let event = self.agenda.peek().event.copy(self.ticks.alloc)?;
         self.records
-            .reserve_to(self.before + self.agenda.taken() + 1)?;
+            .reserve_to(self.before + self.agenda.taken_count() + 1)?;
         let step = Record {
             tick: self.ticks.tick,
             actor: lane.actor(),

@@ -8,7 +8,7 @@ ghost use Rattle.nz_fabric.specs.threads.Takes.{batch_of, batches_with, with_one
 
 use crate::threads::batch::Batch;
 use crate::threads::chronicle::{Chronicle, Seen, TakesOf, Unnamed};
-use crate::threads::name::Name;
+use crate::threads::run_name::RunName;
 use nz_base::{Actor, List, NoMemory};
 use nz_machine::Event;
 use std::alloc::Global;
@@ -18,12 +18,12 @@ use std::marker::Model;
 const MAX_BATCHES: u64 = 1 << 32;
 
 /// A batch of a run on several threads. It is the take of its number, which the proofs alone know.
-pub struct Taken<N: Name> {
+pub struct Taken<N: RunName> {
     batch: Batch,
     seen: Seen<Batch, TakesOf<N>>,
 }
 
-impl<N: Name> Model for Taken<N> {
+impl<N: RunName> Model for Taken<N> {
     ghost use Rattle.std.specs.Prelude.{◌<◌, length};
     ghost use Rattle.nz_fabric.specs.declared.threads.batch.Batch.{Batch};
     ghost use Rattle.nz_fabric.specs.threads.Takes.{IsTake};
@@ -35,7 +35,7 @@ impl<N: Name> Model for Taken<N> {
     ghost invariant = { λ t. IsTake t.seen t.batch × (0 < length t.batch.events) };
 }
 
-impl<N: Name> Taken<N> {
+impl<N: RunName> Taken<N> {
     pub fn batch(&self) -> &Batch
         ensures { result.now ≡ self.now }
     {
@@ -54,7 +54,7 @@ impl<N: Name> Taken<N> {
 
 /// The open batches of a run, beside its takes. It keeps their numbers. The batch of each is the take of its number.
 #[derive(Drop)]
-pub struct OpenBatches<N: Name> {
+pub struct OpenBatches<N: RunName> {
     numbers: Vec<u64>,
     /// How many were taken.
     taken: u64,
@@ -62,7 +62,7 @@ pub struct OpenBatches<N: Name> {
     seen: Seen<Batch, TakesOf<N>>,
 }
 
-impl<N: Name> Model for OpenBatches<N> {
+impl<N: RunName> Model for OpenBatches<N> {
     ghost use Rattle.std.specs.Prelude.{◌≡◌, length, map};
     ghost use Rattle.nz_fabric.specs.threads.Takes.{Batches, AreTakes, batch_in, batches_with};
 
@@ -73,7 +73,7 @@ impl<N: Name> Model for OpenBatches<N> {
     ghost invariant = { λ t. (t.taken ≡ length t.seen) × AreTakes t.seen (map (batch_in t.seen) t.numbers.items) };
 }
 
-impl<N: Name> OpenBatches<N> {
+impl<N: RunName> OpenBatches<N> {
     /// No batch was taken.
     pub fn new(alloc: Global, takes: Unnamed<Batch>) -> OpenBatches<N>
         requires { takes ≡ N.chronicles.takes }
@@ -95,7 +95,7 @@ impl<N: Name> OpenBatches<N> {
         self.numbers.is_empty()
     }
 
-    /// Opens a batch. Also `NoMemory` where another fabric of this name took one.
+    /// Opens a batch. Also `NoMemory` where another network of this name took one.
     pub fn take(&mut self, actor: Actor, events: List<Event>) -> Result<Taken<N>, NoMemory>
         requires some { 0 < length events }
         ensures { MatchResult result

@@ -10,7 +10,7 @@ ghost use Rattle.nz_fabric.specs.threads.Steps.{batch_records, node_after, sends
 use crate::schedule::course::number_in_all;
 use crate::threads::chronicle::{Chronicle, RecordsOf, Seen, Unnamed};
 use crate::threads::lane::Lane;
-use crate::threads::name::Name;
+use crate::threads::run_name::RunName;
 use nz_base::{Actor, List, NoMemory};
 use nz_machine::{Event, Record, Recording, Sends};
 use std::alloc::Global;
@@ -22,7 +22,7 @@ const ACTORS: usize = 768;
 /// The records of a run in the order of recording, which are its chronicle. Each sends what the machine says after
 /// those before it.
 #[derive(Drop)]
-pub struct Records<N: Name> {
+pub struct Records<N: RunName> {
     records: Recording,
     /// How many records each actor has.
     counts: Vec<u32>,
@@ -30,7 +30,7 @@ pub struct Records<N: Name> {
     seen: Seen<Record, RecordsOf<N>>,
 }
 
-impl<N: Name> Model for Records<N> {
+impl<N: RunName> Model for Records<N> {
     ghost use Rattle.std.specs.Prelude.{◌≡◌, reverse};
     ghost use Rattle.nz_machine.specs.journals.Records.{Recorded};
     ghost use Rattle.nz_machine.specs.runs.Schedule.{group_of};
@@ -53,7 +53,7 @@ fn place_of(actor: Actor) -> usize
     number_in_all(actor) as usize
 }
 
-impl<N: Name> Records<N> {
+impl<N: RunName> Records<N> {
     /// No record, and memory for the rows of this many clocks.
     pub fn new(
         alloc: Global,

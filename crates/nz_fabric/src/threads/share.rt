@@ -2,17 +2,17 @@
 
 ghost use Rattle.std.specs.Prelude.{◌≡◌, ◌+◌, ◌<◌};
 
-use crate::threads::name::Name;
+use crate::threads::run_name::RunName;
 use std::marker::Model;
 use std::sync::ledger;
 
 /// Some of the parts of the ledger of open batches, with how many batches are open on them.
 #[derive(Drop)]
-pub struct Share<N: Name> {
+pub struct Share<N: RunName> {
     pub(crate) held: ledger::Share<N>,
 }
 
-impl<N: Name> Model for Share<N> {
+impl<N: RunName> Model for Share<N> {
     ghost use Rattle.std.specs.Prelude.{◌<◌};
     ghost use Rattle.nz_fabric.specs.threads.Shared.{Holding};
 
@@ -23,7 +23,7 @@ impl<N: Name> Model for Share<N> {
     ghost invariant = { λ s. 0 < s.held.parts };
 }
 
-impl<N: Name> Share<N> {
+impl<N: RunName> Share<N> {
     /// A further share of one part.
     pub fn split(&mut self) -> Share<N>
         requires { 1 < self.old.parts }

@@ -10,7 +10,7 @@ use Rattle.nz_actor.proofs.state.ActorState.play.Goals as goal
 
 pub invariant_of-self-2 : goal.invariant_of-self-2
 invariant_of-self-2 g c =
-    let group = group_of g.N.Name.scenario in
+    let group = group_of g.N.RunName.scenario in
     let s = c.self.inside in
     let batch = c.args.batch in
     let es = c.as_slice.result.now in
@@ -26,7 +26,7 @@ invariant_of-self-2 g c =
 
 pub returns-clause-recorded : goal.returns-clause-recorded
 returns-clause-recorded g c =
-    let group = group_of g.N.Name.scenario in
+    let group = group_of g.N.RunName.scenario in
     let s = c.self.inside in
     let batch = c.args.batch in
     let es = c.as_slice.result.now in

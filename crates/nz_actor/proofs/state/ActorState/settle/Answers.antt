@@ -13,7 +13,7 @@ use Rattle.nz_actor.proofs.state.ActorState.settle.Goals as goal
 
 pub invariant_of-self-2 : goal.invariant_of-self-2
 invariant_of-self-2 g c =
-    let group = group_of g.N.Name.scenario in
+    let group = group_of g.N.RunName.scenario in
     let s = c.self.inside in
     let batch = c.args.batch in
     let es = c.as_slice.result.now in
@@ -29,7 +29,7 @@ invariant_of-self-2 g c =
 
 pub returns-clause-recorded : goal.returns-clause-recorded
 returns-clause-recorded g c =
-    let group = group_of g.N.Name.scenario in
+    let group = group_of g.N.RunName.scenario in
     let s = c.self.inside in
     let batch = c.args.batch in
     let es = c.as_slice.result.now in
@@ -43,7 +43,7 @@ returns-clause-recorded g c =
 
 pub returns-clause-fabric : goal.returns-clause-fabric
 returns-clause-fabric g c =
-    let group = group_of g.N.Name.scenario in
+    let group = group_of g.N.RunName.scenario in
     let s = c.self.inside in
     let batch = c.args.batch in
     let es = c.as_slice.result.now in

@@ -14,7 +14,7 @@ use Rattle.nz_actor.proofs.state.ActorState.step_next.Goals as goal
 
 pub invariant_of-self-2 : goal.invariant_of-self-2
 invariant_of-self-2 g c =
-    let group = group_of g.N.Name.scenario in
+    let group = group_of g.N.RunName.scenario in
     let s = c.self.inside in
     let f = c.args.fabric.now in
     let there = c.self.invariant.there (ap (λ (a : Acting). a.ready) c.self.view_is ∙ c.requires.ready) in
@@ -26,7 +26,7 @@ invariant_of-self-2 g c =
 
 pub returns-clause-recorded : goal.returns-clause-recorded
 returns-clause-recorded g c =
-    let group = group_of g.N.Name.scenario in
+    let group = group_of g.N.RunName.scenario in
     let s = c.self.inside in
     let f = c.args.fabric.now in
     let there = c.self.invariant.there (ap (λ (a : Acting). a.ready) c.self.view_is ∙ c.requires.ready) in
@@ -38,7 +38,7 @@ returns-clause-recorded g c =
 
 pub returns-clause-fabric : goal.returns-clause-fabric
 returns-clause-fabric g c =
-    let group = group_of g.N.Name.scenario in
+    let group = group_of g.N.RunName.scenario in
     let s = c.self.inside in
     let f = c.args.fabric.now in
     let there = c.self.invariant.there (ap (λ (a : Acting). a.ready) c.self.view_is ∙ c.requires.ready) in

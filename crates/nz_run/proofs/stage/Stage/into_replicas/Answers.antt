@@ -8,7 +8,7 @@ use Rattle.nz_run.proofs.stage.Stage.into_replicas.Goals as goal
 
 pub loop-cell-preserved : goal.loop-cell-preserved
 loop-cell-preserved g c =
-    let G = group_of g.N.Name.scenario in
+    let G = group_of g.N.RunName.scenario in
     let J = records_of c.args.state.now.run in
     let core = c.in-Some-replica_at.replica in
     let cores = c.loop-cell.replicas.items in

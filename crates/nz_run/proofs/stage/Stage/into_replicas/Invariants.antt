@@ -5,4 +5,4 @@ use Rattle.nz_replica.specs.Models.{AreCores}
 use Rattle.nz_run.proofs.stage.Stage.into_replicas.Given as goal
 
 abbrev pub invariant-loop-cell : goal.invariant-loop-cell
-invariant-loop-cell g l = AreCores (group_of g.N.Name.scenario) (records_of l.state.run) l.replicas.items
+invariant-loop-cell g l = AreCores (group_of g.N.RunName.scenario) (records_of l.state.run) l.replicas.items

@@ -36,10 +36,10 @@ returns-clause-scheduled g c =
     scheduled_now _ (shared_with f i.batches.running i.batches.taken) k (subst IsOver (sym c.self.view_is) c.requires.over) in
     let last : f.tick ≡ f.scenario.ticks = subst (λ (f : Shared). f.run.tick ≡ f.run.scenario.ticks) (sym c.self.view_is) c.requires.last in
     let whole : Scheduled f.scenario J = subst (λ (n : ℕ). ScheduledTo f.scenario n J) last order in
-    subst (λ (J : List Record). Scheduled g.N.Name.scenario J)
+    subst (λ (J : List Record). Scheduled g.N.RunName.scenario J)
     (sym (ap reverse (c.into_list.ensures ∙ ap (λ (r : Recorded). r.records) c.into_recording.ensures.records) ∙ sym (all_records i.before i.records.records)))
     (subst (λ (s : Scenario). Scheduled s J) k.scenario whole)
 
 pub returns-clause-steps : goal.returns-clause-steps
 returns-clause-steps g c =
-    subst (λ (rs : List Record). AreSteps (group_of g.N.Name.scenario) (reverse rs)) (sym c.into_list.ensures) c.into_recording.ensures.steps
+    subst (λ (rs : List Record). AreSteps (group_of g.N.RunName.scenario) (reverse rs)) (sym c.into_list.ensures) c.into_recording.ensures.steps

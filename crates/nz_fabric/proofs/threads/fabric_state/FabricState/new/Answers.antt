@@ -15,7 +15,7 @@ invariant_of-state g c =
     let batches = c.new-5.result in
     let total = c.open-book.result.0.total in (
       omega (arith, c.requires.name),
-      subst (λ (p : Progress). IsBooked g.N.Name.scenario total
+      subst (λ (p : Progress). IsBooked g.N.RunName.scenario total
           (shared_with (state_in t 0 records.records p.items p.next) batches.running batches.taken) 0 records.room records.records t.calendar)
           (sym (c.new-4.ensures ∙ ap at_start c.new-3.ensures.items))
           (subst (λ (s : Scenario). IsBooked s total (shared_with (state_in t 0 records.records [] 0) batches.running batches.taken) 0

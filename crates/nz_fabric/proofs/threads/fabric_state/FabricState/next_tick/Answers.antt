@@ -41,10 +41,10 @@ invariant_of-self-in_err-items g c =
     booked_marked _ f.book.total f.batches.taken t.scenario t.tick f.before f.records.room rs f.agenda.items f.agenda.next t.marked
     f.batches.running t.calendar now inv posted in (
       c.self.invariant.0,
-      subst (λ (p : Progress). IsBooked g.N.Name.scenario f.book.total
+      subst (λ (p : Progress). IsBooked g.N.RunName.scenario f.book.total
           (shared_with (state_in c.begin.new.self f.before rs p.items p.next) f.batches.running f.batches.taken)
           f.before f.records.room rs c.begin.new.self.calendar) (sym c.take_memory-memory.ensures)
-          (subst (λ (t : Ticks). IsBooked g.N.Name.scenario f.book.total
+          (subst (λ (t : Ticks). IsBooked g.N.RunName.scenario f.book.total
           (shared_with (state_in t f.before rs f.agenda.items f.agenda.next) f.batches.running f.batches.taken)
           f.before f.records.room rs t.calendar) (sym c.in_err-items.ensures.err) booked),
     )

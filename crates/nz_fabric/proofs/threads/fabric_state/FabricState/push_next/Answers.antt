@@ -18,7 +18,7 @@ push-requires-clause-few g c =
     let t = f.ticks in
     let long = booked_long _ f.book.total f.batches.taken t.scenario t.tick f.before f.records.room f.records.records f.agenda.items f.agenda.next t.marked
     t.calendar f.batches.running c.self.invariant.1 in
-    omega (arith, long, c.in_ok-reserve_to.ensures.few, c.taken.ensures, ap (λ (rs : List Record). length rs) c.reserve_to.ensures.records)
+    omega (arith, long, c.in_ok-reserve_to.ensures.few, c.taken_count.ensures, ap (λ (rs : List Record). length rs) c.reserve_to.ensures.records)
 
 pub push-requires-clause-room : goal.push-requires-clause-room
 push-requires-clause-room g c =
@@ -26,7 +26,7 @@ push-requires-clause-room g c =
     let t = f.ticks in
     let long = booked_long _ f.book.total f.batches.taken t.scenario t.tick f.before f.records.room f.records.records f.agenda.items f.agenda.next t.marked
     t.calendar f.batches.running c.self.invariant.1 in
-    omega (arith, long, c.in_ok-reserve_to.ensures.all, c.taken.ensures, ap (λ (rs : List Record). length rs) c.reserve_to.ensures.records)
+    omega (arith, long, c.in_ok-reserve_to.ensures.all, c.taken_count.ensures, ap (λ (rs : List Record). length rs) c.reserve_to.ensures.records)
 
 pub invariant_of-self-2 : goal.invariant_of-self-2
 invariant_of-self-2 g c =
@@ -42,7 +42,7 @@ invariant_of-self-2 g c =
       rw (c.take.ensures.items, c.take.ensures.next, c.if-not-push.ensures.room, c.if-not-push.ensures.pushed.0, c.reserve_to.ensures.records)
           (booked_next_item _ f.book.total f.batches.taken t.scenario t.tick f.before f.records.room c.reserve_to.new.self.room rs f.agenda.items f.agenda.next t.marked
           t.calendar f.batches.running c.args.sends _ c.self.invariant.1 has is
-          (omega (arith, c.in_ok-reserve_to.ensures.all, c.taken.ensures)) (omega (arith, c.in_ok-reserve_to.ensures.few, c.taken.ensures))),
+          (omega (arith, c.in_ok-reserve_to.ensures.all, c.taken_count.ensures)) (omega (arith, c.in_ok-reserve_to.ensures.few, c.taken_count.ensures))),
     )
 
 pub returns : goal.returns

@@ -76,7 +76,7 @@ invariant_of-self-then-not-push_all g c =
     let agreed : b ≡ c.args.batch =
     c.agree.ensures i no_batch out.place (sym (out.number no_batch) ∙ c.if-found-number.false ∙ ap (λ (b : Batch). b.number) c.into_batch-number.ensures.batch) in
     let same : b ≡ taken = agreed ∙ sym c.into_batch-number.ensures.batch in
-    let G = group_of g.N.Name.scenario in
+    let G = group_of g.N.RunName.scenario in
     let n = node_after G c.args.lane.now in
     let sent : c.args.sends.items ≡ sends_from G n b.events = c.requires.sent ∙ ap (λ (b : Batch). sends_from G n b.events) (sym agreed) in
     let own : taken.actor ≡ c.args.lane.now.actor = ap (λ (b : Batch). b.actor) c.into_batch-number.ensures.batch ∙ c.requires.own in
@@ -104,7 +104,7 @@ invariant_of-self-else-not-push_all g c =
     let agreed : b ≡ c.args.batch =
     c.agree.ensures i no_batch out.place (sym (out.number no_batch) ∙ c.if-found-number.false ∙ ap (λ (b : Batch). b.number) c.into_batch-number.ensures.batch) in
     let same : b ≡ taken = agreed ∙ sym c.into_batch-number.ensures.batch in
-    let G = group_of g.N.Name.scenario in
+    let G = group_of g.N.RunName.scenario in
     let n = node_after G c.args.lane.now in
     let sent : c.args.sends.items ≡ sends_from G n b.events = c.requires.sent ∙ ap (λ (b : Batch). sends_from G n b.events) (sym agreed) in
     let own : taken.actor ≡ c.args.lane.now.actor = ap (λ (b : Batch). b.actor) c.into_batch-number.ensures.batch ∙ c.requires.own in

@@ -38,7 +38,7 @@ invariant_of-self-2 g c =
     (c.requires.own ∙ sym (ap (λ (own : ActorSteps). own.actor) c.lane.view_is)) (sym c.lane.invariant ∙ c.if-lane-count.false ∙ read) in
     let own : c.args.lane.now ≡ steps_of step.actor J = sym c.lane.view_is ∙ seen in
     let turned : reverse (f.records.records ++ step ∷ []) ≡ step ∷ J = reverse-append f.records.records (step ∷ []) in
-    let G = group_of g.N.Name.scenario in
+    let G = group_of g.N.RunName.scenario in
     rw (c.push_reserved.ensures.records) (
       grown.0 ∙ ap (λ (rs : List Record). rs ++ step ∷ []) inv.0,
       subst (λ (K : List Record). AreCounts K (slice_set f.counts.items c.place_of-place.result (c.index-count.result.now + 1))) (sym turned)

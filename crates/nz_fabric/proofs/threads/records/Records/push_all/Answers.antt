@@ -12,7 +12,7 @@ use Rattle.nz_fabric.proofs.threads.records.Records.push_all.Goals as goal
 
 pub loop-event-init : goal.loop-event-init
 loop-event-init g c =
-    let G = group_of g.N.Name.scenario in
+    let G = group_of g.N.RunName.scenario in
     let b : Batched = record { tick = c.args.tick; actor = c.actor-actor.result; events = c.args.events; sends = c.args.sends.items } in
     let own = c.args.lane.now in
     let records = c.args.self.now.records in
@@ -34,7 +34,7 @@ loop-event-init g c =
 
 pub push-requires : goal.push-requires
 push-requires g c =
-    let G = group_of g.N.Name.scenario in
+    let G = group_of g.N.RunName.scenario in
     let b : Batched = record { tick = c.args.tick; actor = c.actor-actor.result; events = c.args.events; sends = c.args.sends.items } in
     let i = c.loop-event.invariant in
     let left = c.next.new.self in
@@ -57,7 +57,7 @@ push-requires g c =
 
 pub returns-then-not-push : goal.returns-then-not-push
 returns-then-not-push g c =
-    let G = group_of g.N.Name.scenario in
+    let G = group_of g.N.RunName.scenario in
     let b : Batched = record { tick = c.args.tick; actor = c.actor-actor.result; events = c.args.events; sends = c.args.sends.items } in
     let i = c.loop-event.invariant in
     let same = c.if-not-push.ensures.pushed in
@@ -75,7 +75,7 @@ returns-then-not-push g c =
 
 pub loop-event-preserved : goal.loop-event-preserved
 loop-event-preserved g c =
-    let G = group_of g.N.Name.scenario in
+    let G = group_of g.N.RunName.scenario in
     let b : Batched = record { tick = c.args.tick; actor = c.actor-actor.result; events = c.args.events; sends = c.args.sends.items } in
     let i = c.loop-event.invariant in
     let left = c.next.new.self in
@@ -95,7 +95,7 @@ loop-event-preserved g c =
 
 pub returns : goal.returns
 returns g c =
-    let G = group_of g.N.Name.scenario in
+    let G = group_of g.N.RunName.scenario in
     let a = c.actor-actor.result in
     let b : Batched = record { tick = c.args.tick; actor = a; events = c.args.events; sends = c.args.sends.items } in
     let i = c.loop-event.invariant in

@@ -5,7 +5,7 @@ use std::sync::ledger::Ledger;
 
 /// A type that names one run, so that values under locks are known to belong to it. The call that begins a run picks
 /// it.
-pub trait Name: Ledger {
+pub trait RunName: Ledger {
     ghost use Rattle.nz_base.specs.declared.scenario.Scenario.{Scenario};
     ghost use Rattle.nz_fabric.specs.threads.Chronicles.{Chronicles};
 
@@ -16,7 +16,7 @@ pub trait Name: Ledger {
     ghost chronicles: { Chronicles };
 }
 
-impl Name for Brand {
+impl RunName for Brand {
     ghost use Rattle.nz_fabric.specs.threads.Chronicles.{no_chronicles};
     ghost use Rattle.nz_fabric.specs.threads.Shared.{no_scenario};
 

@@ -1,4 +1,4 @@
-//! A turn of a run on one thread: a due item that was taken.
+//! A due item that was taken, of a run on one thread.
 
 ghost use Rattle.std.specs.Prelude.{◌≡◌};
 
@@ -6,20 +6,20 @@ use nz_base::Actor;
 use nz_machine::Event;
 
 /// A due item that was taken. It must be recorded or given up.
-pub struct Turn {
-    /// The turns of a run are numbered from 1 on, as they are taken.
+pub struct OpenItem {
+    /// The items of a run are numbered from 1 on, as they are taken.
     pub number: u64,
     pub tick: u32,
     pub actor: Actor,
     pub event: Event,
 }
 
-impl Turn {
-    /// The number, when the turn is spent.
+impl OpenItem {
+    /// The number, when the item is spent.
     pub(crate) fn into_number(self) -> u64
         ensures { result ≡ self.number }
     {
-        let Turn {
+        let OpenItem {
             number,
             tick: _,
             actor: _,
