@@ -114,7 +114,8 @@ posted_more f more marked c kept h = record {
 pub held_record : (s : Scenario) (tick before room : ℕ) (records : List Record) (items : List Item) (next : ℕ)
     (marked : Bool) (c : Dates) (opened : OpenItem) (sends : List Parcel)
     → IsHeld (state_of s tick before records items next marked) before room records c → IsOpen (state_of s tick before records items next marked) opened
-    → IsHeld (state_of s tick before (records ++ record_of_open opened sends ∷ []) items next marked) before room (records ++ record_of_open opened sends ∷ []) c
+    → IsHeld (state_of s tick before (records ++ record_of_open opened sends ∷ []) items next marked) before room
+    (records ++ record_of_open opened sends ∷ []) c
 held_record s tick before room records items next marked c opened sends h o =
     let r = record_of_open opened sends in
     let long = length-append records (r ∷ []) in
@@ -360,7 +361,8 @@ pub held_next : (s : Scenario) (tick before n room after : ℕ) (records : List 
 held_next s tick before n room after records items next marked c new is h d lt b long enough =
     let f = state_of s tick before records items next marked in
     let few = h.few in
-    subst (λ (g : State). IsHeld g n after records new.calendar) (sym (next_in_order s tick before n records items next marked new is b long d.none_open.unmarked))
+    subst (λ (g : State). IsHeld g n after records new.calendar)
+    (sym (next_in_order s tick before n records items next marked new is b long d.none_open.unmarked))
     (record {
       kept = kept_next f h.kept d lt;
       within = omega (arith, long);

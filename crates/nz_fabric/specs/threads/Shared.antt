@@ -13,11 +13,14 @@ use Rattle.nz_machine.specs.declared.event.Event.TheVariants.{Alarm, Deliver, Cu
 use Rattle.nz_machine.specs.declared.event.Parcel.{Parcel}
 use Rattle.nz_machine.specs.declared.event.Record.{Record}
 use Rattle.nz_machine.specs.declared.journal.Item.{Item}
+use Rattle.nz_machine.specs.journals.Records.{Recorded}
 use Rattle.nz_machine.specs.runs.Schedule.{item, item_of, IsPlayable}
 use Rattle.nz_fabric.specs.declared.threads.batch.Batch.{Batch}
-use Rattle.nz_fabric.specs.threads.Takes.{no_batch}
+use Rattle.nz_fabric.specs.declared.schedule.ticks.Ticks.{Ticks}
+use Rattle.nz_fabric.specs.threads.Takes.{Batches, no_batch}
+use Rattle.nz_fabric.specs.schedule.Agendas.{Progress}
 use Rattle.nz_fabric.specs.schedule.Calendars.{Dates}
-use Rattle.nz_fabric.specs.alone.States.{State, start_state, IsPosted, with_mark, after_tick, IsBegunInSomeOrder}
+use Rattle.nz_fabric.specs.alone.States.{State, start_state, state_of, IsPosted, with_mark, after_tick, IsBegunInSomeOrder}
 use Rattle.nz_fabric.specs.threads.Steps.{batch_records, step_of}
 
 -- The run; the batches that are open: they were taken, and neither recorded nor given up; and how many were taken in all.
@@ -179,12 +182,44 @@ pub record IsAccounted (s : Scenario) (f : Shared) : Type 0 where
   pub each_once : IsPermutation (take f.run.next f.run.items) ((given_up ++ flat_map items_of f.running) ++ map item_of f.run.here)
   pub all_kept : f.run.marked ≡ false → given_up ≡ []
 
+-- The network as its code has it: the tick and the calendar, the records with their room, how many there were before this
+-- tick, what is due, the open batches, and how many of these the ledger counts.
+pub record Booking : Type 0 where
+  pub scenario : Scenario
+  pub tick : ℕ
+  pub marked : Bool
+  pub calendar : Dates
+  pub before : ℕ
+  pub records : Recorded
+  pub agenda : Progress
+  pub batches : Batches
+  pub total : ℕ
+
+-- These parts of the network.
+abbrev pub booking_of : Ticks → ℕ → Recorded → Progress → Batches → ℕ → Booking
+booking_of t before records agenda batches total = record {
+  scenario = t.scenario;
+  tick = t.tick;
+  marked = t.marked;
+  calendar = t.calendar;
+  before = before;
+  records = records;
+  agenda = agenda;
+  batches = batches;
+  total = total;
+}
+
+-- What contracts see of them.
+abbrev pub shared_of : Booking → Shared
+shared_of k =
+    shared_with (state_of k.scenario k.tick k.before k.records.records k.agenda.items k.agenda.next k.marked) k.batches.running k.batches.taken
+
 -- What the code keeps: the journal has a place for each item that was taken, the ledger counts the open batches, and the
 -- calendar has what was sent.
-pub record IsBooked (s : Scenario) (total : ℕ) (f : Shared) (before room : ℕ) (records : List Record) (c : Dates) : Type 0 where
-  pub accounted : IsAccounted s f
-  pub within : before ≤ length records
-  pub few : before + f.run.next < 2 ^ 32
-  pub reserved : before + f.run.next ≤ room
-  pub is_posted : IsPosted f.run c
-  pub booked : total ≡ length f.running
+pub record IsBooked (s : Scenario) (k : Booking) : Type 0 where
+  pub accounted : IsAccounted s (shared_of k)
+  pub within : k.before ≤ length k.records.records
+  pub few : k.before + k.agenda.next < 2 ^ 32
+  pub reserved : k.before + k.agenda.next ≤ k.records.room
+  pub is_posted : IsPosted (shared_of k).run k.calendar
+  pub booked : k.total ≡ length k.batches.running

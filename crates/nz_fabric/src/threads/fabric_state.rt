@@ -48,17 +48,15 @@ pub struct FabricState<N: RunName> {
 
 impl<N: RunName> Model for FabricState<N> {
     ghost use Rattle.std.specs.Prelude.{◌≡◌};
-    ghost use Rattle.nz_fabric.specs.alone.States.{state_in};
-    ghost use Rattle.nz_fabric.specs.threads.Shared.{Shared, IsBooked, shared_with};
+    ghost use Rattle.nz_fabric.specs.threads.Shared.{Shared, IsBooked, booking_of, shared_of};
     ghost use Rattle.nz_base.specs.declared.limits.TheConstants.{MAX_WORKERS};
 
     ghost Value = { Shared };
 
-    ghost view = { λ f. shared_with (state_in f.ticks f.before f.records.records f.agenda.items f.agenda.next) f.batches.running f.batches.taken };
+    ghost view = { λ f. shared_of (booking_of f.ticks f.before f.records f.agenda f.batches f.book.total) };
 
-    ghost invariant = { λ f. (N.parts ≡ MAX_WORKERS) × IsBooked N.scenario f.book.total
-        (shared_with (state_in f.ticks f.before f.records.records f.agenda.items f.agenda.next) f.batches.running f.batches.taken)
-        f.before f.records.room f.records.records f.ticks.calendar };
+    ghost invariant = { λ f. (N.parts ≡ MAX_WORKERS)
+        × IsBooked N.scenario (booking_of f.ticks f.before f.records f.agenda f.batches f.book.total) };
 }
 
 impl<N: RunName> FabricState<N> {
@@ -143,16 +141,15 @@ impl<N: RunName> FabricState<N> {
             (lane.new.actor ≡ lane.old.actor) }
         ensures share { ClosesBatch share.old share.new }
     {
-        self.batches.agree(&batch);
+        self.book.audit(&mut share.held);
+        let is_open = self.batches.close(&batch);
+        self.book.sub(&mut share.held, 1);
         let Batch {
-            number,
+            number: _,
             actor: _,
             events,
         } = batch.into_batch();
-        self.book.audit(&mut share.held);
-        let found = self.batches.close(number);
-        self.book.sub(&mut share.held, 1);
-        if found != number {
+        if !is_open {
             self.ticks.marked = true;
             return false;
         }
@@ -169,9 +166,9 @@ impl<N: RunName> FabricState<N> {
         ensures given_up { self.new ≡ with_given_up batch.number self.old }
         ensures share { ClosesBatch share.old share.new }
     {
-        let number = batch.into_batch().into_number();
         self.book.audit(&mut share.held);
-        self.batches.close(number);
+        self.batches.close(&batch);
+        batch.into_batch().into_number();
         self.ticks.marked = true;
         self.book.sub(&mut share.held, 1);
     }

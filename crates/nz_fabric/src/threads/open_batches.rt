@@ -3,7 +3,7 @@
 ghost use Rattle.std.specs.Prelude.{◌≡◌, ◌+◌, ◌<◌, ◌^◌, ◌==◌, [], ℕ, length, get_or, unwrap_or, IfSome, IsTrue, ◌↔◌, MatchResult};
 ghost use Rattle.std.specs.List.{position};
 ghost use Rattle.nz_fabric.specs.declared.threads.batch.Batch.{Batch as BatchModel};
-ghost use Rattle.nz_fabric.specs.threads.Shared.{place_of_batch, without_batch};
+ghost use Rattle.nz_fabric.specs.threads.Shared.{batch_for, place_of_batch, without_batch};
 ghost use Rattle.nz_fabric.specs.threads.Takes.{batch_of, batches_with, with_one};
 
 use crate::threads::batch::Batch;
@@ -130,22 +130,24 @@ impl<N: RunName> OpenBatches<N> {
     }
 
     /// An open batch of the batch's number is that batch, for the caller's proof. Does nothing.
-    pub fn agree(&self, batch: &Taken<N>)
+    fn agree(&self, batch: &Taken<N>)
         ensures { (i : ℕ) (d : BatchModel) → i < length self.now.running → (get_or self.now.running i d).number ≡ batch.now.number
             → get_or self.now.running i d ≡ batch.now }
     {
         let _both = self.seen.both(&batch.seen);
     }
 
-    /// Takes out the open batch that a number names, and gives its own number.
-    pub fn close(&mut self, number: u64) -> u64
+    /// Takes out the open batch that the batch's number names. Whether it is the batch itself.
+    pub fn close(&mut self, batch: &Taken<N>) -> bool
         requires { 0 < length self.old.running }
-        ensures place { place_of_batch number self.old.running < length self.old.running }
-        ensures closed { self.new ≡ batches_with (without_batch number self.old.running) self.old.taken }
-        ensures number { (d : BatchModel) → result ≡ (get_or self.old.running (place_of_batch number self.old.running) d).number }
+        ensures place { place_of_batch batch.now.number self.old.running < length self.old.running }
+        ensures closed { self.new ≡ batches_with (without_batch batch.now.number self.old.running) self.old.taken }
+        ensures same { IsTrue result ↔ (batch_for batch.now.number self.old.running ≡ batch.now) }
     {
+        self.agree(batch);
+        let number = batch.batch.number;
         let place = place_of(self.numbers.as_slice(), number);
-        self.numbers.remove(place)
+        self.numbers.remove(place) == number
     }
 }
 

@@ -7,17 +7,14 @@ use Rattle.nz_machine.specs.journals.Records.{Recorded}
 use Rattle.nz_machine.specs.runs.Schedule.{group_of, Scheduled, ScheduledTo}
 use Rattle.nz_machine.specs.runs.Steps.{AreSteps}
 use Rattle.nz_fabric.specs.alone.States.{records_of, state_in}
-use Rattle.nz_fabric.specs.threads.Shared.{IsOver, Shared, shared_with}
+use Rattle.nz_fabric.specs.threads.Shared.{IsOver, Shared}
 use Rattle.nz_fabric.proofs.one_thread.Held.{all_records}
 use Rattle.nz_fabric.proofs.several_threads.Sharing.{booked_few, scheduled_now}
 use Rattle.nz_fabric.proofs.threads.fabric_state.FabricState.into_journal.Goals as goal
 
 pub into_list-requires : goal.into_list-requires
 into_list-requires g c =
-    let f = c.self.inside in
-    let t = f.ticks in
-    let few = booked_few _ f.book.total f.batches.taken t.scenario t.tick f.before f.records.room f.records.records
-    f.agenda.items f.agenda.next t.marked t.calendar f.batches.running c.self.invariant.1 in
+    let few = booked_few _ _ c.self.invariant.1 in
     omega (arith, few, ap (λ (r : Recorded). length r.records) c.into_recording.ensures.records)
 
 pub returns-clause-records : goal.returns-clause-records
@@ -32,8 +29,7 @@ returns-clause-scheduled g c =
     let f = state_in i.ticks i.before i.records.records i.agenda.items i.agenda.next in
     let k = c.self.invariant.1.accounted in
     let J = records_of f in
-    let order : ScheduledTo f.scenario f.tick J =
-    scheduled_now _ (shared_with f i.batches.running i.batches.taken) k (subst IsOver (sym c.self.view_is) c.requires.over) in
+    let order : ScheduledTo f.scenario f.tick J = scheduled_now _ _ k (subst IsOver (sym c.self.view_is) c.requires.over) in
     let last : f.tick ≡ f.scenario.ticks = subst (λ (f : Shared). f.run.tick ≡ f.run.scenario.ticks) (sym c.self.view_is) c.requires.last in
     let whole : Scheduled f.scenario J = subst (λ (n : ℕ). ScheduledTo f.scenario n J) last order in
     subst (λ (J : List Record). Scheduled g.N.RunName.scenario J)
