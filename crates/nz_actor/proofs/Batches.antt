@@ -1,5 +1,5 @@
 -- One batch more of an actor.
-use Rattle.std.proofs.Common.{◌≡◌, ℕ, ◌+◌, ◌<◌, Bool, true, false, List, [], ◌∷◌, ◌++◌, length, get_or, take, suc, refl, sym, ap, subst, ◌∙◌}
+use Rattle.std.proofs.Common.{◌≡◌, ℕ, ◌+◌, ◌<◌, Bool, true, false, List, [], ◌∷◌, ◌++◌, length, get_or, take, refl, sym, ap, subst, ◌∙◌}
 use Rattle.std.proofs.lemmas.List.{take_more}
 use Rattle.std.specs.Prelude.{MatchBool}
 use Rattle.nz_base.specs.declared.actor.Actor.{Actor}
@@ -13,7 +13,7 @@ use Rattle.nz_fabric.specs.declared.threads.batch.Batch.{Batch}
 use Rattle.nz_fabric.specs.threads.Records.{ActorSteps, with_step}
 use Rattle.nz_fabric.specs.threads.Shared.{Shared, next_item, next_record}
 use Rattle.nz_fabric.specs.threads.Steps.{batch_records, node_after, node_from, sends_after, sends_from, with_steps}
-use Rattle.nz_machine.proofs.runs.Runs.{acts_itself}
+use Rattle.nz_fabric.proofs.several_threads.Pushing.{length-sends_from, node_with_step}
 use Rattle.nz_actor.specs.Actings.{Acting, IsActing, IsStopped, sends_in, with_batch, with_item}
 
 -- ---- the start
@@ -61,15 +61,6 @@ sends_at_next g n now new es i e sends all next lt is so_far sent step pushed =
     ∙ ap (sends_from g n) (sym (take_more es i e lt))
 
 -- ---- the records of a batch
-
--- the actor is at one record more where its step leads it to
-node_with_step : (g : Group) (own : ActorSteps) (r : Record) → r.actor ≡ own.actor → node_after g (with_step r own) ≡ (node_run g (node_after g own) r.event).0
-node_with_step g own r same = ap (λ (s : _). let n : Node = record { actor = own.actor; state = s } in n) (acts_itself g own.actor r own.steps same)
-
--- it sends something on each event
-length-sends_from : (g : Group) (n : Node) (es : List Event) → length (sends_from g n es) ≡ length es
-length-sends_from g n [] = refl
-length-sends_from g n (e ∷ es) = ap suc (length-sends_from g (node_run g n e).0 es)
 
 -- the records of a batch lead the actor to where its events do
 node_with_steps : (g : Group) (own : ActorSteps) (tick : ℕ) (a : Actor) (es : List Event) (sends : List (List Parcel)) → a ≡ own.actor

@@ -15,9 +15,6 @@ prefix_whole (x ∷ xs) [] p le = absurd (cc (p.1))
 prefix_whole (x ∷ xs) (y ∷ ys) p le =
     let rest = prefix_whole xs ys (p.0, cc (p.1)) (omega arith) in cc (p.1, rest)
 
-pub prefix_length : {A : Type 0} (xs ys : List A) → IsPrefix xs ys → length xs ≤ length ys
-prefix_length xs ys p = omega (arith, sym (ap length p.1) ∙ length-append xs p.0)
-
 none_before : {A : Type 0} (xs ys : List A) → length (xs ++ ys) ≡ length ys → xs ++ ys ≡ ys
 none_before [] ys e = refl
 none_before (x ∷ xs) ys e = let long = length-append xs ys in absurd (omega (arith, e, long))

@@ -64,9 +64,10 @@ last_step : (rs : List Record) (r : Record) (own : ActorSteps) → with_steps (r
 last_step [] r own = refl
 last_step (x ∷ rs) r own = last_step rs r (with_step x own)
 
--- the node after one step more
-node_next : (g : Group) (own : ActorSteps) (r : Record) → r.actor ≡ own.actor → node_after g (with_step r own) ≡ (node_run g (node_after g own) r.event).0
-node_next g own r same =
+-- with one record more the node is where its step leads it to
+pub node_with_step : (g : Group) (own : ActorSteps) (r : Record) → r.actor ≡ own.actor
+    → node_after g (with_step r own) ≡ (node_run g (node_after g own) r.event).0
+node_with_step g own r same =
     ap (λ (s : State own.actor). let n : Node = record { actor = own.actor; state = s } in n)
     (acts_itself g own.actor r own.steps same)
 
@@ -116,16 +117,17 @@ pushed_next g b own own' own'' records records' records'' done e events sent sen
       sent =
           left_sent g own' e events sent sends h.sent
           ∙ ap (λ (n : Node). sends_from g n events)
-          (sym (ap (node_after g) now ∙ node_next g own' r (sym h.actor)));
+          (sym (ap (node_after g) now ∙ node_with_step g own' r (sym h.actor)));
       known = λ lt. known_more g b own own' records records' done (e ∷ events) (sent ∷ sends) h seen;
       long = omega (arith, count, long);
     }
 
 -- ---- the end
 
-sends_long : (g : Group) (n : Node) (events : List Event) → length (sends_from g n events) ≡ length events
-sends_long g n [] = refl
-sends_long g n (e ∷ events) = omega (arith, sends_long g (node_run g n e).0 events)
+-- something is sent on each event
+pub length-sends_from : (g : Group) (n : Node) (events : List Event) → length (sends_from g n events) ≡ length events
+length-sends_from g n [] = refl
+length-sends_from g n (e ∷ events) = omega (arith, length-sends_from g (node_run g n e).0 events)
 
 none_left : {X : Type 0} (xs : List X) → length xs ≡ 0 → xs ≡ []
 none_left [] e = refl
@@ -137,7 +139,7 @@ pub pushed_end : (g : Group) (b : Batched) (own own' : ActorSteps) (records reco
     → (length events ≡ 0) ⊎ (length sends ≡ 0) → events ≡ []
 pushed_end g b own own' records records' done events sends h (inl none) = none_left events none
 pushed_end g b own own' records records' done events sends h (inr none) =
-    none_left events (sym (ap length h.sent ∙ sends_long g (node_after g own') events) ∙ none)
+    none_left events (sym (ap length h.sent ∙ length-sends_from g (node_after g own') events) ∙ none)
 
 -- how many records there are
 pub pushed_count : (g : Group) (b : Batched) (own own' : ActorSteps) (records records' : List Record) (done : List (Event × List Parcel))

@@ -2,7 +2,7 @@
 use Rattle.std.proofs.Common.{◌≤◌, sym, ◌∙◌, ap, subst, arith, length, List}
 use mathlib.Core.List.{IsPrefix}
 use Rattle.nz_fabric.proofs.several_threads.Adding.{adds_moves}
-use Rattle.nz_fabric.proofs.several_threads.Prefixes.{prefix_length}
+use Rattle.nz_base.proofs.Prefixes.{prefix_length}
 use Rattle.nz_fabric.proofs.threads.chronicle.Chronicle.append.Goals as goal
 
 pub compare_exchange-found-requires : goal.compare_exchange-found-requires
@@ -15,7 +15,8 @@ compare_exchange-found-requires g c =
     let old : List _ = c.seen.inside.seen.log in
     let both : List _ = c.learn.new.self.log in
     let prefix : IsPrefix old both = subst (λ (l : List _). IsPrefix l both) (ap (λ s. s.log) c.again-both.ensures) known.2 in
-    let long : c.args.number ≤ length both = omega (arith, prefix_length old both prefix, c.requires.number, ap length c.seen.view_is) in (
+    let no_longer = prefix_length old both (record { rest = prefix.0; whole = sym prefix.1 }) in
+    let long : c.args.number ≤ length both = omega (arith, no_longer, c.requires.number, ap length c.seen.view_is) in (
       ap (λ w. w.tracked) h,
       book ∙ sym (ap (λ w. w.book) h),
       pen.0 ∙ (book ∙ sym (ap (λ w. w.book) h)),
