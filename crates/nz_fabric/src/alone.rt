@@ -6,7 +6,8 @@ ghost use Rattle.nz_machine.specs.runs.Schedule.{InOrder, IsPlayable};
 ghost use Rattle.nz_machine.specs.rules.State.{Group};
 ghost use Rattle.nz_machine.specs.journals.Tellings.{AreNoted};
 ghost use Rattle.nz_machine.specs.runs.World.{World};
-ghost use Rattle.nz_fabric.specs.alone.States.{IsDone, IsKeptRun, IsNextItem, IsOpen, after_tick, records_of, start_state, with_mark, with_recorded, with_taken};
+ghost use Rattle.nz_fabric.specs.alone.States.{IsDone, IsKeptRun, IsNextItem, IsOpen};
+ghost use Rattle.nz_fabric.specs.alone.States.{after_tick, records_of, start_state, with_mark, with_recorded, with_taken};
 
 pub mod open_item;
 
@@ -83,11 +84,11 @@ impl Alone {
         })
     }
 
-    /// The invariant of this type, for the caller's proof. Does nothing.
-    pub fn kept(&self)
+    /// Does nothing.
+    pub fn show_invariant(&self)
         ensures { IsKeptRun self.now }
     {
-        let _ = &self.ticks;
+        let _known = &self.ticks; // shows: the invariant of this type
     }
 
     /// How many records there are, in memory or not.

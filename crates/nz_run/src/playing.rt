@@ -35,7 +35,7 @@ fn play_next(alone: &mut Alone, cast: &mut Cast) -> Result<bool, NoMemory>
         × ((alone.new ≡ record alone.old { here = alone.new.here; next = alone.old.next + 1 }) × (alone.old.next < length alone.old.items))))
         ((alone.new ≡ alone.old) × ((cast.new ≡ cast.old) × (alone.old.next ≡ length alone.old.items)))) }
 {
-    alone.kept();
+    alone.show_invariant();
     let Some(opened) = alone.take()? else {
         return Ok(false);
     };
@@ -87,12 +87,12 @@ impl Playing {
             (IsNextTick self.old self.new)
             ((self.new ≡ self.old) × (tick_of self.old ≡ (scenario_of self.old).ticks))) }
     {
-        self.alone.kept();
+        self.alone.show_invariant();
         if !self.alone.next_tick()? {
             return Ok(false);
         }
         play_rest(&mut self.alone, &mut self.cast)?;
-        self.alone.kept();
+        self.alone.show_invariant();
         Ok(true)
     }
 

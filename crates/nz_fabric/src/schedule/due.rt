@@ -167,7 +167,7 @@ pub fn due_items(
     tick: u32,
     more: usize,
 ) -> Result<Vec<Item>, NoMemory>
-    ensures items { IfOk result (λ v. v.items ≡ asked.now ++ map (tick_item scenario.now tick) (actors_of scenario.now)) }
+    ensures due { IfOk result (λ v. v.items ≡ asked.now ++ map (tick_item scenario.now tick) (actors_of scenario.now)) }
     ensures room { IfOk result (λ v. length v.items + more ≤ vec_capacity v) }
 {
     let clocks = actor_count(scenario);

@@ -90,11 +90,11 @@ impl<N: RunName> FabricState<N> {
         Ok((state, Share { held }))
     }
 
-    /// The invariant of this type, for the caller's proof. Does nothing.
-    pub fn kept(&self)
+    /// Does nothing.
+    pub fn show_invariant(&self)
         ensures { IsAccounted N.scenario self.now }
     {
-        let _ = &self.ticks;
+        let _known = &self.ticks; // shows: the invariant of this type
     }
 
     /// The next batch of the tick. The tick's places in the journal are reserved here. Also `NoMemory` where another

@@ -134,7 +134,7 @@ impl<N: RunName> OpenBatches<N> {
         ensures { (i : ℕ) (d : BatchModel) → i < length self.now.running → (get_or self.now.running i d).number ≡ batch.now.number
             → get_or self.now.running i d ≡ batch.now }
     {
-        let _both = self.seen.both(&batch.seen);
+        let _known = self.seen.both(&batch.seen); // shows: both have the take of the number
     }
 
     /// Takes out the open batch that the batch's number names. Whether it is the batch itself.

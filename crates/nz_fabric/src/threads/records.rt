@@ -109,8 +109,7 @@ impl<N: RunName> Records<N> {
     pub fn is_seen_by(&self, lane: &Lane<N>) -> bool
         ensures { IsTrue result ↔ (lane.now ≡ steps_of lane.now.actor (reverse self.now.records)) }
     {
-        // What the actor has seen and what was recorded are prefixes of one chronicle.
-        let _ = self.seen.both(&lane.seen);
+        let _known = self.seen.both(&lane.seen); // shows: both are prefixes of one chronicle
         lane.count == self.counts[place_of(lane.actor)]
     }
 

@@ -11,7 +11,7 @@ pub step-requires : goal.step-requires
 step-requires c =
     let f = c.args.alone.now in
     let t = rw c.in-Some.is at c.in_ok-opened.ensures in
-    (group_of f.scenario, (records_of f, (c.requires.under_way.is_cast, (next_may_happen f c.in-Some.opened c.kept.ensures c.requires.under_way.world t.2).member)))
+    (group_of f.scenario, (records_of f, (c.requires.under_way.is_cast, (next_may_happen f c.in-Some.opened c.show_invariant.ensures c.requires.under_way.world t.2).member)))
 
 pub returns-in-Ok : goal.returns-in-Ok
 returns-in-Ok c =
@@ -27,7 +27,7 @@ returns-in-Ok c =
     × (IsUnderWay s c.step.new.self × ((s ≡ record f { here = s.here; next = f.next + 1 }) × (f.next < length f.items)))) (sym same) (
       none_open_now f opened sends c.requires.none_open,
       (
-        under_way_now f c.args.cast.now c.step.new.self opened sends c.kept.ensures c.requires.under_way n c.in-Ok.ensures,
+        under_way_now f c.args.cast.now c.step.new.self opened sends c.show_invariant.ensures c.requires.under_way n c.in-Ok.ensures,
         (refl, omega (arith, within, closed)),
       ),
     )

@@ -17,7 +17,7 @@ returns-clause-ok c = λ L h.
       tick = refl;
       are_due =
           c.in_ok-move_to.ensures.due s L t.tick h (omega arith) (omega (arith, c.requires.more))
-          ∙ ap (λ (is : List Item). is ++ arrivals s next [] L) c.in_ok-items.ensures.items
+          ∙ ap (λ (is : List Item). is ++ arrivals s next [] L) c.in_ok-items.ensures.due
           ∙ ap (λ (is : List Item). (is ++ clocks) ++ arrivals s next [] L) (c.under-asked.ensures ∙ ap (items_under t.calls) c.from.ensures ∙ t.asked next)
           ∙ append_assoc first clocks (arrivals s next [] L);
       unmarked = refl;

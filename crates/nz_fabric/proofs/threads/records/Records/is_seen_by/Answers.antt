@@ -17,7 +17,7 @@ returns g c =
     let count = c.index.result.now in
     let read = count_is J f.counts.items lane.actor c.place_of.result count inv.1 c.place_of.ensures.number c.place_of.ensures.within c.index.ensures in
     let same : records ≡ c.args.self.now.records = ap (λ (x : _). x.records) c.self.view_is in
-    let prefix : IsPrefix records c.both.result = subst (λ (rs : List Record). IsPrefix rs c.both.result) inv.0 c.both.ensures.this in
+    let prefix : IsPrefix records c.both-known.result = subst (λ (rs : List Record). IsPrefix rs c.both-known.result) inv.0 c.both-known.ensures.this in
     subst (λ (rs : List Record). IsTrue (lane.count == count) ↔ (c.args.lane.now ≡ steps_of c.args.lane.now.actor (reverse rs))) same
-    (all_seen_if records lane.seen c.both.result lane.actor c.args.lane.now lane.count count prefix c.both.ensures.that
+    (all_seen_if records lane.seen c.both-known.result lane.actor c.args.lane.now lane.count count prefix c.both-known.ensures.that
     c.lane.view_is c.lane.invariant read)
