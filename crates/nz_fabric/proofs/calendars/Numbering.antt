@@ -182,6 +182,7 @@ counted_one lines before after p (Some k) from to kind own h =
     count_if true t o = refl
     count_if false t o = refl
 
+-- with one parcel more the counts are those of all parcels
 pub counted : (lines : List Fault) (before after : List (Course × Traffic)) (L : List Posted) (tick : ℕ) (p : Parcel)
     → IsCounted lines before after p (counted_kind lines (kind_in_frame p.frame))
     → HasNumberIfWatched lines (parcels_of L) p (next_number (traffic_of before p (counted_kind lines (kind_in_frame p.frame))))

@@ -9,9 +9,11 @@ use Rattle.logbook.specs.Pages.{Cell, cell, keeps, no_nib, step, Moves, Goes}
 use Rattle.nz_fabric.specs.threads.Chronicles.{IsKept, Adds}
 use Rattle.nz_fabric.proofs.several_threads.Prefixes.{prefix_whole}
 
+-- nothing of the entries is shown
 abbrev pub shown : {E : Type 0} → List E → List E
 shown log = []
 
+-- any entries may follow any others
 abbrev pub moved : {E : Type 0} → List E → List E → ℕ → Type 0
 moved xs ys n = Unit {0}
 
